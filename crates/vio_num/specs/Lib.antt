@@ -1,0 +1,4 @@
+pub mod Counts
+pub mod Entry
+pub mod Hypervisor
+pub mod Queue
