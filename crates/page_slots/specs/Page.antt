@@ -1,0 +1,42 @@
+-- A page: its strokes, and the bytes that they leave.
+use Rattle.std.specs.Prelude.{ℕ, ◌+◌, ◌-◌, ◌&&◌, nat_le, nat_lt, slice_index, if◌then◌else◌, List, [], ◌∷◌, ◌++◌, length, take, drop, replicate, fold}
+use Rattle.page_slots.specs.Stroke.{StrokeValue, IsWithinPage}
+
+pub record PageValue : Type 0 where
+  -- every stroke on the page, the oldest first
+  pub strokes : List StrokeValue
+  -- how many more may be written before room has to be made
+  pub spare : ℕ
+
+-- a page's bytes after a stroke
+abbrev pub overwritten : List ℕ → StrokeValue → List ℕ
+overwritten page stroke =
+    take stroke.offset page ++ stroke.bytes ++ drop (stroke.offset + length stroke.bytes) page
+
+-- the bytes of a page with no stroke
+unfoldable pub zeros : List ℕ
+zeros = replicate 4096 0
+
+-- what these strokes leave, in their order, on zeros
+abbrev pub left_by : List StrokeValue → List ℕ
+left_by strokes = fold overwritten zeros strokes
+
+-- what the first i of these strokes leave
+abbrev pub bytes_at : List StrokeValue → ℕ → List ℕ
+bytes_at strokes i = left_by (take i strokes)
+
+-- the byte at place k after a stroke, where it was b before
+abbrev pub covered : ℕ → ℕ → StrokeValue → ℕ
+covered k b stroke =
+    if nat_le stroke.offset k && nat_lt k (stroke.offset + length stroke.bytes)
+    then slice_index stroke.bytes (k - stroke.offset)
+    else b
+
+-- the byte at place k after these strokes: that of the last one that covers it, or 0
+abbrev pub byte_left_by : ℕ → List StrokeValue → ℕ
+byte_left_by k strokes = fold (covered k) 0 strokes
+
+-- each of these strokes lies inside the page
+abbrev pub AreWithinPage : List StrokeValue → Type 0
+AreWithinPage [] = Unit {0}
+AreWithinPage (stroke ∷ strokes) = IsWithinPage stroke × AreWithinPage strokes

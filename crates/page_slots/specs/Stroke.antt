@@ -1,0 +1,15 @@
+-- A stroke: one write to a page.
+use Rattle.std.specs.Prelude.{ℕ, ◌+◌, ◌≤◌, List, length}
+use Rattle.page_slots.specs.declared.stroke.StrokeName.{StrokeName}
+
+pub record StrokeValue : Type 0 where
+  -- who wrote, and under which mark
+  pub name : StrokeName
+  -- the place of its first byte in the page
+  pub offset : ℕ
+  -- what it writes
+  pub bytes : List ℕ
+
+-- the stroke lies inside a page of 4,096 bytes
+abbrev pub IsWithinPage : StrokeValue → Type 0
+IsWithinPage stroke = stroke.offset + length stroke.bytes ≤ 4096

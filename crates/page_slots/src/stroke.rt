@@ -1,0 +1,75 @@
+// A stroke: one write to a page, with its writer's name.
+ghost use Rattle.std.specs.Prelude.{◌≡◌, ◌+◌, ◌≤◌, length, IfOk};
+ghost use Rattle.page_slots.specs.Stroke.{IsWithinPage};
+
+use std::alloc::Global;
+use std::marker::Model;
+use vio_num::{Bytes, NoMemory, UnitId};
+
+/// Who wrote a stroke, and the number under which the writer counts it.
+#[derive(Clone, Copy, Debug, PartialEq, Eq)]
+pub struct StrokeName {
+    pub who: UnitId,
+    pub mark: u64,
+}
+
+/// One write to a page: it ends at byte 4,096 of the page at most.
+#[derive(Debug, Drop)]
+pub struct Stroke {
+    name: StrokeName,
+    offset: u16,
+    bytes: Bytes,
+}
+
+impl Model for Stroke {
+    ghost use Rattle.page_slots.specs.Stroke.{StrokeValue, IsWithinPage};
+
+    ghost Value = { StrokeValue };
+
+    ghost view = { λ stroke. record { name = stroke.name; offset = stroke.offset; bytes = stroke.bytes } };
+
+    ghost invariant = { λ stroke. IsWithinPage (record { name = stroke.name; offset = stroke.offset; bytes = stroke.bytes }) };
+}
+
+impl Stroke {
+    /// A write of these bytes from `offset` on.
+    pub fn new(
+        alloc: Global,
+        name: StrokeName,
+        offset: u16,
+        bytes: &[u8],
+    ) -> Result<Stroke, NoMemory>
+        requires { offset + length bytes.now ≤ 4096 }
+        ensures { IfOk result (λ stroke. stroke ≡ record { name = name; offset = offset; bytes = bytes.now }) }
+    {
+        let bytes = Bytes::from_slice(alloc, bytes)?;
+        Ok(Stroke {
+            name,
+            offset,
+            bytes,
+        })
+    }
+
+    /// Who wrote it, and under which mark.
+    pub fn name(&self) -> StrokeName
+        ensures { result ≡ self.now.name }
+    {
+        self.name
+    }
+
+    /// The place of its first byte in the page, 0 to 4,096.
+    pub fn offset(&self) -> u16
+        ensures offset { result ≡ self.now.offset }
+        ensures within { IsWithinPage self.now }
+    {
+        self.offset
+    }
+
+    /// What it writes.
+    pub fn bytes(&self) -> &[u8]
+        ensures bytes { result.now ≡ self.now.bytes }
+        ensures within { IsWithinPage self.now }
+    {
+        self.bytes.as_slice()
+    }
+}
