@@ -1,0 +1,11 @@
+pub mod Answers
+pub mod Grant
+pub mod Held
+pub mod Kept
+pub mod Named
+pub mod Pieces
+pub mod Port
+pub mod Puts
+pub mod Region
+pub mod Table
+pub mod Window

@@ -1,0 +1,61 @@
+-- The owner's region: its pages, one behind the other, and ranges of its addresses.
+use Rattle.std.specs.Prelude.{◌≡◌, ℕ, ◌+◌, ◌-◌, ◌*◌, ◌/◌, ◌%◌, ◌<◌, ◌≤◌, ◌&&◌, nat_le, nat_lt, if◌then◌else◌, Bool, List, [], ◌∷◌, ◌++◌, Option, Some, None, IsSome, length, slice_set, slice_index_or, slice_range, slice_index, min}
+use Rattle.std.specs.Option.{option_map}
+use Rattle.page_slots.specs.Stroke.{StrokeValue}
+use Rattle.page_slots.specs.Page.{left_by, PageValue}
+use Rattle.tce_window.specs.Window.{with_stroke}
+use Rattle.page_slots.specs.declared.stroke.StrokeName.{StrokeName}
+
+-- whether a range of 1 to 65,536 bytes lies inside a region of n pages
+abbrev pub in_region : ℕ → ℕ → ℕ → Bool
+in_region n at len = nat_le 1 len && nat_le len 65536 && nat_le (at + len) (4096 * n)
+
+-- the pages that a range touches: from this one on, up to that one
+abbrev pub first_page : ℕ → ℕ
+first_page at = at / 4096
+
+abbrev pub end_page : ℕ → ℕ → ℕ
+end_page at len = (at + len + 4095) / 4096
+
+-- each page that the range touches is in its place
+abbrev pub AreThere : (ℕ → Option (List StrokeValue)) → ℕ → ℕ → Type 0
+AreThere strokes first end = (p : ℕ) → first ≤ p → p < end → IsSome (strokes p)
+
+-- the byte at this place of a page with these strokes
+abbrev pub byte_in : Option (List StrokeValue) → ℕ → ℕ
+byte_in (Some strokes) k = slice_index (left_by strokes) k
+byte_in None k = 0
+
+-- the byte at this address of a region whose pages have these strokes
+abbrev pub region_byte : (ℕ → Option (List StrokeValue)) → ℕ → ℕ
+region_byte strokes a = byte_in (strokes (a / 4096)) (a % 4096)
+
+-- the first page of the range that is held
+pub record IsFirstHeld (strokes : ℕ → Option (List StrokeValue)) (first end page : ℕ) : Type 0 where
+  pub from : first ≤ page
+  pub below : page < end
+  pub away : strokes page ≡ None
+  pub before : AreThere strokes first page
+
+-- the stroke on page p of a write of these bytes from the address on: the part of them that lies there
+abbrev pub stroke_on : StrokeName → ℕ → List ℕ → ℕ → StrokeValue
+stroke_on name at bytes p = record {
+  name = name;
+  offset = at - 4096 * p;
+  bytes = slice_range bytes (4096 * p - at) (min (4096 * (p + 1) - at) (length bytes));
+}
+
+-- whether the range touches page p
+abbrev pub touches : ℕ → ℕ → ℕ → Bool
+touches at len p = nat_le (first_page at) p && nat_lt p (end_page at len)
+
+-- the strokes of page p after a write of these bytes from the address on
+abbrev pub written : StrokeName → ℕ → List ℕ → ℕ → Option (List StrokeValue) → Option (List StrokeValue)
+written name at bytes p strokes =
+    if touches at (length bytes) p then option_map (λ s. s ++ stroke_on name at bytes p ∷ []) strokes else strokes
+
+-- pages once these strokes are laid, one on each page from `first` on
+abbrev pub laid : List (Option PageValue) → ℕ → List StrokeValue → List (Option PageValue)
+laid pages first [] = pages
+laid pages first (stroke ∷ strokes) =
+    laid (slice_set pages first (with_stroke stroke (slice_index_or pages first None))) (first + 1) strokes

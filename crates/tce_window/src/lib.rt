@@ -1,0 +1,23 @@
+// A window of translation entries over the pages of a unit (LoPAR, "Translation Control Entry"): the calls
+// of its owner and of a guest as traits, and the plain form, which serves one thread.
+#![tactic(auto)]
+
+mod answers;
+mod guest;
+mod held;
+mod named;
+mod owner;
+mod pieces;
+mod plain;
+mod port;
+mod puts;
+mod table;
+mod window;
+
+pub use answers::{GetTce, HoldFault, NamedFault, OwnFault, Piece, Right, TceAnswer, TceRow};
+pub use held::{Held, HeldPage};
+pub use port::{GuestPort, OwnerPort, WindowPort};
+pub use window::PlainWindow;
+
+#[cfg(test)]
+mod tests;
