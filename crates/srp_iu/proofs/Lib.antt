@@ -1,0 +1,5 @@
+pub mod Parts
+pub mod Descriptors
+pub mod Commands
+pub mod Refusals
+pub mod Writables

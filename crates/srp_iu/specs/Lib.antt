@@ -1,0 +1,9 @@
+pub mod Buffer
+pub mod Command
+pub mod Control
+pub mod Grammar
+pub mod Layout
+pub mod Login
+pub mod Refusal
+pub mod Response
+pub mod Task
