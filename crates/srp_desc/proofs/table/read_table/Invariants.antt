@@ -1,0 +1,9 @@
+use Rattle.std.proofs.Common.{◌≡◌, length}
+use Rattle.srp_iu.specs.Buffer.{descs_of}
+use Rattle.srp_desc.proofs.table.read_table.Given as goal
+
+abbrev pub invariant-loop-n : goal.invariant-loop-n
+invariant-loop-n l = record {
+  listed : l.gathered.pieces.items ≡ descs_of l.n l.bytes;
+  counted : length l.gathered.pieces.items ≡ l.n;
+}

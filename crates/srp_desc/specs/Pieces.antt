@@ -1,0 +1,77 @@
+-- The pieces of data that a command's buffer names (SRP, "Data buffer descriptor formats").
+use Rattle.std.specs.Prelude.{◌≡◌, ◌≤◌, ◌<◌, ◌*◌, ◌/◌, ◌%◌, ◌==◌, ◌||◌, ℕ, Bool, List, [], ◌∷◌, length, nat_lt, sum_by, if◌then◌else◌}
+use Rattle.arrayvec.specs.ArrayVec.{ArrayVec}
+use Rattle.srp_iu.specs.Buffer.{descs_of}
+use Rattle.srp_iu.specs.declared.buffer.Desc.{Desc}
+use Rattle.srp_iu.specs.declared.buffer.Buffer.{Buffer}
+use Rattle.srp_iu.specs.declared.buffer.Buffer.TheVariants.{Absent, Direct, Indirect}
+use Rattle.srp_desc.specs.declared.pieces.DescFault.{DescFault}
+use Rattle.srp_desc.specs.declared.pieces.DescFault.TheVariants.{Count, Total, Large}
+use Rattle.srp_desc.specs.declared.pieces.Pieces.{Pieces}
+use Rattle.srp_desc.specs.declared.pieces.Pieces.TheVariants.{Whole, Fetch}
+
+-- what a buffer names: these pieces in this order, or nothing, for this reason
+pub data Named : Type 0 where
+  named : List Desc → Named
+  refused : DescFault → Named
+
+-- the bytes of data that pieces name
+abbrev pub sum_of : List Desc → ℕ
+sum_of pieces = sum_by (λ (desc : Desc). desc.len) pieces
+
+-- the descriptors that stand in bytes
+abbrev pub descs_in : List ℕ → List Desc
+descs_in bytes = descs_of (length bytes / 16) bytes
+
+-- a table of this length has not 1 to 256 descriptors, or fewer than stand in the buffer itself
+abbrev pub is_count_bad : (table : Desc) → (list : ArrayVec Desc) → Bool
+is_count_bad table list =
+    (table.len == 0)
+    || nat_lt 4096 table.len
+    || nat_lt 0 (table.len % 16)
+    || nat_lt table.len (16 * length list.items)
+
+-- pieces that are to be so many bytes in all
+abbrev pub summing_to : ℕ → List Desc → Named
+summing_to total list =
+    if sum_of list == total then named list
+    else refused (Total total (sum_of list))
+
+-- an indirect buffer's own list is its whole table
+abbrev pub is_complete : (table : Desc) → (list : ArrayVec Desc) → Bool
+is_complete table list = (16 * length list.items) == table.len
+
+-- what a buffer names. The bytes are those of its table, and count where its own list is not the
+-- whole table. A buffer that is refused is refused for the first reason that stands: the length of
+-- its table, its total length, and the sum of its pieces.
+abbrev pub pieces : Buffer → (bytes : List ℕ) → Named
+pieces Absent bytes = named []
+pieces (Direct desc) bytes =
+    if nat_lt 131072 desc.len then refused (Large desc.len)
+    else named (desc ∷ [])
+pieces (Indirect table total list) bytes =
+    if is_count_bad table list then refused Count
+    else if nat_lt 131072 total then refused (Large total)
+    else summing_to total (if is_complete table list then list.items else descs_in bytes)
+
+-- the table of this buffer is to be fetched: the buffer names a table of this place and length, and
+-- has only the front of it
+pub record IsToFetch (buffer : Buffer) (table : Desc) (total : ℕ) : Type 0 where
+  pub list : ArrayVec Desc
+  pub indirect : buffer ≡ Indirect table total list
+  pub front : 16 * length list.items < table.len
+  pub some : 16 ≤ table.len
+  pub few : table.len ≤ 4096
+  pub evenly : table.len % 16 ≡ 0
+  pub small : total ≤ 131072
+
+-- what is given of a buffer before its table is fetched
+abbrev pub IsGiven : Buffer → Pieces → Type 0
+IsGiven buffer (Whole list) = (bytes : List ℕ) → pieces buffer bytes ≡ named list.items
+IsGiven buffer (Fetch table total) = IsToFetch buffer table total
+
+-- the bytes of data in all that a buffer says it names
+abbrev pub total_of : Buffer → ℕ
+total_of Absent = 0
+total_of (Direct desc) = desc.len
+total_of (Indirect table total list) = total

@@ -1,0 +1,112 @@
+// What a buffer names by itself, before its table is fetched.
+ghost use Rattle.std.specs.Prelude.{◌≡◌, ◌≤◌, ◌==◌, ◌||◌, ◌%◌, ℕ, List, IfOk, OnOk, IfErr, nat_lt};
+ghost use Rattle.srp_iu.specs.declared.buffer.Buffer.TheVariants.{Direct, Indirect};
+ghost use Rattle.srp_desc.specs.Pieces.{IsGiven, pieces, refused, total_of};
+
+use crate::gathered::Gathered;
+use arrayvec::ArrayVec;
+use srp_iu::{Buffer, Desc};
+
+/// The bytes of a descriptor.
+pub(crate) const DESC_LEN: usize = 16;
+/// The bytes of the longest table, which has 256 descriptors.
+const MAX_TABLE_LEN: usize = 4096;
+/// The bytes of data that a buffer names at most.
+const MAX_TOTAL: u32 = 131_072;
+
+/// Why the descriptors of a buffer are refused.
+#[derive(Clone, Copy, Debug, PartialEq, Eq)]
+pub enum DescFault {
+    /// The table's length is 0, no multiple of 16 bytes or above 4,096 bytes, or is that of fewer
+    /// descriptors than the buffer's own list has.
+    Count,
+    /// The pieces are not as many bytes in all as the buffer says.
+    Total {
+        /// The buffer's total length in bytes.
+        said: u32,
+        /// The sum of the pieces' lengths in bytes.
+        summed: u64,
+    },
+    /// The buffer names more than 131,072 bytes of data.
+    Large {
+        /// The buffer's total length in bytes, or the length of its one piece.
+        total: u32,
+    },
+}
+
+/// What a buffer names by itself.
+#[derive(Clone, Debug, PartialEq, Eq, Drop)]
+pub enum Pieces {
+    /// All pieces, in order.
+    Whole(ArrayVec<Desc, 256>),
+    /// The table has to be fetched: the buffer has only the front of it.
+    Fetch {
+        /// Where the table lies, and its length in bytes: a multiple of 16 from 16 to 4,096.
+        table: Desc,
+        /// The length in bytes that the pieces are to have in all, at most 131,072.
+        total: u32,
+    },
+}
+
+/// The pieces of data that a buffer names, or the table that tells them. Keys are not looked at.
+///
+/// A buffer is refused for the first of these reasons: the length of its table; a total length, or
+/// the length of a direct descriptor, above 131,072 bytes; a list that is the whole table and whose
+/// pieces are not as long in all as the buffer says.
+pub fn pieces_of(buffer: &Buffer) -> Result<Pieces, DescFault>
+    ensures ok { IfOk result (λ given. IsGiven buffer.now given) }
+    ensures small { OnOk result (total_of buffer.now ≤ 131072) }
+    ensures err { IfErr result (λ fault. (bytes : List ℕ) → pieces buffer.now bytes ≡ refused fault) }
+{
+    match buffer {
+        Buffer::Absent => Ok(Pieces::Whole(ArrayVec::new())),
+        Buffer::Direct(desc) => direct(desc),
+        Buffer::Indirect { table, total, list } => indirect(table, *total, list),
+    }
+}
+
+/// What a direct buffer names.
+fn direct(desc: &Desc) -> Result<Pieces, DescFault>
+    ensures ok { IfOk result (λ given. IsGiven (Direct desc.now) given) }
+    ensures small { OnOk result (desc.now.len ≤ 131072) }
+    ensures err { IfErr result (λ fault. (bytes : List ℕ) → pieces (Direct desc.now) bytes ≡ refused fault) }
+{
+    if desc.len > MAX_TOTAL {
+        return Err(DescFault::Large { total: desc.len });
+    }
+    let mut list = ArrayVec::new();
+    list.push(*desc);
+    Ok(Pieces::Whole(list))
+}
+
+/// What an indirect buffer names.
+fn indirect(table: &Desc, total: u32, list: &ArrayVec<Desc, 11>) -> Result<Pieces, DescFault>
+    ensures ok { IfOk result (λ given. IsGiven (Indirect table.now total list.now) given) }
+    ensures small { OnOk result (total ≤ 131072) }
+    ensures err { IfErr result (λ fault. (bytes : List ℕ) → pieces (Indirect table.now total list.now) bytes ≡ refused fault) }
+{
+    let table_len = table.len as usize;
+    let listed = DESC_LEN * list.len();
+    if is_count_bad(table_len, listed) {
+        return Err(DescFault::Count);
+    }
+    if total > MAX_TOTAL {
+        return Err(DescFault::Large { total });
+    }
+    if listed < table_len {
+        return Ok(Pieces::Fetch {
+            table: *table,
+            total,
+        });
+    }
+    let mut gathered = Gathered::new();
+    gathered.add_all(list);
+    Ok(Pieces::Whole(gathered.finish(total)?))
+}
+
+/// Whether a table of this length in bytes has not 1 to 256 descriptors, or fewer than are listed.
+fn is_count_bad(table_len: usize, listed: usize) -> bool
+    ensures { result ≡ ((table_len == 0) || nat_lt 4096 table_len || nat_lt 0 (table_len % 16) || nat_lt table_len listed) }
+{
+    table_len == 0 || table_len > MAX_TABLE_LEN || table_len % DESC_LEN != 0 || table_len < listed
+}
