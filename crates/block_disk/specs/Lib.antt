@@ -1,0 +1,3 @@
+pub mod Cdb
+pub mod Sense
+pub mod Disk

@@ -1,0 +1,171 @@
+// The disk step: executes a command on an image. Tests go in this order: logical unit, operation
+// code, fields, number of blocks, range, length of data-out, device.
+ghost use Rattle.std.specs.Prelude.{◌≡◌, ◌+◌, ◌*◌, ◌^◌, ◌<◌, ◌≤◌, false, Some, IfSome, IfNone, OnSome, nat_lt, option_map, length, take, drop};
+ghost use Rattle.vio_num.specs.Counts.{Rose};
+ghost use Rattle.block_disk.specs.Disk.{read_answer, write_answer, sync_answer, write_image, bytes_of, performed, parameter_data, data_of, changed, calls_of, reply_to, step};
+ghost use Rattle.block_disk.specs.Cdb.{command_of, is_too_long};
+
+use crate::command::{DiskOp, INVALID_FIELD, OUT_OF_RANGE, READ_ERROR, WRITE_ERROR, read_cdb};
+use crate::parameters::{capacity10_data, capacity16_data, give, inquiry_data, luns_data};
+use crate::reply::ScsiReply;
+use crate::transfer::{read_blocks, write_blocks};
+use vio_io::{Blocks, Failed};
+
+// Whether these blocks reach past the image.
+fn is_past(count: u64, lba: u64, blocks: u32) -> bool
+    ensures { result ≡ nat_lt count (lba + blocks) }
+{
+    lba > count || blocks as u64 > count - lba
+}
+
+// READ.
+fn read<B: Blocks>(
+    disk: &mut B,
+    count: u64,
+    lba: u64,
+    blocks: u32,
+    data_in: &mut [u8; 131072],
+) -> ScsiReply
+    requires count { count ≡ B.size disk.old }
+    requires few { blocks ≤ 256 }
+    ensures reply { result ≡ read_answer lba blocks count result.fault }
+    ensures given { IfSome (B.blocks disk.old) (λ all. take result.in_len data_in.new ≡
+        take result.in_len (bytes_of (take blocks (drop lba all)))) }
+    ensures room { result.in_len ≤ 131072 }
+    ensures unused { result.out_used ≡ 0 }
+    ensures index { IfSome result.fault (λ call. call < blocks) }
+    ensures size { B.size disk.new ≡ B.size disk.old }
+    ensures content { B.blocks disk.new ≡ B.blocks disk.old }
+    ensures same { IfNone result.fault (B.faults disk.new ≡ B.faults disk.old) }
+    ensures failed { OnSome result.fault (Rose (B.faults disk.old) (B.faults disk.new)) }
+{
+    if is_past(count, lba, blocks) {
+        return ScsiReply::refused(OUT_OF_RANGE, 0);
+    }
+    match read_blocks(disk, lba, blocks, data_in) {
+        Ok(()) => ScsiReply::good(512 * blocks, 0),
+        Err(call) => ScsiReply::failed(READ_ERROR, 0, call),
+    }
+}
+
+// WRITE.
+fn write<B: Blocks>(disk: &mut B, count: u64, lba: u64, blocks: u32, data_out: &[u8]) -> ScsiReply
+    requires count { count ≡ B.size disk.old }
+    requires few { blocks ≤ 256 }
+    ensures reply { result ≡ write_answer lba blocks count (length data_out.now) result.fault }
+    ensures image { B.blocks disk.new ≡
+        option_map (write_image lba blocks data_out.now result.fault) (B.blocks disk.old) }
+    ensures nothing { result.in_len ≡ 0 }
+    ensures used { result.out_used ≤ length data_out.now }
+    ensures index { IfSome result.fault (λ call. call < blocks) }
+    ensures size { B.size disk.new ≡ B.size disk.old }
+    ensures same { IfNone result.fault (B.faults disk.new ≡ B.faults disk.old) }
+    ensures failed { OnSome result.fault (Rose (B.faults disk.old) (B.faults disk.new)) }
+{
+    if is_past(count, lba, blocks) {
+        return ScsiReply::refused(OUT_OF_RANGE, 0);
+    }
+    let needed = 512 * blocks;
+    if data_out.len() < needed as usize {
+        return ScsiReply::refused(INVALID_FIELD, needed - data_out.len() as u32);
+    }
+    match write_blocks(disk, lba, blocks, data_out) {
+        Ok(()) => ScsiReply::good(0, needed),
+        Err(call) => ScsiReply::failed(WRITE_ERROR, needed, call),
+    }
+}
+
+// SYNCHRONIZE CACHE: one flush, whatever the number of blocks.
+fn sync<B: Blocks>(disk: &mut B, count: u64, lba: u64, blocks: u32) -> ScsiReply
+    requires { count ≡ B.size disk.old }
+    ensures reply { result ≡ sync_answer lba blocks count result.fault }
+    ensures nothing { result.in_len ≡ 0 }
+    ensures unused { result.out_used ≡ 0 }
+    ensures index { IfSome result.fault (λ call. call < 1) }
+    ensures size { B.size disk.new ≡ B.size disk.old }
+    ensures content { B.blocks disk.new ≡ B.blocks disk.old }
+    ensures same { IfNone result.fault (B.faults disk.new ≡ B.faults disk.old) }
+    ensures failed { OnSome result.fault (Rose (B.faults disk.old) (B.faults disk.new)) }
+{
+    if is_past(count, lba, blocks) {
+        return ScsiReply::refused(OUT_OF_RANGE, 0);
+    }
+    match disk.flush() {
+        Ok(()) => ScsiReply::good(0, 0),
+        Err(Failed) => ScsiReply::failed(WRITE_ERROR, 0, 0),
+    }
+}
+
+// A command that its CDB does not refuse.
+#[tactic(auto, unfolding(crate::specs::Cdb::is_too_long))]
+fn perform<B: Blocks>(
+    disk: &mut B,
+    count: u64,
+    lun: u64,
+    op: DiskOp,
+    data_out: &[u8],
+    data_in: &mut [u8; 131072],
+) -> ScsiReply
+    requires count { count ≡ B.size disk.old }
+    requires few { is_too_long op ≡ false }
+    ensures reply { result ≡ performed op count (length data_out.now) result.fault }
+    ensures parameters { IfSome (parameter_data count lun (Some op)) (λ bytes.
+        take result.in_len data_in.new ≡ take result.in_len bytes) }
+    ensures given { IfSome (B.blocks disk.old) (λ all. take result.in_len data_in.new ≡
+        take result.in_len (data_of all lun (Some op))) }
+    ensures image { B.blocks disk.new ≡
+        option_map (λ all. changed (Some op) all data_out.now result.fault) (B.blocks disk.old) }
+    ensures room { result.in_len ≤ 131072 }
+    ensures used { result.out_used ≤ length data_out.now }
+    ensures index { IfSome result.fault (λ call. call < calls_of (Some op)) }
+    ensures size { B.size disk.new ≡ B.size disk.old }
+    ensures same { IfNone result.fault (B.faults disk.new ≡ B.faults disk.old) }
+    ensures failed { OnSome result.fault (Rose (B.faults disk.old) (B.faults disk.new)) }
+{
+    match op {
+        DiskOp::Ready => ScsiReply::good(0, 0),
+        DiskOp::Inquiry { max } => give(&inquiry_data(lun), max, data_in),
+        DiskOp::Capacity10 => give(&capacity10_data(count), 8, data_in),
+        DiskOp::Capacity16 { max } => give(&capacity16_data(count), max, data_in),
+        DiskOp::Luns { max } => give(&luns_data(), max, data_in),
+        DiskOp::Read { lba, blocks } => read(disk, count, lba, blocks, data_in),
+        DiskOp::Write { lba, blocks } => write(disk, count, lba, blocks, data_out),
+        DiskOp::Sync { lba, blocks } => sync(disk, count, lba, blocks),
+    }
+}
+
+/// Executes a command that came to a logical unit of the disk. `count` is the number of blocks that
+/// the image's `count` gives. The first `in_len` bytes of `data_in` are the data that the command
+/// gives; what stands behind them is not said. Device calls go in ascending order of blocks and
+/// stop at the first that fails: the blocks of a write before it are changed, and no other; a read
+/// then gives no data.
+pub fn execute<B: Blocks>(
+    disk: &mut B,
+    count: u64,
+    lun: u64,
+    cdb: &[u8; 16],
+    data_out: &[u8],
+    data_in: &mut [u8; 131072],
+) -> ScsiReply
+    requires { count ≡ B.size disk.old }
+    ensures reply { result ≡ reply_to count lun cdb.now (length data_out.now) result.fault }
+    ensures parameters { IfSome (parameter_data count lun (command_of cdb.now)) (λ bytes.
+        take result.in_len data_in.new ≡ take result.in_len bytes) }
+    ensures given { IfSome (B.blocks disk.old) (λ all. take result.in_len data_in.new ≡
+        (step all lun cdb.now data_out.now result.fault).given) }
+    ensures image { B.blocks disk.new ≡ option_map
+        (λ all. (step all lun cdb.now data_out.now result.fault).blocks) (B.blocks disk.old) }
+    ensures told { IfSome (B.blocks disk.old)
+        (λ all. (step all lun cdb.now data_out.now result.fault).reply ≡ result) }
+    ensures room { result.in_len ≤ 131072 }
+    ensures used { result.out_used ≤ length data_out.now }
+    ensures index { IfSome result.fault (λ call. call < calls_of (command_of cdb.now)) }
+    ensures size { B.size disk.new ≡ B.size disk.old }
+    ensures same { IfNone result.fault (B.faults disk.new ≡ B.faults disk.old) }
+    ensures failed { OnSome result.fault (Rose (B.faults disk.old) (B.faults disk.new)) }
+{
+    match read_cdb(lun, cdb) {
+        Ok(op) => perform(disk, count, lun, op, data_out, data_in),
+        Err(cause) => ScsiReply::refused(cause, 0),
+    }
+}
