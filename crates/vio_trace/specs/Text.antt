@@ -1,0 +1,109 @@
+-- The text of a trace: its words, its lines and its sections. Every line ends with LF, and its words are
+-- joined by one space.
+use Rattle.std.specs.Prelude.{ℕ, ◌++◌, List, [], ◌∷◌, length, flat_map, codes, decimal, Option, Some, None}
+use Rattle.std.specs.Int.{w64, to_be_bytes}
+use Rattle.hex.specs.Hex.{encode_lower}
+use Rattle.vio_num.specs.declared.entry.Entry.{Entry}
+use Rattle.vio_num.specs.declared.names.UnitId.{UnitId}
+use Rattle.vio_num.specs.declared.history.Grant.{Grant}
+use Rattle.vio_num.specs.declared.history.Grant.TheVariants as grants
+use Rattle.vio_num.specs.declared.history.Lapse.{Lapse}
+use Rattle.vio_num.specs.declared.history.Lapse.TheVariants as lapses
+use Rattle.vio_num.specs.declared.history.Served.{Served}
+use Rattle.vio_trace.specs.declared.rows.Trace.{Trace}
+use Rattle.vio_trace.specs.declared.rows.LogRow.{LogRow}
+use Rattle.vio_trace.specs.declared.rows.Outcome.{Outcome}
+use Rattle.vio_trace.specs.declared.rows.Outcome.TheVariants as outcomes
+use Rattle.vio_trace.specs.declared.rows.QueueRow.{QueueRow}
+use Rattle.vio_trace.specs.declared.rows.DropRow.{DropRow}
+use Rattle.vio_trace.specs.declared.rows.AnswerRow.{AnswerRow}
+
+-- a line of these words
+abbrev pub line : List (List ℕ) → List ℕ
+line [] = codes "\n"
+line (word ∷ []) = word ++ codes "\n"
+line (word ∷ next ∷ words) = word ++ codes " " ++ line (next ∷ words)
+
+-- a unit's name: its partition's number and its own
+abbrev pub name : UnitId → List ℕ
+name unit = decimal unit.partition ++ codes "." ++ decimal unit.unit
+
+-- a number of 64 bits in sixteen lower-case digits
+abbrev pub digits : ℕ → List ℕ
+digits n = encode_lower (to_be_bytes w64 n)
+
+-- a list of bytes in lower-case digits, two a byte
+abbrev pub bytes : List ℕ → List ℕ
+bytes [] = codes "-"
+bytes (first ∷ rest) = encode_lower (first ∷ rest)
+
+-- a number that may be absent
+abbrev pub number_or_none : Option ℕ → List ℕ
+number_or_none None = codes "-"
+number_or_none (Some n) = decimal n
+
+-- how a script line ended
+abbrev pub outcome_words : Outcome → List (List ℕ)
+outcome_words (outcomes.Granted n) = codes "granted" ∷ decimal n ∷ []
+outcome_words (outcomes.Sent tag) = codes "sent" ∷ decimal tag ∷ []
+
+-- why a login ended
+abbrev pub cause : Lapse → List ℕ
+cause lapses.Logout = codes "logout"
+cause lapses.Lost = codes "lost"
+cause lapses.Early = codes "early"
+cause lapses.BadIu = codes "badiu"
+cause lapses.NotLogin = codes "notlogin"
+cause lapses.OverLimit = codes "overlimit"
+cause lapses.Refused = codes "refused"
+
+-- log P LINE WORDS
+abbrev pub log_text : LogRow → List ℕ
+log_text row = line (codes "log" ∷ decimal row.partition ∷ decimal row.line ∷ outcome_words row.outcome)
+
+-- sent W W, or took W W
+abbrev pub entry_text : List ℕ → Entry → List ℕ
+entry_text word entry = line (word ∷ digits entry.high ∷ digits entry.low ∷ [])
+
+-- drop K W
+abbrev pub drop_text : DropRow → List ℕ
+drop_text row = line (codes "drop" ∷ decimal row.number ∷ digits row.held ∷ [])
+
+-- queue U S N A B D
+abbrev pub queue_line : QueueRow → List ℕ
+queue_line row = line (codes "queue" ∷ name row.unit ∷ decimal row.session ∷ decimal row.slots
+    ∷ decimal (length row.sent) ∷ decimal (length row.taken) ∷ decimal (length row.drops) ∷ [])
+
+-- a queue's line, then A lines of what was sent, B of what was taken, and D of what was dropped
+abbrev pub queue_text : QueueRow → List ℕ
+queue_text row = queue_line row
+    ++ flat_map (entry_text (codes "sent")) row.sent
+    ++ flat_map (entry_text (codes "took")) row.taken
+    ++ flat_map drop_text row.drops
+
+-- grant U S LOGIN NUMBER N, or lapse U S LOGIN CAUSE A B
+abbrev pub grant_text : Grant → List ℕ
+grant_text (grants.Granted unit session login number credits) =
+    line (codes "grant" ∷ name unit ∷ decimal session ∷ decimal login ∷ decimal number ∷ decimal credits ∷ [])
+grant_text (grants.Lapsed unit session login why outstanding granted) =
+    line (codes "lapse" ∷ name unit ∷ decimal session ∷ decimal login ∷ cause why
+    ∷ decimal outstanding ∷ decimal granted ∷ [])
+
+-- serve U S LOGIN NUMBER H H F H H
+abbrev pub serve_text : Served → List ℕ
+serve_text row = line (codes "serve" ∷ name row.unit ∷ decimal row.session ∷ decimal row.login ∷ decimal row.number
+    ∷ bytes row.iu ∷ bytes row.out ∷ number_or_none row.fault ∷ bytes row.answer ∷ bytes row.inn ∷ [])
+
+-- answer U S TAG H
+abbrev pub answer_text : AnswerRow → List ℕ
+answer_text row = line (codes "answer" ∷ name row.unit ∷ decimal row.session ∷ decimal row.tag ∷ bytes row.answer ∷ [])
+
+-- the one text of a trace: its first line, its sections, its last line
+abbrev pub trace_text : Trace → List ℕ
+trace_text trace = codes "trace 1\n"
+    ++ flat_map log_text trace.logs
+    ++ flat_map queue_text trace.queues
+    ++ flat_map grant_text trace.grants
+    ++ flat_map serve_text trace.serves
+    ++ flat_map answer_text trace.answers
+    ++ codes "end\n"

@@ -1,0 +1,166 @@
+// The lines of each kind of row, and of a list of rows.
+ghost use Rattle.std.specs.Prelude.{◌≡◌, ◌++◌, ℕ, List, OnOk, flat_map};
+ghost use Rattle.vio_trace.specs.Text.{log_text, entry_text, drop_text, queue_line, queue_text, grant_text, serve_text, answer_text};
+
+use crate::rows::{AnswerRow, DropRow, LogRow, Outcome, QueueRow};
+use crate::words::{
+    put, put_bytes, put_cause, put_digits, put_head, put_number, put_number_or_none,
+};
+use vio_num::{Entry, Grant, NoMemory, Served};
+
+/// What has lines in a trace.
+pub trait Lines {
+    ghost text: { Self → List ℕ };
+
+    /// Writes the lines.
+    fn put(&self, buffer: &mut Vec<u8>) -> Result<(), NoMemory>
+        ensures { OnOk result (buffer.new.items ≡ buffer.old.items ++ text self.now) };
+}
+
+/// Writes the lines of each of these rows.
+pub fn put_all<R: Lines>(buffer: &mut Vec<u8>, rows: &[R]) -> Result<(), NoMemory>
+    ensures { OnOk result (buffer.new.items ≡ buffer.old.items ++ flat_map R.text rows.now) }
+{
+    for row in rows {
+        row.put(buffer)?;
+    }
+    Ok(())
+}
+
+impl Lines for LogRow {
+    ghost text = { log_text };
+
+    fn put(&self, buffer: &mut Vec<u8>) -> Result<(), NoMemory> {
+        put(buffer, b"log")?;
+        put_number(buffer, u64::from(self.partition))?;
+        put_number(buffer, u64::from(self.line))?;
+        match self.outcome {
+            Outcome::Granted(credits) => {
+                put(buffer, b" granted")?;
+                put_number(buffer, u64::from(credits))?;
+            }
+            Outcome::Sent(tag) => {
+                put(buffer, b" sent")?;
+                put_number(buffer, tag)?;
+            }
+        }
+        put(buffer, b"\n")
+    }
+}
+
+/// Writes a line of this first word for each entry.
+fn put_entries(buffer: &mut Vec<u8>, word: &[u8], entries: &[Entry]) -> Result<(), NoMemory>
+    ensures { OnOk result (buffer.new.items ≡ buffer.old.items ++ flat_map (entry_text word.now) entries.now) }
+{
+    for entry in entries {
+        put_entry(buffer, word, entry)?;
+    }
+    Ok(())
+}
+
+/// Writes the line of an entry.
+fn put_entry(buffer: &mut Vec<u8>, word: &[u8], entry: &Entry) -> Result<(), NoMemory>
+    ensures { OnOk result (buffer.new.items ≡ buffer.old.items ++ entry_text word.now entry.now) }
+{
+    put(buffer, word)?;
+    put_digits(buffer, entry.high)?;
+    put_digits(buffer, entry.low)?;
+    put(buffer, b"\n")
+}
+
+impl Lines for DropRow {
+    ghost text = { drop_text };
+
+    fn put(&self, buffer: &mut Vec<u8>) -> Result<(), NoMemory> {
+        put(buffer, b"drop")?;
+        put_number(buffer, self.number)?;
+        put_digits(buffer, self.held)?;
+        put(buffer, b"\n")
+    }
+}
+
+/// Writes the first line of a session.
+fn put_queue_line(buffer: &mut Vec<u8>, row: &QueueRow) -> Result<(), NoMemory>
+    ensures { OnOk result (buffer.new.items ≡ buffer.old.items ++ queue_line row.now) }
+{
+    put_head(buffer, b"queue", row.unit, row.session)?;
+    put_number(buffer, u64::from(row.slots))?;
+    put_number(buffer, row.sent.len() as u64)?;
+    put_number(buffer, row.taken.len() as u64)?;
+    put_number(buffer, row.drops.len() as u64)?;
+    put(buffer, b"\n")
+}
+
+impl Lines for QueueRow {
+    ghost text = { queue_text };
+
+    fn put(&self, buffer: &mut Vec<u8>) -> Result<(), NoMemory> {
+        put_queue_line(buffer, self)?;
+        put_entries(buffer, b"sent", self.sent.as_slice())?;
+        put_entries(buffer, b"took", self.taken.as_slice())?;
+        put_all(buffer, self.drops.as_slice())
+    }
+}
+
+impl Lines for Grant {
+    ghost text = { grant_text };
+
+    fn put(&self, buffer: &mut Vec<u8>) -> Result<(), NoMemory> {
+        match *self {
+            Grant::Granted {
+                unit,
+                session,
+                login,
+                number,
+                credits,
+            } => {
+                put_head(buffer, b"grant", unit, session)?;
+                put_number(buffer, login)?;
+                put_number(buffer, number)?;
+                put_number(buffer, u64::from(credits))?;
+            }
+            Grant::Lapsed {
+                unit,
+                session,
+                login,
+                cause,
+                outstanding,
+                granted,
+            } => {
+                put_head(buffer, b"lapse", unit, session)?;
+                put_number(buffer, login)?;
+                put_cause(buffer, cause)?;
+                put_number(buffer, u64::from(outstanding))?;
+                put_number(buffer, u64::from(granted))?;
+            }
+        }
+        put(buffer, b"\n")
+    }
+}
+
+impl Lines for Served {
+    ghost text = { serve_text };
+
+    fn put(&self, buffer: &mut Vec<u8>) -> Result<(), NoMemory> {
+        put_head(buffer, b"serve", self.unit, self.session)?;
+        put_number(buffer, self.login)?;
+        put_number(buffer, self.number)?;
+        put_bytes(buffer, &self.iu)?;
+        put_bytes(buffer, &self.out)?;
+        put_number_or_none(buffer, self.fault)?;
+        put_bytes(buffer, &self.answer)?;
+        put_bytes(buffer, &self.inn)?;
+        put(buffer, b"\n")
+    }
+}
+
+impl Lines for AnswerRow {
+    ghost text = { answer_text };
+
+    fn put(&self, buffer: &mut Vec<u8>) -> Result<(), NoMemory> {
+        put_head(buffer, b"answer", self.unit, self.session)?;
+        put_number(buffer, self.tag)?;
+        put_bytes(buffer, &self.answer)?;
+        put(buffer, b"\n")
+    }
+}

@@ -1,0 +1,24 @@
+// The text of a trace, written into one buffer.
+ghost use Rattle.std.specs.Prelude.{◌≡◌, IfOk};
+ghost use Rattle.vio_trace.specs.Text.{trace_text};
+
+use crate::lines::put_all;
+use crate::rows::Trace;
+use crate::words::put;
+use std::alloc::Global;
+use vio_num::NoMemory;
+
+/// The text of a trace.
+pub fn write_trace(alloc: Global, trace: &Trace) -> Result<Vec<u8>, NoMemory>
+    ensures { IfOk result (λ text. text.items ≡ trace_text trace.now) }
+{
+    let mut text = Vec::new(alloc);
+    put(&mut text, b"trace 1\n")?;
+    put_all(&mut text, trace.logs.as_slice())?;
+    put_all(&mut text, trace.queues.as_slice())?;
+    put_all(&mut text, trace.grants.as_slice())?;
+    put_all(&mut text, trace.serves.as_slice())?;
+    put_all(&mut text, trace.answers.as_slice())?;
+    put(&mut text, b"end\n")?;
+    Ok(text)
+}
