@@ -1,0 +1,103 @@
+// The program `paprvio`: reads a boot text from standard input, runs it over an image, and writes the
+// trace to standard output.
+#![tactic(auto)]
+
+mod boot;
+mod client;
+mod first_run;
+mod queues;
+mod reading;
+mod run;
+mod server;
+mod status;
+#[cfg(test)]
+mod tests;
+mod writing;
+
+use crate::run::run;
+use crate::status::{DONE, NO_MEMORY, SINK_FAILED};
+use std::process::ExitCode;
+use std::rt::{Env, Files};
+use std::thread::Threads;
+use std::{env, io};
+use vio_io::{Blocks, FileBlocks, FreeGate, StdSink, StdSource, SureBlocks};
+
+const USAGE: &str = "usage: paprvio IMAGE run < BOOT-TEXT > TRACE
+       paprvio --help | --version
+
+IMAGE is a file of 512-byte blocks, or - for 2,048 blocks of zeros in memory.
+Statuses: 0 done, 1 usage, 2 refused boot text, 3 input failed, 4 output failed, 6 no memory.
+";
+
+const VERSION: &str = "paprvio 0.1.0\n";
+/// The blocks of the image in memory.
+const ZERO_BLOCKS: u32 = 2048;
+
+// Runs the words over standard input and output.
+fn run_over<R: Threads + Sync + Input + Print + AllocGlobal, Di: Blocks + Send + Drop>(
+    rt: &R,
+    words: &[String],
+    image: Di,
+) -> u8 {
+    let mut source = StdSource::new(rt.reader());
+    let mut sink = StdSink::new(io::writer(rt));
+    let ended = run(
+        rt,
+        rt.alloc(),
+        words,
+        &mut source,
+        image,
+        &mut sink,
+        &FreeGate,
+    );
+    ended.status
+}
+
+// Makes the image that the first word names, and runs the other words over it.
+fn run_image<R: Threads + Sync + Files + Input + Print + AllocGlobal>(
+    rt: &R,
+    name: &str,
+    words: &[String],
+) -> u8
+where
+    R::File: Send + Drop,
+{
+    if name == "-" {
+        match SureBlocks::zeros(rt.alloc(), ZERO_BLOCKS) {
+            Ok(image) => run_over(rt, words, image),
+            Err(_) => NO_MEMORY,
+        }
+    } else {
+        match FileBlocks::open(rt, rt.alloc(), name) {
+            Ok(image) => run_over(rt, words, image),
+            Err(_) => NO_MEMORY,
+        }
+    }
+}
+
+// Writes a text of the program's own to standard output.
+fn print_text<R: Print>(rt: &R, text: &str) -> u8 {
+    match rt.print(text) {
+        Ok(()) => DONE,
+        Err(_) => SINK_FAILED,
+    }
+}
+
+fn words_of<R: Env + AllocGlobal>(rt: &R) -> io::Result<Vec<String>> {
+    Ok(env::args(rt)?.skip(1).collect(rt.alloc())?)
+}
+
+fn main(rt: HostRuntime) -> ExitCode {
+    let Ok(words) = words_of(&rt) else {
+        return ExitCode::from(NO_MEMORY);
+    };
+    let status = match words.as_slice() {
+        [] => run_image(&rt, "-", &[]),
+        [image, rest @ ..] => match image.as_str() {
+            "--help" => print_text(&rt, USAGE),
+            "--version" => print_text(&rt, VERSION),
+            name => run_image(&rt, name, rest),
+        },
+    };
+    ExitCode::from(status)
+}
