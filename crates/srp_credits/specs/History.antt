@@ -29,7 +29,7 @@ abbrev pub without : ℕ → List ℕ → List ℕ
 without tag [] = []
 without tag (x ∷ xs) = if x == tag then xs else x ∷ without tag xs
 
--- the tags that were sent and not answered since the login, the oldest first
+-- the tags that were sent and not answered since the last login or loss, the oldest first
 abbrev pub outstanding : List Event → List ℕ
 outstanding [] = []
 outstanding (Login delta ∷ es) = []
@@ -38,7 +38,7 @@ outstanding (Answered tag delta ∷ es) = without tag (outstanding es)
 outstanding (Logout ∷ es) = outstanding es
 outstanding (Lost ∷ es) = []
 
--- the request limit: how many more requests may be sent. It begins as what the login granted, of which
+-- the request limit: how many more requests may be sent while a login is on. It begins as what the login granted, of which
 -- 200 count; a request lowers it by one; an answer raises it by what it grants, but not above 200 less
 -- what is then outstanding. A history that no initiator lives may take it below 0.
 abbrev pub limit : List Event → ℤ

@@ -10,7 +10,7 @@ pub fn limit_is_kept()
 {}
 
 /// Under a login, where each answer grants one, limit and outstanding requests are together what the login
-/// granted. So an initiator that keeps its limit and a target that keeps its grant allow the same requests.
+/// granted, of which 200 count. So an initiator that keeps its limit and a target that keeps its grant allow the same requests.
 pub fn sides_agree()
     ensures sum { (es : List Event) → IsProper es → GrantsOneEach es → is_on es ≡ true → limit es +ℤ pos (length (outstanding es)) ≡ pos (min (granted es) 200) }
     ensures same { (es : List Event) → IsProper es → GrantsOneEach es → is_on es ≡ true → (pos 0 ≤ℤ limit es) ↔ (length (outstanding es) ≤ min (granted es) 200) }
@@ -22,8 +22,8 @@ pub fn grant_is_kept()
     ensures { (n : ℕ) (es : List Event) → IsWithinGrant n es → length (outstanding es) ≤ n }
 {}
 
-/// Each answer has a request of its own: since the login a tag was sent as often as it was answered, and
-/// once more where it is outstanding.
+/// Each answer has a request of its own: since the last login or loss a tag was sent as often as it was
+/// answered, and once more where it is outstanding.
 pub fn each_answer_has_its_request()
     ensures balance { (es : List Event) (tag : ℕ) → IsProper es → times_sent tag es ≡ times_answered tag es + times_outstanding tag es }
     ensures once { (es : List Event) (tag : ℕ) → IsProper es → times_outstanding tag es ≤ 1 }

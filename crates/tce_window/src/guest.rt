@@ -59,7 +59,7 @@ impl PlainWindow {
         ensures strokes { (p : ℕ) → strokes_at self.new.pages p ≡ either (strokes_at self.old.pages p) (held_strokes held.pages p) }
         ensures size { length self.new.pages ≡ length self.old.pages }
         ensures free { self.new.held_count ≡ 0 }
-        ensures others { self.new ≡ record self.old { pages = self.new.pages; held_from = self.new.held_from; held_count = 0 } }
+        ensures others { self.new ≡ record self.old { pages = self.new.pages; held_from = 0; held_count = 0 } }
     {
         let Held {
             alloc: _,
