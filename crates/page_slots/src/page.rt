@@ -93,6 +93,14 @@ impl Page {
         out.copy_from_slice(&self.bytes[start..start + out.len()]);
     }
 
+    /// The page's 4,096 bytes, lent.
+    pub fn bytes(&self) -> &[u8]
+        ensures bytes { result.now ≡ left_by self.now.strokes }
+        ensures size { length result.now ≡ 4096 }
+    {
+        self.bytes.as_slice()
+    }
+
     /// Every stroke on the page, the oldest first.
     pub fn strokes(&self) -> &[Stroke]
         ensures strokes { result.now ≡ self.now.strokes }

@@ -43,11 +43,19 @@ impl Stroke {
         ensures { IfOk result (λ stroke. stroke ≡ record { name = name; offset = offset; bytes = bytes.now }) }
     {
         let bytes = Bytes::from_slice(alloc, bytes)?;
-        Ok(Stroke {
+        Ok(Stroke::from_bytes(name, offset, bytes))
+    }
+
+    /// A write of bytes that were gathered before, from `offset` on. It takes no memory.
+    pub fn from_bytes(name: StrokeName, offset: u16, bytes: Bytes) -> Stroke
+        requires { offset + length bytes ≤ 4096 }
+        ensures { result ≡ record { name = name; offset = offset; bytes = bytes } }
+    {
+        Stroke {
             name,
             offset,
             bytes,
-        })
+        }
     }
 
     /// Who wrote it, and under which mark.

@@ -1,7 +1,7 @@
-// Pages under strokes that overlap and lie at the edges, and a page without room.
+// Strokes and pages under strokes that overlap and lie at the edges, and a page without room.
 use crate::page::Page;
 use crate::stroke::{Stroke, StrokeName};
-use vio_num::{NoMemory, UnitId};
+use vio_num::{Bytes, NoMemory, UnitId};
 
 const BYTES: [u8; 4096] = [7; 4096];
 
@@ -39,6 +39,15 @@ fn byte_at(page: &Page, place: u16) -> u8 {
     byte[0]
 }
 
+// Whether so many bytes of the page, from this place on, are 7, and the others 0.
+fn shows_sevens(page: &Page, first: u16, len: usize) -> bool {
+    let first = usize::from(first);
+    page.bytes().iter().enumerate().all(|(place, byte)| {
+        let covered = place >= first && place - first < len;
+        *byte == if covered { 7 } else { 0 }
+    })
+}
+
 #[test]
 fn a_stroke_tells_what_it_was_made_of(rt: HostRuntime) -> Result<(), NoMemory> {
     for (offset, len) in [(0, 0), (0, 1), (0, 4096), (4095, 1), (4096, 0), (17, 300)] {
@@ -47,6 +56,65 @@ fn a_stroke_tells_what_it_was_made_of(rt: HostRuntime) -> Result<(), NoMemory> {
         assert_eq!(rt; stroke.name(), name(9));
         assert_eq!(rt; stroke.offset(), offset);
         assert_eq!(rt; stroke.bytes(), bytes, "of {len} bytes at {offset}");
+    }
+    Ok(())
+}
+
+#[test]
+fn a_stroke_takes_bytes_gathered_before(rt: HostRuntime) -> Result<(), NoMemory> {
+    for (offset, len) in [(0, 0), (0, 4096), (4095, 1), (4096, 0), (17, 300)] {
+        let sevens = &BYTES[..len];
+        let bytes = Bytes::from_slice(rt.alloc(), sevens)?;
+        let stroke = Stroke::from_bytes(name(u64::MAX), offset, bytes);
+        assert_eq!(rt; stroke.name(), name(u64::MAX));
+        assert_eq!(rt; stroke.offset(), offset);
+        assert_eq!(rt; stroke.bytes(), sevens, "of {len} bytes at {offset}");
+        let mut page = Page::zero(rt.alloc())?;
+        page.reserve(1)?;
+        assert_eq!(rt; page.write(stroke), 0);
+        assert!(rt;
+            shows_sevens(&page, offset, len),
+            "of {len} bytes at {offset}"
+        );
+    }
+    let letters = Bytes::from(vec![in rt.alloc(); b'o', b'n', b'e']?);
+    assert_eq!(rt;
+        Stroke::from_bytes(name(0), 4093, letters).bytes(),
+        b"one".as_slice()
+    );
+    Ok(())
+}
+
+#[test]
+fn a_page_lends_its_bytes(rt: HostRuntime) -> Result<(), NoMemory> {
+    let mut page = Page::zero(rt.alloc())?;
+    let strokes: [(u16, &[u8]); 7] = [
+        (0, b"ab"),
+        (4095, b"x"),
+        (4094, b"yz"),
+        (0, b"c"),
+        (4095, b"w"),
+        (4093, b"uv"),
+        (4096, b""),
+    ];
+    for (i, (offset, bytes)) in strokes.iter().enumerate() {
+        assert_eq!(rt;
+            write(rt.alloc(), &mut page, i as u64, *offset, bytes),
+            Ok(i as u32)
+        );
+    }
+    let lent = page.bytes();
+    assert_eq!(rt; lent.len(), 4096);
+    for (place, byte) in lent.iter().enumerate() {
+        let want = match place {
+            0 => b'c',
+            1 => b'b',
+            4093 => b'u',
+            4094 => b'v',
+            4095 => b'w',
+            _ => 0,
+        };
+        assert_eq!(rt; *byte, want, "at {place}");
     }
     Ok(())
 }
