@@ -6,7 +6,6 @@ ghost use Rattle.srp_desc.specs.Pieces.{descs_in, named, refused, sum_of, summin
 use crate::gathered::Gathered;
 use crate::pieces::{DESC_LEN, DescFault};
 use arrayvec::ArrayVec;
-use byteorder::{BigEndian, ByteOrder};
 use srp_iu::Desc;
 
 /// The pieces that the bytes of a fetched table name, whose lengths are to sum to the total, in bytes.
@@ -32,10 +31,5 @@ fn desc_at(bytes: &[u8], place: usize) -> Desc
     requires { place + 16 ≤ length bytes.now }
     ensures { result ≡ desc_of (drop place bytes.now) }
 {
-    let bytes = &bytes[place..];
-    Desc {
-        address: BigEndian::read_u64(bytes),
-        key: BigEndian::read_u32(&bytes[8..]),
-        len: BigEndian::read_u32(&bytes[12..]),
-    }
+    Desc::read(&bytes[place..])
 }

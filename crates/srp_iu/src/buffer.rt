@@ -43,8 +43,8 @@ pub enum Buffer {
 }
 
 impl Desc {
-    /// The descriptor that the first bytes are.
-    fn read(bytes: &[u8]) -> Self
+    /// The descriptor that the first sixteen bytes are.
+    pub fn read(bytes: &[u8]) -> Self
         requires { 16 ≤ length bytes.now }
         ensures { result ≡ desc_of bytes.now }
     {
