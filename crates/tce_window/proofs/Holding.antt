@@ -7,7 +7,9 @@ use Rattle.tce_window.specs.declared.held.HeldPage.{HeldPage}
 use Rattle.tce_window.specs.Held.{held_strokes, strokes_of, either, FillsPlaces}
 use Rattle.tce_window.specs.declared.answers.Piece.{Piece}
 use Rattle.tce_window.specs.declared.answers.HoldFault.{HoldFault}
-use Rattle.tce_window.specs.Pieces.{on_page}
+use Rattle.tce_window.specs.declared.answers.HoldFault.TheVariants.{Past, NotGranted, InUse}
+use Rattle.tce_window.specs.Pieces.{on_page, IsOfEntry}
+use Rattle.tce_window.specs.Port.{NamesFound}
 use Rattle.std.proofs.lemmas.Bool.{cases_lt}
 use Rattle.std.proofs.lemmas.Option.{slice_get-get_or, slice_get_past}
 use Rattle.std.proofs.lemmas.List.Elements.{All-head, All-tail}
@@ -150,3 +152,9 @@ tests_of pieces pages old n held there within p =
 pub if_err_map : {T : Type 0} (r : Result T HoldFault) (P Q : HoldFault → Type 0) → ((f : HoldFault) → P f → Q f) → IfErr r P → IfErr r Q
 if_err_map (Ok v) P Q g m = m
 if_err_map (Err f) P Q g m = g f m
+
+-- a refusal that names an entry names no page in use
+pub none_found : (fault : HoldFault) → IsOfEntry fault → NamesFound (λ _ _. ⊥) fault
+none_found (Past entry) h = tt
+none_found (NotGranted entry version tce) h = tt
+none_found (InUse page word) h = h

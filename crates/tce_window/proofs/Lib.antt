@@ -1,4 +1,8 @@
+pub mod Gathering
+pub mod Growing
 pub mod Holding
+pub mod Lending
+pub mod Moving
 pub mod Naming
 pub mod Pages
 pub mod Piecing

@@ -205,22 +205,21 @@ held_told good is_held new old f e list answer same refused put held =
     ∙ ap (λ xs. values_of old e ++ xs) (held_cases good is_held f e list answer refused put held)
     ∙ append-nil (values_of old e)
 
-busy_cases : (f before after : ℕ) (list : List ℕ) (answer : TceAnswer) → MatchPut answer (Unit {0}) (λ entry pins done. (entry + 0 ≡ f + done) × (0 ≤ done) × (done < 0 + length list) × (pins ≡ 1))
-    → after ≡ times_in_use answer before → MatchPut answer (Unit {0}) (IsBusy f list before after)
-busy_cases f before after list Done m e = tt
-busy_cases f before after list Parameter m e = m
-busy_cases f before after list (Busy entry pins done) m e = record {
+busy_cases : (f : ℕ) (list : List ℕ) (answer : TceAnswer) → MatchPut answer (Unit {0}) (λ entry pins done. (entry + 0 ≡ f + done) × (0 ≤ done) × (done < 0 + length list) × (pins ≡ 1))
+    → MatchPut answer (Unit {0}) (IsBusy f list)
+busy_cases f list Done m = tt
+busy_cases f list Parameter m = m
+busy_cases f list (Busy entry pins done) m = record {
   place = omega (arith, m.0);
   below = omega (arith, m.2);
   pinned = omega (arith, m.3);
-  rose = omega (arith, e);
 }
 
-pub busy_told : (is_held : ℕ → Bool) (f before after : ℕ) (list : List ℕ) (answer : TceAnswer) → answer ≡ put_answer is_held f 0 list
-    → after ≡ times_in_use answer before → MatchPut answer (Unit {0}) (IsBusy f list before after)
-busy_told is_held f before after list answer same e =
-    busy_cases f before after list answer
-    (subst (λ a. MatchPut a (Unit {0}) (λ entry pins done. (entry + 0 ≡ f + done) × (0 ≤ done) × (done < 0 + length list) × (pins ≡ 1))) (sym same) (busy_at is_held f 0 list)) e
+pub busy_told : (is_held : ℕ → Bool) (f : ℕ) (list : List ℕ) (answer : TceAnswer) → answer ≡ put_answer is_held f 0 list
+    → MatchPut answer (Unit {0}) (IsBusy f list)
+busy_told is_held f list answer same =
+    busy_cases f list answer
+    (subst (λ a. MatchPut a (Unit {0}) (λ entry pins done. (entry + 0 ≡ f + done) × (0 ≤ done) × (done < 0 + length list) × (pins ≡ 1))) (sym same) (busy_at is_held f 0 list))
 
 pub never_falls : (answer : TceAnswer) (before after : ℕ) → after ≡ times_in_use answer before → before ≤ after
 never_falls Done before after e = omega (arith, e)

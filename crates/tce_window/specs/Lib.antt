@@ -2,10 +2,14 @@ pub mod Answers
 pub mod Grant
 pub mod Held
 pub mod Kept
+pub mod Laying
+pub mod Lent
+pub mod Moved
 pub mod Named
 pub mod Pieces
 pub mod Port
 pub mod Puts
 pub mod Region
 pub mod Table
+pub mod Unread
 pub mod Window

@@ -5,6 +5,8 @@ use Rattle.vio_num.specs.declared.names.UnitId.{UnitId}
 use Rattle.page_slots.specs.Stroke.{StrokeValue}
 use Rattle.tce_window.specs.declared.answers.Piece.{Piece}
 use Rattle.tce_window.specs.declared.answers.Right.{Right}
+use Rattle.tce_window.specs.declared.answers.HoldFault.{HoldFault}
+use Rattle.tce_window.specs.declared.answers.HoldFault.TheVariants.{Past, NotGranted, InUse}
 use Rattle.tce_window.specs.Grant.{grants, told, IsCurrent}
 
 -- the piece with which the range from..to begins: it ends with the range or with its entry
@@ -52,3 +54,31 @@ AreUsable values right n first entry = (e : ℕ) → first ≤ e → e < entry �
 abbrev pub Lacks : (ℕ → List ℕ) → Right → ℕ → ℕ → ℕ → Type 0
 Lacks values right entry version tce =
     (value : ℕ) × IsCurrent values entry version value × (grants right value ≡ false) × (tce ≡ told value)
+
+-- the entry behind the last one that a range touches
+abbrev pub end_entry : ℕ → ℕ → ℕ
+end_entry ioba len = (ioba + len + 4095) / 4096
+
+-- each entry that the range touches is one of n, and grants the right
+abbrev pub IsUsable : (ℕ → List ℕ) → Right → (n ioba len : ℕ) → Type 0
+IsUsable values right n ioba len = AreUsable values right n (ioba / 4096) (end_entry ioba len)
+
+-- why a range of a window of n entries is not held: its first entry that is past the window or lacks the
+-- right; or all its entries may be used, and a page is in use
+abbrev pub IsRefused : (ℕ → List ℕ) → Right → (n ioba len : ℕ) → HoldFault → Type 0
+IsRefused values right n ioba len (Past entry) =
+    (ioba / 4096 ≤ entry) × (entry < end_entry ioba len) × (n ≤ entry) × AreUsable values right n (ioba / 4096) entry
+IsRefused values right n ioba len (NotGranted entry version tce) =
+    (ioba / 4096 ≤ entry) × (entry < end_entry ioba len) × (entry < n) × Lacks values right entry version tce × AreUsable values right n (ioba / 4096) entry
+IsRefused values right n ioba len (InUse page word) =
+    (page < n) × IsUsable values right n ioba len
+
+-- the refusal names an entry, and no page in use
+abbrev pub IsOfEntry : HoldFault → Type 0
+IsOfEntry (InUse page word) = ⊥
+IsOfEntry _ = Unit {0}
+
+-- the pieces lie in consecutive entries, from this one on
+abbrev pub LieFrom : ℕ → List Piece → Type 0
+LieFrom entry [] = Unit {0}
+LieFrom entry (piece ∷ pieces) = (piece.entry ≡ entry) × LieFrom (entry + 1) pieces

@@ -1,10 +1,10 @@
 // The guest's side of a plain window: a range is held, and given back.
-ghost use Rattle.std.specs.Prelude.{◌≡◌, ℕ, ◌+◌, ◌*◌, ◌/◌, ◌<◌, ◌≤◌, All, None, IsSome, is_some, IfOk, IfErr, OnErr, length, nat_lt, if◌then◌else◌};
+ghost use Rattle.std.specs.Prelude.{◌≡◌, ℕ, ◌+◌, ◌/◌, ◌≤◌, All, None, is_some, IfOk, IfErr, OnOk, OnErr, length, if◌then◌else◌};
 ghost use Rattle.tce_window.specs.Grant.{values_of};
-ghost use Rattle.tce_window.specs.Held.{held_len, held_strokes, either, FillsPlaces};
-ghost use Rattle.tce_window.specs.Pieces.{on_page, Touches, IsGranted, IsLast, HasStrokes, AreUsable, Lacks};
+ghost use Rattle.tce_window.specs.Held.{held_len, held_strokes, either};
+ghost use Rattle.tce_window.specs.Lent.{IsLentBy};
+ghost use Rattle.tce_window.specs.Pieces.{on_page, Touches, IsGranted, IsLast, HasStrokes, IsUsable, IsRefused, IsOfEntry};
 ghost use Rattle.tce_window.specs.Window.{strokes_at};
-ghost use Rattle.tce_window.specs.Answers.{MatchHold};
 
 use crate::answers::{HoldFault, Right};
 use crate::held::{Held, put_pages, take_pages};
@@ -28,15 +28,14 @@ impl PlainWindow {
         ensures taken { IfOk result (λ held. (p : ℕ) → held_strokes held.pages p ≡ (if on_page held.pieces p then strokes_at self.old.pages p else None)) }
         ensures away { IfOk result (λ held. (p : ℕ) → strokes_at self.new.pages p ≡ (if on_page held.pieces p then None else strokes_at self.old.pages p)) }
         ensures pages { IfOk result (λ held. (p : ℕ) → is_some (held_strokes held.pages p) ≡ on_page held.pieces p) }
-        ensures fills { IfOk result (λ held. FillsPlaces held.pages (length self.new.pages) (strokes_at self.new.pages)) }
+        ensures usable { OnOk result (IsUsable (values_of self.old.rows) right (length self.old.pages) ioba len) }
+        ensures lent { IfOk result (λ held. IsLentBy self.new held) }
         ensures count { IfOk result (λ held. self.new.held_count ≡ length held.pieces) }
         ensures from { IfOk result (λ held. self.new.held_from ≡ ioba / 4096) }
         ensures size { length self.new.pages ≡ length self.old.pages }
         ensures others { self.new ≡ record self.old { pages = self.new.pages; held_from = self.new.held_from; held_count = self.new.held_count } }
-        ensures cause { IfErr result (λ fault. MatchHold fault
-            (λ entry. (entry * 4096 < ioba + len) × (ioba / 4096 ≤ entry) × (length self.old.pages ≤ entry) × AreUsable (values_of self.old.rows) right (length self.old.pages) (ioba / 4096) entry)
-            (λ entry version tce. (entry * 4096 < ioba + len) × (ioba / 4096 ≤ entry) × (entry < length self.old.pages) × Lacks (values_of self.old.rows) right entry version tce × AreUsable (values_of self.old.rows) right (length self.old.pages) (ioba / 4096) entry)
-            (λ _ _. ⊥)) }
+        ensures cause { IfErr result (λ fault. IsRefused (values_of self.old.rows) right (length self.old.pages) ioba len fault) }
+        ensures entry { IfErr result IsOfEntry }
         ensures err { OnErr result (self.new ≡ self.old) }
     {
         let pieces = self.pieces(ioba, len, right)?;
@@ -54,8 +53,7 @@ impl PlainWindow {
     /// Gives the range back that the last hold of this window answered: its entries may take values again,
     /// and its pages are in their places with all their strokes.
     pub fn give_back(&mut self, held: Held)
-        requires count { self.old.held_count ≡ length held.pieces }
-        requires pages { FillsPlaces held.pages (length self.old.pages) (strokes_at self.old.pages) }
+        requires { IsLentBy self.old held }
         ensures strokes { (p : ℕ) → strokes_at self.new.pages p ≡ either (strokes_at self.old.pages p) (held_strokes held.pages p) }
         ensures size { length self.new.pages ≡ length self.old.pages }
         ensures free { self.new.held_count ≡ 0 }

@@ -57,6 +57,14 @@ fn first_gap(covered: &[bool], from: usize, to: usize) -> Option<usize>
     None
 }
 
+/// Whether the stroke alone covers the places of its page from here to there.
+fn is_over(stroke: &Stroke, from: usize, to: usize) -> bool
+    ensures { IsTrue result → (k : ℕ) → from ≤ k → k < to → covers k stroke.now ≡ true }
+{
+    let start = stroke.offset() as usize;
+    start <= from && to <= start + stroke.bytes().len()
+}
+
 /// Whether the strokes cover the places of their page from here to there.
 fn is_covered(run: &[Stroke], from: usize, to: usize) -> bool
     requires { to ≤ 4096 }
@@ -73,6 +81,16 @@ fn is_covered(run: &[Stroke], from: usize, to: usize) -> bool
     }
 }
 
+/// Whether the last stroke is of this name, and covers the places of the page from here to there.
+fn is_last_over(strokes: &[Stroke], name: StrokeName, from: usize, to: usize) -> bool
+    ensures { IsTrue result → IsFresh name from to (Some strokes.now) }
+{
+    match strokes.last() {
+        Some(stroke) => is_named(stroke, name) && is_over(stroke, from, to),
+        None => false,
+    }
+}
+
 /// The last name but this one on a page whose last strokes of the name do not cover the places from here
 /// to there. None where they do.
 pub(crate) fn stale(
@@ -85,6 +103,9 @@ pub(crate) fn stale(
     ensures fresh { IfNone result (IsFresh name from to (Some strokes.now)) }
     ensures stale { IfSome result (λ found. IsStale name from to found (Some strokes.now)) }
 {
+    if is_last_over(strokes, name, from, to) {
+        return None;
+    }
     let start = run_start(strokes, name);
     if is_covered(&strokes[start..], from, to) {
         return None;

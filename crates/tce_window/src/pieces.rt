@@ -1,7 +1,7 @@
 // The pieces of a range of a plain window.
 ghost use Rattle.std.specs.Prelude.{◌≡◌, ℕ, ◌+◌, ◌-◌, ◌*◌, ◌/◌, ◌%◌, ◌^◌, ◌<◌, ◌≤◌, All, length, IfOk, IfErr, OnOk, IsTrue};
 ghost use Rattle.tce_window.specs.Grant.{grants, told, values_of};
-ghost use Rattle.tce_window.specs.Pieces.{IsPieceAt, Touches, IsGranted, IsLast, HasStrokes, AreUsable, MayUse, Lacks};
+ghost use Rattle.tce_window.specs.Pieces.{IsPieceAt, Touches, IsGranted, IsLast, HasStrokes, IsUsable, MayUse, Lacks, IsRefused, IsOfEntry};
 ghost use Rattle.tce_window.specs.Window.{strokes_at};
 ghost use Rattle.tce_window.specs.Answers.{MatchHold};
 
@@ -90,10 +90,9 @@ impl PlainWindow {
         ensures strokes { IfOk result (λ pieces. All (λ piece. HasStrokes piece (strokes_at self.now.pages piece.page)) pieces.items) }
         ensures inside { IfOk result (λ pieces. ioba / 4096 + length pieces.items ≤ length self.now.pages) }
         ensures some { IfOk result (λ pieces. 1 ≤ length pieces.items) }
-        ensures cause { IfErr result (λ fault. MatchHold fault
-            (λ entry. (entry * 4096 < ioba + len) × (ioba / 4096 ≤ entry) × (length self.now.pages ≤ entry) × AreUsable (values_of self.now.rows) right (length self.now.pages) (ioba / 4096) entry)
-            (λ entry version tce. (entry * 4096 < ioba + len) × (ioba / 4096 ≤ entry) × (entry < length self.now.pages) × Lacks (values_of self.now.rows) right entry version tce × AreUsable (values_of self.now.rows) right (length self.now.pages) (ioba / 4096) entry)
-            (λ _ _. ⊥)) }
+        ensures usable { OnOk result (IsUsable (values_of self.now.rows) right (length self.now.pages) ioba len) }
+        ensures cause { IfErr result (λ fault. IsRefused (values_of self.now.rows) right (length self.now.pages) ioba len fault) }
+        ensures entry { IfErr result IsOfEntry }
     {
         let mut pieces = ArrayVec::new();
         let mut done = 0;

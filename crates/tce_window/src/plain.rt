@@ -9,13 +9,15 @@ use page_slots::StrokeName;
 use vio_num::NoMemory;
 
 impl WindowPort for PlainWindow {
-    ghost use Rattle.std.specs.Prelude.{length};
+    ghost use Rattle.std.specs.Prelude.{length, false};
     ghost use Rattle.tce_window.specs.Grant.{values_of};
     ghost use Rattle.tce_window.specs.Window.{strokes_at};
 
     ghost unit = { λ window. window.unit };
 
     ghost size = { λ window. length window.pages };
+
+    ghost is_shared = { false };
 
     ghost strokes = { λ window. strokes_at window.pages };
 
@@ -69,6 +71,12 @@ impl OwnerPort for PlainWindow {
 }
 
 impl GuestPort for PlainWindow {
+    ghost use Rattle.tce_window.specs.Lent.{IsLentBy, written_still_lent};
+
+    ghost fits = { IsLentBy };
+
+    ghost found = { λ _ _ _. ⊥ };
+
     fn hold(&mut self, ioba: u64, len: u32, right: Right) -> Result<Held, HoldFault> {
         PlainWindow::hold(self, ioba, len, right)
     }
@@ -76,4 +84,6 @@ impl GuestPort for PlainWindow {
     fn give_back(&mut self, held: Held) {
         PlainWindow::give_back(self, held);
     }
+
+    ghost written_fits = { written_still_lent };
 }

@@ -1,15 +1,15 @@
 // The calls of a window, of its owner and of a guest, of which the plain and the shared form are kinds.
-ghost use Rattle.std.specs.Prelude.{◌≡◌, ℕ, ◌+◌, ◌*◌, ◌/◌, ◌<◌, ◌≤◌, List, [], ◌∷◌, ◌++◌, Option, None, All, false, is_some, length, replicate, slice_index, IsTrue, IfOk, IfErr, OnOk, OnErr};
-ghost use Rattle.vio_num.specs.Counts.{Rose};
+ghost use Rattle.std.specs.Prelude.{◌≡◌, ℕ, ◌+◌, ◌/◌, ◌<◌, ◌≤◌, List, [], ◌∷◌, ◌++◌, Option, None, All, Bool, false, is_some, length, replicate, slice_index, IsTrue, IfOk, IfErr, OnOk, OnErr};
 ghost use Rattle.vio_num.specs.declared.names.UnitId.{UnitId};
 ghost use Rattle.page_slots.specs.Stroke.{StrokeValue};
-ghost use Rattle.tce_window.specs.Port.{Begins, Grows, TakenOver, IsWritten, MatchPut, IsBusy};
+ghost use Rattle.tce_window.specs.Port.{Later, Grows, TakenOver, IsWritten, MatchPut, IsBusy, CountsPut, CountsOwn, CountsNamed, CountsHold, NamesFound};
 ghost use Rattle.tce_window.specs.Puts.{takes, takes_all, put_into, put_by};
 ghost use Rattle.tce_window.specs.Region.{in_region, first_page, end_page, AreThere, region_byte};
 ghost use Rattle.tce_window.specs.Named.{AreFresh, IsFirstStale};
-ghost use Rattle.tce_window.specs.Pieces.{on_page, Touches, IsGranted, IsLast, HasStrokes, AreUsable, Lacks};
-ghost use Rattle.tce_window.specs.Held.{held_len, held_strokes, either, FillsPlaces};
-ghost use Rattle.tce_window.specs.Answers.{MatchOwn, MatchNamed, MatchHold, gives};
+ghost use Rattle.tce_window.specs.Pieces.{on_page, Touches, IsGranted, IsLast, HasStrokes, IsUsable, IsRefused};
+ghost use Rattle.tce_window.specs.Held.{HeldValue, held_len, held_strokes, either};
+ghost use Rattle.tce_window.specs.Moved.{Follows};
+ghost use Rattle.tce_window.specs.Answers.{MatchOwn, MatchNamed, gives};
 
 use crate::answers::{GetTce, HoldFault, NamedFault, OwnFault, Right, TceAnswer};
 use crate::held::Held;
@@ -23,6 +23,9 @@ pub trait WindowPort {
     ghost unit: { Self → UnitId };
 
     ghost size: { Self → ℕ };
+
+    // Whether others have a hand in the window too. If not, what the port knows is all there is.
+    ghost is_shared: { Bool };
 
     // The strokes known of each page; none where the port holds the page.
     ghost strokes: { Self → ℕ → Option (List StrokeValue) };
@@ -60,14 +63,14 @@ pub trait OwnerPort: WindowPort {
         ensures values { (e : ℕ) → Self.values self.new e ≡ Self.values self.old e }
         ensures held_from { Self.held_from self.new ≡ Self.held_from self.old }
         ensures held_count { Self.held_count self.new ≡ Self.held_count self.old }
-        ensures in_use { Self.in_use self.old ≤ Self.in_use self.new };
+        ensures in_use { Self.in_use self.new ≡ Self.in_use self.old };
 
     /// Puts the value into the entry of this address, as its next version. An entry that is held keeps its
     /// value.
     fn put_tce(&mut self, ioba: u64, tce: u64) -> TceAnswer
         requires { 1 ≤ spare self.old }
         ensures parameter { takes (Self.size self.old) ioba tce ≡ false → result ≡ TceAnswer.Parameter }
-        ensures answer { IsTrue (takes (Self.size self.old) ioba tce) → MatchPut result (Unit {0}) (IsBusy (ioba / 4096) (tce ∷ []) (Self.in_use self.old) (Self.in_use self.new)) }
+        ensures answer { IsTrue (takes (Self.size self.old) ioba tce) → MatchPut result (Unit {0}) (IsBusy (ioba / 4096) (tce ∷ [])) }
         ensures values { (e : ℕ) → Self.values self.new e ≡ Self.values self.old e ++ put_into (ioba / 4096) (put_by result (tce ∷ [])) e }
         ensures held { (e : ℕ) → Self.held_from self.old ≤ e → e < Self.held_from self.old + Self.held_count self.old → Self.values self.new e ≡ Self.values self.old e }
         ensures spare { spare self.old ≤ spare self.new + length (put_by result (tce ∷ [])) }
@@ -76,13 +79,14 @@ pub trait OwnerPort: WindowPort {
         ensures strokes { (p : ℕ) → Self.strokes self.new p ≡ Self.strokes self.old p }
         ensures held_from { Self.held_from self.new ≡ Self.held_from self.old }
         ensures held_count { Self.held_count self.new ≡ Self.held_count self.old }
+        ensures counts { CountsPut result (Self.in_use self.old) (Self.in_use self.new) }
         ensures in_use { Self.in_use self.old ≤ Self.in_use self.new };
 
     /// Puts one value into `count` entries from this address on, up to the first one that is held.
     fn stuff_tce(&mut self, ioba: u64, tce: u64, count: u64) -> TceAnswer
         requires { count ≤ 512 → count ≤ spare self.old }
         ensures parameter { takes_all (Self.size self.old) ioba (replicate count tce) ≡ false → result ≡ TceAnswer.Parameter }
-        ensures answer { IsTrue (takes_all (Self.size self.old) ioba (replicate count tce)) → MatchPut result (Unit {0}) (IsBusy (ioba / 4096) (replicate count tce) (Self.in_use self.old) (Self.in_use self.new)) }
+        ensures answer { IsTrue (takes_all (Self.size self.old) ioba (replicate count tce)) → MatchPut result (Unit {0}) (IsBusy (ioba / 4096) (replicate count tce)) }
         ensures values { (e : ℕ) → Self.values self.new e ≡ Self.values self.old e ++ put_into (ioba / 4096) (put_by result (replicate count tce)) e }
         ensures held { (e : ℕ) → Self.held_from self.old ≤ e → e < Self.held_from self.old + Self.held_count self.old → Self.values self.new e ≡ Self.values self.old e }
         ensures spare { spare self.old ≤ spare self.new + length (put_by result (replicate count tce)) }
@@ -91,21 +95,23 @@ pub trait OwnerPort: WindowPort {
         ensures strokes { (p : ℕ) → Self.strokes self.new p ≡ Self.strokes self.old p }
         ensures held_from { Self.held_from self.new ≡ Self.held_from self.old }
         ensures held_count { Self.held_count self.new ≡ Self.held_count self.old }
+        ensures counts { CountsPut result (Self.in_use self.old) (Self.in_use self.new) }
         ensures in_use { Self.in_use self.old ≤ Self.in_use self.new };
 
     /// Puts a list of values into consecutive entries from this address on, up to the first one that is held.
     fn put_tce_indirect(&mut self, ioba: u64, list: &[u64]) -> TceAnswer
         requires { length list.now ≤ 512 → length list.now ≤ spare self.old }
         ensures parameter { takes_all (Self.size self.old) ioba list.now ≡ false → result ≡ TceAnswer.Parameter }
-        ensures answer { IsTrue (takes_all (Self.size self.old) ioba list.now) → MatchPut result (Unit {0}) (IsBusy (ioba / 4096) (list.now) (Self.in_use self.old) (Self.in_use self.new)) }
-        ensures values { (e : ℕ) → Self.values self.new e ≡ Self.values self.old e ++ put_into (ioba / 4096) (put_by result (list.now)) e }
+        ensures answer { IsTrue (takes_all (Self.size self.old) ioba list.now) → MatchPut result (Unit {0}) (IsBusy (ioba / 4096) list.now) }
+        ensures values { (e : ℕ) → Self.values self.new e ≡ Self.values self.old e ++ put_into (ioba / 4096) (put_by result list.now) e }
         ensures held { (e : ℕ) → Self.held_from self.old ≤ e → e < Self.held_from self.old + Self.held_count self.old → Self.values self.new e ≡ Self.values self.old e }
-        ensures spare { spare self.old ≤ spare self.new + length (put_by result (list.now)) }
+        ensures spare { spare self.old ≤ spare self.new + length (put_by result list.now) }
         ensures unit { Self.unit self.new ≡ Self.unit self.old }
         ensures size { Self.size self.new ≡ Self.size self.old }
         ensures strokes { (p : ℕ) → Self.strokes self.new p ≡ Self.strokes self.old p }
         ensures held_from { Self.held_from self.new ≡ Self.held_from self.old }
         ensures held_count { Self.held_count self.new ≡ Self.held_count self.old }
+        ensures counts { CountsPut result (Self.in_use self.old) (Self.in_use self.new) }
         ensures in_use { Self.in_use self.old ≤ Self.in_use self.new };
 
     /// The value of the entry of this address.
@@ -118,7 +124,7 @@ pub trait OwnerPort: WindowPort {
         ensures strokes { (p : ℕ) → Self.strokes self.new p ≡ Self.strokes self.old p }
         ensures held_from { Self.held_from self.new ≡ Self.held_from self.old }
         ensures held_count { Self.held_count self.new ≡ Self.held_count self.old }
-        ensures in_use { Self.in_use self.old ≤ Self.in_use self.new };
+        ensures in_use { Self.in_use self.new ≡ Self.in_use self.old };
 
     /// Copies the bytes of the region from the address on, 1 to 65,536 of them. Where it refuses, `out` is
     /// as before.
@@ -126,15 +132,16 @@ pub trait OwnerPort: WindowPort {
         ensures inside { OnOk result (IsTrue (in_region (Self.size self.old) at (length out.old))) }
         ensures there { OnOk result (AreThere (Self.strokes self.new) (first_page at) (end_page at (length out.old))) }
         ensures bytes { OnOk result ((k : ℕ) → k < length out.old → slice_index out.new k ≡ region_byte (Self.strokes self.new) (at + k)) }
-        ensures cause { IfErr result (λ fault. MatchOwn fault (in_region (Self.size self.old) at (length out.old) ≡ false) (λ page word. (first_page at ≤ page) × (page < end_page at (length out.old)) × Rose (Self.in_use self.old) (Self.in_use self.new) × IsTrue (in_region (Self.size self.old) at (length out.old))) ⊥) }
+        ensures cause { IfErr result (λ fault. MatchOwn fault (in_region (Self.size self.old) at (length out.old) ≡ false) (λ page word. (first_page at ≤ page) × (page < end_page at (length out.old)) × IsTrue (in_region (Self.size self.old) at (length out.old))) ⊥) }
         ensures err { OnErr result (out.new ≡ out.old) }
-        ensures known { (p : ℕ) → Grows (Self.strokes self.old p) (Self.strokes self.new p) }
+        ensures known { (p : ℕ) → Grows Self.is_shared (Self.strokes self.old p) (Self.strokes self.new p) }
         ensures values { (e : ℕ) → Self.values self.new e ≡ Self.values self.old e }
         ensures spare { spare self.old ≤ spare self.new }
         ensures unit { Self.unit self.new ≡ Self.unit self.old }
         ensures size { Self.size self.new ≡ Self.size self.old }
         ensures held_from { Self.held_from self.new ≡ Self.held_from self.old }
         ensures held_count { Self.held_count self.new ≡ Self.held_count self.old }
+        ensures counts { CountsOwn result (Self.in_use self.old) (Self.in_use self.new) }
         ensures in_use { Self.in_use self.old ≤ Self.in_use self.new };
 
     /// Writes the bytes over the region from the address on, 1 to 65,536 of them: one stroke on each page
@@ -142,15 +149,16 @@ pub trait OwnerPort: WindowPort {
     fn write(&mut self, at: u64, bytes: &[u8], mark: u64) -> Result<(), OwnFault>
         ensures inside { OnOk result (IsTrue (in_region (Self.size self.old) at (length bytes.now))) }
         ensures there { OnOk result (AreThere (Self.strokes self.new) (first_page at) (end_page at (length bytes.now))) }
-        ensures written { OnOk result ((p : ℕ) → IsWritten (record { who = Self.unit self.old; mark = mark }) at bytes.now p (Self.strokes self.old p) (Self.strokes self.new p)) }
-        ensures cause { IfErr result (λ fault. MatchOwn fault (in_region (Self.size self.old) at (length bytes.now) ≡ false) (λ page word. (first_page at ≤ page) × (page < end_page at (length bytes.now)) × Rose (Self.in_use self.old) (Self.in_use self.new) × IsTrue (in_region (Self.size self.old) at (length bytes.now))) (Unit {0})) }
-        ensures err { OnErr result ((p : ℕ) → Grows (Self.strokes self.old p) (Self.strokes self.new p)) }
+        ensures written { OnOk result ((p : ℕ) → IsWritten Self.is_shared (record { who = Self.unit self.old; mark = mark }) at bytes.now p (Self.strokes self.old p) (Self.strokes self.new p)) }
+        ensures cause { IfErr result (λ fault. MatchOwn fault (in_region (Self.size self.old) at (length bytes.now) ≡ false) (λ page word. (first_page at ≤ page) × (page < end_page at (length bytes.now)) × IsTrue (in_region (Self.size self.old) at (length bytes.now))) (Unit {0})) }
+        ensures err { OnErr result ((p : ℕ) → Grows Self.is_shared (Self.strokes self.old p) (Self.strokes self.new p)) }
         ensures values { (e : ℕ) → Self.values self.new e ≡ Self.values self.old e }
         ensures spare { spare self.old ≤ spare self.new }
         ensures unit { Self.unit self.new ≡ Self.unit self.old }
         ensures size { Self.size self.new ≡ Self.size self.old }
         ensures held_from { Self.held_from self.new ≡ Self.held_from self.old }
         ensures held_count { Self.held_count self.new ≡ Self.held_count self.old }
+        ensures counts { CountsOwn result (Self.in_use self.old) (Self.in_use self.new) }
         ensures in_use { Self.in_use self.old ≤ Self.in_use self.new };
 
     /// Copies the bytes of the region from the address on, 1 to 65,536 of them, if on each page that they
@@ -159,20 +167,27 @@ pub trait OwnerPort: WindowPort {
         ensures inside { OnOk result (IsTrue (in_region (Self.size self.old) at (length out.old))) }
         ensures fresh { OnOk result (AreFresh name at (length out.old) (Self.strokes self.new) (first_page at) (end_page at (length out.old))) }
         ensures bytes { OnOk result ((k : ℕ) → k < length out.old → slice_index out.new k ≡ region_byte (Self.strokes self.new) (at + k)) }
-        ensures cause { IfErr result (λ fault. MatchNamed fault (in_region (Self.size self.old) at (length out.old) ≡ false) (λ page word. (first_page at ≤ page) × (page < end_page at (length out.old)) × Rose (Self.in_use self.old) (Self.in_use self.new) × IsTrue (in_region (Self.size self.old) at (length out.old))) (λ page found. IsFirstStale name at (length out.old) (Self.strokes self.new) (first_page at) (end_page at (length out.old)) page found × IsTrue (in_region (Self.size self.old) at (length out.old)))) }
+        ensures cause { IfErr result (λ fault. MatchNamed fault (in_region (Self.size self.old) at (length out.old) ≡ false) (λ page word. (first_page at ≤ page) × (page < end_page at (length out.old)) × IsTrue (in_region (Self.size self.old) at (length out.old))) (λ page found. IsFirstStale name at (length out.old) (Self.strokes self.new) (first_page at) (end_page at (length out.old)) page found × IsTrue (in_region (Self.size self.old) at (length out.old)))) }
         ensures err { OnErr result (out.new ≡ out.old) }
-        ensures known { (p : ℕ) → Grows (Self.strokes self.old p) (Self.strokes self.new p) }
+        ensures known { (p : ℕ) → Grows Self.is_shared (Self.strokes self.old p) (Self.strokes self.new p) }
         ensures values { (e : ℕ) → Self.values self.new e ≡ Self.values self.old e }
         ensures spare { spare self.old ≤ spare self.new }
         ensures unit { Self.unit self.new ≡ Self.unit self.old }
         ensures size { Self.size self.new ≡ Self.size self.old }
         ensures held_from { Self.held_from self.new ≡ Self.held_from self.old }
         ensures held_count { Self.held_count self.new ≡ Self.held_count self.old }
+        ensures counts { CountsNamed result (Self.in_use self.old) (Self.in_use self.new) }
         ensures in_use { Self.in_use self.old ≤ Self.in_use self.new };
 }
 
 /// A guest of a window, which copies between its ranges.
 pub trait GuestPort: WindowPort {
+    // Whether it is the range that the port's last hold answered, which may have been written through.
+    ghost fits: { Self → HeldValue → Type 0 };
+
+    // Whether the port's last hold found this page in use, by this word of it.
+    ghost found: { Self → ℕ → ℕ → Type 0 };
+
     /// Holds a range of 1 to 65,536 bytes for this right, if the port holds nothing. Until it is given back
     /// its entries keep their values and its pages are in the holder's hand. Where it refuses, nothing is
     /// held.
@@ -184,32 +199,34 @@ pub trait GuestPort: WindowPort {
         ensures bytes { IfOk result (λ held. held_len held.pieces ≡ len) }
         ensures granted { IfOk result (λ held. All (IsGranted (Self.values self.new) right) held.pieces) }
         ensures last { IfOk result (λ held. All (IsLast (Self.values self.new)) held.pieces) }
+        ensures usable { OnOk result (IsUsable (Self.values self.new) right (Self.size self.old) ioba len) }
         ensures strokes { IfOk result (λ held. All (λ piece. HasStrokes piece (held_strokes held.pages piece.page)) held.pieces) }
-        ensures taken { IfOk result (λ held. (p : ℕ) → TakenOver (Self.strokes self.old p) (held_strokes held.pages p) (Self.strokes self.new p)) }
+        ensures taken { IfOk result (λ held. (p : ℕ) → TakenOver Self.is_shared (Self.strokes self.old p) (held_strokes held.pages p) (Self.strokes self.new p)) }
         ensures pages { IfOk result (λ held. (p : ℕ) → is_some (held_strokes held.pages p) ≡ on_page held.pieces p) }
-        ensures fills { IfOk result (λ held. FillsPlaces held.pages (Self.size self.new) (Self.strokes self.new)) }
+        ensures fits { IfOk result (λ held. fits self.new held) }
         ensures count { IfOk result (λ held. Self.held_count self.new ≡ length held.pieces) }
         ensures from { IfOk result (λ held. Self.held_from self.new ≡ ioba / 4096) }
-        ensures cause { IfErr result (λ fault. MatchHold fault
-            (λ entry. (entry * 4096 < ioba + len) × (ioba / 4096 ≤ entry) × (Self.size self.old ≤ entry) × AreUsable (Self.values self.new) right (Self.size self.old) (ioba / 4096) entry)
-            (λ entry version tce. (entry * 4096 < ioba + len) × (ioba / 4096 ≤ entry) × (entry < Self.size self.old) × Lacks (Self.values self.new) right entry version tce × AreUsable (Self.values self.new) right (Self.size self.old) (ioba / 4096) entry)
-            (λ page word. (page < Self.size self.old) × Rose (Self.in_use self.old) (Self.in_use self.new))) }
+        ensures cause { IfErr result (λ fault. IsRefused (Self.values self.new) right (Self.size self.old) ioba len fault) }
+        ensures found { IfErr result (NamesFound (found self.new)) }
         ensures err { OnErr result (Self.held_count self.new ≡ 0) }
-        ensures known { OnErr result ((p : ℕ) → Grows (Self.strokes self.old p) (Self.strokes self.new p)) }
-        ensures values { (e : ℕ) → Begins (Self.values self.old e) (Self.values self.new e) }
+        ensures known { OnErr result ((p : ℕ) → Grows Self.is_shared (Self.strokes self.old p) (Self.strokes self.new p)) }
+        ensures values { (e : ℕ) → Later Self.is_shared (Self.values self.old e) (Self.values self.new e) }
         ensures unit { Self.unit self.new ≡ Self.unit self.old }
         ensures size { Self.size self.new ≡ Self.size self.old }
+        ensures counts { CountsHold result (Self.in_use self.old) (Self.in_use self.new) }
         ensures in_use { Self.in_use self.old ≤ Self.in_use self.new };
 
     /// Gives the range back that the last hold of this port answered: its entries may take values again, and
     /// its pages are in their places with all their strokes.
     fn give_back(&mut self, held: Held)
-        requires count { Self.held_count self.old ≡ length held.pieces }
-        requires pages { FillsPlaces held.pages (Self.size self.old) (Self.strokes self.old) }
+        requires { fits self.old held }
         ensures strokes { (p : ℕ) → Self.strokes self.new p ≡ either (Self.strokes self.old p) (held_strokes held.pages p) }
         ensures values { (e : ℕ) → Self.values self.new e ≡ Self.values self.old e }
         ensures free { Self.held_count self.new ≡ 0 }
         ensures unit { Self.unit self.new ≡ Self.unit self.old }
         ensures size { Self.size self.new ≡ Self.size self.old }
-        ensures in_use { Self.in_use self.old ≤ Self.in_use self.new };
+        ensures in_use { Self.in_use self.new ≡ Self.in_use self.old };
+
+    // A range that was written through is still the one that is to be given back.
+    ghost written_fits: { (port : Self) (old new : HeldValue) → fits port old → Follows old new → fits port new };
 }

@@ -1,6 +1,9 @@
 // Windows at the edges of their addresses, rights and pages.
 ghost use Rattle.std.specs.Prelude.{◌≡◌, ◌≤◌};
 
+mod holds;
+mod regions;
+
 use crate::answers::{GetTce, HoldFault, NamedFault, OwnFault, Right, TceAnswer};
 use crate::port::OwnerPort;
 use crate::window::PlainWindow;
@@ -157,6 +160,8 @@ fn while_held(window: &mut PlainWindow) -> (TceAnswer, Result<(), OwnFault>, Res
     requires { 1 ≤ window.old.spare }
     ensures pages { window.new.pages ≡ window.old.pages }
     ensures count { window.new.held_count ≡ window.old.held_count }
+    ensures from { window.new.held_from ≡ window.old.held_from }
+    ensures unit { window.new.unit ≡ window.old.unit }
 {
     let mut out = [0; 4];
     let answer = window.put_tce(0, 0);

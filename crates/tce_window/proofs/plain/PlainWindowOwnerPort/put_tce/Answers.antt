@@ -8,7 +8,7 @@ use Rattle.tce_window.proofs.plain.PlainWindowOwnerPort.put_tce.Goals as goal
 
 pub returns-clause-answer : goal.returns-clause-answer
 returns-clause-answer c good =
-    busy_told (holds c.args.self.now) (c.args.ioba / 4096) c.args.self.now.in_use c.put_tce.new.self.in_use (c.args.tce ∷ []) c.put_tce.result (c.put_tce.ensures.answer good) c.put_tce.ensures.in_use
+    busy_told (holds c.args.self.now) (c.args.ioba / 4096) (c.args.tce ∷ []) c.put_tce.result (c.put_tce.ensures.answer good)
 
 pub returns-clause-values : goal.returns-clause-values
 returns-clause-values c e =

@@ -8,7 +8,7 @@ use Rattle.tce_window.proofs.plain.PlainWindowOwnerPort.put_tce_indirect.Goals a
 
 pub returns-clause-answer : goal.returns-clause-answer
 returns-clause-answer c good =
-    busy_told (holds c.args.self.now) (c.args.ioba / 4096) c.args.self.now.in_use c.put_tce_indirect.new.self.in_use (c.args.list.now) c.put_tce_indirect.result (c.put_tce_indirect.ensures.answer good) c.put_tce_indirect.ensures.in_use
+    busy_told (holds c.args.self.now) (c.args.ioba / 4096) (c.args.list.now) c.put_tce_indirect.result (c.put_tce_indirect.ensures.answer good)
 
 pub returns-clause-values : goal.returns-clause-values
 returns-clause-values c e =

@@ -8,7 +8,7 @@ use Rattle.tce_window.proofs.plain.PlainWindowOwnerPort.stuff_tce.Goals as goal
 
 pub returns-clause-answer : goal.returns-clause-answer
 returns-clause-answer c good =
-    busy_told (holds c.args.self.now) (c.args.ioba / 4096) c.args.self.now.in_use c.stuff_tce.new.self.in_use (replicate c.args.count c.args.tce) c.stuff_tce.result (c.stuff_tce.ensures.answer good) c.stuff_tce.ensures.in_use
+    busy_told (holds c.args.self.now) (c.args.ioba / 4096) (replicate c.args.count c.args.tce) c.stuff_tce.result (c.stuff_tce.ensures.answer good)
 
 pub returns-clause-values : goal.returns-clause-values
 returns-clause-values c e =

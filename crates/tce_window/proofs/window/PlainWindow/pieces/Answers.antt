@@ -5,7 +5,7 @@ use Rattle.tce_window.specs.Pieces.{Touches, IsPieceAt, IsGranted, IsLast, HasSt
 use Rattle.tce_window.specs.Answers.{MatchHold}
 use Rattle.tce_window.specs.Grant.{values_of}
 use Rattle.tce_window.specs.Window.{strokes_at}
-use Rattle.tce_window.proofs.Piecing.{hold_weaker, touches_more, usable_more, piece_bytes, piece_len, bytes_aligned}
+use Rattle.tce_window.proofs.Piecing.{refused_at, of_entry, touches_more, usable_more, piece_bytes, piece_len, bytes_aligned}
 use Rattle.tce_window.proofs.window.PlainWindow.pieces.Goals as goal
 
 pub loop-done-init : goal.loop-done-init
@@ -59,6 +59,10 @@ loop-done-preserved c =
           (subst (λ k. MayUse (values_of c.args.self.now.rows) c.args.right ((c.args.ioba + k) / 4096)) from c.in_ok-piece.ensures.usable) bytes.entry);
     }
 
+pub returns-clause-usable : goal.returns-clause-usable
+returns-clause-usable c =
+    λ e low high. c.loop-done.invariant.usable (omega arith) e low (omega (arith, high))
+
 pub returns-in_err-piece-clause-cause : goal.returns-in_err-piece-clause-cause
 returns-in_err-piece-clause-cause c =
     let same : c.from_residual.result ≡ Err c.in_err-piece.field-0.0 = search rules in
@@ -71,7 +75,13 @@ returns-in_err-piece-clause-cause c =
     let before : (entry : ℕ) → entry ≡ at / 4096 → AreUsable values c.args.right n (c.args.ioba / 4096) entry =
     λ entry e q low high. c.loop-done.invariant.usable (omega (arith, e, low, high)) q low (omega (arith, e, low, high))
     in
-    rw same (hold_weaker c.in_err-piece.field-0.0 _ _ _ _ _ _
-    (λ entry m. (omega (arith, m.0, less), omega (arith, m.0), m.1, before entry m.0))
-    (λ entry version tce m. (omega (arith, m.0, less), omega (arith, m.0), m.1, m.2, before entry m.0))
-    (λ _ _ no. no) fault)
+    rw same (refused_at c.in_err-piece.field-0.0 values c.args.right n c.args.ioba c.args.len c.loop-done.done less before fault)
+
+pub returns-in_err-piece-clause-entry : goal.returns-in_err-piece-clause-entry
+returns-in_err-piece-clause-entry c =
+    let same : c.from_residual.result ≡ Err c.in_err-piece.field-0.0 = search rules in
+    let values : ℕ → List ℕ = values_of c.args.self.now.rows in
+    let n : ℕ = length c.args.self.now.pages in
+    let at : ℕ = c.args.ioba + c.from.result in
+    let fault : MatchHold c.in_err-piece.field-0.0 (λ entry. (entry ≡ at / 4096) × (n ≤ entry)) (λ entry version tce. (entry ≡ at / 4096) × (entry < n) × Lacks values c.args.right entry version tce) (λ _ _. ⊥) = search rules in
+    rw same (of_entry c.in_err-piece.field-0.0 _ _ fault)

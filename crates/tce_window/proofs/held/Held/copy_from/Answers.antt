@@ -1,0 +1,34 @@
+-- There is a stroke for each piece, and a byte for each that is held.
+use Rattle.std.proofs.Common.{◌≡◌, ℕ, ◌++◌, ◌∙◌, ◌≤◌, List, Some, IsSome, All, OnOk, length, map, sym, ap, subst, rules, arith}
+use Rattle.std.specs.Option.{option_map}
+use Rattle.page_slots.specs.Stroke.{StrokeValue}
+use Rattle.tce_window.specs.Held.{held_strokes, held_len, joined}
+use Rattle.tce_window.specs.Laying.{those}
+use Rattle.tce_window.specs.Moved.{piece_strokes, strokes_on}
+use Rattle.tce_window.proofs.Gathering.{joined_at_most, on_ok}
+use Rattle.tce_window.proofs.Growing.{those-map, All-some, length-piece_strokes}
+use Rattle.tce_window.proofs.held.Held.copy_from.Goals as goal
+
+pub lay-requires-clause-each : goal.lay-requires-clause-each
+lay-requires-clause-each c =
+    let told : c.in_ok-strokes.strokes.items ≡ map Some (piece_strokes c.args.name (joined c.args.source.now.pages c.args.source.now.pieces) c.args.self.now.pieces) = search rules in
+    subst (All IsSome) (sym told) (All-some (piece_strokes c.args.name (joined c.args.source.now.pages c.args.source.now.pieces) c.args.self.now.pieces))
+
+pub lay-requires-clause-count : goal.lay-requires-clause-count
+lay-requires-clause-count c =
+    let told : c.in_ok-strokes.strokes.items ≡ map Some (piece_strokes c.args.name (joined c.args.source.now.pages c.args.source.now.pieces) c.args.self.now.pieces) = search rules in
+    ap length told ∙ length-piece_strokes c.args.name (joined c.args.source.now.pages c.args.source.now.pieces) c.args.self.now.pieces
+
+pub returns-clause-strokes : goal.returns-clause-strokes
+returns-clause-strokes c =
+    let told : c.in_ok-strokes.strokes.items ≡ map Some (piece_strokes c.args.name (joined c.args.source.now.pages c.args.source.now.pieces) c.args.self.now.pieces) = search rules in
+    subst (λ (strokes : List StrokeValue). OnOk c.lay.result ((p : ℕ) → held_strokes c.lay.new.self.pages p ≡ option_map (λ s. s ++ strokes_on p c.args.self.now.pieces strokes) (held_strokes c.args.self.now.pages p)))
+    (ap those told ∙ those-map (piece_strokes c.args.name (joined c.args.source.now.pages c.args.source.now.pieces) c.args.self.now.pieces)) c.lay.ensures.strokes
+
+pub returns-clause-bytes : goal.returns-clause-bytes
+returns-clause-bytes c =
+    let pages = c.args.source.now.pages in
+    let pieces = c.args.source.now.pieces in
+    let least : held_len c.args.self.now.pieces ≤ length (joined pages pieces) = search rules in
+    on_ok c.lay.result (length (joined pages pieces) ≡ held_len pieces)
+    (omega (arith, least, joined_at_most pages pieces, c.requires.len))
