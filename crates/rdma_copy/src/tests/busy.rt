@@ -1,0 +1,82 @@
+// Ports that answer that a page is in use.
+ghost use Rattle.std.specs.Prelude.{◌≡◌, ◌⊎◌, ℕ};
+
+use super::{COPIER, SOURCE, TARGET, is_blank, window};
+use crate::copy::{CopyAnswer, copy_rdma};
+use tce_window::{GuestPort, Held, HoldFault, Right, WindowPort};
+use vio_num::NoMemory;
+
+/// A port that holds no range: its page 0 is in use by word 77 whenever a range could be held.
+#[derive(Drop)]
+struct InUse<G> {
+    port: G,
+    times: u64,
+}
+
+impl<G: WindowPort> WindowPort for InUse<G> {
+    ghost unit = { λ busy. G.unit busy.port };
+
+    ghost size = { λ busy. G.size busy.port };
+
+    ghost is_shared = { G.is_shared };
+
+    ghost strokes = { λ busy. G.strokes busy.port };
+
+    ghost values = { λ busy. G.values busy.port };
+
+    ghost held_from = { λ busy. G.held_from busy.port };
+
+    ghost held_count = { λ busy. G.held_count busy.port };
+
+    ghost in_use = { λ busy. busy.times };
+}
+
+impl<G: GuestPort> GuestPort for InUse<G> {
+    ghost fits = { λ busy held. G.fits busy.port held };
+
+    ghost found = { λ busy page word. ((page ≡ 0) × (word ≡ 77)) ⊎ G.found busy.port page word };
+
+    ghost written_fits = { λ busy old new fits follows. G.written_fits busy.port old new fits follows };
+
+    fn hold(&mut self, ioba: u64, len: u32, right: Right) -> Result<Held, HoldFault> {
+        let times = self.times.saturating_add(1);
+        match self.port.hold(ioba, len, right) {
+            Ok(held) => {
+                self.port.give_back(held);
+                self.times = times;
+                Err(HoldFault::InUse { page: 0, word: 77 })
+            }
+            Err(HoldFault::InUse { page, word }) => {
+                self.times = times;
+                Err(HoldFault::InUse { page, word })
+            }
+            Err(fault) => Err(fault),
+        }
+    }
+
+    fn give_back(&mut self, held: Held) {
+        self.port.give_back(held);
+    }
+}
+
+#[test]
+fn a_page_in_use_is_named_of_either_side(rt: HostRuntime) -> Result<(), NoMemory> {
+    let alloc = rt.alloc();
+    let wanted = CopyAnswer::Busy { page: 0, word: 77 };
+    let past = CopyAnswer::SourceParm(HoldFault::Past { entry: 2 });
+    let times = 0;
+    let mut plain = window(alloc, SOURCE, 2, None)?;
+    let mut busy = InUse {
+        port: window(alloc, TARGET, 2, None)?,
+        times,
+    };
+    let written = copy_rdma(alloc, &mut plain, 0, &mut busy, 0, 4096, COPIER);
+    let read = copy_rdma(alloc, &mut busy, 0, &mut plain, 0, 4096, COPIER);
+    let refused = copy_rdma(alloc, &mut busy, 8192, &mut plain, 0, 1, COPIER);
+    assert_eq!(rt; written, wanted);
+    assert_eq!(rt; read, wanted);
+    assert_eq!(rt; refused, past);
+    assert_eq!(rt; busy.times, 2);
+    assert!(rt; is_blank(&mut plain) && is_blank(&mut busy.port));
+    Ok(())
+}
