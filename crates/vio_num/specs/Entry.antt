@@ -1,6 +1,6 @@
 -- Entries of a command/response queue (LoPAR, "Command/Response Queue Entries"): their bytes, and what
 -- the first byte says.
-use Rattle.std.specs.Prelude.{ℕ, ◌++◌, ◌==◌, ◌&&◌, Bool, List, slice_index, drop, if◌then◌else◌}
+use Rattle.std.specs.Prelude.{ℕ, ◌+◌, ◌++◌, ◌==◌, ◌&&◌, Bool, List, slice_index, drop, if◌then◌else◌}
 use Rattle.byteorder.specs.Endian.{big_number, big_bytes}
 use Rattle.vio_num.specs.declared.entry.Entry.{Entry}
 use Rattle.vio_num.specs.declared.entry.Kind.{Kind}
@@ -19,8 +19,45 @@ kind_of first =
     else if first == 0xFF then Event
     else Reserved
 
--- whether an entry carries an SRP information unit of n bytes: a command or response of format 1
-abbrev pub is_srp : ℕ → Entry → Bool
-is_srp n e =
-    slice_index (entry_bytes e) 0 == 0x80 && slice_index (entry_bytes e) 1 == 0x01
-    && big_number 2 (drop 6 (entry_bytes e)) == n
+-- the fields of an entry: byte 0, the format in byte 1, the status in byte 3
+abbrev pub first_byte : Entry → ℕ
+first_byte e = slice_index (entry_bytes e) 0
+
+abbrev pub entry_format : Entry → ℕ
+entry_format e = slice_index (entry_bytes e) 1
+
+abbrev pub entry_status : Entry → ℕ
+entry_status e = slice_index (entry_bytes e) 3
+
+-- the length of the information unit in bytes 6 to 7, and its address in bytes 8 to 15
+abbrev pub iu_length : Entry → ℕ
+iu_length e = big_number 2 (drop 6 (entry_bytes e))
+
+abbrev pub iu_address : Entry → ℕ
+iu_address e = big_number 8 (drop 8 (entry_bytes e))
+
+-- whether an entry carries an SRP information unit: a command or response of format 1
+abbrev pub is_srp_entry : Entry → Bool
+is_srp_entry e = first_byte e == 0x80 && entry_format e == 0x01
+
+-- whether it carries one of n bytes
+abbrev pub is_srp_of_length : ℕ → Entry → Bool
+is_srp_of_length n e = is_srp_entry e && iu_length e == n
+
+-- the entry of an SRP information unit of this length, with its address or the tag that it answers
+abbrev pub srp_entry : ℕ → ℕ → Entry
+srp_entry length low = record { high = 0x8001_0000_0000_0000 + length; low = low }
+
+-- the initialisation command and response (LoPAR, "CRQ Initialization")
+abbrev pub initialize : Entry
+initialize = record { high = 0xC001_0000_0000_0000; low = 0 }
+
+abbrev pub initialization_complete : Entry
+initialization_complete = record { high = 0xC002_0000_0000_0000; low = 0 }
+
+-- the transport events (LoPAR, "Transport Events"): the partner failed, or freed its queue
+abbrev pub partner_failed : Entry
+partner_failed = record { high = 0xFF01_0000_0000_0000; low = 0 }
+
+abbrev pub partner_freed : Entry
+partner_freed = record { high = 0xFF02_0000_0000_0000; low = 0 }

@@ -11,6 +11,9 @@ mod sequence;
 #[cfg(test)]
 mod tests;
 
+/// The bytes of a page, which are as many as the addresses of a translation entry (LoPAR, "TCE").
+pub const PAGE_BYTES: u64 = 4096;
+
 pub use entry::{Entry, Kind};
 pub use history::{Grant, Lapse, Served};
 pub use hypervisor::{Hrc, Moved};

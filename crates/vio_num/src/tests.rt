@@ -15,6 +15,23 @@ fn entries_are_their_bytes(rt: HostRuntime) {
     assert_eq!(rt; entry.status(), 0x99);
     assert_eq!(rt; entry.iu_len(), 0x0140);
     assert_eq!(rt; entry.to_bytes(), bytes);
+    assert!(rt; entry.is_srp());
+    assert_eq!(rt; entry.iu_address(), 0x0E66_DEA8_0102_0304);
+}
+
+#[test]
+fn made_entries_have_the_bytes_of_the_standard(rt: HostRuntime) {
+    for (entry, high) in [
+        (Entry::INITIALIZE, 0xC001_0000_0000_0000),
+        (Entry::INITIALIZATION_COMPLETE, 0xC002_0000_0000_0000),
+        (Entry::PARTNER_FAILED, 0xFF01_0000_0000_0000),
+        (Entry::PARTNER_FREED, 0xFF02_0000_0000_0000),
+        (Entry::srp(52, 7), 0x8001_0000_0000_0034),
+    ] {
+        assert_eq!(rt; entry.high, high);
+    }
+    assert_eq!(rt; Entry::srp(52, 7).low, 7);
+    assert!(rt; !Entry::INITIALIZE.is_srp());
 }
 
 #[test]
