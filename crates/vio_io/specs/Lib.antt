@@ -1,2 +1,4 @@
+pub mod Edge
+pub mod Image
 pub mod Memory
 pub mod Script

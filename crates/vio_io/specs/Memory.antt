@@ -1,5 +1,7 @@
 -- What contracts see of sources and sinks that keep their bytes in memory.
-use Rattle.std.specs.Prelude.{ℕ, List}
+use Rattle.std.specs.Prelude.{ℕ, List, Some, length}
+use Rattle.vio_io.specs.Image.{ImageState}
+use Rattle.vio_io.specs.declared.device_calls.DeviceCalls.{DeviceCalls}
 
 -- a source: the bytes that are still to be read, and the most that one call moves
 pub record SourceBytes : Type 0 where
@@ -11,7 +13,11 @@ pub record SinkBytes : Type 0 where
   pub taken : List ℕ
   pub most : ℕ
 
--- an image whose blocks are not told: how many there are, 0 where it cannot be used, and how many calls failed
-pub record ImageState : Type 0 where
-  pub size : ℕ
-  pub faults : ℕ
+-- an image: its blocks, and how many calls were made on it
+pub record MemoryImage : Type 0 where
+  pub blocks : List (List ℕ)
+  pub calls : DeviceCalls
+
+-- what contracts see of an image in memory of which no call fails
+abbrev pub sure_image : MemoryImage → ImageState
+sure_image image = record { faults = 0; size = length image.blocks; blocks = Some image.blocks; calls = image.calls }

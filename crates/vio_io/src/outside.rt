@@ -1,9 +1,10 @@
 // What the outside answers: bytes that are read, bytes that are written, the blocks of an image, and
 // the place that a worker passes. Each object counts its faults; a refusal comes only where that count
 // rose in the same call.
-ghost use Rattle.std.specs.Prelude.{◌≡◌, ℕ, ◌^◌, ◌<◌, ◌≤◌, List, Option, IfOk, IfSome, OnOk, OnErr, IsErrOf, option_map, slice_get, slice_set, length};
+ghost use Rattle.std.specs.Prelude.{◌≡◌, ℕ, ◌^◌, ◌<◌, ◌≤◌, List, Option, IfOk, IfSome, OnOk, OnErr, IsErrOf, slice_get, length};
 ghost use Rattle.std.specs.Io.KnownBytes.{ReadConsumes, WriteAppends};
 ghost use Rattle.vio_num.specs.Counts.{Rose};
+ghost use Rattle.vio_io.specs.Image.{ImageState, AreWhole, FailsAfter, after_sizing, after_reads, after_writes, after_flush, with_block};
 
 use std::alloc::AllocError;
 
@@ -44,7 +45,7 @@ impl From<AllocError> for WriteFault {
 
 /// Where bytes are read from, in order, each once.
 pub trait Source {
-    // How many calls failed so far; it stands still at 2^64 - 1.
+    // How many calls failed so far; the count never falls, and stands still at 2^64 - 1.
     ghost faults: { Self → ℕ };
 
     // The bytes that are still to be read, where the source tells them.
@@ -61,7 +62,7 @@ pub trait Source {
 
 /// Where bytes are written to, in order.
 pub trait Sink {
-    // How many calls failed so far; it stands still at 2^64 - 1.
+    // How many calls failed so far; the count never falls, and stands still at 2^64 - 1.
     ghost faults: { Self → ℕ };
 
     // The bytes that were taken so far, where the sink tells them.
@@ -73,58 +74,50 @@ pub trait Sink {
         ensures bound { IfOk result (λ n. n ≤ length piece.now) }
         ensures progress { IfOk result (λ n. 0 < length piece.now → 0 < n) }
         ensures bytes { WriteAppends (taken self.old) (taken self.new) result piece.now }
-        ensures same { OnOk result (faults self.new ≡ faults self.old) }
-        ensures starved { IsErrOf result WriteFault.NoMemory → faults self.new ≡ faults self.old }
-        ensures failed { IsErrOf result WriteFault.Failed → Rose (faults self.old) (faults self.new) };
+        ensures same { ¬ IsErrOf result WriteFault.Failed → faults self.new ≡ faults self.old }
+        ensures failed { IsErrOf result WriteFault.Failed →
+            Rose (faults self.old) (faults self.new) };
 }
 
 /// An image: blocks of 512 bytes, numbered from 0, whose number does not change.
 pub trait Blocks {
-    // How many calls failed so far; it stands still at 2^64 - 1.
-    ghost faults: { Self → ℕ };
-
-    // The number of blocks.
-    ghost size: { Self → ℕ };
-
-    // The blocks, where the image tells them.
-    ghost blocks: { Self → Option (List (List ℕ)) };
+    // The calls made and failed, the number of blocks, and the blocks where the image tells them.
+    ghost state: { Self → ImageState };
 
     /// The number of blocks, 1 to 2^48.
     fn count(&mut self) -> Result<u64, Failed>
-        ensures count { IfOk result (λ n. n ≡ size self.old) }
-        ensures range { OnOk result ((1 ≤ size self.old) × (size self.old ≤ 2 ^ 48)) }
-        ensures size { size self.new ≡ size self.old }
-        ensures content { blocks self.new ≡ blocks self.old }
-        ensures same { OnOk result (faults self.new ≡ faults self.old) }
-        ensures failed { OnErr result (Rose (faults self.old) (faults self.new)) };
+        ensures count { IfOk result (λ n. n ≡ (state self.old).size) }
+        ensures range { IfOk result (λ n. (1 ≤ n) × (n ≤ 2 ^ 48)) }
+        ensures whole { OnOk result (IfSome (state self.old).blocks AreWhole) }
+        ensures done { OnOk result (state self.new ≡ after_sizing (state self.old)) }
+        ensures failed { OnErr result
+            (FailsAfter (after_sizing (state self.old)) (state self.new)) };
 
     /// Reads block `at` into `out`. What `out` holds after a refusal is not said.
     fn read_block(&mut self, at: u64, out: &mut [u8; 512]) -> Result<(), Failed>
-        requires { at < size self.old }
-        ensures block { OnOk result (IfSome (blocks self.old) (λ all. slice_get all at ≡ Some out.new)) }
-        ensures size { size self.new ≡ size self.old }
-        ensures content { blocks self.new ≡ blocks self.old }
-        ensures same { OnOk result (faults self.new ≡ faults self.old) }
-        ensures failed { OnErr result (Rose (faults self.old) (faults self.new)) };
+        requires { at < (state self.old).size }
+        ensures block { OnOk result
+            (IfSome (state self.old).blocks (λ all. slice_get all at ≡ Some out.new)) }
+        ensures done { OnOk result (state self.new ≡ after_reads 1 (state self.old)) }
+        ensures failed { OnErr result
+            (FailsAfter (after_reads 1 (state self.old)) (state self.new)) };
 
     /// Replaces block `at`. A refused write changes no block.
     fn write_block(&mut self, at: u64, block: &[u8; 512]) -> Result<(), Failed>
-        requires { at < size self.old }
-        ensures block { OnOk result (blocks self.new ≡ option_map (λ all. slice_set all at block.now) (blocks self.old)) }
-        ensures size { size self.new ≡ size self.old }
-        ensures content { OnErr result (blocks self.new ≡ blocks self.old) }
-        ensures same { OnOk result (faults self.new ≡ faults self.old) }
-        ensures failed { OnErr result (Rose (faults self.old) (faults self.new)) };
+        requires { at < (state self.old).size }
+        ensures done { OnOk result
+            (state self.new ≡ with_block at block.now (after_writes 1 (state self.old))) }
+        ensures failed { OnErr result
+            (FailsAfter (after_writes 1 (state self.old)) (state self.new)) };
 
     /// Hands what was written on to where the image is kept.
     fn flush(&mut self) -> Result<(), Failed>
-        ensures size { size self.new ≡ size self.old }
-        ensures content { blocks self.new ≡ blocks self.old }
-        ensures same { OnOk result (faults self.new ≡ faults self.old) }
-        ensures failed { OnErr result (Rose (faults self.old) (faults self.new)) };
+        ensures done { OnOk result (state self.new ≡ after_flush (state self.old)) }
+        ensures failed { OnErr result
+            (FailsAfter (after_flush (state self.old)) (state self.new)) };
 
     // The blocks that an image tells are as many as its size says.
-    ghost told: { (image : Self) → IfSome (blocks image) (λ all. length all ≡ size image) };
+    ghost told: { (image : Self) → IfSome (state image).blocks (λ all. length all ≡ (state image).size) };
 }
 
 /// Where a worker stops before each turn of a partition, so that a test can order the turns.

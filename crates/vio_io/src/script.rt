@@ -1,6 +1,6 @@
 // Which calls on an object fail, how many were made so far, and how many of them failed.
 ghost use Rattle.std.specs.Prelude.{◌≡◌, ◌↔◌, IsTrue, IsErr};
-ghost use Rattle.vio_io.specs.Script.{fails, after_call};
+ghost use Rattle.vio_io.specs.Script.{fails, after_call, new_script};
 
 use crate::outside::Failed;
 use std::marker::Model;
@@ -24,9 +24,7 @@ impl Model for Script {
 impl Script {
     /// A script by which the calls with these numbers fail.
     pub(crate) fn new(failing: Vec<u64>) -> Script
-        ensures failing { result.failing ≡ failing.items }
-        ensures calls { result.calls ≡ 0 }
-        ensures faults { result.faults ≡ 0 }
+        ensures { result ≡ new_script failing.items }
     {
         Script {
             failing,

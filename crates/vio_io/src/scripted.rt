@@ -1,9 +1,11 @@
 // Sources, sinks and images in memory whose listed calls fail, so that a test can place each fault.
-ghost use Rattle.std.specs.Prelude.{◌≡◌, ◌↔◌, ◌+◌, ◌-◌, ◌^◌, ◌<◌, ◌≤◌, [], ◌++◌, min, Some, IsTrue, IsErr, IfOk, OnOk, OnErr, IsErrOf, length, take, drop, slice_get, slice_set, vec_len, refl};
+ghost use Rattle.std.specs.Prelude.{◌≡◌, ◌↔◌, ◌+◌, ◌-◌, ◌^◌, ◌<◌, ◌≤◌, [], ◌++◌, min, Some, IsTrue, IsErr, IfOk, OnOk, OnErr, IsErrOf, length, take, drop, slice_get, vec_len, refl};
 ghost use Rattle.std.specs.Io.KnownBytes.{ReadConsumes, WriteAppends};
 ghost use Rattle.vio_num.specs.Counts.{Rose};
-ghost use Rattle.vio_io.specs.Script.{fails, after_call};
+ghost use Rattle.vio_io.specs.Script.{fails, after_call, new_script, scripted_image};
+ghost use Rattle.vio_io.specs.Image.{AreWhole, FailsAfter, no_calls, after_sizing, after_reads, after_writes, after_flush, with_block};
 
+use crate::device_calls::DeviceCalls;
 use crate::outside::{Blocks, Failed, Sink, Source, WriteFault};
 use crate::script::Script;
 use crate::sure::{SureBlocks, SureSink, SureSource};
@@ -32,9 +34,7 @@ impl MemSource {
         requires { 1 ≤ most }
         ensures left { result.left ≡ bytes.items }
         ensures most { result.most ≡ most }
-        ensures failing { result.script.failing ≡ failing.items }
-        ensures calls { result.script.calls ≡ 0 }
-        ensures faults { result.script.faults ≡ 0 }
+        ensures script { result.script ≡ new_script failing.items }
     {
         MemSource {
             source: SureSource::new(bytes, most),
@@ -55,7 +55,8 @@ impl Source for MemSource {
         ensures failed { OnErr result (Rose self.old.script.faults self.new.script.faults) }
         ensures fails { IsErr result ↔ IsTrue (fails self.old.script) }
         ensures script { self.new.script ≡ after_call self.old.script }
-        ensures moved { IfOk result (λ n. n ≡ min self.old.most (min (length out.old) (length self.old.left))) }
+        ensures moved { IfOk result
+            (λ n. n ≡ min self.old.most (min (length out.old) (length self.old.left))) }
         ensures copied { IfOk result (λ n. out.new ≡ take n self.old.left ++ drop n out.old) }
         ensures rest { IfOk result (λ n. self.new.left ≡ drop n self.old.left) }
         ensures kept { OnErr result (self.new.left ≡ self.old.left) }
@@ -89,9 +90,7 @@ impl MemSink {
         requires { 1 ≤ most }
         ensures taken { result.taken ≡ [] }
         ensures most { result.most ≡ most }
-        ensures failing { result.script.failing ≡ failing.items }
-        ensures calls { result.script.calls ≡ 0 }
-        ensures faults { result.script.faults ≡ 0 }
+        ensures script { result.script ≡ new_script failing.items }
     {
         MemSink {
             sink: SureSink::new(alloc, most),
@@ -116,9 +115,10 @@ impl Sink for MemSink {
         ensures bound { IfOk result (λ n. n ≤ length piece.now) }
         ensures progress { IfOk result (λ n. 0 < length piece.now → 0 < n) }
         ensures bytes { WriteAppends (Some self.old.taken) (Some self.new.taken) result piece.now }
-        ensures same { OnOk result (self.new.script.faults ≡ self.old.script.faults) }
-        ensures starved { IsErrOf result WriteFault.NoMemory → self.new.script.faults ≡ self.old.script.faults }
-        ensures failed { IsErrOf result WriteFault.Failed → Rose self.old.script.faults self.new.script.faults }
+        ensures same { ¬ IsErrOf result WriteFault.Failed → self.new.script.faults ≡
+            self.old.script.faults }
+        ensures failed { IsErrOf result WriteFault.Failed →
+            Rose self.old.script.faults self.new.script.faults }
         ensures fails { IsErrOf result WriteFault.Failed ↔ IsTrue (fails self.old.script) }
         ensures script { self.new.script ≡ after_call self.old.script }
         ensures moved { IfOk result (λ n. n ≡ min self.old.most (length piece.now)) }
@@ -133,6 +133,7 @@ impl Sink for MemSink {
 #[derive(Debug, Drop)]
 pub struct MemBlocks {
     image: SureBlocks,
+    calls: DeviceCalls,
     script: Script,
 }
 
@@ -141,7 +142,7 @@ impl Model for MemBlocks {
 
     ghost Value = { ScriptedImage };
 
-    ghost view = { λ mem. record { blocks = mem.image; script = mem.script } };
+    ghost view = { λ mem. record { blocks = mem.image.blocks; calls = mem.calls; script = mem.script } };
 }
 
 impl MemBlocks {
@@ -150,12 +151,12 @@ impl MemBlocks {
         requires some { 1 ≤ vec_len blocks }
         requires few { vec_len blocks ≤ 2 ^ 48 }
         ensures blocks { result.blocks ≡ blocks.items }
-        ensures failing { result.script.failing ≡ failing.items }
-        ensures calls { result.script.calls ≡ 0 }
-        ensures faults { result.script.faults ≡ 0 }
+        ensures calls { result.calls ≡ no_calls }
+        ensures script { result.script ≡ new_script failing.items }
     {
         MemBlocks {
             image: SureBlocks::new(blocks),
+            calls: DeviceCalls::none(),
             script: Script::new(failing),
         }
     }
@@ -169,21 +170,20 @@ impl MemBlocks {
 }
 
 impl Blocks for MemBlocks {
-    ghost faults = { λ mem. mem.script.faults };
-
-    ghost size = { λ mem. length mem.blocks };
-
-    ghost blocks = { λ mem. Some mem.blocks };
+    ghost state = { scripted_image };
 
     fn count(&mut self) -> Result<u64, Failed>
         ensures count { IfOk result (λ n. n ≡ length self.old.blocks) }
-        ensures range { OnOk result ((1 ≤ length self.old.blocks) × (length self.old.blocks ≤ 2 ^ 48)) }
-        ensures content { self.new.blocks ≡ self.old.blocks }
-        ensures same { OnOk result (self.new.script.faults ≡ self.old.script.faults) }
-        ensures failed { OnErr result (Rose self.old.script.faults self.new.script.faults) }
+        ensures range { IfOk result (λ n. (1 ≤ n) × (n ≤ 2 ^ 48)) }
+        ensures whole { OnOk result (AreWhole self.old.blocks) }
+        ensures done { OnOk result
+            (scripted_image self.new ≡ after_sizing (scripted_image self.old)) }
+        ensures failed { OnErr result
+            (FailsAfter (after_sizing (scripted_image self.old)) (scripted_image self.new)) }
         ensures fails { IsErr result ↔ IsTrue (fails self.old.script) }
         ensures script { self.new.script ≡ after_call self.old.script }
     {
+        self.calls.count_sizing();
         self.script.call()?;
         self.image.count()
     }
@@ -192,36 +192,41 @@ impl Blocks for MemBlocks {
         requires { at < length self.old.blocks }
         ensures block { OnOk result (slice_get self.old.blocks at ≡ Some out.new) }
         ensures untouched { OnErr result (out.new ≡ out.old) }
-        ensures content { self.new.blocks ≡ self.old.blocks }
-        ensures same { OnOk result (self.new.script.faults ≡ self.old.script.faults) }
-        ensures failed { OnErr result (Rose self.old.script.faults self.new.script.faults) }
+        ensures done { OnOk result
+            (scripted_image self.new ≡ after_reads 1 (scripted_image self.old)) }
+        ensures failed { OnErr result
+            (FailsAfter (after_reads 1 (scripted_image self.old)) (scripted_image self.new)) }
         ensures fails { IsErr result ↔ IsTrue (fails self.old.script) }
         ensures script { self.new.script ≡ after_call self.old.script }
     {
+        self.calls.count_read();
         self.script.call()?;
         self.image.read_block(at, out)
     }
 
     fn write_block(&mut self, at: u64, block: &[u8; 512]) -> Result<(), Failed>
         requires { at < length self.old.blocks }
-        ensures block { OnOk result (self.new.blocks ≡ slice_set self.old.blocks at block.now) }
-        ensures content { OnErr result (self.new.blocks ≡ self.old.blocks) }
-        ensures same { OnOk result (self.new.script.faults ≡ self.old.script.faults) }
-        ensures failed { OnErr result (Rose self.old.script.faults self.new.script.faults) }
+        ensures done { OnOk result
+            (scripted_image self.new ≡ with_block at block.now (after_writes 1 (scripted_image self.old))) }
+        ensures failed { OnErr result
+            (FailsAfter (after_writes 1 (scripted_image self.old)) (scripted_image self.new)) }
         ensures fails { IsErr result ↔ IsTrue (fails self.old.script) }
         ensures script { self.new.script ≡ after_call self.old.script }
     {
+        self.calls.count_write();
         self.script.call()?;
         self.image.write_block(at, block)
     }
 
     fn flush(&mut self) -> Result<(), Failed>
-        ensures content { self.new.blocks ≡ self.old.blocks }
-        ensures same { OnOk result (self.new.script.faults ≡ self.old.script.faults) }
-        ensures failed { OnErr result (Rose self.old.script.faults self.new.script.faults) }
+        ensures done { OnOk result
+            (scripted_image self.new ≡ after_flush (scripted_image self.old)) }
+        ensures failed { OnErr result
+            (FailsAfter (after_flush (scripted_image self.old)) (scripted_image self.new)) }
         ensures fails { IsErr result ↔ IsTrue (fails self.old.script) }
         ensures script { self.new.script ≡ after_call self.old.script }
     {
+        self.calls.count_flush();
         self.script.call()?;
         self.image.flush()
     }

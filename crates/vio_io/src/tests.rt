@@ -192,8 +192,8 @@ fn a_writer_that_fails_is_counted(rt: HostRuntime) -> Result<(), Fail> {
 
 // The last byte of a block.
 fn last_byte<B: Blocks>(image: &mut B, at: u64) -> Result<u8, Failed>
-    requires { at < B.size image.old }
-    ensures { B.size image.new ≡ B.size image.old }
+    requires { at < (B.state image.old).size }
+    ensures { (B.state image.new).size ≡ (B.state image.old).size }
 {
     let mut block = [9; 512];
     image.read_block(at, &mut block)?;
