@@ -1,12 +1,13 @@
 -- Lists of blocks and their bytes: one more block read, one more block written.
-use Rattle.std.proofs.Common.{◌≡◌, ℕ, zero, suc, ◌+◌, ◌*◌, ◌<◌, ◌≤◌, List, [], ◌∷◌, ◌++◌, length, take, drop, get_or, set, refl, sym, ap, ◌∙◌, arith, Option, Some, None, IfSome, option_map, append_assoc, append-nil, length-append, length-drop, length-take}
+use Rattle.std.proofs.Common.{◌≡◌, ℕ, zero, suc, ◌+◌, ◌*◌, ◌<◌, ◌≤◌, List, [], ◌∷◌, ◌++◌, length, take, drop, get_or, set, refl, sym, ap, subst, ◌∙◌, arith, Option, Some, None, IfSome, option_map, append_assoc, append-nil, length-append, length-drop, length-take}
 use Rattle.std.proofs.lemmas.List.{drop-drop, drop_at, take_at, length-take-le, drop_more, set_at, take_more, get_or-drop}
 use Rattle.std.proofs.lemmas.Option.{slice_get_within, get_or_from_slice_get}
 use Rattle.std.proofs.lemmas.Grind.{flat_map-append}
 use Rattle.std.proofs.Math.Seq.{take-add}
 use Rattle.std.specs.Prelude.{slice_get}
 use borrow.Rule.Slice.PartMut.{put_mid, post_of}
-use Rattle.block_disk.specs.Disk.{bytes_of, blocks_of, written}
+use Rattle.vio_io.specs.Image.{ImageState, FailsAfter, risen_by, after_reads, after_writes, with_block}
+use Rattle.block_disk.specs.Disk.{bytes_of, block_at, blocks_of, written, after_written}
 
 -- what a part of 512 bytes holds after it was written
 pub part_of-put_mid : (a k : ℕ) (xs ys : List ℕ) → a ≤ length xs → length ys ≡ 512 → take 512 (drop a (put_mid a k xs ys)) ≡ ys
@@ -78,3 +79,34 @@ given-more (Some all) lba n next old new more before front read = given_one lba 
 pub inside_told : (blocks : Option (List (List ℕ))) (size at : ℕ) → IfSome blocks (λ all. length all ≡ size) → at < size → IfSome blocks (λ all. at < length all)
 inside_told None size at told inside = tt
 inside_told (Some all) size at told inside = omega arith
+
+-- one more call was counted
+risen-more : (n count : ℕ) → risen_by 1 (risen_by n count) ≡ risen_by (n + 1) count
+risen-more n count = omega arith
+
+-- one more read was made
+pub reads-more : (old mid new : ImageState) (n : ℕ) → mid ≡ after_reads n old → new ≡ after_reads 1 mid → new ≡ after_reads (n + 1) old
+reads-more old mid new n before step = step ∙ ap (after_reads 1) before ∙ ap (λ count. record old { calls = record old.calls { reads = count } }) (risen-more n old.calls.reads)
+
+-- one more write was asked for
+writes-more : (n m : ℕ) (lba : ℕ) (bytes : List ℕ) (old : ImageState) → after_writes 1 (after_written lba n m bytes old) ≡ after_written lba n (m + 1) bytes old
+writes-more n m lba bytes old =
+    ap (λ count. record old { blocks = option_map (λ all. written lba n bytes all) old.blocks; calls = record old.calls { writes = count } }) (risen-more m old.calls.writes)
+
+-- one more block was written
+pub image_written-more : (old mid new : ImageState) (lba n : ℕ) (bytes : List ℕ) → IfSome old.blocks (λ all. lba + n < length all)
+    → mid ≡ after_written lba n n bytes old → new ≡ with_block (lba + n) (block_at n bytes) (after_writes 1 mid) → new ≡ after_written lba (n + 1) (n + 1) bytes old
+image_written-more old mid new lba n bytes inside before step =
+    step
+    ∙ ap (λ image. with_block (lba + n) (block_at n bytes) (after_writes 1 image)) before
+    ∙ ap (with_block (lba + n) (block_at n bytes)) (writes-more n n lba bytes old)
+    ∙ ap (λ blocks. record (after_writes (n + 1) old) { blocks = blocks }) (image-more old.blocks _ _ lba n (n + 1) bytes inside refl refl refl)
+
+-- a read failed behind n that did not
+pub read-fails : (old mid new : ImageState) (n : ℕ) → mid ≡ after_reads n old → FailsAfter (after_reads 1 mid) new → FailsAfter (after_reads (n + 1) old) new
+read-fails old mid new n before fails = subst (λ (made : ImageState). FailsAfter made new) (reads-more old mid (after_reads 1 mid) n before refl) fails
+
+-- a write failed behind n that did not
+pub write-fails : (old mid new : ImageState) (lba n : ℕ) (bytes : List ℕ) → mid ≡ after_written lba n n bytes old → FailsAfter (after_writes 1 mid) new
+    → FailsAfter (after_written lba n (n + 1) bytes old) new
+write-fails old mid new lba n bytes before fails = subst (λ (made : ImageState). FailsAfter made new) (ap (after_writes 1) before ∙ writes-more n n lba bytes old) fails

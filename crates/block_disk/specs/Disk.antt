@@ -3,6 +3,8 @@
 use Rattle.std.specs.Prelude.{ℕ, zero, suc, ◌+◌, ◌-◌, ◌*◌, ◌^◌, min, nat_lt, if◌then◌else◌, Option, None, Some, unwrap_or, List, [], ◌∷◌, ◌++◌, length, take, drop, replicate, codes}
 use Rattle.std.specs.List.{flat_map}
 use Rattle.byteorder.specs.Endian.{big_bytes}
+use Rattle.vio_io.specs.Image.{ImageState, risen_by, after_writes, with_blocks}
+use Rattle.vio_io.specs.declared.device_calls.DeviceCalls.{DeviceCalls}
 use Rattle.block_disk.specs.Cdb.{command_of, refusal, is_disk_unit}
 use Rattle.block_disk.specs.Sense.{sense_data, out_of_range, invalid_field, read_error, write_error}
 use Rattle.block_disk.specs.declared.command.DiskOp.{DiskOp}
@@ -69,12 +71,42 @@ answer None (Some op) count sent fault = performed op count sent fault
 abbrev pub reply_to : ℕ → ℕ → List ℕ → ℕ → Option ℕ → ScsiReply
 reply_to count lun cdb sent fault = answer (refusal lun cdb) (command_of cdb) count sent fault
 
--- how many device calls a command makes at most
-abbrev pub calls_of : Option DiskOp → ℕ
-calls_of (Some (Read lba blocks)) = blocks
-calls_of (Some (Write lba blocks)) = blocks
-calls_of (Some (Sync lba blocks)) = 1
-calls_of _ = 0
+-- the device calls of a read, of a write and of a flush, none of which fails: one a block, one in all, none where refused
+abbrev pub read_calls : ℕ → ℕ → ℕ → ℕ
+read_calls lba blocks count = if nat_lt count (lba + blocks) then 0 else blocks
+
+abbrev pub write_calls : ℕ → ℕ → ℕ → ℕ → ℕ
+write_calls lba blocks count sent = if nat_lt count (lba + blocks) then 0 else if nat_lt sent (512 * blocks) then 0 else blocks
+
+abbrev pub sync_calls : ℕ → ℕ → ℕ → ℕ
+sync_calls lba blocks count = if nat_lt count (lba + blocks) then 0 else 1
+
+-- the device calls of a command that its CDB does not refuse
+abbrev pub calls_of : DiskOp → ℕ → ℕ → ℕ
+calls_of (Read lba blocks) count sent = read_calls lba blocks count
+calls_of (Write lba blocks) count sent = write_calls lba blocks count sent
+calls_of (Sync lba blocks) count sent = sync_calls lba blocks count
+calls_of _ count sent = 0
+
+abbrev pub calls_unless : Option (List ℕ) → Option DiskOp → ℕ → ℕ → ℕ
+calls_unless None (Some op) count sent = calls_of op count sent
+calls_unless _ _ count sent = 0
+
+-- the device calls of a command where none fails, on an image of `count` blocks, with `sent` bytes of data-out
+abbrev pub device_calls : ℕ → ℕ → List ℕ → ℕ → ℕ
+device_calls count lun cdb sent = calls_unless (refusal lun cdb) (command_of cdb) count sent
+
+-- how many of n device calls are made: all of them, or those up to the first that fails
+abbrev pub calls_made : ℕ → Option ℕ → ℕ
+calls_made n None = n
+calls_made n (Some call) = call + 1
+
+-- the counts of an image once a command made n device calls
+abbrev pub called : Option DiskOp → ℕ → DeviceCalls → DeviceCalls
+called (Some (Read lba blocks)) n calls = record calls { reads = risen_by n calls.reads }
+called (Some (Write lba blocks)) n calls = record calls { writes = risen_by n calls.writes }
+called (Some (Sync lba blocks)) n calls = record calls { flushes = risen_by n calls.flushes }
+called _ n calls = calls
 
 -- standard INQUIRY data: a direct access block device where the logical unit is one of the disk's
 unfoldable pub inquiry_data : ℕ → List ℕ
@@ -110,6 +142,10 @@ abbrev pub data_of : List (List ℕ) → ℕ → Option DiskOp → List ℕ
 data_of blocks lun (Some (Read lba n)) = bytes_of (take n (drop lba blocks))
 data_of blocks lun op = unwrap_or (parameter_data (length blocks) lun op) []
 
+-- block number n of these bytes
+abbrev pub block_at : ℕ → List ℕ → List ℕ
+block_at n bytes = take 512 (drop (512 * n) bytes)
+
 -- the first n blocks of data-out
 abbrev pub blocks_of : ℕ → List ℕ → List (List ℕ)
 blocks_of zero bytes = []
@@ -118,6 +154,10 @@ blocks_of (suc n) bytes = take 512 bytes ∷ blocks_of n (drop 512 bytes)
 -- the image whose blocks from lba on are the first n of data-out
 abbrev pub written : ℕ → ℕ → List ℕ → List (List ℕ) → List (List ℕ)
 written lba n bytes blocks = take lba blocks ++ blocks_of n bytes ++ drop (lba + n) blocks
+
+-- what contracts see of the image once `calls` writes were asked for and the first n of them changed their blocks
+abbrev pub after_written : ℕ → ℕ → ℕ → List ℕ → ImageState → ImageState
+after_written lba n calls bytes image = with_blocks (written lba n bytes) (after_writes calls image)
 
 -- the image after a write: a refused one changes nothing, and one that fails at a call has changed the blocks before it
 abbrev pub write_image : ℕ → ℕ → List ℕ → Option ℕ → List (List ℕ) → List (List ℕ)

@@ -1,3 +1,4 @@
 pub mod Cdb
 pub mod Sense
 pub mod Disk
+pub mod Steps

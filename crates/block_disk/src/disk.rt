@@ -2,7 +2,8 @@
 // code, fields, number of blocks, range, length of data-out, device.
 ghost use Rattle.std.specs.Prelude.{◌≡◌, ◌+◌, ◌*◌, ◌^◌, ◌<◌, ◌≤◌, false, Some, IfSome, IfNone, OnSome, nat_lt, option_map, length, take, drop};
 ghost use Rattle.vio_num.specs.Counts.{Rose};
-ghost use Rattle.block_disk.specs.Disk.{read_answer, write_answer, sync_answer, write_image, bytes_of, performed, parameter_data, data_of, changed, calls_of, reply_to, step};
+ghost use Rattle.block_disk.specs.Disk.{read_answer, write_answer, sync_answer, write_image, bytes_of, performed, parameter_data, data_of, changed, calls_of, read_calls, write_calls, sync_calls, device_calls, calls_made, called, reply_to, step};
+ghost use Rattle.block_disk.specs.Steps.{StepOn, made_step};
 ghost use Rattle.block_disk.specs.Cdb.{command_of, is_too_long};
 
 use crate::command::{DiskOp, INVALID_FIELD, OUT_OF_RANGE, READ_ERROR, WRITE_ERROR, read_cdb};
@@ -26,18 +27,21 @@ fn read<B: Blocks>(
     blocks: u32,
     data_in: &mut [u8; 131072],
 ) -> ScsiReply
-    requires count { count ≡ B.size disk.old }
+    requires count { count ≡ (B.state disk.old).size }
     requires few { blocks ≤ 256 }
     ensures reply { result ≡ read_answer lba blocks count result.fault }
-    ensures given { IfSome (B.blocks disk.old) (λ all. take result.in_len data_in.new ≡
+    ensures given { IfSome (B.state disk.old).blocks (λ all. take result.in_len data_in.new ≡
         take result.in_len (bytes_of (take blocks (drop lba all)))) }
     ensures room { result.in_len ≤ 131072 }
     ensures unused { result.out_used ≡ 0 }
-    ensures index { IfSome result.fault (λ call. call < blocks) }
-    ensures size { B.size disk.new ≡ B.size disk.old }
-    ensures content { B.blocks disk.new ≡ B.blocks disk.old }
-    ensures same { IfNone result.fault (B.faults disk.new ≡ B.faults disk.old) }
-    ensures failed { OnSome result.fault (Rose (B.faults disk.old) (B.faults disk.new)) }
+    ensures index { IfSome result.fault (λ call. call < read_calls lba blocks count) }
+    ensures calls { (B.state disk.new).calls ≡ called (Some (DiskOp.Read lba blocks))
+        (calls_made (read_calls lba blocks count) result.fault) (B.state disk.old).calls }
+    ensures size { (B.state disk.new).size ≡ (B.state disk.old).size }
+    ensures content { (B.state disk.new).blocks ≡ (B.state disk.old).blocks }
+    ensures same { IfNone result.fault ((B.state disk.new).faults ≡ (B.state disk.old).faults) }
+    ensures failed { OnSome result.fault
+        (Rose (B.state disk.old).faults (B.state disk.new).faults) }
 {
     if is_past(count, lba, blocks) {
         return ScsiReply::refused(OUT_OF_RANGE, 0);
@@ -50,17 +54,22 @@ fn read<B: Blocks>(
 
 // WRITE.
 fn write<B: Blocks>(disk: &mut B, count: u64, lba: u64, blocks: u32, data_out: &[u8]) -> ScsiReply
-    requires count { count ≡ B.size disk.old }
+    requires count { count ≡ (B.state disk.old).size }
     requires few { blocks ≤ 256 }
     ensures reply { result ≡ write_answer lba blocks count (length data_out.now) result.fault }
-    ensures image { B.blocks disk.new ≡
-        option_map (write_image lba blocks data_out.now result.fault) (B.blocks disk.old) }
+    ensures image { (B.state disk.new).blocks ≡
+        option_map (write_image lba blocks data_out.now result.fault) (B.state disk.old).blocks }
     ensures nothing { result.in_len ≡ 0 }
     ensures used { result.out_used ≤ length data_out.now }
-    ensures index { IfSome result.fault (λ call. call < blocks) }
-    ensures size { B.size disk.new ≡ B.size disk.old }
-    ensures same { IfNone result.fault (B.faults disk.new ≡ B.faults disk.old) }
-    ensures failed { OnSome result.fault (Rose (B.faults disk.old) (B.faults disk.new)) }
+    ensures index { IfSome result.fault
+        (λ call. call < write_calls lba blocks count (length data_out.now)) }
+    ensures calls { (B.state disk.new).calls ≡ called (Some (DiskOp.Write lba blocks))
+        (calls_made (write_calls lba blocks count (length data_out.now)) result.fault)
+        (B.state disk.old).calls }
+    ensures size { (B.state disk.new).size ≡ (B.state disk.old).size }
+    ensures same { IfNone result.fault ((B.state disk.new).faults ≡ (B.state disk.old).faults) }
+    ensures failed { OnSome result.fault
+        (Rose (B.state disk.old).faults (B.state disk.new).faults) }
 {
     if is_past(count, lba, blocks) {
         return ScsiReply::refused(OUT_OF_RANGE, 0);
@@ -77,15 +86,18 @@ fn write<B: Blocks>(disk: &mut B, count: u64, lba: u64, blocks: u32, data_out: &
 
 // SYNCHRONIZE CACHE: one flush, whatever the number of blocks.
 fn sync<B: Blocks>(disk: &mut B, count: u64, lba: u64, blocks: u32) -> ScsiReply
-    requires { count ≡ B.size disk.old }
+    requires { count ≡ (B.state disk.old).size }
     ensures reply { result ≡ sync_answer lba blocks count result.fault }
     ensures nothing { result.in_len ≡ 0 }
     ensures unused { result.out_used ≡ 0 }
-    ensures index { IfSome result.fault (λ call. call < 1) }
-    ensures size { B.size disk.new ≡ B.size disk.old }
-    ensures content { B.blocks disk.new ≡ B.blocks disk.old }
-    ensures same { IfNone result.fault (B.faults disk.new ≡ B.faults disk.old) }
-    ensures failed { OnSome result.fault (Rose (B.faults disk.old) (B.faults disk.new)) }
+    ensures index { IfSome result.fault (λ call. call < sync_calls lba blocks count) }
+    ensures calls { (B.state disk.new).calls ≡ called (Some (DiskOp.Sync lba blocks))
+        (calls_made (sync_calls lba blocks count) result.fault) (B.state disk.old).calls }
+    ensures size { (B.state disk.new).size ≡ (B.state disk.old).size }
+    ensures content { (B.state disk.new).blocks ≡ (B.state disk.old).blocks }
+    ensures same { IfNone result.fault ((B.state disk.new).faults ≡ (B.state disk.old).faults) }
+    ensures failed { OnSome result.fault
+        (Rose (B.state disk.old).faults (B.state disk.new).faults) }
 {
     if is_past(count, lba, blocks) {
         return ScsiReply::refused(OUT_OF_RANGE, 0);
@@ -106,21 +118,27 @@ fn perform<B: Blocks>(
     data_out: &[u8],
     data_in: &mut [u8; 131072],
 ) -> ScsiReply
-    requires count { count ≡ B.size disk.old }
+    requires count { count ≡ (B.state disk.old).size }
     requires few { is_too_long op ≡ false }
     ensures reply { result ≡ performed op count (length data_out.now) result.fault }
     ensures parameters { IfSome (parameter_data count lun (Some op)) (λ bytes.
         take result.in_len data_in.new ≡ take result.in_len bytes) }
-    ensures given { IfSome (B.blocks disk.old) (λ all. take result.in_len data_in.new ≡
+    ensures given { IfSome (B.state disk.old).blocks (λ all. take result.in_len data_in.new ≡
         take result.in_len (data_of all lun (Some op))) }
-    ensures image { B.blocks disk.new ≡
-        option_map (λ all. changed (Some op) all data_out.now result.fault) (B.blocks disk.old) }
+    ensures image { (B.state disk.new).blocks ≡
+        option_map (λ all. changed (Some op) all data_out.now result.fault)
+        (B.state disk.old).blocks }
     ensures room { result.in_len ≤ 131072 }
     ensures used { result.out_used ≤ length data_out.now }
-    ensures index { IfSome result.fault (λ call. call < calls_of (Some op)) }
-    ensures size { B.size disk.new ≡ B.size disk.old }
-    ensures same { IfNone result.fault (B.faults disk.new ≡ B.faults disk.old) }
-    ensures failed { OnSome result.fault (Rose (B.faults disk.old) (B.faults disk.new)) }
+    ensures index { IfSome result.fault
+        (λ call. call < calls_of op count (length data_out.now)) }
+    ensures calls { (B.state disk.new).calls ≡ called (Some op)
+        (calls_made (calls_of op count (length data_out.now)) result.fault)
+        (B.state disk.old).calls }
+    ensures size { (B.state disk.new).size ≡ (B.state disk.old).size }
+    ensures same { IfNone result.fault ((B.state disk.new).faults ≡ (B.state disk.old).faults) }
+    ensures failed { OnSome result.fault
+        (Rose (B.state disk.old).faults (B.state disk.new).faults) }
 {
     match op {
         DiskOp::Ready => ScsiReply::good(0, 0),
@@ -147,22 +165,26 @@ pub fn execute<B: Blocks>(
     data_out: &[u8],
     data_in: &mut [u8; 131072],
 ) -> ScsiReply
-    requires { count ≡ B.size disk.old }
+    requires { count ≡ (B.state disk.old).size }
     ensures reply { result ≡ reply_to count lun cdb.now (length data_out.now) result.fault }
     ensures parameters { IfSome (parameter_data count lun (command_of cdb.now)) (λ bytes.
         take result.in_len data_in.new ≡ take result.in_len bytes) }
-    ensures given { IfSome (B.blocks disk.old) (λ all. take result.in_len data_in.new ≡
-        (step all lun cdb.now data_out.now result.fault).given) }
-    ensures image { B.blocks disk.new ≡ option_map
-        (λ all. (step all lun cdb.now data_out.now result.fault).blocks) (B.blocks disk.old) }
-    ensures told { IfSome (B.blocks disk.old)
-        (λ all. (step all lun cdb.now data_out.now result.fault).reply ≡ result) }
+    ensures step { StepOn (B.state disk.old).blocks
+        (made_step lun cdb.now data_out.now result data_in.new) (B.state disk.new).blocks }
+    ensures image { (B.state disk.new).blocks ≡
+        option_map (λ all. (step all lun cdb.now data_out.now result.fault).blocks)
+        (B.state disk.old).blocks }
     ensures room { result.in_len ≤ 131072 }
     ensures used { result.out_used ≤ length data_out.now }
-    ensures index { IfSome result.fault (λ call. call < calls_of (command_of cdb.now)) }
-    ensures size { B.size disk.new ≡ B.size disk.old }
-    ensures same { IfNone result.fault (B.faults disk.new ≡ B.faults disk.old) }
-    ensures failed { OnSome result.fault (Rose (B.faults disk.old) (B.faults disk.new)) }
+    ensures index { IfSome result.fault
+        (λ call. call < device_calls count lun cdb.now (length data_out.now)) }
+    ensures calls { (B.state disk.new).calls ≡ called (command_of cdb.now)
+        (calls_made (device_calls count lun cdb.now (length data_out.now)) result.fault)
+        (B.state disk.old).calls }
+    ensures size { (B.state disk.new).size ≡ (B.state disk.old).size }
+    ensures same { IfNone result.fault ((B.state disk.new).faults ≡ (B.state disk.old).faults) }
+    ensures failed { OnSome result.fault
+        (Rose (B.state disk.old).faults (B.state disk.new).faults) }
 {
     match read_cdb(lun, cdb) {
         Ok(op) => perform(disk, count, lun, op, data_out, data_in),

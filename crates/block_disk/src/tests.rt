@@ -3,7 +3,7 @@ ghost use Rattle.std.specs.Prelude.{◌^◌, None};
 use super::*;
 use std::alloc::Global;
 use std::test::Fail;
-use vio_io::{Blocks, Failed, MemBlocks};
+use vio_io::{Blocks, DeviceCalls, Failed, MemBlocks};
 
 // What a command answered, and the first bytes of the data that it gave.
 #[derive(Clone, Copy)]
@@ -339,28 +339,30 @@ fn capacities_and_units_are_cut(rt: HostRuntime) -> Result<(), Fail> {
 
 // An image of 2^40 blocks that tells none.
 #[derive(Drop)]
-struct Large;
+struct Large {
+    calls: DeviceCalls,
+}
 
 impl Blocks for Large {
-    ghost faults = { λ _. 0 };
-
-    ghost size = { λ _. 2 ^ 40 };
-
-    ghost blocks = { λ _. None };
+    ghost state = { λ large. record { faults = 0; size = 2 ^ 40; blocks = None; calls = large.calls } };
 
     fn count(&mut self) -> Result<u64, Failed> {
+        self.calls.count_sizing();
         Ok(0x100_0000_0000)
     }
 
     fn read_block(&mut self, _at: u64, _out: &mut [u8; 512]) -> Result<(), Failed> {
+        self.calls.count_read();
         Ok(())
     }
 
     fn write_block(&mut self, _at: u64, _block: &[u8; 512]) -> Result<(), Failed> {
+        self.calls.count_write();
         Ok(())
     }
 
     fn flush(&mut self) -> Result<(), Failed> {
+        self.calls.count_flush();
         Ok(())
     }
 
@@ -369,13 +371,16 @@ impl Blocks for Large {
 
 #[test]
 fn a_large_image_has_its_capacity(rt: HostRuntime) -> Result<(), Fail> {
+    let mut large = Large {
+        calls: DeviceCalls::none(),
+    };
     let ten_bytes = [0xFF, 0xFF, 0xFF, 0xFF, 0, 0, 2, 0];
-    assert!(rt; is_cut(&mut Large, 0, &cdb(&[0x25]), 8, &ten_bytes)?);
+    assert!(rt; is_cut(&mut large, 0, &cdb(&[0x25]), 8, &ten_bytes)?);
     let sixteen_bytes = [0, 0, 0, 0xFF, 0xFF, 0xFF, 0xFF, 0xFF, 0, 0, 2, 0];
     let cdb = cdb(&[0x9E, 0x10, 0, 0, 0, 0, 0, 0, 0, 0, 0, 0, 0, 12]);
-    assert!(rt; is_cut(&mut Large, 0, &cdb, 12, &sixteen_bytes)?);
+    assert!(rt; is_cut(&mut large, 0, &cdb, 12, &sixteen_bytes)?);
     for (blocks, want) in [(1, Want::Good), (2, Want::Past)] {
-        let ran = run(&mut Large, 0, &sixteen(0x88, 0xFF_FFFF_FFFF, blocks), &[])?;
+        let ran = run(&mut large, 0, &sixteen(0x88, 0xFF_FFFF_FFFF, blocks), &[])?;
         assert_eq!(rt; ran.reply, read_reply(want, blocks), "{blocks}");
     }
     Ok(())

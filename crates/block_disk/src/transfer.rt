@@ -1,21 +1,20 @@
 // Moves blocks between an image and the buffers of a command, each once, in ascending order, and
 // stops at the first device call that fails.
-ghost use Rattle.std.specs.Prelude.{◌≡◌, ◌+◌, ◌*◌, ◌^◌, ◌<◌, ◌≤◌, Some, IfOk, IfErr, IfSome, OnOk, OnErr, option_map, length, take, drop, slice_get, slice_set};
-ghost use Rattle.vio_num.specs.Counts.{Rose};
-ghost use Rattle.block_disk.specs.Disk.{bytes_of, written};
+ghost use Rattle.std.specs.Prelude.{◌≡◌, ◌+◌, ◌*◌, ◌^◌, ◌<◌, ◌≤◌, Some, IfOk, IfErr, IfSome, OnOk, OnErr, length, take, drop, slice_get};
+ghost use Rattle.vio_io.specs.Image.{FailsAfter, after_reads, after_writes, with_block};
+ghost use Rattle.block_disk.specs.Disk.{bytes_of, block_at, after_written};
 
 use vio_io::{Blocks, Failed};
 
 // Reads block `at` into these 512 bytes.
 fn read_into<B: Blocks>(disk: &mut B, at: u64, piece: &mut [u8]) -> Result<(), Failed>
-    requires inside { at < B.size disk.old }
+    requires inside { at < (B.state disk.old).size }
     requires whole { length piece.old ≡ 512 }
-    ensures block { OnOk result (IfSome (B.blocks disk.old)
+    ensures block { OnOk result (IfSome (B.state disk.old).blocks
         (λ all. slice_get all at ≡ Some piece.new)) }
-    ensures size { B.size disk.new ≡ B.size disk.old }
-    ensures content { B.blocks disk.new ≡ B.blocks disk.old }
-    ensures same { OnOk result (B.faults disk.new ≡ B.faults disk.old) }
-    ensures failed { OnErr result (Rose (B.faults disk.old) (B.faults disk.new)) }
+    ensures done { OnOk result (B.state disk.new ≡ after_reads 1 (B.state disk.old)) }
+    ensures failed { OnErr result
+        (FailsAfter (after_reads 1 (B.state disk.old)) (B.state disk.new)) }
 {
     match piece.as_mut_array::<512>() {
         Some(block) => disk.read_block(at, block),
@@ -30,15 +29,14 @@ fn read_one<B: Blocks>(
     data_in: &mut [u8; 131072],
     call: u32,
 ) -> Result<(), Failed>
-    requires inside { at < B.size disk.old }
+    requires inside { at < (B.state disk.old).size }
     requires room { call < 256 }
-    ensures block { OnOk result (IfSome (B.blocks disk.old)
-        (λ all. slice_get all at ≡ Some (take 512 (drop (512 * call) data_in.new)))) }
+    ensures block { OnOk result (IfSome (B.state disk.old).blocks
+        (λ all. slice_get all at ≡ Some (block_at call data_in.new))) }
     ensures front { take (512 * call) data_in.new ≡ take (512 * call) data_in.old }
-    ensures size { B.size disk.new ≡ B.size disk.old }
-    ensures content { B.blocks disk.new ≡ B.blocks disk.old }
-    ensures same { OnOk result (B.faults disk.new ≡ B.faults disk.old) }
-    ensures failed { OnErr result (Rose (B.faults disk.old) (B.faults disk.new)) }
+    ensures done { OnOk result (B.state disk.new ≡ after_reads 1 (B.state disk.old)) }
+    ensures failed { OnErr result
+        (FailsAfter (after_reads 1 (B.state disk.old)) (B.state disk.new)) }
 {
     let from = 512 * call as usize;
     read_into(disk, at, &mut data_in[from..from + 512])
@@ -46,14 +44,12 @@ fn read_one<B: Blocks>(
 
 // Replaces block `at` by these 512 bytes.
 fn write_from<B: Blocks>(disk: &mut B, at: u64, piece: &[u8]) -> Result<(), Failed>
-    requires inside { at < B.size disk.old }
+    requires inside { at < (B.state disk.old).size }
     requires whole { length piece.now ≡ 512 }
-    ensures block { OnOk result (B.blocks disk.new ≡
-        option_map (λ all. slice_set all at piece.now) (B.blocks disk.old)) }
-    ensures size { B.size disk.new ≡ B.size disk.old }
-    ensures content { OnErr result (B.blocks disk.new ≡ B.blocks disk.old) }
-    ensures same { OnOk result (B.faults disk.new ≡ B.faults disk.old) }
-    ensures failed { OnErr result (Rose (B.faults disk.old) (B.faults disk.new)) }
+    ensures done { OnOk result (B.state disk.new ≡
+        with_block at piece.now (after_writes 1 (B.state disk.old))) }
+    ensures failed { OnErr result
+        (FailsAfter (after_writes 1 (B.state disk.old)) (B.state disk.new)) }
 {
     match piece.as_array::<512>() {
         Some(block) => disk.write_block(at, block),
@@ -63,15 +59,12 @@ fn write_from<B: Blocks>(disk: &mut B, at: u64, piece: &[u8]) -> Result<(), Fail
 
 // Replaces block `at` by block `call` of the data-out.
 fn write_one<B: Blocks>(disk: &mut B, at: u64, data_out: &[u8], call: u32) -> Result<(), Failed>
-    requires inside { at < B.size disk.old }
+    requires inside { at < (B.state disk.old).size }
     requires sent { 512 * call + 512 ≤ length data_out.now }
-    ensures block { OnOk result (B.blocks disk.new ≡
-        option_map (λ all. slice_set all at (take 512 (drop (512 * call) data_out.now)))
-        (B.blocks disk.old)) }
-    ensures size { B.size disk.new ≡ B.size disk.old }
-    ensures content { OnErr result (B.blocks disk.new ≡ B.blocks disk.old) }
-    ensures same { OnOk result (B.faults disk.new ≡ B.faults disk.old) }
-    ensures failed { OnErr result (Rose (B.faults disk.old) (B.faults disk.new)) }
+    ensures done { OnOk result (B.state disk.new ≡
+        with_block at (block_at call data_out.now) (after_writes 1 (B.state disk.old))) }
+    ensures failed { OnErr result
+        (FailsAfter (after_writes 1 (B.state disk.old)) (B.state disk.new)) }
 {
     let from = 512 * call as usize;
     write_from(disk, at, &data_out[from..from + 512])
@@ -86,15 +79,14 @@ pub(crate) fn read_blocks<B: Blocks>(
     data_in: &mut [u8; 131072],
 ) -> Result<(), u32>
     requires few { blocks ≤ 256 }
-    requires inside { lba + blocks ≤ B.size disk.old }
-    requires fits { B.size disk.old < 2 ^ 64 }
-    ensures given { OnOk result (IfSome (B.blocks disk.old)
+    requires inside { lba + blocks ≤ (B.state disk.old).size }
+    requires fits { (B.state disk.old).size < 2 ^ 64 }
+    ensures given { OnOk result (IfSome (B.state disk.old).blocks
         (λ all. take (512 * blocks) data_in.new ≡ bytes_of (take blocks (drop lba all)))) }
     ensures index { IfErr result (λ call. call < blocks) }
-    ensures size { B.size disk.new ≡ B.size disk.old }
-    ensures content { B.blocks disk.new ≡ B.blocks disk.old }
-    ensures same { OnOk result (B.faults disk.new ≡ B.faults disk.old) }
-    ensures failed { OnErr result (Rose (B.faults disk.old) (B.faults disk.new)) }
+    ensures done { OnOk result (B.state disk.new ≡ after_reads blocks (B.state disk.old)) }
+    ensures failed { IfErr result
+        (λ call. FailsAfter (after_reads (call + 1) (B.state disk.old)) (B.state disk.new)) }
 {
     for call in 0..blocks {
         match read_one(disk, lba + call as u64, data_in, call) {
@@ -114,17 +106,14 @@ pub(crate) fn write_blocks<B: Blocks>(
     data_out: &[u8],
 ) -> Result<(), u32>
     requires few { blocks ≤ 256 }
-    requires inside { lba + blocks ≤ B.size disk.old }
-    requires fits { B.size disk.old < 2 ^ 64 }
+    requires inside { lba + blocks ≤ (B.state disk.old).size }
+    requires fits { (B.state disk.old).size < 2 ^ 64 }
     requires sent { 512 * blocks ≤ length data_out.now }
-    ensures done { OnOk result (B.blocks disk.new ≡
-        option_map (λ all. written lba blocks data_out.now all) (B.blocks disk.old)) }
-    ensures partly { IfErr result (λ call. B.blocks disk.new ≡
-        option_map (λ all. written lba call data_out.now all) (B.blocks disk.old)) }
     ensures index { IfErr result (λ call. call < blocks) }
-    ensures size { B.size disk.new ≡ B.size disk.old }
-    ensures same { OnOk result (B.faults disk.new ≡ B.faults disk.old) }
-    ensures failed { OnErr result (Rose (B.faults disk.old) (B.faults disk.new)) }
+    ensures done { OnOk result (B.state disk.new ≡
+        after_written lba blocks blocks data_out.now (B.state disk.old)) }
+    ensures failed { IfErr result (λ call. FailsAfter
+        (after_written lba call (call + 1) data_out.now (B.state disk.old)) (B.state disk.new)) }
 {
     for call in 0..blocks {
         match write_one(disk, lba + call as u64, data_out, call) {
