@@ -11,7 +11,7 @@ use Rattle.vio_num.specs.Queue.{LawfulDrop}
 use Rattle.crq_ring.specs.declared.rows.PipeRow.{PipeRow}
 use Rattle.crq_ring.specs.declared.rows.DropRow.{DropRow}
 use Rattle.crq_ring.specs.Sessions.{of_session, recorded, same_number, Precedes, NotAfter}
-use Rattle.crq_ring.specs.Kept.{Drops}
+use Rattle.crq_ring.specs.Kept.{KeepsDrops}
 use Rattle.crq_ring.proofs.Sessions.{of_session-append}
 
 all_weaken : {X : Type 0} (P Q : X → Type 0) → ((x : X) → P x → Q x) → (xs : List X) → All P xs → All Q xs
@@ -34,7 +34,7 @@ LawfulDrop-grow sent more n k held h = record {
 }
 
 pub Drops-put : (sent : List PipeRow) (drops : List DropRow) (session n : ℕ) (row : PipeRow)
-    → Drops sent drops session n → Drops (sent ++ row ∷ []) drops session n
+    → KeepsDrops sent drops session n → KeepsDrops (sent ++ row ∷ []) drops session n
 Drops-put sent drops session n row h = record {
   lawful = record {
     lawful = all_weaken (λ d. LawfulDrop (of_session d.session sent) n d.number d.held) (λ d. LawfulDrop (of_session d.session (sent ++ row ∷ [])) n d.number d.held)
@@ -46,7 +46,7 @@ Drops-put sent drops session n row h = record {
 }
 
 pub Drops-renew : (sent : List PipeRow) (drops : List DropRow) (session n : ℕ)
-    → Drops sent drops session n → Drops sent drops (session + 1) n
+    → KeepsDrops sent drops session n → KeepsDrops sent drops (session + 1) n
 Drops-renew sent drops session n h = record {
   lawful = h.lawful;
   none_later = all_weaken (λ d. d.session ≤ session) (λ d. d.session ≤ session + 1) (λ d l. omega (arith, l)) drops h.none_later;
@@ -140,7 +140,7 @@ no_last (d ∷ drops) e =
     slice_get-get_or (d ∷ drops) (length (d ∷ drops) - 1) d (omega arith) in
     cc (e, some)
 
-pub Drops-none : (session n : ℕ) → Drops [] [] session n
+pub Drops-none : (session n : ℕ) → KeepsDrops [] [] session n
 Drops-none session n = record {
   lawful = record { lawful = λ k d lt. absurd (omega (arith, lt)); in_order = λ i j d lt within. absurd (omega (arith, within)) };
   none_later = λ k d lt. absurd (omega (arith, lt));
@@ -182,7 +182,7 @@ recorded-all P drops row h p = ⊎_elim
 -- the drop law after a drop in the present session
 pub Drops-record : (sent : List PipeRow) (drops : List DropRow) (n : ℕ) (row : DropRow)
     → LawfulDrop (of_session row.session sent) n row.number row.held → AllPairs Precedes (recorded drops row)
-    → Drops sent drops row.session n → Drops sent (recorded drops row) row.session n
+    → KeepsDrops sent drops row.session n → KeepsDrops sent (recorded drops row) row.session n
 Drops-record sent drops n row lawful ordered h = record {
   lawful = record {
     lawful = recorded-all (λ d. LawfulDrop (of_session d.session sent) n d.number d.held) drops row h.lawful.lawful lawful;
@@ -193,7 +193,7 @@ Drops-record sent drops n row lawful ordered h = record {
 
 -- no record comes after the present number
 pub none_after : (sent : List PipeRow) (drops : List DropRow) (n : ℕ) (row : DropRow) → row.number ≡ length (of_session row.session sent)
-    → Drops sent drops row.session n → All (λ d. NotAfter d row) drops
+    → KeepsDrops sent drops row.session n → All (λ d. NotAfter d row) drops
 none_after sent drops n row last h = λ k d lt.
     let own = get_or drops k d in
     let lawful : LawfulDrop (of_session own.session sent) n own.number own.held = h.lawful.lawful k d lt in (

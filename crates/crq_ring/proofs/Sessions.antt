@@ -1,14 +1,15 @@
 -- What a row that is put or taken changes: the entries of its own session alone.
-use Rattle.std.proofs.Common.{◌≡◌, ℕ, ◌+◌, ◌<◌, ◌≤◌, ◌==◌, List, [], ◌∷◌, ◌++◌, length, map, filter, take, drop, Some, slice_get, refl, sym, ◌∙◌, ap, subst, ⊎_elim, arith, append-nil, length-append, length-drop, length-take, take-append-drop, drop_of_length-le, le_trans, le_refl}
+use Rattle.std.proofs.Common.{◌≡◌, ℕ, ◌+◌, ◌<◌, ◌≤◌, ◌==◌, List, [], ◌∷◌, ◌++◌, length, map, filter, take, drop, Some, slice_get, refl, sym, ◌∙◌, ap, subst, ⊎_elim, arith, append-nil, length-append, length-drop, length-take, take-append-drop, drop_of_length-le, le_trans, le_refl, All, zero, suc}
 use Rattle.std.proofs.lemmas.Bool.{eq-eqb, ne_eqb}
 use Rattle.std.proofs.lemmas.Bool.Decides.{eqb_tells}
 use Rattle.std.proofs.lemmas.List.{map-append, take-append-le, drop-append-le, take_more}
-use Rattle.std.proofs.lemmas.List.Elements.{filter-append}
+use Rattle.std.proofs.lemmas.List.Elements.{filter-append, All-append}
+use Rattle.std.proofs.lemmas.List.Quantifiers.{all_pairs_push}
 use Rattle.std.proofs.lemmas.Option.{slice_get_within, get_or_from_slice_get}
 use Rattle.vio_num.specs.declared.entry.Entry.{Entry}
 use Rattle.vio_num.specs.Queue.{Handed}
 use Rattle.crq_ring.specs.declared.rows.PipeRow.{PipeRow}
-use Rattle.crq_ring.specs.Sessions.{of_session}
+use Rattle.crq_ring.specs.Sessions.{of_session, AreRising}
 use Rattle.crq_ring.specs.Kept.{Present, HandsOver}
 
 entry_of : PipeRow → Entry
@@ -42,6 +43,23 @@ pub of_session-pass : (q : ℕ) (row : PipeRow) (rows : List PipeRow) → (row.s
 of_session-pass q row rows h =
     of_session-append q rows (row ∷ []) ∙ ap (λ xs. of_session q rows ++ xs) (of_session-other q row h) ∙ append-nil (of_session q rows)
 
+-- a row of the last session may stand at the end
+AreRising-push : (session : ℕ) (rows : List PipeRow) (row : PipeRow) → row.session ≡ session → AreRising session rows → AreRising session (rows ++ row ∷ [])
+AreRising-push session rows row e r = record {
+  in_order = all_pairs_push (λ a b. a.session ≤ b.session) rows row r.in_order (λ k d lt. rw e (r.none_later k d lt));
+  none_later = All-append (λ x. x.session ≤ session) rows (row ∷ []) r.none_later (only row session e);
+}
+  where
+    only : (row : PipeRow) (session : ℕ) → row.session ≡ session → All (λ x. x.session ≤ session) (row ∷ [])
+    only row session e zero d lt = omega (arith, e)
+    only row session e (suc k) d lt = absurd (omega (arith, lt))
+
+AreRising-later : (session : ℕ) (rows : List PipeRow) → AreRising session rows → AreRising (session + 1) rows
+AreRising-later session rows r = record {
+  in_order = r.in_order;
+  none_later = λ k d lt. omega (arith, r.none_later k d lt);
+}
+
 -- the rows of the present session after a push
 pub Present-push : (session from : ℕ) (rows : List PipeRow) (row : PipeRow) → row.session ≡ session
     → Present session from rows → Present session from (rows ++ row ∷ [])
@@ -54,6 +72,7 @@ Present-push session from rows row e p = record {
       ∙ sym (map-append (λ r. r.entry) (drop from rows) (row ∷ []))
       ∙ ap (map (λ r. r.entry)) (sym (drop-append-le from rows (row ∷ []) p.within)));
   none_later = λ q h. of_session-pass q row rows (λ f. absurd (search (arith, e, f, h))) ∙ p.none_later q h;
+  rising = AreRising-push session rows row e p.rising;
 }
 
 -- a session that has not begun has no rows
@@ -63,6 +82,7 @@ Present-renew session from rows p = record {
   within = omega arith;
   entries = p.none_later (session + 1) (omega arith) ∙ ap (map (λ r. r.entry)) (sym (drop_of_length-le rows (le_refl (length rows))));
   none_later = λ q h. p.none_later q (omega (arith, h));
+  rising = AreRising-later session rows p.rising;
 }
 
 -- no more is taken than was sent
@@ -123,7 +143,12 @@ Handed-of sent taken n q h =
 
 pub Present-none : (session : ℕ) → Present session 0 []
 unfolding of_session
-Present-none session = record { within = omega arith; entries = refl; none_later = λ q h. refl }
+Present-none session = record {
+  within = omega arith;
+  entries = refl;
+  none_later = λ q h. refl;
+  rising = record { in_order = λ i j d lt within. absurd (omega (arith, within)); none_later = λ k d lt. absurd (omega (arith, lt)) };
+}
 
 pub HandsOver-none : (n : ℕ) → HandsOver [] [] n
 unfolding of_session

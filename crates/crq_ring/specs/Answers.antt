@@ -1,4 +1,4 @@
--- What is said of each answer of a queue.
+-- What is said of one answer of a queue.
 use Rattle.std.specs.Prelude.{ℕ}
 use Rattle.vio_num.specs.declared.entry.Entry.{Entry}
 use Rattle.crq_ring.specs.declared.port.Put.{Put}
@@ -6,12 +6,22 @@ use Rattle.crq_ring.specs.declared.port.Put.TheVariants.{Done, Dropped}
 use Rattle.crq_ring.specs.declared.port.Poll.{Poll}
 use Rattle.crq_ring.specs.declared.port.Poll.TheVariants.{Got, Empty}
 
--- P of the number where the entry was put, Q of the number and what was held where it was dropped
-abbrev pub MatchPut : Put → (ℕ → Type 0) → (ℕ → ℕ → Type 0) → Type 0
-MatchPut (Done number) P Q = P number
-MatchPut (Dropped number held) P Q = Q number held
+-- where the entry was put: P of its number
+abbrev pub IfDone : Put → (ℕ → Type 0) → Type 0
+IfDone (Done number) P = P number
+IfDone (Dropped number held) P = Unit {0}
 
--- P of the number and the entry that was taken, Q of the number at which nothing was found
-abbrev pub MatchPoll : Poll → (ℕ → Entry → Type 0) → (ℕ → Type 0) → Type 0
-MatchPoll (Got number entry) P Q = P number entry
-MatchPoll (Empty number) P Q = Q number
+-- where it found its slot full: P of its number and of what lay there
+abbrev pub IfDropped : Put → (ℕ → ℕ → Type 0) → Type 0
+IfDropped (Done number) P = Unit {0}
+IfDropped (Dropped number held) P = P number held
+
+-- where an entry was taken: P of its number and of the entry
+abbrev pub IfGot : Poll → (ℕ → Entry → Type 0) → Type 0
+IfGot (Got number entry) P = P number entry
+IfGot (Empty number) P = Unit {0}
+
+-- where nothing was found: P of the number of the next entry
+abbrev pub IfEmpty : Poll → (ℕ → Type 0) → Type 0
+IfEmpty (Got number entry) P = Unit {0}
+IfEmpty (Empty number) P = P number

@@ -1,4 +1,5 @@
 pub mod Answers
 pub mod Kept
 pub mod Pipe
+pub mod Port
 pub mod Sessions

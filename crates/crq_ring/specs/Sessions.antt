@@ -31,3 +31,8 @@ NotAfter a b = (a.session ≤ b.session) × (a.session ≡ b.session → a.numbe
 pub record LawfulDrops (sent : List PipeRow) (drops : List DropRow) (n : ℕ) : Type 0 where
   pub lawful : All (λ row. LawfulDrop (of_session row.session sent) n row.number row.held) drops
   pub in_order : AllPairs Precedes drops
+
+-- Rows stand in rising order of their sessions, and none is of a session behind the last.
+pub record AreRising (last : ℕ) (rows : List PipeRow) : Type 0 where
+  pub in_order : AllPairs (λ a b. a.session ≤ b.session) rows
+  pub none_later : All (λ row. row.session ≤ last) rows

@@ -3,7 +3,6 @@
 #![tactic(auto)]
 
 mod pipe;
-mod plain;
 mod port;
 mod records;
 mod rows;

@@ -1,6 +1,5 @@
 // A queue that is filled, drained and renewed, and the trait through its bound.
-ghost use Rattle.std.specs.Prelude.{◌≡◌, ◌<◌, ◌≤◌, ◌^◌};
-ghost use Rattle.crq_ring.specs.Pipe.{session_of};
+ghost use Rattle.std.specs.Prelude.{◌≡◌, ◌<◌, ◌≤◌, ◌^◌, true};
 
 use crate::pipe::PlainPipe;
 use crate::port::{CrqPort, Poll, Put};
@@ -18,16 +17,16 @@ fn entry(k: u32) -> Entry
 }
 
 fn put(pipe: &mut PlainPipe, k: u32) -> Result<Put, Fail>
-    requires { 0 < session_of pipe.old }
-    ensures { session_of pipe.new ≡ session_of pipe.old }
+    requires { 0 < pipe.old.session }
+    ensures { pipe.new.session ≡ pipe.old.session }
 {
     pipe.reserve(1)?;
     Ok(pipe.put(entry(k)))
 }
 
 fn poll(pipe: &mut PlainPipe) -> Result<Poll, Fail>
-    requires { 0 < session_of pipe.old }
-    ensures { session_of pipe.new ≡ session_of pipe.old }
+    requires { 0 < pipe.old.session }
+    ensures { pipe.new.session ≡ pipe.old.session }
 {
     pipe.reserve(1)?;
     Ok(pipe.poll())
@@ -109,11 +108,11 @@ fn sessions_of_a_queue(rt: HostRuntime) -> Result<(), Fail> {
 
 /// Puts an entry and takes it again.
 fn pass<P: CrqPort>(port: &mut P, entry: Entry) -> (Put, Poll)
-    requires begun { 0 < P.session port.old }
-    requires puts { 0 < P.spare_puts port.old }
-    requires polls { 0 < P.spare_polls port.old }
+    requires ready { (P.state port.old).ready ≡ true }
+    requires puts { 0 < (P.state port.old).spare_puts }
+    requires polls { 0 < (P.state port.old).spare_polls }
     requires used { 2 ^ 63 ≤ entry.high }
-    ensures { P.session port.new ≡ P.session port.old }
+    ensures { (P.state port.new).ready ≡ true }
 {
     let put = port.put(entry);
     let poll = port.poll();
