@@ -1,137 +1,81 @@
--- The calls of a side, on itself and its partner: when each answer comes, and what it leaves.
-use Rattle.std.specs.Prelude.{◌≡◌, ℕ, ◌+◌, ◌<◌, ◌≤◌, true, false, None, IsSome, IfSome, MatchBool, MatchOption, length, slice_index}
+-- The calls of an end on its own side and its partner's, whatever the borrows and the side of the link.
+use Rattle.std.specs.Prelude.{◌≡◌, ◌↔◌, ℕ, ◌<◌, ◌≤◌, true, false}
 use Rattle.vio_num.specs.declared.entry.Entry.{Entry}
-use Rattle.vio_num.specs.Counts.{Rose}
-use Rattle.vio_num.specs.Entry.{entry_bytes}
-use Rattle.crq_ring.specs.Pipe.{slots_of, session_of, sent_now, put_room, poll_room, renew_room, times_full, times_empty}
+use Rattle.vio_num.specs.Entry.{first_byte}
 use Rattle.crq_session.specs.declared.answers.RegAnswer.{RegAnswer}
+use Rattle.crq_session.specs.declared.answers.RegAnswer.TheVariants as reg
 use Rattle.crq_session.specs.declared.answers.FreeAnswer.{FreeAnswer}
+use Rattle.crq_session.specs.declared.answers.FreeAnswer.TheVariants as freeing
 use Rattle.crq_session.specs.declared.answers.SendAnswer.{SendAnswer}
+use Rattle.crq_session.specs.declared.answers.SendAnswer.TheVariants as sending
 use Rattle.crq_session.specs.declared.answers.PollAnswer.{PollAnswer}
+use Rattle.crq_session.specs.declared.answers.PollAnswer.TheVariants as polling
 use Rattle.crq_session.specs.declared.answers.EventAnswer.{EventAnswer}
 use Rattle.crq_session.specs.declared.side.PlainSide.{PlainSide}
-use Rattle.crq_session.specs.Answers.{MatchReg, MatchFree, MatchSend, MatchPolled, MatchEvent}
-use Rattle.crq_session.specs.Control.{FitsQueue, control_word}
-use Rattle.crq_session.specs.Pipes.{Receives, Drops, Takes, FindsNone, Renews, PutsKept, PutsEvent}
-use Rattle.crq_session.specs.Side.{queue_of, is_open, kept_of, times_closed, KeepsState}
+use Rattle.crq_session.specs.Answers.{OnOpened, OnBoth, IfAlone, IfHeldUp, OnNotRegistered}
+use Rattle.crq_session.specs.Answers.{OnFreed, OnNotFreed, IfInUse, OnNothing, OnPut, IfKept}
+use Rattle.crq_session.specs.Answers.{IfSent, OnNotSent, IfClosed, IfDropped, IfGot, IfEmpty, OnNotPolled}
+use Rattle.crq_session.specs.Answered.{Sends, TurnsBack, Drops, Takes, FindsNone, Opens, FindsClosed}
+use Rattle.crq_session.specs.Answered.{HoldsUp, Frees, Pushes, PushesNone, StillKept}
+use Rattle.crq_session.specs.Control.{fits_queue}
+use Rattle.crq_session.specs.EndState.{OnlyReserves, OnlyRegisters, OnlyFrees, OnlySends, OnlyTakes, OnlyPushes}
+use Rattle.crq_session.specs.Side.{At, Spends, KeepsPartner}
 
--- A poll: the next entry of the own queue, where that is registered.
-pub record Polls (own : PlainSide) (answer : PollAnswer) (own' : PlainSide) : Type 0 where
-  pub registered : MatchPolled answer (λ _ _. is_open own ≡ true) (λ _. is_open own ≡ true) (is_open own ≡ false)
-  pub own_queue : MatchPolled answer
-      (λ number entry. Takes (queue_of own) number entry (queue_of own'))
-      (λ number. FindsNone (queue_of own) number (queue_of own')) (queue_of own' ≡ queue_of own)
-  pub state : KeepsState own own'
-  pub empty_later : times_empty (queue_of own) ≤ times_empty (queue_of own')
-  pub poll_room : poll_room (queue_of own) ≤ poll_room (queue_of own') + 1
-  pub renew_room : renew_room (queue_of own') ≡ renew_room (queue_of own)
+pub record IsSend (own partner : PlainSide) (entry : Entry) (answer : SendAnswer) (own' partner' : PlainSide) : Type 0 where
+  pub parameter : (answer ≡ sending.Parameter) ↔ (first_byte entry < 0x80)
+  pub not_registered : (answer ≡ sending.NotRegistered) ↔ ((0x80 ≤ first_byte entry) × (own.registered ≡ false))
+  pub success : At (λ old new. IfSent answer (λ number. Sends false old number entry new))
+      own partner own' partner'
+  pub closed : At (λ old new. IfClosed answer (λ word. TurnsBack false old entry word new))
+      own partner own' partner'
+  pub dropped : At (λ old new. IfDropped answer (λ number held. Drops false old entry number held new))
+      own partner own' partner'
+  pub refused : At (λ old new. OnNotSent answer (OnlyReserves old new)) own partner own' partner'
+  pub rest : At (λ old new. OnlySends false old new) own partner own' partner'
+  pub room : Spends own partner own' partner'
+  pub keeps : KeepsPartner own partner own' partner'
 
--- A send: the tests in their order, and then a put into the partner's queue.
-pub record Sends (own partner : PlainSide) (entry : Entry) (answer : SendAnswer) (own' partner' : PlainSide) : Type 0 where
-  pub parameter : MatchSend answer
-      (λ _. 0x80 ≤ slice_index (entry_bytes entry) 0) (slice_index (entry_bytes entry) 0 < 0x80)
-      (0x80 ≤ slice_index (entry_bytes entry) 0) (λ _. 0x80 ≤ slice_index (entry_bytes entry) 0)
-      (λ _ _. 0x80 ≤ slice_index (entry_bytes entry) 0)
-  pub not_registered : MatchSend answer
-      (λ _. is_open own ≡ true) (Unit {0}) (is_open own ≡ false) (λ _. is_open own ≡ true)
-      (λ _ _. is_open own ≡ true)
-  pub partner_closed : MatchSend answer
-      (λ _. is_open partner ≡ true) (Unit {0}) (Unit {0})
-      (λ word. (is_open partner ≡ false) × (word ≡ control_word (session_of (queue_of partner)) false false))
-      (λ _ _. is_open partner ≡ true)
-  pub number : MatchSend answer
-      (λ number. number ≡ length (sent_now (queue_of partner))) (Unit {0}) (Unit {0}) (λ _. Unit {0})
-      (λ _ _. Unit {0})
-  pub partner_queue : MatchSend answer
-      (λ _. Receives (queue_of partner) entry (queue_of partner')) (queue_of partner' ≡ queue_of partner)
-      (queue_of partner' ≡ queue_of partner) (λ _. queue_of partner' ≡ queue_of partner)
-      (λ number held. Drops (queue_of partner) number held (queue_of partner'))
-  pub closed : MatchSend answer
-      (λ _. times_closed own' ≡ times_closed own) (times_closed own' ≡ times_closed own)
-      (times_closed own' ≡ times_closed own) (λ _. Rose (times_closed own) (times_closed own'))
-      (λ _ _. times_closed own' ≡ times_closed own)
-  pub own_queue : queue_of own' ≡ queue_of own
-  pub registered : is_open own' ≡ is_open own
-  pub kept : kept_of own' ≡ kept_of own
-  pub partner_state : KeepsState partner partner'
-  pub closed_later : times_closed own ≤ times_closed own'
-  pub full_later : times_full (queue_of partner) ≤ times_full (queue_of partner')
-  pub put_room : put_room (queue_of partner) ≤ put_room (queue_of partner') + 1
+pub record IsPoll (own partner : PlainSide) (answer : PollAnswer) (own' partner' : PlainSide) : Type 0 where
+  pub not_registered : (answer ≡ polling.NotRegistered) ↔ (own.registered ≡ false)
+  pub got : At (λ old new. IfGot answer (λ number entry. Takes false old number entry new))
+      own partner own' partner'
+  pub empty : At (λ old new. IfEmpty answer (λ number. FindsNone false old number new))
+      own partner own' partner'
+  pub refused : At (λ old new. OnNotPolled answer (OnlyReserves old new)) own partner own' partner'
+  pub rest : At (λ old new. OnlyTakes false old new) own partner own' partner'
+  pub room : Spends own partner own' partner'
+  pub keeps : KeepsPartner own partner own' partner'
 
--- The kept event is put first of all that its side puts: it is lost where the partner's queue is not
--- registered, and kept on where its slot is full.
-pub record Pushes (own partner : PlainSide) (answer : EventAnswer) (own' partner' : PlainSide) : Type 0 where
-  pub cause : MatchEvent answer
-      (IsSome (kept_of own) → is_open partner ≡ false) (IsSome (kept_of own) × (is_open partner ≡ true))
-      (λ _ _. IsSome (kept_of own) × (is_open partner ≡ true))
-  pub partner_queue : MatchEvent answer
-      (queue_of partner' ≡ queue_of partner)
-      (IfSome (kept_of own) (λ event. Receives (queue_of partner) event (queue_of partner')))
-      (λ number held. Drops (queue_of partner) number held (queue_of partner'))
-  pub kept_put : MatchEvent answer
-      (is_open partner ≡ true → PutsKept (kept_of own) (queue_of partner) (queue_of partner'))
-      (PutsKept (kept_of own) (queue_of partner) (queue_of partner')) (λ _ _. Unit {0})
-  pub kept : MatchEvent answer (kept_of own' ≡ None) (kept_of own' ≡ None) (λ _ _. kept_of own' ≡ kept_of own)
-  pub closed : MatchEvent answer
-      (MatchOption (kept_of own) (times_closed own' ≡ times_closed own) (λ _. Rose (times_closed own) (times_closed own')))
-      (times_closed own' ≡ times_closed own) (λ _ _. times_closed own' ≡ times_closed own)
-  pub closed_open : is_open partner ≡ true → times_closed own' ≡ times_closed own
-  pub closed_later : times_closed own ≤ times_closed own'
-  pub own_queue : queue_of own' ≡ queue_of own
-  pub registered : is_open own' ≡ is_open own
-  pub partner_state : KeepsState partner partner'
-  pub full_later : times_full (queue_of partner) ≤ times_full (queue_of partner')
-  pub put_room : put_room (queue_of partner) ≤ put_room (queue_of partner') + 1
+pub record IsPush (own partner : PlainSide) (answer : EventAnswer) (own' partner' : PlainSide) : Type 0 where
+  pub nothing : At (λ old new. OnNothing answer (PushesNone false old new))
+      own partner own' partner'
+  pub put : At (λ old new. OnPut answer (Pushes false old new)) own partner own' partner'
+  pub still : At (λ old new. IfKept answer (λ number held. StillKept false old number held new))
+      own partner own' partner'
+  pub rest : At (λ old new. OnlyPushes false old new) own partner own' partner'
+  pub room : Spends own partner own' partner'
+  pub keeps : KeepsPartner own partner own' partner'
 
--- A registration: the tests in their order, then the kept event, then a new session without entries.
-pub record Registers (own partner : PlainSide) (ioba bytes : ℕ) (answer : RegAnswer) (own' partner' : PlainSide) : Type 0 where
-  pub parameter : MatchReg answer
-      (FitsQueue (slots_of (queue_of own)) ioba bytes) (λ _. (FitsQueue (slots_of (queue_of own)) ioba bytes))
-      ((FitsQueue (slots_of (queue_of own)) ioba bytes) → ⊥) (FitsQueue (slots_of (queue_of own)) ioba bytes)
-      (λ _ _. (FitsQueue (slots_of (queue_of own)) ioba bytes))
-  pub resource : MatchReg answer
-      (is_open own ≡ false) (λ _. is_open own ≡ false) (Unit {0}) (is_open own ≡ true) (λ _ _. is_open own ≡ false)
-  pub partner_closed : MatchReg answer
-      (is_open partner ≡ true)
-      (λ word. (is_open partner ≡ false) × (word ≡ control_word (session_of (queue_of partner)) false false))
-      (Unit {0}) (Unit {0}) (λ _ _. IsSome (kept_of own) × (is_open partner ≡ true))
-  pub own_queue : MatchReg answer
-      (Renews (queue_of own) (queue_of own')) (λ _. Renews (queue_of own) (queue_of own'))
-      (queue_of own' ≡ queue_of own) (queue_of own' ≡ queue_of own) (λ _ _. queue_of own' ≡ queue_of own)
-  pub partner_queue : MatchReg answer
-      (PutsKept (kept_of own) (queue_of partner) (queue_of partner')) (λ _. queue_of partner' ≡ queue_of partner)
-      (queue_of partner' ≡ queue_of partner) (queue_of partner' ≡ queue_of partner)
-      (λ number held. Drops (queue_of partner) number held (queue_of partner'))
-  pub registered : MatchReg answer
-      (is_open own' ≡ true) (λ _. is_open own' ≡ true) (is_open own' ≡ is_open own) (is_open own' ≡ true)
-      (λ _ _. is_open own' ≡ false)
-  pub kept : MatchReg answer
-      (kept_of own' ≡ None) (λ _. kept_of own' ≡ None) (kept_of own' ≡ kept_of own) (kept_of own' ≡ kept_of own)
-      (λ _ _. kept_of own' ≡ kept_of own)
-  pub closed : MatchReg answer
-      (times_closed own' ≡ times_closed own) (λ _. Rose (times_closed own) (times_closed own'))
-      (times_closed own' ≡ times_closed own) (times_closed own' ≡ times_closed own)
-      (λ _ _. times_closed own' ≡ times_closed own)
-  pub closed_later : times_closed own ≤ times_closed own'
-  pub partner_state : KeepsState partner partner'
-  pub full_later : times_full (queue_of partner) ≤ times_full (queue_of partner')
-  pub put_room : put_room (queue_of partner) ≤ put_room (queue_of partner') + 1
-  pub poll_room : poll_room (queue_of own) ≤ poll_room (queue_of own')
-  pub renew_room : renew_room (queue_of own) ≤ renew_room (queue_of own') + 1
+pub record IsRegistration (own partner : PlainSide) (ioba bytes : ℕ) (answer : RegAnswer) (own' partner' : PlainSide) : Type 0 where
+  pub parameter : (answer ≡ reg.Parameter) ↔ (fits_queue own.queue.slots ioba bytes ≡ false)
+  pub resource : (answer ≡ reg.Resource) ↔ ((fits_queue own.queue.slots ioba bytes ≡ true) × (own.registered ≡ true))
+  pub opened : At (λ old new. OnOpened answer (Opens false old new)) own partner own' partner'
+  pub success : OnBoth answer (partner.registered ≡ true)
+  pub closed : At (λ old new. IfAlone answer (λ word. FindsClosed false old word new))
+      own partner own' partner'
+  pub busy : At (λ old new. IfHeldUp answer (λ number held. HoldsUp false old number held new))
+      own partner own' partner'
+  pub refused : At (λ old new. OnNotRegistered answer (OnlyReserves old new))
+      own partner own' partner'
+  pub rest : At (λ old new. OnlyRegisters false old new) own partner own' partner'
+  pub room : Spends own partner own' partner'
+  pub keeps : KeepsPartner own partner own' partner'
 
--- A free: the session is closed, and the event goes to the partner.
-pub record Frees (own partner : PlainSide) (event : Entry) (answer : FreeAnswer) (own' partner' : PlainSide) : Type 0 where
-  pub parameter : MatchFree answer (is_open own ≡ true) (is_open own ≡ false) (λ _. ⊥)
-  pub registered : is_open own' ≡ false
-  pub partner_queue : MatchFree answer
-      (PutsEvent (is_open partner) event (queue_of partner) (queue_of partner') (kept_of own'))
-      (queue_of partner' ≡ queue_of partner) (λ _. ⊥)
-  pub kept : MatchFree answer (Unit {0}) (kept_of own' ≡ kept_of own) (λ _. ⊥)
-  pub closed : MatchFree answer
-      (MatchBool (is_open partner) (times_closed own' ≡ times_closed own) (Rose (times_closed own) (times_closed own')))
-      (times_closed own' ≡ times_closed own) (λ _. ⊥)
-  pub closed_later : times_closed own ≤ times_closed own'
-  pub own_queue : queue_of own' ≡ queue_of own
-  pub partner_state : KeepsState partner partner'
-  pub full_later : times_full (queue_of partner) ≤ times_full (queue_of partner')
-  pub put_room : put_room (queue_of partner) ≤ put_room (queue_of partner') + 1
+pub record IsFree (own partner : PlainSide) (event : Entry) (answer : FreeAnswer) (own' partner' : PlainSide) : Type 0 where
+  pub parameter : (answer ≡ freeing.Parameter) ↔ (own.registered ≡ false)
+  pub success : At (λ old new. OnFreed answer (Frees false old event new)) own partner own' partner'
+  pub busy : IfInUse answer (λ _. ⊥)
+  pub refused : At (λ old new. OnNotFreed answer (OnlyReserves old new)) own partner own' partner'
+  pub rest : At (λ old new. OnlyFrees false old new) own partner own' partner'
+  pub room : Spends own partner own' partner'
+  pub keeps : KeepsPartner own partner own' partner'

@@ -1,10 +1,10 @@
 -- The initialisation of a queue (LoPAR, "CRQ Initialization"): the table of its machine, by the kind of
 -- an entry that comes and its byte 1.
-use Rattle.std.specs.Prelude.{ℕ, ◌==◌, ◌||◌, Option, Some, None, slice_index, if◌then◌else◌}
+use Rattle.std.specs.Prelude.{ℕ, ◌==◌, ◌||◌, Option, Some, None, if◌then◌else◌}
 use Rattle.vio_num.specs.declared.entry.Entry.{Entry}
 use Rattle.vio_num.specs.declared.entry.Kind.{Kind}
 use Rattle.vio_num.specs.declared.entry.Kind.TheVariants.{Init, Event}
-use Rattle.vio_num.specs.Entry.{entry_bytes, kind_of}
+use Rattle.vio_num.specs.Entry.{entry_format, first_byte, kind_of, initialize, initialization_complete}
 use Rattle.crq_session.specs.declared.handshake.Handshake.{Handshake}
 use Rattle.crq_session.specs.declared.handshake.Handshake.TheVariants.{Waiting, Up}
 use Rattle.crq_session.specs.declared.handshake.Step.{Step}
@@ -23,13 +23,13 @@ step_by Up Init byte = if byte == 0x01 then SendComplete else Nothing
 step_by state kind byte = Nothing
 
 abbrev pub state_after : Handshake → Entry → Handshake
-state_after state entry = state_by state (kind_of (slice_index (entry_bytes entry) 0)) (slice_index (entry_bytes entry) 1)
+state_after state entry = state_by state (kind_of (first_byte entry)) (entry_format entry)
 
 abbrev pub step_after : Handshake → Entry → Step
-step_after state entry = step_by state (kind_of (slice_index (entry_bytes entry) 0)) (slice_index (entry_bytes entry) 1)
+step_after state entry = step_by state (kind_of (first_byte entry)) (entry_format entry)
 
 -- the entry that a step sends
 abbrev pub step_entry : Step → Option Entry
 step_entry Nothing = None
-step_entry SendInitialize = Some (record { high = 0xC001_0000_0000_0000; low = 0 })
-step_entry SendComplete = Some (record { high = 0xC002_0000_0000_0000; low = 0 })
+step_entry SendInitialize = Some initialize
+step_entry SendComplete = Some initialization_complete

@@ -1,8 +1,8 @@
+pub mod Answered
 pub mod Answers
 pub mod Calls
 pub mod Control
-pub mod End
+pub mod EndState
 pub mod Handshake
-pub mod Link
-pub mod Pipes
+pub mod PlainState
 pub mod Side

@@ -1,43 +1,92 @@
--- What contracts see of one side of a plain link.
-use Rattle.std.specs.Prelude.{◌≡◌, ℕ, ◌≤◌, Bool, false, Option, None}
+-- What contracts see of one side of a plain link, and of an end between two sides.
+use Rattle.std.specs.Prelude.{◌≡◌, ℕ, ◌+◌, ◌≤◌, Bool, false, List, Option, Some, None, min}
+use Rattle.std.specs.Borrow.{GName}
 use Rattle.vio_num.specs.declared.entry.Entry.{Entry}
-use Rattle.crq_ring.specs.declared.pipe.PlainPipe.{PlainPipe}
-use Rattle.crq_ring.specs.Pipe.{IsEmptyPipe, KeepsRows, put_room, poll_room, renew_room}
+use Rattle.crq_ring.specs.Pipe.{IsEmptyPipe, OnlyReserves}
+use Rattle.crq_session.specs.declared.answers.EventAnswer.{EventAnswer}
+use Rattle.crq_session.specs.declared.answers.EventAnswer.TheVariants.{Kept}
 use Rattle.crq_session.specs.declared.side.PlainSide.{PlainSide}
+use Rattle.crq_session.specs.EndState.{EndState}
 
--- the queue from which this side polls
-abbrev pub queue_of : PlainSide → PlainPipe
-queue_of side = side.queue
+-- the calls for which room is reserved, of whatever kind they are
+unfoldable pub spare_of : PlainSide → PlainSide → ℕ
+spare_of own partner = min partner.queue.room.puts (min own.queue.room.polls own.queue.room.renewals)
 
--- whether that queue is registered
-abbrev pub is_open : PlainSide → Bool
-is_open side = side.registered
+-- the end that has this side for its own
+abbrev pub end_over : List GName → Bool → PlainSide → PlainSide → EndState
+end_over lenders first own partner = record {
+  place = record {
+    lenders = lenders;
+    first = first;
+    own_slots = own.queue.slots;
+    partner_slots = partner.queue.slots;
+    received = own.queue.sent;
+    received_drops = own.queue.drops;
+    partner_taken = partner.queue.taken;
+    partner_registered = partner.registered;
+    partner_kept = partner.kept;
+    partner_counts = record {
+      full = own.queue.counts.full;
+      empty = partner.queue.counts.empty;
+      closed = partner.closed;
+    };
+  };
+  last_session = own.queue.session;
+  registered = own.registered;
+  kept = own.kept;
+  sent = partner.queue.sent;
+  drops = partner.queue.drops;
+  taken = own.queue.taken;
+  counts = record {
+    partner_session = partner.queue.session;
+    full = partner.queue.counts.full;
+    empty = own.queue.counts.empty;
+    closed = own.closed;
+    in_use = 0;
+  };
+  spare = spare_of own partner;
+}
 
--- the event of this side that found the partner's queue full
-abbrev pub kept_of : PlainSide → Option Entry
-kept_of side = side.kept
+-- A call between two sides, as an end sees it, whatever the borrows and the side of the link.
+abbrev pub At : (EndState → EndState → Type 0) → PlainSide → PlainSide → PlainSide → PlainSide → Type 0
+At P own partner own' partner' =
+    (lenders : List GName) (first : Bool) → P (end_over lenders first own partner) (end_over lenders first own' partner')
 
--- how often this side read the partner's control word and found it not open
-abbrev pub times_closed : PlainSide → ℕ
-times_closed side = side.closed
-
--- a side whose queue has so many slots, before its first session
+-- A side whose queue has this many slots, before its first session.
 pub record IsNewSide (side : PlainSide) (slots : ℕ) : Type 0 where
-  pub queue : IsEmptyPipe (queue_of side) slots 0
-  pub unregistered : is_open side ≡ false
-  pub kept : kept_of side ≡ None
-  pub never : times_closed side ≡ 0
+  pub queue : IsEmptyPipe side.queue slots 0
+  pub unregistered : side.registered ≡ false
+  pub kept : side.kept ≡ None
+  pub never : side.closed ≡ 0
 
--- all but the queue is as before
-pub record KeepsState (old new : PlainSide) : Type 0 where
-  pub registered : is_open new ≡ is_open old
-  pub kept : kept_of new ≡ kept_of old
-  pub closed : times_closed new ≡ times_closed old
+-- Nothing changed but the room, and there is no less of it.
+pub record OnlyReservesSide (old new : PlainSide) : Type 0 where
+  pub queue : OnlyReserves old.queue new.queue
+  pub registered : new.registered ≡ old.registered
+  pub kept : new.kept ≡ old.kept
+  pub closed : new.closed ≡ old.closed
 
--- all but the room is as before, and there is no less of it
-pub record KeepsAll (old new : PlainSide) : Type 0 where
-  pub rows : KeepsRows (queue_of old) (queue_of new)
-  pub state : KeepsState old new
-  pub put_room : put_room (queue_of old) ≤ put_room (queue_of new)
-  pub poll_room : poll_room (queue_of old) ≤ poll_room (queue_of new)
-  pub renew_room : renew_room (queue_of old) ≤ renew_room (queue_of new)
+-- An event is kept where it found its slot full, and only there.
+abbrev pub IsKeptBy : EventAnswer → Entry → Option Entry → Type 0
+IsKeptBy (Kept number held) event kept = kept ≡ Some event
+IsKeptBy _ event kept = kept ≡ None
+
+-- where no event is kept any more: P
+abbrev pub OnNotKept : EventAnswer → Type 0 → Type 0
+OnNotKept (Kept number held) P = Unit {0}
+OnNotKept _ P = P
+
+-- A call used up the room of one call at most.
+pub record Spends (own partner own' partner' : PlainSide) : Type 0 where
+  pub puts : partner.queue.room.puts ≤ partner'.queue.room.puts + 1
+  pub polls : own.queue.room.polls ≤ own'.queue.room.polls + 1
+  pub renewals : own.queue.room.renewals ≤ own'.queue.room.renewals + 1
+
+-- What only the partner's own calls change is as before, and there is no less of its room.
+pub record KeepsPartner (own partner own' partner' : PlainSide) : Type 0 where
+  pub full : own'.queue.counts.full ≡ own.queue.counts.full
+  pub empty : partner'.queue.counts.empty ≡ partner.queue.counts.empty
+  pub closed : partner'.closed ≡ partner.closed
+  pub puts : own.queue.room.puts ≤ own'.queue.room.puts
+  pub polls : partner.queue.room.polls ≤ partner'.queue.room.polls
+  pub renewals : partner.queue.room.renewals ≤ partner'.queue.room.renewals

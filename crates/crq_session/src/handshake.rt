@@ -77,14 +77,8 @@ impl Step {
     {
         match self {
             Step::Nothing => None,
-            Step::SendInitialize => Some(Entry {
-                high: 0xC001_0000_0000_0000,
-                low: 0,
-            }),
-            Step::SendComplete => Some(Entry {
-                high: 0xC002_0000_0000_0000,
-                low: 0,
-            }),
+            Step::SendInitialize => Some(Entry::INITIALIZE),
+            Step::SendComplete => Some(Entry::INITIALIZATION_COMPLETE),
         }
     }
 }

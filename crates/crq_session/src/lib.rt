@@ -2,20 +2,24 @@
 // and initialisation. The calls of an end are a trait; the plain form serves one thread.
 #![tactic(auto)]
 
+/// The slots of a queue page, each for an entry of 16 bytes.
+pub const PAGE_SLOTS: u32 = 256;
+
+/// The slots of the largest queue, which has 16 pages.
+pub const MAX_SLOTS: u32 = 4096;
+
 mod answers;
 mod end;
 mod handshake;
 mod link;
-mod plain;
 mod plain_end;
 mod side;
-mod sides;
-mod steps;
 
 pub use answers::{EventAnswer, FreeAnswer, PollAnswer, RegAnswer, SendAnswer};
 pub use end::CrqEnd;
 pub use handshake::{Handshake, Step};
-pub use link::{PlainEnd, PlainLink};
+pub use link::PlainLink;
+pub use plain_end::PlainEnd;
 
 #[cfg(test)]
 mod tests;

@@ -1,87 +1,64 @@
-// A plain end as an end of a link.
-ghost use Rattle.crq_ring.specs.Pipe.{slots_of, session_of, sent_rows, taken_rows, drop_rows, times_full, times_empty};
-ghost use Rattle.crq_session.specs.Side.{queue_of, is_open, kept_of, times_closed};
-ghost use Rattle.crq_session.specs.Link.{own_of, partner_of, lender_of, is_first, sent_of, drops_of, taken_of, spare_of};
+// An end that a plain link lends: each call is that of its own side.
+ghost use Rattle.std.specs.Prelude.{◌≡◌, ◌∷◌, [], false};
 
 use crate::answers::{EventAnswer, FreeAnswer, PollAnswer, RegAnswer, SendAnswer};
 use crate::end::CrqEnd;
-use crate::link::PlainEnd;
+use crate::link::PlainLink;
 use vio_num::{Entry, NoMemory};
 
+/// A side of a link, as long as it borrows the link.
+#[derive(Drop)]
+pub struct PlainEnd<'a> {
+    pub(crate) link: &'a mut PlainLink,
+    pub(crate) first: bool,
+}
+
 impl CrqEnd for PlainEnd<'_> {
-    ghost lender = { lender_of };
+    ghost use Rattle.crq_session.specs.PlainState.{state_of};
 
-    ghost first = { is_first };
+    ghost is_shared = { false };
 
-    ghost own_slots = { λ end. slots_of (queue_of (own_of end)) };
-
-    ghost partner_slots = { λ end. slots_of (queue_of (partner_of end)) };
-
-    ghost last_session = { λ end. session_of (queue_of (own_of end)) };
-
-    ghost partner_session = { λ end. session_of (queue_of (partner_of end)) };
-
-    ghost registered = { λ end. is_open (own_of end) };
-
-    ghost kept = { λ end. kept_of (own_of end) };
-
-    ghost sent = { sent_of };
-
-    ghost drops = { drops_of };
-
-    ghost taken = { taken_of };
-
-    ghost received = { λ end. sent_rows (queue_of (own_of end)) };
-
-    ghost received_drops = { λ end. drop_rows (queue_of (own_of end)) };
-
-    ghost partner_taken = { λ end. taken_rows (queue_of (partner_of end)) };
-
-    ghost partner_registered = { λ end. is_open (partner_of end) };
-
-    ghost partner_kept = { λ end. kept_of (partner_of end) };
-
-    ghost spare = { spare_of };
-
-    ghost full = { λ end. times_full (queue_of (partner_of end)) };
-
-    ghost empty = { λ end. times_empty (queue_of (own_of end)) };
-
-    ghost closed = { λ end. times_closed (own_of end) };
+    ghost state = { state_of };
 
     fn slots(&self) -> u32 {
-        PlainEnd::slots(self)
+        if self.first {
+            self.link.first.slots()
+        } else {
+            self.link.second.slots()
+        }
     }
 
+    // The rows of both queues rise, so both sides are asked.
     fn session(&self) -> u64 {
-        PlainEnd::session(self)
+        let (first, second) = (self.link.first.session(), self.link.second.session());
+        if self.first { first } else { second }
     }
 
     fn reserve(&mut self, n: u32) -> Result<(), NoMemory> {
-        PlainEnd::reserve(self, n)
+        self.link.reserve(self.first, n)
     }
 
     fn register(&mut self, ioba: u64, length: u64) -> RegAnswer {
-        PlainEnd::register(self, ioba, length)
+        self.link.register(self.first, ioba, length)
     }
 
     fn free(&mut self) -> FreeAnswer {
-        PlainEnd::free(self)
+        self.link.free(self.first, Entry::PARTNER_FREED)
     }
 
     fn fail(&mut self) -> FreeAnswer {
-        PlainEnd::fail(self)
+        self.link.free(self.first, Entry::PARTNER_FAILED)
     }
 
     fn send(&mut self, entry: Entry) -> SendAnswer {
-        PlainEnd::send(self, entry)
+        self.link.send(self.first, entry)
     }
 
     fn poll(&mut self) -> PollAnswer {
-        PlainEnd::poll(self)
+        self.link.poll(self.first)
     }
 
     fn push_event(&mut self) -> EventAnswer {
-        PlainEnd::push_event(self)
+        self.link.push_event(self.first)
     }
 }

@@ -1,22 +1,308 @@
-// One side of a plain link: its queue, whether that is registered, and the event that it could not put.
-ghost use Rattle.std.specs.Prelude.{◌≡◌, ◌<◌, IsTrue, IsNone};
-ghost use Rattle.crq_ring.specs.Pipe.{slots_of, session_of};
+// One side of a plain link, and the calls of its end on it and on its partner's.
+ghost use Rattle.std.specs.Prelude.{◌≡◌, ◌<◌, IsTrue, IsNone, false};
+ghost use Rattle.crq_session.specs.Control.{IsQueueSize, fits_queue, control_word};
 
-use crq_ring::PlainPipe;
-use vio_num::Entry;
+use crate::PAGE_SLOTS;
+use crate::answers::{EventAnswer, FreeAnswer, PollAnswer, RegAnswer, SendAnswer};
+use crq_ring::{PlainPipe, Poll, Put};
+use std::alloc::Global;
+use vio_num::{Entry, NoMemory, PAGE_BYTES};
 
 /// One side of a plain link.
 #[derive(Debug, Drop)]
 pub(crate) struct PlainSide {
     /// The queue from which this side polls.
     pub(crate) queue: PlainPipe,
-    pub(crate) slots: u32,
-    pub(crate) registered: bool,
-    /// The event of this side that found the partner's queue full.
-    pub(crate) kept: Option<Entry>,
-    /// How often the partner's control word was read and was not open.
-    pub(crate) closed: u64,
-    ghost sized: { slots ≡ slots_of queue },
-    ghost begun: { IsTrue registered → 0 < session_of queue },
+    registered: bool,
+    // The event of this side that found the partner's queue full.
+    kept: Option<Entry>,
+    // How often the partner's control word was read and was not open.
+    closed: u64,
+    ghost sized: { IsQueueSize queue.slots },
+    ghost begun: { IsTrue registered → 0 < queue.session },
     ghost idle: { IsTrue registered → IsNone kept },
+}
+
+// Whether this is the address and the length in bytes of a queue of this many slots.
+fn is_of_queue(slots: u32, address: u64, bytes: u64) -> bool
+    ensures { result ≡ fits_queue slots address bytes }
+{
+    address % PAGE_BYTES == 0 && bytes == u64::from(slots / PAGE_SLOTS) * PAGE_BYTES
+}
+
+impl PlainSide {
+    ghost use Rattle.std.specs.Prelude.{◌↔◌, ◌+◌, ◌≤◌, Bool, true, false, None, List, IfOk, OnOk, IfSome, IfNone};
+    ghost use Rattle.vio_num.specs.Counts.{Rose};
+    ghost use Rattle.vio_num.specs.Entry.{first_byte};
+    ghost use Rattle.crq_ring.specs.Pipe.{IsLawfulPipe, HasRoom};
+    ghost use Rattle.crq_session.specs.declared.answers.RegAnswer.TheVariants as reg;
+    ghost use Rattle.crq_session.specs.declared.answers.FreeAnswer.TheVariants as freeing;
+    ghost use Rattle.crq_session.specs.declared.answers.SendAnswer.TheVariants as sending;
+    ghost use Rattle.crq_session.specs.declared.answers.PollAnswer.TheVariants as polling;
+    ghost use Rattle.crq_session.specs.Side.{IsNewSide, OnlyReservesSide, Spends, KeepsPartner};
+
+    /// A side whose queue has this many slots and is not registered.
+    pub(crate) fn open(alloc: Global, slots: u32) -> Result<PlainSide, NoMemory>
+        requires { IsQueueSize slots }
+        ensures { IfOk result (λ side. IsNewSide side slots) }
+    {
+        Ok(PlainSide {
+            queue: PlainPipe::closed(alloc, slots)?,
+            registered: false,
+            kept: None,
+            closed: 0,
+        })
+    }
+
+    /// The number of slots of the queue.
+    pub(crate) fn slots(&self) -> u32
+        ensures slots { result ≡ self.now.queue.slots }
+        ensures size { IsQueueSize result }
+    {
+        self.queue.slots()
+    }
+
+    /// The number of the queue's last session.
+    pub(crate) fn session(&self) -> u64
+        ensures session { result ≡ self.now.queue.session }
+        ensures laws { IsLawfulPipe self.now.queue }
+        ensures begun { self.now.registered ≡ true → 1 ≤ self.now.queue.session }
+        ensures idle { self.now.registered ≡ true → self.now.kept ≡ None }
+    {
+        self.queue.session()
+    }
+
+    /// Makes room for this many calls of each kind.
+    pub(crate) fn reserve(&mut self, partner: &mut PlainSide, n: u32) -> Result<(), NoMemory>
+        ensures own { OnOk result (HasRoom self.new.queue n) }
+        ensures partner { OnOk result (HasRoom partner.new.queue n) }
+        ensures own_rest { OnlyReservesSide self.old self.new }
+        ensures partner_rest { OnlyReservesSide partner.old partner.new }
+    {
+        self.queue.reserve(n)?;
+        partner.queue.reserve(n)
+    }
+
+    // Reads the partner's control word, and gives it where it is not open. No sender is ever inside.
+    fn closed_word(&mut self, partner: &PlainSide) -> Option<u64>
+        ensures none { IfNone result ((partner.now.registered ≡ true) × (self.new ≡ self.old)) }
+        ensures partner { IfSome result (λ _. partner.now.registered ≡ false) }
+        ensures word { IfSome result (λ word. word ≡ control_word partner.now.queue.session false false) }
+        ensures closed { IfSome result (λ _. Rose self.old.closed self.new.closed) }
+        ensures later { self.old.closed ≤ self.new.closed }
+        ensures queue { self.new.queue ≡ self.old.queue }
+        ensures registered { self.new.registered ≡ self.old.registered }
+        ensures kept { self.new.kept ≡ self.old.kept }
+    {
+        if partner.registered {
+            return None;
+        }
+        self.closed = self.closed.saturating_add(1);
+        Some(partner.queue.session() * 8)
+    }
+}
+
+impl PlainSide {
+    ghost use Rattle.std.specs.Prelude.{◌↔◌, ◌+◌, ◌≤◌, Bool, true, false, None, List};
+    ghost use Rattle.vio_num.specs.Entry.{first_byte};
+    ghost use Rattle.crq_session.specs.declared.answers.RegAnswer.TheVariants as reg;
+    ghost use Rattle.crq_session.specs.declared.answers.FreeAnswer.TheVariants as freeing;
+    ghost use Rattle.crq_session.specs.declared.answers.SendAnswer.TheVariants as sending;
+    ghost use Rattle.crq_session.specs.declared.answers.PollAnswer.TheVariants as polling;
+    ghost use Rattle.crq_session.specs.Answers.{OnOpened, OnBoth, IfAlone, IfHeldUp, OnNotRegistered};
+    ghost use Rattle.crq_session.specs.Answers.{OnFreed, OnNotFreed, IfInUse, OnNothing, OnPut, IfKept};
+    ghost use Rattle.crq_session.specs.Answers.{IfSent, OnNotSent, IfClosed, IfDropped, IfGot, IfEmpty, OnNotPolled};
+    ghost use Rattle.crq_session.specs.Answered.{Sends, TurnsBack, Drops, Takes, FindsNone, Opens, FindsClosed};
+    ghost use Rattle.crq_session.specs.Answered.{HoldsUp, Frees, Pushes, PushesNone, StillKept, Puts, Loses, FindsFull, Settles};
+    ghost use Rattle.crq_ring.specs.Pipe.{Renews};
+    ghost use Rattle.crq_session.specs.EndState.{OnlyReserves, OnlyRegisters, OnlyFrees, OnlySends, OnlyTakes, OnlyPushes};
+    ghost use Rattle.crq_session.specs.Side.{At, IsKeptBy, OnNotKept, Spends, KeepsPartner};
+
+    /// Sends an entry to the partner's queue.
+    pub(crate) fn send(&mut self, partner: &mut PlainSide, entry: Entry) -> SendAnswer
+        requires { 0 < partner.old.queue.room.puts }
+        ensures parameter { (result ≡ sending.Parameter) ↔ (first_byte entry < 0x80) }
+        ensures not_registered { (result ≡ sending.NotRegistered) ↔
+            ((0x80 ≤ first_byte entry) × (self.old.registered ≡ false)) }
+        ensures success { At (λ old new. IfSent result (λ number. Sends false old number entry new))
+            self.old partner.old self.new partner.new }
+        ensures closed { At (λ old new. IfClosed result (λ word. TurnsBack false old entry word new))
+            self.old partner.old self.new partner.new }
+        ensures dropped { At (λ old new. IfDropped result (λ number held. Drops false old entry number held new))
+            self.old partner.old self.new partner.new }
+        ensures refused { At (λ old new. OnNotSent result (OnlyReserves old new))
+            self.old partner.old self.new partner.new }
+        ensures rest { At (λ old new. OnlySends false old new)
+            self.old partner.old self.new partner.new }
+        ensures room { Spends self.old partner.old self.new partner.new }
+        ensures keeps { KeepsPartner self.old partner.old self.new partner.new }
+    {
+        if entry.to_bytes()[0] < 0x80 {
+            return SendAnswer::Parameter;
+        }
+        if !self.registered {
+            return SendAnswer::NotRegistered;
+        }
+        if let Some(control) = self.closed_word(partner) {
+            return SendAnswer::Closed { control };
+        }
+        match partner.queue.put(entry) {
+            Put::Done { number } => SendAnswer::Success { number },
+            Put::Dropped { number, held } => SendAnswer::Dropped { number, held },
+        }
+    }
+
+    /// Takes the next entry of the own queue.
+    pub(crate) fn poll(&mut self, partner: &mut PlainSide) -> PollAnswer
+        requires { 0 < self.old.queue.room.polls }
+        ensures not_registered { (result ≡ polling.NotRegistered) ↔ (self.old.registered ≡ false) }
+        ensures got { At (λ old new. IfGot result (λ number entry. Takes false old number entry new))
+            self.old partner.old self.new partner.new }
+        ensures empty { At (λ old new. IfEmpty result (λ number. FindsNone false old number new))
+            self.old partner.old self.new partner.new }
+        ensures refused { At (λ old new. OnNotPolled result (OnlyReserves old new))
+            self.old partner.old self.new partner.new }
+        ensures rest { At (λ old new. OnlyTakes false old new)
+            self.old partner.old self.new partner.new }
+        ensures room { Spends self.old partner.old self.new partner.new }
+        ensures keeps { KeepsPartner self.old partner.old self.new partner.new }
+    {
+        if !self.registered {
+            return PollAnswer::NotRegistered;
+        }
+        match self.queue.poll() {
+            Poll::Got { number, entry } => PollAnswer::Got { number, entry },
+            Poll::Empty { number } => PollAnswer::Empty { number },
+        }
+    }
+
+    // Puts an event of this side, which is not registered, into the partner's queue: it is kept where its
+    // slot is full, and lost where the partner's queue is not registered.
+    fn put_event(&mut self, partner: &mut PlainSide, event: Entry) -> EventAnswer
+        requires unregistered { self.old.registered ≡ false }
+        requires room { 0 < partner.old.queue.room.puts }
+        ensures nothing { At (λ old new. OnNothing result (Loses false old new))
+            self.old partner.old self.new partner.new }
+        ensures put { At (λ old new. OnPut result (Puts false old event new))
+            self.old partner.old self.new partner.new }
+        ensures still { At (λ old new. IfKept result (λ number held. FindsFull false old number held new))
+            self.old partner.old self.new partner.new }
+        ensures kept { IsKeptBy result event self.new.kept }
+        ensures open { OnNothing result (partner.old.registered ≡ false) }
+        ensures unregistered { self.new.registered ≡ false }
+        ensures rest { At (λ old new. OnlyPushes false old new)
+            self.old partner.old self.new partner.new }
+        ensures own { self.new.queue ≡ self.old.queue }
+        ensures room { Spends self.old partner.old self.new partner.new }
+        ensures keeps { KeepsPartner self.old partner.old self.new partner.new }
+    {
+        self.kept = None;
+        if self.closed_word(partner).is_some() {
+            return EventAnswer::Nothing;
+        }
+        match partner.queue.put(event) {
+            Put::Done { .. } => EventAnswer::Put,
+            Put::Dropped { number, held } => {
+                self.kept = Some(event);
+                EventAnswer::Kept { number, held }
+            }
+        }
+    }
+
+    /// Puts the event that is kept, if there is one.
+    pub(crate) fn push_event(&mut self, partner: &mut PlainSide) -> EventAnswer
+        requires { 0 < partner.old.queue.room.puts }
+        ensures nothing { At (λ old new. OnNothing result (PushesNone false old new))
+            self.old partner.old self.new partner.new }
+        ensures put { At (λ old new. OnPut result (Pushes false old new))
+            self.old partner.old self.new partner.new }
+        ensures settles { At (λ old new. OnNotKept result (Settles false self.old.kept old new))
+            self.old partner.old self.new partner.new }
+        ensures none { OnNotKept result (self.new.kept ≡ None) }
+        ensures registered { self.new.registered ≡ self.old.registered }
+        ensures still { At (λ old new. IfKept result (λ number held. StillKept false old number held new))
+            self.old partner.old self.new partner.new }
+        ensures rest { At (λ old new. OnlyPushes false old new)
+            self.old partner.old self.new partner.new }
+        ensures own { self.new.queue ≡ self.old.queue }
+        ensures room { Spends self.old partner.old self.new partner.new }
+        ensures keeps { KeepsPartner self.old partner.old self.new partner.new }
+    {
+        match self.kept {
+            Some(event) => self.put_event(partner, event),
+            None => EventAnswer::Nothing,
+        }
+    }
+
+    // Opens the next session, once no event of this side is left to be put.
+    fn open_session(&mut self)
+        requires none_kept { self.old.kept ≡ None }
+        requires room { 0 < self.old.queue.room.renewals }
+        ensures queue { Renews self.old.queue self.new.queue }
+        ensures registered { self.new.registered ≡ true }
+        ensures kept { self.new.kept ≡ None }
+        ensures closed { self.new.closed ≡ self.old.closed }
+    {
+        self.queue.renew();
+        self.registered = true;
+    }
+
+    /// Registers the own queue, after the kept event was put.
+    pub(crate) fn register(&mut self, partner: &mut PlainSide, ioba: u64, length: u64) -> RegAnswer
+        requires room { 0 < partner.old.queue.room.puts }
+        requires sessions { 0 < self.old.queue.room.renewals }
+        ensures parameter { (result ≡ reg.Parameter) ↔ (fits_queue self.old.queue.slots ioba length ≡ false) }
+        ensures resource { (result ≡ reg.Resource) ↔
+            ((fits_queue self.old.queue.slots ioba length ≡ true) × (self.old.registered ≡ true)) }
+        ensures opened { At (λ old new. OnOpened result (Opens false old new))
+            self.old partner.old self.new partner.new }
+        ensures success { OnBoth result (partner.old.registered ≡ true) }
+        ensures closed { At (λ old new. IfAlone result (λ word. FindsClosed false old word new))
+            self.old partner.old self.new partner.new }
+        ensures busy { At (λ old new. IfHeldUp result (λ number held. HoldsUp false old number held new))
+            self.old partner.old self.new partner.new }
+        ensures refused { At (λ old new. OnNotRegistered result (OnlyReserves old new))
+            self.old partner.old self.new partner.new }
+        ensures rest { At (λ old new. OnlyRegisters false old new)
+            self.old partner.old self.new partner.new }
+        ensures room { Spends self.old partner.old self.new partner.new }
+        ensures keeps { KeepsPartner self.old partner.old self.new partner.new }
+    {
+        if !is_of_queue(self.slots(), ioba, length) {
+            return RegAnswer::Parameter;
+        }
+        if self.registered {
+            return RegAnswer::Resource;
+        }
+        if let EventAnswer::Kept { number, held } = self.push_event(partner) {
+            return RegAnswer::Busy { number, held };
+        }
+        self.open_session();
+        match self.closed_word(partner) {
+            Some(control) => RegAnswer::Closed { control },
+            None => RegAnswer::Success,
+        }
+    }
+
+    /// Closes the session of the own queue, and puts this event into the partner's.
+    pub(crate) fn free(&mut self, partner: &mut PlainSide, event: Entry) -> FreeAnswer
+        requires { 0 < partner.old.queue.room.puts }
+        ensures parameter { (result ≡ freeing.Parameter) ↔ (self.old.registered ≡ false) }
+        ensures success { At (λ old new. OnFreed result (Frees false old event new))
+            self.old partner.old self.new partner.new }
+        ensures busy { IfInUse result (λ _. ⊥) }
+        ensures refused { At (λ old new. OnNotFreed result (OnlyReserves old new))
+            self.old partner.old self.new partner.new }
+        ensures rest { At (λ old new. OnlyFrees false old new)
+            self.old partner.old self.new partner.new }
+        ensures room { Spends self.old partner.old self.new partner.new }
+        ensures keeps { KeepsPartner self.old partner.old self.new partner.new }
+    {
+        if !self.registered {
+            return FreeAnswer::Parameter;
+        }
+        self.registered = false;
+        self.put_event(partner, event);
+        FreeAnswer::Success
+    }
 }

@@ -1,10 +1,13 @@
-use Rattle.crq_session.proofs.Spare.{spare_polls, spare_poll}
+use Rattle.std.proofs.Common.{not, [], ◌∷◌}
+use Rattle.crq_session.specs.PlainState.{side_of}
+use Rattle.crq_session.proofs.Spare.{spare_polls, spare_falls}
 use Rattle.crq_session.proofs.plain_end.PlainEndCrqEnd.poll.Goals as goal
 
 pub poll-requires : goal.poll-requires
-poll-requires c = spare_polls c.args.self.now c.requires
+poll-requires c = spare_polls (side_of c.args.self.now.link.now c.args.self.now.first) (side_of c.args.self.now.link.now (not c.args.self.now.first)) c.requires
 
 pub returns-clause-spare : goal.returns-clause-spare
-returns-clause-spare c =
-    let told = c.poll.ensures.call in
-    spare_poll c.args.self.now c.poll.new.self c.poll.ensures.partner told.poll_room told.renew_room
+returns-clause-spare c = spare_falls (side_of c.args.self.now.link.now c.args.self.now.first) (side_of c.args.self.now.link.now (not c.args.self.now.first)) (side_of c.poll.new.self c.args.self.now.first) (side_of c.poll.new.self (not c.args.self.now.first)) c.poll.ensures.room
+
+pub returns-clause-rest : goal.returns-clause-rest
+returns-clause-rest c = c.poll.ensures.rest (c.args.self.now.link.ghost_name ∷ []) c.args.self.now.first

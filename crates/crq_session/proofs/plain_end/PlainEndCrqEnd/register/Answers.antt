@@ -1,13 +1,16 @@
-use Rattle.crq_session.proofs.Spare.{spare_puts, spare_sessions, spare_register}
+use Rattle.std.proofs.Common.{not, [], ◌∷◌}
+use Rattle.crq_session.specs.PlainState.{side_of}
+use Rattle.crq_session.proofs.Spare.{spare_puts, spare_sessions, spare_falls}
 use Rattle.crq_session.proofs.plain_end.PlainEndCrqEnd.register.Goals as goal
 
 pub register-requires-clause-room : goal.register-requires-clause-room
-register-requires-clause-room c = spare_puts c.args.self.now c.requires
+register-requires-clause-room c = spare_puts (side_of c.args.self.now.link.now c.args.self.now.first) (side_of c.args.self.now.link.now (not c.args.self.now.first)) c.requires
 
 pub register-requires-clause-sessions : goal.register-requires-clause-sessions
-register-requires-clause-sessions c = spare_sessions c.args.self.now c.requires
+register-requires-clause-sessions c = spare_sessions (side_of c.args.self.now.link.now c.args.self.now.first) (side_of c.args.self.now.link.now (not c.args.self.now.first)) c.requires
 
 pub returns-clause-spare : goal.returns-clause-spare
-returns-clause-spare c =
-    let told = c.register.ensures.call in
-    spare_register c.args.self.now c.register.new.self told.put_room told.poll_room told.renew_room
+returns-clause-spare c = spare_falls (side_of c.args.self.now.link.now c.args.self.now.first) (side_of c.args.self.now.link.now (not c.args.self.now.first)) (side_of c.register.new.self c.args.self.now.first) (side_of c.register.new.self (not c.args.self.now.first)) c.register.ensures.room
+
+pub returns-clause-rest : goal.returns-clause-rest
+returns-clause-rest c = c.register.ensures.rest (c.args.self.now.link.ghost_name ∷ []) c.args.self.now.first

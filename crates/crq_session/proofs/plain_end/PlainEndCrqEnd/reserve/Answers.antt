@@ -1,23 +1,10 @@
-use Rattle.std.proofs.Common.{ℕ, ◌≤◌, Result, Ok, Err, OnOk}
-use Rattle.crq_ring.specs.Pipe.{put_room, poll_room, renew_room}
-use Rattle.crq_session.specs.declared.link.PlainEnd.{PlainEnd}
-use Rattle.crq_session.specs.Side.{queue_of}
-use Rattle.crq_session.specs.Link.{own_of, partner_of, spare_of}
-use Rattle.crq_session.proofs.Spare.{spare_of-each, spare_kept}
+use Rattle.std.proofs.Common.{not}
+use Rattle.crq_session.specs.PlainState.{side_of}
+use Rattle.crq_session.proofs.Spare.{spare_made, spare_kept}
 use Rattle.crq_session.proofs.plain_end.PlainEndCrqEnd.reserve.Goals as goal
 
--- where room was made in both queues, there is room for so many calls
-room_of : {T E : Type 0} (result : Result T E) (n : ℕ) (end : PlainEnd) → OnOk result (n ≤ put_room (queue_of (partner_of end)))
-    → OnOk result (n ≤ poll_room (queue_of (own_of end))) → OnOk result (n ≤ renew_room (queue_of (own_of end))) → OnOk result (n ≤ spare_of end)
-room_of (Ok x) n end f g h = spare_of-each n end f g h
-room_of (Err e) n end f g h = tt
-
 pub returns-clause-room : goal.returns-clause-room
-returns-clause-room c =
-    let told = c.reserve.ensures in
-    room_of c.reserve.result c.args.n c.reserve.new.self told.puts told.polls told.sessions
+returns-clause-room c = spare_made c.reserve.result c.args.n (side_of c.reserve.new.self c.args.self.now.first) (side_of c.reserve.new.self (not c.args.self.now.first)) c.reserve.ensures.own c.reserve.ensures.partner
 
-pub returns-clause-room_kept : goal.returns-clause-room_kept
-returns-clause-room_kept c =
-    let told = c.reserve.ensures in
-    spare_kept c.args.self.now c.reserve.new.self told.partner.put_room told.own.poll_room told.own.renew_room
+pub returns-clause-spare : goal.returns-clause-spare
+returns-clause-spare c = spare_kept (side_of c.args.self.now.link.now c.args.self.now.first) (side_of c.args.self.now.link.now (not c.args.self.now.first)) (side_of c.reserve.new.self c.args.self.now.first) (side_of c.reserve.new.self (not c.args.self.now.first)) c.reserve.ensures.own_rest c.reserve.ensures.partner_rest

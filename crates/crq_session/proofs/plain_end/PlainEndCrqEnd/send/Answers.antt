@@ -1,8 +1,13 @@
-use Rattle.crq_session.proofs.Spare.{spare_puts, spare_put}
+use Rattle.std.proofs.Common.{not, [], ◌∷◌}
+use Rattle.crq_session.specs.PlainState.{side_of}
+use Rattle.crq_session.proofs.Spare.{spare_puts, spare_falls}
 use Rattle.crq_session.proofs.plain_end.PlainEndCrqEnd.send.Goals as goal
 
 pub send-requires : goal.send-requires
-send-requires c = spare_puts c.args.self.now c.requires
+send-requires c = spare_puts (side_of c.args.self.now.link.now c.args.self.now.first) (side_of c.args.self.now.link.now (not c.args.self.now.first)) c.requires
 
 pub returns-clause-spare : goal.returns-clause-spare
-returns-clause-spare c = spare_put c.args.self.now c.send.new.self c.send.ensures.call.put_room c.send.ensures.call.own_queue
+returns-clause-spare c = spare_falls (side_of c.args.self.now.link.now c.args.self.now.first) (side_of c.args.self.now.link.now (not c.args.self.now.first)) (side_of c.send.new.self c.args.self.now.first) (side_of c.send.new.self (not c.args.self.now.first)) c.send.ensures.room
+
+pub returns-clause-rest : goal.returns-clause-rest
+returns-clause-rest c = c.send.ensures.rest (c.args.self.now.link.ghost_name ∷ []) c.args.self.now.first

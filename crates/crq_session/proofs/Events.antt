@@ -1,0 +1,81 @@
+-- What became of an event, by the answer of its put.
+use Rattle.std.proofs.Common.{rules, ◌≡◌, ◌⊎◌, inl, inr, ℕ, ◌≤◌, Bool, false, Option, Some, None, IsSome, sym, refl, subst, ◌∙◌, arith}
+use Rattle.vio_num.specs.declared.entry.Entry.{Entry}
+use Rattle.crq_session.specs.declared.answers.EventAnswer.{EventAnswer}
+use Rattle.crq_session.specs.declared.answers.EventAnswer.TheVariants.{Nothing, Put, Kept}
+use Rattle.crq_session.specs.Answers.{OnNothing, OnPut, IfKept}
+use Rattle.crq_session.specs.Answered.{Puts, Loses, Keeps, FindsFull, StillKept, Settles}
+use Rattle.crq_session.specs.EndState.{EndState}
+use Rattle.crq_session.specs.Side.{IsKeptBy, OnNotKept}
+
+-- the end as it was before it was freed
+abbrev pub later : EndState → Bool → ℕ → EndState
+later end r n = record end { registered = r; spare = n }
+
+-- a freed queue's event was put, is kept or was lost
+pub told : (answer : EventAnswer) (event : Entry) (old new : EndState) (r : Bool) (n : ℕ)
+    → OnNothing answer (Loses false (later old r n) new) → OnPut answer (Puts false (later old r n) event new)
+    → IfKept answer (λ number held. FindsFull false (later old r n) number held new) → IsKeptBy answer event new.kept
+    → (Puts false old event new × (new.kept ≡ None)) ⊎ (Keeps false old event new ⊎ (Loses false old new × (new.kept ≡ None)))
+told Nothing event old new r n l p k is = inr (inr (
+  record {
+    none = record { sent = l.none.sent; drops = l.none.drops };
+    meets = record { closed = l.meets.closed; partner = l.meets.partner };
+  },
+  is,
+))
+told Put event old new r n l p k is = inl (record { sent = p.sent; drops = p.drops; partner = p.partner; free_slot = p.free_slot }, is)
+told (Kept number held) event old new r n l p k is = inr (inl record {
+  number = number;
+  held = held;
+  full = record {
+    number_is = k.number_is;
+    lawful = k.lawful;
+    sent = k.sent;
+    drops = k.drops;
+    full = k.full;
+    partner = k.partner;
+    full_slot = k.full_slot;
+  };
+  kept = is;
+})
+
+some_of : (kept : Option Entry) (event : Entry) → kept ≡ Some event → IsSome kept
+some_of kept event e = search (rules, e)
+
+-- an event that is still kept
+pub still : (answer : EventAnswer) (event : Entry) (old new : EndState) → old.kept ≡ Some event
+    → IfKept answer (λ number held. FindsFull false old number held new) → IsKeptBy answer event new.kept
+    → IfKept answer (λ number held. StillKept false old number held new)
+still Nothing event old new e k is = tt
+still Put event old new e k is = tt
+still (Kept number held) event old new e k is = record { some = some_of old.kept event e; kept = is ∙ sym e; full = k }
+
+-- an event that is kept no more
+pub settled : (answer : EventAnswer) (event : Entry) (old new : EndState) (kept : Option Entry) → kept ≡ Some event
+    → OnNothing answer (Loses false old new) → OnPut answer (Puts false old event new)
+    → OnNotKept answer (Settles false kept old new)
+settled Nothing event old new kept e l p = subst (λ k. Settles false k old new) (sym e) (inr l)
+settled Put event old new kept e l p = subst (λ k. Settles false k old new) (sym e) (inl p)
+settled (Kept number held) event old new kept e l p = tt
+
+-- what comes after a settled event leaves it settled
+pub settles_on : (kept : Option Entry) (old mid new : EndState) → new.sent ≡ mid.sent → new.drops ≡ mid.drops
+    → new.counts.partner_session ≡ mid.counts.partner_session → mid.counts.closed ≤ new.counts.closed
+    → Settles false kept old mid → Settles false kept old new
+settles_on None old mid new s d q c h = record { sent = s ∙ h.sent; drops = d ∙ h.drops }
+settles_on (Some event) old mid new s d q c (inl p) = inl record {
+  sent = rw (s, q) p.sent;
+  drops = d ∙ p.drops;
+  partner = p.partner;
+  free_slot = rw q p.free_slot;
+}
+settles_on (Some event) old mid new s d q c (inr l) = inr record {
+  none = record { sent = s ∙ l.none.sent; drops = d ∙ l.none.drops };
+  meets = record { closed = omega (arith, c, l.meets.closed); partner = l.meets.partner };
+}
+
+pub not_kept : (answer : EventAnswer) (P : Type 0) → ((number held : ℕ) → answer ≡ Kept number held → ⊥) → OnNotKept answer P → P
+not_kept Nothing P never p = p
+not_kept Put P never p = p
+not_kept (Kept number held) P never p = absurd (never number held refl)
