@@ -1,19 +1,20 @@
 -- Pages that are taken out of their places, and put back.
-use Rattle.std.proofs.Common.{◌≡◌, ℕ, ◌<◌, ◌==◌, List, [], ◌∷◌, ◌++◌, Option, Some, None, IsSome, is_some, All, Result, Ok, Err, IfErr, ⊎_elim, length, get_or, set, slice_get, cond, Bool, true, false, refl, sym, ◌∙◌, ap, subst, rules}
+use Rattle.std.proofs.Common.{◌≡◌, ℕ, ◌<◌, ◌==◌, List, [], ◌∷◌, ◌++◌, Option, Some, None, IsSome, is_some, All, Result, Ok, Err, IfOk, IfErr, arith, ◌+◌, ◌≤◌, ⊎_elim, length, get_or, set, slice_get, cond, Bool, true, false, refl, sym, ◌∙◌, ap, subst, rules}
 use Rattle.std.proofs.lemmas.Bool.{eq-eqb, ne_eqb}
 use Rattle.page_slots.specs.Stroke.{StrokeValue}
 use Rattle.page_slots.specs.Page.{PageValue}
 use Rattle.tce_window.specs.declared.held.HeldPage.{HeldPage}
-use Rattle.tce_window.specs.Held.{held_strokes, strokes_of, either, FillsPlaces}
+use Rattle.tce_window.specs.Held.{HeldValue, held_strokes, strokes_of, either, FillsPlaces}
 use Rattle.tce_window.specs.declared.answers.Piece.{Piece}
 use Rattle.tce_window.specs.declared.answers.HoldFault.{HoldFault}
 use Rattle.tce_window.specs.declared.answers.HoldFault.TheVariants.{Past, NotGranted, InUse}
-use Rattle.tce_window.specs.Pieces.{on_page, IsOfEntry}
+use Rattle.tce_window.specs.Lent.{IsLentBy}
+use Rattle.tce_window.specs.Pieces.{on_page, HasStrokes, IsOfEntry, IsSharedUse}
 use Rattle.tce_window.specs.Port.{NamesFound}
 use Rattle.std.proofs.lemmas.Bool.{cases_lt}
 use Rattle.std.proofs.lemmas.Option.{slice_get-get_or, slice_get_past}
 use Rattle.std.proofs.lemmas.List.Elements.{All-head, All-tail}
-use Rattle.tce_window.specs.Window.{strokes_in, strokes_at}
+use Rattle.tce_window.specs.Window.{WindowValue, strokes_in, strokes_at}
 use Rattle.tce_window.proofs.Values.{by_number}
 use Rattle.tce_window.proofs.Pages.{get-set_same, get-set_other}
 
@@ -153,8 +154,33 @@ pub if_err_map : {T : Type 0} (r : Result T HoldFault) (P Q : HoldFault → Type
 if_err_map (Ok v) P Q g m = m
 if_err_map (Err f) P Q g m = g f m
 
+there_if_counted : (piece : Piece) (strokes : Option (List StrokeValue)) → HasStrokes piece strokes → IsSome strokes
+there_if_counted piece (Some strokes) h = refl
+there_if_counted piece None h = absurd h
+
+-- the pieces of a range that is lent lie on pages of the region
+pub all_inside : (r : Result HeldValue HoldFault) (window : WindowValue) (n : ℕ) → length window.pages ≡ n
+    → IfOk r (λ held. All (λ piece. HasStrokes piece (held_strokes held.pages piece.page)) held.pieces) → IfOk r (λ held. IsLentBy window held)
+    → IfOk r (λ held. All (λ piece. piece.page < n) held.pieces)
+all_inside (Ok held) window n size strokes lent = λ k d lt.
+    let piece = get_or held.pieces k d in
+    let within : piece.page < length window.pages =
+    lent.places.within piece.page (there_if_counted piece (held_strokes held.pages piece.page) (strokes k d lt)) in
+    omega (arith, within, size)
+all_inside (Err fault) window n size strokes lent = tt
+
 -- a refusal that names an entry names no page in use
 pub none_found : (fault : HoldFault) → IsOfEntry fault → NamesFound (λ _ _. ⊥) fault
 none_found (Past entry) h = tt
 none_found (NotGranted entry version tce) h = tt
 none_found (InUse page word) h = h
+
+pub none_shared : (fault : HoldFault) → IsOfEntry fault → IsSharedUse false fault
+none_shared (Past entry) h = tt
+none_shared (NotGranted entry version tce) h = tt
+none_shared (InUse page word) h = absurd h
+
+-- where nobody else lays strokes nothing is said of what the port laid
+pub ok_alone : {T : Type 0} {E : Type 0} (result : Result T E) (P : T → Type 0) → IfOk result (λ held. false ≡ true → P held)
+ok_alone (Ok held) P = λ e. absurd (cc (e))
+ok_alone (Err fault) P = tt

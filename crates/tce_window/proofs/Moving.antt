@@ -301,13 +301,25 @@ written_join name bytes pieces old new long there laid =
     laid_join name bytes pieces old new (λ p. stroke_count (old p)) (record { long = long; there = there; laid = laid; counts = λ p. refl })
 
 -- the whole of what is read, and of what is written, through the pieces of a range
+all_reached : (pages : List (Option HeldPage)) (strokes : ℕ → Option (List StrokeValue)) (pieces : List Piece)
+    → All (λ piece. HasStrokes piece (held_strokes pages piece.page)) pieces
+    → ((p : ℕ) → IsSome (held_strokes pages p) → strokes p ≡ held_strokes pages p)
+    → All (λ piece. piece.at ≤ stroke_count (strokes piece.page)) pieces
+all_reached pages strokes pieces there same = λ k d lt.
+    let piece = get_or pieces k d in
+    reach piece (held_strokes pages piece.page) (strokes piece.page) (there k d lt) (same piece.page)
+  where
+    reach : (piece : Piece) (held now : Option (List StrokeValue)) → HasStrokes piece held → (IsSome held → now ≡ held) → piece.at ≤ stroke_count now
+    reach piece (Some strokes) now has same = let e : now ≡ Some strokes = same refl in rw e (omega (arith, has))
+    reach piece None now has same = absurd has
+
 pub read_from : (unit : UnitId) (values : ℕ → List ℕ) (strokes : ℕ → Option (List StrokeValue)) (at : ℕ) (pages : List (Option HeldPage)) (pieces : List Piece) (bytes : List ℕ)
     → Touches unit at (at + length bytes) pieces → All (IsGranted values Read) pieces
     → All (λ piece. HasStrokes piece (held_strokes pages piece.page)) pieces
     → ((p : ℕ) → IsSome (held_strokes pages p) → strokes p ≡ held_strokes pages p)
     → bytes ≡ joined pages pieces → IsReadFrom unit values strokes at pieces bytes
 read_from unit values strokes at pages pieces bytes touched granted there same is_read =
-    record { touched = touched; granted = granted; join = held_read pages pieces strokes there same ∙ sym is_read }
+    record { touched = touched; granted = granted; reached = all_reached pages strokes pieces there same; join = held_read pages pieces strokes there same ∙ sym is_read }
 
 pub written_to : (unit : UnitId) (values : ℕ → List ℕ) (at : ℕ) (name : StrokeName) (bytes : List ℕ) (pieces placed : List Piece) (old new : ℕ → Option (List StrokeValue))
     → Touches unit at (at + length bytes) pieces → All (IsGranted values Write) pieces

@@ -9,13 +9,12 @@ use Rattle.tce_window.specs.declared.answers.Piece.{Piece}
 use Rattle.tce_window.specs.declared.answers.Right.{Right}
 use Rattle.tce_window.specs.declared.answers.HoldFault.{HoldFault}
 use Rattle.tce_window.specs.declared.answers.HoldFault.TheVariants.{Past, NotGranted, InUse}
-use Rattle.tce_window.specs.Answers.{MatchHold}
-use Rattle.tce_window.specs.Pieces.{IsPieceAt, Touches, MayUse, AreUsable, Lacks, IsRefused, IsOfEntry, HasStrokes, on_page}
+use Rattle.tce_window.specs.Pieces.{IsPieceAt, Touches, MayUse, AreUsable, IsRefused, IsRefusedAt, IsOfEntry, HasStrokes, on_page}
 
 -- the first bad entry lies where the pieces so far end
 pub refused_at : (fault : HoldFault) (values : ℕ → List ℕ) (right : Right) (n ioba len done : ℕ) → done < len
     → ((entry : ℕ) → entry ≡ (ioba + done) / 4096 → AreUsable values right n (ioba / 4096) entry)
-    → MatchHold fault (λ entry. (entry ≡ (ioba + done) / 4096) × (n ≤ entry)) (λ entry version tce. (entry ≡ (ioba + done) / 4096) × (entry < n) × Lacks values right entry version tce) (λ _ _. ⊥)
+    → IsRefusedAt values right n ((ioba + done) / 4096) fault
     → IsRefused values right n ioba len fault
 refused_at (Past entry) values right n ioba len done less before m =
     (omega (arith, m.0), omega (arith, m.0, less), m.1, before entry m.0)
@@ -23,10 +22,10 @@ refused_at (NotGranted entry version tce) values right n ioba len done less befo
     (omega (arith, m.0), omega (arith, m.0, less), m.1, m.2, before entry m.0)
 refused_at (InUse page word) values right n ioba len done less before m = absurd m
 
-pub of_entry : (fault : HoldFault) (P : ℕ → Type 0) (Q : ℕ → ℕ → ℕ → Type 0) → MatchHold fault P Q (λ _ _. ⊥) → IsOfEntry fault
-of_entry (Past entry) P Q m = tt
-of_entry (NotGranted entry version tce) P Q m = tt
-of_entry (InUse page word) P Q m = m
+pub of_entry : (fault : HoldFault) (values : ℕ → List ℕ) (right : Right) (n at : ℕ) → IsRefusedAt values right n at fault → IsOfEntry fault
+of_entry (Past entry) values right n at m = tt
+of_entry (NotGranted entry version tce) values right n at m = tt
+of_entry (InUse page word) values right n at m = m
 
 -- a piece more
 pub touches_more : (unit : UnitId) (ioba len done : ℕ) (pieces rest : List Piece) (piece : Piece) → done < len

@@ -1,5 +1,5 @@
 -- Values that are put one after another.
-use Rattle.std.proofs.Common.{◌≡◌, ℕ, ◌+◌, ◌*◌, ◌/◌, ◌%◌, ◌<◌, ◌≤◌, ◌&&◌, Bool, true, false, List, [], ◌∷◌, ◌++◌, length, get_or, take, drop, IsTrue, refl, sym, ◌∙◌, ap, subst, arith, add-one, add-zero, append-nil, cond, ◌-◌}
+use Rattle.std.proofs.Common.{◌≡◌, ◌↔◌, ℕ, ◌+◌, ◌*◌, ◌/◌, ◌%◌, ◌<◌, ◌≤◌, ◌&&◌, Bool, true, false, List, [], ◌∷◌, ◌++◌, length, get_or, take, drop, IsTrue, refl, sym, ◌∙◌, ap, subst, arith, add-one, add-zero, append-nil, cond, ◌-◌}
 use Rattle.std.proofs.lemmas.Bool.Decides.{nat_tests}
 use Rattle.std.proofs.lemmas.List.{take_more, length-take-le}
 use Rattle.std.proofs.Math.Seq.{drop-cons}
@@ -8,7 +8,12 @@ use Rattle.tce_window.specs.declared.answers.TceAnswer.{TceAnswer}
 use Rattle.tce_window.specs.declared.answers.TceAnswer.TheVariants.{Done, Parameter, Busy}
 use Rattle.tce_window.specs.Grant.{values_of, has_right}
 use Rattle.tce_window.specs.Puts.{takes, takes_each, put_rows, put_answer, put_into, put_by}
-use Rattle.tce_window.specs.Port.{MatchPut, IsBusy}
+use Rattle.tce_window.specs.Answers.{IfBusy}
+use Rattle.tce_window.specs.PlainPort.{known_of}
+use Rattle.tce_window.specs.Port.{IsBusy}
+use Rattle.tce_window.specs.PortState.{IsHeldEntry, Puts, MeetsPins}
+use Rattle.tce_window.specs.Window.{WindowValue, holds}
+use Rattle.std.proofs.lemmas.Bool.Decides.{nat_tests}
 use Rattle.tce_window.specs.Answers.{times_in_use}
 use Rattle.std.proofs.lemmas.Bool.{eq-eqb, ne_eqb}
 use Rattle.tce_window.proofs.Values.{by_number, values_of-own, values_of-other}
@@ -128,24 +133,35 @@ take_one x xs n m e = rw e (rw add-one refl)
 differ : (a b : Bool) → a ≡ false → b ≡ true → a ≡ b → ⊥
 differ a b e f g = cc
 
+-- P where all was put, Q of the entry, its pins and the number put; none was refused
+abbrev pub MatchPut : TceAnswer → Type 0 → (ℕ → ℕ → ℕ → Type 0) → Type 0
+MatchPut Done P Q = P
+MatchPut Parameter P Q = ⊥
+MatchPut (Busy entry pins done) P Q = Q entry pins done
+
 -- what is said of an answer, made weaker
 pub put_weaker : (answer : TceAnswer) (P : Type 0) (Q Q' : ℕ → ℕ → ℕ → Type 0) → ((e p d : ℕ) → Q e p d → Q' e p d) → MatchPut answer P Q → MatchPut answer P Q'
 put_weaker Done P Q Q' f m = m
 put_weaker Parameter P Q Q' f m = m
 put_weaker (Busy entry pins done) P Q Q' f m = f entry pins done m
 
--- the first held entry is the one that is named
-busy_step : (is_held : ℕ → Bool) (f d tce : ℕ) (list : List ℕ) (here : Bool)
-    → MatchPut (put_answer is_held (f + 1) (d + 1) list) (Unit {0}) (λ entry pins done. (entry + (d + 1) ≡ f + 1 + done) × (d + 1 ≤ done) × (done < d + 1 + length list) × (pins ≡ 1))
-    → MatchPut (cond here (Busy f 1 d) (put_answer is_held (f + 1) (d + 1) list)) (Unit {0}) (λ entry pins done. (entry + d ≡ f + done) × (d ≤ done) × (done < d + length (tce ∷ list)) × (pins ≡ 1))
-busy_step is_held f d tce list true later = (refl, omega arith, omega arith, refl)
-busy_step is_held f d tce list false later =
-    put_weaker (put_answer is_held (f + 1) (d + 1) list) (Unit {0}) _ _
-    (λ e p n m. (omega (arith, m.0), omega (arith, m.1), omega (arith, m.2), m.3)) later
+-- of a list that is put from entry f on, d values being put before, this entry is held
+abbrev pub StopsAt : (is_held : ℕ → Bool) (f d : ℕ) (list : List ℕ) → ℕ → ℕ → ℕ → Type 0
+StopsAt is_held f d list entry pins done =
+    (entry + d ≡ f + done) × (d ≤ done) × (done < d + length list) × (pins ≡ 1) × (is_held entry ≡ true)
 
-pub busy_at : (is_held : ℕ → Bool) (f d : ℕ) (list : List ℕ) → MatchPut (put_answer is_held f d list) (Unit {0}) (λ entry pins done. (entry + d ≡ f + done) × (d ≤ done) × (done < d + length list) × (pins ≡ 1))
+-- the first held entry is the one that is named
+busy_step : (is_held : ℕ → Bool) (f d tce : ℕ) (list : List ℕ) (here : Bool) → is_held f ≡ here
+    → MatchPut (put_answer is_held (f + 1) (d + 1) list) (Unit {0}) (StopsAt is_held (f + 1) (d + 1) list)
+    → MatchPut (cond here (Busy f 1 d) (put_answer is_held (f + 1) (d + 1) list)) (Unit {0}) (StopsAt is_held f d (tce ∷ list))
+busy_step is_held f d tce list true is later = (refl, omega arith, omega arith, refl, is)
+busy_step is_held f d tce list false is later =
+    put_weaker (put_answer is_held (f + 1) (d + 1) list) (Unit {0}) _ _
+    (λ e p n m. (omega (arith, m.0), omega (arith, m.1), omega (arith, m.2), m.3, m.4)) later
+
+pub busy_at : (is_held : ℕ → Bool) (f d : ℕ) (list : List ℕ) → MatchPut (put_answer is_held f d list) (Unit {0}) (StopsAt is_held f d list)
 busy_at is_held f d [] = tt
-busy_at is_held f d (tce ∷ list) = busy_step is_held f d tce list (is_held f) (busy_at is_held (f + 1) (d + 1) list)
+busy_at is_held f d (tce ∷ list) = busy_step is_held f d tce list (is_held f) refl (busy_at is_held (f + 1) (d + 1) list)
 
 -- the part of a list that was put, counted from d
 abbrev put_since : ℕ → TceAnswer → List ℕ → List ℕ
@@ -205,21 +221,53 @@ held_told good is_held new old f e list answer same refused put held =
     ∙ ap (λ xs. values_of old e ++ xs) (held_cases good is_held f e list answer refused put held)
     ∙ append-nil (values_of old e)
 
-busy_cases : (f : ℕ) (list : List ℕ) (answer : TceAnswer) → MatchPut answer (Unit {0}) (λ entry pins done. (entry + 0 ≡ f + done) × (0 ≤ done) × (done < 0 + length list) × (pins ≡ 1))
-    → MatchPut answer (Unit {0}) (IsBusy f list)
-busy_cases f list Done m = tt
-busy_cases f list Parameter m = m
-busy_cases f list (Busy entry pins done) m = record {
-  place = omega (arith, m.0);
-  below = omega (arith, m.2);
-  pinned = omega (arith, m.3);
+held_entry : (window : WindowValue) (e : ℕ) → holds window e ≡ true → IsHeldEntry (known_of window) e
+held_entry window e held =
+    let low : window.held_from ≤ e = grind (arith, nat_tests) in
+    let high : e < window.held_from + window.held_count = grind (arith, nat_tests) in
+    (low, high)
+
+busy_cases : (window : WindowValue) (ioba : ℕ) (list : List ℕ) (answer : TceAnswer) → MatchPut answer (Unit {0}) (StopsAt (holds window) (ioba / 4096) 0 list)
+    → IfBusy answer (MeetsPins false (known_of window) ioba list)
+busy_cases window ioba list Done m = tt
+busy_cases window ioba list Parameter m = absurd m
+busy_cases window ioba list (Busy entry pins done) m = record {
+  busy = record { place = omega (arith, m.0); below = omega (arith, m.2); pinned = omega (arith, m.3) };
+  held = λ _. held_entry window entry m.4;
 }
 
-pub busy_told : (is_held : ℕ → Bool) (f : ℕ) (list : List ℕ) (answer : TceAnswer) → answer ≡ put_answer is_held f 0 list
-    → MatchPut answer (Unit {0}) (IsBusy f list)
-busy_told is_held f list answer same =
-    busy_cases f list answer
-    (subst (λ a. MatchPut a (Unit {0}) (λ entry pins done. (entry + 0 ≡ f + done) × (0 ≤ done) × (done < 0 + length list) × (pins ≡ 1))) (sym same) (busy_at is_held f 0 list))
+if_busy_refused : (answer : TceAnswer) (P : ℕ → ℕ → ℕ → Type 0) → answer ≡ Parameter → IfBusy answer P
+if_busy_refused answer P refused = subst (λ a. IfBusy a P) (sym refused) tt
+
+-- an entry that is met with pins is held
+pub busy_told : (good : Bool) (window : WindowValue) (ioba : ℕ) (list : List ℕ) (answer : TceAnswer) → (good ≡ false → answer ≡ Parameter)
+    → (good ≡ true → answer ≡ put_answer (holds window) (ioba / 4096) 0 list) → IfBusy answer (MeetsPins false (known_of window) ioba list)
+busy_told false window ioba list answer refused put = if_busy_refused answer _ (refused refl)
+busy_told true window ioba list answer refused put =
+    busy_cases window ioba list answer
+    (subst (λ a. MatchPut a (Unit {0}) (StopsAt (holds window) (ioba / 4096) 0 list)) (sym (put refl)) (busy_at (holds window) (ioba / 4096) 0 list))
+
+not_parameter : (is_held : ℕ → Bool) (f d : ℕ) (list : List ℕ) → ¬ (put_answer is_held f d list ≡ Parameter)
+not_parameter is_held f d list e = subst (λ a. MatchPut a (Unit {0}) (StopsAt is_held f d list)) e (busy_at is_held f d list)
+
+-- what is refused is exactly what is not good
+pub parameter_told : (good : Bool) (is_held : ℕ → Bool) (f : ℕ) (list : List ℕ) (answer : TceAnswer) → (good ≡ false → answer ≡ Parameter)
+    → (good ≡ true → answer ≡ put_answer is_held f 0 list) → (answer ≡ Parameter) ↔ (good ≡ false)
+parameter_told false is_held f list answer refused put = (λ e. refl, λ e. refused refl)
+parameter_told true is_held f list answer refused put = (λ e. absurd (not_parameter is_held f 0 list (sym (put refl) ∙ e)), λ e. refused e)
+
+-- what was put, and what a held entry keeps
+pub puts_told : (good : Bool) (old new : WindowValue) (ioba : ℕ) (list : List ℕ) (answer : TceAnswer) → new.rows ≡ put_rows old.rows (ioba / 4096) (put_by answer list)
+    → (good ≡ false → answer ≡ Parameter) → (good ≡ true → answer ≡ put_answer (holds old) (ioba / 4096) 0 list)
+    → Puts (known_of old) ioba (put_by answer list) (known_of new)
+puts_told good old new ioba list answer same refused put = record {
+  values = λ e. values_told new.rows old.rows (ioba / 4096) (put_by answer list) e same;
+  held = λ e h.
+      let low = h.0 in
+      let high = h.1 in
+      let held : holds old e ≡ true = grind (arith, nat_tests) in
+      held_told good (holds old) new.rows old.rows (ioba / 4096) e list answer same refused put held;
+}
 
 pub never_falls : (answer : TceAnswer) (before after : ℕ) → after ≡ times_in_use answer before → before ≤ after
 never_falls Done before after e = omega (arith, e)

@@ -7,8 +7,6 @@ use Rattle.tce_window.specs.declared.answers.OwnFault.TheVariants.{Range, InUse,
 use Rattle.tce_window.specs.declared.answers.NamedFault.{NamedFault}
 use Rattle.tce_window.specs.declared.answers.NamedFault.TheVariants.{Range as NoRange, InUse as NamedInUse, Stale}
 use Rattle.page_slots.specs.declared.stroke.StrokeName.{StrokeName}
-use Rattle.tce_window.specs.declared.answers.HoldFault.{HoldFault}
-use Rattle.tce_window.specs.declared.answers.HoldFault.TheVariants.{Past, NotGranted, InUse as HeldInUse}
 use Rattle.tce_window.specs.declared.answers.GetTce.{GetTce}
 use Rattle.tce_window.specs.declared.answers.GetTce.TheVariants.{Value, Parameter as NoEntry}
 use Rattle.tce_window.specs.Grant.{IsCurrent}
@@ -31,32 +29,32 @@ abbrev pub gives : ℕ → (ℕ → List ℕ) → ℕ → GetTce → Type 0
 gives n values ioba (Value tce) = IsTrue (is_entry n ioba) × ((version : ℕ) × IsCurrent values (ioba / 4096) version tce)
 gives n values ioba NoEntry = is_entry n ioba ≡ false
 
--- P where the range is refused, Q of the page and the word that were found in use, R where memory ran out
-abbrev pub MatchOwn : OwnFault → Type 0 → (ℕ → ℕ → Type 0) → Type 0 → Type 0
-MatchOwn Range P Q R = P
-MatchOwn (InUse page word) P Q R = Q page word
-MatchOwn NoMemory P Q R = R
+-- P of the page and the word that a read or write of the owner found in use
+abbrev pub IfInUse : {T : Type 0} → Result T OwnFault → (ℕ → ℕ → Type 0) → Type 0
+IfInUse (Err (InUse page word)) P = P page word
+IfInUse _ P = Unit {0}
 
 -- how often words were read in use, once a read or write of the owner has this answer
 abbrev pub times_own : {T : Type 0} → Result T OwnFault → ℕ → ℕ
 times_own (Err (InUse page word)) n = risen n
 times_own _ n = n
 
--- P where the range is refused, Q of the page and the word that were found in use, R of the page and the
--- other name that were found
-abbrev pub MatchNamed : NamedFault → Type 0 → (ℕ → ℕ → Type 0) → (ℕ → Option StrokeName → Type 0) → Type 0
-MatchNamed NoRange P Q R = P
-MatchNamed (NamedInUse page word) P Q R = Q page word
-MatchNamed (Stale page found) P Q R = R page found
+-- P of the page and the word that a named read found in use
+abbrev pub IfNamedInUse : {T : Type 0} → Result T NamedFault → (ℕ → ℕ → Type 0) → Type 0
+IfNamedInUse (Err (NamedInUse page word)) P = P page word
+IfNamedInUse _ P = Unit {0}
+
+-- P of the page and of the other name that a named read found there
+abbrev pub IfStale : {T : Type 0} → Result T NamedFault → (ℕ → Option StrokeName → Type 0) → Type 0
+IfStale (Err (Stale page found)) P = P page found
+IfStale _ P = Unit {0}
+
+-- P of the entry, its pins and the number put, where an entry was found held
+abbrev pub IfBusy : TceAnswer → (ℕ → ℕ → ℕ → Type 0) → Type 0
+IfBusy (Busy entry pins done) P = P entry pins done
+IfBusy _ P = Unit {0}
 
 -- how often words were read in use, once a named read has this answer
 abbrev pub times_named : {T : Type 0} → Result T NamedFault → ℕ → ℕ
 times_named (Err (NamedInUse page word)) n = risen n
 times_named _ n = n
-
--- P of an entry past the window, Q of an entry, its version and its value as it is told, R of the page and
--- the word that were found in use
-abbrev pub MatchHold : HoldFault → (ℕ → Type 0) → (ℕ → ℕ → ℕ → Type 0) → (ℕ → ℕ → Type 0) → Type 0
-MatchHold (Past entry) P Q R = P entry
-MatchHold (NotGranted entry version tce) P Q R = Q entry version tce
-MatchHold (HeldInUse page word) P Q R = R page word

@@ -7,7 +7,9 @@ pub mod Lent
 pub mod Moved
 pub mod Named
 pub mod Pieces
+pub mod PlainPort
 pub mod Port
+pub mod PortState
 pub mod Puts
 pub mod Region
 pub mod Table

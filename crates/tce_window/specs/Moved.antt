@@ -1,5 +1,5 @@
 -- Bytes that are read and written through the pieces of a held range.
-use Rattle.std.specs.Prelude.{◌≡◌, ℕ, ◌+◌, ◌<◌, ◌≤◌, ◌==◌, Bool, true, All, List, [], ◌∷◌, ◌++◌, Option, Some, None, length, map, take, drop, slice_get, if◌then◌else◌}
+use Rattle.std.specs.Prelude.{◌≡◌, ℕ, zero, suc, ◌+◌, ◌<◌, ◌≤◌, ◌==◌, Bool, true, All, List, [], ◌∷◌, ◌++◌, Option, Some, None, length, map, take, drop, slice_get, if◌then◌else◌}
 use Rattle.std.specs.List.{flat_map}
 use Rattle.std.specs.Option.{option_and_then, option_map}
 use Rattle.vio_num.specs.declared.names.UnitId.{UnitId}
@@ -28,6 +28,16 @@ strokes_on p _ _ = []
 abbrev pub stroke_count : Option (List StrokeValue) → ℕ
 stroke_count (Some strokes) = length strokes
 stroke_count None = 0
+
+-- so many places, one behind the other, from this one on
+abbrev pub places_from : (first count : ℕ) → List ℕ
+places_from first zero = []
+places_from first (suc count) = first ∷ places_from (first + 1) count
+
+-- the places of those pieces that lie on page p, in their order
+abbrev pub places_on : ℕ → List Piece → List ℕ
+places_on p [] = []
+places_on p (piece ∷ pieces) = if piece.page == p then piece.at ∷ places_on p pieces else places_on p pieces
 
 -- the pieces, each with the place of its stroke, where page p had `count p` strokes before
 abbrev pub numbered : (ℕ → ℕ) → List Piece → List Piece
@@ -77,6 +87,7 @@ AreApart (piece ∷ pieces) =
 pub record IsReadFrom (unit : UnitId) (values : ℕ → List ℕ) (strokes : ℕ → Option (List StrokeValue)) (at : ℕ) (pieces : List Piece) (bytes : List ℕ) : Type 0 where
   pub touched : Touches unit at (at + length bytes) pieces
   pub granted : All (IsGranted values Read) pieces
+  pub reached : All (λ piece. piece.at ≤ stroke_count (strokes piece.page)) pieces
   pub join : flat_map (read_bytes strokes) pieces ≡ bytes
 
 -- these bytes are written to these pieces of the unit's window from this address on, under this name

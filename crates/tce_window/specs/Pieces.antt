@@ -1,5 +1,5 @@
 -- Ranges of a window's addresses as pieces, one for each entry that they touch, and what grants them.
-use Rattle.std.specs.Prelude.{◌≡◌, ℕ, ◌+◌, ◌-◌, ◌/◌, ◌%◌, ◌<◌, ◌≤◌, ◌==◌, Bool, false, IsTrue, List, [], ◌∷◌, Option, Some, None, length, slice_get, min}
+use Rattle.std.specs.Prelude.{◌≡◌, ℕ, ◌+◌, ◌-◌, ◌/◌, ◌%◌, ◌<◌, ◌≤◌, ◌==◌, Bool, true, false, IsTrue, List, [], ◌∷◌, Option, Some, None, length, slice_get, min}
 use Rattle.std.specs.List.{list_any}
 use Rattle.vio_num.specs.declared.names.UnitId.{UnitId}
 use Rattle.page_slots.specs.Stroke.{StrokeValue}
@@ -42,9 +42,19 @@ HasStrokes piece None = ⊥
 abbrev pub on_page : List Piece → ℕ → Bool
 on_page pieces p = list_any (λ piece. piece.page == p) pieces
 
--- the value of entry e grants the right
-abbrev pub MayUse : (ℕ → List ℕ) → Right → ℕ → Type 0
-MayUse values right e = (version value : ℕ) → IsCurrent values e version value → IsTrue (grants right value)
+-- The last value of entry e is known, and grants the right.
+pub record MayUse (values : ℕ → List ℕ) (right : Right) (e : ℕ) : Type 0 where
+  pub version : ℕ
+  pub value : ℕ
+  pub current : IsCurrent values e version value
+  pub granted : IsTrue (grants right value)
+
+-- The last value of entry e is known, and names this page.
+pub record NamesPage (values : ℕ → List ℕ) (e page : ℕ) : Type 0 where
+  pub version : ℕ
+  pub value : ℕ
+  pub current : IsCurrent values e version value
+  pub named : value / 4096 ≡ page
 
 -- of a window of n entries, each entry from `first` to before `entry` grants the right
 abbrev pub AreUsable : (ℕ → List ℕ) → Right → ℕ → ℕ → ℕ → Type 0
@@ -63,15 +73,30 @@ end_entry ioba len = (ioba + len + 4095) / 4096
 abbrev pub IsUsable : (ℕ → List ℕ) → Right → (n ioba len : ℕ) → Type 0
 IsUsable values right n ioba len = AreUsable values right n (ioba / 4096) (end_entry ioba len)
 
+-- an entry that the range touches names the page
+abbrev pub IsOfRange : (ℕ → List ℕ) → (ioba len page : ℕ) → Type 0
+IsOfRange values ioba len page = (e : ℕ) × (ioba / 4096 ≤ e) × (e < end_entry ioba len) × NamesPage values e page
+
 -- why a range of a window of n entries is not held: its first entry that is past the window or lacks the
--- right; or all its entries may be used, and a page is in use
+-- right; or all its entries may be used, and the page of one is in use
 abbrev pub IsRefused : (ℕ → List ℕ) → Right → (n ioba len : ℕ) → HoldFault → Type 0
 IsRefused values right n ioba len (Past entry) =
     (ioba / 4096 ≤ entry) × (entry < end_entry ioba len) × (n ≤ entry) × AreUsable values right n (ioba / 4096) entry
 IsRefused values right n ioba len (NotGranted entry version tce) =
     (ioba / 4096 ≤ entry) × (entry < end_entry ioba len) × (entry < n) × Lacks values right entry version tce × AreUsable values right n (ioba / 4096) entry
 IsRefused values right n ioba len (InUse page word) =
-    (page < n) × IsUsable values right n ioba len
+    (page < n) × IsOfRange values ioba len page × IsUsable values right n ioba len
+
+-- why the entry with number `at` refuses a range: it is past the window, or lacks the right
+abbrev pub IsRefusedAt : (ℕ → List ℕ) → Right → (n at : ℕ) → HoldFault → Type 0
+IsRefusedAt values right n at (Past entry) = (entry ≡ at) × (n ≤ entry)
+IsRefusedAt values right n at (NotGranted entry version tce) = (entry ≡ at) × (entry < n) × Lacks values right entry version tce
+IsRefusedAt values right n at (InUse page word) = ⊥
+
+-- a page is found in use only where others have a hand in the window
+abbrev pub IsSharedUse : (is_shared : Bool) → HoldFault → Type 0
+IsSharedUse is_shared (InUse page word) = is_shared ≡ true
+IsSharedUse is_shared _ = Unit {0}
 
 -- the refusal names an entry, and no page in use
 abbrev pub IsOfEntry : HoldFault → Type 0

@@ -62,12 +62,6 @@ abbrev pub NamesFound : (ℕ → ℕ → Type 0) → HoldFault → Type 0
 NamesFound found (HeldInUse page word) = found page word
 NamesFound found _ = Unit {0}
 
--- P where all was put, Q of the entry, its pins and the number put; none was refused
-abbrev pub MatchPut : TceAnswer → Type 0 → (ℕ → ℕ → ℕ → Type 0) → Type 0
-MatchPut Done P Q = P
-MatchPut Parameter P Q = ⊥
-MatchPut (Busy entry pins done) P Q = Q entry pins done
-
 -- of a list that is put from this entry on, the value at `done` met an entry with pins
 pub record IsBusy (first : ℕ) (list : List ℕ) (entry pins done : ℕ) : Type 0 where
   pub place : entry ≡ first + done

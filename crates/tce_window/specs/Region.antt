@@ -1,5 +1,5 @@
 -- The owner's region: its pages, one behind the other, and ranges of its addresses.
-use Rattle.std.specs.Prelude.{◌≡◌, ℕ, ◌+◌, ◌-◌, ◌*◌, ◌/◌, ◌%◌, ◌<◌, ◌≤◌, ◌&&◌, nat_le, nat_lt, if◌then◌else◌, Bool, List, [], ◌∷◌, ◌++◌, Option, Some, None, IsSome, length, slice_set, slice_index_or, slice_range, slice_index, min}
+use Rattle.std.specs.Prelude.{◌≡◌, ℕ, ◌+◌, ◌-◌, ◌*◌, ◌/◌, ◌%◌, ◌<◌, ◌≤◌, ◌&&◌, nat_le, nat_lt, if◌then◌else◌, Bool, false, IsTrue, List, [], ◌∷◌, ◌++◌, Option, Some, None, IsSome, length, slice_set, slice_index_or, slice_range, slice_index, min}
 use Rattle.std.specs.Option.{option_map}
 use Rattle.page_slots.specs.Stroke.{StrokeValue}
 use Rattle.page_slots.specs.Page.{left_by, PageValue}
@@ -36,6 +36,24 @@ pub record IsFirstHeld (strokes : ℕ → Option (List StrokeValue)) (first end 
   pub below : page < end
   pub away : strokes page ≡ None
   pub before : AreThere strokes first page
+
+-- Bytes were read that are those of the range.
+pub record ReadsRange (strokes : ℕ → Option (List StrokeValue)) (n at : ℕ) (out : List ℕ) : Type 0 where
+  pub inside : IsTrue (in_region n at (length out))
+  pub there : AreThere strokes (first_page at) (end_page at (length out))
+  pub bytes : (k : ℕ) → k < length out → slice_index out k ≡ region_byte strokes (at + k)
+
+-- The page of the range is in use: where nobody else has a hand in the window, it is away.
+pub record IsInUse (is_shared : Bool) (strokes : ℕ → Option (List StrokeValue)) (n at len page : ℕ) : Type 0 where
+  pub inside : IsTrue (in_region n at len)
+  pub from : first_page at ≤ page
+  pub below : page < end_page at len
+  pub away : is_shared ≡ false → strokes page ≡ None
+
+-- The first page of the range that is away.
+pub record IsAwayFirst (strokes : ℕ → Option (List StrokeValue)) (n at len page : ℕ) : Type 0 where
+  pub inside : IsTrue (in_region n at len)
+  pub first : IsFirstHeld strokes (first_page at) (end_page at len) page
 
 -- the stroke on page p of a write of these bytes from the address on: the part of them that lies there
 abbrev pub stroke_on : StrokeName → ℕ → List ℕ → ℕ → StrokeValue

@@ -113,7 +113,8 @@ pub(crate) fn strokes_from(
     requires few { length pieces.now ≤ 17 }
     requires inside { All (λ piece. piece.offset + piece.len ≤ 4096) pieces.now }
     requires len { reader.old.len ≡ held_len pieces.now }
-    ensures strokes { IfOk result (λ strokes. strokes.items ≡ map Some (piece_strokes name reader.old.bytes pieces.now)) }
+    ensures strokes { IfOk result (λ strokes. strokes.items ≡ map Some
+        (piece_strokes name reader.old.bytes pieces.now)) }
     ensures read { OnOk result (held_len pieces.now ≤ length reader.old.bytes) }
 {
     let mut strokes = ArrayVec::new();

@@ -9,9 +9,7 @@ ghost use Rattle.tce_window.specs.Window.{strokes_at};
 use crate::answers::{HoldFault, Right};
 use crate::held::{Held, put_pages, take_pages};
 use crate::window::PlainWindow;
-
-/// The bytes of a page, and the addresses of an entry.
-const PAGE_BYTES: u64 = 4096;
+use vio_num::PAGE_BYTES;
 
 impl PlainWindow {
     /// Holds a range of 1 to 65,536 bytes for this right: its entries keep their values, and its pages are
@@ -24,17 +22,30 @@ impl PlainWindow {
         ensures bytes { IfOk result (λ held. held_len held.pieces ≡ len) }
         ensures granted { IfOk result (λ held. All (IsGranted (values_of self.old.rows) right) held.pieces) }
         ensures last { IfOk result (λ held. All (IsLast (values_of self.old.rows)) held.pieces) }
-        ensures strokes { IfOk result (λ held. All (λ piece. HasStrokes piece (held_strokes held.pages piece.page)) held.pieces) }
-        ensures taken { IfOk result (λ held. (p : ℕ) → held_strokes held.pages p ≡ (if on_page held.pieces p then strokes_at self.old.pages p else None)) }
-        ensures away { IfOk result (λ held. (p : ℕ) → strokes_at self.new.pages p ≡ (if on_page held.pieces p then None else strokes_at self.old.pages p)) }
-        ensures pages { IfOk result (λ held. (p : ℕ) → is_some (held_strokes held.pages p) ≡ on_page held.pieces p) }
-        ensures usable { OnOk result (IsUsable (values_of self.old.rows) right (length self.old.pages) ioba len) }
+        ensures strokes { IfOk result (λ held. All
+            (λ piece. HasStrokes piece (held_strokes held.pages piece.page)) held.pieces) }
+        ensures taken { IfOk result (λ held. (p : ℕ)
+            → held_strokes held.pages p ≡
+            (if on_page held.pieces p then strokes_at self.old.pages p else None)) }
+        ensures away { IfOk result (λ held. (p : ℕ)
+            → strokes_at self.new.pages p ≡
+            (if on_page held.pieces p then None else strokes_at self.old.pages p)) }
+        ensures pages { IfOk result (λ held. (p : ℕ)
+            → is_some (held_strokes held.pages p) ≡ on_page held.pieces p) }
+        ensures usable { OnOk result (IsUsable (values_of self.old.rows) right
+            (length self.old.pages) ioba len) }
         ensures lent { IfOk result (λ held. IsLentBy self.new held) }
         ensures count { IfOk result (λ held. self.new.held_count ≡ length held.pieces) }
         ensures from { IfOk result (λ held. self.new.held_from ≡ ioba / 4096) }
         ensures size { length self.new.pages ≡ length self.old.pages }
-        ensures others { self.new ≡ record self.old { pages = self.new.pages; held_from = self.new.held_from; held_count = self.new.held_count } }
-        ensures cause { IfErr result (λ fault. IsRefused (values_of self.old.rows) right (length self.old.pages) ioba len fault) }
+        ensures others { self.new ≡ record self.old {
+          pages = self.new.pages;
+          held_from = self.new.held_from;
+          held_count =
+              self.new.held_count;
+        } }
+        ensures cause { IfErr result (λ fault. IsRefused (values_of self.old.rows) right
+            (length self.old.pages) ioba len fault) }
         ensures entry { IfErr result IsOfEntry }
         ensures err { OnErr result (self.new ≡ self.old) }
     {
@@ -54,10 +65,12 @@ impl PlainWindow {
     /// and its pages are in their places with all their strokes.
     pub fn give_back(&mut self, held: Held)
         requires { IsLentBy self.old held }
-        ensures strokes { (p : ℕ) → strokes_at self.new.pages p ≡ either (strokes_at self.old.pages p) (held_strokes held.pages p) }
+        ensures strokes { (p : ℕ) → strokes_at self.new.pages p ≡ either
+            (strokes_at self.old.pages p) (held_strokes held.pages p) }
         ensures size { length self.new.pages ≡ length self.old.pages }
         ensures free { self.new.held_count ≡ 0 }
-        ensures others { self.new ≡ record self.old { pages = self.new.pages; held_from = 0; held_count = 0 } }
+        ensures others { self.new ≡ record self.old
+            { pages = self.new.pages; held_from = 0; held_count = 0 } }
     {
         let Held {
             alloc: _,

@@ -54,7 +54,8 @@ impl Held {
     /// The pieces of the range, in the order of their addresses.
     pub fn pieces(&self) -> &[Piece]
         ensures pieces { result.now ≡ self.now.pieces }
-        ensures there { All (λ piece. IsSome (held_strokes self.now.pages piece.page)) self.now.pieces }
+        ensures there { All (λ piece. IsSome (held_strokes self.now.pages piece.page))
+            self.now.pieces }
         ensures some { All (λ piece. 1 ≤ piece.len) self.now.pieces }
         ensures inside { All (λ piece. piece.offset + piece.len ≤ 4096) self.now.pieces }
         ensures few { length result.now ≤ 17 }
@@ -75,9 +76,14 @@ impl Held {
     pub fn write(&mut self, name: StrokeName, bytes: &[u8]) -> Result<(), NoMemory>
         requires right { self.old.right ≡ Right.Write }
         requires len { length bytes.now ≡ held_len self.old.pieces }
-        ensures strokes { OnOk result ((p : ℕ) → held_strokes self.new.pages p ≡ option_map (λ s. s ++ strokes_on p self.old.pieces (piece_strokes name bytes.now self.old.pieces)) (held_strokes self.old.pages p)) }
-        ensures pieces { OnOk result (self.new.pieces ≡ numbered (λ p. stroke_count (held_strokes self.old.pages p)) self.old.pieces) }
-        ensures err { OnErr result ((p : ℕ) → held_strokes self.new.pages p ≡ held_strokes self.old.pages p) }
+        ensures strokes { OnOk result ((p : ℕ)
+            → held_strokes self.new.pages p ≡ option_map
+            (λ s. s ++ strokes_on p self.old.pieces (piece_strokes name bytes.now self.old.pieces))
+            (held_strokes self.old.pages p)) }
+        ensures pieces { OnOk result (self.new.pieces ≡ numbered
+            (λ p. stroke_count (held_strokes self.old.pages p)) self.old.pieces) }
+        ensures err { OnErr result ((p : ℕ)
+            → held_strokes self.new.pages p ≡ held_strokes self.old.pages p) }
         ensures same { OnErr result (self.new.pieces ≡ self.old.pieces) }
         ensures follows { Follows self.old self.new }
     {
@@ -90,9 +96,14 @@ impl Held {
     fn lay(&mut self, strokes: ArrayVec<Option<Stroke>, MOST_PIECES>) -> Result<(), NoMemory>
         requires each { All IsSome strokes.items }
         requires count { length strokes.items ≡ length self.old.pieces }
-        ensures strokes { OnOk result ((p : ℕ) → held_strokes self.new.pages p ≡ option_map (λ s. s ++ strokes_on p self.old.pieces (those strokes.items)) (held_strokes self.old.pages p)) }
-        ensures pieces { OnOk result (self.new.pieces ≡ numbered (λ p. stroke_count (held_strokes self.old.pages p)) self.old.pieces) }
-        ensures err { OnErr result ((p : ℕ) → held_strokes self.new.pages p ≡ held_strokes self.old.pages p) }
+        ensures strokes { OnOk result ((p : ℕ)
+            → held_strokes self.new.pages p ≡ option_map
+            (λ s. s ++ strokes_on p self.old.pieces (those strokes.items))
+            (held_strokes self.old.pages p)) }
+        ensures pieces { OnOk result (self.new.pieces ≡ numbered
+            (λ p. stroke_count (held_strokes self.old.pages p)) self.old.pieces) }
+        ensures err { OnErr result ((p : ℕ)
+            → held_strokes self.new.pages p ≡ held_strokes self.old.pages p) }
         ensures same { OnErr result (self.new.pieces ≡ self.old.pieces) }
         ensures follows { Follows self.old self.new }
     {
@@ -113,10 +124,17 @@ impl Held {
     ) -> Result<(), NoMemory>
         requires right { self.old.right ≡ Right.Write }
         requires len { held_len source.now.pieces ≡ held_len self.old.pieces }
-        ensures strokes { OnOk result ((p : ℕ) → held_strokes self.new.pages p ≡ option_map (λ s. s ++ strokes_on p self.old.pieces (piece_strokes name (joined source.now.pages source.now.pieces) self.old.pieces)) (held_strokes self.old.pages p)) }
-        ensures bytes { OnOk result (length (joined source.now.pages source.now.pieces) ≡ held_len source.now.pieces) }
-        ensures pieces { OnOk result (self.new.pieces ≡ numbered (λ p. stroke_count (held_strokes self.old.pages p)) self.old.pieces) }
-        ensures err { OnErr result ((p : ℕ) → held_strokes self.new.pages p ≡ held_strokes self.old.pages p) }
+        ensures strokes { OnOk result ((p : ℕ)
+            → held_strokes self.new.pages p ≡ option_map
+            (λ s. s ++ strokes_on p self.old.pieces
+            (piece_strokes name (joined source.now.pages source.now.pieces) self.old.pieces))
+            (held_strokes self.old.pages p)) }
+        ensures bytes { OnOk result (length (joined source.now.pages source.now.pieces) ≡ held_len
+            source.now.pieces) }
+        ensures pieces { OnOk result (self.new.pieces ≡ numbered
+            (λ p. stroke_count (held_strokes self.old.pages p)) self.old.pieces) }
+        ensures err { OnErr result ((p : ℕ)
+            → held_strokes self.new.pages p ≡ held_strokes self.old.pages p) }
         ensures same { OnErr result (self.new.pieces ≡ self.old.pieces) }
         ensures follows { Follows self.old self.new }
     {
@@ -186,8 +204,11 @@ fn take_page(
 )
     requires inside { number < length pages.old.items }
     requires room { array_vec_len held.old < 17 }
-    ensures away { (p : ℕ) → strokes_at pages.new.items p ≡ (if number == p then None else strokes_at pages.old.items p) }
-    ensures taken { (p : ℕ) → held_strokes held.new.items p ≡ either (held_strokes held.old.items p) (if number == p then strokes_at pages.old.items p else None) }
+    ensures away { (p : ℕ) → strokes_at pages.new.items p ≡
+        (if number == p then None else strokes_at pages.old.items p) }
+    ensures taken { (p : ℕ) → held_strokes held.new.items p ≡ either
+        (held_strokes held.old.items p)
+        (if number == p then strokes_at pages.old.items p else None) }
     ensures few { array_vec_len held.new ≤ array_vec_len held.old + 1 }
     ensures size { length pages.new.items ≡ length pages.old.items }
 {
@@ -203,8 +224,10 @@ pub(crate) fn take_pages(
 ) -> ArrayVec<Option<HeldPage>, MOST_PIECES>
     requires few { length pieces.now ≤ 17 }
     requires inside { All (λ piece. piece.page < length pages.old.items) pieces.now }
-    ensures away { (p : ℕ) → strokes_at pages.new.items p ≡ (if on_page pieces.now p then None else strokes_at pages.old.items p) }
-    ensures taken { (p : ℕ) → held_strokes result.items p ≡ (if on_page pieces.now p then strokes_at pages.old.items p else None) }
+    ensures away { (p : ℕ) → strokes_at pages.new.items p ≡
+        (if on_page pieces.now p then None else strokes_at pages.old.items p) }
+    ensures taken { (p : ℕ) → held_strokes result.items p ≡
+        (if on_page pieces.now p then strokes_at pages.old.items p else None) }
     ensures size { length pages.new.items ≡ length pages.old.items }
 {
     let mut held = ArrayVec::new();
@@ -217,7 +240,8 @@ pub(crate) fn take_pages(
 /// Puts the page back into its place, if that is empty.
 fn put_page(pages: &mut Vec<Option<Page>>, held: Option<HeldPage>)
     requires { (p : ℕ) → IsSome (strokes_of held p) → p < length pages.old.items }
-    ensures strokes { (p : ℕ) → strokes_at pages.new.items p ≡ either (strokes_at pages.old.items p) (strokes_of held p) }
+    ensures strokes { (p : ℕ) → strokes_at pages.new.items p ≡ either
+        (strokes_at pages.old.items p) (strokes_of held p) }
     ensures size { length pages.new.items ≡ length pages.old.items }
 {
     if let Some(HeldPage { number, page }) = held {
@@ -234,7 +258,8 @@ pub(crate) fn put_pages(
     held: ArrayVec<Option<HeldPage>, MOST_PIECES>,
 )
     requires { (p : ℕ) → IsSome (held_strokes held.items p) → p < length pages.old.items }
-    ensures strokes { (p : ℕ) → strokes_at pages.new.items p ≡ either (strokes_at pages.old.items p) (held_strokes held.items p) }
+    ensures strokes { (p : ℕ) → strokes_at pages.new.items p ≡ either
+        (strokes_at pages.old.items p) (held_strokes held.items p) }
     ensures size { length pages.new.items ≡ length pages.old.items }
 {
     for page in held {

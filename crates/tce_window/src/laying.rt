@@ -23,7 +23,8 @@ pub(crate) fn strokes_over(
     requires few { length pieces.now ≤ 17 }
     requires inside { All (λ piece. piece.offset + piece.len ≤ 4096) pieces.now }
     requires len { length bytes.now ≡ held_len pieces.now }
-    ensures { IfOk result (λ strokes. strokes.items ≡ map Some (piece_strokes name bytes.now pieces.now)) }
+    ensures { IfOk result (λ strokes.
+        strokes.items ≡ map Some (piece_strokes name bytes.now pieces.now)) }
 {
     let mut strokes = ArrayVec::new();
     let mut done = 0;
@@ -72,8 +73,10 @@ fn make_room(pages: &mut [Option<HeldPage>], pieces: &[Piece]) -> Result<(), NoM
 fn write_held(pages: &mut [Option<HeldPage>], at: usize, stroke: Stroke) -> u32
     requires inside { at < length pages.old }
     requires room { 1 ≤ room_of (slice_index_or pages.old at None) }
-    ensures index { (p : ℕ) → IsSome (strokes_of (slice_index_or pages.old at None) p) → result ≡ stroke_count (strokes_of (slice_index_or pages.old at None) p) }
-    ensures pages { pages.new ≡ slice_set pages.old at (with_more stroke (slice_index_or pages.old at None)) }
+    ensures index { (p : ℕ) → IsSome (strokes_of (slice_index_or pages.old at None) p)
+        → result ≡ stroke_count (strokes_of (slice_index_or pages.old at None) p) }
+    ensures pages { pages.new ≡ slice_set pages.old at
+        (with_more stroke (slice_index_or pages.old at None)) }
 {
     match &mut pages[at] {
         Some(held) => held.page.write(stroke),
@@ -86,8 +89,11 @@ fn lay_stroke(pages: &mut [Option<HeldPage>], number: u16, stroke: Stroke) -> u3
     requires there { IsSome (held_strokes pages.old number) }
     requires room { 1 ≤ held_room pages.old number }
     ensures index { result ≡ stroke_count (held_strokes pages.old number) }
-    ensures strokes { (p : ℕ) → held_strokes pages.new p ≡ (if number == p then option_map (λ s. s ++ stroke ∷ []) (held_strokes pages.old p) else held_strokes pages.old p) }
-    ensures room { (p : ℕ) → held_room pages.old p ≡ held_room pages.new p + (if number == p then 1 else 0) }
+    ensures strokes { (p : ℕ) → held_strokes pages.new p ≡
+        (if number == p then option_map (λ s. s ++ stroke ∷ [])
+        (held_strokes pages.old p) else held_strokes pages.old p) }
+    ensures room { (p : ℕ) → held_room pages.old p ≡ held_room pages.new p +
+        (if number == p then 1 else 0) }
 {
     let place = place_on(pages, number);
     write_held(pages, place, stroke)
@@ -103,8 +109,10 @@ fn lay_strokes(
     requires room { All (HasRoom pieces.old) pages.old }
     requires each { All IsSome strokes.items }
     requires count { length strokes.items ≡ length pieces.old }
-    ensures strokes { (p : ℕ) → held_strokes pages.new p ≡ option_map (λ s. s ++ strokes_on p pieces.old (those strokes.items)) (held_strokes pages.old p) }
-    ensures pieces { pieces.new ≡ numbered (λ p. stroke_count (held_strokes pages.old p)) pieces.old }
+    ensures strokes { (p : ℕ) → held_strokes pages.new p ≡ option_map
+        (λ s. s ++ strokes_on p pieces.old (those strokes.items)) (held_strokes pages.old p) }
+    ensures pieces { pieces.new ≡ numbered
+        (λ p. stroke_count (held_strokes pages.old p)) pieces.old }
 {
     let mut place = 0;
     for stroke in strokes {
@@ -125,8 +133,11 @@ pub(crate) fn lay(
     requires there { All (λ piece. IsSome (held_strokes pages.old piece.page)) pieces.old }
     requires each { All IsSome strokes.items }
     requires count { length strokes.items ≡ length pieces.old }
-    ensures strokes { OnOk result ((p : ℕ) → held_strokes pages.new p ≡ option_map (λ s. s ++ strokes_on p pieces.old (those strokes.items)) (held_strokes pages.old p)) }
-    ensures pieces { OnOk result (pieces.new ≡ numbered (λ p. stroke_count (held_strokes pages.old p)) pieces.old) }
+    ensures strokes { OnOk result ((p : ℕ)
+        → held_strokes pages.new p ≡ option_map
+        (λ s. s ++ strokes_on p pieces.old (those strokes.items)) (held_strokes pages.old p)) }
+    ensures pieces { OnOk result (pieces.new ≡ numbered
+        (λ p. stroke_count (held_strokes pages.old p)) pieces.old) }
     ensures err { OnErr result ((p : ℕ) → held_strokes pages.new p ≡ held_strokes pages.old p) }
     ensures same { OnErr result (pieces.new ≡ pieces.old) }
 {

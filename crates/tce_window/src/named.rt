@@ -24,7 +24,8 @@ fn run_start(strokes: &[Stroke], name: StrokeName) -> usize
     ensures within { result ≤ length strokes.now }
     ensures run { last_run name strokes.now ≡ drop result strokes.now }
     ensures first { result ≡ 0 → last_other name strokes.now ≡ None }
-    ensures other { (d : StrokeValue) → 0 < result → last_other name strokes.now ≡ Some ((slice_index_or strokes.now (result - 1) d).name) }
+    ensures other { (d : StrokeValue) → 0 < result
+        → last_other name strokes.now ≡ Some ((slice_index_or strokes.now (result - 1) d).name) }
 {
     let mut start = strokes.len();
     while start > 0 && is_named(&strokes[start - 1], name) {
@@ -36,7 +37,8 @@ fn run_start(strokes: &[Stroke], name: StrokeName) -> usize
 /// Marks the places that the stroke covers.
 fn mark(covered: &mut [bool], stroke: &Stroke)
     requires { length covered.old ≡ 4096 }
-    ensures { (k : ℕ) (d : Bool) → k < 4096 → slice_index_or covered.new k d ≡ (slice_index_or covered.old k d || covers k stroke.now) }
+    ensures { (k : ℕ) (d : Bool) → k < 4096
+        → slice_index_or covered.new k d ≡ (slice_index_or covered.old k d || covers k stroke.now) }
 {
     let start = stroke.offset() as usize;
     let end = start + stroke.bytes().len();
@@ -46,8 +48,10 @@ fn mark(covered: &mut [bool], stroke: &Stroke)
 /// The first place from here to there that is not covered.
 fn first_gap(covered: &[bool], from: usize, to: usize) -> Option<usize>
     requires { to ≤ length covered.now }
-    ensures gap { IfSome result (λ k. (from ≤ k) × (k < to) × (slice_index_or covered.now k true ≡ false)) }
-    ensures none { IfNone result ((k : ℕ) → from ≤ k → k < to → slice_index_or covered.now k false ≡ true) }
+    ensures gap { IfSome result (λ k. (from ≤ k) × (k < to)
+        × (slice_index_or covered.now k true ≡ false)) }
+    ensures none { IfNone result ((k : ℕ) → from ≤ k → k < to
+        → slice_index_or covered.now k false ≡ true) }
 {
     for place in from..to {
         if !covered[place] {

@@ -1,10 +1,10 @@
 // The owner's own reads and writes of its region.
-ghost use Rattle.std.specs.Prelude.{◌≡◌, ℕ, ◌+◌, ◌-◌, ◌*◌, ◌/◌, ◌%◌, ◌^◌, ◌<◌, ◌≤◌, false, length, slice_index, IsTrue, IsOk, IsErr, IsErrOf, IfErr, IfOk, OnErr, OnOk, IsSome, IfSome, IfNone, None, Some, ⊤, All, slice_index_or, slice_set};
+ghost use Rattle.std.specs.Prelude.{◌≡◌, ◌↔◌, ℕ, ◌+◌, ◌-◌, ◌*◌, ◌/◌, ◌%◌, ◌^◌, ◌<◌, ◌≤◌, false, length, slice_index, IsTrue, IsOk, IsErr, IsErrOf, IfOk, OnErr, OnOk, IsSome, IfSome, IfNone, None, Some, All, slice_index_or, slice_set};
 ghost use Rattle.page_slots.specs.Stroke.{StrokeValue};
-ghost use Rattle.tce_window.specs.Region.{in_region, first_page, end_page, AreThere, region_byte, IsFirstHeld, stroke_on, written, laid};
+ghost use Rattle.tce_window.specs.Region.{in_region, first_page, end_page, AreThere, region_byte, IsAwayFirst, stroke_on, written, laid};
 ghost use Rattle.tce_window.specs.Named.{AreFresh, IsFirstStale};
 ghost use Rattle.tce_window.specs.Window.{strokes_at, room_at, with_stroke};
-ghost use Rattle.tce_window.specs.Answers.{MatchOwn, MatchNamed, times_own, times_named};
+ghost use Rattle.tce_window.specs.Answers.{IfInUse, IfNamedInUse, IfStale, times_own, times_named};
 
 use crate::answers::{NamedFault, OwnFault};
 use crate::named::stale;
@@ -14,7 +14,7 @@ use std::alloc::Global;
 use vio_num::NoMemory;
 
 /// The bytes of a page.
-const PAGE_BYTES: usize = 4096;
+const PAGE_BYTES: usize = vio_num::PAGE_BYTES as usize;
 
 /// As many bytes as one call moves.
 const MOST_BYTES: usize = 65536;
@@ -34,7 +34,8 @@ impl PlainWindow {
     /// The first page from `first` to before `end` that is held.
     fn first_held(&self, first: usize, end: usize) -> Option<usize>
         requires { end ≤ length self.now.pages }
-        ensures held { IfSome result (λ page. (first ≤ page) × (page < end) × (strokes_at self.now.pages page ≡ None)) }
+        ensures held { IfSome result (λ page. (first ≤ page) × (page < end)
+            × (strokes_at self.now.pages page ≡ None)) }
         ensures before { IfSome result (λ page. AreThere (strokes_at self.now.pages) first page) }
         ensures none { IfNone result (AreThere (strokes_at self.now.pages) first end) }
     {
@@ -69,7 +70,8 @@ impl PlainWindow {
     fn read_page(&self, address: usize, out: &mut [u8])
         requires there { IsSome (strokes_at self.now.pages (address / 4096)) }
         requires inside { address % 4096 + length out.old ≤ 4096 }
-        ensures { (k : ℕ) → k < length out.old → slice_index out.new k ≡ region_byte (strokes_at self.now.pages) (address + k) }
+        ensures { (k : ℕ) → k < length out.old
+            → slice_index out.new k ≡ region_byte (strokes_at self.now.pages) (address + k) }
     {
         self.page(address / PAGE_BYTES)
             .read((address % PAGE_BYTES) as u16, out);
@@ -78,8 +80,10 @@ impl PlainWindow {
     /// Copies the bytes of the region from the address on.
     fn read_pages(&self, at: usize, out: &mut [u8])
         requires inside { at + length out.old ≤ 2 ^ 20 }
-        requires there { AreThere (strokes_at self.now.pages) (first_page at) (end_page at (length out.old)) }
-        ensures { (k : ℕ) → k < length out.old → slice_index out.new k ≡ region_byte (strokes_at self.now.pages) (at + k) }
+        requires there { AreThere (strokes_at self.now.pages) (first_page at)
+            (end_page at (length out.old)) }
+        ensures { (k : ℕ) → k < length out.old
+            → slice_index out.new k ≡ region_byte (strokes_at self.now.pages) (at + k) }
     {
         let mut done = 0;
         while done < out.len() {
@@ -97,7 +101,12 @@ impl PlainWindow {
         ensures there { OnOk result (AreThere (strokes_at self.old.pages) (first_page at) (end_page at len)) }
         ensures near { OnOk result (at + len ≤ 2 ^ 20) }
         ensures few { OnOk result (len ≤ 65536) }
-        ensures cause { IfErr result (λ fault. MatchOwn fault (in_region (length self.old.pages) at len ≡ false) (λ page word. IsFirstHeld (strokes_at self.old.pages) (first_page at) (end_page at len) page × (word ≡ TAKEN) × IsTrue (in_region (length self.old.pages) at len)) ⊥) }
+        ensures range { IsErrOf result OwnFault.Range ↔
+            (in_region (length self.old.pages) at len ≡ false) }
+        ensures in_use { IfInUse result
+            (λ page word. IsAwayFirst (strokes_at self.old.pages)
+            (length self.old.pages) at len page × (word ≡ TAKEN)) }
+        ensures memory { ¬ IsErrOf result OwnFault.NoMemory }
         ensures state { self.new ≡ record self.old { in_use = times_own result self.old.in_use } }
     {
         if !self.in_region(at, len) {
@@ -119,9 +128,16 @@ impl PlainWindow {
     /// as before.
     pub fn read(&mut self, at: u64, out: &mut [u8]) -> Result<(), OwnFault>
         ensures inside { OnOk result (IsTrue (in_region (length self.old.pages) at (length out.old))) }
-        ensures there { OnOk result (AreThere (strokes_at self.old.pages) (first_page at) (end_page at (length out.old))) }
-        ensures bytes { OnOk result ((k : ℕ) → k < length out.old → slice_index out.new k ≡ region_byte (strokes_at self.old.pages) (at + k)) }
-        ensures cause { IfErr result (λ fault. MatchOwn fault (in_region (length self.old.pages) at (length out.old) ≡ false) (λ page word. IsFirstHeld (strokes_at self.old.pages) (first_page at) (end_page at (length out.old)) page × (word ≡ TAKEN) × IsTrue (in_region (length self.old.pages) at (length out.old))) ⊥) }
+        ensures there { OnOk result (AreThere (strokes_at self.old.pages) (first_page at)
+            (end_page at (length out.old))) }
+        ensures bytes { OnOk result ((k : ℕ) → k < length out.old
+            → slice_index out.new k ≡ region_byte (strokes_at self.old.pages) (at + k)) }
+        ensures range { IsErrOf result OwnFault.Range ↔
+            (in_region (length self.old.pages) at (length out.old) ≡ false) }
+        ensures in_use { IfInUse result
+            (λ page word. IsAwayFirst (strokes_at self.old.pages) (length self.old.pages) at
+            (length out.old) page × (word ≡ TAKEN)) }
+        ensures memory { ¬ IsErrOf result OwnFault.NoMemory }
         ensures err { OnErr result (out.new ≡ out.old) }
         ensures state { self.new ≡ record self.old { in_use = times_own result self.old.in_use } }
     {
@@ -139,9 +155,22 @@ impl PlainWindow {
         name: StrokeName,
     ) -> Result<(), NamedFault>
         ensures inside { OnOk result (IsTrue (in_region (length self.old.pages) at (length out.old))) }
-        ensures fresh { OnOk result (AreFresh name at (length out.old) (strokes_at self.old.pages) (first_page at) (end_page at (length out.old))) }
-        ensures bytes { OnOk result ((k : ℕ) → k < length out.old → slice_index out.new k ≡ region_byte (strokes_at self.old.pages) (at + k)) }
-        ensures cause { IfErr result (λ fault. MatchNamed fault (in_region (length self.old.pages) at (length out.old) ≡ false) (λ page word. IsFirstHeld (strokes_at self.old.pages) (first_page at) (end_page at (length out.old)) page × (word ≡ TAKEN) × IsTrue (in_region (length self.old.pages) at (length out.old))) (λ page found. IsFirstStale name at (length out.old) (strokes_at self.old.pages) (first_page at) (end_page at (length out.old)) page found × AreThere (strokes_at self.old.pages) (first_page at) (end_page at (length out.old)) × IsTrue (in_region (length self.old.pages) at (length out.old)))) }
+        ensures fresh { OnOk result (AreFresh name at (length out.old) (strokes_at self.old.pages)
+            (first_page at) (end_page at (length out.old))) }
+        ensures bytes { OnOk result ((k : ℕ) → k < length out.old
+            → slice_index out.new k ≡ region_byte (strokes_at self.old.pages) (at + k)) }
+        ensures range { IsErrOf result NamedFault.Range ↔
+            (in_region (length self.old.pages) at (length out.old) ≡ false) }
+        ensures in_use { IfNamedInUse result
+            (λ page word. IsAwayFirst (strokes_at self.old.pages) (length self.old.pages) at
+            (length out.old) page × (word ≡ TAKEN)) }
+        ensures stale { IfStale result
+            (λ page found. IsFirstStale name at (length out.old) (strokes_at self.old.pages)
+            (first_page at) (end_page at (length out.old)) page found) }
+        ensures stale_there { IfStale result
+            (λ _ _. AreThere (strokes_at self.old.pages) (first_page at)
+            (end_page at (length out.old))
+            × IsTrue (in_region (length self.old.pages) at (length out.old))) }
         ensures err { OnErr result (out.new ≡ out.old) }
         ensures state { self.new ≡ record self.old { in_use = times_named result self.old.in_use } }
     {
@@ -171,8 +200,10 @@ impl PlainWindow {
     ) -> Option<(usize, Option<StrokeName>)>
         requires near { at + len ≤ 2 ^ 20 }
         requires there { AreThere (strokes_at self.now.pages) (first_page at) (end_page at len) }
-        ensures none { IfNone result (AreFresh name at len (strokes_at self.now.pages) (first_page at) (end_page at len)) }
-        ensures stale { IfSome result (λ first. IsFirstStale name at len (strokes_at self.now.pages) (first_page at) (end_page at len) first.0 first.1) }
+        ensures none { IfNone result (AreFresh name at len (strokes_at self.now.pages) (first_page at)
+            (end_page at len)) }
+        ensures stale { IfSome result (λ first. IsFirstStale name at len (strokes_at self.now.pages)
+            (first_page at) (end_page at len) first.0 first.1) }
     {
         let first = at / PAGE_BYTES;
         let end = (at + len).div_ceil(PAGE_BYTES);
@@ -191,12 +222,26 @@ impl PlainWindow {
     /// that they touch, named by the unit and the mark. Where it refuses, no page has another stroke.
     pub fn write(&mut self, at: u64, bytes: &[u8], mark: u64) -> Result<(), OwnFault>
         ensures inside { OnOk result (IsTrue (in_region (length self.old.pages) at (length bytes.now))) }
-        ensures there { OnOk result (AreThere (strokes_at self.old.pages) (first_page at) (end_page at (length bytes.now))) }
-        ensures strokes { OnOk result ((p : ℕ) → strokes_at self.new.pages p ≡ written (record { who = self.old.unit; mark = mark }) at bytes.now p (strokes_at self.old.pages p)) }
-        ensures cause { IfErr result (λ fault. MatchOwn fault (in_region (length self.old.pages) at (length bytes.now) ≡ false) (λ page word. IsFirstHeld (strokes_at self.old.pages) (first_page at) (end_page at (length bytes.now)) page × (word ≡ TAKEN) × IsTrue (in_region (length self.old.pages) at (length bytes.now))) (⊤)) }
-        ensures err { OnErr result ((p : ℕ) → strokes_at self.new.pages p ≡ strokes_at self.old.pages p) }
+        ensures there { OnOk result (AreThere (strokes_at self.old.pages) (first_page at)
+            (end_page at (length bytes.now))) }
+        ensures strokes { OnOk result ((p : ℕ)
+            → strokes_at self.new.pages p ≡ written
+            (record { who = self.old.unit; mark = mark }) at bytes.now p
+            (strokes_at self.old.pages p)) }
+        ensures range { IsErrOf result OwnFault.Range ↔
+            (in_region (length self.old.pages) at (length bytes.now) ≡ false) }
+        ensures in_use { IfInUse result
+            (λ page word. IsAwayFirst (strokes_at self.old.pages) (length self.old.pages) at
+            (length bytes.now) page × (word ≡ TAKEN)) }
+        ensures memory { IsErrOf result OwnFault.NoMemory
+            → IsTrue (in_region (length self.old.pages) at (length bytes.now))
+            × AreThere (strokes_at self.old.pages) (first_page at)
+            (end_page at (length bytes.now)) }
+        ensures err { OnErr result ((p : ℕ)
+            → strokes_at self.new.pages p ≡ strokes_at self.old.pages p) }
         ensures size { length self.new.pages ≡ length self.old.pages }
-        ensures others { self.new ≡ record self.old { pages = self.new.pages; in_use = times_own result self.old.in_use } }
+        ensures others { self.new ≡ record self.old
+            { pages = self.new.pages; in_use = times_own result self.old.in_use } }
     {
         self.touched(at, bytes.len())?;
         let name = StrokeName {
@@ -218,9 +263,13 @@ fn write_pages(
 ) -> Result<(), NoMemory>
     requires near { at + length bytes.now ≤ 2 ^ 20 }
     requires inside { end_page at (length bytes.now) ≤ length pages.old.items }
-    requires there { AreThere (strokes_at pages.old.items) (first_page at) (end_page at (length bytes.now)) }
-    ensures strokes { OnOk result ((p : ℕ) → strokes_at pages.new.items p ≡ written name at bytes.now p (strokes_at pages.old.items p)) }
-    ensures err { OnErr result ((p : ℕ) → strokes_at pages.new.items p ≡ strokes_at pages.old.items p) }
+    requires there { AreThere (strokes_at pages.old.items) (first_page at)
+        (end_page at (length bytes.now)) }
+    ensures strokes { OnOk result ((p : ℕ)
+        → strokes_at pages.new.items p ≡ written name at bytes.now p
+        (strokes_at pages.old.items p)) }
+    ensures err { OnErr result ((p : ℕ)
+        → strokes_at pages.new.items p ≡ strokes_at pages.old.items p) }
     ensures size { length pages.new.items ≡ length pages.old.items }
     ensures there { All IsSome pages.old.items → All IsSome pages.new.items }
 {
@@ -245,7 +294,8 @@ fn strokes_over(
     requires first { first ≡ first_page at }
     requires end { end ≡ end_page at (length bytes.now) }
     ensures count { IfOk result (λ strokes. length strokes.items ≡ end - first) }
-    ensures strokes { IfOk result (λ strokes. (i : ℕ) (d : StrokeValue) → i < end - first → slice_index_or strokes.items i d ≡ stroke_on name at bytes.now (first + i)) }
+    ensures strokes { IfOk result (λ strokes. (i : ℕ) (d : StrokeValue) → i < end - first
+        → slice_index_or strokes.items i d ≡ stroke_on name at bytes.now (first + i)) }
 {
     let mut strokes = Vec::new(alloc);
     for page in first..end {
@@ -278,7 +328,8 @@ fn make_room(pages: &mut Vec<Option<Page>>, first: usize, end: usize) -> Result<
     requires { end ≤ length pages.old.items }
     ensures strokes { (p : ℕ) → strokes_at pages.new.items p ≡ strokes_at pages.old.items p }
     ensures size { length pages.new.items ≡ length pages.old.items }
-    ensures room { OnOk result ((p : ℕ) → first ≤ p → p < end → IsSome (strokes_at pages.old.items p) → 1 ≤ room_at pages.new.items p) }
+    ensures room { OnOk result ((p : ℕ) → first ≤ p → p < end
+        → IsSome (strokes_at pages.old.items p) → 1 ≤ room_at pages.new.items p) }
 {
     for page in first..end {
         reserve_slot(pages, page)?;
@@ -291,7 +342,8 @@ fn reserve_slot(pages: &mut Vec<Option<Page>>, at: usize) -> Result<(), NoMemory
     requires { at < length pages.old.items }
     ensures strokes { (p : ℕ) → strokes_at pages.new.items p ≡ strokes_at pages.old.items p }
     ensures size { length pages.new.items ≡ length pages.old.items }
-    ensures room { OnOk result (IsSome (strokes_at pages.old.items at) → 1 ≤ room_at pages.new.items at) }
+    ensures room { OnOk result (IsSome (strokes_at pages.old.items at)
+        → 1 ≤ room_at pages.new.items at) }
     ensures kept { (p : ℕ) → room_at pages.old.items p ≤ room_at pages.new.items p }
 {
     match &mut pages[at] {
@@ -303,7 +355,8 @@ fn reserve_slot(pages: &mut Vec<Option<Page>>, at: usize) -> Result<(), NoMemory
 /// Writes the strokes on pages that follow one another, one on each.
 fn write_strokes(pages: &mut Vec<Option<Page>>, first: usize, strokes: Vec<Stroke>)
     requires inside { first + length strokes.items ≤ length pages.old.items }
-    requires room { (p : ℕ) → first ≤ p → p < first + length strokes.items → 1 ≤ room_at pages.old.items p }
+    requires room { (p : ℕ) → first ≤ p → p < first + length strokes.items
+        → 1 ≤ room_at pages.old.items p }
     ensures pages { pages.new.items ≡ laid pages.old.items first strokes.items }
 {
     let mut page = first;
@@ -316,7 +369,8 @@ fn write_strokes(pages: &mut Vec<Option<Page>>, first: usize, strokes: Vec<Strok
 /// Writes a stroke on a page that is in its place and has room for it.
 fn write_slot(pages: &mut Vec<Option<Page>>, at: usize, stroke: Stroke)
     requires { 1 ≤ room_at pages.old.items at }
-    ensures { pages.new.items ≡ slice_set pages.old.items at (with_stroke stroke (slice_index_or pages.old.items at None)) }
+    ensures { pages.new.items ≡ slice_set pages.old.items at
+        (with_stroke stroke (slice_index_or pages.old.items at None)) }
 {
     match &mut pages[at] {
         Some(page) => {

@@ -1,16 +1,13 @@
 // The pieces of a range of a plain window.
 ghost use Rattle.std.specs.Prelude.{◌≡◌, ℕ, ◌+◌, ◌-◌, ◌*◌, ◌/◌, ◌%◌, ◌^◌, ◌<◌, ◌≤◌, All, length, IfOk, IfErr, OnOk, IsTrue};
 ghost use Rattle.tce_window.specs.Grant.{grants, told, values_of};
-ghost use Rattle.tce_window.specs.Pieces.{IsPieceAt, Touches, IsGranted, IsLast, HasStrokes, IsUsable, MayUse, Lacks, IsRefused, IsOfEntry};
+ghost use Rattle.tce_window.specs.Pieces.{IsPieceAt, Touches, IsGranted, IsLast, HasStrokes, IsUsable, MayUse, IsRefused, IsRefusedAt, IsOfEntry};
 ghost use Rattle.tce_window.specs.Window.{strokes_at};
-ghost use Rattle.tce_window.specs.Answers.{MatchHold};
 
 use crate::answers::{HoldFault, Piece, Right};
 use crate::window::PlainWindow;
 use arrayvec::ArrayVec;
-
-/// The bytes of a page, and the addresses of an entry.
-const PAGE_BYTES: u64 = 4096;
+use vio_num::PAGE_BYTES;
 
 /// As many entries as a range touches.
 pub(crate) const MOST_PIECES: usize = 17;
@@ -48,7 +45,8 @@ impl PlainWindow {
         ensures usable { OnOk result (MayUse (values_of self.now.rows) right (address / 4096)) }
         ensures inside { OnOk result (address / 4096 < length self.now.pages) }
         ensures near { OnOk result (address < 2 ^ 20) }
-        ensures cause { IfErr result (λ fault. MatchHold fault (λ entry. (entry ≡ address / 4096) × (length self.now.pages ≤ entry)) (λ entry version tce. (entry ≡ address / 4096) × (entry < length self.now.pages) × Lacks (values_of self.now.rows) right entry version tce) (λ _ _. ⊥)) }
+        ensures cause { IfErr result
+            (IsRefusedAt (values_of self.now.rows) right (length self.now.pages) (address / 4096)) }
     {
         let entry = address / PAGE_BYTES;
         if entry >= u64::from(self.pages()) {
@@ -87,11 +85,14 @@ impl PlainWindow {
         ensures touched { IfOk result (λ pieces. Touches self.now.unit ioba (ioba + len) pieces.items) }
         ensures granted { IfOk result (λ pieces. All (IsGranted (values_of self.now.rows) right) pieces.items) }
         ensures last { IfOk result (λ pieces. All (IsLast (values_of self.now.rows)) pieces.items) }
-        ensures strokes { IfOk result (λ pieces. All (λ piece. HasStrokes piece (strokes_at self.now.pages piece.page)) pieces.items) }
+        ensures strokes { IfOk result (λ pieces. All
+            (λ piece. HasStrokes piece (strokes_at self.now.pages piece.page)) pieces.items) }
         ensures inside { IfOk result (λ pieces. ioba / 4096 + length pieces.items ≤ length self.now.pages) }
         ensures some { IfOk result (λ pieces. 1 ≤ length pieces.items) }
-        ensures usable { OnOk result (IsUsable (values_of self.now.rows) right (length self.now.pages) ioba len) }
-        ensures cause { IfErr result (λ fault. IsRefused (values_of self.now.rows) right (length self.now.pages) ioba len fault) }
+        ensures usable { OnOk result (IsUsable (values_of self.now.rows) right
+            (length self.now.pages) ioba len) }
+        ensures cause { IfErr result (λ fault. IsRefused (values_of self.now.rows) right
+            (length self.now.pages) ioba len fault) }
         ensures entry { IfErr result IsOfEntry }
     {
         let mut pieces = ArrayVec::new();

@@ -9,25 +9,14 @@ use page_slots::StrokeName;
 use vio_num::NoMemory;
 
 impl WindowPort for PlainWindow {
-    ghost use Rattle.std.specs.Prelude.{length, false};
-    ghost use Rattle.tce_window.specs.Grant.{values_of};
-    ghost use Rattle.tce_window.specs.Window.{strokes_at};
-
-    ghost unit = { λ window. window.unit };
-
-    ghost size = { λ window. length window.pages };
+    ghost use Rattle.std.specs.Prelude.{false};
+    ghost use Rattle.tce_window.specs.PlainPort.{known_of, plain_begins};
 
     ghost is_shared = { false };
 
-    ghost strokes = { λ window. strokes_at window.pages };
+    ghost state = { known_of };
 
-    ghost values = { λ window. values_of window.rows };
-
-    ghost held_from = { λ window. window.held_from };
-
-    ghost held_count = { λ window. window.held_count };
-
-    ghost in_use = { λ window. window.in_use };
+    ghost begins = { plain_begins };
 }
 
 impl OwnerPort for PlainWindow {

@@ -8,9 +8,7 @@ ghost use Rattle.tce_window.specs.Answers.{times_in_use, gives};
 
 use crate::answers::{GetTce, TceAnswer};
 use crate::window::PlainWindow;
-
-/// The bytes of a page, and the addresses of an entry.
-const PAGE_BYTES: u64 = 4096;
+use vio_num::PAGE_BYTES;
 
 /// As many values as one call puts.
 const MOST_PUTS: usize = 512;
@@ -19,12 +17,16 @@ impl PlainWindow {
     /// Puts the value into the entry of this address, as its next version. It needs room for one value.
     pub fn put_tce(&mut self, ioba: u64, tce: u64) -> TceAnswer
         requires { 1 ≤ self.old.spare }
-        ensures parameter { takes (length self.old.pages) ioba tce ≡ false → result ≡ TceAnswer.Parameter }
-        ensures answer { IsTrue (takes (length self.old.pages) ioba tce) → result ≡ put_answer (holds self.old) (ioba / 4096) 0 (tce ∷ []) }
-        ensures rows { self.new.rows ≡ put_rows self.old.rows (ioba / 4096) (put_by result (tce ∷ [])) }
+        ensures parameter { takes (length self.old.pages) ioba tce ≡ false
+            → result ≡ TceAnswer.Parameter }
+        ensures answer { IsTrue (takes (length self.old.pages) ioba tce)
+            → result ≡ put_answer (holds self.old) (ioba / 4096) 0 (tce ∷ []) }
+        ensures rows { self.new.rows ≡ put_rows self.old.rows (ioba / 4096)
+            (put_by result (tce ∷ [])) }
         ensures spare { self.new.spare + length (put_by result (tce ∷ [])) ≡ self.old.spare }
         ensures in_use { self.new.in_use ≡ times_in_use result self.old.in_use }
-        ensures others { self.new ≡ record self.old { rows = self.new.rows; spare = self.new.spare; in_use = self.new.in_use } }
+        ensures others { self.new ≡ record self.old
+            { rows = self.new.rows; spare = self.new.spare; in_use = self.new.in_use } }
     {
         self.put_tce_indirect(ioba, &[tce])
     }
@@ -33,12 +35,17 @@ impl PlainWindow {
     /// most.
     pub fn stuff_tce(&mut self, ioba: u64, tce: u64, count: u64) -> TceAnswer
         requires { count ≤ 512 → count ≤ self.old.spare }
-        ensures parameter { takes_all (length self.old.pages) ioba (replicate count tce) ≡ false → result ≡ TceAnswer.Parameter }
-        ensures answer { IsTrue (takes_all (length self.old.pages) ioba (replicate count tce)) → result ≡ put_answer (holds self.old) (ioba / 4096) 0 (replicate count tce) }
-        ensures rows { self.new.rows ≡ put_rows self.old.rows (ioba / 4096) (put_by result (replicate count tce)) }
-        ensures spare { self.new.spare + length (put_by result (replicate count tce)) ≡ self.old.spare }
+        ensures parameter { takes_all (length self.old.pages) ioba (replicate count tce) ≡ false
+            → result ≡ TceAnswer.Parameter }
+        ensures answer { IsTrue (takes_all (length self.old.pages) ioba (replicate count tce))
+            → result ≡ put_answer (holds self.old) (ioba / 4096) 0 (replicate count tce) }
+        ensures rows { self.new.rows ≡ put_rows self.old.rows (ioba / 4096)
+            (put_by result (replicate count tce)) }
+        ensures spare { self.new.spare + length
+            (put_by result (replicate count tce)) ≡ self.old.spare }
         ensures in_use { self.new.in_use ≡ times_in_use result self.old.in_use }
-        ensures others { self.new ≡ record self.old { rows = self.new.rows; spare = self.new.spare; in_use = self.new.in_use } }
+        ensures others { self.new ≡ record self.old
+            { rows = self.new.rows; spare = self.new.spare; in_use = self.new.in_use } }
     {
         if count > MOST_PUTS as u64 {
             return TceAnswer::Parameter;
@@ -51,12 +58,16 @@ impl PlainWindow {
     /// are 512 at most.
     pub fn put_tce_indirect(&mut self, ioba: u64, list: &[u64]) -> TceAnswer
         requires { length list.now ≤ 512 → length list.now ≤ self.old.spare }
-        ensures parameter { takes_all (length self.old.pages) ioba list.now ≡ false → result ≡ TceAnswer.Parameter }
-        ensures answer { IsTrue (takes_all (length self.old.pages) ioba list.now) → result ≡ put_answer (holds self.old) (ioba / 4096) 0 list.now }
-        ensures rows { self.new.rows ≡ put_rows self.old.rows (ioba / 4096) (put_by result list.now) }
+        ensures parameter { takes_all (length self.old.pages) ioba list.now ≡ false
+            → result ≡ TceAnswer.Parameter }
+        ensures answer { IsTrue (takes_all (length self.old.pages) ioba list.now)
+            → result ≡ put_answer (holds self.old) (ioba / 4096) 0 list.now }
+        ensures rows { self.new.rows ≡ put_rows self.old.rows (ioba / 4096)
+            (put_by result list.now) }
         ensures spare { self.new.spare + length (put_by result list.now) ≡ self.old.spare }
         ensures in_use { self.new.in_use ≡ times_in_use result self.old.in_use }
-        ensures others { self.new ≡ record self.old { rows = self.new.rows; spare = self.new.spare; in_use = self.new.in_use } }
+        ensures others { self.new ≡ record self.old
+            { rows = self.new.rows; spare = self.new.spare; in_use = self.new.in_use } }
     {
         if list.len() > MOST_PUTS || !self.takes_each(ioba, list) {
             return TceAnswer::Parameter;
@@ -121,7 +132,8 @@ impl PlainWindow {
         ensures rows { self.new.rows ≡ put_rows self.old.rows first (put_by result list.now) }
         ensures spare { self.new.spare + length (put_by result list.now) ≡ self.old.spare }
         ensures in_use { self.new.in_use ≡ times_in_use result self.old.in_use }
-        ensures others { self.new ≡ record self.old { rows = self.new.rows; spare = self.new.spare; in_use = self.new.in_use } }
+        ensures others { self.new ≡ record self.old
+            { rows = self.new.rows; spare = self.new.spare; in_use = self.new.in_use } }
     {
         for (done, tce) in list.iter().enumerate() {
             let entry = first + done;

@@ -84,7 +84,8 @@ impl TceTable {
         requires entry { entry < self.old.size }
         requires spare { 1 ≤ self.old.spare }
         requires page { IsTrue (has_right tce) → tce / 4096 < self.old.size }
-        ensures rows { self.new.rows ≡ self.old.rows ++ record { entry = entry; version = length (values_of self.old.rows entry); value = tce } ∷ [] }
+        ensures rows { self.new.rows ≡ self.old.rows ++ record
+            { entry = entry; version = length (values_of self.old.rows entry); value = tce } ∷ [] }
         ensures size { self.new.size ≡ self.old.size }
         ensures spare { self.new.spare + 1 ≡ self.old.spare }
     {

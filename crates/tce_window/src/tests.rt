@@ -21,7 +21,7 @@ fn name(mark: u64) -> StrokeName {
 
 // Puts the value into room made for it.
 fn put<W: OwnerPort>(window: &mut W, ioba: u64, tce: u64) -> Result<TceAnswer, NoMemory>
-    ensures { W.held_count window.new ≡ W.held_count window.old }
+    ensures { (W.state window.new).held_count ≡ (W.state window.old).held_count }
 {
     window.reserve(1)?;
     Ok(window.put_tce(ioba, tce))

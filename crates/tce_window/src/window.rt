@@ -1,5 +1,5 @@
 // The plain form of a window: its table of values, and the pages of its region.
-ghost use Rattle.std.specs.Prelude.{◌≡◌, ◌≤◌, max, IfOk, OnOk, OnErr, [], replicate, length};
+ghost use Rattle.std.specs.Prelude.{◌≡◌, ◌≤◌, max, IfOk, OnOk, OnErr, [], replicate, length, All, IsSome};
 ghost use Rattle.std.specs.List.{slice_get};
 ghost use Rattle.tce_window.specs.Grant.{AreNumbered};
 
@@ -77,6 +77,7 @@ impl PlainWindow {
         ensures pages { result ≡ length self.now.pages }
         ensures least { 1 ≤ result }
         ensures most { result ≤ 256 }
+        ensures there { self.now.held_count ≡ 0 → All IsSome self.now.pages }
     {
         self.table.size() as u16
     }
@@ -101,7 +102,8 @@ impl PlainWindow {
 
 /// So many pages of zeros.
 fn zero_pages(alloc: Global, count: u16) -> Result<Vec<Option<Page>>, NoMemory>
-    ensures { IfOk result (λ pages. pages.items ≡ replicate count (Some (record { strokes = []; spare = 0 }))) }
+    ensures { IfOk result (λ pages.
+        pages.items ≡ replicate count (Some (record { strokes = []; spare = 0 }))) }
 {
     let mut pages = Vec::new(alloc);
     for _page in 0..count {

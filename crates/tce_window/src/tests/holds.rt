@@ -32,9 +32,9 @@ fn pattern(alloc: Global, len: usize) -> Result<Vec<u8>, NoMemory>
 
 /// Why a range is not held, if it is not, through any guest's port. It is given back.
 fn refusal<G: GuestPort>(guest: &mut G, ioba: u64, len: u32, right: Right) -> Option<HoldFault>
-    requires free { G.held_count guest.old ≡ 0 }
+    requires free { (G.state guest.old).held_count ≡ 0 }
     requires len { (1 ≤ len) × (len ≤ 65536) }
-    ensures { G.held_count guest.new ≡ 0 }
+    ensures { (G.state guest.new).held_count ≡ 0 }
 {
     match guest.hold(ioba, len, right) {
         Ok(held) => {
@@ -47,9 +47,9 @@ fn refusal<G: GuestPort>(guest: &mut G, ioba: u64, len: u32, right: Right) -> Op
 
 /// What is read of a range through any guest's port, if it is held.
 fn read_through<G: GuestPort>(guest: &mut G, ioba: u64, out: &mut [u8]) -> Result<(), HoldFault>
-    requires free { G.held_count guest.old ≡ 0 }
+    requires free { (G.state guest.old).held_count ≡ 0 }
     requires len { (1 ≤ length out.old) × (length out.old ≤ 65536) }
-    ensures { G.held_count guest.new ≡ 0 }
+    ensures { (G.state guest.new).held_count ≡ 0 }
 {
     let held = guest.hold(ioba, out.len() as u32, Right::Read)?;
     held.read(out);

@@ -1,8 +1,7 @@
 -- Each step adds the piece of the next entry.
 use Rattle.std.proofs.Common.{◌≡◌, ℕ, ◌+◌, ◌-◌, ◌*◌, ◌/◌, ◌^◌, ◌<◌, ◌≤◌, [], ◌∷◌, List, ◌∙◌, Err, length, subst, sym, ap, add-zero, append-nil, length-append, rules, arith}
 use Rattle.std.proofs.lemmas.List.Elements.{All-nil, All-push}
-use Rattle.tce_window.specs.Pieces.{Touches, IsPieceAt, IsGranted, IsLast, HasStrokes, MayUse, AreUsable, Lacks}
-use Rattle.tce_window.specs.Answers.{MatchHold}
+use Rattle.tce_window.specs.Pieces.{Touches, IsPieceAt, IsGranted, IsLast, HasStrokes, MayUse, AreUsable, IsRefusedAt}
 use Rattle.tce_window.specs.Grant.{values_of}
 use Rattle.tce_window.specs.Window.{strokes_at}
 use Rattle.tce_window.proofs.Piecing.{refused_at, of_entry, touches_more, usable_more, piece_bytes, piece_len, bytes_aligned}
@@ -71,7 +70,7 @@ returns-in_err-piece-clause-cause c =
     let values : ℕ → List ℕ = values_of c.args.self.now.rows in
     let n : ℕ = length c.args.self.now.pages in
     let at : ℕ = c.args.ioba + c.loop-done.done in
-    let fault : MatchHold c.in_err-piece.field-0.0 (λ entry. (entry ≡ at / 4096) × (n ≤ entry)) (λ entry version tce. (entry ≡ at / 4096) × (entry < n) × Lacks values c.args.right entry version tce) (λ _ _. ⊥) = search rules in
+    let fault : IsRefusedAt values c.args.right n (at / 4096) c.in_err-piece.field-0.0 = search rules in
     let before : (entry : ℕ) → entry ≡ at / 4096 → AreUsable values c.args.right n (c.args.ioba / 4096) entry =
     λ entry e q low high. c.loop-done.invariant.usable (omega (arith, e, low, high)) q low (omega (arith, e, low, high))
     in
@@ -83,5 +82,5 @@ returns-in_err-piece-clause-entry c =
     let values : ℕ → List ℕ = values_of c.args.self.now.rows in
     let n : ℕ = length c.args.self.now.pages in
     let at : ℕ = c.args.ioba + c.from.result in
-    let fault : MatchHold c.in_err-piece.field-0.0 (λ entry. (entry ≡ at / 4096) × (n ≤ entry)) (λ entry version tce. (entry ≡ at / 4096) × (entry < n) × Lacks values c.args.right entry version tce) (λ _ _. ⊥) = search rules in
-    rw same (of_entry c.in_err-piece.field-0.0 _ _ fault)
+    let fault : IsRefusedAt values c.args.right n (at / 4096) c.in_err-piece.field-0.0 = search rules in
+    rw same (of_entry c.in_err-piece.field-0.0 values c.args.right n (at / 4096) fault)
