@@ -9,7 +9,7 @@ use Rattle.tce_window.specs.Moved.{stroke_count, IsLaid}
 use Rattle.rdma_copy.specs.declared.copy.CopyRecord.{CopyRecord}
 use Rattle.rdma_copy.specs.declared.copy.CopyAnswer.{CopyAnswer}
 use Rattle.rdma_copy.specs.declared.copy.CopyAnswer.TheVariants.{Copied, Parameter, SourceParm, DestParm, Busy, NoMemory}
-use Rattle.rdma_copy.specs.Answers.{IfCopied, MatchCopy}
+use Rattle.rdma_copy.specs.Answers.{IfCopied, OnHeld, IfSourceParm, IfDestParm, IfBusy}
 
 pub copied_both : (answer : CopyAnswer) (P Q R : CopyRecord → Type 0) → ((copy : CopyRecord) → P copy → Q copy → R copy)
     → IfCopied answer P → IfCopied answer Q → IfCopied answer R
@@ -20,15 +20,37 @@ copied_both (DestParm fault) P Q R f p q = tt
 copied_both (Busy page word) P Q R f p q = tt
 copied_both NoMemory P Q R f p q = tt
 
-pub match_weaker : (answer : CopyAnswer) (M L M' L' : Type 0) (S T S' T' : HoldFault → Type 0) (B B' : ℕ → ℕ → Type 0)
-    → (M → M') → (L → L') → ((fault : HoldFault) → S fault → S' fault) → ((fault : HoldFault) → T fault → T' fault)
-    → ((page word : ℕ) → B page word → B' page word) → MatchCopy answer M L S T B → MatchCopy answer M' L' S' T' B'
-match_weaker (Copied copy) M L M' L' S T S' T' B B' m l s t b h = m h
-match_weaker Parameter M L M' L' S T S' T' B B' m l s t b h = l h
-match_weaker (SourceParm fault) M L M' L' S T S' T' B B' m l s t b h = s fault h
-match_weaker (DestParm fault) M L M' L' S T S' T' B B' m l s t b h = t fault h
-match_weaker (Busy page word) M L M' L' S T S' T' B B' m l s t b h = b page word h
-match_weaker NoMemory M L M' L' S T S' T' B B' m l s t b h = m h
+pub held_weaker : (answer : CopyAnswer) (P Q : Type 0) → (P → Q) → OnHeld answer P → OnHeld answer Q
+held_weaker (Copied copy) P Q f h = f h
+held_weaker Parameter P Q f h = tt
+held_weaker (SourceParm fault) P Q f h = tt
+held_weaker (DestParm fault) P Q f h = tt
+held_weaker (Busy page word) P Q f h = tt
+held_weaker NoMemory P Q f h = f h
+
+pub source_weaker : (answer : CopyAnswer) (P Q : HoldFault → Type 0) → ((fault : HoldFault) → P fault → Q fault) → IfSourceParm answer P → IfSourceParm answer Q
+source_weaker (Copied copy) P Q f h = tt
+source_weaker Parameter P Q f h = tt
+source_weaker (SourceParm fault) P Q f h = f fault h
+source_weaker (DestParm fault) P Q f h = tt
+source_weaker (Busy page word) P Q f h = tt
+source_weaker NoMemory P Q f h = tt
+
+pub dest_weaker : (answer : CopyAnswer) (P Q : HoldFault → Type 0) → ((fault : HoldFault) → P fault → Q fault) → IfDestParm answer P → IfDestParm answer Q
+dest_weaker (Copied copy) P Q f h = tt
+dest_weaker Parameter P Q f h = tt
+dest_weaker (SourceParm fault) P Q f h = tt
+dest_weaker (DestParm fault) P Q f h = f fault h
+dest_weaker (Busy page word) P Q f h = tt
+dest_weaker NoMemory P Q f h = tt
+
+pub busy_weaker : (answer : CopyAnswer) (P Q : ℕ → ℕ → Type 0) → ((page word : ℕ) → P page word → Q page word) → IfBusy answer P → IfBusy answer Q
+busy_weaker (Copied copy) P Q f h = tt
+busy_weaker Parameter P Q f h = tt
+busy_weaker (SourceParm fault) P Q f h = tt
+busy_weaker (DestParm fault) P Q f h = tt
+busy_weaker (Busy page word) P Q f h = f page word h
+busy_weaker NoMemory P Q f h = tt
 
 -- a page as it was
 grows_same : (is_shared : Bool) (strokes : Option (List StrokeValue)) → Grows is_shared strokes strokes

@@ -1,5 +1,5 @@
 -- What is known of a page and of an entry after a range was held, and given back.
-use Rattle.std.proofs.Common.{◌≡◌, ℕ, ◌+◌, ◌≤◌, ◌==◌, ◌||◌, Bool, true, false, List, [], ◌∷◌, ◌++◌, Option, Some, None, IsSome, is_some, option_map, option_and_then, length, get_or, take, drop, flat_map, All, slice_get, cond, rules, refl, sym, ◌∙◌, ap, ap₂, subst, append-nil}
+use Rattle.std.proofs.Common.{◌≡◌, ℕ, ◌+◌, ◌-◌, ◌≤◌, ◌==◌, ◌||◌, Bool, true, false, List, [], ◌∷◌, ◌++◌, Option, Some, None, IsSome, is_some, option_map, option_and_then, length, get_or, take, drop, flat_map, All, slice_get, cond, rules, refl, sym, ◌∙◌, ap, ap₂, subst, arith, append-nil, length-append}
 use Rattle.std.proofs.lemmas.List.Elements.{All-head, All-tail, All-weaker}
 use Rattle.vio_num.specs.declared.names.UnitId.{UnitId}
 use Rattle.page_slots.specs.Stroke.{StrokeValue}
@@ -9,7 +9,9 @@ use Rattle.tce_window.specs.Held.{either}
 use Rattle.tce_window.specs.declared.answers.Right.TheVariants.{Write}
 use Rattle.tce_window.specs.Pieces.{on_page, HasStrokes, IsGranted, Touches}
 use Rattle.tce_window.specs.Port.{Grows, TakenOver}
-use Rattle.tce_window.specs.Moved.{piece_strokes, strokes_on, stroke_count, numbered, stroke_of, IsNamed, bytes_of, IsLaid, IsWrittenTo}
+use Rattle.tce_window.specs.Moved.{piece_strokes, strokes_on, places_from, places_on, stroke_count, numbered, stroke_of, IsNamed, bytes_of, IsLaid, IsWrittenTo}
+use Rattle.std.proofs.lemmas.Bool.{eq-eqb, ne_eqb}
+use Rattle.tce_window.proofs.Values.{by_number}
 use Rattle.tce_window.proofs.Moving.{counted, kept_all, numbered_kept, numbered_behind, written_to}
 
 -- a page that was held and given back with the strokes that it had
@@ -157,3 +159,58 @@ written_back is_shared unit values at name bytes pieces old held mid after new h
     h.back q ∙ held_back is_shared (old q) (held q) (mid q) (after q) (h.taken q) (placed_there pieces held h.there k d less) in
     same_written unit values after new at name (behind held pieces) bytes same
     (written_to unit values at name bytes pieces (behind held pieces) held after touched granted (all_there pieces held h.there) h.laid refl)
+
+-- the places that pieces were given on page p are those behind what it had, one for each stroke laid there
+pub places_numbered : (p : ℕ) (name : StrokeName) (bytes : List ℕ) (count : ℕ → ℕ) (pieces : List Piece)
+    → places_on p (numbered count pieces) ≡ places_from (count p) (length (strokes_on p pieces (piece_strokes name bytes pieces)))
+places_numbered p name bytes count [] = refl
+places_numbered p name bytes count (piece ∷ pieces) =
+    let rest = places_numbered p name (drop piece.len bytes) (counted count piece) pieces in
+    by_number piece.page p
+    (places_on p (numbered count (piece ∷ pieces)) ≡ places_from (count p) (length (strokes_on p (piece ∷ pieces) (piece_strokes name bytes (piece ∷ pieces)))))
+    (λ same. rw (eq-eqb piece.page p same) (ap₂ (λ at more. at ∷ more) (ap count same) (rw (eq-eqb piece.page p same) at rest)))
+    (λ other. rw (ne_eqb piece.page p other) (rw (ne_eqb piece.page p other) at rest))
+
+-- the places behind what a page had as it was taken
+since_laid : (held after : Option (List StrokeValue)) (taken : ℕ) (more : List StrokeValue)
+    → (IsSome held → taken ≡ stroke_count held) → (is_some held ≡ false → more ≡ []) → after ≡ option_map (λ s. s ++ more) held
+    → places_from taken (stroke_count after - taken) ≡ places_from (stroke_count held) (length more)
+since_laid (Some s) after taken more counts none laid =
+    let had : taken ≡ length s = counts (search rules) in
+    let has : stroke_count after ≡ length s + length more = ap stroke_count laid ∙ length-append s more in
+    ap₂ places_from had (omega (arith, had, has))
+since_laid None after taken more counts none laid =
+    let has : stroke_count after ≡ 0 = ap stroke_count laid in
+    let left : stroke_count after - taken ≡ 0 = omega (arith, has) in
+    ap (places_from taken) left ∙ sym (ap (λ list. places_from 0 (length list)) (none refl))
+
+since_none : (held : Option (List StrokeValue)) (after : Option (List StrokeValue)) (taken : ℕ) → (IsSome held → taken ≡ stroke_count held) → after ≡ held
+    → places_from taken (stroke_count after - taken) ≡ []
+since_none (Some s) after taken counts same =
+    let had : taken ≡ length s = counts (search rules) in
+    let has : stroke_count after ≡ length s = ap stroke_count same in
+    let left : stroke_count after - taken ≡ 0 = omega (arith, had, has) in
+    ap (places_from taken) left
+since_none None after taken counts same =
+    let has : stroke_count after ≡ 0 = ap stroke_count same in
+    let left : stroke_count after - taken ≡ 0 = omega (arith, has) in
+    ap (places_from taken) left
+
+-- a range that was taken and given back as it was: its port laid nothing
+pub nothing_since : (p : ℕ) (held after : ℕ → Option (List StrokeValue)) (taken : ℕ → ℕ) (old mid new : List ℕ)
+    → (IsSome (held p) → taken p ≡ stroke_count (held p)) → after p ≡ held p → mid ≡ old
+    → new ≡ mid ++ places_from (taken p) (stroke_count (after p) - taken p) → new ≡ old
+nothing_since p held after taken old mid new counts same first next =
+    next ∙ ap (λ more. mid ++ more) (since_none (held p) (after p) (taken p) counts same) ∙ append-nil mid ∙ first
+
+-- a range that was taken, written through and given back: its port laid the strokes of its pieces
+pub places_laid : (is_shared : Bool) (name : StrokeName) (bytes : List ℕ) (pieces : List Piece) (old held mid after new : ℕ → Option (List StrokeValue))
+    → Written is_shared name bytes pieces old held mid after new
+    → (p : ℕ) (taken : ℕ → ℕ) (before between behind_ : List ℕ) → (IsSome (held p) → taken p ≡ stroke_count (held p)) → between ≡ before
+    → behind_ ≡ between ++ places_from (taken p) (stroke_count (after p) - taken p) → behind_ ≡ before ++ places_on p (behind held pieces)
+places_laid is_shared name bytes pieces old held mid after new h p taken before between behind_ counts first next =
+    next
+    ∙ ap₂ (λ front more. front ++ more) first
+    (since_laid (held p) (after p) (taken p) (strokes_on p pieces (piece_strokes name bytes pieces)) counts
+    (λ none. none_laid p pieces (piece_strokes name bytes pieces) (sym (h.on p) ∙ none)) (h.laid p)
+    ∙ sym (places_numbered p name bytes (λ q. stroke_count (held q)) pieces))

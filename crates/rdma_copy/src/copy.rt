@@ -1,14 +1,14 @@
 // A copy holds both ranges, then takes memory for what it will write, then writes. `IsLawful` in
 // specs/Copy.antt is what a copy that was made is.
-ghost use Rattle.std.specs.Prelude.{◌≡◌, ℕ, ◌/◌, ◌<◌, ◌≤◌, ◌⊎◌, [], All, length};
+ghost use Rattle.std.specs.Prelude.{◌≡◌, ◌↔◌, ℕ, ◌<◌, ◌≤◌, ◌⊎◌, [], All, length};
 ghost use Rattle.std.specs.List.{flat_map};
 ghost use Rattle.tce_window.specs.declared.answers.Right.TheVariants.{Read, Write};
-ghost use Rattle.tce_window.specs.Port.{Later, Grows};
+ghost use Rattle.tce_window.specs.PortState.{Learns, Lays, LaysNothing, OnlyHolds};
 ghost use Rattle.tce_window.specs.Pieces.{IsUsable, IsLast, IsRefused, IsOfEntry};
 ghost use Rattle.tce_window.specs.Held.{held_len, joined};
-ghost use Rattle.tce_window.specs.Moved.{piece_strokes, read_bytes, IsLaid, IsWrittenTo};
-ghost use Rattle.rdma_copy.specs.Copy.{IsLawful};
-ghost use Rattle.rdma_copy.specs.Answers.{IfCopied, IsCopied, OnRefused, MatchCopy, CountsCopy, CountsTarget};
+ghost use Rattle.tce_window.specs.Moved.{piece_strokes, places_on, read_bytes, IsLaid, IsWrittenTo};
+ghost use Rattle.rdma_copy.specs.Copy.{IsLawful, side};
+ghost use Rattle.rdma_copy.specs.Answers.{IfCopied, IsCopied, OnHeld, OnRefused, IfSourceParm, IfDestParm, IfBusy, IsBusySide, CountsCopy, CountsTarget};
 
 use arrayvec::ArrayVec;
 use page_slots::StrokeName;
@@ -60,36 +60,47 @@ pub fn copy_rdma<S: GuestPort, D: GuestPort>(
     len: u64,
     name: StrokeName,
 ) -> CopyAnswer
-    requires source_free { S.held_count src.old ≡ 0 }
-    requires target_free { D.held_count dst.old ≡ 0 }
+    requires source_free { (S.state src.old).held_count ≡ 0 }
+    requires target_free { (D.state dst.old).held_count ≡ 0 }
     ensures told { IfCopied result (λ copy. (copy.name ≡ name) × (copy.len ≡ len)) }
     ensures lawful { IfCopied result (λ copy. IsLawful copy
-        (record { unit = S.unit src.old; values = S.values src.new; strokes = S.strokes src.new }) s_ioba
-        (record { unit = D.unit dst.old; values = D.values dst.new; strokes = D.strokes dst.new }) d_ioba) }
-    ensures last { IfCopied result (λ copy. All (IsLast (S.values src.new)) copy.from.items × All (IsLast (D.values dst.new)) copy.to.items) }
+        (side (S.state src.old).place.unit (S.state src.new).values (S.state src.new).strokes) s_ioba
+        (side (D.state dst.old).place.unit (D.state dst.new).values (D.state dst.new).strokes) d_ioba) }
+    ensures last { IfCopied result (λ copy. All (IsLast (S.state src.new).values) copy.from.items
+        × All (IsLast (D.state dst.new).values) copy.to.items) }
     ensures laid { IfCopied result (λ copy. (p : ℕ) → IsLaid D.is_shared p copy.to.items
-        (piece_strokes name (flat_map (read_bytes (S.strokes src.new)) copy.from.items) copy.to.items)
-        (D.strokes dst.old p) (D.strokes dst.new p)) }
-    ensures refused { OnRefused result ((p : ℕ) → Grows D.is_shared (D.strokes dst.old p) (D.strokes dst.new p)) }
-    ensures read { (p : ℕ) → Grows S.is_shared (S.strokes src.old p) (S.strokes src.new p) }
-    ensures cause { MatchCopy result
-        ((len ≤ 65536) × (1 ≤ len → IsUsable (S.values src.new) Read (S.size src.old) s_ioba len × IsUsable (D.values dst.new) Write (D.size dst.old) d_ioba len))
-        (65536 < len)
-        (λ fault. (1 ≤ len) × (len ≤ 65536) × IsOfEntry fault × IsRefused (S.values src.new) Read (S.size src.old) s_ioba len fault)
-        (λ fault. (1 ≤ len) × (len ≤ 65536) × IsOfEntry fault × IsRefused (D.values dst.new) Write (D.size dst.old) d_ioba len fault × IsUsable (S.values src.new) Read (S.size src.old) s_ioba len)
-        (λ page word. (1 ≤ len) × (len ≤ 65536) × IsUsable (S.values src.new) Read (S.size src.old) s_ioba len × (((page < S.size src.old) × S.found src.new page word) ⊎ ((page < D.size dst.old) × D.found dst.new page word × IsUsable (D.values dst.new) Write (D.size dst.old) d_ioba len))) }
-    ensures empty { len ≡ 0 → IsCopied result (λ copy. (copy.from.items ≡ []) × (copy.to.items ≡ [])) }
-    ensures source_values { (e : ℕ) → Later S.is_shared (S.values src.old e) (S.values src.new e) }
-    ensures target_values { (e : ℕ) → Later D.is_shared (D.values dst.old e) (D.values dst.new e) }
-    ensures source_free { S.held_count src.new ≡ 0 }
-    ensures target_free { D.held_count dst.new ≡ 0 }
-    ensures source_unit { S.unit src.new ≡ S.unit src.old }
-    ensures target_unit { D.unit dst.new ≡ D.unit dst.old }
-    ensures source_size { S.size src.new ≡ S.size src.old }
-    ensures target_size { D.size dst.new ≡ D.size dst.old }
-    ensures counts { CountsCopy result (S.in_use src.old) (S.in_use src.new) (D.in_use dst.old) (D.in_use dst.new) }
-    ensures source_in_use { S.in_use src.old ≤ S.in_use src.new }
-    ensures target_in_use { D.in_use dst.old ≤ D.in_use dst.new }
+        (piece_strokes name (flat_map (read_bytes (S.state src.new).strokes) copy.from.items) copy.to.items)
+        ((D.state dst.old).strokes p) ((D.state dst.new).strokes p)) }
+    ensures refused { OnRefused result (Learns D.is_shared (D.state dst.old) (D.state dst.new)) }
+    ensures places { IfCopied result (λ copy.
+        Lays D.is_shared (λ p. places_on p copy.to.items) (D.state dst.old) (D.state dst.new)) }
+    ensures no_places { OnRefused result
+        (LaysNothing D.is_shared (D.state dst.old) (D.state dst.new)) }
+    ensures read { Learns S.is_shared (S.state src.old) (S.state src.new) }
+    ensures source_places { LaysNothing S.is_shared (S.state src.old) (S.state src.new) }
+    ensures empty { len ≡ 0 → IsCopied result
+        (λ copy. (copy.from.items ≡ []) × (copy.to.items ≡ [])) }
+    ensures parameter { (result ≡ CopyAnswer.Parameter) ↔ (MOST_BYTES < len) }
+    ensures held { OnHeld result (1 ≤ len →
+        IsUsable (S.state src.new).values Read (S.state src.old).place.size s_ioba len
+        × IsUsable (D.state dst.new).values Write (D.state dst.old).place.size d_ioba len) }
+    ensures source_parm { IfSourceParm result
+        (λ fault. (1 ≤ len) × (len ≤ MOST_BYTES) × IsOfEntry fault
+        × IsRefused (S.state src.new).values Read (S.state src.old).place.size s_ioba len fault) }
+    ensures dest_parm { IfDestParm result (λ fault. (1 ≤ len) × (len ≤ MOST_BYTES) × IsOfEntry fault
+        × IsRefused (D.state dst.new).values Write (D.state dst.old).place.size d_ioba len fault
+        × IsUsable (S.state src.new).values Read (S.state src.old).place.size s_ioba len) }
+    ensures busy { IfBusy result (λ page word. (1 ≤ len) × (len ≤ MOST_BYTES)
+        × IsUsable (S.state src.new).values Read (S.state src.old).place.size s_ioba len
+        × (IsBusySide S.is_shared (S.state src.new).values s_ioba len page (S.found src.new page word)
+        ⊎ (IsBusySide D.is_shared (D.state dst.new).values d_ioba len page (D.found dst.new page word)
+        × IsUsable (D.state dst.new).values Write (D.state dst.old).place.size d_ioba len))) }
+    ensures source_free { (S.state src.new).held_count ≡ 0 }
+    ensures target_free { (D.state dst.new).held_count ≡ 0 }
+    ensures source_rest { OnlyHolds S.is_shared (S.state src.old) (S.state src.new) }
+    ensures target_rest { OnlyHolds D.is_shared (D.state dst.old) (D.state dst.new) }
+    ensures counts { CountsCopy result
+        (S.state src.old).in_use (S.state src.new).in_use (D.state dst.old).in_use (D.state dst.new).in_use }
 {
     if len > MOST_BYTES {
         return CopyAnswer::Parameter;
@@ -123,30 +134,38 @@ fn copy_held<D: GuestPort>(
     len: u32,
     name: StrokeName,
 ) -> CopyAnswer
-    requires free { D.held_count dst.old ≡ 0 }
+    requires free { (D.state dst.old).held_count ≡ 0 }
     requires some { (1 ≤ len) × (len ≤ 65536) }
     requires source { held_len source.now.pieces ≡ len }
     ensures told { IfCopied result (λ copy. (copy.name ≡ name) × (copy.len ≡ len)) }
     ensures from { IfCopied result (λ copy. copy.from.items ≡ source.now.pieces) }
-    ensures bytes { IfCopied result (λ copy. length (joined source.now.pages source.now.pieces) ≡ len) }
-    ensures written { IfCopied result (λ copy. IsWrittenTo (D.unit dst.old) (D.values dst.new) (D.strokes dst.new) d_ioba name copy.to.items (joined source.now.pages source.now.pieces)) }
-    ensures last { IfCopied result (λ copy. All (IsLast (D.values dst.new)) copy.to.items) }
+    ensures bytes { IfCopied result
+        (λ copy. length (joined source.now.pages source.now.pieces) ≡ len) }
+    ensures written { IfCopied result
+        (λ copy. IsWrittenTo (D.state dst.old).place.unit (D.state dst.new).values
+        (D.state dst.new).strokes
+        d_ioba name copy.to.items (joined source.now.pages source.now.pieces)) }
+    ensures last { IfCopied result (λ copy. All (IsLast (D.state dst.new).values) copy.to.items) }
     ensures laid { IfCopied result (λ copy. (p : ℕ) → IsLaid D.is_shared p copy.to.items
         (piece_strokes name (joined source.now.pages source.now.pieces) copy.to.items)
-        (D.strokes dst.old p) (D.strokes dst.new p)) }
-    ensures refused { OnRefused result ((p : ℕ) → Grows D.is_shared (D.strokes dst.old p) (D.strokes dst.new p)) }
-    ensures cause { MatchCopy result
-        (IsUsable (D.values dst.new) Write (D.size dst.old) d_ioba len)
-        ⊥
-        (λ fault. ⊥)
-        (λ fault. IsOfEntry fault × IsRefused (D.values dst.new) Write (D.size dst.old) d_ioba len fault)
-        (λ page word. (page < D.size dst.old) × D.found dst.new page word × IsUsable (D.values dst.new) Write (D.size dst.old) d_ioba len) }
-    ensures values { (e : ℕ) → Later D.is_shared (D.values dst.old e) (D.values dst.new e) }
-    ensures free { D.held_count dst.new ≡ 0 }
-    ensures unit { D.unit dst.new ≡ D.unit dst.old }
-    ensures size { D.size dst.new ≡ D.size dst.old }
-    ensures counts { CountsTarget result (D.in_use dst.old) (D.in_use dst.new) }
-    ensures in_use { D.in_use dst.old ≤ D.in_use dst.new }
+        ((D.state dst.old).strokes p) ((D.state dst.new).strokes p)) }
+    ensures refused { OnRefused result (Learns D.is_shared (D.state dst.old) (D.state dst.new)) }
+    ensures places { IfCopied result (λ copy.
+        Lays D.is_shared (λ p. places_on p copy.to.items) (D.state dst.old) (D.state dst.new)) }
+    ensures no_places { OnRefused result
+        (LaysNothing D.is_shared (D.state dst.old) (D.state dst.new)) }
+    ensures parameter { ¬ (result ≡ CopyAnswer.Parameter) }
+    ensures held { OnHeld result (IsUsable (D.state dst.new).values Write
+        (D.state dst.old).place.size d_ioba len) }
+    ensures source_parm { IfSourceParm result (λ _. ⊥) }
+    ensures dest_parm { IfDestParm result (λ fault. IsOfEntry fault
+        × IsRefused (D.state dst.new).values Write (D.state dst.old).place.size d_ioba len fault) }
+    ensures busy { IfBusy result (λ page word.
+        IsBusySide D.is_shared (D.state dst.new).values d_ioba len page (D.found dst.new page word)
+        × IsUsable (D.state dst.new).values Write (D.state dst.old).place.size d_ioba len) }
+    ensures free { (D.state dst.new).held_count ≡ 0 }
+    ensures rest { OnlyHolds D.is_shared (D.state dst.old) (D.state dst.new) }
+    ensures counts { CountsTarget result (D.state dst.old).in_use (D.state dst.new).in_use }
 {
     let mut target = match dst.hold(d_ioba, len, Right::Write) {
         Ok(held) => held,

@@ -1,12 +1,13 @@
 // Ports that answer that a page is in use.
-ghost use Rattle.std.specs.Prelude.{◌≡◌, ◌⊎◌, ℕ};
+ghost use Rattle.std.specs.Prelude.{◌≡◌, ◌⊎◌, ◌<◌, ℕ, length, get_or};
+ghost use Rattle.tce_window.specs.declared.answers.Piece.{Piece};
 
 use super::{COPIER, SOURCE, TARGET, is_blank, window};
 use crate::copy::{CopyAnswer, copy_rdma};
 use tce_window::{GuestPort, Held, HoldFault, Right, WindowPort};
 use vio_num::NoMemory;
 
-/// A port that holds no range: its page 0 is in use by word 77 whenever a range could be held.
+/// A port that holds no range: the first page of a range that could be held is in use by word 77.
 #[derive(Drop)]
 struct InUse<G> {
     port: G,
@@ -14,37 +15,39 @@ struct InUse<G> {
 }
 
 impl<G: WindowPort> WindowPort for InUse<G> {
-    ghost unit = { λ busy. G.unit busy.port };
+    ghost use Rattle.std.specs.Prelude.{true, None, []};
 
-    ghost size = { λ busy. G.size busy.port };
+    ghost is_shared = { true };
 
-    ghost is_shared = { G.is_shared };
+    ghost state = { λ busy. record (G.state busy.port) {
+      in_use = busy.times;
+      strokes = λ p. None;
+      laid = λ p. [];
+      taken = λ p. 0;
+    } };
 
-    ghost strokes = { λ busy. G.strokes busy.port };
-
-    ghost values = { λ busy. G.values busy.port };
-
-    ghost held_from = { λ busy. G.held_from busy.port };
-
-    ghost held_count = { λ busy. G.held_count busy.port };
-
-    ghost in_use = { λ busy. busy.times };
+    ghost begins = { λ busy e. G.begins busy.port e };
 }
 
 impl<G: GuestPort> GuestPort for InUse<G> {
-    ghost fits = { λ busy held. G.fits busy.port held };
+    ghost use Rattle.rdma_copy.specs.Handless.{HasNoPage, no_page_still};
 
-    ghost found = { λ busy page word. ((page ≡ 0) × (word ≡ 77)) ⊎ G.found busy.port page word };
+    // It takes no page in hand.
+    ghost fits = { λ busy held. G.fits busy.port held × HasNoPage held };
 
-    ghost written_fits = { λ busy old new fits follows. G.written_fits busy.port old new fits follows };
+    ghost found = { λ busy page word. (word ≡ 77) ⊎ G.found busy.port page word };
+
+    ghost written_fits = { λ busy old new fits follows.
+        (G.written_fits busy.port old new fits.0 follows, no_page_still old new follows fits.1) };
 
     fn hold(&mut self, ioba: u64, len: u32, right: Right) -> Result<Held, HoldFault> {
         let times = self.times.saturating_add(1);
         match self.port.hold(ioba, len, right) {
             Ok(held) => {
+                let page = first_page(&held);
                 self.port.give_back(held);
                 self.times = times;
-                Err(HoldFault::InUse { page: 0, word: 77 })
+                Err(HoldFault::InUse { page, word: 77 })
             }
             Err(HoldFault::InUse { page, word }) => {
                 self.times = times;
@@ -57,6 +60,14 @@ impl<G: GuestPort> GuestPort for InUse<G> {
     fn give_back(&mut self, held: Held) {
         self.port.give_back(held);
     }
+}
+
+// Finds the page of the range's first piece.
+fn first_page(held: &Held) -> u16
+    requires { 0 < length held.now.pieces }
+    ensures { (d : Piece) → result ≡ (get_or held.now.pieces 0 d).page }
+{
+    held.pieces()[0].page
 }
 
 #[test]
