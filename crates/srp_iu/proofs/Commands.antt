@@ -22,8 +22,8 @@ len_announced (Direct desc) = refl
 len_announced (Indirect table total list) = refl
 
 -- a buffer at equal bytes
-moved : (f g n m : ℕ) (bs cs : List ℕ) (b : Buffer) → f ≡ g → n ≡ m → bs ≡ cs → SpellsBuffer f n bs b → SpellsBuffer g m cs b
-moved f g n m bs cs b e h k s =
+pub buffer_moved : (f g n m : ℕ) (bs cs : List ℕ) (b : Buffer) → f ≡ g → n ≡ m → bs ≡ cs → SpellsBuffer f n bs b → SpellsBuffer g m cs b
+buffer_moved f g n m bs cs b e h k s =
     subst (λ (x : ℕ). SpellsBuffer x m cs b) e
     (subst (λ (x : ℕ). SpellsBuffer f x cs b) h
     (subst (λ (x : List ℕ). SpellsBuffer f n x b) k s))
@@ -74,7 +74,7 @@ tail bytes front c whole front_len cdb_len fits at_5 at_6 at_7 at_31 out_bytes i
       full = full;
       cdb = sym p.cdb_at;
       more = rw more_is (sym p.more_at);
-      out = moved _ _ _ _ _ _ c.out out_is (sym at_6) out_place (out_back (buffer_bytes c.inn));
-      inn = moved _ _ _ _ _ _ c.inn in_is (sym at_7) in_place (in_back []);
+      out = buffer_moved _ _ _ _ _ _ c.out out_is (sym at_6) out_place (out_back (buffer_bytes c.inn));
+      inn = buffer_moved _ _ _ _ _ _ c.inn in_is (sym at_7) in_place (in_back []);
       exact = exact;
     }

@@ -1,5 +1,9 @@
-pub mod Parts
-pub mod Descriptors
+pub mod Accepted
+pub mod Agreeing
 pub mod Commands
+pub mod Descriptors
+pub mod GrammarLaws
+pub mod Parts
 pub mod Refusals
+pub mod Unique
 pub mod Writables

@@ -15,11 +15,11 @@ use Rattle.srp_iu.specs.Grammar.{Spells, IsWritable}
 use Rattle.srp_iu.proofs.Descriptors.{length-descs_of}
 
 -- a part that is there has the length that was asked for
-length-part : (at n : ℕ) (bytes : List ℕ) → at + n ≤ length bytes → length (part at n bytes) ≡ n
+pub length-part : (at n : ℕ) (bytes : List ℕ) → at + n ≤ length bytes → length (part at n bytes) ≡ n
 length-part at n bytes h = omega (arith, length-take n (drop at bytes), length-drop at bytes)
 
 -- a buffer that bytes spell takes the bytes that its format and count announce
-spelled_len : (format count : ℕ) (bytes : List ℕ) (b : Buffer) → SpellsBuffer format count bytes b → written_len b ≡ buffer_len format count
+pub spelled_len : (format count : ℕ) (bytes : List ℕ) (b : Buffer) → SpellsBuffer format count bytes b → written_len b ≡ buffer_len format count
 spelled_len format count bytes Absent s = rw s refl
 spelled_len format count bytes (Direct desc) s = rw s.direct refl
 spelled_len format count bytes (Indirect table total list) s =

@@ -5,5 +5,6 @@ pub mod Grammar
 pub mod Layout
 pub mod Login
 pub mod Refusal
+pub mod Residual
 pub mod Response
 pub mod Task

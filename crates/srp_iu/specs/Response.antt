@@ -1,19 +1,22 @@
 -- Responses (SRP, "SRP_RSP response").
-use Rattle.std.specs.Prelude.{◌≡◌, ◌≤◌, ◌+◌, ◌==◌, ℕ, [], List, length, slice_index, bit_and, if◌then◌else◌}
+use Rattle.std.specs.Prelude.{◌≡◌, ◌≤◌, ◌+◌, ◌==◌, ℕ, [], ◌∷◌, List, length, slice_index, bit_and, if◌then◌else◌}
 use Rattle.srp_iu.specs.declared.response.Rsp.{Rsp}
+use Rattle.srp_iu.specs.declared.response.TheConstants.{RSPVALID, SNSVALID}
+use Rattle.srp_iu.specs.declared.response_code.ResponseCode.{ResponseCode}
+use Rattle.srp_iu.specs.declared.response_code.ResponseCode.TheVariants.{Complete, FieldsInvalid, NotSupported}
 use Rattle.srp_iu.specs.Layout.{field, part, zeros}
 
 -- the length of a list: what its field says where its flag is on, else 0
 abbrev pub list_len : (flags flag said : ℕ) → ℕ
 list_len flags flag said = if bit_and flags flag == 0 then 0 else said
 
--- the length of the response data, which flag 0x01 announces
+-- the length of the response data, which their flag announces
 abbrev pub response_len : List ℕ → ℕ
-response_len bytes = list_len (slice_index bytes 18) 0x01 (field 32 4 bytes)
+response_len bytes = list_len (slice_index bytes 18) RSPVALID (field 32 4 bytes)
 
--- the length of the sense data, which flag 0x02 announces
+-- the length of the sense data, which their flag announces
 abbrev pub sense_len : List ℕ → ℕ
-sense_len bytes = list_len (slice_index bytes 18) 0x02 (field 28 4 bytes)
+sense_len bytes = list_len (slice_index bytes 18) SNSVALID (field 28 4 bytes)
 
 -- these bytes are this response; bytes 1 to 3, 16 and 17 are reserved
 pub record SpellsRsp (bytes : List ℕ) (r : Rsp) : Type 0 where
@@ -40,5 +43,15 @@ pub record CanonRsp (bytes : List ℕ) (r : Rsp) : Type 0 where
 -- what can be written: the flags announce each list that is not empty, and the whole fits 256 bytes
 pub record FitsRsp (r : Rsp) : Type 0 where
   pub fits : 36 + length r.response.items + length r.sense.items ≤ 256
-  pub no_response : bit_and r.flags 0x01 ≡ 0 → r.response.items ≡ []
-  pub no_sense : bit_and r.flags 0x02 ≡ 0 → r.sense.items ≡ []
+  pub no_response : bit_and r.flags RSPVALID ≡ 0 → r.response.items ≡ []
+  pub no_sense : bit_and r.flags SNSVALID ≡ 0 → r.sense.items ≡ []
+
+-- the number of a response code
+abbrev pub response_code : ResponseCode → ℕ
+response_code Complete = 0x00
+response_code FieldsInvalid = 0x02
+response_code NotSupported = 0x04
+
+-- the response data that carry a code
+abbrev pub response_data : ResponseCode → List ℕ
+response_data code = 0 ∷ 0 ∷ 0 ∷ response_code code ∷ []

@@ -169,7 +169,8 @@ fn put_descs(out: &mut ArrayVec<u8, 256>, list: &[Desc])
     requires { array_vec_len out.old + 16 * length list.now ≤ 256 }
     ensures bytes { out.new.items ≡ out.old.items ++ flat_map desc_bytes list.now }
     ensures len { array_vec_len out.new ≡ array_vec_len out.old + 16 * length list.now }
-    ensures reads_back { (rest : List ℕ) → descs_of (length list.now) (flat_map desc_bytes list.now ++ rest) ≡ list.now }
+    ensures reads_back { (rest : List ℕ) →
+        descs_of (length list.now) (flat_map desc_bytes list.now ++ rest) ≡ list.now }
 {
     for desc in list {
         put_desc(out, desc);

@@ -3,24 +3,29 @@ ghost use Rattle.std.specs.Prelude.{◌≡◌, ◌↔◌, ◌≤◌, ◌<◌, No
 ghost use Rattle.srp_iu.specs.Login.{SpellsLoginReq, CanonLoginReq, SpellsLoginRsp, CanonLoginRsp, SpellsLoginRej, CanonLoginRej};
 
 use crate::layout::{put, sixteen_at};
-use crate::unit::{LOGIN_REJ, LOGIN_REQ, LOGIN_RSP};
+use crate::unit::{LOGIN_REJ, LOGIN_REQ, LOGIN_RSP, MAX_IU_LEN};
 use arrayvec::ArrayVec;
 use byteorder::{BigEndian, ByteOrder};
 
-/// The reason of a rejection: the requested unit length is above 256 bytes (SRP,
-/// "SRP_LOGIN_REJ response", reason codes).
+/// The reason of a rejection: no channel can be established, for no reason that is specified; a login is on
+/// (SRP, "SRP_LOGIN_REJ response", reason codes).
+pub const UNABLE_TO_ESTABLISH_CHANNEL: u32 = 0x0001_0000;
+/// The reason of a rejection: the requested unit length is above [`MAX_IU_LEN`].
 pub const LENGTH_TOO_LARGE: u32 = 0x0001_0002;
 /// The reason of a rejection: the required buffer formats have neither direct nor indirect.
 pub const FORMATS_UNSUPPORTED: u32 = 0x0001_0004;
 /// The reason of a rejection: more channels than one are asked for.
 pub const MULTICHANNEL_UNSUPPORTED: u32 = 0x0001_0005;
 
-/// The longest unit that a login grants, in bytes.
-const LONGEST: u32 = 256;
+/// The buffer format of direct descriptors, as a bit of a login's formats (SRP, "SRP_LOGIN_REQ request").
+pub const DIRECT_FORMAT: u16 = 0x0002;
+/// The buffer format of indirect descriptors, as a bit of a login's formats.
+pub const INDIRECT_FORMAT: u16 = 0x0004;
+/// The buffer formats that are supported: direct and indirect.
+pub const BUFFER_FORMATS: u16 = 0x0006;
+
 /// The bits of byte 26 that ask for more channels than one.
 const MULTICHANNEL: u8 = 0x03;
-/// The buffer formats that are supported: direct and indirect.
-const FORMATS: u16 = 0x0006;
 
 /// A login request (SRP, "SRP_LOGIN_REQ request"), 64 bytes.
 #[derive(Clone, Copy, Debug, PartialEq, Eq)]
@@ -69,21 +74,23 @@ pub struct LoginRej {
 
 /// Why a login is not granted: the reason for its rejection, or none.
 pub fn login_fault(request: &LoginReq) -> Option<u32>
-    ensures length { (result ≡ Some LENGTH_TOO_LARGE) ↔ (256 < request.now.iu_len) }
+    ensures length { (result ≡ Some LENGTH_TOO_LARGE) ↔ (MAX_IU_LEN < request.now.iu_len) }
     ensures channels { (result ≡ Some MULTICHANNEL_UNSUPPORTED) ↔
-        ((request.now.iu_len ≤ 256) × (0 < bit_and request.now.flags 0x03)) }
+        ((request.now.iu_len ≤ MAX_IU_LEN) × (0 < bit_and request.now.flags MULTICHANNEL)) }
     ensures formats { (result ≡ Some FORMATS_UNSUPPORTED) ↔
-        ((request.now.iu_len ≤ 256) × (bit_and request.now.flags 0x03 ≡ 0) × (bit_and request.now.formats 0x0006 ≡ 0)) }
+        ((request.now.iu_len ≤ MAX_IU_LEN) × (bit_and request.now.flags MULTICHANNEL ≡ 0) ×
+        (bit_and request.now.formats BUFFER_FORMATS ≡ 0)) }
     ensures granted { (result ≡ None) ↔
-        ((request.now.iu_len ≤ 256) × (bit_and request.now.flags 0x03 ≡ 0) × (0 < bit_and request.now.formats 0x0006)) }
+        ((request.now.iu_len ≤ MAX_IU_LEN) × (bit_and request.now.flags MULTICHANNEL ≡ 0) ×
+        (0 < bit_and request.now.formats BUFFER_FORMATS)) }
 {
-    if request.iu_len > LONGEST {
+    if request.iu_len > MAX_IU_LEN {
         return Some(LENGTH_TOO_LARGE);
     }
     if request.flags & MULTICHANNEL != 0 {
         return Some(MULTICHANNEL_UNSUPPORTED);
     }
-    if request.formats & FORMATS == 0 {
+    if request.formats & BUFFER_FORMATS == 0 {
         return Some(FORMATS_UNSUPPORTED);
     }
     None

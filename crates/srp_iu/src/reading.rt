@@ -1,5 +1,5 @@
 // Reading: bytes are refused for the first reason that stands, or are the unit that they spell.
-ghost use Rattle.std.specs.Prelude.{◌≡◌, ◌≤◌, ◌<◌, ℕ, None, Some, IfOk, OnOk, IfErr, MatchOption, length, slice_index};
+ghost use Rattle.std.specs.Prelude.{◌≡◌, ◌↔◌, ◌≤◌, ◌<◌, ℕ, None, Some, IfSome, IfOk, OnOk, IfErr, MatchOption, length, slice_index};
 ghost use Rattle.srp_iu.specs.Grammar.{Spells};
 ghost use Rattle.srp_iu.specs.Layout.{field};
 ghost use Rattle.srp_iu.specs.Refusal.{fault_of, fixed_len, full_len};
@@ -89,8 +89,19 @@ fn full_len(bytes: &[u8], fixed: usize) -> usize
     }
 }
 
+/// The tag that these bytes have in bytes 8 to 15, also where they are no unit; none of fewer than 16 bytes.
+pub fn tag_of(bytes: &[u8]) -> Option<u64>
+    ensures none { (result ≡ None) ↔ (length bytes.now < 16) }
+    ensures tag { IfSome result (λ tag. tag ≡ field 8 8 bytes.now) }
+{
+    if bytes.len() < 16 {
+        return None;
+    }
+    Some(tag_at_8(bytes))
+}
+
 /// The tag of a unit.
-fn tag_of(bytes: &[u8]) -> u64
+fn tag_at_8(bytes: &[u8]) -> u64
     requires { 16 ≤ length bytes.now }
     ensures { result ≡ field 8 8 bytes.now }
 {
@@ -106,15 +117,19 @@ fn read_whole(bytes: &[u8]) -> Iu
         LOGIN_REQ => Iu::LoginReq(LoginReq::read(bytes)),
         TSK_MGMT => Iu::TskMgmt(TskMgmt::read(bytes)),
         CMD => Iu::Cmd(Cmd::read(bytes)),
-        I_LOGOUT => Iu::ILogout { tag: tag_of(bytes) },
-        CRED_RSP => Iu::CredRsp { tag: tag_of(bytes) },
+        I_LOGOUT => Iu::ILogout {
+            tag: tag_at_8(bytes),
+        },
+        CRED_RSP => Iu::CredRsp {
+            tag: tag_at_8(bytes),
+        },
         T_LOGOUT => Iu::TLogout {
             reason: BigEndian::read_u32(&bytes[4..]),
-            tag: tag_of(bytes),
+            tag: tag_at_8(bytes),
         },
         CRED_REQ => Iu::CredReq {
             delta: BigEndian::read_u32(&bytes[4..]),
-            tag: tag_of(bytes),
+            tag: tag_at_8(bytes),
         },
         LOGIN_RSP => Iu::LoginRsp(LoginRsp::read(bytes)),
         RSP => Iu::Rsp(Rsp::read(bytes)),

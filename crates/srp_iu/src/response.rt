@@ -9,10 +9,18 @@ use byteorder::{BigEndian, ByteOrder};
 
 /// The length of the part that each response has, in bytes.
 pub(crate) const FIXED_LEN: usize = 36;
-/// The flag of a response that has response data.
-const RESPONSE_VALID: u8 = 0x01;
+/// The flag of a response that has response data (SRP, "SRP_RSP response", byte 18).
+pub const RSPVALID: u8 = 0x01;
 /// The flag of a response that has sense data.
-const SENSE_VALID: u8 = 0x02;
+pub const SNSVALID: u8 = 0x02;
+/// The flag of a data-out residual of data that were lacking.
+pub const DOOVER: u8 = 0x04;
+/// The flag of a data-out residual of data that were left over.
+pub const DOUNDER: u8 = 0x08;
+/// The flag of a data-in residual of data for which there was no room.
+pub const DIOVER: u8 = 0x10;
+/// The flag of a data-in residual of data that were not there.
+pub const DIUNDER: u8 = 0x20;
 
 /// A response (SRP, "SRP_RSP response"). A list whose flag is off is empty.
 #[derive(Clone, Debug, PartialEq, Eq, Drop)]
@@ -21,7 +29,7 @@ pub struct Rsp {
     pub delta: u32,
     /// The tag of the request that it answers.
     pub tag: u64,
-    /// Byte 18: 0x01 response data, 0x02 sense data, and four flags of the residuals.
+    /// Byte 18: [`RSPVALID`], [`SNSVALID`], and the flags of the residuals.
     pub flags: u8,
     /// The SCSI status.
     pub status: u8,
@@ -40,7 +48,7 @@ fn response_len(bytes: &[u8]) -> u32
     requires { 36 ≤ length bytes.now }
     ensures { result ≡ response_len bytes.now }
 {
-    if bytes[18] & RESPONSE_VALID == 0 {
+    if bytes[18] & RSPVALID == 0 {
         0
     } else {
         BigEndian::read_u32(&bytes[32..])
@@ -52,7 +60,7 @@ fn sense_len(bytes: &[u8]) -> u32
     requires { 36 ≤ length bytes.now }
     ensures { result ≡ sense_len bytes.now }
 {
-    if bytes[18] & SENSE_VALID == 0 {
+    if bytes[18] & SNSVALID == 0 {
         0
     } else {
         BigEndian::read_u32(&bytes[28..])

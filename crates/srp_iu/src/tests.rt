@@ -5,8 +5,10 @@ mod own_client;
 mod units;
 
 use crate::{
-    FORMATS_UNSUPPORTED, Iu, IuFault, LENGTH_TOO_LARGE, LoginRej, LoginReq,
-    MULTICHANNEL_UNSUPPORTED, login_fault, read_iu, write_iu,
+    BUFFER_FORMATS, DIOVER, DIRECT_FORMAT, DIUNDER, DOOVER, DOUNDER, FORMATS_UNSUPPORTED,
+    INDIRECT_FORMAT, Iu, IuFault, LENGTH_TOO_LARGE, LoginRej, LoginReq, MAX_IU_LEN,
+    MULTICHANNEL_UNSUPPORTED, RSPVALID, Residual, ResponseCode, SNSVALID,
+    UNABLE_TO_ESTABLISH_CHANNEL, login_fault, read_iu, tag_of, write_iu,
 };
 use exchange::{bytes_of, check_exchange};
 use units::{UNITS, check_first_units, check_units};
@@ -145,6 +147,7 @@ fn logins(rt: HostRuntime) {
         };
         assert_eq!(rt; login_fault(&request), *reason);
     }
+    assert_eq!(rt; UNABLE_TO_ESTABLISH_CHANNEL, 0x0001_0000);
     assert_eq!(rt; LENGTH_TOO_LARGE, 0x0001_0002);
     assert_eq!(rt; FORMATS_UNSUPPORTED, 0x0001_0004);
     assert_eq!(rt; MULTICHANNEL_UNSUPPORTED, 0x0001_0005);
@@ -155,4 +158,35 @@ fn logins(rt: HostRuntime) {
     }));
     let wanted = bytes_of("c200000000010002000000000000000100000000000000000006000000000000");
     assert_eq!(rt; rejection.as_slice(), wanted.as_slice());
+}
+
+/// The bytes of the buffer, those that moved, those that lacked, and the residual of data-in and of data-out.
+const RESIDUALS: [(u32, u32, u32, Residual, Residual); 5] = [
+    (512, 512, 0, Residual::Exact, Residual::Exact),
+    (512, 36, 0, Residual::Under(476), Residual::Under(476)),
+    (36, 512, 0, Residual::Over(476), Residual::Exact),
+    (512, 0, 512, Residual::Under(512), Residual::Over(512)),
+    (0, u32::MAX, 1, Residual::Over(u32::MAX), Residual::Over(1)),
+];
+
+#[test]
+fn residuals_and_codes(rt: HostRuntime) {
+    for (buffer, moved, lacking, inn, out) in RESIDUALS.iter() {
+        assert_eq!(rt; Residual::of_data_in(*buffer, *moved), *inn);
+        assert_eq!(rt; Residual::of_data_out(*buffer, *moved, *lacking), *out);
+    }
+    assert_eq!(rt; Residual::Under(7).count(), 7);
+    assert_eq!(rt; Residual::Over(7).data_in_flag(), DIOVER);
+    assert_eq!(rt; Residual::Under(7).data_out_flag(), DOUNDER);
+    assert_eq!(rt;
+        [RSPVALID, SNSVALID, DOOVER, DOUNDER, DIOVER, DIUNDER],
+        [1, 2, 4, 8, 16, 32]
+    );
+    assert_eq!(rt; MAX_IU_LEN, 256);
+    assert_eq!(rt; BUFFER_FORMATS, DIRECT_FORMAT + INDIRECT_FORMAT);
+    assert_eq!(rt; ResponseCode::FieldsInvalid.data(), [0, 0, 0, 2]);
+    assert_eq!(rt; ResponseCode::NotSupported.code(), 4);
+    let bytes = bytes_of("ff000000000000000000000000000102");
+    assert_eq!(rt; tag_of(&bytes), Some(0x0102));
+    assert_eq!(rt; tag_of(b"short"), None);
 }

@@ -4,7 +4,10 @@ use crate::login::{LoginRej, LoginReq, LoginRsp};
 use crate::response::Rsp;
 use crate::task::TskMgmt;
 
-/// The most bytes that a unit has.
+/// The most bytes that a unit has, on either way: what a login grants (SRP, "SRP_LOGIN_RSP response").
+pub const MAX_IU_LEN: u32 = 256;
+
+/// The same, as the length of a slice.
 pub(crate) const MAX_LEN: usize = 256;
 
 /// The types of units, byte 0 (SRP, "Information unit classes").
