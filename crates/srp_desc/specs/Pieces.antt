@@ -1,10 +1,11 @@
 -- The pieces of data that a command's buffer names (SRP, "Data buffer descriptor formats").
-use Rattle.std.specs.Prelude.{◌≡◌, ◌≤◌, ◌<◌, ◌*◌, ◌/◌, ◌%◌, ◌==◌, ◌||◌, ℕ, Bool, List, [], ◌∷◌, length, nat_lt, sum_by, if◌then◌else◌}
+use Rattle.std.specs.Prelude.{◌≡◌, ◌≤◌, ◌<◌, ◌*◌, ◌/◌, ◌%◌, ◌==◌, ◌||◌, ℕ, Bool, List, [], ◌∷◌, length, nat_lt, sum_by, Option, Some, None, if◌then◌else◌}
 use Rattle.arrayvec.specs.ArrayVec.{ArrayVec}
 use Rattle.srp_iu.specs.Buffer.{descs_of}
 use Rattle.srp_iu.specs.declared.buffer.Desc.{Desc}
 use Rattle.srp_iu.specs.declared.buffer.Buffer.{Buffer}
 use Rattle.srp_iu.specs.declared.buffer.Buffer.TheVariants.{Absent, Direct, Indirect}
+use Rattle.srp_desc.specs.declared.pieces.TheConstants.{MAX_DATA_LEN, MAX_TABLE_LEN}
 use Rattle.srp_desc.specs.declared.pieces.DescFault.{DescFault}
 use Rattle.srp_desc.specs.declared.pieces.DescFault.TheVariants.{Count, Total, Large}
 use Rattle.srp_desc.specs.declared.pieces.Pieces.{Pieces}
@@ -27,7 +28,7 @@ descs_in bytes = descs_of (length bytes / 16) bytes
 abbrev pub is_count_bad : (table : Desc) → (list : ArrayVec Desc) → Bool
 is_count_bad table list =
     (table.len == 0)
-    || nat_lt 4096 table.len
+    || nat_lt MAX_TABLE_LEN table.len
     || nat_lt 0 (table.len % 16)
     || nat_lt table.len (16 * length list.items)
 
@@ -47,12 +48,32 @@ is_complete table list = (16 * length list.items) == table.len
 abbrev pub pieces : Buffer → (bytes : List ℕ) → Named
 pieces Absent bytes = named []
 pieces (Direct desc) bytes =
-    if nat_lt 131072 desc.len then refused (Large desc.len)
+    if nat_lt MAX_DATA_LEN desc.len then refused (Large desc.len)
     else named (desc ∷ [])
 pieces (Indirect table total list) bytes =
     if is_count_bad table list then refused Count
-    else if nat_lt 131072 total then refused (Large total)
+    else if nat_lt MAX_DATA_LEN total then refused (Large total)
     else summing_to total (if is_complete table list then list.items else descs_in bytes)
+
+-- why pieces are refused; none where they are named
+abbrev pub fault_in : Named → Option DescFault
+fault_in (named list) = None
+fault_in (refused fault) = Some fault
+
+-- why a buffer is refused by itself, before its table is fetched; none where it is not
+abbrev pub refusal : Buffer → Option DescFault
+refusal Absent = None
+refusal (Direct desc) = if nat_lt MAX_DATA_LEN desc.len then Some (Large desc.len) else None
+refusal (Indirect table total list) =
+    if is_count_bad table list then Some Count
+    else if nat_lt MAX_DATA_LEN total then Some (Large total)
+    else if is_complete table list then fault_in (summing_to total list.items)
+    else None
+
+-- the pieces that are named; none where they are refused
+abbrev pub piece_list : Named → List Desc
+piece_list (named list) = list
+piece_list (refused fault) = []
 
 -- the table of this buffer is to be fetched: the buffer names a table of this place and length, and
 -- has only the front of it
@@ -61,14 +82,19 @@ pub record IsToFetch (buffer : Buffer) (table : Desc) (total : ℕ) : Type 0 whe
   pub indirect : buffer ≡ Indirect table total list
   pub front : 16 * length list.items < table.len
   pub some : 16 ≤ table.len
-  pub few : table.len ≤ 4096
+  pub few : table.len ≤ MAX_TABLE_LEN
   pub evenly : table.len % 16 ≡ 0
-  pub small : total ≤ 131072
+  pub small : total ≤ MAX_DATA_LEN
 
 -- what is given of a buffer before its table is fetched
 abbrev pub IsGiven : Buffer → Pieces → Type 0
 IsGiven buffer (Whole list) = (bytes : List ℕ) → pieces buffer bytes ≡ named list.items
 IsGiven buffer (Fetch table total) = IsToFetch buffer table total
+
+-- the table that is to be fetched; none where the pieces are given
+abbrev pub tables_in : Pieces → List Desc
+tables_in (Whole list) = []
+tables_in (Fetch table total) = table ∷ []
 
 -- the bytes of data in all that a buffer says it names
 abbrev pub total_of : Buffer → ℕ

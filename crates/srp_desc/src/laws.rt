@@ -14,6 +14,8 @@ pub fn fetched_table_is_read()
 
 /// The pieces that a buffer names are as many bytes in all as the buffer says, and at most 131,072.
 pub fn named_pieces_sum_up()
-    ensures sum { (buffer : Buffer) (bytes : List ℕ) (list : List Desc) → pieces buffer bytes ≡ named list → sum_of list ≡ total_of buffer }
-    ensures small { (buffer : Buffer) (bytes : List ℕ) (list : List Desc) → pieces buffer bytes ≡ named list → sum_of list ≤ 131072 }
+    ensures sum { (buffer : Buffer) (bytes : List ℕ) (list : List Desc) →
+        pieces buffer bytes ≡ named list → sum_of list ≡ total_of buffer }
+    ensures small { (buffer : Buffer) (bytes : List ℕ) (list : List Desc) →
+        pieces buffer bytes ≡ named list → sum_of list ≤ 131072 }
 {}

@@ -6,9 +6,11 @@ mod gathered;
 mod laws;
 mod pieces;
 mod table;
+mod tables;
 #[cfg(test)]
 mod tests;
 
 pub use laws::{fetched_table_is_read, named_pieces_sum_up};
-pub use pieces::{DescFault, Pieces, pieces_of};
+pub use pieces::{DescFault, MAX_DATA_LEN, MAX_TABLE_LEN, Pieces, pieces_of};
 pub use table::read_table;
+pub use tables::tables_to_fetch;

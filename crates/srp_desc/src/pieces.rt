@@ -1,7 +1,8 @@
 // What a buffer names by itself, before its table is fetched.
-ghost use Rattle.std.specs.Prelude.{◌≡◌, ◌≤◌, ◌==◌, ◌||◌, ◌%◌, ℕ, List, IfOk, OnOk, IfErr, nat_lt};
+ghost use Rattle.std.specs.Prelude.{◌≡◌, ◌≤◌, ◌==◌, ◌||◌, ◌%◌, ℕ, [], List, None, Some, IfOk, OnOk, IfErr, nat_lt};
 ghost use Rattle.srp_iu.specs.declared.buffer.Buffer.TheVariants.{Direct, Indirect};
-ghost use Rattle.srp_desc.specs.Pieces.{IsGiven, pieces, refused, total_of};
+ghost use Rattle.srp_desc.specs.Pieces.{IsGiven, pieces, refusal, refused, tables_in, total_of};
+ghost use Rattle.srp_desc.specs.Tables.{tables_of};
 
 use crate::gathered::Gathered;
 use arrayvec::ArrayVec;
@@ -10,9 +11,9 @@ use srp_iu::{Buffer, Desc};
 /// The bytes of a descriptor.
 pub(crate) const DESC_LEN: usize = 16;
 /// The bytes of the longest table, which has 256 descriptors.
-const MAX_TABLE_LEN: usize = 4096;
+pub const MAX_TABLE_LEN: usize = 4096;
 /// The bytes of data that a buffer names at most.
-const MAX_TOTAL: u32 = 131_072;
+pub const MAX_DATA_LEN: u32 = 131_072;
 
 /// Why the descriptors of a buffer are refused.
 #[derive(Clone, Copy, Debug, PartialEq, Eq)]
@@ -55,8 +56,12 @@ pub enum Pieces {
 /// pieces are not as long in all as the buffer says.
 pub fn pieces_of(buffer: &Buffer) -> Result<Pieces, DescFault>
     ensures ok { IfOk result (λ given. IsGiven buffer.now given) }
-    ensures small { OnOk result (total_of buffer.now ≤ 131072) }
-    ensures err { IfErr result (λ fault. (bytes : List ℕ) → pieces buffer.now bytes ≡ refused fault) }
+    ensures tables { IfOk result (λ given. tables_in given ≡ tables_of buffer.now) }
+    ensures unrefused { OnOk result (refusal buffer.now ≡ None) }
+    ensures small { OnOk result (total_of buffer.now ≤ MAX_DATA_LEN) }
+    ensures refusal { IfErr result (λ fault. refusal buffer.now ≡ Some fault) }
+    ensures err { IfErr result (λ fault. (bytes : List ℕ) →
+        pieces buffer.now bytes ≡ refused fault) }
 {
     match buffer {
         Buffer::Absent => Ok(Pieces::Whole(ArrayVec::new())),
@@ -68,10 +73,14 @@ pub fn pieces_of(buffer: &Buffer) -> Result<Pieces, DescFault>
 /// What a direct buffer names.
 fn direct(desc: &Desc) -> Result<Pieces, DescFault>
     ensures ok { IfOk result (λ given. IsGiven (Direct desc.now) given) }
-    ensures small { OnOk result (desc.now.len ≤ 131072) }
-    ensures err { IfErr result (λ fault. (bytes : List ℕ) → pieces (Direct desc.now) bytes ≡ refused fault) }
+    ensures tables { IfOk result (λ given. tables_in given ≡ []) }
+    ensures unrefused { OnOk result (refusal (Direct desc.now) ≡ None) }
+    ensures small { OnOk result (desc.now.len ≤ MAX_DATA_LEN) }
+    ensures refusal { IfErr result (λ fault. refusal (Direct desc.now) ≡ Some fault) }
+    ensures err { IfErr result (λ fault. (bytes : List ℕ) →
+        pieces (Direct desc.now) bytes ≡ refused fault) }
 {
-    if desc.len > MAX_TOTAL {
+    if desc.len > MAX_DATA_LEN {
         return Err(DescFault::Large { total: desc.len });
     }
     let mut list = ArrayVec::new();
@@ -82,15 +91,21 @@ fn direct(desc: &Desc) -> Result<Pieces, DescFault>
 /// What an indirect buffer names.
 fn indirect(table: &Desc, total: u32, list: &ArrayVec<Desc, 11>) -> Result<Pieces, DescFault>
     ensures ok { IfOk result (λ given. IsGiven (Indirect table.now total list.now) given) }
-    ensures small { OnOk result (total ≤ 131072) }
-    ensures err { IfErr result (λ fault. (bytes : List ℕ) → pieces (Indirect table.now total list.now) bytes ≡ refused fault) }
+    ensures tables { IfOk result (λ given.
+        tables_in given ≡ tables_of (Indirect table.now total list.now)) }
+    ensures unrefused { OnOk result (refusal (Indirect table.now total list.now) ≡ None) }
+    ensures small { OnOk result (total ≤ MAX_DATA_LEN) }
+    ensures refusal { IfErr result (λ fault.
+        refusal (Indirect table.now total list.now) ≡ Some fault) }
+    ensures err { IfErr result (λ fault.
+        (bytes : List ℕ) → pieces (Indirect table.now total list.now) bytes ≡ refused fault) }
 {
     let table_len = table.len as usize;
     let listed = DESC_LEN * list.len();
     if is_count_bad(table_len, listed) {
         return Err(DescFault::Count);
     }
-    if total > MAX_TOTAL {
+    if total > MAX_DATA_LEN {
         return Err(DescFault::Large { total });
     }
     if listed < table_len {
@@ -106,7 +121,8 @@ fn indirect(table: &Desc, total: u32, list: &ArrayVec<Desc, 11>) -> Result<Piece
 
 /// Whether a table of this length in bytes has not 1 to 256 descriptors, or fewer than are listed.
 fn is_count_bad(table_len: usize, listed: usize) -> bool
-    ensures { result ≡ ((table_len == 0) || nat_lt 4096 table_len || nat_lt 0 (table_len % 16) || nat_lt table_len listed) }
+    ensures { result ≡ ((table_len == 0) || nat_lt MAX_TABLE_LEN table_len ||
+        nat_lt 0 (table_len % 16) || nat_lt table_len listed) }
 {
     table_len == 0 || table_len > MAX_TABLE_LEN || table_len % DESC_LEN != 0 || table_len < listed
 }
