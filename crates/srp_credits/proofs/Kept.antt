@@ -1,13 +1,18 @@
 -- What holds of every history: the limit, the grant, and one answer for each request.
-use Rattle.std.proofs.Common.{◌≡◌, ℕ, ◌+◌, ◌≤◌, true, cond, List, [], ◌∷◌, length, min, count_by, ◌==◌, refl, subst, arith, length-append, pos, ◌+ℤ◌, ◌≤ℤ◌}
+use Rattle.std.proofs.Common.{◌≡◌, ℕ, ◌+◌, ◌≤◌, Bool, true, false, cond, List, [], ◌∷◌, length, min, count_by, ◌==◌, refl, ap, ℤ, subst, arith, length-append, pos, ◌+ℤ◌, ◌≤ℤ◌}
 use Rattle.std.proofs.lemmas.Int.{ints, clamps}
 use Rattle.std.proofs.lemmas.Bool.Decides.{nat_tests}
-use Rattle.srp_credits.specs.History.{Event, Login, Sent, Answered, Logout, Lost, is_on, outstanding, limit, granted, IsProper, IsWithinLimit, IsWithinGrant, GrantsOneEach, times_sent, times_answered, times_outstanding}
+use Rattle.srp_credits.specs.History.{Event, Login, Sent, Answered, Logout, Lost, is_on, without, outstanding, raised, limit, granted, IsProper, IsWithinLimit, IsWithinGrant, GrantsOneEach, times_sent, times_answered, times_outstanding}
 use Rattle.srp_credits.proofs.Lists.{length-without, count-push, count-without, count-absent}
 
 pub record IsKept (es : List Event) : Type 0 where
   pub never_below : pos 0 ≤ℤ limit es
   pub capped : (limit es +ℤ pos (length (outstanding es))) ≤ℤ pos 200
+
+raised_kept : (on : Bool) (before : ℤ) (delta used : ℕ) → pos 0 ≤ℤ before → used ≤ 200
+    → (pos 0 ≤ℤ raised on before delta used) × ((raised on before delta used +ℤ pos used) ≤ℤ pos 200)
+raised_kept false before delta used h few = (omega (arith, ints), omega (arith, ints, few))
+raised_kept true before delta used h few = (omega (arith, ints, clamps, h, few), omega (arith, ints, clamps))
 
 pub kept : (es : List Event) → IsProper es → IsWithinLimit es → IsKept es
 kept [] p w = record { never_below = omega (arith, ints); capped = omega (arith, ints) }
@@ -20,10 +25,9 @@ kept (Sent tag ∷ es) p w =
     }
 kept (Answered tag delta ∷ es) p w =
     let k = kept es p.0 w in
-    record {
-      never_below = omega (arith, ints, clamps, k.never_below, k.capped, length-without tag (outstanding es) p.1);
-      capped = omega (arith, ints, clamps);
-    }
+    let few : length (without tag (outstanding es)) ≤ 200 = omega (arith, ints, k.never_below, k.capped, length-without tag (outstanding es) p.1) in
+    let r = raised_kept (is_on es) (limit es) delta (length (without tag (outstanding es))) k.never_below few in
+    record { never_below = r.0; capped = r.1 }
 kept (Logout ∷ es) p w =
     let k = kept es p w in
     record { never_below = omega (arith, ints); capped = omega (arith, ints, k.never_below, k.capped) }
@@ -35,9 +39,22 @@ granted_whole (Login delta ∷ es) p g o = omega (arith, ints)
 granted_whole (Sent tag ∷ es) p g o =
     omega (arith, ints, granted_whole es p.0 g o, length-append (outstanding es) (tag ∷ []))
 granted_whole (Answered tag delta ∷ es) p g o =
-    omega (arith, ints, clamps, granted_whole es p.0 g.0 o, g.1, length-without tag (outstanding es) p.1)
+    let used : ℕ = length (without tag (outstanding es)) in
+    let on : raised (is_on es) (limit es) delta used ≡ raised true (limit es) delta used = ap (λ b. raised b (limit es) delta used) o in
+    omega (arith, ints, clamps, on, granted_whole es p.0 g.0 o, g.1, length-without tag (outstanding es) p.1)
 granted_whole (Logout ∷ es) p g o = cc
 granted_whole (Lost ∷ es) p g o = cc
+
+both_ways : (b : Bool) → b ≡ true → b ≡ false → ⊥
+both_ways b e f = cc (e, f)
+
+pub no_login : (es : List Event) → IsProper es → is_on es ≡ false → limit es ≡ pos 0
+no_login [] p o = refl
+no_login (Login delta ∷ es) p o = absurd (both_ways true refl o)
+no_login (Sent tag ∷ es) p o = absurd (both_ways (is_on es) p.1 o)
+no_login (Answered tag delta ∷ es) p o = ap (λ b. raised b (limit es) delta (length (without tag (outstanding es)))) o
+no_login (Logout ∷ es) p o = refl
+no_login (Lost ∷ es) p o = refl
 
 pub grant_kept : (n : ℕ) (es : List Event) → IsWithinGrant n es → length (outstanding es) ≤ n
 grant_kept n [] w = omega arith

@@ -1,3 +1,4 @@
-pub mod Lists
 pub mod Kept
+pub mod Laws
+pub mod Lists
 pub mod Lives

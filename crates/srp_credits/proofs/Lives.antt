@@ -3,7 +3,7 @@ use Rattle.std.proofs.Common.{◌≡◌, ℕ, ◌+◌, ◌-◌, ◌≤◌, ◌<�
 use Rattle.std.specs.Option.{option_map}
 use Rattle.std.specs.Int.{int_min}
 use Rattle.std.proofs.lemmas.Int.{ints, clamps}
-use Rattle.srp_credits.specs.History.{Event, Login, Sent, Answered, Logout, Lost, without, outstanding}
+use Rattle.srp_credits.specs.History.{Event, Login, Sent, Answered, Logout, Lost, without, outstanding, limit, raised}
 use Rattle.srp_credits.specs.Initiator.{InitiatorCredits, IsAfter, HasHistory, IsCapped}
 use Rattle.srp_credits.specs.Target.{TargetCredits, TargetIsAfter, TargetHasHistory}
 use Rattle.srp_credits.proofs.Lists.{length-without}
@@ -53,7 +53,7 @@ answered_after es None tags tag delta l' tags' h few there f e = rw (e, f) recor
     within = h.lawful.within;
   };
   login = h.login;
-  allows = tt;
+  allows = ap (λ on. raised on (limit es) delta (length (without tag (outstanding es)))) h.login;
   sent = ap (without tag) h.sent;
 }
 answered_after es (Some n) tags tag delta l' tags' h few there f e = rw (e, f) record {
@@ -63,7 +63,7 @@ answered_after es (Some n) tags tag delta l' tags' h few there f e = rw (e, f) r
   };
   login = h.login;
   allows =
-      rw (h.allows, ← h.sent) (raised_limit n delta (length (without tag tags)) (omega (arith, few, length-without tag tags there)));
+      rw (h.login, h.allows, ← h.sent) (raised_limit n delta (length (without tag tags)) (omega (arith, few, length-without tag tags there)));
   sent = ap (without tag) h.sent;
 }
 

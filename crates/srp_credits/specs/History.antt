@@ -38,14 +38,20 @@ outstanding (Answered tag delta ∷ es) = without tag (outstanding es)
 outstanding (Logout ∷ es) = outstanding es
 outstanding (Lost ∷ es) = []
 
--- the request limit: how many more requests may be sent while a login is on. It begins as what the login granted, of which
--- 200 count; a request lowers it by one; an answer raises it by what it grants, but not above 200 less
--- what is then outstanding. A history that no initiator lives may take it below 0.
+-- the request limit after an answer: it rises by what the answer grants, but not above 200 less what is
+-- then outstanding; where no login is on it stays 0
+abbrev pub raised : Bool → ℤ → (delta used : ℕ) → ℤ
+raised false before delta used = pos 0
+raised true before delta used = int_min (before +ℤ pos delta) (pos 200 -ℤ pos used)
+
+-- the request limit: how many more requests may be sent. It begins as what the login granted, of which
+-- 200 count; a request lowers it by one; an answer raises it; while no login is on it is 0. A history that
+-- no initiator lives may take it below 0.
 abbrev pub limit : List Event → ℤ
 limit [] = pos 0
 limit (Login delta ∷ es) = pos (min delta 200)
 limit (Sent tag ∷ es) = limit es -ℤ pos 1
-limit (Answered tag delta ∷ es) = int_min (limit es +ℤ pos delta) (pos 200 -ℤ pos (length (without tag (outstanding es))))
+limit (Answered tag delta ∷ es) = raised (is_on es) (limit es) delta (length (without tag (outstanding es)))
 limit (Logout ∷ es) = pos 0
 limit (Lost ∷ es) = pos 0
 

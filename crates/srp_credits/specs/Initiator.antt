@@ -1,5 +1,5 @@
 -- The credits of a login as the initiator keeps them.
-use Rattle.std.specs.Prelude.{◌≡◌, ℕ, ◌+◌, ◌≤◌, [], true, false, List, length, Option, MatchOption, IfSome, pos}
+use Rattle.std.specs.Prelude.{◌≡◌, ℕ, ◌+◌, ◌≤◌, [], true, false, List, length, Option, MatchOption, pos}
 use Rattle.srp_credits.specs.History.{Event, is_on, outstanding, limit, IsLawful}
 
 pub record InitiatorCredits : Type 0 where
@@ -12,7 +12,7 @@ pub record InitiatorCredits : Type 0 where
 pub record IsAfter (es : List Event) (credits : InitiatorCredits) : Type 0 where
   pub lawful : IsLawful es
   pub login : MatchOption credits.limit (is_on es ≡ false) (λ n. is_on es ≡ true)
-  pub allows : IfSome credits.limit (λ n. limit es ≡ pos n)
+  pub allows : MatchOption credits.limit (limit es ≡ pos 0) (λ n. limit es ≡ pos n)
   pub sent : credits.tags ≡ outstanding es
 
 -- at most 200 requests are outstanding or may be sent, and none is outstanding without a login

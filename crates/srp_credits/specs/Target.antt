@@ -1,5 +1,7 @@
 -- The credits of a login as the target keeps them.
-use Rattle.std.specs.Prelude.{◌≡◌, ℕ, ◌≤◌, Bool, List, length}
+use Rattle.std.specs.Prelude.{◌≡◌, ℕ, ◌+◌, ◌≤◌, Bool, List, length}
+use Rattle.srp_credits.specs.declared.fault.CreditFault.{CreditFault}
+use Rattle.srp_credits.specs.declared.fault.CreditFault.TheVariants.{OverLimit}
 use Rattle.srp_credits.specs.History.{Event, is_on, outstanding, logins, IsWithinGrant}
 
 pub record TargetCredits : Type 0 where
@@ -24,3 +26,7 @@ pub record TargetHasHistory (credits : TargetCredits) : Type 0 where
   pub events : List Event
   pub after : TargetIsAfter events credits
   pub within : credits.outstanding ≤ credits.granted
+
+-- the refusal of one request more: how many would be outstanding, and how many are granted
+abbrev pub over_limit : TargetCredits → CreditFault
+over_limit credits = OverLimit (credits.outstanding + 1) credits.granted

@@ -47,7 +47,8 @@ impl Initiator {
     pub fn login(&mut self, delta: u32)
         ensures limit { self.new.limit ≡ Some (min delta 200) }
         ensures tags { self.new.tags ≡ [] }
-        ensures after { (es : List Event) → IsAfter es self.old → IsAfter (Login delta ∷ es) self.new }
+        ensures after { (es : List Event) → IsAfter es self.old →
+            IsAfter (Login delta ∷ es) self.new }
     {
         self.limit = Some(delta.min(MOST));
         self.tags.clear();
@@ -86,8 +87,10 @@ impl Initiator {
         ensures ok { IsOk result ↔ IsSomeAnd self.old.limit (λ n. 0 < n) }
         ensures limit { OnOk result (IfSome self.old.limit (λ n. self.new.limit ≡ Some (n - 1))) }
         ensures tags { OnOk result (self.new.tags ≡ self.old.tags ++ tag ∷ []) }
-        ensures after { (es : List Event) → IsAfter es self.old → OnOk result (IsAfter (Sent tag ∷ es) self.new) }
-        ensures refused { (es : List Event) → IsAfter es self.old → OnErr result (¬ IsLawful (Sent tag ∷ es)) }
+        ensures after { (es : List Event) → IsAfter es self.old →
+            OnOk result (IsAfter (Sent tag ∷ es) self.new) }
+        ensures refused { (es : List Event) → IsAfter es self.old →
+            OnErr result (¬ IsLawful (Sent tag ∷ es)) }
         ensures err { OnErr result (self.new ≡ self.old) }
     {
         match self.limit {
@@ -106,10 +109,13 @@ impl Initiator {
     pub fn answered(&mut self, tag: u64, delta: u32) -> Result<(), CreditFault>
         ensures stray { IsErrOf result (CreditFault.StrayTag tag) ↔ (¬ Contains self.old.tags tag) }
         ensures ok { IsOk result ↔ Contains self.old.tags tag }
-        ensures limit { OnOk result (self.new.limit ≡ option_map (λ n. min (n + delta) (200 - length self.new.tags)) self.old.limit) }
+        ensures limit { OnOk result (self.new.limit ≡
+            option_map (λ n. min (n + delta) (200 - length self.new.tags)) self.old.limit) }
         ensures tags { OnOk result (self.new.tags ≡ without tag self.old.tags) }
-        ensures after { (es : List Event) → IsAfter es self.old → OnOk result (IsAfter (Answered tag delta ∷ es) self.new) }
-        ensures refused { (es : List Event) → IsAfter es self.old → OnErr result (¬ IsLawful (Answered tag delta ∷ es)) }
+        ensures after { (es : List Event) → IsAfter es self.old →
+            OnOk result (IsAfter (Answered tag delta ∷ es) self.new) }
+        ensures refused { (es : List Event) → IsAfter es self.old →
+            OnErr result (¬ IsLawful (Answered tag delta ∷ es)) }
         ensures err { OnErr result (self.new ≡ self.old) }
     {
         let Some(place) = place_of(self.tags.as_slice(), tag) else {

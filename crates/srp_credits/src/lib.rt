@@ -4,7 +4,6 @@
 
 mod fault;
 mod initiator;
-mod laws;
 mod tags;
 mod target;
 #[cfg(test)]
@@ -12,5 +11,4 @@ mod tests;
 
 pub use fault::CreditFault;
 pub use initiator::Initiator;
-pub use laws::{each_answer_has_its_request, grant_is_kept, limit_is_kept, sides_agree};
 pub use target::Target;

@@ -1,7 +1,7 @@
 // The target's side: how many requests a login grants, and how many are accepted and not answered.
 ghost use Rattle.std.specs.Prelude.{◌≡◌, ◌↔◌, ℕ, true, false, List, [], ◌∷◌, ◌+◌, ◌-◌, ◌^◌, ◌<◌, ◌≤◌, Contains, IsOk, OnOk, OnErr, IsErrOf};
 ghost use Rattle.srp_credits.specs.History.{Event, Login, Sent, Answered, Logout, Lost, outstanding as tags_after, IsWithinGrant};
-ghost use Rattle.srp_credits.specs.Target.{TargetIsAfter, TargetHasHistory};
+ghost use Rattle.srp_credits.specs.Target.{TargetIsAfter, TargetHasHistory, over_limit};
 
 use crate::fault::CreditFault;
 use std::marker::Model;
@@ -21,9 +21,19 @@ impl Model for Target {
 
     ghost Value = { TargetCredits };
 
-    ghost view = { λ target. record { granted = target.granted; logins = target.logins; on = target.logged_in; outstanding = target.outstanding } };
+    ghost view = { λ target. record {
+      granted = target.granted;
+      logins = target.logins;
+      on = target.logged_in;
+      outstanding = target.outstanding;
+    } };
 
-    ghost invariant = { λ target. TargetHasHistory (record { granted = target.granted; logins = target.logins; on = target.logged_in; outstanding = target.outstanding }) };
+    ghost invariant = { λ target. TargetHasHistory (record {
+      granted = target.granted;
+      logins = target.logins;
+      on = target.logged_in;
+      outstanding = target.outstanding;
+    }) };
 }
 
 impl Target {
@@ -31,7 +41,8 @@ impl Target {
     pub fn new(grant: u8) -> Target
         requires some { 1 ≤ grant }
         requires few { grant ≤ 200 }
-        ensures state { result ≡ record { granted = grant; logins = 0; on = false; outstanding = 0 } }
+        ensures state { result ≡
+            record { granted = grant; logins = 0; on = false; outstanding = 0 } }
         ensures after { TargetIsAfter [] result }
     {
         Target {
@@ -47,8 +58,10 @@ impl Target {
         requires off { self.old.on ≡ false }
         requires few { self.old.logins < 2 ^ 60 }
         ensures number { result ≡ self.old.logins + 1 }
-        ensures state { self.new ≡ record self.old { logins = self.old.logins + 1; on = true; outstanding = 0 } }
-        ensures after { (es : List Event) → TargetIsAfter es self.old → TargetIsAfter (Login self.old.granted ∷ es) self.new }
+        ensures state { self.new ≡
+            record self.old { logins = self.old.logins + 1; on = true; outstanding = 0 } }
+        ensures after { (es : List Event) → TargetIsAfter es self.old →
+            TargetIsAfter (Login self.old.granted ∷ es) self.new }
     {
         self.logins += 1;
         self.logged_in = true;
@@ -56,15 +69,28 @@ impl Target {
         self.logins
     }
 
+    /// How many requests are accepted and not answered, of those that the login grants.
+    pub fn outstanding(&self) -> u32
+        ensures outstanding { result ≡ self.now.outstanding }
+        ensures history { TargetHasHistory self.now }
+    {
+        u32::from(self.outstanding)
+    }
+
     /// Takes a request. A refusal changes nothing.
     pub fn accept(&mut self) -> Result<(), CreditFault>
         ensures not_logged_in { IsErrOf result CreditFault.NotLoggedIn ↔ (self.old.on ≡ false) }
-        ensures over_limit { IsErrOf result (CreditFault.OverLimit (self.old.outstanding + 1) self.old.granted) ↔ ((self.old.on ≡ true) × (self.old.granted < self.old.outstanding + 1)) }
-        ensures ok { IsOk result ↔ ((self.old.on ≡ true) × (self.old.outstanding + 1 ≤ self.old.granted)) }
-        ensures state { OnOk result (self.new ≡ record self.old { outstanding = self.old.outstanding + 1 }) }
+        ensures over_limit { IsErrOf result (over_limit self.old) ↔
+            ((self.old.on ≡ true) × (self.old.granted < self.old.outstanding + 1)) }
+        ensures ok { IsOk result ↔
+            ((self.old.on ≡ true) × (self.old.outstanding + 1 ≤ self.old.granted)) }
+        ensures state { OnOk result (self.new ≡
+            record self.old { outstanding = self.old.outstanding + 1 }) }
         ensures history { TargetHasHistory self.new }
-        ensures after { (es : List Event) (tag : ℕ) → TargetIsAfter es self.old → OnOk result (TargetIsAfter (Sent tag ∷ es) self.new) }
-        ensures refused { (es : List Event) (tag : ℕ) → TargetIsAfter es self.old → OnErr result (¬ IsWithinGrant self.old.granted (Sent tag ∷ es)) }
+        ensures after { (es : List Event) (tag : ℕ) → TargetIsAfter es self.old →
+            OnOk result (TargetIsAfter (Sent tag ∷ es) self.new) }
+        ensures refused { (es : List Event) (tag : ℕ) → TargetIsAfter es self.old →
+            OnErr result (¬ IsWithinGrant self.old.granted (Sent tag ∷ es)) }
         ensures err { OnErr result (self.new ≡ self.old) }
     {
         if !self.logged_in {
@@ -84,7 +110,8 @@ impl Target {
     pub fn answer(&mut self)
         requires { 0 < self.old.outstanding }
         ensures state { self.new ≡ record self.old { outstanding = self.old.outstanding - 1 } }
-        ensures after { (es : List Event) (tag delta : ℕ) → Contains (tags_after es) tag → TargetIsAfter es self.old → TargetIsAfter (Answered tag delta ∷ es) self.new }
+        ensures after { (es : List Event) (tag delta : ℕ) → Contains (tags_after es) tag →
+            TargetIsAfter es self.old → TargetIsAfter (Answered tag delta ∷ es) self.new }
     {
         self.outstanding -= 1;
     }
@@ -92,7 +119,8 @@ impl Target {
     /// Ends the login. What was accepted stays outstanding until it is answered or the next login begins.
     pub fn logout(&mut self)
         ensures state { self.new ≡ record self.old { on = false } }
-        ensures after { (es : List Event) → TargetIsAfter es self.old → TargetIsAfter (Logout ∷ es) self.new }
+        ensures after { (es : List Event) → TargetIsAfter es self.old →
+            TargetIsAfter (Logout ∷ es) self.new }
     {
         self.logged_in = false;
     }
@@ -100,7 +128,8 @@ impl Target {
     /// Ends the login and forgets what is outstanding.
     pub fn lost(&mut self)
         ensures state { self.new ≡ record self.old { on = false; outstanding = 0 } }
-        ensures after { (es : List Event) → TargetIsAfter es self.old → TargetIsAfter (Lost ∷ es) self.new }
+        ensures after { (es : List Event) → TargetIsAfter es self.old →
+            TargetIsAfter (Lost ∷ es) self.new }
     {
         self.logged_in = false;
         self.outstanding = 0;

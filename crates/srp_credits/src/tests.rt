@@ -109,6 +109,7 @@ fn a_target_takes_what_it_grants(rt: HostRuntime) {
         granted: 2,
     };
     assert_eq!(rt; target.accept(), Err(over));
+    assert_eq!(rt; target.outstanding(), 2);
     target.answer();
     assert_eq!(rt; target.accept(), Ok(()));
     target.logout();
