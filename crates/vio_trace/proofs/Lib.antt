@@ -1,2 +1,9 @@
+pub mod Cuts
 pub mod Digits
+pub mod Histories
+pub mod Laws
+pub mod Order
+pub mod Ranges
+pub mod RowsTold
+pub mod Spelled
 pub mod Written

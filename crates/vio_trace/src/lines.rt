@@ -1,5 +1,6 @@
 // The lines of each kind of row, and of a list of rows.
-ghost use Rattle.std.specs.Prelude.{◌≡◌, ◌++◌, ℕ, List, OnOk, flat_map};
+ghost use Rattle.std.specs.Prelude.{◌≡◌, ◌++◌, ℕ, List, All, OnOk, flat_map};
+ghost use Rattle.vio_trace.specs.Form.{IsLogRow, IsEntry, IsDropRow, IsQueueLine, IsQueueRow, IsGrantRow, IsServeRow, IsAnswerRow};
 ghost use Rattle.vio_trace.specs.Text.{log_text, entry_text, drop_text, queue_line, queue_text, grant_text, serve_text, answer_text};
 
 use crate::rows::{AnswerRow, DropRow, LogRow, Outcome, QueueRow};
@@ -12,14 +13,18 @@ use vio_num::{Entry, Grant, NoMemory, Served};
 pub trait Lines {
     ghost text: { Self → List ℕ };
 
+    ghost in_range: { Self → Type 0 };
+
     /// Writes the lines.
     fn put(&self, buffer: &mut Vec<u8>) -> Result<(), NoMemory>
-        ensures { OnOk result (buffer.new.items ≡ buffer.old.items ++ text self.now) };
+        ensures text { OnOk result (buffer.new.items ≡ buffer.old.items ++ text self.now) }
+        ensures range { OnOk result (in_range self.now) };
 }
 
 /// Writes the lines of each of these rows.
 pub fn put_all<R: Lines>(buffer: &mut Vec<u8>, rows: &[R]) -> Result<(), NoMemory>
-    ensures { OnOk result (buffer.new.items ≡ buffer.old.items ++ flat_map R.text rows.now) }
+    ensures text { OnOk result (buffer.new.items ≡ buffer.old.items ++ flat_map R.text rows.now) }
+    ensures range { OnOk result (All R.in_range rows.now) }
 {
     for row in rows {
         row.put(buffer)?;
@@ -29,6 +34,8 @@ pub fn put_all<R: Lines>(buffer: &mut Vec<u8>, rows: &[R]) -> Result<(), NoMemor
 
 impl Lines for LogRow {
     ghost text = { log_text };
+
+    ghost in_range = { IsLogRow };
 
     fn put(&self, buffer: &mut Vec<u8>) -> Result<(), NoMemory> {
         put(buffer, b"log")?;
@@ -50,7 +57,9 @@ impl Lines for LogRow {
 
 /// Writes a line of this first word for each entry.
 fn put_entries(buffer: &mut Vec<u8>, word: &[u8], entries: &[Entry]) -> Result<(), NoMemory>
-    ensures { OnOk result (buffer.new.items ≡ buffer.old.items ++ flat_map (entry_text word.now) entries.now) }
+    ensures text { OnOk result (buffer.new.items ≡
+        buffer.old.items ++ flat_map (entry_text word.now) entries.now) }
+    ensures range { OnOk result (All IsEntry entries.now) }
 {
     for entry in entries {
         put_entry(buffer, word, entry)?;
@@ -60,7 +69,9 @@ fn put_entries(buffer: &mut Vec<u8>, word: &[u8], entries: &[Entry]) -> Result<(
 
 /// Writes the line of an entry.
 fn put_entry(buffer: &mut Vec<u8>, word: &[u8], entry: &Entry) -> Result<(), NoMemory>
-    ensures { OnOk result (buffer.new.items ≡ buffer.old.items ++ entry_text word.now entry.now) }
+    ensures text { OnOk result (buffer.new.items ≡
+        buffer.old.items ++ entry_text word.now entry.now) }
+    ensures range { OnOk result (IsEntry entry.now) }
 {
     put(buffer, word)?;
     put_digits(buffer, entry.high)?;
@@ -70,6 +81,8 @@ fn put_entry(buffer: &mut Vec<u8>, word: &[u8], entry: &Entry) -> Result<(), NoM
 
 impl Lines for DropRow {
     ghost text = { drop_text };
+
+    ghost in_range = { IsDropRow };
 
     fn put(&self, buffer: &mut Vec<u8>) -> Result<(), NoMemory> {
         put(buffer, b"drop")?;
@@ -81,7 +94,8 @@ impl Lines for DropRow {
 
 /// Writes the first line of a session.
 fn put_queue_line(buffer: &mut Vec<u8>, row: &QueueRow) -> Result<(), NoMemory>
-    ensures { OnOk result (buffer.new.items ≡ buffer.old.items ++ queue_line row.now) }
+    ensures text { OnOk result (buffer.new.items ≡ buffer.old.items ++ queue_line row.now) }
+    ensures range { OnOk result (IsQueueLine row.now) }
 {
     put_head(buffer, b"queue", row.unit, row.session)?;
     put_number(buffer, u64::from(row.slots))?;
@@ -94,6 +108,8 @@ fn put_queue_line(buffer: &mut Vec<u8>, row: &QueueRow) -> Result<(), NoMemory>
 impl Lines for QueueRow {
     ghost text = { queue_text };
 
+    ghost in_range = { IsQueueRow };
+
     fn put(&self, buffer: &mut Vec<u8>) -> Result<(), NoMemory> {
         put_queue_line(buffer, self)?;
         put_entries(buffer, b"sent", self.sent.as_slice())?;
@@ -104,6 +120,8 @@ impl Lines for QueueRow {
 
 impl Lines for Grant {
     ghost text = { grant_text };
+
+    ghost in_range = { IsGrantRow };
 
     fn put(&self, buffer: &mut Vec<u8>) -> Result<(), NoMemory> {
         match *self {
@@ -141,6 +159,8 @@ impl Lines for Grant {
 impl Lines for Served {
     ghost text = { serve_text };
 
+    ghost in_range = { IsServeRow };
+
     fn put(&self, buffer: &mut Vec<u8>) -> Result<(), NoMemory> {
         put_head(buffer, b"serve", self.unit, self.session)?;
         put_number(buffer, self.login)?;
@@ -156,6 +176,8 @@ impl Lines for Served {
 
 impl Lines for AnswerRow {
     ghost text = { answer_text };
+
+    ghost in_range = { IsAnswerRow };
 
     fn put(&self, buffer: &mut Vec<u8>) -> Result<(), NoMemory> {
         put_head(buffer, b"answer", self.unit, self.session)?;

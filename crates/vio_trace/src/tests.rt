@@ -1,4 +1,7 @@
 // Texts written by hand from the format: each kind of line, and a login with one command.
+ghost use Rattle.std.specs.Prelude.{◌≡◌, IfOk};
+ghost use Rattle.vio_trace.specs.Form.{Ascend, LogBefore, QueueBefore, AnswerBefore, IsInOrder};
+
 use crate::rows::{AnswerRow, DropRow, LogRow, Outcome, QueueRow, Trace};
 use crate::write::write_trace;
 use std::alloc::Global;
@@ -35,7 +38,9 @@ fn counted(alloc: Global, len: u8) -> Result<Bytes, Fail> {
     Ok(bytes)
 }
 
-fn logs(alloc: Global) -> Result<Sequence<LogRow>, Fail> {
+fn logs(alloc: Global) -> Result<Sequence<LogRow>, Fail>
+    ensures { IfOk result (λ logs. Ascend LogBefore logs) }
+{
     let mut logs = Sequence::new(alloc);
     logs.push(LogRow {
         partition: 0,
@@ -50,7 +55,9 @@ fn logs(alloc: Global) -> Result<Sequence<LogRow>, Fail> {
     Ok(logs)
 }
 
-fn queues(alloc: Global) -> Result<Sequence<QueueRow>, Fail> {
+fn queues(alloc: Global) -> Result<Sequence<QueueRow>, Fail>
+    ensures { IfOk result (λ queues. Ascend QueueBefore queues) }
+{
     let first = entry(0x8001_0000_0000_0024, 0xfedc_ba98_7654_3210);
     let drops = [(2, 0xff01_0000_0000_0000), (MOST, 10), (0, 0)];
     let mut queues = Sequence::new(alloc);
@@ -133,7 +140,9 @@ fn serves(alloc: Global) -> Result<Sequence<Served>, Fail> {
     Ok(serves)
 }
 
-fn answers(alloc: Global) -> Result<Sequence<AnswerRow>, Fail> {
+fn answers(alloc: Global) -> Result<Sequence<AnswerRow>, Fail>
+    ensures { IfOk result (λ answers. Ascend AnswerBefore answers) }
+{
     let mut answers = Sequence::new(alloc);
     answers.push(AnswerRow {
         unit: CLIENT,
@@ -151,7 +160,9 @@ fn answers(alloc: Global) -> Result<Sequence<AnswerRow>, Fail> {
 }
 
 /// A trace that has each kind of line.
-fn each_kind(alloc: Global) -> Result<Trace, Fail> {
+fn each_kind(alloc: Global) -> Result<Trace, Fail>
+    ensures { IfOk result (λ trace. IsInOrder trace) }
+{
     Ok(Trace {
         logs: logs(alloc)?,
         queues: queues(alloc)?,
@@ -167,7 +178,9 @@ fn spelled(alloc: Global, digits: &str) -> Result<Bytes, Fail> {
 }
 
 /// The first session of a queue of 256 slots from which all was taken.
-fn session(alloc: Global, unit: UnitId, entries: &[Entry]) -> Result<QueueRow, Fail> {
+fn session(alloc: Global, unit: UnitId, entries: &[Entry]) -> Result<QueueRow, Fail>
+    ensures { IfOk result (λ row. row.unit ≡ unit) }
+{
     Ok(QueueRow {
         unit,
         session: 1,
@@ -178,19 +191,26 @@ fn session(alloc: Global, unit: UnitId, entries: &[Entry]) -> Result<QueueRow, F
     })
 }
 
-fn run_logs(alloc: Global) -> Result<Sequence<LogRow>, Fail> {
+fn run_logs(alloc: Global) -> Result<Sequence<LogRow>, Fail>
+    ensures { IfOk result (λ logs. Ascend LogBefore logs) }
+{
     let mut logs = Sequence::new(alloc);
-    for (line, outcome) in [(9, Outcome::Granted(8)), (10, Outcome::Sent(2))] {
-        logs.push(LogRow {
-            partition: 1,
-            line,
-            outcome,
-        })?;
-    }
+    logs.push(LogRow {
+        partition: 1,
+        line: 9,
+        outcome: Outcome::Granted(8),
+    })?;
+    logs.push(LogRow {
+        partition: 1,
+        line: 10,
+        outcome: Outcome::Sent(2),
+    })?;
     Ok(logs)
 }
 
-fn run_queues(alloc: Global) -> Result<Sequence<QueueRow>, Fail> {
+fn run_queues(alloc: Global) -> Result<Sequence<QueueRow>, Fail>
+    ensures { IfOk result (λ queues. Ascend QueueBefore queues) }
+{
     let requests = [
         entry(0xc001_0000_0000_0000, 0),
         entry(0x8001_0000_0000_0040, 0),
@@ -224,7 +244,9 @@ fn run_serves(alloc: Global) -> Result<Sequence<Served>, Fail> {
 }
 
 /// A login and a command that tests a unit.
-fn one_command(alloc: Global) -> Result<Trace, Fail> {
+fn one_command(alloc: Global) -> Result<Trace, Fail>
+    ensures { IfOk result (λ trace. IsInOrder trace) }
+{
     let grant = Grant::Granted {
         unit: SERVER,
         session: 1,

@@ -1,6 +1,7 @@
 // The words of a line, each written behind a space.
-ghost use Rattle.std.specs.Prelude.{◌≡◌, ◌++◌, ◌≤◌, OnOk, codes, decimal, length};
-ghost use Rattle.hex.specs.Hex.{encode_lower};
+ghost use Rattle.std.specs.Prelude.{◌≡◌, ◌++◌, ◌≤◌, IfSome, OnOk, codes, decimal, length};
+ghost use Rattle.hex.specs.Hex.{IsBytes, encode_lower};
+ghost use Rattle.vio_trace.specs.Form.{IsHalf, IsName};
 ghost use Rattle.vio_trace.specs.Text.{name, digits, bytes as bytes_word, number_or_none, cause};
 
 use vio_num::{Bytes, Lapse, NoMemory, UnitId};
@@ -50,7 +51,9 @@ pub fn put_head(
     unit: UnitId,
     session: u64,
 ) -> Result<(), NoMemory>
-    ensures { OnOk result (buffer.new.items ≡ buffer.old.items ++ word.now ++ codes " " ++ name unit ++ codes " " ++ decimal session) }
+    ensures text { OnOk result (buffer.new.items ≡
+        buffer.old.items ++ word.now ++ codes " " ++ name unit ++ codes " " ++ decimal session) }
+    ensures range { IsName unit }
 {
     put(buffer, word)?;
     put_name(buffer, unit)?;
@@ -59,7 +62,9 @@ pub fn put_head(
 
 /// A number that may be absent.
 pub fn put_number_or_none(buffer: &mut Vec<u8>, n: Option<u32>) -> Result<(), NoMemory>
-    ensures { OnOk result (buffer.new.items ≡ buffer.old.items ++ codes " " ++ number_or_none n) }
+    ensures text { OnOk result (buffer.new.items ≡
+        buffer.old.items ++ codes " " ++ number_or_none n) }
+    ensures range { IfSome n IsHalf }
 {
     match n {
         Some(n) => put_number(buffer, u64::from(n)),
@@ -84,7 +89,9 @@ pub fn put_cause(buffer: &mut Vec<u8>, why: Lapse) -> Result<(), NoMemory>
 
 /// A list of bytes.
 pub fn put_bytes(buffer: &mut Vec<u8>, list: &Bytes) -> Result<(), NoMemory>
-    ensures { OnOk result (buffer.new.items ≡ buffer.old.items ++ codes " " ++ bytes_word list.now) }
+    ensures text { OnOk result (buffer.new.items ≡
+        buffer.old.items ++ codes " " ++ bytes_word list.now) }
+    ensures range { OnOk result (IsBytes list.now) }
 {
     if list.is_empty() {
         return put(buffer, b" -");
@@ -95,7 +102,8 @@ pub fn put_bytes(buffer: &mut Vec<u8>, list: &Bytes) -> Result<(), NoMemory>
 
 /// These bytes in lower-case digits, two a byte.
 fn put_hex(buffer: &mut Vec<u8>, bytes: &[u8]) -> Result<(), NoMemory>
-    ensures { OnOk result (buffer.new.items ≡ buffer.old.items ++ encode_lower bytes.now) }
+    ensures range { IsBytes bytes.now }
+    ensures text { OnOk result (buffer.new.items ≡ buffer.old.items ++ encode_lower bytes.now) }
 {
     for piece in bytes.chunks(PIECE) {
         put_piece(buffer, piece)?;

@@ -1,6 +1,6 @@
 // The text of a trace, written into one buffer.
 ghost use Rattle.std.specs.Prelude.{◌≡◌, IfOk};
-ghost use Rattle.vio_trace.specs.Text.{trace_text};
+ghost use Rattle.vio_trace.specs.Form.{IsInOrder, IsTextOf};
 
 use crate::lines::put_all;
 use crate::rows::Trace;
@@ -8,9 +8,10 @@ use crate::words::put;
 use std::alloc::Global;
 use vio_num::NoMemory;
 
-/// The text of a trace.
+/// The text of a trace, whose script lines, sessions and answers stand in order.
 pub fn write_trace(alloc: Global, trace: &Trace) -> Result<Vec<u8>, NoMemory>
-    ensures { IfOk result (λ text. text.items ≡ trace_text trace.now) }
+    requires { IsInOrder trace.now }
+    ensures { IfOk result (λ text. IsTextOf trace.now text.items) }
 {
     let mut text = Vec::new(alloc);
     put(&mut text, b"trace 1\n")?;

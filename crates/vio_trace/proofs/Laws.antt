@@ -1,0 +1,101 @@
+-- The law of the text: it is that of one trace in form alone.
+use Rattle.std.proofs.Common.{◌≡◌, ◌<◌, ℕ, List, ◌++◌, ◌==◌, slice_index, codes, refl, sym, ◌∙◌, append_assoc, arith, if◌then◌else◌}
+use Rattle.std.specs.List.{flat_map}
+use Rattle.std.proofs.lemmas.List.{append_cancel_left}
+use Rattle.vio_num.specs.declared.history.Grant.{Grant}
+use Rattle.vio_num.specs.declared.history.Grant.TheVariants as grants
+use Rattle.vio_num.specs.declared.history.Served.{Served}
+use Rattle.vio_trace.specs.declared.rows.Trace.{Trace}
+use Rattle.vio_trace.specs.declared.rows.LogRow.{LogRow}
+use Rattle.vio_trace.specs.declared.rows.QueueRow.{QueueRow}
+use Rattle.vio_trace.specs.declared.rows.AnswerRow.{AnswerRow}
+use Rattle.vio_trace.specs.Form.{IsLogRow, IsQueueRow, IsGrantRow, IsServeRow, IsAnswerRow, IsTextOf}
+use Rattle.vio_trace.specs.Text.{log_text, queue_text, grant_text, serve_text, answer_text, trace_text}
+use Rattle.vio_trace.proofs.Cuts.{kind_cut, kind_after}
+use Rattle.vio_trace.proofs.RowsTold.{log_cut, queue_cut}
+use Rattle.vio_trace.proofs.Histories.{grant_cut, serve_cut, answer_cut}
+
+-- the section of a line, by its first two letters
+abbrev section : List ℕ → ℕ
+section text =
+    if slice_index text 0 == 101 then 6
+    else if slice_index text 0 == 97 then 5
+    else if slice_index text 0 == 115 then 4
+    else if slice_index text 0 == 103 then 3
+    else if slice_index text 0 == 113 then 2
+    else if slice_index text 1 == 97 then 3
+    else 1
+
+log_section : (a : LogRow) (xs : List ℕ) → section (log_text a ++ xs) ≡ 1
+log_section a xs = refl
+
+queue_section : (a : QueueRow) (xs : List ℕ) → section (queue_text a ++ xs) ≡ 2
+queue_section a xs = refl
+
+grant_section : (a : Grant) (xs : List ℕ) → section (grant_text a ++ xs) ≡ 3
+grant_section (grants.Granted u s l n c) xs = refl
+grant_section (grants.Lapsed u s l w n c) xs = refl
+
+serve_section : (a : Served) (xs : List ℕ) → section (serve_text a ++ xs) ≡ 4
+serve_section a xs = refl
+
+answer_section : (a : AnswerRow) (xs : List ℕ) → section (answer_text a ++ xs) ≡ 5
+answer_section a xs = refl
+
+-- what follows each section
+abbrev last : List ℕ
+last = codes "end\n"
+
+abbrev from_answers : Trace → List ℕ
+from_answers t = flat_map answer_text t.answers ++ last
+
+abbrev from_serves : Trace → List ℕ
+from_serves t = flat_map serve_text t.serves ++ from_answers t
+
+abbrev from_grants : Trace → List ℕ
+from_grants t = flat_map grant_text t.grants ++ from_serves t
+
+abbrev from_queues : Trace → List ℕ
+from_queues t = flat_map queue_text t.queues ++ from_grants t
+
+abbrev from_logs : Trace → List ℕ
+from_logs t = flat_map log_text t.logs ++ from_queues t
+
+apart : (t : Trace) → trace_text t ≡ codes "trace 1\n" ++ from_logs t
+apart t = simp append_assoc
+
+answers_after : (j : ℕ) → j < 5 → (t : Trace) → j < section (from_answers t)
+answers_after j h t = kind_after answer_text section j 5 h answer_section t.answers last (omega (arith, h))
+
+serves_after : (j : ℕ) → j < 4 → (t : Trace) → j < section (from_serves t)
+serves_after j h t = kind_after serve_text section j 4 h serve_section t.serves (from_answers t) (answers_after j (omega (arith, h)) t)
+
+grants_after : (j : ℕ) → j < 3 → (t : Trace) → j < section (from_grants t)
+grants_after j h t = kind_after grant_text section j 3 h grant_section t.grants (from_serves t) (serves_after j (omega (arith, h)) t)
+
+queues_after : (j : ℕ) → j < 2 → (t : Trace) → j < section (from_queues t)
+queues_after j h t = kind_after queue_text section j 2 h queue_section t.queues (from_grants t) (grants_after j (omega (arith, h)) t)
+
+abbrev made : List LogRow → List QueueRow → List Grant → List Served → List AnswerRow → Trace
+made l q g s a = record { logs = l; queues = q; grants = g; serves = s; answers = a }
+
+trace_parts : (l m : List LogRow) (q r : List QueueRow) (g h : List Grant) (s t : List Served) (a b : List AnswerRow)
+    → l ≡ m → q ≡ r → g ≡ h → s ≡ t → a ≡ b → made l q g s a ≡ made m r h t b
+trace_parts l m q r g h s t a b e1 e2 e3 e4 e5 = rw (e1, e2, e3, e4, e5) refl
+
+trace_from : (a b : Trace) → a.logs ≡ b.logs → a.queues ≡ b.queues → a.grants ≡ b.grants → a.serves ≡ b.serves → a.answers ≡ b.answers → a ≡ b
+trace_from a b e f g h i =
+    trace_parts a.logs b.logs a.queues b.queues a.grants b.grants a.serves b.serves a.answers b.answers e f g h i
+
+-- A text is that of one trace in form alone.
+pub text_of_one : (a b : Trace) (text : List ℕ) → IsTextOf a text → IsTextOf b text → a ≡ b
+text_of_one a b text h k =
+    let p = h.form.range in
+    let q = k.form.range in
+    let whole : from_logs a ≡ from_logs b = append_cancel_left (codes "trace 1\n") _ _ (sym (apart a) ∙ sym h.spelled ∙ k.spelled ∙ apart b) in
+    let logs = kind_cut log_text IsLogRow section 1 log_cut log_section a.logs b.logs _ _ p.logs q.logs (queues_after 1 (omega arith) a) (queues_after 1 (omega arith) b) whole in
+    let queues = kind_cut queue_text IsQueueRow section 2 queue_cut queue_section a.queues b.queues _ _ p.queues q.queues (grants_after 2 (omega arith) a) (grants_after 2 (omega arith) b) logs.rest in
+    let grants = kind_cut grant_text IsGrantRow section 3 grant_cut grant_section a.grants b.grants _ _ p.grants q.grants (serves_after 3 (omega arith) a) (serves_after 3 (omega arith) b) queues.rest in
+    let serves = kind_cut serve_text IsServeRow section 4 serve_cut serve_section a.serves b.serves _ _ p.serves q.serves (answers_after 4 (omega arith) a) (answers_after 4 (omega arith) b) grants.rest in
+    let answers = kind_cut answer_text IsAnswerRow section 5 answer_cut answer_section a.answers b.answers last last p.answers q.answers (omega arith) (omega arith) serves.rest in
+    trace_from a b logs.row queues.row grants.row serves.row answers.row

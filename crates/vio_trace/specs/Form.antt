@@ -1,0 +1,155 @@
+-- A trace in form: each byte, number and length is within its range, and the rows of each section stand in
+-- their order. A text is said to be that of a trace for a trace in form alone: of others a byte of 258 and
+-- one that is no digit would be written alike.
+use Rattle.std.specs.Prelude.{ℕ, ◌≡◌, ◌<◌, ◌^◌, ◌⊎◌, List, [], ◌∷◌, All, IfSome, length}
+use Rattle.hex.specs.Hex.{IsBytes}
+use Rattle.vio_num.specs.declared.entry.Entry.{Entry}
+use Rattle.vio_num.specs.declared.names.UnitId.{UnitId}
+use Rattle.vio_num.specs.declared.history.Grant.{Grant}
+use Rattle.vio_num.specs.declared.history.Grant.TheVariants as grants
+use Rattle.vio_num.specs.declared.history.Served.{Served}
+use Rattle.vio_trace.specs.declared.rows.Trace.{Trace}
+use Rattle.vio_trace.specs.declared.rows.LogRow.{LogRow}
+use Rattle.vio_trace.specs.declared.rows.Outcome.{Outcome}
+use Rattle.vio_trace.specs.declared.rows.Outcome.TheVariants as outcomes
+use Rattle.vio_trace.specs.declared.rows.QueueRow.{QueueRow}
+use Rattle.vio_trace.specs.declared.rows.DropRow.{DropRow}
+use Rattle.vio_trace.specs.declared.rows.AnswerRow.{AnswerRow}
+use Rattle.vio_trace.specs.Text.{trace_text}
+
+-- a number of 64 bits
+abbrev pub IsWord : ℕ → Type 0
+IsWord n = n < 2 ^ 64
+
+-- a number of 32 bits
+abbrev pub IsHalf : ℕ → Type 0
+IsHalf n = n < 2 ^ 32
+
+-- the two numbers of a unit's name are bytes
+pub record IsName (unit : UnitId) : Type 0 where
+  pub partition : unit.partition < 256
+  pub own : unit.unit < 256
+
+-- how a script line ended
+abbrev pub IsOutcome : Outcome → Type 0
+IsOutcome (outcomes.Granted credits) = IsHalf credits
+IsOutcome (outcomes.Sent tag) = IsWord tag
+
+-- the row of a script line
+pub record IsLogRow (row : LogRow) : Type 0 where
+  pub partition : row.partition < 256
+  pub line : IsHalf row.line
+  pub outcome : IsOutcome row.outcome
+
+-- both halves of an entry
+pub record IsEntry (entry : Entry) : Type 0 where
+  pub high : IsWord entry.high
+  pub low : IsWord entry.low
+
+-- the row of an entry that was dropped
+pub record IsDropRow (row : DropRow) : Type 0 where
+  pub number : IsWord row.number
+  pub held : IsWord row.held
+
+-- the first line of a session
+pub record IsQueueLine (row : QueueRow) : Type 0 where
+  pub unit : IsName row.unit
+  pub session : IsWord row.session
+  pub slots : IsHalf row.slots
+  pub sent : IsWord (length row.sent)
+  pub taken : IsWord (length row.taken)
+  pub drops : IsWord (length row.drops)
+
+-- a session, with its entries and drops
+pub record IsQueueRow (row : QueueRow) : Type 0 where
+  pub line : IsQueueLine row
+  pub sent : All IsEntry row.sent
+  pub taken : All IsEntry row.taken
+  pub drops : All IsDropRow row.drops
+
+-- a login that was granted
+pub record IsGranted (unit : UnitId) (session login number credits : ℕ) : Type 0 where
+  pub name_of : IsName unit
+  pub in_session : IsWord session
+  pub at_login : IsWord login
+  pub at_number : IsWord number
+  pub limit : IsHalf credits
+
+-- a login that ended
+pub record IsLapsed (unit : UnitId) (session login outstanding granted : ℕ) : Type 0 where
+  pub name_of : IsName unit
+  pub in_session : IsWord session
+  pub of_login : IsWord login
+  pub then_outstanding : IsHalf outstanding
+  pub then_granted : IsHalf granted
+
+-- the beginning or the end of a login
+abbrev pub IsGrantRow : Grant → Type 0
+IsGrantRow (grants.Granted unit session login number credits) = IsGranted unit session login number credits
+IsGrantRow (grants.Lapsed unit session login why outstanding granted) = IsLapsed unit session login outstanding granted
+
+-- a request that was served
+pub record IsServeRow (row : Served) : Type 0 where
+  pub unit : IsName row.unit
+  pub session : IsWord row.session
+  pub login : IsWord row.login
+  pub number : IsWord row.number
+  pub iu : IsBytes row.iu
+  pub out : IsBytes row.out
+  pub fault : IfSome row.fault IsHalf
+  pub answer : IsBytes row.answer
+  pub inn : IsBytes row.inn
+
+-- an answer that a client took
+pub record IsAnswerRow (row : AnswerRow) : Type 0 where
+  pub unit : IsName row.unit
+  pub session : IsWord row.session
+  pub tag : IsWord row.tag
+  pub answer : IsBytes row.answer
+
+-- Every row is within its ranges. Each trace that a program holds is: its types say so.
+pub record IsInRange (trace : Trace) : Type 0 where
+  pub logs : All IsLogRow trace.logs
+  pub queues : All IsQueueRow trace.queues
+  pub grants : All IsGrantRow trace.grants
+  pub serves : All IsServeRow trace.serves
+  pub answers : All IsAnswerRow trace.answers
+
+-- each row stands before the next
+abbrev pub Ascend : {Row : Type 0} → (Row → Row → Type 0) → List Row → Type 0
+Ascend before [] = Unit {0}
+Ascend before (row ∷ []) = Unit {0}
+Ascend before (row ∷ next ∷ rows) = before row next × Ascend before (next ∷ rows)
+
+-- by partition, then by line
+abbrev pub LogBefore : LogRow → LogRow → Type 0
+LogBefore a b = (a.partition < b.partition) ⊎ ((a.partition ≡ b.partition) × (a.line < b.line))
+
+-- by partition, then by the unit's own number
+abbrev pub UnitBefore : UnitId → UnitId → Type 0
+UnitBefore a b = (a.partition < b.partition) ⊎ ((a.partition ≡ b.partition) × (a.unit < b.unit))
+
+-- by unit, then by session
+abbrev pub QueueBefore : QueueRow → QueueRow → Type 0
+QueueBefore a b = UnitBefore a.unit b.unit ⊎ ((a.unit ≡ b.unit) × (a.session < b.session))
+
+-- by unit; those of one unit stand in order of time, which no word of their lines tells
+abbrev pub AnswerBefore : AnswerRow → AnswerRow → Type 0
+AnswerBefore a b = UnitBefore a.unit b.unit ⊎ (a.unit ≡ b.unit)
+
+-- The rows stand in order: the keys of script lines and of sessions rise strictly. Grants and served requests stand
+-- in order of time, which no word of their lines tells.
+pub record IsInOrder (trace : Trace) : Type 0 where
+  pub logs : Ascend LogBefore trace.logs
+  pub queues : Ascend QueueBefore trace.queues
+  pub answers : Ascend AnswerBefore trace.answers
+
+-- the trace is in form
+pub record IsInForm (trace : Trace) : Type 0 where
+  pub range : IsInRange trace
+  pub order : IsInOrder trace
+
+-- the text of a trace in form
+pub record IsTextOf (trace : Trace) (text : List ℕ) : Type 0 where
+  pub form : IsInForm trace
+  pub spelled : text ≡ trace_text trace
