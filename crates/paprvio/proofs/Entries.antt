@@ -7,7 +7,7 @@ use Rattle.std.proofs.lemmas.List.{get_or_append_left, append-nil, length-map}
 use Rattle.std.proofs.lemmas.List.Elements.{filter-append}
 use Rattle.vio_num.specs.declared.entry.Entry.{Entry}
 use Rattle.paprvio.specs.FirstRun.{HasSrpAt}
-use Rattle.vio_num.specs.Entry.{is_srp}
+use Rattle.vio_num.specs.Entry.{is_srp_of_length}
 use Rattle.paprvio.specs.Queues.{AreTagsFrom}
 
 -- what stands in a list stands there behind more entries too
@@ -31,7 +31,7 @@ push_has xs entry place n h = record {
   srp = h.srp;
 }
 
-pub has_last : (xs : List Entry) (entry : Entry) (place n : ℕ) → place ≡ length xs → is_srp n entry ≡ true → HasSrpAt (xs ++ entry ∷ []) place n
+pub has_last : (xs : List Entry) (entry : Entry) (place n : ℕ) → place ≡ length xs → is_srp_of_length n entry ≡ true → HasSrpAt (xs ++ entry ∷ []) place n
 has_last xs entry place n e is = record { entry = entry; stands = get_last xs place entry e; srp = is }
 
 -- an entry that passes a test, and one that does not, behind others
@@ -52,11 +52,11 @@ lows-push [] e = refl
 lows-push (x ∷ xs) e = ap (λ lows. x.low ∷ lows) (lows-push xs e)
 
 -- the answer to one more command
-pub push_answer : (xs : List Entry) (e : Entry) (at : ℕ) → is_srp 36 e ≡ true → length (filter (is_srp 36) xs) + 1 ≡ at
-    → e.low ≡ at + 1 → AreTagsFrom 1 (map (λ entry. entry.low) (filter (is_srp 36) xs))
-    → AreTagsFrom 1 (map (λ entry. entry.low) (filter (is_srp 36) (xs ++ e ∷ [])))
+pub push_answer : (xs : List Entry) (e : Entry) (at : ℕ) → is_srp_of_length 36 e ≡ true → length (filter (is_srp_of_length 36) xs) + 1 ≡ at
+    → e.low ≡ at + 1 → AreTagsFrom 1 (map (λ entry. entry.low) (filter (is_srp_of_length 36) xs))
+    → AreTagsFrom 1 (map (λ entry. entry.low) (filter (is_srp_of_length 36) (xs ++ e ∷ [])))
 push_answer xs e at is count tag h =
-    let answers = filter (is_srp 36) xs in
+    let answers = filter (is_srp_of_length 36) xs in
     let lows = map (λ entry. entry.low) answers in
     let many : length lows ≡ length answers = length-map answers (λ entry. entry.low) in
-    rw (filter_yes (is_srp 36) xs e is, lows-push answers e) (push_tag 1 at lows e.low (omega (arith, many)) h tag)
+    rw (filter_yes (is_srp_of_length 36) xs e is, lows-push answers e) (push_tag 1 at lows e.low (omega (arith, many)) h tag)

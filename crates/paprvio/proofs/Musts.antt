@@ -1,9 +1,14 @@
--- Which status a run must have, from what each status says.
-use Rattle.std.proofs.Common.{◌≡◌, ◌⊎◌, ◌≤◌, ℕ, List, [], ◌++◌, length, Option, Some, None, IfSome, inl, inr, sym, ◌∙◌, subst, arith, length-append}
+-- From how a run ends to which status it must have.
+use Rattle.std.proofs.Common.{◌≡◌, ◌⊎◌, ◌≤◌, ℕ, List, [], ◌++◌, length, Option, Some, None, IfSome, inl, inr, refl, sym, ◌∙◌, subst, arith, length-append}
 use Rattle.std.proofs.lemmas.List.{append-nil}
+use Rattle.vio_num.specs.Counts.{Rose}
 use Rattle.paprvio.specs.declared.boot.Plan.{Plan}
+use Rattle.paprvio.specs.declared.status.Status.{Status}
+use Rattle.paprvio.specs.declared.status.Status.TheVariants.{Done, Usage, Refused, SourceFailed, SinkFailed, NoMemory}
 use Rattle.paprvio.specs.BootText.{IsBootText}
-use Rattle.paprvio.specs.Run.{AreRun, ReadWhole, ReadTooMuch, IsDone, IsRefused, IsUsage, Wrote}
+use Rattle.paprvio.specs.Ending.{Outside, EndsAs}
+use Rattle.paprvio.specs.Run.{AreRun, ReadWhole, ReadTooMuch, IsDone, IsRefused, RunAnswer, IsOrStarved, MustEndAs}
+use Rattle.paprvio.specs.Status.{status_code}
 
 -- a source that told its bytes and was read to its end gave them all
 whole_text : (text boot : List ℕ) (new : Option (List ℕ)) → ReadWhole (Some text) new boot → boot ≡ text
@@ -22,7 +27,7 @@ longer text (Some left) long =
     rw read (omega (arith, length-append long.bytes left, count))
 
 -- a boot text that says a plan is not refused
-not_refused : (text out : List ℕ) (new : Option (List ℕ)) (plan : Plan) → IsBootText text plan → IsRefused (Some text) new out → ⊥
+not_refused : (text out : List ℕ) (new : Option (List ℕ)) (plan : Plan) → IsBootText text plan → ¬ IsRefused (Some text) new out
 not_refused text out new plan says (inl short) =
     short.refusal.none plan (subst (λ (boot : List ℕ). IsBootText boot plan) (sym (whole_text text short.boot new short.whole)) says)
 not_refused text out new plan says (inr long) =
@@ -30,46 +35,59 @@ not_refused text out new plan says (inr long) =
     absurd (omega (arith, within, longer text new long.long))
 
 -- a text that says none is not done
-not_done : (text out : List ℕ) (new : Option (List ℕ)) → ((plan : Plan) → IsBootText text plan → ⊥) → IsDone (Some text) new out → ⊥
+not_done : (text out : List ℕ) (new : Option (List ℕ)) → ((plan : Plan) → ¬ IsBootText text plan) → ¬ IsDone (Some text) new out
 not_done text out new none done =
-    none done.trace.plan (subst (λ (boot : List ℕ). IsBootText boot done.trace.plan) (whole_text text done.boot new done.whole) done.trace.says)
+    none done.run.plan (subst (λ (boot : List ℕ). IsBootText boot done.run.plan) (whole_text text done.boot new done.whole) done.run.says)
 
--- the six statuses
-abbrev pub OneOf : ℕ → Type 0
-OneOf status = (status ≡ 0) ⊎ ((status ≡ 1) ⊎ ((status ≡ 2) ⊎ ((status ≡ 3) ⊎ ((status ≡ 4) ⊎ (status ≡ 6)))))
+-- other words
+usage_said : (words : List (List ℕ)) (status : Status) (old new : Outside) → EndsAs (RunAnswer words old.left new.left) status old new
+    → (status ≡ SourceFailed → AreRun words) → ¬ AreRun words → ¬ Rose old.sink_faults new.sink_faults → IsOrStarved (status_code status) Usage
+usage_said words Done old new ends asked other sink = absurd (other ends.belongs.0)
+usage_said words Usage old new ends asked other sink = inl refl
+usage_said words Refused old new ends asked other sink = absurd (other ends.belongs.0)
+usage_said words SourceFailed old new ends asked other sink = absurd (other (asked refl))
+usage_said words SinkFailed old new ends asked other sink = absurd (sink ends.sink_faults)
+usage_said words NoMemory old new ends asked other sink = inr refl
 
-done_or_starved : (status : ℕ) → (status ≡ 1 → ⊥) → (status ≡ 2 → ⊥) → (status ≡ 3 → ⊥) → (status ≡ 4 → ⊥)
-    → OneOf status → (status ≡ 0) ⊎ (status ≡ 6)
-done_or_starved status usage refused source sink (inl e) = inl e
-done_or_starved status usage refused source sink (inr (inl e)) = absurd (usage e)
-done_or_starved status usage refused source sink (inr (inr (inl e))) = absurd (refused e)
-done_or_starved status usage refused source sink (inr (inr (inr (inl e)))) = absurd (source e)
-done_or_starved status usage refused source sink (inr (inr (inr (inr (inl e))))) = absurd (sink e)
-done_or_starved status usage refused source sink (inr (inr (inr (inr (inr e))))) = inr e
+-- a boot text that says a plan
+done_said : (words : List (List ℕ)) (status : Status) (old new : Outside) (boot : List ℕ) (plan : Plan)
+    → EndsAs (RunAnswer words (Some boot) new.left) status old new → AreRun words → ¬ Rose old.source_faults new.source_faults
+    → ¬ Rose old.sink_faults new.sink_faults → IsBootText boot plan → IsOrStarved (status_code status) Done
+done_said words Done old new boot plan ends run source sink says = inl refl
+done_said words Usage old new boot plan ends run source sink says = absurd (ends.belongs.0 run)
+done_said words Refused old new boot plan ends run source sink says = absurd (not_refused boot ends.text new.left plan says ends.belongs.1)
+done_said words SourceFailed old new boot plan ends run source sink says = absurd (source ends.source_faults)
+done_said words SinkFailed old new boot plan ends run source sink says = absurd (sink ends.sink_faults)
+done_said words NoMemory old new boot plan ends run source sink says = inr refl
 
-refused_or_starved : (status : ℕ) → (status ≡ 0 → ⊥) → (status ≡ 1 → ⊥) → (status ≡ 3 → ⊥) → (status ≡ 4 → ⊥)
-    → OneOf status → (status ≡ 2) ⊎ (status ≡ 6)
-refused_or_starved status done usage source sink (inl e) = absurd (done e)
-refused_or_starved status done usage source sink (inr (inl e)) = absurd (usage e)
-refused_or_starved status done usage source sink (inr (inr (inl e))) = inl e
-refused_or_starved status done usage source sink (inr (inr (inr (inl e)))) = absurd (source e)
-refused_or_starved status done usage source sink (inr (inr (inr (inr (inl e))))) = absurd (sink e)
-refused_or_starved status done usage source sink (inr (inr (inr (inr (inr e))))) = inr e
+-- a boot text that says none
+refused_said : (words : List (List ℕ)) (status : Status) (old new : Outside) (boot : List ℕ)
+    → EndsAs (RunAnswer words (Some boot) new.left) status old new → AreRun words → ¬ Rose old.source_faults new.source_faults
+    → ¬ Rose old.sink_faults new.sink_faults → ((plan : Plan) → ¬ IsBootText boot plan) → IsOrStarved (status_code status) Refused
+refused_said words Done old new boot ends run source sink none = absurd (not_done boot ends.text new.left none ends.belongs.1)
+refused_said words Usage old new boot ends run source sink none = absurd (ends.belongs.0 run)
+refused_said words Refused old new boot ends run source sink none = inl refl
+refused_said words SourceFailed old new boot ends run source sink none = absurd (source ends.source_faults)
+refused_said words SinkFailed old new boot ends run source sink none = absurd (sink ends.sink_faults)
+refused_said words NoMemory old new boot ends run source sink none = inr refl
 
-pub must_do : (status : ℕ) (words : List (List ℕ)) (old new before now : Option (List ℕ)) → OneOf status
-    → (status ≡ 1 → Wrote (IsUsage words) before now) → (status ≡ 2 → Wrote (IsRefused old new) before now)
-    → (status ≡ 3 → ⊥) → (status ≡ 4 → ⊥) → AreRun words
-    → IfSome old (λ text. (plan : Plan) → IsBootText text plan → (status ≡ 0) ⊎ (status ≡ 6))
-must_do status words None new before now kinds usage refused source sink run = tt
-must_do status words (Some text) new before now kinds usage refused source sink run =
-    λ plan says. done_or_starved status (λ e. (usage e).1.other run)
-    (λ e. not_refused text (refused e).0 new plan says (refused e).1) source sink kinds
+done_if_told : (words : List (List ℕ)) (status : Status) (old new : Outside) (left : Option (List ℕ))
+    → EndsAs (RunAnswer words left new.left) status old new → AreRun words → ¬ Rose old.source_faults new.source_faults
+    → ¬ Rose old.sink_faults new.sink_faults → IfSome left (λ boot. (plan : Plan) → IsBootText boot plan → IsOrStarved (status_code status) Done)
+done_if_told words status old new None ends run source sink = tt
+done_if_told words status old new (Some boot) ends run source sink = λ plan says. done_said words status old new boot plan ends run source sink says
 
-pub must_refuse : (status : ℕ) (words : List (List ℕ)) (old new before now : Option (List ℕ)) → OneOf status
-    → (status ≡ 1 → Wrote (IsUsage words) before now) → (status ≡ 0 → Wrote (IsDone old new) before now)
-    → (status ≡ 3 → ⊥) → (status ≡ 4 → ⊥) → AreRun words
-    → IfSome old (λ text. ((plan : Plan) → IsBootText text plan → ⊥) → (status ≡ 2) ⊎ (status ≡ 6))
-must_refuse status words None new before now kinds usage done source sink run = tt
-must_refuse status words (Some text) new before now kinds usage done source sink run =
-    λ none. refused_or_starved status (λ e. not_done text (done e).0 new none (done e).1)
-    (λ e. (usage e).1.other run) source sink kinds
+refused_if_told : (words : List (List ℕ)) (status : Status) (old new : Outside) (left : Option (List ℕ))
+    → EndsAs (RunAnswer words left new.left) status old new → AreRun words → ¬ Rose old.source_faults new.source_faults
+    → ¬ Rose old.sink_faults new.sink_faults → IfSome left (λ boot. ((plan : Plan) → ¬ IsBootText boot plan) → IsOrStarved (status_code status) Refused)
+refused_if_told words status old new None ends run source sink = tt
+refused_if_told words status old new (Some boot) ends run source sink = λ none. refused_said words status old new boot ends run source sink none
+
+-- which status a run must have
+pub must_end : (words : List (List ℕ)) (status : Status) (old new : Outside) → EndsAs (RunAnswer words old.left new.left) status old new
+    → (status ≡ SourceFailed → AreRun words) → MustEndAs words (status_code status) old new
+must_end words status old new ends asked = record {
+  usage = λ other sink. usage_said words status old new ends asked other sink;
+  done = λ run source sink. done_if_told words status old new old.left ends run source sink;
+  refused = λ run source sink. refused_if_told words status old new old.left ends run source sink;
+}

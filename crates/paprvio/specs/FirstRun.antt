@@ -1,7 +1,7 @@
 -- The law of a first run: what a trace says of one login and its commands, over the plan that the boot
 -- text said. The server unit is 0.0 and the client unit 1.0.
 use Rattle.std.specs.Prelude.{◌≡◌, ℕ, ◌+◌, ◌*◌, ◌<◌, ◌≤◌, true, List, [], ◌∷◌, length, map, filter, replicate, slice_get, Some, None, ⊤}
-use Rattle.vio_num.specs.Entry.{is_srp}
+use Rattle.vio_num.specs.Entry.{is_srp_of_length}
 use Rattle.vio_num.specs.Queue.{Handed}
 use Rattle.vio_num.specs.declared.entry.Entry.{Entry}
 use Rattle.vio_num.specs.declared.names.UnitId.{UnitId}
@@ -77,7 +77,7 @@ pub record IsWholeSession (unit : UnitId) (pages : ℕ) (row : QueueRow) : Type 
 pub record HasSrpAt (entries : List Entry) (place n : ℕ) : Type 0 where
   pub entry : Entry
   pub stands : slice_get entries place ≡ Some entry
-  pub srp : is_srp n entry ≡ true
+  pub srp : is_srp_of_length n entry ≡ true
 
 -- the row of the i-th command under a login: its entry was taken, its information unit is TEST UNIT
 -- READY with tag i + 1, its answer is good status with that tag, and no data moved
@@ -126,6 +126,6 @@ pub record IsFirstRun (plan : Plan) (trace : Trace) : Type 0 where
   pub served : AreServedFrom 1 place login at_server.taken trace.serves
   pub served_count : length trace.serves ≡ plan.commands
   pub within_credits : length trace.serves ≤ plan.grant
-  pub login_answer : length (filter (is_srp 52) at_client.sent) ≡ 1
-  pub answer_entries : map (λ entry. entry.low) (filter (is_srp 36) at_client.sent) ≡ tags_from 1 trace.serves
+  pub login_answer : length (filter (is_srp_of_length 52) at_client.sent) ≡ 1
+  pub answer_entries : map (λ entry. entry.low) (filter (is_srp_of_length 36) at_client.sent) ≡ tags_from 1 trace.serves
   pub answers : AreAnswersFrom 1 trace.serves trace.answers

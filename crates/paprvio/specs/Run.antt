@@ -1,46 +1,40 @@
--- What a run answers: the text that belongs to its words and to the bytes that it read. The source had
--- `old` left before the run and has `new` left behind it, where it tells them.
-use Rattle.std.specs.Prelude.{◌≡◌, ◌+◌, ◌⊎◌, ℕ, List, [], ◌∷◌, Option, length, codes}
-use Rattle.std.specs.Io.KnownBytes.{Consumes, IsAtEnd, Appends}
+-- What a run answers: the text that belongs to its words and to the bytes that it read.
+use Rattle.std.specs.Prelude.{◌≡◌, ◌+◌, ◌≤◌, ◌⊎◌, ℕ, List, [], ◌∷◌, Option, IfSome, length, codes}
+use Rattle.std.specs.Io.KnownBytes.{Consumes, IsAtEnd}
+use Rattle.vio_num.specs.Counts.{Rose}
 use Rattle.vio_trace.specs.declared.rows.Trace.{Trace}
-use Rattle.vio_trace.specs.Text.{trace_text}
+use Rattle.vio_trace.specs.Form.{IsTextOf}
 use Rattle.paprvio.specs.declared.boot.Plan.{Plan}
 use Rattle.paprvio.specs.declared.boot.TheConstants.{MAX_TEXT}
+use Rattle.paprvio.specs.declared.status.Status.{Status}
+use Rattle.paprvio.specs.declared.status.Status.TheVariants.{Done, Usage, Refused, NoMemory}
 use Rattle.paprvio.specs.BootText.{IsBootText}
+use Rattle.paprvio.specs.Ending.{Outside, EndsAs}
 use Rattle.paprvio.specs.FirstRun.{IsFirstRun}
-use Rattle.paprvio.specs.Written.{AppendsFront}
+use Rattle.paprvio.specs.Status.{status_code}
+use Rattle.paprvio.specs.Texts.{usage_text, not_built_text, too_long_text}
 
 -- the words that are accepted
 abbrev pub AreRun : List (List ℕ) → Type 0
 AreRun words = words ≡ codes "run" ∷ []
 
--- the text for other words
-abbrev pub usage_text : List ℕ
-usage_text = codes "paprvio: usage\n"
-
--- the texts for bytes that are not of the form
-abbrev pub not_built_text : List ℕ
-not_built_text = codes "paprvio: line 0: NotBuilt\n"
-
-abbrev pub too_long_text : List ℕ
-too_long_text = codes "paprvio: line 0: TooLong\n"
-
--- the text of a lawful trace of the plan that the boot text says
-pub record IsTraceOf (boot text : List ℕ) : Type 0 where
-  pub plan : Plan
-  pub says : IsBootText boot plan
+-- the text of a lawful trace of the plan, which is in form
+pub record IsTraceOf (plan : Plan) (text : List ℕ) : Type 0 where
   pub trace : Trace
   pub lawful : IsFirstRun plan trace
-  pub spelled : text ≡ trace_text trace
+  pub spelled : IsTextOf trace text
 
--- the refusal of a boot text that says no plan
+-- the text of a lawful trace of the plan that the boot text says
+pub record IsRunOf (boot text : List ℕ) : Type 0 where
+  pub plan : Plan
+  pub says : IsBootText boot plan
+  pub trace : IsTraceOf plan text
+
+-- the refusal of a boot text that is short enough and says no plan
 pub record IsNotBuilt (boot text : List ℕ) : Type 0 where
-  pub none : (plan : Plan) → IsBootText boot plan → ⊥
+  pub short : length boot ≤ MAX_TEXT
+  pub none : (plan : Plan) → ¬ IsBootText boot plan
   pub cause : text ≡ not_built_text
-
--- what a boot text is answered with
-abbrev pub IsBootAnswer : List ℕ → List ℕ → Type 0
-IsBootAnswer boot text = IsTraceOf boot text ⊎ IsNotBuilt boot text
 
 -- the source was read to its end, and gave these bytes
 pub record ReadWhole (old new : Option (List ℕ)) (boot : List ℕ) : Type 0 where
@@ -57,7 +51,7 @@ pub record ReadTooMuch (old new : Option (List ℕ)) : Type 0 where
 pub record IsDone (old new : Option (List ℕ)) (text : List ℕ) : Type 0 where
   pub boot : List ℕ
   pub whole : ReadWhole old new boot
-  pub trace : IsTraceOf boot text
+  pub run : IsRunOf boot text
 
 -- the bytes were refused, with this text of the cause
 pub record IsRefusedShort (old new : Option (List ℕ)) (text : List ℕ) : Type 0 where
@@ -72,19 +66,40 @@ pub record IsRefusedLong (old new : Option (List ℕ)) (text : List ℕ) : Type 
 abbrev pub IsRefused : Option (List ℕ) → Option (List ℕ) → List ℕ → Type 0
 IsRefused old new text = IsRefusedShort old new text ⊎ IsRefusedLong old new text
 
--- the words were refused
-pub record IsUsage (words : List (List ℕ)) (text : List ℕ) : Type 0 where
-  pub other : AreRun words → ⊥
-  pub usage : text ≡ usage_text
+-- the text that belongs to a boot text under each status
+abbrev pub BootAnswer : List ℕ → Status → List ℕ → Type 0
+BootAnswer boot Done text = IsRunOf boot text
+BootAnswer boot Refused text = IsNotBuilt boot text
+BootAnswer boot _ text = ⊥
 
--- the text that belongs to a run
-abbrev pub IsAnswer : List (List ℕ) → Option (List ℕ) → Option (List ℕ) → List ℕ → Type 0
-IsAnswer words old new text = IsUsage words text ⊎ (IsDone old new text ⊎ IsRefused old new text)
+-- the text that belongs to what a source gave, of which `old` was left before and `new` is left behind it
+abbrev pub SourceAnswer : Option (List ℕ) → Option (List ℕ) → Status → List ℕ → Type 0
+SourceAnswer old new Done text = IsDone old new text
+SourceAnswer old new Refused text = IsRefused old new text
+SourceAnswer old new _ text = ⊥
 
--- the sink took a text of this kind, whole
-abbrev pub Wrote : (List ℕ → Type 0) → Option (List ℕ) → Option (List ℕ) → Type 0
-Wrote IsText old new = (text : List ℕ) × IsText text × Appends old new text
+-- the text that belongs to a run: the usage alone for other words
+abbrev pub RunAnswer : List (List ℕ) → Option (List ℕ) → Option (List ℕ) → Status → List ℕ → Type 0
+RunAnswer words old new Done text = AreRun words × IsDone old new text
+RunAnswer words old new Usage text = ¬ AreRun words × (text ≡ usage_text)
+RunAnswer words old new Refused text = AreRun words × IsRefused old new text
+RunAnswer words old new _ text = ⊥
 
--- the sink took a front of a text of this kind
-abbrev pub WroteFront : (List ℕ → Type 0) → Option (List ℕ) → Option (List ℕ) → Type 0
-WroteFront IsText old new = (text : List ℕ) × IsText text × AppendsFront old new text
+-- the exit status of a run, and what it did to its source and its sink
+pub record RunEndsAs (words : List (List ℕ)) (code : ℕ) (old new : Outside) : Type 0 where
+  pub status : Status
+  pub said : code ≡ status_code status
+  pub ends : EndsAs (RunAnswer words old.left new.left) status old new
+
+-- it has this exit status, or found no memory
+abbrev pub IsOrStarved : ℕ → Status → Type 0
+IsOrStarved code status = (code ≡ status_code status) ⊎ (code ≡ status_code NoMemory)
+
+-- where nothing outside failed, words and bytes decide the exit status: that of other words, of a boot text
+-- that says a plan, and of one that says none
+pub record MustEndAs (words : List (List ℕ)) (code : ℕ) (old new : Outside) : Type 0 where
+  pub usage : ¬ AreRun words → ¬ Rose old.sink_faults new.sink_faults → IsOrStarved code Usage
+  pub done : AreRun words → ¬ Rose old.source_faults new.source_faults → ¬ Rose old.sink_faults new.sink_faults
+      → IfSome old.left (λ boot. (plan : Plan) → IsBootText boot plan → IsOrStarved code Done)
+  pub refused : AreRun words → ¬ Rose old.source_faults new.source_faults → ¬ Rose old.sink_faults new.sink_faults
+      → IfSome old.left (λ boot. ((plan : Plan) → ¬ IsBootText boot plan) → IsOrStarved code Refused)

@@ -8,6 +8,7 @@ ghost use Rattle.paprvio.specs.BootText.{IsBootText, AreBootLines, IsNumber, IsN
 ghost use Rattle.paprvio.specs.declared.boot.Plan.{Plan};
 
 use std::alloc::{AllocError, Global};
+use vio_num::NoMemory;
 
 /// The length in bytes of the longest boot text.
 pub const MAX_TEXT: usize = 1_048_576;
@@ -40,9 +41,11 @@ pub struct Plan {
 }
 
 /// The plan that the text says, or `None` where it says none.
-pub fn read_boot(alloc: Global, text: &[u8]) -> Result<Option<Plan>, AllocError>
+pub fn read_boot(alloc: Global, text: &[u8]) -> Result<Option<Plan>, NoMemory>
     requires { length text.now ≤ MAX_TEXT }
-    ensures { IfOk result (λ read. MatchOption read ((plan : Plan) → IsBootText text.now plan → ⊥) (λ plan. IsBootText text.now plan)) }
+    ensures { IfOk result (λ read.
+        MatchOption read ((plan : Plan) → ¬ IsBootText text.now plan)
+        (λ plan. IsBootText text.now plan)) }
 {
     let lines = lines_of(alloc, without_line_feed(text))?;
     Ok(plan_of(lines.as_slice()))
@@ -59,7 +62,8 @@ fn without_line_feed(text: &[u8]) -> &[u8]
 }
 
 fn lines_of(alloc: Global, text: &[u8]) -> Result<Vec<&[u8]>, AllocError>
-    ensures { IfOk result (λ lines. map (λ line. line.now) lines.items ≡ slice_split (λ b. b == 10) text.now) }
+    ensures { IfOk result (λ lines.
+        map (λ line. line.now) lines.items ≡ slice_split (λ b. b == 10) text.now) }
 {
     text.split(|b| *b == b'\n').collect(alloc)
 }
@@ -83,7 +87,8 @@ fn push_digit(n: u64, digit: u8) -> Option<u64>
 }
 
 fn number_of(word: &[u8]) -> Option<u64>
-    ensures { MatchOption result ((n : ℕ) → IsNumber word.now n → 2 ^ 64 ≤ n) (λ n. IsNumber word.now n) }
+    ensures { MatchOption result ((n : ℕ) → IsNumber word.now n → 2 ^ 64 ≤ n)
+        (λ n. IsNumber word.now n) }
 {
     if word.is_empty() || word.len() > 20 {
         return None;
@@ -99,7 +104,8 @@ fn number_of(word: &[u8]) -> Option<u64>
 }
 
 fn number_in(word: &[u8], lowest: u64, highest: u64) -> Option<u64>
-    ensures { MatchOption result ((n : ℕ) → IsNumberIn lowest highest word.now n → ⊥) (λ n. IsNumberIn lowest highest word.now n) }
+    ensures { MatchOption result ((n : ℕ) → ¬ IsNumberIn lowest highest word.now n)
+        (λ n. IsNumberIn lowest highest word.now n) }
 {
     let n = number_of(word)?;
     if lowest <= n && n <= highest {
@@ -110,14 +116,16 @@ fn number_in(word: &[u8], lowest: u64, highest: u64) -> Option<u64>
 }
 
 fn rest_after<'a>(line: &'a [u8], front: &[u8]) -> Option<&'a [u8]>
-    ensures { MatchOption result ((rest : List ℕ) → line.now ≢ front.now ++ rest) (λ rest. line.now ≡ front.now ++ rest.now) }
+    ensures { MatchOption result ((rest : List ℕ) → line.now ≢ front.now ++ rest)
+        (λ rest. line.now ≡ front.now ++ rest.now) }
 {
     line.strip_prefix(front)
 }
 
 // The number that stands behind these bytes, to the line's end.
 fn number_after(line: &[u8], front: &[u8], lowest: u64, highest: u64) -> Option<u64>
-    ensures { MatchOption result ((n : ℕ) → IsNumberAfter front.now lowest highest line.now n → ⊥) (λ n. IsNumberAfter front.now lowest highest line.now n) }
+    ensures { MatchOption result ((n : ℕ) → ¬ IsNumberAfter front.now lowest highest line.now n)
+        (λ n. IsNumberAfter front.now lowest highest line.now n) }
 {
     match rest_after(line, front) {
         Some(word) => number_in(word, lowest, highest),
@@ -141,7 +149,7 @@ fn split_word(text: &[u8]) -> (&[u8], &[u8])
 // The pages of the client unit's region and of its queue.
 fn client_numbers(line: &[u8]) -> Option<(u64, u64)>
     ensures found { IfSome result (λ numbers. IsClientLine line.now numbers.0 numbers.1) }
-    ensures none { IfNone result ((pages queue : ℕ) → IsClientLine line.now pages queue → ⊥) }
+    ensures none { IfNone result ((pages queue : ℕ) → ¬ IsClientLine line.now pages queue) }
 {
     let Some(numbers) = rest_after(line, b"client 0.0 pages ") else {
         return None;
@@ -166,7 +174,8 @@ fn line_at<'a>(lines: &[&'a [u8]], at: usize) -> &'a [u8]
 // Whether each line from the first command's up to the last line sends a command.
 fn are_commands(lines: &[&[u8]], end: usize) -> bool
     requires { end ≤ length lines.now }
-    ensures { IsTrue result ↔ ((i : ℕ) → 9 ≤ i → i < end → text_line_at (map (λ line. line.now) lines.now) i ≡ codes "0 tur") }
+    ensures { IsTrue result ↔ ((i : ℕ) → 9 ≤ i → i < end
+        → text_line_at (map (λ line. line.now) lines.now) i ≡ codes "0 tur") }
 {
     for at in 9..end {
         if !is_text(line_at(lines, at), b"0 tur") {
@@ -191,7 +200,9 @@ fn has_fixed_lines(lines: &[&[u8]], commands: usize) -> bool
 
 // The plan that these lines say.
 fn plan_of(lines: &[&[u8]]) -> Option<Plan>
-    ensures { MatchOption result ((plan : Plan) → AreBootLines (map (λ line. line.now) lines.now) plan → ⊥) (λ plan. AreBootLines (map (λ line. line.now) lines.now) plan) }
+    ensures { MatchOption result ((plan : Plan)
+        → ¬ AreBootLines (map (λ line. line.now) lines.now) plan)
+        (λ plan. AreBootLines (map (λ line. line.now) lines.now) plan) }
 {
     if lines.len() < 10 {
         return None;

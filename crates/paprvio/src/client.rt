@@ -4,7 +4,7 @@ ghost use Rattle.vio_trace.specs.declared.rows.Outcome.TheVariants.{Sent};
 ghost use Rattle.srp_iu.specs.Grammar.{Canon};
 ghost use Rattle.srp_iu.specs.declared.unit.Iu.TheVariants.{Cmd as CommandUnit};
 ghost use Rattle.paprvio.specs.FirstRun.{AreAnswersFrom, IsScriptLog, client_unit, test_unit_ready};
-ghost use Rattle.vio_num.specs.Entry.{is_srp};
+ghost use Rattle.vio_num.specs.Entry.{is_srp_of_length};
 
 use crate::boot::Plan;
 use arrayvec::ArrayVec;
@@ -22,6 +22,10 @@ pub const CLIENT: UnitId = UnitId {
 const LOGIN_LINE: u32 = 9;
 /// Bytes from one information unit to the next in the client's region.
 const UNIT_SPACING: u64 = 256;
+/// The bytes of a LOGIN_REQ, and of a CMD without data.
+const LOGIN_REQ_BYTES: u16 = 64;
+
+const CMD_BYTES: u16 = 48;
 
 /// The information unit of the i-th command, from 1. Its tag is i + 1, since the login has tag 1.
 pub fn command_unit(i: u64) -> ArrayVec<u8, 256>
@@ -41,24 +45,18 @@ pub fn command_unit(i: u64) -> ArrayVec<u8, 256>
 
 /// The entry of the client's login request of 64 bytes, which lies at the region's start.
 pub fn login_entry() -> Entry
-    ensures { is_srp 64 result ≡ true }
+    ensures { is_srp_of_length 64 result ≡ true }
 {
-    Entry {
-        high: 0x8001_0000_0000_0040,
-        low: 0,
-    }
+    Entry::srp(LOGIN_REQ_BYTES, 0)
 }
 
 /// The entry of the i-th command, from 1: where its information unit of 48 bytes lies.
 pub fn command_entry(i: u64) -> Entry
     requires counted { 1 ≤ i }
     requires small { i < 2 ^ 32 }
-    ensures { is_srp 48 result ≡ true }
+    ensures { is_srp_of_length 48 result ≡ true }
 {
-    Entry {
-        high: 0x8001_0000_0000_0030,
-        low: (i - 1) * UNIT_SPACING,
-    }
+    Entry::srp(CMD_BYTES, (i - 1) * UNIT_SPACING)
 }
 
 // The record of the i-th command, from 1.
@@ -92,7 +90,8 @@ pub fn script_log(alloc: Global, plan: &Plan) -> Result<Sequence<LogRow>, NoMemo
 // The answer to the i-th command, from 1, that the client took.
 fn taken_answer(alloc: Global, i: u64, row: &Served) -> Result<AnswerRow, NoMemory>
     requires { i < 1000 }
-    ensures { IfOk result (λ answer. answer ≡ record { unit = client_unit; session = 1; tag = i + 1; answer = row.now.answer }) }
+    ensures { IfOk result (λ answer.
+        answer ≡ record { unit = client_unit; session = 1; tag = i + 1; answer = row.now.answer }) }
 {
     Ok(AnswerRow {
         unit: CLIENT,

@@ -2,6 +2,8 @@
 // trace to standard output.
 #![tactic(auto)]
 
+mod answer;
+mod answering;
 mod boot;
 mod client;
 mod first_run;
@@ -10,26 +12,30 @@ mod reading;
 mod run;
 mod server;
 mod status;
+mod stop;
 #[cfg(test)]
 mod tests;
 mod writing;
 
 use crate::run::run;
-use crate::status::{DONE, NO_MEMORY, SINK_FAILED};
+use crate::status::Status;
 use std::process::ExitCode;
 use std::rt::{Env, Files};
 use std::thread::Threads;
 use std::{env, io};
 use vio_io::{Blocks, FileBlocks, FreeGate, StdSink, StdSource, SureBlocks};
 
+// The launcher beside this repository's README prints these two where nothing is built yet.
 const USAGE: &str = "usage: paprvio IMAGE run < BOOT-TEXT > TRACE
        paprvio --help | --version
 
 IMAGE is a file of 512-byte blocks, or - for 2,048 blocks of zeros in memory.
-Statuses: 0 done, 1 usage, 2 refused boot text, 3 input failed, 4 output failed, 6 no memory.
+run reads a boot text from standard input and writes the trace of its run to standard output.
+Statuses: 0 done, 1 other words, 2 refused boot text, 3 input failed, 4 output failed, 6 no memory.
 ";
 
 const VERSION: &str = "paprvio 0.1.0\n";
+
 /// The blocks of the image in memory.
 const ZERO_BLOCKS: u32 = 2048;
 
@@ -65,12 +71,12 @@ where
     if name == "-" {
         match SureBlocks::zeros(rt.alloc(), ZERO_BLOCKS) {
             Ok(image) => run_over(rt, words, image),
-            Err(_) => NO_MEMORY,
+            Err(_) => Status::NoMemory.code(),
         }
     } else {
         match FileBlocks::open(rt, rt.alloc(), name) {
             Ok(image) => run_over(rt, words, image),
-            Err(_) => NO_MEMORY,
+            Err(_) => Status::NoMemory.code(),
         }
     }
 }
@@ -78,26 +84,52 @@ where
 // Writes a text of the program's own to standard output.
 fn print_text<R: Print>(rt: &R, text: &str) -> u8 {
     match rt.print(text) {
-        Ok(()) => DONE,
-        Err(_) => SINK_FAILED,
+        Ok(()) => Status::Done.code(),
+        Err(_) => Status::SinkFailed.code(),
     }
 }
 
+// Gathers the words behind the program's name. Where one is not UTF-8 there are none, so that the usage answers.
 fn words_of<R: Env + AllocGlobal>(rt: &R) -> io::Result<Vec<String>> {
-    Ok(env::args(rt)?.skip(1).collect(rt.alloc())?)
+    match env::args(rt) {
+        Ok(args) => Ok(args.skip(1).collect(rt.alloc())?),
+        Err(error) if error.kind() == io::ErrorKind::InvalidData => Ok(Vec::new(rt.alloc())),
+        Err(error) => Err(error),
+    }
+}
+
+// Does what the words say, and answers the exit status.
+fn run_words<R: Threads + Sync + Files + Input + Print + Env + AllocGlobal>(rt: &R) -> u8
+where
+    R::File: Send + Drop,
+{
+    let Ok(words) = words_of(rt) else {
+        return Status::NoMemory.code();
+    };
+    match words.as_slice() {
+        [] => run_image(rt, "-", &[]),
+        [image, rest @ ..] => match image.as_str() {
+            "--help" => print_text(rt, USAGE),
+            "--version" => print_text(rt, VERSION),
+            name => run_image(rt, name, rest),
+        },
+    }
+}
+
+// Says on standard error why the run ended so, where standard output does not.
+fn explain<R: Eprint>(rt: &R, status: u8) {
+    let cause = match status {
+        1 => "the words are IMAGE run, and paprvio --help says more",
+        3 => "standard input could not be read",
+        4 => "standard output could not be written",
+        6 => "no memory was found",
+        _ => return,
+    };
+    let _said = rt.eprintln(format_args!("paprvio: {cause}"));
 }
 
 fn main(rt: HostRuntime) -> ExitCode {
-    let Ok(words) = words_of(&rt) else {
-        return ExitCode::from(NO_MEMORY);
-    };
-    let status = match words.as_slice() {
-        [] => run_image(&rt, "-", &[]),
-        [image, rest @ ..] => match image.as_str() {
-            "--help" => print_text(&rt, USAGE),
-            "--version" => print_text(&rt, VERSION),
-            name => run_image(&rt, name, rest),
-        },
-    };
+    let status = run_words(&rt);
+    explain(&rt, status);
     ExitCode::from(status)
 }

@@ -2,7 +2,7 @@
 ghost use Rattle.std.specs.Prelude.{◌≡◌, ℕ, ◌+◌, ◌*◌, ◌≤◌, ◌<◌, [], ◌∷◌, ◌++◌, IfOk, OnOk, OnErr, length, map, filter};
 ghost use Rattle.vio_num.specs.declared.names.UnitId.{UnitId};
 ghost use Rattle.paprvio.specs.FirstRun.{IsWholeSession, HasSrpAt, server_unit, client_unit};
-ghost use Rattle.vio_num.specs.Entry.{is_srp};
+ghost use Rattle.vio_num.specs.Entry.{is_srp_of_length};
 ghost use Rattle.paprvio.specs.Queues.{AreTagsFrom};
 
 use crate::client::{CLIENT, command_entry, login_entry};
@@ -10,17 +10,6 @@ use crate::server::{SERVER, answer_entry, login_answer_entry};
 use std::alloc::Global;
 use vio_num::{Entry, NoMemory, Sequence, UnitId};
 use vio_trace::QueueRow;
-
-/// Initialize, the client's first entry (LoPAR, "Command/Response Queue Initialization").
-const INITIALIZE: Entry = Entry {
-    high: 0xC001_0000_0000_0000,
-    low: 0,
-};
-/// Initialization Complete, the server's answer to it.
-const INITIALIZATION_COMPLETE: Entry = Entry {
-    high: 0xC002_0000_0000_0000,
-    low: 0,
-};
 
 // A first session of a unit's queue.
 fn opened(alloc: Global, unit: UnitId, pages: u8) -> QueueRow
@@ -43,7 +32,8 @@ fn opened(alloc: Global, unit: UnitId, pages: u8) -> QueueRow
 fn hand_over(queue: &mut QueueRow, entry: Entry) -> Result<(), NoMemory>
     ensures sent { OnOk result (queue.new.sent ≡ queue.old.sent ++ entry ∷ []) }
     ensures taken { OnOk result (queue.new.taken ≡ queue.old.taken ++ entry ∷ []) }
-    ensures session { OnOk result ((unit : UnitId) (pages : ℕ) → IsWholeSession unit pages queue.old → IsWholeSession unit pages queue.new) }
+    ensures session { OnOk result ((unit : UnitId) (pages : ℕ)
+        → IsWholeSession unit pages queue.old → IsWholeSession unit pages queue.new) }
 {
     queue.sent.push(entry)?;
     queue.taken.push(entry)?;
@@ -54,10 +44,11 @@ fn hand_over(queue: &mut QueueRow, entry: Entry) -> Result<(), NoMemory>
 pub fn server_queue(alloc: Global, pages: u8, commands: u8) -> Result<QueueRow, NoMemory>
     ensures session { IfOk result (λ row. IsWholeSession server_unit pages row) }
     ensures login { IfOk result (λ row. HasSrpAt row.taken 1 64) }
-    ensures commands { IfOk result (λ row. (i : ℕ) → 1 ≤ i → i ≤ commands → HasSrpAt row.taken (1 + i) 48) }
+    ensures commands { IfOk result
+        (λ row. (i : ℕ) → 1 ≤ i → i ≤ commands → HasSrpAt row.taken (1 + i) 48) }
 {
     let mut queue = opened(alloc, SERVER, pages);
-    hand_over(&mut queue, INITIALIZE)?;
+    hand_over(&mut queue, Entry::INITIALIZE)?;
     hand_over(&mut queue, login_entry())?;
     for i in 1..u64::from(commands) + 1 {
         hand_over(&mut queue, command_entry(i))?;
@@ -69,12 +60,13 @@ pub fn server_queue(alloc: Global, pages: u8, commands: u8) -> Result<QueueRow, 
 /// command in order.
 pub fn client_queue(alloc: Global, pages: u8, commands: u8) -> Result<QueueRow, NoMemory>
     ensures session { IfOk result (λ row. IsWholeSession client_unit pages row) }
-    ensures login { IfOk result (λ row. length (filter (is_srp 52) row.sent) ≡ 1) }
-    ensures answers { IfOk result (λ row. AreTagsFrom 1 (map (λ entry. entry.low) (filter (is_srp 36) row.sent))) }
-    ensures count { IfOk result (λ row. length (filter (is_srp 36) row.sent) ≡ commands) }
+    ensures login { IfOk result (λ row. length (filter (is_srp_of_length 52) row.sent) ≡ 1) }
+    ensures answers { IfOk result (λ row. AreTagsFrom 1
+        (map (λ entry. entry.low) (filter (is_srp_of_length 36) row.sent))) }
+    ensures count { IfOk result (λ row. length (filter (is_srp_of_length 36) row.sent) ≡ commands) }
 {
     let mut queue = opened(alloc, CLIENT, pages);
-    hand_over(&mut queue, INITIALIZATION_COMPLETE)?;
+    hand_over(&mut queue, Entry::INITIALIZATION_COMPLETE)?;
     hand_over(&mut queue, login_answer_entry())?;
     for i in 1..u64::from(commands) + 1 {
         hand_over(&mut queue, answer_entry(i + 1))?;

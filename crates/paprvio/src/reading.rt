@@ -27,9 +27,11 @@ pub fn read_all<S: Source>(alloc: Global, source: &mut S) -> Result<Vec<u8>, Rea
     ensures all { IfOk result (λ bytes. Consumes (S.left source.old) (S.left source.new) bytes.items) }
     ensures end { OnOk result (IsAtEnd (S.left source.new)) }
     ensures short { IfOk result (λ bytes. length bytes.items ≤ MAX_TEXT) }
-    ensures long { IsErrOf result ReadFault.TooLong → (bytes : List ℕ) × Consumes (S.left source.old) (S.left source.new) bytes × (length bytes ≡ MAX_TEXT + 1) }
-    ensures failed { IsErrOf result ReadFault.Failed → Rose (S.faults source.old) (S.faults source.new) }
-    ensures same { (IsErrOf result ReadFault.Failed → ⊥) → S.faults source.new ≡ S.faults source.old }
+    ensures long { IsErrOf result ReadFault.TooLong → (bytes : List ℕ)
+        × Consumes (S.left source.old) (S.left source.new) bytes × (length bytes ≡ MAX_TEXT + 1) }
+    ensures failed { IsErrOf result ReadFault.Failed
+        → Rose (S.faults source.old) (S.faults source.new) }
+    ensures same { ¬ IsErrOf result ReadFault.Failed → S.faults source.new ≡ S.faults source.old }
 {
     let mut bytes = Vec::new(alloc);
     while bytes.len() <= MAX_TEXT {
@@ -69,12 +71,15 @@ fn fill_behind<S: Source>(
 ) -> Result<usize, ReadFault>
     requires { filled ≤ length buffer.old }
     ensures within { IfOk result (λ len. len < length buffer.new) }
-    ensures all { IfOk result (λ len. ReadBehind (S.left source.old) (S.left source.new) (take filled buffer.old) (take len buffer.new)) }
+    ensures all { IfOk result (λ len. ReadBehind (S.left source.old) (S.left source.new)
+        (take filled buffer.old) (take len buffer.new)) }
     ensures end { OnOk result (IsAtEnd (S.left source.new)) }
-    ensures long { IsErrOf result ReadFault.TooLong → ReadBehind (S.left source.old) (S.left source.new) (take filled buffer.old) buffer.new }
-    ensures failed { IsErrOf result ReadFault.Failed → Rose (S.faults source.old) (S.faults source.new) }
-    ensures same { (IsErrOf result ReadFault.Failed → ⊥) → S.faults source.new ≡ S.faults source.old }
-    ensures memory { IsErrOf result ReadFault.NoMemory → ⊥ }
+    ensures long { IsErrOf result ReadFault.TooLong
+        → ReadBehind (S.left source.old) (S.left source.new) (take filled buffer.old) buffer.new }
+    ensures failed { IsErrOf result ReadFault.Failed
+        → Rose (S.faults source.old) (S.faults source.new) }
+    ensures same { ¬ IsErrOf result ReadFault.Failed → S.faults source.new ≡ S.faults source.old }
+    ensures memory { ¬ IsErrOf result ReadFault.NoMemory }
 {
     let n = fill(source, &mut buffer[filled..])?;
     Ok(filled + n)
@@ -86,10 +91,12 @@ fn fill<S: Source>(source: &mut S, buffer: &mut [u8]) -> Result<usize, ReadFault
     ensures within { IfOk result (λ n. n < length buffer.new) }
     ensures all { IfOk result (λ n. Consumes (S.left source.old) (S.left source.new) (take n buffer.new)) }
     ensures end { OnOk result (IsAtEnd (S.left source.new)) }
-    ensures long { IsErrOf result ReadFault.TooLong → Consumes (S.left source.old) (S.left source.new) buffer.new }
-    ensures failed { IsErrOf result ReadFault.Failed → Rose (S.faults source.old) (S.faults source.new) }
-    ensures same { (IsErrOf result ReadFault.Failed → ⊥) → S.faults source.new ≡ S.faults source.old }
-    ensures memory { IsErrOf result ReadFault.NoMemory → ⊥ }
+    ensures long { IsErrOf result ReadFault.TooLong
+        → Consumes (S.left source.old) (S.left source.new) buffer.new }
+    ensures failed { IsErrOf result ReadFault.Failed
+        → Rose (S.faults source.old) (S.faults source.new) }
+    ensures same { ¬ IsErrOf result ReadFault.Failed → S.faults source.new ≡ S.faults source.old }
+    ensures memory { ¬ IsErrOf result ReadFault.NoMemory }
 {
     let mut filled = 0;
     while filled < buffer.len() {

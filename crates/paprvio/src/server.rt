@@ -5,7 +5,7 @@ ghost use Rattle.srp_iu.specs.declared.unit.Iu.TheVariants.{Cmd as CommandUnit, 
 ghost use Rattle.srp_iu.specs.declared.command.Cmd.{Cmd};
 ghost use Rattle.paprvio.specs.History.{IsRowOf, AreRowsFrom};
 ghost use Rattle.paprvio.specs.FirstRun.{good_response};
-ghost use Rattle.vio_num.specs.Entry.{is_srp};
+ghost use Rattle.vio_num.specs.Entry.{is_srp_of_length};
 
 use crate::client::command_unit;
 use arrayvec::ArrayVec;
@@ -20,6 +20,10 @@ pub const SERVER: UnitId = UnitId {
 };
 /// The place of the login request's entry in the server unit's queue, behind the client's Initialize.
 pub const LOGIN_PLACE: u64 = 1;
+/// The bytes of a LOGIN_RSP, and of an RSP without response data and sense data.
+const LOGIN_RSP_BYTES: u16 = 52;
+
+const RSP_BYTES: u16 = 36;
 
 // The answer to a command that the disk carried out without data: good status, one credit, its tag.
 fn good_answer(tag: u64) -> ArrayVec<u8, 256>
@@ -39,25 +43,19 @@ fn good_answer(tag: u64) -> ArrayVec<u8, 256>
 
 /// The entry of the answer of 52 bytes that grants the login, which has tag 1.
 pub fn login_answer_entry() -> Entry
-    ensures granted { is_srp 52 result ≡ true }
-    ensures no_response { is_srp 36 result ≡ false }
+    ensures granted { is_srp_of_length 52 result ≡ true }
+    ensures no_response { is_srp_of_length 36 result ≡ false }
 {
-    Entry {
-        high: 0x8001_0000_0000_0034,
-        low: 1,
-    }
+    Entry::srp(LOGIN_RSP_BYTES, 1)
 }
 
 /// The entry of the answer of 36 bytes to a command: its low half is the command's tag.
 pub fn answer_entry(tag: u64) -> Entry
-    ensures response { is_srp 36 result ≡ true }
-    ensures no_login { is_srp 52 result ≡ false }
+    ensures response { is_srp_of_length 36 result ≡ true }
+    ensures no_login { is_srp_of_length 52 result ≡ false }
     ensures tag { result.low ≡ tag }
 {
-    Entry {
-        high: 0x8001_0000_0000_0024,
-        low: tag,
-    }
+    Entry::srp(RSP_BYTES, tag)
 }
 
 // The tag of a command's information unit.

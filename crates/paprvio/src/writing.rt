@@ -10,8 +10,9 @@ use vio_io::{Sink, WriteFault};
 pub fn write_all<S: Sink>(sink: &mut S, text: &[u8]) -> Result<(), WriteFault>
     ensures all { OnOk result (Appends (S.taken sink.old) (S.taken sink.new) text.now) }
     ensures front { OnErr result (AppendsFront (S.taken sink.old) (S.taken sink.new) text.now) }
-    ensures failed { IsErrOf result WriteFault.Failed → Rose (S.faults sink.old) (S.faults sink.new) }
-    ensures same { (IsErrOf result WriteFault.Failed → ⊥) → S.faults sink.new ≡ S.faults sink.old }
+    ensures failed { IsErrOf result WriteFault.Failed
+        → Rose (S.faults sink.old) (S.faults sink.new) }
+    ensures same { ¬ IsErrOf result WriteFault.Failed → S.faults sink.new ≡ S.faults sink.old }
 {
     let mut written = 0;
     while written < text.len() {

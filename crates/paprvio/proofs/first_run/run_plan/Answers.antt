@@ -5,7 +5,7 @@ use Rattle.std.proofs.lemmas.List.{length-map}
 use Rattle.vio_num.specs.declared.entry.Entry.{Entry}
 use Rattle.vio_num.specs.declared.history.Served.{Served}
 use Rattle.paprvio.specs.FirstRun.{AreAnswersFrom}
-use Rattle.vio_num.specs.Entry.{is_srp}
+use Rattle.vio_num.specs.Entry.{is_srp_of_length}
 use Rattle.paprvio.proofs.FirstRuns.{served_from_rows, tags_of_rows}
 use Rattle.paprvio.proofs.first_run.run_plan.Goals as goal
 
@@ -16,7 +16,7 @@ returns c =
     let serves = c.in_ok-serves.serves in
     let plan = c.args.plan.now in
     let count : length serves ≡ plan.commands = c.in_ok-serves.ensures.1 in
-    let answers = filter (is_srp 36) client.sent in
+    let answers = filter (is_srp_of_length 36) client.sent in
     let tags = map (λ (entry : Entry). entry.low) answers in
     let many : length tags ≡ length serves = length-map answers (λ entry. entry.low) ∙ (c.in_ok-client.ensures.count ∙ sym count) in
     record {

@@ -10,5 +10,5 @@ loop-written-preserved g c = record {
   within = omega (arith, c.in_ok-written.ensures.bound, length-take-le c.loop-written.written c.args.text.now c.loop-written.invariant.within);
   taken = rw (fronts c.loop-written.written c.in_ok-written.field-0 c.args.text.now c.loop-written.invariant.within)
       (Appends-trans _ _ _ _ _ c.loop-written.invariant.taken c.in_ok-written.ensures.bytes);
-  same = c.in_ok-written.ensures.same ∙ c.loop-written.invariant.same;
+  same = c.in_ok-written.ensures.same (λ e. cc e) ∙ c.loop-written.invariant.same;
 }
