@@ -1,5 +1,5 @@
 -- A page: its strokes, and the bytes that they leave.
-use Rattle.std.specs.Prelude.{ℕ, ◌+◌, ◌-◌, ◌&&◌, nat_le, nat_lt, slice_index, if◌then◌else◌, List, [], ◌∷◌, ◌++◌, length, take, drop, replicate, fold}
+use Rattle.std.specs.Prelude.{ℕ, ◌≡◌, ◌<◌, ◌+◌, ◌-◌, ◌&&◌, nat_le, nat_lt, slice_index, if◌then◌else◌, List, [], ◌∷◌, ◌++◌, length, take, drop, replicate, fold}
 use Rattle.page_slots.specs.Stroke.{StrokeValue, IsWithinPage}
 
 pub record PageValue : Type 0 where
@@ -8,10 +8,13 @@ pub record PageValue : Type 0 where
   -- how many more may be written before room has to be made
   pub spare : ℕ
 
+-- bytes with these in place of those from `offset` on
+abbrev pub replaced : List ℕ → ℕ → List ℕ → List ℕ
+replaced page offset bytes = take offset page ++ bytes ++ drop (offset + length bytes) page
+
 -- a page's bytes after a stroke
 abbrev pub overwritten : List ℕ → StrokeValue → List ℕ
-overwritten page stroke =
-    take stroke.offset page ++ stroke.bytes ++ drop (stroke.offset + length stroke.bytes) page
+overwritten page stroke = replaced page stroke.offset stroke.bytes
 
 -- the bytes of a page with no stroke
 unfoldable pub zeros : List ℕ
@@ -35,6 +38,10 @@ covered k b stroke =
 -- the byte at place k after these strokes: that of the last one that covers it, or 0
 abbrev pub byte_left_by : ℕ → List StrokeValue → ℕ
 byte_left_by k strokes = fold (covered k) 0 strokes
+
+-- each byte that these strokes leave is the one that the last stroke over it wrote, or 0
+abbrev pub ShowLast : List StrokeValue → Type 0
+ShowLast strokes = (k : ℕ) → k < 4096 → slice_index (left_by strokes) k ≡ byte_left_by k strokes
 
 -- each of these strokes lies inside the page
 abbrev pub AreWithinPage : List StrokeValue → Type 0

@@ -10,6 +10,10 @@ pub record StrokeValue : Type 0 where
   -- what it writes
   pub bytes : List ℕ
 
+-- a write of these bytes from `offset` on
+abbrev pub stroke_at : StrokeName → ℕ → List ℕ → StrokeValue
+stroke_at name offset bytes = record { name = name; offset = offset; bytes = bytes }
+
 -- the stroke lies inside a page of 4,096 bytes
 abbrev pub IsWithinPage : StrokeValue → Type 0
 IsWithinPage stroke = stroke.offset + length stroke.bytes ≤ 4096

@@ -1,14 +1,11 @@
 // A page: 4,096 bytes, kept beside the list of strokes that made them.
 ghost use Rattle.std.specs.Prelude.{◌≡◌, ℕ, [], ◌∷◌, ◌++◌, ◌+◌, ◌^◌, ◌<◌, ◌≤◌, max, length, take, drop, IsOk, IsErr, IfOk, OnOk, OnErr};
-ghost use Rattle.page_slots.specs.Page.{left_by, overwritten, AreWithinPage};
+ghost use Rattle.page_slots.specs.Page.{left_by, replaced, AreWithinPage};
 
 use crate::stroke::Stroke;
 use std::alloc::Global;
 use std::marker::Model;
-use vio_num::NoMemory;
-
-/// The bytes of a page.
-const PAGE_BYTES: usize = 4096;
+use vio_num::{NoMemory, PAGE_BYTES};
 
 /// A page of 4,096 bytes. Contracts see its strokes and the number spare; the bytes are those that the
 /// strokes leave, in order, on zeros.
@@ -42,7 +39,7 @@ impl Page {
         ensures { IfOk result (λ page. page ≡ record { strokes = []; spare = 0 }) }
     {
         Ok(Page {
-            bytes: vec![in alloc; 0; PAGE_BYTES]?,
+            bytes: vec![in alloc; 0; PAGE_BYTES as usize]?,
             strokes: Vec::new(alloc),
             spare: 0,
         })
@@ -73,6 +70,7 @@ impl Page {
         requires { 1 ≤ self.old.spare }
         ensures index { result ≡ length self.old.strokes }
         ensures strokes { self.new.strokes ≡ self.old.strokes ++ stroke ∷ [] }
+        ensures within { AreWithinPage self.new.strokes }
         ensures spare { self.new.spare + 1 ≡ self.old.spare }
     {
         let index = self.strokes.len() as u32;
@@ -111,10 +109,10 @@ impl Page {
     }
 }
 
-/// Writes the piece over the bytes from `offset` on.
+// Writes the piece over the bytes from `offset` on.
 fn put(bytes: &mut [u8], offset: usize, piece: &[u8])
     requires { offset + length piece.now ≤ length bytes.old }
-    ensures { bytes.new ≡ take offset bytes.old ++ piece.now ++ drop (offset + length piece.now) bytes.old }
+    ensures { bytes.new ≡ replaced bytes.old offset piece.now }
 {
     bytes[offset..offset + piece.len()].copy_from_slice(piece);
 }

@@ -9,7 +9,7 @@ pub struct UnitId {
 }
 
 /// A MAC address (IEEE 802), the first byte the first on the wire.
-#[derive(Clone, Copy, Debug, PartialEq, Eq)]
+#[derive(Clone, Copy, Debug, Default, PartialEq, Eq)]
 pub struct Mac {
     pub bytes: [u8; 6],
 }

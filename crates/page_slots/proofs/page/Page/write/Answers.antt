@@ -19,3 +19,8 @@ invariant_of-self c =
       within =
           rw pushed (within-push c.self.inside.strokes.items c.args.stroke c.self.invariant.within c.bytes.ensures.within);
     }
+
+pub returns-clause-within : goal.returns-clause-within
+returns-clause-within c =
+    let pushed : c.push.new.self.items ≡ c.self.inside.strokes.items ++ c.args.stroke ∷ [] = rw c.if-is_err.ensures.negation at c.push.ensures.items in
+    rw pushed (within-push c.self.inside.strokes.items c.args.stroke c.self.invariant.within c.bytes.ensures.within)
