@@ -1,18 +1,24 @@
 -- Strokes laid on held pages, one after the other.
-use Rattle.std.proofs.Common.{◌≡◌, ℕ, zero, suc, ◌+◌, ◌-◌, ◌<◌, ◌≤◌, ◌==◌, Bool, true, false, List, [], ◌∷◌, ◌++◌, Option, Some, None, Result, Ok, Err, OnOk, OnErr, IsSome, is_some, All, length, get_or, set, cond, take, drop, map, refl, sym, ◌∙◌, ap, subst, arith, rules}
+use Rattle.std.proofs.Common.{◌≡◌, ℕ, zero, suc, ◌+◌, ◌-◌, ◌<◌, ◌≤◌, ◌==◌, Bool, true, false, List, [], ◌∷◌, ◌++◌, Option, Some, None, Result, Ok, Err, OnOk, OnErr, IsSome, is_some, All, length, get_or, set, cond, take, drop, map, refl, sym, ◌∙◌, ap, ap₂, subst, arith, rules, ◌⊎◌, inl, inr, ⊎_elim}
 use Rattle.std.specs.Option.{option_map}
-use Rattle.std.proofs.lemmas.List.{append-nil, append_assoc, length-append, take_more_set, drop_more, drop-set-lt}
+use Rattle.arrayvec.specs.ArrayVec.{ArrayVec, with_items}
+use Rattle.arrayvec.proofs.ArrayVecLemmas.{items-with_items}
+use Rattle.std.proofs.lemmas.List.{append-nil, append_assoc, length-append, take_more_set, drop_more, drop-set-lt, length-set}
 use Rattle.std.proofs.lemmas.Bool.{eq-eqb, ne_eqb, eqb-true}
 use Rattle.std.proofs.lemmas.List.Sums.{sum_by-cons}
-use Rattle.std.proofs.lemmas.List.Elements.{All-nil, All-cons, All-head, All-tail, All-map, All-weaker}
+use Rattle.std.proofs.lemmas.List.Elements.{All-nil, All-cons, All-head, All-tail, All-weaker}
+use Rattle.page_slots.specs.Page.{AreWithinPage}
 use Rattle.page_slots.specs.Stroke.{StrokeValue}
 use Rattle.page_slots.specs.declared.stroke.StrokeName.{StrokeName}
-use Rattle.tce_window.specs.declared.answers.Piece.{Piece}
-use Rattle.tce_window.specs.declared.held.HeldPage.{HeldPage}
+use Rattle.tce_window.specs.declared.piece.Piece.{Piece}
+use Rattle.tce_window.specs.declared.held_pages.HeldPage.{HeldPage}
 use Rattle.tce_window.specs.Held.{HeldValue, held_strokes, strokes_of, either}
-use Rattle.tce_window.specs.Laying.{those, count_on, room_of, held_room, place_on, HasRoom, with_more}
-use Rattle.tce_window.specs.Moved.{piece_strokes, stroke_count, numbered, unplaced, Follows}
+use Rattle.tce_window.specs.Laying.{count_on, room_of, held_room, place_on, HasRoom, HaveRoom, IsWithinHeld, with_more}
+use Rattle.tce_window.specs.Moved.{piece_strokes, strokes_on, stroke_count, numbered, unplaced, Follows}
+use Rattle.tce_window.specs.Pieces.{on_page}
 use Rattle.tce_window.specs.Port.{Grows}
+use Rattle.tce_window.specs.Strokes.{IsWithin, with_strokes}
+use Rattle.tce_window.proofs.Naming.{same_at}
 use Rattle.tce_window.proofs.Values.{by_number}
 
 -- a held page whose strokes stay
@@ -23,15 +29,28 @@ strokes-set (first ∷ pages) zero held d less same p = ap (λ x. either x (held
 strokes-set (first ∷ pages) (suc i) held d less same p =
     ap (either (strokes_of first p)) (strokes-set pages i held d (omega (arith, less)) same p)
 
--- room on each page is room on page p
-pub room_on : (pieces : List Piece) (pages : List (Option HeldPage)) (p : ℕ) → All (HasRoom pieces) pages → IsSome (held_strokes pages p)
-    → count_on p pieces ≤ held_room pages p
-room_on pieces [] p all there = absurd (cc (there))
-room_on pieces (None ∷ pages) p all there = room_on pieces pages p (All-tail (HasRoom pieces) None pages all) there
-room_on pieces (Some held ∷ pages) p all there =
-    by_number held.number p (count_on p pieces ≤ held_room (Some held ∷ pages) p)
-    (λ same. rw (eq-eqb held.number p same) (subst (λ q. count_on q pieces ≤ held.page.spare) same (All-head (HasRoom pieces) (Some held) pages all)))
-    (λ other. rw (ne_eqb held.number p other) (room_on pieces pages p (All-tail (HasRoom pieces) (Some held) pages all) (rw (ne_eqb held.number p other) at there)))
+-- where the page of each piece has room for the pieces on it, each page has
+none_on : (pieces : List Piece) (p : ℕ) → on_page pieces p ≡ false → count_on p pieces ≡ 0
+none_on [] p none = refl
+none_on (piece ∷ pieces) p none =
+    by_number piece.page p (count_on p (piece ∷ pieces) ≡ 0)
+    (λ same. absurd (cc (rw (eq-eqb piece.page p same) at none)))
+    (λ other.
+    let rest : on_page pieces p ≡ false = rw (ne_eqb piece.page p other) at none in
+    let counted : count_on p (piece ∷ pieces) ≡ cond (piece.page == p) 1 0 + count_on p pieces = sum_by-cons (λ piece. cond (piece.page == p) 1 0) piece pieces in
+    let nothing : ◌≡◌ {A = ℕ} (cond (piece.page == p) 1 0) 0 = ap (λ (b : Bool). cond b 1 0) (ne_eqb piece.page p other) in
+    omega (arith, counted, nothing, none_on pieces p rest))
+
+room_on : (pieces : List Piece) (count room : ℕ → ℕ) (p : ℕ) → All (λ piece. count piece.page ≤ room piece.page) pieces → (count p ≤ room p) ⊎ (on_page pieces p ≡ false)
+room_on [] count room p all = inr refl
+room_on (piece ∷ pieces) count room p all =
+    by_number piece.page p ((count p ≤ room p) ⊎ (on_page (piece ∷ pieces) p ≡ false))
+    (λ same. inl (subst (λ q. count q ≤ room q) same (All-head (λ piece. count piece.page ≤ room piece.page) piece pieces all)))
+    (λ other. rw (ne_eqb piece.page p other) (room_on pieces count room p (All-tail (λ piece. count piece.page ≤ room piece.page) piece pieces all)))
+
+pub have_room : (pieces : List Piece) (room : ℕ → ℕ) → All (λ piece. count_on piece.page pieces ≤ room piece.page) pieces → HaveRoom pieces room
+have_room pieces room all p =
+    ⊎_elim (λ enough. enough) (λ none. omega (arith, none_on pieces p none)) (room_on pieces (λ q. count_on q pieces) room p all)
 
 -- the page of this number stands at its place
 pub place_inside : (pages : List (Option HeldPage)) (n : ℕ) → IsSome (held_strokes pages n) → place_on pages n < length pages
@@ -69,9 +88,64 @@ room_there (Some held ∷ pages) n =
     (λ same. rw (eq-eqb held.number n same) refl)
     (λ other. rw (ne_eqb held.number n other) (room_there pages n))
 
+-- a page on which room is made
+pub room-set : (pages : List (Option HeldPage)) (i : ℕ) (held d : Option HeldPage) → i < length pages
+    → ((p : ℕ) → strokes_of held p ≡ strokes_of (get_or pages i d) p) → room_of (get_or pages i d) ≤ room_of held → (p : ℕ) → held_room pages p ≤ held_room (set pages i held) p
+room-set [] i held d less same more p = omega arith
+room-set (first ∷ pages) zero held d less same more p =
+    subst (λ b. cond (is_some (strokes_of first p)) (room_of first) (held_room pages p) ≤ cond b (room_of held) (held_room pages p)) (sym (ap is_some (same p)))
+    (more_or_rest (is_some (strokes_of first p)) (room_of first) (room_of held) (held_room pages p) more)
+  where
+    more_or_rest : (b : Bool) (old new rest : ℕ) → old ≤ new → cond b old rest ≤ cond b new rest
+    more_or_rest true old new rest more = more
+    more_or_rest false old new rest more = omega arith
+room-set (first ∷ pages) (suc i) held d less same more p =
+    behind (is_some (strokes_of first p)) (room_of first) (held_room pages p) (held_room (set pages i held) p) (room-set pages i held d (omega (arith, less)) same more p)
+  where
+    behind : (b : Bool) (first old new : ℕ) → old ≤ new → cond b first old ≤ cond b first new
+    behind true first old new more = omega arith
+    behind false first old new more = more
+
+pub room-set_there : (pages : List (Option HeldPage)) (n : ℕ) (held : Option HeldPage) → IsSome (held_strokes pages n)
+    → ((p : ℕ) → strokes_of held p ≡ strokes_of (get_or pages (place_on pages n) None) p) → held_room (set pages (place_on pages n) held) n ≡ room_of held
+room-set_there [] n held there same = absurd (cc (there))
+room-set_there (None ∷ pages) n held there same = room-set_there pages n held there same
+room-set_there (Some first ∷ pages) n held there same =
+    by_number first.number n (held_room (set (Some first ∷ pages) (place_on (Some first ∷ pages) n) held) n ≡ room_of held)
+    (λ own.
+    let here : (p : ℕ) → strokes_of held p ≡ strokes_of (Some first) p = λ p. rw (eq-eqb first.number n own) at same p in
+    rw (eq-eqb first.number n own) (rw (here n) (rw (eq-eqb first.number n own) refl)))
+    (λ other. rw (ne_eqb first.number n other) (rw (ne_eqb first.number n other)
+    (room-set_there pages n held (rw (ne_eqb first.number n other) at there) (λ p. rw (ne_eqb first.number n other) at same p))))
+
+pub has_room : (count n : ℕ) (held : Option HeldPage) → HasRoom count held → IsSome (strokes_of held n) → count ≤ room_of held
+has_room count n (Some held) room there = room
+has_room count n None room there = absurd (cc (there))
+
 -- these pages, with one stroke more on that of this number
 abbrev pub one_more : StrokeValue → List (Option HeldPage) → ℕ → List (Option HeldPage)
 one_more stroke pages n = set pages (place_on pages n) (with_more stroke (get_or pages (place_on pages n) None))
+
+-- pages that are lent as a slice and written back
+pub after_write : (pages : ArrayVec (Option HeldPage)) (lent old new : List (Option HeldPage)) (place n : ℕ) (stroke : StrokeValue) → lent ≡ pages.items → pages.items ≡ old
+    → place ≡ place_on old n → new ≡ set lent place (with_more stroke (get_or lent place None)) → (with_items pages new).items ≡ one_more stroke old n
+after_write pages lent old new place n stroke is_lent is_old is_place is_new =
+    let same : lent ≡ old = is_lent ∙ is_old in
+    let laid : new ≡ one_more stroke old n = is_new ∙ ap₂ (λ xs i. set xs i (with_more stroke (get_or xs i None))) same is_place in
+    let size : length new ≡ length pages.items = ap length is_new ∙ length-set lent place (with_more stroke (get_or lent place None)) ∙ ap length is_lent in
+    items-with_items pages new size ∙ laid
+
+pub item_there : (lent old : List (Option HeldPage)) (place n : ℕ) (d : Option HeldPage) → lent ≡ old → place ≡ place_on old n → place < length old
+    → get_or lent place d ≡ get_or old (place_on old n) None
+item_there lent old place n d same is_place inside =
+    ap₂ (λ xs i. get_or xs i d) same is_place ∙ same_at old (place_on old n) d None (subst (λ i. i < length old) is_place inside)
+
+pub after_reserve : (pages : ArrayVec (Option HeldPage)) (lent old : List (Option HeldPage)) (place n : ℕ) (held : Option HeldPage) → lent ≡ pages.items → pages.items ≡ old
+    → place ≡ place_on old n → (with_items pages (set lent place held)).items ≡ set old (place_on old n) held
+after_reserve pages lent old place n held is_lent is_old is_place =
+    let same : lent ≡ old = is_lent ∙ is_old in
+    let size : length (set lent place held) ≡ length pages.items = length-set lent place held ∙ ap length is_lent in
+    items-with_items pages (set lent place held) size ∙ ap₂ (λ xs i. set xs i held) same is_place
 
 -- one page, and the pages behind it
 first_strokes : (b : Bool) (old : List StrokeValue) (stroke : StrokeValue) (rest : Option (List StrokeValue))
@@ -104,6 +178,23 @@ more_strokes (Some held ∷ pages) n p stroke =
     (λ same. rw (eq-eqb held.number n same) (rw (← same) (first_strokes (held.number == p) held.page.strokes stroke (held_strokes pages p))))
     (λ other. rw (ne_eqb held.number n other)
     (second_strokes (held.number == p) (n == p) held.page.strokes stroke (held_strokes pages p) (held_strokes (one_more stroke pages n) p) (apart_from held.number n p other) (more_strokes pages n p stroke)))
+
+-- strokes that lie within their pages, with one more that does
+pub within_more : (stroke : StrokeValue) (pages : List (Option HeldPage)) (i p : ℕ) → IsWithin (held_strokes pages p) → IsWithinHeld (with_more stroke (get_or pages i None))
+    → IsWithin (held_strokes (set pages i (with_more stroke (get_or pages i None))) p)
+within_more stroke [] i p within more = tt
+within_more stroke (None ∷ pages) zero p within more = within
+within_more stroke (Some held ∷ pages) zero p within more = first_within (held.number == p) held.page.strokes (held.page.strokes ++ stroke ∷ []) (held_strokes pages p) within more
+  where
+    first_within : (b : Bool) (old new : List StrokeValue) (rest : Option (List StrokeValue)) → IsWithin (either (cond b (Some old) None) rest) → AreWithinPage new → IsWithin (either (cond b (Some new) None) rest)
+    first_within true old new rest within more = more
+    first_within false old new rest within more = within
+within_more stroke (first ∷ pages) (suc i) p within more =
+    rest_within (strokes_of first p) (held_strokes pages p) (held_strokes (set pages i (with_more stroke (get_or pages i None))) p) within (λ h. within_more stroke pages i p h more)
+  where
+    rest_within : (first old new : Option (List StrokeValue)) → IsWithin (either first old) → (IsWithin old → IsWithin new) → IsWithin (either first new)
+    rest_within (Some first) old new within step = within
+    rest_within None old new within step = step within
 
 -- the room of one page, and of the pages behind it
 first_room : (b : Bool) (old new : List StrokeValue) (spare rest : ℕ) → 1 ≤ spare
@@ -241,14 +332,20 @@ there_follows old new follows there =
     (All-weaker (λ piece. IsSome (held_strokes old.pages piece.page)) (λ piece. IsSome (held_strokes new.pages piece.page))
     (λ piece h. there_grown (held_strokes old.pages piece.page) (held_strokes new.pages piece.page) (follows.pages piece.page) h) old.pieces there)
 
--- strokes that are all there
-pub those-map : (strokes : List StrokeValue) → those (map Some strokes) ≡ strokes
-those-map [] = refl
-those-map (stroke ∷ strokes) = ap (λ rest. stroke ∷ rest) (those-map strokes)
-
-pub All-some : (strokes : List StrokeValue) → All IsSome (map Some strokes)
-All-some strokes = All-map IsSome Some strokes (λ k d less. search rules)
-
-pub length-piece_strokes : (name : StrokeName) (bytes : List ℕ) (pieces : List Piece) → length (map Some (piece_strokes name bytes pieces)) ≡ length pieces
+-- a write has a stroke for each piece
+pub length-piece_strokes : (name : StrokeName) (bytes : List ℕ) (pieces : List Piece) → length (piece_strokes name bytes pieces) ≡ length pieces
 length-piece_strokes name bytes [] = refl
 length-piece_strokes name bytes (piece ∷ pieces) = ap suc (length-piece_strokes name (drop piece.len bytes) pieces)
+
+-- where no stroke is left a page is as it is
+pub none_left : (p : ℕ) (pieces : List Piece) (strokes : Option (List StrokeValue)) (left : List StrokeValue) → left ≡ [] → strokes ≡ with_strokes strokes (strokes_on p pieces left)
+none_left p pieces strokes left none =
+    same strokes ∙ ap (with_strokes strokes) (sym (ap (strokes_on p pieces) none ∙ nothing p pieces))
+  where
+    same : (strokes : Option (List StrokeValue)) → strokes ≡ with_strokes strokes []
+    same (Some s) = ap Some (sym (append-nil s))
+    same None = refl
+
+    nothing : (p : ℕ) (pieces : List Piece) → strokes_on p pieces [] ≡ []
+    nothing p [] = refl
+    nothing p (piece ∷ pieces) = refl

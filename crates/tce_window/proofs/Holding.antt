@@ -1,21 +1,21 @@
 -- Pages that are taken out of their places, and put back.
-use Rattle.std.proofs.Common.{◌≡◌, ℕ, ◌<◌, ◌==◌, List, [], ◌∷◌, ◌++◌, Option, Some, None, IsSome, is_some, All, Result, Ok, Err, IfOk, IfErr, arith, ◌+◌, ◌≤◌, ⊎_elim, length, get_or, set, slice_get, cond, Bool, true, false, refl, sym, ◌∙◌, ap, subst, rules}
+use Rattle.std.proofs.Common.{◌≡◌, ℕ, ◌<◌, ◌==◌, List, [], ◌∷◌, ◌++◌, Option, Some, None, IsSome, is_some, All, Result, Ok, Err, IfErr, ⊎_elim, length, get_or, set, slice_get, cond, Bool, true, false, refl, sym, ◌∙◌, ap, ap₂, subst, rules}
 use Rattle.std.proofs.lemmas.Bool.{eq-eqb, ne_eqb}
 use Rattle.page_slots.specs.Stroke.{StrokeValue}
 use Rattle.page_slots.specs.Page.{PageValue}
-use Rattle.tce_window.specs.declared.held.HeldPage.{HeldPage}
-use Rattle.tce_window.specs.Held.{HeldValue, held_strokes, strokes_of, either, FillsPlaces}
-use Rattle.tce_window.specs.declared.answers.Piece.{Piece}
+use Rattle.tce_window.specs.declared.held_pages.HeldPage.{HeldPage}
+use Rattle.tce_window.specs.Held.{held_strokes, strokes_of, either, FillsPlaces}
+use Rattle.tce_window.specs.declared.piece.Piece.{Piece}
 use Rattle.tce_window.specs.declared.answers.HoldFault.{HoldFault}
 use Rattle.tce_window.specs.declared.answers.HoldFault.TheVariants.{Past, NotGranted, InUse}
-use Rattle.tce_window.specs.Lent.{IsLentBy}
 use Rattle.tce_window.specs.Pieces.{on_page, HasStrokes, IsOfEntry, IsSharedUse}
-use Rattle.tce_window.specs.Port.{NamesFound}
+use Rattle.tce_window.specs.Port.{NamesFound, Grows, TakenOver}
 use Rattle.std.proofs.lemmas.Bool.{cases_lt}
-use Rattle.std.proofs.lemmas.Option.{slice_get-get_or, slice_get_past}
+use Rattle.std.proofs.lemmas.Option.{slice_get_past}
 use Rattle.std.proofs.lemmas.List.Elements.{All-head, All-tail}
-use Rattle.tce_window.specs.Window.{WindowValue, strokes_in, strokes_at}
+use Rattle.tce_window.specs.Window.{strokes_in, strokes_at, AllThere}
 use Rattle.tce_window.proofs.Values.{by_number}
+use Rattle.tce_window.proofs.Piecing.{own_page, there_of}
 use Rattle.tce_window.proofs.Pages.{get-set_same, get-set_other}
 
 pub either-none : (x : Option (List StrokeValue)) → either x None ≡ x
@@ -96,11 +96,7 @@ pub rest_there : (x y : Option (List StrokeValue)) → IsSome y → IsSome (eith
 rest_there (Some x) y h = search rules
 rest_there None y h = h
 
--- a page in its place has strokes, and a number below that of the places
-pub there_at : (pages : List (Option PageValue)) (p : ℕ) → All IsSome pages → p < length pages → IsSome (strokes_at pages p)
-there_at pages p all less =
-    subst (λ x. IsSome (strokes_in x)) (sym (slice_get-get_or pages p None less)) (some_in (get_or pages p None) (all p None less))
-
+-- a page that has strokes has a number below that of the places
 pub within_of : (pages : List (Option PageValue)) (p : ℕ) → IsSome (strokes_at pages p) → p < length pages
 within_of pages p h =
     ⊎_elim (λ less. less)
@@ -150,24 +146,40 @@ pub tests_of : (pieces : List Piece) (pages : List (Option HeldPage)) (old : ℕ
 tests_of pieces pages old n held there within p =
     same_test (on_page pieces p) (held_strokes pages p) (old p) (held p) (λ on. there p (within p on))
 
+-- a page of the range is in the holder's hand, and the others are where they were
+pub taken_over : (on : Bool) (old held new : Option (List StrokeValue)) → held ≡ cond on old None → new ≡ cond on None old → TakenOver false old held new
+taken_over true (Some s) held new e f = subst (λ h. TakenOver false (Some s) h new) (sym e) (refl, f)
+taken_over true None held new e f = subst (λ h. TakenOver false None h new) (sym e) (subst (Grows false None) (sym f) tt)
+taken_over false (Some s) held new e f = subst (λ h. TakenOver false (Some s) h new) (sym e) (subst (Grows false (Some s)) (sym f) refl)
+taken_over false None held new e f = subst (λ h. TakenOver false None h new) (sym e) (subst (Grows false None) (sym f) tt)
+
+-- a page on which a piece lies is in the holder's hand
+pub in_hand : (pieces : List Piece) (pages : List (Option HeldPage)) (old : ℕ → Option (List StrokeValue)) (k : ℕ) (d : Piece) → k < length pieces
+    → ((p : ℕ) → held_strokes pages p ≡ cond (on_page pieces p) (old p) None) → held_strokes pages (get_or pieces k d).page ≡ old (get_or pieces k d).page
+in_hand pieces pages old k d less taken =
+    let p = (get_or pieces k d).page in
+    taken p ∙ ap (λ b. cond b (old p) None) (own_page pieces k d less)
+
+-- The pages of these pieces were taken out of their places.
+pub record Took (pieces : List Piece) (pages : List (Option HeldPage)) (old new : List (Option PageValue)) : Type 0 where
+  pub taken : (p : ℕ) → held_strokes pages p ≡ cond (on_page pieces p) (strokes_at old p) None
+  pub away : (p : ℕ) → strokes_at new p ≡ cond (on_page pieces p) None (strokes_at old p)
+  pub within : (p : ℕ) → on_page pieces p ≡ true → p < length old
+  pub there : AllThere old
+
+pub took : (lent pieces : List Piece) (pages : List (Option HeldPage)) (region old new : List (Option PageValue)) → lent ≡ pieces → region ≡ old
+    → ((p : ℕ) → held_strokes pages p ≡ cond (on_page lent p) (strokes_at region p) None) → ((p : ℕ) → strokes_at new p ≡ cond (on_page lent p) None (strokes_at region p))
+    → All (λ piece. HasStrokes piece (strokes_at old piece.page)) pieces → AllThere region → Took pieces pages old new
+took lent pieces pages region old new is_lent is_old taken away strokes there = record {
+  taken = λ p. taken p ∙ ap₂ (λ (ps : List Piece) (xs : List (Option PageValue)). cond (on_page ps p) (strokes_at xs p) None) is_lent is_old;
+  away = λ p. away p ∙ ap₂ (λ (ps : List Piece) (xs : List (Option PageValue)). cond (on_page ps p) None (strokes_at xs p)) is_lent is_old;
+  within = λ p. page_within (length old) pieces p (λ k d less. within_of old _ (there_of (get_or pieces k d) (strokes_at old (get_or pieces k d).page) (strokes k d less)));
+  there = subst (λ xs. AllThere xs) is_old there;
+}
+
 pub if_err_map : {T : Type 0} (r : Result T HoldFault) (P Q : HoldFault → Type 0) → ((f : HoldFault) → P f → Q f) → IfErr r P → IfErr r Q
 if_err_map (Ok v) P Q g m = m
 if_err_map (Err f) P Q g m = g f m
-
-there_if_counted : (piece : Piece) (strokes : Option (List StrokeValue)) → HasStrokes piece strokes → IsSome strokes
-there_if_counted piece (Some strokes) h = refl
-there_if_counted piece None h = absurd h
-
--- the pieces of a range that is lent lie on pages of the region
-pub all_inside : (r : Result HeldValue HoldFault) (window : WindowValue) (n : ℕ) → length window.pages ≡ n
-    → IfOk r (λ held. All (λ piece. HasStrokes piece (held_strokes held.pages piece.page)) held.pieces) → IfOk r (λ held. IsLentBy window held)
-    → IfOk r (λ held. All (λ piece. piece.page < n) held.pieces)
-all_inside (Ok held) window n size strokes lent = λ k d lt.
-    let piece = get_or held.pieces k d in
-    let within : piece.page < length window.pages =
-    lent.places.within piece.page (there_if_counted piece (held_strokes held.pages piece.page) (strokes k d lt)) in
-    omega (arith, within, size)
-all_inside (Err fault) window n size strokes lent = tt
 
 -- a refusal that names an entry names no page in use
 pub none_found : (fault : HoldFault) → IsOfEntry fault → NamesFound (λ _ _. ⊥) fault
@@ -179,8 +191,3 @@ pub none_shared : (fault : HoldFault) → IsOfEntry fault → IsSharedUse false 
 none_shared (Past entry) h = tt
 none_shared (NotGranted entry version tce) h = tt
 none_shared (InUse page word) h = absurd h
-
--- where nobody else lays strokes nothing is said of what the port laid
-pub ok_alone : {T : Type 0} {E : Type 0} (result : Result T E) (P : T → Type 0) → IfOk result (λ held. false ≡ true → P held)
-ok_alone (Ok held) P = λ e. absurd (cc (e))
-ok_alone (Err fault) P = tt

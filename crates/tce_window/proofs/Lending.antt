@@ -1,12 +1,12 @@
 -- The pieces of a range that was just held are those that the window lends.
 use Rattle.std.proofs.Common.{◌≡◌, ℕ, ◌/◌, List, [], ◌∷◌, map, length, refl, sym, ◌∙◌, ap}
 use Rattle.vio_num.specs.declared.names.UnitId.{UnitId}
-use Rattle.tce_window.specs.declared.answers.Piece.{Piece}
+use Rattle.tce_window.specs.declared.piece.Piece.{Piece}
 use Rattle.tce_window.specs.Pieces.{Touches}
 use Rattle.tce_window.specs.Moved.{unplaced}
 use Rattle.tce_window.specs.Window.{WindowValue}
 use Rattle.tce_window.specs.Lent.{AreLent}
-use Rattle.tce_window.proofs.Moving.{touched_unit, touched_lie, kept_length, kept_lie, kept_unit}
+use Rattle.tce_window.proofs.Laws.{touched_unit, touched_lie, kept_length, kept_lie, kept_unit}
 
 unplaced_twice : (pieces : List Piece) → map unplaced (map unplaced pieces) ≡ map unplaced pieces
 unplaced_twice [] = refl

@@ -1,9 +1,10 @@
 pub mod Gathering
 pub mod Growing
 pub mod Holding
+pub mod Laws
 pub mod Lending
-pub mod Moving
 pub mod Naming
+pub mod Overlaying
 pub mod Pages
 pub mod Piecing
 pub mod Putting

@@ -10,7 +10,6 @@ use Rattle.tce_window.specs.Grant.{values_of, has_right}
 use Rattle.tce_window.specs.Puts.{takes, takes_each, put_rows, put_answer, put_into, put_by}
 use Rattle.tce_window.specs.Answers.{IfBusy}
 use Rattle.tce_window.specs.PlainPort.{known_of}
-use Rattle.tce_window.specs.Port.{IsBusy}
 use Rattle.tce_window.specs.PortState.{IsHeldEntry, Puts, MeetsPins}
 use Rattle.tce_window.specs.Window.{WindowValue, holds}
 use Rattle.std.proofs.lemmas.Bool.Decides.{nat_tests}

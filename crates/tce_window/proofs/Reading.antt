@@ -4,8 +4,8 @@ use Rattle.std.proofs.lemmas.List.{append_assoc}
 use Rattle.std.proofs.lemmas.Slice.{take-put_mid}
 use Rattle.std.proofs.Math.Seq.{drop-cons}
 use borrow.Rule.Slice.PartMut.{put_mid}
-use Rattle.tce_window.specs.declared.answers.Piece.{Piece}
-use Rattle.tce_window.specs.declared.held.HeldPage.{HeldPage}
+use Rattle.tce_window.specs.declared.piece.Piece.{Piece}
+use Rattle.tce_window.specs.declared.held_pages.HeldPage.{HeldPage}
 use Rattle.vio_num.specs.declared.names.UnitId.{UnitId}
 use Rattle.tce_window.specs.Pieces.{Touches}
 use Rattle.tce_window.specs.Held.{held_len, joined, piece_bytes}

@@ -3,9 +3,9 @@ use Rattle.std.specs.Prelude.{◌≡◌, ℕ, ◌+◌, ◌-◌, ◌/◌, ◌%◌
 use Rattle.tce_window.specs.declared.answers.TceAnswer.{TceAnswer}
 use Rattle.tce_window.specs.declared.answers.TceAnswer.TheVariants.{Busy}
 use Rattle.tce_window.specs.declared.answers.OwnFault.{OwnFault}
-use Rattle.tce_window.specs.declared.answers.OwnFault.TheVariants.{Range, InUse, NoMemory}
+use Rattle.tce_window.specs.declared.answers.OwnFault.TheVariants.{InUse}
 use Rattle.tce_window.specs.declared.answers.NamedFault.{NamedFault}
-use Rattle.tce_window.specs.declared.answers.NamedFault.TheVariants.{Range as NoRange, InUse as NamedInUse, Stale}
+use Rattle.tce_window.specs.declared.answers.NamedFault.TheVariants.{InUse as NamedInUse, Stale}
 use Rattle.page_slots.specs.declared.stroke.StrokeName.{StrokeName}
 use Rattle.tce_window.specs.declared.answers.GetTce.{GetTce}
 use Rattle.tce_window.specs.declared.answers.GetTce.TheVariants.{Value, Parameter as NoEntry}

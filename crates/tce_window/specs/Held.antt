@@ -3,9 +3,9 @@ use Rattle.std.specs.Prelude.{◌≡◌, ℕ, ◌+◌, ◌<◌, ◌==◌, List, 
 use Rattle.page_slots.specs.Stroke.{StrokeValue}
 use Rattle.std.specs.List.{flat_map}
 use Rattle.page_slots.specs.Page.{left_by}
-use Rattle.tce_window.specs.declared.answers.Piece.{Piece}
+use Rattle.tce_window.specs.declared.piece.Piece.{Piece}
 use Rattle.tce_window.specs.declared.answers.Right.{Right}
-use Rattle.tce_window.specs.declared.held.HeldPage.{HeldPage}
+use Rattle.tce_window.specs.declared.held_pages.HeldPage.{HeldPage}
 
 pub record HeldValue : Type 0 where
   -- the right under which the range is held

@@ -2,7 +2,7 @@
 use Rattle.std.specs.Prelude.{◌≡◌, All, List, Option, Some, None, IsSome, true, length, map}
 use Rattle.std.proofs.Common.{refl, sym, subst}
 use Rattle.page_slots.specs.Stroke.{StrokeValue}
-use Rattle.tce_window.specs.declared.answers.Piece.{Piece}
+use Rattle.tce_window.specs.declared.piece.Piece.{Piece}
 use Rattle.tce_window.specs.Held.{HeldValue, held_strokes, FillsPlaces}
 use Rattle.tce_window.specs.Moved.{unplaced, Follows}
 use Rattle.tce_window.specs.Pieces.{LieFrom}

@@ -12,6 +12,7 @@ pub mod Port
 pub mod PortState
 pub mod Puts
 pub mod Region
+pub mod Strokes
 pub mod Table
 pub mod Unread
 pub mod Window

@@ -1,16 +1,17 @@
 -- Bytes that are read and written through the pieces of a held range.
-use Rattle.std.specs.Prelude.{◌≡◌, ℕ, zero, suc, ◌+◌, ◌<◌, ◌≤◌, ◌==◌, Bool, true, All, List, [], ◌∷◌, ◌++◌, Option, Some, None, length, map, take, drop, slice_get, if◌then◌else◌}
+use Rattle.std.specs.Prelude.{◌≡◌, ℕ, zero, suc, ◌+◌, ◌<◌, ◌≤◌, ◌==◌, Bool, true, All, List, [], ◌∷◌, Option, Some, None, length, map, take, drop, slice_get, if◌then◌else◌}
 use Rattle.std.specs.List.{flat_map}
-use Rattle.std.specs.Option.{option_and_then, option_map}
+use Rattle.std.specs.Option.{option_and_then}
 use Rattle.vio_num.specs.declared.names.UnitId.{UnitId}
 use Rattle.page_slots.specs.Stroke.{StrokeValue}
 use Rattle.page_slots.specs.declared.stroke.StrokeName.{StrokeName}
 use Rattle.page_slots.specs.Page.{bytes_at}
-use Rattle.tce_window.specs.declared.answers.Piece.{Piece}
+use Rattle.tce_window.specs.declared.piece.Piece.{Piece}
 use Rattle.tce_window.specs.declared.answers.Right.TheVariants.{Read, Write}
 use Rattle.tce_window.specs.Held.{HeldValue, held_strokes}
 use Rattle.tce_window.specs.Pieces.{Touches, IsGranted}
 use Rattle.tce_window.specs.Port.{Grows}
+use Rattle.tce_window.specs.Strokes.{with_strokes}
 
 -- the strokes of a write of these bytes over pieces: one for each piece, with the part that falls to it
 abbrev pub piece_strokes : StrokeName → List ℕ → List Piece → List StrokeValue
@@ -103,5 +104,5 @@ pub record IsWrittenTo (unit : UnitId) (values : ℕ → List ℕ) (strokes : �
 pub record IsLaid (is_shared : Bool) (p : ℕ) (pieces : List Piece) (strokes : List StrokeValue) (old new : Option (List StrokeValue)) : Type 0 where
   pub before : Option (List StrokeValue)
   pub grown : Grows is_shared old before
-  pub laid : new ≡ option_map (λ s. s ++ strokes_on p pieces strokes) before
+  pub laid : new ≡ with_strokes before (strokes_on p pieces strokes)
   pub behind : All (λ piece. piece.page ≡ p → stroke_count before ≤ piece.at) pieces

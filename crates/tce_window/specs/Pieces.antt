@@ -3,7 +3,7 @@ use Rattle.std.specs.Prelude.{◌≡◌, ℕ, ◌+◌, ◌-◌, ◌/◌, ◌%◌
 use Rattle.std.specs.List.{list_any}
 use Rattle.vio_num.specs.declared.names.UnitId.{UnitId}
 use Rattle.page_slots.specs.Stroke.{StrokeValue}
-use Rattle.tce_window.specs.declared.answers.Piece.{Piece}
+use Rattle.tce_window.specs.declared.piece.Piece.{Piece}
 use Rattle.tce_window.specs.declared.answers.Right.{Right}
 use Rattle.tce_window.specs.declared.answers.HoldFault.{HoldFault}
 use Rattle.tce_window.specs.declared.answers.HoldFault.TheVariants.{Past, NotGranted, InUse}

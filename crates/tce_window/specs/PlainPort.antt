@@ -1,6 +1,9 @@
 -- A plain window as a port.
-use Rattle.std.specs.Prelude.{◌≡◌, ℕ, ◌+◌, ◌*◌, [], Some, length, refl, slice_get}
+use Rattle.std.specs.Prelude.{◌≡◌, ℕ, ◌+◌, ◌*◌, ◌/◌, ◌<◌, ◌≤◌, All, List, [], Some, length, refl, slice_get}
+use Rattle.tce_window.specs.declared.answers.Right.{Right}
+use Rattle.tce_window.specs.declared.piece.Piece.{Piece}
 use Rattle.tce_window.specs.Grant.{values_of}
+use Rattle.tce_window.specs.Pieces.{IsPieceAt, Touches, IsGranted, IsLast, HasStrokes, IsUsable, MayUse}
 use Rattle.tce_window.specs.PortState.{PortState}
 use Rattle.tce_window.specs.Window.{WindowValue, strokes_at}
 
@@ -21,3 +24,22 @@ known_of window = record {
 pub plain_begins : (window : WindowValue) (e : ℕ) → slice_get ((known_of window).values e) 0 ≡ Some (4096 * e + 3)
 unfolding values_of
 plain_begins window e = refl
+
+-- The piece with which a range of `left` bytes begins may be used, and its page is in its place.
+pub record MayTake (port : PortState) (right : Right) (address left : ℕ) (piece : Piece) : Type 0 where
+  pub piece_is : IsPieceAt port.place.unit address (address + left) piece
+  pub granted : IsGranted port.values right piece
+  pub last : IsLast port.values piece
+  pub strokes : HasStrokes piece (port.strokes piece.page)
+  pub usable : MayUse port.values right (address / 4096)
+  pub inside : address / 4096 < port.place.size
+
+-- The pieces of a range, each of which may be used.
+pub record MayTakeEach (port : PortState) (right : Right) (ioba len : ℕ) (pieces : List Piece) : Type 0 where
+  pub touched : Touches port.place.unit ioba (ioba + len) pieces
+  pub granted : All (IsGranted port.values right) pieces
+  pub last : All (IsLast port.values) pieces
+  pub strokes : All (λ piece. HasStrokes piece (port.strokes piece.page)) pieces
+  pub usable : IsUsable port.values right port.place.size ioba len
+  pub inside : ioba / 4096 + length pieces ≤ port.place.size
+  pub some : 1 ≤ length pieces

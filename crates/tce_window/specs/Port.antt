@@ -4,7 +4,7 @@ use Rattle.vio_num.specs.Counts.{Rose}
 use Rattle.page_slots.specs.Stroke.{StrokeValue}
 use Rattle.page_slots.specs.declared.stroke.StrokeName.{StrokeName}
 use Rattle.tce_window.specs.declared.answers.TceAnswer.{TceAnswer}
-use Rattle.tce_window.specs.declared.answers.TceAnswer.TheVariants.{Done, Parameter, Busy}
+use Rattle.tce_window.specs.declared.answers.TceAnswer.TheVariants.{Busy}
 use Rattle.tce_window.specs.declared.answers.OwnFault.{OwnFault}
 use Rattle.tce_window.specs.declared.answers.OwnFault.TheVariants.{InUse as OwnInUse}
 use Rattle.tce_window.specs.declared.answers.NamedFault.{NamedFault}

@@ -12,7 +12,7 @@ use Rattle.tce_window.specs.Named.{IsFirstStale}
 use Rattle.tce_window.specs.Pieces.{on_page, Touches, IsGranted, IsLast, HasStrokes, IsUsable}
 use Rattle.tce_window.specs.Port.{Later, Grows, TakenOver, IsWritten, IsBusy}
 use Rattle.tce_window.specs.Puts.{put_into}
-use Rattle.tce_window.specs.Region.{in_region, first_page, end_page, AreThere, ReadsRange, IsInUse}
+use Rattle.tce_window.specs.Region.{in_region, first_page, end_page, IsInPlace, ReadsRange, IsInUse}
 
 -- what no call changes
 pub record PortPlace : Type 0 where
@@ -52,17 +52,11 @@ FindsInUse is_shared port at len page = IsInUse is_shared port.strokes port.plac
 
 -- each page that the range touches is in its place
 abbrev pub AreInPlace : PortState → ℕ → ℕ → Type 0
-AreInPlace port at len = AreThere port.strokes (first_page at) (end_page at len)
+AreInPlace port at len = IsInPlace port.strokes at len
 
 -- where the port holds nothing, each page of the region is in its place
 abbrev pub HasAllPages : PortState → Type 0
 HasAllPages port = port.held_count ≡ 0 → (p : ℕ) → p < port.place.size → IsSome (port.strokes p)
-
--- Bytes were written: on each page that they touch one stroke lies behind all that the page had.
-pub record Writes (is_shared : Bool) (old : PortState) (at : ℕ) (bytes : List ℕ) (mark : ℕ) (new : PortState) : Type 0 where
-  pub inside : IsTrue (contains old at (length bytes))
-  pub there : AreInPlace new at (length bytes)
-  pub strokes : (p : ℕ) → IsWritten is_shared (record { who = old.place.unit; mark = mark }) at bytes p (old.strokes p) (new.strokes p)
 
 -- A named read found this page stale, and this other name on it.
 pub record FindsStale (name : StrokeName) (port : PortState) (at len page : ℕ) (found : Option StrokeName) : Type 0 where
@@ -89,6 +83,13 @@ place_written at len port p =
 -- the places of the strokes that a held page has more than it had as it was taken
 abbrev pub places_since : (taken : ℕ → ℕ) → HeldValue → ℕ → List ℕ
 places_since taken held p = places_from (taken p) (stroke_count (held_strokes held.pages p) - taken p)
+
+-- Bytes were written: on each page that they touch one stroke lies behind all that the page had, which the port laid.
+pub record Writes (is_shared : Bool) (old : PortState) (at : ℕ) (bytes : List ℕ) (mark : ℕ) (new : PortState) : Type 0 where
+  pub inside : IsTrue (contains old at (length bytes))
+  pub there : AreInPlace new at (length bytes)
+  pub strokes : (p : ℕ) → IsWritten is_shared (record { who = old.place.unit; mark = mark }) at bytes p (old.strokes p) (new.strokes p)
+  pub laid : Lays is_shared (place_written at (length bytes) new) old new
 
 -- the entries that the port holds
 abbrev pub IsHeldEntry : PortState → ℕ → Type 0
@@ -119,10 +120,22 @@ pub record Holds (is_shared : Bool) (old : PortState) (ioba len : ℕ) (right : 
   pub pages : (p : ℕ) → is_some (held_strokes held.pages p) ≡ on_page held.pieces p
   pub count : new.held_count ≡ length held.pieces
   pub from : new.held_from ≡ ioba / 4096
+  pub inside : All (λ piece. piece.page < old.place.size) held.pieces
+  pub counted : Counts is_shared new held
 
 -- what is known of each page is as before, with more behind where others lay strokes too
 abbrev pub Learns : (is_shared : Bool) → PortState → PortState → Type 0
 Learns is_shared old new = (p : ℕ) → Grows is_shared (old.strokes p) (new.strokes p)
+
+-- A write was refused: the port laid no stroke.
+pub record LaysNone (is_shared : Bool) (old new : PortState) : Type 0 where
+  pub strokes : Learns is_shared old new
+  pub laid : LaysNothing is_shared old new
+
+-- A range was refused: nothing is held.
+pub record HoldsNone (is_shared : Bool) (old new : PortState) : Type 0 where
+  pub free : new.held_count ≡ 0
+  pub strokes : Learns is_shared old new
 
 -- Nothing changed but values.
 pub record OnlyPuts (old new : PortState) : Type 0 where

@@ -1,10 +1,9 @@
 -- The owner's region: its pages, one behind the other, and ranges of its addresses.
-use Rattle.std.specs.Prelude.{◌≡◌, ℕ, ◌+◌, ◌-◌, ◌*◌, ◌/◌, ◌%◌, ◌<◌, ◌≤◌, ◌&&◌, nat_le, nat_lt, if◌then◌else◌, Bool, false, IsTrue, List, [], ◌∷◌, ◌++◌, Option, Some, None, IsSome, length, slice_set, slice_index_or, slice_range, slice_index, min}
-use Rattle.std.specs.Option.{option_map}
+use Rattle.std.specs.Prelude.{◌≡◌, ℕ, ◌+◌, ◌-◌, ◌*◌, ◌/◌, ◌%◌, ◌<◌, ◌≤◌, ◌&&◌, nat_le, nat_lt, if◌then◌else◌, Bool, false, IsTrue, List, [], ◌∷◌, Option, Some, None, IsSome, length, slice_range, slice_index, min}
 use Rattle.page_slots.specs.Stroke.{StrokeValue}
-use Rattle.page_slots.specs.Page.{left_by, PageValue}
-use Rattle.tce_window.specs.Window.{with_stroke}
+use Rattle.page_slots.specs.Page.{left_by}
 use Rattle.page_slots.specs.declared.stroke.StrokeName.{StrokeName}
+use Rattle.tce_window.specs.Strokes.{with_strokes}
 
 -- whether a range of 1 to 65,536 bytes lies inside a region of n pages
 abbrev pub in_region : ℕ → ℕ → ℕ → Bool
@@ -20,6 +19,10 @@ end_page at len = (at + len + 4095) / 4096
 -- each page that the range touches is in its place
 abbrev pub AreThere : (ℕ → Option (List StrokeValue)) → ℕ → ℕ → Type 0
 AreThere strokes first end = (p : ℕ) → first ≤ p → p < end → IsSome (strokes p)
+
+-- the same of a range of addresses
+abbrev pub IsInPlace : (ℕ → Option (List StrokeValue)) → (at len : ℕ) → Type 0
+IsInPlace strokes at len = AreThere strokes (first_page at) (end_page at len)
 
 -- the byte at this place of a page with these strokes
 abbrev pub byte_in : Option (List StrokeValue) → ℕ → ℕ
@@ -40,7 +43,7 @@ pub record IsFirstHeld (strokes : ℕ → Option (List StrokeValue)) (first end 
 -- Bytes were read that are those of the range.
 pub record ReadsRange (strokes : ℕ → Option (List StrokeValue)) (n at : ℕ) (out : List ℕ) : Type 0 where
   pub inside : IsTrue (in_region n at (length out))
-  pub there : AreThere strokes (first_page at) (end_page at (length out))
+  pub there : IsInPlace strokes at (length out)
   pub bytes : (k : ℕ) → k < length out → slice_index out k ≡ region_byte strokes (at + k)
 
 -- The page of the range is in use: where nobody else has a hand in the window, it is away.
@@ -70,10 +73,4 @@ touches at len p = nat_le (first_page at) p && nat_lt p (end_page at len)
 -- the strokes of page p after a write of these bytes from the address on
 abbrev pub written : StrokeName → ℕ → List ℕ → ℕ → Option (List StrokeValue) → Option (List StrokeValue)
 written name at bytes p strokes =
-    if touches at (length bytes) p then option_map (λ s. s ++ stroke_on name at bytes p ∷ []) strokes else strokes
-
--- pages once these strokes are laid, one on each page from `first` on
-abbrev pub laid : List (Option PageValue) → ℕ → List StrokeValue → List (Option PageValue)
-laid pages first [] = pages
-laid pages first (stroke ∷ strokes) =
-    laid (slice_set pages first (with_stroke stroke (slice_index_or pages first None))) (first + 1) strokes
+    if touches at (length bytes) p then with_strokes strokes (stroke_on name at bytes p ∷ []) else strokes

@@ -1,5 +1,5 @@
 -- What contracts see of a plain window.
-use Rattle.std.specs.Prelude.{◌≡◌, ℕ, ◌+◌, ◌≤◌, ◌&&◌, nat_le, nat_lt, Bool, List, [], ◌∷◌, ◌++◌, ◌-◌, Option, Some, None, length, slice_get, All, IsSome}
+use Rattle.std.specs.Prelude.{◌≡◌, ℕ, ◌+◌, ◌<◌, ◌≤◌, ◌&&◌, nat_le, nat_lt, Bool, List, [], Option, Some, None, length, slice_get, IsSome}
 use Rattle.vio_num.specs.declared.names.UnitId.{UnitId}
 use Rattle.page_slots.specs.Stroke.{StrokeValue}
 use Rattle.page_slots.specs.Page.{PageValue}
@@ -24,6 +24,10 @@ pub record WindowValue : Type 0 where
 abbrev pub holds : WindowValue → ℕ → Bool
 holds window e = nat_le window.held_from e && nat_lt e (window.held_from + window.held_count)
 
+-- a page of zeros, in its place
+abbrev pub blank_page : Option PageValue
+blank_page = Some (record { strokes = []; spare = 0 })
+
 -- the strokes of a page in its place
 abbrev pub strokes_in : Option (Option PageValue) → Option (List StrokeValue)
 strokes_in (Some (Some page)) = Some page.strokes
@@ -41,14 +45,14 @@ room_in _ = 0
 abbrev pub room_at : List (Option PageValue) → ℕ → ℕ
 room_at pages p = room_in (slice_get pages p)
 
--- a page in its place, with one stroke more
-abbrev pub with_stroke : StrokeValue → Option PageValue → Option PageValue
-with_stroke stroke (Some page) = Some (record { strokes = page.strokes ++ stroke ∷ []; spare = page.spare - 1 })
-with_stroke stroke None = None
+-- each page of the region is in its place
+abbrev pub AllThere : List (Option PageValue) → Type 0
+AllThere pages = (p : ℕ) → p < length pages → IsSome (strokes_at pages p)
 
--- what a window keeps of its pages: there are 1 to 256, and none is away where nothing is held
+-- what a window keeps of its pages: there are 1 to 256, the entries that are held are some of its own, and no page
+-- is away where none is held
 pub record KeepsPages (pages : List (Option PageValue)) (held_from held_count : ℕ) : Type 0 where
   pub least : 1 ≤ length pages
   pub most : length pages ≤ 256
   pub within : held_from + held_count ≤ length pages
-  pub all_there : held_count ≡ 0 → All IsSome pages
+  pub all_there : held_count ≡ 0 → AllThere pages

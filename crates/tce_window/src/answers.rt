@@ -1,48 +1,12 @@
 // What the calls of a window are told and answer.
 use page_slots::StrokeName;
-use vio_num::{NoMemory, UnitId};
+use vio_num::NoMemory;
 
 /// What a device may do with the page of an entry.
 #[derive(Clone, Copy, Debug, PartialEq, Eq)]
 pub enum Right {
     Read,
     Write,
-}
-
-/// A part of a held range that lies in one entry.
-#[derive(Clone, Copy, Debug, PartialEq, Eq)]
-pub struct Piece {
-    /// The unit whose window it is.
-    pub unit: UnitId,
-    /// The entry, from 0.
-    pub entry: u16,
-    /// The version of the entry's value, from 0.
-    pub version: u32,
-    /// The page of the unit's region that the value names.
-    pub page: u16,
-    /// The place of the first byte in the page.
-    pub offset: u16,
-    /// The number of bytes, 1 to 4,096.
-    pub len: u16,
-    /// The number of strokes on the page as it was taken; after a write, the index of the piece's stroke.
-    pub at: u32,
-}
-
-impl Default for Piece {
-    fn default() -> Self {
-        Piece {
-            unit: UnitId {
-                partition: 0,
-                unit: 0,
-            },
-            entry: 0,
-            version: 0,
-            page: 0,
-            offset: 0,
-            len: 0,
-            at: 0,
-        }
-    }
 }
 
 /// A value put into an entry.

@@ -1,17 +1,45 @@
-// Strokes laid on the pages of a held range. There is room for all of them before the first one is laid.
-ghost use Rattle.std.specs.Prelude.{◌≡◌, ℕ, ◌+◌, ◌++◌, ◌<◌, ◌≤◌, ◌==◌, All, Some, None, IsSome, IfOk, OnOk, OnErr, [], ◌∷◌, length, map, slice_set, slice_index_or, if◌then◌else◌};
-ghost use Rattle.std.specs.Option.{option_map};
-ghost use Rattle.tce_window.specs.Held.{held_strokes, strokes_of, held_len};
-ghost use Rattle.tce_window.specs.Laying.{those, count_on, room_of, held_room, place_on, HasRoom, with_more};
+// Strokes laid on pages, one for each piece of a range. There is room for all of them before the first one is
+// laid. A write of the owner and a copy between windows both lay their strokes so.
+ghost use Rattle.std.specs.Prelude.{◌≡◌, ℕ, ◌+◌, ◌≤◌, ◌==◌, All, Some, IsSome, IfOk, OnOk, OnErr, [], ◌∷◌, Option, List, length, map, if◌then◌else◌};
+ghost use Rattle.page_slots.specs.Stroke.{StrokeValue};
+ghost use Rattle.tce_window.specs.Held.{held_len};
+ghost use Rattle.tce_window.specs.Laying.{count_on, with_stroke, HaveRoom};
 ghost use Rattle.tce_window.specs.Moved.{piece_strokes, strokes_on, stroke_count, numbered};
+ghost use Rattle.tce_window.specs.Strokes.{with_strokes};
 
-use crate::answers::Piece;
-use crate::held::{HeldPage, place_on};
-use crate::pieces::MOST_PIECES;
-use arrayvec::ArrayVec;
+use crate::piece::Piece;
 use page_slots::{Stroke, StrokeName};
 use std::alloc::Global;
 use vio_num::NoMemory;
+
+/// Pages that are found by their numbers.
+pub(crate) trait PageSet {
+    // The strokes of the page of each number, if it is among these.
+    ghost strokes: { Self → ℕ → Option (List StrokeValue) };
+
+    // The strokes for which the page of each number has room.
+    ghost room: { Self → ℕ → ℕ };
+
+    // The number of places, taken or empty.
+    ghost places: { Self → ℕ };
+
+    /// Makes room for this many strokes on the page of this number.
+    fn reserve(&mut self, number: u16, count: u32) -> Result<(), NoMemory>
+        requires there { IsSome (strokes self.old number) }
+        ensures room { OnOk result (count ≤ room self.new number) }
+        ensures kept { (p : ℕ) → room self.old p ≤ room self.new p }
+        ensures strokes { (p : ℕ) → strokes self.new p ≡ strokes self.old p }
+        ensures places { places self.new ≡ places self.old };
+
+    /// Writes the stroke on the page of this number, which has room for it, and gives its place there.
+    fn write(&mut self, number: u16, stroke: Stroke) -> u32
+        requires there { IsSome (strokes self.old number) }
+        requires room { 1 ≤ room self.old number }
+        ensures index { result ≡ stroke_count (strokes self.old number) }
+        ensures strokes { (p : ℕ) → strokes self.new p ≡ with_stroke number stroke p (strokes self.old p) }
+        ensures room { (p : ℕ) → room self.old p ≡ room self.new p + (if number == p then 1 else 0) }
+        ensures places { places self.new ≡ places self.old };
+}
 
 /// The strokes of a write of these bytes, one for each piece.
 pub(crate) fn strokes_over(
@@ -19,25 +47,21 @@ pub(crate) fn strokes_over(
     name: StrokeName,
     pieces: &[Piece],
     bytes: &[u8],
-) -> Result<ArrayVec<Option<Stroke>, MOST_PIECES>, NoMemory>
-    requires few { length pieces.now ≤ 17 }
-    requires inside { All (λ piece. piece.offset + piece.len ≤ 4096) pieces.now }
-    requires len { length bytes.now ≡ held_len pieces.now }
-    ensures { IfOk result (λ strokes.
-        strokes.items ≡ map Some (piece_strokes name bytes.now pieces.now)) }
+) -> Result<Vec<Stroke>, NoMemory>
+    requires { length bytes.now ≡ held_len pieces.now }
+    ensures { IfOk result (λ strokes. strokes.items ≡ piece_strokes name bytes.now pieces.now) }
 {
-    let mut strokes = ArrayVec::new();
+    let mut strokes = Vec::with_capacity(alloc, pieces.len())?;
     let mut done = 0;
     for piece in pieces {
         let end = done + piece.len as usize;
-        let stroke = Stroke::new(alloc, name, piece.offset, &bytes[done..end])?;
-        strokes.push(Some(stroke));
+        strokes.push(Stroke::new(alloc, name, piece.offset, &bytes[done..end])?)?;
         done = end;
     }
     Ok(strokes)
 }
 
-/// How many of the pieces lie on this page.
+// Counts the pieces that lie on the page of this number.
 fn count_on(pieces: &[Piece], number: u16) -> u32
     requires { length pieces.now ≤ 17 }
     ensures { result ≡ count_on number pieces.now }
@@ -45,101 +69,55 @@ fn count_on(pieces: &[Piece], number: u16) -> u32
     pieces.iter().filter(|piece| piece.page == number).count() as u32
 }
 
-/// Makes room on a page for a stroke for each piece that lies on it.
-fn reserve_held(held: &mut Option<HeldPage>, pieces: &[Piece]) -> Result<(), NoMemory>
-    requires { length pieces.now ≤ 17 }
-    ensures strokes { (p : ℕ) → strokes_of held.new p ≡ strokes_of held.old p }
-    ensures room { OnOk result (HasRoom pieces.now held.new) }
+// Makes room on the pages for a stroke for each piece.
+fn make_room<P: PageSet>(pages: &mut P, pieces: &[Piece]) -> Result<(), NoMemory>
+    requires few { length pieces.now ≤ 17 }
+    requires there { All (λ piece. IsSome (P.strokes pages.old piece.page)) pieces.now }
+    ensures room { OnOk result (HaveRoom pieces.now (P.room pages.new)) }
+    ensures strokes { (p : ℕ) → P.strokes pages.new p ≡ P.strokes pages.old p }
+    ensures places { P.places pages.new ≡ P.places pages.old }
 {
-    match held {
-        Some(held) => held.page.reserve(count_on(pieces, held.number)),
-        None => Ok(()),
-    }
-}
-
-/// Makes room on the pages for a stroke for each piece.
-fn make_room(pages: &mut [Option<HeldPage>], pieces: &[Piece]) -> Result<(), NoMemory>
-    requires { length pieces.now ≤ 17 }
-    ensures strokes { (p : ℕ) → held_strokes pages.new p ≡ held_strokes pages.old p }
-    ensures room { OnOk result (All (HasRoom pieces.now) pages.new) }
-{
-    for held in pages.iter_mut() {
-        reserve_held(held, pieces)?;
+    for piece in pieces {
+        pages.reserve(piece.page, count_on(pieces, piece.page))?;
     }
     Ok(())
 }
 
-/// Writes a stroke on a page that has room for it, and gives its place among the page's strokes.
-fn write_held(pages: &mut [Option<HeldPage>], at: usize, stroke: Stroke) -> u32
-    requires inside { at < length pages.old }
-    requires room { 1 ≤ room_of (slice_index_or pages.old at None) }
-    ensures index { (p : ℕ) → IsSome (strokes_of (slice_index_or pages.old at None) p)
-        → result ≡ stroke_count (strokes_of (slice_index_or pages.old at None) p) }
-    ensures pages { pages.new ≡ slice_set pages.old at
-        (with_more stroke (slice_index_or pages.old at None)) }
-{
-    match &mut pages[at] {
-        Some(held) => held.page.write(stroke),
-        None => unreachable!(),
-    }
-}
-
-/// Lays a stroke on the page of this number, which has room for it, and gives its place there.
-fn lay_stroke(pages: &mut [Option<HeldPage>], number: u16, stroke: Stroke) -> u32
-    requires there { IsSome (held_strokes pages.old number) }
-    requires room { 1 ≤ held_room pages.old number }
-    ensures index { result ≡ stroke_count (held_strokes pages.old number) }
-    ensures strokes { (p : ℕ) → held_strokes pages.new p ≡
-        (if number == p then option_map (λ s. s ++ stroke ∷ [])
-        (held_strokes pages.old p) else held_strokes pages.old p) }
-    ensures room { (p : ℕ) → held_room pages.old p ≡ held_room pages.new p +
-        (if number == p then 1 else 0) }
-{
-    let place = place_on(pages, number);
-    write_held(pages, place, stroke)
-}
-
-/// Lays the strokes, one for each piece, whose `at` is then the place of its stroke on its page.
-fn lay_strokes(
-    pages: &mut [Option<HeldPage>],
-    pieces: &mut [Piece],
-    strokes: ArrayVec<Option<Stroke>, MOST_PIECES>,
-)
-    requires there { All (λ piece. IsSome (held_strokes pages.old piece.page)) pieces.old }
-    requires room { All (HasRoom pieces.old) pages.old }
-    requires each { All IsSome strokes.items }
+// Lays the strokes, one for each piece, whose `at` is then the place of its stroke on its page.
+fn lay_strokes<P: PageSet>(pages: &mut P, pieces: &mut [Piece], strokes: Vec<Stroke>)
+    requires there { All (λ piece. IsSome (P.strokes pages.old piece.page)) pieces.old }
+    requires room { HaveRoom pieces.old (P.room pages.old) }
     requires count { length strokes.items ≡ length pieces.old }
-    ensures strokes { (p : ℕ) → held_strokes pages.new p ≡ option_map
-        (λ s. s ++ strokes_on p pieces.old (those strokes.items)) (held_strokes pages.old p) }
-    ensures pieces { pieces.new ≡ numbered
-        (λ p. stroke_count (held_strokes pages.old p)) pieces.old }
+    ensures strokes { (p : ℕ) → P.strokes pages.new p ≡ with_strokes
+        (P.strokes pages.old p) (strokes_on p pieces.old strokes.items) }
+    ensures pieces { pieces.new ≡ numbered (λ p. stroke_count (P.strokes pages.old p)) pieces.old }
+    ensures places { P.places pages.new ≡ P.places pages.old }
 {
     let mut place = 0;
     for stroke in strokes {
-        let Some(stroke) = stroke else { unreachable!() };
-        pieces[place].at = lay_stroke(pages, pieces[place].page, stroke);
+        let at = pages.write(pieces[place].page, stroke);
+        pieces[place].set_place(at);
         place += 1;
     }
 }
 
 /// Lays the strokes, one for each piece, whose `at` is then the place of its stroke on its page. Where memory
 /// runs out no page has another stroke.
-pub(crate) fn lay(
-    pages: &mut [Option<HeldPage>],
+pub(crate) fn lay<P: PageSet>(
+    pages: &mut P,
     pieces: &mut [Piece],
-    strokes: ArrayVec<Option<Stroke>, MOST_PIECES>,
+    strokes: Vec<Stroke>,
 ) -> Result<(), NoMemory>
     requires few { length pieces.old ≤ 17 }
-    requires there { All (λ piece. IsSome (held_strokes pages.old piece.page)) pieces.old }
-    requires each { All IsSome strokes.items }
+    requires there { All (λ piece. IsSome (P.strokes pages.old piece.page)) pieces.old }
     requires count { length strokes.items ≡ length pieces.old }
-    ensures strokes { OnOk result ((p : ℕ)
-        → held_strokes pages.new p ≡ option_map
-        (λ s. s ++ strokes_on p pieces.old (those strokes.items)) (held_strokes pages.old p)) }
+    ensures strokes { OnOk result ((p : ℕ) → P.strokes pages.new p ≡ with_strokes
+        (P.strokes pages.old p) (strokes_on p pieces.old strokes.items)) }
     ensures pieces { OnOk result (pieces.new ≡ numbered
-        (λ p. stroke_count (held_strokes pages.old p)) pieces.old) }
-    ensures err { OnErr result ((p : ℕ) → held_strokes pages.new p ≡ held_strokes pages.old p) }
+        (λ p. stroke_count (P.strokes pages.old p)) pieces.old) }
+    ensures err { OnErr result ((p : ℕ) → P.strokes pages.new p ≡ P.strokes pages.old p) }
     ensures same { OnErr result (pieces.new ≡ pieces.old) }
+    ensures places { P.places pages.new ≡ P.places pages.old }
 {
     make_room(pages, pieces)?;
     lay_strokes(pages, pieces, strokes);

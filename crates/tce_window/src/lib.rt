@@ -3,26 +3,22 @@
 #![tactic(auto)]
 
 mod answers;
-mod gather;
-mod guest;
 mod held;
-mod laws;
+mod held_pages;
 mod laying;
 mod named;
-mod owner;
-mod pieces;
+mod piece;
 mod plain;
 mod port;
-mod puts;
+mod reader;
+mod region;
 mod table;
 mod window;
 
-pub use answers::{GetTce, HoldFault, NamedFault, OwnFault, Piece, Right, TceAnswer, TceRow};
-pub use held::{Held, HeldPage};
-pub use laws::{
-    held_pieces_are_read, kept_pieces_lie_alike, places_change_no_piece, touched_entries_follow,
-    written_pieces_are_strokes,
-};
+pub use answers::{GetTce, HoldFault, NamedFault, OwnFault, Right, TceAnswer, TceRow};
+pub use held::Held;
+pub use held_pages::HeldPage;
+pub use piece::Piece;
 pub use port::{GuestPort, OwnerPort, WindowPort};
 pub use window::PlainWindow;
 

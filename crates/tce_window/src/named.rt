@@ -6,11 +6,9 @@ ghost use Rattle.page_slots.specs.Page.{AreWithinPage};
 ghost use Rattle.tce_window.specs.Named.{same_name, last_run, last_other, covers, IsCovered, IsUncovered, IsFresh, IsStale};
 
 use page_slots::{Stroke, StrokeName};
+use vio_num::PAGE_BYTES;
 
-/// The bytes of a page.
-const PAGE_BYTES: usize = 4096;
-
-/// Whether the stroke is of this name.
+// Tells whether the stroke is of this name.
 fn is_named(stroke: &Stroke, name: StrokeName) -> bool
     ensures { result ≡ same_name stroke.now.name name }
 {
@@ -19,7 +17,7 @@ fn is_named(stroke: &Stroke, name: StrokeName) -> bool
         && (own.who.unit == name.who.unit && own.mark == name.mark)
 }
 
-/// Where the strokes of this name behind the last one of another name begin.
+// Finds where the strokes of this name behind the last one of another name begin.
 fn run_start(strokes: &[Stroke], name: StrokeName) -> usize
     ensures within { result ≤ length strokes.now }
     ensures run { last_run name strokes.now ≡ drop result strokes.now }
@@ -34,7 +32,7 @@ fn run_start(strokes: &[Stroke], name: StrokeName) -> usize
     start
 }
 
-/// Marks the places that the stroke covers.
+// Marks the places that the stroke covers.
 fn mark(covered: &mut [bool], stroke: &Stroke)
     requires { length covered.old ≡ 4096 }
     ensures { (k : ℕ) (d : Bool) → k < 4096
@@ -45,7 +43,7 @@ fn mark(covered: &mut [bool], stroke: &Stroke)
     covered[start..end].fill(true);
 }
 
-/// The first place from here to there that is not covered.
+// Finds the first place from `from` to before `to` that is not covered.
 fn first_gap(covered: &[bool], from: usize, to: usize) -> Option<usize>
     requires { to ≤ length covered.now }
     ensures gap { IfSome result (λ k. (from ≤ k) × (k < to)
@@ -61,7 +59,7 @@ fn first_gap(covered: &[bool], from: usize, to: usize) -> Option<usize>
     None
 }
 
-/// Whether the stroke alone covers the places of its page from here to there.
+// Tells whether the stroke alone covers the places of its page from `from` to before `to`.
 fn is_over(stroke: &Stroke, from: usize, to: usize) -> bool
     ensures { IsTrue result → (k : ℕ) → from ≤ k → k < to → covers k stroke.now ≡ true }
 {
@@ -69,13 +67,13 @@ fn is_over(stroke: &Stroke, from: usize, to: usize) -> bool
     start <= from && to <= start + stroke.bytes().len()
 }
 
-/// Whether the strokes cover the places of their page from here to there.
+// Tells whether the strokes cover the places of their page from `from` to before `to`.
 fn is_covered(run: &[Stroke], from: usize, to: usize) -> bool
     requires { to ≤ 4096 }
     ensures covered { IsTrue result → IsCovered run.now from to }
     ensures gap { result ≡ false → IsUncovered run.now from to }
 {
-    let mut covered = [false; PAGE_BYTES];
+    let mut covered = [false; PAGE_BYTES as usize];
     for stroke in run {
         mark(&mut covered, stroke);
     }
@@ -85,7 +83,7 @@ fn is_covered(run: &[Stroke], from: usize, to: usize) -> bool
     }
 }
 
-/// Whether the last stroke is of this name, and covers the places of the page from here to there.
+// Tells whether the last stroke is of this name, and covers the places from `from` to before `to`.
 fn is_last_over(strokes: &[Stroke], name: StrokeName, from: usize, to: usize) -> bool
     ensures { IsTrue result → IsFresh name from to (Some strokes.now) }
 {
@@ -95,8 +93,8 @@ fn is_last_over(strokes: &[Stroke], name: StrokeName, from: usize, to: usize) ->
     }
 }
 
-/// The last name but this one on a page whose last strokes of the name do not cover the places from here
-/// to there. None where they do.
+/// The last name but this one on a page whose last strokes of the name do not cover the places from `from` to
+/// before `to`. None where they do.
 pub(crate) fn stale(
     strokes: &[Stroke],
     name: StrokeName,

@@ -1,6 +1,6 @@
 // The calls of a window, of its owner and of a guest, of which the plain and the shared form are kinds.
 ghost use Rattle.std.specs.Prelude.{◌≡◌, ◌↔◌, ℕ, ◌+◌, ◌*◌, ◌<◌, ◌≤◌, [], ◌∷◌, All, Bool, false, Some, length, replicate, slice_get, IsTrue, IfOk, IfErr, IsErrOf, OnOk, OnErr};
-ghost use Rattle.tce_window.specs.PortState.{PortState, HasAllPages, contains, AreInPlace, Holds, Reads, Writes, Puts, MeetsPins, FindsInUse, FindsStale, Learns, Counts, Lays, LaysNothing, place_written, places_since, OnlyPuts, OnlyReads, OnlyWrites, OnlyHolds, OnlyGivesBack};
+ghost use Rattle.tce_window.specs.PortState.{PortState, HasAllPages, contains, AreInPlace, Holds, Reads, Writes, Puts, MeetsPins, FindsInUse, FindsStale, LaysNone, LaysNothing, HoldsNone, Lays, places_since, OnlyPuts, OnlyReads, OnlyWrites, OnlyHolds, OnlyGivesBack};
 ghost use Rattle.tce_window.specs.Port.{CountsPut, CountsOwn, CountsNamed, CountsHold, NamesFound};
 ghost use Rattle.tce_window.specs.Puts.{takes, takes_all, put_by};
 ghost use Rattle.tce_window.specs.Region.{first_page, end_page};
@@ -8,6 +8,7 @@ ghost use Rattle.tce_window.specs.Named.{AreFresh};
 ghost use Rattle.tce_window.specs.Pieces.{IsRefused, IsSharedUse};
 ghost use Rattle.tce_window.specs.Held.{HeldValue, held_strokes, either};
 ghost use Rattle.tce_window.specs.Moved.{Follows};
+ghost use Rattle.tce_window.specs.Strokes.{AllWithin};
 ghost use Rattle.tce_window.specs.Answers.{IfBusy, IfInUse, IfNamedInUse, IfStale, gives};
 
 use crate::answers::{GetTce, HoldFault, NamedFault, OwnFault, Right, TceAnswer};
@@ -38,7 +39,8 @@ pub trait OwnerPort: WindowPort {
         ensures pages { result ≡ (Self.state self.now).place.size }
         ensures least { 1 ≤ result }
         ensures most { result ≤ 256 }
-        ensures there { HasAllPages (Self.state self.now) };
+        ensures there { HasAllPages (Self.state self.now) }
+        ensures within { AllWithin (Self.state self.now).strokes };
 
     /// Makes room for at least this many values.
     fn reserve(&mut self, puts: u32) -> Result<(), NoMemory>
@@ -122,12 +124,7 @@ pub trait OwnerPort: WindowPort {
         ensures memory { IsErrOf result OwnFault.NoMemory
             → IsTrue (contains (Self.state self.old) at (length bytes.now))
             × AreInPlace (Self.state self.new) at (length bytes.now) }
-        ensures err { OnErr result (Learns Self.is_shared (Self.state self.old) (Self.state self.new)) }
-        ensures laid { OnOk result (Lays Self.is_shared
-            (place_written at (length bytes.now) (Self.state self.new)) (Self.state self.old)
-            (Self.state self.new)) }
-        ensures nothing { OnErr result
-            (LaysNothing Self.is_shared (Self.state self.old) (Self.state self.new)) }
+        ensures err { OnErr result (LaysNone Self.is_shared (Self.state self.old) (Self.state self.new)) }
         ensures spare { spare self.old ≤ spare self.new }
         ensures counts { CountsOwn result (Self.state self.old).in_use
             (Self.state self.new).in_use }
@@ -167,16 +164,12 @@ pub trait GuestPort: WindowPort {
         requires len { (1 ≤ len) × (len ≤ 65536) }
         ensures ok { IfOk result (Holds Self.is_shared (Self.state self.old) ioba len right
             (Self.state self.new)) }
-        ensures inside { IfOk result (λ held. All
-            (λ piece. piece.page < (Self.state self.old).place.size) held.pieces) }
         ensures fits { IfOk result (λ held. fits self.new held) }
-        ensures counted { IfOk result (Counts Self.is_shared (Self.state self.new)) }
         ensures cause { IfErr result (λ fault. IsRefused (Self.state self.new).values right
             (Self.state self.old).place.size ioba len fault) }
         ensures found { IfErr result (NamesFound (found self.new)) }
         ensures shared { IfErr result (IsSharedUse Self.is_shared) }
-        ensures err { OnErr result ((Self.state self.new).held_count ≡ 0) }
-        ensures known { OnErr result (Learns Self.is_shared (Self.state self.old) (Self.state self.new)) }
+        ensures err { OnErr result (HoldsNone Self.is_shared (Self.state self.old) (Self.state self.new)) }
         ensures nothing { LaysNothing Self.is_shared (Self.state self.old) (Self.state self.new) }
         ensures counts { CountsHold result (Self.state self.old).in_use
             (Self.state self.new).in_use }

@@ -129,7 +129,7 @@ impl TceTable {
     }
 }
 
-/// What an entry holds at the start: the page of its own number, with both rights.
+// Gives what an entry holds at the start: the page of its own number, with both rights.
 fn first_of(entry: u16) -> Current
     requires { entry < 256 }
     ensures version { result.version ≡ 0 }

@@ -2,7 +2,8 @@
 ghost use Rattle.std.specs.Prelude.{◌≡◌, ◌≤◌, length, IfOk};
 
 use super::UNIT;
-use crate::answers::{HoldFault, NamedFault, OwnFault, Piece, Right, TceAnswer};
+use crate::answers::{HoldFault, NamedFault, OwnFault, Right, TceAnswer};
+use crate::piece::Piece;
 use crate::port::{GuestPort, OwnerPort};
 use crate::window::PlainWindow;
 use arrayvec::ArrayVec;

@@ -1,10 +1,8 @@
 -- The values that were known are those that there are.
-use Rattle.std.proofs.Common.{◌≡◌, ℕ, IsSome, ap, length, false}
-use Rattle.tce_window.specs.Held.{held_strokes}
-use Rattle.tce_window.specs.Moved.{stroke_count}
+use Rattle.std.proofs.Common.{◌≡◌, ap, false}
 use Rattle.tce_window.specs.Pieces.{IsOfEntry, IsSharedUse}
 use Rattle.tce_window.specs.Port.{NamesFound}
-use Rattle.tce_window.proofs.Holding.{if_err_map, all_inside, none_found, ok_alone, none_shared}
+use Rattle.tce_window.proofs.Holding.{if_err_map, none_found, none_shared}
 use Rattle.tce_window.proofs.plain.PlainWindowGuestPort.hold.Goals as goal
 
 pub returns-clause-cause : goal.returns-clause-cause
@@ -14,14 +12,6 @@ returns-clause-cause c =
 
 pub returns-clause-found : goal.returns-clause-found
 returns-clause-found c = if_err_map c.hold.result IsOfEntry (NamesFound (λ _ _. ⊥)) none_found c.hold.ensures.entry
-
-pub returns-clause-counted : goal.returns-clause-counted
-returns-clause-counted c =
-    ok_alone c.hold.result (λ held. (p : ℕ) → IsSome (held_strokes held.pages p) → 0 ≡ stroke_count (held_strokes held.pages p))
-
-pub returns-clause-inside : goal.returns-clause-inside
-returns-clause-inside c =
-    all_inside c.hold.result c.hold.new.self (length c.args.self.now.pages) c.hold.ensures.size c.hold.ensures.strokes c.hold.ensures.lent
 
 pub returns-clause-shared : goal.returns-clause-shared
 returns-clause-shared c = if_err_map c.hold.result IsOfEntry (IsSharedUse false) none_shared c.hold.ensures.entry

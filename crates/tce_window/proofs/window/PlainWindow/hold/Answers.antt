@@ -1,72 +1,69 @@
 -- The pages of the pieces are in the holder's hand.
-use Rattle.std.proofs.Common.{◌≡◌, ℕ, ◌+◌, ◌<◌, length, ◌∙◌, None, true, IsSome, get_or, refl, sym, ap, cond, subst, rules, arith}
-use Rattle.tce_window.specs.Held.{held_strokes}
-use Rattle.tce_window.specs.Window.{strokes_at}
+use Rattle.std.proofs.Common.{◌≡◌, ◌+◌, ◌∙◌, List, IsSome, length, get_or, refl, sym, ap, subst, arith, rules}
+use Rattle.tce_window.specs.declared.piece.Piece.{Piece}
+use Rattle.tce_window.specs.Held.{held_strokes, FillsPlaces}
 use Rattle.tce_window.specs.Pieces.{on_page, HasStrokes}
-use Rattle.tce_window.proofs.Piecing.{touched_inside, own_page, there_of}
-use Rattle.tce_window.proofs.Reading.{touched_len}
-use Rattle.tce_window.proofs.Holding.{fills_of, tests_of, there_at, page_within, within_of}
-use Rattle.tce_window.proofs.Moving.{touched_some}
+use Rattle.tce_window.specs.Window.{strokes_at}
+use Rattle.tce_window.proofs.Holding.{Took, took, fills_of, in_hand, taken_over, tests_of, within_of}
 use Rattle.tce_window.proofs.Lending.{lent_pieces}
+use Rattle.tce_window.proofs.Laws.{touched_some}
+use Rattle.tce_window.proofs.Piecing.{there_of}
+use Rattle.tce_window.proofs.Reading.{touched_len}
 use Rattle.tce_window.proofs.window.PlainWindow.hold.Goals as goal
 
 pub invariant_of-result : goal.invariant_of-result
-invariant_of-result c = record {
-  there = λ k d less.
-      let page = (get_or c.in_ok-pieces.pieces.items k d).page in
-      let own : on_page c.in_ok-pieces.pieces.items page ≡ true = own_page c.in_ok-pieces.pieces.items k d less in
-      let at : held_strokes c.take_pages-pages.result.items page ≡ strokes_at c.args.self.now.pages page =
-      let lent : c.deref.result.now ≡ c.in_ok-pieces.pieces.items = search (rules, c.deref.ensures) in
-      let there : on_page c.deref.result.now page ≡ true = subst (λ pieces. on_page pieces page ≡ true) (sym lent) own in
-      c.take_pages-pages.ensures.taken page ∙ ap (λ b. cond b (strokes_at c.self.inside.pages.items page) None) there ∙ search rules
-      in
-      subst IsSome (sym at) (there_of (get_or c.in_ok-pieces.pieces.items k d) (strokes_at c.args.self.now.pages page) (c.in_ok-pieces.ensures.strokes k d less));
-  some = touched_some _ _ _ c.in_ok-pieces.pieces.items c.in_ok-pieces.ensures.touched;
-  inside = touched_inside _ _ _ c.in_ok-pieces.pieces.items c.in_ok-pieces.ensures.touched;
-}
+invariant_of-result c =
+    let pieces : List Piece = c.in_ok-pieces.pieces.items in
+    let pages = c.take-pages.result in
+    let old = c.args.self.now.pages in
+    let view : c.self.inside.region ≡ old = search rules in
+    let t : Took pieces pages old c.take-pages.new.self =
+    took c.deref.result.now pieces pages c.self.inside.region old c.take-pages.new.self c.deref.ensures.0 view c.take-pages.ensures.taken c.take-pages.ensures.away c.in_ok-pieces.ensures.ok.strokes (c.self.invariant.kept.all_there (search rules)) in
+    record {
+      there = λ k d less.
+          subst IsSome (sym (in_hand pieces pages (strokes_at old) k d less t.taken))
+          (there_of (get_or pieces k d) (strokes_at old (get_or pieces k d).page) (c.in_ok-pieces.ensures.ok.strokes k d less));
+      some = touched_some _ _ _ pieces c.in_ok-pieces.ensures.ok.touched;
+    }
+
+pub returns-clause-ok : goal.returns-clause-ok
+returns-clause-ok c =
+    let pieces : List Piece = c.in_ok-pieces.pieces.items in
+    let pages = c.take-pages.result in
+    let old = c.args.self.now.pages in
+    let view : c.self.inside.region ≡ old = search rules in
+    let t : Took pieces pages old c.take-pages.new.self =
+    took c.deref.result.now pieces pages c.self.inside.region old c.take-pages.new.self c.deref.ensures.0 view c.take-pages.ensures.taken c.take-pages.ensures.away c.in_ok-pieces.ensures.ok.strokes (c.self.invariant.kept.all_there (search rules)) in
+    let rows : c.self.inside.table.rows ≡ c.args.self.now.rows = search rules in
+    let whole = touched_len _ _ _ pieces c.in_ok-pieces.ensures.ok.touched in
+    record {
+      right_is = refl;
+      touched = c.in_ok-pieces.ensures.ok.touched;
+      bytes = omega (arith, whole);
+      granted = rw rows c.in_ok-pieces.ensures.ok.granted;
+      last = rw rows c.in_ok-pieces.ensures.ok.last;
+      usable = rw rows c.in_ok-pieces.ensures.ok.usable;
+      strokes = λ k d less. subst (HasStrokes (get_or pieces k d)) (sym (in_hand pieces pages (strokes_at old) k d less t.taken)) (c.in_ok-pieces.ensures.ok.strokes k d less);
+      taken = λ p. taken_over (on_page pieces p) (strokes_at old p) (held_strokes pages p) (strokes_at c.take-pages.new.self p) (t.taken p) (t.away p);
+      pages = tests_of pieces pages (strokes_at old) (length old) t.taken t.there t.within;
+      count = search rules;
+      from = refl;
+      inside = λ k d less. within_of old _ (there_of (get_or pieces k d) (strokes_at old (get_or pieces k d).page) (c.in_ok-pieces.ensures.ok.strokes k d less));
+      counted = λ shared. absurd (cc (shared));
+    }
 
 pub returns-clause-lent : goal.returns-clause-lent
 returns-clause-lent c =
-    let pieces = c.in_ok-pieces.pieces.items in
-    let pages = c.self.inside.pages.items in
-    let view : c.args.self.now.pages ≡ c.self.inside.pages.items = search rules in
-    let free : c.self.inside.held_count ≡ 0 = search rules in
-    let taken : (p : ℕ) → held_strokes c.take_pages-pages.result.items p ≡ cond (on_page c.in_ok-pieces.pieces.items p) (strokes_at c.self.inside.pages.items p) None = λ p.
-    subst (λ ps. held_strokes c.take_pages-pages.result.items p ≡ cond (on_page ps p) (strokes_at c.self.inside.pages.items p) None) c.deref.ensures.0 (c.take_pages-pages.ensures.taken p)
-    in
-    let within : (p : ℕ) → on_page c.in_ok-pieces.pieces.items p ≡ true → p < length c.self.inside.pages.items = λ p.
-    page_within (length c.self.inside.pages.items) c.in_ok-pieces.pieces.items p
-    (λ k d less. within_of c.self.inside.pages.items _ (there_of (get_or c.in_ok-pieces.pieces.items k d) (strokes_at c.self.inside.pages.items _)
-    (subst (λ ps. HasStrokes (get_or c.in_ok-pieces.pieces.items k d) (strokes_at ps (get_or c.in_ok-pieces.pieces.items k d).page)) view (c.in_ok-pieces.ensures.strokes k d less))))
-    in
-    let away : (p : ℕ) → strokes_at c.take_pages-pages.new.pages.items p ≡ cond (on_page c.in_ok-pieces.pieces.items p) None (strokes_at c.self.inside.pages.items p) = λ p.
-    subst (λ ps. strokes_at c.take_pages-pages.new.pages.items p ≡ cond (on_page ps p) None (strokes_at c.self.inside.pages.items p)) c.deref.ensures.0 (c.take_pages-pages.ensures.away p)
-    in
+    let pieces : List Piece = c.in_ok-pieces.pieces.items in
+    let pages = c.take-pages.result in
+    let old = c.args.self.now.pages in
+    let view : c.self.inside.region ≡ old = search rules in
+    let t : Took pieces pages old c.take-pages.new.self =
+    took c.deref.result.now pieces pages c.self.inside.region old c.take-pages.new.self c.deref.ensures.0 view c.take-pages.ensures.taken c.take-pages.ensures.away c.in_ok-pieces.ensures.ok.strokes (c.self.invariant.kept.all_there (search rules)) in
     let own : c.self.inside.unit ≡ c.args.self.now.unit = search rules in
     let count : c.len-self-inside.result ≡ length pieces = search rules in
+    let size : length c.take-pages.new.self ≡ length old = c.take-pages.ensures.size ∙ ap length view in
     record {
-      pieces = lent_pieces _ c.args.self.now.unit c.args.ioba (c.args.ioba + c.args.len) pieces c.in_ok-pieces.ensures.touched own refl count;
-      places = rw c.take_pages-pages.ensures.size
-          (fills_of pieces c.take_pages-pages.result.items (strokes_at c.take_pages-pages.new.pages.items) (strokes_at pages) (length pages) taken away (λ p. there_at pages p (c.self.invariant.kept.all_there free)) within);
+      pieces = lent_pieces _ c.args.self.now.unit c.args.ioba (c.args.ioba + c.args.len) pieces c.in_ok-pieces.ensures.ok.touched own refl count;
+      places = subst (λ n. FillsPlaces pages n (strokes_at c.take-pages.new.self)) (sym size) (fills_of pieces pages (strokes_at c.take-pages.new.self) (strokes_at old) (length old) t.taken t.away t.there t.within);
     }
-
-pub returns-clause-pages : goal.returns-clause-pages
-returns-clause-pages c =
-    let pieces = c.in_ok-pieces.pieces.items in
-    let pages = c.self.inside.pages.items in
-    let view : c.args.self.now.pages ≡ c.self.inside.pages.items = search rules in
-    let free : c.self.inside.held_count ≡ 0 = search rules in
-    let taken : (p : ℕ) → held_strokes c.take_pages-pages.result.items p ≡ cond (on_page c.in_ok-pieces.pieces.items p) (strokes_at c.self.inside.pages.items p) None = λ p.
-    subst (λ ps. held_strokes c.take_pages-pages.result.items p ≡ cond (on_page ps p) (strokes_at c.self.inside.pages.items p) None) c.deref.ensures.0 (c.take_pages-pages.ensures.taken p)
-    in
-    let within : (p : ℕ) → on_page c.in_ok-pieces.pieces.items p ≡ true → p < length c.self.inside.pages.items = λ p.
-    page_within (length c.self.inside.pages.items) c.in_ok-pieces.pieces.items p
-    (λ k d less. within_of c.self.inside.pages.items _ (there_of (get_or c.in_ok-pieces.pieces.items k d) (strokes_at c.self.inside.pages.items _)
-    (subst (λ ps. HasStrokes (get_or c.in_ok-pieces.pieces.items k d) (strokes_at ps (get_or c.in_ok-pieces.pieces.items k d).page)) view (c.in_ok-pieces.ensures.strokes k d less))))
-    in
-    tests_of pieces c.take_pages-pages.result.items (strokes_at pages) (length pages) taken (λ p. there_at pages p (c.self.invariant.kept.all_there free)) within
-
-pub returns-clause-bytes : goal.returns-clause-bytes
-returns-clause-bytes c =
-    let whole = touched_len _ _ _ c.in_ok-pieces.pieces.items c.in_ok-pieces.ensures.touched in
-    omega (arith, whole)

@@ -22,10 +22,16 @@ loop-done-init c = record {
   usable = λ some. absurd (omega (arith, some));
 }
 
-pub returns-clause-touched : goal.returns-clause-touched
-returns-clause-touched c =
-    subst (Touches c.args.self.now.unit c.args.ioba (c.args.ioba + c.args.len)) (append-nil c.loop-done.pieces.items)
-    (c.loop-done.invariant.touched [] (omega arith))
+pub returns-clause-ok : goal.returns-clause-ok
+returns-clause-ok c = record {
+  touched = subst (Touches c.args.self.now.unit c.args.ioba (c.args.ioba + c.args.len)) (append-nil c.loop-done.pieces.items) (c.loop-done.invariant.touched [] (omega arith));
+  granted = c.loop-done.invariant.granted;
+  last = c.loop-done.invariant.last;
+  strokes = c.loop-done.invariant.strokes;
+  usable = λ e low high. c.loop-done.invariant.usable (omega arith) e low (omega (arith, high));
+  inside = c.loop-done.invariant.inside (omega arith);
+  some = c.loop-done.invariant.some (omega arith);
+}
 
 pub loop-done-preserved : goal.loop-done-preserved
 loop-done-preserved c =
@@ -34,9 +40,9 @@ loop-done-preserved c =
     let less : c.loop-done.done < c.args.len = search rules in
     let from : c.from.result ≡ c.loop-done.done = search rules in
     let here : IsPieceAt c.args.self.now.unit (c.args.ioba + c.loop-done.done) (c.args.ioba + c.loop-done.done + (c.args.len - c.loop-done.done)) piece =
-    subst (λ k. IsPieceAt c.args.self.now.unit (c.args.ioba + k) (c.args.ioba + k + (c.args.len - c.loop-done.done)) piece) from c.in_ok-piece.ensures.piece
+    subst (λ k. IsPieceAt c.args.self.now.unit (c.args.ioba + k) (c.args.ioba + k + (c.args.len - c.loop-done.done)) piece) from c.in_ok-piece.ensures.ok.piece_is
     in
-    let inside : (c.args.ioba + c.loop-done.done) / 4096 < length c.args.self.now.pages = subst (λ k. (c.args.ioba + k) / 4096 < length c.args.self.now.pages) from c.in_ok-piece.ensures.inside in
+    let inside : (c.args.ioba + c.loop-done.done) / 4096 < length c.args.self.now.pages = subst (λ k. (c.args.ioba + k) / 4096 < length c.args.self.now.pages) from c.in_ok-piece.ensures.ok.inside in
     let near : c.args.ioba + c.loop-done.done < 2 ^ 20 = subst (λ k. c.args.ioba + k < 2 ^ 20) from c.in_ok-piece.ensures.near in
     let bytes : piece_bytes (c.args.ioba + c.loop-done.done) (c.args.len - c.loop-done.done) piece.len = piece_len _ (c.args.ioba + c.loop-done.done) (c.args.len - c.loop-done.done) piece here (omega (arith, less)) in
     let longer : length c.push.new.self.items ≡ length c.loop-done.pieces.items + 1 = ap length c.push.ensures.items ∙ length-append c.loop-done.pieces.items (piece ∷ []) in
@@ -50,17 +56,13 @@ loop-done-preserved c =
       touched = λ rest t.
           rw c.push.ensures.items (touches_more c.args.self.now.unit c.args.ioba c.args.len c.loop-done.done c.loop-done.pieces.items rest piece less here c.loop-done.invariant.touched
           (subst (λ k. Touches c.args.self.now.unit (c.args.ioba + (c.loop-done.done + k)) (c.args.ioba + c.args.len) rest) size t));
-      granted = rw c.push.ensures.items (All-push (IsGranted (values_of c.args.self.now.rows) c.args.right) c.loop-done.pieces.items piece c.loop-done.invariant.granted c.in_ok-piece.ensures.granted);
-      last = rw c.push.ensures.items (All-push (IsLast (values_of c.args.self.now.rows)) c.loop-done.pieces.items piece c.loop-done.invariant.last c.in_ok-piece.ensures.last);
-      strokes = rw c.push.ensures.items (All-push (λ piece. HasStrokes piece (strokes_at c.args.self.now.pages piece.page)) c.loop-done.pieces.items piece c.loop-done.invariant.strokes c.in_ok-piece.ensures.strokes);
+      granted = rw c.push.ensures.items (All-push (IsGranted (values_of c.args.self.now.rows) c.args.right) c.loop-done.pieces.items piece c.loop-done.invariant.granted c.in_ok-piece.ensures.ok.granted);
+      last = rw c.push.ensures.items (All-push (IsLast (values_of c.args.self.now.rows)) c.loop-done.pieces.items piece c.loop-done.invariant.last c.in_ok-piece.ensures.ok.last);
+      strokes = rw c.push.ensures.items (All-push (λ piece. HasStrokes piece (strokes_at c.args.self.now.pages piece.page)) c.loop-done.pieces.items piece c.loop-done.invariant.strokes c.in_ok-piece.ensures.ok.strokes);
       usable = λ some. subst (λ k. (e : ℕ) → c.args.ioba / 4096 ≤ e → e * 4096 < c.args.ioba + (c.loop-done.done + k) → (e < length c.args.self.now.pages) × MayUse (values_of c.args.self.now.rows) c.args.right e) (sym size)
           (usable_more (values_of c.args.self.now.rows) c.args.right (length c.args.self.now.pages) c.args.ioba c.loop-done.done piece.len c.loop-done.invariant.usable inside
-          (subst (λ k. MayUse (values_of c.args.self.now.rows) c.args.right ((c.args.ioba + k) / 4096)) from c.in_ok-piece.ensures.usable) bytes.entry);
+          (subst (λ k. MayUse (values_of c.args.self.now.rows) c.args.right ((c.args.ioba + k) / 4096)) from c.in_ok-piece.ensures.ok.usable) bytes.entry);
     }
-
-pub returns-clause-usable : goal.returns-clause-usable
-returns-clause-usable c =
-    λ e low high. c.loop-done.invariant.usable (omega arith) e low (omega (arith, high))
 
 pub returns-in_err-piece-clause-cause : goal.returns-in_err-piece-clause-cause
 returns-in_err-piece-clause-cause c =

@@ -1,5 +1,0 @@
-use Rattle.std.proofs.Common.{◌≡◌, [], replicate, Some}
-use Rattle.tce_window.proofs.window.zero_pages.Given as goal
-
-abbrev pub invariant-loop-page : goal.invariant-loop-page
-invariant-loop-page l = l.pages.items ≡ replicate l._page (Some (record { strokes = []; spare = 0 }))
