@@ -4,15 +4,14 @@ use Rattle.std.proofs.lemmas.List.Elements.{All-head, All-tail, All-weaker}
 use Rattle.vio_num.specs.declared.names.UnitId.{UnitId}
 use Rattle.page_slots.specs.Stroke.{StrokeValue}
 use Rattle.page_slots.specs.declared.stroke.StrokeName.{StrokeName}
-use Rattle.tce_window.specs.declared.answers.Piece.{Piece}
+use Rattle.tce_window.specs.declared.piece.Piece.{Piece}
 use Rattle.tce_window.specs.Held.{either}
 use Rattle.tce_window.specs.declared.answers.Right.TheVariants.{Write}
 use Rattle.tce_window.specs.Pieces.{on_page, HasStrokes, IsGranted, Touches}
 use Rattle.tce_window.specs.Port.{Grows, TakenOver}
 use Rattle.tce_window.specs.Moved.{piece_strokes, strokes_on, places_from, places_on, stroke_count, numbered, stroke_of, IsNamed, bytes_of, IsLaid, IsWrittenTo}
 use Rattle.std.proofs.lemmas.Bool.{eq-eqb, ne_eqb}
-use Rattle.tce_window.proofs.Values.{by_number}
-use Rattle.tce_window.proofs.Moving.{counted, kept_all, numbered_kept, numbered_behind, written_to}
+use Rattle.tce_window.proofs.Laws.{by_number, counted, kept_all, numbered_kept, numbered_behind, written_to}
 
 -- a page that was held and given back with the strokes that it had
 pub page_back : (is_shared : Bool) (old held mid new : Option (List StrokeValue)) → TakenOver is_shared old held mid → new ≡ either mid held → Grows is_shared old new
@@ -27,10 +26,6 @@ page_back is_shared old None mid new taken e = subst (Grows is_shared old) (sym 
 pub held_back : (is_shared : Bool) (old held mid other : Option (List StrokeValue)) → TakenOver is_shared old held mid → IsSome held → either mid other ≡ other
 held_back is_shared old (Some held) mid other taken there = ap (λ m. either m other) taken.1
 held_back is_shared old None mid other taken there = absurd (cc (there))
-
--- functions that agree everywhere
-pub same_lists : (f g : ℕ → List ℕ) → ((e : ℕ) → f e ≡ g e) → f ≡ g
-same_lists f g h = λ i e. h e i
 
 -- where no piece lies no stroke is laid
 none_first : (here rest : Bool) (stroke : StrokeValue) (more : List StrokeValue) → (here || rest) ≡ false → (rest ≡ false → more ≡ []) → cond here (stroke ∷ more) more ≡ []
@@ -73,6 +68,13 @@ page_laid is_shared old None mid after new more taken none laid e = e ∙ ap (ei
 has_some : (piece : Piece) (strokes : Option (List StrokeValue)) → HasStrokes piece strokes → IsSome strokes
 has_some piece (Some strokes) h = search rules
 has_some piece None h = absurd h
+
+-- pieces of pages that are back as they were held have the strokes that they had
+pub strokes_back : (pieces : List Piece) (held new : ℕ → Option (List StrokeValue)) → ((p : ℕ) → IsSome (held p) → new p ≡ held p)
+    → All (λ piece. HasStrokes piece (held piece.page)) pieces → All (λ piece. HasStrokes piece (new piece.page)) pieces
+strokes_back pieces held new same =
+    All-weaker (λ piece. HasStrokes piece (held piece.page)) (λ piece. HasStrokes piece (new piece.page))
+    (λ piece h. subst (HasStrokes piece) (sym (same piece.page (has_some piece (held piece.page) h))) h) pieces
 
 -- a range that was taken, written through and given back, and what its pages were meanwhile
 pub record Written (is_shared : Bool) (name : StrokeName) (bytes : List ℕ) (pieces : List Piece) (old held mid after new : ℕ → Option (List StrokeValue)) : Type 0 where

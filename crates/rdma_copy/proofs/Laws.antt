@@ -1,5 +1,6 @@
--- A lawful copy stays lawful: what is learned later of its windows comes behind what was known.
-use Rattle.std.proofs.Common.{◌≡◌, ℕ, ◌+◌, ◌≤◌, List, [], ◌∷◌, ◌++◌, Bool, true, false, Option, Some, None, length, take, drop, flat_map, All, slice_get, option_and_then, refl, sym, ◌∙◌, ap, ap₂, subst, arith, append-nil, append_assoc, length-append}
+-- A lawful copy stays lawful: what is learned later of its windows comes behind what was known. And what a range
+-- that was held, written through and given back leaves on its pages (`Written`).
+use Rattle.std.proofs.Common.{◌≡◌, ℕ, ◌≤◌, List, [], ◌∷◌, ◌++◌, Bool, true, false, Option, Some, None, length, take, drop, flat_map, All, slice_get, option_and_then, refl, sym, ◌∙◌, ap, ap₂, subst, arith, append-nil, append_assoc, length-append}
 use Rattle.std.proofs.lemmas.List.{get_or_append_left, take-append-le}
 use Rattle.std.proofs.lemmas.List.Elements.{All-head, All-tail, All-weaker}
 use Rattle.std.proofs.lemmas.Option.{slice_get_within, slice_get-get_or, get_or_from_slice_get}
@@ -7,11 +8,12 @@ use Rattle.page_slots.specs.Stroke.{StrokeValue}
 use Rattle.page_slots.specs.Page.{left_by}
 use Rattle.page_slots.specs.declared.stroke.StrokeName.{StrokeName}
 use Rattle.vio_num.specs.declared.names.UnitId.{UnitId}
-use Rattle.tce_window.specs.declared.answers.Piece.{Piece}
+use Rattle.tce_window.specs.declared.piece.Piece.{Piece}
 use Rattle.tce_window.specs.declared.answers.Right.{Right}
 use Rattle.tce_window.specs.Pieces.{IsGranted}
 use Rattle.tce_window.specs.Port.{Begins, Later, Grows}
 use Rattle.tce_window.specs.Moved.{IsReadFrom, IsWrittenTo, IsNamed, bytes_of, left_at, read_bytes, stroke_count, stroke_of}
+pub use Rattle.rdma_copy.proofs.Holding.{behind, Written, laid_on, written_back, places_laid}
 use Rattle.rdma_copy.specs.declared.copy.CopyRecord.{CopyRecord}
 use Rattle.rdma_copy.specs.Copy.{Side, IsLawful, SideGrows}
 

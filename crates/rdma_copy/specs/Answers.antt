@@ -5,7 +5,7 @@ use Rattle.tce_window.specs.declared.answers.HoldFault.{HoldFault}
 use Rattle.tce_window.specs.Pieces.{IsOfRange}
 use Rattle.rdma_copy.specs.declared.copy.CopyRecord.{CopyRecord}
 use Rattle.rdma_copy.specs.declared.copy.CopyAnswer.{CopyAnswer}
-use Rattle.rdma_copy.specs.declared.copy.CopyAnswer.TheVariants.{Copied, Parameter, SourceParm, DestParm, Busy, NoMemory}
+use Rattle.rdma_copy.specs.declared.copy.CopyAnswer.TheVariants.{Copied, SourceParm, DestParm, Busy, NoMemory}
 
 -- P of the record, where it was copied
 abbrev pub IfCopied : CopyAnswer → (CopyRecord → Type 0) → Type 0

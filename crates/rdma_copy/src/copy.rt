@@ -1,13 +1,10 @@
 // A copy holds both ranges, then takes memory for what it will write, then writes. `IsLawful` in
 // specs/Copy.antt is what a copy that was made is.
-ghost use Rattle.std.specs.Prelude.{◌≡◌, ◌↔◌, ℕ, ◌<◌, ◌≤◌, ◌⊎◌, [], All, length};
-ghost use Rattle.std.specs.List.{flat_map};
+ghost use Rattle.std.specs.Prelude.{◌≡◌, ◌↔◌, ◌<◌, ◌≤◌, ◌⊎◌, [], length};
 ghost use Rattle.tce_window.specs.declared.answers.Right.TheVariants.{Read, Write};
-ghost use Rattle.tce_window.specs.PortState.{Learns, Lays, LaysNothing, OnlyHolds};
-ghost use Rattle.tce_window.specs.Pieces.{IsUsable, IsLast, IsRefused, IsOfEntry};
-ghost use Rattle.tce_window.specs.Held.{held_len, joined};
-ghost use Rattle.tce_window.specs.Moved.{piece_strokes, places_on, read_bytes, IsLaid, IsWrittenTo};
-ghost use Rattle.rdma_copy.specs.Copy.{IsLawful, side};
+ghost use Rattle.tce_window.specs.PortState.{LaysNone};
+ghost use Rattle.tce_window.specs.Held.{held_len};
+ghost use Rattle.rdma_copy.specs.Copies.{Copies, Fills, MayHold, OnlyCopies, RefusesRange};
 ghost use Rattle.rdma_copy.specs.Answers.{IfCopied, IsCopied, OnHeld, OnRefused, IfSourceParm, IfDestParm, IfBusy, IsBusySide, CountsCopy, CountsTarget};
 
 use arrayvec::ArrayVec;
@@ -62,43 +59,24 @@ pub fn copy_rdma<S: GuestPort, D: GuestPort>(
 ) -> CopyAnswer
     requires source_free { (S.state src.old).held_count ≡ 0 }
     requires target_free { (D.state dst.old).held_count ≡ 0 }
-    ensures told { IfCopied result (λ copy. (copy.name ≡ name) × (copy.len ≡ len)) }
-    ensures lawful { IfCopied result (λ copy. IsLawful copy
-        (side (S.state src.old).place.unit (S.state src.new).values (S.state src.new).strokes) s_ioba
-        (side (D.state dst.old).place.unit (D.state dst.new).values (D.state dst.new).strokes) d_ioba) }
-    ensures last { IfCopied result (λ copy. All (IsLast (S.state src.new).values) copy.from.items
-        × All (IsLast (D.state dst.new).values) copy.to.items) }
-    ensures laid { IfCopied result (λ copy. (p : ℕ) → IsLaid D.is_shared p copy.to.items
-        (piece_strokes name (flat_map (read_bytes (S.state src.new).strokes) copy.from.items) copy.to.items)
-        ((D.state dst.old).strokes p) ((D.state dst.new).strokes p)) }
-    ensures refused { OnRefused result (Learns D.is_shared (D.state dst.old) (D.state dst.new)) }
-    ensures places { IfCopied result (λ copy.
-        Lays D.is_shared (λ p. places_on p copy.to.items) (D.state dst.old) (D.state dst.new)) }
-    ensures no_places { OnRefused result
-        (LaysNothing D.is_shared (D.state dst.old) (D.state dst.new)) }
-    ensures read { Learns S.is_shared (S.state src.old) (S.state src.new) }
-    ensures source_places { LaysNothing S.is_shared (S.state src.old) (S.state src.new) }
-    ensures empty { len ≡ 0 → IsCopied result
-        (λ copy. (copy.from.items ≡ []) × (copy.to.items ≡ [])) }
+    ensures copied { IfCopied result
+        (Copies D.is_shared (S.state src.new) (D.state dst.old) (D.state dst.new) s_ioba d_ioba len name) }
+    ensures refused { OnRefused result (LaysNone D.is_shared (D.state dst.old) (D.state dst.new)) }
+    ensures read { LaysNone S.is_shared (S.state src.old) (S.state src.new) }
+    ensures empty { len ≡ 0 → IsCopied result (λ copy. (copy.from.items ≡ []) × (copy.to.items ≡ [])) }
     ensures parameter { (result ≡ CopyAnswer.Parameter) ↔ (MOST_BYTES < len) }
-    ensures held { OnHeld result (1 ≤ len →
-        IsUsable (S.state src.new).values Read (S.state src.old).place.size s_ioba len
-        × IsUsable (D.state dst.new).values Write (D.state dst.old).place.size d_ioba len) }
-    ensures source_parm { IfSourceParm result
-        (λ fault. (1 ≤ len) × (len ≤ MOST_BYTES) × IsOfEntry fault
-        × IsRefused (S.state src.new).values Read (S.state src.old).place.size s_ioba len fault) }
-    ensures dest_parm { IfDestParm result (λ fault. (1 ≤ len) × (len ≤ MOST_BYTES) × IsOfEntry fault
-        × IsRefused (D.state dst.new).values Write (D.state dst.old).place.size d_ioba len fault
-        × IsUsable (S.state src.new).values Read (S.state src.old).place.size s_ioba len) }
+    ensures held { OnHeld result (1 ≤ len → MayHold (S.state src.new) Read s_ioba len
+        × MayHold (D.state dst.new) Write d_ioba len) }
+    ensures source_parm { IfSourceParm result (RefusesRange (S.state src.new) Read s_ioba len) }
+    ensures dest_parm { IfDestParm result (λ fault. RefusesRange (D.state dst.new) Write d_ioba len fault
+        × MayHold (S.state src.new) Read s_ioba len) }
     ensures busy { IfBusy result (λ page word. (1 ≤ len) × (len ≤ MOST_BYTES)
-        × IsUsable (S.state src.new).values Read (S.state src.old).place.size s_ioba len
+        × MayHold (S.state src.new) Read s_ioba len
         × (IsBusySide S.is_shared (S.state src.new).values s_ioba len page (S.found src.new page word)
         ⊎ (IsBusySide D.is_shared (D.state dst.new).values d_ioba len page (D.found dst.new page word)
-        × IsUsable (D.state dst.new).values Write (D.state dst.old).place.size d_ioba len))) }
-    ensures source_free { (S.state src.new).held_count ≡ 0 }
-    ensures target_free { (D.state dst.new).held_count ≡ 0 }
-    ensures source_rest { OnlyHolds S.is_shared (S.state src.old) (S.state src.new) }
-    ensures target_rest { OnlyHolds D.is_shared (D.state dst.old) (D.state dst.new) }
+        × MayHold (D.state dst.new) Write d_ioba len))) }
+    ensures source { OnlyCopies S.is_shared (S.state src.old) (S.state src.new) }
+    ensures target { OnlyCopies D.is_shared (D.state dst.old) (D.state dst.new) }
     ensures counts { CountsCopy result
         (S.state src.old).in_use (S.state src.new).in_use (D.state dst.old).in_use (D.state dst.new).in_use }
 {
@@ -124,8 +102,8 @@ pub fn copy_rdma<S: GuestPort, D: GuestPort>(
     answer
 }
 
-/// Copies the bytes of the source's range, `len` of them, over the target's. Every answer but `Copied` lays no
-/// stroke.
+// Copies the bytes of the source's range, `len` of them, over the target's. Every answer but `Copied` lays no
+// stroke.
 fn copy_held<D: GuestPort>(
     alloc: Global,
     source: &Held,
@@ -137,34 +115,16 @@ fn copy_held<D: GuestPort>(
     requires free { (D.state dst.old).held_count ≡ 0 }
     requires some { (1 ≤ len) × (len ≤ 65536) }
     requires source { held_len source.now.pieces ≡ len }
-    ensures told { IfCopied result (λ copy. (copy.name ≡ name) × (copy.len ≡ len)) }
-    ensures from { IfCopied result (λ copy. copy.from.items ≡ source.now.pieces) }
-    ensures bytes { IfCopied result
-        (λ copy. length (joined source.now.pages source.now.pieces) ≡ len) }
-    ensures written { IfCopied result
-        (λ copy. IsWrittenTo (D.state dst.old).place.unit (D.state dst.new).values
-        (D.state dst.new).strokes
-        d_ioba name copy.to.items (joined source.now.pages source.now.pieces)) }
-    ensures last { IfCopied result (λ copy. All (IsLast (D.state dst.new).values) copy.to.items) }
-    ensures laid { IfCopied result (λ copy. (p : ℕ) → IsLaid D.is_shared p copy.to.items
-        (piece_strokes name (joined source.now.pages source.now.pieces) copy.to.items)
-        ((D.state dst.old).strokes p) ((D.state dst.new).strokes p)) }
-    ensures refused { OnRefused result (Learns D.is_shared (D.state dst.old) (D.state dst.new)) }
-    ensures places { IfCopied result (λ copy.
-        Lays D.is_shared (λ p. places_on p copy.to.items) (D.state dst.old) (D.state dst.new)) }
-    ensures no_places { OnRefused result
-        (LaysNothing D.is_shared (D.state dst.old) (D.state dst.new)) }
+    ensures copied { IfCopied result
+        (Fills D.is_shared source.now (D.state dst.old) (D.state dst.new) d_ioba len name) }
+    ensures refused { OnRefused result (LaysNone D.is_shared (D.state dst.old) (D.state dst.new)) }
     ensures parameter { ¬ (result ≡ CopyAnswer.Parameter) }
-    ensures held { OnHeld result (IsUsable (D.state dst.new).values Write
-        (D.state dst.old).place.size d_ioba len) }
+    ensures held { OnHeld result (MayHold (D.state dst.new) Write d_ioba len) }
     ensures source_parm { IfSourceParm result (λ _. ⊥) }
-    ensures dest_parm { IfDestParm result (λ fault. IsOfEntry fault
-        × IsRefused (D.state dst.new).values Write (D.state dst.old).place.size d_ioba len fault) }
-    ensures busy { IfBusy result (λ page word.
-        IsBusySide D.is_shared (D.state dst.new).values d_ioba len page (D.found dst.new page word)
-        × IsUsable (D.state dst.new).values Write (D.state dst.old).place.size d_ioba len) }
-    ensures free { (D.state dst.new).held_count ≡ 0 }
-    ensures rest { OnlyHolds D.is_shared (D.state dst.old) (D.state dst.new) }
+    ensures dest_parm { IfDestParm result (RefusesRange (D.state dst.new) Write d_ioba len) }
+    ensures busy { IfBusy result (λ page word. MayHold (D.state dst.new) Write d_ioba len
+        × IsBusySide D.is_shared (D.state dst.new).values d_ioba len page (D.found dst.new page word)) }
+    ensures target { OnlyCopies D.is_shared (D.state dst.old) (D.state dst.new) }
     ensures counts { CountsTarget result (D.state dst.old).in_use (D.state dst.new).in_use }
 {
     let mut target = match dst.hold(d_ioba, len, Right::Write) {
@@ -186,7 +146,7 @@ fn copy_held<D: GuestPort>(
     }
 }
 
-/// The pieces, in an array of their own.
+// Keeps the pieces in an array of their own.
 fn kept(pieces: &[Piece]) -> ArrayVec<Piece, 17>
     requires { length pieces.now ≤ 17 }
     ensures { result.items ≡ pieces.now }

@@ -1,6 +1,6 @@
 // Ports that answer that a page is in use.
 ghost use Rattle.std.specs.Prelude.{◌≡◌, ◌⊎◌, ◌<◌, ℕ, length, get_or};
-ghost use Rattle.tce_window.specs.declared.answers.Piece.{Piece};
+ghost use Rattle.tce_window.specs.declared.piece.Piece.{Piece};
 
 use super::{COPIER, SOURCE, TARGET, is_blank, window};
 use crate::copy::{CopyAnswer, copy_rdma};

@@ -1,6 +1,6 @@
 use Rattle.std.proofs.Common.{rules, true, refl, ◌≡◌, ℕ, ◌+◌, ◌/◌, ◌<◌, ◌≤◌, All, List, [], ◌∷◌, length, get_or, arith, sym, subst, ◌∙◌}
 use Rattle.vio_num.specs.declared.names.UnitId.{UnitId}
-use Rattle.tce_window.specs.declared.answers.Piece.{Piece}
+use Rattle.tce_window.specs.declared.piece.Piece.{Piece}
 use Rattle.tce_window.specs.declared.answers.HoldFault.{HoldFault}
 use Rattle.tce_window.specs.declared.answers.HoldFault.TheVariants.{Past, NotGranted, InUse}
 use Rattle.tce_window.specs.declared.answers.Right.{Right}
@@ -46,7 +46,7 @@ returns-in-Ok-clause-cause g c =
     let Refused : (ℕ → List ℕ) → Type 0 = λ v.
     (c.first_page-page.result < n) × IsOfRange v c.args.ioba c.args.len c.first_page-page.result × AreUsable v c.args.right n (c.args.ioba / 4096) (end_entry c.args.ioba c.args.len) in
     let first = first_of_range _ c.args.right n c.args.ioba c.args.len c.first_page-page.result _ held.pieces c.requires.len.0
-    (omega (arith, ok.bytes, c.requires.len.0)) c.first_page-page.ensures ok.touched ok.granted ok.last c.in-Ok.ensures.inside in
+    (omega (arith, ok.bytes, c.requires.len.0)) c.first_page-page.ensures ok.touched ok.granted ok.last ok.inside in
     subst Refused (sym (c.give_back.ensures.rest.values)) (first.0, first.1, ok.usable)
 
 pub returns-in-Ok-clause-rest : goal.returns-in-Ok-clause-rest
