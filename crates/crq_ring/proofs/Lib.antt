@@ -1,3 +1,10 @@
 pub mod Dropping
+pub mod Laws
+pub mod RingActs
+pub mod RingAllows
+pub mod RingKeeps
+pub mod RingRows
+pub mod RingSeats
+pub mod RingValues
 pub mod Sessions
 pub mod Values

@@ -1,5 +1,12 @@
 pub mod Answers
+pub mod Ends
+pub mod EndsKept
 pub mod Kept
 pub mod Pipe
 pub mod Port
+pub mod Ring
+pub mod RingCuts
+pub mod RingRule
+pub mod RingSteps
 pub mod Sessions
+pub mod SharedPipe

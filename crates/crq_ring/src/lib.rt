@@ -2,14 +2,24 @@
 // its plain form, which keeps lists and serves one thread.
 #![tactic(auto)]
 
+mod ends;
 mod pipe;
 mod port;
 mod records;
+mod ring;
 mod rows;
+mod shared;
+mod steps;
+mod view;
 
+pub use ends::{Front, RecvEnd, Room, SendEnd};
 pub use pipe::PlainPipe;
 pub use port::{CrqPort, Poll, Put};
+pub use ring::{OpenedRing, Ring};
 pub use rows::{DropRow, PipeRow};
+pub use shared::SharedPipe;
 
+#[cfg(test)]
+mod ring_tests;
 #[cfg(test)]
 mod tests;

@@ -23,16 +23,16 @@ const SESSIONS: u64 = 1 << 60;
 /// The plain form of a queue of one direction. Each row is kept with the number of its session.
 #[derive(Debug, Drop)]
 pub struct PlainPipe {
-    slots: u32,
-    session: u64,
-    renewals: u64,
-    sent: Vec<PipeRow>,
-    sent_from: usize,
-    taken: Vec<PipeRow>,
-    taken_from: usize,
-    drops: Vec<DropRow>,
-    full: u64,
-    empty: u64,
+    pub(crate) slots: u32,
+    pub(crate) session: u64,
+    pub(crate) renewals: u64,
+    pub(crate) sent: Vec<PipeRow>,
+    pub(crate) sent_from: usize,
+    pub(crate) taken: Vec<PipeRow>,
+    pub(crate) taken_from: usize,
+    pub(crate) drops: Vec<DropRow>,
+    pub(crate) full: u64,
+    pub(crate) empty: u64,
 }
 
 impl Model for PlainPipe {

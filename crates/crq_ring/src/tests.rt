@@ -107,12 +107,13 @@ fn sessions_of_a_queue(rt: HostRuntime) -> Result<(), Fail> {
 }
 
 /// Puts an entry and takes it again.
-fn pass<P: CrqPort>(port: &mut P, entry: Entry) -> (Put, Poll)
+pub fn pass<P: CrqPort>(port: &mut P, entry: Entry) -> (Put, Poll)
     requires ready { (P.state port.old).ready ≡ true }
     requires puts { 0 < (P.state port.old).spare_puts }
     requires polls { 0 < (P.state port.old).spare_polls }
     requires used { 2 ^ 63 ≤ entry.high }
-    ensures { (P.state port.new).ready ≡ true }
+    ensures ready { (P.state port.new).ready ≡ true }
+    ensures place { (P.state port.new).place ≡ (P.state port.old).place }
 {
     let put = port.put(entry);
     let poll = port.poll();

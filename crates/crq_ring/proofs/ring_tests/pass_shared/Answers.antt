@@ -1,0 +1,18 @@
+use Rattle.std.proofs.Common.{rules, ap, slice_index}
+use Rattle.crq_ring.specs.Port.{PortPlace}
+use Rattle.crq_ring.proofs.Laws.{sender_stays, receiver_stays}
+use Rattle.crq_ring.proofs.ring_tests.pass_shared.Goals as goal
+
+pub returns-clause-send : goal.returns-clause-send
+returns-clause-send c =
+    let place = c.pass.ensures.place in
+    let same = ap (λ (p : PortPlace). slice_index p.lenders 0) place in
+    let ring = sender_stays c.pass.new.port _ place in
+    search (rules, same, ring)
+
+pub returns-clause-recv : goal.returns-clause-recv
+returns-clause-recv c =
+    let place = c.pass.ensures.place in
+    let same = ap (λ (p : PortPlace). slice_index p.lenders 1) place in
+    let ring = receiver_stays c.pass.new.port _ place in
+    search (rules, same, ring)
