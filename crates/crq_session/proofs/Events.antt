@@ -15,7 +15,7 @@ later end r n = record end { registered = r; spare = n }
 -- a freed queue's event was put, is kept or was lost
 pub told : (answer : EventAnswer) (event : Entry) (old new : EndState) (r : Bool) (n : ℕ)
     → OnNothing answer (Loses false (later old r n) new) → OnPut answer (Puts false (later old r n) event new)
-    → IfKept answer (λ number held. FindsFull false (later old r n) number held new) → IsKeptBy answer event new.kept
+    → IfKept answer (FindsFull false (later old r n) new) → IsKeptBy answer event new.kept
     → (Puts false old event new × (new.kept ≡ None)) ⊎ (Keeps false old event new ⊎ (Loses false old new × (new.kept ≡ None)))
 told Nothing event old new r n l p k is = inr (inr (
   record {
@@ -45,8 +45,8 @@ some_of kept event e = search (rules, e)
 
 -- an event that is still kept
 pub still : (answer : EventAnswer) (event : Entry) (old new : EndState) → old.kept ≡ Some event
-    → IfKept answer (λ number held. FindsFull false old number held new) → IsKeptBy answer event new.kept
-    → IfKept answer (λ number held. StillKept false old number held new)
+    → IfKept answer (FindsFull false old new) → IsKeptBy answer event new.kept
+    → IfKept answer (StillKept false old new)
 still Nothing event old new e k is = tt
 still Put event old new e k is = tt
 still (Kept number held) event old new e k is = record { some = some_of old.kept event e; kept = is ∙ sym e; full = k }

@@ -2,7 +2,7 @@
 use Rattle.std.proofs.Common.{ℕ, ◌+◌, ◌<◌, ◌≤◌, min, arith, Result, Ok, Err, OnOk}
 use Rattle.crq_ring.specs.Pipe.{HasRoom}
 use Rattle.crq_session.specs.declared.side.PlainSide.{PlainSide}
-use Rattle.crq_session.specs.Side.{spare_of, Spends, OnlyReservesSide}
+use Rattle.crq_session.specs.Side.{spare_of, Spends, KeepsSide}
 
 min_first : (a b c : ℕ) → 0 < min a (min b c) → 0 < a
 min_first a b c h = omega (arith, h)
@@ -42,7 +42,7 @@ spare_falls own partner own' partner' s =
     min_falls partner.queue.room.puts own.queue.room.polls own.queue.room.renewals
     partner'.queue.room.puts own'.queue.room.polls own'.queue.room.renewals s.puts s.polls s.renewals
 
-pub spare_kept : (own partner own' partner' : PlainSide) → OnlyReservesSide own own' → OnlyReservesSide partner partner' → spare_of own partner ≤ spare_of own' partner'
+pub spare_kept : (own partner own' partner' : PlainSide) → KeepsSide own own' → KeepsSide partner partner' → spare_of own partner ≤ spare_of own' partner'
 unfolding spare_of
 spare_kept own partner own' partner' o p =
     min_kept partner.queue.room.puts own.queue.room.polls own.queue.room.renewals

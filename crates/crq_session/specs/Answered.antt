@@ -3,10 +3,10 @@ use Rattle.std.specs.Prelude.{◌≡◌, ◌⊎◌, ℕ, ◌+◌, ◌<◌, ◌�
 use Rattle.std.specs.List.{slice_get}
 use Rattle.vio_num.specs.declared.entry.Entry.{Entry}
 use Rattle.vio_num.specs.Counts.{Rose}
-use Rattle.vio_num.specs.Entry.{first_byte}
+use Rattle.vio_num.specs.Entry.{first_byte, partner_failed, partner_freed}
 use Rattle.vio_num.specs.Queue.{LawfulDrop}
 use Rattle.crq_ring.specs.Sessions.{of_session, recorded}
-use Rattle.crq_session.specs.Control.{ShowsClosed, ShowsInside, control_word}
+use Rattle.crq_session.specs.Control.{ShowsClosed, ShowsInside, control_word, fits_queue}
 use Rattle.crq_session.specs.EndState.{EndState}
 
 -- what was put into the partner's queue in its present session, and what the partner took of it
@@ -36,7 +36,7 @@ pub record Puts (shared : Bool) (old : EndState) (entry : Entry) (new : EndState
   pub free_slot : shared ≡ false → length (sent_now old new.counts.partner_session) < length (partner_took old new.counts.partner_session) + old.place.partner_slots
 
 -- The entry of this number found its slot full, with this high half in it.
-pub record FindsFull (shared : Bool) (old : EndState) (number held : ℕ) (new : EndState) : Type 0 where
+pub record FindsFull (shared : Bool) (old new : EndState) (number held : ℕ) : Type 0 where
   pub number_is : number ≡ length (sent_now old new.counts.partner_session)
   pub lawful : LawfulDrop (sent_now old new.counts.partner_session) old.place.partner_slots number held
   pub sent : new.sent ≡ old.sent
@@ -51,10 +51,25 @@ pub record MeetsClosed (shared : Bool) (old new : EndState) : Type 0 where
   pub partner : shared ≡ false → old.place.partner_registered ≡ false
 
 -- This was the word.
-pub record FindsClosed (shared : Bool) (old : EndState) (word : ℕ) (new : EndState) : Type 0 where
+pub record FindsClosed (shared : Bool) (old new : EndState) (word : ℕ) : Type 0 where
   pub meets : MeetsClosed shared old new
   pub shows : ShowsClosed new.counts.partner_session word
   pub word_is : shared ≡ false → word ≡ control_word new.counts.partner_session false false
+
+-- These are the address and the length in bytes of the own queue.
+abbrev pub fits_own : EndState → ℕ → ℕ → Bool
+fits_own end = fits_queue end.place.own_slots
+
+abbrev pub IsUnregistered : EndState → Type 0
+IsUnregistered end = end.registered ≡ false
+
+-- These are the own queue's address and length, and it is registered already.
+abbrev pub IsRegisteredAt : EndState → ℕ → ℕ → Type 0
+IsRegisteredAt end ioba bytes = (fits_own end ioba bytes ≡ true) × (end.registered ≡ true)
+
+-- The entry's first byte is that of a used entry, but the own queue is not registered.
+abbrev pub SendsUnregistered : EndState → Entry → Type 0
+SendsUnregistered end entry = (0x80 ≤ first_byte entry) × IsUnregistered end
 
 -- Where the end is not shared, the partner's queue is registered.
 pub record MeetsOpen (shared : Bool) (old : EndState) : Type 0 where
@@ -66,31 +81,24 @@ pub record MaySend (old : EndState) (entry : Entry) : Type 0 where
   pub registered : old.registered ≡ true
 
 -- The entry was put, and has this number in the partner's session.
-pub record Sends (shared : Bool) (old : EndState) (number : ℕ) (entry : Entry) (new : EndState) : Type 0 where
-  pub may : MaySend old entry
+pub record Sends (shared : Bool) (old : EndState) (entry : Entry) (new : EndState) (number : ℕ) : Type 0 where
   pub number_is : number ≡ length (sent_now old new.counts.partner_session)
   pub puts : Puts shared old entry new
 
 -- The entry was not put, since the partner's queue was closed, as this word shows.
-pub record TurnsBack (shared : Bool) (old : EndState) (entry : Entry) (word : ℕ) (new : EndState) : Type 0 where
-  pub may : MaySend old entry
+pub record TurnsBack (shared : Bool) (old new : EndState) (word : ℕ) : Type 0 where
   pub none : SendsNone old new
-  pub closed : FindsClosed shared old word new
-
--- The entry found its slot full.
-pub record Drops (shared : Bool) (old : EndState) (entry : Entry) (number held : ℕ) (new : EndState) : Type 0 where
-  pub may : MaySend old entry
-  pub full : FindsFull shared old number held new
+  pub closed : FindsClosed shared old new word
 
 -- The next entry was taken, and has this number in the own session.
-pub record Takes (shared : Bool) (old : EndState) (number : ℕ) (entry : Entry) (new : EndState) : Type 0 where
+pub record Takes (shared : Bool) (old new : EndState) (number : ℕ) (entry : Entry) : Type 0 where
   pub registered : old.registered ≡ true
   pub number_is : number ≡ length (taken_now old)
   pub taken : new.taken ≡ old.taken ++ record { session = old.last_session; entry = entry } ∷ []
   pub there : shared ≡ false → slice_get (received_now old) number ≡ Some entry
 
 -- All that was received had been taken, and the next entry has this number.
-pub record FindsNone (shared : Bool) (old : EndState) (number : ℕ) (new : EndState) : Type 0 where
+pub record FindsNone (shared : Bool) (old new : EndState) (number : ℕ) : Type 0 where
   pub registered : old.registered ≡ true
   pub number_is : number ≡ length (taken_now old)
   pub taken : new.taken ≡ old.taken
@@ -123,23 +131,23 @@ pub record Opens (shared : Bool) (old new : EndState) : Type 0 where
   pub settles : Settles shared old.kept old new
 
 -- The kept event found its slot full, and is still kept.
-pub record StillKept (shared : Bool) (old : EndState) (number held : ℕ) (new : EndState) : Type 0 where
+pub record StillKept (shared : Bool) (old new : EndState) (number held : ℕ) : Type 0 where
   pub some : IsSome old.kept
   pub kept : new.kept ≡ old.kept
-  pub full : FindsFull shared old number held new
+  pub full : FindsFull shared old new number held
 
 -- The queue is not registered before the kept event is put, which found its slot full.
-pub record HoldsUp (shared : Bool) (old : EndState) (number held : ℕ) (new : EndState) : Type 0 where
+pub record HoldsUp (shared : Bool) (old new : EndState) (number held : ℕ) : Type 0 where
   pub unregistered : old.registered ≡ false
   pub still : new.registered ≡ false
   pub session : new.last_session ≡ old.last_session
-  pub kept : StillKept shared old number held new
+  pub kept : StillKept shared old new number held
 
 -- The event found its slot full, and is kept.
 pub record Keeps (shared : Bool) (old : EndState) (event : Entry) (new : EndState) : Type 0 where
   pub number : ℕ
   pub held : ℕ
-  pub full : FindsFull shared old number held new
+  pub full : FindsFull shared old new number held
   pub kept : new.kept ≡ Some event
 
 -- The own queue was freed, and this event was put, is kept, or was lost.
@@ -148,8 +156,15 @@ pub record Frees (shared : Bool) (old : EndState) (event : Entry) (new : EndStat
   pub freed : new.registered ≡ false
   pub tells : (Puts shared old event new × (new.kept ≡ None)) ⊎ (Keeps shared old event new ⊎ (Loses shared old new × (new.kept ≡ None)))
 
+-- The own queue was freed, and the event tells the partner that it is free, or that this side failed.
+abbrev pub TellsFreed : Bool → EndState → EndState → Type 0
+TellsFreed shared old new = Frees shared old partner_freed new
+
+abbrev pub TellsFailed : Bool → EndState → EndState → Type 0
+TellsFailed shared old new = Frees shared old partner_failed new
+
 -- The own control word shows a sender inside. An end that is not shared never finds one.
-pub record FindsInUse (shared : Bool) (old : EndState) (word : ℕ) (new : EndState) : Type 0 where
+pub record FindsInUse (shared : Bool) (old new : EndState) (word : ℕ) : Type 0 where
   pub registered : old.registered ≡ true
   pub shared_end : shared ≡ true
   pub shows : ShowsInside old.last_session word
@@ -165,6 +180,6 @@ pub record Pushes (shared : Bool) (old new : EndState) : Type 0 where
   pub puts : IfSome old.kept (λ event. Puts shared old event new)
 
 -- No event is kept any more, and none was put.
-pub record PushesNone (shared : Bool) (old new : EndState) : Type 0 where
+pub record PutsNone (shared : Bool) (old new : EndState) : Type 0 where
   pub kept : new.kept ≡ None
   pub loses : LosesKept shared old.kept old new

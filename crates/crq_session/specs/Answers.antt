@@ -74,6 +74,12 @@ OnNotSent send.Parameter P = P
 OnNotSent send.NotRegistered P = P
 OnNotSent _ P = Unit {0}
 
+-- where the partner's control word was read: P
+abbrev pub OnReached : SendAnswer → Type 0 → Type 0
+OnReached send.Parameter P = Unit {0}
+OnReached send.NotRegistered P = Unit {0}
+OnReached _ P = P
+
 -- where an entry was taken: P of its number and of the entry
 abbrev pub IfGot : PollAnswer → (ℕ → Entry → Type 0) → Type 0
 IfGot (poll.Got number entry) P = P number entry

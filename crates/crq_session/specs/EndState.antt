@@ -89,21 +89,24 @@ pub record OnlyReserves (old new : EndState) : Type 0 where
   pub taken : new.taken ≡ old.taken
   pub counts : new.counts ≡ old.counts
 
--- Nothing changed but the registration and its session, and what was put and is kept.
+-- Nothing changed but the registration and its session, what was put and is kept, and the counts of sends.
 pub record OnlyRegisters (shared : Bool) (old new : EndState) : Type 0 where
   pub place : new.place ≡ old.place
   pub last_session : old.last_session ≤ new.last_session
   pub taken : new.taken ≡ old.taken
   pub counts : Rises shared old.counts new.counts
+  pub empty : new.counts.empty ≡ old.counts.empty
+  pub in_use : new.counts.in_use ≡ old.counts.in_use
 
--- Nothing changed but whether the own queue is registered, and what was put and is kept.
+-- Nothing changed but whether the own queue is registered, what was put and is kept, and the counts but that of polls.
 pub record OnlyFrees (shared : Bool) (old new : EndState) : Type 0 where
   pub place : new.place ≡ old.place
   pub last_session : new.last_session ≡ old.last_session
   pub taken : new.taken ≡ old.taken
   pub counts : Rises shared old.counts new.counts
+  pub empty : new.counts.empty ≡ old.counts.empty
 
--- Nothing changed but what was put, and what found its slot full.
+-- Nothing changed but what was put, what found its slot full, and the counts of sends.
 pub record OnlySends (shared : Bool) (old new : EndState) : Type 0 where
   pub place : new.place ≡ old.place
   pub last_session : new.last_session ≡ old.last_session
@@ -111,8 +114,10 @@ pub record OnlySends (shared : Bool) (old new : EndState) : Type 0 where
   pub kept : new.kept ≡ old.kept
   pub taken : new.taken ≡ old.taken
   pub counts : Rises shared old.counts new.counts
+  pub empty : new.counts.empty ≡ old.counts.empty
+  pub in_use : new.counts.in_use ≡ old.counts.in_use
 
--- Nothing changed but what was taken.
+-- Nothing changed but what was taken, and the count of polls that found nothing.
 pub record OnlyTakes (shared : Bool) (old new : EndState) : Type 0 where
   pub place : new.place ≡ old.place
   pub last_session : new.last_session ≡ old.last_session
@@ -121,11 +126,16 @@ pub record OnlyTakes (shared : Bool) (old new : EndState) : Type 0 where
   pub sent : new.sent ≡ old.sent
   pub drops : new.drops ≡ old.drops
   pub counts : Rises shared old.counts new.counts
+  pub full : new.counts.full ≡ old.counts.full
+  pub closed : new.counts.closed ≡ old.counts.closed
+  pub in_use : new.counts.in_use ≡ old.counts.in_use
 
--- Nothing changed but what was put, and what is kept.
+-- Nothing changed but what was put, what is kept, and the counts of sends.
 pub record OnlyPushes (shared : Bool) (old new : EndState) : Type 0 where
   pub place : new.place ≡ old.place
   pub last_session : new.last_session ≡ old.last_session
   pub registered : new.registered ≡ old.registered
   pub taken : new.taken ≡ old.taken
   pub counts : Rises shared old.counts new.counts
+  pub empty : new.counts.empty ≡ old.counts.empty
+  pub in_use : new.counts.in_use ≡ old.counts.in_use

@@ -12,12 +12,20 @@ abbrev pub side_of : PlainLink → Bool → PlainSide
 side_of link true = link.first
 side_of link false = link.second
 
+-- the other side
+abbrev pub partner_of : PlainLink → Bool → PlainSide
+partner_of link first = side_of link (not first)
+
 -- a link as an end of it sees it, from the side that it is
 abbrev pub end_of : List GName → PlainLink → Bool → EndState
-end_of lenders link first = end_over lenders first (side_of link first) (side_of link (not first))
+end_of lenders link first = end_over lenders first (side_of link first) (partner_of link first)
+
+-- the same, reached through one borrow
+abbrev pub end_by : GName → PlainLink → Bool → EndState
+end_by lender = end_of (lender ∷ [])
 
 abbrev pub state_of : PlainEnd → EndState
-state_of end = end_of (end.link.ghost_name ∷ []) end.link.now end.first
+state_of end = end_by end.link.ghost_name end.link.now end.first
 
 -- A link whose queues have these numbers of slots, before their first sessions.
 pub record IsNewLink (link : PlainLink) (slots_a slots_b : ℕ) : Type 0 where

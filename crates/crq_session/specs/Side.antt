@@ -6,6 +6,7 @@ use Rattle.crq_ring.specs.Pipe.{IsEmptyPipe, OnlyReserves}
 use Rattle.crq_session.specs.declared.answers.EventAnswer.{EventAnswer}
 use Rattle.crq_session.specs.declared.answers.EventAnswer.TheVariants.{Kept}
 use Rattle.crq_session.specs.declared.side.PlainSide.{PlainSide}
+use Rattle.crq_session.specs.Control.{fits_queue, control_word}
 use Rattle.crq_session.specs.EndState.{EndState}
 
 -- the calls for which room is reserved, of whatever kind they are
@@ -47,6 +48,14 @@ end_over lenders first own partner = record {
   spare = spare_of own partner;
 }
 
+-- these are the address and the length in bytes of a side's queue
+abbrev pub fits_side : PlainSide → ℕ → ℕ → Bool
+fits_side side = fits_queue side.queue.slots
+
+-- the control word of a side whose queue is not registered
+abbrev pub IsClosedWordOf : PlainSide → ℕ → Type 0
+IsClosedWordOf side word = word ≡ control_word side.queue.session false false
+
 -- A call between two sides, as an end sees it, whatever the borrows and the side of the link.
 abbrev pub At : (EndState → EndState → Type 0) → PlainSide → PlainSide → PlainSide → PlainSide → Type 0
 At P own partner own' partner' =
@@ -60,7 +69,7 @@ pub record IsNewSide (side : PlainSide) (slots : ℕ) : Type 0 where
   pub never : side.closed ≡ 0
 
 -- Nothing changed but the room, and there is no less of it.
-pub record OnlyReservesSide (old new : PlainSide) : Type 0 where
+pub record KeepsSide (old new : PlainSide) : Type 0 where
   pub queue : OnlyReserves old.queue new.queue
   pub registered : new.registered ≡ old.registered
   pub kept : new.kept ≡ old.kept

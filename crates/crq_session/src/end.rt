@@ -1,16 +1,17 @@
 // The calls of an end of a link, of which the plain form and the shared form are kinds.
-ghost use Rattle.std.specs.Prelude.{◌≡◌, ◌↔◌, ◌+◌, ◌<◌, ◌≤◌, Bool, true, false, OnOk};
-ghost use Rattle.vio_num.specs.Entry.{first_byte, partner_failed, partner_freed};
+ghost use Rattle.std.specs.Prelude.{◌≡◌, ◌↔◌, ◌+◌, ◌<◌, ◌≤◌, Bool, false, OnOk};
+ghost use Rattle.vio_num.specs.Entry.{first_byte};
 ghost use Rattle.crq_session.specs.declared.answers.RegAnswer.TheVariants as reg;
 ghost use Rattle.crq_session.specs.declared.answers.FreeAnswer.TheVariants as freeing;
 ghost use Rattle.crq_session.specs.declared.answers.SendAnswer.TheVariants as sending;
 ghost use Rattle.crq_session.specs.declared.answers.PollAnswer.TheVariants as polling;
 ghost use Rattle.crq_session.specs.Answers.{OnOpened, OnBoth, IfAlone, IfHeldUp, OnNotRegistered};
 ghost use Rattle.crq_session.specs.Answers.{OnFreed, OnNotFreed, IfInUse, OnNothing, OnPut, IfKept};
-ghost use Rattle.crq_session.specs.Answers.{IfSent, OnNotSent, IfClosed, IfDropped, IfGot, IfEmpty, OnNotPolled};
-ghost use Rattle.crq_session.specs.Answered.{Sends, TurnsBack, Drops, Takes, FindsNone, Opens, MeetsOpen, FindsClosed};
-ghost use Rattle.crq_session.specs.Answered.{HoldsUp, Frees, FindsInUse, Pushes, PushesNone, StillKept};
-ghost use Rattle.crq_session.specs.Control.{IsQueueSize, fits_queue};
+ghost use Rattle.crq_session.specs.Answers.{IfSent, OnNotSent, OnReached, IfClosed, IfDropped, IfGot, IfEmpty, OnNotPolled};
+ghost use Rattle.crq_session.specs.Answered.{fits_own, IsUnregistered, IsRegisteredAt, SendsUnregistered, MaySend};
+ghost use Rattle.crq_session.specs.Answered.{Sends, TurnsBack, FindsFull, Takes, FindsNone, Opens, MeetsOpen, FindsClosed};
+ghost use Rattle.crq_session.specs.Answered.{HoldsUp, TellsFreed, TellsFailed, FindsInUse, Pushes, PutsNone, StillKept};
+ghost use Rattle.crq_session.specs.Control.{IsQueueSize};
 ghost use Rattle.crq_session.specs.EndState.{EndState, IsLawfulEnd, OnlyReserves, OnlyRegisters, OnlyFrees, OnlySends, OnlyTakes, OnlyPushes};
 
 use crate::answers::{EventAnswer, FreeAnswer, PollAnswer, RegAnswer, SendAnswer};
@@ -44,15 +45,12 @@ pub trait CrqEnd {
     fn register(&mut self, ioba: u64, length: u64) -> RegAnswer
         requires { 0 < (state self.old).spare }
         ensures parameter { (result ≡ reg.Parameter) ↔
-            (fits_queue (state self.old).place.own_slots ioba length ≡ false) }
-        ensures resource { (result ≡ reg.Resource) ↔
-            ((fits_queue (state self.old).place.own_slots ioba length ≡ true) ×
-            ((state self.old).registered ≡ true)) }
+            (fits_own (state self.old) ioba length ≡ false) }
+        ensures resource { (result ≡ reg.Resource) ↔ IsRegisteredAt (state self.old) ioba length }
         ensures opened { OnOpened result (Opens is_shared (state self.old) (state self.new)) }
         ensures success { OnBoth result (MeetsOpen is_shared (state self.old)) }
-        ensures closed { IfAlone result (λ word. FindsClosed is_shared (state self.old) word (state self.new)) }
-        ensures busy { IfHeldUp result (λ number held.
-            HoldsUp is_shared (state self.old) number held (state self.new)) }
+        ensures closed { IfAlone result (FindsClosed is_shared (state self.old) (state self.new)) }
+        ensures busy { IfHeldUp result (HoldsUp is_shared (state self.old) (state self.new)) }
         ensures refused { OnNotRegistered result (OnlyReserves (state self.old) (state self.new)) }
         ensures spare { (state self.old).spare ≤ (state self.new).spare + 1 }
         ensures rest { OnlyRegisters is_shared (state self.old) (state self.new) };
@@ -61,9 +59,9 @@ pub trait CrqEnd {
     /// not taken are lost.
     fn free(&mut self) -> FreeAnswer
         requires { 0 < (state self.old).spare }
-        ensures parameter { (result ≡ freeing.Parameter) ↔ ((state self.old).registered ≡ false) }
-        ensures success { OnFreed result (Frees is_shared (state self.old) partner_freed (state self.new)) }
-        ensures busy { IfInUse result (λ word. FindsInUse is_shared (state self.old) word (state self.new)) }
+        ensures parameter { (result ≡ freeing.Parameter) ↔ IsUnregistered (state self.old) }
+        ensures success { OnFreed result (TellsFreed is_shared (state self.old) (state self.new)) }
+        ensures busy { IfInUse result (FindsInUse is_shared (state self.old) (state self.new)) }
         ensures refused { OnNotFreed result (OnlyReserves (state self.old) (state self.new)) }
         ensures spare { (state self.old).spare ≤ (state self.new).spare + 1 }
         ensures rest { OnlyFrees is_shared (state self.old) (state self.new) };
@@ -71,9 +69,9 @@ pub trait CrqEnd {
     /// Frees the own queue, and tells the partner that this side failed.
     fn fail(&mut self) -> FreeAnswer
         requires { 0 < (state self.old).spare }
-        ensures parameter { (result ≡ freeing.Parameter) ↔ ((state self.old).registered ≡ false) }
-        ensures success { OnFreed result (Frees is_shared (state self.old) partner_failed (state self.new)) }
-        ensures busy { IfInUse result (λ word. FindsInUse is_shared (state self.old) word (state self.new)) }
+        ensures parameter { (result ≡ freeing.Parameter) ↔ IsUnregistered (state self.old) }
+        ensures success { OnFreed result (TellsFailed is_shared (state self.old) (state self.new)) }
+        ensures busy { IfInUse result (FindsInUse is_shared (state self.old) (state self.new)) }
         ensures refused { OnNotFreed result (OnlyReserves (state self.old) (state self.new)) }
         ensures spare { (state self.old).spare ≤ (state self.new).spare + 1 }
         ensures rest { OnlyFrees is_shared (state self.old) (state self.new) };
@@ -82,13 +80,12 @@ pub trait CrqEnd {
     fn send(&mut self, entry: Entry) -> SendAnswer
         requires { 0 < (state self.old).spare }
         ensures parameter { (result ≡ sending.Parameter) ↔ (first_byte entry < 0x80) }
-        ensures not_registered { (result ≡ sending.NotRegistered) ↔
-            ((0x80 ≤ first_byte entry) × ((state self.old).registered ≡ false)) }
-        ensures success { IfSent result (λ number. Sends is_shared (state self.old) number entry (state self.new)) }
-        ensures closed { IfClosed result (λ word.
-            TurnsBack is_shared (state self.old) entry word (state self.new)) }
-        ensures dropped { IfDropped result (λ number held.
-            Drops is_shared (state self.old) entry number held (state self.new)) }
+        ensures unregistered { (result ≡ sending.NotRegistered) ↔
+            SendsUnregistered (state self.old) entry }
+        ensures may { OnReached result (MaySend (state self.old) entry) }
+        ensures success { IfSent result (Sends is_shared (state self.old) entry (state self.new)) }
+        ensures closed { IfClosed result (TurnsBack is_shared (state self.old) (state self.new)) }
+        ensures dropped { IfDropped result (FindsFull is_shared (state self.old) (state self.new)) }
         ensures refused { OnNotSent result (OnlyReserves (state self.old) (state self.new)) }
         ensures spare { (state self.old).spare ≤ (state self.new).spare + 1 }
         ensures rest { OnlySends is_shared (state self.old) (state self.new) };
@@ -96,10 +93,9 @@ pub trait CrqEnd {
     /// Takes the next entry of the own queue.
     fn poll(&mut self) -> PollAnswer
         requires { 0 < (state self.old).spare }
-        ensures not_registered { (result ≡ polling.NotRegistered) ↔ ((state self.old).registered ≡ false) }
-        ensures got { IfGot result (λ number entry.
-            Takes is_shared (state self.old) number entry (state self.new)) }
-        ensures empty { IfEmpty result (λ number. FindsNone is_shared (state self.old) number (state self.new)) }
+        ensures unregistered { (result ≡ polling.NotRegistered) ↔ IsUnregistered (state self.old) }
+        ensures got { IfGot result (Takes is_shared (state self.old) (state self.new)) }
+        ensures empty { IfEmpty result (FindsNone is_shared (state self.old) (state self.new)) }
         ensures refused { OnNotPolled result (OnlyReserves (state self.old) (state self.new)) }
         ensures spare { (state self.old).spare ≤ (state self.new).spare + 1 }
         ensures rest { OnlyTakes is_shared (state self.old) (state self.new) };
@@ -107,10 +103,9 @@ pub trait CrqEnd {
     /// Puts the event that is kept, if there is one. It is lost where the partner's queue is not registered.
     fn push_event(&mut self) -> EventAnswer
         requires { 0 < (state self.old).spare }
-        ensures nothing { OnNothing result (PushesNone is_shared (state self.old) (state self.new)) }
+        ensures nothing { OnNothing result (PutsNone is_shared (state self.old) (state self.new)) }
         ensures put { OnPut result (Pushes is_shared (state self.old) (state self.new)) }
-        ensures still { IfKept result (λ number held.
-            StillKept is_shared (state self.old) number held (state self.new)) }
+        ensures still { IfKept result (StillKept is_shared (state self.old) (state self.new)) }
         ensures spare { (state self.old).spare ≤ (state self.new).spare + 1 }
         ensures rest { OnlyPushes is_shared (state self.old) (state self.new) };
 }

@@ -55,7 +55,7 @@ impl Handshake {
     }
 }
 
-/// Where an entry of this kind and byte 1 leads, and what is then to be sent.
+// Tells where an entry of this kind and byte 1 leads, and what is then to be sent.
 fn after(state: Handshake, kind: Kind, byte: u8) -> (Handshake, Step)
     ensures state { result.0 ≡ state_by state kind byte }
     ensures step { result.1 ≡ step_by state kind byte }

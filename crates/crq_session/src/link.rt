@@ -17,11 +17,11 @@ pub struct PlainLink {
 }
 
 impl PlainLink {
-    ghost use Rattle.std.specs.Prelude.{◌<◌, not, OnOk};
+    ghost use Rattle.std.specs.Prelude.{◌<◌, OnOk};
     ghost use Rattle.crq_ring.specs.Pipe.{HasRoom};
     ghost use Rattle.crq_session.specs.Calls.{IsRegistration, IsFree, IsSend, IsPoll, IsPush};
-    ghost use Rattle.crq_session.specs.PlainState.{side_of, IsNewLink};
-    ghost use Rattle.crq_session.specs.Side.{OnlyReservesSide};
+    ghost use Rattle.crq_session.specs.PlainState.{side_of, partner_of, IsNewLink};
+    ghost use Rattle.crq_session.specs.Side.{KeepsSide};
 
     /// A link whose queues are not registered. The first side polls a queue of `slots_a`, the second one of
     /// `slots_b`: 256 for each queue page, of which there are 1 to 16.
@@ -59,9 +59,9 @@ impl PlainLink {
     /// Makes room for this many calls of each kind of a side.
     pub(crate) fn reserve(&mut self, first: bool, n: u32) -> Result<(), NoMemory>
         ensures own { OnOk result (HasRoom (side_of self.new first).queue n) }
-        ensures partner { OnOk result (HasRoom (side_of self.new (not first)).queue n) }
-        ensures own_rest { OnlyReservesSide (side_of self.old first) (side_of self.new first) }
-        ensures partner_rest { OnlyReservesSide (side_of self.old (not first)) (side_of self.new (not first)) }
+        ensures partner { OnOk result (HasRoom (partner_of self.new first).queue n) }
+        ensures own_rest { KeepsSide (side_of self.old first) (side_of self.new first) }
+        ensures partner_rest { KeepsSide (partner_of self.old first) (partner_of self.new first) }
     {
         if first {
             self.first.reserve(&mut self.second, n)
@@ -72,11 +72,10 @@ impl PlainLink {
 
     /// Registers the queue of a side.
     pub(crate) fn register(&mut self, first: bool, ioba: u64, length: u64) -> RegAnswer
-        requires room { 0 < (side_of self.old (not first)).queue.room.puts }
+        requires room { 0 < (partner_of self.old first).queue.room.puts }
         requires sessions { 0 < (side_of self.old first).queue.room.renewals }
-        ensures { IsRegistration (side_of self.old first) (side_of self.old
-            (not first)) ioba length result (side_of self.new first) (side_of self.new
-            (not first)) }
+        ensures { IsRegistration (side_of self.old first) (partner_of self.old first)
+            ioba length result (side_of self.new first) (partner_of self.new first) }
     {
         if first {
             self.first.register(&mut self.second, ioba, length)
@@ -87,9 +86,9 @@ impl PlainLink {
 
     /// Frees the queue of a side, and puts this event into the partner's.
     pub(crate) fn free(&mut self, first: bool, event: Entry) -> FreeAnswer
-        requires { 0 < (side_of self.old (not first)).queue.room.puts }
-        ensures { IsFree (side_of self.old first) (side_of self.old (not first)) event result
-            (side_of self.new first) (side_of self.new (not first)) }
+        requires { 0 < (partner_of self.old first).queue.room.puts }
+        ensures { IsFree (side_of self.old first) (partner_of self.old first) event result
+            (side_of self.new first) (partner_of self.new first) }
     {
         if first {
             self.first.free(&mut self.second, event)
@@ -100,9 +99,9 @@ impl PlainLink {
 
     /// Sends an entry to the partner of a side.
     pub(crate) fn send(&mut self, first: bool, entry: Entry) -> SendAnswer
-        requires { 0 < (side_of self.old (not first)).queue.room.puts }
-        ensures { IsSend (side_of self.old first) (side_of self.old (not first)) entry result
-            (side_of self.new first) (side_of self.new (not first)) }
+        requires { 0 < (partner_of self.old first).queue.room.puts }
+        ensures { IsSend (side_of self.old first) (partner_of self.old first) entry result
+            (side_of self.new first) (partner_of self.new first) }
     {
         if first {
             self.first.send(&mut self.second, entry)
@@ -114,8 +113,8 @@ impl PlainLink {
     /// Takes the next entry of the queue of a side.
     pub(crate) fn poll(&mut self, first: bool) -> PollAnswer
         requires { 0 < (side_of self.old first).queue.room.polls }
-        ensures { IsPoll (side_of self.old first) (side_of self.old (not first)) result
-            (side_of self.new first) (side_of self.new (not first)) }
+        ensures { IsPoll (side_of self.old first) (partner_of self.old first) result
+            (side_of self.new first) (partner_of self.new first) }
     {
         if first {
             self.first.poll(&mut self.second)
@@ -126,9 +125,9 @@ impl PlainLink {
 
     /// Puts the kept event of a side, if there is one.
     pub(crate) fn push_event(&mut self, first: bool) -> EventAnswer
-        requires { 0 < (side_of self.old (not first)).queue.room.puts }
-        ensures { IsPush (side_of self.old first) (side_of self.old (not first)) result
-            (side_of self.new first) (side_of self.new (not first)) }
+        requires { 0 < (partner_of self.old first).queue.room.puts }
+        ensures { IsPush (side_of self.old first) (partner_of self.old first) result
+            (side_of self.new first) (partner_of self.new first) }
     {
         if first {
             self.first.push_event(&mut self.second)

@@ -1,6 +1,6 @@
 // One side of a plain link, and the calls of its end on it and on its partner's.
 ghost use Rattle.std.specs.Prelude.{◌≡◌, ◌<◌, IsTrue, IsNone, false};
-ghost use Rattle.crq_session.specs.Control.{IsQueueSize, fits_queue, control_word};
+ghost use Rattle.crq_session.specs.Control.{IsQueueSize, fits_queue};
 
 use crate::PAGE_SLOTS;
 use crate::answers::{EventAnswer, FreeAnswer, PollAnswer, RegAnswer, SendAnswer};
@@ -39,7 +39,7 @@ impl PlainSide {
     ghost use Rattle.crq_session.specs.declared.answers.FreeAnswer.TheVariants as freeing;
     ghost use Rattle.crq_session.specs.declared.answers.SendAnswer.TheVariants as sending;
     ghost use Rattle.crq_session.specs.declared.answers.PollAnswer.TheVariants as polling;
-    ghost use Rattle.crq_session.specs.Side.{IsNewSide, OnlyReservesSide, Spends, KeepsPartner};
+    ghost use Rattle.crq_session.specs.Side.{IsNewSide, KeepsSide, IsClosedWordOf};
 
     /// A side whose queue has this many slots and is not registered.
     pub(crate) fn open(alloc: Global, slots: u32) -> Result<PlainSide, NoMemory>
@@ -76,8 +76,8 @@ impl PlainSide {
     pub(crate) fn reserve(&mut self, partner: &mut PlainSide, n: u32) -> Result<(), NoMemory>
         ensures own { OnOk result (HasRoom self.new.queue n) }
         ensures partner { OnOk result (HasRoom partner.new.queue n) }
-        ensures own_rest { OnlyReservesSide self.old self.new }
-        ensures partner_rest { OnlyReservesSide partner.old partner.new }
+        ensures own_rest { KeepsSide self.old self.new }
+        ensures partner_rest { KeepsSide partner.old partner.new }
     {
         self.queue.reserve(n)?;
         partner.queue.reserve(n)
@@ -87,7 +87,7 @@ impl PlainSide {
     fn closed_word(&mut self, partner: &PlainSide) -> Option<u64>
         ensures none { IfNone result ((partner.now.registered ≡ true) × (self.new ≡ self.old)) }
         ensures partner { IfSome result (λ _. partner.now.registered ≡ false) }
-        ensures word { IfSome result (λ word. word ≡ control_word partner.now.queue.session false false) }
+        ensures word { IfSome result (IsClosedWordOf partner.now) }
         ensures closed { IfSome result (λ _. Rose self.old.closed self.new.closed) }
         ensures later { self.old.closed ≤ self.new.closed }
         ensures queue { self.new.queue ≡ self.old.queue }
@@ -103,39 +103,18 @@ impl PlainSide {
 }
 
 impl PlainSide {
-    ghost use Rattle.std.specs.Prelude.{◌↔◌, ◌+◌, ◌≤◌, Bool, true, false, None, List};
-    ghost use Rattle.vio_num.specs.Entry.{first_byte};
-    ghost use Rattle.crq_session.specs.declared.answers.RegAnswer.TheVariants as reg;
-    ghost use Rattle.crq_session.specs.declared.answers.FreeAnswer.TheVariants as freeing;
-    ghost use Rattle.crq_session.specs.declared.answers.SendAnswer.TheVariants as sending;
-    ghost use Rattle.crq_session.specs.declared.answers.PollAnswer.TheVariants as polling;
-    ghost use Rattle.crq_session.specs.Answers.{OnOpened, OnBoth, IfAlone, IfHeldUp, OnNotRegistered};
-    ghost use Rattle.crq_session.specs.Answers.{OnFreed, OnNotFreed, IfInUse, OnNothing, OnPut, IfKept};
-    ghost use Rattle.crq_session.specs.Answers.{IfSent, OnNotSent, IfClosed, IfDropped, IfGot, IfEmpty, OnNotPolled};
-    ghost use Rattle.crq_session.specs.Answered.{Sends, TurnsBack, Drops, Takes, FindsNone, Opens, FindsClosed};
-    ghost use Rattle.crq_session.specs.Answered.{HoldsUp, Frees, Pushes, PushesNone, StillKept, Puts, Loses, FindsFull, Settles};
+    ghost use Rattle.std.specs.Prelude.{true, None};
     ghost use Rattle.crq_ring.specs.Pipe.{Renews};
-    ghost use Rattle.crq_session.specs.EndState.{OnlyReserves, OnlyRegisters, OnlyFrees, OnlySends, OnlyTakes, OnlyPushes};
+    ghost use Rattle.crq_session.specs.Answers.{OnNothing, OnPut, IfKept};
+    ghost use Rattle.crq_session.specs.Answered.{Pushes, PutsNone, StillKept, Puts, Loses, FindsFull, Settles};
+    ghost use Rattle.crq_session.specs.Calls.{IsRegistration, IsFree, IsSend, IsPoll};
+    ghost use Rattle.crq_session.specs.EndState.{OnlyPushes};
     ghost use Rattle.crq_session.specs.Side.{At, IsKeptBy, OnNotKept, Spends, KeepsPartner};
 
     /// Sends an entry to the partner's queue.
     pub(crate) fn send(&mut self, partner: &mut PlainSide, entry: Entry) -> SendAnswer
         requires { 0 < partner.old.queue.room.puts }
-        ensures parameter { (result ≡ sending.Parameter) ↔ (first_byte entry < 0x80) }
-        ensures not_registered { (result ≡ sending.NotRegistered) ↔
-            ((0x80 ≤ first_byte entry) × (self.old.registered ≡ false)) }
-        ensures success { At (λ old new. IfSent result (λ number. Sends false old number entry new))
-            self.old partner.old self.new partner.new }
-        ensures closed { At (λ old new. IfClosed result (λ word. TurnsBack false old entry word new))
-            self.old partner.old self.new partner.new }
-        ensures dropped { At (λ old new. IfDropped result (λ number held. Drops false old entry number held new))
-            self.old partner.old self.new partner.new }
-        ensures refused { At (λ old new. OnNotSent result (OnlyReserves old new))
-            self.old partner.old self.new partner.new }
-        ensures rest { At (λ old new. OnlySends false old new)
-            self.old partner.old self.new partner.new }
-        ensures room { Spends self.old partner.old self.new partner.new }
-        ensures keeps { KeepsPartner self.old partner.old self.new partner.new }
+        ensures { IsSend self.old partner.old entry result self.new partner.new }
     {
         if entry.to_bytes()[0] < 0x80 {
             return SendAnswer::Parameter;
@@ -155,17 +134,7 @@ impl PlainSide {
     /// Takes the next entry of the own queue.
     pub(crate) fn poll(&mut self, partner: &mut PlainSide) -> PollAnswer
         requires { 0 < self.old.queue.room.polls }
-        ensures not_registered { (result ≡ polling.NotRegistered) ↔ (self.old.registered ≡ false) }
-        ensures got { At (λ old new. IfGot result (λ number entry. Takes false old number entry new))
-            self.old partner.old self.new partner.new }
-        ensures empty { At (λ old new. IfEmpty result (λ number. FindsNone false old number new))
-            self.old partner.old self.new partner.new }
-        ensures refused { At (λ old new. OnNotPolled result (OnlyReserves old new))
-            self.old partner.old self.new partner.new }
-        ensures rest { At (λ old new. OnlyTakes false old new)
-            self.old partner.old self.new partner.new }
-        ensures room { Spends self.old partner.old self.new partner.new }
-        ensures keeps { KeepsPartner self.old partner.old self.new partner.new }
+        ensures { IsPoll self.old partner.old result self.new partner.new }
     {
         if !self.registered {
             return PollAnswer::NotRegistered;
@@ -185,7 +154,7 @@ impl PlainSide {
             self.old partner.old self.new partner.new }
         ensures put { At (λ old new. OnPut result (Puts false old event new))
             self.old partner.old self.new partner.new }
-        ensures still { At (λ old new. IfKept result (λ number held. FindsFull false old number held new))
+        ensures still { At (λ old new. IfKept result (FindsFull false old new))
             self.old partner.old self.new partner.new }
         ensures kept { IsKeptBy result event self.new.kept }
         ensures open { OnNothing result (partner.old.registered ≡ false) }
@@ -212,7 +181,7 @@ impl PlainSide {
     /// Puts the event that is kept, if there is one.
     pub(crate) fn push_event(&mut self, partner: &mut PlainSide) -> EventAnswer
         requires { 0 < partner.old.queue.room.puts }
-        ensures nothing { At (λ old new. OnNothing result (PushesNone false old new))
+        ensures nothing { At (λ old new. OnNothing result (PutsNone false old new))
             self.old partner.old self.new partner.new }
         ensures put { At (λ old new. OnPut result (Pushes false old new))
             self.old partner.old self.new partner.new }
@@ -220,7 +189,7 @@ impl PlainSide {
             self.old partner.old self.new partner.new }
         ensures none { OnNotKept result (self.new.kept ≡ None) }
         ensures registered { self.new.registered ≡ self.old.registered }
-        ensures still { At (λ old new. IfKept result (λ number held. StillKept false old number held new))
+        ensures still { At (λ old new. IfKept result (StillKept false old new))
             self.old partner.old self.new partner.new }
         ensures rest { At (λ old new. OnlyPushes false old new)
             self.old partner.old self.new partner.new }
@@ -251,22 +220,7 @@ impl PlainSide {
     pub(crate) fn register(&mut self, partner: &mut PlainSide, ioba: u64, length: u64) -> RegAnswer
         requires room { 0 < partner.old.queue.room.puts }
         requires sessions { 0 < self.old.queue.room.renewals }
-        ensures parameter { (result ≡ reg.Parameter) ↔ (fits_queue self.old.queue.slots ioba length ≡ false) }
-        ensures resource { (result ≡ reg.Resource) ↔
-            ((fits_queue self.old.queue.slots ioba length ≡ true) × (self.old.registered ≡ true)) }
-        ensures opened { At (λ old new. OnOpened result (Opens false old new))
-            self.old partner.old self.new partner.new }
-        ensures success { OnBoth result (partner.old.registered ≡ true) }
-        ensures closed { At (λ old new. IfAlone result (λ word. FindsClosed false old word new))
-            self.old partner.old self.new partner.new }
-        ensures busy { At (λ old new. IfHeldUp result (λ number held. HoldsUp false old number held new))
-            self.old partner.old self.new partner.new }
-        ensures refused { At (λ old new. OnNotRegistered result (OnlyReserves old new))
-            self.old partner.old self.new partner.new }
-        ensures rest { At (λ old new. OnlyRegisters false old new)
-            self.old partner.old self.new partner.new }
-        ensures room { Spends self.old partner.old self.new partner.new }
-        ensures keeps { KeepsPartner self.old partner.old self.new partner.new }
+        ensures { IsRegistration self.old partner.old ioba length result self.new partner.new }
     {
         if !is_of_queue(self.slots(), ioba, length) {
             return RegAnswer::Parameter;
@@ -287,16 +241,7 @@ impl PlainSide {
     /// Closes the session of the own queue, and puts this event into the partner's.
     pub(crate) fn free(&mut self, partner: &mut PlainSide, event: Entry) -> FreeAnswer
         requires { 0 < partner.old.queue.room.puts }
-        ensures parameter { (result ≡ freeing.Parameter) ↔ (self.old.registered ≡ false) }
-        ensures success { At (λ old new. OnFreed result (Frees false old event new))
-            self.old partner.old self.new partner.new }
-        ensures busy { IfInUse result (λ _. ⊥) }
-        ensures refused { At (λ old new. OnNotFreed result (OnlyReserves old new))
-            self.old partner.old self.new partner.new }
-        ensures rest { At (λ old new. OnlyFrees false old new)
-            self.old partner.old self.new partner.new }
-        ensures room { Spends self.old partner.old self.new partner.new }
-        ensures keeps { KeepsPartner self.old partner.old self.new partner.new }
+        ensures { IsFree self.old partner.old event result self.new partner.new }
     {
         if !self.registered {
             return FreeAnswer::Parameter;

@@ -1,9 +1,9 @@
 // What the owner of a link knows once an end is given back.
-ghost use Rattle.std.specs.Prelude.{◌≡◌, ◌<◌, ◌∷◌, [], false, IfOk};
+ghost use Rattle.std.specs.Prelude.{◌≡◌, ◌<◌, [], false, IfOk};
 ghost use Rattle.crq_session.specs.Answers.{IfGot, IfEmpty};
 ghost use Rattle.crq_session.specs.Answered.{Takes, FindsNone};
 ghost use Rattle.crq_session.specs.EndState.{OnlyTakes};
-ghost use Rattle.crq_session.specs.PlainState.{end_of};
+ghost use Rattle.crq_session.specs.PlainState.{end_of, end_by};
 
 use crate::answers::PollAnswer;
 use crate::end::CrqEnd;
@@ -13,19 +13,19 @@ use vio_num::NoMemory;
 
 fn poll_side(link: &mut PlainLink, first: bool) -> PollAnswer
     requires { 0 < (end_of [] link.old first).spare }
-    ensures got { IfGot result (λ number entry.
-        Takes false (end_of (link.entry.ghost_name ∷ []) link.old first) number entry (end_of (link.entry.ghost_name ∷ []) link.new first)) }
-    ensures rest { OnlyTakes false (end_of (link.entry.ghost_name ∷ []) link.old first) (end_of
-        (link.entry.ghost_name ∷ []) link.new first) }
+    ensures got { IfGot result (Takes false (end_by link.entry.ghost_name link.old first)
+        (end_by link.entry.ghost_name link.new first)) }
+    ensures rest { OnlyTakes false (end_by link.entry.ghost_name link.old first)
+        (end_by link.entry.ghost_name link.new first) }
 {
     link.side(first).poll()
 }
 
 fn poll_end<E: CrqEnd>(end: &mut E) -> Result<PollAnswer, NoMemory>
     ensures got { IfOk result (λ answer.
-        IfGot answer (λ number entry. Takes E.is_shared (E.state end.old) number entry (E.state end.new))) }
+        IfGot answer (Takes E.is_shared (E.state end.old) (E.state end.new))) }
     ensures empty { IfOk result (λ answer.
-        IfEmpty answer (λ number. FindsNone E.is_shared (E.state end.old) number (E.state end.new))) }
+        IfEmpty answer (FindsNone E.is_shared (E.state end.old) (E.state end.new))) }
 {
     end.reserve(1)?;
     Ok(end.poll())
