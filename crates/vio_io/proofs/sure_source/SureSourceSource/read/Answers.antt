@@ -1,7 +1,7 @@
 use Rattle.std.proofs.Common.{ap, ◌∙◌, drop, arith}
 use Rattle.std.proofs.lemmas.List.{take_rest}
 use Rattle.vio_io.proofs.Pieces.{read_moves}
-use Rattle.vio_io.proofs.sure.SureSourceSource.read.Goals as goal
+use Rattle.vio_io.proofs.sure_source.SureSourceSource.read.Goals as goal
 
 pub returns-clause-bytes : goal.returns-clause-bytes
 returns-clause-bytes c =

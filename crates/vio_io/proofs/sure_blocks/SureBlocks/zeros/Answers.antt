@@ -1,6 +1,6 @@
 use Rattle.std.proofs.Common.{ℕ, List, replicate, sym, ◌∙◌, subst, ◌<◌}
 use Rattle.std.proofs.lemmas.List.{same_lists, length-replicate}
-use Rattle.vio_io.proofs.sure.SureBlocks.zeros.Goals as goal
+use Rattle.vio_io.proofs.sure_blocks.SureBlocks.zeros.Goals as goal
 
 pub returns-clause-blocks : goal.returns-clause-blocks
 returns-clause-blocks c =
