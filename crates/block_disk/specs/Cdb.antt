@@ -18,23 +18,29 @@ short_address cdb = slice_index cdb 1 % 32 * 2 ^ 16 + field 2 2 cdb
 abbrev pub short_length : List ℕ → ℕ
 short_length cdb = if slice_index cdb 4 == 0 then 256 else slice_index cdb 4
 
--- the command of a CDB, where the disk knows its operation code
-unfoldable pub command_of : List ℕ → Option DiskOp
-command_of cdb =
+-- the command of a CDB that names a range of blocks: READ, WRITE and SYNCHRONIZE CACHE in their lengths
+unfoldable pub range_command : List ℕ → Option DiskOp
+range_command cdb =
     let code = slice_index cdb 0 in
-    if code == 0x00 then Some Ready
-    else if code == 0x08 then Some (Read (short_address cdb) (short_length cdb))
+    if code == 0x08 then Some (Read (short_address cdb) (short_length cdb))
     else if code == 0x0A then Some (Write (short_address cdb) (short_length cdb))
-    else if code == 0x12 then Some (Inquiry (field 3 2 cdb))
-    else if code == 0x25 then Some Capacity10
     else if code == 0x28 then Some (Read (field 2 4 cdb) (field 7 2 cdb))
     else if code == 0x2A then Some (Write (field 2 4 cdb) (field 7 2 cdb))
     else if code == 0x35 then Some (Sync (field 2 4 cdb) (field 7 2 cdb))
     else if code == 0x88 then Some (Read (field 2 8 cdb) (field 10 4 cdb))
     else if code == 0x8A then Some (Write (field 2 8 cdb) (field 10 4 cdb))
+    else None
+
+-- the command of a CDB, where the disk knows its operation code
+unfoldable pub command_of : List ℕ → Option DiskOp
+command_of cdb =
+    let code = slice_index cdb 0 in
+    if code == 0x00 then Some Ready
+    else if code == 0x12 then Some (Inquiry (field 3 2 cdb))
+    else if code == 0x25 then Some Capacity10
     else if code == 0x9E then Some (Capacity16 (field 10 4 cdb))
     else if code == 0xA0 then Some (Luns (field 6 4 cdb))
-    else None
+    else range_command cdb
 
 -- INQUIRY with vital product data or a page asked for, or a SERVICE ACTION IN(16) that is not READ CAPACITY(16)
 unfoldable pub is_bad_field : List ℕ → Bool

@@ -1,8 +1,9 @@
 -- The disk step: what a command does to an image of blocks of 512 bytes, what it answers and what data it
 -- gives (SPC, SBC). The device call that failed, if one did, is an input.
-use Rattle.std.specs.Prelude.{ℕ, zero, suc, ◌+◌, ◌-◌, ◌*◌, ◌^◌, min, nat_lt, if◌then◌else◌, Option, None, Some, unwrap_or, List, [], ◌∷◌, ◌++◌, length, take, drop, replicate, codes}
+use Rattle.std.specs.Prelude.{◌≡◌, ℕ, zero, suc, ◌+◌, ◌-◌, ◌*◌, ◌^◌, ◌<◌, min, nat_lt, if◌then◌else◌, Option, None, Some, IfSome, IfNone, OnSome, unwrap_or, List, [], ◌∷◌, ◌++◌, length, take, drop, replicate, codes}
 use Rattle.std.specs.List.{flat_map}
 use Rattle.byteorder.specs.Endian.{big_bytes}
+use Rattle.vio_num.specs.Counts.{Rose}
 use Rattle.vio_io.specs.Image.{ImageState, risen_by, after_writes, with_blocks}
 use Rattle.vio_io.specs.declared.device_calls.DeviceCalls.{DeviceCalls}
 use Rattle.block_disk.specs.Cdb.{command_of, refusal, is_disk_unit}
@@ -107,6 +108,17 @@ called (Some (Read lba blocks)) n calls = record calls { reads = risen_by n call
 called (Some (Write lba blocks)) n calls = record calls { writes = risen_by n calls.writes }
 called (Some (Sync lba blocks)) n calls = record calls { flushes = risen_by n calls.flushes }
 called _ n calls = calls
+
+-- What the device calls of a command did to the image's counts, where this many were due, and one of them failed or none.
+pub record MakesCalls (op : Option DiskOp) (due : ℕ) (fault : Option ℕ) (old new : ImageState) : Type 0 where
+  -- the call that failed was due
+  pub index : IfSome fault (λ call. call < due)
+  -- the calls that were made are counted
+  pub calls : new.calls ≡ called op (calls_made due fault) old.calls
+  pub size : new.size ≡ old.size
+  -- a fault is counted where a call failed, and nowhere else
+  pub same : IfNone fault (new.faults ≡ old.faults)
+  pub failed : OnSome fault (Rose old.faults new.faults)
 
 -- standard INQUIRY data: a direct access block device where the logical unit is one of the disk's
 unfoldable pub inquiry_data : ℕ → List ℕ

@@ -1,7 +1,7 @@
 // Reads a command descriptor block: which command it is, and why it is refused before any block
 // moves.
 ghost use Rattle.std.specs.Prelude.{◌≡◌, false, None, Some, IfOk, IfErr};
-ghost use Rattle.block_disk.specs.Cdb.{command_of, is_bad_field, is_too_long, is_disk_unit, is_answered, refusal, field, short_address, short_length};
+ghost use Rattle.block_disk.specs.Cdb.{command_of, range_command, is_bad_field, is_too_long, is_disk_unit, is_answered, refusal, field, short_address, short_length};
 
 use byteorder::{BigEndian, ByteOrder};
 
@@ -96,13 +96,12 @@ fn sixteen_length(cdb: &[u8; 16]) -> u32
     BigEndian::read_u32(&cdb[10..])
 }
 
-// The command of a CDB, where the disk knows its operation code.
-#[tactic(auto, unfolding(crate::specs::Cdb::command_of))]
-fn command_of(cdb: &[u8; 16]) -> Option<DiskOp>
-    ensures { result ≡ command_of cdb.now }
+// Reads a CDB that names a range of blocks: READ, WRITE and SYNCHRONIZE CACHE in their lengths.
+#[tactic(auto, unfolding(crate::specs::Cdb::range_command))]
+fn range_command(cdb: &[u8; 16]) -> Option<DiskOp>
+    ensures { result ≡ range_command cdb.now }
 {
     Some(match cdb[0] {
-        0x00 => DiskOp::Ready,
         0x08 => DiskOp::Read {
             lba: short_address(cdb),
             blocks: short_length(cdb),
@@ -111,10 +110,6 @@ fn command_of(cdb: &[u8; 16]) -> Option<DiskOp>
             lba: short_address(cdb),
             blocks: short_length(cdb),
         },
-        0x12 => DiskOp::Inquiry {
-            max: u32::from(BigEndian::read_u16(&cdb[3..])),
-        },
-        0x25 => DiskOp::Capacity10,
         0x28 => DiskOp::Read {
             lba: ten_address(cdb),
             blocks: ten_length(cdb),
@@ -135,14 +130,29 @@ fn command_of(cdb: &[u8; 16]) -> Option<DiskOp>
             lba: sixteen_address(cdb),
             blocks: sixteen_length(cdb),
         },
-        0x9E => DiskOp::Capacity16 {
-            max: sixteen_length(cdb),
-        },
-        0xA0 => DiskOp::Luns {
-            max: BigEndian::read_u32(&cdb[6..]),
-        },
         _ => return None,
     })
+}
+
+// Reads a CDB: its command, where the disk knows the operation code.
+#[tactic(auto, unfolding(crate::specs::Cdb::command_of))]
+fn command_of(cdb: &[u8; 16]) -> Option<DiskOp>
+    ensures { result ≡ command_of cdb.now }
+{
+    match cdb[0] {
+        0x00 => Some(DiskOp::Ready),
+        0x12 => Some(DiskOp::Inquiry {
+            max: u32::from(BigEndian::read_u16(&cdb[3..])),
+        }),
+        0x25 => Some(DiskOp::Capacity10),
+        0x9E => Some(DiskOp::Capacity16 {
+            max: sixteen_length(cdb),
+        }),
+        0xA0 => Some(DiskOp::Luns {
+            max: BigEndian::read_u32(&cdb[6..]),
+        }),
+        _ => range_command(cdb),
+    }
 }
 
 // A field of INQUIRY or SERVICE ACTION IN(16) that the disk does not serve.

@@ -1,8 +1,7 @@
 // The disk step: executes a command on an image. Tests go in this order: logical unit, operation
 // code, fields, number of blocks, range, length of data-out, device.
-ghost use Rattle.std.specs.Prelude.{◌≡◌, ◌+◌, ◌*◌, ◌^◌, ◌<◌, ◌≤◌, false, Some, IfSome, IfNone, OnSome, nat_lt, option_map, length, take, drop};
-ghost use Rattle.vio_num.specs.Counts.{Rose};
-ghost use Rattle.block_disk.specs.Disk.{read_answer, write_answer, sync_answer, write_image, bytes_of, performed, parameter_data, data_of, changed, calls_of, read_calls, write_calls, sync_calls, device_calls, calls_made, called, reply_to, step};
+ghost use Rattle.std.specs.Prelude.{◌≡◌, ◌+◌, ◌*◌, ◌≤◌, false, Some, IfSome, nat_lt, option_map, length, take, drop};
+ghost use Rattle.block_disk.specs.Disk.{read_answer, write_answer, sync_answer, write_image, bytes_of, performed, parameter_data, data_of, changed, calls_of, read_calls, write_calls, sync_calls, device_calls, MakesCalls, reply_to, step};
 ghost use Rattle.block_disk.specs.Steps.{StepOn, made_step};
 ghost use Rattle.block_disk.specs.Cdb.{command_of, is_too_long};
 
@@ -34,14 +33,10 @@ fn read<B: Blocks>(
         take result.in_len (bytes_of (take blocks (drop lba all)))) }
     ensures room { result.in_len ≤ 131072 }
     ensures unused { result.out_used ≡ 0 }
-    ensures index { IfSome result.fault (λ call. call < read_calls lba blocks count) }
-    ensures calls { (B.state disk.new).calls ≡ called (Some (DiskOp.Read lba blocks))
-        (calls_made (read_calls lba blocks count) result.fault) (B.state disk.old).calls }
-    ensures size { (B.state disk.new).size ≡ (B.state disk.old).size }
+    ensures device { MakesCalls (Some (DiskOp.Read lba blocks))
+        (read_calls lba blocks count) result.fault
+        (B.state disk.old) (B.state disk.new) }
     ensures content { (B.state disk.new).blocks ≡ (B.state disk.old).blocks }
-    ensures same { IfNone result.fault ((B.state disk.new).faults ≡ (B.state disk.old).faults) }
-    ensures failed { OnSome result.fault
-        (Rose (B.state disk.old).faults (B.state disk.new).faults) }
 {
     if is_past(count, lba, blocks) {
         return ScsiReply::refused(OUT_OF_RANGE, 0);
@@ -61,15 +56,9 @@ fn write<B: Blocks>(disk: &mut B, count: u64, lba: u64, blocks: u32, data_out: &
         option_map (write_image lba blocks data_out.now result.fault) (B.state disk.old).blocks }
     ensures nothing { result.in_len ≡ 0 }
     ensures used { result.out_used ≤ length data_out.now }
-    ensures index { IfSome result.fault
-        (λ call. call < write_calls lba blocks count (length data_out.now)) }
-    ensures calls { (B.state disk.new).calls ≡ called (Some (DiskOp.Write lba blocks))
-        (calls_made (write_calls lba blocks count (length data_out.now)) result.fault)
-        (B.state disk.old).calls }
-    ensures size { (B.state disk.new).size ≡ (B.state disk.old).size }
-    ensures same { IfNone result.fault ((B.state disk.new).faults ≡ (B.state disk.old).faults) }
-    ensures failed { OnSome result.fault
-        (Rose (B.state disk.old).faults (B.state disk.new).faults) }
+    ensures device { MakesCalls (Some (DiskOp.Write lba blocks))
+        (write_calls lba blocks count (length data_out.now)) result.fault
+        (B.state disk.old) (B.state disk.new) }
 {
     if is_past(count, lba, blocks) {
         return ScsiReply::refused(OUT_OF_RANGE, 0);
@@ -90,14 +79,10 @@ fn sync<B: Blocks>(disk: &mut B, count: u64, lba: u64, blocks: u32) -> ScsiReply
     ensures reply { result ≡ sync_answer lba blocks count result.fault }
     ensures nothing { result.in_len ≡ 0 }
     ensures unused { result.out_used ≡ 0 }
-    ensures index { IfSome result.fault (λ call. call < sync_calls lba blocks count) }
-    ensures calls { (B.state disk.new).calls ≡ called (Some (DiskOp.Sync lba blocks))
-        (calls_made (sync_calls lba blocks count) result.fault) (B.state disk.old).calls }
-    ensures size { (B.state disk.new).size ≡ (B.state disk.old).size }
+    ensures device { MakesCalls (Some (DiskOp.Sync lba blocks))
+        (sync_calls lba blocks count) result.fault
+        (B.state disk.old) (B.state disk.new) }
     ensures content { (B.state disk.new).blocks ≡ (B.state disk.old).blocks }
-    ensures same { IfNone result.fault ((B.state disk.new).faults ≡ (B.state disk.old).faults) }
-    ensures failed { OnSome result.fault
-        (Rose (B.state disk.old).faults (B.state disk.new).faults) }
 {
     if is_past(count, lba, blocks) {
         return ScsiReply::refused(OUT_OF_RANGE, 0);
@@ -130,15 +115,8 @@ fn perform<B: Blocks>(
         (B.state disk.old).blocks }
     ensures room { result.in_len ≤ 131072 }
     ensures used { result.out_used ≤ length data_out.now }
-    ensures index { IfSome result.fault
-        (λ call. call < calls_of op count (length data_out.now)) }
-    ensures calls { (B.state disk.new).calls ≡ called (Some op)
-        (calls_made (calls_of op count (length data_out.now)) result.fault)
-        (B.state disk.old).calls }
-    ensures size { (B.state disk.new).size ≡ (B.state disk.old).size }
-    ensures same { IfNone result.fault ((B.state disk.new).faults ≡ (B.state disk.old).faults) }
-    ensures failed { OnSome result.fault
-        (Rose (B.state disk.old).faults (B.state disk.new).faults) }
+    ensures device { MakesCalls (Some op) (calls_of op count (length data_out.now)) result.fault
+        (B.state disk.old) (B.state disk.new) }
 {
     match op {
         DiskOp::Ready => ScsiReply::good(0, 0),
@@ -176,15 +154,9 @@ pub fn execute<B: Blocks>(
         (B.state disk.old).blocks }
     ensures room { result.in_len ≤ 131072 }
     ensures used { result.out_used ≤ length data_out.now }
-    ensures index { IfSome result.fault
-        (λ call. call < device_calls count lun cdb.now (length data_out.now)) }
-    ensures calls { (B.state disk.new).calls ≡ called (command_of cdb.now)
-        (calls_made (device_calls count lun cdb.now (length data_out.now)) result.fault)
-        (B.state disk.old).calls }
-    ensures size { (B.state disk.new).size ≡ (B.state disk.old).size }
-    ensures same { IfNone result.fault ((B.state disk.new).faults ≡ (B.state disk.old).faults) }
-    ensures failed { OnSome result.fault
-        (Rose (B.state disk.old).faults (B.state disk.new).faults) }
+    ensures device { MakesCalls (command_of cdb.now)
+        (device_calls count lun cdb.now (length data_out.now)) result.fault
+        (B.state disk.old) (B.state disk.new) }
 {
     match read_cdb(lun, cdb) {
         Ok(op) => perform(disk, count, lun, op, data_out, data_in),
