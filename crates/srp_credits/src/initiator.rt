@@ -127,7 +127,7 @@ impl Initiator {
     }
 }
 
-/// The request limit after an answer that grants `delta`, with so many requests outstanding.
+// Computes the request limit after an answer that grants `delta` more requests.
 fn raised(limit: Option<u32>, delta: u32, outstanding: usize) -> Option<u32>
     requires { outstanding ≤ 200 }
     ensures { result ≡ option_map (λ n. min (n + delta) (200 - outstanding)) limit }

@@ -70,7 +70,7 @@ pub fn pieces_of(buffer: &Buffer) -> Result<Pieces, DescFault>
     }
 }
 
-/// What a direct buffer names.
+// Gives what a direct buffer names.
 fn direct(desc: &Desc) -> Result<Pieces, DescFault>
     ensures ok { IfOk result (λ given. IsGiven (Direct desc.now) given) }
     ensures tables { IfOk result (λ given. tables_in given ≡ []) }
@@ -88,7 +88,7 @@ fn direct(desc: &Desc) -> Result<Pieces, DescFault>
     Ok(Pieces::Whole(list))
 }
 
-/// What an indirect buffer names.
+// Gives what an indirect buffer names.
 fn indirect(table: &Desc, total: u32, list: &ArrayVec<Desc, 11>) -> Result<Pieces, DescFault>
     ensures ok { IfOk result (λ given. IsGiven (Indirect table.now total list.now) given) }
     ensures tables { IfOk result (λ given.
@@ -119,7 +119,7 @@ fn indirect(table: &Desc, total: u32, list: &ArrayVec<Desc, 11>) -> Result<Piece
     Ok(Pieces::Whole(gathered.finish(total)?))
 }
 
-/// Whether a table of this length in bytes has not 1 to 256 descriptors, or fewer than are listed.
+// Tests whether a table of this length in bytes has not 1 to 256 descriptors, or fewer than are listed.
 fn is_count_bad(table_len: usize, listed: usize) -> bool
     ensures { result ≡ ((table_len == 0) || nat_lt MAX_TABLE_LEN table_len ||
         nat_lt 0 (table_len % 16) || nat_lt table_len listed) }

@@ -26,7 +26,7 @@ pub fn read_table(bytes: &[u8], total: u32) -> Result<ArrayVec<Desc, 256>, DescF
     gathered.finish(total)
 }
 
-/// The descriptor that stands at a place.
+// Reads the descriptor that stands at a place.
 fn desc_at(bytes: &[u8], place: usize) -> Desc
     requires { place + 16 ≤ length bytes.now }
     ensures { result ≡ desc_of (drop place bytes.now) }

@@ -23,7 +23,7 @@ pub fn tables_to_fetch(command: &Cmd) -> Result<ArrayVec<Desc, 2>, DescFault>
     Ok(tables)
 }
 
-/// Adds the buffer's table, if it is to be fetched.
+// Adds the buffer's table, if it is to be fetched.
 fn add_table(tables: &mut ArrayVec<Desc, 2>, buffer: &Buffer) -> Result<(), DescFault>
     requires { array_vec_len tables.old + 1 ≤ 2 }
     ensures ok { OnOk result (tables.new.items ≡ tables.old.items ++ tables_of buffer.now) }

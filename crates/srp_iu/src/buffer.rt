@@ -55,7 +55,7 @@ impl Desc {
         }
     }
 
-    /// The sixteen bytes of the descriptor.
+    // Gives the sixteen bytes of the descriptor.
     fn to_bytes(self) -> [u8; 16]
         ensures bytes { result ≡ desc_bytes self }
         ensures reads_back { (rest : List ℕ) → desc_of (desc_bytes self ++ rest) ≡ self }
@@ -141,7 +141,7 @@ pub(crate) fn buffer_len(format: u8, count: u8) -> usize
     }
 }
 
-/// The descriptors that stand one behind the other.
+// Reads the descriptors that stand one behind the other.
 fn read_descs(bytes: &[u8], count: u8) -> ArrayVec<Desc, 11>
     requires full { 16 * count ≤ length bytes.now }
     requires few { count ≤ 11 }
@@ -154,7 +154,7 @@ fn read_descs(bytes: &[u8], count: u8) -> ArrayVec<Desc, 11>
     list
 }
 
-/// Adds a descriptor at the end.
+// Adds a descriptor at the end.
 fn put_desc(out: &mut ArrayVec<u8, 256>, desc: &Desc)
     requires { array_vec_len out.old + 16 ≤ 256 }
     ensures bytes { out.new.items ≡ out.old.items ++ desc_bytes desc.now }
@@ -164,7 +164,7 @@ fn put_desc(out: &mut ArrayVec<u8, 256>, desc: &Desc)
     put(out, &desc.to_bytes());
 }
 
-/// Adds descriptors at the end, one behind the other.
+// Adds descriptors at the end, one behind the other.
 fn put_descs(out: &mut ArrayVec<u8, 256>, list: &[Desc])
     requires { array_vec_len out.old + 16 * length list.now ≤ 256 }
     ensures bytes { out.new.items ≡ out.old.items ++ flat_map desc_bytes list.now }

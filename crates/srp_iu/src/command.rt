@@ -37,7 +37,7 @@ pub(crate) fn has_bad_format(formats: u8) -> bool
     formats / 16 > 2 || formats % 16 > 2
 }
 
-/// The number of additional CDB bytes: byte 31 without its two low bits.
+// Reads the number of additional CDB bytes: byte 31 without its two low bits.
 fn more_len(bytes: &[u8]) -> usize
     requires { 48 ≤ length bytes.now }
     ensures value { result ≡ more_len bytes.now }
@@ -46,7 +46,7 @@ fn more_len(bytes: &[u8]) -> usize
     usize::from(bytes[31] / 4 * 4)
 }
 
-/// The place of the data-in buffer, behind the data-out buffer.
+// Finds the place of the data-in buffer, behind the data-out buffer.
 fn in_at(bytes: &[u8]) -> usize
     requires { 48 ≤ length bytes.now }
     ensures value { result ≡ in_at bytes.now }

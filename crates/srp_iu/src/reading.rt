@@ -30,7 +30,7 @@ pub fn read_iu(bytes: &[u8]) -> Result<Iu, IuFault>
     }
 }
 
-/// Why these bytes are no unit.
+// Says why these bytes are no unit.
 fn find_fault(bytes: &[u8]) -> Option<IuFault>
     ensures { result ≡ fault_of bytes.now }
 {
@@ -56,7 +56,7 @@ fn find_fault(bytes: &[u8]) -> Option<IuFault>
     None
 }
 
-/// The length of the part that each unit of a type has; none where there is no such type.
+// Tells the length of the part that each unit of a type has; none where there is no such type.
 fn fixed_len(kind: u8) -> Option<usize>
     ensures { MatchOption result (fixed_len kind ≡ 0) (λ len. (len ≡ fixed_len kind) × (0 < len)) }
 {
@@ -75,7 +75,7 @@ fn fixed_len(kind: u8) -> Option<usize>
     }
 }
 
-/// The length of the whole unit, whose fixed part is there.
+// Tells the length of the whole unit, whose fixed part is there.
 fn full_len(bytes: &[u8], fixed: usize) -> usize
     requires known { fixed ≡ fixed_len (slice_index bytes.now 0) }
     requires some { 0 < fixed }
@@ -100,7 +100,7 @@ pub fn tag_of(bytes: &[u8]) -> Option<u64>
     Some(tag_at_8(bytes))
 }
 
-/// The tag of a unit.
+// Reads the tag of a unit.
 fn tag_at_8(bytes: &[u8]) -> u64
     requires { 16 ≤ length bytes.now }
     ensures { result ≡ field 8 8 bytes.now }
@@ -108,7 +108,7 @@ fn tag_at_8(bytes: &[u8]) -> u64
     BigEndian::read_u64(&bytes[8..])
 }
 
-/// The unit that these bytes are.
+// Reads the unit that these bytes are.
 fn read_whole(bytes: &[u8]) -> Iu
     requires { fault_of bytes.now ≡ None }
     ensures { Spells bytes.now result }

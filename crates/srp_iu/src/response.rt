@@ -43,7 +43,7 @@ pub struct Rsp {
     pub sense: ArrayVec<u8, 220>,
 }
 
-/// The length of the response data in bytes.
+// Reads the length of the response data in bytes.
 fn response_len(bytes: &[u8]) -> u32
     requires { 36 ≤ length bytes.now }
     ensures { result ≡ response_len bytes.now }
@@ -55,7 +55,7 @@ fn response_len(bytes: &[u8]) -> u32
     }
 }
 
-/// The length of the sense data in bytes.
+// Reads the length of the sense data in bytes.
 fn sense_len(bytes: &[u8]) -> u32
     requires { 36 ≤ length bytes.now }
     ensures { result ≡ sense_len bytes.now }

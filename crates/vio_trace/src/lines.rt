@@ -55,7 +55,7 @@ impl Lines for LogRow {
     }
 }
 
-/// Writes a line of this first word for each entry.
+// Writes a line of this first word for each entry.
 fn put_entries(buffer: &mut Vec<u8>, word: &[u8], entries: &[Entry]) -> Result<(), NoMemory>
     ensures text { OnOk result (buffer.new.items ≡
         buffer.old.items ++ flat_map (entry_text word.now) entries.now) }
@@ -67,7 +67,7 @@ fn put_entries(buffer: &mut Vec<u8>, word: &[u8], entries: &[Entry]) -> Result<(
     Ok(())
 }
 
-/// Writes the line of an entry.
+// Writes the line of an entry.
 fn put_entry(buffer: &mut Vec<u8>, word: &[u8], entry: &Entry) -> Result<(), NoMemory>
     ensures text { OnOk result (buffer.new.items ≡
         buffer.old.items ++ entry_text word.now entry.now) }
@@ -92,7 +92,7 @@ impl Lines for DropRow {
     }
 }
 
-/// Writes the first line of a session.
+// Writes the first line of a session.
 fn put_queue_line(buffer: &mut Vec<u8>, row: &QueueRow) -> Result<(), NoMemory>
     ensures text { OnOk result (buffer.new.items ≡ buffer.old.items ++ queue_line row.now) }
     ensures range { OnOk result (IsQueueLine row.now) }

@@ -34,7 +34,7 @@ pub fn put_digits(buffer: &mut Vec<u8>, n: u64) -> Result<(), NoMemory>
     put_piece(buffer, &n.to_be_bytes())
 }
 
-/// A unit's name.
+// Writes a unit's name.
 fn put_name(buffer: &mut Vec<u8>, unit: UnitId) -> Result<(), NoMemory>
     ensures { OnOk result (buffer.new.items ≡ buffer.old.items ++ codes " " ++ name unit) }
 {
@@ -100,7 +100,7 @@ pub fn put_bytes(buffer: &mut Vec<u8>, list: &Bytes) -> Result<(), NoMemory>
     put_hex(buffer, list.as_slice())
 }
 
-/// These bytes in lower-case digits, two a byte.
+// Writes these bytes in lower-case digits, two a byte.
 fn put_hex(buffer: &mut Vec<u8>, bytes: &[u8]) -> Result<(), NoMemory>
     ensures range { IsBytes bytes.now }
     ensures text { OnOk result (buffer.new.items ≡ buffer.old.items ++ encode_lower bytes.now) }
@@ -111,7 +111,7 @@ fn put_hex(buffer: &mut Vec<u8>, bytes: &[u8]) -> Result<(), NoMemory>
     Ok(())
 }
 
-/// At most [`PIECE`] bytes in lower-case digits.
+// Writes at most [`PIECE`] bytes in lower-case digits.
 fn put_piece(buffer: &mut Vec<u8>, bytes: &[u8]) -> Result<(), NoMemory>
     requires { length bytes.now ≤ PIECE }
     ensures { OnOk result (buffer.new.items ≡ buffer.old.items ++ encode_lower bytes.now) }

@@ -59,9 +59,14 @@ pub(super) enum Data {
 pub(super) enum Answer {
     None,
     Login(LoginRsp),
+    /// The command with this tag is done: one credit, status GOOD, no residual.
+    Good(u64),
+    /// The command with this tag failed: one credit, status CHECK CONDITION with this sense, no residual.
+    Checked(u64, &'static str),
     Response(Response),
 }
 
+#[derive(Drop)]
 pub(super) struct Response {
     pub(super) delta: u32,
     pub(super) tag: u64,
@@ -71,6 +76,30 @@ pub(super) struct Response {
     pub(super) in_residual: u32,
     pub(super) response: &'static str,
     pub(super) sense: &'static str,
+}
+
+impl Response {
+    fn good(tag: u64) -> Response {
+        Response {
+            delta: 1,
+            tag,
+            flags: 0x00,
+            status: 0x00,
+            out_residual: 0,
+            in_residual: 0,
+            response: "",
+            sense: "",
+        }
+    }
+
+    fn checked(tag: u64, sense: &'static str) -> Response {
+        Response {
+            flags: 0x02,
+            status: 0x02,
+            sense,
+            ..Response::good(tag)
+        }
+    }
 }
 
 /// The bytes of a hexadecimal text, at most 256.
@@ -201,6 +230,10 @@ fn is_desc(desc: &Desc, wanted: &(u64, u32, u32)) -> bool {
 fn is_answer(iu: &Iu, answered: &Answer) -> bool {
     match (iu, answered) {
         (Iu::LoginRsp(response), Answer::Login(login)) => response == login,
+        (Iu::Rsp(response), Answer::Good(tag)) => is_response(response, &Response::good(*tag)),
+        (Iu::Rsp(response), Answer::Checked(tag, sense)) => {
+            is_response(response, &Response::checked(*tag, sense))
+        }
         (Iu::Rsp(response), Answer::Response(wanted)) => is_response(response, wanted),
         _ => false,
     }
