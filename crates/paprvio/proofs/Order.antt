@@ -5,7 +5,6 @@ use Rattle.vio_num.specs.declared.history.Served.{Served}
 use Rattle.vio_trace.specs.declared.rows.Trace.{Trace}
 use Rattle.vio_trace.specs.declared.rows.LogRow.{LogRow}
 use Rattle.vio_trace.specs.declared.rows.Outcome.TheVariants.{Granted}
-use Rattle.vio_trace.specs.declared.rows.QueueRow.{QueueRow}
 use Rattle.vio_trace.specs.declared.rows.AnswerRow.{AnswerRow}
 use Rattle.vio_trace.specs.Form.{Ascend, LogBefore, UnitBefore, QueueBefore, AnswerBefore, IsInOrder}
 use Rattle.paprvio.specs.declared.boot.Plan.{Plan}

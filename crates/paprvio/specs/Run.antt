@@ -7,7 +7,7 @@ use Rattle.vio_trace.specs.Form.{IsTextOf}
 use Rattle.paprvio.specs.declared.boot.Plan.{Plan}
 use Rattle.paprvio.specs.declared.boot.TheConstants.{MAX_TEXT}
 use Rattle.paprvio.specs.declared.status.Status.{Status}
-use Rattle.paprvio.specs.declared.status.Status.TheVariants.{Done, Usage, Refused, NoMemory}
+use Rattle.paprvio.specs.declared.status.Status.TheVariants.{Done, Usage, Refused, SourceFailed, NoMemory}
 use Rattle.paprvio.specs.BootText.{IsBootText}
 use Rattle.paprvio.specs.Ending.{Outside, EndsAs}
 use Rattle.paprvio.specs.FirstRun.{IsFirstRun}
@@ -85,11 +85,22 @@ RunAnswer words old new Usage text = ¬ AreRun words × (text ≡ usage_text)
 RunAnswer words old new Refused text = AreRun words × IsRefused old new text
 RunAnswer words old new _ text = ⊥
 
+-- a run of these words ended with this status, and did what belongs to it
+abbrev pub RunEndsWith : List (List ℕ) → Status → Outside → Outside → Type 0
+RunEndsWith words status old new = EndsAs (RunAnswer words old.left new.left) status old new
+
 -- the exit status of a run, and what it did to its source and its sink
 pub record RunEndsAs (words : List (List ℕ)) (code : ℕ) (old new : Outside) : Type 0 where
   pub status : Status
   pub said : code ≡ status_code status
-  pub ends : EndsAs (RunAnswer words old.left new.left) status old new
+  pub ends : RunEndsWith words status old new
+
+-- what an exit status says of the words, whatever happened outside
+pub record FitsWords (words : List (List ℕ)) (code : ℕ) : Type 0 where
+  pub done : code ≡ status_code Done → AreRun words
+  pub usage : code ≡ status_code Usage → ¬ AreRun words
+  pub refused : code ≡ status_code Refused → AreRun words
+  pub source_failed : code ≡ status_code SourceFailed → AreRun words
 
 -- it has this exit status, or found no memory
 abbrev pub IsOrStarved : ℕ → Status → Type 0

@@ -2,6 +2,11 @@
 // trace to standard output.
 #![tactic(auto)]
 
+ghost use Rattle.std.specs.Prelude.{◌≡◌, ◌⊎◌, map, string_bytes};
+ghost use Rattle.paprvio.specs.Run.{FitsWords};
+ghost use Rattle.paprvio.specs.Status.{status_code};
+ghost use Rattle.paprvio.specs.declared.status.Status.TheVariants.{Done, SinkFailed};
+
 mod answer;
 mod answering;
 mod boot;
@@ -44,7 +49,9 @@ fn run_over<R: Threads + Sync + Input + Print + AllocGlobal, Di: Blocks + Send +
     rt: &R,
     words: &[String],
     image: Di,
-) -> u8 {
+) -> u8
+    ensures { FitsWords (map string_bytes words.now) result }
+{
     let mut source = StdSource::new(rt.reader());
     let mut sink = StdSink::new(io::writer(rt));
     let ended = run(
@@ -67,6 +74,7 @@ fn run_image<R: Threads + Sync + Files + Input + Print + AllocGlobal>(
 ) -> u8
 where
     R::File: Send + Drop,
+    ensures { FitsWords (map string_bytes words.now) result }
 {
     if name == "-" {
         match SureBlocks::zeros(rt.alloc(), ZERO_BLOCKS) {
@@ -82,7 +90,9 @@ where
 }
 
 // Writes a text of the program's own to standard output.
-fn print_text<R: Print>(rt: &R, text: &str) -> u8 {
+fn print_text<R: Print>(rt: &R, text: &str) -> u8
+    ensures { (result ≡ status_code Done) ⊎ (result ≡ status_code SinkFailed) }
+{
     match rt.print(text) {
         Ok(()) => Status::Done.code(),
         Err(_) => Status::SinkFailed.code(),

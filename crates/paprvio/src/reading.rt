@@ -1,7 +1,7 @@
 // A source read to its end, or to the first byte past the longest boot text.
 ghost use Rattle.std.specs.Prelude.{◌≡◌, ℕ, ◌+◌, ◌<◌, ◌≤◌, List, length, take, vec_len, IfOk, OnOk, IsErrOf};
 ghost use Rattle.std.specs.Io.KnownBytes.{Consumes, IsAtEnd};
-ghost use Rattle.paprvio.specs.Written.{ReadBehind};
+ghost use Rattle.paprvio.specs.Written.{Fills, ReadBehind};
 ghost use Rattle.vio_num.specs.Counts.{Rose};
 
 use crate::boot::MAX_TEXT;
@@ -24,7 +24,7 @@ pub enum ReadFault {
 
 /// Reads all that the source has left, at most one byte more than the longest boot text.
 pub fn read_all<S: Source>(alloc: Global, source: &mut S) -> Result<Vec<u8>, ReadFault>
-    ensures all { IfOk result (λ bytes. Consumes (S.left source.old) (S.left source.new) bytes.items) }
+    ensures all { IfOk result (λ got. Consumes (S.left source.old) (S.left source.new) got.items) }
     ensures end { OnOk result (IsAtEnd (S.left source.new)) }
     ensures short { IfOk result (λ bytes. length bytes.items ≤ MAX_TEXT) }
     ensures long { IsErrOf result ReadFault.TooLong → (bytes : List ℕ)
@@ -89,7 +89,7 @@ fn fill_behind<S: Source>(
 // buffer.
 fn fill<S: Source>(source: &mut S, buffer: &mut [u8]) -> Result<usize, ReadFault>
     ensures within { IfOk result (λ n. n < length buffer.new) }
-    ensures all { IfOk result (λ n. Consumes (S.left source.old) (S.left source.new) (take n buffer.new)) }
+    ensures all { IfOk result (Fills (S.left source.old) (S.left source.new) buffer.new) }
     ensures end { OnOk result (IsAtEnd (S.left source.new)) }
     ensures long { IsErrOf result ReadFault.TooLong
         → Consumes (S.left source.old) (S.left source.new) buffer.new }

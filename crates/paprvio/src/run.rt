@@ -1,9 +1,9 @@
 // The call that the program makes: words, a source and a sink in, a status out.
 ghost use Rattle.std.specs.Prelude.{◌≡◌, ◌↔◌, ◌∷◌, [], map, string_bytes, codes, IfOk, IsErr, IsErrOf, IsTrue};
 ghost use Rattle.vio_num.specs.Counts.{Rose};
-ghost use Rattle.paprvio.specs.Answer.{answer_status, answer_text};
-ghost use Rattle.paprvio.specs.Ending.{EndsAs, FinishesAs, outside};
-ghost use Rattle.paprvio.specs.Run.{AreRun, RunAnswer, RunEndsAs, MustEndAs};
+ghost use Rattle.paprvio.specs.Answer.{answer_status, answer_text, IsAnswerTo};
+ghost use Rattle.paprvio.specs.Ending.{FinishesAs, outside};
+ghost use Rattle.paprvio.specs.Run.{AreRun, RunEndsAs, RunEndsWith, MustEndAs, FitsWords};
 ghost use Rattle.paprvio.specs.Status.{status_code};
 ghost use Rattle.paprvio.specs.declared.status.Status.TheVariants.{SourceFailed};
 
@@ -41,9 +41,8 @@ fn is_run(word: &str) -> bool
 
 // Answers the words: with the usage alone, or with what the source gives.
 fn answer_of<So: Source>(alloc: Global, words: &[String], source: &mut So) -> Result<Answer, Stop>
-    ensures answer { IfOk result (λ answer. RunAnswer (map string_bytes words.now) (So.left source.old)
-        (So.left source.new)
-        (answer_status answer) (answer_text answer)) }
+    ensures answer { IfOk result (IsAnswerTo (map string_bytes words.now) (So.left source.old)
+        (So.left source.new)) }
     ensures failed { IsErrOf result Stop.SourceFailed
         → Rose (So.faults source.old) (So.faults source.new) }
     ensures same { ¬ IsErrOf result Stop.SourceFailed
@@ -77,8 +76,7 @@ fn run_words<So: Source, Si: Sink>(
     source: &mut So,
     sink: &mut Si,
 ) -> Status
-    ensures ends { EndsAs (RunAnswer (map string_bytes words.now) (So.left source.old) (So.left source.new))
-        result
+    ensures ends { RunEndsWith (map string_bytes words.now) result
         (outside (So.left source.old) (Si.taken sink.old) (So.faults source.old) (Si.faults sink.old))
         (outside (So.left source.new) (Si.taken sink.new) (So.faults source.new) (Si.faults sink.new)) }
     ensures asked { result ≡ SourceFailed → AreRun (map string_bytes words.now) }
@@ -111,6 +109,7 @@ pub fn run<R: Threads + Sync, So: Source, Di: Blocks + Send, Si: Sink, G: Gate +
     ensures must { MustEndAs (map string_bytes words.now) result.status
         (outside (So.left source.old) (Si.taken sink.old) (So.faults source.old) (Si.faults sink.old))
         (outside (So.left source.new) (Si.taken sink.new) (So.faults source.new) (Si.faults sink.new)) }
+    ensures words { FitsWords (map string_bytes words.now) result.status }
     ensures unread { ¬ AreRun (map string_bytes words.now) → source.new ≡ source.old }
     ensures unwritten { result.status ≡ status_code SourceFailed → sink.new ≡ sink.old }
     ensures image { result.image ≡ image }

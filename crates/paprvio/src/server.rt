@@ -1,15 +1,14 @@
 // The server's part of a first run: what it answers, and the rows of its history.
-ghost use Rattle.std.specs.Prelude.{◌≡◌, ℕ, ◌+◌, ◌<◌, ◌≤◌, ◌^◌, IfOk, Some, length, true, false};
+ghost use Rattle.std.specs.Prelude.{◌≡◌, ◌+◌, ◌<◌, ◌≤◌, ◌^◌, IfOk, length, true, false};
 ghost use Rattle.srp_iu.specs.Grammar.{Canon};
-ghost use Rattle.srp_iu.specs.declared.unit.Iu.TheVariants.{Cmd as CommandUnit, Rsp as ResponseUnit};
-ghost use Rattle.srp_iu.specs.declared.command.Cmd.{Cmd};
+ghost use Rattle.srp_iu.specs.declared.unit.Iu.TheVariants.{Rsp as ResponseUnit};
 ghost use Rattle.paprvio.specs.History.{IsRowOf, AreRowsFrom};
 ghost use Rattle.paprvio.specs.FirstRun.{good_response};
 ghost use Rattle.vio_num.specs.Entry.{is_srp_of_length};
 
 use crate::client::command_unit;
 use arrayvec::ArrayVec;
-use srp_iu::{Iu, Rsp, canonical_bytes_spell_one, read_iu, spelled_bytes_are_read, write_iu};
+use srp_iu::{Iu, Rsp, tag_of, write_iu};
 use std::alloc::Global;
 use vio_num::{Bytes, Entry, NoMemory, Sequence, Served, UnitId};
 
@@ -56,18 +55,6 @@ pub fn answer_entry(tag: u64) -> Entry
     ensures tag { result.low ≡ tag }
 {
     Entry::srp(RSP_BYTES, tag)
-}
-
-// The tag of a command's information unit.
-fn tag_of(command: &[u8]) -> Option<u64>
-    ensures { (c : Cmd) → Canon command.now (CommandUnit c) → result ≡ Some c.tag }
-{
-    canonical_bytes_spell_one();
-    spelled_bytes_are_read();
-    match read_iu(command) {
-        Ok(Iu::Cmd(command)) => Some(command.tag),
-        _ => None,
-    }
 }
 
 // The row of the i-th command, from 1, whose entry stands i behind the login's.

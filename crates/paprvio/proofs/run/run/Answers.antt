@@ -1,3 +1,4 @@
+use Rattle.paprvio.proofs.Endings.{fits_words}
 use Rattle.paprvio.proofs.Musts.{must_end}
 use Rattle.paprvio.proofs.run.run.Goals as goal
 
@@ -5,3 +6,8 @@ pub returns-clause-must : goal.returns-clause-must
 returns-clause-must g c =
     let words = c.run_words-status.ensures in
     rw c.code.ensures (must_end _ c.run_words-status.result _ _ words.ends words.asked)
+
+pub returns-clause-words : goal.returns-clause-words
+returns-clause-words g c =
+    let words = c.run_words-status.ensures in
+    rw c.code.ensures (fits_words _ c.run_words-status.result _ _ words.ends words.asked)
