@@ -44,10 +44,20 @@ new_filtering word = if is_set word filtering_is_given then Some (is_set word fi
 abbrev pub action_number : ℕ → ℕ
 action_number word = bit_and word action_bits
 
+-- the numbers of the actions; 3 is to clear the list
+abbrev pub nothing : ℕ
+nothing = 0
+
+abbrev pub add : ℕ
+add = 1
+
+abbrev pub remove : ℕ
+remove = 2
+
 -- the action of a number below 4
 abbrev pub action_of : ℕ → FilterAction
 action_of number =
-    if number == 0 then Nothing
-    else if number == 1 then Add
-    else if number == 2 then Remove
+    if number == nothing then Nothing
+    else if number == add then Add
+    else if number == remove then Remove
     else Clear

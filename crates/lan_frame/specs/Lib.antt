@@ -1,3 +1,4 @@
 pub mod Control
 pub mod Filter
+pub mod Filters
 pub mod Station

@@ -12,6 +12,12 @@ const RECEPTION: u64 = 0x20000;
 const FILTERING: u64 = 0x10000;
 // Hold the action on the filter list.
 const ACTION: u64 = 0x3;
+// Number the actions on the filter list.
+const NOTHING: u8 = 0;
+
+const ADD: u8 = 1;
+
+const REMOVE: u8 = 2;
 // Gathers the bits that a control word may have.
 const CONTROL_BITS: u64 = RECEPTION_IS_GIVEN | RECEPTION | FILTERING_IS_GIVEN | FILTERING | ACTION;
 
@@ -46,9 +52,9 @@ impl Control {
         ensures { result ≡ action_of self.action }
     {
         match self.action {
-            0 => FilterAction::Nothing,
-            1 => FilterAction::Add,
-            2 => FilterAction::Remove,
+            NOTHING => FilterAction::Nothing,
+            ADD => FilterAction::Add,
+            REMOVE => FilterAction::Remove,
             _ => FilterAction::Clear,
         }
     }

@@ -4,12 +4,14 @@
 
 mod control;
 mod filter;
+mod filters;
 mod station;
 #[cfg(test)]
 mod tests;
 
 pub use control::{Control, FilterAction, read_control};
 pub use filter::accepts;
+pub use filters::{FILTER_PLACES, Filters};
 pub use station::{
     BROADCAST, HEADER_BYTES, MAX_FRAME, MIN_FRAME, ZERO, destination, is_broadcast, is_zero,
 };

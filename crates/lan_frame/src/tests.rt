@@ -1,6 +1,6 @@
 // Destinations, control words and the filter, in tables.
 use super::*;
-use vio_num::Mac;
+use vio_num::{Hrc, Mac};
 
 // Gives the address that ends in this byte: of a group where the first byte is 1.
 fn mac(first: u8, last: u8) -> Mac {
@@ -102,4 +102,65 @@ fn frames_are_accepted_by_the_filter(rt: HostRuntime) {
         );
     }
     assert!(rt; !accepts(own, true, true, &[], mac(1, 1)));
+}
+
+// Gives the filters of so many groups, whose addresses end in 1 to `count`.
+fn groups(count: u8) -> Filters {
+    let mut filters = Filters::new();
+    for last in 0..count {
+        filters.add(mac(1, last));
+    }
+    filters
+}
+
+#[test]
+fn filters_are_added_once_each_up_to_thirty_two(rt: HostRuntime) {
+    for (count, first, last, want, left) in [
+        (0, 1, 0, Hrc::Success, 1),
+        (1, 1, 0, Hrc::Success, 1),
+        (1, 1, 1, Hrc::Success, 2),
+        (31, 1, 40, Hrc::Success, 32),
+        (32, 1, 40, Hrc::Resource, 32),
+        (32, 1, 31, Hrc::Success, 32),
+        (40, 1, 32, Hrc::Resource, 32),
+    ] {
+        let mut filters = groups(count);
+        assert_eq!(rt; filters.add(mac(first, last)), want, "{count} {last}");
+        assert_eq!(rt; filters.len(), left, "{count} {last}");
+    }
+}
+
+#[test]
+fn filters_are_removed_by_their_address(rt: HostRuntime) {
+    for (count, last, want, left) in [
+        (0, 0, Hrc::NotFound, 0),
+        (3, 3, Hrc::NotFound, 3),
+        (3, 0, Hrc::Success, 2),
+        (3, 2, Hrc::Success, 2),
+        (32, 31, Hrc::Success, 31),
+    ] {
+        let mut filters = groups(count);
+        assert_eq!(rt; filters.remove(mac(1, last)), want, "{count} {last}");
+        assert_eq!(rt; filters.len(), left, "{count} {last}");
+        assert!(rt; !filters.contains(mac(1, last)));
+    }
+}
+
+#[test]
+fn filters_stay_in_their_order(rt: HostRuntime) {
+    let mut filters = groups(3);
+    filters.remove(mac(1, 1));
+    filters.add(mac(1, 9));
+    assert_eq!(rt;
+        filters.as_slice(),
+        [mac(1, 0), mac(1, 2), mac(1, 9)].as_slice()
+    );
+    let kept = filters.copied();
+    filters.clear();
+    assert!(rt; filters.is_empty());
+    assert_eq!(rt;
+        kept.as_slice(),
+        [mac(1, 0), mac(1, 2), mac(1, 9)].as_slice()
+    );
+    assert!(rt; kept.contains(mac(1, 9)));
 }
