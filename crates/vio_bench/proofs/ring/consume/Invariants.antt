@@ -1,0 +1,5 @@
+use Rattle.std.proofs.Common.{◌≡◌, ◌≤◌}
+use Rattle.vio_bench.proofs.ring.consume.Given as goal
+
+abbrev pub invariant-loop : goal.invariant-loop
+invariant-loop l = (l.recv.ring ≡ l.fn.recv.ring) × (l.k ≤ l.count)

@@ -1,0 +1,14 @@
+use Rattle.std.proofs.Common.{◌≡◌, ◌≤◌}
+use Rattle.vio_bench.proofs.ring.pass_batches.Given as goal
+
+abbrev pub invariant-loop-left : goal.invariant-loop-left
+invariant-loop-left l = record {
+  sends : l.send.ring ≡ l.fn.send.ring;
+  receives : l.recv.ring ≡ l.fn.recv.ring;
+  puts : l.left ≤ l.send.spare;
+  polls : l.left ≤ l.recv.spare;
+  count : l.left ≤ l.count;
+}
+
+abbrev pub decreases-loop-left : goal.decreases-loop-left
+decreases-loop-left l = l.left
