@@ -181,6 +181,8 @@ fn produce(ring: &Ring, mut send: SendEnd, n: u32) -> (SendEnd, u32)
         }
         if let Put::Done { .. } = ring.put(&mut send, entry(k)) {
             k += 1;
+        } else {
+            thread::yield_now();
         }
     }
     (send, k)
@@ -198,6 +200,8 @@ fn consume(ring: &Ring, mut recv: RecvEnd, n: u32) -> (RecvEnd, u32)
         }
         if let Poll::Got { .. } = ring.poll(&mut recv) {
             k += 1;
+        } else {
+            thread::yield_now();
         }
     }
     (recv, k)
