@@ -133,7 +133,8 @@ impl PlainPipe {
         requires begun { 0 < self.old.session }
         requires room { 0 < self.old.room.puts }
         ensures done { IfDone result (λ number. Receives self.old number entry self.new) }
-        ensures dropped { IfDropped result (λ number held. Overflows self.old number held self.new) }
+        ensures dropped { IfDropped result
+            (λ number held. Overflows self.old number held self.new) }
         ensures room { self.old.room.puts ≤ self.new.room.puts + 1 }
         ensures rest { OnlyReceives self.old self.new }
     {
@@ -149,7 +150,8 @@ impl PlainPipe {
     // Records the drop of an entry that found its slot full: its number, and what lay there.
     fn drop_entry(&mut self) -> (u64, u64)
         requires room { 0 < self.old.room.puts }
-        requires full_slot { length (sent_now self.old) ≡ length (taken_now self.old) + self.old.slots }
+        requires full_slot { length (sent_now self.old) ≡
+            length (taken_now self.old) + self.old.slots }
         ensures dropped { Overflows self.old result.0 result.1 self.new }
         ensures room { self.old.room.puts ≤ self.new.room.puts + 1 }
         ensures rest { OnlyReceives self.old self.new }
@@ -169,7 +171,8 @@ impl PlainPipe {
     // Adds an entry whose slot is empty, and gives its number.
     fn keep_entry(&mut self, entry: Entry) -> u64
         requires room { 0 < self.old.room.puts }
-        requires empty_slot { length (sent_now self.old) < length (taken_now self.old) + self.old.slots }
+        requires empty_slot { length (sent_now self.old) <
+            length (taken_now self.old) + self.old.slots }
         ensures done { Receives self.old result entry self.new }
         ensures room { self.old.room.puts ≤ self.new.room.puts + 1 }
         ensures rest { OnlyReceives self.old self.new }

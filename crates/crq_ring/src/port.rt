@@ -33,7 +33,8 @@ pub trait CrqPort {
         requires ready { (state self.old).ready ≡ true }
         requires spare { 0 < (state self.old).spare_puts }
         requires used { 2 ^ 63 ≤ entry.high }
-        ensures done { IfDone result (λ number. Puts (state self.old) number entry (state self.new)) }
+        ensures done { IfDone result
+            (λ number. Puts (state self.old) number entry (state self.new)) }
         ensures dropped { IfDropped result (λ number held.
             FindsFull (state self.old) number held (state self.new)) }
         ensures spare { (state self.old).spare_puts ≤ (state self.new).spare_puts + 1 }
@@ -43,8 +44,10 @@ pub trait CrqPort {
     fn poll(&mut self) -> Poll
         requires ready { (state self.old).ready ≡ true }
         requires spare { 0 < (state self.old).spare_polls }
-        ensures got { IfGot result (λ number entry. Takes (state self.old) number entry (state self.new)) }
-        ensures empty { IfEmpty result (λ number. FindsNone (state self.old) number (state self.new)) }
+        ensures got { IfGot result
+            (λ number entry. Takes (state self.old) number entry (state self.new)) }
+        ensures empty { IfEmpty result
+            (λ number. FindsNone (state self.old) number (state self.new)) }
         ensures spare { (state self.old).spare_polls ≤ (state self.new).spare_polls + 1 }
         ensures rest { OnlyTakes (state self.old) (state self.new) };
 }

@@ -25,7 +25,8 @@ fn is_same_number(a: &DropRow, b: &DropRow) -> bool
 fn has_record(drops: &[DropRow], row: &DropRow) -> bool
     requires in_order { AllPairs Precedes drops.now }
     requires last { All (λ other. NotAfter other row.now) drops.now }
-    ensures records { recorded drops.now row.now ≡ (if result then drops.now else drops.now ++ row.now ∷ []) }
+    ensures records { recorded drops.now row.now ≡
+        (if result then drops.now else drops.now ++ row.now ∷ []) }
     ensures in_order { AllPairs Precedes (recorded drops.now row.now) }
 {
     match drops.last() {

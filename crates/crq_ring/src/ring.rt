@@ -94,7 +94,8 @@ impl Ring {
         requires ours { send.old.ring ≡ self.now.id }
         requires spare { 0 < send.old.spare }
         requires used { 2 ^ 63 ≤ entry.high }
-        ensures done { IfDone result (λ number. EndPuts self.now.slots send.old number entry send.new) }
+        ensures done { IfDone result
+            (λ number. EndPuts self.now.slots send.old number entry send.new) }
         ensures dropped { IfDropped result (λ number held.
             EndFindsFull self.now.slots send.old number held send.new) }
         ensures spare { send.old.spare ≤ send.new.spare + 1 }

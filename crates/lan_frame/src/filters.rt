@@ -86,7 +86,8 @@ impl Filters {
         ensures resource { (result ≡ Hrc.Resource) ↔ IsFullFor mac self.old }
         ensures answers { (result ≡ Hrc.Success) ⊎ (result ≡ Hrc.Resource) }
         ensures standing { Contains self.old mac → self.new ≡ self.old }
-        ensures added { result ≡ Hrc.Success → ¬ Contains self.old mac → self.new ≡ self.old ++ mac ∷ [] }
+        ensures added { result ≡ Hrc.Success → ¬ Contains self.old mac →
+            self.new ≡ self.old ++ mac ∷ [] }
         ensures refused { result ≡ Hrc.Resource → self.new ≡ self.old }
     {
         if self.contains(mac) {

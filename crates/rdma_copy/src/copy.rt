@@ -63,12 +63,14 @@ pub fn copy_rdma<S: GuestPort, D: GuestPort>(
         (Copies D.is_shared (S.state src.new) (D.state dst.old) (D.state dst.new) s_ioba d_ioba len name) }
     ensures refused { OnRefused result (LaysNone D.is_shared (D.state dst.old) (D.state dst.new)) }
     ensures read { LaysNone S.is_shared (S.state src.old) (S.state src.new) }
-    ensures empty { len ≡ 0 → IsCopied result (λ copy. (copy.from.items ≡ []) × (copy.to.items ≡ [])) }
+    ensures empty { len ≡ 0 →
+        IsCopied result (λ copy. (copy.from.items ≡ []) × (copy.to.items ≡ [])) }
     ensures parameter { (result ≡ CopyAnswer.Parameter) ↔ (MOST_BYTES < len) }
     ensures held { OnHeld result (1 ≤ len → MayHold (S.state src.new) Read s_ioba len
         × MayHold (D.state dst.new) Write d_ioba len) }
     ensures source_parm { IfSourceParm result (RefusesRange (S.state src.new) Read s_ioba len) }
-    ensures dest_parm { IfDestParm result (λ fault. RefusesRange (D.state dst.new) Write d_ioba len fault
+    ensures dest_parm { IfDestParm result (λ fault.
+        RefusesRange (D.state dst.new) Write d_ioba len fault
         × MayHold (S.state src.new) Read s_ioba len) }
     ensures busy { IfBusy result (λ page word. (1 ≤ len) × (len ≤ MOST_BYTES)
         × MayHold (S.state src.new) Read s_ioba len

@@ -36,8 +36,10 @@ pub(crate) trait PageSet {
         requires there { IsSome (strokes self.old number) }
         requires room { 1 ≤ room self.old number }
         ensures index { result ≡ stroke_count (strokes self.old number) }
-        ensures strokes { (p : ℕ) → strokes self.new p ≡ with_stroke number stroke p (strokes self.old p) }
-        ensures room { (p : ℕ) → room self.old p ≡ room self.new p + (if number == p then 1 else 0) }
+        ensures strokes { (p : ℕ) → strokes self.new p ≡
+            with_stroke number stroke p (strokes self.old p) }
+        ensures room { (p : ℕ) → room self.old p ≡
+            room self.new p + (if number == p then 1 else 0) }
         ensures places { places self.new ≡ places self.old };
 }
 

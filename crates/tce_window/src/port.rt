@@ -54,7 +54,8 @@ pub trait OwnerPort: WindowPort {
         requires { 1 ≤ spare self.old }
         ensures parameter { (result ≡ TceAnswer.Parameter) ↔
             (takes (Self.state self.old).place.size ioba tce ≡ false) }
-        ensures busy { IfBusy result (MeetsPins Self.is_shared (Self.state self.old) ioba (tce ∷ [])) }
+        ensures busy { IfBusy result (MeetsPins Self.is_shared (Self.state self.old) ioba
+            (tce ∷ [])) }
         ensures put { Puts (Self.state self.old) ioba (put_by result (tce ∷ []))
             (Self.state self.new) }
         ensures spare { spare self.old ≤ spare self.new + length (put_by result (tce ∷ [])) }
@@ -82,7 +83,8 @@ pub trait OwnerPort: WindowPort {
         requires { length list.now ≤ 512 → length list.now ≤ spare self.old }
         ensures parameter { (result ≡ TceAnswer.Parameter) ↔
             (takes_all (Self.state self.old).place.size ioba list.now ≡ false) }
-        ensures busy { IfBusy result (MeetsPins Self.is_shared (Self.state self.old) ioba list.now) }
+        ensures busy { IfBusy result (MeetsPins Self.is_shared (Self.state self.old) ioba
+            list.now) }
         ensures put { Puts (Self.state self.old) ioba (put_by result list.now)
             (Self.state self.new) }
         ensures spare { spare self.old ≤ spare self.new + length (put_by result list.now) }
@@ -124,7 +126,8 @@ pub trait OwnerPort: WindowPort {
         ensures memory { IsErrOf result OwnFault.NoMemory
             → IsTrue (contains (Self.state self.old) at (length bytes.now))
             × AreInPlace (Self.state self.new) at (length bytes.now) }
-        ensures err { OnErr result (LaysNone Self.is_shared (Self.state self.old) (Self.state self.new)) }
+        ensures err { OnErr result (LaysNone Self.is_shared (Self.state self.old)
+            (Self.state self.new)) }
         ensures spare { spare self.old ≤ spare self.new }
         ensures counts { CountsOwn result (Self.state self.old).in_use
             (Self.state self.new).in_use }
@@ -169,7 +172,8 @@ pub trait GuestPort: WindowPort {
             (Self.state self.old).place.size ioba len fault) }
         ensures found { IfErr result (NamesFound (found self.new)) }
         ensures shared { IfErr result (IsSharedUse Self.is_shared) }
-        ensures err { OnErr result (HoldsNone Self.is_shared (Self.state self.old) (Self.state self.new)) }
+        ensures err { OnErr result (HoldsNone Self.is_shared (Self.state self.old)
+            (Self.state self.new)) }
         ensures nothing { LaysNothing Self.is_shared (Self.state self.old) (Self.state self.new) }
         ensures counts { CountsHold result (Self.state self.old).in_use
             (Self.state self.new).in_use }

@@ -319,7 +319,8 @@ fn reserve_slot(slot: &mut Option<Page>, count: u32) -> Result<(), NoMemory>
 fn write_slot(slot: &mut Option<Page>, stroke: Stroke) -> u32
     requires { 1 ≤ room_in (Some slot.old) }
     ensures index { result ≡ stroke_count (strokes_in (Some slot.old)) }
-    ensures strokes { strokes_in (Some slot.new) ≡ with_strokes (strokes_in (Some slot.old)) (stroke ∷ []) }
+    ensures strokes { strokes_in (Some slot.new) ≡
+        with_strokes (strokes_in (Some slot.old)) (stroke ∷ []) }
     ensures within { IsWithin (strokes_in (Some slot.new)) }
     ensures room { room_in (Some slot.old) ≡ room_in (Some slot.new) + 1 }
 {

@@ -355,7 +355,8 @@ impl PlainWindow {
     /// Writes the bytes over the region from the address on, 1 to 65,536 of them: one stroke on each page
     /// that they touch, named by the unit and the mark. Where it refuses, no page has another stroke.
     pub fn write(&mut self, at: u64, bytes: &[u8], mark: u64) -> Result<(), OwnFault>
-        ensures inside { OnOk result (IsTrue (in_region (length self.old.pages) at (length bytes.now))) }
+        ensures inside { OnOk result
+            (IsTrue (in_region (length self.old.pages) at (length bytes.now))) }
         ensures there { OnOk result (IsInPlace (strokes_at self.old.pages) at (length bytes.now)) }
         ensures strokes { OnOk result ((p : ℕ)
             → strokes_at self.new.pages p ≡ written
@@ -448,7 +449,8 @@ impl PlainWindow {
     pub fn hold(&mut self, ioba: u64, len: u32, right: Right) -> Result<Held, HoldFault>
         requires free { self.old.held_count ≡ 0 }
         requires len { (1 ≤ len) × (len ≤ 65536) }
-        ensures ok { IfOk result (Holds false (known_of self.old) ioba len right (known_of self.new)) }
+        ensures ok { IfOk result
+            (Holds false (known_of self.old) ioba len right (known_of self.new)) }
         ensures lent { IfOk result (λ held. IsLentBy self.new held) }
         ensures size { length self.new.pages ≡ length self.old.pages }
         ensures others { self.new ≡ record self.old {
