@@ -71,6 +71,13 @@ impl Initiator {
         matches!(self.limit, Some(limit) if limit > 0)
     }
 
+    /// How many more requests may be sent; `None` where no login is on.
+    pub fn limit(&self) -> Option<u32>
+        ensures { result ≡ self.now.limit }
+    {
+        self.limit
+    }
+
     /// The outstanding tags, the oldest first.
     pub fn outstanding(&self) -> &[u64]
         ensures tags { result.now ≡ self.now.tags }

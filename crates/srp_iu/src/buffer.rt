@@ -55,8 +55,9 @@ impl Desc {
         }
     }
 
-    // Gives the sixteen bytes of the descriptor.
-    fn to_bytes(self) -> [u8; 16]
+    /// Gives the sixteen bytes of the descriptor, as it stands in a buffer or in an indirect table
+    /// (SRP, memory descriptor).
+    pub fn to_bytes(self) -> [u8; 16]
         ensures bytes { result ≡ desc_bytes self }
         ensures reads_back { (rest : List ℕ) → desc_of (desc_bytes self ++ rest) ≡ self }
     {
