@@ -86,7 +86,7 @@ still_written name old new (piece ∷ pieces) more named =
     (still_written name old new pieces more (All-tail P piece pieces named))
 
 -- what was read is read as the lists grow
-read_stays : (unit : UnitId) (at : ℕ) (pieces : List Piece) (bytes : List ℕ) (values values' : ℕ → List ℕ) (strokes strokes' : ℕ → Option (List StrokeValue))
+pub read_stays : (unit : UnitId) (at : ℕ) (pieces : List Piece) (bytes : List ℕ) (values values' : ℕ → List ℕ) (strokes strokes' : ℕ → Option (List StrokeValue))
     → ((e : ℕ) → Begins (values e) (values' e)) → ((p : ℕ) → Grows true (strokes p) (strokes' p))
     → IsReadFrom unit values strokes at pieces bytes → IsReadFrom unit values' strokes' at pieces bytes
 read_stays unit at pieces bytes values values' strokes strokes' put laid h = record {
@@ -98,7 +98,7 @@ read_stays unit at pieces bytes values values' strokes strokes' put laid h = rec
 }
 
 -- and what was written is written
-written_stays : (unit : UnitId) (at : ℕ) (name : StrokeName) (pieces : List Piece) (bytes : List ℕ) (values values' : ℕ → List ℕ) (strokes strokes' : ℕ → Option (List StrokeValue))
+pub written_stays : (unit : UnitId) (at : ℕ) (name : StrokeName) (pieces : List Piece) (bytes : List ℕ) (values values' : ℕ → List ℕ) (strokes strokes' : ℕ → Option (List StrokeValue))
     → ((e : ℕ) → Begins (values e) (values' e)) → ((p : ℕ) → Grows true (strokes p) (strokes' p))
     → IsWrittenTo unit values strokes at name pieces bytes → IsWrittenTo unit values' strokes' at name pieces bytes
 written_stays unit at name pieces bytes values values' strokes strokes' put laid h = record {
@@ -164,3 +164,12 @@ learns_grows is_shared (Some old) (Some new) h = later_begins is_shared old new 
 learns_grows is_shared (Some old) None h = absurd h
 learns_grows is_shared None (Some new) h = absurd h
 learns_grows is_shared None None h = tt
+
+-- What is as it was is later than it was.
+pub same_later : {X : Type 0} (is_shared : Bool) (list : List X) → Later is_shared list list
+same_later true list = ([], sym (append-nil list))
+same_later false list = refl
+
+pub same_grows : (is_shared : Bool) (strokes : Option (List StrokeValue)) → Grows is_shared strokes strokes
+same_grows is_shared (Some strokes) = same_later is_shared strokes
+same_grows is_shared None = tt

@@ -135,27 +135,27 @@ fn copy_held<D: GuestPort>(
         Err(fault) => return CopyAnswer::DestParm(fault),
     };
     let written = target.copy_from(alloc, name, source);
-    let to = kept(target.pieces());
+    let to = copied_pieces(target.pieces());
     dst.give_back(target);
     match written {
         Ok(()) => CopyAnswer::Copied(CopyRecord {
             name,
             len,
-            from: kept(source.pieces()),
+            from: copied_pieces(source.pieces()),
             to,
         }),
         Err(NoMemory) => CopyAnswer::NoMemory,
     }
 }
 
-// Keeps the pieces in an array of their own.
-fn kept(pieces: &[Piece]) -> ArrayVec<Piece, 17>
+/// Copies the pieces of a held range, of which there are at most 17, into a list of their own.
+pub fn copied_pieces(pieces: &[Piece]) -> ArrayVec<Piece, 17>
     requires { length pieces.now ≤ 17 }
     ensures { result.items ≡ pieces.now }
 {
-    let mut kept = ArrayVec::new();
-    match kept.try_extend_from_slice(pieces) {
-        Ok(()) => kept,
+    let mut copied = ArrayVec::new();
+    match copied.try_extend_from_slice(pieces) {
+        Ok(()) => copied,
         Err(_) => unreachable!(),
     }
 }

@@ -3,7 +3,7 @@
 
 mod copy;
 
-pub use copy::{CopyAnswer, CopyRecord, copy_rdma};
+pub use copy::{CopyAnswer, CopyRecord, copied_pieces, copy_rdma};
 
 #[cfg(test)]
 mod tests;

@@ -20,7 +20,7 @@ returns-in-Ok-written-clause-copied g c =
     let bytes : List ℕ = joined c.args.source.now.pages c.args.source.now.pieces in
     let long : length bytes ≡ c.args.len = c.in-Ok-written.ensures.bytes ∙ c.requires.source in
     let kept : dst'.place.unit ≡ dst.place.unit = ap (λ place. place.unit) (c.give_back.ensures.rest.place ∙ c.hold.ensures.rest.place) in
-    let placed : c.kept-to.result.items ≡ behind (held_strokes held.pages) held.pieces = c.kept-to.ensures ∙ c.pieces.ensures.pieces ∙ c.in-Ok-written.ensures.pieces in
+    let placed : c.copied_pieces-to.result.items ≡ behind (held_strokes held.pages) held.pieces = c.copied_pieces-to.ensures ∙ c.pieces.ensures.pieces ∙ c.in-Ok-written.ensures.pieces in
     let touched : Touches dst.place.unit c.args.d_ioba (c.args.d_ioba + length bytes) held.pieces =
     subst (λ len. Touches dst.place.unit c.args.d_ioba (c.args.d_ioba + len) held.pieces) (sym long) c.in-Ok.ensures.ok.touched in
     let granted : All (IsGranted dst'.values Write) held.pieces =

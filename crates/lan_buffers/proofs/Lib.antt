@@ -1,0 +1,5 @@
+mod Keeping
+mod Lawful
+mod Leaving
+mod Pooling
+mod Pushing
