@@ -145,6 +145,16 @@ impl Station {
     }
 }
 
+// Tells that the buffer is the post of this number.
+fn posted(number: u64) -> Seen {
+    Seen::Posted(AddAnswer::Posted { number })
+}
+
+// Tells that the frame took the post of this number.
+fn done(post: u64) -> Seen {
+    Seen::Sent(Deliver::Done { post })
+}
+
 // Gives the descriptor of a valid buffer of this many bytes at this address.
 fn buffer(len: u64, address: u64) -> u64 {
     0x8000_0000_0000_0000 | (len & 0xFF_FFFF) << 32 | (address & 0xFFFF_FFFF)

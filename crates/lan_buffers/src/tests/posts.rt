@@ -1,17 +1,7 @@
 // Buffers, frames and receive entries, by their lengths and numbers.
-use super::{Seen, Step, first_other};
+use super::{Seen, Step, done, first_other, posted};
 use crate::answers::{AddAnswer, Deliver, Harvest};
 use vio_num::NoMemory;
-
-// Tells that the buffer is the post of this number.
-fn posted(number: u64) -> Seen {
-    Seen::Posted(AddAnswer::Posted { number })
-}
-
-// Tells that the frame took the post of this number.
-fn done(post: u64) -> Seen {
-    Seen::Sent(Deliver::Done { post })
-}
 
 // Tells that entry `number` has a frame of this length, in the buffer of this correlator.
 fn frame(number: u64, len: u32, correlator: u64) -> Seen {
