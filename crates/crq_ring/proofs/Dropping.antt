@@ -14,7 +14,7 @@ use Rattle.crq_ring.specs.Sessions.{of_session, recorded, same_number, Precedes,
 use Rattle.crq_ring.specs.Kept.{KeepsDrops}
 use Rattle.crq_ring.proofs.Sessions.{of_session-append}
 
-all_weaken : {X : Type 0} (P Q : X → Type 0) → ((x : X) → P x → Q x) → (xs : List X) → All P xs → All Q xs
+pub all_weaken : {X : Type 0} (P Q : X → Type 0) → ((x : X) → P x → Q x) → (xs : List X) → All P xs → All Q xs
 all_weaken P Q f xs h = λ k d lt. f (get_or xs k d) (h k d lt)
 
 -- what stands in a list stands there when more is put behind it

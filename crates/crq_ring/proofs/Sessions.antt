@@ -25,6 +25,10 @@ of_session-append q xs ys =
     ap (map (λ row. row.entry)) (filter-append (λ row. row.session == q) xs ys)
     ∙ map-append (λ row. row.entry) (filter (λ row. row.session == q) xs) (filter (λ row. row.session == q) ys)
 
+pub of_session-nil : (q : ℕ) → of_session q [] ≡ []
+unfolding of_session
+of_session-nil q = refl
+
 -- one row is of its own session
 pub of_session-own : (row : PipeRow) → of_session row.session (row ∷ []) ≡ row.entry ∷ []
 unfolding of_session
@@ -83,6 +87,15 @@ Present-renew session from rows p = record {
   entries = p.none_later (session + 1) (omega arith) ∙ ap (map (λ r. r.entry)) (sym (drop_of_length-le rows (le_refl (length rows))));
   none_later = λ q h. p.none_later q (omega (arith, h));
   rising = AreRising-later session rows p.rising;
+}
+
+-- the same of any later session
+pub Present-later : (session q from : ℕ) (rows : List PipeRow) → session < q → Present session from rows → Present q (length rows) rows
+Present-later session q from rows later p = record {
+  within = omega arith;
+  entries = p.none_later q later ∙ ap (map (λ row. row.entry)) (sym (drop_of_length-le rows (le_refl (length rows))));
+  none_later = λ k h. p.none_later k (omega (arith, h, later));
+  rising = record { in_order = p.rising.in_order; none_later = λ k d lt. omega (arith, p.rising.none_later k d lt, later) };
 }
 
 -- no more is taken than was sent

@@ -1,6 +1,8 @@
 -- What is said of one answer of a queue.
 use Rattle.std.specs.Prelude.{ℕ}
 use Rattle.vio_num.specs.declared.entry.Entry.{Entry}
+use Rattle.crq_ring.specs.declared.laws.Enter.{Enter}
+use Rattle.crq_ring.specs.declared.laws.Enter.TheVariants.{Inside, Closed}
 use Rattle.crq_ring.specs.declared.port.Put.{Put}
 use Rattle.crq_ring.specs.declared.port.Put.TheVariants.{Done, Dropped}
 use Rattle.crq_ring.specs.declared.port.Poll.{Poll}
@@ -25,3 +27,12 @@ IfGot (Empty number) P = Unit {0}
 abbrev pub IfEmpty : Poll → (ℕ → Type 0) → Type 0
 IfEmpty (Got number entry) P = Unit {0}
 IfEmpty (Empty number) P = P number
+
+-- where a sender is inside: P; where it was turned back: P of the control word
+abbrev pub OnInside : Enter → Type 0 → Type 0
+OnInside Inside P = P
+OnInside (Closed control) P = Unit {0}
+
+abbrev pub IfTurnedBack : Enter → (ℕ → Type 0) → Type 0
+IfTurnedBack Inside P = Unit {0}
+IfTurnedBack (Closed control) P = P control

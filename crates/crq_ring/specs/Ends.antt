@@ -1,17 +1,24 @@
 -- What contracts see of a ring and of its two ends.
-use Rattle.std.specs.Prelude.{◌≡◌, ℕ, List, ◌++◌, map}
+use Rattle.std.specs.Prelude.{◌≡◌, ℕ, ◌<◌, Bool, true, List, ◌++◌}
 use Rattle.atomic_table.specs.Seated.{TableId}
 use Rattle.vio_num.specs.declared.entry.Entry.{Entry}
 use Rattle.crq_ring.specs.declared.rows.PipeRow.{PipeRow}
 use Rattle.crq_ring.specs.declared.rows.DropRow.{DropRow}
+use Rattle.crq_ring.specs.Sessions.{of_session}
 
 -- the first list is a front of the second
-abbrev pub Begins : List Entry → List Entry → Type 0
-Begins front whole = (rest : List Entry) × (whole ≡ front ++ rest)
+abbrev pub Begins : {A : Type 0} → List A → List A → Type 0
+Begins {A} front whole = (rest : List A) × (whole ≡ front ++ rest)
 
--- entries as rows of session 1, in which a ring is
-abbrev pub rows_of : List Entry → List PipeRow
-rows_of entries = map (λ entry. record { session = 1; entry = entry }) entries
+-- How many words an end read on which an answer may rest, and the last of them.
+pub record WordRead : Type 0 where
+  pub count : ℕ
+  pub word : ℕ
+
+-- This word was read in the call, and none after it.
+pub record ReadsWord (old new : WordRead) (word : ℕ) : Type 0 where
+  pub read : old.count < new.count
+  pub word_is : new.word ≡ word
 
 pub record RingValue : Type 0 where
   -- which ring it is
@@ -21,34 +28,64 @@ pub record RingValue : Type 0 where
 pub record SendValue : Type 0 where
   -- the ring that it is an end of
   pub ring : TableId
-  -- what it put, and what it knows was taken, which is a front of that
-  pub sent : List Entry
-  pub known : List Entry
+  -- the session that it entered last, 0 before the first, and whether it is inside
+  pub session : ℕ
+  pub inside : Bool
+  -- what it put, and what it knows was taken, over all sessions
+  pub sent : List PipeRow
+  pub known : List PipeRow
   -- what found its slot full, one record a number, and how often one was found full
   pub drops : List DropRow
   pub full : ℕ
   -- the puts for which room is reserved
   pub spare : ℕ
+  pub last : WordRead
 
 pub record RecvValue : Type 0 where
   -- the ring that it is an end of
   pub ring : TableId
-  -- what it took, and what it knows was put, of which that is a front
-  pub taken : List Entry
-  pub heard : List Entry
+  -- the last session, 0 before the first, and whether the queue is open
+  pub session : ℕ
+  pub is_open : Bool
+  -- what it took, and what it knows was put, over all sessions
+  pub taken : List PipeRow
+  pub heard : List PipeRow
   -- how often it found nothing
   pub empty : ℕ
-  -- the polls for which room is reserved
+  -- the polls and the sessions for which room is reserved
   pub spare : ℕ
+  pub renewals : ℕ
+  pub last : WordRead
+
+-- what was put in the sender's session, and what it knows was taken of it
+abbrev pub sent_now : SendValue → List Entry
+sent_now send = of_session send.session send.sent
+
+abbrev pub known_now : SendValue → List Entry
+known_now send = of_session send.session send.known
+
+-- what was taken in the last session, and what the receiver knows was put in it
+abbrev pub taken_now : RecvValue → List Entry
+taken_now recv = of_session recv.session recv.taken
+
+abbrev pub heard_now : RecvValue → List Entry
+heard_now recv = of_session recv.session recv.heard
+
+-- It is an end of this ring, inside it; or one whose queue is open.
+abbrev pub MayPut : RingValue → SendValue → Type 0
+MayPut ring send = (send.ring ≡ ring.id) × (send.inside ≡ true)
+
+abbrev pub MayPoll : RingValue → RecvValue → Type 0
+MayPoll ring recv = (recv.ring ≡ ring.id) × (recv.is_open ≡ true)
 
 pub record FrontValue : Type 0 where
   pub ring : TableId
   -- what the sender had put, and what it knew was taken
-  pub sent : List Entry
-  pub known : List Entry
+  pub sent : List PipeRow
+  pub known : List PipeRow
 
 pub record RoomValue : Type 0 where
   pub ring : TableId
   -- what the receiver had taken, and what it knew was put
-  pub taken : List Entry
-  pub heard : List Entry
+  pub taken : List PipeRow
+  pub heard : List PipeRow

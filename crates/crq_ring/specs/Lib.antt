@@ -1,4 +1,5 @@
 pub mod Answers
+pub mod Control
 pub mod Ends
 pub mod EndsKept
 pub mod Kept
@@ -7,6 +8,8 @@ pub mod Port
 pub mod Ring
 pub mod RingCuts
 pub mod RingRule
+pub mod RingSessions
 pub mod RingSteps
 pub mod Sessions
 pub mod SharedPipe
+pub mod Window

@@ -1,18 +1,26 @@
 -- What the calls of a ring leave of its ends.
-use Rattle.std.specs.Prelude.{◌≡◌, ℕ, ◌+◌, ◌<◌, ◌≤◌, [], ◌∷◌, ◌++◌, length, Some, ◌⊎◌}
+use Rattle.std.specs.Prelude.{◌≡◌, ℕ, ◌+◌, ◌/◌, ◌<◌, ◌≤◌, ◌^◌, ◌⊎◌, Bool, true, false, [], ◌∷◌, ◌++◌, length, Some}
 use Rattle.std.specs.List.{slice_get}
 use Rattle.vio_num.specs.declared.entry.Entry.{Entry}
 use Rattle.vio_num.specs.Counts.{Rose}
 use Rattle.vio_num.specs.Queue.{Handed, LawfulDrop}
-use Rattle.crq_ring.specs.Ends.{Begins, rows_of, RingValue, SendValue, RecvValue, FrontValue, RoomValue}
+use Rattle.crq_ring.specs.Control.{control_word, ShowsClosed, ShowsInside, IsEnded}
+use Rattle.crq_ring.specs.Ends.{Begins, ReadsWord, RingValue, SendValue, RecvValue, FrontValue, RoomValue}
+use Rattle.crq_ring.specs.Ends.{sent_now, known_now, taken_now, heard_now}
 use Rattle.crq_ring.specs.Pipe.{PipeValue}
-use Rattle.crq_ring.specs.Sessions.{recorded}
+use Rattle.crq_ring.specs.RingRule.{first_session}
+use Rattle.crq_ring.specs.Sessions.{of_session, recorded}
 
--- A new ring of n slots and its ends, which put and took nothing.
-pub record Opens (n : ℕ) (ring : RingValue) (send : SendValue) (recv : RecvValue) : Type 0 where
+-- A new ring of n slots and its ends, which put and took nothing: in session 1 with its sender inside, or
+-- closed.
+pub record Opens (begun : Bool) (n : ℕ) (ring : RingValue) (send : SendValue) (recv : RecvValue) : Type 0 where
   pub slots : ring.slots ≡ n
   pub send_ring : send.ring ≡ ring.id
   pub recv_ring : recv.ring ≡ ring.id
+  pub send_session : send.session ≡ first_session begun
+  pub recv_session : recv.session ≡ first_session begun
+  pub inside : send.inside ≡ begun
+  pub is_open : recv.is_open ≡ begun
   pub sent : send.sent ≡ []
   pub known : send.known ≡ []
   pub drops : send.drops ≡ []
@@ -21,53 +29,75 @@ pub record Opens (n : ℕ) (ring : RingValue) (send : SendValue) (recv : RecvVal
   pub heard : recv.heard ≡ []
   pub empty : recv.empty ≡ 0
 
--- The entry was put into its slot, which was empty, and has this number.
+-- The entry was put into its slot, which was empty, and has this number in its session.
 pub record EndPuts (n : ℕ) (old : SendValue) (number : ℕ) (entry : Entry) (new : SendValue) : Type 0 where
-  pub empty_slot : length old.sent < length new.known + n
-  pub number_is : number ≡ length old.sent
-  pub sent : new.sent ≡ old.sent ++ entry ∷ []
+  pub empty_slot : length (sent_now old) < length (known_now new) + n
+  pub number_is : number ≡ length (sent_now old)
+  pub sent : new.sent ≡ old.sent ++ record { session = old.session; entry = entry } ∷ []
+  pub sent_now : sent_now new ≡ sent_now old ++ entry ∷ []
   pub drops : new.drops ≡ old.drops
   pub full : new.full ≡ old.full
 
--- The entry of this number found its slot full, with this high half in it; its number has a record. All
--- that was taken when it looked is known.
+-- The entry of this number found its slot full, with this high half in it, which was read; its number has a
+-- record. All that was taken when it looked is known.
 pub record EndFindsFull (n : ℕ) (old : SendValue) (number held : ℕ) (new : SendValue) : Type 0 where
-  pub full_slot : length old.sent ≡ length new.known + n
-  pub none_known : length old.known + n ≤ number
-  pub number_is : number ≡ length old.sent
-  pub lawful : LawfulDrop old.sent n number held
+  pub full_slot : length (sent_now old) ≡ length (known_now new) + n
+  pub none_known : length (known_now old) + n ≤ number
+  pub number_is : number ≡ length (sent_now old)
+  pub lawful : LawfulDrop (sent_now old) n number held
   pub sent : new.sent ≡ old.sent
-  pub drops : new.drops ≡ recorded old.drops (record { session = 1; number = number; held = held })
+  pub drops : new.drops ≡ recorded old.drops (record { session = old.session; number = number; held = held })
   pub full : Rose old.full new.full
+  pub read : ReadsWord old.last new.last held
 
--- The sender's end is of the same ring, and knows no less of what was taken, a front of what it put.
-pub record KeepsSending (old new : SendValue) : Type 0 where
+-- The sender's end is of the same ring, and knows no less of what was taken, in each session a front of what
+-- it put.
+pub record KnowsTaken (old new : SendValue) : Type 0 where
   pub ring : new.ring ≡ old.ring
   pub known : Begins old.known new.known
-  pub front : Begins new.known new.sent
+  pub front : Begins (known_now new) (sent_now new)
+
+-- It is in the same session besides.
+pub record KeepsSending (old new : SendValue) : Type 0 where
+  pub knows : KnowsTaken old new
+  pub session : new.session ≡ old.session
+  pub inside : new.inside ≡ old.inside
   pub full : old.full ≤ new.full
 
--- The next entry was taken, which has this number.
+-- The next entry was taken, which has this number in its session.
 pub record EndTakes (old : RecvValue) (number : ℕ) (entry : Entry) (new : RecvValue) : Type 0 where
-  pub number_is : number ≡ length old.taken
-  pub there : slice_get new.heard number ≡ Some entry
-  pub taken : new.taken ≡ old.taken ++ entry ∷ []
+  pub number_is : number ≡ length (taken_now old)
+  pub there : slice_get (heard_now new) number ≡ Some entry
+  pub taken : new.taken ≡ old.taken ++ record { session = old.session; entry = entry } ∷ []
+  pub taken_now : taken_now new ≡ taken_now old ++ entry ∷ []
   pub empty : new.empty ≡ old.empty
 
--- All that was put when it looked had been taken, and the next entry has this number.
+-- All that was put when it looked had been taken, as the word shows that was read: its first byte is 0. The
+-- next entry has this number.
 pub record EndFindsNone (old : RecvValue) (number : ℕ) (new : RecvValue) : Type 0 where
-  pub number_is : number ≡ length old.taken
-  pub all_taken : new.heard ≡ old.taken
-  pub none_heard : length old.heard ≤ number
+  pub number_is : number ≡ length (taken_now old)
+  pub all_taken : heard_now new ≡ taken_now old
+  pub none_heard : length (heard_now old) ≤ number
   pub taken : new.taken ≡ old.taken
   pub empty : Rose old.empty new.empty
+  pub shows : new.last.word < 2 ^ 56
+  pub read : ReadsWord old.last new.last new.last.word
 
--- The receiver's end is of the same ring, and knows no less of what was put, of which it took a front.
-pub record KeepsReceiving (old new : RecvValue) : Type 0 where
+-- The receiver's end is of the same ring, and knows no less of what was put, of which it took a front in its
+-- session. It knows all that was ever put in a session that has ended: nothing is put in it any more.
+pub record KnowsPut (old new : RecvValue) : Type 0 where
   pub ring : new.ring ≡ old.ring
   pub heard : Begins old.heard new.heard
-  pub front : Begins new.taken new.heard
+  pub front : Begins (taken_now new) (heard_now new)
+  pub ended : (q : ℕ) → IsEnded old.session old.is_open q → of_session q new.heard ≡ of_session q old.heard
   pub empty : old.empty ≤ new.empty
+
+-- It is in the same session besides.
+pub record KeepsReceiving (old new : RecvValue) : Type 0 where
+  pub knows : KnowsPut old new
+  pub session : new.session ≡ old.session
+  pub is_open : new.is_open ≡ old.is_open
+  pub renewals : new.renewals ≡ old.renewals
 
 -- The note says what the sender had put, and what it knew was taken.
 pub record IsFrontOf (send : SendValue) (front : FrontValue) : Type 0 where
@@ -81,12 +111,12 @@ pub record IsRoomOf (recv : RecvValue) (room : RoomValue) : Type 0 where
   pub taken : room.taken ≡ recv.taken
   pub heard : room.heard ≡ recv.heard
 
--- The receiver learnt a front: it knows all that this says was put, of which what it took is a front or the
--- other way round, and took all that it says was taken.
+-- The receiver learnt a front: it knows all that this says was put, of which what it took in its session is
+-- a front or the other way round, and took all that it says was taken.
 pub record Learns (old : RecvValue) (front : FrontValue) (new : RecvValue) : Type 0 where
   pub sent : Begins front.sent new.heard
-  pub agrees : Begins front.sent new.taken ⊎ Begins new.taken front.sent
-  pub sent_length : length front.sent ≤ length new.heard
+  pub agrees : Begins (of_session new.session front.sent) (taken_now new) ⊎ Begins (taken_now new) (of_session new.session front.sent)
+  pub sent_length : length (of_session new.session front.sent) ≤ length (heard_now new)
   pub known : Begins front.known new.taken
 
 -- Nothing changed of the receiver's end but what it knows was put.
@@ -95,12 +125,14 @@ pub record OnlyHears (old new : RecvValue) : Type 0 where
   pub taken : new.taken ≡ old.taken
   pub empty : new.empty ≡ old.empty
   pub spare : new.spare ≡ old.spare
+  pub last : new.last ≡ old.last
 
--- The sender was told of a room: it knows all that this says was taken, and put all that it says was put.
+-- The sender was told of a room: it knows all that this says was taken, a front of what it put in its
+-- session, and put all that it says was put.
 pub record Knows (old : SendValue) (room : RoomValue) (new : SendValue) : Type 0 where
   pub taken : Begins room.taken new.known
-  pub front : Begins room.taken new.sent
-  pub taken_length : length room.taken ≤ length new.known
+  pub front : Begins (of_session new.session room.taken) (sent_now new)
+  pub taken_length : length (of_session new.session room.taken) ≤ length (known_now new)
   pub heard : Begins room.heard new.sent
 
 -- Nothing changed of the sender's end but what it knows was taken.
@@ -110,24 +142,32 @@ pub record OnlyKnows (old new : SendValue) : Type 0 where
   pub drops : new.drops ≡ old.drops
   pub full : new.full ≡ old.full
   pub spare : new.spare ≡ old.spare
+  pub last : new.last ≡ old.last
 
--- The pipe of exactly what the two ends put, took and dropped, which meets the queue law.
+-- Nothing changed of the sender's end but the word that it read last.
+abbrev pub OnlySees : SendValue → SendValue → Type 0
+OnlySees old new = new ≡ record old { last = new.last }
+
+-- The pipe of exactly what the two ends put, took and dropped, which meets the queue law. Of each session
+-- that has ended nothing was put but what the receiver knew then.
 pub record Closes (ring : RingValue) (send : SendValue) (recv : RecvValue) (pipe : PipeValue) : Type 0 where
   pub slots : pipe.slots ≡ ring.slots
-  pub session : pipe.session ≡ 1
-  pub sent : pipe.sent ≡ rows_of send.sent
-  pub taken : pipe.taken ≡ rows_of recv.taken
+  pub session : pipe.session ≡ recv.session
+  pub sent : pipe.sent ≡ send.sent
+  pub taken : pipe.taken ≡ recv.taken
   pub drops : pipe.drops ≡ send.drops
   pub counts : pipe.counts ≡ record { full = send.full; empty = recv.empty }
-  pub room : pipe.room ≡ record { puts = send.spare; polls = recv.spare; renewals = 0 }
-  pub handed : Handed send.sent recv.taken ring.slots
+  pub room : pipe.room ≡ record { puts = send.spare; polls = recv.spare; renewals = recv.renewals }
+  pub handed : (q : ℕ) → Handed (of_session q send.sent) (of_session q recv.taken) ring.slots
+  pub ended : (q : ℕ) → IsEnded recv.session recv.is_open q → of_session q send.sent ≡ of_session q recv.heard
 
 -- Nothing changed but the room for puts, and there is no less of it.
 pub record ReservesPuts (old new : SendValue) : Type 0 where
   pub rest : new ≡ record old { spare = new.spare }
   pub spare : old.spare ≤ new.spare
 
--- Nothing changed but the room for polls, and there is no less of it.
+-- Nothing changed but the room for polls and for sessions, and there is no less of it.
 pub record ReservesPolls (old new : RecvValue) : Type 0 where
-  pub rest : new ≡ record old { spare = new.spare }
+  pub rest : new ≡ record old { spare = new.spare; renewals = new.renewals }
   pub spare : old.spare ≤ new.spare
+  pub renewals : old.renewals ≤ new.renewals

@@ -3,7 +3,7 @@ use Rattle.std.specs.Prelude.{◌≡◌, List, ◌∷◌, true}
 use Rattle.std.specs.Borrow.{GName}
 use Rattle.atomic_table.specs.Seated.{TableId}
 use Rattle.crq_ring.specs.declared.shared.SharedPipe.{SharedPipe}
-use Rattle.crq_ring.specs.Ends.{Begins}
+use Rattle.crq_ring.specs.Ends.{Begins, sent_now, taken_now}
 use Rattle.crq_ring.specs.Port.{PortPlace, PortState}
 use Rattle.crq_ring.specs.Ring.{OnlyKnows, OnlyHears}
 
@@ -22,8 +22,8 @@ abbrev pub state_of : SharedPipe → PortState
 state_of pipe = record {
   place = place_of pipe;
   ready = true;
-  sent = pipe.send.now.sent;
-  taken = pipe.recv.now.taken;
+  sent = sent_now pipe.send.now;
+  taken = taken_now pipe.recv.now;
   counts = record { full = pipe.send.now.full; empty = pipe.recv.now.empty };
   spare_puts = pipe.send.now.spare;
   spare_polls = pipe.recv.now.spare;

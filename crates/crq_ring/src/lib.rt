@@ -1,8 +1,10 @@
 // A command/response queue of one direction (LoPAR, "Command/Response Queue"): its calls as a trait, and
-// its plain form, which keeps lists and serves one thread.
+// its plain form, which keeps lists and serves one thread; and a ring that two threads share without a lock.
 #![tactic(auto)]
 
+mod control;
 mod ends;
+pub mod laws;
 mod pipe;
 mod port;
 mod records;

@@ -1,5 +1,6 @@
 // The rows of a ring: filled and drained, learnt and known, closed, and shared by two threads.
-ghost use Rattle.std.specs.Prelude.{◌≡◌, ◌<◌, ◌≤◌, ◌^◌};
+ghost use Rattle.std.specs.Prelude.{◌≡◌, ◌<◌, ◌≤◌, ◌^◌, true};
+ghost use Rattle.crq_ring.specs.Ends.{MayPut, MayPoll};
 
 use crate::ends::{RecvEnd, SendEnd};
 use crate::port::{Poll, Put};
@@ -37,16 +38,16 @@ fn got(k: u32) -> Poll {
 }
 
 fn put(ring: &Ring, send: &mut SendEnd, k: u32) -> Result<Put, Fail>
-    requires { send.old.ring ≡ ring.now.id }
-    ensures { send.new.ring ≡ send.old.ring }
+    requires { MayPut ring.now send.old }
+    ensures { MayPut ring.now send.new }
 {
     send.reserve(1)?;
     Ok(ring.put(send, entry(k)))
 }
 
 fn poll(ring: &Ring, recv: &mut RecvEnd) -> Result<Poll, Fail>
-    requires { recv.old.ring ≡ ring.now.id }
-    ensures { recv.new.ring ≡ recv.old.ring }
+    requires { MayPoll ring.now recv.old }
+    ensures { MayPoll ring.now recv.new }
 {
     recv.reserve(1)?;
     Ok(ring.poll(recv))
@@ -54,8 +55,8 @@ fn poll(ring: &Ring, recv: &mut RecvEnd) -> Result<Poll, Fail>
 
 // Puts the entries from one number to another, which all find their slots empty.
 fn put_each(ring: &Ring, send: &mut SendEnd, from: u32, to: u32) -> Result<bool, Fail>
-    requires { send.old.ring ≡ ring.now.id }
-    ensures { send.new.ring ≡ send.old.ring }
+    requires { MayPut ring.now send.old }
+    ensures { MayPut ring.now send.new }
 {
     for k in from..to {
         if put(ring, send, k)? != done(k) {
@@ -67,8 +68,8 @@ fn put_each(ring: &Ring, send: &mut SendEnd, from: u32, to: u32) -> Result<bool,
 
 // Takes the entries from one number to another.
 fn poll_each(ring: &Ring, recv: &mut RecvEnd, from: u32, to: u32) -> Result<bool, Fail>
-    requires { recv.old.ring ≡ ring.now.id }
-    ensures { recv.new.ring ≡ recv.old.ring }
+    requires { MayPoll ring.now recv.old }
+    ensures { MayPoll ring.now recv.new }
 {
     for k in from..to {
         if poll(ring, recv)? != got(k) {
@@ -145,10 +146,12 @@ fn a_room_that_is_known(rt: HostRuntime) -> Result<(), Fail> {
 
 // Puts and takes one entry through the trait.
 fn pass_shared(ring: &Ring, send: &mut SendEnd, recv: &mut RecvEnd, k: u32) -> Result<bool, Fail>
-    requires send { send.old.ring ≡ ring.now.id }
-    requires recv { recv.old.ring ≡ ring.now.id }
-    ensures send { send.new.ring ≡ send.old.ring }
-    ensures recv { recv.new.ring ≡ recv.old.ring }
+    requires send { MayPut ring.now send.old }
+    requires recv { MayPoll ring.now recv.old }
+    requires together { send.old.session ≡ recv.old.session }
+    ensures send { MayPut ring.now send.new }
+    ensures recv { MayPoll ring.now recv.new }
+    ensures together { send.new.session ≡ recv.new.session }
 {
     send.reserve(1)?;
     recv.reserve(1)?;
@@ -171,8 +174,8 @@ fn a_ring_through_the_trait(rt: HostRuntime) -> Result<(), Fail> {
 
 // Puts this many entries, each tried until its slot is empty.
 fn produce(ring: &Ring, mut send: SendEnd, n: u32) -> (SendEnd, u32)
-    requires { send.ring ≡ ring.now.id }
-    ensures { result.0.ring ≡ send.ring }
+    requires { MayPut ring.now send }
+    ensures { MayPut ring.now result.0 }
 {
     let mut k = 0;
     for _ in 0..TRIES {
@@ -190,8 +193,8 @@ fn produce(ring: &Ring, mut send: SendEnd, n: u32) -> (SendEnd, u32)
 
 // Takes this many entries.
 fn consume(ring: &Ring, mut recv: RecvEnd, n: u32) -> (RecvEnd, u32)
-    requires { recv.ring ≡ ring.now.id }
-    ensures { result.0.ring ≡ recv.ring }
+    requires { MayPoll ring.now recv }
+    ensures { MayPoll ring.now result.0 }
 {
     let mut k = 0;
     for _ in 0..TRIES {
@@ -209,7 +212,7 @@ fn consume(ring: &Ring, mut recv: RecvEnd, n: u32) -> (RecvEnd, u32)
 
 #[test]
 fn two_threads_over_four_slots(rt: HostRuntime) -> Result<(), Fail> {
-    let n = 100_000;
+    let n = 10_000;
     let OpenedRing { ring, send, recv } = Ring::open(rt.alloc(), 4)?;
     let shared = &ring;
     let ((send, put), (recv, taken)) = thread::join(

@@ -1,12 +1,13 @@
 // A ring with both its ends in one hand, as a queue of one direction.
-ghost use Rattle.std.specs.Prelude.{◌≡◌};
+ghost use Rattle.std.specs.Prelude.{◌≡◌, true};
 
 use crate::ends::{RecvEnd, SendEnd};
 use crate::port::{CrqPort, Poll, Put};
 use crate::ring::Ring;
 use vio_num::Entry;
 
-/// The shared form of a queue of one direction: a ring and its two ends, as long as it borrows them.
+/// The shared form of a queue of one direction: a ring and its two ends, as long as it borrows them. Both are
+/// in one session, with the sender inside.
 #[derive(Drop)]
 pub struct SharedPipe<'a> {
     pub ring: &'a Ring,
@@ -14,6 +15,9 @@ pub struct SharedPipe<'a> {
     pub recv: &'a mut RecvEnd,
     ghost sends: { send.now.ring ≡ ring.now.id },
     ghost receives: { recv.now.ring ≡ ring.now.id },
+    ghost inside: { send.now.inside ≡ true },
+    ghost is_open: { recv.now.is_open ≡ true },
+    ghost together: { send.now.session ≡ recv.now.session },
 }
 
 impl SharedPipe<'_> {

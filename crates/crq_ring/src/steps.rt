@@ -1,17 +1,18 @@
 // The rule of a ring's table, its loads and stores, and how its seats part and join.
 ghost use Rattle.crq_ring.specs.RingCuts.{sender_part, receiver_part, front_of, room_of, told_by, rejoined, spent};
 ghost use Rattle.crq_ring.specs.RingSteps.{probed, staged, sent, looked, read, cleared, heard_room, heard_front};
+ghost use Rattle.crq_ring.specs.RingSteps.{showed, entered, went_out, began, closed, zeroed};
 
-use crate::view::RingView;
+use crate::view::{RingKey, RingView};
 use atomic_table::{Join, Play, Split, TableRule};
 
-/// The rule. The table is told its number of slots.
+/// The rule. The table is told its number of slots, and how it begins.
 pub struct RingRule;
 
-impl TableRule<(), RingView, usize> for RingRule {
-    ghost use Rattle.crq_ring.specs.RingRule.{InOrder, opened};
+impl TableRule<(), RingView, RingKey> for RingRule {
+    ghost use Rattle.crq_ring.specs.RingRule.{holds, opened};
 
-    ghost holds = { InOrder };
+    ghost holds = { holds };
 
     ghost first = { opened };
 }
@@ -70,6 +71,48 @@ pub struct HearFront;
 
 impl Play<(), RingView> for HearFront {
     ghost then = { heard_front };
+}
+
+/// The sender's load of the control word.
+pub struct ShowControl;
+
+impl Play<(), RingView> for ShowControl {
+    ghost then = { showed };
+}
+
+/// The sender's exchange on an open control word, which sets its bit.
+pub struct GoIn;
+
+impl Play<(), RingView> for GoIn {
+    ghost then = { entered };
+}
+
+/// The sender's clearing of its bit.
+pub struct GoOut;
+
+impl Play<(), RingView> for GoOut {
+    ghost then = { went_out };
+}
+
+/// The receiver's exchange on the control word of a closed queue.
+pub struct BeginNext;
+
+impl Play<(), RingView> for BeginNext {
+    ghost then = { began };
+}
+
+/// The receiver's exchange on the control word of an open queue.
+pub struct Shut;
+
+impl Play<(), RingView> for Shut {
+    ghost then = { closed };
+}
+
+/// The receiver's store of 0 in a slot of a closed queue.
+pub struct ZeroSlot;
+
+impl Play<(), RingView> for ZeroSlot {
+    ghost then = { zeroed };
 }
 
 /// Parts the first seat into the two ends.

@@ -1,6 +1,6 @@
 use Rattle.std.proofs.Common.{rules, ap, slice_index}
 use Rattle.crq_ring.specs.Port.{PortPlace}
-use Rattle.crq_ring.proofs.Laws.{sender_stays, receiver_stays}
+use Rattle.crq_ring.proofs.RingLaws.{sender_stays, receiver_stays}
 use Rattle.crq_ring.proofs.ring_tests.pass_shared.Goals as goal
 
 pub returns-clause-send : goal.returns-clause-send
