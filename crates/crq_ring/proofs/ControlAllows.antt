@@ -1,5 +1,5 @@
 -- What each kind of step on the control word tells the end that makes it, from any state that meets the rule.
-use Rattle.std.proofs.Common.{◌≡◌, ◌≢◌, ℕ, eqb, ◌+◌, ◌*◌, ◌/◌, ◌%◌, ◌<◌, ◌≤◌, true, false, true≢false, List, length, get_or, set, sym, refl, ap, ◌∙◌, subst, inl, inr, ⊎_elim, arith, get_or-set_other, bit_and, le_refl}
+use Rattle.std.proofs.Common.{◌≡◌, ◌≢◌, ℕ, eqb, ◌+◌, ◌*◌, ◌/◌, ◌%◌, ◌<◌, ◌≤◌, true, false, true≢false, List, length, get_or, set, sym, refl, ap, ◌∙◌, subst, inl, inr, ⊎_elim, arith, bit_and, le_refl}
 use mathlib.Core.Option.{some, none}
 use lib.ListN.{get_elem?}
 use prog.Atomic.{either}
@@ -17,7 +17,7 @@ use Rattle.crq_ring.specs.Window.{control_at, low_at}
 use Rattle.crq_ring.proofs.ControlWords.{word_of, outside_word, inside_word, open_word, other_word, sender_word, no_sender, none_inside, cleared_is}
 use Rattle.crq_ring.proofs.Fronts.{begins_self}
 use Rattle.crq_ring.proofs.Moments.{put_in, not_both, bit_shown, shut_shown, zero_shown, begin_shown}
-use Rattle.crq_ring.proofs.RingAllows.{knows_as, same_place}
+use Rattle.crq_ring.proofs.RingAllows.{knows_as}
 use Rattle.crq_ring.proofs.RingKeeps.{Table, unmoved, sender_moves, receiver_moves}
 
 -- a seat in this role at a table of n slots

@@ -2,6 +2,7 @@ pub mod ControlActs
 pub mod ControlAllows
 pub mod ControlWords
 pub mod Dropping
+pub mod Freed
 pub mod Fronts
 pub mod Moments
 pub mod RingActs

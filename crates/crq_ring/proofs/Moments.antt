@@ -1,5 +1,5 @@
 -- What a step on a ring's words leaves of what they show.
-use Rattle.std.proofs.Common.{◌≡◌, ℕ, ◌+◌, ◌*◌, ◌%◌, ◌<◌, ◌≤◌, ◌≢◌, Bool, true, false, true≢false, List, [], ◌∷◌, ◌++◌, length, get_or, set, sym, refl, ap, ◌∙◌, subst, arith, length-set, get_or-set_same, get_or-set_other}
+use Rattle.std.proofs.Common.{◌≡◌, ℕ, ◌+◌, ◌*◌, ◌%◌, ◌<◌, ◌≤◌, Bool, true, false, true≢false, List, [], ◌∷◌, ◌++◌, length, get_or, set, sym, refl, ap, ◌∙◌, subst, arith, length-set, get_or-set_same}
 use Rattle.std.proofs.Math.Nat.{mod-lt}
 use mathlib.Core.Logic.{dite}
 use native.Mathlib.Decide.{ℕ_discrete}
@@ -9,7 +9,7 @@ use Rattle.crq_ring.specs.Control.{control_word}
 use Rattle.crq_ring.specs.Ends.{Begins}
 use Rattle.crq_ring.specs.RingRule.{Moment, Shows}
 use Rattle.crq_ring.specs.Sessions.{of_session}
-use Rattle.crq_ring.specs.Window.{words_of, control_at, high_at, low_at, entry_at, IsFull, Window}
+use Rattle.crq_ring.specs.Window.{control_at, high_at, low_at, entry_at, IsFull, Window}
 use Rattle.crq_ring.proofs.Sessions.{of_session-push, of_session-pass}
 use Rattle.crq_ring.proofs.Windows.{high_high, control_high, high_control, low_control, control_stored, low_stored, high_stored, high_cleared, no_entries}
 

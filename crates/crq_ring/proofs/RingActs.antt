@@ -8,14 +8,12 @@ use Rattle.vio_num.specs.declared.entry.Entry.{Entry}
 use Rattle.crq_ring.specs.declared.rows.PipeRow.{PipeRow}
 use Rattle.crq_ring.specs.declared.view.Role.{Role}
 use Rattle.crq_ring.specs.declared.view.Role.TheVariants.{Sender, Receiver}
-use Rattle.crq_ring.specs.Ends.{Begins}
 use Rattle.crq_ring.specs.EndsKept.{RingSeat, IsEnd}
 use Rattle.crq_ring.specs.Kept.{Present}
 use Rattle.crq_ring.specs.RingRule.{InOrder}
-use Rattle.crq_ring.specs.RingSteps.{Seated, own_now, other_now, row_now, Keeps, KnowsEnded, Reads, ReadsNone, Probed, Staged, Sent, Looked, Read, Cleared, probed, staged, sent, looked, read, cleared}
+use Rattle.crq_ring.specs.RingSteps.{Seated, own_now, other_now, row_now, Keeps, probed, staged, sent, looked, read, cleared}
 use Rattle.crq_ring.specs.Sessions.{of_session}
-use Rattle.crq_ring.specs.Window.{words_of, entry_of, entry_at, IsFull, IsVacant}
-use Rattle.crq_ring.proofs.Fronts.{begins_on, begins_more}
+use Rattle.crq_ring.specs.Window.{words_of, IsFull}
 use Rattle.crq_ring.proofs.RingAllows.{Inside, Opened, probes, stages_low, sends_high, looks, reads_low, clears_high}
 use Rattle.crq_ring.proofs.Sessions.{of_session-push, Present-push, Present-later, Present-none, of_session-nil}
 

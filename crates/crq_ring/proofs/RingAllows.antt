@@ -1,5 +1,5 @@
 -- What each kind of step on a slot tells the end that makes it, from any state that meets the rule.
-use Rattle.std.proofs.Common.{◌≡◌, ◌≢◌, ℕ, ◌+◌, ◌-◌, ◌*◌, ◌%◌, ◌<◌, ◌≤◌, Bool, true, false, List, [], ◌∷◌, ◌++◌, length, get_or, set, sym, refl, ap, ◌∙◌, subst, arith, get_or-set_same, get_or-set_other, lt_of_not-le, le_refl}
+use Rattle.std.proofs.Common.{◌≡◌, ℕ, ◌+◌, ◌-◌, ◌*◌, ◌%◌, ◌<◌, ◌≤◌, Bool, true, false, List, [], ◌∷◌, ◌++◌, length, get_or, set, sym, refl, ap, ◌∙◌, subst, arith, get_or-set_same, get_or-set_other, lt_of_not-le, le_refl}
 use Rattle.std.proofs.Math.Nat.{mod-lt, add-mod_right}
 use Rattle.std.proofs.Math.ListN.{get_or-append}
 use mathlib.Core.Option.{some, none}
@@ -13,13 +13,13 @@ use Rattle.crq_ring.specs.declared.view.Role.{Role}
 use Rattle.crq_ring.specs.declared.view.Role.TheVariants.{Sender, Receiver}
 use Rattle.crq_ring.specs.Control.{IsEnded}
 use Rattle.crq_ring.specs.Ends.{Begins}
-use Rattle.crq_ring.specs.RingRule.{Moment, Shows, SenderKnows, ReceiverKnows, KnowsAs, Knows, InOrder}
+use Rattle.crq_ring.specs.RingRule.{Moment, SenderKnows, ReceiverKnows, KnowsAs, Knows, InOrder}
 use Rattle.crq_ring.specs.RingSteps.{Seated, own_now, other_now, row_now, Keeps, probed, staged, sent, looked, read, cleared, heard_room, heard_front}
 use Rattle.crq_ring.specs.Sessions.{of_session}
 use Rattle.crq_ring.specs.Window.{high_at, low_at, entry_of, entry_at, IsFull, IsVacant, Window}
 use Rattle.crq_ring.proofs.Fronts.{blank, begins_self, begins_all, begins_on, begins_less, begins_of}
 use Rattle.crq_ring.proofs.Moments.{put_in, taken_in, row_in, more_put, more_taken, low_shown, put_shown, take_shown}
-use Rattle.crq_ring.proofs.RingKeeps.{Table, BySender, ByReceiver, unmoved, sender_moves, receiver_moves}
+use Rattle.crq_ring.proofs.RingKeeps.{Table, unmoved, sender_moves, receiver_moves}
 use Rattle.crq_ring.proofs.Sessions.{of_session-pass}
 
 -- a sender that is inside, and a receiver whose queue is open, at a table of n slots
@@ -81,7 +81,6 @@ module _ (n : ℕ) (s : Table) (r : InOrder n s) (id : ℕ) (v : RingView) (at :
         swept = k.swept;
         ended = λ q e. refl;
       }
-
 
 -- a view that differs in what is known, told and read alone
 pub same_place : (me : Seated) (own other : List PipeRow) (low reads word : ℕ) → Keeps me (record me.0 { own = own; other = other; low = low; reads = reads; word = word }, me.1)
@@ -334,14 +333,17 @@ module _ (n slots id : ℕ) (me : Seated) where
         keeps,
         tt,
         unmoved n s r 0 id me.1 w (sender_learns n s r id v at v.reads v.word is),
-        (record {
-          keeps = same_place me v.own r.now.taken v.low v.reads v.word;
-          own = refl;
-          other = k.other;
-          told_own = subst (λ l. Begins v.told_own l) (sym k.own) k.told_own;
-          told_other = k.told_other;
-          reads = record { count = refl; word_is = refl };
-        }, subst (λ l. Begins (of_session q r.now.taken) (of_session q l)) (sym k.own) (r.words_show.handed q)),
+        (
+          record {
+            keeps = same_place me v.own r.now.taken v.low v.reads v.word;
+            own = refl;
+            other = k.other;
+            told_own = subst (λ l. Begins v.told_own l) (sym k.own) k.told_own;
+            told_other = k.told_other;
+            reads = record { count = refl; word_is = refl };
+          },
+          subst (λ l. Begins (of_session q r.now.taken) (of_session q l)) (sym k.own) (r.words_show.handed q),
+        ),
       )
 
   pub hears_front : me.0.role ≡ Receiver → Allows (InOrder n) slots id me 0 (λ x. x) (heard_front (step slots 0 0 0 none) me)
@@ -351,12 +353,16 @@ module _ (n slots id : ℕ) (me : Seated) where
         keeps,
         tt,
         unmoved n s r 0 id me.1 w (receiver_learns n s r id v at v.reads v.word is),
-        (record {
-          keeps = same_place me v.own r.now.sent v.low v.reads v.word;
-          own = refl;
-          other = k.other;
-          told_own = subst (λ l. Begins v.told_own l) (sym k.own) k.told_own;
-          told_other = k.told_other;
-          reads = record { count = refl; word_is = refl };
-        }, subst (λ l. Begins (of_session q l) (of_session q r.now.sent)) (sym k.own) (r.words_show.handed q), λ p e. sym (k.ended p e)),
+        (
+          record {
+            keeps = same_place me v.own r.now.sent v.low v.reads v.word;
+            own = refl;
+            other = k.other;
+            told_own = subst (λ l. Begins v.told_own l) (sym k.own) k.told_own;
+            told_other = k.told_other;
+            reads = record { count = refl; word_is = refl };
+          },
+          subst (λ l. Begins (of_session q l) (of_session q r.now.sent)) (sym k.own) (r.words_show.handed q),
+          λ p e. sym (k.ended p e),
+        ),
       )

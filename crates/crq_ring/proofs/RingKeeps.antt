@@ -1,5 +1,5 @@
 -- A step of one end keeps the rule: what it leaves of the words, and what the other seats know.
-use Rattle.std.proofs.Common.{◌≡◌, ℕ, ◌+◌, ◌≤◌, ◌≢◌, ◌⊎◌, Bool, true, List, ◌∷◌, length, get_or, set, sym, refl, ap, ◌∙◌, subst, ⊎_elim, le_trans}
+use Rattle.std.proofs.Common.{◌≡◌, ℕ, ◌≤◌, ◌≢◌, Bool, true, List, length, get_or, set, sym, ap, ◌∙◌, subst, ⊎_elim, le_trans}
 use mathlib.Core.Option.{some}
 use lib.ListN.{get_elem?}
 use lib.Seq.{set-get_or}
@@ -14,7 +14,7 @@ use Rattle.crq_ring.specs.Ends.{Begins}
 use Rattle.crq_ring.specs.RingRule.{Moment, Shows, KnowsAs, Knows, InOrder}
 use Rattle.crq_ring.specs.Sessions.{of_session}
 use Rattle.crq_ring.specs.Window.{low_at}
-use Rattle.crq_ring.proofs.Fronts.{begins_self, begins_on}
+use Rattle.crq_ring.proofs.Fronts.{begins_on}
 use Rattle.crq_ring.proofs.Moments.{put_in}
 
 abbrev pub Table : Type 0

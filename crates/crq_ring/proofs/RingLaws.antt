@@ -10,7 +10,6 @@ use Rattle.crq_ring.specs.declared.shared.SharedPipe.{SharedPipe}
 use Rattle.crq_ring.specs.Control.{IsEnded}
 use Rattle.crq_ring.specs.Port.{PortPlace}
 use Rattle.crq_ring.specs.RingRule.{SenderKnows, ReceiverKnows, InOrder}
-use Rattle.crq_ring.specs.RingSteps.{Seated, own_now, other_now}
 use Rattle.crq_ring.specs.Sessions.{of_session}
 use Rattle.crq_ring.specs.SharedPipe.{place_of}
 use Rattle.crq_ring.specs.Window.{high_at, Window}

@@ -1,6 +1,6 @@
 -- The rows that the ends keep: the number of the next entry, the drop law, and the queue law where the ring
 -- ends.
-use Rattle.std.proofs.Common.{◌≡◌, ℕ, ◌+◌, ◌-◌, ◌<◌, ◌≤◌, List, length, map, take, drop, Some, option_map, sym, ◌∙◌, ap, subst, arith, length-drop, All, AllPairs}
+use Rattle.std.proofs.Common.{◌≡◌, ℕ, ◌+◌, ◌-◌, ◌<◌, ◌≤◌, List, length, take, drop, Some, option_map, sym, ◌∙◌, ap, subst, arith, length-drop, All, AllPairs}
 use Rattle.std.proofs.Math.Seq.{take-append_seam}
 use Rattle.std.proofs.lemmas.List.{length-append, length-map}
 use Rattle.std.proofs.lemmas.Option.{slice_get-get_or, slice_get-map}

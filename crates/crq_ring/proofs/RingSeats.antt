@@ -1,5 +1,5 @@
 -- Seats that come and go: the rule stays where a view is cut in two, and where one takes in another.
-use Rattle.std.proofs.Common.{◌≡◌, ℕ, ◌+◌, ◌*◌, ◌%◌, ◌<◌, ◌≤◌, ◌≢◌, ◌⊎◌, zero, suc, Bool, true, false, true≢false, List, [], ◌∷◌, ◌++◌, length, get_or, set, sym, refl, ap, ◌∙◌, subst, inl, inr, ⊎_elim, arith, replicate, length-set, get_or-set_same, get_or-set_other, le_refl}
+use Rattle.std.proofs.Common.{◌≡◌, ℕ, ◌+◌, ◌*◌, ◌%◌, ◌<◌, ◌≤◌, ◌≢◌, ◌⊎◌, zero, suc, Bool, true, false, List, [], ◌∷◌, ◌++◌, length, get_or, set, sym, refl, ap, ◌∙◌, subst, inl, inr, ⊎_elim, arith, replicate, length-set, get_or-set_same, get_or-set_other, le_refl}
 use Rattle.std.proofs.Math.Nat.{mod-lt}
 use Rattle.std.proofs.lemmas.List.{get_or-replicate, length-replicate}
 use Rattle.atomic_table.proofs.Lists.{at_set, set_else}
@@ -16,7 +16,7 @@ use Rattle.crq_ring.specs.RingCuts.{sender_part, receiver_part, front_of, room_o
 use Rattle.crq_ring.specs.RingRule.{first_session, opened, Moment, Shows, SenderKnows, ReceiverKnows, BothKnow, KnowsAs, Knows, InOrder}
 use Rattle.crq_ring.specs.RingSteps.{Seated}
 use Rattle.crq_ring.specs.Sessions.{of_session}
-use Rattle.crq_ring.specs.Window.{words_of, control_at, low_at, Window}
+use Rattle.crq_ring.specs.Window.{words_of, control_at, Window}
 use Rattle.crq_ring.proofs.Fronts.{begins_self}
 use Rattle.crq_ring.proofs.RingKeeps.{Table, seats_stay}
 use Rattle.crq_ring.proofs.Sessions.{of_session-nil}

@@ -1,14 +1,13 @@
 -- What the calls leave of the ends' values, from what their steps tell.
-use Rattle.std.proofs.Common.{◌≡◌, ℕ, ◌+◌, ◌/◌, ◌<◌, ◌≤◌, ◌^◌, true, false, List, [], ◌∷◌, ◌++◌, length, Some, slice_get, sym, refl, ◌∙◌, ap, subst, arith, le_refl}
+use Rattle.std.proofs.Common.{◌≡◌, ℕ, ◌+◌, ◌<◌, ◌≤◌, ◌^◌, List, [], ◌∷◌, ◌++◌, length, Some, slice_get, sym, refl, ◌∙◌, ap, subst, arith}
 use Rattle.std.proofs.lemmas.Option.{slice_get-get_or}
 use Rattle.atomic_table.specs.Seated.{TableId}
 use Rattle.vio_num.specs.declared.entry.Entry.{Entry}
 use Rattle.vio_num.specs.Counts.{Rose}
 use Rattle.vio_num.specs.Queue.{LawfulDrop}
 use Rattle.crq_ring.specs.declared.view.RingView.{RingView}
-use Rattle.crq_ring.specs.Control.{control_word, IsEnded}
+use Rattle.crq_ring.specs.Control.{IsEnded}
 use Rattle.crq_ring.specs.Ends.{Begins, WordRead, ReadsWord, SendValue, RecvValue, sent_now, known_now, taken_now, heard_now}
-use Rattle.crq_ring.specs.EndsKept.{RingSeat}
 use Rattle.crq_ring.specs.Ring.{EndPuts, EndFindsFull, KnowsTaken, KeepsSending, EndTakes, EndFindsNone, KnowsPut, KeepsReceiving, Learns, Knows}
 use Rattle.crq_ring.specs.RingCuts.{told_by}
 use Rattle.crq_ring.specs.RingSteps.{Seated, own_now, other_now, Keeps, KnowsEnded, Reads, Heard, Probed, Looked}

@@ -1,5 +1,5 @@
 -- What a store leaves of the slots of a session.
-use Rattle.std.proofs.Common.{◌≡◌, ℕ, ◌+◌, ◌-◌, ◌*◌, ◌%◌, ◌<◌, ◌≤◌, ◌≢◌, List, [], ◌∷◌, ◌++◌, length, get_or, set, sym, refl, ap, ◌∙◌, subst, arith, get_or-set_other, get_or-set_same}
+use Rattle.std.proofs.Common.{◌≡◌, ℕ, ◌+◌, ◌*◌, ◌%◌, ◌<◌, ◌≤◌, ◌≢◌, List, [], ◌∷◌, ◌++◌, length, get_or, set, sym, refl, ap, ◌∙◌, subst, arith, get_or-set_other, get_or-set_same}
 use Rattle.std.proofs.Math.Nat.{mod-lt, add-mod_right}
 use Rattle.std.proofs.Math.ListN.{get_or-append}
 use Rattle.std.proofs.lemmas.List.{get_or_push, length-append}
@@ -7,7 +7,6 @@ use mathlib.Core.Logic.{dite}
 use native.Mathlib.Decide.{ℕ_discrete}
 use Rattle.atomic_table.proofs.Lists.{one_turn}
 use Rattle.vio_num.specs.declared.entry.Entry.{Entry}
-use Rattle.crq_ring.specs.Ends.{Begins}
 use Rattle.crq_ring.specs.Window.{words_of, control_at, high_at, low_at, entry_at, IsFull, Lies, Window}
 use Rattle.crq_ring.proofs.Fronts.{blank, begins_self, begins_on, begins_less, begins_more}
 

@@ -1,5 +1,5 @@
 -- What contracts see of a ring and of its two ends.
-use Rattle.std.specs.Prelude.{◌≡◌, ℕ, ◌<◌, Bool, true, List, ◌++◌}
+use Rattle.std.specs.Prelude.{◌≡◌, ℕ, ◌<◌, Bool, true, false, List, ◌++◌}
 use Rattle.atomic_table.specs.Seated.{TableId}
 use Rattle.vio_num.specs.declared.entry.Entry.{Entry}
 use Rattle.crq_ring.specs.declared.rows.PipeRow.{PipeRow}
@@ -77,6 +77,13 @@ MayPut ring send = (send.ring ≡ ring.id) × (send.inside ≡ true)
 
 abbrev pub MayPoll : RingValue → RecvValue → Type 0
 MayPoll ring recv = (recv.ring ≡ ring.id) × (recv.is_open ≡ true)
+
+-- It is an end of this ring, outside it; or one whose queue is closed.
+abbrev pub MayEnter : RingValue → SendValue → Type 0
+MayEnter ring send = (send.ring ≡ ring.id) × (send.inside ≡ false)
+
+abbrev pub MayBegin : RingValue → RecvValue → Type 0
+MayBegin ring recv = (recv.ring ≡ ring.id) × (recv.is_open ≡ false)
 
 pub record FrontValue : Type 0 where
   pub ring : TableId

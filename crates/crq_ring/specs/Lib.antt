@@ -3,6 +3,7 @@ pub mod Control
 pub mod Ends
 pub mod EndsKept
 pub mod Kept
+pub mod Later
 pub mod Pipe
 pub mod Port
 pub mod Ring

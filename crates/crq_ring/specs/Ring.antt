@@ -1,15 +1,15 @@
 -- What the calls of a ring leave of its ends.
-use Rattle.std.specs.Prelude.{◌≡◌, ℕ, ◌+◌, ◌/◌, ◌<◌, ◌≤◌, ◌^◌, ◌⊎◌, Bool, true, false, [], ◌∷◌, ◌++◌, length, Some}
-use Rattle.std.specs.List.{slice_get}
+use Rattle.std.specs.Prelude.{◌≡◌, ℕ, ◌+◌, ◌<◌, ◌≤◌, ◌^◌, ◌⊎◌, Bool, true, [], ◌∷◌, ◌++◌, length, Some}
+use Rattle.std.specs.List.{slice_get, AllPairs}
 use Rattle.vio_num.specs.declared.entry.Entry.{Entry}
 use Rattle.vio_num.specs.Counts.{Rose}
 use Rattle.vio_num.specs.Queue.{Handed, LawfulDrop}
-use Rattle.crq_ring.specs.Control.{control_word, ShowsClosed, ShowsInside, IsEnded}
+use Rattle.crq_ring.specs.Control.{IsEnded}
 use Rattle.crq_ring.specs.Ends.{Begins, ReadsWord, RingValue, SendValue, RecvValue, FrontValue, RoomValue}
 use Rattle.crq_ring.specs.Ends.{sent_now, known_now, taken_now, heard_now}
 use Rattle.crq_ring.specs.Pipe.{PipeValue}
 use Rattle.crq_ring.specs.RingRule.{first_session}
-use Rattle.crq_ring.specs.Sessions.{of_session, recorded}
+use Rattle.crq_ring.specs.Sessions.{of_session, recorded, AreRising, Precedes}
 
 -- A new ring of n slots and its ends, which put and took nothing: in session 1 with its sender inside, or
 -- closed.
@@ -171,3 +171,14 @@ pub record ReservesPolls (old new : RecvValue) : Type 0 where
   pub rest : new ≡ record old { spare = new.spare; renewals = new.renewals }
   pub spare : old.spare ≤ new.spare
   pub renewals : old.renewals ≤ new.renewals
+
+-- What is so of every end: rows stand in rising order of their sessions, no number has two records, and the
+-- session of an open queue is at least 1.
+pub record IsLawfulSend (send : SendValue) : Type 0 where
+  pub sent : AreRising send.session send.sent
+  pub drops : AllPairs Precedes send.drops
+
+pub record IsLawfulRecv (recv : RecvValue) : Type 0 where
+  pub taken : AreRising recv.session recv.taken
+  pub begun : recv.is_open ≡ true → 1 ≤ recv.session
+  pub few_sessions : recv.session < 2 ^ 60

@@ -1,6 +1,6 @@
 // The two ends of a ring, and the notes by which one tells the other what it did.
 ghost use Rattle.std.specs.Prelude.{◌≡◌, ◌≤◌, OnOk};
-ghost use Rattle.crq_ring.specs.Ring.{ReservesPuts, ReservesPolls};
+ghost use Rattle.crq_ring.specs.Ring.{ReservesPuts, ReservesPolls, IsLawfulSend, IsLawfulRecv};
 
 use crate::rows::{DropRow, PipeRow};
 use crate::view::RingView;
@@ -60,6 +60,14 @@ impl SendEnd {
         self.sent.reserve(n as usize)?;
         self.drops.reserve(n as usize)?;
         Ok(())
+    }
+
+    /// The number of the session that it entered last, 0 before the first.
+    pub fn session(&self) -> u64
+        ensures session { result ≡ self.now.session }
+        ensures laws { IsLawfulSend self.now }
+    {
+        self.session
     }
 }
 
@@ -122,7 +130,8 @@ impl RecvEnd {
 
     /// The number of the last session, 0 before the first.
     pub fn session(&self) -> u64
-        ensures { result ≡ self.now.session }
+        ensures session { result ≡ self.now.session }
+        ensures laws { IsLawfulRecv self.now }
     {
         self.session
     }

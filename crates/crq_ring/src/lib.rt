@@ -22,6 +22,8 @@ pub use rows::{DropRow, PipeRow};
 pub use shared::SharedPipe;
 
 #[cfg(test)]
+mod control_tests;
+#[cfg(test)]
 mod ring_tests;
 #[cfg(test)]
 mod tests;

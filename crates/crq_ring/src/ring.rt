@@ -113,6 +113,13 @@ impl Ring {
         })
     }
 
+    /// The number of slots.
+    pub fn slots(&self) -> u32
+        ensures { result ≡ self.now.slots }
+    {
+        self.slots as u32
+    }
+
     /// Puts an entry whose first byte is at least 0x80 into the next slot, if that is empty. The sender is
     /// inside. Of a number that is dropped one record is kept, however often the put is tried.
     pub fn put(&self, send: &mut SendEnd, entry: Entry) -> Put

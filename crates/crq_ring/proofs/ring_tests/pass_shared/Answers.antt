@@ -8,11 +8,13 @@ returns-clause-send c =
     let place = c.pass.ensures.place in
     let same = ap (λ (p : PortPlace). slice_index p.lenders 0) place in
     let ring = sender_stays c.pass.new.port _ place in
-    search (rules, same, ring)
+    let inside = c.pass.new.port.inside in
+    search (rules, same, ring, inside)
 
 pub returns-clause-recv : goal.returns-clause-recv
 returns-clause-recv c =
     let place = c.pass.ensures.place in
     let same = ap (λ (p : PortPlace). slice_index p.lenders 1) place in
     let ring = receiver_stays c.pass.new.port _ place in
-    search (rules, same, ring)
+    let is_open = c.pass.new.port.is_open in
+    search (rules, same, ring, is_open)

@@ -1,4 +1,4 @@
-use Rattle.std.proofs.Common.{◌≡◌, ℕ, ◌<◌, ◌≤◌, Bool, List, length, sym, refl, ap, ◌∙◌, subst, arith}
+use Rattle.std.proofs.Common.{◌≡◌, ℕ, ◌<◌, ◌≤◌, Bool, List, length, sym, ap, ◌∙◌, subst, arith}
 use mathlib.Core.Option.{some}
 use Rattle.vio_num.specs.Queue.{Handed}
 use Rattle.crq_ring.specs.declared.rows.PipeRow.{PipeRow}

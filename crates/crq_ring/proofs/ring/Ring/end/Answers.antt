@@ -1,4 +1,4 @@
-use Rattle.std.proofs.Common.{◌≡◌, ◌+◌, ◌*◌, ◌≤◌, ap, sym, ◌∙◌, arith}
+use Rattle.std.proofs.Common.{◌≡◌, ◌+◌, ◌*◌, ap, sym, ◌∙◌, arith}
 use Rattle.crq_ring.specs.declared.view.Role.TheVariants.{Receiver}
 use Rattle.crq_ring.proofs.ControlActs.{sits_at, control_inside, shuts_control}
 use Rattle.crq_ring.proofs.ring.Ring.end.Goals as goal

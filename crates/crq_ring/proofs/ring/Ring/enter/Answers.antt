@@ -1,4 +1,4 @@
-use Rattle.std.proofs.Common.{◌≡◌, ◌+◌, ◌*◌, ◌/◌, ◌%◌, ◌<◌, ◌≤◌, ℕ, length, ap, sym, ◌∙◌, subst, arith}
+use Rattle.std.proofs.Common.{◌≡◌, ◌+◌, ◌*◌, ◌/◌, ◌<◌, ◌≤◌, ℕ, length, ap, sym, ◌∙◌, subst, arith}
 use Rattle.crq_ring.specs.declared.view.Role.TheVariants.{Sender}
 use Rattle.crq_ring.specs.EndsKept.{IsEnd}
 use Rattle.crq_ring.specs.Kept.{KeepsDrops}

@@ -1,4 +1,4 @@
-use Rattle.std.proofs.Common.{◌≡◌, ◌-◌, ◌<◌, ℕ, List, [], ◌∷◌, ◌++◌, length, sym, refl, ◌∙◌, ap, subst, arith}
+use Rattle.std.proofs.Common.{◌≡◌, ◌-◌, ◌<◌, ℕ, [], ◌∷◌, ◌++◌, length, sym, refl, ◌∙◌, ap, subst, arith}
 use Rattle.vio_num.specs.Counts.{Rose}
 use Rattle.crq_ring.specs.declared.view.Role.TheVariants.{Receiver}
 use Rattle.crq_ring.specs.RingSteps.{Seated, own_now, other_now}

@@ -4,7 +4,6 @@ use Rattle.crq_ring.specs.declared.rows.PipeRow.{PipeRow}
 use Rattle.crq_ring.specs.declared.rows.DropRow.{DropRow}
 use Rattle.crq_ring.specs.declared.view.Role.TheVariants.{Sender}
 use Rattle.crq_ring.specs.Kept.{KeepsDrops}
-use Rattle.crq_ring.specs.Ring.{EndPuts, EndFindsFull}
 use Rattle.crq_ring.specs.RingSteps.{Seated, own_now, other_now}
 use Rattle.crq_ring.specs.Sessions.{recorded, Precedes}
 use Rattle.crq_ring.proofs.Dropping.{Drops-put}

@@ -1,10 +1,9 @@
-use Rattle.std.proofs.Common.{rules, ◌≡◌, ℕ, ◌+◌, ◌*◌, ◌≤◌, List, [], sym, ap, ◌∙◌, subst, arith, replicate, set}
+use Rattle.std.proofs.Common.{rules, ◌≡◌, ℕ, ◌≤◌, List, [], sym, ap, ◌∙◌, subst, arith}
 use Rattle.atomic_table.specs.Table.{opening}
 use Rattle.crq_ring.specs.declared.rows.PipeRow.{PipeRow}
 use Rattle.crq_ring.specs.declared.rows.DropRow.{DropRow}
 use Rattle.crq_ring.specs.declared.view.RingKey.{RingKey}
 use Rattle.crq_ring.specs.declared.view.Role.TheVariants.{Sender, Receiver}
-use Rattle.crq_ring.specs.Control.{control_word}
 use Rattle.crq_ring.specs.Kept.{KeepsDrops}
 use Rattle.crq_ring.specs.RingCuts.{sender_part, receiver_part}
 use Rattle.crq_ring.specs.RingSteps.{Seated}

@@ -1,4 +1,4 @@
-use Rattle.std.proofs.Common.{◌≡◌, ◌+◌, ◌*◌, ◌<◌, ap, sym, ◌∙◌, arith}
+use Rattle.std.proofs.Common.{ap, sym, ◌∙◌, arith}
 use Rattle.crq_ring.proofs.ControlActs.{zeroes_slot}
 use Rattle.crq_ring.proofs.ring.Ring.zero_slots.Goals as goal
 
