@@ -1,5 +1,6 @@
 // Entries that pass over a ring, on one thread and from one thread to another.
-ghost use Rattle.std.specs.Prelude.{◌≡◌, ◌+◌, ◌^◌, ◌<◌, ◌≤◌, IfOk};
+ghost use Rattle.std.specs.Prelude.{◌+◌, ◌^◌, ◌<◌, ◌≤◌, IfOk};
+ghost use Rattle.crq_ring.specs.Ends.{MayPut, MayPoll};
 
 use crq_ring::{OpenedRing, Poll, Put, RecvEnd, Ring, SendEnd};
 use std::alloc::Global;
@@ -28,9 +29,9 @@ fn entry(k: u32) -> Entry
 
 // Puts this many entries, up to the first that finds its slot full, and counts those that were put.
 fn put_batch(ring: &Ring, send: &mut SendEnd, n: u32) -> u32
-    requires ours { send.old.ring ≡ ring.now.id }
+    requires ours { MayPut ring.now send.old }
     requires spare { n ≤ send.old.spare }
-    ensures ours { send.new.ring ≡ send.old.ring }
+    ensures ours { MayPut ring.now send.new }
     ensures spare { send.old.spare ≤ send.new.spare + n }
     ensures count { result ≤ n }
 {
@@ -46,9 +47,9 @@ fn put_batch(ring: &Ring, send: &mut SendEnd, n: u32) -> u32
 
 // Takes this many entries, up to the first that is not there, and counts those that were taken.
 fn poll_batch(ring: &Ring, recv: &mut RecvEnd, n: u32) -> u32
-    requires ours { recv.old.ring ≡ ring.now.id }
+    requires ours { MayPoll ring.now recv.old }
     requires spare { n ≤ recv.old.spare }
-    ensures ours { recv.new.ring ≡ recv.old.ring }
+    ensures ours { MayPoll ring.now recv.new }
     ensures spare { recv.old.spare ≤ recv.new.spare + n }
     ensures count { result ≤ n }
 {
@@ -64,8 +65,8 @@ fn poll_batch(ring: &Ring, recv: &mut RecvEnd, n: u32) -> u32
 
 // Passes this many entries in batches, up to one that does not arrive whole, and counts those that arrived.
 fn pass_batches(ring: &Ring, send: &mut SendEnd, recv: &mut RecvEnd, count: u32) -> u32
-    requires sends { send.old.ring ≡ ring.now.id }
-    requires receives { recv.old.ring ≡ ring.now.id }
+    requires sends { MayPut ring.now send.old }
+    requires receives { MayPoll ring.now recv.old }
     requires puts { count ≤ send.old.spare }
     requires polls { count ≤ recv.old.spare }
     ensures { result ≤ count }
@@ -115,7 +116,7 @@ pub fn one_thread(alloc: Global, count: u32) -> Result<u32, NoMemory>
 
 // Puts this many entries, each tried until its slot is empty.
 fn produce(ring: &Ring, mut send: SendEnd, count: u32) -> u32
-    requires { send.ring ≡ ring.now.id }
+    requires { MayPut ring.now send }
     ensures { result ≤ count }
 {
     let mut k = 0;
@@ -132,7 +133,7 @@ fn produce(ring: &Ring, mut send: SendEnd, count: u32) -> u32
 
 // Takes this many entries, each tried until it is there.
 fn consume(ring: &Ring, mut recv: RecvEnd, count: u32) -> u32
-    requires { recv.ring ≡ ring.now.id }
+    requires { MayPoll ring.now recv }
     ensures { result ≤ count }
 {
     let mut k = 0;

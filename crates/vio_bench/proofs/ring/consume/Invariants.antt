@@ -1,5 +1,5 @@
-use Rattle.std.proofs.Common.{◌≡◌, ◌≤◌}
+use Rattle.std.proofs.Common.{◌≡◌, ◌≤◌, true}
 use Rattle.vio_bench.proofs.ring.consume.Given as goal
 
 abbrev pub invariant-loop : goal.invariant-loop
-invariant-loop l = (l.recv.ring ≡ l.fn.recv.ring) × (l.k ≤ l.count)
+invariant-loop l = ((l.recv.ring ≡ l.fn.recv.ring) × (l.recv.is_open ≡ true)) × (l.k ≤ l.count)

@@ -1,5 +1,5 @@
-use Rattle.std.proofs.Common.{◌≡◌, ◌≤◌}
+use Rattle.std.proofs.Common.{◌≡◌, ◌≤◌, true}
 use Rattle.vio_bench.proofs.ring.produce.Given as goal
 
 abbrev pub invariant-loop : goal.invariant-loop
-invariant-loop l = (l.send.ring ≡ l.fn.send.ring) × (l.k ≤ l.count)
+invariant-loop l = ((l.send.ring ≡ l.fn.send.ring) × (l.send.inside ≡ true)) × (l.k ≤ l.count)
