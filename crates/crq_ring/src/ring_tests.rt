@@ -212,7 +212,7 @@ fn consume(ring: &Ring, mut recv: RecvEnd, n: u32) -> (RecvEnd, u32)
 
 #[test]
 fn two_threads_over_four_slots(rt: HostRuntime) -> Result<(), Fail> {
-    let n = 10_000;
+    let n = 100_000;
     let OpenedRing { ring, send, recv } = Ring::open(rt.alloc(), 4)?;
     let shared = &ring;
     let ((send, put), (recv, taken)) = thread::join(
