@@ -1,7 +1,7 @@
 // A buffer's descriptor and a receive entry's high half (LoPAR, "H_ADD_LOGICAL_LAN_BUFFER", "Receive
 // queue").
 ghost use Rattle.std.specs.Prelude.{◌≡◌, ◌↔◌, ◌+◌, ◌<◌, ◌≤◌, ◌^◌, IsTrue, if◌then◌else◌};
-ghost use Rattle.lan_buffers.specs.Buffer.{IsBuffer, buffer_len, buffer_address, toggle, frame_bits, most_buffer};
+ghost use Rattle.lan_buffers.specs.Buffer.{IsBuffer, is_valid, buffer_len, buffer_address, toggle, frame_bits, most_buffer};
 
 /// The place of a frame in its buffer: behind the 8 bytes of the correlator.
 pub const FRAME_OFFSET: u32 = 8;
@@ -36,12 +36,19 @@ pub fn buffer_address(descriptor: u64) -> u64
     descriptor & ADDRESS
 }
 
+/// Whether the descriptor's valid bit is on.
+pub fn is_valid(descriptor: u64) -> bool
+    ensures { result ≡ is_valid descriptor }
+{
+    descriptor >= VALID
+}
+
 /// Whether the descriptor is valid, and its length that of a buffer.
 pub fn is_buffer(descriptor: u64) -> bool
     ensures { IsTrue result ↔ IsBuffer descriptor }
 {
     let len = buffer_len(descriptor);
-    descriptor >= VALID && LEAST_BUFFER <= len && len <= MOST_BUFFER
+    is_valid(descriptor) && LEAST_BUFFER <= len && len <= MOST_BUFFER
 }
 
 /// The toggle of receive entry `number` of a port of this many slots.

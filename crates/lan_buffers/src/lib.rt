@@ -14,6 +14,7 @@ mod settings;
 mod told;
 
 pub use answers::{AddAnswer, Deliver, Harvest};
+pub use buffer::{FRAME_OFFSET, buffer_address, buffer_len, is_buffer, is_valid};
 pub use port::PlainPort;
 pub use rows::{DeliverRow, HarvestRow, PostRow};
 pub use settings::Settings;

@@ -133,6 +133,13 @@ impl PlainPort {
         None
     }
 
+    /// Whether the port is open.
+    pub fn is_open(&self) -> bool
+        ensures { IsTrue result ↔ IsOpen self.now }
+    {
+        self.settings.is_some()
+    }
+
     /// What the port accepts; None exactly where it is closed.
     pub fn settings(&self) -> Option<Settings>
         ensures { result ≡ self.now.settings }

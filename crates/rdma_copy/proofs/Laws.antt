@@ -13,7 +13,7 @@ use Rattle.tce_window.specs.declared.answers.Right.{Right}
 use Rattle.tce_window.specs.Pieces.{IsGranted}
 use Rattle.tce_window.specs.Port.{Begins, Later, Grows}
 use Rattle.tce_window.specs.Moved.{IsReadFrom, IsWrittenTo, IsNamed, bytes_of, left_at, read_bytes, stroke_count, stroke_of}
-pub use Rattle.rdma_copy.proofs.Holding.{behind, Written, laid_on, written_back, places_laid}
+pub use Rattle.rdma_copy.proofs.Holding.{behind, Written, held_back, laid_on, places_laid, strokes_back, written_back}
 use Rattle.rdma_copy.specs.declared.copy.CopyRecord.{CopyRecord}
 use Rattle.rdma_copy.specs.Copy.{Side, IsLawful, SideGrows}
 

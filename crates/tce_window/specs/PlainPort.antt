@@ -4,13 +4,18 @@ use Rattle.tce_window.specs.declared.answers.Right.{Right}
 use Rattle.tce_window.specs.declared.piece.Piece.{Piece}
 use Rattle.tce_window.specs.Grant.{values_of}
 use Rattle.tce_window.specs.Pieces.{IsPieceAt, Touches, IsGranted, IsLast, HasStrokes, IsUsable, MayUse}
-use Rattle.tce_window.specs.PortState.{PortState}
+use Rattle.tce_window.specs.PortState.{PortState, none_beside}
 use Rattle.tce_window.specs.Window.{WindowValue, strokes_at}
 
 -- what is known of a plain window is all there is; since nobody else lays strokes, it keeps no places of its own
 abbrev pub known_of : WindowValue → PortState
 known_of window = record {
-  place = record { unit = window.unit; size = length window.pages; lenders = [] };
+  place = record {
+    unit = window.unit;
+    size = length window.pages;
+    lenders = [];
+    beside = none_beside;
+  };
   strokes = strokes_at window.pages;
   values = values_of window.rows;
   held_from = window.held_from;

@@ -1,6 +1,6 @@
 -- What a port of a window knows of it. On the plain form that is all there is; on a shared form others may
 -- have put more values and laid more strokes.
-use Rattle.std.specs.Prelude.{◌≡◌, ℕ, ◌+◌, ◌-◌, ◌/◌, ◌<◌, ◌≤◌, ◌++◌, ◌&&◌, nat_le, nat_lt, if◌then◌else◌, Bool, true, false, All, IsTrue, IsSome, List, [], ◌∷◌, Option, is_some, length}
+use Rattle.std.specs.Prelude.{◌≡◌, ℕ, ◌+◌, ◌-◌, ◌/◌, ◌<◌, ◌≤◌, ◌++◌, ◌&&◌, nat_le, nat_lt, if◌then◌else◌, Bool, true, false, All, IsTrue, IsSome, List, [], ◌∷◌, Option, None, is_some, length}
 use Rattle.std.specs.Borrow.{GName}
 use Rattle.vio_num.specs.declared.names.UnitId.{UnitId}
 use Rattle.page_slots.specs.Stroke.{StrokeValue}
@@ -14,6 +14,34 @@ use Rattle.tce_window.specs.Port.{Later, Grows, TakenOver, IsWritten, IsBusy}
 use Rattle.tce_window.specs.Puts.{put_into}
 use Rattle.tce_window.specs.Region.{in_region, first_page, end_page, IsInPlace, ReadsRange, IsInUse}
 
+-- what is known of one window, field by field as a port's state has it
+pub record WindowFacts : Type 0 where
+  pub unit : UnitId
+  pub size : ℕ
+  pub lenders : List GName
+  pub strokes : ℕ → Option (List StrokeValue)
+  pub values : ℕ → List ℕ
+  pub held_from : ℕ
+  pub held_count : ℕ
+  pub taken : ℕ → ℕ
+  pub laid : ℕ → List ℕ
+  pub in_use : ℕ
+
+-- a port that reaches one window alone has no other beside it
+abbrev pub none_beside : UnitId → WindowFacts
+none_beside unit = record {
+  unit = unit;
+  size = 0;
+  lenders = [];
+  strokes = λ p. None;
+  values = λ e. [];
+  held_from = 0;
+  held_count = 0;
+  taken = λ p. 0;
+  laid = λ p. [];
+  in_use = 0;
+}
+
 -- what no call changes
 pub record PortPlace : Type 0 where
   -- the unit whose window it is, and the number of its pages, which is that of its entries
@@ -21,6 +49,8 @@ pub record PortPlace : Type 0 where
   pub size : ℕ
   -- the borrows through which the port reaches its window
   pub lenders : List GName
+  -- the windows of other units that are reached through the same borrow
+  pub beside : UnitId → WindowFacts
 
 pub record PortState : Type 0 where
   pub place : PortPlace
@@ -37,6 +67,19 @@ pub record PortState : Type 0 where
   pub laid : ℕ → List ℕ
   -- how often a page or an entry was read in use
   pub in_use : ℕ
+
+-- a window as a port of it alone sees it
+abbrev pub port_at : WindowFacts → PortState
+port_at facts = record {
+  place = record { unit = facts.unit; size = facts.size; lenders = facts.lenders; beside = none_beside };
+  strokes = facts.strokes;
+  values = facts.values;
+  held_from = facts.held_from;
+  held_count = facts.held_count;
+  taken = facts.taken;
+  laid = facts.laid;
+  in_use = facts.in_use;
+}
 
 -- whether a range of 1 to 65,536 bytes lies inside the region
 abbrev pub contains : PortState → ℕ → ℕ → Bool
