@@ -1,3 +1,5 @@
 pub mod Events
 pub mod Registration
 pub mod Spare
+pub mod LinkLaws
+pub mod Seats

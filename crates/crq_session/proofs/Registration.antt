@@ -35,7 +35,7 @@ opens own pushed new partner partner' l f unregistered same begun settles = reco
   none_taken = begun.queue.taken_now;
   none_received = λ _. begun.queue.sent_now;
   kept = begun.kept;
-  settles = settles_on own.kept (end_over l f own partner) (end_over l f pushed partner') (end_over l f new partner') refl refl refl begun.closed settles;
+  settles = settles_on false own.kept (end_over l f own partner) (end_over l f pushed partner') (end_over l f new partner') refl refl refl begun.closed settles;
 }
 
 pub only_registers : (own pushed new partner partner' : PlainSide) (l : List GName) (f : Bool) → pushed.queue ≡ own.queue → Begins pushed new

@@ -6,7 +6,8 @@ use Rattle.vio_num.specs.Counts.{Rose}
 use Rattle.vio_num.specs.Entry.{first_byte, partner_failed, partner_freed}
 use Rattle.vio_num.specs.Queue.{LawfulDrop}
 use Rattle.crq_ring.specs.Sessions.{of_session, recorded}
-use Rattle.crq_session.specs.Control.{ShowsClosed, ShowsInside, control_word, fits_queue}
+use Rattle.crq_ring.specs.Control.{ShowsClosed, ShowsInside, control_word}
+use Rattle.crq_session.specs.Control.{fits_queue}
 use Rattle.crq_session.specs.EndState.{EndState}
 
 -- what was put into the partner's queue in its present session, and what the partner took of it

@@ -4,5 +4,9 @@ pub mod Calls
 pub mod Control
 pub mod EndState
 pub mod Handshake
+pub mod LinkSeats
+pub mod LinkState
 pub mod PlainState
+pub mod SeatCalls
+pub mod SeatState
 pub mod Side

@@ -2,11 +2,12 @@
 use Rattle.std.specs.Prelude.{◌≡◌, ℕ, ◌+◌, ◌≤◌, Bool, false, List, Option, Some, None, min}
 use Rattle.std.specs.Borrow.{GName}
 use Rattle.vio_num.specs.declared.entry.Entry.{Entry}
+use Rattle.crq_ring.specs.Control.{control_word}
 use Rattle.crq_ring.specs.Pipe.{IsEmptyPipe, OnlyReserves}
 use Rattle.crq_session.specs.declared.answers.EventAnswer.{EventAnswer}
 use Rattle.crq_session.specs.declared.answers.EventAnswer.TheVariants.{Kept}
 use Rattle.crq_session.specs.declared.side.PlainSide.{PlainSide}
-use Rattle.crq_session.specs.Control.{fits_queue, control_word}
+use Rattle.crq_session.specs.Control.{fits_queue}
 use Rattle.crq_session.specs.EndState.{EndState}
 
 -- the calls for which room is reserved, of whatever kind they are

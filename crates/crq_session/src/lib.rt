@@ -11,8 +11,12 @@ pub const MAX_SLOTS: u32 = 4096;
 mod answers;
 mod end;
 mod handshake;
+pub mod laws;
 mod link;
 mod plain_end;
+mod seat;
+mod shared_end;
+mod shared_link;
 mod side;
 
 pub use answers::{EventAnswer, FreeAnswer, PollAnswer, RegAnswer, SendAnswer};
@@ -20,6 +24,9 @@ pub use end::CrqEnd;
 pub use handshake::{Handshake, Step};
 pub use link::PlainLink;
 pub use plain_end::PlainEnd;
+pub use seat::LinkSeat;
+pub use shared_end::SharedEnd;
+pub use shared_link::{Link, OpenedLink};
 
 #[cfg(test)]
 mod tests;

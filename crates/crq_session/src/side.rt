@@ -23,8 +23,8 @@ pub(crate) struct PlainSide {
     ghost idle: { IsTrue registered → IsNone kept },
 }
 
-// Whether this is the address and the length in bytes of a queue of this many slots.
-fn is_of_queue(slots: u32, address: u64, bytes: u64) -> bool
+/// Whether this is the address and the length in bytes of a queue of this many slots.
+pub(crate) fn is_of_queue(slots: u32, address: u64, bytes: u64) -> bool
     ensures { result ≡ fits_queue slots address bytes }
 {
     address % PAGE_BYTES == 0 && bytes == u64::from(slots / PAGE_SLOTS) * PAGE_BYTES
@@ -52,6 +52,29 @@ impl PlainSide {
             kept: None,
             closed: 0,
         })
+    }
+
+    /// A side with this queue, registered or not, and the event that it keeps.
+    pub(crate) fn of(
+        queue: PlainPipe,
+        registered: bool,
+        kept: Option<Entry>,
+        closed: u64,
+    ) -> PlainSide
+        requires sized { IsQueueSize queue.slots }
+        requires begun { registered ≡ true → 0 < queue.session }
+        requires idle { registered ≡ true → IsNone kept }
+        ensures queue { result.queue ≡ queue }
+        ensures registered { result.registered ≡ registered }
+        ensures kept { result.kept ≡ kept }
+        ensures closed { result.closed ≡ closed }
+    {
+        PlainSide {
+            queue,
+            registered,
+            kept,
+            closed,
+        }
     }
 
     /// The number of slots of the queue.

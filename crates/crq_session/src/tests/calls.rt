@@ -1,9 +1,11 @@
 // The answers of each call in every state of both ends.
+ghost use Rattle.std.specs.Prelude.{◌≡◌};
+
 use crate::answers::{EventAnswer, FreeAnswer, PollAnswer, RegAnswer, SendAnswer};
 use crate::end::CrqEnd;
 use crate::link::PlainLink;
 use std::test::Fail;
-use vio_num::{Entry, Kind};
+use vio_num::{Entry, Kind, NoMemory};
 
 #[derive(Clone, Copy, Debug, PartialEq, Eq)]
 pub enum Call {
@@ -64,7 +66,9 @@ pub fn empty(number: u64) -> Answer {
 }
 
 /// Makes a call with room for it, through the trait.
-fn make<E: CrqEnd>(end: &mut E, call: Call) -> Result<Answer, Fail> {
+pub fn make<E: CrqEnd>(end: &mut E, call: Call) -> Result<Answer, NoMemory>
+    ensures { (E.state end.new).place ≡ (E.state end.old).place }
+{
     end.reserve(1)?;
     Ok(match call {
         Call::Register(ioba, length) => Answer::Reg(end.register(ioba, length)),
@@ -78,7 +82,7 @@ fn make<E: CrqEnd>(end: &mut E, call: Call) -> Result<Answer, Fail> {
 
 pub fn answer_of(link: &mut PlainLink, first: bool, call: Call) -> Result<Answer, Fail> {
     let mut end = link.side(first);
-    make(&mut end, call)
+    Ok(make(&mut end, call)?)
 }
 
 const PARAMETER: Answer = Answer::Reg(RegAnswer::Parameter);

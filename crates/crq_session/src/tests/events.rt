@@ -9,12 +9,12 @@ use crq_ring::DropRow;
 use std::alloc::Global;
 use std::test::Fail;
 
-const KEPT: Answer = Answer::Event(EventAnswer::Kept {
+pub const KEPT: Answer = Answer::Event(EventAnswer::Kept {
     number: 256,
     held: COMMAND,
 });
 
-const BUSY: Answer = Answer::Reg(RegAnswer::Busy {
+pub const BUSY: Answer = Answer::Reg(RegAnswer::Busy {
     number: 256,
     held: COMMAND,
 });

@@ -11,7 +11,7 @@ returns c =
       success = λ l f. record {
         registered = search rules;
         freed = did.unregistered;
-        tells = told c.put_event.result c.args.event (end_over l f c.args.self.now c.args.partner.now) (end_over l f c.put_event.new.self c.put_event.new.partner)
+        tells = told false c.put_event.result c.args.event (end_over l f c.args.self.now c.args.partner.now) (end_over l f c.put_event.new.self c.put_event.new.partner)
             false _ (did.nothing l f) (did.put l f) (did.still l f) did.kept;
       };
       busy = tt;

@@ -1,0 +1,9 @@
+use Rattle.std.proofs.Common.{rules, true}
+use Rattle.crq_session.specs.EndState.{OnlyPushes}
+use Rattle.crq_session.proofs.Seats.{at_place}
+use Rattle.crq_session.proofs.shared_end.SharedEndCrqEnd.push_event.Goals as goal
+
+pub returns-clause-rest : goal.returns-clause-rest
+returns-clause-rest c =
+    let end = c.args.self.now in
+    at_place (OnlyPushes true) end.seat.ghost_name end.link.now end.seat.now c.push_event.new.self c.push_event.ensures.keeps.first (c.push_event.ensures.rest _ (search rules))

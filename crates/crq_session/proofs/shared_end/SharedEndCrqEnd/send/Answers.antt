@@ -1,0 +1,9 @@
+use Rattle.std.proofs.Common.{rules, true}
+use Rattle.crq_session.specs.EndState.{OnlySends}
+use Rattle.crq_session.proofs.Seats.{at_place}
+use Rattle.crq_session.proofs.shared_end.SharedEndCrqEnd.send.Goals as goal
+
+pub returns-clause-rest : goal.returns-clause-rest
+returns-clause-rest c =
+    let end = c.args.self.now in
+    at_place (OnlySends true) end.seat.ghost_name end.link.now end.seat.now c.send.new.self c.send.ensures.keeps.first (c.send.ensures.rest _ (search rules))
