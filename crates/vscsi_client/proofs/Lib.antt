@@ -1,0 +1,14 @@
+pub mod Allowing
+pub mod Fetching
+pub mod Fits
+pub mod Frames
+pub mod FreeSlots
+pub mod Giving
+pub mod Laws
+pub mod Parts
+pub mod Ranges
+pub mod Requests
+pub mod Same
+pub mod Runs
+pub mod Views
+pub mod Writing

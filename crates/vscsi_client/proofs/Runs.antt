@@ -1,0 +1,98 @@
+-- Runs of steps, one behind the other.
+use Rattle.std.proofs.Common.{◌≡◌, ℕ, ◌+◌, ◌||◌, Bool, true, false, List, [], ◌∷◌, ◌++◌, Option, Some, None, Result, Ok, Err, IfSome, IsSome, refl, sym, ap, subst, inl, inr, arith}
+use Rattle.std.specs.List.{list_any}
+use Rattle.vio_num.specs.declared.memory.NoMemory.{NoMemory}
+use Rattle.crq_session.specs.declared.answers.SendAnswer.TheVariants as send
+use Rattle.vscsi_client.specs.declared.stage.Due.{Due}
+use Rattle.vscsi_client.specs.State.{ClientState}
+use Rattle.vscsi_client.specs.Ports.{ports}
+use Rattle.crq_session.specs.EndState.{EndState, OnlyReserves}
+use Rattle.tce_window.specs.PortState.{PortState, LaysNone}
+use Rattle.vio_num.specs.declared.entry.Entry.{Entry}
+use Rattle.vscsi_client.specs.declared.found.Found.{Found}
+use Rattle.vscsi_client.specs.Login.{Finds, found_by}
+use Rattle.vscsi_client.proofs.Same.{lays_none}
+use Rattle.vscsi_client.specs.Turned.{Site, site, LoginStep, RanOut, SameHands, Runs, NoneEnds, ends_turn, EndsWith, Did, LastIs, IsHeldUp, IsSpent, is_none, meets_use, times_taken, Put, NotWritten, Looks, TakesNext}
+use Rattle.vscsi_client.specs.TurnParts.{TookAs}
+
+pub runs_after : (line : ℕ) (first second : List LoginStep) (a b c : Site) → Runs line first a b → Runs line second b c → Runs line (second ++ first) a c
+runs_after line first [] a b c one two = subst (Runs line first a) (sym two) one
+runs_after line first (step ∷ second) a b c one two = (two.0, runs_after line first second a b two.0 one two.1, two.2, two.3)
+
+pub none_ends_append : (xs ys : List LoginStep) → NoneEnds xs → NoneEnds ys → NoneEnds (xs ++ ys)
+none_ends_append [] ys one two = two
+none_ends_append (x ∷ xs) ys one two = at (ends_turn x) (λ e. none_ends_append xs ys e two) one
+  where
+    at : (b : Bool) → (list_any ends_turn xs ≡ false → list_any ends_turn (xs ++ ys) ≡ false) → (b || list_any ends_turn xs) ≡ false → (b || list_any ends_turn (xs ++ ys)) ≡ false
+    at true later e = absurd (cc)
+    at false later e = later e
+
+pub any_append : (p : LoginStep → Bool) (xs ys : List LoginStep) → list_any p ys ≡ true → list_any p (xs ++ ys) ≡ true
+any_append p [] ys some = some
+any_append p (x ∷ xs) ys some = at (p x) (any_append p xs ys some)
+  where
+    at : (b : Bool) → list_any p (xs ++ ys) ≡ true → (b || list_any p (xs ++ ys)) ≡ true
+    at true e = refl
+    at false e = e
+
+pub times_append : (xs ys : List LoginStep) → times_taken (xs ++ ys) ≡ times_taken xs + times_taken ys
+times_append [] ys = omega arith
+times_append (x ∷ xs) ys = let rest = times_append xs ys in omega (arith, rest)
+
+pub ends_with_append : (step : LoginStep) (xs ys : List LoginStep) → EndsWith step xs → NoneEnds ys → EndsWith step (xs ++ ys)
+ends_with_append step xs ys e none = record { rest = e.rest ++ ys; is = ap (λ zs. zs ++ ys) e.is; going = none_ends_append e.rest ys e.going none }
+
+pub last_append : (step : LoginStep) (xs ys : List LoginStep) → LastIs step xs → LastIs step (xs ++ ys)
+last_append step xs ys e = record { rest = e.rest ++ ys; is = ap (λ zs. zs ++ ys) e.is }
+
+pub held_up_append : (due : List Due) (xs ys : List LoginStep) → IsHeldUp due xs → IsHeldUp due (xs ++ ys)
+held_up_append [] xs ys h = tt
+held_up_append (first ∷ others) xs ys (inl h) = inl (h.0, h.1, last_append (Put first (send.Dropped h.0 h.1)) xs ys h.2)
+held_up_append (first ∷ others) xs ys (inr h) = inr (h.0, (h.1.0, h.1.1, last_append (NotWritten h.1.0 h.1.1) xs ys h.1.2))
+
+pub spent_append : (slots : ℕ) (xs ys : List LoginStep) → times_taken xs ≡ 0 → IsSpent slots ys → IsSpent slots (xs ++ ys)
+spent_append slots xs ys none (inl e) = inl (any_append is_none xs ys e)
+spent_append slots xs ys none (inr (inl e)) = inr (inl (let sum = times_append xs ys in omega (arith, sum, none, e)))
+spent_append slots xs ys none (inr (inr e)) = inr (inr (any_append meets_use xs ys e))
+
+-- what was done before does not change how a part ends
+pub did_after : (X : Type 0) (line : ℕ) (a b c : Site) (P Q : X → List LoginStep → Type 0) (result : Result X NoMemory) (first : List LoginStep)
+    → Runs line first a b → NoneEnds first → ((x : X) (steps : List LoginStep) → P x steps → Q x (steps ++ first)) → Did line b c P result → Did line a c Q result
+did_after X line a b c P Q (Ok x) first runs none more did = record {
+  steps = did.steps ++ first;
+  runs = runs_after line first did.steps a b c runs did.runs;
+  ends = more x did.steps did.ends;
+}
+did_after X line a b c P Q (Err memory) first runs none more did = record {
+  steps = did.steps ++ first;
+  runs = runs_after line first did.steps a b c runs did.runs;
+  ends = ends_with_append RanOut did.steps first did.ends none;
+}
+
+-- the hands in the queue and the window stay
+pub hands : (cs : Bool) (os : Bool) (s s' : ClientState) (e e' : EndState) (w w' : PortState) → SameHands (site s (ports cs e os w)) (site s' (ports cs e' os w'))
+hands cs os s s' e e' w w' = record { crq = refl; own = refl }
+
+pub same_end : (a : EndState) → OnlyReserves a a
+same_end a = record { place = refl; last_session = refl; registered = refl; kept = refl; sent = refl; drops = refl; taken = refl; counts = refl }
+
+pub same_window : (shared : Bool) (a b : PortState) → b ≡ a → LaysNone shared a b
+same_window shared a b is = subst (LaysNone shared a) (sym is) (lays_none shared a)
+
+pub took_true : (shared : Bool) (s s' : ClientState) (old new : EndState) (b : Bool) → b ≡ true → TookAs shared s s' old new b → TakesNext shared s s' old new
+took_true shared s s' old new b is took = subst (TookAs shared s s' old new) is took
+
+-- the entry that is held, once it was taken
+pub held_by : (s s' : ClientState) (entry : Entry) → s' ≡ record s { held = Some entry } → s'.held ≡ Some entry
+held_by s s' entry is = ap (λ (s : ClientState). s.held) is
+
+pub looks_from : (shared : Bool) (s s' : ClientState) (old new : PortState) (found : Found) (entry : Entry) → s.held ≡ Some entry
+    → IfSome s.held (λ e. Finds shared s e old new found × (s' ≡ found_by e found s)) → Looks shared s s' old new found
+looks_from shared s s' old new found entry is looks =
+    let at : Finds shared s entry old new found × (s' ≡ found_by entry found s) = subst (λ h. IfSome h (λ e. Finds shared s e old new found × (s' ≡ found_by e found s))) is looks in
+    record { entry = entry; held = is; finds = at.0; client = at.1 }
+
+pub looks_some : (shared : Bool) (s s' : ClientState) (old new : PortState) (found : Found) (h : Option Entry) → s.held ≡ h → IsSome h
+    → IfSome s.held (λ e. Finds shared s e old new found × (s' ≡ found_by e found s)) → Looks shared s s' old new found
+looks_some shared s s' old new found None is some looks = absurd (cc)
+looks_some shared s s' old new found (Some entry) is some looks = looks_from shared s s' old new found entry is looks

@@ -1,0 +1,13 @@
+pub mod Credits
+pub mod Frames
+pub mod Login
+pub mod Ports
+pub mod Sending
+pub mod Slots
+pub mod Spans
+pub mod State
+pub mod Taking
+pub mod Transferred
+pub mod TurnParts
+pub mod Turned
+pub mod Units
