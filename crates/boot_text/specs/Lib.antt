@@ -1,0 +1,14 @@
+pub mod Numbers
+pub mod Words
+pub mod Keywords
+pub mod Said
+pub mod Transfer
+pub mod Script
+pub mod PortScript
+pub mod CommonScript
+pub mod Statement
+pub mod Cost
+pub mod SoFar
+pub mod Sums
+pub mod BootText
+pub mod Taken
