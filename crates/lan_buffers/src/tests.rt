@@ -2,6 +2,7 @@
 ghost use Rattle.std.specs.Prelude.{◌≡◌, ◌≤◌, length};
 ghost use Rattle.lan_buffers.specs.Calls.{IsOpen};
 
+mod busy;
 mod defects;
 mod posts;
 mod sessions;

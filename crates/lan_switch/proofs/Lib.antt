@@ -1,0 +1,9 @@
+mod Answering
+mod Codes
+mod Gathering
+mod Lending
+mod Lists
+mod Offering
+mod Placing
+mod Results
+mod Targets
