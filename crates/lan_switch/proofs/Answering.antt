@@ -1,16 +1,20 @@
 -- What a sender is answered, from what its frame was offered.
-use Rattle.std.proofs.Common.{◌≡◌, ℕ, Bool, false, List, None, if◌then◌else◌, sym, ◌∙◌, ap, subst}
+use Rattle.std.proofs.Common.{◌≡◌, ℕ, Bool, false, List, ◌++◌, None, take, length, if◌then◌else◌, sym, ◌∙◌, ap, subst}
 use Rattle.vio_num.specs.declared.names.Mac.{Mac}
 use Rattle.vio_num.specs.declared.hypervisor.Hrc.{Hrc}
 use Rattle.vio_num.specs.declared.hypervisor.Hrc.TheVariants.{Success}
+use Rattle.vio_num.specs.declared.names.UnitId.{UnitId}
 use Rattle.page_slots.specs.declared.stroke.StrokeName.{StrokeName}
 use Rattle.tce_window.specs.declared.piece.Piece.{Piece}
+use Rattle.tce_window.specs.PortState.{PortState}
 use Rattle.lan_frame.specs.Station.{IsGroup}
 use Rattle.lan_switch.specs.declared.answers.Offer.{Offer}
 use Rattle.lan_switch.specs.declared.answers.SendRecord.{SendRecord}
 use Rattle.lan_switch.specs.declared.station.Station.{Station}
-use Rattle.lan_switch.specs.Sending.{AnswersFrame, AreOffered, GoesOut, LanWindows, SaysFrame, has_offer, is_numbered, offering, one_code, to_of, with_frames}
+use Rattle.lan_switch.specs.Sending.{AnswersFrame, AreOffered, GoesOut, IsSenderPlace, LanWindows, MakesFrame, ReadsFrame, SaysFrame, has_offer, is_numbered, offering, one_code, to_of, with_frames}
+use Rattle.lan_switch.specs.Source.{AreRead, parts_of}
 use Rattle.lan_switch.proofs.Codes.{code_by}
+use Rattle.lan_switch.proofs.Lists.{take_whole_front}
 
 pub answered : (old mid new : List Station) (name : StrokeName) (pieces : List Piece) (frame : List ℕ) (windows : LanWindows) (offers : List Offer) (to : Mac)
     (code : Hrc) (numbered : Bool) (r : SendRecord) → GoesOut (offering name frame windows) old mid offers → to ≡ to_of frame
@@ -35,3 +39,14 @@ answered old mid new name pieces frame windows offers to code numbered r out to_
       says = subst (λ (b : Bool). SaysFrame b name.mark pieces frame r) (sym numbered_is') says;
       rest = subst (λ (b : Bool). new ≡ (if b then with_frames name.who name.mark mid else mid)) (sym numbered_is') rest;
     }
+
+-- a frame that was read into memory of its own
+pub frame_read : (old : List Station) (unit : UnitId) (descriptors parts : List ℕ) (place : ℕ) (window window' : PortState) (pieces : List Piece)
+    (bytes behind frame : List ℕ) (n : ℕ) → parts ≡ parts_of descriptors → IsSenderPlace old unit parts place → AreRead window window' parts pieces bytes
+    → window'.in_use ≡ window.in_use → frame ≡ take n (bytes ++ behind) → length bytes ≡ n → ReadsFrame old unit descriptors window window' pieces frame
+frame_read old unit descriptors parts place window window' pieces bytes behind frame n parts_is sender read uncounted frame_is long = record {
+  asked = subst (λ (l : List ℕ). MakesFrame old unit l) parts_is sender.asked;
+  read = subst (λ (l : List ℕ). AreRead window window' l pieces frame) parts_is
+      (subst (λ (l : List ℕ). AreRead window window' parts pieces l) (sym (frame_is ∙ take_whole_front n bytes behind long)) read);
+  uncounted = uncounted;
+}

@@ -259,6 +259,12 @@ pub record RefusesSource (is_shared : Bool) (Found : ℕ → ℕ → Type 0) (ol
 abbrev pub next_name : List Station → UnitId → StrokeName
 next_name stations unit = record { who = unit; mark = next_number stations unit }
 
+-- The call may be made, and the frame was read; no page was found in use.
+pub record ReadsFrame (old : List Station) (unit : UnitId) (descriptors : List ℕ) (window window' : PortState) (pieces : List Piece) (frame : List ℕ) : Type 0 where
+  pub asked : IsSending old unit descriptors
+  pub read : AreRead window window' (parts_of descriptors) pieces frame
+  pub uncounted : window'.in_use ≡ window.in_use
+
 -- The frame of this name was offered, and the sender answered: it has a number unless its one port was busy.
 pub record AnswersFrame (old new : List Station) (name : StrokeName) (pieces : List Piece) (frame : List ℕ) (windows : LanWindows) (r : SendRecord) : Type 0 where
   pub mid : List Station
@@ -270,11 +276,9 @@ pub record AnswersFrame (old new : List Station) (name : StrokeName) (pieces : L
 
 -- The frame was read and offered: to each other port that accepts it, if it is for a group, and else to the lowest.
 pub record OffersFrame (old new : List Station) (unit : UnitId) (descriptors : List ℕ) (window window' : PortState) (windows : LanWindows) (r : SendRecord) : Type 0 where
-  pub asked : IsSending old unit descriptors
   pub pieces : List Piece
   pub frame : List ℕ
-  pub read : AreRead window window' (parts_of descriptors) pieces frame
-  pub uncounted : window'.in_use ≡ window.in_use
+  pub source : ReadsFrame old unit descriptors window window' pieces frame
   pub answered : AnswersFrame old new (next_name old unit) pieces frame windows r
 
 -- no other window was touched
@@ -296,11 +300,9 @@ pub record LosesFrame (old new : List Station) (name : StrokeName) (frame : List
 
 -- Memory ran out after the frame was read.
 pub record StopsOffering (old new : List Station) (unit : UnitId) (descriptors : List ℕ) (window window' : PortState) (windows : LanWindows) : Type 0 where
-  pub asked : IsSending old unit descriptors
   pub pieces : List Piece
   pub frame : List ℕ
-  pub read : AreRead window window' (parts_of descriptors) pieces frame
-  pub uncounted : window'.in_use ≡ window.in_use
+  pub source : ReadsFrame old unit descriptors window window' pieces frame
   pub lost : LosesFrame old new (next_name old unit) frame windows
 
 -- Memory ran out: before the frame had a number nothing changed.

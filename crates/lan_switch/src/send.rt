@@ -146,7 +146,8 @@ impl PlainSwitch {
         requires sender { IsPort self.old name.who }
         requires free { (unit : UnitId) → (M.state others.old unit).held_count ≡ 0 }
         ensures offered { IfOk result (λ offers. GoesOut (offering name frame.now
-            (windows_of M.is_shared M.state M.found others.old others.new)) self.old self.new offers.items) }
+            (windows_of M.is_shared M.state M.found others.old others.new))
+            self.old self.new offers.items) }
         ensures failed { OnErr result (StopsAt (offering name frame.now
             (windows_of M.is_shared M.state M.found others.old others.new)) self.old self.new) }
         ensures free { (unit : UnitId) → (M.state others.new unit).held_count ≡ 0 }
@@ -187,7 +188,8 @@ impl PlainSwitch {
         requires frame { (MIN_FRAME ≤ length frame.now) × (length frame.now ≤ MAX_FRAME) }
         requires free { (unit : UnitId) → (M.state others.old unit).held_count ≡ 0 }
         ensures offered { IfOk result (OffersAt (offering name frame.now
-            (windows_of M.is_shared M.state M.found others.old others.new)) self.old self.new place) }
+            (windows_of M.is_shared M.state M.found others.old others.new))
+            self.old self.new place) }
         ensures others { KeepsOthers (unit_at self.old place) (M.state others.old)
             (M.state others.new) }
         ensures memory { OnErr result (self.new ≡ self.old) }
