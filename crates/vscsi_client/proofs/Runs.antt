@@ -92,6 +92,9 @@ looks_from shared s s' old new found entry is looks =
     let at : Finds shared s entry old new found × (s' ≡ found_by entry found s) = subst (λ h. IfSome h (λ e. Finds shared s e old new found × (s' ≡ found_by e found s))) is looks in
     record { entry = entry; held = is; finds = at.0; client = at.1 }
 
+pub some_held : (h : Option Entry) (e : Entry) → h ≡ Some e → IsSome h
+some_held h e is = subst (λ (o : Option Entry). IsSome o) (sym is) refl
+
 pub looks_some : (shared : Bool) (s s' : ClientState) (old new : PortState) (found : Found) (h : Option Entry) → s.held ≡ h → IsSome h
     → IfSome s.held (λ e. Finds shared s e old new found × (s' ≡ found_by e found s)) → Looks shared s s' old new found
 looks_some shared s s' old new found None is some looks = absurd (cc)

@@ -3,6 +3,7 @@ ghost use Rattle.std.specs.Prelude.{◌≡◌};
 
 mod calls;
 mod data;
+mod in_use;
 mod logins;
 mod moves;
 mod pages;

@@ -1,5 +1,5 @@
 // One turn of a login, made of small steps.
-ghost use Rattle.std.specs.Prelude.{◌≡◌, ◌≤◌, ℕ, true, false, [], None, IfOk, IsSome, MatchOption, OnErr};
+ghost use Rattle.std.specs.Prelude.{◌≡◌, ◌≤◌, ℕ, true, false, [], None, IfOk, MatchOption, OnErr};
 ghost use Rattle.crq_session.specs.EndState.{OnlyRegisters, OnlyReserves, OnlyTakes};
 ghost use Rattle.tce_window.specs.PortState.{OnlyReads, OnlyWrites};
 ghost use Rattle.vscsi_client.specs.Frames.{KeepsEnd, OnlyTurns};
@@ -167,32 +167,12 @@ impl Client {
     {
         match self.held {
             None => self.take_more(crq, own),
-            Some(_) => self.take_held(crq, own),
-        }
-    }
-
-    // Looks at the entry that is held, and takes more.
-    fn take_held<C: CrqEnd, O: OwnerPort>(
-        &mut self,
-        crq: &mut C,
-        own: &mut O,
-    ) -> Result<Next, NoMemory>
-        requires held { IsSome self.old.held }
-        requires pages { MIN_PAGES ≤ (O.state own.old).place.size }
-        ensures did { (line : ℕ) → Did line
-            (site self.old (ports C.is_shared (C.state crq.old) O.is_shared (O.state own.old)))
-            (site self.new (ports C.is_shared (C.state crq.new) O.is_shared (O.state own.new)))
-            (TookAll (C.state crq.old).place.own_slots
-            (site self.new (ports C.is_shared (C.state crq.new) O.is_shared (O.state own.new))))
-            result }
-        ensures crq_rest { KeepsEnd C.is_shared (C.state crq.old) (C.state crq.new) }
-        ensures own_rest { OnlyWrites (O.state own.old) (O.state own.new) }
-    {
-        match self.look(own) {
-            Err(NoMemory) => Err(NoMemory),
-            Ok(found) => match next_after(found) {
-                Next::GoOn => self.take_more(crq, own),
-                next => Ok(next),
+            Some(_) => match self.look(own) {
+                Err(NoMemory) => Err(NoMemory),
+                Ok(found) => match next_after(found) {
+                    Next::GoOn => self.take_more(crq, own),
+                    next => Ok(next),
+                },
             },
         }
     }

@@ -1,12 +1,13 @@
-use Rattle.std.proofs.Common.{◌∙◌, [], ◌∷◌, refl, sym, arith}
+use Rattle.std.proofs.Common.{◌∙◌, [], ◌∷◌, refl, sym, ap, arith}
 use Rattle.vscsi_client.specs.declared.turning.Next.{Next}
 use Rattle.vscsi_client.specs.Ports.{ports}
+use Rattle.vscsi_client.specs.State.{ClientState}
 use Rattle.vscsi_client.specs.Turned.{site, Looked, RanOut}
 use Rattle.vscsi_client.specs.TurnParts.{TookAll}
 use Rattle.vscsi_client.proofs.Frames.{keeps_same, writes_reads}
-use Rattle.vscsi_client.proofs.Runs.{hands, same_end, same_window, looks_some, did_after}
+use Rattle.vscsi_client.proofs.Runs.{hands, same_end, same_window, looks_some, some_held, did_after}
 use Rattle.vscsi_client.proofs.Parts.{looked_ends, looked_none, took_front}
-use Rattle.vscsi_client.proofs.client.Client.take_held.Goals as goal
+use Rattle.vscsi_client.proofs.client.Client.take_all.Goals as goal
 
 pub returns-in-Err-clause-did : goal.returns-in-Err-clause-did
 returns-in-Err-clause-did g c = λ line. record {
@@ -30,19 +31,19 @@ returns-in-GoOn-clause-did g c = λ line.
     let none = looked_none c.in-Ok.found [] on refl in
     let a = site c.args.self.now (ports g.C.CrqEnd.is_shared (g.C.CrqEnd.state c.args.crq.now) g.O.WindowPort.is_shared (g.O.WindowPort.state c.args.own.now)) in
     let m = site c.look.new.self (ports g.C.CrqEnd.is_shared (g.C.CrqEnd.state c.args.crq.now) g.O.WindowPort.is_shared (g.O.WindowPort.state c.look.new.own)) in
-    let b = site c.take_more.new.self (ports g.C.CrqEnd.is_shared (g.C.CrqEnd.state c.take_more.new.crq) g.O.WindowPort.is_shared (g.O.WindowPort.state c.take_more.new.own)) in
+    let b = site c.take_more-in-GoOn.new.self (ports g.C.CrqEnd.is_shared (g.C.CrqEnd.state c.take_more-in-GoOn.new.crq) g.O.WindowPort.is_shared (g.O.WindowPort.state c.take_more-in-GoOn.new.own)) in
     let slots = (g.C.CrqEnd.state c.args.crq.now).place.own_slots in
-    did_after Next line a m b (TookAll slots b) (TookAll slots b) c.take_more.result (Looked c.in-Ok.found ∷ []) (
+    did_after Next line a m b (TookAll slots b) (TookAll slots b) c.take_more-in-GoOn.result (Looked c.in-Ok.found ∷ []) (
       a,
       refl,
       (
         looks_some g.O.WindowPort.is_shared c.args.self.now c.look.new.self (g.O.WindowPort.state c.args.own.now) (g.O.WindowPort.state c.look.new.own) c.in-Ok.found
-            c.args.self.now.held refl c.requires.held c.in-Ok.ensures.looks,
+            c.args.self.now.held refl (some_held c.args.self.now.held _ (sym (ap (λ (s : ClientState). s.held) c.self.view_is) ∙ c.in-Some.is)) c.in-Ok.ensures.looks,
         refl,
       ),
       hands _ _ _ _ _ _ _ _,
     )
-    none (took_front slots b (Looked c.in-Ok.found ∷ []) refl none) (c.take_more.ensures.did line)
+    none (took_front slots b (Looked c.in-Ok.found ∷ []) refl none) (c.take_more-in-GoOn.ensures.did line)
 
 pub returns-in_default : goal.returns-in_default
 returns-in_default g c = record {
@@ -56,7 +57,7 @@ returns-in_default g c = record {
           refl,
           (
             looks_some g.O.WindowPort.is_shared c.args.self.now c.look.new.self (g.O.WindowPort.state c.args.own.now) (g.O.WindowPort.state c.look.new.own) c.in-Ok.found
-                c.args.self.now.held refl c.requires.held c.in-Ok.ensures.looks,
+                c.args.self.now.held refl (some_held c.args.self.now.held _ (sym (ap (λ (s : ClientState). s.held) c.self.view_is) ∙ c.in-Some.is)) c.in-Ok.ensures.looks,
             refl,
           ),
           hands _ _ _ _ _ _ _ _,
