@@ -2,6 +2,7 @@
 // and what it took to standard error.
 #![tactic(auto)]
 
+mod link;
 mod ring;
 mod work;
 
@@ -20,6 +21,8 @@ Does the work COUNT times, 1 to 100000000, and says on standard error what it to
   ring-1      passes an entry over a ring of 64 slots, on one thread in batches of 32
   ring-2      passes an entry from one thread to another over a ring of 4 slots
   ring-2-64   the same over 64 slots
+  link-1      sends an entry over a shared link of 256 slots, on one thread in batches of 32
+  link-2      sends an entry from one thread to another over such a link
 ";
 
 // Does the work and says what it took, if it was done so many times.
@@ -28,7 +31,7 @@ fn measure<R: Threads + Sync + Clock + Print + Eprint + AllocGlobal>(
     work: Work,
     count: u32,
 ) -> io::Result<bool>
-    requires { 1 ≤ count }
+    requires { (1 ≤ count) × (count ≤ MOST) }
 {
     let start = Instant::now(rt)?;
     let Some(done) = do_work(rt, rt.alloc(), work, count) else {

@@ -1,7 +1,7 @@
 // The works by their names.
 ghost use Rattle.std.specs.Prelude.{◌≡◌, ◌≤◌, IfSome};
 
-use crate::ring::{one_thread, two_threads};
+use crate::{link, ring};
 use std::alloc::Global;
 use std::thread::Threads;
 
@@ -17,6 +17,10 @@ pub enum Work {
     RingTwo,
     /// The same over 64 slots.
     RingTwo64,
+    /// An entry is sent over a shared link and taken, on one thread.
+    LinkOne,
+    /// An entry is sent from one thread to another over a shared link.
+    LinkTwo,
 }
 
 impl Work {
@@ -26,6 +30,8 @@ impl Work {
             Work::RingOne => "ring-1",
             Work::RingTwo => "ring-2",
             Work::RingTwo64 => "ring-2-64",
+            Work::LinkOne => "link-1",
+            Work::LinkTwo => "link-2",
         }
     }
 }
@@ -38,6 +44,8 @@ pub fn work_of(name: &str, count: &str) -> Option<(Work, u32)>
         "ring-1" => Work::RingOne,
         "ring-2" => Work::RingTwo,
         "ring-2-64" => Work::RingTwo64,
+        "link-1" => Work::LinkOne,
+        "link-2" => Work::LinkTwo,
         _ => return None,
     };
     let count = count.parse::<u32>().ok()?;
@@ -49,11 +57,14 @@ pub fn work_of(name: &str, count: &str) -> Option<(Work, u32)>
 
 /// Does the work, and gives how often it was done; none where memory ran out.
 pub fn do_work<R: Threads + Sync>(rt: &R, alloc: Global, work: Work, count: u32) -> Option<u32>
+    requires { count ≤ MOST }
     ensures { IfSome result (λ done. done ≤ count) }
 {
     match work {
-        Work::RingOne => one_thread(alloc, count).ok(),
-        Work::RingTwo => two_threads(rt, alloc, 4, count).ok(),
-        Work::RingTwo64 => two_threads(rt, alloc, 64, count).ok(),
+        Work::RingOne => ring::one_thread(alloc, count).ok(),
+        Work::RingTwo => ring::two_threads(rt, alloc, 4, count).ok(),
+        Work::RingTwo64 => ring::two_threads(rt, alloc, 64, count).ok(),
+        Work::LinkOne => link::one_thread(alloc, count).ok(),
+        Work::LinkTwo => link::two_threads(rt, alloc, count).ok(),
     }
 }
