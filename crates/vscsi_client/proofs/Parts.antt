@@ -22,10 +22,10 @@ use Rattle.vscsi_client.specs.declared.turning.Next.{Next}
 use Rattle.vscsi_client.specs.declared.turning.Next.TheVariants as nexts
 use Rattle.vscsi_client.specs.State.{ClientState}
 use Rattle.vscsi_client.specs.Ports.{ports}
-use Rattle.vscsi_client.specs.Turned.{Site, site, LoginStep, Took, TookNone, Looked, Began, RanOut, Put, Registered, Runs, NoneEnds, ends_turn, ends_login, EndsOr, Ends, Did, IsHeldUp, IsSpent, is_none, meets_use, times_taken, is_up, is_idle, is_login, begins, login_due, is_dropped, sent_stage, IsEntryOf, is_found_used, Registers}
+use Rattle.vscsi_client.specs.Turned.{Site, site, LoginStep, Took, TookNone, Looked, Began, RanOut, Put, Registered, Runs, NoneEnds, ends_turn, ends_login, EndsOr, Ends, Did, IsHeldUp, IsSpent, IsLooked, is_none, meets_use, finds_use, times_taken, is_up, is_idle, is_login, begins, login_due, is_dropped, sent_stage, IsEntryOf, is_found_used, Registers}
 use Rattle.vscsi_client.specs.TurnParts.{next_after, TookOne, TookAll, Went, PutAll, PutOne, PutsAs, begun, is_unwritten, IsWritten, HoldsNoMore}
 use Rattle.vscsi_client.proofs.Same.{lays_none}
-use Rattle.vscsi_client.proofs.Runs.{runs_after, none_ends_append, times_append, ends_with_append, held_up_append, spent_append, hands, did_after}
+use Rattle.vscsi_client.proofs.Runs.{runs_after, none_ends_append, times_append, ends_with_append, held_up_append, spent_append, looked_append, looked_none_held, looked_used, hands, did_after}
 
 -- want of memory ends what began before
 pub err_after : (X Y : Type 0) (line : ℕ) (a b c : Site) (P : X → List LoginStep → Type 0) (Q : Y → List LoginStep → Type 0) (result : Result X NoMemory)
@@ -36,14 +36,16 @@ err_after X Y line a b c P Q result m m' first is runs none did = record {
   ends = ends_with_append RanOut did.steps first (subst (λ r. EndsOr P r did.steps) is did.ends) none;
 }
 
-pub none_after : (line slots n : ℕ) (a b c : Site) (result : Result (Option Found) NoMemory) → result ≡ Ok None → n ≤ slots
+pub none_after : (line slots n : ℕ) (a b c : Site) (result : Result (Option Found) NoMemory) → result ≡ Ok None → n ≤ slots → b.client.held ≡ None
     → Went line a b n → Did line b c TookOne result → Did line a c (TookAll slots c) (Ok nexts.Pause)
-none_after line slots n a b c result is most went did =
+none_after line slots n a b c result is most none went did =
     let e : did.steps ≡ TookNone ∷ [] = subst (λ r. EndsOr TookOne r did.steps) is did.ends in
+    let runs : Runs line (TookNone ∷ []) b c = subst (λ ss. Runs line ss b c) e did.runs in
+    let held : c.client.held ≡ None = ap (λ (s : ClientState). s.held) runs.2.0.client ∙ (ap (λ (x : Site). x.client.held) runs.1 ∙ none) in
     record {
       steps = TookNone ∷ went.steps;
-      runs = runs_after line went.steps (TookNone ∷ []) a b c went.runs (subst (λ ss. Runs line ss b c) e did.runs);
-      ends = (went.going, inl refl, (let times = went.times in omega (arith, times, most)));
+      runs = runs_after line went.steps (TookNone ∷ []) a b c went.runs runs;
+      ends = (went.going, inl refl, (let times = went.times in omega (arith, times, most)), looked_none_held c.client.held (TookNone ∷ went.steps) held);
     }
 
 -- an entry ends the taking, or the turn
@@ -52,7 +54,7 @@ ends_by : (slots : ℕ) (b : Site) (found : Found) (steps : List LoginStep) → 
 ends_by slots b (Granted credits) steps none most some = (omega (arith, most), record { rest = steps; is = refl; going = none })
 ends_by slots b (Rejected reason) steps none most some = (omega (arith, most), record { rest = steps; is = refl; going = none })
 ends_by slots b Lost steps none most some = (omega (arith, most), record { rest = steps; is = refl; going = none })
-ends_by slots b (InUse page word) steps none most some = (none, inr (inr refl), omega (arith, most))
+ends_by slots b (InUse page word) steps none most some = (none, inr (inr refl), omega (arith, most), looked_used b.client.held page word steps)
 ends_by slots b Step steps none most some = absurd (some refl)
 ends_by slots b Answer steps none most some = absurd (some refl)
 ends_by slots b Nothing steps none most some = absurd (some refl)
@@ -96,11 +98,11 @@ went_on line n a b c found result is on went did =
     }
 
 -- as many entries were taken as the queue has slots
-pub all_taken : (line slots n : ℕ) (a b : Site) → n ≡ slots → Went line a b n → Did line a b (TookAll slots b) (Ok nexts.Pause)
-all_taken line slots n a b is went = record {
+pub all_taken : (line slots n : ℕ) (a b : Site) → n ≡ slots → b.client.held ≡ None → Went line a b n → Did line a b (TookAll slots b) (Ok nexts.Pause)
+all_taken line slots n a b is none went = record {
   steps = went.steps;
   runs = went.runs;
-  ends = (went.going, inr (inl (went.times ∙ is)), (let times = went.times in omega (arith, times, is)));
+  ends = (went.going, inr (inl (went.times ∙ is)), (let times = went.times in omega (arith, times, is)), looked_none_held b.client.held went.steps none);
 }
 
 pub held_none : (found : Found) → next_after found ≡ nexts.GoOn → is_found_used found ≡ false
@@ -130,6 +132,10 @@ spent_front slots xs ys none (inl e) = inl (any_front is_none xs ys e)
 spent_front slots xs ys none (inr (inl e)) = inr (inl (let sum = times_append xs ys in omega (arith, sum, none, e)))
 spent_front slots xs ys none (inr (inr e)) = inr (inr (any_front meets_use xs ys e))
 
+looked_front : (h : Option Entry) (xs ys : List LoginStep) → IsLooked h xs → IsLooked h (xs ++ ys)
+looked_front None xs ys e = tt
+looked_front (Some entry) xs ys e = any_front finds_use xs ys e
+
 most_front : (slots : ℕ) (xs ys : List LoginStep) → times_taken ys ≡ 0 → times_taken xs ≤ slots → times_taken (xs ++ ys) ≤ slots
 most_front slots xs ys none most = let sum = times_append xs ys in omega (arith, sum, none, most)
 
@@ -138,6 +144,7 @@ ends_front slots b turns.Again xs ys none going h = record {
   going = none_ends_append xs ys h.going going;
   registered = h.registered;
   spent = spent_front slots xs ys none h.spent;
+  looked = looked_front b.client.held xs ys h.looked;
   begun = h.begun;
   held_up = held_up_append b.client.due xs ys h.held_up;
 }
@@ -148,7 +155,7 @@ ends_front slots b (turns.Busy number held) xs ys none going h = ends_with_appen
 
 pub took_front : (slots : ℕ) (b : Site) (ys : List LoginStep) → times_taken ys ≡ 0 → NoneEnds ys → (next : Next) (xs : List LoginStep) → TookAll slots b next xs → TookAll slots b next (xs ++ ys)
 took_front slots b ys none going nexts.Pause xs h =
-    (none_ends_append xs ys h.0 going, spent_front slots xs ys none h.1, most_front slots xs ys none h.2)
+    (none_ends_append xs ys h.0 going, spent_front slots xs ys none h.1, most_front slots xs ys none h.2, looked_front b.client.held xs ys h.3)
 took_front slots b ys none going (nexts.End turn) xs h = (most_front slots xs ys none h.0, ends_front slots b turn xs ys none going h.1)
 took_front slots b ys none going nexts.GoOn xs h = absurd h
 
@@ -158,9 +165,9 @@ turn_front slots b ys none going turn xs h = (most_front slots xs ys none h.0, e
 
 -- what was taken, and then all that is due was put
 pub paused_after : (line slots : ℕ) (a b c : Site) (taken : Did line a b (TookAll slots b) (Ok nexts.Pause))
-    → c.at.crq.registered ≡ true → (put : Did line b c (λ (_ : Unit {0}). PutAll c.client) (Ok tt))
+    → c.at.crq.registered ≡ true → c.client.held ≡ b.client.held → (put : Did line b c (λ (_ : Unit {0}). PutAll c.client) (Ok tt))
     → Did line a c (λ turn steps. (times_taken steps ≤ slots) × Ends slots c turn steps) (Ok turns.Again)
-paused_after line slots a b c taken registered put = record {
+paused_after line slots a b c taken registered held put = record {
   steps = put.steps ++ taken.steps;
   runs = runs_after line taken.steps put.steps a b c taken.runs put.runs;
   ends = (
@@ -169,6 +176,7 @@ paused_after line slots a b c taken registered put = record {
       going = none_ends_append put.steps taken.steps put.ends.0 taken.ends.0;
       registered = registered;
       spent = spent_append slots put.steps taken.steps put.ends.1 taken.ends.1;
+      looked = subst (λ (h : Option Entry). IsLooked h (put.steps ++ taken.steps)) (sym held) (looked_append b.client.held put.steps taken.steps taken.ends.3);
       begun = put.ends.2;
       held_up = held_up_append c.client.due put.steps taken.steps put.ends.3;
     },

@@ -10,9 +10,10 @@ use Rattle.crq_session.specs.EndState.{EndState, OnlyReserves}
 use Rattle.tce_window.specs.PortState.{PortState, LaysNone}
 use Rattle.vio_num.specs.declared.entry.Entry.{Entry}
 use Rattle.vscsi_client.specs.declared.found.Found.{Found}
+use Rattle.vscsi_client.specs.declared.found.Found.TheVariants.{InUse}
 use Rattle.vscsi_client.specs.Login.{Finds, found_by}
 use Rattle.vscsi_client.proofs.Same.{lays_none}
-use Rattle.vscsi_client.specs.Turned.{Site, site, LoginStep, RanOut, SameHands, Runs, NoneEnds, ends_turn, EndsWith, Did, LastIs, IsHeldUp, IsSpent, is_none, meets_use, times_taken, Put, NotWritten, Looks, TakesNext}
+use Rattle.vscsi_client.specs.Turned.{Site, site, LoginStep, RanOut, SameHands, Runs, NoneEnds, ends_turn, EndsWith, Did, LastIs, IsHeldUp, IsSpent, is_none, meets_use, finds_use, IsLooked, times_taken, Put, Looked, NotWritten, Looks, TakesNext}
 use Rattle.vscsi_client.specs.TurnParts.{TookAs}
 
 pub runs_after : (line : ℕ) (first second : List LoginStep) (a b c : Site) → Runs line first a b → Runs line second b c → Runs line (second ++ first) a c
@@ -54,6 +55,18 @@ pub spent_append : (slots : ℕ) (xs ys : List LoginStep) → times_taken xs ≡
 spent_append slots xs ys none (inl e) = inl (any_append is_none xs ys e)
 spent_append slots xs ys none (inr (inl e)) = inr (inl (let sum = times_append xs ys in omega (arith, sum, none, e)))
 spent_append slots xs ys none (inr (inr e)) = inr (inr (any_append meets_use xs ys e))
+
+-- steps behind or before do not change that an entry was looked at
+pub looked_append : (h : Option Entry) (xs ys : List LoginStep) → IsLooked h ys → IsLooked h (xs ++ ys)
+looked_append None xs ys e = tt
+looked_append (Some entry) xs ys e = any_append finds_use xs ys e
+
+pub looked_none_held : (h : Option Entry) (steps : List LoginStep) → h ≡ None → IsLooked h steps
+looked_none_held h steps is = subst (λ (o : Option Entry). IsLooked o steps) (sym is) tt
+
+pub looked_used : (h : Option Entry) (page word : ℕ) (steps : List LoginStep) → IsLooked h (Looked (InUse page word) ∷ steps)
+looked_used None page word steps = tt
+looked_used (Some entry) page word steps = refl
 
 -- what was done before does not change how a part ends
 pub did_after : (X : Type 0) (line : ℕ) (a b c : Site) (P Q : X → List LoginStep → Type 0) (result : Result X NoMemory) (first : List LoginStep)

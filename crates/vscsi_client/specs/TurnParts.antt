@@ -15,7 +15,7 @@ use Rattle.vscsi_client.specs.declared.stage.Due.TheVariants as dues
 use Rattle.vscsi_client.specs.declared.turning.Next.{Next}
 use Rattle.vscsi_client.specs.declared.turning.Next.TheVariants.{GoOn, Pause, End}
 use Rattle.vscsi_client.specs.State.{ClientState}
-use Rattle.vscsi_client.specs.Turned.{Site, LoginStep, Took, TookNone, Looked, Runs, NoneEnds, times_taken, IsSpent, IsHeldUp, Ends, begins, login_due, is_idle, WritesLogin, WritesNone, TakesNext, PollsNone, Puts, is_dropped, is_found_used}
+use Rattle.vscsi_client.specs.Turned.{Site, LoginStep, Took, TookNone, Looked, Runs, NoneEnds, times_taken, IsSpent, IsLooked, IsHeldUp, Ends, begins, login_due, is_idle, WritesLogin, WritesNone, TakesNext, PollsNone, Puts, is_dropped, is_found_used}
 
 -- what a turn does once it found this
 abbrev pub next_after : Found → Next
@@ -44,7 +44,7 @@ pub record Went (line : ℕ) (a b : Site) (taken : ℕ) : Type 0 where
 
 -- nothing more is to be taken, or the turn has ended
 abbrev pub TookAll : (slots : ℕ) → Site → Next → List LoginStep → Type 0
-TookAll slots b Pause steps = NoneEnds steps × IsSpent slots steps × (times_taken steps ≤ slots)
+TookAll slots b Pause steps = NoneEnds steps × IsSpent slots steps × (times_taken steps ≤ slots) × IsLooked b.client.held steps
 TookAll slots b (End turn) steps = (times_taken steps ≤ slots) × Ends slots b turn steps
 TookAll slots b GoOn steps = ⊥
 

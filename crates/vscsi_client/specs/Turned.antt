@@ -1,5 +1,5 @@
 -- A turn of a login, as the steps that it made.
-use Rattle.std.specs.Prelude.{◌≡◌, ◌⊎◌, ℕ, ◌+◌, ◌≤◌, ◌&&◌, Bool, true, false, not, List, [], ◌∷◌, ◌++◌, Some, None, Result, Ok, Err, ⊤, if◌then◌else◌}
+use Rattle.std.specs.Prelude.{◌≡◌, ◌⊎◌, ℕ, ◌+◌, ◌≤◌, ◌&&◌, Bool, true, false, not, List, [], ◌∷◌, ◌++◌, Option, Some, None, Result, Ok, Err, ⊤, if◌then◌else◌}
 use Rattle.std.specs.List.{list_any}
 use Rattle.vio_num.specs.declared.entry.Entry.{Entry}
 use Rattle.vio_num.specs.declared.memory.NoMemory.{NoMemory}
@@ -276,6 +276,16 @@ meets_use (Looked found) = is_found_used found
 meets_use (NotWritten page word) = true
 meets_use _ = false
 
+-- whether an entry was looked at whose page was in use
+abbrev pub finds_use : LoginStep → Bool
+finds_use (Looked found) = is_found_used found
+finds_use _ = false
+
+-- an entry that is held was looked at, and its page was in use
+abbrev pub IsLooked : Option Entry → List LoginStep → Type 0
+IsLooked None steps = ⊤
+IsLooked (Some entry) steps = list_any finds_use steps ≡ true
+
 -- nothing more is to be taken in this call: a poll found nothing, as many entries were taken as the queue has
 -- slots, or a page was in use
 abbrev pub IsSpent : (slots : ℕ) → List LoginStep → Type 0
@@ -299,6 +309,7 @@ pub record Pauses (slots : ℕ) (steps : List LoginStep) (b : Site) : Type 0 whe
   pub going : NoneEnds steps
   pub registered : b.at.crq.registered ≡ true
   pub spent : IsSpent slots steps
+  pub looked : IsLooked b.client.held steps
   pub begun : begins b.client ≡ false
   pub held_up : IsHeldUp b.client.due steps
 

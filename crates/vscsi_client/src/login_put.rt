@@ -79,6 +79,7 @@ impl Client {
     pub(crate) fn begin(&mut self) -> Result<(), NoMemory>
         ensures ok { OnOk result (self.new ≡ begun self.old) }
         ensures err { OnErr result (self.new ≡ self.old) }
+        ensures held { self.new.held ≡ self.old.held }
     {
         if self.begins() {
             self.due.push(Due::Login)?;
@@ -103,6 +104,7 @@ impl Client {
         ensures wrote { IfOk result (WritesAs O.is_shared line self.old self.new
             (O.state own.old) (O.state own.new)) }
         ensures same { OnErr result (self.new ≡ self.old) }
+        ensures held { self.new.held ≡ self.old.held }
         ensures none { OnErr result (LaysNone O.is_shared (O.state own.old) (O.state own.new)) }
         ensures own_rest { OnlyWrites (O.state own.old) (O.state own.new) }
     {
@@ -158,6 +160,7 @@ impl Client {
         ensures put { IfOk result (Puts C.is_shared self.old self.new
             (C.state crq.old) (C.state crq.new) due) }
         ensures same { OnErr result (self.new ≡ self.old) }
+        ensures held { self.new.held ≡ self.old.held }
         ensures none { OnErr result (OnlyReserves (C.state crq.old) (C.state crq.new)) }
         ensures crq_rest { OnlySends C.is_shared (C.state crq.old) (C.state crq.new) }
     {

@@ -191,6 +191,7 @@ impl Client {
         ensures put { IfOk result (PutsAs C.is_shared self.old self.new
             (C.state crq.old) (C.state crq.new) due) }
         ensures same { OnErr result (self.new ≡ self.old) }
+        ensures held { self.new.held ≡ self.old.held }
         ensures none { OnErr result (OnlyReserves (C.state crq.old) (C.state crq.new)) }
         ensures crq_rest { KeepsEnd C.is_shared (C.state crq.old) (C.state crq.new) }
     {
@@ -215,6 +216,7 @@ impl Client {
             (site self.old (ports C.is_shared (C.state crq.old) O.is_shared (O.state own.old)))
             (site self.new (ports C.is_shared (C.state crq.new) O.is_shared (O.state own.new)))
             (PutOne self.old self.new) result }
+        ensures held { self.new.held ≡ self.old.held }
         ensures crq_rest { KeepsEnd C.is_shared (C.state crq.old) (C.state crq.new) }
         ensures own_rest { OnlyWrites (O.state own.old) (O.state own.new) }
     {
@@ -240,6 +242,7 @@ impl Client {
             (site self.old (ports C.is_shared (C.state crq.old) O.is_shared (O.state own.old)))
             (site self.new (ports C.is_shared (C.state crq.new) O.is_shared (O.state own.new)))
             (λ _. PutAll self.new) result }
+        ensures held { self.new.held ≡ self.old.held }
         ensures crq_rest { KeepsEnd C.is_shared (C.state crq.old) (C.state crq.new) }
         ensures own_rest { OnlyWrites (O.state own.old) (O.state own.new) }
     {

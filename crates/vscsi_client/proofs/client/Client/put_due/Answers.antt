@@ -1,4 +1,4 @@
-use Rattle.std.proofs.Common.{◌≡◌, ◌≤◌, false, [], ◌∷◌, refl, sym, subst}
+use Rattle.std.proofs.Common.{◌≡◌, ◌∙◌, ◌≤◌, false, [], ◌∷◌, refl, sym, subst}
 use Rattle.tce_window.specs.PortState.{PortPlace}
 use Rattle.vscsi_client.specs.State.{ClientState}
 use Rattle.vscsi_client.specs.Ports.{ports}
@@ -32,6 +32,7 @@ loop-due-init g c =
     let is = c.in-Ok.ensures.ok in
     record {
       begun = subst (λ (s : ClientState). begins s ≡ false) (sym is) (begun_once c.args.self.now);
+      held = c.begin.ensures.held;
       pages = c.requires.pages;
       went = subst (λ (s : ClientState). Went c.args.line (site c.args.self.now p) (site s p) 0) (sym is)
           (begun_went c.args.line g.C.CrqEnd.is_shared g.O.WindowPort.is_shared c.args.self.now (g.C.CrqEnd.state c.args.crq.now) (g.O.WindowPort.state c.args.own.now));
@@ -50,6 +51,7 @@ loop-due-preserved g c =
     let more = one_more c.args.line _ _ _ c.loop-due.self c.put_one.new.self c.put_one.result is c.loop-due.invariant.went c.put_one.ensures.did in
     record {
       begun = more.1;
+      held = c.put_one.ensures.held ∙ c.loop-due.invariant.held;
       pages = subst (λ (p : PortPlace). 14 ≤ p.size) (sym c.put_one.ensures.own_rest.place) c.loop-due.invariant.pages;
       went = more.0;
       crq = keeps_trans _ _ _ _ c.loop-due.invariant.crq c.put_one.ensures.crq_rest;

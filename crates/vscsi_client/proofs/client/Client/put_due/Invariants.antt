@@ -9,6 +9,7 @@ use Rattle.vscsi_client.proofs.client.Client.put_due.Given as goal
 abbrev pub invariant-loop-due : goal.invariant-loop-due
 invariant-loop-due g l = record {
   begun : begins l.self ≡ false;
+  held : l.self.held ≡ l.fn.self.held;
   pages : 14 ≤ (g.O.WindowPort.state l.own).place.size;
   went : Went l.fn.line
       (site l.fn.self (ports g.C.CrqEnd.is_shared (g.C.CrqEnd.state l.fn.crq) g.O.WindowPort.is_shared (g.O.WindowPort.state l.fn.own)))

@@ -22,7 +22,7 @@ pub returns-in-Ok-None-clause-did : goal.returns-in-Ok-None-clause-did
 returns-in-Ok-None-clause-did g c = λ line.
     let slots = c.slots-taken-end.ensures.slots in
     let most = c.loop-taken-test.true in
-    none_after line _ _ _ _ _ c.take_one.result (c.in-Ok-None.is ∙ ap Ok c.in-Ok-None.field-0-is) (omega (arith, most, slots)) (c.loop-taken.invariant.went line) (c.take_one.ensures.did line)
+    none_after line _ _ _ _ _ c.take_one.result (c.in-Ok-None.is ∙ ap Ok c.in-Ok-None.field-0-is) (omega (arith, most, slots)) c.loop-taken.invariant.held (c.loop-taken.invariant.went line) (c.take_one.ensures.did line)
 
 pub returns-in-Ok-None-clause-crq_rest : goal.returns-in-Ok-None-clause-crq_rest
 returns-in-Ok-None-clause-crq_rest g c =
@@ -48,7 +48,7 @@ returns-clause-did g c = λ line.
     let slots = c.slots-taken-end.ensures.slots in
     let least = c.loop-taken-test.false in
     let most = c.loop-taken.auto._taken-end in
-    all_taken line _ _ _ _ (omega (arith, slots, least, most)) (c.loop-taken.invariant.went line)
+    all_taken line _ _ _ _ (omega (arith, slots, least, most)) c.loop-taken.invariant.held (c.loop-taken.invariant.went line)
 
 pub loop-taken-preserved : goal.loop-taken-preserved
 loop-taken-preserved g c =

@@ -21,5 +21,5 @@ returns-in-Err-put_due-clause-turned g c =
 pub returns-in-Ok-clause-turned : goal.returns-in-Ok-clause-turned
 returns-in-Ok-clause-turned g c =
     let taken = paused_took c.args.line _ _ _ _ c.take_all.result (c.in-Ok-Pause.is ∙ ap Ok c.in-Ok-Pause.field-0-is) (c.take_all.ensures.did c.args.line) in
-    paused_after c.args.line _ _ _ _ taken (c.put_due.ensures.crq_rest.registered ∙ (c.take_all.ensures.crq_rest.registered ∙ c.requires.registered))
+    paused_after c.args.line _ _ _ _ taken (c.put_due.ensures.crq_rest.registered ∙ (c.take_all.ensures.crq_rest.registered ∙ c.requires.registered)) c.put_due.ensures.held
     (put_all c.args.line _ _ c.put_due.result c.put_due.new.self c.in-Ok.is c.put_due.ensures.did)
