@@ -9,7 +9,7 @@ use Rattle.crq_ring.specs.declared.view.RingView.{RingView}
 use Rattle.crq_ring.specs.declared.view.Role.{Role}
 use Rattle.crq_ring.specs.declared.view.Role.TheVariants.{Sender, Receiver}
 use Rattle.crq_ring.specs.Control.{control_word}
-use Rattle.crq_ring.specs.Ends.{Begins}
+use Rattle.vio_num.specs.Words.{Begins}
 use Rattle.crq_ring.specs.RingRule.{Moment, Shows, SenderKnows, ReceiverKnows, KnowsAs, Knows, InOrder}
 use Rattle.crq_ring.specs.RingSteps.{Seated, OnlyReads, showed, entered, went_out, began, closed, zeroed}
 use Rattle.crq_ring.specs.Sessions.{of_session}

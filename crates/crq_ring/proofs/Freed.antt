@@ -1,7 +1,8 @@
 -- What a caller may rely on once a session has ended: no sender puts anything in it any more.
 use Rattle.std.proofs.Common.{◌≡◌, ℕ, ◌+◌, Bool, true, false, sym, refl, ap, ◌∙◌, subst, arith, le_refl}
 use Rattle.crq_ring.specs.Control.{IsEnded}
-use Rattle.crq_ring.specs.Ends.{Begins, RingValue, SendValue, RecvValue, FrontValue, heard_now}
+use Rattle.vio_num.specs.Words.{Begins}
+use Rattle.crq_ring.specs.Ends.{RingValue, SendValue, RecvValue, FrontValue, heard_now}
 use Rattle.crq_ring.specs.Later.{IsLater}
 use Rattle.crq_ring.specs.Pipe.{PipeValue}
 use Rattle.crq_ring.specs.Ring.{KeepsReceiving, Learns, Closes}

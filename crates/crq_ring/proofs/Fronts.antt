@@ -6,7 +6,7 @@ use mathlib.Core.List.{append_assoc, append-nil}
 use native.Mathlib.Decide.{dec_le}
 use Rattle.vio_num.specs.declared.entry.Entry.{Entry}
 use Rattle.crq_ring.specs.declared.rows.PipeRow.{PipeRow}
-use Rattle.crq_ring.specs.Ends.{Begins}
+use Rattle.vio_num.specs.Words.{Begins}
 use Rattle.crq_ring.specs.Sessions.{of_session}
 use Rattle.crq_ring.specs.Window.{entry_of, entry_at}
 use Rattle.crq_ring.proofs.Sessions.{of_session-append}

@@ -12,7 +12,7 @@ use Rattle.crq_ring.specs.declared.view.RingView.{RingView}
 use Rattle.crq_ring.specs.declared.view.Role.{Role}
 use Rattle.crq_ring.specs.declared.view.Role.TheVariants.{Sender, Receiver}
 use Rattle.crq_ring.specs.Control.{IsEnded}
-use Rattle.crq_ring.specs.Ends.{Begins}
+use Rattle.vio_num.specs.Words.{Begins}
 use Rattle.crq_ring.specs.RingRule.{Moment, SenderKnows, ReceiverKnows, KnowsAs, Knows, InOrder}
 use Rattle.crq_ring.specs.RingSteps.{Seated, own_now, other_now, row_now, Keeps, probed, staged, sent, looked, read, cleared, heard_room, heard_front}
 use Rattle.crq_ring.specs.Sessions.{of_session}

@@ -1,7 +1,7 @@
 -- What the steps of a put and of a poll leave together.
-use Rattle.std.proofs.Common.{◌≡◌, ℕ, ◌+◌, ◌<◌, List, [], ◌∷◌, ◌++◌, length, sym, refl, ap, ◌∙◌, subst, arith}
+use Rattle.std.proofs.Common.{◌≡◌, ℕ, ◌+◌, ◌<◌, ◌≤◌, List, [], ◌∷◌, ◌++◌, length, sym, refl, ap, ◌∙◌, subst, arith}
 use Rattle.vio_num.specs.declared.entry.Entry.{Entry}
-use Rattle.crq_ring.specs.Ends.{Begins}
+use Rattle.vio_num.specs.Words.{Begins}
 use Rattle.crq_ring.specs.RingSteps.{Seated, own_now, other_now, row_now, Keeps, KnowsEnded, Probed, Staged, Sent, Looked, Read, Cleared, Zeroed, Sweeps}
 use Rattle.crq_ring.specs.Sessions.{of_session}
 use Rattle.crq_ring.specs.Window.{entry_of, entry_at, IsFull, IsVacant}
@@ -17,6 +17,7 @@ pub record PutSteps (n : ℕ) (m : Seated) (entry : Entry) (m' : Seated) : Type 
   pub other : Begins m.0.other m'.0.other
   pub empty_slot : length (own_now m) < length (other_now m') + n
   pub front : Begins (other_now m') (own_now m')
+  pub counted : m.0.reads ≤ m'.0.reads
 
 -- one row more of the session
 one_more : (m m' : Seated) (e : Entry) → Keeps m m' → m'.0.own ≡ m.0.own ++ row_now m e ∷ [] → own_now m' ≡ own_now m ++ e ∷ []
@@ -35,6 +36,7 @@ put_steps n a b c d high entry slots vacant p q r = let g : Keeps a d = then_on 
       other = subst (λ l. Begins a.0.other l) (sym other) p.other;
       empty_slot = omega arith;
       front = subst (λ (z : List Entry × List Entry). Begins z.0 z.1) (λ i. (sym others i, sym pushed i)) (begins_on (other_now b) (own_now a) (own_now a ++ entry ∷ []) front (entry ∷ [], refl));
+      counted = omega (arith, p.reads.count, q.reads.count, r.reads.count);
     }
 
 -- the three steps of a poll that finds an entry

@@ -10,7 +10,7 @@ use Rattle.crq_ring.specs.declared.rows.PipeRow.{PipeRow}
 use Rattle.crq_ring.specs.declared.rows.DropRow.{DropRow}
 use Rattle.crq_ring.specs.declared.view.RingView.{RingView}
 use Rattle.crq_ring.specs.declared.view.Role.{Role}
-use Rattle.crq_ring.specs.Ends.{Begins}
+use Rattle.vio_num.specs.Words.{Begins}
 use Rattle.crq_ring.specs.EndsKept.{RingSeat, IsEnd}
 use Rattle.crq_ring.specs.Kept.{HandsOver, KeepsDrops}
 use Rattle.crq_ring.specs.RingSteps.{own_now}

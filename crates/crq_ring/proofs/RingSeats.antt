@@ -11,7 +11,7 @@ use Rattle.crq_ring.specs.declared.view.RingView.{RingView}
 use Rattle.crq_ring.specs.declared.view.Role.{Role}
 use Rattle.crq_ring.specs.declared.view.Role.TheVariants.{Both, Sender, Receiver, Front, Room, Spent}
 use Rattle.crq_ring.specs.Control.{control_word, IsEnded}
-use Rattle.crq_ring.specs.Ends.{Begins}
+use Rattle.vio_num.specs.Words.{Begins}
 use Rattle.crq_ring.specs.RingCuts.{sender_part, receiver_part, front_of, room_of, told_by, rejoined, spent}
 use Rattle.crq_ring.specs.RingRule.{first_session, opened, Moment, Shows, SenderKnows, ReceiverKnows, BothKnow, KnowsAs, Knows, InOrder}
 use Rattle.crq_ring.specs.RingSteps.{Seated}

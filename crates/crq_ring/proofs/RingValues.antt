@@ -7,7 +7,8 @@ use Rattle.vio_num.specs.Counts.{Rose}
 use Rattle.vio_num.specs.Queue.{LawfulDrop}
 use Rattle.crq_ring.specs.declared.view.RingView.{RingView}
 use Rattle.crq_ring.specs.Control.{IsEnded}
-use Rattle.crq_ring.specs.Ends.{Begins, WordRead, ReadsWord, SendValue, RecvValue, sent_now, known_now, taken_now, heard_now}
+use Rattle.vio_num.specs.Words.{Begins, WordRead, ReadsWord}
+use Rattle.crq_ring.specs.Ends.{SendValue, RecvValue, sent_now, known_now, taken_now, heard_now}
 use Rattle.crq_ring.specs.Ring.{EndPuts, EndFindsFull, KnowsTaken, KeepsSending, EndTakes, EndFindsNone, KnowsPut, KeepsReceiving, Learns, Knows}
 use Rattle.crq_ring.specs.RingCuts.{told_by}
 use Rattle.crq_ring.specs.RingSteps.{Seated, own_now, other_now, Keeps, KnowsEnded, Reads, Heard, Probed, Looked}
@@ -64,12 +65,13 @@ module _ (old new : SendValue) (m m' : Seated) (was : SendShows old m) (is : Sen
     front = subst (λ (z : List Entry × List Entry). Begins z.0 z.1) (λ i. (sym (known_is new m' is) i, sym (sent_is new m' is) i)) front;
   }
 
-  pub keeps_sending : new.ring ≡ old.ring → old.full ≤ new.full → Keeps m m' → Begins m.0.other m'.0.other → Begins (other_now m') (own_now m') → KeepsSending old new
-  keeps_sending ring full g more front = record {
+  pub keeps_sending : new.ring ≡ old.ring → old.full ≤ new.full → m.0.reads ≤ m'.0.reads → Keeps m m' → Begins m.0.other m'.0.other → Begins (other_now m') (own_now m') → KeepsSending old new
+  keeps_sending ring full counted g more front = record {
     knows = knows_taken ring more front;
     session = is.session ∙ (g.session ∙ sym was.session);
     inside = is.inside ∙ (g.inside ∙ sym was.inside);
     full = full;
+    reads = subst (λ (z : WordRead × WordRead). z.0.count ≤ z.1.count) (λ i. (sym was.last i, sym is.last i)) counted;
   }
 
   pub found_full : (n number held : ℕ) → Probed m held m' → IsFull held → m.0.slots ≡ n → 0 < n → number ≡ length (own_now m) → new.sent ≡ old.sent

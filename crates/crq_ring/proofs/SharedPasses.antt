@@ -8,7 +8,8 @@ use Rattle.vio_num.specs.declared.entry.Entry.{Entry}
 use Rattle.vio_num.specs.Counts.{Rose}
 use Rattle.vio_num.specs.Queue.{LawfulDrop}
 use Rattle.crq_ring.specs.declared.shared.SharedPipe.{SharedPipe}
-use Rattle.crq_ring.specs.Ends.{Begins, sent_now, known_now, taken_now, heard_now}
+use Rattle.vio_num.specs.Words.{Begins}
+use Rattle.crq_ring.specs.Ends.{sent_now, known_now, taken_now, heard_now}
 use Rattle.crq_ring.specs.Port.{PortPlace, Puts, FindsFull, Takes, FindsNone}
 use Rattle.crq_ring.specs.Ring.{EndPuts, EndFindsFull, KeepsSending, EndTakes, EndFindsNone, KeepsReceiving}
 use Rattle.crq_ring.specs.Sessions.{of_session}

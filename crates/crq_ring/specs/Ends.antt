@@ -1,24 +1,11 @@
 -- What contracts see of a ring and of its two ends.
-use Rattle.std.specs.Prelude.{◌≡◌, ℕ, ◌<◌, Bool, true, false, List, ◌++◌}
+use Rattle.std.specs.Prelude.{◌≡◌, ℕ, Bool, true, false, List}
 use Rattle.atomic_table.specs.Seated.{TableId}
 use Rattle.vio_num.specs.declared.entry.Entry.{Entry}
+use Rattle.vio_num.specs.Words.{WordRead}
 use Rattle.crq_ring.specs.declared.rows.PipeRow.{PipeRow}
 use Rattle.crq_ring.specs.declared.rows.DropRow.{DropRow}
 use Rattle.crq_ring.specs.Sessions.{of_session}
-
--- the first list is a front of the second
-abbrev pub Begins : {A : Type 0} → List A → List A → Type 0
-Begins {A} front whole = (rest : List A) × (whole ≡ front ++ rest)
-
--- How many words an end read on which an answer may rest, and the last of them.
-pub record WordRead : Type 0 where
-  pub count : ℕ
-  pub word : ℕ
-
--- This word was read in the call, and none after it.
-pub record ReadsWord (old new : WordRead) (word : ℕ) : Type 0 where
-  pub read : old.count < new.count
-  pub word_is : new.word ≡ word
 
 pub record RingValue : Type 0 where
   -- which ring it is

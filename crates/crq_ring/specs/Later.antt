@@ -1,7 +1,8 @@
 -- A receiver's end after any of its calls: what has ended stays so.
 use Rattle.std.specs.Prelude.{◌≡◌, ℕ}
 use Rattle.crq_ring.specs.Control.{IsEnded}
-use Rattle.crq_ring.specs.Ends.{Begins, RecvValue}
+use Rattle.vio_num.specs.Words.{Begins}
+use Rattle.crq_ring.specs.Ends.{RecvValue}
 use Rattle.crq_ring.specs.Sessions.{of_session}
 
 -- Of a session that had ended the later end knows the very same, and the session has ended for it, too.

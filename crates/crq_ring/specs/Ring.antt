@@ -5,7 +5,8 @@ use Rattle.vio_num.specs.declared.entry.Entry.{Entry}
 use Rattle.vio_num.specs.Counts.{Rose}
 use Rattle.vio_num.specs.Queue.{Handed, LawfulDrop}
 use Rattle.crq_ring.specs.Control.{IsEnded}
-use Rattle.crq_ring.specs.Ends.{Begins, ReadsWord, RingValue, SendValue, RecvValue, FrontValue, RoomValue}
+use Rattle.vio_num.specs.Words.{Begins, ReadsWord}
+use Rattle.crq_ring.specs.Ends.{RingValue, SendValue, RecvValue, FrontValue, RoomValue}
 use Rattle.crq_ring.specs.Ends.{sent_now, known_now, taken_now, heard_now}
 use Rattle.crq_ring.specs.Pipe.{PipeValue}
 use Rattle.crq_ring.specs.RingRule.{first_session}
@@ -63,6 +64,7 @@ pub record KeepsSending (old new : SendValue) : Type 0 where
   pub session : new.session ≡ old.session
   pub inside : new.inside ≡ old.inside
   pub full : old.full ≤ new.full
+  pub reads : old.last.count ≤ new.last.count
 
 -- The next entry was taken, which has this number in its session.
 pub record EndTakes (old : RecvValue) (number : ℕ) (entry : Entry) (new : RecvValue) : Type 0 where

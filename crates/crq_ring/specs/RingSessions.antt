@@ -1,7 +1,8 @@
 -- What the calls on a ring's control word leave of its ends.
 use Rattle.std.specs.Prelude.{◌≡◌, ℕ, ◌+◌, ◌/◌, ◌%◌, ◌<◌, ◌≤◌, true, false, []}
 use Rattle.crq_ring.specs.Control.{control_word, ShowsClosed, ShowsInside}
-use Rattle.crq_ring.specs.Ends.{ReadsWord, SendValue, RecvValue, sent_now, taken_now, heard_now}
+use Rattle.vio_num.specs.Words.{ReadsWord}
+use Rattle.crq_ring.specs.Ends.{SendValue, RecvValue, sent_now, taken_now, heard_now}
 use Rattle.crq_ring.specs.Ring.{KnowsTaken, KnowsPut, OnlySees}
 
 -- The next session is open, in which nothing was put and nothing taken.

@@ -6,7 +6,7 @@ use Rattle.crq_ring.specs.declared.rows.PipeRow.{PipeRow}
 use Rattle.crq_ring.specs.declared.view.RingView.{RingView}
 use Rattle.crq_ring.specs.declared.view.Role.TheVariants.{Receiver}
 use Rattle.crq_ring.specs.Control.{control_word, ShowsClosed, IsEnded}
-use Rattle.crq_ring.specs.Ends.{Begins}
+use Rattle.vio_num.specs.Words.{Begins}
 use Rattle.crq_ring.specs.Sessions.{of_session}
 use Rattle.crq_ring.specs.Window.{entry_of, entry_at, IsFull, IsVacant}
 

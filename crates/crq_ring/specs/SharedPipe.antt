@@ -3,7 +3,8 @@ use Rattle.std.specs.Prelude.{◌≡◌, List, ◌∷◌, true}
 use Rattle.std.specs.Borrow.{GName}
 use Rattle.atomic_table.specs.Seated.{TableId}
 use Rattle.crq_ring.specs.declared.shared.SharedPipe.{SharedPipe}
-use Rattle.crq_ring.specs.Ends.{Begins, sent_now, taken_now}
+use Rattle.vio_num.specs.Words.{Begins}
+use Rattle.crq_ring.specs.Ends.{sent_now, taken_now}
 use Rattle.crq_ring.specs.Port.{PortPlace, PortState}
 use Rattle.crq_ring.specs.Ring.{OnlyKnows, OnlyHears}
 

@@ -1,7 +1,7 @@
 -- The slots of one session: which entries lie in them, and which are empty.
 use Rattle.std.specs.Prelude.{◌≡◌, ℕ, ◌+◌, ◌*◌, ◌%◌, ◌^◌, ◌<◌, ◌≤◌, List, length, slice_index, slice_index_or}
 use Rattle.vio_num.specs.declared.entry.Entry.{Entry}
-use Rattle.crq_ring.specs.Ends.{Begins}
+use Rattle.vio_num.specs.Words.{Begins}
 
 -- A slot is two words. Behind the slots lie 8 words that no slot uses, then the control word, then 7 more,
 -- so that slots of two rings never lie in one cache line of 8 words, nor a slot in the control word's.

@@ -2,7 +2,8 @@
 use Rattle.std.proofs.Common.{◌≡◌, ℕ, ◌+◌, ◌≤◌, true, false, Option, None, sym, refl, ap, ◌∙◌, subst, arith, true≢false}
 use Rattle.std.specs.Borrow.{GName}
 use Rattle.vio_num.specs.declared.entry.Entry.{Entry}
-use Rattle.crq_ring.specs.Ends.{ReadsWord, taken_now}
+use Rattle.vio_num.specs.Words.{ReadsWord}
+use Rattle.crq_ring.specs.Ends.{taken_now}
 use Rattle.crq_ring.specs.Later.{IsLater}
 use Rattle.crq_ring.specs.RingSessions.{BeginsSession, EndsSession}
 use Rattle.crq_ring.proofs.Freed.{later_begun}

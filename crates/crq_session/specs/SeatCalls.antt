@@ -3,7 +3,8 @@
 use Rattle.std.specs.Prelude.{◌≡◌, ◌↔◌, ◌<◌, ◌≤◌, ℕ, true, false, None}
 use Rattle.vio_num.specs.declared.entry.Entry.{Entry}
 use Rattle.vio_num.specs.Entry.{first_byte}
-use Rattle.crq_ring.specs.Ends.{ReadsWord, RingValue}
+use Rattle.vio_num.specs.Words.{ReadsWord}
+use Rattle.crq_ring.specs.Ends.{RingValue}
 use Rattle.crq_ring.specs.Ring.{OnlySees}
 use Rattle.crq_ring.specs.RingSessions.{EndsSession}
 use Rattle.crq_session.specs.declared.answers.RegAnswer.{RegAnswer}

@@ -4,7 +4,7 @@ use Rattle.std.proofs.lemmas.Bool.{eq-eqb, ne_eqb}
 use Rattle.std.proofs.lemmas.List.{map-append, drop-append-le, length-map}
 use Rattle.std.proofs.lemmas.Option.{slice_get_within, get_or_from_slice_get}
 use Rattle.vio_num.specs.declared.entry.Entry.{Entry}
-use Rattle.tce_window.specs.Port.{Begins}
+use Rattle.vio_num.specs.Words.{Begins}
 use Rattle.lan_buffers.specs.declared.rows.PostRow.{PostRow}
 use Rattle.lan_buffers.specs.declared.rows.DeliverRow.{DeliverRow}
 use Rattle.lan_buffers.specs.declared.rows.HarvestRow.{HarvestRow}

@@ -2,7 +2,7 @@
 use Rattle.std.proofs.Common.{◌≡◌, ℕ, ◌+◌, ◌<◌, ◌≤◌, ◌==◌, zero, suc, Bool, true, false, true≢false, List, [], ◌∷◌, ◌++◌, if◌then◌else◌, length, All, Some, None, slice_get, refl, sym, ◌∙◌, ap, subst, arith}
 use Rattle.std.proofs.lemmas.Bool.{eq-eqb}
 use Rattle.std.proofs.lemmas.Option.{slice_get_within, get_or_from_slice_get}
-use Rattle.tce_window.specs.Port.{Begins}
+use Rattle.vio_num.specs.Words.{Begins}
 use Rattle.lan_buffers.specs.declared.rows.PostRow.{PostRow}
 use Rattle.lan_buffers.specs.declared.rows.DeliverRow.{DeliverRow}
 use Rattle.lan_buffers.specs.Pools.{post_len, numbers_from, posted, has_length, taken}

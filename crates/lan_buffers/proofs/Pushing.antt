@@ -3,7 +3,7 @@ use Rattle.std.proofs.Common.{◌≡◌, ℕ, ◌+◌, ◌<◌, ◌≤◌, ◌==
 use Rattle.std.proofs.lemmas.Bool.{eq-eqb, ne_eqb}
 use Rattle.std.proofs.lemmas.List.{append_assoc, drop-append-le, drop-drop}
 use Rattle.std.proofs.lemmas.List.Elements.{filter-append}
-use Rattle.tce_window.specs.Port.{Begins}
+use Rattle.vio_num.specs.Words.{Begins}
 use Rattle.lan_buffers.specs.Present.{IsPresent}
 use Rattle.lan_buffers.proofs.Pooling.{all_push}
 

@@ -4,7 +4,7 @@ use Rattle.std.specs.Prelude.{ℕ, ◌+◌, ◌≤◌, ◌<◌, ◌==◌, List, 
 use Rattle.vio_num.specs.declared.names.UnitId.{UnitId}
 use Rattle.vio_num.specs.declared.entry.Entry.{Entry}
 use Rattle.tce_window.specs.Held.{held_len}
-use Rattle.tce_window.specs.Port.{Begins}
+use Rattle.vio_num.specs.Words.{Begins}
 use Rattle.lan_buffers.specs.declared.rows.PostRow.{PostRow}
 use Rattle.lan_buffers.specs.declared.rows.DeliverRow.{DeliverRow}
 use Rattle.lan_buffers.specs.declared.rows.HarvestRow.{HarvestRow}

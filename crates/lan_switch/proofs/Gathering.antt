@@ -7,7 +7,8 @@ use Rattle.tce_window.specs.Moved.{stroke_count, IsReadFrom}
 use Rattle.tce_window.specs.declared.answers.HoldFault.{HoldFault}
 use Rattle.tce_window.specs.declared.answers.Right.TheVariants.{Read}
 use Rattle.tce_window.specs.Pieces.{HasStrokes, IsLast, IsRefused}
-use Rattle.tce_window.specs.Port.{Begins, Grows, Later, TakenOver}
+use Rattle.vio_num.specs.Words.{Begins}
+use Rattle.tce_window.specs.Port.{Grows, Later, TakenOver}
 use Rattle.tce_window.specs.PortState.{PortPlace, PortState}
 use Rattle.rdma_copy.proofs.Laws.{later_begins, learns_grows, read_stays, same_grows, same_later}
 use Rattle.lan_buffers.specs.Buffer.{buffer_address, buffer_len}

@@ -1,3 +1,12 @@
 pub mod Bytes
 pub mod Laws
+pub mod PageActs
+pub mod PageAllows
+pub mod PageCloses
+pub mod PageEnds
+pub mod PageJoins
+pub mod PageKeeps
+pub mod PageLeaves
+pub mod PageSeats
+pub mod Places
 pub mod Strokes

@@ -9,7 +9,8 @@ use Rattle.tce_window.specs.Held.{either}
 use Rattle.tce_window.specs.declared.answers.Right.TheVariants.{Write}
 use Rattle.tce_window.specs.Pieces.{on_page, HasStrokes, IsGranted, Touches}
 use Rattle.tce_window.specs.Port.{Grows, TakenOver}
-use Rattle.tce_window.specs.Moved.{piece_strokes, strokes_on, places_from, places_on, stroke_count, numbered, stroke_of, IsNamed, bytes_of, IsLaid, IsWrittenTo}
+use Rattle.page_slots.specs.Seats.{places_from}
+use Rattle.tce_window.specs.Moved.{piece_strokes, strokes_on, places_on, stroke_count, numbered, stroke_of, IsNamed, bytes_of, IsLaid, IsWrittenTo}
 use Rattle.std.proofs.lemmas.Bool.{eq-eqb, ne_eqb}
 use Rattle.tce_window.proofs.Laws.{by_number, counted, kept_all, numbered_kept, numbered_behind, written_to}
 

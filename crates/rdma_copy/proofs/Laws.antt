@@ -11,7 +11,8 @@ use Rattle.vio_num.specs.declared.names.UnitId.{UnitId}
 use Rattle.tce_window.specs.declared.piece.Piece.{Piece}
 use Rattle.tce_window.specs.declared.answers.Right.{Right}
 use Rattle.tce_window.specs.Pieces.{IsGranted}
-use Rattle.tce_window.specs.Port.{Begins, Later, Grows}
+use Rattle.vio_num.specs.Words.{Begins}
+use Rattle.tce_window.specs.Port.{Later, Grows}
 use Rattle.tce_window.specs.Moved.{IsReadFrom, IsWrittenTo, IsNamed, bytes_of, left_at, read_bytes, stroke_count, stroke_of}
 pub use Rattle.rdma_copy.proofs.Holding.{behind, Written, held_back, laid_on, places_laid, strokes_back, written_back}
 use Rattle.rdma_copy.specs.declared.copy.CopyRecord.{CopyRecord}

@@ -3,7 +3,8 @@ use Rattle.std.specs.Prelude.{◌≡◌, ℕ, List, Option, length, true}
 use Rattle.vio_num.specs.declared.names.UnitId.{UnitId}
 use Rattle.page_slots.specs.Stroke.{StrokeValue}
 use Rattle.tce_window.specs.Moved.{IsReadFrom, IsWrittenTo}
-use Rattle.tce_window.specs.Port.{Begins, Grows}
+use Rattle.vio_num.specs.Words.{Begins}
+use Rattle.tce_window.specs.Port.{Grows}
 use Rattle.rdma_copy.specs.declared.copy.CopyRecord.{CopyRecord}
 
 -- what is known of one side of a copy: whose window it is, the values of its entries, and the strokes of its

@@ -1,5 +1,5 @@
 -- Bytes that are read and written through the pieces of a held range.
-use Rattle.std.specs.Prelude.{◌≡◌, ℕ, zero, suc, ◌+◌, ◌<◌, ◌≤◌, ◌==◌, Bool, true, All, List, [], ◌∷◌, Option, Some, None, length, map, take, drop, slice_get, if◌then◌else◌}
+use Rattle.std.specs.Prelude.{◌≡◌, ℕ, ◌+◌, ◌<◌, ◌≤◌, ◌==◌, Bool, true, All, List, [], ◌∷◌, Option, Some, None, length, map, take, drop, slice_get, if◌then◌else◌}
 use Rattle.std.specs.List.{flat_map}
 use Rattle.std.specs.Option.{option_and_then}
 use Rattle.vio_num.specs.declared.names.UnitId.{UnitId}
@@ -29,11 +29,6 @@ strokes_on p _ _ = []
 abbrev pub stroke_count : Option (List StrokeValue) → ℕ
 stroke_count (Some strokes) = length strokes
 stroke_count None = 0
-
--- so many places, one behind the other, from this one on
-abbrev pub places_from : (first count : ℕ) → List ℕ
-places_from first zero = []
-places_from first (suc count) = first ∷ places_from (first + 1) count
 
 -- the places of those pieces that lie on page p, in their order
 abbrev pub places_on : ℕ → List Piece → List ℕ

@@ -1,6 +1,7 @@
 -- What the owner and a guest of a window know of it, and how that grows.
-use Rattle.std.specs.Prelude.{◌≡◌, ℕ, ◌+◌, ◌<◌, ◌≤◌, Bool, true, false, List, ◌++◌, Option, Some, None, Result, Err, length}
+use Rattle.std.specs.Prelude.{◌≡◌, ℕ, ◌+◌, ◌<◌, ◌≤◌, Bool, true, false, List, Option, Some, None, Result, Err, length}
 use Rattle.vio_num.specs.Counts.{Rose}
+use Rattle.vio_num.specs.Words.{Begins}
 use Rattle.page_slots.specs.Stroke.{StrokeValue}
 use Rattle.page_slots.specs.declared.stroke.StrokeName.{StrokeName}
 use Rattle.tce_window.specs.declared.answers.TceAnswer.{TceAnswer}
@@ -12,10 +13,6 @@ use Rattle.tce_window.specs.declared.answers.NamedFault.TheVariants.{InUse as Na
 use Rattle.tce_window.specs.declared.answers.HoldFault.{HoldFault}
 use Rattle.tce_window.specs.declared.answers.HoldFault.TheVariants.{InUse as HeldInUse}
 use Rattle.tce_window.specs.Region.{written}
-
--- a list that begins with another
-abbrev pub Begins : {X : Type 0} → List X → List X → Type 0
-Begins {X} front whole = (rest : List X) × (whole ≡ front ++ rest)
 
 -- a list as it is found later: with more behind where the window is shared, and else as it was
 abbrev pub Later : {X : Type 0} → (is_shared : Bool) → List X → List X → Type 0

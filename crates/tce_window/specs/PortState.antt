@@ -7,7 +7,8 @@ use Rattle.page_slots.specs.Stroke.{StrokeValue}
 use Rattle.page_slots.specs.declared.stroke.StrokeName.{StrokeName}
 use Rattle.tce_window.specs.declared.answers.Right.{Right}
 use Rattle.tce_window.specs.Held.{HeldValue, held_len, held_strokes}
-use Rattle.tce_window.specs.Moved.{stroke_count, places_from}
+use Rattle.page_slots.specs.Seats.{places_from}
+use Rattle.tce_window.specs.Moved.{stroke_count}
 use Rattle.tce_window.specs.Named.{IsFirstStale}
 use Rattle.tce_window.specs.Pieces.{on_page, Touches, IsGranted, IsLast, HasStrokes, IsUsable}
 use Rattle.tce_window.specs.Port.{Later, Grows, TakenOver, IsWritten, IsBusy}

@@ -159,4 +159,4 @@ returns-clause-rest c =
     let pushed = c.push_reserved.ensures.items ∙ ((λ i. end.rows_are i ++ record { session = end.session_is i; entry = c.args.entry } ∷ []) ∙ sym done.own) in
     let is : SendShows _ me3 = record { session = end.session_is ∙ sym done.keeps.session; inside = refl; sent = pushed; known = refl; last = refl } in
     keeps_sending c.args.send.now _ me me3 was is ((c.store-2.ensures.0 ∙ (c.store.ensures.0 ∙ c.load-held.ensures.0)) ∙ ap (λ v. v.ring) c.send.view_is)
-    (let same = ap (λ v. v.full) c.send.view_is in omega (arith, same)) done.keeps done.other done.front
+    (let same = ap (λ v. v.full) c.send.view_is in omega (arith, same)) done.counted done.keeps done.other done.front

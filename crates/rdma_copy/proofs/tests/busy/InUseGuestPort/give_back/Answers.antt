@@ -1,7 +1,8 @@
 use Rattle.std.proofs.Common.{◌≡◌, ◌-◌, ℕ, List, [], Option, Some, None, refl}
 use Rattle.page_slots.specs.Stroke.{StrokeValue}
 use Rattle.tce_window.specs.Held.{held_strokes, either}
-use Rattle.tce_window.specs.Moved.{stroke_count, places_from}
+use Rattle.page_slots.specs.Seats.{places_from}
+use Rattle.tce_window.specs.Moved.{stroke_count}
 use Rattle.rdma_copy.specs.Handless.{IsAbsent}
 use Rattle.rdma_copy.proofs.tests.busy.InUseGuestPort.give_back.Goals as goal
 

@@ -1,0 +1,162 @@
+// Shared pages: taken and given in any order, in use, closed, and passed between two threads.
+ghost use Rattle.std.specs.Prelude.{◌≡◌, ◌<◌};
+ghost use Rattle.vio_num.specs.Words.{Begins};
+ghost use Rattle.page_slots.specs.Turns.{IsIdle};
+
+use crate::page::Page;
+use crate::pages::{OpenedPages, Pages, Take};
+use crate::seat::PageSeat;
+use crate::stroke::{Stroke, StrokeName};
+use std::alloc::Global;
+use std::test::Fail;
+use std::thread;
+use vio_num::{NoMemory, UnitId};
+
+/// How often a thread tries before it gives up.
+const TRIES: u32 = 100_000_000;
+
+// Writes one stroke with this mark, in room made for it.
+fn mark(alloc: Global, page: &mut Page, mark: u64) -> Result<(), NoMemory>
+    ensures { Begins page.old.strokes page.new.strokes }
+{
+    let name = StrokeName {
+        who: UnitId {
+            partition: 1,
+            unit: 0,
+        },
+        mark,
+    };
+    page.reserve(1)?;
+    page.write(Stroke::new(alloc, name, 0, b"x")?);
+    Ok(())
+}
+
+// Takes a page, writes a stroke and gives the page back. Says how many strokes it had then, or the turn word.
+fn pass(
+    alloc: Global,
+    pages: &Pages,
+    seat: &mut PageSeat,
+    page: u16,
+    number: u64,
+) -> Result<Result<u64, u64>, NoMemory>
+    requires idle { IsIdle pages.now seat.old }
+    requires within { page < pages.now.count }
+    ensures { IsIdle pages.now seat.new }
+{
+    match pages.take(seat, page) {
+        Take::Taken(mut value) => {
+            let written = mark(alloc, &mut value, number);
+            let strokes = value.strokes().len() as u64;
+            pages.give(seat, page, value);
+            written?;
+            Ok(Ok(strokes))
+        }
+        Take::InUse { word } => Ok(Err(word)),
+    }
+}
+
+#[test]
+fn a_page_that_is_taken_is_in_use(rt: HostRuntime) -> Result<(), Fail> {
+    let OpenedPages { pages, mut seats } = Pages::open(rt.alloc(), 3, 2)?;
+    let (Some(mut second), Some(mut first)) = (seats.pop(), seats.pop()) else {
+        return Err(Fail::new("a seat is missing"));
+    };
+    let Take::Taken(held) = pages.take(&mut first, 1) else {
+        return Err(Fail::new("a page is in use"));
+    };
+    assert_eq!(rt; held.strokes().len(), 0);
+    assert_eq!(rt; pass(rt.alloc(), &pages, &mut second, 1, 9)?, Err(1));
+    assert_eq!(rt; pass(rt.alloc(), &pages, &mut second, 2, 9)?, Ok(1));
+    pages.give(&mut first, 1, held);
+    assert_eq!(rt; pass(rt.alloc(), &pages, &mut second, 1, 9)?, Ok(1));
+    assert_eq!(rt; pass(rt.alloc(), &pages, &mut first, 1, 9)?, Ok(2));
+    seats.push(first)?;
+    seats.push(second)?;
+    let Ok(list) = pages.close(seats) else {
+        return Err(Fail::new("out of memory"));
+    };
+    let strokes = list.iter().map(|page| page.strokes().len());
+    assert!(rt; strokes.eq([0, 2, 1]));
+    Ok(())
+}
+
+#[test]
+fn pages_go_back_in_any_order(rt: HostRuntime) -> Result<(), Fail> {
+    let OpenedPages { pages, mut seats } = Pages::open(rt.alloc(), 4, 1)?;
+    let Some(mut seat) = seats.pop() else {
+        return Err(Fail::new("a seat is missing"));
+    };
+    for order in [[0, 1, 2, 3], [3, 2, 1, 0], [1, 3, 0, 2]] {
+        let mut hand = Vec::with_capacity(rt.alloc(), 4)?;
+        for page in 0..4 {
+            let Take::Taken(mut value) = pages.take(&mut seat, page) else {
+                return Err(Fail::new("a page is in use"));
+            };
+            mark(rt.alloc(), &mut value, u64::from(page))?;
+            hand.push(Some(value))?;
+        }
+        for page in order {
+            let Some(value) = hand[page as usize].take() else {
+                return Err(Fail::new("a page was not taken"));
+            };
+            pages.give(&mut seat, page, value);
+        }
+    }
+    seats.push(seat)?;
+    let Ok(list) = pages.close(seats) else {
+        return Err(Fail::new("out of memory"));
+    };
+    for (k, page) in list.iter().enumerate() {
+        assert_eq!(rt; page.strokes().len(), 3);
+        assert!(rt;
+            page.strokes()
+                .iter()
+                .all(|stroke| stroke.name().mark == k as u64)
+        );
+    }
+    Ok(())
+}
+
+// Writes this many strokes, each tried until the page is free. Says how many it wrote.
+fn work(alloc: Global, pages: &Pages, mut seat: PageSeat, n: u64) -> (PageSeat, u64)
+    requires idle { IsIdle pages.now seat }
+    requires some { 0 < pages.now.count }
+    ensures { IsIdle pages.now result.0 }
+{
+    let mut k = 0;
+    for _ in 0..TRIES {
+        if k == n {
+            break;
+        }
+        match pass(alloc, pages, &mut seat, 0, k) {
+            Ok(Ok(_)) => k += 1,
+            Ok(Err(_)) => thread::yield_now(),
+            Err(NoMemory) => break,
+        }
+    }
+    (seat, k)
+}
+
+#[test]
+fn two_threads_at_one_page(rt: HostRuntime) -> Result<(), Fail> {
+    let n = 1000;
+    let OpenedPages { pages, mut seats } = Pages::open(rt.alloc(), 1, 2)?;
+    let (Some(first), Some(second)) = (seats.pop(), seats.pop()) else {
+        return Err(Fail::new("a seat is missing"));
+    };
+    let shared = &pages;
+    let alloc = rt.alloc();
+    let ((first, a), (second, b)) = thread::join(
+        &rt,
+        move || work(alloc, shared, first, n),
+        move || work(alloc, shared, second, n),
+    );
+    assert_eq!(rt; (a, b), (n, n));
+    seats.push(first)?;
+    seats.push(second)?;
+    let Ok(list) = pages.close(seats) else {
+        return Err(Fail::new("out of memory"));
+    };
+    assert_eq!(rt; list[0].strokes().len() as u64, 2 * n);
+    Ok(())
+}
