@@ -40,9 +40,6 @@ told sh (Kept number held) event old new r n l p k is = inr (inl record {
   kept = is;
 })
 
-pub not_both : (kept : Option Entry) (event : Entry) → kept ≡ Some event → kept ≡ None → ⊥
-not_both kept event e none = cc (e, none)
-
 some_of : (kept : Option Entry) (event : Entry) → kept ≡ Some event → IsSome kept
 some_of kept event e = search (rules, e)
 

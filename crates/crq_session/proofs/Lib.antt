@@ -1,4 +1,5 @@
 pub mod Events
+pub mod Hearing
 pub mod Registration
 pub mod Spare
 pub mod LinkLaws

@@ -2,7 +2,6 @@
 use Rattle.std.proofs.Common.{◌≡◌, ℕ, ◌+◌, ◌≤◌, true, false, Option, None, sym, refl, ap, ◌∙◌, subst, arith, true≢false}
 use Rattle.std.specs.Borrow.{GName}
 use Rattle.vio_num.specs.declared.entry.Entry.{Entry}
-use Rattle.vio_num.specs.Words.{ReadsWord}
 use Rattle.crq_ring.specs.Ends.{taken_now}
 use Rattle.crq_ring.specs.Later.{IsLater}
 use Rattle.crq_ring.specs.RingSessions.{BeginsSession, EndsSession}
@@ -12,7 +11,7 @@ use Rattle.crq_session.specs.declared.shared_link.Link.{Link}
 use Rattle.crq_session.specs.Answered.{Puts, Loses, FindsFull, FindsClosed, Sends, TurnsBack, Opens, Settles}
 use Rattle.crq_session.specs.EndState.{EndPlace, EndState, OnlySends, OnlyPushes, OnlyRegisters}
 use Rattle.crq_session.specs.LinkState.{place_at}
-use Rattle.crq_session.specs.SeatCalls.{SeesWord, SendRead, ReadLast}
+use Rattle.crq_session.specs.SeatCalls.{SeesWord, SendRead}
 use Rattle.crq_session.specs.SeatState.{end_at, spare_of, KeepsSeat, SpendsSeat}
 use Rattle.crq_session.proofs.Events.{later, settles_on}
 
@@ -148,5 +147,5 @@ module _ (old pushed begun new : LinkSeat) (number : ℕ) (recv : pushed.recv �
     later = later_registered;
   }
 
-  pub read_last : (word : ℕ) → (old.kept ≡ None → pushed.send ≡ old.send) → SendRead begun new word → ReadLast old new word
-  read_last word idle r = record { word_is = r.word_is; read = λ none. subst (λ v. ReadsWord v.last new.send.last word) (send ∙ idle none) r }
+  pub read_last : (word : ℕ) → old.send.last.count ≤ pushed.send.last.count → SendRead begun new word → SendRead old new word
+  read_last word reads r = record { read = omega (arith, reads, ap (λ v. v.last.count) send, r.read); word_is = r.word_is }

@@ -4,6 +4,7 @@ pub mod Calls
 pub mod Control
 pub mod EndState
 pub mod Handshake
+pub mod Heard
 pub mod LinkSeats
 pub mod LinkState
 pub mod PlainState

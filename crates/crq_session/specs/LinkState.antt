@@ -1,6 +1,7 @@
 -- What contracts see of a shared link: its queues, its seats, and the plain link that it ends as.
 use Rattle.std.specs.Prelude.{◌≡◌, ℕ, Bool, true, false, not, List, ◌∷◌, ◌++◌, length}
 use Rattle.std.specs.Borrow.{GName}
+use Rattle.crq_ring.specs.declared.rows.PipeRow.{PipeRow}
 use Rattle.crq_ring.specs.Ends.{RingValue, SendValue}
 use Rattle.crq_ring.specs.Ring.{Opens, Closes}
 use Rattle.crq_ring.specs.RingSessions.{EntersSession, FindsNoSession}
@@ -30,6 +31,10 @@ place_of end = place_at end.seat.ghost_name end.link.now end.seat.now.first
 
 abbrev pub state_of : SharedEnd → EndState
 state_of end = end_at (place_of end) end.seat.now
+
+-- what the receiver of the seat's own queue knows was put into it
+abbrev pub heard_of : SharedEnd → List PipeRow
+heard_of end = end.seat.now.recv.heard
 
 -- A link whose queues have these numbers of slots, before their first sessions, and its seats.
 pub record OpensLink (opened : OpenedLink) (slots_a slots_b : ℕ) : Type 0 where

@@ -1,6 +1,7 @@
 -- A plain end as an end of a link: its own side and its partner's.
 use Rattle.std.specs.Prelude.{ℕ, Bool, true, false, not, List, [], ◌∷◌}
 use Rattle.std.specs.Borrow.{GName}
+use Rattle.crq_ring.specs.declared.rows.PipeRow.{PipeRow}
 use Rattle.crq_session.specs.declared.side.PlainSide.{PlainSide}
 use Rattle.crq_session.specs.declared.link.PlainLink.{PlainLink}
 use Rattle.crq_session.specs.declared.plain_end.PlainEnd.{PlainEnd}
@@ -26,6 +27,10 @@ end_by lender = end_of (lender ∷ [])
 
 abbrev pub state_of : PlainEnd → EndState
 state_of end = end_by end.link.ghost_name end.link.now end.first
+
+-- all that was put into its own queue, of which a plain end knows
+abbrev pub heard_of : PlainEnd → List PipeRow
+heard_of end = (state_of end).place.received
 
 -- A link whose queues have these numbers of slots, before their first sessions.
 pub record IsNewLink (link : PlainLink) (slots_a slots_b : ℕ) : Type 0 where

@@ -58,6 +58,7 @@ pub record IsPass (partner : RingValue) (old : LinkSeat) (entry : Entry) (answer
   pub full : IfFull answer (λ number held. At (λ x y. FindsFull true x y number held) partner.slots old new)
   pub closed_read : IfShut answer (SendRead old new)
   pub full_read : IfFull answer (λ number held. SendRead old new held)
+  pub reads : old.send.last.count ≤ new.send.last.count
   pub rest : At (OnlySends true) partner.slots old new
   pub recv : new.recv ≡ old.recv
   pub kept : new.kept ≡ old.kept
@@ -96,6 +97,7 @@ pub record IsSeatEvent (partner : RingValue) (old : LinkSeat) (event : Entry) (a
   pub put : At (λ x y. OnPut answer (Puts true x event y)) partner.slots old new
   pub still : At (λ x y. IfKept answer (FindsFull true x y)) partner.slots old new
   pub still_read : IfKept answer (λ number held. SendRead old new held)
+  pub reads : old.send.last.count ≤ new.send.last.count
   pub kept : IsKeptBy answer event new.kept
   pub rest : At (OnlyPushes true) partner.slots old new
   pub recv : new.recv ≡ old.recv
@@ -117,7 +119,7 @@ pub record IsSeatPush (partner : RingValue) (old : LinkSeat) (answer : EventAnsw
   pub put : At (λ x y. OnPut answer (Pushes true x y)) partner.slots old new
   pub still : At (λ x y. IfKept answer (StillKept true x y)) partner.slots old new
   pub still_read : IfKept answer (λ number held. SendRead old new held)
-  pub idle : old.kept ≡ None → new.send ≡ old.send
+  pub reads : old.send.last.count ≤ new.send.last.count
   pub settles : At (λ x y. OnNotKept answer (Settles true x.kept x y)) partner.slots old new
   pub none : OnNotKept answer (new.kept ≡ None)
   pub rest : At (OnlyPushes true) partner.slots old new
@@ -125,19 +127,13 @@ pub record IsSeatPush (partner : RingValue) (old : LinkSeat) (answer : EventAnsw
   pub room : SpendsSeat old new
   pub keeps : KeepsSeat old new
 
--- The last word that the sender's end read is this one, and where no event had to be put before, it was read in
--- this call.
-pub record ReadLast (old new : LinkSeat) (word : ℕ) : Type 0 where
-  pub word_is : new.send.last.word ≡ word
-  pub read : old.kept ≡ None → SendRead old new word
-
 -- The own queue was registered, or that was refused.
 pub record IsSeatRegistration (own partner : RingValue) (old : LinkSeat) (ioba bytes : ℕ) (answer : RegAnswer) (new : LinkSeat) : Type 0 where
   pub parameter : (answer ≡ reg.Parameter) ↔ (fits_queue own.slots ioba bytes ≡ false)
   pub resource : (answer ≡ reg.Resource) ↔ ((fits_queue own.slots ioba bytes ≡ true) × (old.recv.is_open ≡ true))
   pub opened : At (λ x y. OnOpened answer (Opens true x y)) partner.slots old new
   pub closed : At (λ x y. IfAlone answer (FindsClosed true x y)) partner.slots old new
-  pub closed_read : IfAlone answer (ReadLast old new)
+  pub closed_read : IfAlone answer (SendRead old new)
   pub busy : At (λ x y. IfHeldUp answer (HoldsUp true x y)) partner.slots old new
   pub busy_read : IfHeldUp answer (λ number held. SendRead old new held)
   pub refused : At (λ x y. OnNotRegistered answer (OnlyReserves x y)) partner.slots old new

@@ -1,6 +1,7 @@
 // The calls of an end of a link, of which the plain form and the shared form are kinds.
-ghost use Rattle.std.specs.Prelude.{◌≡◌, ◌↔◌, ◌+◌, ◌<◌, ◌≤◌, Bool, false, OnOk};
+ghost use Rattle.std.specs.Prelude.{◌≡◌, ◌↔◌, ◌+◌, ◌<◌, ◌≤◌, Bool, false, List, OnOk};
 ghost use Rattle.vio_num.specs.Entry.{first_byte};
+ghost use Rattle.crq_ring.specs.declared.rows.PipeRow.{PipeRow};
 ghost use Rattle.crq_session.specs.declared.answers.RegAnswer.TheVariants as reg;
 ghost use Rattle.crq_session.specs.declared.answers.FreeAnswer.TheVariants as freeing;
 ghost use Rattle.crq_session.specs.declared.answers.SendAnswer.TheVariants as sending;
@@ -12,6 +13,7 @@ ghost use Rattle.crq_session.specs.Answered.{fits_own, IsUnregistered, IsRegiste
 ghost use Rattle.crq_session.specs.Answered.{Sends, TurnsBack, FindsFull, Takes, FindsNone, Opens, MeetsOpen, FindsClosed};
 ghost use Rattle.crq_session.specs.Answered.{HoldsUp, TellsFreed, TellsFailed, FindsInUse, Pushes, PutsNone, StillKept};
 ghost use Rattle.crq_session.specs.Control.{IsQueueSize};
+ghost use Rattle.crq_session.specs.Heard.{HearsOn};
 ghost use Rattle.crq_session.specs.EndState.{EndState, IsLawfulEnd, OnlyReserves, OnlyRegisters, OnlyFrees, OnlySends, OnlyTakes, OnlyPushes};
 
 use crate::answers::{EventAnswer, FreeAnswer, PollAnswer, RegAnswer, SendAnswer};
@@ -23,6 +25,10 @@ pub trait CrqEnd {
     ghost is_shared: { Bool };
 
     ghost state: { Self → EndState };
+
+    // What this end knows was put into its own queue, by rows. Of a session that was freed it stays as it
+    // is, whatever call comes later: no sender puts anything in it any more.
+    ghost heard: { Self → List PipeRow };
 
     /// The number of slots of the own queue, 256 for each queue page.
     fn slots(&self) -> u32
@@ -38,7 +44,8 @@ pub trait CrqEnd {
     fn reserve(&mut self, n: u32) -> Result<(), NoMemory>
         ensures room { OnOk result (n ≤ (state self.new).spare) }
         ensures spare { (state self.old).spare ≤ (state self.new).spare }
-        ensures rest { OnlyReserves (state self.old) (state self.new) };
+        ensures rest { OnlyReserves (state self.old) (state self.new) }
+        ensures heard { HearsOn (state self.old) (heard self.old) (heard self.new) };
 
     /// Registers the own queue, whose address and length are in bytes (LoPAR, "H_REG_CRQ"). The kept event
     /// is put first.
@@ -53,7 +60,8 @@ pub trait CrqEnd {
         ensures busy { IfHeldUp result (HoldsUp is_shared (state self.old) (state self.new)) }
         ensures refused { OnNotRegistered result (OnlyReserves (state self.old) (state self.new)) }
         ensures spare { (state self.old).spare ≤ (state self.new).spare + 1 }
-        ensures rest { OnlyRegisters is_shared (state self.old) (state self.new) };
+        ensures rest { OnlyRegisters is_shared (state self.old) (state self.new) }
+        ensures heard { HearsOn (state self.old) (heard self.old) (heard self.new) };
 
     /// Frees the own queue (LoPAR, "H_FREE_CRQ"), and tells the partner that it is free. Entries that were
     /// not taken are lost.
@@ -64,7 +72,8 @@ pub trait CrqEnd {
         ensures busy { IfInUse result (FindsInUse is_shared (state self.old) (state self.new)) }
         ensures refused { OnNotFreed result (OnlyReserves (state self.old) (state self.new)) }
         ensures spare { (state self.old).spare ≤ (state self.new).spare + 1 }
-        ensures rest { OnlyFrees is_shared (state self.old) (state self.new) };
+        ensures rest { OnlyFrees is_shared (state self.old) (state self.new) }
+        ensures heard { HearsOn (state self.old) (heard self.old) (heard self.new) };
 
     /// Frees the own queue, and tells the partner that this side failed.
     fn fail(&mut self) -> FreeAnswer
@@ -74,7 +83,8 @@ pub trait CrqEnd {
         ensures busy { IfInUse result (FindsInUse is_shared (state self.old) (state self.new)) }
         ensures refused { OnNotFreed result (OnlyReserves (state self.old) (state self.new)) }
         ensures spare { (state self.old).spare ≤ (state self.new).spare + 1 }
-        ensures rest { OnlyFrees is_shared (state self.old) (state self.new) };
+        ensures rest { OnlyFrees is_shared (state self.old) (state self.new) }
+        ensures heard { HearsOn (state self.old) (heard self.old) (heard self.new) };
 
     /// Sends an entry to the partner's queue (LoPAR, "H_SEND_CRQ"). An answer but `Success` puts nothing.
     fn send(&mut self, entry: Entry) -> SendAnswer
@@ -88,7 +98,8 @@ pub trait CrqEnd {
         ensures dropped { IfDropped result (FindsFull is_shared (state self.old) (state self.new)) }
         ensures refused { OnNotSent result (OnlyReserves (state self.old) (state self.new)) }
         ensures spare { (state self.old).spare ≤ (state self.new).spare + 1 }
-        ensures rest { OnlySends is_shared (state self.old) (state self.new) };
+        ensures rest { OnlySends is_shared (state self.old) (state self.new) }
+        ensures heard { HearsOn (state self.old) (heard self.old) (heard self.new) };
 
     /// Takes the next entry of the own queue.
     fn poll(&mut self) -> PollAnswer
@@ -98,7 +109,8 @@ pub trait CrqEnd {
         ensures empty { IfEmpty result (FindsNone is_shared (state self.old) (state self.new)) }
         ensures refused { OnNotPolled result (OnlyReserves (state self.old) (state self.new)) }
         ensures spare { (state self.old).spare ≤ (state self.new).spare + 1 }
-        ensures rest { OnlyTakes is_shared (state self.old) (state self.new) };
+        ensures rest { OnlyTakes is_shared (state self.old) (state self.new) }
+        ensures heard { HearsOn (state self.old) (heard self.old) (heard self.new) };
 
     /// Puts the event that is kept, if there is one. It is lost where the partner's queue is not registered.
     fn push_event(&mut self) -> EventAnswer
@@ -107,5 +119,6 @@ pub trait CrqEnd {
         ensures put { OnPut result (Pushes is_shared (state self.old) (state self.new)) }
         ensures still { IfKept result (StillKept is_shared (state self.old) (state self.new)) }
         ensures spare { (state self.old).spare ≤ (state self.new).spare + 1 }
-        ensures rest { OnlyPushes is_shared (state self.old) (state self.new) };
+        ensures rest { OnlyPushes is_shared (state self.old) (state self.new) }
+        ensures heard { HearsOn (state self.old) (heard self.old) (heard self.new) };
 }

@@ -14,11 +14,13 @@ pub struct PlainEnd<'a> {
 }
 
 impl CrqEnd for PlainEnd<'_> {
-    ghost use Rattle.crq_session.specs.PlainState.{state_of};
+    ghost use Rattle.crq_session.specs.PlainState.{state_of, heard_of};
 
     ghost is_shared = { false };
 
     ghost state = { state_of };
+
+    ghost heard = { heard_of };
 
     fn slots(&self) -> u32 {
         if self.first {

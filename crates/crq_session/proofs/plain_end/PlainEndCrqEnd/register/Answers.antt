@@ -1,6 +1,7 @@
-use Rattle.std.proofs.Common.{not, [], ◌∷◌}
+use Rattle.std.proofs.Common.{not, [], ◌∷◌, ap}
 use Rattle.crq_session.specs.PlainState.{side_of}
 use Rattle.crq_session.proofs.Spare.{spare_puts, spare_sessions, spare_falls}
+use Rattle.crq_session.proofs.Hearing.{hears_same}
 use Rattle.crq_session.proofs.plain_end.PlainEndCrqEnd.register.Goals as goal
 
 pub register-requires-clause-room : goal.register-requires-clause-room
@@ -14,3 +15,6 @@ returns-clause-spare c = spare_falls (side_of c.args.self.now.link.now c.args.se
 
 pub returns-clause-rest : goal.returns-clause-rest
 returns-clause-rest c = c.register.ensures.rest (c.args.self.now.link.ghost_name ∷ []) c.args.self.now.first
+
+pub returns-clause-heard : goal.returns-clause-heard
+returns-clause-heard c = hears_same _ _ _ (ap (λ p. p.received) (c.register.ensures.rest (c.args.self.now.link.ghost_name ∷ []) c.args.self.now.first).place)

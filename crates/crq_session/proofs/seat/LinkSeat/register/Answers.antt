@@ -52,7 +52,7 @@ returns-in-Some c =
           (not_kept c.push_event.result _ c.in_default.not-Kept (pushed.settles place n));
       closed = λ place n. closed_seat place old mid begun new _ pushed.recv c.begin.ensures refl refl refl refl read c.in-Some.control
           (pushed.rest place n).counts.closed (c.in-Some.ensures.word place);
-      closed_read = read_last old mid begun new _ pushed.recv c.begin.ensures refl read c.in-Some.control pushed.idle c.in-Some.ensures.read;
+      closed_read = read_last old mid begun new _ pushed.recv c.begin.ensures refl read c.in-Some.control pushed.reads c.in-Some.ensures.read;
       busy = λ place n. tt;
       busy_read = tt;
       refused = λ place n. tt;

@@ -7,3 +7,6 @@ pub returns-clause-rest : goal.returns-clause-rest
 returns-clause-rest c =
     let end = c.args.self.now in
     at_place (OnlyTakes true) end.seat.ghost_name end.link.now end.seat.now c.poll.new.self c.poll.ensures.keeps.first (c.poll.ensures.rest _)
+
+pub returns-clause-heard : goal.returns-clause-heard
+returns-clause-heard c = let later = c.poll.ensures.keeps.later in record { more = later.heard; ended = later.ended }
