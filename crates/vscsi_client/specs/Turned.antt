@@ -59,6 +59,10 @@ pub data LoginStep : Type 0 where
   -- memory ran out, before anything more was taken, written or put
   RanOut : LoginStep
 
+-- the client once it was told that its own queue was freed
+abbrev pub unlinked : ClientState → ClientState
+unlinked s = record s { handshake = Down; due = [] }
+
 -- the client once it found its own queue not registered, and once it registered it
 abbrev pub freed_by : ClientState → ClientState
 freed_by s = record (forgets s) { handshake = Down; due = [] }

@@ -2,7 +2,7 @@
 ghost use Rattle.std.specs.Prelude.{◌≡◌, IfOk};
 ghost use Rattle.vscsi_client.specs.State.{tags_of, new_client, IsWithinGrant};
 ghost use Rattle.vscsi_client.specs.Taking.{forgets};
-ghost use Rattle.vscsi_client.specs.Turned.{freed_by};
+ghost use Rattle.vscsi_client.specs.Turned.{unlinked};
 
 use crate::outgoing::Outgoing;
 use crate::row::Row;
@@ -90,14 +90,13 @@ impl Client {
         self.credits.outstanding()
     }
 
-    /// The own queue was freed, or failed: no login is on or under way, and nothing is outstanding. Tags that were
-    /// used are not used again.
+    /// The own queue was freed, or failed: the handshake begins anew, and nothing is due. What is outstanding, and
+    /// the answers that a login kept, stay until the next turn of a login.
     pub fn freed(&mut self)
-        ensures { self.new ≡ freed_by self.old }
+        ensures { self.new ≡ unlinked self.old }
     {
         self.handshake.freed();
         self.due.clear();
-        self.forget();
     }
 
     /// Forgets a login, the requests that are outstanding, and their answers.

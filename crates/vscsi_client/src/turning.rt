@@ -63,7 +63,10 @@ impl Client {
                 self.handshake.registered();
                 self.forget();
             }
-            RegAnswer::Busy { number: _, held: _ } => self.freed(),
+            RegAnswer::Busy { number: _, held: _ } => {
+                self.freed();
+                self.forget();
+            }
             RegAnswer::Resource => {}
             RegAnswer::Parameter => unreachable!(),
         }

@@ -242,6 +242,39 @@ fn a_login_that_is_turned_back(rt: HostRuntime) -> Result<(), Fail> {
     Ok(())
 }
 
+/// An answer that a login kept is taken though the own queue failed since; the next turn of a login forgets what is
+/// outstanding.
+#[test]
+fn answers_that_are_kept_outlive_a_failure(rt: HostRuntime) -> Result<(), Fail> {
+    let answer = Step::Partner(Move::Answer(0, Unit::Good { tag: 2, delta: 1 }, 36, 2));
+    let take = Step::Call(Call::Take);
+    let tag = 2;
+    let (delta, status) = (1, 0);
+    let (none, one) = (
+        Seen::Tags {
+            count: 0,
+            oldest: 0,
+        },
+        Seen::Tags {
+            count: 1,
+            oldest: 3,
+        },
+    );
+    let rows = [
+        (Step::Ready(2), Seen::Sent(3)),
+        (answer, put(2)),
+        (LOGIN, AGAIN),
+        (Step::Own(Act::Fail), Seen::Freed(FreeAnswer::Success)),
+        (take, Seen::Answer { tag, delta, status }),
+        (take, Seen::Empty(0)),
+        (Step::Call(Call::Outstanding), one),
+        (LOGIN, AGAIN),
+        (Step::Call(Call::Outstanding), none),
+    ];
+    assert_eq!(rt; first_other_granted(rt.alloc(), 8, &rows)?, None);
+    Ok(())
+}
+
 /// An answer that a login finds is kept once, and taken before others. A grant forgets what is outstanding.
 #[test]
 fn answers_that_a_login_finds_are_kept(rt: HostRuntime) -> Result<(), Fail> {
