@@ -1,6 +1,7 @@
 // Shared pages: taken and given in any order, in use, closed, and passed between two threads.
-ghost use Rattle.std.specs.Prelude.{◌≡◌, ◌<◌};
+ghost use Rattle.std.specs.Prelude.{◌≡◌, ◌<◌, ◌==◌, ℕ, true, false, IfOk, OnOk};
 ghost use Rattle.vio_num.specs.Words.{Begins};
+ghost use Rattle.page_slots.specs.Seats.{holds, saw};
 ghost use Rattle.page_slots.specs.Turns.{IsIdle};
 
 use crate::page::Page;
@@ -31,7 +32,8 @@ fn mark(alloc: Global, page: &mut Page, mark: u64) -> Result<(), NoMemory>
     Ok(())
 }
 
-// Takes a page, writes a stroke and gives the page back. Says how many strokes it had then, or the turn word.
+// Takes a page, writes a stroke and gives the page back. Says how many strokes it had then, or
+// the turn word.
 fn pass(
     alloc: Global,
     pages: &Pages,
@@ -67,9 +69,18 @@ fn a_page_that_is_taken_is_in_use(rt: HostRuntime) -> Result<(), Fail> {
     assert_eq!(rt; held.strokes().len(), 0);
     assert_eq!(rt; pass(rt.alloc(), &pages, &mut second, 1, 9)?, Err(1));
     assert_eq!(rt; pass(rt.alloc(), &pages, &mut second, 2, 9)?, Ok(1));
-    pages.give(&mut first, 1, held);
+    Ok(())
+}
+
+#[test]
+fn a_page_given_back_is_taken_by_another_seat(rt: HostRuntime) -> Result<(), Fail> {
+    let OpenedPages { pages, mut seats } = Pages::open(rt.alloc(), 3, 2)?;
+    let (Some(mut second), Some(mut first)) = (seats.pop(), seats.pop()) else {
+        return Err(Fail::new("a seat is missing"));
+    };
     assert_eq!(rt; pass(rt.alloc(), &pages, &mut second, 1, 9)?, Ok(1));
     assert_eq!(rt; pass(rt.alloc(), &pages, &mut first, 1, 9)?, Ok(2));
+    assert_eq!(rt; pass(rt.alloc(), &pages, &mut first, 2, 9)?, Ok(1));
     seats.push(first)?;
     seats.push(second)?;
     let Ok(list) = pages.close(seats) else {
@@ -80,39 +91,65 @@ fn a_page_that_is_taken_is_in_use(rt: HostRuntime) -> Result<(), Fail> {
     Ok(())
 }
 
+// Takes the page and writes a stroke with this mark.
+fn marked(alloc: Global, pages: &Pages, seat: &mut PageSeat, page: u16) -> Result<Page, Fail>
+    requires ours { seat.old.pages ≡ pages.now.id }
+    requires within { page < pages.now.count }
+    ensures ours { seat.new.pages ≡ pages.now.id }
+    ensures held { OnOk result (holds seat.new page ≡ true) }
+    ensures seen { IfOk result (λ value. Begins (saw seat.new page) value.strokes) }
+    ensures others_held { (k : ℕ) → (k == page) ≡ false → holds seat.new k ≡ holds seat.old k }
+    ensures others { (k : ℕ) → (k == page) ≡ false → saw seat.new k ≡ saw seat.old k }
+{
+    let Take::Taken(mut value) = pages.take(seat, page) else {
+        return Err(Fail::new("a page is in use"));
+    };
+    mark(alloc, &mut value, u64::from(page))?;
+    Ok(value)
+}
+
+// Takes pages 0 and 1, writes a stroke on each, and gives them back in one of the two orders.
+fn two_turns(
+    alloc: Global,
+    pages: &Pages,
+    seat: &mut PageSeat,
+    last_first: bool,
+) -> Result<(), Fail>
+    requires idle { IsIdle pages.now seat.old }
+    requires count { pages.now.count ≡ 2 }
+    ensures { OnOk result (IsIdle pages.now seat.new) }
+{
+    let zero = marked(alloc, pages, seat, 0)?;
+    let one = marked(alloc, pages, seat, 1)?;
+    if last_first {
+        pages.give(seat, 1, one);
+        pages.give(seat, 0, zero);
+    } else {
+        pages.give(seat, 0, zero);
+        pages.give(seat, 1, one);
+    }
+    Ok(())
+}
+
 #[test]
-fn pages_go_back_in_any_order(rt: HostRuntime) -> Result<(), Fail> {
-    let OpenedPages { pages, mut seats } = Pages::open(rt.alloc(), 4, 1)?;
+fn pages_go_back_in_either_order(rt: HostRuntime) -> Result<(), Fail> {
+    let OpenedPages { pages, mut seats } = Pages::open(rt.alloc(), 2, 1)?;
     let Some(mut seat) = seats.pop() else {
         return Err(Fail::new("a seat is missing"));
     };
-    for order in [[0, 1, 2, 3], [3, 2, 1, 0], [1, 3, 0, 2]] {
-        let mut hand = Vec::with_capacity(rt.alloc(), 4)?;
-        for page in 0..4 {
-            let Take::Taken(mut value) = pages.take(&mut seat, page) else {
-                return Err(Fail::new("a page is in use"));
-            };
-            mark(rt.alloc(), &mut value, u64::from(page))?;
-            hand.push(Some(value))?;
-        }
-        for page in order {
-            let Some(value) = hand[page as usize].take() else {
-                return Err(Fail::new("a page was not taken"));
-            };
-            pages.give(&mut seat, page, value);
-        }
-    }
+    two_turns(rt.alloc(), &pages, &mut seat, false)?;
+    two_turns(rt.alloc(), &pages, &mut seat, true)?;
+    two_turns(rt.alloc(), &pages, &mut seat, true)?;
+    two_turns(rt.alloc(), &pages, &mut seat, false)?;
     seats.push(seat)?;
     let Ok(list) = pages.close(seats) else {
         return Err(Fail::new("out of memory"));
     };
+    let strokes = list.iter().map(|page| page.strokes().len());
+    assert!(rt; strokes.eq([4, 4]));
     for (k, page) in list.iter().enumerate() {
-        assert_eq!(rt; page.strokes().len(), 3);
-        assert!(rt;
-            page.strokes()
-                .iter()
-                .all(|stroke| stroke.name().mark == k as u64)
-        );
+        let mut marks = page.strokes().iter().map(|stroke| stroke.name().mark);
+        assert!(rt; marks.all(|mark| mark == k as u64));
     }
     Ok(())
 }
