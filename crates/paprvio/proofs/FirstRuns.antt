@@ -4,7 +4,7 @@ use Rattle.std.proofs.Common.{add-zero}
 use Rattle.vio_num.specs.declared.entry.Entry.{Entry}
 use Rattle.vio_num.specs.declared.history.Served.{Served}
 use Rattle.vio_trace.specs.declared.rows.LogRow.{LogRow}
-use Rattle.vio_trace.specs.declared.rows.Outcome.TheVariants.{Sent}
+use Rattle.vio_trace.specs.declared.outcome.Outcome.TheVariants.{Sent}
 use Rattle.vio_trace.specs.declared.rows.AnswerRow.{AnswerRow}
 use Rattle.paprvio.specs.Queues.{AreTagsFrom}
 use Rattle.paprvio.specs.History.{IsRowOf, AreRowsFrom}

@@ -4,9 +4,9 @@ use Rattle.vio_num.specs.declared.names.UnitId.{UnitId}
 use Rattle.vio_num.specs.declared.history.Served.{Served}
 use Rattle.vio_trace.specs.declared.rows.Trace.{Trace}
 use Rattle.vio_trace.specs.declared.rows.LogRow.{LogRow}
-use Rattle.vio_trace.specs.declared.rows.Outcome.TheVariants.{Granted}
+use Rattle.vio_trace.specs.declared.outcome.Outcome.TheVariants.{Granted}
 use Rattle.vio_trace.specs.declared.rows.AnswerRow.{AnswerRow}
-use Rattle.vio_trace.specs.Form.{Ascend, LogBefore, UnitBefore, QueueBefore, AnswerBefore, IsInOrder}
+use Rattle.vio_trace.specs.Form.{Ascend, LogBefore, UnitBefore, QueueBefore, AnswerBefore, TceValueBefore, CopyBefore, StrokeBefore, IsInOrder}
 use Rattle.paprvio.specs.declared.boot.Plan.{Plan}
 use Rattle.paprvio.specs.FirstRun.{server_unit, client_unit, AreSentFrom, AreAnswersFrom, IsFirstRun}
 
@@ -45,4 +45,7 @@ first_run_in_order plan trace run = record {
   logs = subst (Ascend LogBefore) (sym run.log.login) (sent_ascend 1 (record { partition = 1; line = 9; outcome = Granted plan.grant }) run.log.sent refl refl run.log.commands);
   queues = subst (Ascend QueueBefore) (sym run.queues) (inl (units_ascend run.at_server.unit run.at_client.unit run.server_session.name run.client_session.name), tt);
   answers = all_answers_ascend 1 trace.serves trace.answers run.answers;
+  tces = subst (Ascend TceValueBefore) (sym run.pages.tces) tt;
+  copies = subst (Ascend CopyBefore) (sym run.pages.copies) tt;
+  strokes = subst (Ascend StrokeBefore) (sym run.pages.strokes) tt;
 }

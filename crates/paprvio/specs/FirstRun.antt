@@ -9,7 +9,7 @@ use Rattle.vio_num.specs.declared.history.Grant.TheVariants.{Granted as LoginGra
 use Rattle.vio_num.specs.declared.history.Served.{Served}
 use Rattle.vio_trace.specs.declared.rows.Trace.{Trace}
 use Rattle.vio_trace.specs.declared.rows.LogRow.{LogRow}
-use Rattle.vio_trace.specs.declared.rows.Outcome.TheVariants.{Granted, Sent}
+use Rattle.vio_trace.specs.declared.outcome.Outcome.TheVariants.{Granted, Sent}
 use Rattle.vio_trace.specs.declared.rows.QueueRow.{QueueRow}
 use Rattle.vio_trace.specs.declared.rows.AnswerRow.{AnswerRow}
 use Rattle.srp_iu.specs.Grammar.{Canon}
@@ -111,6 +111,12 @@ AreAnswersFrom i (row ∷ rows) [] = ⊥
 AreAnswersFrom i (row ∷ rows) (answer ∷ answers) =
     (answer ≡ record { unit = client_unit; session = 1; tag = i + 1; answer = row.answer }) × AreAnswersFrom (i + 1) rows answers
 
+-- No value was put into a window, no copy was made, and no page was written.
+pub record MovesNoPage (trace : Trace) : Type 0 where
+  pub tces : trace.tces ≡ []
+  pub copies : trace.copies ≡ []
+  pub strokes : trace.strokes ≡ []
+
 -- the trace is one of a first run by this plan
 pub record IsFirstRun (plan : Plan) (trace : Trace) : Type 0 where
   pub log : IsScriptLog plan trace.logs
@@ -129,3 +135,4 @@ pub record IsFirstRun (plan : Plan) (trace : Trace) : Type 0 where
   pub login_answer : length (filter (is_srp_of_length 52) at_client.sent) ≡ 1
   pub answer_entries : map (λ entry. entry.low) (filter (is_srp_of_length 36) at_client.sent) ≡ tags_from 1 trace.serves
   pub answers : AreAnswersFrom 1 trace.serves trace.answers
+  pub pages : MovesNoPage trace

@@ -1,6 +1,6 @@
 // The client's part of a first run: its information units, its entries and the record of its script.
 ghost use Rattle.std.specs.Prelude.{◌≡◌, ◌+◌, ◌<◌, ◌≤◌, ◌^◌, IfOk, length, true};
-ghost use Rattle.vio_trace.specs.declared.rows.Outcome.TheVariants.{Sent};
+ghost use Rattle.vio_trace.specs.declared.outcome.Outcome.TheVariants.{Sent};
 ghost use Rattle.srp_iu.specs.Grammar.{Canon};
 ghost use Rattle.srp_iu.specs.declared.unit.Iu.TheVariants.{Cmd as CommandUnit};
 ghost use Rattle.paprvio.specs.FirstRun.{AreAnswersFrom, IsScriptLog, client_unit, test_unit_ready};

@@ -55,5 +55,8 @@ pub fn run_plan(alloc: Global, plan: &Plan) -> Result<Trace, NoMemory>
         grants,
         serves,
         answers,
+        tces: Sequence::new(alloc),
+        copies: Sequence::new(alloc),
+        strokes: Sequence::new(alloc),
     })
 }

@@ -3,7 +3,9 @@ pub mod Digits
 pub mod Histories
 pub mod Laws
 pub mod Order
+pub mod Outcomes
 pub mod Ranges
 pub mod RowsTold
 pub mod Spelled
+pub mod Windows
 pub mod Written

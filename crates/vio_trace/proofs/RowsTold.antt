@@ -5,13 +5,13 @@ use Rattle.std.proofs.lemmas.Fmt.{decimal_injective}
 use Rattle.vio_num.specs.declared.entry.Entry.{Entry}
 use Rattle.vio_num.specs.declared.names.UnitId.{UnitId}
 use Rattle.vio_trace.specs.declared.rows.LogRow.{LogRow}
-use Rattle.vio_trace.specs.declared.rows.Outcome.{Outcome}
-use Rattle.vio_trace.specs.declared.rows.Outcome.TheVariants as outcomes
+use Rattle.vio_trace.specs.declared.outcome.Outcome.{Outcome}
 use Rattle.vio_trace.specs.declared.rows.QueueRow.{QueueRow}
 use Rattle.vio_trace.specs.declared.rows.DropRow.{DropRow}
-use Rattle.vio_trace.specs.Form.{IsWord, IsHalf, IsOutcome, IsLogRow, IsEntry, IsDropRow, IsQueueLine, IsQueueRow}
+use Rattle.vio_trace.specs.Form.{IsWord, IsHalf, IsLogRow, IsEntry, IsDropRow, IsQueueLine, IsQueueRow}
 use Rattle.vio_trace.specs.Text.{name, digits, outcome_words, log_text, entry_text, drop_text, queue_line, queue_text}
 use Rattle.vio_trace.proofs.Cuts.{Above, ArePlain, IsCut, line_row, line_cut, counted_cut}
+use Rattle.vio_trace.proofs.Outcomes.{outcome_plain, outcome_tells}
 use Rattle.vio_trace.proofs.Spelled.{plain_decimal, plain_name, name_tells, plain_digits, digits_tell}
 
 -- the word at a place of a line
@@ -30,17 +30,6 @@ pub told : (k m n : ℕ) (v w : List (List ℕ)) → IsWord m → IsWord n → v
 told k m n v w h j e f g = decimal_injective m n h j (sym f ∙ word_of k v w e ∙ g)
 
 -- script lines
-
-outcome_plain : (o : Outcome) → IsOutcome o → ArePlain (outcome_words o)
-outcome_plain (outcomes.Granted n) h = (search (rules, arith), (plain_decimal n (half_is_word n h), tt))
-outcome_plain (outcomes.Sent tag) h = (search (rules, arith), (plain_decimal tag h, tt))
-
-outcome_tells : (o u : Outcome) → IsOutcome o → IsOutcome u → outcome_words o ≡ outcome_words u → o ≡ u
-outcome_tells (outcomes.Granted m) (outcomes.Granted n) h k e =
-    ap outcomes.Granted (told 1 m n _ _ (half_is_word m h) (half_is_word n k) e refl refl)
-outcome_tells (outcomes.Granted m) (outcomes.Sent tag) h k e = absurd (omega (arith, ap (λ (words : List (List ℕ)). length (word_at 0 words)) e))
-outcome_tells (outcomes.Sent tag) (outcomes.Granted n) h k e = absurd (omega (arith, ap (λ (words : List (List ℕ)). length (word_at 0 words)) e))
-outcome_tells (outcomes.Sent s) (outcomes.Sent t) h k e = ap outcomes.Sent (told 1 s t _ _ h k e refl refl)
 
 log_from : (a b : LogRow) → a.partition ≡ b.partition → a.line ≡ b.line → a.outcome ≡ b.outcome → a ≡ b
 log_from a b e f g =

@@ -1,11 +1,6 @@
 -- A line that is written word by word behind a text.
 use Rattle.std.proofs.Common.{◌≡◌, ℕ, List, [], ◌∷◌, ◌++◌, codes, sym, ◌∙◌, ap, subst, append_assoc, Result, OnOk}
-use Rattle.vio_trace.specs.Text.{line}
-
--- a text with these words behind it, each behind a space
-abbrev pub with_words : List ℕ → List (List ℕ) → List ℕ
-with_words text [] = text
-with_words text (word ∷ words) = with_words (text ++ codes " " ++ word) words
+use Rattle.vio_trace.specs.Text.{line, with_words}
 
 pub line_onto : (text word : List ℕ) (words : List (List ℕ))
     → with_words (text ++ word) words ++ codes "\n" ≡ text ++ line (word ∷ words)

@@ -1,20 +1,24 @@
 -- A trace in form: each byte, number and length is within its range, and the rows of each section stand in
 -- their order. A text is said to be that of a trace for a trace in form alone: of others a byte of 258 and
 -- one that is no digit would be written alike.
-use Rattle.std.specs.Prelude.{ℕ, ◌≡◌, ◌<◌, ◌^◌, ◌⊎◌, List, [], ◌∷◌, All, IfSome, length}
+use Rattle.std.specs.Prelude.{ℕ, ◌≡◌, ◌<◌, ◌≤◌, ◌^◌, ◌⊎◌, List, [], ◌∷◌, All, IfSome, length}
 use Rattle.hex.specs.Hex.{IsBytes}
 use Rattle.vio_num.specs.declared.entry.Entry.{Entry}
 use Rattle.vio_num.specs.declared.names.UnitId.{UnitId}
 use Rattle.vio_num.specs.declared.history.Grant.{Grant}
 use Rattle.vio_num.specs.declared.history.Grant.TheVariants as grants
 use Rattle.vio_num.specs.declared.history.Served.{Served}
+use Rattle.vio_trace.specs.declared.outcome.Outcome.{Outcome}
+use Rattle.vio_trace.specs.declared.outcome.Outcome.TheVariants as outcomes
 use Rattle.vio_trace.specs.declared.rows.Trace.{Trace}
 use Rattle.vio_trace.specs.declared.rows.LogRow.{LogRow}
-use Rattle.vio_trace.specs.declared.rows.Outcome.{Outcome}
-use Rattle.vio_trace.specs.declared.rows.Outcome.TheVariants as outcomes
 use Rattle.vio_trace.specs.declared.rows.QueueRow.{QueueRow}
 use Rattle.vio_trace.specs.declared.rows.DropRow.{DropRow}
 use Rattle.vio_trace.specs.declared.rows.AnswerRow.{AnswerRow}
+use Rattle.vio_trace.specs.declared.window_rows.TceValueRow.{TceValueRow}
+use Rattle.vio_trace.specs.declared.window_rows.PieceRow.{PieceRow}
+use Rattle.vio_trace.specs.declared.window_rows.CopyRow.{CopyRow}
+use Rattle.vio_trace.specs.declared.window_rows.StrokeRow.{StrokeRow}
 use Rattle.vio_trace.specs.Text.{trace_text}
 
 -- a number of 64 bits
@@ -25,6 +29,16 @@ IsWord n = n < 2 ^ 64
 abbrev pub IsHalf : ℕ → Type 0
 IsHalf n = n < 2 ^ 32
 
+-- a number of 16 bits
+abbrev pub IsShort : ℕ → Type 0
+IsShort n = n < 2 ^ 16
+
+-- bytes that a line shows: 1 to 256
+pub record AreShown (bytes : List ℕ) : Type 0 where
+  pub digits : IsBytes bytes
+  pub some : 1 ≤ length bytes
+  pub few : length bytes ≤ 256
+
 -- the two numbers of a unit's name are bytes
 pub record IsName (unit : UnitId) : Type 0 where
   pub partition : unit.partition < 256
@@ -33,7 +47,27 @@ pub record IsName (unit : UnitId) : Type 0 where
 -- how a script line ended
 abbrev pub IsOutcome : Outcome → Type 0
 IsOutcome (outcomes.Granted credits) = IsHalf credits
+IsOutcome (outcomes.Rejected reason) = IsHalf reason
+IsOutcome outcomes.Lost = Unit {0}
+IsOutcome outcomes.Unanswered = Unit {0}
 IsOutcome (outcomes.Sent tag) = IsWord tag
+IsOutcome outcomes.Range = Unit {0}
+IsOutcome outcomes.NotLoggedIn = Unit {0}
+IsOutcome (outcomes.NoCredit limit) = IsHalf limit
+IsOutcome (outcomes.Overlap tag) = IsWord tag
+IsOutcome outcomes.Closed = Unit {0}
+IsOutcome (outcomes.Dropped number held) = IsWord number × IsWord held
+IsOutcome (outcomes.Took count) = IsWord count
+IsOutcome (outcomes.TookThenLost count) = IsWord count
+IsOutcome (outcomes.Data len sum) = IsWord len × IsWord sum
+IsOutcome (outcomes.Stale page) = IsShort page
+IsOutcome outcomes.Unknown = Unit {0}
+IsOutcome (outcomes.Code code) = Unit {0}
+IsOutcome (outcomes.Value value) = IsWord value
+IsOutcome (outcomes.Posted buffers code) = IsHalf buffers
+IsOutcome (outcomes.Frame code number) = IsWord number
+IsOutcome outcomes.Done = Unit {0}
+IsOutcome (outcomes.Bytes shown) = AreShown shown
 
 -- the row of a script line
 pub record IsLogRow (row : LogRow) : Type 0 where
@@ -107,6 +141,47 @@ pub record IsAnswerRow (row : AnswerRow) : Type 0 where
   pub tag : IsWord row.tag
   pub answer : IsBytes row.answer
 
+-- a value that was put
+pub record IsTceValueRow (row : TceValueRow) : Type 0 where
+  pub unit : IsName row.unit
+  pub entry : IsShort row.entry
+  pub version : IsHalf row.version
+  pub value : IsWord row.value
+
+-- a piece of a copy
+pub record IsPieceRow (row : PieceRow) : Type 0 where
+  pub unit : IsName row.unit
+  pub entry : IsShort row.entry
+  pub version : IsHalf row.version
+  pub page : IsShort row.page
+  pub offset : IsShort row.offset
+  pub len : IsShort row.len
+  pub at : IsHalf row.at
+
+-- the first line of a copy
+pub record IsCopyLine (row : CopyRow) : Type 0 where
+  pub unit : IsName row.unit
+  pub mark : IsWord row.mark
+  pub len : IsHalf row.len
+  pub from : IsWord (length row.from)
+  pub to : IsWord (length row.to)
+
+-- a copy, with its pieces
+pub record IsCopyRow (row : CopyRow) : Type 0 where
+  pub line : IsCopyLine row
+  pub from : All IsPieceRow row.from
+  pub to : All IsPieceRow row.to
+
+-- a stroke
+pub record IsStrokeRow (row : StrokeRow) : Type 0 where
+  pub unit : IsName row.unit
+  pub page : IsShort row.page
+  pub place : IsHalf row.place
+  pub writer : IsName row.writer
+  pub mark : IsWord row.mark
+  pub offset : IsShort row.offset
+  pub bytes : IsBytes row.bytes
+
 -- Every row is within its ranges. Each trace that a program holds is: its types say so.
 pub record IsInRange (trace : Trace) : Type 0 where
   pub logs : All IsLogRow trace.logs
@@ -114,6 +189,9 @@ pub record IsInRange (trace : Trace) : Type 0 where
   pub grants : All IsGrantRow trace.grants
   pub serves : All IsServeRow trace.serves
   pub answers : All IsAnswerRow trace.answers
+  pub tces : All IsTceValueRow trace.tces
+  pub copies : All IsCopyRow trace.copies
+  pub strokes : All IsStrokeRow trace.strokes
 
 -- each row stands before the next
 abbrev pub Ascend : {Row : Type 0} → (Row → Row → Type 0) → List Row → Type 0
@@ -137,12 +215,29 @@ QueueBefore a b = UnitBefore a.unit b.unit ⊎ ((a.unit ≡ b.unit) × (a.sessio
 abbrev pub AnswerBefore : AnswerRow → AnswerRow → Type 0
 AnswerBefore a b = UnitBefore a.unit b.unit ⊎ (a.unit ≡ b.unit)
 
--- The rows stand in order: the keys of script lines and of sessions rise strictly. Grants and served requests stand
--- in order of time, which no word of their lines tells.
+-- by unit, then by entry, then by version
+abbrev pub TceValueBefore : TceValueRow → TceValueRow → Type 0
+TceValueBefore a b = UnitBefore a.unit b.unit
+    ⊎ ((a.unit ≡ b.unit) × ((a.entry < b.entry) ⊎ ((a.entry ≡ b.entry) × (a.version < b.version))))
+
+-- by copier; those of one copier stand in order of time, which no word of their lines tells
+abbrev pub CopyBefore : CopyRow → CopyRow → Type 0
+CopyBefore a b = UnitBefore a.unit b.unit ⊎ (a.unit ≡ b.unit)
+
+-- by unit, then by page, then by place
+abbrev pub StrokeBefore : StrokeRow → StrokeRow → Type 0
+StrokeBefore a b = UnitBefore a.unit b.unit
+    ⊎ ((a.unit ≡ b.unit) × ((a.page < b.page) ⊎ ((a.page ≡ b.page) × (a.place < b.place))))
+
+-- The rows stand in order: the keys of script lines, sessions, values and strokes rise strictly. Grants and served
+-- requests stand in order of time, which no word of their lines tells.
 pub record IsInOrder (trace : Trace) : Type 0 where
   pub logs : Ascend LogBefore trace.logs
   pub queues : Ascend QueueBefore trace.queues
   pub answers : Ascend AnswerBefore trace.answers
+  pub tces : Ascend TceValueBefore trace.tces
+  pub copies : Ascend CopyBefore trace.copies
+  pub strokes : Ascend StrokeBefore trace.strokes
 
 -- the trace is in form
 pub record IsInForm (trace : Trace) : Type 0 where

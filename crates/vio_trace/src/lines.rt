@@ -3,7 +3,8 @@ ghost use Rattle.std.specs.Prelude.{◌≡◌, ◌++◌, ℕ, List, All, OnOk, f
 ghost use Rattle.vio_trace.specs.Form.{IsLogRow, IsEntry, IsDropRow, IsQueueLine, IsQueueRow, IsGrantRow, IsServeRow, IsAnswerRow};
 ghost use Rattle.vio_trace.specs.Text.{log_text, entry_text, drop_text, queue_line, queue_text, grant_text, serve_text, answer_text};
 
-use crate::rows::{AnswerRow, DropRow, LogRow, Outcome, QueueRow};
+use crate::log_words::put_outcome;
+use crate::rows::{AnswerRow, DropRow, LogRow, QueueRow};
 use crate::words::{
     put, put_bytes, put_cause, put_digits, put_head, put_number, put_number_or_none,
 };
@@ -41,16 +42,7 @@ impl Lines for LogRow {
         put(buffer, b"log")?;
         put_number(buffer, u64::from(self.partition))?;
         put_number(buffer, u64::from(self.line))?;
-        match self.outcome {
-            Outcome::Granted(credits) => {
-                put(buffer, b" granted")?;
-                put_number(buffer, u64::from(credits))?;
-            }
-            Outcome::Sent(tag) => {
-                put(buffer, b" sent")?;
-                put_number(buffer, tag)?;
-            }
-        }
+        put_outcome(buffer, &self.outcome)?;
         put(buffer, b"\n")
     }
 }

@@ -1,5 +1,7 @@
 // The rows of a trace. A row has the words of its line as fields, in their order; a word that counts
 // the lines of a list is that list's length.
+use crate::outcome::Outcome;
+use crate::window_rows::{CopyRow, StrokeRow, TceValueRow};
 use vio_num::{Bytes, Entry, Grant, Sequence, Served, UnitId};
 
 /// What a run did. The lists stand in the order of the text's sections.
@@ -15,6 +17,12 @@ pub struct Trace {
     pub serves: Sequence<Served>,
     /// The answers that the clients took, by unit and time.
     pub answers: Sequence<AnswerRow>,
+    /// The values that were put into the entries of the units' windows, by unit, entry and version.
+    pub tces: Sequence<TceValueRow>,
+    /// The copies between windows, by copier and time.
+    pub copies: Sequence<CopyRow>,
+    /// The strokes on the units' pages, by unit, page and place.
+    pub strokes: Sequence<StrokeRow>,
 }
 
 /// A script line that ended.
@@ -26,15 +34,6 @@ pub struct LogRow {
     pub line: u32,
     /// How it ended.
     pub outcome: Outcome,
-}
-
-/// How a script line ended.
-#[derive(Debug, Drop)]
-pub enum Outcome {
-    /// A login was granted, with this initial request limit.
-    Granted(u32),
-    /// An information unit with this tag was put.
-    Sent(u64),
 }
 
 /// A session of a unit's command/response queue.

@@ -1,12 +1,16 @@
 // Texts written by hand from the format: each kind of line, and a login with one command.
-ghost use Rattle.std.specs.Prelude.{◌≡◌, IfOk};
+ghost use Rattle.std.specs.Prelude.{◌≡◌, [], IfOk};
 ghost use Rattle.vio_trace.specs.Form.{Ascend, LogBefore, QueueBefore, AnswerBefore, IsInOrder};
 
-use crate::rows::{AnswerRow, DropRow, LogRow, Outcome, QueueRow, Trace};
+use crate::outcome::Outcome;
+use crate::rows::{AnswerRow, DropRow, LogRow, QueueRow, Trace};
 use crate::write::write_trace;
 use std::alloc::Global;
 use std::test::Fail;
 use vio_num::{Bytes, Entry, Grant, Lapse, Sequence, Served, UnitId};
+
+mod log_words;
+mod windows;
 
 const SERVER: UnitId = UnitId {
     partition: 0,
@@ -24,6 +28,23 @@ const OTHER: UnitId = UnitId {
 };
 
 const MOST: u64 = 18446744073709551615;
+
+/// A trace without rows.
+fn nothing(alloc: Global) -> Trace
+    ensures logs { result.logs ≡ [] }
+    ensures order { IsInOrder result }
+{
+    Trace {
+        logs: Sequence::new(alloc),
+        queues: Sequence::new(alloc),
+        grants: Sequence::new(alloc),
+        serves: Sequence::new(alloc),
+        answers: Sequence::new(alloc),
+        tces: Sequence::new(alloc),
+        copies: Sequence::new(alloc),
+        strokes: Sequence::new(alloc),
+    }
+}
 
 fn entry(high: u64, low: u64) -> Entry {
     Entry { high, low }
@@ -169,6 +190,7 @@ fn each_kind(alloc: Global) -> Result<Trace, Fail>
         grants: grants(alloc)?,
         serves: serves(alloc)?,
         answers: answers(alloc)?,
+        ..nothing(alloc)
     })
 }
 
@@ -267,6 +289,7 @@ fn one_command(alloc: Global) -> Result<Trace, Fail>
         grants: Sequence::from_slice(alloc, &[grant])?,
         serves: run_serves(alloc)?,
         answers,
+        ..nothing(alloc)
     })
 }
 

@@ -2,9 +2,9 @@
 ghost use Rattle.std.specs.Prelude.{◌≡◌, ◌++◌, ◌≤◌, IfSome, OnOk, codes, decimal, length};
 ghost use Rattle.hex.specs.Hex.{IsBytes, encode_lower};
 ghost use Rattle.vio_trace.specs.Form.{IsHalf, IsName};
-ghost use Rattle.vio_trace.specs.Text.{name, digits, bytes as bytes_word, number_or_none, cause};
+ghost use Rattle.vio_trace.specs.Text.{name, digits, half_digits, bytes as bytes_word, number_or_none, cause, code};
 
-use vio_num::{Bytes, Lapse, NoMemory, UnitId};
+use vio_num::{Bytes, Hrc, Lapse, NoMemory, UnitId};
 
 /// The bytes of a list that are written at once.
 const PIECE: usize = 32;
@@ -34,9 +34,27 @@ pub fn put_digits(buffer: &mut Vec<u8>, n: u64) -> Result<(), NoMemory>
     put_piece(buffer, &n.to_be_bytes())
 }
 
-// Writes a unit's name.
-fn put_name(buffer: &mut Vec<u8>, unit: UnitId) -> Result<(), NoMemory>
-    ensures { OnOk result (buffer.new.items ≡ buffer.old.items ++ codes " " ++ name unit) }
+/// A number of 32 bits in eight digits.
+pub fn put_half_digits(buffer: &mut Vec<u8>, n: u32) -> Result<(), NoMemory>
+    ensures { OnOk result (buffer.new.items ≡ buffer.old.items ++ codes " " ++ half_digits n) }
+{
+    buffer.push(b' ')?;
+    put_piece(buffer, &n.to_be_bytes())
+}
+
+/// The code of a call, in decimal.
+pub fn put_code(buffer: &mut Vec<u8>, answer: Hrc) -> Result<(), NoMemory>
+    ensures { OnOk result (buffer.new.items ≡ buffer.old.items ++ codes " " ++ code answer) }
+{
+    let mut decimal = itoa::Buffer::new();
+    buffer.push(b' ')?;
+    put(buffer, decimal.format(answer.code()).as_bytes())
+}
+
+/// A unit's name.
+pub fn put_name(buffer: &mut Vec<u8>, unit: UnitId) -> Result<(), NoMemory>
+    ensures text { OnOk result (buffer.new.items ≡ buffer.old.items ++ codes " " ++ name unit) }
+    ensures range { IsName unit }
 {
     let mut decimal = itoa::Buffer::new();
     put_number(buffer, u64::from(unit.partition))?;
@@ -44,20 +62,15 @@ fn put_name(buffer: &mut Vec<u8>, unit: UnitId) -> Result<(), NoMemory>
     put(buffer, decimal.format(unit.unit).as_bytes())
 }
 
-/// The words that most lines begin with: the first word, a unit's name and a session.
-pub fn put_head(
-    buffer: &mut Vec<u8>,
-    word: &[u8],
-    unit: UnitId,
-    session: u64,
-) -> Result<(), NoMemory>
+/// The words that most lines begin with: the first word, a unit's name and a number.
+pub fn put_head(buffer: &mut Vec<u8>, word: &[u8], unit: UnitId, n: u64) -> Result<(), NoMemory>
     ensures text { OnOk result (buffer.new.items ≡
-        buffer.old.items ++ word.now ++ codes " " ++ name unit ++ codes " " ++ decimal session) }
+        buffer.old.items ++ word.now ++ codes " " ++ name unit ++ codes " " ++ decimal n) }
     ensures range { IsName unit }
 {
     put(buffer, word)?;
     put_name(buffer, unit)?;
-    put_number(buffer, session)
+    put_number(buffer, n)
 }
 
 /// A number that may be absent.

@@ -8,7 +8,7 @@ use crate::words::put;
 use std::alloc::Global;
 use vio_num::NoMemory;
 
-/// The text of a trace, whose script lines, sessions and answers stand in order.
+/// The text of a trace whose rows stand in order.
 pub fn write_trace(alloc: Global, trace: &Trace) -> Result<Vec<u8>, NoMemory>
     requires { IsInOrder trace.now }
     ensures { IfOk result (λ text. IsTextOf trace.now text.items) }
@@ -20,6 +20,9 @@ pub fn write_trace(alloc: Global, trace: &Trace) -> Result<Vec<u8>, NoMemory>
     put_all(&mut text, trace.grants.as_slice())?;
     put_all(&mut text, trace.serves.as_slice())?;
     put_all(&mut text, trace.answers.as_slice())?;
+    put_all(&mut text, trace.tces.as_slice())?;
+    put_all(&mut text, trace.copies.as_slice())?;
+    put_all(&mut text, trace.strokes.as_slice())?;
     put(&mut text, b"end\n")?;
     Ok(text)
 }

@@ -1,7 +1,7 @@
 -- The login's record, and behind it those of the commands so far.
 use Rattle.std.proofs.Common.{◌≡◌, ◌+◌, ◌∷◌, List, length}
 use Rattle.vio_trace.specs.declared.rows.LogRow.{LogRow}
-use Rattle.vio_trace.specs.declared.rows.Outcome.TheVariants.{Granted}
+use Rattle.vio_trace.specs.declared.outcome.Outcome.TheVariants.{Granted}
 use Rattle.paprvio.specs.FirstRun.{AreSentFrom}
 use Rattle.paprvio.proofs.client.script_log.Given as goal
 

@@ -36,4 +36,5 @@ returns c =
       login_answer = c.in_ok-client.ensures.login;
       answer_entries = tags_of_rows 1 tags serves c.in_ok-client.ensures.answers many;
       answers = subst (λ (rows : List Served). AreAnswersFrom 1 rows c.in_ok-answers.answers) c.as_slice.ensures c.in_ok-answers.ensures;
+      pages = record { tces = c.new.ensures; copies = c.new-2.ensures; strokes = c.new-3.ensures };
     }
