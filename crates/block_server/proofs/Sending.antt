@@ -1,0 +1,99 @@
+-- What a send leaves of a unit's site.
+use Rattle.std.proofs.Common.{◌≡◌, ◌⊎◌, inl, inr, IfSome, ℕ, ◌≤◌, ◌++◌, List, [], ◌∷◌, Bool, Option, Some, None, refl, sym, ◌∙◌, subst, arith, append-nil}
+use Rattle.std.specs.Option.{IsSome}
+use Rattle.vio_num.specs.declared.entry.Entry.{Entry}
+use Rattle.vio_num.specs.Entry.{partner_freed}
+use Rattle.crq_session.specs.declared.answers.SendAnswer.{SendAnswer}
+use Rattle.crq_session.specs.declared.answers.SendAnswer.TheVariants as sending
+use Rattle.crq_session.specs.declared.answers.RegAnswer.{RegAnswer}
+use Rattle.crq_session.specs.declared.answers.RegAnswer.TheVariants as registering
+use Rattle.crq_session.specs.declared.answers.FreeAnswer.{FreeAnswer}
+use Rattle.crq_session.specs.declared.answers.FreeAnswer.TheVariants as freeing
+use Rattle.crq_session.specs.declared.answers.EventAnswer.{EventAnswer}
+use Rattle.crq_session.specs.declared.answers.EventAnswer.TheVariants as pushing
+use Rattle.crq_session.specs.Answers.{IfSent, OnNotSent, IfClosed, IfDropped, IfHeldUp, IfInUse, IfKept, OnFreed, OnNotFreed, OnNotRegistered, OnNothing, OnOpened, OnPut}
+use Rattle.crq_session.specs.Answered.{FindsInUse, Frees, HoldsUp, Keeps, Loses, Opens, Pushes, Puts, PutsNone, Sends, Settles, StillKept, TellsFreed, TurnsBack, FindsFull}
+use Rattle.crq_session.specs.EndState.{EndState, OnlyReserves}
+use Rattle.vio_num.specs.Words.{Begins}
+use Rattle.tce_window.specs.PortState.{PortState}
+use Rattle.rdma_copy.proofs.Laws.{side_same}
+use Rattle.rdma_copy.specs.Copies.{side_of}
+use Rattle.rdma_copy.specs.declared.copy.CopyRecord.{CopyRecord}
+use Rattle.block_server.specs.Advances.{Advances, KeepsFreed, PutsMore}
+use Rattle.block_server.specs.Entries.{MayPut}
+use Rattle.block_server.specs.SiteState.{Lenders, SiteState, site}
+use Rattle.block_server.proofs.Advancing.{copies_none, puts_none, puts_one}
+use Rattle.block_server.proofs.Quieting.{lost_none}
+
+-- a call of the queue's end alone
+pub queue_call : (reached : Lenders) (own client : PortState) (copies : List CopyRecord) (old new : EndState) → new.place ≡ old.place → old.last_session ≤ new.last_session
+    → Begins old.taken new.taken → PutsMore old.sent new.sent → Advances (site reached old own client copies) (site reached new own client copies)
+queue_call reached own client copies old new place session taken put = record {
+  reached = refl;
+  queue_place = place;
+  own_place = refl;
+  client_place = refl;
+  session = session;
+  taken = taken;
+  put = put;
+  own = side_same (side_of own);
+  client = side_same (side_of client);
+  copies = copies_none own client copies copies refl;
+}
+
+pub same_session : (old new : EndState) → new.last_session ≡ old.last_session → old.last_session ≤ new.last_session
+same_session old new same = omega (arith, same)
+
+pub same_taken : (old new : EndState) → new.taken ≡ old.taken → Begins old.taken new.taken
+same_taken old new same = ([], same ∙ sym (append-nil old.taken))
+
+pub send_puts : (shared : Bool) (old new : EndState) (entry : Entry) (answer : SendAnswer) → MayPut entry
+    → IfSent answer (Sends shared old entry new) → IfClosed answer (TurnsBack shared old new)
+    → IfDropped answer (FindsFull shared old new) → OnNotSent answer (OnlyReserves old new) → PutsMore old.sent new.sent
+send_puts shared old new entry (sending.Success number) may sent closed dropped refused = puts_one old.sent new.sent _ may sent.puts.sent
+send_puts shared old new entry sending.Parameter may sent closed dropped refused = puts_none old.sent new.sent refused.sent
+send_puts shared old new entry sending.NotRegistered may sent closed dropped refused = puts_none old.sent new.sent refused.sent
+send_puts shared old new entry (sending.Closed control) may sent closed dropped refused = puts_none old.sent new.sent closed.none.sent
+send_puts shared old new entry (sending.Dropped number held) may sent closed dropped refused = puts_none old.sent new.sent dropped.sent
+
+-- what a registration leaves of what was put: the kept event was put, if there was one, or it was lost
+settles_puts : (shared : Bool) (kept : Option Entry) (old new : EndState) → ((event : Entry) → kept ≡ Some event → event ≡ partner_freed)
+    → Settles shared kept old new → PutsMore old.sent new.sent
+settles_puts shared None old new freed none = puts_none old.sent new.sent none.sent
+settles_puts shared (Some event) old new freed (inl puts) =
+    puts_one old.sent new.sent _ (subst MayPut (sym (freed event refl)) refl) puts.sent
+settles_puts shared (Some event) old new freed (inr lost) = puts_none old.sent new.sent lost.none.sent
+
+pub register_puts : (shared : Bool) (old new : EndState) (answer : RegAnswer) → KeepsFreed old → OnOpened answer (Opens shared old new)
+    → IfHeldUp answer (HoldsUp shared old new) → OnNotRegistered answer (OnlyReserves old new) → PutsMore old.sent new.sent
+register_puts shared old new registering.Success freed opened held refused = settles_puts shared old.kept old new freed opened.settles
+register_puts shared old new (registering.Closed control) freed opened held refused = settles_puts shared old.kept old new freed opened.settles
+register_puts shared old new (registering.Busy number lay) freed opened held refused = puts_none old.sent new.sent held.kept.full.sent
+register_puts shared old new registering.Parameter freed opened held refused = puts_none old.sent new.sent refused.sent
+register_puts shared old new registering.Resource freed opened held refused = puts_none old.sent new.sent refused.sent
+
+-- what a free leaves of what was put: the event that tells of it was put, or is kept, or was lost
+told_puts : (shared : Bool) (old new : EndState)
+    → (Puts shared old partner_freed new × (new.kept ≡ None)) ⊎ (Keeps shared old partner_freed new ⊎ (Loses shared old new × (new.kept ≡ None)))
+    → PutsMore old.sent new.sent
+told_puts shared old new (inl puts) = puts_one old.sent new.sent _ refl puts.0.sent
+told_puts shared old new (inr (inl keeps)) = puts_none old.sent new.sent keeps.full.sent
+told_puts shared old new (inr (inr lost)) = puts_none old.sent new.sent lost.0.none.sent
+
+pub free_puts : (shared : Bool) (old new : EndState) (answer : FreeAnswer) → OnFreed answer (TellsFreed shared old new)
+    → IfInUse answer (FindsInUse shared old new) → OnNotFreed answer (OnlyReserves old new) → PutsMore old.sent new.sent
+free_puts shared old new freeing.Success freed busy refused = told_puts shared old new freed.tells
+free_puts shared old new (freeing.Busy control) freed busy refused = puts_none old.sent new.sent busy.none.sent
+free_puts shared old new freeing.Parameter freed busy refused = puts_none old.sent new.sent refused.sent
+
+-- what is put of a kept event
+kept_puts : (shared : Bool) (kept : Option Entry) (old new : EndState) → ((event : Entry) → kept ≡ Some event → event ≡ partner_freed)
+    → IsSome kept → IfSome kept (λ event. Puts shared old event new) → PutsMore old.sent new.sent
+kept_puts shared None old new freed some puts = absurd (cc (some))
+kept_puts shared (Some event) old new freed some puts = puts_one old.sent new.sent _ (subst MayPut (sym (freed event refl)) refl) puts.sent
+
+pub push_puts : (shared : Bool) (old new : EndState) (answer : EventAnswer) → KeepsFreed old → OnNothing answer (PutsNone shared old new)
+    → OnPut answer (Pushes shared old new) → IfKept answer (StillKept shared old new) → PutsMore old.sent new.sent
+push_puts shared old new pushing.Nothing freed nothing put still = puts_none old.sent new.sent (lost_none shared old.kept old new nothing.loses)
+push_puts shared old new pushing.Put freed nothing put still = kept_puts shared old.kept old new freed put.some put.puts
+push_puts shared old new (pushing.Kept number held) freed nothing put still = puts_none old.sent new.sent still.full.sent

@@ -1,0 +1,128 @@
+-- What copies, reads and writes leave of a unit's site.
+use Rattle.std.proofs.Common.{◌≡◌, ℕ, ◌≤◌, ◌++◌, List, [], ◌∷◌, inl, inr, Bool, true, false, Option, Some, None, Result, Ok, Err, OnOk, OnErr, length, refl, sym, ◌∙◌, ap, subst, arith, append-nil}
+use Rattle.page_slots.specs.Stroke.{StrokeValue}
+use Rattle.page_slots.specs.declared.stroke.StrokeName.{StrokeName}
+use Rattle.tce_window.specs.declared.piece.Piece.{Piece}
+use Rattle.tce_window.specs.declared.answers.OwnFault.{OwnFault}
+use Rattle.tce_window.specs.Moved.{IsLaid, strokes_on}
+use Rattle.vio_num.specs.Words.{Begins}
+use Rattle.tce_window.specs.Port.{Grows, IsWritten}
+use Rattle.tce_window.specs.PortState.{PortState, LaysNone, OnlyReads, OnlyWrites, Writes}
+use Rattle.tce_window.specs.Region.{touches, stroke_on, written}
+use Rattle.tce_window.specs.Strokes.{with_strokes}
+use Rattle.rdma_copy.specs.declared.copy.CopyRecord.{CopyRecord}
+use Rattle.rdma_copy.specs.declared.copy.CopyAnswer.{CopyAnswer}
+use Rattle.rdma_copy.specs.declared.copy.CopyAnswer.TheVariants as copies
+use Rattle.rdma_copy.specs.Answers.{IfCopied, OnRefused}
+use Rattle.rdma_copy.specs.Copies.{Copies, OnlyCopies, side_of}
+use Rattle.rdma_copy.specs.Copy.{SideGrows}
+use Rattle.rdma_copy.proofs.Laws.{later_begins, learns_grows, side_same}
+use Rattle.crq_session.specs.EndState.{EndState}
+use Rattle.block_server.specs.Advances.{Advances, CopiesMore, IsOwnCopy}
+use Rattle.block_server.specs.Copied.{copies_in}
+use Rattle.block_server.specs.SiteState.{Lenders, SiteState, site}
+use Rattle.block_server.proofs.Advancing.{begins_on, begins_same, copies_none, copies_one, puts_none}
+
+-- a page grew on which strokes were laid behind what it had
+with_more : (shared : Bool) (old before : Option (List StrokeValue)) (more : List StrokeValue) → Grows shared old before → Grows true old (with_strokes before more)
+with_more shared (Some old) (Some before) more grown = begins_on old before (before ++ more) (later_begins shared old before grown) (more, refl)
+with_more shared (Some old) None more grown = absurd grown
+with_more shared None (Some before) more grown = absurd grown
+with_more shared None None more grown = tt
+
+laid_grows : (shared : Bool) (p : ℕ) (pieces : List Piece) (strokes : List StrokeValue) (old new : Option (List StrokeValue))
+    → IsLaid shared p pieces strokes old new → Grows true old new
+laid_grows shared p pieces strokes old new laid =
+    subst (Grows true old) (sym laid.laid) (with_more shared old laid.before (strokes_on p pieces strokes) laid.grown)
+
+written_grows : (shared : Bool) (name : StrokeName) (at : ℕ) (bytes : List ℕ) (p : ℕ) (old new : Option (List StrokeValue))
+    → IsWritten shared name at bytes p old new → Grows true old new
+written_grows shared name at bytes p old new is = subst (Grows true old) (sym is.laid) (by (touches at (length bytes) p) refl)
+  where
+    by : (b : Bool) → touches at (length bytes) p ≡ b → Grows true old (written name at bytes p is.before)
+    by true e = rw e (with_more shared old is.before (stroke_on name at bytes p ∷ []) is.grown)
+    by false e = rw e (learns_grows shared old is.before is.grown)
+
+-- the side from which a copy reads, and the side to which it writes
+pub source_grows : (shared : Bool) (old new : PortState) → LaysNone shared old new → OnlyCopies shared old new → SideGrows (side_of old) (side_of new)
+source_grows shared old new none rest = record {
+  unit = ap (λ place. place.unit) rest.place;
+  values = λ e. later_begins shared (old.values e) (new.values e) (rest.values e);
+  strokes = λ p. learns_grows shared (old.strokes p) (new.strokes p) (none.strokes p);
+}
+
+pub target_grows : (shared : Bool) (src old new : PortState) (from to len : ℕ) (name : StrokeName) (answer : CopyAnswer)
+    → IfCopied answer (Copies shared src old new from to len name) → OnRefused answer (LaysNone shared old new)
+    → OnlyCopies shared old new → SideGrows (side_of old) (side_of new)
+target_grows shared src old new from to len name (copies.Copied copy) copied refused rest = record {
+  unit = ap (λ place. place.unit) rest.place;
+  values = λ e. later_begins shared (old.values e) (new.values e) (rest.values e);
+  strokes = λ p. laid_grows shared p _ _ (old.strokes p) (new.strokes p) (copied.laid p);
+}
+target_grows shared src old new from to len name copies.Parameter copied refused rest = source_grows shared old new refused rest
+target_grows shared src old new from to len name (copies.SourceParm fault) copied refused rest = source_grows shared old new refused rest
+target_grows shared src old new from to len name (copies.DestParm fault) copied refused rest = source_grows shared old new refused rest
+target_grows shared src old new from to len name (copies.Busy page word) copied refused rest = source_grows shared old new refused rest
+target_grows shared src old new from to len name copies.NoMemory copied refused rest = source_grows shared old new refused rest
+
+pub windows_move : (reached : Lenders) (queue : EndState) (own own' client client' : PortState) (copies copies' : List CopyRecord) → own'.place ≡ own.place → client'.place ≡ client.place
+    → SideGrows (side_of own) (side_of own') → SideGrows (side_of client) (side_of client')
+    → CopiesMore own' client' copies copies'
+    → Advances (site reached queue own client copies) (site reached queue own' client' copies')
+windows_move reached queue own own' client client' copies copies' own_place client_place own_grows client_grows made = record {
+  reached = refl;
+  queue_place = refl;
+  own_place = own_place;
+  client_place = client_place;
+  session = omega arith;
+  taken = begins_same queue.taken;
+  put = puts_none queue.sent queue.sent refl;
+  own = own_grows;
+  client = client_grows;
+  copies = made;
+}
+
+pub read_grows : (shared : Bool) (old new : PortState) → OnlyReads shared old new → SideGrows (side_of old) (side_of new)
+read_grows shared old new rest = record {
+  unit = ap (λ place. place.unit) rest.place;
+  values = λ e. ([], ap (λ values. values e) rest.values ∙ sym (append-nil (old.values e)));
+  strokes = λ p. learns_grows shared (old.strokes p) (new.strokes p) (rest.strokes p);
+}
+
+pub write_grows : (shared : Bool) (old new : PortState) (at : ℕ) (bytes : List ℕ) (mark : ℕ) (result : Result (Unit {0}) OwnFault)
+    → OnOk result (Writes shared old at bytes mark new) → OnErr result (LaysNone shared old new) → OnlyWrites old new
+    → SideGrows (side_of old) (side_of new)
+write_grows shared old new at bytes mark (Ok done) wrote none rest = record {
+  unit = ap (λ place. place.unit) rest.place;
+  values = λ e. ([], ap (λ values. values e) rest.values ∙ sym (append-nil (old.values e)));
+  strokes = λ p. written_grows shared _ at bytes p (old.strokes p) (new.strokes p) (wrote.strokes p);
+}
+write_grows shared old new at bytes mark (Err fault) wrote none rest = record {
+  unit = ap (λ place. place.unit) rest.place;
+  values = λ e. ([], ap (λ values. values e) rest.values ∙ sym (append-nil (old.values e)));
+  strokes = λ p. learns_grows shared (old.strokes p) (new.strokes p) (none.strokes p);
+}
+
+-- what is added to the copies as one was made from the client's window to the unit's own, or from the own to the client's
+pub fetched_more : (shared : Bool) (own own' client : PortState) (from to len : ℕ) (name : StrokeName) (answer : CopyAnswer)
+    (old new : List CopyRecord) → name.who ≡ own.place.unit → own'.place ≡ own.place
+    → IfCopied answer (Copies shared client own own' from to len name) → new ≡ old ++ copies_in answer → CopiesMore own' client old new
+fetched_more shared own own' client from to len name (copies.Copied copy) old new who place copied made =
+    copies_one own' client old new copy
+    (record { who = ap (λ n. n.who) copied.name_is ∙ who ∙ sym (ap (λ p. p.unit) place); from = from; to = to; lawful = inl copied.lawful }) made
+fetched_more shared own own' client from to len name copies.Parameter old new who place copied made = copies_none own' client old new (made ∙ append-nil old)
+fetched_more shared own own' client from to len name (copies.SourceParm fault) old new who place copied made = copies_none own' client old new (made ∙ append-nil old)
+fetched_more shared own own' client from to len name (copies.DestParm fault) old new who place copied made = copies_none own' client old new (made ∙ append-nil old)
+fetched_more shared own own' client from to len name (copies.Busy page word) old new who place copied made = copies_none own' client old new (made ∙ append-nil old)
+fetched_more shared own own' client from to len name copies.NoMemory old new who place copied made = copies_none own' client old new (made ∙ append-nil old)
+
+pub delivered_more : (shared : Bool) (own client client' : PortState) (from to len : ℕ) (name : StrokeName) (answer : CopyAnswer)
+    (old new : List CopyRecord) → name.who ≡ own.place.unit
+    → IfCopied answer (Copies shared own client client' from to len name) → new ≡ old ++ copies_in answer → CopiesMore own client' old new
+delivered_more shared own client client' from to len name (copies.Copied copy) old new who copied made =
+    copies_one own client' old new copy (record { who = ap (λ n. n.who) copied.name_is ∙ who; from = from; to = to; lawful = inr copied.lawful }) made
+delivered_more shared own client client' from to len name copies.Parameter old new who copied made = copies_none own client' old new (made ∙ append-nil old)
+delivered_more shared own client client' from to len name (copies.SourceParm fault) old new who copied made = copies_none own client' old new (made ∙ append-nil old)
+delivered_more shared own client client' from to len name (copies.DestParm fault) old new who copied made = copies_none own client' old new (made ∙ append-nil old)
+delivered_more shared own client client' from to len name (copies.Busy page word) old new who copied made = copies_none own client' old new (made ∙ append-nil old)
+delivered_more shared own client client' from to len name copies.NoMemory old new who copied made = copies_none own client' old new (made ∙ append-nil old)

@@ -1,0 +1,13 @@
+use Rattle.std.proofs.Common.{◌-◌}
+use Rattle.block_server.specs.Advances.{Advances}
+use Rattle.block_server.specs.Turns.{IfQuiet}
+use Rattle.block_server.proofs.intake.take_in.Given as goal
+
+abbrev pub invariant-loop-taken : goal.invariant-loop-taken
+invariant-loop-taken g l = record {
+  advances : Advances (g.S.Site.state l.fn.site) (g.S.Site.state l.site);
+  quiet : IfQuiet l.fn.unit l.unit (g.S.Site.state l.fn.site).queue (g.S.Site.state l.site).queue;
+}
+
+abbrev pub decreases-loop-taken : goal.decreases-loop-taken
+decreases-loop-taken g l = l.slots - l.taken

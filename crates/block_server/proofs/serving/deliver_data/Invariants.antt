@@ -1,0 +1,12 @@
+use Rattle.std.proofs.Common.{◌≡◌, ◌-◌}
+use Rattle.block_server.specs.Advances.{Advances}
+use Rattle.block_server.proofs.serving.deliver_data.Given as goal
+
+abbrev pub invariant-loop-part : goal.invariant-loop-part
+invariant-loop-part g l = record {
+  advances : Advances (g.S.Site.state l.fn.site) (g.S.Site.state l.site);
+  queue : (g.S.Site.state l.site).queue ≡ (g.S.Site.state l.fn.site).queue;
+}
+
+abbrev pub decreases-loop-part : goal.decreases-loop-part
+decreases-loop-part g l = l.total - l.cursor.done

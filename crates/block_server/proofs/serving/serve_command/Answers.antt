@@ -1,0 +1,12 @@
+use Rattle.std.proofs.Common.{◌∙◌}
+use Rattle.block_server.proofs.Advancing.{advances_on}
+use Rattle.block_server.proofs.serving.serve_command.Goals as goal
+
+pub returns-in_err-store-clause-advances : goal.returns-in_err-store-clause-advances
+returns-in_err-store-clause-advances g c = advances_on _ _ _ c.run_step.ensures.advances c.store.ensures.advances
+
+pub returns-clause-advances : goal.returns-clause-advances
+returns-clause-advances g c = advances_on _ _ _ (advances_on _ _ _ c.run_step.ensures.advances c.store.ensures.advances) c.hand_over.ensures.advances
+
+pub returns-clause-queue : goal.returns-clause-queue
+returns-clause-queue g c = c.hand_over.ensures.queue ∙ c.store.ensures.queue ∙ c.run_step.ensures.queue

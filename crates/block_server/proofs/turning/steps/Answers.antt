@@ -1,0 +1,31 @@
+use Rattle.block_server.proofs.Advancing.{advances_on}
+use Rattle.block_server.proofs.Quieting.{on_ok, quiet_on}
+use Rattle.block_server.proofs.turning.steps.Goals as goal
+
+pub returns-in_err-put_kept-clause-advances : goal.returns-in_err-put_kept-clause-advances
+returns-in_err-put_kept-clause-advances g c = advances_on _ _ _ c.open_line.ensures.advances c.put_kept.ensures.advances
+
+pub returns-then-eq-2-clause-advances : goal.returns-then-eq-2-clause-advances
+returns-then-eq-2-clause-advances g c = advances_on _ _ _ c.open_line.ensures.advances c.put_kept.ensures.advances
+
+pub returns-then-eq-2-clause-quiet : goal.returns-then-eq-2-clause-quiet
+returns-then-eq-2-clause-quiet g c = quiet_on _ _ _ _ _ _ c.in_ok-open_line.ensures.quiet c.in_ok-put_kept.ensures.quiet
+
+pub returns-in_err-take_in-clause-advances : goal.returns-in_err-take_in-clause-advances
+returns-in_err-take_in-clause-advances g c = advances_on _ _ _ (advances_on _ _ _ c.open_line.ensures.advances c.put_kept.ensures.advances) c.take_in.ensures.advances
+
+pub returns-then-eq-3-clause-advances : goal.returns-then-eq-3-clause-advances
+returns-then-eq-3-clause-advances g c = advances_on _ _ _ (advances_on _ _ _ c.open_line.ensures.advances c.put_kept.ensures.advances) c.take_in.ensures.advances
+
+pub returns-then-eq-3-clause-quiet : goal.returns-then-eq-3-clause-quiet
+returns-then-eq-3-clause-quiet g c =
+    quiet_on _ _ _ _ _ _ (quiet_on _ _ _ _ _ _ c.in_ok-open_line.ensures.quiet c.in_ok-put_kept.ensures.quiet) c.in_ok-take_in.ensures.quiet
+
+pub returns-clause-advances : goal.returns-clause-advances
+returns-clause-advances g c =
+    advances_on _ _ _ (advances_on _ _ _ (advances_on _ _ _ c.open_line.ensures.advances c.put_kept.ensures.advances) c.take_in.ensures.advances) c.serve.ensures.advances
+
+pub returns-clause-quiet : goal.returns-clause-quiet
+returns-clause-quiet g c =
+    on_ok c.serve.result _ _ (quiet_on _ _ _ _ _ _
+    (quiet_on _ _ _ _ _ _ (quiet_on _ _ _ _ _ _ c.in_ok-open_line.ensures.quiet c.in_ok-put_kept.ensures.quiet) c.in_ok-take_in.ensures.quiet)) c.serve.ensures.quiet

@@ -1,0 +1,60 @@
+-- What a unit's calls leave of its queue and of the two windows: nothing that was known is gone, nothing was put but what a
+-- unit may put, and nothing was copied but by lawful copies.
+use Rattle.std.specs.Prelude.{◌≡◌, ◌≤◌, ◌⊎◌, ◌++◌, ℕ, All, List, Some}
+use Rattle.vio_num.specs.declared.entry.Entry.{Entry}
+use Rattle.vio_num.specs.Entry.{partner_freed}
+use Rattle.crq_ring.specs.declared.rows.PipeRow.{PipeRow}
+use Rattle.crq_session.specs.EndState.{EndState}
+use Rattle.vio_num.specs.Words.{Begins}
+use Rattle.tce_window.specs.PortState.{PortState}
+use Rattle.rdma_copy.specs.Copy.{IsLawful, SideGrows}
+use Rattle.rdma_copy.specs.declared.copy.CopyRecord.{CopyRecord}
+use Rattle.rdma_copy.specs.Copies.{side_of}
+use Rattle.block_server.specs.Entries.{MayPut}
+use Rattle.block_server.specs.SiteState.{SiteState}
+
+-- Entries were put behind those that were, each of which a unit may put.
+pub record PutsMore (old new : List PipeRow) : Type 0 where
+  pub more : List PipeRow
+  pub put : new ≡ old ++ more
+  pub may : All (λ row. MayPut row.entry) more
+
+-- The event that is kept, if one is, says that the unit's queue is free.
+abbrev pub KeepsFreed : EndState → Type 0
+KeepsFreed queue = (event : Entry) → queue.kept ≡ Some event → event ≡ partner_freed
+
+-- The copy bears the unit's name, and is a lawful one from its client's window to its own, or from its own to its client's.
+pub record IsOwnCopy (own client : PortState) (copy : CopyRecord) : Type 0 where
+  pub who : copy.name.who ≡ own.place.unit
+  pub from : ℕ
+  pub to : ℕ
+  pub lawful : IsLawful copy (side_of client) from (side_of own) to ⊎ IsLawful copy (side_of own) from (side_of client) to
+
+-- Copies were made behind those that were, each of which is the unit's own.
+pub record CopiesMore (own client : PortState) (old new : List CopyRecord) : Type 0 where
+  pub more : List CopyRecord
+  pub made : new ≡ old ++ more
+  pub lawful : All (IsOwnCopy own client) more
+
+pub record Advances (old new : SiteState) : Type 0 where
+  pub reached : new.reached ≡ old.reached
+  pub queue_place : new.queue.place ≡ old.queue.place
+  pub own_place : new.own.place ≡ old.own.place
+  pub client_place : new.client.place ≡ old.client.place
+  pub session : old.queue.last_session ≤ new.queue.last_session
+  pub taken : Begins old.queue.taken new.queue.taken
+  pub put : PutsMore old.queue.sent new.queue.sent
+  pub own : SideGrows (side_of old.own) (side_of new.own)
+  pub client : SideGrows (side_of old.client) (side_of new.client)
+  pub copies : CopiesMore new.own new.client old.copies new.copies
+
+-- What a turn leaves of its queue's end, of the unit's own window and of its client's.
+pub record Goes (queue queue' : EndState) (own own' client client' : PortState) : Type 0 where
+  pub queue_place : queue'.place ≡ queue.place
+  pub own_place : own'.place ≡ own.place
+  pub client_place : client'.place ≡ client.place
+  pub session : queue.last_session ≤ queue'.last_session
+  pub taken : Begins queue.taken queue'.taken
+  pub put : PutsMore queue.sent queue'.sent
+  pub own_grows : SideGrows (side_of own) (side_of own')
+  pub client_grows : SideGrows (side_of client) (side_of client')

@@ -1,0 +1,11 @@
+pub mod Advances
+pub mod Copied
+pub mod Ends
+pub mod Entries
+pub mod Kept
+pub mod Records
+pub mod Responses
+pub mod Service
+pub mod SiteState
+pub mod Stage
+pub mod Turns

@@ -1,0 +1,44 @@
+-- What a server unit knows of its queue's end, of its own window and of its client's, and what stays of it; and the copies
+-- that the server made.
+use Rattle.std.specs.Prelude.{◌≡◌, ◌≢◌, ◌*◌, ◌+◌, ◌<◌, ℕ, List, [], ◌∷◌}
+use Rattle.std.specs.Borrow.{GName}
+use Rattle.crq_session.specs.EndState.{EndState}
+use Rattle.tce_window.specs.PortState.{PortState}
+use Rattle.rdma_copy.specs.declared.copy.CopyRecord.{CopyRecord}
+
+-- the borrows through which the queue's end and the two windows are reached, by their ghost names
+pub record Lenders : Type 0 where
+  pub queue : GName
+  pub own : GName
+  pub client : GName
+  pub copies : GName
+
+abbrev pub lenders : GName → GName → GName → GName → Lenders
+lenders queue own client copies = record { queue = queue; own = own; client = client; copies = copies }
+
+pub record SiteState : Type 0 where
+  pub reached : Lenders
+  pub queue : EndState
+  pub own : PortState
+  pub client : PortState
+  -- the copies that the server made, of all its units, in the order of time
+  pub copies : List CopyRecord
+
+abbrev pub site : Lenders → EndState → PortState → PortState → List CopyRecord → SiteState
+site reached queue own client copies = record { reached = reached; queue = queue; own = own; client = client; copies = copies }
+
+-- The windows of a turn: the unit's own has 34 pages and its first values, neither holds anything, and they are of two
+-- units.
+pub record AreReady (own client : PortState) : Type 0 where
+  pub size : own.place.size ≡ 34
+  pub first : (e : ℕ) → e < 34 → own.values e ≡ (4096 * e + 3) ∷ []
+  pub own_free : own.held_count ≡ 0
+  pub client_free : client.held_count ≡ 0
+  pub apart : client.place.unit ≢ own.place.unit
+
+-- Neither window changed, and no copy was made.
+pub record SameWindows (old new : SiteState) : Type 0 where
+  pub reached : new.reached ≡ old.reached
+  pub copies : new.copies ≡ old.copies
+  pub own : new.own ≡ old.own
+  pub client : new.client ≡ old.client

@@ -1,0 +1,329 @@
+// Answering: what is put into the client's queue, and what ends a login.
+ghost use Rattle.std.specs.Prelude.{◌≡◌, ◌+◌, ◌<◌, Some, OnOk, true};
+ghost use Rattle.block_server.specs.Advances.{Advances};
+ghost use Rattle.block_server.specs.Ends.{EndsLogin};
+ghost use Rattle.block_server.specs.Entries.{MayPut, is_answer_len};
+ghost use Rattle.block_server.specs.Turns.{IfQuiet};
+ghost use Rattle.vio_num.specs.Entry.{srp_entry};
+ghost use Rattle.block_server.specs.declared.service.Outcome.{Outcome};
+ghost use Rattle.block_server.specs.Records.{HasLineRoom};
+
+use crate::fetching::Progress;
+use crate::intake::Next;
+use crate::line::Kept;
+use crate::logins::MOST_LOGINS;
+use crate::records::Records;
+use crate::service::{Outcome, Stage};
+use crate::site::{Halt, Site};
+use crate::unit::Unit;
+use crq_session::SendAnswer;
+use vio_num::{Entry, Grant, Lapse, NoMemory};
+
+/// Puts an entry of the initialisation, or the answer to a datagram. It is kept where the client's queue is full,
+/// and discarded where that is closed.
+pub(crate) fn put_reply<S: Site>(unit: &mut Unit, site: &mut S, reply: Entry) -> Next
+    requires room { 0 < (S.state site.old).queue.spare }
+    requires may { MayPut reply }
+    ensures kept { result ≡ Next.End → unit.new.line.kept ≡ Some (Kept.Reply reply) }
+    ensures quiet { IfQuiet unit.old unit.new (S.state site.old).queue (S.state site.new).queue }
+    ensures advances { Advances (S.state site.old) (S.state site.new) }
+{
+    match site.send(reply) {
+        SendAnswer::Dropped { .. } => {
+            unit.line.kept = Some(Kept::Reply(reply));
+            Next::End
+        }
+        SendAnswer::Success { .. } => {
+            unit.moved = true;
+            Next::Entry
+        }
+        _ => Next::Entry,
+    }
+}
+
+/// Ends the session for a cause that counts nothing.
+pub(crate) fn end_session(
+    unit: &mut Unit,
+    session: u64,
+    records: &mut Records,
+    cause: Lapse,
+) -> Next
+    requires { HasLineRoom records.old }
+    ensures ends { EndsLogin unit.old unit.new records.old records.new session cause 0 0 }
+    ensures closing { unit.new.line.closing ≡ true }
+    ensures end { result ≡ Next.End }
+    ensures last { unit.new.logins.last ≡ unit.old.logins.last }
+    ensures stage { unit.new.service.stage ≡ Stage.Start }
+    ensures moved { unit.new.moved ≡ true }
+{
+    end_counted(unit, session, records, cause, 0, 0)
+}
+
+/// Ends the session: what is pending and kept is dropped, and the queue is freed in the next turn.
+pub(crate) fn end_counted(
+    unit: &mut Unit,
+    session: u64,
+    records: &mut Records,
+    cause: Lapse,
+    outstanding: u32,
+    granted: u32,
+) -> Next
+    requires { HasLineRoom records.old }
+    ensures ends { EndsLogin unit.old unit.new records.old records.new
+        session cause outstanding granted }
+    ensures closing { unit.new.line.closing ≡ true }
+    ensures end { result ≡ Next.End }
+    ensures last { unit.new.logins.last ≡ unit.old.logins.last }
+    ensures stage { unit.new.service.stage ≡ Stage.Start }
+    ensures moved { unit.new.moved ≡ true }
+{
+    end_login(unit, session, records, cause, outstanding, granted);
+    unit.line.closing = true;
+    unit.moved = true;
+    Next::End
+}
+
+/// An event says that the partner is gone: what is pending is dropped.
+pub(crate) fn lose_partner(unit: &mut Unit, session: u64, records: &mut Records)
+    requires { HasLineRoom records.old }
+    ensures ends { EndsLogin unit.old unit.new records.old records.new session Lapse.Lost 0 0 }
+    ensures moved { unit.new.moved ≡ unit.old.moved }
+{
+    end_login(unit, session, records, Lapse::Lost, 0, 0);
+}
+
+// Ends the login that is on, if there is one, and drops what is pending and kept.
+fn end_login(
+    unit: &mut Unit,
+    session: u64,
+    records: &mut Records,
+    cause: Lapse,
+    outstanding: u32,
+    granted: u32,
+)
+    requires { HasLineRoom records.old }
+    ensures ends { EndsLogin unit.old unit.new records.old records.new
+        session cause outstanding granted }
+    ensures last { unit.new.logins.last ≡ unit.old.logins.last }
+    ensures stage { unit.new.service.stage ≡ Stage.Start }
+    ensures moved { unit.new.moved ≡ unit.old.moved }
+{
+    leave_row(unit, records);
+    unit.pending.clear();
+    unit.waiting = None;
+    unit.line.kept = None;
+    let login = unit.logins.end();
+    records.grants.push_reserved(Grant::Lapsed {
+        unit: unit.id,
+        session,
+        login,
+        cause,
+        outstanding,
+        granted,
+    });
+}
+
+// Leaves the row in service, if there is one, with the data-in that were copied so far and without an answer.
+fn leave_row(unit: &mut Unit, records: &mut Records)
+    ensures grants { records.new.grants ≡ records.old.grants }
+    ensures logins { unit.new.logins ≡ unit.old.logins }
+    ensures id { unit.new.id ≡ unit.old.id }
+    ensures stage { unit.new.service.stage ≡ Stage.Start }
+    ensures moved { unit.new.moved ≡ unit.old.moved }
+{
+    if let Stage::DataIn { row, cursor, .. } = unit.service.stage {
+        let inn = unit.service.take_given(cursor.done());
+        records.fill(row, inn);
+    }
+    unit.service.reset();
+}
+
+/// Serves an I_LOGOUT: the login ends.
+pub(crate) fn log_out(unit: &mut Unit, session: u64, records: &mut Records)
+    requires { HasLineRoom records.old }
+    ensures { unit.new.moved ≡ true }
+{
+    let login = unit.logins.end();
+    records.grants.push_reserved(Grant::Lapsed {
+        unit: unit.id,
+        session,
+        login,
+        cause: Lapse::Logout,
+        outstanding: 0,
+        granted: 0,
+    });
+    finish(unit);
+}
+
+/// Copies the answer over the request, and puts its entry. Where the client's window refuses the copy, the session
+/// ends.
+pub(crate) fn answer<S: Site>(
+    unit: &mut Unit,
+    site: &mut S,
+    records: &mut Records,
+) -> Result<(), NoMemory>
+    ensures quiet { OnOk result (IfQuiet unit.old unit.new
+        (S.state site.old).queue (S.state site.new).queue) }
+    ensures advances { Advances (S.state site.old) (S.state site.new) }
+{
+    records.make_room()?;
+    unit.logins.make_room()?;
+    site.reserve(1)?;
+    copy_answer(unit, site, records)?;
+    if let Stage::Entry(outcome) = unit.service.stage {
+        put_answer(unit, site, records, outcome);
+    }
+    Ok(())
+}
+
+// Copies the answer over the request, if that is to be done.
+fn copy_answer<S: Site>(
+    unit: &mut Unit,
+    site: &mut S,
+    records: &mut Records,
+) -> Result<(), NoMemory>
+    requires line { HasLineRoom records.old }
+    ensures queue { (S.state site.new).queue ≡ (S.state site.old).queue }
+    ensures quiet { IfQuiet unit.old unit.new (S.state site.old).queue (S.state site.new).queue }
+    ensures advances { Advances (S.state site.old) (S.state site.new) }
+    ensures last { unit.new.logins.last ≡ unit.old.logins.last }
+    ensures line { (outcome : Outcome) → unit.new.service.stage ≡ Stage.Entry outcome →
+        HasLineRoom records.new }
+{
+    let Stage::Answer(outcome) = unit.service.stage else {
+        return Ok(());
+    };
+    match deliver(unit, site, outcome)? {
+        Progress::Done => {}
+        Progress::Refused => {
+            end_session(unit, site.session(), records, Lapse::Refused);
+        }
+        Progress::Busy => {}
+    }
+    Ok(())
+}
+
+// Copies the answer over the request.
+fn deliver<S: Site>(unit: &mut Unit, site: &mut S, outcome: Outcome) -> Result<Progress, NoMemory>
+    requires stage { unit.old.service.stage ≡ Stage.Answer outcome }
+    ensures queue { (S.state site.new).queue ≡ (S.state site.old).queue }
+    ensures quiet { IfQuiet unit.old unit.new (S.state site.old).queue (S.state site.new).queue }
+    ensures advances { Advances (S.state site.old) (S.state site.new) }
+    ensures logins { unit.new.logins ≡ unit.old.logins }
+{
+    let Some(request) = unit.pending.front() else {
+        return Ok(Progress::Busy);
+    };
+    match site.deliver_unit(request.address, &unit.service.answer, request.tag) {
+        Ok(()) => {
+            unit.service.stage = Stage::Entry(outcome);
+            unit.moved = true;
+            Ok(Progress::Done)
+        }
+        Err(Halt::Refused) => Ok(Progress::Refused),
+        Err(Halt::Busy) => Ok(Progress::Busy),
+        Err(Halt::NoMemory) => Err(NoMemory),
+    }
+}
+
+// Puts the entry of the answer. It is kept where the client's queue is full, and discarded where that is closed.
+fn put_answer<S: Site>(unit: &mut Unit, site: &mut S, records: &mut Records, outcome: Outcome)
+    requires room { HasLineRoom records.old }
+    requires spare { 0 < (S.state site.old).queue.spare }
+    requires logins { unit.old.logins.last + 1 < MOST_LOGINS }
+    requires stage { unit.old.service.stage ≡ Stage.Entry outcome }
+    ensures quiet { IfQuiet unit.old unit.new (S.state site.old).queue (S.state site.new).queue }
+    ensures advances { Advances (S.state site.old) (S.state site.new) }
+{
+    let Some(request) = unit.pending.front() else {
+        return;
+    };
+    let entry = answer_entry(unit.service.answer.len() as u16, request.tag);
+    match site.send(entry) {
+        SendAnswer::Success { .. } => settle(unit, site.session(), records, outcome),
+        SendAnswer::Dropped { .. } => unit.line.kept = Some(Kept::Answer { entry, outcome }),
+        _ => finish(unit),
+    }
+}
+
+// Gives the entry of an answer of so many bytes.
+fn answer_entry(len: u16, tag: u64) -> Entry
+    requires { is_answer_len len ≡ true }
+    ensures entry { result ≡ srp_entry len tag }
+    ensures may { MayPut result }
+{
+    Entry::srp(len, tag)
+}
+
+/// Puts the entry that was kept.
+pub(crate) fn put_kept<S: Site>(
+    unit: &mut Unit,
+    site: &mut S,
+    records: &mut Records,
+) -> Result<Next, NoMemory>
+    ensures quiet { OnOk result (IfQuiet unit.old unit.new
+        (S.state site.old).queue (S.state site.new).queue) }
+    ensures advances { Advances (S.state site.old) (S.state site.new) }
+{
+    let Some(kept) = unit.line.kept else {
+        return Ok(Next::Entry);
+    };
+    records.make_room()?;
+    unit.logins.make_room()?;
+    site.reserve(1)?;
+    match site.send(kept.entry()) {
+        SendAnswer::Dropped { .. } => Ok(Next::End),
+        SendAnswer::Success { .. } => {
+            unit.moved = true;
+            unit.line.kept = None;
+            if let Kept::Answer { outcome, .. } = kept {
+                settle(unit, site.session(), records, outcome);
+            }
+            Ok(Next::Entry)
+        }
+        _ => {
+            unit.line.kept = None;
+            if let Kept::Answer { .. } = kept {
+                finish(unit);
+            }
+            Ok(Next::Entry)
+        }
+    }
+}
+
+// Does what an answer does whose entry was put: a login begins, or the request's row has its answer.
+fn settle(unit: &mut Unit, session: u64, records: &mut Records, outcome: Outcome)
+    requires room { HasLineRoom records.old }
+    requires logins { unit.old.logins.last + 1 < MOST_LOGINS }
+    ensures { unit.new.moved ≡ true }
+{
+    match outcome {
+        Outcome::Granted { number } => {
+            let credits = unit.logins.credits();
+            let login = unit.logins.begin();
+            records.grants.push_reserved(Grant::Granted {
+                unit: unit.id,
+                session,
+                login,
+                number,
+                credits,
+            });
+        }
+        Outcome::Rejected => {}
+        Outcome::Served { row } => {
+            unit.logins.answer();
+            let answer = unit.service.take_answer();
+            records.answer(row, answer);
+        }
+    }
+    finish(unit);
+}
+
+// Ends the service of the oldest request.
+fn finish(unit: &mut Unit)
+    ensures { unit.new.moved ≡ true }
+{
+    let _served = unit.pending.pop_front();
+    unit.service.reset();
+    unit.moved = true;
+}

@@ -1,0 +1,177 @@
+// What a command brings: the tables of its descriptors, and its data-out.
+ghost use Rattle.std.specs.Prelude.{◌≡◌, ◌%◌, ◌≤◌};
+ghost use Rattle.block_server.specs.Advances.{Advances};
+
+use crate::answers::total_len;
+use crate::cursor::Cursor;
+use crate::data_pieces::DataPieces;
+use crate::service::{Service, Stage};
+use crate::site::{Halt, Site};
+use srp_desc::{
+    MAX_TABLE_LEN, Pieces, named_pieces_sum_up, pieces_of, read_table, tables_to_fetch,
+};
+use srp_iu::{Buffer, Cmd, Desc};
+use vio_num::NoMemory;
+
+/// How far some copies came.
+#[derive(Clone, Copy, Debug, PartialEq, Eq)]
+pub(crate) enum Progress {
+    /// All were made.
+    Done,
+    /// The descriptors, or the client's window, refuse one.
+    Refused,
+    /// A page is in use: the rest is tried again.
+    Busy,
+}
+
+/// Fetches what is left to be fetched before the disk step.
+pub(crate) fn fetch<S: Site>(
+    service: &mut Service,
+    site: &mut S,
+    command: &Cmd,
+) -> Result<Progress, NoMemory>
+    ensures queue { (S.state site.new).queue ≡ (S.state site.old).queue }
+    ensures advances { Advances (S.state site.old) (S.state site.new) }
+{
+    if service.stage == Stage::Start {
+        if tables_to_fetch(command).is_err() {
+            return Ok(Progress::Refused);
+        }
+        service.stage = Stage::OutTable;
+    }
+    let progress = fetch_out_pieces(service, site, command)?;
+    if progress != Progress::Done {
+        return Ok(progress);
+    }
+    let progress = fetch_in_pieces(service, site, command)?;
+    if progress != Progress::Done {
+        return Ok(progress);
+    }
+    fetch_data_out(service, site)
+}
+
+// Finds the pieces of data-out, if that is to be done.
+fn fetch_out_pieces<S: Site>(
+    service: &mut Service,
+    site: &mut S,
+    command: &Cmd,
+) -> Result<Progress, NoMemory>
+    ensures queue { (S.state site.new).queue ≡ (S.state site.old).queue }
+    ensures advances { Advances (S.state site.old) (S.state site.new) }
+{
+    if service.stage != Stage::OutTable {
+        return Ok(Progress::Done);
+    }
+    let progress = fetch_pieces(&mut service.out, site, &command.out)?;
+    if progress == Progress::Done {
+        service.stage = Stage::InTable;
+    }
+    Ok(progress)
+}
+
+// Finds the pieces of data-in, if that is to be done.
+fn fetch_in_pieces<S: Site>(
+    service: &mut Service,
+    site: &mut S,
+    command: &Cmd,
+) -> Result<Progress, NoMemory>
+    ensures queue { (S.state site.new).queue ≡ (S.state site.old).queue }
+    ensures advances { Advances (S.state site.old) (S.state site.new) }
+{
+    if service.stage != Stage::InTable {
+        return Ok(Progress::Done);
+    }
+    let progress = fetch_pieces(&mut service.inn, site, &command.inn)?;
+    if progress == Progress::Done {
+        service.stage = Stage::DataOut(Cursor::start());
+    }
+    Ok(progress)
+}
+
+// Fetches data-out, if that is to be done.
+fn fetch_data_out<S: Site>(service: &mut Service, site: &mut S) -> Result<Progress, NoMemory>
+    ensures queue { (S.state site.new).queue ≡ (S.state site.old).queue }
+    ensures advances { Advances (S.state site.old) (S.state site.new) }
+{
+    match service.stage {
+        Stage::DataOut(cursor) => fetch_data(service, site, cursor),
+        _ => Ok(Progress::Done),
+    }
+}
+
+// Finds the pieces of a buffer, and fetches its table where they stand there.
+fn fetch_pieces<S: Site>(
+    pieces: &mut DataPieces,
+    site: &mut S,
+    buffer: &Buffer,
+) -> Result<Progress, NoMemory>
+    ensures queue { (S.state site.new).queue ≡ (S.state site.old).queue }
+    ensures advances { Advances (S.state site.old) (S.state site.new) }
+{
+    match pieces_of(buffer) {
+        Ok(Pieces::Whole(list)) => {
+            named_pieces_sum_up();
+            *pieces = DataPieces::new(list, total_len(buffer));
+            Ok(Progress::Done)
+        }
+        Ok(Pieces::Fetch { table, total }) => fetch_table(pieces, site, table, total),
+        Err(_) => Ok(Progress::Refused),
+    }
+}
+
+// Fetches a table, and reads the pieces that it names, which are so many bytes in all.
+fn fetch_table<S: Site>(
+    pieces: &mut DataPieces,
+    site: &mut S,
+    table: Desc,
+    total: u32,
+) -> Result<Progress, NoMemory>
+    requires some { 16 ≤ table.len }
+    requires few { table.len ≤ MAX_TABLE_LEN }
+    requires evenly { table.len % 16 ≡ 0 }
+    requires small { total ≤ 131072 }
+    ensures queue { (S.state site.new).queue ≡ (S.state site.old).queue }
+    ensures advances { Advances (S.state site.old) (S.state site.new) }
+{
+    let mut buffer = [0; MAX_TABLE_LEN];
+    let bytes = &mut buffer[..table.len as usize];
+    match site.fetch_table(table.address, bytes) {
+        Ok(()) => {}
+        Err(Halt::Refused) => return Ok(Progress::Refused),
+        Err(Halt::Busy) => return Ok(Progress::Busy),
+        Err(Halt::NoMemory) => return Err(NoMemory),
+    }
+    match read_table(bytes, total) {
+        Ok(list) => {
+            *pieces = DataPieces::new(list, total);
+            Ok(Progress::Done)
+        }
+        Err(_) => Ok(Progress::Refused),
+    }
+}
+
+// Fetches the data-out that are left from a place on.
+fn fetch_data<S: Site>(
+    service: &mut Service,
+    site: &mut S,
+    start: Cursor,
+) -> Result<Progress, NoMemory>
+    ensures queue { (S.state site.new).queue ≡ (S.state site.old).queue }
+    ensures advances { Advances (S.state site.old) (S.state site.new) }
+{
+    let mut cursor = start;
+    while let Some(part) = cursor.next(service.out.as_slice(), service.out.total()) {
+        let Some(address) = part.address else {
+            return Ok(Progress::Refused);
+        };
+        match site.fetch_data(part.at, address, part.len) {
+            Ok(()) => {}
+            Err(Halt::Refused) => return Ok(Progress::Refused),
+            Err(Halt::Busy) => return Ok(Progress::Busy),
+            Err(Halt::NoMemory) => return Err(NoMemory),
+        }
+        cursor = part.end;
+        service.stage = Stage::DataOut(cursor);
+    }
+    Ok(Progress::Done)
+}

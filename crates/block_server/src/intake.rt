@@ -1,0 +1,325 @@
+// Intake: entries are taken from the unit's queue, and the requests among them are fetched and judged.
+ghost use Rattle.std.specs.Prelude.{◌≡◌, ◌+◌, ◌<◌, ◌≤◌, OnOk, length};
+ghost use Rattle.std.specs.VecDeque.{deque_len, deque_capacity};
+ghost use Rattle.block_server.specs.Records.{HasLineRoom};
+ghost use Rattle.block_server.specs.Advances.{Advances};
+ghost use Rattle.block_server.specs.Turns.{IfQuiet, StaysMoved, under_way};
+
+use crate::answering::{end_counted, end_session, lose_partner, put_reply};
+use crate::answers::datagram_answer;
+use crate::line::reply_of;
+use crate::logins::Logins;
+use crate::records::Records;
+use crate::request::{Arrival, Order, Request};
+use crate::site::{Halt, Site};
+use crate::unit::Unit;
+use arrayvec::ArrayVec;
+use crq_session::PollAnswer;
+use srp_credits::CreditFault;
+use srp_iu::{Iu, read_iu, tag_of};
+use vio_num::{Kind, Lapse, NoMemory};
+
+/// As many requests as a unit has pending.
+const MOST_PENDING: usize = 256;
+/// The bytes of the longest information unit.
+const MOST_BYTES: usize = 256;
+
+/// The types of the units that are answered under a login also where they cannot be read.
+const TSK_MGMT: u8 = 0x01;
+
+const CMD: u8 = 0x02;
+
+/// The formats of entries of commands: SRP, and management datagrams.
+const SRP: u8 = 0x01;
+
+const DATAGRAM: u8 = 0x02;
+
+/// What comes after an entry.
+#[derive(Clone, Copy, Debug, PartialEq, Eq)]
+pub(crate) enum Next {
+    /// The next entry.
+    Entry,
+    /// The service of the oldest request.
+    Service,
+    /// The end of the turn.
+    End,
+}
+
+/// What becomes of an information unit that was fetched.
+enum Verdict {
+    /// It is a request, accepted under this login; 0 for a login request.
+    Accepted {
+        login: u64,
+        tag: u64,
+        order: Order,
+    },
+    /// It is no request.
+    Ignored,
+    /// It ends the session: for this cause, with so many requests outstanding of those granted.
+    Fatal {
+        cause: Lapse,
+        outstanding: u32,
+        granted: u32,
+    },
+}
+
+/// Takes entries until there is none, as many as there are slots were taken, 256 requests are pending, or an
+/// information unit's page is in use.
+pub(crate) fn take_in<S: Site>(
+    unit: &mut Unit,
+    site: &mut S,
+    records: &mut Records,
+) -> Result<Next, NoMemory>
+    ensures quiet { OnOk result (IfQuiet unit.old unit.new
+        (S.state site.old).queue (S.state site.new).queue) }
+    ensures advances { Advances (S.state site.old) (S.state site.new) }
+{
+    let next = receive_waiting(unit, site, records)?;
+    if next != Next::Entry {
+        return Ok(next);
+    }
+    let slots = site.slots();
+    let mut taken = 0;
+    while taken < slots && unit.pending.len() < MOST_PENDING {
+        taken += 1;
+        make_room(unit, records)?;
+        let next = take_one(unit, site, records)?;
+        if next != Next::Entry {
+            return Ok(next);
+        }
+    }
+    Ok(Next::Service)
+}
+
+// Fetches the information unit of the entry that waits, if one does.
+fn receive_waiting<S: Site>(
+    unit: &mut Unit,
+    site: &mut S,
+    records: &mut Records,
+) -> Result<Next, NoMemory>
+    ensures quiet { OnOk result (IfQuiet unit.old unit.new
+        (S.state site.old).queue (S.state site.new).queue) }
+    ensures advances { Advances (S.state site.old) (S.state site.new) }
+{
+    let Some(arrival) = unit.waiting else {
+        return Ok(Next::Entry);
+    };
+    make_room(unit, records)?;
+    receive(unit, site, records, arrival)
+}
+
+// Makes room for what one entry may come to.
+fn make_room(unit: &mut Unit, records: &mut Records) -> Result<(), NoMemory>
+    ensures lines { OnOk result (HasLineRoom records.new) }
+    ensures pending { OnOk result (deque_len unit.new.pending < deque_capacity unit.new.pending) }
+    ensures way { under_way unit.new ≡ under_way unit.old }
+    ensures moved { unit.new.moved ≡ unit.old.moved }
+{
+    unit.pending.reserve(1)?;
+    records.make_room()
+}
+
+// Takes the next entry, if there is one.
+fn take_one<S: Site>(unit: &mut Unit, site: &mut S, records: &mut Records) -> Result<Next, NoMemory>
+    requires lines { HasLineRoom records.old }
+    requires pending { deque_len unit.old.pending < deque_capacity unit.old.pending }
+    ensures quiet { OnOk result (IfQuiet unit.old unit.new
+        (S.state site.old).queue (S.state site.new).queue) }
+    ensures advances { Advances (S.state site.old) (S.state site.new) }
+{
+    site.reserve(2)?;
+    let PollAnswer::Got { number, entry } = site.poll() else {
+        return Ok(Next::Service);
+    };
+    unit.moved = true;
+    match entry.kind() {
+        Kind::Command => take_command(unit, site, records, Arrival { number, entry }),
+        Kind::Init => {
+            let step = unit.line.handshake.got(entry);
+            Ok(match reply_of(step) {
+                Some(reply) => put_reply(unit, site, reply),
+                None => Next::Entry,
+            })
+        }
+        Kind::Event => {
+            let _step = unit.line.handshake.got(entry);
+            lose_partner(unit, site.session(), records);
+            Ok(Next::Entry)
+        }
+        Kind::Unused => Ok(Next::Entry),
+        Kind::Reserved => Ok(Next::Entry),
+    }
+}
+
+// Receives an SRP entry, and answers a management datagram.
+fn take_command<S: Site>(
+    unit: &mut Unit,
+    site: &mut S,
+    records: &mut Records,
+    arrival: Arrival,
+) -> Result<Next, NoMemory>
+    requires lines { HasLineRoom records.old }
+    requires pending { deque_len unit.old.pending < deque_capacity unit.old.pending }
+    requires spare { 0 < (S.state site.old).queue.spare }
+    ensures moved { OnOk result (StaysMoved unit.old unit.new) }
+    ensures advances { Advances (S.state site.old) (S.state site.new) }
+{
+    match arrival.entry.format() {
+        SRP => {
+            unit.waiting = Some(arrival);
+            receive(unit, site, records, arrival)
+        }
+        DATAGRAM => Ok(put_reply(unit, site, datagram_answer(arrival.entry.iu_address()))),
+        _ => Ok(Next::Entry),
+    }
+}
+
+// Fetches the information unit of the entry that waits, and judges it.
+fn receive<S: Site>(
+    unit: &mut Unit,
+    site: &mut S,
+    records: &mut Records,
+    arrival: Arrival,
+) -> Result<Next, NoMemory>
+    requires lines { HasLineRoom records.old }
+    requires pending { deque_len unit.old.pending < deque_capacity unit.old.pending }
+    ensures quiet { OnOk result (IfQuiet unit.old unit.new
+        (S.state site.old).queue (S.state site.new).queue) }
+    ensures advances { Advances (S.state site.old) (S.state site.new) }
+{
+    let session = site.session();
+    if !unit.line.is_up() {
+        return Ok(end_session(unit, session, records, Lapse::Early));
+    }
+    let len = usize::from(arrival.entry.iu_len());
+    if len == 0 || len > MOST_BYTES {
+        return Ok(end_session(unit, session, records, Lapse::BadIu));
+    }
+    let mut buffer = [0; MOST_BYTES];
+    let bytes = &mut buffer[..len];
+    match site.fetch_unit(arrival.entry.iu_address(), bytes) {
+        Ok(()) => {
+            unit.waiting = None;
+            unit.moved = true;
+            Ok(judge(unit, session, records, arrival, bytes))
+        }
+        Err(Halt::Refused) => Ok(end_session(unit, session, records, Lapse::Refused)),
+        Err(Halt::Busy) => Ok(Next::Service),
+        Err(Halt::NoMemory) => Err(NoMemory),
+    }
+}
+
+// Accepts the information unit that was fetched, ignores it, or ends the session.
+fn judge(
+    unit: &mut Unit,
+    session: u64,
+    records: &mut Records,
+    arrival: Arrival,
+    bytes: &[u8],
+) -> Next
+    requires lines { HasLineRoom records.old }
+    requires pending { deque_len unit.old.pending < deque_capacity unit.old.pending }
+    requires few { length bytes.now ≤ 256 }
+    ensures { StaysMoved unit.old unit.new }
+{
+    match judge_unit(&mut unit.logins, bytes) {
+        Verdict::Ignored => Next::Entry,
+        Verdict::Accepted { login, tag, order } => {
+            let request = Request {
+                number: arrival.number,
+                address: arrival.entry.iu_address(),
+                login,
+                tag,
+                unit: kept(bytes),
+                order,
+            };
+            match unit.pending.push_back(request) {
+                Ok(()) => Next::Entry,
+                Err(_) => unreachable!(),
+            }
+        }
+        Verdict::Fatal {
+            cause,
+            outstanding,
+            granted,
+        } => end_counted(unit, session, records, cause, outstanding, granted),
+    }
+}
+
+// Says what becomes of an information unit.
+fn judge_unit(logins: &mut Logins, bytes: &[u8]) -> Verdict {
+    match read_iu(bytes) {
+        Ok(Iu::LoginReq(login)) => Verdict::Accepted {
+            login: 0,
+            tag: login.tag,
+            order: Order::Login(login),
+        },
+        Ok(Iu::ILogout { tag }) => match logins.taking() {
+            Some(login) => {
+                logins.close();
+                Verdict::Accepted {
+                    login,
+                    tag,
+                    order: Order::Logout,
+                }
+            }
+            None => fatal(Lapse::NotLogin),
+        },
+        Ok(Iu::TskMgmt(task)) => accept(logins, task.tag, Order::Task(task)),
+        Ok(Iu::Cmd(command)) => accept(logins, command.tag, Order::Command(command)),
+        Ok(_) => Verdict::Ignored,
+        Err(_) => unreadable(logins, bytes),
+    }
+}
+
+// A cause that counts nothing.
+fn fatal(cause: Lapse) -> Verdict {
+    Verdict::Fatal {
+        cause,
+        outstanding: 0,
+        granted: 0,
+    }
+}
+
+// Accepts a command or a task under the login that is on.
+fn accept(logins: &mut Logins, tag: u64, order: Order) -> Verdict {
+    let Some(login) = logins.taking() else {
+        return fatal(Lapse::NotLogin);
+    };
+    match logins.accept() {
+        Ok(()) => Verdict::Accepted { login, tag, order },
+        Err(
+            CreditFault::OverLimit {
+                outstanding,
+                granted,
+            },
+        ) => Verdict::Fatal {
+            cause: Lapse::OverLimit,
+            outstanding,
+            granted,
+        },
+        Err(_) => fatal(Lapse::NotLogin),
+    }
+}
+
+// Judges bytes that are no information unit: under a login a command or a task that has a tag is accepted.
+fn unreadable(logins: &mut Logins, bytes: &[u8]) -> Verdict {
+    let Some(tag) = tag_of(bytes) else {
+        return fatal(Lapse::BadIu);
+    };
+    if logins.taking().is_none() || (bytes[0] != TSK_MGMT && bytes[0] != CMD) {
+        return fatal(Lapse::BadIu);
+    }
+    accept(logins, tag, Order::Unreadable)
+}
+
+// Keeps the bytes in an array of their own.
+fn kept(bytes: &[u8]) -> ArrayVec<u8, 256>
+    requires { length bytes.now ≤ 256 }
+    ensures { result.items ≡ bytes.now }
+{
+    match ArrayVec::try_from(bytes) {
+        Ok(list) => list,
+        Err(_) => unreachable!(),
+    }
+}

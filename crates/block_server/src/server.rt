@@ -1,0 +1,168 @@
+// A server: its units, the disk that they serve, and what they keep for good.
+ghost use Rattle.std.specs.Prelude.{◌≡◌, ◌<◌, ◌≤◌, [], false, IfErr, IfOk, vec_len};
+ghost use Rattle.block_server.specs.Advances.{CopiesMore, Goes, KeepsFreed};
+ghost use Rattle.block_server.specs.Turns.{IsStill, way_of};
+ghost use Rattle.block_server.specs.SiteState.{AreReady};
+
+use crate::disk::Disk;
+use crate::ports::Ports;
+use crate::records::Records;
+use crate::turning::turn;
+use crate::unit::Unit;
+use crq_session::CrqEnd;
+use rdma_copy::CopyRecord;
+use std::alloc::Global;
+use tce_window::{GuestPort, OwnerPort};
+use vio_io::Blocks;
+use vio_num::{Grant, Moved, NoMemory, Served, UnitId};
+
+/// A server of virtual SCSI: the server units of a partition, which serve one image.
+#[derive(Drop)]
+pub struct Server<B: Blocks> {
+    alloc: Global,
+    partition: u8,
+    disk: Disk<B>,
+    units: Vec<Unit>,
+    records: Records,
+    copies: Vec<CopyRecord>,
+}
+
+/// What a server leaves.
+#[derive(Drop)]
+pub struct Finished<B> {
+    pub image: B,
+    /// The requests that were served, in the order of their disk steps.
+    pub history: Vec<Served>,
+    /// The logins that were granted and those that ended, in the order of time.
+    pub grants: Vec<Grant>,
+    /// The copies that were made, in the order of time.
+    pub copies: Vec<CopyRecord>,
+}
+
+impl<B: Blocks> Server<B> {
+    /// A server of this partition with so many units, from 0, at most 8. Its image has `count` blocks, and each
+    /// login grants 1 to 200 requests. Want of memory hands the image back.
+    pub fn open(
+        alloc: Global,
+        partition: u8,
+        image: B,
+        count: u64,
+        grant: u8,
+        units: u8,
+    ) -> Result<Server<B>, B>
+        requires count { count ≡ (B.state image).size }
+        requires some { 1 ≤ grant }
+        requires few { grant ≤ 200 }
+        requires units { units ≤ 8 }
+        ensures err { IfErr result (λ back. back ≡ image) }
+        ensures image { IfOk result (λ server. server.disk.image ≡ image) }
+        ensures units { IfOk result (λ server. vec_len server.units ≡ units) }
+        ensures partition { IfOk result (λ server. server.partition ≡ partition) }
+        ensures history { IfOk result (λ server. server.records.history.items ≡ []) }
+        ensures lines { IfOk result (λ server. server.records.grants.items ≡ []) }
+        ensures copies { IfOk result (λ server. server.copies.items ≡ []) }
+    {
+        let Ok(units) = make_units(alloc, partition, grant, units) else {
+            return Err(image);
+        };
+        Ok(Server {
+            alloc,
+            partition,
+            disk: Disk::open(alloc, image, count)?,
+            units,
+            records: Records::new(alloc),
+            copies: Vec::new(alloc),
+        })
+    }
+
+    /// One turn of a unit over its queue's end, its own window of 34 pages and its client's.
+    pub fn turn<C: CrqEnd, O: OwnerPort + GuestPort, R: GuestPort>(
+        &mut self,
+        unit: u8,
+        crq: &mut C,
+        own: &mut O,
+        client: &mut R,
+    ) -> Result<Moved, NoMemory>
+        requires unit { unit < vec_len self.old.units }
+        requires alone { O.is_shared ≡ false }
+        requires ready { AreReady (O.state own.old) (R.state client.old) }
+        requires event { KeepsFreed (C.state crq.old) }
+        requires named { (O.state own.old).place.unit ≡
+            record { partition = self.old.partition; unit = unit } }
+        ensures goes { Goes (C.state crq.old) (C.state crq.new) (O.state own.old)
+            (O.state own.new) (R.state client.old) (R.state client.new) }
+        ensures copies { CopiesMore (O.state own.new) (R.state client.new)
+            self.old.copies.items self.new.copies.items }
+        ensures quiet { IfOk result (λ moved. moved ≡ Moved.Quiet →
+            IsStill (C.state crq.old) (C.state crq.new)) }
+        ensures way { IfOk result (λ moved. moved ≡ Moved.Quiet →
+            way_of self.new.units.items unit ≡ way_of self.old.units.items unit) }
+        ensures ready { AreReady (O.state own.new) (R.state client.new) }
+        ensures event { KeepsFreed (C.state crq.new) }
+        ensures units { vec_len self.new.units ≡ vec_len self.old.units }
+        ensures partition { self.new.partition ≡ self.old.partition }
+    {
+        let id = UnitId {
+            partition: self.partition,
+            unit,
+        };
+        let mut ports = Ports {
+            alloc: self.alloc,
+            unit: id,
+            queue: crq,
+            own,
+            client,
+            copies: &mut self.copies,
+        };
+        turn(
+            &mut self.units[unit as usize],
+            &mut ports,
+            &mut self.records,
+            &mut self.disk,
+        )
+    }
+
+    /// The requests that were served, in the order of their disk steps.
+    pub fn history(&self) -> &[Served]
+        ensures { result.now ≡ self.now.records.history.items }
+    {
+        &self.records.history
+    }
+
+    /// The image, and what the server kept.
+    pub fn finish(self) -> Finished<B>
+        ensures image { result.image ≡ self.disk.image }
+        ensures history { result.history ≡ self.records.history }
+        ensures grants { result.grants ≡ self.records.grants }
+        ensures copies { result.copies ≡ self.copies }
+    {
+        let Server {
+            alloc: _,
+            partition: _,
+            disk,
+            units: _,
+            records,
+            copies,
+        } = self;
+        let (history, grants) = records.into_lists();
+        Finished {
+            image: disk.into_image(),
+            history,
+            grants,
+            copies,
+        }
+    }
+}
+
+// Makes the units of a partition.
+fn make_units(alloc: Global, partition: u8, grant: u8, count: u8) -> Result<Vec<Unit>, NoMemory>
+    requires some { 1 ≤ grant }
+    requires few { grant ≤ 200 }
+    ensures { IfOk result (λ units. vec_len units ≡ count) }
+{
+    let mut units = Vec::new(alloc);
+    for unit in 0..count {
+        units.push(Unit::new(alloc, UnitId { partition, unit }, grant))?;
+    }
+    Ok(units)
+}

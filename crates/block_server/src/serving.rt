@@ -1,0 +1,326 @@
+// The service of the oldest request: what it asks is done, and then it is answered.
+ghost use Rattle.std.specs.Prelude.{◌≡◌, ◌<◌, Some, None, OnOk, false, true, length};
+ghost use Rattle.block_server.specs.Advances.{Advances};
+ghost use Rattle.block_server.specs.Ends.{IsGrantable};
+ghost use Rattle.block_server.specs.Records.{AddsRow};
+ghost use Rattle.block_server.specs.Stage.{how_far, is_answered};
+ghost use Rattle.block_server.specs.Turns.{IfQuiet, under_way};
+
+use crate::answering::{answer, log_out};
+use crate::answers::{login_granted, login_rejected, task_code, with_code, with_status};
+use crate::cursor::Cursor;
+use crate::disk::Disk;
+use crate::fetching::{Progress, fetch};
+use crate::logins::Logins;
+use crate::records::Records;
+use crate::request::{Order, Request};
+use crate::service::{Outcome, Service, Stage};
+use crate::site::{Halt, Site};
+use crate::unit::Unit;
+use block_disk::ScsiReply;
+use srp_iu::{Cmd, LoginReq, ResponseCode, UNABLE_TO_ESTABLISH_CHANNEL, login_fault};
+use vio_io::Blocks;
+use vio_num::{Bytes, NoMemory, UnitId};
+
+/// Serves the oldest request as far as it goes.
+pub(crate) fn serve<S: Site, B: Blocks>(
+    unit: &mut Unit,
+    site: &mut S,
+    records: &mut Records,
+    disk: &mut Disk<B>,
+) -> Result<(), NoMemory>
+    ensures quiet { OnOk result (IfQuiet unit.old unit.new
+        (S.state site.old).queue (S.state site.new).queue) }
+    ensures advances { Advances (S.state site.old) (S.state site.new) }
+{
+    let Some(request) = unit.pending.front() else {
+        return Ok(());
+    };
+    if let Order::Logout = request.order {
+        records.make_room()?;
+        log_out(unit, site.session(), records);
+        return Ok(());
+    }
+    let before = unit.service.stage.how_far();
+    prepare(
+        &mut unit.service,
+        &unit.logins,
+        unit.id,
+        request,
+        site,
+        records,
+        disk,
+    )?;
+    note_stage(unit, before);
+    answer(unit, site, records)
+}
+
+// Notes whether the service came further than it had before.
+fn note_stage(unit: &mut Unit, before: (u8, u32))
+    ensures moved { unit.new.moved ≡ false →
+        (unit.old.moved ≡ false) × (how_far unit.old.service.stage ≡ before) }
+    ensures way { under_way unit.new ≡ under_way unit.old }
+{
+    let (stage, done) = unit.service.stage.how_far();
+    if stage != before.0 || done != before.1 {
+        unit.moved = true;
+    }
+}
+
+// Does what the request asks, up to its answer.
+fn prepare<S: Site, B: Blocks>(
+    service: &mut Service,
+    logins: &Logins,
+    id: UnitId,
+    request: &Request,
+    site: &mut S,
+    records: &mut Records,
+    disk: &mut Disk<B>,
+) -> Result<(), NoMemory>
+    ensures queue { (S.state site.new).queue ≡ (S.state site.old).queue }
+    ensures advances { Advances (S.state site.old) (S.state site.new) }
+{
+    match &request.order {
+        Order::Command(command) => {
+            serve_command(service, id, request, command, site, records, disk)
+        }
+        _ if service.stage != Stage::Start => Ok(()),
+        Order::Login(login) => judge_login(service, logins, request.number, login),
+        Order::Task(task) => add_code(
+            service,
+            records,
+            id,
+            site.session(),
+            request,
+            task_code(task),
+        ),
+        Order::Unreadable => add_code(
+            service,
+            records,
+            id,
+            site.session(),
+            request,
+            ResponseCode::FieldsInvalid,
+        ),
+        Order::Logout => Ok(()),
+    }
+}
+
+// Grants a login or rejects it.
+fn judge_login(
+    service: &mut Service,
+    logins: &Logins,
+    number: u64,
+    login: &LoginReq,
+) -> Result<(), NoMemory>
+    ensures granted { OnOk result (service.new.stage ≡ Stage.Answer (Outcome.Granted number) →
+        IsGrantable logins.now.current login.now) }
+    ensures rejected { OnOk result (service.new.stage ≡ Stage.Answer Outcome.Rejected →
+        ¬ IsGrantable logins.now.current login.now) }
+    ensures judged { OnOk result (is_answered service.new.stage ≡ true) }
+{
+    match login_refusal(logins.current(), login) {
+        Some(reason) => service.set_answer(&login_rejected(login, reason), Outcome::Rejected),
+        None => service.set_answer(
+            &login_granted(login, logins.credits()),
+            Outcome::Granted { number },
+        ),
+    }
+}
+
+// Why a login is rejected: one is on, or the first of its fields that is refused.
+fn login_refusal(current: u64, login: &LoginReq) -> Option<u32>
+    ensures on { 0 < current → result ≡ Some UNABLE_TO_ESTABLISH_CHANNEL }
+    ensures none { result ≡ None → IsGrantable current login.now }
+    ensures some { IsGrantable current login.now → result ≡ None }
+{
+    if current == 0 {
+        login_fault(login)
+    } else {
+        Some(UNABLE_TO_ESTABLISH_CHANNEL)
+    }
+}
+
+// Gives the request a row without a disk step, and answers it with a response code.
+fn add_code(
+    service: &mut Service,
+    records: &mut Records,
+    id: UnitId,
+    session: u64,
+    request: &Request,
+    code: ResponseCode,
+) -> Result<(), NoMemory>
+    ensures row { OnOk result (AddsRow id session request.now records.old records.new) }
+    ensures stage { OnOk result (service.new.stage ≡
+        Stage.Answer (Outcome.Served (length records.old.history.items))) }
+{
+    let blank = records.new_row(id, session, request)?;
+    let row = records.history.len();
+    service.set_answer(&with_code(request.tag, code), Outcome::Served { row })?;
+    records.add_row(blank);
+    Ok(())
+}
+
+// Serves a command up to its answer.
+fn serve_command<S: Site, B: Blocks>(
+    service: &mut Service,
+    id: UnitId,
+    request: &Request,
+    command: &Cmd,
+    site: &mut S,
+    records: &mut Records,
+    disk: &mut Disk<B>,
+) -> Result<(), NoMemory>
+    ensures queue { (S.state site.new).queue ≡ (S.state site.old).queue }
+    ensures advances { Advances (S.state site.old) (S.state site.new) }
+{
+    run_step(service, id, request, command, site, records, disk)?;
+    store(service, request, site)?;
+    hand_over(service, request, site, records)
+}
+
+// Brings the command to its disk step and makes that, if that is to be done, or refuses it.
+fn run_step<S: Site, B: Blocks>(
+    service: &mut Service,
+    id: UnitId,
+    request: &Request,
+    command: &Cmd,
+    site: &mut S,
+    records: &mut Records,
+    disk: &mut Disk<B>,
+) -> Result<(), NoMemory>
+    ensures queue { (S.state site.new).queue ≡ (S.state site.old).queue }
+    ensures advances { Advances (S.state site.old) (S.state site.new) }
+{
+    if !service.stage.is_before_step() {
+        return Ok(());
+    }
+    match fetch(service, site, command)? {
+        Progress::Busy => Ok(()),
+        Progress::Refused => add_code(
+            service,
+            records,
+            id,
+            site.session(),
+            request,
+            ResponseCode::FieldsInvalid,
+        ),
+        Progress::Done => make_step(service, id, request, command, site, records, disk),
+    }
+}
+
+// Writes the data-in that the disk step gave to the unit's region, if that is to be done.
+fn store<S: Site>(service: &mut Service, request: &Request, site: &mut S) -> Result<(), NoMemory>
+    ensures queue { (S.state site.new).queue ≡ (S.state site.old).queue }
+    ensures advances { Advances (S.state site.old) (S.state site.new) }
+{
+    if let Stage::Given { row, reply } = service.stage {
+        site.write_data(&service.given, request.tag)?;
+        service.stage = Stage::DataIn {
+            row,
+            reply,
+            cursor: Cursor::start(),
+        };
+    }
+    Ok(())
+}
+
+// Copies data-in to the client, if that is to be done, and writes the answer.
+fn hand_over<S: Site>(
+    service: &mut Service,
+    request: &Request,
+    site: &mut S,
+    records: &mut Records,
+) -> Result<(), NoMemory>
+    ensures queue { (S.state site.new).queue ≡ (S.state site.old).queue }
+    ensures advances { Advances (S.state site.old) (S.state site.new) }
+{
+    let Stage::DataIn { row, reply, cursor } = service.stage else {
+        return Ok(());
+    };
+    let progress = deliver_data(service, site, request.tag, row, reply, cursor)?;
+    end_command(service, records, request, progress)
+}
+
+// Makes the disk step, and gives the command its row.
+fn make_step<S: Site, B: Blocks>(
+    service: &mut Service,
+    id: UnitId,
+    request: &Request,
+    command: &Cmd,
+    site: &mut S,
+    records: &mut Records,
+    disk: &mut Disk<B>,
+) -> Result<(), NoMemory>
+    ensures queue { (S.state site.new).queue ≡ (S.state site.old).queue }
+    ensures advances { Advances (S.state site.old) (S.state site.new) }
+{
+    let expected = service.inn.total();
+    let mut row = records.new_row(id, site.session(), request)?;
+    let mut out = records.zeros(service.out.total())?;
+    service.make_room(expected)?;
+    site.read_data(&mut out);
+    let reply = disk.execute(command.lun, &command.cdb, &out);
+    service.keep(disk.given(reply.in_len.min(expected) as usize));
+    row.out = Bytes::from(out);
+    row.fault = reply.fault;
+    let row = records.add_row(row);
+    service.stage = Stage::Given { row, reply };
+    Ok(())
+}
+
+// Copies the data-in that are left from a place on to the client.
+fn deliver_data<S: Site>(
+    service: &mut Service,
+    site: &mut S,
+    tag: u64,
+    row: usize,
+    reply: ScsiReply,
+    start: Cursor,
+) -> Result<Progress, NoMemory>
+    ensures queue { (S.state site.new).queue ≡ (S.state site.old).queue }
+    ensures advances { Advances (S.state site.old) (S.state site.new) }
+{
+    let total = service.given.len() as u32;
+    let mut cursor = start;
+    while let Some(part) = cursor.next(service.inn.as_slice(), total) {
+        let Some(address) = part.address else {
+            return Ok(Progress::Refused);
+        };
+        match site.deliver_data(part.at, address, part.len, tag) {
+            Ok(()) => {}
+            Err(Halt::Refused) => return Ok(Progress::Refused),
+            Err(Halt::Busy) => return Ok(Progress::Busy),
+            Err(Halt::NoMemory) => return Err(NoMemory),
+        }
+        cursor = part.end;
+        service.stage = Stage::DataIn { row, reply, cursor };
+    }
+    Ok(Progress::Done)
+}
+
+// Writes the answer to a command whose data-in were copied, or refused.
+fn end_command(
+    service: &mut Service,
+    records: &mut Records,
+    request: &Request,
+    progress: Progress,
+) -> Result<(), NoMemory> {
+    let Stage::DataIn { row, reply, cursor } = service.stage else {
+        return Ok(());
+    };
+    let unit = match progress {
+        Progress::Busy => return Ok(()),
+        Progress::Refused => with_code(request.tag, ResponseCode::FieldsInvalid),
+        Progress::Done => with_status(
+            request.tag,
+            &reply,
+            service.out.total(),
+            service.inn.total(),
+        ),
+    };
+    service.set_answer(&unit, Outcome::Served { row })?;
+    let inn = service.take_given(cursor.done());
+    records.fill(row, inn);
+    Ok(())
+}

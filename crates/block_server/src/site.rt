@@ -1,0 +1,176 @@
+// What a server unit does with its queue and with the two windows.
+ghost use Rattle.std.specs.Prelude.{◌≡◌, ◌↔◌, ◌+◌, ◌<◌, ◌≤◌, Bool, OnOk, length};
+ghost use Rattle.crq_session.specs.declared.answers.FreeAnswer.TheVariants as freeing;
+ghost use Rattle.crq_session.specs.declared.answers.PollAnswer.TheVariants as polling;
+ghost use Rattle.crq_session.specs.Answers.{OnOpened, OnNotRegistered, IfHeldUp, OnFreed, OnNotFreed, IfInUse, IfSent, OnNotSent, IfClosed, IfDropped, IfGot, IfEmpty, OnNotPolled, OnNothing, OnPut, IfKept};
+ghost use Rattle.crq_session.specs.Answered.{Opens, HoldsUp, TellsFreed, FindsInUse, Sends, TurnsBack, FindsFull, Takes, FindsNone, PutsNone, Pushes, StillKept, IsUnregistered};
+ghost use Rattle.crq_session.specs.EndState.{OnlyReserves, OnlyRegisters, OnlyFrees, OnlySends, OnlyTakes, OnlyPushes};
+ghost use Rattle.block_server.specs.Advances.{Advances};
+ghost use Rattle.block_server.specs.Entries.{MayPut};
+ghost use Rattle.block_server.specs.SiteState.{SiteState, SameWindows};
+
+use crq_session::{EventAnswer, FreeAnswer, PollAnswer, RegAnswer, SendAnswer};
+use vio_num::{Entry, NoMemory};
+
+/// Why a copy was not made.
+#[derive(Clone, Copy, Debug, PartialEq, Eq)]
+pub(crate) enum Halt {
+    /// A window refused it.
+    Refused,
+    /// A page is in use.
+    Busy,
+    NoMemory,
+}
+
+/// The queue of a server unit, its own window and its client's, and the list to which each copy is added.
+pub(crate) trait Site {
+    // Whether others change the link, and whether others have a hand in the client's window.
+    ghost link_shared: { Bool };
+
+    ghost client_shared: { Bool };
+
+    // What the unit knows of its queue's end, of its own window and of its client's.
+    ghost state: { Self → SiteState };
+
+    /// The number of slots of the own queue.
+    fn slots(&self) -> u32
+        ensures few { result ≤ 4096 };
+
+    /// The number of the own queue's last session.
+    fn session(&self) -> u64
+        ensures { result ≡ (state self.now).queue.last_session };
+
+    /// Makes room for this many calls of the queue.
+    fn reserve(&mut self, n: u32) -> Result<(), NoMemory>
+        ensures room { OnOk result (n ≤ (state self.new).queue.spare) }
+        ensures rest { OnlyReserves (state self.old).queue (state self.new).queue }
+        ensures windows { SameWindows (state self.old) (state self.new) }
+        ensures advances { Advances (state self.old) (state self.new) };
+
+    /// Registers the own queue, all of it.
+    fn register(&mut self) -> RegAnswer
+        requires { 0 < (state self.old).queue.spare }
+        ensures opened { OnOpened result
+            (Opens link_shared (state self.old).queue (state self.new).queue) }
+        ensures busy { IfHeldUp result
+            (HoldsUp link_shared (state self.old).queue (state self.new).queue) }
+        ensures refused { OnNotRegistered result
+            (OnlyReserves (state self.old).queue (state self.new).queue) }
+        ensures spare { (state self.old).queue.spare ≤ (state self.new).queue.spare + 1 }
+        ensures rest { OnlyRegisters link_shared (state self.old).queue (state self.new).queue }
+        ensures windows { SameWindows (state self.old) (state self.new) }
+        ensures advances { Advances (state self.old) (state self.new) };
+
+    /// Frees the own queue.
+    fn free(&mut self) -> FreeAnswer
+        requires { 0 < (state self.old).queue.spare }
+        ensures parameter { (result ≡ freeing.Parameter) ↔ IsUnregistered (state self.old).queue }
+        ensures success { OnFreed result
+            (TellsFreed link_shared (state self.old).queue (state self.new).queue) }
+        ensures busy { IfInUse result
+            (FindsInUse link_shared (state self.old).queue (state self.new).queue) }
+        ensures refused { OnNotFreed result
+            (OnlyReserves (state self.old).queue (state self.new).queue) }
+        ensures spare { (state self.old).queue.spare ≤ (state self.new).queue.spare + 1 }
+        ensures rest { OnlyFrees link_shared (state self.old).queue (state self.new).queue }
+        ensures windows { SameWindows (state self.old) (state self.new) }
+        ensures advances { Advances (state self.old) (state self.new) };
+
+    /// Sends an entry to the client's queue.
+    fn send(&mut self, entry: Entry) -> SendAnswer
+        requires room { 0 < (state self.old).queue.spare }
+        requires may { MayPut entry }
+        ensures success { IfSent result
+            (Sends link_shared (state self.old).queue entry (state self.new).queue) }
+        ensures closed { IfClosed result
+            (TurnsBack link_shared (state self.old).queue (state self.new).queue) }
+        ensures dropped { IfDropped result
+            (FindsFull link_shared (state self.old).queue (state self.new).queue) }
+        ensures refused { OnNotSent result
+            (OnlyReserves (state self.old).queue (state self.new).queue) }
+        ensures spare { (state self.old).queue.spare ≤ (state self.new).queue.spare + 1 }
+        ensures rest { OnlySends link_shared (state self.old).queue (state self.new).queue }
+        ensures windows { SameWindows (state self.old) (state self.new) }
+        ensures advances { Advances (state self.old) (state self.new) };
+
+    /// Takes the next entry of the own queue.
+    fn poll(&mut self) -> PollAnswer
+        requires { 0 < (state self.old).queue.spare }
+        ensures unregistered { (result ≡ polling.NotRegistered) ↔
+            IsUnregistered (state self.old).queue }
+        ensures got { IfGot result
+            (Takes link_shared (state self.old).queue (state self.new).queue) }
+        ensures empty { IfEmpty result
+            (FindsNone link_shared (state self.old).queue (state self.new).queue) }
+        ensures refused { OnNotPolled result
+            (OnlyReserves (state self.old).queue (state self.new).queue) }
+        ensures spare { (state self.old).queue.spare ≤ (state self.new).queue.spare + 1 }
+        ensures rest { OnlyTakes link_shared (state self.old).queue (state self.new).queue }
+        ensures windows { SameWindows (state self.old) (state self.new) }
+        ensures advances { Advances (state self.old) (state self.new) };
+
+    /// Puts the event that is kept, if there is one.
+    fn push_event(&mut self) -> EventAnswer
+        requires { 0 < (state self.old).queue.spare }
+        ensures nothing { OnNothing result
+            (PutsNone link_shared (state self.old).queue (state self.new).queue) }
+        ensures put { OnPut result
+            (Pushes link_shared (state self.old).queue (state self.new).queue) }
+        ensures still { IfKept result
+            (StillKept link_shared (state self.old).queue (state self.new).queue) }
+        ensures spare { (state self.old).queue.spare ≤ (state self.new).queue.spare + 1 }
+        ensures rest { OnlyPushes link_shared (state self.old).queue (state self.new).queue }
+        ensures windows { SameWindows (state self.old) (state self.new) }
+        ensures advances { Advances (state self.old) (state self.new) };
+
+    /// Copies an information unit of 1 to 256 bytes from this address of the client's window to page 0, and reads
+    /// it.
+    fn fetch_unit(&mut self, address: u64, out: &mut [u8]) -> Result<(), Halt>
+        requires some { 1 ≤ length out.old }
+        requires few { length out.old ≤ 256 }
+        ensures queue { (state self.new).queue ≡ (state self.old).queue }
+        ensures advances { Advances (state self.old) (state self.new) };
+
+    /// Copies a table of 1 to 4,096 bytes from this address of the client's window to page 1, and reads it.
+    fn fetch_table(&mut self, address: u64, out: &mut [u8]) -> Result<(), Halt>
+        requires some { 1 ≤ length out.old }
+        requires few { length out.old ≤ 4096 }
+        ensures queue { (state self.new).queue ≡ (state self.old).queue }
+        ensures advances { Advances (state self.old) (state self.new) };
+
+    /// Writes an information unit of 1 to 256 bytes to page 0, and copies it over this address of the client's
+    /// window.
+    fn deliver_unit(&mut self, address: u64, bytes: &[u8], mark: u64) -> Result<(), Halt>
+        requires some { 1 ≤ length bytes.now }
+        requires few { length bytes.now ≤ 256 }
+        ensures queue { (state self.new).queue ≡ (state self.old).queue }
+        ensures advances { Advances (state self.old) (state self.new) };
+
+    /// Copies data from this address of the client's window to a place of the data's pages.
+    fn fetch_data(&mut self, at: u32, address: u64, len: u32) -> Result<(), Halt>
+        requires some { 1 ≤ len }
+        requires few { len ≤ 65536 }
+        requires inside { at + len ≤ 131072 }
+        ensures queue { (state self.new).queue ≡ (state self.old).queue }
+        ensures advances { Advances (state self.old) (state self.new) };
+
+    /// Reads the first bytes of the data's pages.
+    fn read_data(&mut self, out: &mut [u8])
+        requires { length out.old ≤ 131072 }
+        ensures queue { (state self.new).queue ≡ (state self.old).queue }
+        ensures advances { Advances (state self.old) (state self.new) };
+
+    /// Writes the first bytes of the data's pages.
+    fn write_data(&mut self, bytes: &[u8], mark: u64) -> Result<(), NoMemory>
+        requires { length bytes.now ≤ 131072 }
+        ensures queue { (state self.new).queue ≡ (state self.old).queue }
+        ensures advances { Advances (state self.old) (state self.new) };
+
+    /// Copies data from a place of the data's pages to this address of the client's window.
+    fn deliver_data(&mut self, at: u32, address: u64, len: u32, mark: u64) -> Result<(), Halt>
+        requires some { 1 ≤ len }
+        requires few { len ≤ 65536 }
+        requires inside { at + len ≤ 131072 }
+        ensures queue { (state self.new).queue ≡ (state self.old).queue }
+        ensures advances { Advances (state self.old) (state self.new) };
+}

@@ -1,0 +1,146 @@
+// The steps of a unit's turn.
+ghost use Rattle.std.specs.Prelude.{◌≡◌, ◌+◌, ◌<◌, ◌≤◌, IfOk, OnOk};
+ghost use Rattle.block_server.specs.Advances.{Advances};
+ghost use Rattle.block_server.specs.Turns.{IfQuiet, IsQuietTurn};
+
+use crate::answering::{put_kept, put_reply};
+use crate::disk::Disk;
+use crate::intake::{Next, take_in};
+use crate::line::reply_of;
+use crate::records::Records;
+use crate::serving::serve;
+use crate::site::Site;
+use crate::unit::Unit;
+use crq_session::{EventAnswer, FreeAnswer, RegAnswer};
+use vio_io::Blocks;
+use vio_num::{Moved, NoMemory};
+
+/// The calls of the queue before intake, but for the kept entry's.
+const FIRST_CALLS: u32 = 4;
+
+/// One turn of a unit.
+pub(crate) fn turn<S: Site, B: Blocks>(
+    unit: &mut Unit,
+    site: &mut S,
+    records: &mut Records,
+    disk: &mut Disk<B>,
+) -> Result<Moved, NoMemory>
+    ensures quiet { IfOk result (λ moved. moved ≡ Moved.Quiet →
+        IsQuietTurn unit.old unit.new (S.state site.old).queue (S.state site.new).queue) }
+    ensures advances { Advances (S.state site.old) (S.state site.new) }
+{
+    unit.moved = false;
+    steps(unit, site, records, disk)?;
+    Ok(if unit.moved {
+        Moved::Moved
+    } else {
+        Moved::Quiet
+    })
+}
+
+// Goes through the steps, up to the one that ends the turn.
+fn steps<S: Site, B: Blocks>(
+    unit: &mut Unit,
+    site: &mut S,
+    records: &mut Records,
+    disk: &mut Disk<B>,
+) -> Result<(), NoMemory>
+    ensures quiet { OnOk result (IfQuiet unit.old unit.new
+        (S.state site.old).queue (S.state site.new).queue) }
+    ensures advances { Advances (S.state site.old) (S.state site.new) }
+{
+    if open_line(unit, site)? == Next::End {
+        return Ok(());
+    }
+    if put_kept(unit, site, records)? == Next::End {
+        return Ok(());
+    }
+    if take_in(unit, site, records)? == Next::End {
+        return Ok(());
+    }
+    serve(unit, site, records, disk)
+}
+
+// Pushes the event that is kept, frees a session that is to be closed, and registers a queue that is not.
+fn open_line<S: Site>(unit: &mut Unit, site: &mut S) -> Result<Next, NoMemory>
+    ensures quiet { OnOk result (IfQuiet unit.old unit.new
+        (S.state site.old).queue (S.state site.new).queue) }
+    ensures advances { Advances (S.state site.old) (S.state site.new) }
+{
+    site.reserve(FIRST_CALLS)?;
+    if push_event(unit, site) == Next::End {
+        return Ok(Next::End);
+    }
+    if free_closed(unit, site) == Next::End {
+        return Ok(Next::End);
+    }
+    if unit.line.is_down() {
+        register(unit, site);
+        return Ok(Next::End);
+    }
+    Ok(Next::Entry)
+}
+
+// Pushes the event that is kept. While it stays kept the turn ends.
+fn push_event<S: Site>(unit: &mut Unit, site: &mut S) -> Next
+    requires { 0 < (S.state site.old).queue.spare }
+    ensures spare { (S.state site.old).queue.spare ≤ (S.state site.new).queue.spare + 1 }
+    ensures quiet { IfQuiet unit.old unit.new (S.state site.old).queue (S.state site.new).queue }
+    ensures advances { Advances (S.state site.old) (S.state site.new) }
+{
+    match site.push_event() {
+        EventAnswer::Nothing => Next::Entry,
+        EventAnswer::Put => {
+            unit.moved = true;
+            Next::Entry
+        }
+        EventAnswer::Kept { .. } => Next::End,
+    }
+}
+
+// Frees the session, if it is to be closed.
+fn free_closed<S: Site>(unit: &mut Unit, site: &mut S) -> Next
+    requires { 0 < (S.state site.old).queue.spare }
+    ensures spare { (S.state site.old).queue.spare ≤ (S.state site.new).queue.spare + 1 }
+    ensures quiet { IfQuiet unit.old unit.new (S.state site.old).queue (S.state site.new).queue }
+    ensures advances { Advances (S.state site.old) (S.state site.new) }
+{
+    if !unit.line.closing {
+        return Next::Entry;
+    }
+    free(unit, site)
+}
+
+// Frees the session that is to be closed. While a sender is inside the turn ends.
+fn free<S: Site>(unit: &mut Unit, site: &mut S) -> Next
+    requires { 0 < (S.state site.old).queue.spare }
+    ensures spare { (S.state site.old).queue.spare ≤ (S.state site.new).queue.spare + 1 }
+    ensures quiet { IfQuiet unit.old unit.new (S.state site.old).queue (S.state site.new).queue }
+    ensures advances { Advances (S.state site.old) (S.state site.new) }
+{
+    match site.free() {
+        FreeAnswer::Busy { .. } => return Next::End,
+        FreeAnswer::Success => unit.moved = true,
+        FreeAnswer::Parameter => {}
+    }
+    unit.line.handshake.freed();
+    unit.line.closing = false;
+    Next::Entry
+}
+
+// Registers the queue, and sends Initialize. While the kept event finds its slot full nothing changes.
+fn register<S: Site>(unit: &mut Unit, site: &mut S)
+    requires { 1 < (S.state site.old).queue.spare }
+    ensures quiet { IfQuiet unit.old unit.new (S.state site.old).queue (S.state site.new).queue }
+    ensures advances { Advances (S.state site.old) (S.state site.new) }
+{
+    match site.register() {
+        RegAnswer::Success => {}
+        RegAnswer::Closed { .. } => {}
+        _ => return,
+    }
+    unit.moved = true;
+    if let Some(initialize) = reply_of(unit.line.handshake.registered()) {
+        let _next = put_reply(unit, site, initialize);
+    }
+}
