@@ -23,6 +23,6 @@ mod verb;
 mod words;
 
 pub use cause::{Cause, PlanFault};
-pub use plan::{Line, Partition, Plan, UnitPlan};
+pub use plan::{Line, Partition, Plan, SERVER_PAGES, UnitPlan};
 pub use read::{MOST_LINE, MOST_TEXT, read_plan};
 pub use verb::Verb;

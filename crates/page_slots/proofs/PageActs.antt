@@ -1,12 +1,12 @@
 -- From what a seat keeps to what its steps ask, and what these tell.
-use Rattle.std.proofs.Common.{◌≡◌, ◌≢◌, ℕ, ◌<◌, ◌⊎◌, Bool, true, false, List, [], ◌∷◌, sym, refl, ap, ◌∙◌, subst, ⊎_elim, arith, bit_or, bit_and}
-use Rattle.std.specs.Prelude.{Option, None, Some}
+use Rattle.std.proofs.Common.{◌≡◌, ℕ, ◌<◌, true, List, [], ◌∷◌, sym, refl, ap, ◌∙◌, subst, ⊎_elim, arith, bit_or, bit_and}
+use Rattle.std.specs.Prelude.{None, Some}
 use mathlib.Core.Option.{none}
 use Rattle.atomic_table.specs.Table.{step, rest, Allows}
 use Rattle.page_slots.specs.Page.{PageValue}
 use Rattle.vio_num.specs.Words.{Begins}
 use Rattle.page_slots.specs.PageRule.{Slot, seen_of, held_of, InTurn}
-use Rattle.page_slots.specs.PageSteps.{Seated, out_with, TakesTurn, turned, reached, returned}
+use Rattle.page_slots.specs.PageSteps.{Seated, out_with, turned, reached, returned}
 use Rattle.page_slots.specs.declared.view.PageView.{PageView}
 use Rattle.page_slots.proofs.PageAllows.{turns, reaches, returns_turn}
 

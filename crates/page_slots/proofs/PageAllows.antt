@@ -1,24 +1,23 @@
 -- What each kind of step on a turn word tells the seat that makes it, from any state that meets the rule.
-use Rattle.std.proofs.Common.{◌≡◌, ◌≢◌, ℕ, zero, suc, eqb, eq-eqb, ne_eqb, ◌+◌, ◌-◌, ◌<◌, ◌≤◌, ◌⊎◌, Bool, true, false, true≢false, List, [], ◌∷◌, ◌++◌, length, get_or, set, sym, refl, ap, ◌∙◌, subst, inl, inr, ⊎_elim, arith, length-set, length-append, lt_of_not-le, set-set, get_or-set_same, get_or-set_other, bit_or, bit_and}
+use Rattle.std.proofs.Common.{◌≡◌, ℕ, eq-eqb, ne_eqb, ◌+◌, ◌-◌, ◌<◌, Bool, true, false, true≢false, List, [], ◌∷◌, ◌++◌, length, get_or, set, sym, refl, ap, ◌∙◌, subst, inl, inr, ⊎_elim, arith, length-set, length-append, lt_of_not-le, set-set, get_or-set_same, get_or-set_other, bit_or, bit_and}
 use Rattle.std.specs.Prelude.{Option, None, Some}
 use Rattle.std.specs.List.{All}
 use Rattle.std.proofs.lemmas.List.Elements.{All-weaker}
 use mathlib.Core.Logic.{dite}
 use mathlib.Core.Option.{some, none}
-use mathlib.Core.Option as home
-use native.Mathlib.Decide.{dec_le, ℕ_discrete}
+use native.Mathlib.Decide.{dec_le}
 use lib.ListN.{get_elem?}
 use lib.Seq.{set-get_or}
-use Rattle.atomic_table.specs.Table.{State, Act, step, keeps, takes, gives, chain, stepped, put_back, rest, carried_after, Valid, Allows}
+use Rattle.atomic_table.specs.Table.{step, keeps, takes, gives, chain, put_back, rest, Allows}
 use Rattle.atomic_table.proofs.Lists.{set_again, set_here, set_else}
 use Rattle.page_slots.specs.Page.{PageValue}
 use Rattle.page_slots.specs.Stroke.{StrokeValue}
 use Rattle.vio_num.specs.Words.{Begins}
 use Rattle.page_slots.specs.Seats.{places_from}
-use Rattle.page_slots.specs.PageRule.{Slot, PageNow, seen_of, held_of, laid_of, carries, laid_by, Stands, Holds, KnowsPage, IsSized, IsSeat, IsHeld, InTurn}
-use Rattle.page_slots.specs.PageSteps.{Seated, out_with, strokes_out, reading, taking, giving, TakesTurn, turned, reached, returned}
+use Rattle.page_slots.specs.PageRule.{PageNow, seen_of, held_of, laid_of, carries, laid_by, IsSeat, InTurn}
+use Rattle.page_slots.specs.PageSteps.{out_with, reading, taking, giving, turned, reached, returned}
 use Rattle.page_slots.specs.declared.view.PageView.{PageView}
-use Rattle.page_slots.proofs.PageKeeps.{Table, begins_self, begins_on, there_inside, held_stays, SameAt, knows_same, Moves, moved}
+use Rattle.page_slots.proofs.PageKeeps.{Table, begins_self, begins_on, there_inside, held_stays, SameAt, knows_same, moved}
 use Rattle.page_slots.proofs.Places.{later, later_from, later_below, laid_more, laid_same}
 
 -- the view of a seat with no slot out

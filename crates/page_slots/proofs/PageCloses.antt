@@ -1,15 +1,15 @@
 -- What the pages of a closed table are to all seats that were at it.
-use Rattle.std.proofs.Common.{◌≡◌, ℕ, ◌+◌, ◌<◌, List, [], ◌∷◌, ◌++◌, length, map, get_or, sym, ap, ◌∙◌, subst, arith}
-use Rattle.std.specs.Prelude.{Option, None, Some}
+use Rattle.std.proofs.Common.{◌≡◌, ℕ, List, [], map, get_or, sym, ap, ◌∙◌, subst, arith}
+use Rattle.std.specs.Prelude.{None, Some}
 use Rattle.std.specs.List.{All}
 use Rattle.std.proofs.lemmas.List.{get_or-map, length-map}
-use Rattle.std.proofs.lemmas.List.Elements.{All-append, All-push}
-use mathlib.Core.Option.{some, some-injective}
+use Rattle.std.proofs.lemmas.List.Elements.{All-push}
+use mathlib.Core.Option.{some-injective}
 use Rattle.atomic_table.specs.declared.shared.Seat.{Seat}
 use Rattle.page_slots.specs.Page.{PageValue}
 use Rattle.page_slots.specs.Stroke.{StrokeValue}
 use Rattle.vio_num.specs.Words.{Begins}
-use Rattle.page_slots.specs.Seats.{PagesValue, PageSeatValue, saw, laid_on}
+use Rattle.page_slots.specs.Seats.{PagesValue, PageSeatValue}
 use Rattle.page_slots.specs.PageRule.{Slot, blank_page}
 use Rattle.page_slots.specs.PageClosing.{StandsForAll, HasPage}
 use Rattle.page_slots.specs.Turns.{IsOfSeats}

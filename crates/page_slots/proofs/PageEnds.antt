@@ -1,6 +1,6 @@
 -- How the rule of shared pages begins, and what it says where all seats are one.
-use Rattle.std.proofs.Common.{◌≡◌, ◌≢◌, ℕ, zero, suc, ◌+◌, ◌-◌, ◌<◌, ◌≤◌, ◌⊎◌, Bool, true, false, true≢false, List, [], ◌∷◌, ◌++◌, length, map, get_or, set, replicate, sym, refl, ap, ◌∙◌, subst, inl, inr, ⊎_elim, arith}
-use Rattle.std.specs.Prelude.{Option, None, Some}
+use Rattle.std.proofs.Common.{◌≡◌, ◌≢◌, ℕ, zero, suc, ◌+◌, ◌<◌, ◌≤◌, false, true≢false, List, [], ◌∷◌, length, map, get_or, replicate, sym, refl, ap, ◌∙◌, subst, inl, ⊎_elim, arith}
+use Rattle.std.specs.Prelude.{Some}
 use Rattle.std.specs.List.{All}
 use Rattle.std.proofs.lemmas.List.{get_or-replicate, length-map, length-replicate}
 use mathlib.Core.List.{append-nil}
@@ -8,13 +8,13 @@ use mathlib.Core.Logic.{dite}
 use mathlib.Core.Option.{some, some-injective, some-ne-none}
 use native.Mathlib.Decide.{ℕ_discrete}
 use lib.ListN.{get_elem?}
-use Rattle.atomic_table.specs.Table.{State, opening}
+use Rattle.atomic_table.specs.Table.{opening}
 use Rattle.atomic_table.proofs.Lists.{at_map}
 use Rattle.page_slots.specs.Page.{PageValue}
 use Rattle.page_slots.specs.Stroke.{StrokeValue}
 use Rattle.vio_num.specs.Words.{Begins}
 use Rattle.page_slots.specs.Seats.{places_from}
-use Rattle.page_slots.specs.PageRule.{Slot, PageNow, seen_of, held_of, laid_of, laid_by, opened, blank_page, blank_slots, Stands, KnowsPage, IsSized, IsSeat, IsHeld, all_shares, InTurn}
+use Rattle.page_slots.specs.PageRule.{seen_of, held_of, laid_of, opened, blank_page, blank_slots, KnowsPage, IsSized, IsSeat, all_shares, InTurn}
 use Rattle.page_slots.specs.declared.view.PageView.{PageView}
 use Rattle.page_slots.specs.declared.view.PagesKey.{PagesKey}
 use Rattle.page_slots.proofs.PageAllows.{some_none}

@@ -1,13 +1,12 @@
 -- All seats at shared pages become one, each joined in turn.
-use Rattle.std.proofs.Common.{◌≡◌, ◌≢◌, ℕ, zero, suc, ◌+◌, ◌<◌, ◌≤◌, Bool, true, false, true≢false, List, [], ◌∷◌, ◌++◌, length, map, get_or, sym, refl, ap, ◌∙◌, subst, arith, length-append}
+use Rattle.std.proofs.Common.{◌≡◌, ℕ, ◌<◌, false, true≢false, List, [], ◌∷◌, ◌++◌, length, map, get_or, sym, refl, ap, ◌∙◌, subst, arith, length-append}
 use Rattle.std.specs.Prelude.{Option, None, Some}
 use Rattle.std.specs.List.{All}
 use Rattle.std.proofs.Math.Seq.{get_or-append_seam}
 use Rattle.std.proofs.lemmas.List.{length-map}
 use mathlib.Core.List.{append_assoc}
 use Rattle.atomic_table.specs.declared.shared.Seat.{Seat}
-use Rattle.page_slots.specs.Stroke.{StrokeValue}
-use Rattle.page_slots.specs.Seats.{PagesValue, PageSeatValue, holds, laid_on, joined, together}
+use Rattle.page_slots.specs.Seats.{PagesValue, PageSeatValue, laid_on, joined, together}
 use Rattle.page_slots.specs.PageRule.{Slot, held_of, laid_of, IsSized}
 use Rattle.page_slots.specs.PageCuts.{with_seat}
 use Rattle.page_slots.specs.PageClosing.{StandsForAll}

@@ -1,6 +1,5 @@
 -- A step on one page keeps the rule: what it leaves of that page, and what the seats know of it and of others.
-use Rattle.std.proofs.Common.{◌≡◌, ◌≢◌, ℕ, zero, suc, eqb, eq-eqb, ne_eqb, ◌+◌, ◌-◌, ◌<◌, ◌≤◌, ◌⊎◌, Bool, true, false, true≢false, List, [], ◌∷◌, ◌++◌, length, get_or, set, sym, refl, ap, ◌∙◌, subst, inl, inr, ⊎_elim, arith, length-set, set-set}
-use Rattle.std.specs.Prelude.{Option, None, Some}
+use Rattle.std.proofs.Common.{◌≡◌, ◌≢◌, ℕ, zero, suc, ◌+◌, ◌<◌, true, false, List, [], ◌∷◌, ◌++◌, length, get_or, set, sym, refl, ap, ◌∙◌, subst, ⊎_elim, arith}
 use Rattle.std.specs.List.{All}
 use mathlib.Core.List.{append-nil, append_assoc}
 use mathlib.Core.Logic.{dite}
@@ -10,9 +9,8 @@ use native.Mathlib.Decide.{ℕ_discrete}
 use lib.ListN.{get_elem?}
 use Rattle.atomic_table.specs.Table.{State}
 use Rattle.atomic_table.proofs.Lists.{at_set, set_here, set_else}
-use Rattle.page_slots.specs.Stroke.{StrokeValue}
 use Rattle.vio_num.specs.Words.{Begins}
-use Rattle.page_slots.specs.PageRule.{Slot, PageNow, seen_of, held_of, laid_of, carries, Stands, Holds, KnowsPage, IsSized, IsSeat, IsHeld, all_shares, InTurn}
+use Rattle.page_slots.specs.PageRule.{Slot, PageNow, seen_of, held_of, laid_of, carries, Stands, KnowsPage, IsSized, IsSeat, IsHeld, all_shares, InTurn}
 use Rattle.page_slots.specs.declared.view.PageView.{PageView}
 
 abbrev pub Table : Type 0

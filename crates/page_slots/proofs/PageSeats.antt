@@ -1,23 +1,21 @@
 -- How seats part and join, how the rule begins, and what it says of the last seat.
-use Rattle.std.proofs.Common.{◌≡◌, ◌≢◌, ℕ, zero, suc, ◌+◌, ◌-◌, ◌<◌, ◌≤◌, ◌⊎◌, Bool, true, false, true≢false, List, [], ◌∷◌, ◌++◌, length, map, get_or, set, replicate, sym, refl, ap, ◌∙◌, subst, inl, inr, ⊎_elim, arith, length-set}
-use Rattle.std.specs.Prelude.{Option, None, Some}
-use Rattle.std.specs.List.{All}
-use Rattle.std.proofs.lemmas.List.{get_or-replicate, length-replicate}
+use Rattle.std.proofs.Common.{◌≡◌, ◌≢◌, ℕ, zero, suc, ◌+◌, ◌-◌, ◌<◌, ◌≤◌, ◌⊎◌, false, true≢false, List, [], ◌∷◌, ◌++◌, length, get_or, set, replicate, sym, refl, ap, ◌∙◌, subst, inl, inr, ⊎_elim, arith, length-set}
+use Rattle.std.proofs.lemmas.List.{length-replicate}
 use Rattle.std.proofs.lemmas.List.Elements.{All-append, All-cons}
 use mathlib.Core.Logic.{dite}
 use mathlib.Core.Option.{some, some-injective, some-ne-none}
 use native.Mathlib.Decide.{ℕ_discrete}
 use lib.ListN.{get_elem?}
-use Rattle.atomic_table.specs.Table.{State, Splits, Joins, opening}
-use Rattle.atomic_table.proofs.Lists.{at_set, set_here, set_else, at_longer}
+use Rattle.atomic_table.specs.Table.{Splits, Joins}
+use Rattle.atomic_table.proofs.Lists.{at_set, set_else, at_longer}
 use Rattle.page_slots.specs.Stroke.{StrokeValue}
 use Rattle.vio_num.specs.Words.{Begins}
 use Rattle.page_slots.specs.Seats.{joined}
-use Rattle.page_slots.specs.PageRule.{Slot, PageNow, seen_of, held_of, laid_of, laid_by, Stands, Holds, KnowsPage, IsSized, IsSeat, IsHeld, all_shares, InTurn}
+use Rattle.page_slots.specs.PageRule.{PageNow, held_of, KnowsPage, IsSized, IsSeat, IsHeld, all_shares, InTurn}
 use Rattle.page_slots.specs.PageCuts.{remaining, another, joined_all, with_seat, spent}
 use Rattle.page_slots.specs.declared.view.PageView.{PageView}
 use Rattle.page_slots.proofs.PageAllows.{some_none}
-use Rattle.page_slots.proofs.PageKeeps.{Table, seats_stay, shares_set, there_inside, seat_stays, held_stays}
+use Rattle.page_slots.proofs.PageKeeps.{seats_stay, shares_set, there_inside, seat_stays, held_stays}
 use Rattle.page_slots.proofs.Places.{renamed, renamed_same, renamed_other, laid_by-none, laid_joined, laid_renamed}
 
 -- a list with one more at its end

@@ -1,9 +1,7 @@
 -- How all seats at shared pages become one, and how the pages leave their slots.
-use Rattle.std.specs.Prelude.{◌≡◌, ℕ, ◌<◌, ◌≤◌, Bool, true, false, List, [], ◌∷◌, ◌++◌, length, map, slice_index_or, Option, Some}
+use Rattle.std.specs.Prelude.{◌≡◌, ℕ, ◌<◌, false, List, [], ◌∷◌, ◌++◌, length, map, slice_index_or, Some}
 use mathlib.Core.Option.{some}
 use lib.ListN.{get_elem?}
-use Rattle.std.specs.Mem.Slots.{slots_items, slots_filled, slots_len, IsFull}
-use Rattle.atomic_table.specs.declared.owned.Closed.{Closed}
 use Rattle.atomic_table.specs.declared.shared.Seat.{Seat}
 use Rattle.page_slots.specs.Page.{PageValue}
 use Rattle.page_slots.specs.Seats.{PagesValue, PageSeatValue, laid_on, together}

@@ -1,5 +1,5 @@
 -- How what one seat knows is cut in two, and what two know is made one.
-use Rattle.std.specs.Prelude.{◌+◌, ◌-◌, ℕ, List, [], ◌∷◌, ◌++◌, length, map, replicate, false, None}
+use Rattle.std.specs.Prelude.{◌+◌, ◌-◌, ℕ, List, [], ◌∷◌, ◌++◌, length, replicate, false, None}
 use Rattle.page_slots.specs.Seats.{joined}
 use Rattle.page_slots.specs.declared.view.PageView.{PageView}
 

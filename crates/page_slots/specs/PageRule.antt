@@ -1,6 +1,6 @@
 -- The rule of a table of pages: what its turn words, its slots and what its seats know have to meet, at every
 -- moment.
-use Rattle.std.specs.Prelude.{◌≡◌, ℕ, zero, suc, ◌+◌, ◌<◌, ◌⊎◌, ◌==◌, if◌then◌else◌, Bool, true, false, List, [], ◌∷◌, ◌++◌, length, slice_index, slice_index_or, replicate, Option, None, Some}
+use Rattle.std.specs.Prelude.{◌≡◌, ℕ, zero, suc, ◌+◌, ◌<◌, ◌⊎◌, ◌==◌, if◌then◌else◌, Bool, true, false, List, [], ◌∷◌, length, slice_index, slice_index_or, replicate, Option, None, Some}
 use Rattle.std.specs.List.{All}
 use mathlib.Core.Option.{some}
 use mathlib.Core.Option as home

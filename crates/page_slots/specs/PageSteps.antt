@@ -1,5 +1,5 @@
 -- What each kind of step on a page's turn word tells the seat that makes it.
-use Rattle.std.specs.Prelude.{◌≡◌, ℕ, ◌+◌, ◌-◌, ◌⊎◌, Bool, true, false, List, [], ◌∷◌, ◌++◌, length, slice_set, Option, None, Some}
+use Rattle.std.specs.Prelude.{◌≡◌, ℕ, ◌+◌, ◌-◌, ◌⊎◌, true, false, List, [], ◌∷◌, ◌++◌, length, slice_set, Option, None, Some}
 use Rattle.atomic_table.specs.Table.{Me, Step}
 use Rattle.page_slots.specs.Page.{PageValue}
 use Rattle.page_slots.specs.Stroke.{StrokeValue}

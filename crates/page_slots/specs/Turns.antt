@@ -1,11 +1,11 @@
 -- What the calls of shared pages leave of a seat.
-use Rattle.std.specs.Prelude.{◌≡◌, ℕ, ◌+◌, ◌-◌, ◌%◌, ◌<◌, ◌==◌, if◌then◌else◌, Bool, true, false, List, [], ◌∷◌, ◌++◌, length, map, slice_index_or}
+use Rattle.std.specs.Prelude.{◌≡◌, ℕ, ◌-◌, ◌%◌, ◌<◌, ◌==◌, if◌then◌else◌, true, false, List, [], ◌++◌, length, map, slice_index_or}
 use Rattle.std.specs.List.{All}
 use Rattle.page_slots.specs.Page.{PageValue}
 use Rattle.page_slots.specs.Stroke.{StrokeValue}
 use Rattle.page_slots.specs.declared.pages.Take.{Take}
 use Rattle.page_slots.specs.declared.pages.Take.TheVariants.{Taken, InUse}
-use Rattle.vio_num.specs.Words.{Begins, WordRead, ReadsWord}
+use Rattle.vio_num.specs.Words.{Begins, ReadsWord}
 use Rattle.page_slots.specs.Seats.{PagesValue, PageSeatValue, saw, holds, laid_on, places_from, together}
 
 -- A new seat, which has seen nothing, holds nothing and laid nothing.

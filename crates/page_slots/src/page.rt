@@ -107,6 +107,14 @@ impl Page {
     {
         self.strokes.as_slice()
     }
+
+    /// Every stroke on the page, the oldest first, given away. It takes no memory.
+    pub fn into_strokes(self) -> Vec<Stroke>
+        ensures strokes { result.items ≡ self.strokes }
+        ensures within { AreWithinPage result.items }
+    {
+        self.strokes
+    }
 }
 
 // Writes the piece over the bytes from `offset` on.

@@ -169,7 +169,8 @@ impl Pages {
     pub fn close(self, seats: Vec<PageSeat>) -> Result<Vec<Page>, PagesBack>
         requires { AreAll self seats.items }
         ensures ok { IfOk result (λ list. ClosesPages self seats.items list.items) }
-        ensures back { IfErr result (λ back. (back.pages ≡ self) × (back.seats.items ≡ seats.items)) }
+        ensures back { IfErr result
+            (λ back. (back.pages ≡ self) × (back.seats.items ≡ seats.items)) }
     {
         let Ok(list) = Vec::with_capacity(self.alloc, self.count as usize) else {
             return Err(PagesBack { pages: self, seats });
@@ -207,7 +208,8 @@ impl Pages {
 fn pages_of(mut closed: Closed<Option<Page>, Global>, count: u16, mut list: Vec<Page>) -> Vec<Page>
     requires counts { slots_len closed.slots ≡ count }
     requires full { IsFull closed.slots }
-    requires there { (k : ℕ) → k < count → (page : PageValue) × HasPage (slots_items closed.slots) k page }
+    requires there { (k : ℕ) → k < count
+        → (page : PageValue) × HasPage (slots_items closed.slots) k page }
     requires room { (list.items ≡ []) × (count ≤ vec_capacity list) }
     ensures all { length result.items ≡ count }
     ensures pages { ArePages (slots_items closed.slots) count result.items }

@@ -80,4 +80,11 @@ impl Stroke {
     {
         self.bytes.as_slice()
     }
+
+    /// What it writes, given away. It takes no memory.
+    pub fn into_bytes(self) -> Bytes
+        ensures { result ≡ self.bytes }
+    {
+        self.bytes
+    }
 }

@@ -176,3 +176,20 @@ fn room_for_two_to_the_32nd_stroke_is_refused(rt: HostRuntime) -> Result<(), NoM
     assert_eq!(rt; page.reserve(1), Ok(()));
     Ok(())
 }
+
+#[test]
+fn strokes_are_given_away_with_their_bytes(rt: HostRuntime) -> Result<(), NoMemory> {
+    let mut page = Page::zero(rt.alloc())?;
+    write(rt.alloc(), &mut page, 5, 7, &[1, 2, 3])?;
+    write(rt.alloc(), &mut page, 6, 4096, &[])?;
+    let strokes = page.into_strokes();
+    assert_eq!(rt; strokes.len(), 2);
+    for stroke in strokes {
+        let long = stroke.name() == name(5);
+        assert_eq!(rt; stroke.offset(), if long { 7 } else { 4096 });
+        let bytes = stroke.into_bytes();
+        assert_eq!(rt; bytes.len(), if long { 3 } else { 0 });
+        assert!(rt; bytes.as_slice().iter().all(|byte| 1 <= *byte && *byte <= 3));
+    }
+    Ok(())
+}

@@ -106,6 +106,13 @@ impl Region {
         }
     }
 
+    /// The pages, given away.
+    pub(crate) fn into_pages(self) -> Vec<Option<Page>>
+        ensures { result.items ≡ self }
+    {
+        self.pages
+    }
+
     // Copies bytes of one page.
     fn read_page(&self, address: usize, out: &mut [u8])
         requires there { IsSome (strokes_at self.now (address / 4096)) }

@@ -20,7 +20,7 @@ use crate::piece::{MOST_PIECES, Piece};
 use crate::region::Region;
 use crate::table::TceTable;
 use arrayvec::ArrayVec;
-use page_slots::{Stroke, StrokeName};
+use page_slots::{Page, Stroke, StrokeName};
 use std::alloc::Global;
 use std::marker::Model;
 use vio_num::{NoMemory, PAGE_BYTES, UnitId};
@@ -263,6 +263,13 @@ impl PlainWindow {
         ensures { strokes_at self.now.pages page ≡ Some result.now }
     {
         self.region.page(page as usize).strokes()
+    }
+
+    /// The pages of the region, given away, each in its place but those that are held. It takes no memory.
+    pub fn into_pages(self) -> Vec<Option<Page>>
+        ensures { result.items ≡ self.pages }
+    {
+        self.region.into_pages()
     }
 
     // Tests whether the range lies inside the region, and each page that it touches is in its place.

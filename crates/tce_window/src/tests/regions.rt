@@ -141,3 +141,20 @@ fn strokes_of_one_name_cover_a_range_together(rt: HostRuntime) -> Result<(), NoM
     assert_eq!(rt; &out, b"nopqkl");
     Ok(())
 }
+
+#[test]
+fn pages_are_given_away_with_their_strokes(rt: HostRuntime) -> Result<(), NoMemory> {
+    let mut window = PlainWindow::open(rt.alloc(), UNIT, 3)?;
+    assert_eq!(rt; OwnerPort::write(&mut window, 4095, b"ab", 7), Ok(()));
+    let pages = window.into_pages();
+    assert_eq!(rt; pages.len(), 3);
+    for (place, page) in pages.iter().enumerate() {
+        let strokes = page.as_ref().map(|page| page.strokes().len());
+        assert_eq!(rt;
+            strokes,
+            Some(if place < 2 { 1 } else { 0 }),
+            "of page {place}"
+        );
+    }
+    Ok(())
+}

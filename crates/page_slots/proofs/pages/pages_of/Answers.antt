@@ -1,10 +1,8 @@
-use Rattle.std.proofs.Common.{rules, ◌≡◌, ℕ, ◌+◌, ◌<◌, ◌≤◌, false, List, [], ◌∷◌, ◌++◌, get_or, set, sym, refl, ap, ◌∙◌, subst, arith}
-use Rattle.std.specs.Prelude.{Some}
+use Rattle.std.proofs.Common.{rules, ◌≡◌, ℕ, ◌+◌, ◌<◌, false, get_or, sym, ap, ◌∙◌, subst, arith}
 use Rattle.std.specs.Mem.Slots.{slots_items, slots_filled}
 use Rattle.std.specs.Mem.Slots.Ownership.{Filled}
 use mathlib.Core.Option.{some}
 use lib.ListN.{get_elem?}
-use Rattle.page_slots.specs.Page.{PageValue}
 use Rattle.page_slots.specs.PageClosing.{ArePages}
 use Rattle.page_slots.proofs.PageLeaves.{not_empty, still_filled, one_emptied, one_page}
 use Rattle.page_slots.proofs.pages.pages_of.Goals as goal

@@ -1,4 +1,4 @@
-use Rattle.std.proofs.Common.{◌-◌, ◌≡◌, ◌≤◌, ℕ}
+use Rattle.std.proofs.Common.{◌-◌, ◌≡◌, ◌≤◌}
 use Rattle.std.specs.Prelude.{vec_capacity}
 use Rattle.page_slots.specs.PageRule.{blank_slots}
 use Rattle.page_slots.proofs.pages.zero_pages.Given as goal

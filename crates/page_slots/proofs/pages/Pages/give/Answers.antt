@@ -1,9 +1,7 @@
-use Rattle.std.proofs.Common.{rules, ◌≡◌, ℕ, ◌<◌, ◌≤◌, true, sym, ap, ◌∙◌, subst, arith}
+use Rattle.std.proofs.Common.{◌<◌, sym, ap, ◌∙◌, subst, arith}
 use Rattle.vio_num.specs.Words.{Begins}
 use Rattle.page_slots.specs.Seats.{saw, holds}
-use Rattle.page_slots.specs.PageRule.{seen_of, held_of}
-use Rattle.page_slots.specs.PageSteps.{Seated}
-use Rattle.page_slots.proofs.PageActs.{Sits, reach_asks, return_asks}
+use Rattle.page_slots.proofs.PageActs.{reach_asks, return_asks}
 use Rattle.page_slots.proofs.pages.Pages.give.Goals as goal
 
 pub load-requires : goal.load-requires

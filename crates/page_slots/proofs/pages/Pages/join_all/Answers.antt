@@ -1,8 +1,7 @@
-use Rattle.std.proofs.Common.{rules, ◌≡◌, ℕ, ◌<◌, ◌≤◌, false, List, [], ◌∷◌, ◌++◌, sym, refl, ap, ◌∙◌, subst, arith}
+use Rattle.std.proofs.Common.{rules, ◌≡◌, ℕ, ◌<◌, false, List, [], ◌∷◌, ◌++◌, sym, ap, ◌∙◌, subst, arith}
 use Rattle.page_slots.specs.Seats.{PageSeatValue, holds}
-use Rattle.page_slots.specs.PageRule.{held_of, IsSized}
-use Rattle.page_slots.specs.PageSteps.{Seated}
-use Rattle.page_slots.proofs.PageJoins.{member, cut_off, none_out, stands_for_one, stands_for_more}
+use Rattle.page_slots.specs.PageRule.{held_of}
+use Rattle.page_slots.proofs.PageJoins.{member, cut_off, none_out, stands_for_more}
 use Rattle.page_slots.proofs.PageSeats.{joins}
 use Rattle.page_slots.proofs.pages.Pages.join_all.Goals as goal
 

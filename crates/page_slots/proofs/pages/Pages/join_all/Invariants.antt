@@ -1,4 +1,4 @@
-use Rattle.std.proofs.Common.{◌≡◌, ℕ, List, ◌++◌, length}
+use Rattle.std.proofs.Common.{◌≡◌, List, ◌++◌, length}
 use Rattle.page_slots.specs.PageClosing.{StandsForAll}
 use Rattle.page_slots.specs.Seats.{PageSeatValue}
 use Rattle.page_slots.proofs.pages.Pages.join_all.Given as goal

@@ -1,4 +1,4 @@
-use Rattle.std.proofs.Common.{rules, ◌≡◌, ℕ, ◌<◌, ◌≤◌, sym, ap, ◌∙◌, subst, arith}
+use Rattle.std.proofs.Common.{◌≡◌, ◌<◌, sym, ap, ◌∙◌, subst, arith}
 use Rattle.page_slots.specs.PageSteps.{Seated}
 use Rattle.page_slots.proofs.PageSeats.{parts}
 use Rattle.page_slots.proofs.pages.Pages.part_seats.Goals as goal

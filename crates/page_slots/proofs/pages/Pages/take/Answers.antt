@@ -1,6 +1,5 @@
-use Rattle.std.proofs.Common.{rules, ◌≡◌, ℕ, ◌<◌, ◌≤◌, sym, ap, ◌∙◌, subst, arith}
-use Rattle.page_slots.specs.PageSteps.{Seated}
-use Rattle.page_slots.proofs.PageActs.{Sits, take_asks, page_out}
+use Rattle.std.proofs.Common.{◌<◌, sym, ap, ◌∙◌, subst, arith}
+use Rattle.page_slots.proofs.PageActs.{take_asks, page_out}
 use Rattle.page_slots.proofs.pages.Pages.take.Goals as goal
 
 pub fetch_or-word-requires : goal.fetch_or-word-requires
