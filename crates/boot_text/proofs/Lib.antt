@@ -1,2 +1,10 @@
 pub mod Adding
 pub mod FirstLines
+pub mod Ranges
+pub mod Verbs
+pub mod Statements
+pub mod Units
+pub mod Linked
+pub mod Standing
+pub mod Steps
+pub mod Sounds

@@ -12,3 +12,4 @@ pub mod SoFar
 pub mod Sums
 pub mod BootText
 pub mod Taken
+pub mod Sound

@@ -2,6 +2,7 @@
 ghost use Rattle.std.specs.Prelude.{◌≡◌, ◌≤◌, IfOk, IfErr, length, map};
 ghost use Rattle.boot_text.specs.BootText.{plan_of, SaysPlan, IsFault, read_from};
 ghost use Rattle.boot_text.specs.SoFar.{nothing};
+ghost use Rattle.boot_text.specs.Sound.{IsSound};
 
 use crate::cause::{Cause, PlanFault};
 use crate::draft::Draft;
@@ -20,6 +21,7 @@ pub const MOST_LINE: usize = 1_024;
 pub fn read_plan(alloc: Global, bytes: &[u8]) -> Result<Plan, PlanFault>
     ensures plan { IfOk result (SaysPlan (plan_of bytes.now)) }
     ensures fault { IfErr result (IsFault (plan_of bytes.now)) }
+    ensures sound { IfOk result IsSound }
 {
     if bytes.len() > MOST_TEXT {
         return Err(PlanFault::Refused {
