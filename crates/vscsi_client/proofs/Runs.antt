@@ -7,7 +7,7 @@ use Rattle.vscsi_client.specs.declared.stage.Due.{Due}
 use Rattle.vscsi_client.specs.State.{ClientState}
 use Rattle.vscsi_client.specs.Ports.{ports}
 use Rattle.crq_session.specs.EndState.{EndState, OnlyReserves}
-use Rattle.tce_window.specs.PortState.{PortState, LaysNone}
+use Rattle.tce_window.specs.PortState.{PortState, LaysNone, OnlyReads}
 use Rattle.vio_num.specs.declared.entry.Entry.{Entry}
 use Rattle.vscsi_client.specs.declared.found.Found.{Found}
 use Rattle.vscsi_client.specs.declared.found.Found.TheVariants.{InUse}
@@ -100,15 +100,15 @@ pub held_by : (s s' : ClientState) (entry : Entry) → s' ≡ record s { held = 
 held_by s s' entry is = ap (λ (s : ClientState). s.held) is
 
 pub looks_from : (shared : Bool) (s s' : ClientState) (old new : PortState) (found : Found) (entry : Entry) → s.held ≡ Some entry
-    → IfSome s.held (λ e. Finds shared s e old new found × (s' ≡ found_by e found s)) → Looks shared s s' old new found
-looks_from shared s s' old new found entry is looks =
+    → IfSome s.held (λ e. Finds shared s e old new found × (s' ≡ found_by e found s)) → OnlyReads shared old new → Looks shared s s' old new found
+looks_from shared s s' old new found entry is looks reads =
     let at : Finds shared s entry old new found × (s' ≡ found_by entry found s) = subst (λ h. IfSome h (λ e. Finds shared s e old new found × (s' ≡ found_by e found s))) is looks in
-    record { entry = entry; held = is; finds = at.0; client = at.1 }
+    record { entry = entry; held = is; finds = at.0; reads = reads; client = at.1 }
 
 pub some_held : (h : Option Entry) (e : Entry) → h ≡ Some e → IsSome h
 some_held h e is = subst (λ (o : Option Entry). IsSome o) (sym is) refl
 
 pub looks_some : (shared : Bool) (s s' : ClientState) (old new : PortState) (found : Found) (h : Option Entry) → s.held ≡ h → IsSome h
-    → IfSome s.held (λ e. Finds shared s e old new found × (s' ≡ found_by e found s)) → Looks shared s s' old new found
-looks_some shared s s' old new found None is some looks = absurd (cc)
-looks_some shared s s' old new found (Some entry) is some looks = looks_from shared s s' old new found entry is looks
+    → IfSome s.held (λ e. Finds shared s e old new found × (s' ≡ found_by e found s)) → OnlyReads shared old new → Looks shared s s' old new found
+looks_some shared s s' old new found None is some looks reads = absurd (cc)
+looks_some shared s s' old new found (Some entry) is some looks reads = looks_from shared s s' old new found entry is looks reads

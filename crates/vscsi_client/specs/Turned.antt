@@ -14,7 +14,7 @@ use Rattle.crq_session.specs.EndState.{EndState, OnlyReserves}
 use Rattle.crq_session.specs.Answered.{Sends, TurnsBack, FindsFull, FindsNone, FindsClosed, MeetsOpen, Opens, HoldsUp, Takes}
 use Rattle.srp_iu.specs.declared.unit.Iu.TheVariants.{LoginReq}
 use Rattle.srp_iu.specs.Grammar.{Canon}
-use Rattle.tce_window.specs.PortState.{PortState, LaysNone}
+use Rattle.tce_window.specs.PortState.{PortState, LaysNone, OnlyReads}
 use Rattle.vscsi_client.specs.declared.answers.LoginTurn.{LoginTurn}
 use Rattle.vscsi_client.specs.declared.answers.LoginTurn.TheVariants as turns
 use Rattle.vscsi_client.specs.declared.found.Found.{Found}
@@ -107,6 +107,7 @@ pub record Looks (shared : Bool) (s s' : ClientState) (old new : PortState) (fou
   pub entry : Entry
   pub held : s.held ≡ Some entry
   pub finds : Finds shared s entry old new found
+  pub reads : OnlyReads shared old new
   pub client : s' ≡ found_by entry found s
 
 abbrev pub is_login : Due → Bool

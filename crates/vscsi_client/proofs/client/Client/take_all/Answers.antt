@@ -38,7 +38,7 @@ returns-in-GoOn-clause-did g c = λ line.
       refl,
       (
         looks_some g.O.WindowPort.is_shared c.args.self.now c.look.new.self (g.O.WindowPort.state c.args.own.now) (g.O.WindowPort.state c.look.new.own) c.in-Ok.found
-            c.args.self.now.held refl (some_held c.args.self.now.held _ (sym (ap (λ (s : ClientState). s.held) c.self.view_is) ∙ c.in-Some.is)) c.in-Ok.ensures.looks,
+            c.args.self.now.held refl (some_held c.args.self.now.held _ (sym (ap (λ (s : ClientState). s.held) c.self.view_is) ∙ c.in-Some.is)) c.in-Ok.ensures.looks c.look.ensures.rest,
         refl,
       ),
       hands _ _ _ _ _ _ _ _,
@@ -57,7 +57,7 @@ returns-in_default g c = record {
           refl,
           (
             looks_some g.O.WindowPort.is_shared c.args.self.now c.look.new.self (g.O.WindowPort.state c.args.own.now) (g.O.WindowPort.state c.look.new.own) c.in-Ok.found
-                c.args.self.now.held refl (some_held c.args.self.now.held _ (sym (ap (λ (s : ClientState). s.held) c.self.view_is) ∙ c.in-Some.is)) c.in-Ok.ensures.looks,
+                c.args.self.now.held refl (some_held c.args.self.now.held _ (sym (ap (λ (s : ClientState). s.held) c.self.view_is) ∙ c.in-Some.is)) c.in-Ok.ensures.looks c.look.ensures.rest,
             refl,
           ),
           hands _ _ _ _ _ _ _ _,

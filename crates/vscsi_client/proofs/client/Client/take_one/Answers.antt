@@ -49,7 +49,7 @@ returns-in-Ok-clause-did g c = λ line.
         (a, refl, (took, refl), hands _ _ _ _ _ _ _ _),
         (
           looks_from g.O.WindowPort.is_shared c.take_next.new.self c.look.new.self (g.O.WindowPort.state c.args.own.now) (g.O.WindowPort.state c.look.new.own) c.in-Ok.found
-              took.entry (held_by c.args.self.now c.take_next.new.self took.entry took.client) c.in-Ok.ensures.looks,
+              took.entry (held_by c.args.self.now c.take_next.new.self took.entry took.client) c.in-Ok.ensures.looks c.look.ensures.rest,
           refl,
         ),
         hands _ _ _ _ _ _ _ _,
