@@ -1,11 +1,8 @@
 -- What calls leave of a unit's site, one after the other.
-use Rattle.std.proofs.Common.{◌≡◌, ◌⊎◌, inl, inr, ℕ, ◌≤◌, ◌++◌, List, [], ◌∷◌, Bool, true, false, All, Option, Some, None, refl, sym, ◌∙◌, ap, subst, arith, append-nil, append_assoc}
+use Rattle.std.proofs.Common.{◌≡◌, ◌⊎◌, inl, inr, ℕ, ◌++◌, List, [], ◌∷◌, refl, sym, ◌∙◌, ap, arith, append-nil, append_assoc}
 use Rattle.std.proofs.lemmas.List.Elements.{All-nil, All-cons, All-append, All-weaker}
-use Rattle.vio_num.specs.declared.entry.Entry.{Entry}
-use Rattle.page_slots.specs.Stroke.{StrokeValue}
 use Rattle.crq_ring.specs.declared.rows.PipeRow.{PipeRow}
 use Rattle.vio_num.specs.Words.{Begins}
-use Rattle.tce_window.specs.Port.{Grows, Later}
 use Rattle.tce_window.specs.PortState.{PortState}
 use Rattle.rdma_copy.proofs.Laws.{lawful_stays, side_same, side_on}
 use Rattle.rdma_copy.specs.declared.copy.CopyRecord.{CopyRecord}

@@ -6,3 +6,9 @@ pub mod Putting
 pub mod Quieting
 pub mod Sending
 pub mod Windows
+pub mod Rows
+pub mod AnswerLaws
+pub mod Onces
+pub mod Serves
+pub mod Plains
+pub mod Units

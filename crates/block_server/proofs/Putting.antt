@@ -1,17 +1,21 @@
 -- Entries that a unit may put.
-use Rattle.std.proofs.Common.{◌≡◌, ℕ, ◌==◌, ◌&&◌, ◌||◌, Bool, true, false, Option, Some, None, IfSome, refl, sym, ◌∙◌, ap, subst}
-use Rattle.vio_num.specs.declared.entry.Entry.{Entry}
+use Rattle.std.proofs.Common.{◌≡◌, ℕ, ◌==◌, ◌&&◌, ◌||◌, Bool, true, false, IfSome, refl, ap}
 use Rattle.vio_num.specs.Entry.{iu_length, srp_entry}
 use Rattle.std.proofs.lemmas.Bool.{eq-eqb}
 use Rattle.crq_session.specs.declared.handshake.Step.{Step}
 use Rattle.crq_session.specs.declared.handshake.Step.TheVariants.{Nothing, SendInitialize, SendComplete}
 use Rattle.crq_session.specs.Handshake.{step_entry}
-use Rattle.block_server.specs.Entries.{MayPut, datagram_answer, is_answer_len, may_put}
+use Rattle.block_server.specs.Entries.{IsPlain, MayPut, datagram_answer, is_answer_len}
 
 pub step_may : (step : Step) → IfSome (step_entry step) MayPut
 step_may Nothing = tt
 step_may SendInitialize = refl
 step_may SendComplete = refl
+
+pub step_plain : (step : Step) → IfSome (step_entry step) IsPlain
+step_plain Nothing = tt
+step_plain SendInitialize = record { no_response = refl; no_login = refl; no_rejection = refl }
+step_plain SendComplete = record { no_response = refl; no_login = refl; no_rejection = refl }
 
 pub datagram_may : (low : ℕ) → MayPut (datagram_answer low)
 datagram_may low = ap (λ (same : Bool). same || (false || (false || false))) (eq-eqb low low refl)

@@ -5,7 +5,7 @@ use Rattle.crq_session.specs.Answered.{LosesKept}
 use Rattle.crq_session.specs.EndState.{EndState, OnlyReserves}
 use Rattle.block_server.specs.declared.unit.Unit.{Unit}
 use Rattle.block_server.specs.Stage.{how_far}
-use Rattle.block_server.specs.Turns.{IfQuiet, IsQuiet, IsStill, StaysMoved, under_way}
+use Rattle.block_server.specs.Turns.{IfQuiet, IsStill, StaysMoved, under_way}
 
 pub still_same : (queue : EndState) → IsStill queue queue
 still_same queue = record { taken = refl; sent = refl; registered = refl; session = refl }

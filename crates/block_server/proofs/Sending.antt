@@ -1,5 +1,5 @@
 -- What a send leaves of a unit's site.
-use Rattle.std.proofs.Common.{◌≡◌, ◌⊎◌, inl, inr, IfSome, ℕ, ◌≤◌, ◌++◌, List, [], ◌∷◌, Bool, Option, Some, None, refl, sym, ◌∙◌, subst, arith, append-nil}
+use Rattle.std.proofs.Common.{◌≡◌, ◌⊎◌, inl, inr, IfSome, ◌≤◌, List, [], Bool, Option, Some, None, refl, sym, ◌∙◌, subst, arith, append-nil}
 use Rattle.std.specs.Option.{IsSome}
 use Rattle.vio_num.specs.declared.entry.Entry.{Entry}
 use Rattle.vio_num.specs.Entry.{partner_freed}
@@ -12,7 +12,7 @@ use Rattle.crq_session.specs.declared.answers.FreeAnswer.TheVariants as freeing
 use Rattle.crq_session.specs.declared.answers.EventAnswer.{EventAnswer}
 use Rattle.crq_session.specs.declared.answers.EventAnswer.TheVariants as pushing
 use Rattle.crq_session.specs.Answers.{IfSent, OnNotSent, IfClosed, IfDropped, IfHeldUp, IfInUse, IfKept, OnFreed, OnNotFreed, OnNotRegistered, OnNothing, OnOpened, OnPut}
-use Rattle.crq_session.specs.Answered.{FindsInUse, Frees, HoldsUp, Keeps, Loses, Opens, Pushes, Puts, PutsNone, Sends, Settles, StillKept, TellsFreed, TurnsBack, FindsFull}
+use Rattle.crq_session.specs.Answered.{FindsInUse, HoldsUp, Keeps, Loses, Opens, Pushes, Puts, PutsNone, Sends, Settles, StillKept, TellsFreed, TurnsBack, FindsFull}
 use Rattle.crq_session.specs.EndState.{EndState, OnlyReserves}
 use Rattle.vio_num.specs.Words.{Begins}
 use Rattle.tce_window.specs.PortState.{PortState}
@@ -21,7 +21,7 @@ use Rattle.rdma_copy.specs.Copies.{side_of}
 use Rattle.rdma_copy.specs.declared.copy.CopyRecord.{CopyRecord}
 use Rattle.block_server.specs.Advances.{Advances, KeepsFreed, PutsMore}
 use Rattle.block_server.specs.Entries.{MayPut}
-use Rattle.block_server.specs.SiteState.{Lenders, SiteState, site}
+use Rattle.block_server.specs.SiteState.{Lenders, site}
 use Rattle.block_server.proofs.Advancing.{copies_none, puts_none, puts_one}
 use Rattle.block_server.proofs.Quieting.{lost_none}
 

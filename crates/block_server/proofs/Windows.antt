@@ -1,11 +1,10 @@
 -- What copies, reads and writes leave of a unit's site.
-use Rattle.std.proofs.Common.{◌≡◌, ℕ, ◌≤◌, ◌++◌, List, [], ◌∷◌, inl, inr, Bool, true, false, Option, Some, None, Result, Ok, Err, OnOk, OnErr, length, refl, sym, ◌∙◌, ap, subst, arith, append-nil}
+use Rattle.std.proofs.Common.{◌≡◌, ℕ, ◌++◌, List, [], ◌∷◌, inl, inr, Bool, true, false, Option, Some, None, Result, Ok, Err, OnOk, OnErr, length, refl, sym, ◌∙◌, ap, subst, arith, append-nil}
 use Rattle.page_slots.specs.Stroke.{StrokeValue}
 use Rattle.page_slots.specs.declared.stroke.StrokeName.{StrokeName}
 use Rattle.tce_window.specs.declared.piece.Piece.{Piece}
 use Rattle.tce_window.specs.declared.answers.OwnFault.{OwnFault}
 use Rattle.tce_window.specs.Moved.{IsLaid, strokes_on}
-use Rattle.vio_num.specs.Words.{Begins}
 use Rattle.tce_window.specs.Port.{Grows, IsWritten}
 use Rattle.tce_window.specs.PortState.{PortState, LaysNone, OnlyReads, OnlyWrites, Writes}
 use Rattle.tce_window.specs.Region.{touches, stroke_on, written}
@@ -16,11 +15,11 @@ use Rattle.rdma_copy.specs.declared.copy.CopyAnswer.TheVariants as copies
 use Rattle.rdma_copy.specs.Answers.{IfCopied, OnRefused}
 use Rattle.rdma_copy.specs.Copies.{Copies, OnlyCopies, side_of}
 use Rattle.rdma_copy.specs.Copy.{SideGrows}
-use Rattle.rdma_copy.proofs.Laws.{later_begins, learns_grows, side_same}
+use Rattle.rdma_copy.proofs.Laws.{later_begins, learns_grows}
 use Rattle.crq_session.specs.EndState.{EndState}
-use Rattle.block_server.specs.Advances.{Advances, CopiesMore, IsOwnCopy}
+use Rattle.block_server.specs.Advances.{Advances, CopiesMore}
 use Rattle.block_server.specs.Copied.{copies_in}
-use Rattle.block_server.specs.SiteState.{Lenders, SiteState, site}
+use Rattle.block_server.specs.SiteState.{Lenders, site}
 use Rattle.block_server.proofs.Advancing.{begins_on, begins_same, copies_none, copies_one, puts_none}
 
 -- a page grew on which strokes were laid behind what it had

@@ -1,4 +1,5 @@
 pub mod Advances
+pub mod Answering
 pub mod Copied
 pub mod Ends
 pub mod Entries
@@ -6,6 +7,9 @@ pub mod Kept
 pub mod Records
 pub mod Responses
 pub mod Service
+pub mod Serving
 pub mod SiteState
 pub mod Stage
 pub mod Turns
+pub mod Units
+pub mod Verdicts

@@ -1,5 +1,5 @@
 -- What a server keeps for good, and the room in it.
-use Rattle.std.specs.Prelude.{◌≡◌, ◌<◌, ◌++◌, ℕ, [], ◌∷◌, None}
+use Rattle.std.specs.Prelude.{◌≡◌, ◌<◌, ◌++◌, ℕ, List, [], ◌∷◌, Some, None, slice_get, slice_set}
 use Rattle.std.specs.Vec.{vec_len, vec_capacity}
 use Rattle.vio_num.specs.declared.names.UnitId.{UnitId}
 use Rattle.vio_num.specs.declared.history.Served.{Served}
@@ -33,3 +33,10 @@ pub record AddsRow (unit : UnitId) (session : ℕ) (request : Request) (old new 
   pub blank : IsBlankRow unit session request row
   pub history : new.history.items ≡ old.history.items ++ row ∷ []
   pub grants : new.grants.items ≡ old.grants.items
+
+-- A row of the history, if there is one at this place, has these data-in, or this answer, and no other row changed.
+abbrev pub FillsRow : (old new : List Served) → (row : ℕ) → (inn : List ℕ) → Type 0
+FillsRow old new row inn = (served : Served) → slice_get old row ≡ Some served → new ≡ slice_set old row (record served { inn = inn })
+
+abbrev pub AnswersRow : (old new : List Served) → (row : ℕ) → (answer : List ℕ) → Type 0
+AnswersRow old new row answer = (served : Served) → slice_get old row ≡ Some served → new ≡ slice_set old row (record served { answer = answer })

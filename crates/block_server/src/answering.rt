@@ -1,8 +1,10 @@
 // Answering: what is put into the client's queue, and what ends a login.
-ghost use Rattle.std.specs.Prelude.{◌≡◌, ◌+◌, ◌<◌, Some, OnOk, true};
+ghost use Rattle.std.specs.Prelude.{◌≡◌, ◌≢◌, ◌+◌, ◌<◌, None, Some, OnOk, true};
 ghost use Rattle.block_server.specs.Advances.{Advances};
 ghost use Rattle.block_server.specs.Ends.{EndsLogin};
-ghost use Rattle.block_server.specs.Entries.{MayPut, is_answer_len};
+ghost use Rattle.block_server.specs.Entries.{IsPlain, MayPut, is_answer_len};
+ghost use Rattle.block_server.specs.Serving.{AnswersOnce, AsNone, LeavesRow, SettlesRow, desk_of};
+ghost use Rattle.crq_session.specs.EndState.{EndState};
 ghost use Rattle.block_server.specs.Turns.{IfQuiet};
 ghost use Rattle.vio_num.specs.Entry.{srp_entry};
 ghost use Rattle.block_server.specs.declared.service.Outcome.{Outcome};
@@ -24,6 +26,10 @@ use vio_num::{Entry, Grant, Lapse, NoMemory};
 pub(crate) fn put_reply<S: Site>(unit: &mut Unit, site: &mut S, reply: Entry) -> Next
     requires room { 0 < (S.state site.old).queue.spare }
     requires may { MayPut reply }
+    requires plain { IsPlain reply }
+    ensures still { result ≢ Next.End → unit.new.line.kept ≡ unit.old.line.kept }
+    ensures once { (records : Records) → AnswersOnce (desk_of unit.old) (desk_of unit.new)
+        (S.state site.old).queue (S.state site.new).queue records records }
     ensures kept { result ≡ Next.End → unit.new.line.kept ≡ Some (Kept.Reply reply) }
     ensures quiet { IfQuiet unit.old unit.new (S.state site.old).queue (S.state site.new).queue }
     ensures advances { Advances (S.state site.old) (S.state site.new) }
@@ -50,6 +56,8 @@ pub(crate) fn end_session(
 ) -> Next
     requires { HasLineRoom records.old }
     ensures ends { EndsLogin unit.old unit.new records.old records.new session cause 0 0 }
+    ensures once { (q : EndState) → AnswersOnce (desk_of unit.old) (desk_of unit.new) q q
+        records.old records.new }
     ensures closing { unit.new.line.closing ≡ true }
     ensures end { result ≡ Next.End }
     ensures last { unit.new.logins.last ≡ unit.old.logins.last }
@@ -71,6 +79,8 @@ pub(crate) fn end_counted(
     requires { HasLineRoom records.old }
     ensures ends { EndsLogin unit.old unit.new records.old records.new
         session cause outstanding granted }
+    ensures once { (q : EndState) → AnswersOnce (desk_of unit.old) (desk_of unit.new) q q
+        records.old records.new }
     ensures closing { unit.new.line.closing ≡ true }
     ensures end { result ≡ Next.End }
     ensures last { unit.new.logins.last ≡ unit.old.logins.last }
@@ -87,6 +97,8 @@ pub(crate) fn end_counted(
 pub(crate) fn lose_partner(unit: &mut Unit, session: u64, records: &mut Records)
     requires { HasLineRoom records.old }
     ensures ends { EndsLogin unit.old unit.new records.old records.new session Lapse.Lost 0 0 }
+    ensures once { (q : EndState) → AnswersOnce (desk_of unit.old) (desk_of unit.new) q q
+        records.old records.new }
     ensures moved { unit.new.moved ≡ unit.old.moved }
 {
     end_login(unit, session, records, Lapse::Lost, 0, 0);
@@ -104,6 +116,8 @@ fn end_login(
     requires { HasLineRoom records.old }
     ensures ends { EndsLogin unit.old unit.new records.old records.new
         session cause outstanding granted }
+    ensures once { (q : EndState) → AnswersOnce (desk_of unit.old) (desk_of unit.new) q q
+        records.old records.new }
     ensures last { unit.new.logins.last ≡ unit.old.logins.last }
     ensures stage { unit.new.service.stage ≡ Stage.Start }
     ensures moved { unit.new.moved ≡ unit.old.moved }
@@ -125,6 +139,8 @@ fn end_login(
 
 // Leaves the row in service, if there is one, with the data-in that were copied so far and without an answer.
 fn leave_row(unit: &mut Unit, records: &mut Records)
+    ensures row { LeavesRow unit.old.service.stage records.old.history.items
+        records.new.history.items }
     ensures grants { records.new.grants ≡ records.old.grants }
     ensures logins { unit.new.logins ≡ unit.old.logins }
     ensures id { unit.new.id ≡ unit.old.id }
@@ -140,8 +156,11 @@ fn leave_row(unit: &mut Unit, records: &mut Records)
 
 /// Serves an I_LOGOUT: the login ends.
 pub(crate) fn log_out(unit: &mut Unit, session: u64, records: &mut Records)
-    requires { HasLineRoom records.old }
-    ensures { unit.new.moved ≡ true }
+    requires room { HasLineRoom records.old }
+    requires none { unit.old.line.kept ≡ None }
+    ensures once { (q : EndState) → AnswersOnce (desk_of unit.old) (desk_of unit.new) q q
+        records.old records.new }
+    ensures moved { unit.new.moved ≡ true }
 {
     let login = unit.logins.end();
     records.grants.push_reserved(Grant::Lapsed {
@@ -162,6 +181,9 @@ pub(crate) fn answer<S: Site>(
     site: &mut S,
     records: &mut Records,
 ) -> Result<(), NoMemory>
+    requires none { unit.old.line.kept ≡ None }
+    ensures once { AnswersOnce (desk_of unit.old) (desk_of unit.new)
+        (S.state site.old).queue (S.state site.new).queue records.old records.new }
     ensures quiet { OnOk result (IfQuiet unit.old unit.new
         (S.state site.old).queue (S.state site.new).queue) }
     ensures advances { Advances (S.state site.old) (S.state site.new) }
@@ -183,6 +205,10 @@ fn copy_answer<S: Site>(
     records: &mut Records,
 ) -> Result<(), NoMemory>
     requires line { HasLineRoom records.old }
+    requires none { unit.old.line.kept ≡ None }
+    ensures none { unit.new.line.kept ≡ None }
+    ensures once { AnswersOnce (desk_of unit.old) (desk_of unit.new)
+        (S.state site.old).queue (S.state site.new).queue records.old records.new }
     ensures queue { (S.state site.new).queue ≡ (S.state site.old).queue }
     ensures quiet { IfQuiet unit.old unit.new (S.state site.old).queue (S.state site.new).queue }
     ensures advances { Advances (S.state site.old) (S.state site.new) }
@@ -206,6 +232,10 @@ fn copy_answer<S: Site>(
 // Copies the answer over the request.
 fn deliver<S: Site>(unit: &mut Unit, site: &mut S, outcome: Outcome) -> Result<Progress, NoMemory>
     requires stage { unit.old.service.stage ≡ Stage.Answer outcome }
+    requires none { unit.old.line.kept ≡ None }
+    ensures none { unit.new.line.kept ≡ None }
+    ensures once { (records : Records) → AnswersOnce (desk_of unit.old) (desk_of unit.new)
+        (S.state site.old).queue (S.state site.new).queue records records }
     ensures queue { (S.state site.new).queue ≡ (S.state site.old).queue }
     ensures quiet { IfQuiet unit.old unit.new (S.state site.old).queue (S.state site.new).queue }
     ensures advances { Advances (S.state site.old) (S.state site.new) }
@@ -232,6 +262,9 @@ fn put_answer<S: Site>(unit: &mut Unit, site: &mut S, records: &mut Records, out
     requires spare { 0 < (S.state site.old).queue.spare }
     requires logins { unit.old.logins.last + 1 < MOST_LOGINS }
     requires stage { unit.old.service.stage ≡ Stage.Entry outcome }
+    requires none { unit.old.line.kept ≡ None }
+    ensures once { AnswersOnce (desk_of unit.old) (desk_of unit.new)
+        (S.state site.old).queue (S.state site.new).queue records.old records.new }
     ensures quiet { IfQuiet unit.old unit.new (S.state site.old).queue (S.state site.new).queue }
     ensures advances { Advances (S.state site.old) (S.state site.new) }
 {
@@ -261,6 +294,9 @@ pub(crate) fn put_kept<S: Site>(
     site: &mut S,
     records: &mut Records,
 ) -> Result<Next, NoMemory>
+    ensures none { AsNone result unit.new.line.kept }
+    ensures once { AnswersOnce (desk_of unit.old) (desk_of unit.new)
+        (S.state site.old).queue (S.state site.new).queue records.old records.new }
     ensures quiet { OnOk result (IfQuiet unit.old unit.new
         (S.state site.old).queue (S.state site.new).queue) }
     ensures advances { Advances (S.state site.old) (S.state site.new) }
@@ -295,7 +331,12 @@ pub(crate) fn put_kept<S: Site>(
 fn settle(unit: &mut Unit, session: u64, records: &mut Records, outcome: Outcome)
     requires room { HasLineRoom records.old }
     requires logins { unit.old.logins.last + 1 < MOST_LOGINS }
-    ensures { unit.new.moved ≡ true }
+    ensures row { SettlesRow outcome unit.old.service.answer.items records.old.history.items
+        records.new.history.items }
+    ensures id { unit.new.id ≡ unit.old.id }
+    ensures stage { unit.new.service.stage ≡ Stage.Start }
+    ensures kept { unit.new.line.kept ≡ unit.old.line.kept }
+    ensures moved { unit.new.moved ≡ true }
 {
     match outcome {
         Outcome::Granted { number } => {
@@ -321,7 +362,10 @@ fn settle(unit: &mut Unit, session: u64, records: &mut Records, outcome: Outcome
 
 // Ends the service of the oldest request.
 fn finish(unit: &mut Unit)
-    ensures { unit.new.moved ≡ true }
+    ensures id { unit.new.id ≡ unit.old.id }
+    ensures stage { unit.new.service.stage ≡ Stage.Start }
+    ensures kept { unit.new.line.kept ≡ unit.old.line.kept }
+    ensures moved { unit.new.moved ≡ true }
 {
     let _served = unit.pending.pop_front();
     unit.service.reset();

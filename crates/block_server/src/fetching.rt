@@ -1,6 +1,7 @@
 // What a command brings: the tables of its descriptors, and its data-out.
-ghost use Rattle.std.specs.Prelude.{◌≡◌, ◌%◌, ◌≤◌};
+ghost use Rattle.std.specs.Prelude.{◌≡◌, ◌%◌, ◌≤◌, true};
 ghost use Rattle.block_server.specs.Advances.{Advances};
+ghost use Rattle.block_server.specs.Stage.{is_before_step};
 
 use crate::answers::total_len;
 use crate::cursor::Cursor;
@@ -30,6 +31,8 @@ pub(crate) fn fetch<S: Site>(
     site: &mut S,
     command: &Cmd,
 ) -> Result<Progress, NoMemory>
+    ensures before { is_before_step service.old.stage ≡ true →
+        is_before_step service.new.stage ≡ true }
     ensures queue { (S.state site.new).queue ≡ (S.state site.old).queue }
     ensures advances { Advances (S.state site.old) (S.state site.new) }
 {
@@ -56,6 +59,8 @@ fn fetch_out_pieces<S: Site>(
     site: &mut S,
     command: &Cmd,
 ) -> Result<Progress, NoMemory>
+    ensures before { is_before_step service.old.stage ≡ true →
+        is_before_step service.new.stage ≡ true }
     ensures queue { (S.state site.new).queue ≡ (S.state site.old).queue }
     ensures advances { Advances (S.state site.old) (S.state site.new) }
 {
@@ -75,6 +80,8 @@ fn fetch_in_pieces<S: Site>(
     site: &mut S,
     command: &Cmd,
 ) -> Result<Progress, NoMemory>
+    ensures before { is_before_step service.old.stage ≡ true →
+        is_before_step service.new.stage ≡ true }
     ensures queue { (S.state site.new).queue ≡ (S.state site.old).queue }
     ensures advances { Advances (S.state site.old) (S.state site.new) }
 {
@@ -90,6 +97,8 @@ fn fetch_in_pieces<S: Site>(
 
 // Fetches data-out, if that is to be done.
 fn fetch_data_out<S: Site>(service: &mut Service, site: &mut S) -> Result<Progress, NoMemory>
+    ensures before { is_before_step service.old.stage ≡ true →
+        is_before_step service.new.stage ≡ true }
     ensures queue { (S.state site.new).queue ≡ (S.state site.old).queue }
     ensures advances { Advances (S.state site.old) (S.state site.new) }
 {
@@ -156,6 +165,8 @@ fn fetch_data<S: Site>(
     site: &mut S,
     start: Cursor,
 ) -> Result<Progress, NoMemory>
+    ensures before { is_before_step service.old.stage ≡ true →
+        is_before_step service.new.stage ≡ true }
     ensures queue { (S.state site.new).queue ≡ (S.state site.old).queue }
     ensures advances { Advances (S.state site.old) (S.state site.new) }
 {

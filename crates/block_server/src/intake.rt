@@ -1,9 +1,13 @@
 // Intake: entries are taken from the unit's queue, and the requests among them are fetched and judged.
-ghost use Rattle.std.specs.Prelude.{◌≡◌, ◌+◌, ◌<◌, ◌≤◌, OnOk, length};
+ghost use Rattle.std.specs.Prelude.{◌≡◌, ◌+◌, ◌<◌, ◌≤◌, ℕ, List, None, OnOk, length};
 ghost use Rattle.std.specs.VecDeque.{deque_len, deque_capacity};
 ghost use Rattle.block_server.specs.Records.{HasLineRoom};
 ghost use Rattle.block_server.specs.Advances.{Advances};
 ghost use Rattle.block_server.specs.Turns.{IfQuiet, StaysMoved, under_way};
+ghost use Rattle.block_server.specs.Serving.{AnswersOnce, AsNone, desk_of};
+ghost use Rattle.block_server.specs.Verdicts.{IsTagged};
+ghost use Rattle.crq_session.specs.EndState.{EndState};
+ghost use Rattle.srp_iu.specs.Layout.{field};
 
 use crate::answering::{end_counted, end_session, lose_partner, put_reply};
 use crate::answers::datagram_answer;
@@ -70,6 +74,10 @@ pub(crate) fn take_in<S: Site>(
     site: &mut S,
     records: &mut Records,
 ) -> Result<Next, NoMemory>
+    requires none { unit.old.line.kept ≡ None }
+    ensures none { AsNone result unit.new.line.kept }
+    ensures once { AnswersOnce (desk_of unit.old) (desk_of unit.new)
+        (S.state site.old).queue (S.state site.new).queue records.old records.new }
     ensures quiet { OnOk result (IfQuiet unit.old unit.new
         (S.state site.old).queue (S.state site.new).queue) }
     ensures advances { Advances (S.state site.old) (S.state site.new) }
@@ -97,6 +105,10 @@ fn receive_waiting<S: Site>(
     site: &mut S,
     records: &mut Records,
 ) -> Result<Next, NoMemory>
+    requires none { unit.old.line.kept ≡ None }
+    ensures none { AsNone result unit.new.line.kept }
+    ensures once { AnswersOnce (desk_of unit.old) (desk_of unit.new)
+        (S.state site.old).queue (S.state site.new).queue records.old records.new }
     ensures quiet { OnOk result (IfQuiet unit.old unit.new
         (S.state site.old).queue (S.state site.new).queue) }
     ensures advances { Advances (S.state site.old) (S.state site.new) }
@@ -113,6 +125,9 @@ fn make_room(unit: &mut Unit, records: &mut Records) -> Result<(), NoMemory>
     ensures lines { OnOk result (HasLineRoom records.new) }
     ensures pending { OnOk result (deque_len unit.new.pending < deque_capacity unit.new.pending) }
     ensures way { under_way unit.new ≡ under_way unit.old }
+    ensures desk { desk_of unit.new ≡ desk_of unit.old }
+    ensures kept { unit.new.line.kept ≡ unit.old.line.kept }
+    ensures history { records.new.history.items ≡ records.old.history.items }
     ensures moved { unit.new.moved ≡ unit.old.moved }
 {
     unit.pending.reserve(1)?;
@@ -123,6 +138,10 @@ fn make_room(unit: &mut Unit, records: &mut Records) -> Result<(), NoMemory>
 fn take_one<S: Site>(unit: &mut Unit, site: &mut S, records: &mut Records) -> Result<Next, NoMemory>
     requires lines { HasLineRoom records.old }
     requires pending { deque_len unit.old.pending < deque_capacity unit.old.pending }
+    requires none { unit.old.line.kept ≡ None }
+    ensures none { AsNone result unit.new.line.kept }
+    ensures once { AnswersOnce (desk_of unit.old) (desk_of unit.new)
+        (S.state site.old).queue (S.state site.new).queue records.old records.new }
     ensures quiet { OnOk result (IfQuiet unit.old unit.new
         (S.state site.old).queue (S.state site.new).queue) }
     ensures advances { Advances (S.state site.old) (S.state site.new) }
@@ -161,6 +180,10 @@ fn take_command<S: Site>(
     requires lines { HasLineRoom records.old }
     requires pending { deque_len unit.old.pending < deque_capacity unit.old.pending }
     requires spare { 0 < (S.state site.old).queue.spare }
+    requires none { unit.old.line.kept ≡ None }
+    ensures none { AsNone result unit.new.line.kept }
+    ensures once { AnswersOnce (desk_of unit.old) (desk_of unit.new)
+        (S.state site.old).queue (S.state site.new).queue records.old records.new }
     ensures moved { OnOk result (StaysMoved unit.old unit.new) }
     ensures advances { Advances (S.state site.old) (S.state site.new) }
 {
@@ -183,6 +206,10 @@ fn receive<S: Site>(
 ) -> Result<Next, NoMemory>
     requires lines { HasLineRoom records.old }
     requires pending { deque_len unit.old.pending < deque_capacity unit.old.pending }
+    requires none { unit.old.line.kept ≡ None }
+    ensures none { AsNone result unit.new.line.kept }
+    ensures once { AnswersOnce (desk_of unit.old) (desk_of unit.new)
+        (S.state site.old).queue (S.state site.new).queue records.old records.new }
     ensures quiet { OnOk result (IfQuiet unit.old unit.new
         (S.state site.old).queue (S.state site.new).queue) }
     ensures advances { Advances (S.state site.old) (S.state site.new) }
@@ -220,7 +247,11 @@ fn judge(
     requires lines { HasLineRoom records.old }
     requires pending { deque_len unit.old.pending < deque_capacity unit.old.pending }
     requires few { length bytes.now ≤ 256 }
-    ensures { StaysMoved unit.old unit.new }
+    requires none { unit.old.line.kept ≡ None }
+    ensures none { unit.new.line.kept ≡ None }
+    ensures once { (q : EndState) → AnswersOnce (desk_of unit.old) (desk_of unit.new) q q
+        records.old records.new }
+    ensures moved { StaysMoved unit.old unit.new }
 {
     match judge_unit(&mut unit.logins, bytes) {
         Verdict::Ignored => Next::Entry,
@@ -247,7 +278,9 @@ fn judge(
 }
 
 // Says what becomes of an information unit.
-fn judge_unit(logins: &mut Logins, bytes: &[u8]) -> Verdict {
+fn judge_unit(logins: &mut Logins, bytes: &[u8]) -> Verdict
+    ensures { IsTagged result bytes.now }
+{
     match read_iu(bytes) {
         Ok(Iu::LoginReq(login)) => Verdict::Accepted {
             login: 0,
@@ -273,7 +306,9 @@ fn judge_unit(logins: &mut Logins, bytes: &[u8]) -> Verdict {
 }
 
 // A cause that counts nothing.
-fn fatal(cause: Lapse) -> Verdict {
+fn fatal(cause: Lapse) -> Verdict
+    ensures { (bytes : List ℕ) → IsTagged result bytes }
+{
     Verdict::Fatal {
         cause,
         outstanding: 0,
@@ -282,7 +317,9 @@ fn fatal(cause: Lapse) -> Verdict {
 }
 
 // Accepts a command or a task under the login that is on.
-fn accept(logins: &mut Logins, tag: u64, order: Order) -> Verdict {
+fn accept(logins: &mut Logins, tag: u64, order: Order) -> Verdict
+    ensures { (bytes : List ℕ) → tag ≡ field 8 8 bytes → IsTagged result bytes }
+{
     let Some(login) = logins.taking() else {
         return fatal(Lapse::NotLogin);
     };
@@ -303,7 +340,9 @@ fn accept(logins: &mut Logins, tag: u64, order: Order) -> Verdict {
 }
 
 // Judges bytes that are no information unit: under a login a command or a task that has a tag is accepted.
-fn unreadable(logins: &mut Logins, bytes: &[u8]) -> Verdict {
+fn unreadable(logins: &mut Logins, bytes: &[u8]) -> Verdict
+    ensures { IsTagged result bytes.now }
+{
     let Some(tag) = tag_of(bytes) else {
         return fatal(Lapse::BadIu);
     };

@@ -1,8 +1,8 @@
 // A unit's side of its link: how far the queues' initialisation has come, and the entry that found the client's
 // queue full.
-ghost use Rattle.std.specs.Prelude.{◌≡◌, ◌↔◌, IfSome, IsTrue, None, Some};
+ghost use Rattle.std.specs.Prelude.{◌≡◌, ◌↔◌, IfSome, IsTrue, None, Some, false};
 ghost use Rattle.crq_session.specs.declared.handshake.Handshake.TheVariants.{Down, Up};
-ghost use Rattle.block_server.specs.Entries.{MayPut};
+ghost use Rattle.block_server.specs.Entries.{IsPlain, MayPut};
 ghost use Rattle.block_server.specs.Kept.{kept_entry};
 ghost use Rattle.block_server.specs.declared.line.Kept.{Kept};
 
@@ -56,6 +56,15 @@ impl Line {
         }
     }
 
+    /// The session was freed.
+    pub(crate) fn freed(&mut self)
+        ensures closing { self.new.closing ≡ false }
+        ensures kept { self.new.kept ≡ self.old.kept }
+    {
+        self.handshake.freed();
+        self.closing = false;
+    }
+
     /// Whether both sides have heard of one another.
     pub(crate) fn is_up(&self) -> bool
         ensures { IsTrue result ↔ (self.now.handshake ≡ Up) }
@@ -73,7 +82,8 @@ impl Line {
 
 /// The entry that a step of the initialisation sends.
 pub(crate) fn reply_of(step: Step) -> Option<Entry>
-    ensures { IfSome result (λ entry. MayPut entry) }
+    ensures may { IfSome result (λ entry. MayPut entry) }
+    ensures plain { IfSome result (λ entry. IsPlain entry) }
 {
     step.entry()
 }

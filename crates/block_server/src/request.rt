@@ -1,5 +1,8 @@
 // What a unit took from its queue: an entry whose information unit is still to be fetched, and a request that is
 // still to be served.
+ghost use Rattle.std.specs.Prelude.{◌≡◌};
+ghost use Rattle.srp_iu.specs.Layout.{field};
+
 use arrayvec::ArrayVec;
 use srp_iu::{Cmd, LoginReq, TskMgmt};
 use vio_num::Entry;
@@ -41,4 +44,5 @@ pub(crate) struct Request {
     /// Its information unit, as it was fetched.
     pub(crate) unit: ArrayVec<u8, 256>,
     pub(crate) order: Order,
+    ghost tagged: { tag ≡ field 8 8 unit.items },
 }

@@ -3,6 +3,7 @@ ghost use Rattle.std.specs.Prelude.{◌≡◌, ◌<◌, ◌≤◌, [], false, If
 ghost use Rattle.block_server.specs.Advances.{CopiesMore, Goes, KeepsFreed};
 ghost use Rattle.block_server.specs.Turns.{IsStill, way_of};
 ghost use Rattle.block_server.specs.SiteState.{AreReady};
+ghost use Rattle.block_server.specs.Units.{AnswersItsRows, AreServing, ServesItsRows};
 
 use crate::disk::Disk;
 use crate::ports::Ports;
@@ -25,6 +26,7 @@ pub struct Server<B: Blocks> {
     units: Vec<Unit>,
     records: Records,
     copies: Vec<CopyRecord>,
+    ghost serving: { ∥ AreServing partition units.items records.history.items ∥₁ },
 }
 
 /// What a server leaves.
@@ -93,6 +95,10 @@ impl<B: Blocks> Server<B> {
             (O.state own.new) (R.state client.old) (R.state client.new) }
         ensures copies { CopiesMore (O.state own.new) (R.state client.new)
             self.old.copies.items self.new.copies.items }
+        ensures answers { ∥ AnswersItsRows (O.state own.old).place.unit
+            (C.state crq.old) (C.state crq.new) self.old.records self.new.records ∥₁ }
+        ensures others { ∥ ServesItsRows (O.state own.old).place.unit
+            self.old.records self.new.records ∥₁ }
         ensures quiet { IfOk result (λ moved. moved ≡ Moved.Quiet →
             IsStill (C.state crq.old) (C.state crq.new)) }
         ensures way { IfOk result (λ moved. moved ≡ Moved.Quiet →
@@ -158,7 +164,8 @@ impl<B: Blocks> Server<B> {
 fn make_units(alloc: Global, partition: u8, grant: u8, count: u8) -> Result<Vec<Unit>, NoMemory>
     requires some { 1 ≤ grant }
     requires few { grant ≤ 200 }
-    ensures { IfOk result (λ units. vec_len units ≡ count) }
+    ensures units { IfOk result (λ units. vec_len units ≡ count) }
+    ensures serving { IfOk result (λ units. AreServing partition units.items []) }
 {
     let mut units = Vec::new(alloc);
     for unit in 0..count {

@@ -1,9 +1,12 @@
 // The service of the oldest request: what it asks is done, and then it is answered.
-ghost use Rattle.std.specs.Prelude.{◌≡◌, ◌<◌, Some, None, OnOk, false, true, length};
+ghost use Rattle.std.specs.Prelude.{◌≡◌, ◌∷◌, ◌<◌, List, Some, None, OnOk, false, true, length};
 ghost use Rattle.block_server.specs.Advances.{Advances};
 ghost use Rattle.block_server.specs.Ends.{IsGrantable};
 ghost use Rattle.block_server.specs.Records.{AddsRow};
+ghost use Rattle.block_server.specs.Serving.{AnswersOnce, desk_at, desk_of};
+ghost use Rattle.block_server.specs.Entries.{is_response_len};
 ghost use Rattle.block_server.specs.Stage.{how_far, is_answered};
+ghost use Rattle.crq_session.specs.EndState.{EndState};
 ghost use Rattle.block_server.specs.Turns.{IfQuiet, under_way};
 
 use crate::answering::{answer, log_out};
@@ -29,6 +32,9 @@ pub(crate) fn serve<S: Site, B: Blocks>(
     records: &mut Records,
     disk: &mut Disk<B>,
 ) -> Result<(), NoMemory>
+    requires none { unit.old.line.kept ≡ None }
+    ensures once { AnswersOnce (desk_of unit.old) (desk_of unit.new)
+        (S.state site.old).queue (S.state site.new).queue records.old records.new }
     ensures quiet { OnOk result (IfQuiet unit.old unit.new
         (S.state site.old).queue (S.state site.new).queue) }
     ensures advances { Advances (S.state site.old) (S.state site.new) }
@@ -60,6 +66,8 @@ fn note_stage(unit: &mut Unit, before: (u8, u32))
     ensures moved { unit.new.moved ≡ false →
         (unit.old.moved ≡ false) × (how_far unit.old.service.stage ≡ before) }
     ensures way { under_way unit.new ≡ under_way unit.old }
+    ensures desk { desk_of unit.new ≡ desk_of unit.old }
+    ensures kept { unit.new.line.kept ≡ unit.old.line.kept }
 {
     let (stage, done) = unit.service.stage.how_far();
     if stage != before.0 || done != before.1 {
@@ -77,6 +85,10 @@ fn prepare<S: Site, B: Blocks>(
     records: &mut Records,
     disk: &mut Disk<B>,
 ) -> Result<(), NoMemory>
+    ensures once { (rest : List Request) → AnswersOnce
+        (desk_at id service.old None (request.now ∷ rest))
+        (desk_at id service.new None (request.now ∷ rest))
+        (S.state site.old).queue (S.state site.new).queue records.old records.new }
     ensures queue { (S.state site.new).queue ≡ (S.state site.old).queue }
     ensures advances { Advances (S.state site.old) (S.state site.new) }
 {
@@ -113,6 +125,9 @@ fn judge_login(
     number: u64,
     login: &LoginReq,
 ) -> Result<(), NoMemory>
+    ensures once { (id : UnitId) → (pending : List Request) → (q : EndState) →
+        (records : Records) → AnswersOnce (desk_at id service.old None pending)
+        (desk_at id service.new None pending) q q records records }
     ensures granted { OnOk result (service.new.stage ≡ Stage.Answer (Outcome.Granted number) →
         IsGrantable logins.now.current login.now) }
     ensures rejected { OnOk result (service.new.stage ≡ Stage.Answer Outcome.Rejected →
@@ -150,6 +165,9 @@ fn add_code(
     request: &Request,
     code: ResponseCode,
 ) -> Result<(), NoMemory>
+    ensures once { (rest : List Request) → (q : EndState) → AnswersOnce
+        (desk_at id service.old None (request.now ∷ rest))
+        (desk_at id service.new None (request.now ∷ rest)) q q records.old records.new }
     ensures row { OnOk result (AddsRow id session request.now records.old records.new) }
     ensures stage { OnOk result (service.new.stage ≡
         Stage.Answer (Outcome.Served (length records.old.history.items))) }
@@ -171,6 +189,10 @@ fn serve_command<S: Site, B: Blocks>(
     records: &mut Records,
     disk: &mut Disk<B>,
 ) -> Result<(), NoMemory>
+    ensures once { (rest : List Request) → AnswersOnce
+        (desk_at id service.old None (request.now ∷ rest))
+        (desk_at id service.new None (request.now ∷ rest))
+        (S.state site.old).queue (S.state site.new).queue records.old records.new }
     ensures queue { (S.state site.new).queue ≡ (S.state site.old).queue }
     ensures advances { Advances (S.state site.old) (S.state site.new) }
 {
@@ -189,6 +211,10 @@ fn run_step<S: Site, B: Blocks>(
     records: &mut Records,
     disk: &mut Disk<B>,
 ) -> Result<(), NoMemory>
+    ensures once { (rest : List Request) → AnswersOnce
+        (desk_at id service.old None (request.now ∷ rest))
+        (desk_at id service.new None (request.now ∷ rest))
+        (S.state site.old).queue (S.state site.new).queue records.old records.new }
     ensures queue { (S.state site.new).queue ≡ (S.state site.old).queue }
     ensures advances { Advances (S.state site.old) (S.state site.new) }
 {
@@ -211,6 +237,10 @@ fn run_step<S: Site, B: Blocks>(
 
 // Writes the data-in that the disk step gave to the unit's region, if that is to be done.
 fn store<S: Site>(service: &mut Service, request: &Request, site: &mut S) -> Result<(), NoMemory>
+    ensures once { (id : UnitId) → (rest : List Request) → (records : Records) → AnswersOnce
+        (desk_at id service.old None (request.now ∷ rest))
+        (desk_at id service.new None (request.now ∷ rest))
+        (S.state site.old).queue (S.state site.new).queue records records }
     ensures queue { (S.state site.new).queue ≡ (S.state site.old).queue }
     ensures advances { Advances (S.state site.old) (S.state site.new) }
 {
@@ -232,6 +262,10 @@ fn hand_over<S: Site>(
     site: &mut S,
     records: &mut Records,
 ) -> Result<(), NoMemory>
+    ensures once { (id : UnitId) → (rest : List Request) → AnswersOnce
+        (desk_at id service.old None (request.now ∷ rest))
+        (desk_at id service.new None (request.now ∷ rest))
+        (S.state site.old).queue (S.state site.new).queue records.old records.new }
     ensures queue { (S.state site.new).queue ≡ (S.state site.old).queue }
     ensures advances { Advances (S.state site.old) (S.state site.new) }
 {
@@ -252,6 +286,10 @@ fn make_step<S: Site, B: Blocks>(
     records: &mut Records,
     disk: &mut Disk<B>,
 ) -> Result<(), NoMemory>
+    ensures once { (rest : List Request) → AnswersOnce
+        (desk_at id service.old None (request.now ∷ rest))
+        (desk_at id service.new None (request.now ∷ rest))
+        (S.state site.old).queue (S.state site.new).queue records.old records.new }
     ensures queue { (S.state site.new).queue ≡ (S.state site.old).queue }
     ensures advances { Advances (S.state site.old) (S.state site.new) }
 {
@@ -278,6 +316,9 @@ fn deliver_data<S: Site>(
     reply: ScsiReply,
     start: Cursor,
 ) -> Result<Progress, NoMemory>
+    requires stage { service.old.stage ≡ Stage.DataIn row reply start }
+    ensures stage { (cursor : Cursor) × (service.new.stage ≡ Stage.DataIn row reply cursor) }
+    ensures answer { service.new.answer.items ≡ service.old.answer.items }
     ensures queue { (S.state site.new).queue ≡ (S.state site.old).queue }
     ensures advances { Advances (S.state site.old) (S.state site.new) }
 {
@@ -305,21 +346,47 @@ fn end_command(
     records: &mut Records,
     request: &Request,
     progress: Progress,
-) -> Result<(), NoMemory> {
-    let Stage::DataIn { row, reply, cursor } = service.stage else {
+) -> Result<(), NoMemory>
+    ensures once { (id : UnitId) → (pending : List Request) → (q : EndState) → AnswersOnce
+        (desk_at id service.old None pending) (desk_at id service.new None pending) q q
+        records.old records.new }
+{
+    let Stage::DataIn { reply, .. } = service.stage else {
         return Ok(());
     };
-    let unit = match progress {
-        Progress::Busy => return Ok(()),
-        Progress::Refused => with_code(request.tag, ResponseCode::FieldsInvalid),
-        Progress::Done => with_status(
-            request.tag,
-            &reply,
-            service.out.total(),
-            service.inn.total(),
+    match progress {
+        Progress::Busy => Ok(()),
+        Progress::Refused => answer_command(
+            service,
+            records,
+            &with_code(request.tag, ResponseCode::FieldsInvalid),
         ),
+        Progress::Done => {
+            let (out, inn) = (service.out.total(), service.inn.total());
+            answer_command(
+                service,
+                records,
+                &with_status(request.tag, &reply, out, inn),
+            )
+        }
+    }
+}
+
+// Keeps the answer to a command, and gives its row the data-in that were copied.
+fn answer_command(
+    service: &mut Service,
+    records: &mut Records,
+    answer: &[u8],
+) -> Result<(), NoMemory>
+    requires { is_response_len (length answer.now) ≡ true }
+    ensures once { (id : UnitId) → (pending : List Request) → (q : EndState) → AnswersOnce
+        (desk_at id service.old None pending) (desk_at id service.new None pending) q q
+        records.old records.new }
+{
+    let Stage::DataIn { row, cursor, .. } = service.stage else {
+        return Ok(());
     };
-    service.set_answer(&unit, Outcome::Served { row })?;
+    service.set_answer(answer, Outcome::Served { row })?;
     let inn = service.take_given(cursor.done());
     records.fill(row, inn);
     Ok(())

@@ -6,6 +6,7 @@ ghost use Rattle.crq_session.specs.Answers.{OnOpened, OnNotRegistered, IfHeldUp,
 ghost use Rattle.crq_session.specs.Answered.{Opens, HoldsUp, TellsFreed, FindsInUse, Sends, TurnsBack, FindsFull, Takes, FindsNone, PutsNone, Pushes, StillKept, IsUnregistered};
 ghost use Rattle.crq_session.specs.EndState.{OnlyReserves, OnlyRegisters, OnlyFrees, OnlySends, OnlyTakes, OnlyPushes};
 ghost use Rattle.block_server.specs.Advances.{Advances};
+ghost use Rattle.block_server.specs.Answering.{responses};
 ghost use Rattle.block_server.specs.Entries.{MayPut};
 ghost use Rattle.block_server.specs.SiteState.{SiteState, SameWindows};
 
@@ -56,6 +57,8 @@ pub(crate) trait Site {
             (HoldsUp link_shared (state self.old).queue (state self.new).queue) }
         ensures refused { OnNotRegistered result
             (OnlyReserves (state self.old).queue (state self.new).queue) }
+        ensures plain { responses (state self.new).queue.sent ≡
+            responses (state self.old).queue.sent }
         ensures spare { (state self.old).queue.spare ≤ (state self.new).queue.spare + 1 }
         ensures rest { OnlyRegisters link_shared (state self.old).queue (state self.new).queue }
         ensures windows { SameWindows (state self.old) (state self.new) }
@@ -71,6 +74,8 @@ pub(crate) trait Site {
             (FindsInUse link_shared (state self.old).queue (state self.new).queue) }
         ensures refused { OnNotFreed result
             (OnlyReserves (state self.old).queue (state self.new).queue) }
+        ensures plain { responses (state self.new).queue.sent ≡
+            responses (state self.old).queue.sent }
         ensures spare { (state self.old).queue.spare ≤ (state self.new).queue.spare + 1 }
         ensures rest { OnlyFrees link_shared (state self.old).queue (state self.new).queue }
         ensures windows { SameWindows (state self.old) (state self.new) }
@@ -118,6 +123,8 @@ pub(crate) trait Site {
             (Pushes link_shared (state self.old).queue (state self.new).queue) }
         ensures still { IfKept result
             (StillKept link_shared (state self.old).queue (state self.new).queue) }
+        ensures plain { responses (state self.new).queue.sent ≡
+            responses (state self.old).queue.sent }
         ensures spare { (state self.old).queue.spare ≤ (state self.new).queue.spare + 1 }
         ensures rest { OnlyPushes link_shared (state self.old).queue (state self.new).queue }
         ensures windows { SameWindows (state self.old) (state self.new) }

@@ -1,6 +1,7 @@
 // The steps of a unit's turn.
 ghost use Rattle.std.specs.Prelude.{◌≡◌, ◌+◌, ◌<◌, ◌≤◌, IfOk, OnOk};
 ghost use Rattle.block_server.specs.Advances.{Advances};
+ghost use Rattle.block_server.specs.Serving.{AnswersOnce, desk_of};
 ghost use Rattle.block_server.specs.Turns.{IfQuiet, IsQuietTurn};
 
 use crate::answering::{put_kept, put_reply};
@@ -25,6 +26,8 @@ pub(crate) fn turn<S: Site, B: Blocks>(
     records: &mut Records,
     disk: &mut Disk<B>,
 ) -> Result<Moved, NoMemory>
+    ensures once { AnswersOnce (desk_of unit.old) (desk_of unit.new)
+        (S.state site.old).queue (S.state site.new).queue records.old records.new }
     ensures quiet { IfOk result (λ moved. moved ≡ Moved.Quiet →
         IsQuietTurn unit.old unit.new (S.state site.old).queue (S.state site.new).queue) }
     ensures advances { Advances (S.state site.old) (S.state site.new) }
@@ -45,6 +48,8 @@ fn steps<S: Site, B: Blocks>(
     records: &mut Records,
     disk: &mut Disk<B>,
 ) -> Result<(), NoMemory>
+    ensures once { AnswersOnce (desk_of unit.old) (desk_of unit.new)
+        (S.state site.old).queue (S.state site.new).queue records.old records.new }
     ensures quiet { OnOk result (IfQuiet unit.old unit.new
         (S.state site.old).queue (S.state site.new).queue) }
     ensures advances { Advances (S.state site.old) (S.state site.new) }
@@ -63,6 +68,8 @@ fn steps<S: Site, B: Blocks>(
 
 // Pushes the event that is kept, frees a session that is to be closed, and registers a queue that is not.
 fn open_line<S: Site>(unit: &mut Unit, site: &mut S) -> Result<Next, NoMemory>
+    ensures once { (records : Records) → AnswersOnce (desk_of unit.old) (desk_of unit.new)
+        (S.state site.old).queue (S.state site.new).queue records records }
     ensures quiet { OnOk result (IfQuiet unit.old unit.new
         (S.state site.old).queue (S.state site.new).queue) }
     ensures advances { Advances (S.state site.old) (S.state site.new) }
@@ -84,6 +91,8 @@ fn open_line<S: Site>(unit: &mut Unit, site: &mut S) -> Result<Next, NoMemory>
 // Pushes the event that is kept. While it stays kept the turn ends.
 fn push_event<S: Site>(unit: &mut Unit, site: &mut S) -> Next
     requires { 0 < (S.state site.old).queue.spare }
+    ensures once { (records : Records) → AnswersOnce (desk_of unit.old) (desk_of unit.new)
+        (S.state site.old).queue (S.state site.new).queue records records }
     ensures spare { (S.state site.old).queue.spare ≤ (S.state site.new).queue.spare + 1 }
     ensures quiet { IfQuiet unit.old unit.new (S.state site.old).queue (S.state site.new).queue }
     ensures advances { Advances (S.state site.old) (S.state site.new) }
@@ -101,6 +110,8 @@ fn push_event<S: Site>(unit: &mut Unit, site: &mut S) -> Next
 // Frees the session, if it is to be closed.
 fn free_closed<S: Site>(unit: &mut Unit, site: &mut S) -> Next
     requires { 0 < (S.state site.old).queue.spare }
+    ensures once { (records : Records) → AnswersOnce (desk_of unit.old) (desk_of unit.new)
+        (S.state site.old).queue (S.state site.new).queue records records }
     ensures spare { (S.state site.old).queue.spare ≤ (S.state site.new).queue.spare + 1 }
     ensures quiet { IfQuiet unit.old unit.new (S.state site.old).queue (S.state site.new).queue }
     ensures advances { Advances (S.state site.old) (S.state site.new) }
@@ -114,23 +125,31 @@ fn free_closed<S: Site>(unit: &mut Unit, site: &mut S) -> Next
 // Frees the session that is to be closed. While a sender is inside the turn ends.
 fn free<S: Site>(unit: &mut Unit, site: &mut S) -> Next
     requires { 0 < (S.state site.old).queue.spare }
+    ensures once { (records : Records) → AnswersOnce (desk_of unit.old) (desk_of unit.new)
+        (S.state site.old).queue (S.state site.new).queue records records }
     ensures spare { (S.state site.old).queue.spare ≤ (S.state site.new).queue.spare + 1 }
     ensures quiet { IfQuiet unit.old unit.new (S.state site.old).queue (S.state site.new).queue }
     ensures advances { Advances (S.state site.old) (S.state site.new) }
 {
     match site.free() {
-        FreeAnswer::Busy { .. } => return Next::End,
-        FreeAnswer::Success => unit.moved = true,
-        FreeAnswer::Parameter => {}
+        FreeAnswer::Busy { .. } => Next::End,
+        FreeAnswer::Success => {
+            unit.moved = true;
+            unit.line.freed();
+            Next::Entry
+        }
+        FreeAnswer::Parameter => {
+            unit.line.freed();
+            Next::Entry
+        }
     }
-    unit.line.handshake.freed();
-    unit.line.closing = false;
-    Next::Entry
 }
 
 // Registers the queue, and sends Initialize. While the kept event finds its slot full nothing changes.
 fn register<S: Site>(unit: &mut Unit, site: &mut S)
     requires { 1 < (S.state site.old).queue.spare }
+    ensures once { (records : Records) → AnswersOnce (desk_of unit.old) (desk_of unit.new)
+        (S.state site.old).queue (S.state site.new).queue records records }
     ensures quiet { IfQuiet unit.old unit.new (S.state site.old).queue (S.state site.new).queue }
     ensures advances { Advances (S.state site.old) (S.state site.new) }
 {

@@ -1,5 +1,6 @@
 // A server unit, between its turns.
-ghost use Rattle.std.specs.Prelude.{◌≤◌};
+ghost use Rattle.std.specs.Prelude.{◌≡◌, ◌≤◌, None};
+ghost use Rattle.block_server.specs.declared.service.Stage.TheVariants.{Start};
 
 use crate::line::Line;
 use crate::logins::Logins;
@@ -32,6 +33,9 @@ impl Unit {
     pub(crate) fn new(alloc: Global, id: UnitId, grant: u8) -> Unit
         requires some { 1 ≤ grant }
         requires few { grant ≤ 200 }
+        ensures id { result.id ≡ id }
+        ensures stage { result.service.stage ≡ Start }
+        ensures kept { result.line.kept ≡ None }
     {
         Unit {
             id,

@@ -1,4 +1,4 @@
-use Rattle.std.proofs.Common.{◌∙◌}
+use Rattle.std.proofs.Common.{◌∙◌, refl}
 use Rattle.block_server.proofs.Advancing.{advances_on}
 use Rattle.block_server.proofs.fetching.fetch_data.Goals as goal
 
@@ -14,5 +14,6 @@ returns-in-Err-NoMemory-clause-advances g c = advances_on _ _ _ c.loop-part.inva
 pub loop-part-preserved : goal.loop-part-preserved
 loop-part-preserved g c = record {
   advances = advances_on _ _ _ c.loop-part.invariant.advances c.fetch_data.ensures.advances;
+  before = λ is. refl;
   queue = c.fetch_data.ensures.queue ∙ c.loop-part.invariant.queue;
 }

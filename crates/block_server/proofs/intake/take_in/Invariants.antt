@@ -1,5 +1,6 @@
-use Rattle.std.proofs.Common.{◌-◌}
+use Rattle.std.proofs.Common.{◌≡◌, ◌-◌, None}
 use Rattle.block_server.specs.Advances.{Advances}
+use Rattle.block_server.specs.Serving.{AnswersOnce, desk_of}
 use Rattle.block_server.specs.Turns.{IfQuiet}
 use Rattle.block_server.proofs.intake.take_in.Given as goal
 
@@ -7,6 +8,8 @@ abbrev pub invariant-loop-taken : goal.invariant-loop-taken
 invariant-loop-taken g l = record {
   advances : Advances (g.S.Site.state l.fn.site) (g.S.Site.state l.site);
   quiet : IfQuiet l.fn.unit l.unit (g.S.Site.state l.fn.site).queue (g.S.Site.state l.site).queue;
+  none : l.unit.line.kept ≡ None;
+  once : AnswersOnce (desk_of l.fn.unit) (desk_of l.unit) (g.S.Site.state l.fn.site).queue (g.S.Site.state l.site).queue l.fn.records l.records;
 }
 
 abbrev pub decreases-loop-taken : goal.decreases-loop-taken

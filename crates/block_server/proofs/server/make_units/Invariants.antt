@@ -1,6 +1,10 @@
-use Rattle.std.proofs.Common.{◌≡◌}
+use Rattle.std.proofs.Common.{◌≡◌, []}
 use Rattle.std.specs.Vec.{vec_len}
+use Rattle.block_server.specs.Units.{AreServing}
 use Rattle.block_server.proofs.server.make_units.Given as goal
 
 abbrev pub invariant-loop-unit : goal.invariant-loop-unit
-invariant-loop-unit l = vec_len l.units ≡ l.unit
+invariant-loop-unit l = record {
+  count : vec_len l.units ≡ l.unit;
+  serving : AreServing l.partition l.units.items [];
+}

@@ -1,4 +1,4 @@
-use Rattle.std.proofs.Common.{◌∙◌}
+use Rattle.std.proofs.Common.{◌∙◌, refl}
 use Rattle.block_server.proofs.Advancing.{advances_on}
 use Rattle.block_server.proofs.serving.deliver_data.Goals as goal
 
@@ -14,5 +14,7 @@ returns-in-Err-NoMemory-clause-advances g c = advances_on _ _ _ c.loop-part.inva
 pub loop-part-preserved : goal.loop-part-preserved
 loop-part-preserved g c = record {
   advances = advances_on _ _ _ c.loop-part.invariant.advances c.deliver_data.ensures.advances;
+  stage = refl;
+  answer = c.loop-part.invariant.answer;
   queue = c.deliver_data.ensures.queue ∙ c.loop-part.invariant.queue;
 }

@@ -1,10 +1,13 @@
 use Rattle.std.proofs.Common.{◌≡◌, ◌-◌}
 use Rattle.block_server.specs.Advances.{Advances}
+use Rattle.block_server.specs.declared.service.Stage.TheVariants.{DataIn}
 use Rattle.block_server.proofs.serving.deliver_data.Given as goal
 
 abbrev pub invariant-loop-part : goal.invariant-loop-part
 invariant-loop-part g l = record {
   advances : Advances (g.S.Site.state l.fn.site) (g.S.Site.state l.site);
+  stage : l.service.stage ≡ DataIn l.row l.reply l.cursor;
+  answer : l.service.answer.items ≡ l.fn.service.answer.items;
   queue : (g.S.Site.state l.site).queue ≡ (g.S.Site.state l.fn.site).queue;
 }
 

@@ -1,6 +1,20 @@
 use Rattle.std.proofs.Common.{◌∙◌}
 use Rattle.block_server.proofs.Advancing.{advances_on}
+use Rattle.block_server.proofs.Onces.{once_on}
 use Rattle.block_server.proofs.serving.serve_command.Goals as goal
+
+pub returns-in_err-run_step-clause-once : goal.returns-in_err-run_step-clause-once
+returns-in_err-run_step-clause-once g c = λ rest. c.run_step.ensures.once rest
+
+pub returns-in_err-store-clause-once : goal.returns-in_err-store-clause-once
+returns-in_err-store-clause-once g c = λ rest.
+    once_on _ _ _ _ _ _ _ _ _ (c.run_step.ensures.once rest) (c.store.ensures.once c.args.id rest c.run_step.new.records)
+
+pub returns-clause-once : goal.returns-clause-once
+returns-clause-once g c = λ rest.
+    once_on _ _ _ _ _ _ _ _ _
+    (once_on _ _ _ _ _ _ _ _ _ (c.run_step.ensures.once rest) (c.store.ensures.once c.args.id rest c.run_step.new.records))
+    (c.hand_over.ensures.once c.args.id rest)
 
 pub returns-in_err-store-clause-advances : goal.returns-in_err-store-clause-advances
 returns-in_err-store-clause-advances g c = advances_on _ _ _ c.run_step.ensures.advances c.store.ensures.advances

@@ -1,4 +1,5 @@
 use Rattle.block_server.proofs.Sending.{free_puts, queue_call, same_session, same_taken}
+use Rattle.block_server.proofs.Plains.{free_plain}
 use Rattle.block_server.proofs.ports.PortsSite.free.Goals as goal
 
 pub returns-clause-advances : goal.returns-clause-advances
@@ -7,3 +8,8 @@ returns-clause-advances g c =
     let new = g.C.CrqEnd.state c.free.new.self in
     queue_call _ _ _ _ old new c.free.ensures.rest.place (same_session old new c.free.ensures.rest.last_session) (same_taken old new c.free.ensures.rest.taken)
     (free_puts g.C.CrqEnd.is_shared old new c.free.result c.free.ensures.success c.free.ensures.busy c.free.ensures.refused)
+
+pub returns-clause-plain : goal.returns-clause-plain
+returns-clause-plain g c =
+    free_plain g.C.CrqEnd.is_shared (g.C.CrqEnd.state c.args.self.now.queue.now) (g.C.CrqEnd.state c.free.new.self) c.free.result
+    c.free.ensures.success c.free.ensures.busy c.free.ensures.refused

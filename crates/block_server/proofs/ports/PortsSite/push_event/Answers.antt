@@ -1,4 +1,5 @@
 use Rattle.block_server.proofs.Sending.{push_puts, queue_call, same_session, same_taken}
+use Rattle.block_server.proofs.Plains.{push_plain}
 use Rattle.block_server.proofs.ports.PortsSite.push_event.Goals as goal
 
 pub returns-clause-advances : goal.returns-clause-advances
@@ -7,3 +8,8 @@ returns-clause-advances g c =
     let new = g.C.CrqEnd.state c.push_event.new.self in
     queue_call _ _ _ _ old new c.push_event.ensures.rest.place (same_session old new c.push_event.ensures.rest.last_session) (same_taken old new c.push_event.ensures.rest.taken)
     (push_puts g.C.CrqEnd.is_shared old new c.push_event.result c.args.self.now.event c.push_event.ensures.nothing c.push_event.ensures.put c.push_event.ensures.still)
+
+pub returns-clause-plain : goal.returns-clause-plain
+returns-clause-plain g c =
+    push_plain g.C.CrqEnd.is_shared (g.C.CrqEnd.state c.args.self.now.queue.now) (g.C.CrqEnd.state c.push_event.new.self) c.push_event.result
+    c.args.self.now.event c.push_event.ensures.nothing c.push_event.ensures.put c.push_event.ensures.still

@@ -1,4 +1,5 @@
 use Rattle.block_server.proofs.Sending.{queue_call, register_puts, same_taken}
+use Rattle.block_server.proofs.Plains.{register_plain}
 use Rattle.block_server.proofs.ports.PortsSite.register.Goals as goal
 
 pub returns-clause-advances : goal.returns-clause-advances
@@ -7,3 +8,8 @@ returns-clause-advances g c =
     let new = g.C.CrqEnd.state c.register.new.self in
     queue_call _ _ _ _ old new c.register.ensures.rest.place c.register.ensures.rest.last_session (same_taken old new c.register.ensures.rest.taken)
     (register_puts g.C.CrqEnd.is_shared old new c.register.result c.args.self.now.event c.register.ensures.opened c.register.ensures.busy c.register.ensures.refused)
+
+pub returns-clause-plain : goal.returns-clause-plain
+returns-clause-plain g c =
+    register_plain g.C.CrqEnd.is_shared (g.C.CrqEnd.state c.args.self.now.queue.now) (g.C.CrqEnd.state c.register.new.self) c.register.result
+    c.args.self.now.event c.register.ensures.opened c.register.ensures.busy c.register.ensures.refused

@@ -1,0 +1,10 @@
+use Rattle.std.proofs.Common.{refl}
+use Rattle.block_server.proofs.Onces.{once_on, once_same}
+use Rattle.block_server.proofs.answering.copy_answer.Goals as goal
+
+pub returns-in_default-clause-once : goal.returns-in_default-clause-once
+returns-in_default-clause-once g c = λ serving. once_same _ _ _ _ _ _ refl refl refl serving
+
+pub returns-in-Refused-clause-once : goal.returns-in-Refused-clause-once
+returns-in-Refused-clause-once g c =
+    once_on _ _ _ _ _ _ _ _ _ (c.deliver.ensures.once c.args.records.now) (c.end_session.ensures.once (g.S.Site.state c.deliver.new.site).queue)

@@ -1,0 +1,13 @@
+use Rattle.std.proofs.Common.{refl}
+use Rattle.block_server.specs.declared.service.Outcome.TheVariants.{Granted, Rejected}
+use Rattle.block_server.proofs.Serves.{once_judged}
+use Rattle.block_server.proofs.serving.judge_login.Goals as goal
+
+pub returns-in-Some-clause-once : goal.returns-in-Some-clause-once
+returns-in-Some-clause-once c = λ id pending q records serving.
+    once_judged _ _ _ _ Rejected c.set_answer.result refl refl refl (λ P. tt) c.set_answer.ensures.stage c.set_answer.ensures.err serving
+
+pub returns-in-None-clause-once : goal.returns-in-None-clause-once
+returns-in-None-clause-once c = λ id pending q records serving.
+    once_judged _ _ _ _ (Granted c.args.number) c.set_answer-in-None.result refl refl refl (λ P. tt)
+    c.set_answer-in-None.ensures.stage c.set_answer-in-None.ensures.err serving

@@ -1,0 +1,27 @@
+-- The units of a server between their turns, and what a turn adds to the answers of one.
+use Rattle.std.specs.Prelude.{◌≡◌, ℕ, List, Some, slice_get}
+use Rattle.crq_session.specs.EndState.{EndState}
+use Rattle.vio_num.specs.declared.names.UnitId.{UnitId}
+use Rattle.vio_num.specs.declared.history.Served.{Served as ServedRow}
+use Rattle.block_server.specs.Answering.{AnswersMore, OnlyRowsOf}
+use Rattle.block_server.specs.Serving.{IsServing, desk_of}
+use Rattle.block_server.specs.declared.records.Records.{Records}
+use Rattle.block_server.specs.declared.unit.Unit.{Unit}
+
+-- A unit bears its number, and its desk is in order.
+pub record IsUnitOf (partition number : ℕ) (unit : Unit) (history : List ServedRow) : Type 0 where
+  pub id : unit.id ≡ record { partition = partition; unit = number }
+  pub serving : IsServing (desk_of unit) history
+
+-- Each unit of a server does.
+abbrev pub AreServing : ℕ → List Unit → List ServedRow → Type 0
+AreServing partition units history = (number : ℕ) (unit : Unit) → slice_get units number ≡ Some unit → IsUnitOf partition number unit history
+
+-- Each response that was put is that of one row more of the unit which has its answer: in the order of the rows, with the
+-- answer's length and the request's tag.
+abbrev pub AnswersItsRows : UnitId → (queue queue' : EndState) → (records records' : Records) → Type 0
+AnswersItsRows unit queue queue' records records' = AnswersMore unit queue.sent queue'.sent records.history.items records'.history.items
+
+-- Only rows of this unit changed or came.
+abbrev pub ServesItsRows : UnitId → (records records' : Records) → Type 0
+ServesItsRows unit records records' = OnlyRowsOf unit records.history.items records'.history.items
