@@ -1,0 +1,191 @@
+-- What the calls of a client leave of its window, and of where its data lie.
+use Rattle.std.proofs.Common.{◌≡◌, inl, inr, ℕ, Bool, List, [], ◌∷◌, Option, Some, None, Result, Ok, Err, IfSome, IsSomeAnd, IfOk, IfErr, OnErr, refl, sym, ap, subst}
+use Rattle.vio_num.specs.declared.memory.NoMemory.{NoMemory}
+use Rattle.tce_window.specs.PortState.{PortState}
+use Rattle.srp_iu.specs.declared.response.Rsp.{Rsp as Response}
+use Rattle.srp_iu.specs.declared.unit.Iu.{Iu}
+use Rattle.srp_iu.specs.declared.unit.Iu.TheVariants as units
+use Rattle.srp_iu.specs.Response.{FitsRsp}
+use Rattle.srp_iu.proofs.Writables.{writable}
+use Rattle.vscsi_client.specs.declared.answers.LoginTurn.{LoginTurn}
+use Rattle.vscsi_client.specs.declared.answers.Refused.{Refused}
+use Rattle.vscsi_client.specs.declared.answers.Refused.TheVariants as whys
+use Rattle.vscsi_client.specs.declared.answers.Taken.{Taken}
+use Rattle.vscsi_client.specs.declared.answers.Taken.TheVariants as takens
+use Rattle.vscsi_client.specs.declared.op.Op.{Op}
+use Rattle.vscsi_client.specs.State.{ClientState}
+use Rattle.vscsi_client.specs.Slots.{Holds}
+use Rattle.vscsi_client.specs.Ports.{Ports, Write, Lays, LaysAll, WhyNotWritten, WhyNotPut}
+use Rattle.vscsi_client.specs.Sending.{Submitted, WhyNotSubmitted, Tasked, LoggedOut, Put as PutAs, PutsUnit, PutsNoUnit, WhyNotSent, command_refusal, task_refusal, logout_refusal, task_unit, logout_unit}
+use Rattle.vscsi_client.specs.Taking.{TakesEntry, TakesLater}
+use Rattle.vscsi_client.specs.Transferred.{FitRows}
+use Rattle.vscsi_client.specs.Turned.{Site, LoginStep, Registered, Took, TookNone, Looked, Began, Wrote, NotWritten, Put, RanOut, Steps, Runs, Turned}
+use Rattle.vscsi_client.specs.Units.{FitsOp}
+use Rattle.vscsi_client.proofs.Fits.{submitted_fits, tasked_fits, logged_out_fits, taken_fits, turned_fits}
+use Rattle.vcpu_run.proofs.Growing.{StrokesGrow, strokes_same, strokes_on, strokes_none, strokes_read, strokes_written}
+
+-- writes of bytes
+laid : (shared : Bool) (mark : ℕ) (write : Write) (old new : PortState) → Lays shared mark write old new → StrokesGrow old new
+laid shared mark write old new h = strokes_written shared old new write.at write.bytes mark h.0
+
+laid_all : (shared : Bool) (mark : ℕ) (writes : List Write) (old new : PortState) → LaysAll shared mark writes old new → StrokesGrow old new
+laid_all shared mark [] old new h = strokes_same old new h
+laid_all shared mark (write ∷ writes) old new h =
+    strokes_on old h.0 new (laid shared mark write old h.0 h.1) (laid_all shared mark writes h.0 new h.2)
+
+not_laid : (shared : Bool) (writes : List Write) (old new : PortState) (why : Refused) → WhyNotWritten shared writes old new why → StrokesGrow old new
+not_laid shared [] old new (whys.InUse page word) h = absurd h
+not_laid shared (write ∷ []) old new (whys.InUse page word) h = strokes_none shared old new h.none
+not_laid shared (write ∷ more ∷ writes) old new (whys.InUse page word) h = absurd h
+not_laid shared writes old new whys.NoMemory h = strokes_none shared old new h
+not_laid shared writes old new whys.Range h = absurd h
+not_laid shared writes old new whys.NotLoggedIn h = absurd h
+not_laid shared writes old new (whys.NoCredit limit) h = absurd h
+not_laid shared writes old new (whys.Overlap tag) h = absurd h
+not_laid shared writes old new (whys.Closed control) h = absurd h
+not_laid shared writes old new (whys.Dropped number held) h = absurd h
+
+-- a unit that was put, or was not
+unit_put : (line : ℕ) (s : ClientState) (iu : Iu) (old new : Ports) (slot : ℕ) → PutsUnit line s iu old new slot → StrokesGrow old.own new.own
+unit_put line s iu old new slot h = laid old.own_shared line _ old.own new.own h.2.laid
+
+why_not : (line slot : ℕ) (unit : List ℕ) (old new : Ports) (why : Refused) → WhyNotPut line slot unit old new why → StrokesGrow old.own new.own
+why_not line slot unit old new (whys.InUse page word) h = strokes_none old.own_shared old.own new.own h.1.none
+why_not line slot unit old new (whys.Closed control) h = laid old.own_shared line _ old.own new.own h.0
+why_not line slot unit old new (whys.Dropped number held) h = laid old.own_shared line _ old.own new.own h.0
+why_not line slot unit old new whys.NoMemory h = strokes_none old.own_shared old.own new.own h.1
+why_not line slot unit old new whys.Range h = absurd h
+why_not line slot unit old new whys.NotLoggedIn h = absurd h
+why_not line slot unit old new (whys.NoCredit limit) h = absurd h
+why_not line slot unit old new (whys.Overlap tag) h = absurd h
+
+unit_not_put : (line : ℕ) (s : ClientState) (iu : Iu) (old new : Ports) (why : Refused) → PutsNoUnit line s iu old new why → StrokesGrow old.own new.own
+unit_not_put line s iu old new why h = why_not line h.0 h.1 old new why h.3
+
+-- a command
+not_submitted : (line : ℕ) (op : Op) (s s' : ClientState) (old new : Ports) (why : Refused) → WhyNotSubmitted line op s s' old new why → StrokesGrow old.own new.own
+not_submitted line op s s' old new why (inl h) = not_laid old.own_shared _ old.own new.own why h.why_not
+not_submitted line op s s' old new why (inr h) =
+    strokes_on old.own h.before.own new.own (laid_all old.own_shared line _ old.own h.before.own h.ready.own)
+    (unit_not_put line s _ h.before new why h.why_not)
+
+pub submit_grows : (line : ℕ) (op : Op) (s s' : ClientState) (old new : Ports) (result : Result ℕ Refused)
+    → IfSome (command_refusal old.own.place.size s op) (λ why. (result ≡ Err why) × (s' ≡ s) × (new.crq ≡ old.crq) × (new.own ≡ old.own))
+    → IfOk result (Submitted line op s s' old new)
+    → (command_refusal old.own.place.size s op ≡ None → IfErr result (WhyNotSubmitted line op s s' old new))
+    → StrokesGrow old.own new.own
+submit_grows line op s s' old new (Ok tag) refused sent not_sent =
+    strokes_on old.own sent.before.own new.own (laid_all old.own_shared line _ old.own sent.before.own sent.ready.own)
+    (unit_put line s _ sent.before new sent.slot sent.put)
+submit_grows line op s s' old new (Err why) refused sent not_sent = at (Err why) (command_refusal old.own.place.size s op) refl refused
+  where
+    at : (res : Result ℕ Refused) (r : Option Refused) → command_refusal old.own.place.size s op ≡ r
+        → IfSome r (λ w. (res ≡ Err w) × (s' ≡ s) × (new.crq ≡ old.crq) × (new.own ≡ old.own)) → StrokesGrow old.own new.own
+    at res None is h = not_submitted line op s s' old new why (not_sent is)
+    at res (Some w) is h = strokes_same old.own new.own h.3
+
+not_submitted_fits : (pages line : ℕ) (op : Op) (s s' : ClientState) (old new : Ports) (why : Refused) → WhyNotSubmitted line op s s' old new why → FitRows pages s → FitRows pages s'
+not_submitted_fits pages line op s s' old new why (inl h) all = subst (FitRows pages) (sym h.client) all
+not_submitted_fits pages line op s s' old new why (inr h) all = subst (FitRows pages) (sym h.client) all
+
+pub submit_fits : (line : ℕ) (op : Op) (s s' : ClientState) (old new : Ports) (result : Result ℕ Refused) → FitsOp op
+    → IfSome (command_refusal old.own.place.size s op) (λ why. (result ≡ Err why) × (s' ≡ s) × (new.crq ≡ old.crq) × (new.own ≡ old.own))
+    → IfOk result (Submitted line op s s' old new)
+    → (command_refusal old.own.place.size s op ≡ None → IfErr result (WhyNotSubmitted line op s s' old new))
+    → FitRows old.own.place.size s → FitRows old.own.place.size s'
+submit_fits line op s s' old new (Ok tag) fits refused sent not_sent all = submitted_fits line op s s' old new tag fits sent all
+submit_fits line op s s' old new (Err why) fits refused sent not_sent all = at (Err why) (command_refusal old.own.place.size s op) refl refused
+  where
+    at : (res : Result ℕ Refused) (r : Option Refused) → command_refusal old.own.place.size s op ≡ r
+        → IfSome r (λ w. (res ≡ Err w) × (s' ≡ s) × (new.crq ≡ old.crq) × (new.own ≡ old.own)) → FitRows old.own.place.size s'
+    at res None is h = not_submitted_fits old.own.place.size line op s s' old new why (not_sent is) all
+    at res (Some w) is h = subst (FitRows old.own.place.size) (sym h.1) all
+
+-- a request without data
+put_grows : (line : ℕ) (s : ClientState) (iu : Iu) (slot : ℕ) (old new : Ports) → PutAs line s iu slot old new → StrokesGrow old.own new.own
+put_grows line s iu slot old new h =
+    strokes_on old.own h.before.own new.own (strokes_same old.own h.before.own h.ready.own) (unit_put line s iu h.before new slot h.put)
+
+not_sent_grows : (line : ℕ) (s : ClientState) (iu : Iu) (old new : Ports) (why : Refused) → WhyNotSent line s iu old new why → StrokesGrow old.own new.own
+not_sent_grows line s iu old new why (inl h) = strokes_none old.own_shared old.own new.own h.1.1
+not_sent_grows line s iu old new why (inr h) =
+    strokes_on old.own h.before.own new.own (strokes_same old.own h.before.own h.ready.own) (unit_not_put line s iu h.before new why h.why_not)
+
+-- why a request is refused, or not sent, in either case the window is as it was or has more
+refused_grows : (line : ℕ) (s : ClientState) (iu : Iu) (old new : Ports) (res : Result ℕ Refused) (r : Option Refused) (why : Refused)
+    → IfSome r (λ w. (res ≡ Err w) × (new.crq ≡ old.crq) × (new.own ≡ old.own))
+    → (r ≡ None → WhyNotSent line s iu old new why) → StrokesGrow old.own new.own
+refused_grows line s iu old new res None why h not_sent = not_sent_grows line s iu old new why (not_sent refl)
+refused_grows line s iu old new res (Some w) why h not_sent = strokes_same old.own new.own h.2
+
+pub task_grows : (line function task : ℕ) (s s' : ClientState) (old new : Ports) (result : Result ℕ Refused)
+    → IfSome (task_refusal s) (λ why. (result ≡ Err why) × (new.crq ≡ old.crq) × (new.own ≡ old.own))
+    → IfOk result (Tasked line function task s s' old new)
+    → (task_refusal s ≡ None → IfErr result (WhyNotSent line s (task_unit function task s) old new))
+    → StrokesGrow old.own new.own
+task_grows line function task s s' old new (Ok tag) refused sent not_sent = put_grows line s _ sent.slot old new sent.put
+task_grows line function task s s' old new (Err why) refused sent not_sent = refused_grows line s _ old new (Err why) (task_refusal s) why refused not_sent
+
+pub task_fits : (pages line function task : ℕ) (s s' : ClientState) (old new : Ports) (result : Result ℕ Refused)
+    → IfOk result (Tasked line function task s s' old new) → OnErr result (s' ≡ s) → FitRows pages s → FitRows pages s'
+task_fits pages line function task s s' old new (Ok tag) sent same all = tasked_fits pages line function task s s' old new tag sent all
+task_fits pages line function task s s' old new (Err why) sent same all = subst (FitRows pages) (sym same) all
+
+pub logout_grows : (line : ℕ) (s s' : ClientState) (old new : Ports) (result : Result ℕ Refused)
+    → IfSome (logout_refusal s) (λ why. (result ≡ Err why) × (new.crq ≡ old.crq) × (new.own ≡ old.own))
+    → IfOk result (LoggedOut line s s' old new)
+    → (logout_refusal s ≡ None → IfErr result (WhyNotSent line s (logout_unit s) old new))
+    → StrokesGrow old.own new.own
+logout_grows line s s' old new (Ok tag) refused sent not_sent = put_grows line s _ sent.slot old new sent.put
+logout_grows line s s' old new (Err why) refused sent not_sent = refused_grows line s _ old new (Err why) (logout_refusal s) why refused not_sent
+
+pub logout_fits : (pages line : ℕ) (s s' : ClientState) (old new : Ports) (result : Result ℕ Refused)
+    → IfOk result (LoggedOut line s s' old new) → OnErr result (s' ≡ s) → FitRows pages s → FitRows pages s'
+logout_fits pages line s s' old new (Ok tag) sent same all = logged_out_fits pages line s s' old new tag sent all
+logout_fits pages line s s' old new (Err why) sent same all = subst (FitRows pages) (sym same) all
+
+-- a turn of a login
+step_grows : (line : ℕ) (step : LoginStep) (a b : Site) → Steps line step a b → StrokesGrow a.at.own b.at.own
+step_grows line (Registered answer) a b h = strokes_same a.at.own b.at.own h.1
+step_grows line Took a b h = strokes_same a.at.own b.at.own h.1
+step_grows line TookNone a b h = strokes_same a.at.own b.at.own h.1
+step_grows line (Looked found) a b h = strokes_read a.at.own_shared a.at.own b.at.own h.0.reads
+step_grows line Began a b h = strokes_same a.at.own b.at.own h.2
+step_grows line Wrote a b h = laid a.at.own_shared line _ a.at.own b.at.own h.1.laid
+step_grows line (NotWritten page word) a b h = strokes_none a.at.own_shared a.at.own b.at.own h.1.meets.none
+step_grows line (Put due answer) a b h = strokes_same a.at.own b.at.own h.1
+step_grows line RanOut a b h = strokes_none a.at.own_shared a.at.own b.at.own h.own
+
+runs_grow : (line : ℕ) (steps : List LoginStep) (a b : Site) → Runs line steps a b → StrokesGrow a.at.own b.at.own
+runs_grow line [] a b runs = strokes_same a.at.own b.at.own (ap (λ (t : Site). t.at.own) runs)
+runs_grow line (step ∷ steps) a b runs =
+    strokes_on a.at.own runs.0.at.own b.at.own (runs_grow line steps a runs.0 runs.1) (step_grows line step runs.0 b runs.2)
+
+pub turn_grows : (line : ℕ) (a b : Site) (result : Result LoginTurn NoMemory) → Turned line a b result → StrokesGrow a.at.own b.at.own
+turn_grows line a b result turned = runs_grow line turned.steps a b turned.runs
+
+pub turn_fits : (pages line : ℕ) (a b : Site) (result : Result LoginTurn NoMemory) → Turned line a b result → FitRows pages a.client → FitRows pages b.client
+turn_fits pages line a b result turned = turned_fits pages line turned.steps a b turned.runs
+
+-- taking an entry
+pub take_fits : (pages : ℕ) (s s' : ClientState) (old new : Ports) (result : Result Taken NoMemory)
+    → IfOk result (TakesEntry s s' old new) → OnErr result (TakesLater old.crq_shared s s' old.crq new.crq) → FitRows pages s → FitRows pages s'
+take_fits pages s s' old new (Ok (takens.Answer tag response)) taken later all = taken_fits pages s s' old new (takens.Answer tag response) taken all
+take_fits pages s s' old new (Ok (takens.Stray tag)) taken later all = taken_fits pages s s' old new (takens.Stray tag) taken all
+take_fits pages s s' old new (Ok takens.Lost) taken later all = taken_fits pages s s' old new takens.Lost taken all
+take_fits pages s s' old new (Ok takens.Other) taken later all = taken_fits pages s s' old new takens.Other taken all
+take_fits pages s s' old new (Ok (takens.Again page word)) taken later all = taken_fits pages s s' old new (takens.Again page word) taken all
+take_fits pages s s' old new (Ok (takens.Empty number)) taken later all = subst (FitRows pages) (sym taken.fetched.client) all
+take_fits pages s s' old new (Err memory) taken later all = kept later
+  where
+    kept : TakesLater old.crq_shared s s' old.crq new.crq → FitRows pages s'
+    kept (inl h) = subst (FitRows pages) (sym h.0) all
+    kept (inr h) = subst (FitRows pages) (sym h.client) all
+
+-- an answer that was taken has bytes
+held_fits : (own : PortState) (slot : Option ℕ) (response : Response) → IsSomeAnd slot (λ n. Holds own n (units.Rsp response)) → FitsRsp response
+held_fits own None response h = absurd h
+held_fits own (Some slot) response h = writable h.bytes (units.Rsp response) h.spells
+
+pub answer_fits : (s s' : ClientState) (old new : Ports) (tag : ℕ) (response : Response) → TakesEntry s s' old new (takens.Answer tag response) → FitsRsp response
+answer_fits s s' old new tag response taken = held_fits new.own _ response taken.judged.judged.2

@@ -1,0 +1,196 @@
+-- What turns of clients leave of all pairs, one behind the other.
+use Rattle.std.proofs.Common.{◌≡◌, ◌≢◌, ◌∙◌, ◌⊎◌, inl, inr, ℕ, zero, suc, ◌<◌, List, [], ◌∷◌, Option, Some, None, IfSome, IsSomeAnd, length, slice_get, slice_index_or, slice_set, refl, sym, ap, subst, arith}
+use Rattle.std.proofs.lemmas.Option.{slice_get_within, slice_get-get_or}
+use Rattle.tce_window.specs.Window.{WindowValue}
+use Rattle.tce_window.specs.PlainPort.{known_of}
+use Rattle.rdma_copy.specs.Copies.{side_of}
+use Rattle.rdma_copy.proofs.Laws.{side_same, side_on}
+use Rattle.vcpu_run.specs.declared.driver.Driver.{Driver}
+use Rattle.vcpu_run.specs.declared.pair.Pair.{Pair}
+use Rattle.vcpu_run.specs.Pairs.{AreDriven, AreDrivers, Drives, GoesOn, IsDriver}
+use Rattle.vcpu_run.specs.Scripts.{AreSeats}
+use Rattle.vcpu_run.specs.Works.{HaveClients}
+
+pub some_is : {X : Type 0} (x y : X) → Some x ≡ Some y → x ≡ y
+some_is x y h = cc
+
+pub some_more : {X : Type 0} (o : Option X) (P Q : X → Type 0) → ((x : X) → P x → Q x) → IsSomeAnd o P → IsSomeAnd o Q
+some_more None P Q more h = h
+some_more (Some x) P Q more h = more x h
+
+pred_is : (j i : ℕ) → suc j ≡ suc i → j ≡ i
+pred_is j i e = cc
+
+pub same_or : (j i : ℕ) → (j ≡ i) ⊎ (j ≢ i)
+same_or zero zero = inl refl
+same_or zero (suc i) = inr (λ e. cc)
+same_or (suc j) zero = inr (λ e. cc)
+same_or (suc j) (suc i) = elim (same_or j i) as (λ _. (suc j ≡ suc i) ⊎ (suc j ≢ suc i)) [ inl e ↦ inl (ap suc e) | inr apart ↦ inr (λ e. apart (pred_is j i e)) ]
+
+pub get_set_same : {X : Type 0} (xs : List X) (i : ℕ) (y : X) → i < length xs → slice_get (slice_set xs i y) i ≡ Some y
+get_set_same [] i y less = absurd (omega arith)
+get_set_same (x ∷ xs) zero y less = refl
+get_set_same (x ∷ xs) (suc i) y less = get_set_same xs i y (omega arith)
+
+pub get_set_other : {X : Type 0} (xs : List X) (i j : ℕ) (y : X) → j ≢ i → slice_get (slice_set xs i y) j ≡ slice_get xs j
+get_set_other [] i j y apart = refl
+get_set_other (x ∷ xs) zero zero y apart = absurd (apart refl)
+get_set_other (x ∷ xs) zero (suc j) y apart = refl
+get_set_other (x ∷ xs) (suc i) zero y apart = refl
+get_set_other (x ∷ xs) (suc i) (suc j) y apart = get_set_other xs i j y (λ e. apart (ap suc e))
+
+set_length : {X : Type 0} (xs : List X) (i : ℕ) (y : X) → length (slice_set xs i y) ≡ length xs
+set_length [] i y = refl
+set_length (x ∷ xs) zero y = refl
+set_length (x ∷ xs) (suc i) y = ap suc (set_length xs i y)
+
+-- one pair
+goes_same : (window : WindowValue) (driver : Option Driver) → GoesOn window window driver driver
+goes_same window None = refl
+goes_same window (Some driver) = (refl, λ is. is)
+
+goes_on : (a b c : WindowValue) (x y z : Option Driver) → GoesOn a b x y → GoesOn b c y z → GoesOn a c x z
+goes_on a b c None y z first next = subst (λ (o : Option Driver). GoesOn b c o z) first next
+goes_on a b c (Some x) None z first next = absurd first
+goes_on a b c (Some x) (Some y) z first next =
+    some_more z _ _ (λ d step. (step.0 ∙ first.0, λ is. step.1 (first.1 is))) next
+
+pub drives_same : (pair : Pair) → Drives pair pair
+drives_same pair = record {
+  server = refl;
+  own = refl;
+  event = refl;
+  server_slots = refl;
+  client_slots = refl;
+  unit = refl;
+  pages = refl;
+  held = refl;
+  grows = side_same (side_of (known_of pair.window));
+  driver = goes_same pair.window pair.driver;
+}
+
+drives_on : (a b c : Pair) → Drives a b → Drives b c → Drives a c
+drives_on a b c first next = record {
+  server = next.server ∙ first.server;
+  own = next.own ∙ first.own;
+  event = next.event ∙ first.event;
+  server_slots = next.server_slots ∙ first.server_slots;
+  client_slots = next.client_slots ∙ first.client_slots;
+  unit = next.unit ∙ first.unit;
+  pages = next.pages ∙ first.pages;
+  held = next.held ∙ first.held;
+  grows = side_on (side_of (known_of a.window)) (side_of (known_of b.window)) (side_of (known_of c.window)) first.grows next.grows;
+  driver = goes_on a.window b.window c.window a.driver b.driver c.driver first.driver next.driver;
+}
+
+-- all pairs
+pub driven_same : (pairs : List Pair) → AreDriven pairs pairs
+driven_same pairs = record { count = refl; each = λ k pair found. subst (λ (o : Option Pair). IsSomeAnd o (Drives pair)) (sym found) (drives_same pair) }
+
+pub driven_at : (P : Pair → Type 0) (old new : List Pair) (k : ℕ) → AreDriven old new → ((a b : Pair) → Drives a b → P a → P b)
+    → IsSomeAnd (slice_get old k) P → IsSomeAnd (slice_get new k) P
+driven_at P old new k driven keeps h = at (slice_get old k) refl h
+  where
+    at : (o : Option Pair) → slice_get old k ≡ o → IsSomeAnd o P → IsSomeAnd (slice_get new k) P
+    at None e g = absurd g
+    at (Some a) e g = some_more (slice_get new k) (Drives a) P (λ b drives. keeps a b drives g) (driven.each k a e)
+
+pub driven_on : (a b c : List Pair) → AreDriven a b → AreDriven b c → AreDriven a c
+driven_on a b c first next = record {
+  count = next.count ∙ first.count;
+  each = λ k pair found. driven_at (Drives pair) b c k next (λ x y drives before. drives_on pair x y before drives) (first.each k pair found);
+}
+
+pub driven_set : (pairs : List Pair) (i : ℕ) (old new : Pair) → slice_get pairs i ≡ Some old → Drives old new → AreDriven pairs (slice_set pairs i new)
+driven_set pairs i old new there drives = record {
+  count = set_length pairs i new;
+  each = λ k pair found. at k pair found (same_or k i);
+}
+  where
+    at : (k : ℕ) (pair : Pair) → slice_get pairs k ≡ Some pair → (k ≡ i) ⊎ (k ≢ i) → IsSomeAnd (slice_get (slice_set pairs i new) k) (Drives pair)
+    at k pair found (inl e) =
+        let is : old ≡ pair = some_is old pair (sym there ∙ (ap (λ n. slice_get pairs n) (sym e) ∙ found)) in
+        subst (λ n. IsSomeAnd (slice_get (slice_set pairs i new) n) (Drives pair)) (sym e)
+        (subst (λ (o : Option Pair). IsSomeAnd o (Drives pair)) (sym (get_set_same pairs i new (slice_get_within pairs i old there)))
+        (subst (λ (p : Pair). Drives p new) is drives))
+    at k pair found (inr apart) =
+        subst (λ (o : Option Pair). IsSomeAnd o (Drives pair)) (sym (get_set_other pairs i k new apart ∙ found)) (drives_same pair)
+
+-- drivers stay where they are
+still_client : (a b : Pair) → Drives a b → IsSomeAnd a.driver (IsDriver a.window) → IsSomeAnd b.driver (IsDriver b.window)
+still_client a b drives is = at a.driver is drives.driver
+  where
+    at : (o : Option Driver) → IsSomeAnd o (IsDriver a.window) → GoesOn a.window b.window o b.driver → IsSomeAnd b.driver (IsDriver b.window)
+    at None h goes = absurd h
+    at (Some driver) h goes = some_more b.driver _ (IsDriver b.window) (λ d step. step.1 h) goes
+
+pub still_clients : (seats : List ℕ) (old new : List Pair) → AreDriven old new → HaveClients seats old → HaveClients seats new
+still_clients seats old new driven have u k found =
+    driven_at (λ pair. IsSomeAnd pair.driver (IsDriver pair.window)) old new k driven still_client (have u k found)
+
+pub still_seats : (partition : ℕ) (seats : List ℕ) (old new : List Pair) → AreDriven old new → AreSeats partition seats old → AreSeats partition seats new
+still_seats partition seats old new driven are u k found = driven_at (λ pair. IsSomeAnd pair.driver _) old new k driven still (are u k found)
+  where
+    still : (a b : Pair) → Drives a b → IsSomeAnd a.driver (λ driver. driver.unit ≡ record { partition = partition; unit = u })
+        → IsSomeAnd b.driver (λ driver. driver.unit ≡ record { partition = partition; unit = u })
+    still a b drives is = at a.driver is drives.driver
+      where
+        at : (o : Option Driver) → IsSomeAnd o (λ driver. driver.unit ≡ record { partition = partition; unit = u })
+            → GoesOn a.window b.window o b.driver → IsSomeAnd b.driver (λ driver. driver.unit ≡ record { partition = partition; unit = u })
+        at None h goes = absurd h
+        at (Some driver) h goes = some_more b.driver _ _ (λ d step. step.0 ∙ h) goes
+
+pub still_drivers : (old new : List Pair) → AreDriven old new → AreDrivers old → AreDrivers new
+still_drivers old new driven are k pair found = at (slice_get old k) refl
+  where
+    each : (a b : Pair) → Drives a b → IfSome a.driver (IsDriver a.window) → IfSome b.driver (IsDriver b.window)
+    each a b drives is = by a.driver is drives.driver
+      where
+        some : (o : Option Driver) → IsSomeAnd o (IsDriver b.window) → IfSome o (IsDriver b.window)
+        some None h = tt
+        some (Some d) h = h
+
+        none : (o : Option Driver) → o ≡ None → IfSome o (IsDriver b.window)
+        none o e = subst (λ (o : Option Driver). IfSome o (IsDriver b.window)) (sym e) tt
+
+        by : (o : Option Driver) → IfSome o (IsDriver a.window) → GoesOn a.window b.window o b.driver → IfSome b.driver (IsDriver b.window)
+        by None h goes = none b.driver goes
+        by (Some driver) h goes = some b.driver (some_more b.driver _ (IsDriver b.window) (λ d step. step.1 h) goes)
+
+    at : (o : Option Pair) → slice_get old k ≡ o → IfSome pair.driver (IsDriver pair.window)
+    at None e = absurd (out (slice_get_within new k pair found))
+      where
+        out : k < length new → ⊥
+        out less = nothing old k e (subst (λ n. k < n) driven.count less)
+          where
+            nothing : (xs : List Pair) (i : ℕ) → slice_get xs i ≡ None → i < length xs → ⊥
+            nothing [] i none below = omega arith
+            nothing (x ∷ xs) zero none below = absurd (cc)
+            nothing (x ∷ xs) (suc i) none below = nothing xs i none (omega arith)
+    at (Some a) e =
+        let drives : Drives a pair = subst (λ (o : Option Pair). IsSomeAnd o (Drives a)) found (driven.each k a e) in
+        each a pair drives (are k a e)
+
+-- a partition's units have drivers, which are those of their windows
+pub clients_of : (partition : ℕ) (seats : List ℕ) (pairs : List Pair) → AreSeats partition seats pairs → AreDrivers pairs → HaveClients seats pairs
+clients_of partition seats pairs are drivers u k found = at (slice_get pairs k) refl (are u k found)
+  where
+    both : (Q R : Driver → Type 0) (o : Option Driver) → IsSomeAnd o Q → IfSome o R → IsSomeAnd o R
+    both Q R None h r = h
+    both Q R (Some d) h r = r
+
+    at : (o : Option Pair) → slice_get pairs k ≡ o → IsSomeAnd o (λ pair. IsSomeAnd pair.driver (λ driver. driver.unit ≡ record { partition = partition; unit = u }))
+        → IsSomeAnd o (λ pair. IsSomeAnd pair.driver (IsDriver pair.window))
+    at None e h = h
+    at (Some pair) e h = both _ (IsDriver pair.window) pair.driver h (drivers k pair e)
+
+pub seat_within : {X : Type 0} (P : X → Type 0) (xs : List X) (i : ℕ) → IsSomeAnd (slice_get xs i) P → i < length xs
+seat_within P [] i h = absurd h
+seat_within P (x ∷ xs) zero h = omega arith
+seat_within P (x ∷ xs) (suc i) h = let less = seat_within P xs i h in omega (arith, less)
+
+pub some_there : {X : Type 0} (P : X → Type 0) (o : Option X) (x : X) → o ≡ Some x → IsSomeAnd o P → P x
+some_there P o x is h = subst (λ (t : Option _). IsSomeAnd t P) is h
+
+pub seat_of : (seats : List ℕ) (k : ℕ) → k < length seats → slice_get seats k ≡ Some (slice_index_or seats k 0)
+seat_of seats k less = slice_get-get_or seats k 0 less

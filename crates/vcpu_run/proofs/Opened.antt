@@ -1,0 +1,78 @@
+-- A pair before any turn.
+use Rattle.std.proofs.Common.{◌≡◌, ◌≢◌, ℕ, ◌+◌, ◌*◌, ◌≤◌, true, [], ◌∷◌, All, Option, Some, None, IfSome, length, replicate, refl, sym, ◌∙◌, ap, subst, arith}
+use Rattle.std.proofs.lemmas.List.{length-replicate}
+use Rattle.std.proofs.lemmas.List.Elements.{All-nil}
+use Rattle.vio_num.specs.declared.entry.Entry.{Entry}
+use Rattle.vio_num.specs.declared.names.UnitId.{UnitId}
+use Rattle.vio_num.specs.Entry.{partner_freed}
+use Rattle.crq_session.specs.declared.link.PlainLink.{PlainLink}
+use Rattle.crq_session.specs.PlainState.{side_of, IsNewLink}
+use Rattle.tce_window.specs.Grant.{values_of}
+use Rattle.tce_window.specs.PlainPort.{known_of}
+use Rattle.tce_window.specs.Window.{WindowValue, blank_page}
+use Rattle.block_server.specs.SiteState.{AreReady}
+use Rattle.vscsi_client.specs.State.{ClientState, new_client}
+use Rattle.vscsi_client.specs.Transferred.{FitsRow}
+use Rattle.vcpu_run.specs.declared.driver.Driver.{Driver}
+use Rattle.vcpu_run.specs.declared.pair.Pair.{Pair}
+use Rattle.vcpu_run.specs.Machines.{server_id}
+use Rattle.vcpu_run.specs.Pairs.{IsCopyOf, IsDriver, IsPair}
+
+-- a window of so many pages, before any call
+abbrev pub new_window : UnitId → ℕ → WindowValue
+new_window unit pages = record {
+  unit = unit;
+  pages = replicate pages blank_page;
+  rows = [];
+  spare = 0;
+  held_from = 0;
+  held_count = 0;
+  in_use = 0;
+}
+
+first_value : (e : ℕ) → values_of [] e ≡ (4096 * e + 3) ∷ []
+unfolding values_of
+first_value e = refl
+
+size_new : (unit : UnitId) (pages : ℕ) (window : WindowValue) → window ≡ new_window unit pages → length window.pages ≡ pages
+size_new unit pages window new = ap (λ (w : WindowValue). length w.pages) new ∙ length-replicate pages blank_page
+
+ready_new : (k pages : ℕ) (client : UnitId) (own window : WindowValue) → own ≡ new_window (server_id k) 34 → window ≡ new_window client pages
+    → client ≢ server_id k → AreReady (known_of own) (known_of window)
+ready_new k pages client own window own_new window_new apart = record {
+  size = size_new (server_id k) 34 own own_new;
+  first = λ e less. ap (λ (w : WindowValue). (known_of w).values e) own_new ∙ first_value e;
+  own_free = ap (λ (w : WindowValue). w.held_count) own_new;
+  client_free = ap (λ (w : WindowValue). w.held_count) window_new;
+  apart = λ same. apart (sym (ap (λ (w : WindowValue). w.unit) window_new) ∙ (same ∙ ap (λ (w : WindowValue). w.unit) own_new));
+}
+
+no_event : (link : PlainLink) (event : Entry) → (side_of link true).kept ≡ None → (side_of link true).kept ≡ Some event → event ≡ partner_freed
+no_event link event none kept = cc
+
+-- The driver of a client that has sent nothing.
+pub driver_new : (unit server : UnitId) (pages : ℕ) (window : WindowValue) (driver : Driver) → window ≡ new_window unit pages
+    → driver.unit ≡ unit → driver.client ≡ new_client unit server → 14 ≤ pages → pages ≤ 256 → IsDriver window driver
+driver_new unit server pages window driver new unit_is client least most =
+    let size : length window.pages ≡ pages = size_new unit pages window new in
+    record {
+      unit = ap (λ (w : WindowValue). w.unit) new ∙ sym unit_is;
+      pages = omega arith;
+      rows = (omega arith, subst (λ (s : ClientState). All (FitsRow (length window.pages)) s.rows) (sym client) (All-nil (FitsRow (length window.pages))));
+    }
+
+-- A server unit, with this client or none.
+pub pair_new : (k pages slots_a slots_b : ℕ) (client : UnitId) (link : PlainLink) (own window : WindowValue) (driver : Option Driver)
+    → own ≡ new_window (server_id k) 34 → window ≡ new_window client pages → client ≢ server_id k → IsNewLink link slots_a slots_b
+    → IfSome driver (IsDriver window)
+    → IsPair 0 [] k (record { server = server_id k; link = link; own = own; window = window; driver = driver })
+pair_new k pages slots_a slots_b client link own window driver own_new window_new apart link_new driver_is =
+    let pair : Pair = record { server = server_id k; link = link; own = own; window = window; driver = driver } in
+    record {
+      server = refl;
+      own_unit = ap (λ (w : WindowValue). w.unit) own_new;
+      ready = ready_new k pages client own window own_new window_new apart;
+      event = λ event kept. no_event link event link_new.first.kept kept;
+      copies = All-nil (IsCopyOf pair);
+      driver = driver_is;
+    }

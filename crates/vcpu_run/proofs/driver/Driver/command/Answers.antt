@@ -1,0 +1,17 @@
+use Rattle.std.proofs.Common.{refl}
+use Rattle.vscsi_client.specs.Ports.{ports}
+use Rattle.vcpu_run.proofs.Credits.{submit_agreed}
+use Rattle.vcpu_run.proofs.Working.{submit_works}
+use Rattle.vcpu_run.proofs.driver.Driver.command.Goals as goal
+
+pub returns-clause-works : goal.returns-clause-works
+returns-clause-works g c =
+    submit_works g.C.CrqEnd.is_shared g.O.WindowPort.is_shared _ _ _ _ c.args.self.now _ c.args.line c.args.op.now c.submit.result refl c.requires.fits
+    c.submit.ensures.refused c.submit.ensures.sent c.submit.ensures.why c.submit.ensures.crq_rest c.submit.ensures.own_rest
+
+pub returns-clause-credit : goal.returns-clause-credit
+returns-clause-credit g c = λ verb uses.
+    submit_agreed verb c.args.line c.args.op.now c.args.self.now.client c.submit.new.self
+    (ports g.C.CrqEnd.is_shared (g.C.CrqEnd.state c.args.crq.now.end) g.O.WindowPort.is_shared (g.O.WindowPort.state c.args.own.now))
+    (ports g.C.CrqEnd.is_shared (g.C.CrqEnd.state c.submit.new.crq.end) g.O.WindowPort.is_shared (g.O.WindowPort.state c.submit.new.own))
+    c.submit.result c.sent.result uses c.sent.ensures c.submit.ensures.refused c.submit.ensures.sent c.submit.ensures.why

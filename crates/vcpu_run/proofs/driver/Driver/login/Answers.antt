@@ -1,0 +1,22 @@
+use Rattle.std.proofs.Common.{refl}
+use Rattle.vscsi_client.specs.Ports.{ports}
+use Rattle.vscsi_client.specs.Turned.{site}
+use Rattle.vcpu_run.proofs.Credits.{turn_agreed}
+use Rattle.vcpu_run.proofs.Working.{turn_works}
+use Rattle.vcpu_run.proofs.driver.Driver.login.Goals as goal
+
+pub returns-in_err-turn-clause-works : goal.returns-in_err-turn-clause-works
+returns-in_err-turn-clause-works g c =
+    turn_works g.C.CrqEnd.is_shared g.O.WindowPort.is_shared _ _ _ _ c.args.self.now _ c.args.line c.login_turn.result refl
+    c.login_turn.ensures.turned c.login_turn.ensures.crq_rest c.login_turn.ensures.own_rest
+
+pub returns-clause-works : goal.returns-clause-works
+returns-clause-works g c =
+    turn_works g.C.CrqEnd.is_shared g.O.WindowPort.is_shared _ _ _ _ c.args.self.now _ c.args.line c.login_turn.result refl
+    c.login_turn.ensures.turned c.login_turn.ensures.crq_rest c.login_turn.ensures.own_rest
+
+pub returns-clause-credit : goal.returns-clause-credit
+returns-clause-credit g c = λ verb.
+    let a = site c.args.self.now.client (ports g.C.CrqEnd.is_shared (g.C.CrqEnd.state c.args.crq.now.end) g.O.WindowPort.is_shared (g.O.WindowPort.state c.args.own.now)) in
+    let b = site c.login_turn.new.self (ports g.C.CrqEnd.is_shared (g.C.CrqEnd.state c.login_turn.new.crq.end) g.O.WindowPort.is_shared (g.O.WindowPort.state c.login_turn.new.own)) in
+    turn_agreed verb c.args.line a b c.in_ok-turn.turn c.turned.result c.in_ok-turn.ensures.turned c.turned.ensures

@@ -1,0 +1,17 @@
+use Rattle.std.proofs.Common.{refl}
+use Rattle.vscsi_client.specs.Ports.{ports}
+use Rattle.vcpu_run.proofs.Credits.{logout_agreed}
+use Rattle.vcpu_run.proofs.Working.{logout_works}
+use Rattle.vcpu_run.proofs.driver.Driver.logout.Goals as goal
+
+pub returns-clause-works : goal.returns-clause-works
+returns-clause-works g c =
+    logout_works g.C.CrqEnd.is_shared g.O.WindowPort.is_shared _ _ _ _ c.args.self.now _ c.args.line c.logout.result refl
+    c.logout.ensures.refused c.logout.ensures.sent c.logout.ensures.why c.logout.ensures.same c.logout.ensures.crq_rest c.logout.ensures.own_rest
+
+pub returns-clause-credit : goal.returns-clause-credit
+returns-clause-credit g c = λ verb uses.
+    logout_agreed verb c.args.line c.args.self.now.client c.logout.new.self
+    (ports g.C.CrqEnd.is_shared (g.C.CrqEnd.state c.args.crq.now.end) g.O.WindowPort.is_shared (g.O.WindowPort.state c.args.own.now))
+    (ports g.C.CrqEnd.is_shared (g.C.CrqEnd.state c.logout.new.crq.end) g.O.WindowPort.is_shared (g.O.WindowPort.state c.logout.new.own))
+    c.logout.result c.sent.result uses c.sent.ensures c.logout.ensures.sent c.logout.ensures.same

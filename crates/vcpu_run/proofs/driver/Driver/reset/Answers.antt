@@ -1,0 +1,14 @@
+use Rattle.std.proofs.Common.{refl}
+use Rattle.boot_text.specs.declared.verb.Verb.TheVariants as verbs
+use Rattle.vcpu_run.specs.Credited.{taken_in}
+use Rattle.vcpu_run.proofs.Credits.{fresh_both, fresh_from}
+use Rattle.vcpu_run.proofs.driver.Driver.reset.Goals as goal
+
+pub returns-then-eq-clause-credit : goal.returns-then-eq-clause-credit
+returns-then-eq-clause-credit g c =
+    fresh_both verbs.Reset (taken_in c.args.progress.now) c.args.self.now.client c.login.new.self.client c.login.result refl (c.login.ensures.credit verbs.Reset)
+
+pub returns-in-Parameter-clause-credit : goal.returns-in-Parameter-clause-credit
+returns-in-Parameter-clause-credit g c =
+    fresh_from verbs.Reset (taken_in c.args.progress.now) c.args.self.now.client c.login-in-Parameter.new.self.client c.login-in-Parameter.result refl
+    (c.login-in-Parameter.ensures.credit verbs.Reset)

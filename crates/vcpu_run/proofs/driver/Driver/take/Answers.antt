@@ -1,0 +1,80 @@
+use Rattle.std.proofs.Common.{◌≡◌, ◌≤◌, ◌<◌, ◌+◌, refl, sym, subst, arith}
+use Rattle.vio_num.specs.declared.hypervisor.Moved.TheVariants.{Moved as DidMove}
+use Rattle.boot_text.specs.declared.verb.Verb.TheVariants as verbs
+use Rattle.vcpu_run.specs.declared.taking.Took.{Took}
+use Rattle.vcpu_run.specs.Sendings.{TookOf}
+use Rattle.vcpu_run.proofs.Credits.{TakesOn, takes_answer, takes_on, takes_other, took_agreed, waits_agreed}
+use Rattle.tce_window.specs.PortState.{PortPlace}
+use Rattle.vscsi_client.specs.declared.TheConstants.{MIN_PAGES}
+use Rattle.vcpu_run.proofs.Working.{works_on}
+use Rattle.vcpu_run.proofs.driver.Driver.take.Goals.{in-Answer+else-taken-count-2, in-Other}
+use Rattle.vcpu_run.proofs.driver.Driver.take.Goals as goal
+
+pub returns-in_err-take_one-clause-works : goal.returns-in_err-take_one-clause-works
+returns-in_err-take_one-clause-works g c = works_on _ _ _ _ _ _ _ _ _ c.loop-entry.invariant.works c.take_one.ensures.works
+
+pub returns-then-taken-count-2-clause-works : goal.returns-then-taken-count-2-clause-works
+returns-then-taken-count-2-clause-works g c = works_on _ _ _ _ _ _ _ _ _ c.loop-entry.invariant.works c.take_one.ensures.works
+
+pub returns-in-Lost-clause-works : goal.returns-in-Lost-clause-works
+returns-in-Lost-clause-works g c = works_on _ _ _ _ _ _ _ _ _ c.loop-entry.invariant.works c.take_one.ensures.works
+
+pub returns-in-InUse-clause-works : goal.returns-in-InUse-clause-works
+returns-in-InUse-clause-works g c = works_on _ _ _ _ _ _ _ _ _ c.loop-entry.invariant.works c.take_one.ensures.works
+
+pub returns-then-is_empty-clause-works : goal.returns-then-is_empty-clause-works
+returns-then-is_empty-clause-works g c = works_on _ _ _ _ _ _ _ _ _ c.loop-entry.invariant.works c.take_one.ensures.works
+
+pub returns-in-Nothing-clause-works : goal.returns-in-Nothing-clause-works
+returns-in-Nothing-clause-works g c = works_on _ _ _ _ _ _ _ _ _ c.loop-entry.invariant.works c.take_one.ensures.works
+
+pub returns-then-taken-count-2-clause-credit : goal.returns-then-taken-count-2-clause-credit
+returns-then-taken-count-2-clause-credit g c =
+    let more : c.saturating_add.result ≡ c.loop-entry.taken + 1 = omega (arith, c.saturating_add.ensures, c.loop-entry.invariant.less, c.ranges.count.fits) in
+    took_agreed (verbs.Take c.args.count) c.args.taken.now c.saturating_add.result c.args.self.now.client c.take_one.new.self.client
+    (takes_on c.args.taken.now c.loop-entry.taken c.saturating_add.result c.args.self.now.client c.loop-entry.self.client c.take_one.new.self.client c.loop-entry.invariant.takes
+    (takes_answer c.loop-entry.taken c.saturating_add.result c.loop-entry.self.client c.take_one.new.self.client more (subst (λ (t : Took). TookOf t c.loop-entry.self.client c.take_one.new.self.client) c.in-Answer.is c.in_ok-take_one.ensures.took)))
+
+pub returns-in-InUse-clause-credit : goal.returns-in-InUse-clause-credit
+returns-in-InUse-clause-credit g c =
+    waits_agreed (verbs.Take c.args.count) c.args.taken.now c.loop-entry.taken c.args.self.now.client c.take_one.new.self.client c.moved.result refl
+    (takes_on c.args.taken.now c.loop-entry.taken c.loop-entry.taken c.args.self.now.client c.loop-entry.self.client c.take_one.new.self.client c.loop-entry.invariant.takes (takes_other c.loop-entry.taken c.loop-entry.self.client c.take_one.new.self.client (subst (λ (t : Took). TookOf t c.loop-entry.self.client c.take_one.new.self.client) c.in-InUse.is c.in_ok-take_one.ensures.took)))
+
+pub returns-then-is_empty-clause-credit : goal.returns-then-is_empty-clause-credit
+returns-then-is_empty-clause-credit g c =
+    took_agreed (verbs.Take c.args.count) c.args.taken.now c.loop-entry.taken c.args.self.now.client c.take_one.new.self.client
+    (takes_on c.args.taken.now c.loop-entry.taken c.loop-entry.taken c.args.self.now.client c.loop-entry.self.client c.take_one.new.self.client c.loop-entry.invariant.takes (takes_other c.loop-entry.taken c.loop-entry.self.client c.take_one.new.self.client (subst (λ (t : Took). TookOf t c.loop-entry.self.client c.take_one.new.self.client) c.in-Nothing.is c.in_ok-take_one.ensures.took)))
+
+pub returns-in-Nothing-clause-credit : goal.returns-in-Nothing-clause-credit
+returns-in-Nothing-clause-credit g c =
+    waits_agreed (verbs.Take c.args.count) c.args.taken.now c.loop-entry.taken c.args.self.now.client c.take_one.new.self.client c.moved-in-Nothing.result refl
+    (takes_on c.args.taken.now c.loop-entry.taken c.loop-entry.taken c.args.self.now.client c.loop-entry.self.client c.take_one.new.self.client c.loop-entry.invariant.takes (takes_other c.loop-entry.taken c.loop-entry.self.client c.take_one.new.self.client (subst (λ (t : Took). TookOf t c.loop-entry.self.client c.take_one.new.self.client) c.in-Nothing.is c.in_ok-take_one.ensures.took)))
+
+pub returns-clause-credit : goal.returns-clause-credit
+returns-clause-credit g c =
+    waits_agreed (verbs.Take c.args.count) c.args.taken.now c.loop-entry.taken c.args.self.now.client c.loop-entry.self.client DidMove refl c.loop-entry.invariant.takes
+
+pub loop-entry-preserved : goal.loop-entry-preserved
+loop-entry-preserved g c =
+    let next : TakesOn c.args.taken.now c.match-branch-2.taken c.args.self.now.client c.take_one.new.self.client × (c.match-branch-2.taken < c.args.count) =
+    elim c.match-branch-2.branch [
+      | in-Answer+else-taken-count-2 w ↦ (
+        subst (λ n. TakesOn c.args.taken.now n c.args.self.now.client c.take_one.new.self.client) (sym w.taken-is)
+            (takes_on c.args.taken.now c.loop-entry.taken w.saturating_add.result c.args.self.now.client c.loop-entry.self.client c.take_one.new.self.client c.loop-entry.invariant.takes
+            (takes_answer c.loop-entry.taken w.saturating_add.result c.loop-entry.self.client c.take_one.new.self.client (omega (arith, w.saturating_add.ensures, c.loop-entry.invariant.less, c.ranges.count.fits))
+            (subst (λ (t : Took). TookOf t c.loop-entry.self.client c.take_one.new.self.client) w.in-Answer.is c.in_ok-take_one.ensures.took))),
+        omega (arith, w.taken-is, w.if-taken-count-2.false),
+      )
+      | in-Other w ↦ (
+        subst (λ n. TakesOn c.args.taken.now n c.args.self.now.client c.take_one.new.self.client) (sym w.taken-is)
+            (takes_on c.args.taken.now c.loop-entry.taken c.loop-entry.taken c.args.self.now.client c.loop-entry.self.client c.take_one.new.self.client c.loop-entry.invariant.takes
+            (takes_other c.loop-entry.taken c.loop-entry.self.client c.take_one.new.self.client (subst (λ (t : Took). TookOf t c.loop-entry.self.client c.take_one.new.self.client) w.in-Other.is c.in_ok-take_one.ensures.took))),
+        omega (arith, w.taken-is, c.loop-entry.invariant.less),
+      )
+    ] in
+    record {
+      works = works_on _ _ _ _ _ _ _ _ _ c.loop-entry.invariant.works c.take_one.ensures.works;
+      pages = subst (λ (place : PortPlace). MIN_PAGES ≤ place.size) (sym c.take_one.ensures.works.window.place) c.loop-entry.invariant.pages;
+      takes = next.0;
+      less = next.1;
+    }

@@ -1,0 +1,17 @@
+use Rattle.std.proofs.Common.{refl}
+use Rattle.vscsi_client.specs.Ports.{ports}
+use Rattle.vcpu_run.proofs.Credits.{task_agreed}
+use Rattle.vcpu_run.proofs.Working.{task_works}
+use Rattle.vcpu_run.proofs.driver.Driver.task.Goals as goal
+
+pub returns-clause-works : goal.returns-clause-works
+returns-clause-works g c =
+    task_works g.C.CrqEnd.is_shared g.O.WindowPort.is_shared _ _ _ _ c.args.self.now _ c.args.line c.args.function c.args.tag c.task.result refl
+    c.task.ensures.refused c.task.ensures.sent c.task.ensures.why c.task.ensures.same c.task.ensures.crq_rest c.task.ensures.own_rest
+
+pub returns-clause-credit : goal.returns-clause-credit
+returns-clause-credit g c = λ verb uses.
+    task_agreed verb c.args.line c.args.function c.args.tag c.args.self.now.client c.task.new.self
+    (ports g.C.CrqEnd.is_shared (g.C.CrqEnd.state c.args.crq.now.end) g.O.WindowPort.is_shared (g.O.WindowPort.state c.args.own.now))
+    (ports g.C.CrqEnd.is_shared (g.C.CrqEnd.state c.task.new.crq.end) g.O.WindowPort.is_shared (g.O.WindowPort.state c.task.new.own))
+    c.task.result c.sent.result uses c.sent.ensures c.task.ensures.sent c.task.ensures.same

@@ -1,0 +1,10 @@
+-- A seat whose pair is not there adds nothing.
+use Rattle.std.proofs.Common.{◌≤◌, length, rules}
+use Rattle.std.proofs.lemmas.Option.{slice_get_past}
+use Rattle.vcpu_run.proofs.Cuts.{rows_none}
+use Rattle.vcpu_run.proofs.gather.put_window_values.Goals as goal
+
+pub returns-in-None-clause-rows : goal.returns-in-None-clause-rows
+returns-in-None-clause-rows c =
+    let past : length c.args.pairs.now ≤ c.args.seat.now.pair = search rules in
+    rows_none c.args.rows.now.items _ _ (slice_get_past c.args.pairs.now c.args.seat.now.pair past)

@@ -1,0 +1,10 @@
+use Rattle.std.proofs.Common.{◌≡◌, All, take}
+use Rattle.std.specs.List.{flat_map}
+use Rattle.vcpu_run.specs.Gathered.{values_at, HasLawfulWindow}
+use Rattle.vcpu_run.proofs.gather.value_rows.Given as goal
+
+abbrev pub invariant-loop-seat : goal.invariant-loop-seat
+invariant-loop-seat l = record {
+  rows : l.rows.items ≡ flat_map (values_at l.pairs) (take l.seat-index l.seats);
+  lawful : All (HasLawfulWindow l.pairs) (take l.seat-index l.seats);
+}

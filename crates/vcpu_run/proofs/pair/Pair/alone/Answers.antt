@@ -1,0 +1,12 @@
+use Rattle.std.proofs.Common.{◌≡◌, ◌*◌, None, ap, arith}
+use Rattle.vio_num.specs.declared.names.UnitId.{UnitId}
+use Rattle.vcpu_run.proofs.Opened.{pair_new}
+use Rattle.vcpu_run.proofs.pair.Pair.alone.Goals as goal
+
+pub returns-clause-pair : goal.returns-clause-pair
+returns-clause-pair c =
+    let absent : UnitId = record { partition = 0; unit = 255 } in
+    pair_new c.args.unit 1 (256 * c.args.queue) (256 * 1) absent c.in_ok-open_link.field-0 c.in_ok-open.field-0 c.in_ok-open-2.field-0 None
+    c.in_ok-open.ensures c.in_ok-open-2.ensures
+    (λ same. let e : 255 ≡ c.args.unit = ap (λ (id : UnitId). id.unit) same in absurd (omega (arith, e, c.requires.unit)))
+    c.in_ok-open_link.ensures tt

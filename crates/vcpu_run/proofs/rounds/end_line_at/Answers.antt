@@ -1,0 +1,34 @@
+use Rattle.std.proofs.Common.{slice_index_or}
+use Rattle.std.proofs.lemmas.Option.{slice_get-get_or}
+use Rattle.vcpu_run.proofs.Elsewhere.{credits_turned, else_none, ok_then}
+use Rattle.vcpu_run.proofs.Keeping.{all_same}
+use Rattle.vcpu_run.proofs.Scripted.{run_one, script_turned}
+use Rattle.vcpu_run.proofs.rounds.end_line_at.Goals as goal
+
+pub returns-clause-scripts : goal.returns-clause-scripts
+returns-clause-scripts c pairs are =
+    let scripts = c.args.scripts.now in
+    let d = c.index-scripts-number.result in
+    let old = slice_index_or scripts c.args.number d in
+    let found = slice_get-get_or scripts c.args.number d c.requires in
+    script_turned pairs pairs scripts c.args.number old c.end_waiting.new.self found
+    (all_same pairs) c.end_waiting.ensures.rest (c.end_waiting.ensures.script pairs (are c.args.number old found).script_is) are
+
+pub returns-clause-run : goal.returns-clause-run
+returns-clause-run c =
+    let scripts = c.args.scripts.now in
+    let d = c.index-scripts-number.result in
+    run_one scripts c.args.number (slice_index_or scripts c.args.number d) c.end_waiting.new.self
+    (slice_get-get_or scripts c.args.number d c.requires) c.end_waiting.ensures.rest
+
+pub returns-clause-credited : goal.returns-clause-credited
+returns-clause-credited c =
+    let scripts = c.args.scripts.now in
+    let d = c.index-scripts-number.result in
+    let old = slice_index_or scripts c.args.number d in
+    let found = slice_get-get_or scripts c.args.number d c.requires in
+    ok_then c.end_waiting.result _ _
+    (λ kept pairs scripts_are are.
+    credits_turned pairs pairs scripts c.args.number old c.end_waiting.new.self found scripts_are (else_none old.seats.items pairs) are
+    (kept pairs (scripts_are c.args.number old found).script_is (are c.args.number old found)))
+    c.end_waiting.ensures.credited

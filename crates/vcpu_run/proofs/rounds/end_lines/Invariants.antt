@@ -1,0 +1,12 @@
+use Rattle.std.proofs.Common.{List}
+use Rattle.vcpu_run.specs.declared.pair.Pair.{Pair}
+use Rattle.vcpu_run.specs.Agreed.{AreCredited}
+use Rattle.vcpu_run.specs.Machines.{AllRun, AreScripts}
+use Rattle.vcpu_run.proofs.rounds.end_lines.Given as goal
+
+abbrev pub invariant-loop-number : goal.invariant-loop-number
+invariant-loop-number l = record {
+  scripts : (pairs : List Pair) → AreScripts pairs l.initial.scripts → AreScripts pairs l.scripts;
+  run : AllRun l.initial.scripts l.scripts;
+  credited : (pairs : List Pair) → AreScripts pairs l.initial.scripts → AreCredited pairs l.initial.scripts → AreCredited pairs l.scripts;
+}

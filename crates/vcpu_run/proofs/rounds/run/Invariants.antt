@@ -1,0 +1,12 @@
+use Rattle.std.proofs.Common.{vec_len}
+use Rattle.vcpu_run.specs.Agreed.{AreCredited}
+use Rattle.vcpu_run.specs.Machines.{AllRun, AllStay, IsMachine}
+use Rattle.vcpu_run.proofs.rounds.run.Given as goal
+
+abbrev pub invariant-loop-round : goal.invariant-loop-round
+invariant-loop-round g l = record {
+  machine : IsMachine l.server.partition (vec_len l.server.units) l.server.copies.items l.pairs l.scripts;
+  stay : AllStay l.initial.pairs l.pairs;
+  run : AllRun l.initial.scripts l.scripts;
+  credited : AreCredited l.initial.pairs l.initial.scripts → AreCredited l.pairs l.scripts;
+}

@@ -1,0 +1,44 @@
+use Rattle.std.proofs.Common.{◌≡◌, ◌≤◌, length, slice_index_or, sym, ◌∙◌, subst, length-set}
+use Rattle.std.proofs.lemmas.Option.{slice_get-get_or}
+use Rattle.vcpu_run.specs.Machines.{Stays}
+use Rattle.vcpu_run.specs.Pairs.{IsPair}
+use Rattle.vcpu_run.proofs.Agreeing.{set_same}
+use Rattle.vcpu_run.proofs.Keeping.{stays_same}
+use Rattle.vcpu_run.proofs.Listed.{each_on, each_set}
+use Rattle.vcpu_run.proofs.rounds.serve_at.Goals as goal
+
+pub serve-requires-clause-pair : goal.serve-requires-clause-pair
+serve-requires-clause-pair g c =
+    let pairs = c.args.pairs.now in
+    let old = slice_index_or pairs c.args.unit c.index-pairs-unit.result in
+    c.requires.serving.pairs_are c.args.unit old (slice_get-get_or pairs c.args.unit c.index-pairs-unit.result c.requires.there)
+
+pub returns-clause-serving : goal.returns-clause-serving
+returns-clause-serving g c =
+    let pairs = c.args.pairs.now in
+    let before = c.requires.serving in
+    let after = c.serve.ensures in
+    let count : length _ ≡ length pairs = length-set pairs c.args.unit c.serve.new.self in
+    record {
+      home = after.partition;
+      each = after.units ∙ (before.each ∙ sym count);
+      few = subst (λ n. n ≤ 8) (sym count) before.few;
+      pairs_are = each_set (IsPair 0 c.serve.new.server.copies.items) pairs c.args.unit c.serve.new.self
+          (λ k other there apart. after.others k other apart (before.pairs_are k other there)) after.pair;
+    }
+
+pub returns-clause-stay : goal.returns-clause-stay
+returns-clause-stay g c =
+    let pairs = c.args.pairs.now in
+    let old = slice_index_or pairs c.args.unit c.index-pairs-unit.result in
+    record {
+      count = length-set pairs c.args.unit c.serve.new.self;
+      each = each_on Stays pairs c.args.unit old c.serve.new.self stays_same
+          (slice_get-get_or pairs c.args.unit c.index-pairs-unit.result c.requires.there) c.serve.ensures.stays;
+    }
+
+pub returns-clause-drivers : goal.returns-clause-drivers
+returns-clause-drivers g c =
+    let pairs = c.args.pairs.now in
+    set_same pairs c.args.unit (slice_index_or pairs c.args.unit c.index-pairs-unit.result) c.serve.new.self
+    (slice_get-get_or pairs c.args.unit c.index-pairs-unit.result c.requires.there) c.serve.ensures.driver

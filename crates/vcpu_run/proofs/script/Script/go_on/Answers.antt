@@ -1,0 +1,20 @@
+use Rattle.std.proofs.Common.{◌∙◌, ◌≤◌, ℕ, List, ap, length, is_some, subst, sym}
+use Rattle.vcpu_run.specs.Agreed.{SameElse}
+use Rattle.vcpu_run.proofs.Crediting.{credited_rest, on_ok, over_by}
+use Rattle.vcpu_run.proofs.Driving.{clients_of}
+use Rattle.vcpu_run.proofs.Logging.{script_stays}
+use Rattle.vcpu_run.proofs.script.Script.go_on.Goals as goal
+
+pub take_rest-requires : goal.take_rest-requires
+take_rest-requires c = rw c.deref.ensures.value (clients_of c.args.self.now.partition c.args.self.now.seats.items c.args.pairs.now c.requires.script.seats c.requires.pairs)
+
+pub returns-in-None-clause-script : goal.returns-in-None-clause-script
+returns-in-None-clause-script c = script_stays c.args.pairs.now c.take_rest.new.pairs c.args.self.now c.take_rest.ensures.driven c.requires.script
+
+pub returns-in-None-clause-credited : goal.returns-in-None-clause-credited
+returns-in-None-clause-credited c =
+    let over : length c.args.self.now.lines.now ≤ c.args.self.now.at = over_by c.args.self.now.at (length c.args.self.now.lines.now) (sym c.get.ensures.lookup.0 ∙ ap is_some c.in-None.is) in
+    on_ok c.take_rest.result _ (λ is. credited_rest c.args.pairs.now c.take_rest.new.pairs c.args.self.now over is)
+
+pub returns-in-None-clause-others : goal.returns-in-None-clause-others
+returns-in-None-clause-others c = subst (λ (seats : List ℕ). SameElse seats c.args.pairs.now c.take_rest.new.pairs) c.deref.ensures.value c.take_rest.ensures.others

@@ -1,0 +1,18 @@
+use Rattle.std.proofs.Common.{List, sym, subst, arith, refl}
+use Rattle.vio_trace.specs.declared.rows.LogRow.{LogRow}
+use Rattle.vcpu_run.specs.Scripts.{AreLogged}
+use Rattle.vcpu_run.proofs.Crediting.{credited_new}
+use Rattle.vcpu_run.proofs.Logging.{logged_none}
+use Rattle.vcpu_run.proofs.script.Script.new.Goals as goal
+
+pub returns-clause-script : goal.returns-clause-script
+returns-clause-script c = λ pairs seats. record {
+  seats = seats;
+  lines = c.requires.lines;
+  in_order = c.requires.in_order;
+  at = omega arith;
+  logs = subst (λ (logs : List LogRow). AreLogged c.args.partition 0 c.args.lines.now logs) (sym c.new.ensures.items) (logged_none c.args.partition c.args.lines.now);
+}
+
+pub returns-clause-credited : goal.returns-clause-credited
+returns-clause-credited c = λ pairs out. credited_new pairs _ c.new.ensures.items refl out

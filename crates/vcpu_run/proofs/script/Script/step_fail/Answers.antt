@@ -1,0 +1,52 @@
+use Rattle.std.proofs.Common.{arith, refl}
+use Rattle.std.proofs.lemmas.Option.{slice_get_within}
+use Rattle.vcpu_run.proofs.Crediting.{credited_all, credited_fails}
+use Rattle.vcpu_run.proofs.Driving.{clients_of}
+use Rattle.vcpu_run.proofs.Elsewhere.{else_all}
+use Rattle.vcpu_run.proofs.Logging.{script_stays}
+use Rattle.vcpu_run.proofs.script.Script.step_fail.Goals as goal
+
+pub fail-requires : goal.fail-requires
+fail-requires c = rw c.deref.ensures.value (clients_of c.args.self.now.partition c.args.self.now.seats.items c.args.pairs.now c.requires.script.seats c.requires.pairs)
+
+pub returns-in_err-fail-clause-script : goal.returns-in_err-fail-clause-script
+returns-in_err-fail-clause-script c = script_stays c.args.pairs.now c.fail.new.pairs c.args.self.now c.fail.ensures.driven c.requires.script
+
+pub returns-in_err-end-clause-script : goal.returns-in_err-end-clause-script
+returns-in_err-end-clause-script c =
+    c.end.ensures.script c.fail.new.pairs (script_stays c.args.pairs.now c.fail.new.pairs c.args.self.now c.fail.ensures.driven c.requires.script)
+
+pub returns-then-branch-clause-script : goal.returns-then-branch-clause-script
+returns-then-branch-clause-script c =
+    let ended = c.end.ensures.script c.fail.new.pairs (script_stays c.args.pairs.now c.fail.new.pairs c.args.self.now c.fail.ensures.driven c.requires.script) in
+    record {
+      seats = ended.seats;
+      lines = ended.lines;
+      in_order = ended.in_order;
+      at = omega arith;
+      logs = record { own = ended.logs.own; numbers = ended.logs.numbers; reached = λ less. absurd (omega (arith, less)) };
+    }
+
+pub returns-clause-script : goal.returns-clause-script
+returns-clause-script c = script_stays c.args.pairs.now c.fail.new.pairs c.args.self.now c.fail.ensures.driven c.requires.script
+
+pub returns-then-branch-clause-credited : goal.returns-then-branch-clause-credited
+returns-then-branch-clause-credited c = λ is.
+    credited_fails c.args.pairs.now c.fail.new.pairs c.args.self.now _ c.args.line.now _ c.requires.line
+    (c.requires.script.logs.reached (slice_get_within c.args.self.now.lines.now c.args.self.now.at c.args.line.now c.requires.line))
+    refl c.end.ensures.rest.lines c.in_ok-end.ensures.ended.logs refl is
+
+pub returns-clause-credited : goal.returns-clause-credited
+returns-clause-credited c = λ is. credited_all c.args.pairs.now c.fail.new.pairs c.args.self.now c.fail.ensures.credit is
+
+pub returns-in_err-fail-clause-others : goal.returns-in_err-fail-clause-others
+returns-in_err-fail-clause-others c = else_all c.args.self.now.seats.items c.args.pairs.now c.fail.new.pairs c.fail.ensures.credit
+
+pub returns-in_err-end-clause-others : goal.returns-in_err-end-clause-others
+returns-in_err-end-clause-others c = else_all c.args.self.now.seats.items c.args.pairs.now c.fail.new.pairs c.fail.ensures.credit
+
+pub returns-then-branch-clause-others : goal.returns-then-branch-clause-others
+returns-then-branch-clause-others c = else_all c.args.self.now.seats.items c.args.pairs.now c.fail.new.pairs c.fail.ensures.credit
+
+pub returns-clause-others : goal.returns-clause-others
+returns-clause-others c = else_all c.args.self.now.seats.items c.args.pairs.now c.fail.new.pairs c.fail.ensures.credit

@@ -1,0 +1,35 @@
+use Rattle.vcpu_run.proofs.Driving.{clients_of, driven_on, still_drivers}
+use Rattle.vcpu_run.proofs.Elsewhere.{else_drivers, else_on}
+use Rattle.vcpu_run.proofs.Logging.{script_stays}
+use Rattle.vcpu_run.proofs.script.Script.turn.Goals as goal
+
+pub push_events-requires : goal.push_events-requires
+push_events-requires c = rw c.deref.ensures.value (clients_of c.args.self.now.partition c.args.self.now.seats.items c.args.pairs.now c.requires.script.seats c.requires.pairs)
+
+pub returns-in_err-pushed-clause-script : goal.returns-in_err-pushed-clause-script
+returns-in_err-pushed-clause-script c = script_stays c.args.pairs.now c.push_events.new.pairs c.args.self.now c.push_events.ensures.driven c.requires.script
+
+pub go_on-requires-clause-script : goal.go_on-requires-clause-script
+go_on-requires-clause-script c = script_stays c.args.pairs.now c.push_events.new.pairs c.args.self.now c.push_events.ensures.driven c.requires.script
+
+pub go_on-requires-clause-pairs : goal.go_on-requires-clause-pairs
+go_on-requires-clause-pairs c = still_drivers c.args.pairs.now c.push_events.new.pairs c.push_events.ensures.driven c.requires.pairs
+
+pub returns-in_err-moved-clause-driven : goal.returns-in_err-moved-clause-driven
+returns-in_err-moved-clause-driven c = driven_on c.args.pairs.now c.push_events.new.pairs c.go_on.new.pairs c.push_events.ensures.driven c.go_on.ensures.driven
+
+pub returns-clause-driven : goal.returns-clause-driven
+returns-clause-driven c = driven_on c.args.pairs.now c.push_events.new.pairs c.go_on.new.pairs c.push_events.ensures.driven c.go_on.ensures.driven
+
+pub returns-in_err-pushed-clause-others : goal.returns-in_err-pushed-clause-others
+returns-in_err-pushed-clause-others c = else_drivers c.args.self.now.seats.items c.args.pairs.now c.push_events.new.pairs c.push_events.ensures.drivers
+
+pub returns-in_err-moved-clause-others : goal.returns-in_err-moved-clause-others
+returns-in_err-moved-clause-others c =
+    else_on c.args.self.now.seats.items c.args.pairs.now c.push_events.new.pairs c.go_on.new.pairs
+    (else_drivers c.args.self.now.seats.items c.args.pairs.now c.push_events.new.pairs c.push_events.ensures.drivers) c.go_on.ensures.others
+
+pub returns-clause-others : goal.returns-clause-others
+returns-clause-others c =
+    else_on c.args.self.now.seats.items c.args.pairs.now c.push_events.new.pairs c.go_on.new.pairs
+    (else_drivers c.args.self.now.seats.items c.args.pairs.now c.push_events.new.pairs c.push_events.ensures.drivers) c.go_on.ensures.others

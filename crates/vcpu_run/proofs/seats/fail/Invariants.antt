@@ -1,0 +1,11 @@
+use Rattle.vcpu_run.specs.Agreed.{AllSame}
+use Rattle.vcpu_run.specs.Pairs.{AreDriven}
+use Rattle.vcpu_run.specs.Works.{HaveClients}
+use Rattle.vcpu_run.proofs.seats.fail.Given as goal
+
+abbrev pub invariant-loop-k : goal.invariant-loop-k
+invariant-loop-k l = record {
+  driven : AreDriven l.initial.pairs l.pairs;
+  credit : AllSame l.initial.pairs l.pairs;
+  clients : HaveClients l.seats l.pairs;
+}

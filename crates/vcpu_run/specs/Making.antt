@@ -1,0 +1,59 @@
+-- What is made of a plan, one step after the other.
+use Rattle.std.specs.Prelude.{◌≡◌, ℕ, ◌+◌, ◌<◌, List, Some, IsSomeAnd, length}
+use Rattle.std.specs.List.{slice_get}
+use Rattle.vio_num.specs.declared.names.UnitId.{UnitId}
+use Rattle.boot_text.specs.Sound.{unit_at}
+use Rattle.boot_text.specs.declared.plan.Partition.{Partition}
+use Rattle.boot_text.specs.declared.plan.UnitPlan.{UnitPlan}
+use Rattle.boot_text.specs.declared.plan.UnitPlan.TheVariants as kinds
+use Rattle.vcpu_run.specs.declared.pair.ClientSeat.{ClientSeat}
+use Rattle.vcpu_run.specs.declared.pair.Pair.{Pair}
+use Rattle.vcpu_run.specs.declared.script.Script.{Script}
+use Rattle.vcpu_run.specs.Agreed.{AreLoggedOut, IsCredited}
+use Rattle.vcpu_run.specs.Machines.{IsScriptFor}
+use Rattle.vcpu_run.specs.Scripts.{AreSeats, IsScript}
+
+-- the seat's unit is a client of this server unit, of the seat's sizes
+abbrev pub IsSeatOf : List Partition → UnitId → ClientSeat → Type 0
+IsSeatOf partitions server seat = unit_at partitions seat.unit ≡ Some (kinds.Client server seat.pages seat.queue)
+
+-- The same among the units of one partition.
+pub record IsSeatIn (units : List UnitPlan) (number : ℕ) (server : UnitId) (seat : ClientSeat) : Type 0 where
+  pub partition : seat.unit.partition ≡ number
+  pub unit : slice_get units seat.unit.unit ≡ Some (kinds.Client server seat.pages seat.queue)
+
+-- none of the first units is a client of this server unit
+abbrev pub HasNoneBefore : ℕ → List UnitPlan → UnitId → Type 0
+HasNoneBefore count units server = (u pages queue : ℕ) → u < count → slice_get units u ≡ Some (kinds.Client server pages queue) → ⊥
+
+abbrev pub HasNoneIn : List UnitPlan → UnitId → Type 0
+HasNoneIn units server = (u pages queue : ℕ) → slice_get units u ≡ Some (kinds.Client server pages queue) → ⊥
+
+-- none of the units of the first partitions is one
+abbrev pub HaveNoneBefore : ℕ → List Partition → UnitId → Type 0
+HaveNoneBefore count partitions server = (p : ℕ) (partition : Partition) → p < count → slice_get partitions p ≡ Some partition → HasNoneIn partition.units server
+
+-- A unit is the client of this server unit that a seat tells.
+pub record IsSeatAt (unit : UnitPlan) (id server : UnitId) (seat : ClientSeat) : Type 0 where
+  pub unit_is : seat.unit ≡ id
+  pub client : unit ≡ kinds.Client server seat.pages seat.queue
+
+-- A script was made for a partition: once its seats are those of clients, it is whole, and its records keep the credits of
+-- clients that are not logged in.
+pub record IsMade (partition : Partition) (number : ℕ) (script : Script) : Type 0 where
+  pub number_is : script.partition ≡ number
+  pub for_it : IsScriptFor partition script
+  pub whole : (pairs : List Pair) → AreSeats number script.seats.items pairs → IsScript pairs script
+  pub credited : (pairs : List Pair) → AreLoggedOut script.seats.items pairs → IsCredited pairs script
+
+-- The scripts were made for the partitions behind the first.
+pub record AreMade (partitions : List Partition) (scripts : List Script) : Type 0 where
+  pub clients : length partitions ≡ length scripts + 1
+  pub each : (i : ℕ) (script : Script) → slice_get scripts i ≡ Some script
+      → IsSomeAnd (slice_get partitions (i + 1)) (λ partition. IsMade partition (i + 1) script)
+
+-- The same of the first partitions behind the first.
+pub record AreMadeTo (count : ℕ) (partitions : List Partition) (scripts : List Script) : Type 0 where
+  pub so_far : length scripts + 1 ≡ count
+  pub each_made : (i : ℕ) (script : Script) → slice_get scripts i ≡ Some script
+      → IsSomeAnd (slice_get partitions (i + 1)) (λ partition. IsMade partition (i + 1) script)

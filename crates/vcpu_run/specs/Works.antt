@@ -1,0 +1,56 @@
+-- What the steps of a script line leave of a client's window, of its end of the link, and of its driver.
+use Rattle.std.specs.Prelude.{◌≡◌, ℕ, Bool, true, false, List, Some, IsSomeAnd}
+use Rattle.std.specs.List.{slice_get}
+use Rattle.boot_text.specs.SoFar.{is_for_client}
+use Rattle.boot_text.specs.Sound.{IsInRange}
+use Rattle.boot_text.specs.declared.verb.Verb.{Verb}
+use Rattle.boot_text.specs.declared.verb.Verb.TheVariants as verbs
+use Rattle.crq_session.specs.EndState.{EndState}
+use Rattle.tce_window.specs.PortState.{PortState}
+use Rattle.rdma_copy.specs.Copy.{SideGrows}
+use Rattle.rdma_copy.specs.Copies.{side_of as side_at}
+use Rattle.vscsi_client.specs.Transferred.{FitRows}
+use Rattle.vcpu_run.specs.declared.driver.Driver.{Driver}
+use Rattle.vcpu_run.specs.declared.pair.Pair.{Pair}
+use Rattle.vcpu_run.specs.Pairs.{IsDriver}
+use Rattle.vcpu_run.specs.Runnable.{is_call}
+
+-- The window is where it was and holds as much, and no stroke and no value of it is gone.
+pub record KeepsWindow (old new : PortState) : Type 0 where
+  pub place : new.place ≡ old.place
+  pub held : new.held_count ≡ old.held_count
+  pub grows : SideGrows (side_at old) (side_at new)
+
+-- The end is where it was, the window was kept, and the driver is that of the same unit, whose data still lie in the region.
+pub record Works (end end' : EndState) (own own' : PortState) (driver driver' : Driver) : Type 0 where
+  pub place : end'.place ≡ end.place
+  pub window : KeepsWindow own own'
+  pub unit : driver'.unit ≡ driver.unit
+  pub rows : FitRows own.place.size driver.client → FitRows own.place.size driver'.client
+
+-- each of these pairs has a driver, which is that of its window
+abbrev pub HaveClients : (seats : List ℕ) → List Pair → Type 0
+HaveClients seats pairs =
+    (u k : ℕ) → slice_get seats u ≡ Some k → IsSomeAnd (slice_get pairs k) (λ pair. IsSomeAnd pair.driver (IsDriver pair.window))
+
+-- whether a line sends a command
+abbrev pub sends : Verb → Bool
+sends verbs.Tur = true
+sends (verbs.Read lba blocks at pieces table) = true
+sends (verbs.Write lba blocks at pieces table) = true
+sends (verbs.Command cdb) = true
+sends (verbs.CommandIn cdb at len pieces table) = true
+sends (verbs.CommandOut cdb at len pieces table) = true
+sends _ = false
+
+-- whether it fails the partition
+abbrev pub fails : Verb → Bool
+fails verbs.Fail = true
+fails _ = false
+
+-- what one unit of a client partition does
+pub record IsUnitVerb (verb : Verb) : Type 0 where
+  pub client : is_for_client verb ≡ true
+  pub no_call : is_call verb ≡ false
+  pub one : fails verb ≡ false
+  pub ranged : IsInRange verb

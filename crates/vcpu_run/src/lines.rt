@@ -1,0 +1,266 @@
+// What a script line does at its client unit.
+ghost use Rattle.std.specs.Prelude.{◌≡◌, ◌≤◌, true, false};
+ghost use Rattle.vscsi_client.specs.declared.TheConstants.{MIN_PAGES};
+ghost use Rattle.vscsi_client.specs.Transferred.{FitRows};
+ghost use Rattle.vscsi_client.specs.Units.{FitsOp};
+ghost use Rattle.boot_text.specs.declared.verb.Verb.{Verb as VerbValue};
+ghost use Rattle.boot_text.specs.declared.verb.Verb.TheVariants as verbs;
+ghost use Rattle.vcpu_run.specs.Credited.{IsPlain, StepsAgreed, taken_in, uses_credit};
+ghost use Rattle.vcpu_run.specs.Sendings.{SaysSent, SaysTurned};
+ghost use Rattle.vcpu_run.specs.Works.{IsUnitVerb, KeepsWindow, Works, sends};
+
+use crate::driver::Driver;
+use crate::op::op_of;
+use crate::region;
+use crate::script::Progress;
+use crate::step::Step;
+use crate::watched::Watched;
+use boot_text::{Line, Verb};
+use crq_session::{CrqEnd, FreeAnswer};
+use tce_window::OwnerPort;
+use vio_num::{Moved, NoMemory};
+use vio_trace::Outcome;
+use vscsi_client::{DataFault, LoginTurn, Op, Refused};
+
+// What comes of a request that was sent, or was not.
+fn sent(answer: Result<u64, Refused>) -> Result<Step, NoMemory>
+    ensures { SaysSent answer result }
+{
+    let outcome = match answer {
+        Ok(tag) => Outcome::Sent(tag),
+        Err(Refused::Range) => Outcome::Range,
+        Err(Refused::NotLoggedIn) => Outcome::NotLoggedIn,
+        Err(Refused::NoCredit { limit }) => Outcome::NoCredit(limit),
+        Err(Refused::Overlap { tag }) => Outcome::Overlap(tag),
+        Err(Refused::Closed { control: _ }) => Outcome::Closed,
+        Err(Refused::Dropped { number, held }) => Outcome::Dropped { number, held },
+        Err(Refused::InUse { page: _, word: _ }) => return Ok(Step::Waits(Moved::Quiet)),
+        Err(Refused::NoMemory) => return Err(NoMemory),
+    };
+    Ok(Step::Ends(outcome))
+}
+
+// What comes of a turn of a login.
+fn turned(turn: LoginTurn, moved: Moved) -> Step
+    ensures { SaysTurned turn result }
+{
+    match turn {
+        LoginTurn::Granted(credits) => Step::Ends(Outcome::Granted(credits)),
+        LoginTurn::Rejected(reason) => Step::Ends(Outcome::Rejected(reason)),
+        LoginTurn::Lost => Step::Ends(Outcome::Lost),
+        LoginTurn::Again => Step::Waits(moved),
+        LoginTurn::Busy { number: _, held: _ } => Step::Waits(moved),
+    }
+}
+
+// The sum of these bytes.
+fn sum_of(bytes: &[u8]) -> u64 {
+    let mut sum: u64 = 0;
+    for byte in bytes {
+        sum = sum.saturating_add(u64::from(*byte));
+    }
+    sum
+}
+
+impl Driver {
+    // One turn of a login.
+    fn login<C: CrqEnd, O: OwnerPort>(
+        &mut self,
+        crq: &mut Watched<C>,
+        own: &mut O,
+        line: u64,
+    ) -> Result<Step, NoMemory>
+        requires { MIN_PAGES ≤ (O.state own.old).place.size }
+        ensures works { Works (C.state crq.old.end) (C.state crq.new.end)
+            (O.state own.old) (O.state own.new) self.old self.new }
+        ensures credit { (verb : VerbValue) →
+            StepsAgreed verb 0 0 self.old.client self.new.client result }
+    {
+        let turn = self.client.login_turn(crq, own, line)?;
+        Ok(turned(turn, crq.moved()))
+    }
+
+    // A step of a reset: it frees the queue, and is a turn of a login once that is free.
+    fn reset<C: CrqEnd, O: OwnerPort>(
+        &mut self,
+        crq: &mut Watched<C>,
+        own: &mut O,
+        line: u64,
+        progress: &mut Progress,
+    ) -> Result<Step, NoMemory>
+        requires { MIN_PAGES ≤ (O.state own.old).place.size }
+        ensures works { Works (C.state crq.old.end) (C.state crq.new.end)
+            (O.state own.old) (O.state own.new) self.old self.new }
+        ensures credit { StepsAgreed verbs.Reset (taken_in progress.old) (taken_in progress.new)
+            self.old.client self.new.client result }
+    {
+        if *progress == Progress::Freed {
+            return self.login(crq, own, line);
+        }
+        crq.reserve(1)?;
+        match crq.free() {
+            FreeAnswer::Success => {
+                self.freed();
+                *progress = Progress::Freed;
+                Ok(Step::Waits(Moved::Moved))
+            }
+            FreeAnswer::Parameter => {
+                *progress = Progress::Freed;
+                self.login(crq, own, line)
+            }
+            FreeAnswer::Busy { control: _ } => Ok(Step::Waits(Moved::Quiet)),
+        }
+    }
+
+    // The data of the command with this tag.
+    fn data<O: OwnerPort>(&mut self, own: &mut O, tag: u64) -> Result<Step, NoMemory>
+        requires { FitRows (O.state own.old).place.size self.old.client }
+        ensures window { KeepsWindow (O.state own.old) (O.state own.new) }
+        ensures unit { self.new.unit ≡ self.old.unit }
+        ensures client { self.new.client ≡ self.old.client }
+        ensures plain { IsPlain result }
+    {
+        match self.client.data_of(own, tag) {
+            Ok(bytes) => Ok(Step::Ends(Outcome::Data {
+                len: bytes.len() as u64,
+                sum: sum_of(bytes.as_slice()),
+            })),
+            Err(DataFault::Unknown) => Ok(Step::Ends(Outcome::Unknown)),
+            Err(DataFault::Stale { page }) => Ok(Step::Ends(Outcome::Stale(page))),
+            Err(DataFault::InUse { page: _, word: _ }) => Ok(Step::Waits(Moved::Quiet)),
+            Err(DataFault::NoMemory) => Err(NoMemory),
+        }
+    }
+
+    // Sends a command.
+    fn command<C: CrqEnd, O: OwnerPort>(
+        &mut self,
+        crq: &mut Watched<C>,
+        own: &mut O,
+        op: &Op,
+        line: u64,
+    ) -> Result<Step, NoMemory>
+        requires pages { MIN_PAGES ≤ (O.state own.old).place.size }
+        requires fits { FitsOp op.now }
+        ensures works { Works (C.state crq.old.end) (C.state crq.new.end)
+            (O.state own.old) (O.state own.new) self.old self.new }
+        ensures credit { (verb : VerbValue) → uses_credit verb ≡ true →
+            StepsAgreed verb 0 0 self.old.client self.new.client result }
+    {
+        sent(self.client.submit(crq, own, op, line))
+    }
+
+    // Sends a task management request.
+    fn task<C: CrqEnd, O: OwnerPort>(
+        &mut self,
+        crq: &mut Watched<C>,
+        own: &mut O,
+        function: u8,
+        tag: u64,
+        line: u64,
+    ) -> Result<Step, NoMemory>
+        requires { MIN_PAGES ≤ (O.state own.old).place.size }
+        ensures works { Works (C.state crq.old.end) (C.state crq.new.end)
+            (O.state own.old) (O.state own.new) self.old self.new }
+        ensures credit { (verb : VerbValue) → uses_credit verb ≡ true →
+            StepsAgreed verb 0 0 self.old.client self.new.client result }
+    {
+        sent(self.client.task(crq, own, function, tag, line))
+    }
+
+    // Sends a logout.
+    fn logout<C: CrqEnd, O: OwnerPort>(
+        &mut self,
+        crq: &mut Watched<C>,
+        own: &mut O,
+        line: u64,
+    ) -> Result<Step, NoMemory>
+        requires { MIN_PAGES ≤ (O.state own.old).place.size }
+        ensures works { Works (C.state crq.old.end) (C.state crq.new.end)
+            (O.state own.old) (O.state own.new) self.old self.new }
+        ensures credit { (verb : VerbValue) → uses_credit verb ≡ false →
+            StepsAgreed verb 0 0 self.old.client self.new.client result }
+    {
+        sent(self.client.logout(crq, own, line))
+    }
+
+    // A step of taking this many answers.
+    fn take_on<C: CrqEnd, O: OwnerPort>(
+        &mut self,
+        crq: &mut Watched<C>,
+        own: &mut O,
+        count: u64,
+        progress: &mut Progress,
+    ) -> Result<Step, NoMemory>
+        requires { MIN_PAGES ≤ (O.state own.old).place.size }
+        ensures works { Works (C.state crq.old.end) (C.state crq.new.end)
+            (O.state own.old) (O.state own.new) self.old self.new }
+        ensures credit { StepsAgreed (verbs.Take count) (taken_in progress.old)
+            (taken_in progress.new) self.old.client self.new.client result }
+    {
+        let mut taken = progress.taken();
+        let step = self.take(crq, own, count, &mut taken)?;
+        *progress = Progress::Took(taken);
+        Ok(step)
+    }
+
+    /// One step of a line of one unit.
+    pub(crate) fn step<C: CrqEnd, O: OwnerPort>(
+        &mut self,
+        crq: &mut Watched<C>,
+        own: &mut O,
+        line: &Line,
+        progress: &mut Progress,
+    ) -> Result<Step, NoMemory>
+        requires verb { IsUnitVerb line.now.verb }
+        requires pages { MIN_PAGES ≤ (O.state own.old).place.size }
+        requires rows { FitRows (O.state own.old).place.size self.old.client }
+        ensures works { Works (C.state crq.old.end) (C.state crq.new.end)
+            (O.state own.old) (O.state own.new) self.old self.new }
+        ensures credit { StepsAgreed line.now.verb (taken_in progress.old)
+            (taken_in progress.new) self.old.client self.new.client result }
+    {
+        match op_of(&line.verb) {
+            Some(op) => self.command(crq, own, &op, u64::from(line.number)),
+            None => self.step_other(crq, own, line, progress),
+        }
+    }
+
+    // One step of a line that sends no command.
+    fn step_other<C: CrqEnd, O: OwnerPort>(
+        &mut self,
+        crq: &mut Watched<C>,
+        own: &mut O,
+        line: &Line,
+        progress: &mut Progress,
+    ) -> Result<Step, NoMemory>
+        requires none { sends line.now.verb ≡ false }
+        requires verb { IsUnitVerb line.now.verb }
+        requires pages { MIN_PAGES ≤ (O.state own.old).place.size }
+        requires rows { FitRows (O.state own.old).place.size self.old.client }
+        ensures works { Works (C.state crq.old.end) (C.state crq.new.end)
+            (O.state own.old) (O.state own.new) self.old self.new }
+        ensures credit { StepsAgreed line.now.verb (taken_in progress.old)
+            (taken_in progress.new) self.old.client self.new.client result }
+    {
+        let mark = u64::from(line.number);
+        match &line.verb {
+            Verb::Login => self.login(crq, own, mark),
+            Verb::Reset => self.reset(crq, own, mark, progress),
+            Verb::Logout => self.logout(crq, own, mark),
+            Verb::Task { function, tag } => self.task(crq, own, *function as u8, *tag, mark),
+            Verb::Take { count } => self.take_on(crq, own, *count, progress),
+            Verb::Data { tag } => self.data(own, *tag),
+            Verb::Fill { at, len, seed } => region::fill(self.alloc, own, *at, *len, *seed, mark),
+            Verb::Poke { at, bytes } => region::poke(own, *at, bytes.as_slice(), mark),
+            Verb::Peek { at, len } => region::peek(self.alloc, own, *at, *len),
+            Verb::Tce {
+                entry,
+                page,
+                readable,
+                writable,
+            } => { region::put_tce(own, *entry, *page, *readable, *writable) }
+            _ => unreachable!(),
+        }
+    }
+}

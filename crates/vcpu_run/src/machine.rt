@@ -1,0 +1,138 @@
+// The machine: its making, its rounds, and how it settles.
+ghost use Rattle.std.specs.Prelude.{◌≡◌, IfErr, IfOk, IfSome, List, OnOk, vec_len};
+ghost use Rattle.boot_text.specs.declared.plan.Partition.{Partition};
+ghost use Rattle.vcpu_run.specs.Agreed.{AreCredited};
+ghost use Rattle.vcpu_run.specs.Machines.{AreScripts, IsMachine, IsOfPlan};
+ghost use Rattle.vcpu_run.specs.Pairs.{ArePairs};
+ghost use Rattle.vcpu_run.specs.RunLaw.{KeepsLaw, KeepsLawOf};
+ghost use Rattle.vcpu_run.specs.Runnable.{IsRunnable};
+
+use crate::gather::gather;
+use crate::making::{make_pairs, make_scripts};
+use crate::pair::Pair;
+use crate::rounds::run;
+use crate::script::Script;
+use block_server::{Finished, Server};
+use boot_text::Plan;
+use rdma_copy::CopyRecord;
+use std::alloc::Global;
+use vio_io::Blocks;
+use vio_num::{Grant, NoMemory, Served};
+use vio_trace::Trace;
+
+/// A machine: the server units of the first partition with their image, and the client partitions.
+#[derive(Drop)]
+pub struct Machine<'p, Di: Blocks> {
+    alloc: Global,
+    server: Server<Di>,
+    /// The server units, each with its client.
+    pairs: Vec<Pair>,
+    /// The client partitions, in order.
+    scripts: Vec<Script<'p>>,
+}
+
+/// What a machine leaves once nothing moves any more: the image, and the trace where memory sufficed.
+#[derive(Drop)]
+pub struct Settled<Di> {
+    pub image: Di,
+    pub trace: Option<Trace>,
+}
+
+impl<'p, Di: Blocks> Machine<'p, Di> {
+    /// Makes all that a plan asks for, over an image of `count` blocks. Want of memory hands the image back.
+    pub fn boot(alloc: Global, plan: &'p Plan, image: Di, count: u64) -> Result<Machine<'p, Di>, Di>
+        requires runnable { IsRunnable plan.now }
+        requires count { count ≡ (Di.state image).size }
+        ensures err { IfErr result (λ back. back ≡ image) }
+        ensures image { IfOk result (λ machine. machine.server.disk.image ≡ image) }
+        ensures machine { IfOk result (λ machine.
+            IsMachine machine.server.partition (vec_len machine.server.units)
+            machine.server.copies.items machine.pairs.items machine.scripts.items) }
+        ensures of_plan { IfOk result (λ machine.
+            IsOfPlan plan.now.partitions machine.pairs.items machine.scripts.items) }
+        ensures credited { IfOk result (λ machine.
+            AreCredited machine.pairs.items machine.scripts.items) }
+    {
+        let partitions = plan.partitions.as_slice();
+        let Ok(pairs) = make_pairs(alloc, partitions) else {
+            return Err(image);
+        };
+        let Ok(scripts) = make_scripts(alloc, partitions) else {
+            return Err(image);
+        };
+        let server = Server::open(alloc, 0, image, count, plan.grant, pairs.len() as u8)?;
+        Ok(Machine {
+            alloc,
+            server,
+            pairs,
+            scripts,
+        })
+    }
+
+    /// Runs rounds until nothing moves any more, and gathers what was done. Over the machine of a plan the trace
+    /// keeps the law of its runs.
+    pub fn settle(self) -> Settled<Di>
+        requires machine { IsMachine self.server.partition (vec_len self.server.units)
+            self.server.copies.items self.pairs.items self.scripts.items }
+        requires credited { AreCredited self.pairs.items self.scripts.items }
+        ensures { IfSome result.trace (λ trace. (partitions : List Partition) →
+            IsOfPlan partitions self.entry.pairs.items self.entry.scripts.items →
+            KeepsLawOf partitions trace) }
+    {
+        let Machine {
+            alloc,
+            mut server,
+            mut pairs,
+            mut scripts,
+        } = self;
+        let run = run(&mut server, &mut pairs, &mut scripts);
+        let Finished {
+            image,
+            history,
+            grants,
+            copies,
+        } = server.finish();
+        let trace = trace_of(run, alloc, pairs, scripts, history, grants, copies);
+        Settled { image, trace }
+    }
+}
+
+/// Runs a plan over an image of `count` blocks until nothing moves any more. Its trace keeps the law of the
+/// plan's runs.
+pub fn settle_plan<Di: Blocks + Drop>(
+    alloc: Global,
+    plan: &Plan,
+    image: Di,
+    count: u64,
+) -> Settled<Di>
+    requires runnable { IsRunnable plan.now }
+    requires count { count ≡ (Di.state image).size }
+    ensures law { IfSome result.trace (KeepsLaw plan.now) }
+{
+    match Machine::boot(alloc, plan, image, count) {
+        Ok(machine) => machine.settle(),
+        Err(image) => Settled { image, trace: None },
+    }
+}
+
+// The trace of a run, where memory sufficed for it.
+fn trace_of(
+    run: Result<(), NoMemory>,
+    alloc: Global,
+    pairs: Vec<Pair>,
+    scripts: Vec<Script<'_>>,
+    history: Vec<Served>,
+    grants: Vec<Grant>,
+    copies: Vec<CopyRecord>,
+) -> Option<Trace>
+    requires pairs { ArePairs 0 copies.items pairs.items }
+    requires scripts { AreScripts pairs.items scripts.items }
+    requires credited { OnOk run (AreCredited pairs.items scripts.items) }
+    ensures { IfSome result (λ trace. (partitions : List Partition) →
+        IsOfPlan partitions pairs.items scripts.entry.items → KeepsLawOf partitions trace) }
+{
+    match run {
+        Ok(()) => gather(alloc, pairs, scripts, history, grants, copies).ok(),
+        Err(NoMemory) => None,
+    }
+}

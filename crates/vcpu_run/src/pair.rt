@@ -1,0 +1,148 @@
+// A server unit and its client unit: the link between them, and both windows.
+ghost use Rattle.std.specs.Prelude.{◌≡◌, ◌≢◌, ◌*◌, ◌<◌, ℕ, [], true, None, IfOk, IfSome, vec_len};
+ghost use Rattle.boot_text.specs.Sound.{IsFrom};
+ghost use Rattle.boot_text.specs.declared.statement.TheConstants.{MOST_QUEUE};
+ghost use Rattle.crq_session.specs.PlainState.{side_of, IsNewLink};
+ghost use Rattle.vcpu_run.specs.Agreed.{IsLoggedOut};
+ghost use Rattle.vcpu_run.specs.Machines.{FitsSeat, HasSeat, SitsAt, Stays, server_id};
+ghost use Rattle.vcpu_run.specs.Pairs.{IsPair};
+
+use crate::driver::Driver;
+use block_server::Server;
+use boot_text::SERVER_PAGES;
+use crq_session::{PAGE_SLOTS, PlainLink};
+use std::alloc::Global;
+use tce_window::PlainWindow;
+use vio_io::Blocks;
+use vio_num::{Moved, NoMemory, UnitId};
+
+/// The window in place of a client's, where no client names the server unit, has one page.
+const ABSENT_PAGES: u16 = 1;
+
+/// The queue in place of that client's has one page, too.
+const ABSENT_QUEUE: u8 = 1;
+
+/// The number of that window's unit, which no boot text has.
+const ABSENT_UNIT: u8 = 255;
+
+/// A server unit, its client, and what lies between them. The link's first side is the server's.
+#[derive(Drop)]
+pub(crate) struct Pair {
+    pub(crate) server: UnitId,
+    pub(crate) link: PlainLink,
+    /// The server unit's own window.
+    pub(crate) own: PlainWindow,
+    /// The client unit's window.
+    pub(crate) window: PlainWindow,
+    /// None where no client names the server unit.
+    pub(crate) driver: Option<Driver>,
+}
+
+/// A client unit as a boot text names it: its queue has this many pages.
+#[derive(Clone, Copy, Debug, PartialEq, Eq)]
+pub(crate) struct ClientSeat {
+    pub(crate) unit: UnitId,
+    pub(crate) pages: u16,
+    pub(crate) queue: u8,
+}
+
+impl Pair {
+    /// Server unit `unit` of the first partition, whose queue has this many pages, and its client.
+    pub(crate) fn open(
+        alloc: Global,
+        unit: u8,
+        queue: u8,
+        client: Option<ClientSeat>,
+    ) -> Result<Pair, NoMemory>
+        requires unit { unit < ABSENT_UNIT }
+        requires queue { IsFrom 1 MOST_QUEUE queue }
+        requires client { IfSome client (FitsSeat (server_id unit)) }
+        ensures pair { IfOk result (IsPair 0 [] unit) }
+        ensures slots { IfOk result (λ pair.
+            (side_of pair.link true).queue.slots ≡ PAGE_SLOTS * queue) }
+        ensures client { IfOk result (HasSeat client) }
+        ensures out { IfOk result IsLoggedOut }
+    {
+        match client {
+            Some(seat) => Pair::with_client(alloc, unit, queue, seat),
+            None => Pair::alone(alloc, unit, queue),
+        }
+    }
+
+    // A server unit and its client.
+    fn with_client(alloc: Global, unit: u8, queue: u8, seat: ClientSeat) -> Result<Pair, NoMemory>
+        requires queue { IsFrom 1 MOST_QUEUE queue }
+        requires seat { FitsSeat (server_id unit) seat }
+        ensures pair { IfOk result (IsPair 0 [] unit) }
+        ensures slots { IfOk result (λ pair.
+            (side_of pair.link true).queue.slots ≡ PAGE_SLOTS * queue) }
+        ensures client { IfOk result (SitsAt seat) }
+        ensures out { IfOk result IsLoggedOut }
+    {
+        let server = UnitId { partition: 0, unit };
+        Ok(Pair {
+            server,
+            link: open_link(alloc, queue, seat.queue)?,
+            own: PlainWindow::open(alloc, server, SERVER_PAGES)?,
+            window: PlainWindow::open(alloc, seat.unit, seat.pages)?,
+            driver: Some(Driver::open(alloc, seat.unit, server)?),
+        })
+    }
+
+    // A server unit that has no client.
+    fn alone(alloc: Global, unit: u8, queue: u8) -> Result<Pair, NoMemory>
+        requires unit { unit < ABSENT_UNIT }
+        requires queue { IsFrom 1 MOST_QUEUE queue }
+        ensures pair { IfOk result (IsPair 0 [] unit) }
+        ensures slots { IfOk result (λ pair.
+            (side_of pair.link true).queue.slots ≡ PAGE_SLOTS * queue) }
+        ensures client { IfOk result (λ pair. pair.driver ≡ None) }
+    {
+        let server = UnitId { partition: 0, unit };
+        let absent = UnitId {
+            partition: 0,
+            unit: ABSENT_UNIT,
+        };
+        Ok(Pair {
+            server,
+            link: open_link(alloc, queue, ABSENT_QUEUE)?,
+            own: PlainWindow::open(alloc, server, SERVER_PAGES)?,
+            window: PlainWindow::open(alloc, absent, ABSENT_PAGES)?,
+            driver: None,
+        })
+    }
+
+    /// A turn of the server unit, which has this number.
+    pub(crate) fn serve<Di: Blocks>(
+        &mut self,
+        server: &mut Server<Di>,
+        unit: u8,
+    ) -> Result<Moved, NoMemory>
+        requires partition { server.old.partition ≡ 0 }
+        requires unit { unit < vec_len server.old.units }
+        requires pair { IsPair 0 server.old.copies.items unit self.old }
+        ensures pair { IsPair 0 server.new.copies.items unit self.new }
+        ensures others { (k : ℕ) (other : Pair) → k ≢ unit →
+            IsPair 0 server.old.copies.items k other → IsPair 0 server.new.copies.items k other }
+        ensures stays { Stays self.old self.new }
+        ensures driver { self.new.driver ≡ self.old.driver }
+        ensures units { vec_len server.new.units ≡ vec_len server.old.units }
+        ensures partition { server.new.partition ≡ 0 }
+    {
+        let mut end = self.link.side(true);
+        server.turn(unit, &mut end, &mut self.own, &mut self.window)
+    }
+}
+
+// A link between queues of 1 to 16 pages.
+fn open_link(alloc: Global, server: u8, client: u8) -> Result<PlainLink, NoMemory>
+    requires server { IsFrom 1 MOST_QUEUE server }
+    requires client { IsFrom 1 MOST_QUEUE client }
+    ensures { IfOk result (λ link. IsNewLink link (PAGE_SLOTS * server) (PAGE_SLOTS * client)) }
+{
+    PlainLink::open(
+        alloc,
+        PAGE_SLOTS * u32::from(server),
+        PAGE_SLOTS * u32::from(client),
+    )
+}

@@ -1,0 +1,178 @@
+// The turns of a round: those of the server units, and those of the client partitions.
+ghost use Rattle.std.specs.Prelude.{◌≡◌, ◌<◌, List, OnOk, length, vec_len};
+ghost use Rattle.rdma_copy.specs.declared.copy.CopyRecord.{CopyRecord};
+ghost use Rattle.vcpu_run.specs.declared.pair.Pair.{Pair};
+ghost use Rattle.vcpu_run.specs.Agreed.{AreCredited, SameDrivers};
+ghost use Rattle.vcpu_run.specs.Machines.{AllRun, AllStay, AreScripts, IsMachine, IsServing};
+ghost use Rattle.vcpu_run.specs.Pairs.{ArePairs, AreDrivers};
+
+use crate::pair::Pair;
+use crate::script::Script;
+use crate::seats::either;
+use block_server::Server;
+use vio_io::Blocks;
+use vio_num::{Moved, NoMemory};
+
+/// Runs rounds until nothing moves and no line is left.
+pub(crate) fn run<Di: Blocks>(
+    server: &mut Server<Di>,
+    pairs: &mut [Pair],
+    scripts: &mut [Script<'_>],
+) -> Result<(), NoMemory>
+    requires { IsMachine server.old.partition (vec_len server.old.units)
+        server.old.copies.items pairs.old scripts.old }
+    ensures machine { IsMachine server.new.partition (vec_len server.new.units)
+        server.new.copies.items pairs.new scripts.new }
+    ensures stay { AllStay pairs.old pairs.new }
+    ensures run { AllRun scripts.old scripts.new }
+    ensures credited { OnOk result (AreCredited pairs.old scripts.old →
+        AreCredited pairs.new scripts.new) }
+{
+    for _round in 0..u64::MAX {
+        if step(server, pairs, scripts)? == Moved::Quiet {
+            return Ok(());
+        }
+    }
+    Err(NoMemory)
+}
+
+// Makes one round, and ends the lines that wait where nothing moved.
+fn step<Di: Blocks>(
+    server: &mut Server<Di>,
+    pairs: &mut [Pair],
+    scripts: &mut [Script<'_>],
+) -> Result<Moved, NoMemory>
+    requires { IsMachine server.old.partition (vec_len server.old.units)
+        server.old.copies.items pairs.old scripts.old }
+    ensures machine { IsMachine server.new.partition (vec_len server.new.units)
+        server.new.copies.items pairs.new scripts.new }
+    ensures stay { AllStay pairs.old pairs.new }
+    ensures run { AllRun scripts.old scripts.new }
+    ensures credited { OnOk result (AreCredited pairs.old scripts.old →
+        AreCredited pairs.new scripts.new) }
+{
+    match round(server, pairs, scripts)? {
+        Moved::Moved => Ok(Moved::Moved),
+        Moved::Quiet => end_lines(scripts),
+    }
+}
+
+// One turn of each partition, in their order.
+fn round<Di: Blocks>(
+    server: &mut Server<Di>,
+    pairs: &mut [Pair],
+    scripts: &mut [Script<'_>],
+) -> Result<Moved, NoMemory>
+    requires { IsMachine server.old.partition (vec_len server.old.units)
+        server.old.copies.items pairs.old scripts.old }
+    ensures machine { IsMachine server.new.partition (vec_len server.new.units)
+        server.new.copies.items pairs.new scripts.new }
+    ensures stay { AllStay pairs.old pairs.new }
+    ensures run { AllRun scripts.old scripts.new }
+    ensures credited { OnOk result (AreCredited pairs.old scripts.old →
+        AreCredited pairs.new scripts.new) }
+{
+    let served = serve(server, pairs)?;
+    let turned = turn_each(scripts, pairs)?;
+    Ok(either(served, turned))
+}
+
+// One turn of each server unit.
+fn serve<Di: Blocks>(server: &mut Server<Di>, pairs: &mut [Pair]) -> Result<Moved, NoMemory>
+    requires { IsServing server.old.partition (vec_len server.old.units)
+        server.old.copies.items pairs.old }
+    ensures serving { IsServing server.new.partition (vec_len server.new.units)
+        server.new.copies.items pairs.new }
+    ensures stay { AllStay pairs.old pairs.new }
+    ensures drivers { SameDrivers pairs.old pairs.new }
+{
+    let mut moved = Moved::Quiet;
+    for unit in 0..pairs.len() {
+        let turned = serve_at(server, pairs, unit)?;
+        moved = either(moved, turned);
+    }
+    Ok(moved)
+}
+
+// One turn of this server unit.
+fn serve_at<Di: Blocks>(
+    server: &mut Server<Di>,
+    pairs: &mut [Pair],
+    unit: usize,
+) -> Result<Moved, NoMemory>
+    requires there { unit < length pairs.old }
+    requires serving { IsServing server.old.partition (vec_len server.old.units)
+        server.old.copies.items pairs.old }
+    ensures serving { IsServing server.new.partition (vec_len server.new.units)
+        server.new.copies.items pairs.new }
+    ensures stay { AllStay pairs.old pairs.new }
+    ensures drivers { SameDrivers pairs.old pairs.new }
+{
+    pairs[unit].serve(server, unit as u8)
+}
+
+// One turn of each client partition, in their order.
+fn turn_each(scripts: &mut [Script<'_>], pairs: &mut [Pair]) -> Result<Moved, NoMemory>
+    requires drivers { AreDrivers pairs.old }
+    requires scripts { AreScripts pairs.old scripts.old }
+    ensures pairs { (copies : List CopyRecord) →
+        ArePairs 0 copies pairs.old → ArePairs 0 copies pairs.new }
+    ensures drivers { AreDrivers pairs.new }
+    ensures scripts { AreScripts pairs.new scripts.new }
+    ensures stay { AllStay pairs.old pairs.new }
+    ensures run { AllRun scripts.old scripts.new }
+    ensures credited { OnOk result (AreCredited pairs.old scripts.old →
+        AreCredited pairs.new scripts.new) }
+{
+    let mut moved = Moved::Quiet;
+    for number in 0..scripts.len() {
+        let turned = turn_at(scripts, pairs, number)?;
+        moved = either(moved, turned);
+    }
+    Ok(moved)
+}
+
+// One turn of the client partition with this place.
+fn turn_at(scripts: &mut [Script<'_>], pairs: &mut [Pair], number: usize) -> Result<Moved, NoMemory>
+    requires there { number < length scripts.old }
+    requires drivers { AreDrivers pairs.old }
+    requires scripts { AreScripts pairs.old scripts.old }
+    ensures pairs { (copies : List CopyRecord) →
+        ArePairs 0 copies pairs.old → ArePairs 0 copies pairs.new }
+    ensures drivers { AreDrivers pairs.new }
+    ensures scripts { AreScripts pairs.new scripts.new }
+    ensures stay { AllStay pairs.old pairs.new }
+    ensures run { AllRun scripts.old scripts.new }
+    ensures credited { OnOk result (AreCredited pairs.old scripts.old →
+        AreCredited pairs.new scripts.new) }
+{
+    scripts[number].turn(pairs)
+}
+
+// Ends the lines that wait.
+fn end_lines(scripts: &mut [Script<'_>]) -> Result<Moved, NoMemory>
+    ensures scripts { (pairs : List Pair) →
+        AreScripts pairs scripts.old → AreScripts pairs scripts.new }
+    ensures run { AllRun scripts.old scripts.new }
+    ensures credited { OnOk result ((pairs : List Pair) → AreScripts pairs scripts.old →
+        AreCredited pairs scripts.old → AreCredited pairs scripts.new) }
+{
+    let mut moved = Moved::Quiet;
+    for number in 0..scripts.len() {
+        let turned = end_line_at(scripts, number)?;
+        moved = either(moved, turned);
+    }
+    Ok(moved)
+}
+
+// Ends the line of the client partition with this place, if it waits.
+fn end_line_at(scripts: &mut [Script<'_>], number: usize) -> Result<Moved, NoMemory>
+    requires { number < length scripts.old }
+    ensures scripts { (pairs : List Pair) →
+        AreScripts pairs scripts.old → AreScripts pairs scripts.new }
+    ensures run { AllRun scripts.old scripts.new }
+    ensures credited { OnOk result ((pairs : List Pair) → AreScripts pairs scripts.old →
+        AreCredited pairs scripts.old → AreCredited pairs scripts.new) }
+{
+    scripts[number].end_waiting()
+}

@@ -1,0 +1,201 @@
+// A client partition: its script, and a turn of it.
+ghost use Rattle.std.specs.Prelude.{◌≡◌, ◌<◌, All, List, Some, OnOk, length, slice_get};
+ghost use Rattle.std.specs.List.{AllPairs};
+ghost use Rattle.vcpu_run.specs.declared.pair.Pair.{Pair as PairValue};
+ghost use Rattle.vcpu_run.specs.Agreed.{AreLoggedOut, IsCredited, IsEnded, SameElse};
+ghost use Rattle.vcpu_run.specs.Credited.{taken_in};
+ghost use Rattle.vcpu_run.specs.Pairs.{AreDriven, AreDrivers};
+ghost use Rattle.vcpu_run.specs.Quietly.{OnQuiet};
+ghost use Rattle.vcpu_run.specs.Runnable.{IsClientLine};
+ghost use Rattle.vcpu_run.specs.Scripts.{AreSeats, IsScript, OnlyRuns};
+
+use crate::pair::Pair;
+use crate::seats::{either, fail, push_events, step_unit, take_rest};
+use crate::step::Step;
+use boot_text::{Line, Verb};
+use std::alloc::Global;
+use vio_num::{Moved, NoMemory};
+use vio_trace::{LogRow, Outcome};
+
+/// How far the line at which a script stands came in earlier turns.
+#[derive(Clone, Copy, Debug, PartialEq, Eq)]
+pub(crate) enum Progress {
+    /// It is to begin.
+    Fresh,
+    /// Its queue was freed.
+    Freed,
+    /// It took so many answers.
+    Took(u64),
+}
+
+impl Progress {
+    /// The answers that it took.
+    pub(crate) fn taken(self) -> u64
+        ensures { result ≡ taken_in self }
+    {
+        match self {
+            Progress::Took(taken) => taken,
+            Progress::Fresh | Progress::Freed => 0,
+        }
+    }
+}
+
+/// A client partition.
+#[derive(Drop)]
+pub(crate) struct Script<'p> {
+    pub(crate) partition: u8,
+    lines: &'p [Line],
+    /// The place of the current line.
+    at: usize,
+    progress: Progress,
+    /// The pairs of its units, by unit.
+    pub(crate) seats: Vec<usize>,
+    pub(crate) logs: Vec<LogRow>,
+}
+
+impl<'p> Script<'p> {
+    /// A partition before its first line.
+    pub(crate) fn new(
+        alloc: Global,
+        partition: u8,
+        lines: &'p [Line],
+        seats: Vec<usize>,
+    ) -> Script<'p>
+        requires lines { All (IsClientLine (length seats.items)) lines.now }
+        requires in_order { AllPairs (λ a b. a.number < b.number) lines.now }
+        ensures script { (pairs : List PairValue) → AreSeats partition seats.items pairs → IsScript pairs result }
+        ensures credited { (pairs : List PairValue) → AreLoggedOut seats.items pairs →
+            IsCredited pairs result }
+        ensures partition { result.partition ≡ partition }
+        ensures lines { result.lines.now ≡ lines.now }
+        ensures seats { result.seats ≡ seats }
+    {
+        Script {
+            partition,
+            lines,
+            at: 0,
+            progress: Progress::Fresh,
+            seats,
+            logs: Vec::new(alloc),
+        }
+    }
+
+    /// One turn: it pushes the kept events, and does one step of the current line; after the last line it takes
+    /// what stands in its queues.
+    pub(crate) fn turn(&mut self, pairs: &mut [Pair]) -> Result<Moved, NoMemory>
+        requires script { IsScript pairs.old self.old }
+        requires pairs { AreDrivers pairs.old }
+        ensures driven { AreDriven pairs.old pairs.new }
+        ensures script { IsScript pairs.new self.new }
+        ensures rest { OnlyRuns self.old self.new }
+        ensures others { SameElse self.old.seats.items pairs.old pairs.new }
+        ensures credited { OnOk result (IsCredited pairs.old self.old →
+            IsCredited pairs.new self.new) }
+    {
+        let pushed = push_events(&self.seats, pairs)?;
+        let moved = self.go_on(pairs)?;
+        Ok(either(pushed, moved))
+    }
+
+    // Does one step of the current line, or takes what stands in the queues where there is none.
+    fn go_on(&mut self, pairs: &mut [Pair]) -> Result<Moved, NoMemory>
+        requires script { IsScript pairs.old self.old }
+        requires pairs { AreDrivers pairs.old }
+        ensures driven { AreDriven pairs.old pairs.new }
+        ensures script { IsScript pairs.new self.new }
+        ensures rest { OnlyRuns self.old self.new }
+        ensures others { SameElse self.old.seats.items pairs.old pairs.new }
+        ensures credited { OnOk result (IsCredited pairs.old self.old →
+            IsCredited pairs.new self.new) }
+    {
+        let lines = self.lines;
+        match lines.get(self.at) {
+            Some(line) => self.step(pairs, line),
+            None => take_rest(&self.seats, pairs),
+        }
+    }
+
+    // One step of this line, which is the current one.
+    fn step(&mut self, pairs: &mut [Pair], line: &Line) -> Result<Moved, NoMemory>
+        requires script { IsScript pairs.old self.old }
+        requires pairs { AreDrivers pairs.old }
+        requires line { slice_get self.old.lines.now self.old.at ≡ Some line.now }
+        ensures driven { AreDriven pairs.old pairs.new }
+        ensures script { IsScript pairs.new self.new }
+        ensures rest { OnlyRuns self.old self.new }
+        ensures others { SameElse self.old.seats.items pairs.old pairs.new }
+        ensures credited { OnOk result (IsCredited pairs.old self.old →
+            IsCredited pairs.new self.new) }
+    {
+        if let Verb::Fail = line.verb {
+            return self.step_fail(pairs, line);
+        }
+        let step = step_unit(&self.seats, pairs, line, &mut self.progress)?;
+        match step {
+            Step::Ends(outcome) => {
+                self.end(line, outcome)?;
+                Ok(Moved::Moved)
+            }
+            Step::Waits(moved) => Ok(moved),
+        }
+    }
+
+    // One step of a line that fails the partition: no line comes after it.
+    fn step_fail(&mut self, pairs: &mut [Pair], line: &Line) -> Result<Moved, NoMemory>
+        requires script { IsScript pairs.old self.old }
+        requires pairs { AreDrivers pairs.old }
+        requires line { slice_get self.old.lines.now self.old.at ≡ Some line.now }
+        ensures driven { AreDriven pairs.old pairs.new }
+        ensures script { IsScript pairs.new self.new }
+        ensures rest { OnlyRuns self.old self.new }
+        ensures others { SameElse self.old.seats.items pairs.old pairs.new }
+        ensures credited { OnOk result (IsCredited pairs.old self.old →
+            IsCredited pairs.new self.new) }
+    {
+        if fail(&self.seats, pairs)? {
+            self.end(line, Outcome::Done)?;
+            self.at = self.lines.len();
+            return Ok(Moved::Moved);
+        }
+        Ok(Moved::Quiet)
+    }
+
+    // Logs how the current line ended, and goes to the next.
+    fn end(&mut self, line: &Line, outcome: Outcome) -> Result<(), NoMemory>
+        requires line { slice_get self.old.lines.now self.old.at ≡ Some line.now }
+        ensures script { (pairs : List PairValue) → IsScript pairs self.old → IsScript pairs self.new }
+        ensures rest { OnlyRuns self.old self.new }
+        ensures ended { OnOk result (IsEnded line.now outcome self.old self.new) }
+    {
+        self.logs.push(LogRow {
+            partition: self.partition,
+            line: line.number,
+            outcome,
+        })?;
+        self.at += 1;
+        self.progress = Progress::Fresh;
+        Ok(())
+    }
+
+    /// Ends the current line if it waits for what does not come any more.
+    pub(crate) fn end_waiting(&mut self) -> Result<Moved, NoMemory>
+        ensures script { (pairs : List PairValue) → IsScript pairs self.old → IsScript pairs self.new }
+        ensures rest { OnlyRuns self.old self.new }
+        ensures credited { OnOk result ((pairs : List PairValue) → IsScript pairs self.old →
+            IsCredited pairs self.old → IsCredited pairs self.new) }
+        ensures quiet { OnQuiet result (self.new ≡ self.old) }
+    {
+        let lines = self.lines;
+        let Some(line) = lines.get(self.at) else {
+            return Ok(Moved::Quiet);
+        };
+        let outcome = match line.verb {
+            Verb::Login => Outcome::Unanswered,
+            Verb::Reset => Outcome::Unanswered,
+            Verb::Take { .. } => Outcome::Took(self.progress.taken()),
+            _ => return Ok(Moved::Quiet),
+        };
+        self.end(line, outcome)?;
+        Ok(Moved::Moved)
+    }
+}

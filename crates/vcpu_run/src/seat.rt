@@ -1,0 +1,96 @@
+// What a client partition does at one of its pairs.
+ghost use Rattle.std.specs.Prelude.{◌≡◌, IsSomeAnd};
+ghost use Rattle.vcpu_run.specs.Pairs.{Drives, IsDriver};
+ghost use Rattle.vcpu_run.specs.Credited.{StepsAgreed, taken_in};
+ghost use Rattle.vcpu_run.specs.Agreed.{OnDrivers};
+ghost use Rattle.vcpu_run.specs.Sendings.{SameCredits};
+ghost use Rattle.vcpu_run.specs.Works.{IsUnitVerb};
+
+use crate::pair::Pair;
+use crate::script::Progress;
+use crate::step::Step;
+use crate::watched::Watched;
+use boot_text::Line;
+use crq_session::{CrqEnd, FreeAnswer};
+use vio_num::{Moved, NoMemory};
+
+/// Puts the event that the client's end keeps.
+pub(crate) fn push_event(pair: &mut Pair) -> Result<Moved, NoMemory>
+    ensures drives { Drives pair.old pair.new }
+    ensures driver { pair.new.driver ≡ pair.old.driver }
+{
+    let mut crq = Watched {
+        end: pair.link.side(false),
+        moved: false,
+    };
+    crq.reserve(1)?;
+    crq.push_event();
+    Ok(crq.moved())
+}
+
+/// One step of this line at its client.
+pub(crate) fn step(pair: &mut Pair, line: &Line, progress: &mut Progress) -> Result<Step, NoMemory>
+    requires driver { IsSomeAnd pair.old.driver (IsDriver pair.old.window) }
+    requires verb { IsUnitVerb line.now.verb }
+    ensures drives { Drives pair.old pair.new }
+    ensures credit { OnDrivers pair.old.driver pair.new.driver (λ a b.
+        StepsAgreed line.now.verb (taken_in progress.old) (taken_in progress.new)
+        a.client b.client result) }
+{
+    let Some(driver) = &mut pair.driver else {
+        unreachable!()
+    };
+    let mut crq = Watched {
+        end: pair.link.side(false),
+        moved: false,
+    };
+    driver.step(&mut crq, &mut pair.window, line, progress)
+}
+
+/// Takes what stands in the client's queue.
+pub(crate) fn take_rest(pair: &mut Pair) -> Result<Moved, NoMemory>
+    requires { IsSomeAnd pair.old.driver (IsDriver pair.old.window) }
+    ensures { Drives pair.old pair.new }
+{
+    let Some(driver) = &mut pair.driver else {
+        unreachable!()
+    };
+    let mut crq = Watched {
+        end: pair.link.side(false),
+        moved: false,
+    };
+    driver.take_rest(&mut crq, &mut pair.window)?;
+    Ok(crq.moved())
+}
+
+/// Fails the client's queue if it is registered. Tells whether it is not any more.
+pub(crate) fn fail(pair: &mut Pair) -> Result<bool, NoMemory>
+    requires { IsSomeAnd pair.old.driver (IsDriver pair.old.window) }
+    ensures drives { Drives pair.old pair.new }
+    ensures credit { OnDrivers pair.old.driver pair.new.driver (λ a b.
+        SameCredits a.client b.client) }
+{
+    let mut end = pair.link.side(false);
+    end.reserve(1)?;
+    match end.fail() {
+        FreeAnswer::Success => {
+            freed(pair);
+            Ok(true)
+        }
+        FreeAnswer::Parameter => Ok(true),
+        FreeAnswer::Busy { control: _ } => Ok(false),
+    }
+}
+
+// Tells the client that its queue is free.
+fn freed(pair: &mut Pair)
+    requires { IsSomeAnd pair.old.driver (IsDriver pair.old.window) }
+    ensures drives { Drives pair.old pair.new }
+    ensures credit { OnDrivers pair.old.driver pair.new.driver (λ a b.
+        SameCredits a.client b.client) }
+{
+    let Some(driver) = &mut pair.driver else {
+        unreachable!()
+    };
+    driver.freed();
+}

@@ -1,0 +1,110 @@
+// Taking answers.
+ghost use Rattle.std.specs.Prelude.{◌≤◌, IfOk};
+ghost use Rattle.boot_text.specs.declared.verb.Verb.TheVariants as verbs;
+ghost use Rattle.vscsi_client.specs.declared.TheConstants.{MIN_PAGES};
+ghost use Rattle.vcpu_run.specs.Credited.{StepsAgreed};
+ghost use Rattle.vcpu_run.specs.Sendings.{TookOf};
+ghost use Rattle.vcpu_run.specs.Works.{Works};
+
+use crate::driver::Driver;
+use crate::step::Step;
+use crate::watched::Watched;
+use crq_session::CrqEnd;
+use tce_window::OwnerPort;
+use vio_num::{Moved, NoMemory};
+use vio_trace::Outcome;
+use vscsi_client::Taken;
+
+/// What came of taking one entry.
+#[derive(Clone, Copy, Debug, PartialEq, Eq)]
+enum Took {
+    Answer,
+    Other,
+    Lost,
+    Nothing,
+    InUse,
+}
+
+impl Driver {
+    // Takes one entry, and notes an answer.
+    fn take_one<C: CrqEnd, O: OwnerPort>(
+        &mut self,
+        crq: &mut Watched<C>,
+        own: &mut O,
+    ) -> Result<Took, NoMemory>
+        requires { MIN_PAGES ≤ (O.state own.old).place.size }
+        ensures works { Works (C.state crq.old.end) (C.state crq.new.end)
+            (O.state own.old) (O.state own.new) self.old self.new }
+        ensures took { IfOk result (λ took. TookOf took self.old.client self.new.client) }
+    {
+        match self.client.take_answer(crq, own)? {
+            Taken::Answer { tag, rsp } => {
+                self.note(crq.session(), tag, rsp)?;
+                Ok(Took::Answer)
+            }
+            Taken::Stray(_) => Ok(Took::Other),
+            Taken::Other => Ok(Took::Other),
+            Taken::Lost => Ok(Took::Lost),
+            Taken::Again { page: _, word: _ } => Ok(Took::InUse),
+            Taken::Empty { number: _ } => Ok(Took::Nothing),
+        }
+    }
+
+    /// Takes entries until there is none, or as many as the queue has slots.
+    pub(crate) fn take_rest<C: CrqEnd, O: OwnerPort>(
+        &mut self,
+        crq: &mut Watched<C>,
+        own: &mut O,
+    ) -> Result<(), NoMemory>
+        requires { MIN_PAGES ≤ (O.state own.old).place.size }
+        ensures { Works (C.state crq.old.end) (C.state crq.new.end)
+            (O.state own.old) (O.state own.new) self.old self.new }
+    {
+        for _taken in 0..crq.slots() {
+            match self.take_one(crq, own)? {
+                Took::Nothing | Took::InUse => return Ok(()),
+                Took::Answer | Took::Other | Took::Lost => {}
+            }
+        }
+        Ok(())
+    }
+
+    /// One step of taking `count` answers, of which `taken` were taken before.
+    pub(crate) fn take<C: CrqEnd, O: OwnerPort>(
+        &mut self,
+        crq: &mut Watched<C>,
+        own: &mut O,
+        count: u64,
+        taken: &mut u64,
+    ) -> Result<Step, NoMemory>
+        requires { MIN_PAGES ≤ (O.state own.old).place.size }
+        ensures works { Works (C.state crq.old.end) (C.state crq.new.end)
+            (O.state own.old) (O.state own.new) self.old self.new }
+        ensures credit { StepsAgreed (verbs.Take count) taken.old taken.new
+            self.old.client self.new.client result }
+    {
+        if *taken >= count {
+            return Ok(Step::Ends(Outcome::Took(*taken)));
+        }
+        for _entry in 0..crq.slots() {
+            match self.take_one(crq, own)? {
+                Took::Answer => {
+                    *taken = taken.saturating_add(1);
+                    if *taken >= count {
+                        return Ok(Step::Ends(Outcome::Took(*taken)));
+                    }
+                }
+                Took::Other => {}
+                Took::Lost => return Ok(Step::Ends(Outcome::TookThenLost(*taken))),
+                Took::InUse => return Ok(Step::Waits(crq.moved())),
+                Took::Nothing => {
+                    if self.client.outstanding().is_empty() {
+                        return Ok(Step::Ends(Outcome::Took(*taken)));
+                    }
+                    return Ok(Step::Waits(crq.moved()));
+                }
+            }
+        }
+        Ok(Step::Waits(Moved::Moved))
+    }
+}
