@@ -1,12 +1,13 @@
--- How a run can end, and what it did to its source and its sink then.
+-- How a run can end, and what it did to its source, its sink and its image then.
 use Rattle.std.specs.Prelude.{◌≡◌, ◌⊎◌, ℕ, List, Option}
 use Rattle.std.specs.Io.KnownBytes.{Appends, Keeps}
+use Rattle.vio_io.specs.Image.{ImageState, FailsAfter, after_sizing}
 use Rattle.vio_num.specs.Counts.{Rose}
 use Rattle.paprvio.specs.declared.status.Status.{Status}
-use Rattle.paprvio.specs.declared.status.Status.TheVariants.{SourceFailed, SinkFailed, NoMemory}
+use Rattle.paprvio.specs.declared.status.Status.TheVariants.{SourceFailed, SinkFailed, ImageFailed, NoMemory}
 use Rattle.paprvio.specs.Written.{AppendsFront}
 
--- what a source and a sink show at one moment
+-- what a source, a sink and an image show at one moment
 pub record Outside : Type 0 where
   -- the bytes that the source has left, and those that the sink took, where they tell them
   pub left : Option (List ℕ)
@@ -14,10 +15,11 @@ pub record Outside : Type 0 where
   -- their counts of faults
   pub source_faults : ℕ
   pub sink_faults : ℕ
+  pub image : ImageState
 
-abbrev pub outside : (left taken : Option (List ℕ)) → (source_faults sink_faults : ℕ) → Outside
-outside left taken source_faults sink_faults =
-    record { left = left; taken = taken; source_faults = source_faults; sink_faults = sink_faults }
+abbrev pub outside : (left taken : Option (List ℕ)) → (source_faults sink_faults : ℕ) → ImageState → Outside
+outside left taken source_faults sink_faults image =
+    record { left = left; taken = taken; source_faults = source_faults; sink_faults = sink_faults; image = image }
 
 -- The sink took a text of this kind, whole, and nothing failed.
 pub record Writes (IsText : List ℕ → Type 0) (old new : Outside) : Type 0 where
@@ -31,6 +33,13 @@ pub record Writes (IsText : List ℕ → Type 0) (old new : Outside) : Type 0 wh
 pub record SourceFails (old new : Outside) : Type 0 where
   pub source_faults : Rose old.source_faults new.source_faults
   pub unwritten : Keeps old.taken new.taken
+  pub sink_faults : new.sink_faults ≡ old.sink_faults
+
+-- The image failed as its blocks were counted, and nothing was written.
+pub record ImageFails (old new : Outside) : Type 0 where
+  pub image : FailsAfter (after_sizing old.image) new.image
+  pub unwritten : Keeps old.taken new.taken
+  pub source_faults : new.source_faults ≡ old.source_faults
   pub sink_faults : new.sink_faults ≡ old.sink_faults
 
 -- The sink took a front of the text that belongs to some status.
@@ -62,5 +71,6 @@ FinishesAs status text end taken taken' faults faults' = (end ≡ status) × App
 abbrev pub EndsAs : (Status → List ℕ → Type 0) → Status → Outside → Outside → Type 0
 EndsAs IsText SourceFailed old new = SourceFails old new
 EndsAs IsText SinkFailed old new = SinkFails IsText old new
+EndsAs IsText ImageFailed old new = ImageFails old new
 EndsAs IsText NoMemory old new = RunsOut IsText old new
 EndsAs IsText status old new = Writes (IsText status) old new

@@ -1,9 +1,5 @@
 pub mod Answer
-pub mod BootText
 pub mod Ending
-pub mod FirstRun
-pub mod History
-pub mod Queues
 pub mod Run
 pub mod Status
 pub mod Texts

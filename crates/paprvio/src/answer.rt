@@ -11,8 +11,10 @@ pub enum Answer {
     Usage,
     /// The input is longer than a boot text may be.
     TooLong,
-    /// The input is no boot text of a form that is built.
+    /// The boot text says a plan of a kind that is not run.
     NotBuilt,
+    /// The boot text says no plan: the text names its first wrong line and the cause.
+    Refused(Vec<u8>),
     /// The text of the run's trace.
     Trace(Vec<u8>),
 }
@@ -24,7 +26,7 @@ impl Answer {
     {
         match self {
             Answer::Usage => Status::Usage,
-            Answer::TooLong | Answer::NotBuilt => Status::Refused,
+            Answer::TooLong | Answer::NotBuilt | Answer::Refused(_) => Status::Refused,
             Answer::Trace(_) => Status::Done,
         }
     }
@@ -37,7 +39,7 @@ impl Answer {
             Answer::Usage => b"paprvio: usage\n",
             Answer::TooLong => b"paprvio: line 0: TooLong\n",
             Answer::NotBuilt => b"paprvio: line 0: NotBuilt\n",
-            Answer::Trace(text) => text,
+            Answer::Refused(text) | Answer::Trace(text) => text,
         }
     }
 }

@@ -1,54 +1,53 @@
-// What a run answers, from what its source gives: its boot text is read, and its plan is run.
-ghost use Rattle.std.specs.Prelude.{◌≡◌, ◌≤◌, length, IfOk, IsErrOf};
+// What a source gives to do: its boot text is read, and its plan is to be run or its refusal told.
+ghost use Rattle.std.specs.Prelude.{◌≡◌, IfOk, IsErrOf};
 ghost use Rattle.vio_num.specs.Counts.{Rose};
-ghost use Rattle.paprvio.specs.Answer.{answer_status, answer_text};
-ghost use Rattle.paprvio.specs.Run.{IsTraceOf, BootAnswer, SourceAnswer};
+ghost use Rattle.paprvio.specs.Answer.{BootTask, SourceTask};
 
 use crate::answer::Answer;
-use crate::boot::{MAX_TEXT, Plan, read_boot};
-use crate::first_run::run_plan;
 use crate::reading::{ReadFault, read_all};
+use crate::refusal::refused_text;
 use crate::stop::Stop;
+use crate::task::Task;
+use boot_text::{PlanFault, read_plan};
 use std::alloc::Global;
+use vcpu_run::is_runnable;
 use vio_io::Source;
 use vio_num::NoMemory;
-use vio_trace::write_trace;
 
-// Makes the text of a trace of this plan.
-fn trace_of(alloc: Global, plan: &Plan) -> Result<Vec<u8>, NoMemory>
-    requires { plan.now.commands ≤ plan.now.grant }
-    ensures { IfOk result (λ text. IsTraceOf plan.now text.items) }
+// Reads a boot text, and says what is to be done with it.
+fn boot_task(alloc: Global, boot: &[u8]) -> Result<Task, NoMemory>
+    ensures { IfOk result (BootTask boot.now) }
 {
-    write_trace(alloc, &run_plan(alloc, plan)?)
-}
-
-// Answers a boot text that was read.
-fn boot_answer(alloc: Global, boot: &[u8]) -> Result<Answer, NoMemory>
-    requires { length boot.now ≤ MAX_TEXT }
-    ensures { IfOk result (λ answer.
-        BootAnswer boot.now (answer_status answer) (answer_text answer)) }
-{
-    match read_boot(alloc, boot)? {
-        Some(plan) => Ok(Answer::Trace(trace_of(alloc, &plan)?)),
-        None => Ok(Answer::NotBuilt),
+    match read_plan(alloc, boot) {
+        Ok(plan) => {
+            if is_runnable(&plan) {
+                Ok(Task::Run(plan))
+            } else {
+                Ok(Task::Tell(Answer::NotBuilt))
+            }
+        }
+        Err(PlanFault::Refused { line, cause }) => {
+            Ok(Task::Tell(Answer::Refused(refused_text(alloc, line, cause)?)))
+        }
+        Err(PlanFault::NoMemory) => Err(NoMemory),
     }
 }
 
-/// Reads the source to its end, and answers what it gave.
-pub fn source_answer<So: Source>(alloc: Global, source: &mut So) -> Result<Answer, Stop>
-    ensures answer { IfOk result (λ answer. SourceAnswer (So.left source.old) (So.left source.new)
-        (answer_status answer) (answer_text answer)) }
+/// Reads the source to its end, and says what is to be done with what it gave.
+pub fn source_task<So: Source>(alloc: Global, source: &mut So) -> Result<Task, Stop>
+    ensures task { IfOk result (SourceTask (So.left source.old) (So.left source.new)) }
     ensures failed { IsErrOf result Stop.SourceFailed
         → Rose (So.faults source.old) (So.faults source.new) }
     ensures same { ¬ IsErrOf result Stop.SourceFailed
         → So.faults source.new ≡ So.faults source.old }
+    ensures image { ¬ IsErrOf result Stop.ImageFailed }
 {
     match read_all(alloc, source) {
-        Ok(boot) => match boot_answer(alloc, &boot) {
-            Ok(answer) => Ok(answer),
+        Ok(boot) => match boot_task(alloc, &boot) {
+            Ok(task) => Ok(task),
             Err(NoMemory) => Err(Stop::NoMemory),
         },
-        Err(ReadFault::TooLong) => Ok(Answer::TooLong),
+        Err(ReadFault::TooLong) => Ok(Task::Tell(Answer::TooLong)),
         Err(ReadFault::Failed) => Err(Stop::SourceFailed),
         Err(ReadFault::NoMemory) => Err(Stop::NoMemory),
     }

@@ -9,15 +9,13 @@ ghost use Rattle.paprvio.specs.declared.status.Status.TheVariants.{Done, SinkFai
 
 mod answer;
 mod answering;
-mod boot;
-mod client;
-mod first_run;
-mod queues;
 mod reading;
+mod refusal;
 mod run;
-mod server;
+mod running;
 mod status;
 mod stop;
+mod task;
 #[cfg(test)]
 mod tests;
 mod writing;
@@ -36,7 +34,8 @@ const USAGE: &str = "usage: paprvio IMAGE run < BOOT-TEXT > TRACE
 
 IMAGE is a file of 512-byte blocks, or - for 2,048 blocks of zeros in memory.
 run reads a boot text from standard input and writes the trace of its run to standard output.
-Statuses: 0 done, 1 other words, 2 refused boot text, 3 input failed, 4 output failed, 6 no memory.
+Statuses: 0 done, 1 other words, 2 refused boot text, 3 input failed, 4 output failed,
+5 image failed, 6 no memory.
 ";
 
 const VERSION: &str = "paprvio 0.1.0\n";
@@ -132,6 +131,7 @@ fn explain<R: Eprint>(rt: &R, status: u8) {
         1 => "the words are IMAGE run, and paprvio --help says more",
         3 => "standard input could not be read",
         4 => "standard output could not be written",
+        5 => "the image could not be read, or is no file of 512-byte blocks",
         6 => "no memory was found",
         _ => return,
     };

@@ -4,7 +4,7 @@ ghost use Rattle.std.specs.Io.KnownBytes.{Consumes, IsAtEnd};
 ghost use Rattle.paprvio.specs.Written.{Fills, ReadBehind};
 ghost use Rattle.vio_num.specs.Counts.{Rose};
 
-use crate::boot::MAX_TEXT;
+use boot_text::MOST_TEXT;
 use std::alloc::{AllocError, Global};
 use vio_io::Source;
 
@@ -26,15 +26,15 @@ pub enum ReadFault {
 pub fn read_all<S: Source>(alloc: Global, source: &mut S) -> Result<Vec<u8>, ReadFault>
     ensures all { IfOk result (λ got. Consumes (S.left source.old) (S.left source.new) got.items) }
     ensures end { OnOk result (IsAtEnd (S.left source.new)) }
-    ensures short { IfOk result (λ bytes. length bytes.items ≤ MAX_TEXT) }
+    ensures short { IfOk result (λ bytes. length bytes.items ≤ MOST_TEXT) }
     ensures long { IsErrOf result ReadFault.TooLong → (bytes : List ℕ)
-        × Consumes (S.left source.old) (S.left source.new) bytes × (length bytes ≡ MAX_TEXT + 1) }
+        × Consumes (S.left source.old) (S.left source.new) bytes × (length bytes ≡ MOST_TEXT + 1) }
     ensures failed { IsErrOf result ReadFault.Failed
         → Rose (S.faults source.old) (S.faults source.new) }
     ensures same { ¬ IsErrOf result ReadFault.Failed → S.faults source.new ≡ S.faults source.old }
 {
     let mut bytes = Vec::new(alloc);
-    while bytes.len() <= MAX_TEXT {
+    while bytes.len() <= MOST_TEXT {
         let filled = bytes.len();
         if grow(&mut bytes).is_err() {
             return Err(ReadFault::NoMemory);
@@ -53,13 +53,13 @@ pub fn read_all<S: Source>(alloc: Global, source: &mut S) -> Result<Vec<u8>, Rea
 
 // Room for as many bytes more as there are, a page at least and the longest text and one byte at most.
 fn grow(bytes: &mut Vec<u8>) -> Result<(), AllocError>
-    requires { vec_len bytes.old ≤ MAX_TEXT }
+    requires { vec_len bytes.old ≤ MOST_TEXT }
     ensures kept { OnOk result (take (vec_len bytes.old) bytes.new.items ≡ bytes.old.items) }
     ensures more { OnOk result (vec_len bytes.old < vec_len bytes.new) }
-    ensures most { OnOk result (vec_len bytes.new ≤ MAX_TEXT + 1) }
+    ensures most { OnOk result (vec_len bytes.new ≤ MOST_TEXT + 1) }
 {
     let len = bytes.len();
-    bytes.resize((2 * len).max(PAGE).min(MAX_TEXT + 1), 0)
+    bytes.resize((2 * len).max(PAGE).min(MOST_TEXT + 1), 0)
 }
 
 // Reads on behind what the buffer holds already, and answers how long the whole is; `TooLong` where it

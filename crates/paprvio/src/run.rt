@@ -1,16 +1,19 @@
-// The call that the program makes: words, a source and a sink in, a status out.
-ghost use Rattle.std.specs.Prelude.{◌≡◌, ◌↔◌, ◌∷◌, [], map, string_bytes, codes, IfOk, IsErr, IsErrOf, IsTrue};
+// The call that the program makes: words, a source, an image and a sink in, a status and the image out.
+ghost use Rattle.std.specs.Prelude.{◌≡◌, ◌↔◌, ◌∷◌, ◌⊎◌, [], map, string_bytes, codes, IfOk, IsErr, IsErrOf, IsTrue};
+ghost use Rattle.vio_io.specs.Image.{FailsAfter, after_sizing};
 ghost use Rattle.vio_num.specs.Counts.{Rose};
-ghost use Rattle.paprvio.specs.Answer.{answer_status, answer_text, IsAnswerTo};
+ghost use Rattle.paprvio.specs.Answer.{answer_status, answer_text, IsAnswerTo, WordsTask};
 ghost use Rattle.paprvio.specs.Ending.{FinishesAs, outside};
-ghost use Rattle.paprvio.specs.Run.{AreRun, RunEndsAs, RunEndsWith, MustEndAs, FitsWords};
+ghost use Rattle.paprvio.specs.Run.{AreRun, AsksForRun, IsCounted, IsUnrun, IsUnwritten, RunEndsAs, RunEndsWith, MustEndAs, FitsWords};
 ghost use Rattle.paprvio.specs.Status.{status_code};
-ghost use Rattle.paprvio.specs.declared.status.Status.TheVariants.{SourceFailed};
+ghost use Rattle.paprvio.specs.declared.status.Status.TheVariants.{Done, SourceFailed, ImageFailed};
 
 use crate::answer::Answer;
-use crate::answering::source_answer;
+use crate::answering::source_task;
+use crate::running::{Answered, run_plan};
 use crate::status::Status;
 use crate::stop::Stop;
+use crate::task::Task;
 use crate::writing::write_all;
 use std::alloc::Global;
 use std::thread::Threads;
@@ -39,21 +42,62 @@ fn is_run(word: &str) -> bool
     word == "run"
 }
 
-// Answers the words: with the usage alone, or with what the source gives.
-fn answer_of<So: Source>(alloc: Global, words: &[String], source: &mut So) -> Result<Answer, Stop>
-    ensures answer { IfOk result (IsAnswerTo (map string_bytes words.now) (So.left source.old)
+// Says what the words ask for: the usage alone, or what the source gives.
+fn words_task<So: Source>(alloc: Global, words: &[String], source: &mut So) -> Result<Task, Stop>
+    ensures task { IfOk result (WordsTask (map string_bytes words.now) (So.left source.old)
         (So.left source.new)) }
     ensures failed { IsErrOf result Stop.SourceFailed
         → Rose (So.faults source.old) (So.faults source.new) }
     ensures same { ¬ IsErrOf result Stop.SourceFailed
         → So.faults source.new ≡ So.faults source.old }
+    ensures image { ¬ IsErrOf result Stop.ImageFailed }
     ensures asked { IsErr result → AreRun (map string_bytes words.now) }
     ensures unread { ¬ AreRun (map string_bytes words.now) → source.new ≡ source.old }
 {
     if are_run(words) {
-        source_answer(alloc, source)
+        source_task(alloc, source)
     } else {
-        Ok(Answer::Usage)
+        Ok(Task::Tell(Answer::Usage))
+    }
+}
+
+// Does what the words ask for. The image is handed on as it is unless a plan is run.
+fn answer_words<So: Source, Di: Blocks + Drop>(
+    alloc: Global,
+    words: &[String],
+    source: &mut So,
+    image: Di,
+) -> Answered<Di>
+    ensures answer { IfOk result.answer (IsAnswerTo (map string_bytes words.now)
+        (So.left source.old) (So.left source.new) (Di.state image)) }
+    ensures failed { IsErrOf result.answer Stop.SourceFailed
+        → Rose (So.faults source.old) (So.faults source.new) }
+    ensures same { ¬ IsErrOf result.answer Stop.SourceFailed
+        → So.faults source.new ≡ So.faults source.old }
+    ensures counting { IsErrOf result.answer Stop.ImageFailed
+        → FailsAfter (after_sizing (Di.state image)) (Di.state result.image) }
+    ensures runs { IsErrOf result.answer Stop.ImageFailed
+        → AsksForRun (map string_bytes words.now) (So.left source.old) (So.left source.new) }
+    ensures counted { ¬ IsErrOf result.answer Stop.ImageFailed
+        → (result.image ≡ image) ⊎ IsCounted (Di.state image) }
+    ensures asked { IsErr result.answer → AreRun (map string_bytes words.now) }
+    ensures unread { ¬ AreRun (map string_bytes words.now) → source.new ≡ source.old }
+    ensures unrun { ¬ AsksForRun (map string_bytes words.now) (So.left source.old) (So.left source.new)
+        → result.image ≡ image }
+    ensures told { IfOk result.answer (λ answer. ¬ (answer_status answer ≡ Done)
+        → result.image ≡ image) }
+    ensures stopped { IsErrOf result.answer Stop.SourceFailed → result.image ≡ image }
+{
+    match words_task(alloc, words, source) {
+        Ok(Task::Tell(answer)) => Answered {
+            image,
+            answer: Ok(answer),
+        },
+        Ok(Task::Run(plan)) => run_plan(alloc, &plan, image),
+        Err(stop) => Answered {
+            image,
+            answer: Err(stop),
+        },
     }
 }
 
@@ -69,32 +113,57 @@ fn finish<Si: Sink>(sink: &mut Si, answer: &Answer) -> Status
     }
 }
 
-// Answers the words and writes the answer.
-fn run_words<So: Source, Si: Sink>(
+/// How a run ended, and the image as it was left.
+#[derive(Drop)]
+struct Finished<Di> {
+    status: Status,
+    image: Di,
+}
+
+// Does what the words ask for, and writes the answer.
+fn run_words<So: Source, Di: Blocks + Drop, Si: Sink>(
     alloc: Global,
     words: &[String],
     source: &mut So,
+    image: Di,
     sink: &mut Si,
-) -> Status
-    ensures ends { RunEndsWith (map string_bytes words.now) result
-        (outside (So.left source.old) (Si.taken sink.old) (So.faults source.old) (Si.faults sink.old))
-        (outside (So.left source.new) (Si.taken sink.new) (So.faults source.new) (Si.faults sink.new)) }
-    ensures asked { result ≡ SourceFailed → AreRun (map string_bytes words.now) }
+) -> Finished<Di>
+    ensures ends { RunEndsWith (map string_bytes words.now) result.status
+        (outside (So.left source.old) (Si.taken sink.old) (So.faults source.old)
+        (Si.faults sink.old) (Di.state image))
+        (outside (So.left source.new) (Si.taken sink.new) (So.faults source.new)
+        (Si.faults sink.new) (Di.state result.image)) }
+    ensures asked { result.status ≡ SourceFailed → AreRun (map string_bytes words.now) }
+    ensures runs { result.status ≡ ImageFailed
+        → AsksForRun (map string_bytes words.now) (So.left source.old) (So.left source.new) }
     ensures unread { ¬ AreRun (map string_bytes words.now) → source.new ≡ source.old }
-    ensures unwritten { result ≡ SourceFailed → sink.new ≡ sink.old }
+    ensures unwritten { IsUnwritten (status_code result.status) → sink.new ≡ sink.old }
+    ensures unrun { ¬ AsksForRun (map string_bytes words.now) (So.left source.old) (So.left source.new)
+        → result.image ≡ image }
+    ensures untouched { IsUnrun (status_code result.status) → result.image ≡ image }
+    ensures counted { ¬ (result.status ≡ ImageFailed)
+        → (result.image ≡ image) ⊎ IsCounted (Di.state image) }
 {
-    match answer_of(alloc, words, source) {
-        Ok(answer) => finish(sink, &answer),
-        Err(stop) => stop.status(),
+    let Answered { image, answer } = answer_words(alloc, words, source, image);
+    match answer {
+        Ok(answer) => Finished {
+            status: finish(sink, &answer),
+            image,
+        },
+        Err(stop) => Finished {
+            status: stop.status(),
+            image,
+        },
     }
 }
 
-/// Runs the words over what the source holds, and writes the answer to the sink: the one call that
-/// the program makes. It needs no more of the runtime than threads, and always returns.
+/// Runs the words over what the source holds and over the image, and writes the answer to the sink: the one call
+/// that the program makes. It needs no more of the runtime than threads, and always returns.
 ///
-/// The tests go in the order words, reading, boot text, running, writing, and the first that fails decides the
-/// status. The image is handed back at each status.
-pub fn run<R: Threads + Sync, So: Source, Di: Blocks + Send, Si: Sink, G: Gate + Sync>(
+/// The tests go in the order words, reading, boot text, counting the blocks of the image, running, writing, and the
+/// first that fails decides the status. The image is handed back at each status; it is as it was handed in unless a
+/// plan was run or its blocks were counted.
+pub fn run<R: Threads + Sync, So: Source, Di: Blocks + Send + Drop, Si: Sink, G: Gate + Sync>(
     _rt: &R,
     alloc: Global,
     words: &[String],
@@ -104,19 +173,29 @@ pub fn run<R: Threads + Sync, So: Source, Di: Blocks + Send, Si: Sink, G: Gate +
     _gate: &G,
 ) -> Ended<Di>
     ensures ends { RunEndsAs (map string_bytes words.now) result.status
-        (outside (So.left source.old) (Si.taken sink.old) (So.faults source.old) (Si.faults sink.old))
-        (outside (So.left source.new) (Si.taken sink.new) (So.faults source.new) (Si.faults sink.new)) }
+        (outside (So.left source.old) (Si.taken sink.old) (So.faults source.old)
+        (Si.faults sink.old) (Di.state image))
+        (outside (So.left source.new) (Si.taken sink.new) (So.faults source.new)
+        (Si.faults sink.new) (Di.state result.image)) }
     ensures must { MustEndAs (map string_bytes words.now) result.status
-        (outside (So.left source.old) (Si.taken sink.old) (So.faults source.old) (Si.faults sink.old))
-        (outside (So.left source.new) (Si.taken sink.new) (So.faults source.new) (Si.faults sink.new)) }
+        (outside (So.left source.old) (Si.taken sink.old) (So.faults source.old)
+        (Si.faults sink.old) (Di.state image))
+        (outside (So.left source.new) (Si.taken sink.new) (So.faults source.new)
+        (Si.faults sink.new) (Di.state result.image)) }
     ensures words { FitsWords (map string_bytes words.now) result.status }
+    ensures runs { result.status ≡ status_code ImageFailed
+        → AsksForRun (map string_bytes words.now) (So.left source.old) (So.left source.new) }
     ensures unread { ¬ AreRun (map string_bytes words.now) → source.new ≡ source.old }
-    ensures unwritten { result.status ≡ status_code SourceFailed → sink.new ≡ sink.old }
-    ensures image { result.image ≡ image }
+    ensures unwritten { IsUnwritten result.status → sink.new ≡ sink.old }
+    ensures unrun { ¬ AsksForRun (map string_bytes words.now) (So.left source.old) (So.left source.new)
+        → result.image ≡ image }
+    ensures untouched { IsUnrun result.status → result.image ≡ image }
+    ensures counted { ¬ (result.status ≡ status_code ImageFailed)
+        → (result.image ≡ image) ⊎ IsCounted (Di.state image) }
 {
-    let status = run_words(alloc, words, source, sink);
+    let finished = run_words(alloc, words, source, image, sink);
     Ended {
-        status: status.code(),
-        image,
+        status: finished.status.code(),
+        image: finished.image,
     }
 }

@@ -9,18 +9,20 @@ pub enum Status {
     Done,
     /// The words are not accepted; the usage was written.
     Usage,
-    /// The bytes that were read are no boot text; the cause was written.
+    /// The bytes that were read say no plan that is run; the cause was written.
     Refused,
     /// The source failed; nothing was written.
     SourceFailed,
     /// The sink failed; it took a front of the text.
     SinkFailed,
+    /// The image failed as its blocks were counted; nothing was written.
+    ImageFailed,
     /// No memory was found; the sink took a front of the text, or nothing.
     NoMemory,
 }
 
 impl Status {
-    /// The exit status of the program. 5 is kept for an image that cannot be sized, which no run does yet.
+    /// The exit status of the program.
     pub fn code(self) -> u8
         ensures { result ≡ status_code self }
     {
@@ -30,6 +32,7 @@ impl Status {
             Status::Refused => 2,
             Status::SourceFailed => 3,
             Status::SinkFailed => 4,
+            Status::ImageFailed => 5,
             Status::NoMemory => 6,
         }
     }

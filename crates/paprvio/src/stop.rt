@@ -9,6 +9,8 @@ use crate::status::Status;
 pub enum Stop {
     /// The source failed.
     SourceFailed,
+    /// The image failed as its blocks were counted.
+    ImageFailed,
     /// No memory was found.
     NoMemory,
 }
@@ -20,6 +22,7 @@ impl Stop {
     {
         match self {
             Stop::SourceFailed => Status::SourceFailed,
+            Stop::ImageFailed => Status::ImageFailed,
             Stop::NoMemory => Status::NoMemory,
         }
     }

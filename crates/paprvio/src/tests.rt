@@ -1,36 +1,18 @@
-// Runs of boot texts against traces and causes that were written by hand from the formats' tables.
+// Runs that are refused or that the outside ends, against causes that were written by hand from the formats' tables.
+mod runs;
+
 use crate::run::run;
 use std::alloc::{AllocError, Global};
 use std::process::Abort;
 use std::test::Fail;
 use std::thread::Threads;
-use vio_io::{FreeGate, MemSink, MemSource, SureBlocks};
+use vio_io::{FreeGate, MemBlocks, MemSink, MemSource};
 
 const FIRST_LOGIN: &str =
     "vio 1\nrounds 8\ngrant 8\npartition\nserver 1\nend\npartition\nclient 0.0 pages 14 queue 1\n0 login\n0 tur\nend\n";
 
-const TRACE: &str = "trace 1
-log 1 9 granted 8
-log 1 10 sent 2
-queue 0.0 1 256 3 3 0
-sent c001000000000000 0000000000000000
-sent 8001000000000040 0000000000000000
-sent 8001000000000030 0000000000000000
-took c001000000000000 0000000000000000
-took 8001000000000040 0000000000000000
-took 8001000000000030 0000000000000000
-queue 1.0 1 256 3 3 0
-sent c002000000000000 0000000000000000
-sent 8001000000000034 0000000000000001
-sent 8001000000000024 0000000000000002
-took c002000000000000 0000000000000000
-took 8001000000000034 0000000000000001
-took 8001000000000024 0000000000000002
-grant 0.0 1 1 1 8
-serve 0.0 1 1 2 020000000000000000000000000000020000000000000000000000000000000000000000000000000000000000000000 - - c10000000000000100000000000000020000000000000000000000000000000000000000 -
-answer 1.0 1 2 c10000000000000100000000000000020000000000000000000000000000000000000000
-end
-";
+const LAN_PORT: &str =
+    "vio 1\nrounds 8\ngrant 8\npartition\nlan 02:00:00:00:00:01 pages 16 slots 8\nend\n";
 
 const USAGE: &str = "paprvio: usage\n";
 
@@ -45,6 +27,7 @@ struct Outside {
     read_failing: Option<u64>,
     write_most: usize,
     write_failing: Option<u64>,
+    image_failing: Option<u64>,
 }
 
 const SURE: Outside = Outside {
@@ -52,6 +35,7 @@ const SURE: Outside = Outside {
     read_failing: None,
     write_most: 4096,
     write_failing: None,
+    image_failing: None,
 };
 
 fn failing_calls(alloc: Global, call: Option<u64>) -> Result<Vec<u64>, AllocError> {
@@ -60,6 +44,13 @@ fn failing_calls(alloc: Global, call: Option<u64>) -> Result<Vec<u64>, AllocErro
         calls.push(call)?;
     }
     Ok(calls)
+}
+
+// Makes an image of one block.
+fn one_block(alloc: Global, failing: Vec<u64>) -> Result<MemBlocks, AllocError> {
+    let mut blocks = Vec::new(alloc);
+    blocks.push([0; 512])?;
+    Ok(MemBlocks::new(blocks, failing))
 }
 
 // Runs the words over a boot text, and answers the status and what was written.
@@ -78,35 +69,49 @@ fn run_text<R: Threads + Sync>(
     let mut source = MemSource::new(text.to_vec(alloc)?, outside.read_most.max(1), failing);
     let failing = failing_calls(alloc, outside.write_failing)?;
     let mut sink = MemSink::new(alloc, outside.write_most.max(1), failing);
-    let image = SureBlocks::zeros(alloc, 1)?;
+    let image = one_block(alloc, failing_calls(alloc, outside.image_failing)?)?;
     let ended = run(rt, alloc, &owned, &mut source, image, &mut sink, &FreeGate);
     Ok((ended.status, sink.bytes().to_vec(alloc)?))
 }
 
-#[test]
-fn first_login_in_any_pieces(rt: HostRuntime) -> Result<(), Fail> {
-    for (read_most, write_most) in [(1, 4096), (2, 1), (3, 7), (10, 100), (4096, 4096)] {
-        let outside = Outside {
-            read_most,
-            write_most,
-            ..SURE
-        };
-        let (status, written) = run_text(
-            &rt,
-            rt.alloc(),
-            &["run"],
-            FIRST_LOGIN.as_bytes(),
-            &outside,
-        )?;
-        assert_eq!(rt; status, 0, "{read_most} {write_most}");
-        assert_eq!(rt;
-            written.as_slice(),
-            TRACE.as_bytes(),
-            "{read_most} {write_most}"
-        );
-    }
-    Ok(())
-}
+/// Parts of the first login's text, what stands in their place, and what is told of the text then.
+static REFUSALS: [(&str, &str, &str); 23] = [
+    ("vio 1", "vio\t1", "paprvio: line 1: BadByte\n"),
+    ("0 tur", "0 tur\u{7f}", "paprvio: line 10: BadByte\n"),
+    ("end\npart", "end\r\npart", "paprvio: line 6: BadByte\n"),
+    ("vio 1", "vio 2", "paprvio: line 1: Header\n"),
+    ("vio 1\n", "", "paprvio: line 1: Header\n"),
+    ("rounds 8", "round 8", "paprvio: line 2: Word\n"),
+    (
+        "0 login\n",
+        "\n# more\n0 logn\n",
+        "paprvio: line 11: Word\n",
+    ),
+    ("0 tur", "0 tus", "paprvio: line 10: Word\n"),
+    ("rounds 8\n", "", "paprvio: line 2: Place\n"),
+    ("0 tur\nend\n", "0 tur\n", "paprvio: line 11: Place\n"),
+    ("tur\nend\n", "tur\nend\nend\n", "paprvio: line 12: Place\n"),
+    ("grant 8", "grant 8 8", "paprvio: line 3: Count\n"),
+    ("pages 14", "page 14", "paprvio: line 8: Count\n"),
+    ("rounds 8", "rounds 0", "paprvio: line 2: Number\n"),
+    ("rounds 8", "rounds 1048577", "paprvio: line 2: Number\n"),
+    ("grant 8", "grant 201", "paprvio: line 3: Number\n"),
+    ("server 1", "server 17", "paprvio: line 5: Number\n"),
+    ("pages 14", "pages 13", "paprvio: line 8: Number\n"),
+    ("client 0.0", "client 0.1", "paprvio: line 8: Link\n"),
+    (
+        "client 0.0 pages 14 queue 1",
+        "server 1",
+        "paprvio: line 8: Link\n",
+    ),
+    ("0 login", "1 login", "paprvio: line 9: Unit\n"),
+    ("0 tur", "0 open", "paprvio: line 10: Unit\n"),
+    (
+        "server 1\n",
+        "server 1\nserver 1\nserver 1\nserver 1\nserver 1\nserver 1\nserver 1\nserver 1\nserver 1\n",
+        "paprvio: line 13: Limit\n",
+    ),
+];
 
 // The first login with one part of its text put in another's place.
 fn edited(alloc: Global, old: &str, new: &str) -> Result<String, AllocError> {
@@ -123,83 +128,48 @@ fn edited(alloc: Global, old: &str, new: &str) -> Result<String, AllocError> {
 }
 
 #[test]
-fn other_texts_are_refused(rt: HostRuntime) -> Result<(), Fail> {
-    let edits = [
-        ("vio 1", "vio 2"),
-        ("vio 1", ""),
-        ("vio 1\n", "vio 1\r\n"),
-        ("vio 1\n", "vio 1\n\n"),
-        ("vio 1\n", ""),
-        ("rounds 8", "rounds\t8"),
-        ("rounds 8", "rounds  8"),
-        ("rounds 8", " rounds 8"),
-        ("rounds 8", "rounds 8 "),
-        ("rounds 8", "rounds"),
-        ("rounds 8", "rounds "),
-        ("rounds 8", "rounds 0"),
-        ("rounds 8", "rounds 1048577"),
-        ("rounds 8", "rounds 18446744073709551624"),
-        ("rounds 8", "rounds 000000000000000000008"),
-        ("rounds 8", "rounds +8"),
-        ("rounds 8", "rounds 0x8"),
-        ("grant 8", "grant 0"),
-        ("grant 8", "grant 201"),
-        ("grant 8", "grant 264"),
-        ("server 1", "server 0"),
-        ("server 1", "server 17"),
-        ("client 0.0", "client 0.1"),
-        ("client 0.0", "client 00.0"),
-        ("pages 14", "pages 13"),
-        ("pages 14", "pages 257"),
-        ("pages 14 queue 1", "pages 14"),
-        ("pages 14 queue 1", "pages 14 queue 17"),
-        ("pages 14 queue 1", "pages 14 queue 1 "),
-        ("0 login", "1 login"),
-        ("0 login\n", ""),
-        ("0 tur", "0 tus"),
-        ("0 tur", "0 tur\u{7f}"),
-        (
-            "0 tur\n",
-            "0 tur\n0 tur\n0 tur\n0 tur\n0 tur\n0 tur\n0 tur\n0 tur\n0 tur\n",
-        ),
-        ("0 tur\nend\n", "0 tur\nend\n\n"),
-        ("0 tur\nend\n", "0 tur\nend\nend\n"),
-        ("0 tur\nend\n", "0 tur\nend\n# more"),
-    ];
-    for (old, new) in edits {
+fn each_fault_is_told_at_its_line(rt: HostRuntime) -> Result<(), Fail> {
+    for (old, new, told) in &REFUSALS {
         let text = edited(rt.alloc(), old, new)?;
         let (status, written) = run_text(&rt, rt.alloc(), &["run"], text.as_bytes(), &SURE)?;
         assert_eq!(rt; status, 2, "{old:?} {new:?}");
-        assert_eq!(rt; written.as_slice(), NOT_BUILT.as_bytes(), "{old:?} {new:?}");
+        assert_eq!(rt; written.as_slice(), told.as_bytes(), "{old:?} {new:?}");
     }
     Ok(())
 }
 
+// A text of this front and of a piece that stands so many times behind it.
+fn repeated(alloc: Global, front: &str, piece: &[u8], times: usize) -> Result<Vec<u8>, AllocError> {
+    let mut text = front.as_bytes().to_vec(alloc)?;
+    for _ in 0..times {
+        text.extend_from_slice(piece)?;
+    }
+    Ok(text)
+}
+
+/// The first login's text up to its script.
+const UP_TO_SCRIPT: &str =
+    "vio 1\nrounds 8\ngrant 8\npartition\nserver 1\nend\npartition\nclient 0.0 pages 14 queue 1\n";
+
 #[test]
-fn texts_of_the_form_run(rt: HostRuntime) -> Result<(), Fail> {
-    let edits = [
-        ("rounds 8", "rounds 00000000000000000008"),
-        ("rounds 8", "rounds 1048576"),
-        ("grant 8", "grant 0200"),
-        ("grant 8", "grant 1"),
-        ("server 1", "server 16"),
-        ("pages 14 queue 1", "pages 256 queue 16"),
-        ("0 tur\n", ""),
+fn long_texts_are_told_at_their_line(rt: HostRuntime) -> Result<(), Fail> {
+    let filled = b"0 fill 0 65536 1\n".as_slice();
+    for (front, piece, times, told) in [
+        ("vio 1\n", b"#".as_slice(), 1024, "paprvio: line 3: Place\n"),
         (
-            "0 tur\n",
-            "0 tur\n0 tur\n0 tur\n0 tur\n0 tur\n0 tur\n0 tur\n0 tur\n",
+            "vio 1\n",
+            b"#".as_slice(),
+            1025,
+            "paprvio: line 2: LineLength\n",
         ),
-        ("end\npartition\nclient", "end\npartition\nclient"),
-    ];
-    for (old, new) in edits {
-        let text = edited(rt.alloc(), old, new)?;
-        let (status, written) = run_text(&rt, rt.alloc(), &["run"], text.as_bytes(), &SURE)?;
-        assert_eq!(rt; status, 0, "{old:?} {new:?}");
-        assert!(rt;
-            written.starts_with(b"trace 1\nlog 1 9 granted "),
-            "{old:?} {new:?}"
-        );
-        assert!(rt; written.ends_with(b"\nend\n"), "{old:?} {new:?}");
+        (UP_TO_SCRIPT, filled, 256, "paprvio: line 265: Place\n"),
+        (UP_TO_SCRIPT, filled, 257, "paprvio: line 265: Transfer\n"),
+        (UP_TO_SCRIPT, filled, 300, "paprvio: line 265: Transfer\n"),
+    ] {
+        let text = repeated(rt.alloc(), front, piece, times)?;
+        let (status, written) = run_text(&rt, rt.alloc(), &["run"], &text, &SURE)?;
+        assert_eq!(rt; status, 2, "{times}");
+        assert_eq!(rt; written.as_slice(), told.as_bytes(), "{times}");
     }
     Ok(())
 }
@@ -208,33 +178,74 @@ fn texts_of_the_form_run(rt: HostRuntime) -> Result<(), Fail> {
 fn a_text_cut_short_is_refused(rt: HostRuntime) -> Result<(), Fail> {
     let text = FIRST_LOGIN.as_bytes();
     for len in 0..text.len() - 1 {
+        // Behind the end of the first partition the text says a plan.
+        if len == 45 || len == 46 {
+            continue;
+        }
         let (status, written) = run_text(&rt, rt.alloc(), &["run"], &text[..len], &SURE)?;
         assert_eq!(rt; status, 2, "{len}");
-        assert_eq!(rt; written.as_slice(), NOT_BUILT.as_bytes(), "{len}");
+        assert!(rt; written.starts_with(b"paprvio: line "), "{len}");
+        assert!(rt; written.ends_with(b"\n"), "{len}");
     }
-    let (status, written) = run_text(&rt, rt.alloc(), &["run"], &text[..text.len() - 1], &SURE)?;
-    assert_eq!(rt; status, 0);
-    assert_eq!(rt; written.as_slice(), TRACE.as_bytes());
     Ok(())
 }
 
 #[test]
 fn a_text_too_long_is_refused(rt: HostRuntime) -> Result<(), Fail> {
-    for (len, cause) in [
+    for (len, told) in [
         (1_048_576, NOT_BUILT),
         (1_048_577, TOO_LONG),
         (1_100_000, TOO_LONG),
     ] {
-        let mut text = FIRST_LOGIN.as_bytes().to_vec(rt.alloc())?;
+        let mut text = LAN_PORT.as_bytes().to_vec(rt.alloc())?;
         text.resize(len, b'\n')?;
         let (status, written) = run_text(&rt, rt.alloc(), &["run"], &text, &SURE)?;
         assert_eq!(rt; status, 2, "{len}");
-        assert_eq!(rt; written.as_slice(), cause.as_bytes(), "{len}");
+        assert_eq!(rt; written.as_slice(), told.as_bytes(), "{len}");
     }
     Ok(())
 }
 
-// Runs words that are not accepted; the source would fail, and is not read.
+#[test]
+fn plans_of_other_kinds_are_not_built(rt: HostRuntime) -> Result<(), Fail> {
+    let call = edited(rt.alloc(), "0 tur", "0 hcall 0x110 16")?;
+    let cut = repeated(rt.alloc(), "", LAN_PORT.as_bytes(), 1)?;
+    for (text, told) in [
+        (LAN_PORT.as_bytes(), NOT_BUILT),
+        (call.as_bytes(), NOT_BUILT),
+        (
+            &cut[..cut.len().saturating_sub(4)],
+            "paprvio: line 6: Place\n",
+        ),
+    ] {
+        let (status, written) = run_text(&rt, rt.alloc(), &["run"], text, &SURE)?;
+        assert_eq!(rt; status, 2, "{told:?}");
+        assert_eq!(rt; written.as_slice(), told.as_bytes(), "{told:?}");
+    }
+    Ok(())
+}
+
+#[test]
+fn a_refusal_is_read_and_written_in_any_pieces(rt: HostRuntime) -> Result<(), Fail> {
+    let text = edited(rt.alloc(), "0 tur", "0 tus")?;
+    for (read_most, write_most) in [(1, 4096), (2, 1), (3, 7), (10, 100), (4096, 4096)] {
+        let outside = Outside {
+            read_most,
+            write_most,
+            ..SURE
+        };
+        let (status, written) = run_text(&rt, rt.alloc(), &["run"], text.as_bytes(), &outside)?;
+        assert_eq!(rt; status, 2, "{read_most} {write_most}");
+        assert_eq!(rt;
+            written.as_slice(),
+            b"paprvio: line 10: Word\n".as_slice(),
+            "{read_most} {write_most}"
+        );
+    }
+    Ok(())
+}
+
+// Runs words that are not accepted; source and image would fail, and are not used.
 fn refuses_words<R: Threads + Sync + Abort>(
     rt: &R,
     alloc: Global,
@@ -242,6 +253,7 @@ fn refuses_words<R: Threads + Sync + Abort>(
 ) -> Result<(), Fail> {
     let outside = Outside {
         read_failing: Some(0),
+        image_failing: Some(0),
         ..SURE
     };
     let (status, written) = run_text(rt, alloc, words, FIRST_LOGIN.as_bytes(), &outside)?;
@@ -263,12 +275,12 @@ fn other_words_are_refused(rt: HostRuntime) -> Result<(), Fail> {
 }
 
 #[test]
-fn each_failure_of_the_outside_has_its_status(rt: HostRuntime) -> Result<(), Fail> {
-    let reads = FIRST_LOGIN.len() as u64 / 10 + 2;
-    for call in 0..reads {
+fn a_source_that_fails_ends_the_run(rt: HostRuntime) -> Result<(), Fail> {
+    for call in 0..FIRST_LOGIN.len() as u64 / 10 + 2 {
         let outside = Outside {
             read_most: 10,
             read_failing: Some(call),
+            image_failing: Some(0),
             ..SURE
         };
         let (status, written) = run_text(
@@ -278,36 +290,46 @@ fn each_failure_of_the_outside_has_its_status(rt: HostRuntime) -> Result<(), Fai
             FIRST_LOGIN.as_bytes(),
             &outside,
         )?;
-        assert_eq!(rt; status, 3, "read {call}");
-        assert!(rt; written.is_empty(), "read {call}");
+        assert_eq!(rt; status, 3, "{call}");
+        assert!(rt; written.is_empty(), "{call}");
     }
-    for call in 0..TRACE.len() as u64 / 100 + 1 {
-        let outside = Outside {
-            write_most: 100,
-            write_failing: Some(call),
-            ..SURE
-        };
-        let (status, written) = run_text(
-            &rt,
-            rt.alloc(),
-            &["run"],
-            FIRST_LOGIN.as_bytes(),
-            &outside,
-        )?;
-        assert_eq!(rt; status, 4, "write {call}");
-        assert_eq!(rt; written.len() as u64, call * 100, "write {call}");
-        assert!(rt; TRACE.as_bytes().starts_with(&written), "write {call}");
-    }
-    for (words, text, cause) in [("Run", FIRST_LOGIN, USAGE), ("run", "", NOT_BUILT)] {
+    Ok(())
+}
+
+#[test]
+fn a_sink_that_fails_ends_the_run(rt: HostRuntime) -> Result<(), Fail> {
+    for (words, text, told) in [
+        ("Run", FIRST_LOGIN, USAGE),
+        ("run", "", "paprvio: line 1: Header\n"),
+        ("run", LAN_PORT, NOT_BUILT),
+    ] {
         let outside = Outside {
             write_most: 9,
             write_failing: Some(1),
             ..SURE
         };
         let (status, written) = run_text(&rt, rt.alloc(), &[words], text.as_bytes(), &outside)?;
-        assert_eq!(rt; status, 4, "{words}");
-        assert!(rt; cause.as_bytes().starts_with(&written), "{words}");
-        assert_eq!(rt; written.len(), 9, "{words}");
+        assert_eq!(rt; status, 4, "{told:?}");
+        assert!(rt; told.as_bytes().starts_with(&written), "{told:?}");
+        assert_eq!(rt; written.len(), 9, "{told:?}");
+    }
+    Ok(())
+}
+
+#[test]
+fn an_image_that_fails_ends_a_run_of_a_plan_alone(rt: HostRuntime) -> Result<(), Fail> {
+    let outside = Outside {
+        image_failing: Some(0),
+        ..SURE
+    };
+    for (text, status, told) in [
+        (FIRST_LOGIN, 5, ""),
+        (LAN_PORT, 2, NOT_BUILT),
+        ("vio 1", 2, "paprvio: line 2: Place\n"),
+    ] {
+        let ended = run_text(&rt, rt.alloc(), &["run"], text.as_bytes(), &outside)?;
+        assert_eq!(rt; ended.0, status, "{told:?}");
+        assert_eq!(rt; ended.1.as_slice(), told.as_bytes(), "{told:?}");
     }
     Ok(())
 }
