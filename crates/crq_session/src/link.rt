@@ -45,6 +45,17 @@ impl PlainLink {
         PlainEnd { link: self, first }
     }
 
+    /// Whether this side's queue is registered.
+    pub fn is_registered(&self, first: bool) -> bool
+        ensures { result ≡ (side_of self.now first).registered }
+    {
+        if first {
+            self.first.is_registered()
+        } else {
+            self.second.is_registered()
+        }
+    }
+
     /// The queue from which this side polls.
     pub fn queue(&self, first: bool) -> &PlainPipe
         ensures { result.now ≡ (side_of self.now first).queue }

@@ -54,6 +54,13 @@ impl PlainSide {
         })
     }
 
+    /// Whether its queue is registered.
+    pub(crate) fn is_registered(&self) -> bool
+        ensures { result ≡ self.now.registered }
+    {
+        self.registered
+    }
+
     /// A side with this queue, registered or not, and the event that it keeps.
     pub(crate) fn of(
         queue: PlainPipe,
