@@ -114,21 +114,41 @@ counted_cut {A} text P cut (a ∷ rows) (b ∷ others) xs ys p q n e =
     let t = counted_cut text P cut rows others xs ys (All-tail P a rows p) (All-tail P b others q) (omega (arith, n)) s.rest in
     record { row = ap (λ (z : A). z ∷ rows) s.row ∙ ap (λ (l : List A). b ∷ l) t.row; rest = t.rest }
 
--- all rows of a kind can be cut off in one way alone, where what follows is of another kind
+-- the text of a row can be cut off the front in one way alone, where what follows is of this kind or a later one
+abbrev pub IsCutBefore : {A : Type 0} → (A → List ℕ) → (A → Type 0) → (List ℕ → ℕ) → ℕ → Type 0
+IsCutBefore {A} text P kind k = (a b : A) (xs ys : List ℕ) → P a → P b → k ≤ kind xs → k ≤ kind ys → text a ++ xs ≡ text b ++ ys → Same a b xs ys
+
+-- a list of rows of a kind, and what follows it, is of this kind or a later one
+kind_from : {A : Type 0} (text : A → List ℕ) (kind : List ℕ → ℕ) (k : ℕ)
+    → ((a : A) (xs : List ℕ) → kind (text a ++ xs) ≡ k)
+    → (rows : List A) (xs : List ℕ) → k < kind xs → k ≤ kind (flat_map text rows ++ xs)
+kind_from text kind k is [] xs n = omega (arith, n)
+kind_from text kind k is (a ∷ rows) xs n =
+    omega (arith, ap kind (append_assoc (text a) (flat_map text rows) xs), is a (flat_map text rows ++ xs))
+
+-- all rows of a kind can be cut off in one way alone, where what follows is of a later kind
+pub kind_cut_before : {A : Type 0} (text : A → List ℕ) (P : A → Type 0) (kind : List ℕ → ℕ) (k : ℕ) → IsCutBefore text P kind k
+    → ((a : A) (xs : List ℕ) → kind (text a ++ xs) ≡ k)
+    → (rows others : List A) (xs ys : List ℕ) → All P rows → All P others → k < kind xs → k < kind ys
+    → flat_map text rows ++ xs ≡ flat_map text others ++ ys → Same rows others xs ys
+kind_cut_before text P kind k cut is [] [] xs ys p q n m e = record { row = refl; rest = e }
+kind_cut_before text P kind k cut is [] (b ∷ others) xs ys p q n m e =
+    absurd (omega (arith, ap kind (e ∙ append_assoc (text b) (flat_map text others) ys), is b (flat_map text others ++ ys), n))
+kind_cut_before text P kind k cut is (a ∷ rows) [] xs ys p q n m e =
+    absurd (omega (arith, ap kind (sym (append_assoc (text a) (flat_map text rows) xs) ∙ e), is a (flat_map text rows ++ xs), m))
+kind_cut_before {A} text P kind k cut is (a ∷ rows) (b ∷ others) xs ys p q n m e =
+    let whole = sym (append_assoc (text a) (flat_map text rows) xs) ∙ e ∙ append_assoc (text b) (flat_map text others) ys in
+    let s = cut a b (flat_map text rows ++ xs) (flat_map text others ++ ys) (All-head P a rows p) (All-head P b others q)
+    (kind_from text kind k is rows xs n) (kind_from text kind k is others ys m) whole in
+    let t = kind_cut_before text P kind k cut is rows others xs ys (All-tail P a rows p) (All-tail P b others q) n m s.rest in
+    record { row = ap (λ (z : A). z ∷ rows) s.row ∙ ap (λ (l : List A). b ∷ l) t.row; rest = t.rest }
+
+-- the same, where each row can be cut off whatever follows
 pub kind_cut : {A : Type 0} (text : A → List ℕ) (P : A → Type 0) (kind : List ℕ → ℕ) (k : ℕ) → IsCut text P
     → ((a : A) (xs : List ℕ) → kind (text a ++ xs) ≡ k)
     → (rows others : List A) (xs ys : List ℕ) → All P rows → All P others → k < kind xs → k < kind ys
     → flat_map text rows ++ xs ≡ flat_map text others ++ ys → Same rows others xs ys
-kind_cut text P kind k cut is [] [] xs ys p q n m e = record { row = refl; rest = e }
-kind_cut text P kind k cut is [] (b ∷ others) xs ys p q n m e =
-    absurd (omega (arith, ap kind (e ∙ append_assoc (text b) (flat_map text others) ys), is b (flat_map text others ++ ys), n))
-kind_cut text P kind k cut is (a ∷ rows) [] xs ys p q n m e =
-    absurd (omega (arith, ap kind (sym (append_assoc (text a) (flat_map text rows) xs) ∙ e), is a (flat_map text rows ++ xs), m))
-kind_cut {A} text P kind k cut is (a ∷ rows) (b ∷ others) xs ys p q n m e =
-    let whole = sym (append_assoc (text a) (flat_map text rows) xs) ∙ e ∙ append_assoc (text b) (flat_map text others) ys in
-    let s = cut a b (flat_map text rows ++ xs) (flat_map text others ++ ys) (All-head P a rows p) (All-head P b others q) whole in
-    let t = kind_cut text P kind k cut is rows others xs ys (All-tail P a rows p) (All-tail P b others q) n m s.rest in
-    record { row = ap (λ (z : A). z ∷ rows) s.row ∙ ap (λ (l : List A). b ∷ l) t.row; rest = t.rest }
+kind_cut text P kind k cut is = kind_cut_before text P kind k (λ a b xs ys p q n m e. cut a b xs ys p q e) is
 
 -- a list of rows of a later kind, and what follows it, is of a later kind
 pub kind_after : {A : Type 0} (text : A → List ℕ) (kind : List ℕ → ℕ) (j k : ℕ) → j < k

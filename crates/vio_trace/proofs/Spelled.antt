@@ -98,7 +98,7 @@ byte_small : (k n : ℕ) → byte_at k n < 256
 byte_small zero n = mod-lt n (omega arith)
 byte_small (suc k) n = mod-lt (n / 256 ^ suc k) (omega arith)
 
-bytes_small : (k n : ℕ) → IsBytes (bytes_high_first k n)
+pub bytes_small : (k n : ℕ) → IsBytes (bytes_high_first k n)
 bytes_small zero n i = omega arith
 bytes_small (suc k) n zero = byte_small k n
 bytes_small (suc k) n (suc i) = bytes_small k n i

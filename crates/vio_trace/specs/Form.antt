@@ -15,6 +15,12 @@ use Rattle.vio_trace.specs.declared.rows.LogRow.{LogRow}
 use Rattle.vio_trace.specs.declared.rows.QueueRow.{QueueRow}
 use Rattle.vio_trace.specs.declared.rows.DropRow.{DropRow}
 use Rattle.vio_trace.specs.declared.rows.AnswerRow.{AnswerRow}
+use Rattle.vio_trace.specs.declared.lan_rows.FrameRow.{FrameRow}
+use Rattle.vio_trace.specs.declared.lan_rows.OfferRow.{OfferRow}
+use Rattle.vio_trace.specs.declared.lan_rows.PortRow.{PortRow}
+use Rattle.vio_trace.specs.declared.lan_rows.PostRow.{PostRow}
+use Rattle.vio_trace.specs.declared.lan_rows.DeliverRow.{DeliverRow}
+use Rattle.vio_trace.specs.declared.lan_rows.HarvestRow.{HarvestRow}
 use Rattle.vio_trace.specs.declared.window_rows.TceValueRow.{TceValueRow}
 use Rattle.vio_trace.specs.declared.window_rows.PieceRow.{PieceRow}
 use Rattle.vio_trace.specs.declared.window_rows.CopyRow.{CopyRow}
@@ -158,6 +164,61 @@ pub record IsPieceRow (row : PieceRow) : Type 0 where
   pub len : IsShort row.len
   pub at : IsHalf row.at
 
+-- the first line of a frame
+pub record IsFrameLine (row : FrameRow) : Type 0 where
+  pub unit : IsName row.unit
+  pub number : IsWord row.number
+  pub from : IsWord (length row.from)
+  pub bytes : IsBytes row.bytes
+
+-- a port that a frame was offered to
+pub record IsOfferRow (row : OfferRow) : Type 0 where
+  pub unit : IsName row.unit
+  pub number : IsWord row.number
+  pub port : IsName row.port
+
+-- a frame, with its pieces and offers
+pub record IsFrameRow (row : FrameRow) : Type 0 where
+  pub line : IsFrameLine row
+  pub from : All IsPieceRow row.from
+  pub offers : All IsOfferRow row.offers
+
+-- a session of a port
+pub record IsPortRow (row : PortRow) : Type 0 where
+  pub unit : IsName row.unit
+  pub session : IsWord row.session
+  pub slots : IsHalf row.slots
+  pub drops : IsWord row.drops
+
+-- a buffer that was posted
+pub record IsPostRow (row : PostRow) : Type 0 where
+  pub unit : IsName row.unit
+  pub session : IsWord row.session
+  pub number : IsWord row.number
+  pub descriptor : IsWord row.descriptor
+  pub correlator : IsWord row.correlator
+
+-- the first line of a delivery
+pub record IsDeliverLine (row : DeliverRow) : Type 0 where
+  pub unit : IsName row.unit
+  pub session : IsWord row.session
+  pub post : IsWord row.post
+  pub sender : IsName row.sender
+  pub frame : IsWord row.frame
+  pub to : IsWord (length row.to)
+
+-- a delivery, with its pieces
+pub record IsDeliverRow (row : DeliverRow) : Type 0 where
+  pub line : IsDeliverLine row
+  pub to : All IsPieceRow row.to
+
+-- a receive entry that was taken
+pub record IsHarvestRow (row : HarvestRow) : Type 0 where
+  pub unit : IsName row.unit
+  pub session : IsWord row.session
+  pub high : IsWord row.high
+  pub low : IsWord row.low
+
 -- the first line of a copy
 pub record IsCopyLine (row : CopyRow) : Type 0 where
   pub unit : IsName row.unit
@@ -189,6 +250,11 @@ pub record IsInRange (trace : Trace) : Type 0 where
   pub grants : All IsGrantRow trace.grants
   pub serves : All IsServeRow trace.serves
   pub answers : All IsAnswerRow trace.answers
+  pub frames : All IsFrameRow trace.frames
+  pub ports : All IsPortRow trace.ports
+  pub posts : All IsPostRow trace.posts
+  pub delivers : All IsDeliverRow trace.delivers
+  pub harvests : All IsHarvestRow trace.harvests
   pub tces : All IsTceValueRow trace.tces
   pub copies : All IsCopyRow trace.copies
   pub strokes : All IsStrokeRow trace.strokes
@@ -215,6 +281,32 @@ QueueBefore a b = UnitBefore a.unit b.unit ⊎ ((a.unit ≡ b.unit) × (a.sessio
 abbrev pub AnswerBefore : AnswerRow → AnswerRow → Type 0
 AnswerBefore a b = UnitBefore a.unit b.unit ⊎ (a.unit ≡ b.unit)
 
+-- by sender, then by number
+abbrev pub FrameBefore : FrameRow → FrameRow → Type 0
+FrameBefore a b = UnitBefore a.unit b.unit ⊎ ((a.unit ≡ b.unit) × (a.number < b.number))
+
+-- an offer names its frame
+pub record IsOfferOf (frame : FrameRow) (offer : OfferRow) : Type 0 where
+  pub unit : offer.unit ≡ frame.unit
+  pub number : offer.number ≡ frame.number
+
+-- by unit, then by session
+abbrev pub PortBefore : PortRow → PortRow → Type 0
+PortBefore a b = UnitBefore a.unit b.unit ⊎ ((a.unit ≡ b.unit) × (a.session < b.session))
+
+-- by unit, then by session, then by number
+abbrev pub PostBefore : PostRow → PostRow → Type 0
+PostBefore a b = UnitBefore a.unit b.unit
+    ⊎ ((a.unit ≡ b.unit) × ((a.session < b.session) ⊎ ((a.session ≡ b.session) × (a.number < b.number))))
+
+-- by unit, then by session; those of one session stand in order of time, which no word of their lines tells
+abbrev pub DeliverBefore : DeliverRow → DeliverRow → Type 0
+DeliverBefore a b = UnitBefore a.unit b.unit ⊎ ((a.unit ≡ b.unit) × (a.session ≤ b.session))
+
+-- by unit, then by session; those of one session stand in order of time, which no word of their lines tells
+abbrev pub HarvestBefore : HarvestRow → HarvestRow → Type 0
+HarvestBefore a b = UnitBefore a.unit b.unit ⊎ ((a.unit ≡ b.unit) × (a.session ≤ b.session))
+
 -- by unit, then by entry, then by version
 abbrev pub TceValueBefore : TceValueRow → TceValueRow → Type 0
 TceValueBefore a b = UnitBefore a.unit b.unit
@@ -229,12 +321,19 @@ abbrev pub StrokeBefore : StrokeRow → StrokeRow → Type 0
 StrokeBefore a b = UnitBefore a.unit b.unit
     ⊎ ((a.unit ≡ b.unit) × ((a.page < b.page) ⊎ ((a.page ≡ b.page) × (a.place < b.place))))
 
--- The rows stand in order: the keys of script lines, sessions, values and strokes rise strictly. Grants and served
--- requests stand in order of time, which no word of their lines tells.
+-- The rows stand in order: the keys of script lines, sessions, frames, posts, values and strokes rise strictly, and
+-- each offer names the frame below which it stands. Grants and served requests stand in order of time, which no word of
+-- their lines tells.
 pub record IsInOrder (trace : Trace) : Type 0 where
   pub logs : Ascend LogBefore trace.logs
   pub queues : Ascend QueueBefore trace.queues
   pub answers : Ascend AnswerBefore trace.answers
+  pub frames : Ascend FrameBefore trace.frames
+  pub offers : All (λ frame. All (IsOfferOf frame) frame.offers) trace.frames
+  pub ports : Ascend PortBefore trace.ports
+  pub posts : Ascend PostBefore trace.posts
+  pub delivers : Ascend DeliverBefore trace.delivers
+  pub harvests : Ascend HarvestBefore trace.harvests
   pub tces : Ascend TceValueBefore trace.tces
   pub copies : Ascend CopyBefore trace.copies
   pub strokes : Ascend StrokeBefore trace.strokes

@@ -1,2 +1,4 @@
 pub mod Form
+pub mod Heads
+pub mod Reading
 pub mod Text

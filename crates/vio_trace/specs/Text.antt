@@ -20,6 +20,16 @@ use Rattle.vio_trace.specs.declared.rows.LogRow.{LogRow}
 use Rattle.vio_trace.specs.declared.rows.QueueRow.{QueueRow}
 use Rattle.vio_trace.specs.declared.rows.DropRow.{DropRow}
 use Rattle.vio_trace.specs.declared.rows.AnswerRow.{AnswerRow}
+use Rattle.vio_trace.specs.declared.lan_rows.FrameRow.{FrameRow}
+use Rattle.vio_trace.specs.declared.lan_rows.OfferRow.{OfferRow}
+use Rattle.vio_trace.specs.declared.lan_rows.Offered.{Offered}
+use Rattle.vio_trace.specs.declared.lan_rows.Offered.TheVariants as offers
+use Rattle.vio_trace.specs.declared.lan_rows.PortRow.{PortRow}
+use Rattle.vio_trace.specs.declared.lan_rows.PostRow.{PostRow}
+use Rattle.vio_trace.specs.declared.lan_rows.DeliverRow.{DeliverRow}
+use Rattle.vio_trace.specs.declared.lan_rows.Filled.{Filled}
+use Rattle.vio_trace.specs.declared.lan_rows.Filled.TheVariants as fills
+use Rattle.vio_trace.specs.declared.lan_rows.HarvestRow.{HarvestRow}
 use Rattle.vio_trace.specs.declared.window_rows.TceValueRow.{TceValueRow}
 use Rattle.vio_trace.specs.declared.window_rows.PieceRow.{PieceRow}
 use Rattle.vio_trace.specs.declared.window_rows.CopyRow.{CopyRow}
@@ -147,6 +157,58 @@ abbrev pub piece_text : List ℕ → PieceRow → List ℕ
 piece_text word row = line (word ∷ name row.unit ∷ decimal row.entry ∷ decimal row.version ∷ decimal row.page
     ∷ decimal row.offset ∷ decimal row.len ∷ decimal row.at ∷ [])
 
+-- what became of a frame at a port
+abbrev pub offered : Offered → List ℕ
+offered offers.Done = codes "done"
+offered offers.Ungranted = codes "ungranted"
+offered offers.NoSize = codes "nosize"
+offered offers.NoBuffer = codes "nobuffer"
+offered offers.Turn = codes "turn"
+offered offers.InUse = codes "inuse"
+offered offers.Closed = codes "closed"
+
+-- how a buffer was given back
+abbrev pub filled : Filled → List ℕ
+filled fills.Frame = codes "frame"
+filled fills.Blank = codes "blank"
+
+-- frame U N C A H
+abbrev pub frame_line : FrameRow → List ℕ
+frame_line row = line (codes "frame" ∷ name row.unit ∷ decimal row.number ∷ code row.code
+    ∷ decimal (length row.from) ∷ bytes row.bytes ∷ [])
+
+-- offer U N U2 RESULT
+abbrev pub offer_text : OfferRow → List ℕ
+offer_text row = line (codes "offer" ∷ name row.unit ∷ decimal row.number ∷ name row.port ∷ offered row.offered ∷ [])
+
+-- a frame's line, then A lines of what was read, then a line for each port that it was offered to
+abbrev pub frame_text : FrameRow → List ℕ
+frame_text row = frame_line row
+    ++ flat_map (piece_text (codes "from")) row.from
+    ++ flat_map offer_text row.offers
+
+-- port U S N K
+abbrev pub port_text : PortRow → List ℕ
+port_text row = line (codes "port" ∷ name row.unit ∷ decimal row.session ∷ decimal row.slots ∷ decimal row.drops ∷ [])
+
+-- post U S N W W
+abbrev pub post_text : PostRow → List ℕ
+post_text row = line (codes "post" ∷ name row.unit ∷ decimal row.session ∷ decimal row.number
+    ∷ digits row.descriptor ∷ digits row.correlator ∷ [])
+
+-- deliver U S POST U2 FRAME END B
+abbrev pub deliver_line : DeliverRow → List ℕ
+deliver_line row = line (codes "deliver" ∷ name row.unit ∷ decimal row.session ∷ decimal row.post ∷ name row.sender
+    ∷ decimal row.frame ∷ filled row.filled ∷ decimal (length row.to) ∷ [])
+
+-- a delivery's line, then B lines of what was written
+abbrev pub deliver_text : DeliverRow → List ℕ
+deliver_text row = deliver_line row ++ flat_map (piece_text (codes "to")) row.to
+
+-- harvest U S W W
+abbrev pub harvest_text : HarvestRow → List ℕ
+harvest_text row = line (codes "harvest" ∷ name row.unit ∷ decimal row.session ∷ digits row.high ∷ digits row.low ∷ [])
+
 -- copy U MARK LEN A B
 abbrev pub copy_line : CopyRow → List ℕ
 copy_line row = line (codes "copy" ∷ name row.unit ∷ decimal row.mark ∷ decimal row.len
@@ -171,6 +233,11 @@ trace_text trace = codes "trace 1\n"
     ++ flat_map grant_text trace.grants
     ++ flat_map serve_text trace.serves
     ++ flat_map answer_text trace.answers
+    ++ flat_map frame_text trace.frames
+    ++ flat_map port_text trace.ports
+    ++ flat_map post_text trace.posts
+    ++ flat_map deliver_text trace.delivers
+    ++ flat_map harvest_text trace.harvests
     ++ flat_map tce_text trace.tces
     ++ flat_map copy_text trace.copies
     ++ flat_map stroke_text trace.strokes

@@ -1,5 +1,6 @@
 // The rows of a trace. A row has the words of its line as fields, in their order; a word that counts
 // the lines of a list is that list's length.
+use crate::lan_rows::{DeliverRow, FrameRow, HarvestRow, PortRow, PostRow};
 use crate::outcome::Outcome;
 use crate::window_rows::{CopyRow, StrokeRow, TceValueRow};
 use vio_num::{Bytes, Entry, Grant, Sequence, Served, UnitId};
@@ -17,6 +18,16 @@ pub struct Trace {
     pub serves: Sequence<Served>,
     /// The answers that the clients took, by unit and time.
     pub answers: Sequence<AnswerRow>,
+    /// The frames that were sent, by sender and number.
+    pub frames: Sequence<FrameRow>,
+    /// The sessions of the units' ports, by unit and session.
+    pub ports: Sequence<PortRow>,
+    /// The buffers that were posted, by unit, session and number.
+    pub posts: Sequence<PostRow>,
+    /// The buffers that were given back, by unit, session and time.
+    pub delivers: Sequence<DeliverRow>,
+    /// The receive entries that were taken, by unit, session and time.
+    pub harvests: Sequence<HarvestRow>,
     /// The values that were put into the entries of the units' windows, by unit, entry and version.
     pub tces: Sequence<TceValueRow>,
     /// The copies between windows, by copier and time.

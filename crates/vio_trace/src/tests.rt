@@ -9,7 +9,9 @@ use std::alloc::Global;
 use std::test::Fail;
 use vio_num::{Bytes, Entry, Grant, Lapse, Sequence, Served, UnitId};
 
+mod lans;
 mod log_words;
+mod reading;
 mod windows;
 
 const SERVER: UnitId = UnitId {
@@ -40,6 +42,11 @@ fn nothing(alloc: Global) -> Trace
         grants: Sequence::new(alloc),
         serves: Sequence::new(alloc),
         answers: Sequence::new(alloc),
+        frames: Sequence::new(alloc),
+        ports: Sequence::new(alloc),
+        posts: Sequence::new(alloc),
+        delivers: Sequence::new(alloc),
+        harvests: Sequence::new(alloc),
         tces: Sequence::new(alloc),
         copies: Sequence::new(alloc),
         strokes: Sequence::new(alloc),

@@ -21,8 +21,8 @@ impl Lines for TceValueRow {
     }
 }
 
-// Writes a line of this first word for each piece.
-fn put_pieces(buffer: &mut Vec<u8>, word: &[u8], pieces: &[PieceRow]) -> Result<(), NoMemory>
+/// A line of this first word for each piece.
+pub fn put_pieces(buffer: &mut Vec<u8>, word: &[u8], pieces: &[PieceRow]) -> Result<(), NoMemory>
     ensures text { OnOk result (buffer.new.items ≡
         buffer.old.items ++ flat_map (piece_text word.now) pieces.now) }
     ensures range { OnOk result (All IsPieceRow pieces.now) }

@@ -20,6 +20,11 @@ pub fn write_trace(alloc: Global, trace: &Trace) -> Result<Vec<u8>, NoMemory>
     put_all(&mut text, trace.grants.as_slice())?;
     put_all(&mut text, trace.serves.as_slice())?;
     put_all(&mut text, trace.answers.as_slice())?;
+    put_all(&mut text, trace.frames.as_slice())?;
+    put_all(&mut text, trace.ports.as_slice())?;
+    put_all(&mut text, trace.posts.as_slice())?;
+    put_all(&mut text, trace.delivers.as_slice())?;
+    put_all(&mut text, trace.harvests.as_slice())?;
     put_all(&mut text, trace.tces.as_slice())?;
     put_all(&mut text, trace.copies.as_slice())?;
     put_all(&mut text, trace.strokes.as_slice())?;

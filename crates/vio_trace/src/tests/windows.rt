@@ -135,7 +135,7 @@ fn lines_of_windows(rt: HostRuntime) -> Result<(), Fail> {
     Ok(())
 }
 
-const WINDOWS: &[u8] = b"trace 1\n\
+pub const WINDOWS: &[u8] = b"trace 1\n\
 tce 1.0 15 1 000000000000f002\n\
 tce 1.0 15 2 000000000000f003\n\
 tce 255.10 65535 4294967295 ffffffffffffffff\n\

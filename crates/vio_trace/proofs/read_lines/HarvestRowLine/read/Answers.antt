@@ -1,0 +1,20 @@
+use Rattle.std.proofs.Common.{rules, ℕ, codes, refl}
+use Rattle.vio_num.specs.declared.names.UnitId.{UnitId}
+use Rattle.vio_trace.specs.declared.lan_rows.HarvestRow.{HarvestRow}
+use Rattle.vio_trace.specs.declared.fields.Then.{Then}
+use Rattle.vio_trace.specs.declared.fields.Last.{Last}
+use Rattle.vio_trace.specs.declared.read_kinds.Digits.{Digits}
+use Rattle.vio_trace.specs.Form.{IsHarvestRow}
+use Rattle.vio_trace.specs.Text.{harvest_text}
+use Rattle.vio_trace.proofs.Parted.{line_refused}
+use Rattle.vio_trace.proofs.read_lines.HarvestRowLine.read.Goals as goal
+
+pub returns-in_default : goal.returns-in_default
+returns-in_default c row h e = search (rules, e)
+
+pub returns-in_err-fields : goal.returns-in_err-fields
+returns-in_err-fields c =
+    let parts : HarvestRow → Then UnitId (Then ℕ (Then Digits (Last Digits))) = λ row. record { word = row.unit; rest = record { word = row.session; rest = record { word = record { value = row.high }; rest = record { word = record { value = row.low } } } } } in
+    let fact = line_refused (codes "harvest ") _ _ harvest_text IsHarvestRow parts (λ row h. (h.unit, (h.session, (h.high, h.low)))) (λ row. refl)
+    c.args.line.now c.in-Some.rest.now (search rules) c.in_err-fields.field-0.0 c.in_err-fields.ensures in
+    search (rules, fact)

@@ -1,0 +1,97 @@
+// The trace of a text, read section by section.
+ghost use Rattle.std.specs.Prelude.{◌≡◌, IfOk, OnOk, codes};
+ghost use Rattle.vio_trace.specs.Form.{IsTextOf};
+
+use crate::read_lines::behind;
+use crate::read_rows::read_section;
+use crate::read_words::are_same;
+use crate::rows::Trace;
+use crate::unread::Fault;
+use std::alloc::Global;
+
+/// Why a text was not read as a trace.
+#[derive(Clone, Copy, Debug, PartialEq, Eq)]
+pub enum TraceFault {
+    /// No trace's text begins with the lines up to this one, counted from 1; a text that ends too
+    /// early is bad at the line behind its last, a last line without its end at that line.
+    Bad { line: u64 },
+    /// Memory ran out.
+    NoMemory,
+}
+
+/// The trace whose text the bytes are.
+pub fn read_trace(alloc: Global, bytes: &[u8]) -> Result<Trace, TraceFault>
+    ensures ok { IfOk result (λ trace. IsTextOf trace bytes.now) }
+{
+    match read_sections(alloc, bytes) {
+        Ok(trace) => Ok(trace),
+        Err(Fault::Bad(left)) => Err(TraceFault::Bad {
+            line: line_at(bytes, left),
+        }),
+        Err(Fault::NoMemory) => Err(TraceFault::NoMemory),
+    }
+}
+
+// The number of the line at which so many bytes are left.
+fn line_at(bytes: &[u8], left: usize) -> u64 {
+    let mut line = 1;
+    let mut at = 0;
+    while at < bytes.len() && left < bytes.len() - at {
+        if bytes[at] == b'\n' {
+            line += 1;
+        }
+        at += 1;
+    }
+    line
+}
+
+// Reads the sections in their order.
+fn read_sections(alloc: Global, bytes: &[u8]) -> Result<Trace, Fault>
+    ensures { IfOk result (λ trace. IsTextOf trace bytes.now) }
+{
+    let Some(rest) = behind(bytes, b"trace 1\n") else {
+        return Err(Fault::Bad(bytes.len()));
+    };
+    let (logs, rest) = read_section(alloc, rest)?;
+    let (queues, rest) = read_section(alloc, rest)?;
+    let (grants, rest) = read_section(alloc, rest)?;
+    let (serves, rest) = read_section(alloc, rest)?;
+    let (answers, rest) = read_section(alloc, rest)?;
+    let (frames, rest) = read_section(alloc, rest)?;
+    let (ports, rest) = read_section(alloc, rest)?;
+    let (posts, rest) = read_section(alloc, rest)?;
+    let (delivers, rest) = read_section(alloc, rest)?;
+    let (harvests, rest) = read_section(alloc, rest)?;
+    let (tces, rest) = read_section(alloc, rest)?;
+    let (copies, rest) = read_section(alloc, rest)?;
+    let (strokes, rest) = read_section(alloc, rest)?;
+    read_end(rest)?;
+    Ok(Trace {
+        logs,
+        queues,
+        grants,
+        serves,
+        answers,
+        frames,
+        ports,
+        posts,
+        delivers,
+        harvests,
+        tces,
+        copies,
+        strokes,
+    })
+}
+
+// Reads the last line, behind which nothing stands.
+fn read_end(text: &[u8]) -> Result<(), Fault>
+    ensures { OnOk result (text.now ≡ codes "end\n") }
+{
+    if are_same(text, b"end\n") {
+        return Ok(());
+    }
+    match behind(text, b"end\n") {
+        Some(rest) => Err(Fault::Bad(rest.len())),
+        None => Err(Fault::Bad(text.len())),
+    }
+}
