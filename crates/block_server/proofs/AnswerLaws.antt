@@ -44,14 +44,14 @@ answers_of_others unit other (row ∷ rows) (new ∷ news) apart only = by only.
     by (inr both) rest = answers_skip other new news (other_row unit other new apart both.1) ∙ rest ∙ sym (answers_skip other row rows (other_row unit other row apart both.0))
 
 -- a row of another unit stays where it is
-record Stays (other : UnitId) (before : List Served) (served : Served) (behind news : List Served) : Type 0 where
-  before' : List Served
-  behind' : List Served
-  news_are : news ≡ before' ++ served ∷ behind'
-  place : length before' ≡ length before
-  last : answers_of other behind' ≡ answers_of other behind
+pub record Stays (other : UnitId) (before : List Served) (served : Served) (behind news : List Served) : Type 0 where
+  pub before' : List Served
+  pub behind' : List Served
+  pub news_are : news ≡ before' ++ served ∷ behind'
+  pub place : length before' ≡ length before
+  pub last : answers_of other behind' ≡ answers_of other behind
 
-stays : (unit other : UnitId) (before : List Served) (served : Served) (behind news : List Served) → other ≢ unit → served.unit ≡ other
+pub stays : (unit other : UnitId) (before : List Served) (served : Served) (behind news : List Served) → other ≢ unit → served.unit ≡ other
     → OnlyRowsOf unit (before ++ served ∷ behind) news → Stays other before served behind news
 stays unit other [] served behind [] apart is only = absurd only
 stays unit other [] served behind (new ∷ news) apart is only = by only.0
@@ -77,7 +77,7 @@ stays unit other (x ∷ xs) served behind (new ∷ news) apart is only =
     }
 
 -- What another unit does leaves the row in service.
-pub in_service_stays : (unit other : UnitId) (iu : List ℕ) (history history' : List Served) (row : ℕ) → other ≢ unit
+abbrev pub in_service_stays : (unit other : UnitId) (iu : List ℕ) (history history' : List Served) (row : ℕ) → other ≢ unit
     → OnlyRowsOf unit history history' → IsInService other iu history row → IsInService other iu history' row
 in_service_stays unit other iu history history' row apart only is =
     let kept = stays unit other is.before is.served is.behind history' apart is.unit_is (subst (λ h. OnlyRowsOf unit h history') is.history_is only) in
@@ -94,7 +94,7 @@ in_service_stays unit other iu history history' row apart only is =
     }
 
 -- A blank row that was added is in service.
-pub in_service_new : (unit : UnitId) (iu : List ℕ) (history history' : List Served) (served : Served) → served.unit ≡ unit → served.iu ≡ iu → served.answer ≡ []
+abbrev pub in_service_new : (unit : UnitId) (iu : List ℕ) (history history' : List Served) (served : Served) → served.unit ≡ unit → served.iu ≡ iu → served.answer ≡ []
     → history' ≡ history ++ served ∷ [] → IsInService unit iu history' (length history)
 in_service_new unit iu history history' served unit_is iu_is unanswered added = record {
   before = history;
@@ -121,7 +121,7 @@ at_place unit before behind row last e =
     answers_append unit before (row ∷ behind) ∙ ap (λ list. answers_of unit before ++ list) (answers_skip unit row behind e ∙ last) ∙ append-nil (answers_of unit before)
 
 -- The row in service gets its data-in: it stays in service, and no answer is added.
-pub in_service_filled : (unit : UnitId) (iu : List ℕ) (history history' : List Served) (row : ℕ) (inn : List ℕ) (is : IsInService unit iu history row)
+abbrev pub in_service_filled : (unit : UnitId) (iu : List ℕ) (history history' : List Served) (row : ℕ) (inn : List ℕ) (is : IsInService unit iu history row)
     → history' ≡ is.before ++ record is.served { inn = inn } ∷ is.behind → IsInService unit iu history' row
 in_service_filled unit iu history history' row inn is filled = record {
   before = is.before;

@@ -8,7 +8,11 @@ pub mod Sending
 pub mod Windows
 pub mod Rows
 pub mod AnswerLaws
+pub mod DiskLaws
+pub mod DiskRows
+pub mod Gathering
 pub mod Onces
 pub mod Serves
 pub mod Plains
+pub mod Stepping
 pub mod Units

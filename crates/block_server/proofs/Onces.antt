@@ -1,5 +1,5 @@
 -- Each answer once, over steps one after the other.
-use Rattle.std.proofs.Common.{◌≡◌, ◌⊎◌, inl, inr, ◌++◌, ◌==◌, ℕ, length, List, [], ◌∷◌, Bool, true, false, Some, None, filter, map, refl, sym, ◌∙◌, ap, subst, append-nil, append_assoc}
+use Rattle.std.proofs.Common.{◌≡◌, ◌⊎◌, inl, inr, ◌++◌, ◌==◌, ℕ, length, List, [], ◌∷◌, Bool, true, false, Option, Some, None, IfSome, take, filter, map, refl, sym, ◌∙◌, ap, subst, arith, append-nil, append_assoc}
 use Rattle.std.proofs.lemmas.List.Elements.{filter-append}
 use Rattle.std.proofs.lemmas.List.{map-append}
 use Rattle.std.proofs.lemmas.Bool.{eqb-true}
@@ -21,8 +21,19 @@ use Rattle.block_server.specs.Stage.{fits}
 use Rattle.block_server.specs.declared.line.Kept.TheVariants as keeps
 use Rattle.block_server.specs.declared.service.Outcome.{Outcome}
 use Rattle.block_server.specs.declared.service.Outcome.TheVariants.{Granted, Rejected, Served}
-use Rattle.block_server.specs.Serving.{Desk, IfRow, IsKept, IsServed, IsServing, LeavesRow, Once, SettlesRow}
+use Rattle.srp_iu.specs.declared.unit.Iu.TheVariants as units
+use Rattle.block_server.specs.DiskLaw.{Serve, ServesRow}
+use Rattle.srp_iu.specs.Grammar.{Spells}
+use Rattle.block_server.specs.Orders.{IsOrder}
+use Rattle.block_server.specs.declared.request.Order.{Order}
+use Rattle.block_server.specs.Records.{FillsRow}
+use Rattle.std.proofs.lemmas.Option.{IfSome_then}
+use Rattle.std.specs.Prelude.{IsSome}
+use Rattle.block_server.specs.Fetched.{Buffers, HasPieces}
+use Rattle.block_server.specs.Serving.{Desk, HasReply, Held, MayAnswer, IfRow, IsKept, IsServed, IsServing, LeavesRow, Once, Place, ServeFrom, SettlesRow, StaysServed, place_of}
 use Rattle.block_server.proofs.AnswerLaws.{answered_there, answers_filled, answers_one, filled_there, only_there}
+use Rattle.block_server.proofs.DiskLaws.{serve_changed}
+use Rattle.block_server.proofs.DiskRows.{IsKnown, SpellsOne, known_cut, may_cut}
 use Rattle.block_server.proofs.Rows.{stays_on, stays_same}
 
 pub more_none : (unit : UnitId) (sent sent' : List PipeRow) (history history' : List ServedRow) → responses sent' ≡ responses sent → answers_of unit history' ≡ answers_of unit history
@@ -37,27 +48,67 @@ more_on unit s s' s'' h h' h'' first next = record {
   rows = next.rows ∙ ap (λ front. front ++ next.more) first.rows ∙ append_assoc (answers_of unit h) first.more next.more;
 }
 
+-- ---- the disk law from one part to the next
+
+pub tells_on : (x y z : Option (List (List ℕ))) → IfSome x (λ all. IsSome y) → IfSome y (λ all. IsSome z) → IfSome x (λ all. IsSome z)
+tells_on None y z first next = tt
+tells_on (Some all) (Some other) z first next = next
+tells_on (Some all) None z first next = absurd (cc (first))
+
+pub tells_same : (x : Option (List (List ℕ))) → IfSome x (λ all. IsSome x)
+tells_same None = tt
+tells_same (Some all) = refl
+
+-- the rows of later take the blocks to where those of before did
+pub stays_rows : (d : Held) (h h' : List ServedRow) → ((before all : List (List ℕ)) → length before ≡ d.count → Serve before h all → Serve before h' all) → StaysServed d d h h'
+stays_rows d h h' rows before is = IfSome_then d.now is (λ all (from : ServeFrom d.count before h all). record { size = from.size; serve = rows before all from.size from.serve })
+
+pub stays_equal : (d : Held) (h h' : List ServedRow) → h' ≡ h → StaysServed d d h h'
+stays_equal d h h' rows = stays_rows d h h' (λ before all size is. subst (λ (list : List ServedRow). Serve before list all) (sym rows) is)
+
+-- another row in the place of the one in service
+pub stays_there : (d : Held) (h h' before behind : List ServedRow) (row new : ServedRow) → h ≡ before ++ row ∷ behind → h' ≡ before ++ new ∷ behind
+    → ((b a : List (List ℕ)) → length b ≡ d.count → ServesRow b row a → ServesRow b new a) → StaysServed d d h h'
+stays_there d h h' before behind row new was is changed = stays_rows d h h' (λ b all size serve.
+    subst (λ (list : List ServedRow). Serve b list all) (sym is)
+    (serve_changed b all before behind row new (λ m m' same. changed m m' (same ∙ size)) (subst (λ (list : List ServedRow). Serve b list all) was serve)))
+
 -- one part of a turn behind another
-pub once_on : (a b c : Desk) (s s' s'' : List PipeRow) (h h' h'' : List ServedRow) → (IsServing a h → Once a b s s' h h') → (IsServing b h' → Once b c s' s'' h' h'')
-    → IsServing a h → Once a c s s'' h h''
-once_on a b c s s' s'' h h' h'' first next serving =
+pub once_then : (d d' d'' : Held) (a b c : Desk) (s s' s'' : List PipeRow) (h h' h'' : List ServedRow) → (IsServing d.count a h → Once d d' a b s s' h h')
+    → (IsServing d'.count b h' → Once d' d'' b c s' s'' h' h'') → IsServing d.count a h → Once d d'' a c s s'' h h''
+once_then d d' d'' a b c s s' s'' h h' h'' first next serving =
     let did = first serving in
     let then = next did.serving in
     record {
       id = then.id ∙ did.id;
+      count = then.count ∙ did.count;
       serving = then.serving;
       answers = more_on a.id s s' s'' h h' h'' did.answers (subst (λ unit. AnswersMore unit s' s'' h' h'') did.id then.answers);
       others = stays_on a.id h h' h'' did.others (subst (λ unit. OnlyRowsOf unit h' h'') did.id then.others);
+      stays = λ before is. then.stays before (did.stays before is);
+      tells = tells_on d.now d'.now d''.now did.tells then.tells;
     }
 
+pub once_on : (a b c : Desk) (s s' s'' : List PipeRow) (h h' h'' : List ServedRow) → ((d : Held) → IsServing d.count a h → Once d d a b s s' h h')
+    → ((d : Held) → IsServing d.count b h' → Once d d b c s' s'' h' h'') → (d : Held) → IsServing d.count a h → Once d d a c s s'' h h''
+once_on a b c s s' s'' h h' h'' first next d = once_then d d d a b c s s' s'' h h' h'' (first d) (next d)
+
 -- the desk and its rows are as they were, and no response was put
-pub once_same : (a b : Desk) (s s' : List PipeRow) (h h' : List ServedRow) → b ≡ a → h' ≡ h → responses s' ≡ responses s → IsServing a h → Once a b s s' h h'
-once_same a b s s' h h' same rows put serving = record {
-  id = ap (λ d. d.id) same;
-  serving = subst (λ (z : Desk × List ServedRow). IsServing z.0 z.1) (λ i. (sym same i, sym rows i)) serving;
+pub once_same : (a b : Desk) (s s' : List PipeRow) (h h' : List ServedRow) → b ≡ a → h' ≡ h → responses s' ≡ responses s → (d : Held) → IsServing d.count a h → Once d d a b s s' h h'
+once_same a b s s' h h' same rows put d serving = record {
+  id = ap (λ x. x.id) same;
+  count = refl;
+  serving = subst (λ (z : Desk × List ServedRow). IsServing d.count z.0 z.1) (λ i. (sym same i, sym rows i)) serving;
   answers = more_none a.id s s' h h' put (ap (answers_of a.id) rows);
   others = subst (OnlyRowsOf a.id h) (sym rows) (stays_same a.id h);
+  stays = stays_equal d h h' rows;
+  tells = tells_same d.now;
 }
+
+-- the same over a disk that changed in nothing
+pub once_disk : (d d' : Held) (a b : Desk) (s s' : List PipeRow) (h h' : List ServedRow) → d' ≡ d → ((x : Held) → IsServing x.count a h → Once x x a b s s' h h')
+    → IsServing d.count a h → Once d d' a b s s' h h'
+once_disk d d' a b s s' h h' same once serving = subst (λ (x : Held). Once d x a b s s' h h') (sym same) (once d serving)
 
 pub responses_append : (xs ys : List PipeRow) → responses (xs ++ ys) ≡ responses xs ++ responses ys
 responses_append xs ys = ap (filter is_response) (map-append (λ (row : PipeRow). row.entry) xs ys) ∙ filter-append is_response (map (λ (row : PipeRow). row.entry) xs) (map (λ (row : PipeRow). row.entry) ys)
@@ -77,108 +128,142 @@ responses_one sent sent' row answers put = ap responses put ∙ responses_append
     one e = rw e refl
 
 -- A desk without a service and without a kept entry is in order.
-pub cleared : (desk : Desk) (history : List ServedRow) → desk.stage ≡ Start → desk.kept ≡ None → IsServing desk history
-cleared desk history stage kept = record {
-  row = subst (λ s. IfRow s (IsServed desk history)) (sym stage) tt;
+pub cleared : (count : ℕ) (desk : Desk) (history : List ServedRow) → desk.stage ≡ Start → desk.kept ≡ None → IsServing count desk history
+cleared count desk history stage kept = record {
+  row = subst (λ st. IfRow st (IsServed count (place_of desk) history)) (sym stage) tt;
   kept = λ entry is. absurd (cc (kept, is));
+  fetched = subst (λ st. HasPieces st desk.buffers.outs desk.buffers.inns desk.pending) (sym stage) tt;
 }
 
--- a service that is broken off leaves the answers as they are
-module _ (a : Desk) (h h' : List ServedRow) (serving : IsServing a h) where
-  broken : (stage : Stage) → IfRow stage (IsServed a h) → LeavesRow stage h h' → (answers_of a.id h' ≡ answers_of a.id h) × OnlyRowsOf a.id h h'
-  broken Start row leaves = (ap (answers_of a.id) leaves, subst (OnlyRowsOf a.id h) (sym leaves) (stays_same a.id h))
-  broken OutTable row leaves = (ap (answers_of a.id) leaves, subst (OnlyRowsOf a.id h) (sym leaves) (stays_same a.id h))
-  broken InTable row leaves = (ap (answers_of a.id) leaves, subst (OnlyRowsOf a.id h) (sym leaves) (stays_same a.id h))
-  broken (DataOut cursor) row leaves = (ap (answers_of a.id) leaves, subst (OnlyRowsOf a.id h) (sym leaves) (stays_same a.id h))
-  broken (Given at reply) row leaves = (ap (answers_of a.id) leaves, subst (OnlyRowsOf a.id h) (sym leaves) (stays_same a.id h))
-  broken (DataIn at reply cursor) row leaves =
-      let is = row.in_service in
-      let there = filled_there a.id row.request.unit.items h h' at leaves.0 is leaves.1 in
-      (answers_filled a.id row.request.unit.items h h' at leaves.0 is there, only_there a.id row.request.unit.items h h' at is (record is.served { inn = leaves.0 }) is.unit_is there)
-  broken (Answer outcome) row leaves = (ap (answers_of a.id) leaves, subst (OnlyRowsOf a.id h) (sym leaves) (stays_same a.id h))
-  broken (Entry outcome) row leaves = (ap (answers_of a.id) leaves, subst (OnlyRowsOf a.id h) (sym leaves) (stays_same a.id h))
+-- the row in service, whose disk step was made
+pub known_of : (count : ℕ) (p : Place) (h : List ServedRow) (row : ℕ) (reply : ScsiReply) (is : IsServed count p h row)
+    → (made : HasReply count is.request p.given reply is.in_service.served) → IsKnown count made.command reply is.in_service.served
+known_of count p h row reply is made = record {
+  spells = subst (λ (iu : List ℕ). Spells iu (units.Cmd made.command)) (sym is.in_service.iu_is)
+      (subst (λ (order : Order). IsOrder order is.request.unit.items) made.order is.request.spelled);
+  brought = made.brought;
+  fault_is = made.fault_is;
+  reply_is = made.reply_is;
+  few = omega (arith, made.all_in);
+}
+
+-- a service that is broken off leaves the answers and the disk law as they are
+module _ (one : SpellsOne) (d : Held) (a : Desk) (h h' : List ServedRow) (serving : IsServing d.count a h) where
+  left_same : h' ≡ h → (answers_of a.id h' ≡ answers_of a.id h) × OnlyRowsOf a.id h h' × StaysServed d d h h'
+  left_same same = (ap (answers_of a.id) same, subst (OnlyRowsOf a.id h) (sym same) (stays_same a.id h), stays_equal d h h' same)
+
+  left_cut : (at : ℕ) (reply : ScsiReply) (p : Place) → p.id ≡ a.id → p.given ≡ a.buffers.given → (row : IsServed d.count p h at)
+      → HasReply d.count row.request p.given reply row.in_service.served
+      → (n : ℕ) × FillsRow h h' at (take n a.buffers.given) → (answers_of a.id h' ≡ answers_of a.id h) × OnlyRowsOf a.id h h' × StaysServed d d h h'
+  left_cut at reply p id given row made leaves =
+      let is = subst (λ (unit : UnitId). IsInService unit row.request.unit.items h at) id row.in_service in
+      let iu = row.request.unit.items in
+      let inn = take leaves.0 a.buffers.given in
+      let there = filled_there a.id iu h h' at inn is leaves.1 in
+      let new : ServedRow = record row.in_service.served { inn = take leaves.0 row.in_service.served.inn } in
+      let there' : h' ≡ row.in_service.before ++ new ∷ row.in_service.behind =
+      filled_there p.id iu h h' at inn row.in_service leaves.1
+      ∙ ap (λ (xs : List ℕ). row.in_service.before ++ record row.in_service.served { inn = take leaves.0 xs } ∷ row.in_service.behind) (sym (made.given_is ∙ given)) in (
+        answers_filled a.id iu h h' at inn is there,
+        only_there a.id iu h h' at is (record is.served { inn = inn }) is.unit_is there,
+        stays_there d h h' row.in_service.before row.in_service.behind row.in_service.served new row.in_service.history_is there'
+            (may_cut one d.count made.command reply row.in_service.served (known_of d.count p h at reply row made) leaves.0 row.in_service.unanswered),
+      )
+
+  broken : (stage : Stage) → stage ≡ a.stage → IfRow stage (IsServed d.count (record { id = a.id; stage = stage; answer = a.answer; given = a.buffers.given; pending = a.pending }) h)
+      → LeavesRow stage a.buffers.given h h' → (answers_of a.id h' ≡ answers_of a.id h) × OnlyRowsOf a.id h h' × StaysServed d d h h'
+  broken Start at row leaves = left_same leaves
+  broken OutTable at row leaves = left_same leaves
+  broken InTable at row leaves = left_same leaves
+  broken (DataOut cursor) at row leaves = left_same leaves
+  broken (Given place reply) at row leaves =
+      left_cut place reply (record { id = a.id; stage = Given place reply; answer = a.answer; given = a.buffers.given; pending = a.pending }) refl refl row row.holds leaves
+  broken (DataIn place reply cursor) at row leaves =
+      left_cut place reply (record { id = a.id; stage = DataIn place reply cursor; answer = a.answer; given = a.buffers.given; pending = a.pending }) refl refl row row.holds leaves
+  broken (Answer outcome) at row leaves = left_same leaves
+  broken (Entry outcome) at row leaves = left_same leaves
 
   -- the service is broken off, and nothing is kept
-  pub once_broken : (b : Desk) (s s' : List PipeRow) → b.id ≡ a.id → b.stage ≡ Start → b.kept ≡ None → LeavesRow a.stage h h' → responses s' ≡ responses s → Once a b s s' h h'
+  pub once_broken : (b : Desk) (s s' : List PipeRow) → b.id ≡ a.id → b.stage ≡ Start → b.kept ≡ None → LeavesRow a.stage a.buffers.given h h' → responses s' ≡ responses s
+      → Once d d a b s s' h h'
   once_broken b s s' id stage kept leaves put =
-      let rest = broken a.stage serving.row leaves in
-      record { id = id; serving = cleared b h' stage kept; answers = more_none a.id s s' h h' put rest.0; others = rest.1 }
+      let rest = broken a.stage refl serving.row leaves in
+      record {
+        id = id;
+        count = refl;
+        serving = cleared d.count b h' stage kept;
+        answers = more_none a.id s s' h h' put rest.0;
+        others = rest.1;
+        stays = rest.2;
+        tells = tells_same d.now;
+      }
 
 -- the request in service is finished without a row's answer, and nothing is kept
-pub once_cleared : (a b : Desk) (s s' : List PipeRow) (h h' : List ServedRow) → b.id ≡ a.id → b.stage ≡ Start → b.kept ≡ None → h' ≡ h → responses s' ≡ responses s → Once a b s s' h h'
-once_cleared a b s s' h h' id stage kept rows put = record {
+pub once_cleared : (a b : Desk) (s s' : List PipeRow) (h h' : List ServedRow) → b.id ≡ a.id → b.stage ≡ Start → b.kept ≡ None → h' ≡ h → responses s' ≡ responses s
+    → (d : Held) → Once d d a b s s' h h'
+once_cleared a b s s' h h' id stage kept rows put d = record {
   id = id;
-  serving = cleared b h' stage kept;
+  count = refl;
+  serving = cleared d.count b h' stage kept;
   answers = more_none a.id s s' h h' put (ap (answers_of a.id) rows);
   others = subst (OnlyRowsOf a.id h) (sym rows) (stays_same a.id h);
+  stays = stays_equal d h h' rows;
+  tells = tells_same d.now;
 }
 
--- a row that is served at one desk is so at another of the same unit and requests
-pub served_at : (a b : Desk) (h : List ServedRow) (row : ℕ) → b.id ≡ a.id → b.pending ≡ a.pending → IsServed a h row → IsServed b h row
-served_at a b h row id pending is = record {
-  request = is.request;
-  rest = is.rest;
-  front = pending ∙ is.front;
-  in_service = subst (λ unit. IsInService unit is.request.unit.items h row) (sym id) is.in_service;
-}
-
-pub row_at : (a b : Desk) (h : List ServedRow) (stage : Stage) → b.id ≡ a.id → b.pending ≡ a.pending → IfRow stage (IsServed a h) → IfRow stage (IsServed b h)
-row_at a b h Start id pending is = tt
-row_at a b h OutTable id pending is = tt
-row_at a b h InTable id pending is = tt
-row_at a b h (DataOut cursor) id pending is = tt
-row_at a b h (Given row reply) id pending is = served_at a b h row id pending is
-row_at a b h (DataIn row reply cursor) id pending is = served_at a b h row id pending is
-row_at a b h (Answer (Granted number)) id pending is = tt
-row_at a b h (Answer Rejected) id pending is = tt
-row_at a b h (Answer (Served row)) id pending is = served_at a b h row id pending is
-row_at a b h (Entry (Granted number)) id pending is = tt
-row_at a b h (Entry Rejected) id pending is = tt
-row_at a b h (Entry (Served row)) id pending is = served_at a b h row id pending is
-
--- the stages at which a request has the same row
-pub data SameRow : Stage → Stage → Type 0 where
-  -- the answer was copied
-  Copied : (outcome : Outcome) → SameRow (Answer outcome) (Entry outcome)
-  -- data-in were written to the unit's region
-  Stored : (row : ℕ) (reply : ScsiReply) (cursor : Cursor) → SameRow (Given row reply) (DataIn row reply cursor)
-  -- some of them were copied
-  Moved : (row : ℕ) (reply : ScsiReply) (old new : Cursor) → SameRow (DataIn row reply old) (DataIn row reply new)
-  -- it is as it was
-  Still : (stage : Stage) → SameRow stage stage
-
-pub row_on : (d : Desk) (h : List ServedRow) (old new : Stage) → SameRow old new → IfRow old (IsServed d h) → IfRow new (IsServed d h)
-row_on d h _ _ (Copied (Granted number)) is = tt
-row_on d h _ _ (Copied Rejected) is = tt
-row_on d h _ _ (Copied (Served row)) is = is
-row_on d h _ _ (Stored row reply cursor) is = is
-row_on d h _ _ (Moved row reply old new) is = is
-row_on d h _ _ (Still stage) is = is
-
--- the service came further with the same row; nothing is kept, and no response was put
-pub once_further : (a b : Desk) (s s' : List PipeRow) (h h' : List ServedRow) → b.id ≡ a.id → b.pending ≡ a.pending → SameRow a.stage b.stage → b.kept ≡ None
-    → h' ≡ h → responses s' ≡ responses s → IsServing a h → Once a b s s' h h'
-once_further a b s s' h h' id pending further kept rows put serving = record {
+-- nothing is kept, no response was put, and the row in service is the same
+pub once_goes : (a b : Desk) (s s' : List PipeRow) (h h' : List ServedRow) → b.id ≡ a.id → b.kept ≡ None → h' ≡ h → responses s' ≡ responses s
+    → (d : Held) → IfRow b.stage (IsServed d.count (place_of b) h) → HasPieces b.stage b.buffers.outs b.buffers.inns b.pending → Once d d a b s s' h h'
+once_goes a b s s' h h' id kept rows put d row fetched = record {
   id = id;
+  count = refl;
   serving = record {
-    row = subst (λ list. IfRow b.stage (IsServed b list)) (sym rows) (row_at a b h b.stage id pending (row_on a h a.stage b.stage further serving.row));
+    row = subst (λ list. IfRow b.stage (IsServed d.count (place_of b) list)) (sym rows) row;
     kept = λ entry is. absurd (cc (kept, is));
+    fetched = fetched;
   };
   answers = more_none a.id s s' h h' put (ap (answers_of a.id) rows);
   others = subst (OnlyRowsOf a.id h) (sym rows) (stays_same a.id h);
+  stays = stays_equal d h h' rows;
+  tells = tells_same d.now;
 }
 
+-- the place of a desk whose parts are those of another
+pub place_is : (a b : Desk) → b.id ≡ a.id → b.stage ≡ a.stage → b.answer ≡ a.answer → b.buffers ≡ a.buffers → b.pending ≡ a.pending → place_of b ≡ place_of a
+place_is a b id stage answer buffers pending =
+    λ i. record { id = id i; stage = stage i; answer = answer i; given = (buffers i).given; pending = pending i }
+
+-- the row in service and the pieces, at a desk whose parts are those of another
+pub row_at : (count : ℕ) (a b : Desk) (h : List ServedRow) → b.id ≡ a.id → b.stage ≡ a.stage → b.answer ≡ a.answer → b.buffers ≡ a.buffers → b.pending ≡ a.pending
+    → IfRow a.stage (IsServed count (place_of a) h) → IfRow b.stage (IsServed count (place_of b) h)
+row_at count a b h id stage answer buffers pending =
+    subst (λ (p : Place). IfRow p.stage (IsServed count p h)) (sym (place_is a b id stage answer buffers pending))
+
+pub pieces_at : (a b : Desk) → b.stage ≡ a.stage → b.buffers ≡ a.buffers → b.pending ≡ a.pending → HasPieces a.stage a.buffers.outs a.buffers.inns a.pending
+    → HasPieces b.stage b.buffers.outs b.buffers.inns b.pending
+pieces_at a b stage buffers pending = subst (λ (z : Stage × Buffers × List Request). HasPieces z.0 z.1.outs z.1.inns z.2) (λ i. ((sym stage) i, (sym buffers) i, (sym pending) i))
+
+-- the service is where it was; nothing is kept, and no response was put
+pub once_still : (a b : Desk) (s s' : List PipeRow) (h h' : List ServedRow) → b.id ≡ a.id → b.stage ≡ a.stage → b.answer ≡ a.answer → b.buffers ≡ a.buffers → b.pending ≡ a.pending
+    → b.kept ≡ None → h' ≡ h → responses s' ≡ responses s → (d : Held) → IsServing d.count a h → Once d d a b s s' h h'
+once_still a b s s' h h' id stage answer buffers pending kept rows put d serving =
+    once_goes a b s s' h h' id kept rows put d (row_at d.count a b h id stage answer buffers pending serving.row) (pieces_at a b stage buffers pending serving.fetched)
+
 -- an entry that answers no request is kept in the place of what was kept
-pub once_reply_kept : (a b : Desk) (s s' : List PipeRow) (h : List ServedRow) (entry : QueueEntry) → b.id ≡ a.id → b.pending ≡ a.pending → b.stage ≡ a.stage → b.kept ≡ Some (keeps.Reply entry)
-    → IsPlain entry → responses s' ≡ responses s → IsServing a h → Once a b s s' h h
-once_reply_kept a b s s' h entry id pending stage kept plain put serving = record {
+pub once_reply_kept : (a b : Desk) (s s' : List PipeRow) (h : List ServedRow) (entry : QueueEntry) → b.id ≡ a.id → b.pending ≡ a.pending → b.stage ≡ a.stage → b.answer ≡ a.answer
+    → b.buffers ≡ a.buffers → b.kept ≡ Some (keeps.Reply entry) → IsPlain entry → responses s' ≡ responses s → (d : Held) → IsServing d.count a h → Once d d a b s s' h h
+once_reply_kept a b s s' h entry id pending stage answer buffers kept plain put d serving = record {
   id = id;
+  count = refl;
   serving = record {
-    row = row_at a b h b.stage id pending (subst (λ st. IfRow st (IsServed a h)) (sym stage) serving.row);
+    row = row_at d.count a b h id stage answer buffers pending serving.row;
     kept = λ other is. subst (IsKept b) (some_is entry other (sym kept ∙ is)) plain;
+    fetched = pieces_at a b stage buffers pending serving.fetched;
   };
   answers = more_none a.id s s' h h put refl;
   others = stays_same a.id h;
+  stays = stays_equal d h h refl;
+  tells = tells_same d.now;
 }
   where
     some_is : (e : QueueEntry) (other : Kept) → Some (keeps.Reply e) ≡ Some other → keeps.Reply e ≡ other
@@ -209,36 +294,50 @@ some_bytes [] (inr (inr is)) = absurd (cc (is))
 some_bytes (byte ∷ bytes) is = refl
 
 -- The answer in service was put: its row, if it has one, has it, and nothing is kept.
-module _ (a b : Desk) (s s' : List PipeRow) (h h' : List ServedRow) (put : PipeRow) (request : Request) (rest : List Request)
-    (serving : IsServing a h) (id : b.id ≡ a.id) (stage : b.stage ≡ Start) (kept : b.kept ≡ None) (front : a.pending ≡ request ∷ rest)
+module _ (a b : Desk) (s s' : List PipeRow) (h h' : List ServedRow) (put : PipeRow) (request : Request) (rest : List Request) (d : Held)
+    (serving : IsServing d.count a h) (id : b.id ≡ a.id) (stage : b.stage ≡ Start) (kept : b.kept ≡ None) (front : a.pending ≡ request ∷ rest)
     (entry_is : put.entry ≡ srp_entry (length a.answer) request.tag) (sent : s' ≡ s ++ put ∷ []) where
-  login : (outcome : Outcome) → is_response (srp_entry (length a.answer) request.tag) ≡ false → h' ≡ h → Once a b s s' h h'
+  login : (outcome : Outcome) → is_response (srp_entry (length a.answer) request.tag) ≡ false → h' ≡ h → Once d d a b s s' h h'
   login outcome none rows =
-      once_cleared a b s s' h h' id stage kept rows (responses_plain s s' put (ap is_response entry_is ∙ none) sent)
+      once_cleared a b s s' h h' id stage kept rows (responses_plain s s' put (ap is_response entry_is ∙ none) sent) d
 
-  served : (row : ℕ) → IsServed a h row → (length a.answer ≡ 36) ⊎ ((length a.answer ≡ 40) ⊎ (length a.answer ≡ 54)) → AnswersRow h h' row a.answer → Once a b s s' h h'
-  served row is len answers =
+  served : (row : ℕ) (p : Place) → p.id ≡ a.id → p.pending ≡ a.pending → (is : IsServed d.count p h row) → MayAnswer d.count a.answer is.in_service.served
+      → (length a.answer ≡ 36) ⊎ ((length a.answer ≡ 40) ⊎ (length a.answer ≡ 54)) → AnswersRow h h' row a.answer → Once d d a b s s' h h'
+  served row p p_id p_pending is may len answers =
       let iu = is.request.unit.items in
-      let there = answered_there a.id iu h h' row a.answer is.in_service answers in
-      let same : is.request ≡ request = head_is is.request request is.rest rest (sym is.front ∙ front) in
-      let one = answers_one a.id iu h h' row a.answer is.in_service (some_bytes a.answer len) there in
+      let in_service = subst (λ (unit : UnitId). IsInService unit iu h row) p_id is.in_service in
+      let there = answered_there a.id iu h h' row a.answer in_service answers in
+      let same : is.request ≡ request = head_is is.request request is.rest rest (sym is.front ∙ p_pending ∙ front) in
+      let one = answers_one a.id iu h h' row a.answer in_service (some_bytes a.answer len) there in
       record {
         id = id;
-        serving = cleared b h' stage kept;
+        count = refl;
+        serving = cleared d.count b h' stage kept;
         answers = record {
           more = put.entry ∷ [];
           put = responses_one s s' put (ap is_response entry_is ∙ answers_command (length a.answer) request.tag len) sent;
           rows = one ∙ ap (λ e. answers_of a.id h ++ e ∷ [])
               (ap (srp_entry (length a.answer)) (sym is.request.tagged ∙ ap (λ (r : Request). r.tag) same) ∙ sym entry_is);
         };
-        others = only_there a.id iu h h' row is.in_service (record is.in_service.served { answer = a.answer }) is.in_service.unit_is there;
+        others = only_there a.id iu h h' row in_service (record in_service.served { answer = a.answer }) in_service.unit_is there;
+        stays = stays_there d h h' is.in_service.before is.in_service.behind is.in_service.served (record is.in_service.served { answer = a.answer })
+            is.in_service.history_is (answered_there p.id iu h h' row a.answer is.in_service answers) may;
+        tells = tells_same d.now;
       }
     where
       head_is : (x y : Request) (xs ys : List Request) → x ∷ xs ≡ y ∷ ys → x ≡ y
       head_is x y xs ys e = cc (e)
 
-  pub once_settled : (outcome : Outcome) → a.stage ≡ Entry outcome → fits outcome (length a.answer) ≡ true → SettlesRow outcome a.answer h h' → Once a b s s' h h'
+  served_at : (stage : Stage) (row : ℕ) → stage ≡ Entry (Served row)
+      → IfRow stage (IsServed d.count (record { id = a.id; stage = stage; answer = a.answer; given = a.buffers.given; pending = a.pending }) h)
+      → IsServed d.count (record { id = a.id; stage = Entry (Served row); answer = a.answer; given = a.buffers.given; pending = a.pending }) h row
+  served_at stage row at =
+      subst (λ (st : Stage). IfRow st (IsServed d.count (record { id = a.id; stage = st; answer = a.answer; given = a.buffers.given; pending = a.pending }) h)) at
+
+  pub once_settled : (outcome : Outcome) → a.stage ≡ Entry outcome → fits outcome (length a.answer) ≡ true → SettlesRow outcome a.answer h h' → Once d d a b s s' h h'
   once_settled (Granted number) at len rows = login (Granted number) (answers_login (length a.answer) 52 request.tag len refl) rows
   once_settled Rejected at len rows = login Rejected (answers_login (length a.answer) 32 request.tag len refl) rows
   once_settled (Served row) at len rows =
-      served row (subst (λ st. IfRow st (IsServed a h)) at serving.row) (response_lens (length a.answer) len) rows
+      let is = served_at a.stage row at serving.row in
+      served row (record { id = a.id; stage = Entry (Served row); answer = a.answer; given = a.buffers.given; pending = a.pending }) refl refl is is.holds
+      (response_lens (length a.answer) len) rows

@@ -5,7 +5,19 @@ use Rattle.vio_num.specs.declared.names.UnitId.{UnitId}
 use Rattle.vio_num.specs.declared.history.Served.{Served as ServedRow}
 use Rattle.crq_ring.specs.declared.rows.PipeRow.{PipeRow}
 use Rattle.block_server.specs.Answering.{OnlyRowsOf}
-use Rattle.block_server.specs.Serving.{Desk, IsServed, IsServing, Once, desk_of}
+use Rattle.std.proofs.Common.{Option, IfSome}
+use Rattle.std.proofs.lemmas.Option.{IfSome_then}
+use Rattle.std.specs.Prelude.{IsSome, option_map}
+use Rattle.std.proofs.Common.{IfOk, Result, Ok, Err}
+use Rattle.std.proofs.Props.{props}
+use Rattle.vio_num.specs.declared.memory.NoMemory.{NoMemory}
+use Rattle.vio_num.specs.declared.hypervisor.Moved.{Moved}
+use Rattle.vio_num.specs.declared.hypervisor.Moved.TheVariants.{Quiet}
+use Rattle.crq_session.specs.EndState.{EndState}
+use Rattle.block_server.specs.Turns.{IsQuietTurn, under_way, way_of}
+use Rattle.block_server.specs.DiskLaw.{KeepsDisk, Serve}
+use Rattle.block_server.proofs.DiskLaws.{serve_size}
+use Rattle.block_server.specs.Serving.{Desk, Held, ServeFrom, StaysServed, IsServed, IsServing, Once, Place, desk_of, place_of}
 use Rattle.block_server.specs.Units.{AreServing, IsUnitOf}
 use Rattle.block_server.specs.declared.service.Stage.TheVariants.{Start}
 use Rattle.block_server.specs.declared.unit.Unit.{Unit}
@@ -14,15 +26,20 @@ use Rattle.block_server.proofs.Onces.{cleared}
 use Rattle.block_server.proofs.Serves.{row_map}
 
 -- what another unit does leaves a desk in order
-serving_stays : (unit : UnitId) (desk : Desk) (h h' : List ServedRow) → desk.id ≢ unit → OnlyRowsOf unit h h' → IsServing desk h → IsServing desk h'
-serving_stays unit desk h h' apart only serving = record {
-  row = row_map desk.stage (IsServed desk h) (IsServed desk h') (λ row is. record {
-    request = is.request;
-    rest = is.rest;
-    front = is.front;
-    in_service = in_service_stays unit desk.id is.request.unit.items h h' row apart only is.in_service;
-  }) serving.row;
+served_stays : (unit : UnitId) (count : ℕ) (p : Place) (h h' : List ServedRow) (row : ℕ) → p.id ≢ unit → OnlyRowsOf unit h h' → IsServed count p h row → IsServed count p h' row
+served_stays unit count p h h' row apart only is = record {
+  request = is.request;
+  rest = is.rest;
+  front = is.front;
+  in_service = in_service_stays unit p.id is.request.unit.items h h' row apart only is.in_service;
+  holds = is.holds;
+}
+
+serving_stays : (unit : UnitId) (count : ℕ) (desk : Desk) (h h' : List ServedRow) → desk.id ≢ unit → OnlyRowsOf unit h h' → IsServing count desk h → IsServing count desk h'
+serving_stays unit count desk h h' apart only serving = record {
+  row = row_map desk.stage (IsServed count (place_of desk) h) (IsServed count (place_of desk) h') (λ row. served_stays unit count (place_of desk) h h' row apart only) serving.row;
   kept = serving.kept;
+  fetched = serving.fetched;
 }
 
 get_set_same : (units : List Unit) (i : ℕ) (old new : Unit) → slice_get units i ≡ Some old → slice_get (slice_set units i new) i ≡ Some new
@@ -38,29 +55,30 @@ get_set_other (unit ∷ units) (suc i) zero new apart = refl
 get_set_other (unit ∷ units) (suc i) (suc j) new apart = get_set_other units i j new (λ same. apart (ap suc same))
 
 -- One unit took its turn: each unit is in order still.
-pub units_on : (partition number : ℕ) (units : List Unit) (unit unit' : Unit) (s s' : List PipeRow) (h h' : List ServedRow) → slice_get units number ≡ Some unit
-    → Once (desk_of unit) (desk_of unit') s s' h h' → AreServing partition units h → AreServing partition (slice_set units number unit') h'
-units_on partition number units unit unit' s s' h h' there once all n other at = by (n == number) refl
+pub units_on : (d d' : Held) (partition number : ℕ) (units : List Unit) (unit unit' : Unit) (s s' : List PipeRow) (h h' : List ServedRow) → slice_get units number ≡ Some unit
+    → Once d d' (desk_of unit) (desk_of unit') s s' h h' → AreServing d.count partition units h → AreServing d'.count partition (slice_set units number unit') h'
+units_on d d' partition number units unit unit' s s' h h' there once all n other at = by (n == number) refl
   where
     some_is : (x y : Unit) → Some x ≡ Some y → x ≡ y
     some_is x y same = cc (same)
 
-    this : n ≡ number → IsUnitOf partition n other h'
+    this : n ≡ number → IsUnitOf d'.count partition n other h'
     this same =
         let is : unit' ≡ other = some_is unit' other (sym (get_set_same units number unit unit' there) ∙ ap (slice_get (slice_set units number unit')) (sym same) ∙ at) in
-        subst (λ (z : ℕ × Unit). IsUnitOf partition z.0 z.1 h') (λ i. (sym same i, is i))
+        subst (λ (z : ℕ × Unit). IsUnitOf d'.count partition z.0 z.1 h') (λ i. (sym same i, is i))
         (record { id = once.id ∙ (all number unit there).id; serving = once.serving })
 
-    another : n ≢ number → IsUnitOf partition n other h'
+    another : n ≢ number → IsUnitOf d'.count partition n other h'
     another apart =
         let is = all n other (sym (get_set_other units number n unit' apart) ∙ at) in
         record {
           id = is.id;
-          serving = serving_stays unit.id (desk_of other) h h'
-              (λ same. apart (ap (λ (id : UnitId). id.unit) (sym is.id ∙ same ∙ (all number unit there).id))) once.others is.serving;
+          serving = subst (λ (count : ℕ). IsServing count (desk_of other) h') (sym once.count)
+              (serving_stays unit.id d.count (desk_of other) h h'
+              (λ same. apart (ap (λ (id : UnitId). id.unit) (sym is.id ∙ same ∙ (all number unit there).id))) once.others is.serving);
         }
 
-    by : (b : Bool) → (n == number) ≡ b → IsUnitOf partition n other h'
+    by : (b : Bool) → (n == number) ≡ b → IsUnitOf d'.count partition n other h'
     by true e = this (eqb-true n number e)
     by false e = another (λ same. absurd (cc (eq-eqb n number same, e)))
 
@@ -75,12 +93,32 @@ push_all P (first ∷ units) new all is zero unit at = all zero unit at
 push_all P (first ∷ units) new all is (suc n) unit at = push_all (λ m. P (suc m)) units new (λ m. all (suc m)) is n unit at
 
 -- A unit that took nothing yet is in order, whatever was served.
-pub units_more : (partition number : ℕ) (units : List Unit) (new : Unit) (h : List ServedRow) → number ≡ length units
+pub units_more : (count partition number : ℕ) (units : List Unit) (new : Unit) (h : List ServedRow) → number ≡ length units
     → new.id ≡ record { partition = partition; unit = number } → new.service.stage ≡ Start → new.line.kept ≡ None
-    → AreServing partition units h → AreServing partition (units ++ new ∷ []) h
-units_more partition number units new h count id stage kept all =
-    push_all (λ n unit. IsUnitOf partition n unit h) units new all
-    (subst (λ (n : ℕ). IsUnitOf partition n new h) count (record { id = id; serving = cleared (desk_of new) h stage kept }))
+    → AreServing count partition units h → AreServing count partition (units ++ new ∷ []) h
+units_more count partition number units new h len id stage kept all =
+    push_all (λ n unit. IsUnitOf count partition n unit h) units new all
+    (subst (λ (n : ℕ). IsUnitOf count partition n new h) len (record { id = id; serving = cleared count (desk_of new) h stage kept }))
 
-pub units_none : (partition : ℕ) (units : List Unit) (h : List ServedRow) → units ≡ [] → AreServing partition units h
-units_none partition units h none = subst (λ (list : List Unit). AreServing partition list h) (sym none) (λ n unit at. absurd (cc (at)))
+pub units_none : (count partition : ℕ) (units : List Unit) (h : List ServedRow) → units ≡ [] → AreServing count partition units h
+units_none count partition units h none = subst (λ (list : List Unit). AreServing count partition list h) (sym none) (λ n unit at. absurd (cc (at)))
+
+-- the disk law of a turn, over an image that tells as many blocks as it has
+pub keeps_disk : (d d' : Held) (h h' : List ServedRow) (size : ℕ) → d.count ≡ size → IfSome d.now (λ all. length all ≡ size) → StaysServed d d' h h' → KeepsDisk h h' d.now d'.now
+keeps_disk d d' h h' size sized told stays before is =
+    IfSome_then d'.now (stays before (from d.now told is)) (λ all (then : ServeFrom d'.count before h' all). then.serve)
+  where
+    from : (now : Option (List (List ℕ))) → IfSome now (λ all. length all ≡ size) → IfSome now (λ all. Serve before h all) → IfSome now (ServeFrom d.count before h)
+    from None told is = tt
+    from (Some all) told is = record { size = sym (serve_size before h all is) ∙ told ∙ sym sized; serve = is }
+
+pub tells_prop : (now now' : Option (List (List ℕ))) → IsProp (IfSome now (λ all. IsSome now'))
+tells_prop None now' = hlevel props
+tells_prop (Some all) now' = hlevel props
+
+-- what a unit has under way, where its turn was quiet
+pub way_quiet : (result : Result Moved NoMemory) (units : List Unit) (n : ℕ) (unit unit' : Unit) (q q' : EndState) → slice_get units n ≡ Some unit
+    → IfOk result (λ moved. moved ≡ Quiet → IsQuietTurn unit unit' q q') → IfOk result (λ moved. moved ≡ Quiet → way_of (slice_set units n unit') n ≡ way_of units n)
+way_quiet (Err memory) units n unit unit' q q' there quiet = tt
+way_quiet (Ok answer) units n unit unit' q q' there quiet = λ is.
+    ap (option_map under_way) (get_set_same units n unit unit' there) ∙ ap Some (quiet is).same ∙ sym (ap (option_map under_way) there)

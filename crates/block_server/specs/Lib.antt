@@ -1,9 +1,12 @@
 pub mod Advances
 pub mod Answering
 pub mod Copied
+pub mod DiskLaw
 pub mod Ends
 pub mod Entries
+pub mod Fetched
 pub mod Kept
+pub mod Orders
 pub mod Records
 pub mod Responses
 pub mod Service

@@ -1,5 +1,5 @@
 -- What a unit has in service, and that each answer is put once.
-use Rattle.std.specs.Prelude.{◌≡◌, ℕ, ⊤, List, ◌∷◌, Option, Some, None, Result, Ok, Err, length}
+use Rattle.std.specs.Prelude.{◌≡◌, ℕ, ⊤, List, ◌∷◌, Option, Some, None, IfSome, IsSome, Result, Ok, Err, length, take}
 use Rattle.vio_num.specs.declared.entry.Entry.{Entry as QueueEntry}
 use Rattle.vio_num.specs.declared.names.UnitId.{UnitId}
 use Rattle.vio_num.specs.declared.history.Served.{Served as ServedRow}
@@ -19,16 +19,23 @@ use Rattle.block_server.specs.declared.service.Service.{Service}
 use Rattle.block_server.specs.declared.service.Stage.{Stage}
 use Rattle.block_server.specs.declared.service.Stage.TheVariants.{Given, DataIn, Answer, Entry}
 use Rattle.block_server.specs.declared.unit.Unit.{Unit}
+use Rattle.srp_iu.specs.declared.command.Cmd.{Cmd}
+use Rattle.block_disk.specs.Disk.{reply_to}
+use Rattle.block_disk.specs.declared.reply.ScsiReply.{ScsiReply}
+use Rattle.block_server.specs.declared.request.Order.TheVariants.{Command}
+use Rattle.block_server.specs.DiskLaw.{HasData, Serve, ServesRow, handed_over}
+use Rattle.block_server.specs.Fetched.{HasPieces, Buffers, buffers_of}
 use Rattle.block_server.specs.Answering.{AnswersMore, IsInService, OnlyRowsOf}
 use Rattle.block_server.specs.Entries.{IsPlain}
 use Rattle.block_server.specs.Records.{AnswersRow, FillsRow}
 
--- What a unit has in service: how far the oldest request's service has come, its answer, the entry that found the
--- client's queue full, and the requests that are not answered, the oldest first.
+-- What a unit has in service: how far the oldest request's service has come, its answer and its data, the entry that found
+-- the client's queue full, and the requests that are not answered, the oldest first.
 pub record Desk : Type 0 where
   pub id : UnitId
   pub stage : Stage
   pub answer : List ℕ
+  pub buffers : Buffers
   pub kept : Option Kept
   pub pending : List Request
 
@@ -37,6 +44,7 @@ desk_of unit = record {
   id = unit.id;
   stage = unit.service.stage;
   answer = unit.service.answer.items;
+  buffers = buffers_of unit.service;
   kept = unit.line.kept;
   pending = unit.pending.items;
 }
@@ -47,6 +55,7 @@ desk_at id service kept pending = record {
   id = id;
   stage = service.stage;
   answer = service.answer.items;
+  buffers = buffers_of service;
   kept = kept;
   pending = pending;
 }
@@ -59,12 +68,55 @@ IfRow (Answer (Served row)) P = P row
 IfRow (Entry (Served row)) P = P row
 IfRow _ P = ⊤
 
+-- A disk as a turn knows it: the number of its blocks, and they themselves, where its image tells them.
+pub record Held : Type 0 where
+  pub count : ℕ
+  pub now : Option (List (List ℕ))
+
+abbrev pub held : ℕ → Option (List (List ℕ)) → Held
+held count now = record { count = count; now = now }
+
+-- The row of a command whose disk step answered this: it has all data-in that are to be handed over.
+pub record HasReply (count : ℕ) (request : Request) (given : List ℕ) (reply : ScsiReply) (served : ServedRow) : Type 0 where
+  pub command : Cmd
+  pub order : request.order ≡ Command command
+  pub brought : HasData command served.out
+  pub fault_is : reply.fault ≡ served.fault
+  pub reply_is : reply ≡ reply_to count command.lun command.cdb (length served.out) served.fault
+  pub given_is : served.inn ≡ given
+  pub all_in : length served.inn ≡ handed_over command reply
+
+-- The row law stays as the row gets this answer, on a disk of so many blocks.
+abbrev pub MayAnswer : (count : ℕ) → (answer : List ℕ) → ServedRow → Type 0
+MayAnswer count answer served =
+    (before after : List (List ℕ)) → length before ≡ count → ServesRow before served after → ServesRow before (record served { answer = answer }) after
+
+-- what is so of the row in service at a stage
+abbrev pub HoldsAtStage : (count : ℕ) → Stage → (answer given : List ℕ) → Request → ServedRow → Type 0
+HoldsAtStage count (Given row reply) answer given request served = HasReply count request given reply served
+HoldsAtStage count (DataIn row reply cursor) answer given request served = HasReply count request given reply served
+HoldsAtStage count (Answer outcome) answer given request served = MayAnswer count answer served
+HoldsAtStage count (Entry outcome) answer given request served = MayAnswer count answer served
+HoldsAtStage count _ answer given request served = ⊤
+
+-- what of a desk says which row is in service
+pub record Place : Type 0 where
+  pub id : UnitId
+  pub stage : Stage
+  pub answer : List ℕ
+  pub given : List ℕ
+  pub pending : List Request
+
+abbrev pub place_of : Desk → Place
+place_of desk = record { id = desk.id; stage = desk.stage; answer = desk.answer; given = desk.buffers.given; pending = desk.pending }
+
 -- The oldest request is in service, and this row is its.
-pub record IsServed (desk : Desk) (history : List ServedRow) (row : ℕ) : Type 0 where
+pub record IsServed (count : ℕ) (place : Place) (history : List ServedRow) (row : ℕ) : Type 0 where
   pub request : Request
   pub rest : List Request
-  pub front : desk.pending ≡ request ∷ rest
-  pub in_service : IsInService desk.id request.unit.items history row
+  pub front : place.pending ≡ request ∷ rest
+  pub in_service : IsInService place.id request.unit.items history row
+  pub holds : HoldsAtStage count place.stage place.answer place.given request in_service.served
 
 -- The entry is that of the oldest request's answer, which is to be put.
 pub record IsAnswerKept (desk : Desk) (entry : QueueEntry) (outcome : Outcome) : Type 0 where
@@ -79,26 +131,50 @@ abbrev pub IsKept : Desk → Kept → Type 0
 IsKept desk (keeps.Reply entry) = IsPlain entry
 IsKept desk (keeps.Answer entry outcome) = IsAnswerKept desk entry outcome
 
--- The desk is in order: its row is in service, and what it keeps may be put.
-pub record IsServing (desk : Desk) (history : List ServedRow) : Type 0 where
-  pub row : IfRow desk.stage (IsServed desk history)
+-- The desk is in order: its row is in service, what it keeps may be put, and the pieces that were fetched are its request's.
+pub record IsServing (count : ℕ) (desk : Desk) (history : List ServedRow) : Type 0 where
+  pub row : IfRow desk.stage (IsServed count (place_of desk) history)
   pub kept : (kept : Kept) → desk.kept ≡ Some kept → IsKept desk kept
+  pub fetched : HasPieces desk.stage desk.buffers.outs desk.buffers.inns desk.pending
 
--- Each answer that was put is that of one row more: the desk stays in order, and no row of another unit changed.
-pub record Once (desk desk' : Desk) (sent sent' : List PipeRow) (history history' : List ServedRow) : Type 0 where
+-- The rows took these blocks, as many as the disk has, to others.
+pub record ServeFrom (count : ℕ) (before : List (List ℕ)) (history : List ServedRow) (all : List (List ℕ)) : Type 0 where
+  pub size : length before ≡ count
+  pub serve : Serve before history all
+
+-- The disk law stays, over the rows and the blocks of later.
+abbrev pub StaysServed : (disk disk' : Held) → (history history' : List ServedRow) → Type 0
+StaysServed disk disk' history history' =
+    (before : List (List ℕ)) → IfSome disk.now (ServeFrom disk.count before history) → IfSome disk'.now (ServeFrom disk'.count before history')
+
+-- Each answer that was put is that of one row more: the desk stays in order, no row of another unit changed, and the disk law
+-- stays.
+pub record Once (disk disk' : Held) (desk desk' : Desk) (sent sent' : List PipeRow) (history history' : List ServedRow) : Type 0 where
   pub id : desk'.id ≡ desk.id
-  pub serving : IsServing desk' history'
+  pub count : disk'.count ≡ disk.count
+  pub serving : IsServing disk'.count desk' history'
   pub answers : AnswersMore desk.id sent sent' history history'
   pub others : OnlyRowsOf desk.id history history'
+  pub stays : StaysServed disk disk' history history'
+  pub tells : IfSome disk.now (λ all. IsSome disk'.now)
 
+-- the same of a part of a turn that makes no disk step, whatever the disk is
 abbrev pub AnswersOnce : (desk desk' : Desk) (queue queue' : EndState) (records records' : Records) → Type 0
 AnswersOnce desk desk' queue queue' records records' =
-    IsServing desk records.history.items → Once desk desk' queue.sent queue'.sent records.history.items records'.history.items
+    (disk : Held) → IsServing disk.count desk records.history.items
+    → Once disk disk desk desk' queue.sent queue'.sent records.history.items records'.history.items
 
--- What becomes of the row in service where its service is broken off: it gets the data-in that were copied so far.
-abbrev pub LeavesRow : Stage → (history history' : List ServedRow) → Type 0
-LeavesRow (DataIn row reply cursor) history history' = (inn : List ℕ) × FillsRow history history' row inn
-LeavesRow _ history history' = history' ≡ history
+-- and of one that may make some
+abbrev pub AnswersOnceOn : (disk disk' : Held) (desk desk' : Desk) (queue queue' : EndState) (records records' : Records) → Type 0
+AnswersOnceOn disk disk' desk desk' queue queue' records records' =
+    IsServing disk.count desk records.history.items
+    → Once disk disk' desk desk' queue.sent queue'.sent records.history.items records'.history.items
+
+-- What becomes of the row in service where its service is broken off: of its data-in only those that were copied are left.
+abbrev pub LeavesRow : Stage → (given : List ℕ) → (history history' : List ServedRow) → Type 0
+LeavesRow (Given row reply) given history history' = (n : ℕ) × FillsRow history history' row (take n given)
+LeavesRow (DataIn row reply cursor) given history history' = (n : ℕ) × FillsRow history history' row (take n given)
+LeavesRow _ given history history' = history' ≡ history
 
 -- What an answer does to the history once its entry is put: its row, if it has one, gets the answer.
 abbrev pub SettlesRow : Outcome → (answer : List ℕ) → (history history' : List ServedRow) → Type 0

@@ -8,14 +8,14 @@ use Rattle.block_server.specs.Serving.{IsServing, desk_of}
 use Rattle.block_server.specs.declared.records.Records.{Records}
 use Rattle.block_server.specs.declared.unit.Unit.{Unit}
 
--- A unit bears its number, and its desk is in order.
-pub record IsUnitOf (partition number : ℕ) (unit : Unit) (history : List ServedRow) : Type 0 where
+-- A unit bears its number, and its desk is in order, on a disk of so many blocks.
+pub record IsUnitOf (count partition number : ℕ) (unit : Unit) (history : List ServedRow) : Type 0 where
   pub id : unit.id ≡ record { partition = partition; unit = number }
-  pub serving : IsServing (desk_of unit) history
+  pub serving : IsServing count (desk_of unit) history
 
 -- Each unit of a server does.
-abbrev pub AreServing : ℕ → List Unit → List ServedRow → Type 0
-AreServing partition units history = (number : ℕ) (unit : Unit) → slice_get units number ≡ Some unit → IsUnitOf partition number unit history
+abbrev pub AreServing : (count partition : ℕ) → List Unit → List ServedRow → Type 0
+AreServing count partition units history = (number : ℕ) (unit : Unit) → slice_get units number ≡ Some unit → IsUnitOf count partition number unit history
 
 -- Each response that was put is that of one row more of the unit which has its answer: in the order of the rows, with the
 -- answer's length and the request's tag.

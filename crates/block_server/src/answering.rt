@@ -15,10 +15,11 @@ use crate::intake::Next;
 use crate::line::Kept;
 use crate::logins::MOST_LOGINS;
 use crate::records::Records;
-use crate::service::{Outcome, Stage};
+use crate::service::{Outcome, Service, Stage};
 use crate::site::{Halt, Site};
 use crate::unit::Unit;
 use crq_session::SendAnswer;
+use srp_iu::bytes_spell_one;
 use vio_num::{Entry, Grant, Lapse, NoMemory};
 
 /// Puts an entry of the initialisation, or the answer to a datagram. It is kept where the client's queue is full,
@@ -122,6 +123,7 @@ fn end_login(
     ensures stage { unit.new.service.stage ≡ Stage.Start }
     ensures moved { unit.new.moved ≡ unit.old.moved }
 {
+    bytes_spell_one();
     leave_row(unit, records);
     unit.pending.clear();
     unit.waiting = None;
@@ -139,19 +141,31 @@ fn end_login(
 
 // Leaves the row in service, if there is one, with the data-in that were copied so far and without an answer.
 fn leave_row(unit: &mut Unit, records: &mut Records)
-    ensures row { LeavesRow unit.old.service.stage records.old.history.items
-        records.new.history.items }
+    ensures row { LeavesRow unit.old.service.stage unit.old.service.given.items
+        records.old.history.items records.new.history.items }
     ensures grants { records.new.grants ≡ records.old.grants }
     ensures logins { unit.new.logins ≡ unit.old.logins }
     ensures id { unit.new.id ≡ unit.old.id }
     ensures stage { unit.new.service.stage ≡ Stage.Start }
     ensures moved { unit.new.moved ≡ unit.old.moved }
 {
-    if let Stage::DataIn { row, cursor, .. } = unit.service.stage {
-        let inn = unit.service.take_given(cursor.done());
-        records.fill(row, inn);
-    }
+    cut_data(&mut unit.service, records);
     unit.service.reset();
+}
+
+// Leaves the row in service, if there is one, those of its data-in that were copied.
+fn cut_data(service: &mut Service, records: &mut Records)
+    ensures row { LeavesRow service.old.stage service.old.given.items
+        records.old.history.items records.new.history.items }
+    ensures grants { records.new.grants ≡ records.old.grants }
+{
+    match service.stage {
+        Stage::Given { row, .. } => records.fill(row, service.take_given(0)),
+        Stage::DataIn { row, cursor, .. } => {
+            records.fill(row, service.take_given(cursor.done()));
+        }
+        _ => {}
+    }
 }
 
 /// Serves an I_LOGOUT: the login ends.

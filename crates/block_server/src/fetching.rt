@@ -1,6 +1,7 @@
 // What a command brings: the tables of its descriptors, and its data-out.
 ghost use Rattle.std.specs.Prelude.{◌≡◌, ◌%◌, ◌≤◌, true};
 ghost use Rattle.block_server.specs.Advances.{Advances};
+ghost use Rattle.block_server.specs.Fetched.{Gathers, IfDone, IsNamed, IsRead};
 ghost use Rattle.block_server.specs.Stage.{is_before_step};
 
 use crate::answers::total_len;
@@ -9,7 +10,8 @@ use crate::data_pieces::DataPieces;
 use crate::service::{Service, Stage};
 use crate::site::{Halt, Site};
 use srp_desc::{
-    MAX_TABLE_LEN, Pieces, named_pieces_sum_up, pieces_of, read_table, tables_to_fetch,
+    MAX_TABLE_LEN, Pieces, fetched_table_is_read, named_pieces_sum_up, pieces_of, read_table,
+    tables_to_fetch,
 };
 use srp_iu::{Buffer, Cmd, Desc};
 use vio_num::NoMemory;
@@ -33,6 +35,10 @@ pub(crate) fn fetch<S: Site>(
 ) -> Result<Progress, NoMemory>
     ensures before { is_before_step service.old.stage ≡ true →
         is_before_step service.new.stage ≡ true }
+    ensures named { Gathers command.now service.old.stage
+        service.old.out.list.items service.old.inn.list.items →
+        Gathers command.now service.new.stage
+        service.new.out.list.items service.new.inn.list.items }
     ensures queue { (S.state site.new).queue ≡ (S.state site.old).queue }
     ensures advances { Advances (S.state site.old) (S.state site.new) }
 {
@@ -61,6 +67,10 @@ fn fetch_out_pieces<S: Site>(
 ) -> Result<Progress, NoMemory>
     ensures before { is_before_step service.old.stage ≡ true →
         is_before_step service.new.stage ≡ true }
+    ensures named { Gathers command.now service.old.stage
+        service.old.out.list.items service.old.inn.list.items →
+        Gathers command.now service.new.stage
+        service.new.out.list.items service.new.inn.list.items }
     ensures queue { (S.state site.new).queue ≡ (S.state site.old).queue }
     ensures advances { Advances (S.state site.old) (S.state site.new) }
 {
@@ -82,6 +92,10 @@ fn fetch_in_pieces<S: Site>(
 ) -> Result<Progress, NoMemory>
     ensures before { is_before_step service.old.stage ≡ true →
         is_before_step service.new.stage ≡ true }
+    ensures named { Gathers command.now service.old.stage
+        service.old.out.list.items service.old.inn.list.items →
+        Gathers command.now service.new.stage
+        service.new.out.list.items service.new.inn.list.items }
     ensures queue { (S.state site.new).queue ≡ (S.state site.old).queue }
     ensures advances { Advances (S.state site.old) (S.state site.new) }
 {
@@ -99,6 +113,10 @@ fn fetch_in_pieces<S: Site>(
 fn fetch_data_out<S: Site>(service: &mut Service, site: &mut S) -> Result<Progress, NoMemory>
     ensures before { is_before_step service.old.stage ≡ true →
         is_before_step service.new.stage ≡ true }
+    ensures named { (command : Cmd) → Gathers command service.old.stage
+        service.old.out.list.items service.old.inn.list.items →
+        Gathers command service.new.stage
+        service.new.out.list.items service.new.inn.list.items }
     ensures queue { (S.state site.new).queue ≡ (S.state site.old).queue }
     ensures advances { Advances (S.state site.old) (S.state site.new) }
 {
@@ -114,6 +132,7 @@ fn fetch_pieces<S: Site>(
     site: &mut S,
     buffer: &Buffer,
 ) -> Result<Progress, NoMemory>
+    ensures named { IfDone result (IsNamed buffer.now pieces.new.list.items) }
     ensures queue { (S.state site.new).queue ≡ (S.state site.old).queue }
     ensures advances { Advances (S.state site.old) (S.state site.new) }
 {
@@ -123,7 +142,10 @@ fn fetch_pieces<S: Site>(
             *pieces = DataPieces::new(list, total_len(buffer));
             Ok(Progress::Done)
         }
-        Ok(Pieces::Fetch { table, total }) => fetch_table(pieces, site, table, total),
+        Ok(Pieces::Fetch { table, total }) => {
+            fetched_table_is_read();
+            fetch_table(pieces, site, table, total)
+        }
         Err(_) => Ok(Progress::Refused),
     }
 }
@@ -139,6 +161,7 @@ fn fetch_table<S: Site>(
     requires few { table.len ≤ MAX_TABLE_LEN }
     requires evenly { table.len % 16 ≡ 0 }
     requires small { total ≤ 131072 }
+    ensures read { IfDone result (IsRead table.len total pieces.new.list.items) }
     ensures queue { (S.state site.new).queue ≡ (S.state site.old).queue }
     ensures advances { Advances (S.state site.old) (S.state site.new) }
 {
@@ -165,8 +188,10 @@ fn fetch_data<S: Site>(
     site: &mut S,
     start: Cursor,
 ) -> Result<Progress, NoMemory>
-    ensures before { is_before_step service.old.stage ≡ true →
-        is_before_step service.new.stage ≡ true }
+    requires stage { service.old.stage ≡ Stage.DataOut start }
+    ensures stage { (cursor : Cursor) × (service.new.stage ≡ Stage.DataOut cursor) }
+    ensures out { service.new.out ≡ service.old.out }
+    ensures inn { service.new.inn ≡ service.old.inn }
     ensures queue { (S.state site.new).queue ≡ (S.state site.old).queue }
     ensures advances { Advances (S.state site.old) (S.state site.new) }
 {

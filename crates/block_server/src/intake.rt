@@ -7,7 +7,9 @@ ghost use Rattle.block_server.specs.Turns.{IfQuiet, StaysMoved, under_way};
 ghost use Rattle.block_server.specs.Serving.{AnswersOnce, AsNone, desk_of};
 ghost use Rattle.block_server.specs.Verdicts.{IsTagged};
 ghost use Rattle.crq_session.specs.EndState.{EndState};
+ghost use Rattle.srp_iu.specs.Grammar.{Spells};
 ghost use Rattle.srp_iu.specs.Layout.{field};
+ghost use Rattle.block_server.specs.Orders.{IsOrder};
 
 use crate::answering::{end_counted, end_session, lose_partner, put_reply};
 use crate::answers::datagram_answer;
@@ -20,7 +22,7 @@ use crate::unit::Unit;
 use arrayvec::ArrayVec;
 use crq_session::PollAnswer;
 use srp_credits::CreditFault;
-use srp_iu::{Iu, read_iu, tag_of};
+use srp_iu::{Iu, read_iu, spelled_bytes_are_read, tag_of};
 use vio_num::{Kind, Lapse, NoMemory};
 
 /// As many requests as a unit has pending.
@@ -301,7 +303,10 @@ fn judge_unit(logins: &mut Logins, bytes: &[u8]) -> Verdict
         Ok(Iu::TskMgmt(task)) => accept(logins, task.tag, Order::Task(task)),
         Ok(Iu::Cmd(command)) => accept(logins, command.tag, Order::Command(command)),
         Ok(_) => Verdict::Ignored,
-        Err(_) => unreadable(logins, bytes),
+        Err(_) => {
+            spelled_bytes_are_read();
+            unreadable(logins, bytes)
+        }
     }
 }
 
@@ -318,7 +323,8 @@ fn fatal(cause: Lapse) -> Verdict
 
 // Accepts a command or a task under the login that is on.
 fn accept(logins: &mut Logins, tag: u64, order: Order) -> Verdict
-    ensures { (bytes : List ℕ) → tag ≡ field 8 8 bytes → IsTagged result bytes }
+    ensures { (bytes : List ℕ) → tag ≡ field 8 8 bytes → IsOrder order bytes →
+        IsTagged result bytes }
 {
     let Some(login) = logins.taking() else {
         return fatal(Lapse::NotLogin);
@@ -341,6 +347,7 @@ fn accept(logins: &mut Logins, tag: u64, order: Order) -> Verdict
 
 // Judges bytes that are no information unit: under a login a command or a task that has a tag is accepted.
 fn unreadable(logins: &mut Logins, bytes: &[u8]) -> Verdict
+    requires { (iu : Iu) → ¬ Spells bytes.now iu }
     ensures { IsTagged result bytes.now }
 {
     let Some(tag) = tag_of(bytes) else {

@@ -83,6 +83,16 @@ impl Records {
         Ok(vec![in self.alloc; 0; len as usize]?)
     }
 
+    /// Room for so many bytes.
+    pub(crate) fn room(&self, len: u32) -> Result<Vec<u8>, NoMemory>
+        ensures none { IfOk result (λ room. room.items ≡ []) }
+        ensures room { IfOk result (λ room. len ≤ vec_capacity room) }
+    {
+        let mut room = Vec::new(self.alloc);
+        room.reserve(len as usize)?;
+        Ok(room)
+    }
+
     /// Gives a row its data-in.
     pub(crate) fn fill(&mut self, row: usize, inn: Bytes)
         ensures row { FillsRow self.old.history.items self.new.history.items row inn }
@@ -114,5 +124,18 @@ impl Records {
             grants,
         } = self;
         (history, grants)
+    }
+}
+
+/// These bytes in an empty list that has room for them.
+pub(crate) fn filled(room: Vec<u8>, bytes: &[u8]) -> Bytes
+    requires none { room.items ≡ [] }
+    requires room { length bytes.now ≤ vec_capacity room }
+    ensures { result ≡ bytes.now }
+{
+    let mut list = room;
+    match list.extend_from_slice(bytes) {
+        Ok(()) => Bytes::from(list),
+        Err(_) => unreachable!(),
     }
 }

@@ -2,6 +2,7 @@
 // still to be served.
 ghost use Rattle.std.specs.Prelude.{◌≡◌};
 ghost use Rattle.srp_iu.specs.Layout.{field};
+ghost use Rattle.block_server.specs.Orders.{IsOrder, IsOrder-prop};
 
 use arrayvec::ArrayVec;
 use srp_iu::{Cmd, LoginReq, TskMgmt};
@@ -45,4 +46,5 @@ pub(crate) struct Request {
     pub(crate) unit: ArrayVec<u8, 256>,
     pub(crate) order: Order,
     ghost tagged: { tag ≡ field 8 8 unit.items },
+    ghost spelled: { IsOrder order unit.items } by { IsOrder-prop order unit.items },
 }

@@ -1,6 +1,7 @@
 // A server: its units, the disk that they serve, and what they keep for good.
-ghost use Rattle.std.specs.Prelude.{◌≡◌, ◌<◌, ◌≤◌, [], false, IfErr, IfOk, vec_len};
+ghost use Rattle.std.specs.Prelude.{◌≡◌, ◌<◌, ◌≤◌, ℕ, List, [], false, IfErr, IfOk, IfSome, IsSome, vec_len};
 ghost use Rattle.block_server.specs.Advances.{CopiesMore, Goes, KeepsFreed};
+ghost use Rattle.block_server.specs.DiskLaw.{KeepsDisk};
 ghost use Rattle.block_server.specs.Turns.{IsStill, way_of};
 ghost use Rattle.block_server.specs.SiteState.{AreReady};
 ghost use Rattle.block_server.specs.Units.{AnswersItsRows, AreServing, ServesItsRows};
@@ -26,7 +27,7 @@ pub struct Server<B: Blocks> {
     units: Vec<Unit>,
     records: Records,
     copies: Vec<CopyRecord>,
-    ghost serving: { ∥ AreServing partition units.items records.history.items ∥₁ },
+    ghost serving: { ∥ AreServing disk.count partition units.items records.history.items ∥₁ },
 }
 
 /// What a server leaves.
@@ -99,6 +100,11 @@ impl<B: Blocks> Server<B> {
             (C.state crq.old) (C.state crq.new) self.old.records self.new.records ∥₁ }
         ensures others { ∥ ServesItsRows (O.state own.old).place.unit
             self.old.records self.new.records ∥₁ }
+        ensures disk { ∥ KeepsDisk
+            self.old.records.history.items self.new.records.history.items
+            (B.state self.old.disk.image).blocks (B.state self.new.disk.image).blocks ∥₁ }
+        ensures tells { IfSome (B.state self.old.disk.image).blocks
+            (λ _. IsSome (B.state self.new.disk.image).blocks) }
         ensures quiet { IfOk result (λ moved. moved ≡ Moved.Quiet →
             IsStill (C.state crq.old) (C.state crq.new)) }
         ensures way { IfOk result (λ moved. moved ≡ Moved.Quiet →
@@ -165,7 +171,8 @@ fn make_units(alloc: Global, partition: u8, grant: u8, count: u8) -> Result<Vec<
     requires some { 1 ≤ grant }
     requires few { grant ≤ 200 }
     ensures units { IfOk result (λ units. vec_len units ≡ count) }
-    ensures serving { IfOk result (λ units. AreServing partition units.items []) }
+    ensures serving { IfOk result (λ units. (blocks : ℕ) →
+        (rows : List Served) → AreServing blocks partition units.items rows) }
 {
     let mut units = Vec::new(alloc);
     for unit in 0..count {

@@ -129,6 +129,7 @@ impl Service {
         ensures stage { OnOk result (self.new.stage ≡ Stage.Answer outcome) }
         ensures answer { OnOk result (self.new.answer.items ≡ unit.now) }
         ensures err { OnErr result (self.new.stage ≡ self.old.stage) }
+        ensures same { OnErr result (self.new.answer.items ≡ self.old.answer.items) }
         ensures out { self.new.out ≡ self.old.out }
         ensures inn { self.new.inn ≡ self.old.inn }
         ensures given { self.new.given ≡ self.old.given }

@@ -1,27 +1,31 @@
 // The service of the oldest request: what it asks is done, and then it is answered.
-ghost use Rattle.std.specs.Prelude.{◌≡◌, ◌∷◌, ◌<◌, List, Some, None, OnOk, false, true, length};
+ghost use Rattle.std.specs.Prelude.{◌≡◌, ◌∷◌, ◌<◌, ◌≤◌, List, Some, None, IfOk, OnOk, false, true, length};
 ghost use Rattle.block_server.specs.Advances.{Advances};
 ghost use Rattle.block_server.specs.Ends.{IsGrantable};
+ghost use Rattle.block_server.specs.Orders.{IsCodeOf};
 ghost use Rattle.block_server.specs.Records.{AddsRow};
-ghost use Rattle.block_server.specs.Serving.{AnswersOnce, desk_at, desk_of};
+ghost use Rattle.block_server.specs.Serving.{AnswersOnce, AnswersOnceOn, desk_at, desk_of, held};
 ghost use Rattle.block_server.specs.Entries.{is_response_len};
 ghost use Rattle.block_server.specs.Stage.{how_far, is_answered};
 ghost use Rattle.crq_session.specs.EndState.{EndState};
 ghost use Rattle.block_server.specs.Turns.{IfQuiet, under_way};
 
 use crate::answering::{answer, log_out};
-use crate::answers::{login_granted, login_rejected, task_code, with_code, with_status};
+use crate::answers::{login_granted, login_rejected, task_code, total_len, with_code, with_status};
 use crate::cursor::Cursor;
 use crate::disk::Disk;
 use crate::fetching::{Progress, fetch};
 use crate::logins::Logins;
-use crate::records::Records;
+use crate::records::{Records, filled};
 use crate::request::{Order, Request};
 use crate::service::{Outcome, Service, Stage};
 use crate::site::{Halt, Site};
 use crate::unit::Unit;
 use block_disk::ScsiReply;
-use srp_iu::{Cmd, LoginReq, ResponseCode, UNABLE_TO_ESTABLISH_CHANNEL, login_fault};
+use srp_desc::named_pieces_sum_up;
+use srp_iu::{
+    Cmd, LoginReq, ResponseCode, UNABLE_TO_ESTABLISH_CHANNEL, bytes_spell_one, login_fault,
+};
 use vio_io::Blocks;
 use vio_num::{Bytes, NoMemory, UnitId};
 
@@ -33,7 +37,10 @@ pub(crate) fn serve<S: Site, B: Blocks>(
     disk: &mut Disk<B>,
 ) -> Result<(), NoMemory>
     requires none { unit.old.line.kept ≡ None }
-    ensures once { AnswersOnce (desk_of unit.old) (desk_of unit.new)
+    ensures once { AnswersOnceOn
+        (held disk.old.count (B.state disk.old.image).blocks)
+        (held disk.new.count (B.state disk.new.image).blocks)
+        (desk_of unit.old) (desk_of unit.new)
         (S.state site.old).queue (S.state site.new).queue records.old records.new }
     ensures quiet { OnOk result (IfQuiet unit.old unit.new
         (S.state site.old).queue (S.state site.new).queue) }
@@ -85,7 +92,9 @@ fn prepare<S: Site, B: Blocks>(
     records: &mut Records,
     disk: &mut Disk<B>,
 ) -> Result<(), NoMemory>
-    ensures once { (rest : List Request) → AnswersOnce
+    ensures once { (rest : List Request) → AnswersOnceOn
+        (held disk.old.count (B.state disk.old.image).blocks)
+        (held disk.new.count (B.state disk.new.image).blocks)
         (desk_at id service.old None (request.now ∷ rest))
         (desk_at id service.new None (request.now ∷ rest))
         (S.state site.old).queue (S.state site.new).queue records.old records.new }
@@ -165,6 +174,7 @@ fn add_code(
     request: &Request,
     code: ResponseCode,
 ) -> Result<(), NoMemory>
+    requires code { IsCodeOf request.now.order code }
     ensures once { (rest : List Request) → (q : EndState) → AnswersOnce
         (desk_at id service.old None (request.now ∷ rest))
         (desk_at id service.new None (request.now ∷ rest)) q q records.old records.new }
@@ -189,7 +199,10 @@ fn serve_command<S: Site, B: Blocks>(
     records: &mut Records,
     disk: &mut Disk<B>,
 ) -> Result<(), NoMemory>
-    ensures once { (rest : List Request) → AnswersOnce
+    requires asked { request.now.order ≡ Order.Command command.now }
+    ensures once { (rest : List Request) → AnswersOnceOn
+        (held disk.old.count (B.state disk.old.image).blocks)
+        (held disk.new.count (B.state disk.new.image).blocks)
         (desk_at id service.old None (request.now ∷ rest))
         (desk_at id service.new None (request.now ∷ rest))
         (S.state site.old).queue (S.state site.new).queue records.old records.new }
@@ -198,7 +211,7 @@ fn serve_command<S: Site, B: Blocks>(
 {
     run_step(service, id, request, command, site, records, disk)?;
     store(service, request, site)?;
-    hand_over(service, request, site, records)
+    hand_over(service, request, command, site, records)
 }
 
 // Brings the command to its disk step and makes that, if that is to be done, or refuses it.
@@ -211,7 +224,10 @@ fn run_step<S: Site, B: Blocks>(
     records: &mut Records,
     disk: &mut Disk<B>,
 ) -> Result<(), NoMemory>
-    ensures once { (rest : List Request) → AnswersOnce
+    requires asked { request.now.order ≡ Order.Command command.now }
+    ensures once { (rest : List Request) → AnswersOnceOn
+        (held disk.old.count (B.state disk.old.image).blocks)
+        (held disk.new.count (B.state disk.new.image).blocks)
         (desk_at id service.old None (request.now ∷ rest))
         (desk_at id service.new None (request.now ∷ rest))
         (S.state site.old).queue (S.state site.new).queue records.old records.new }
@@ -259,9 +275,11 @@ fn store<S: Site>(service: &mut Service, request: &Request, site: &mut S) -> Res
 fn hand_over<S: Site>(
     service: &mut Service,
     request: &Request,
+    command: &Cmd,
     site: &mut S,
     records: &mut Records,
 ) -> Result<(), NoMemory>
+    requires asked { request.now.order ≡ Order.Command command.now }
     ensures once { (id : UnitId) → (rest : List Request) → AnswersOnce
         (desk_at id service.old None (request.now ∷ rest))
         (desk_at id service.new None (request.now ∷ rest))
@@ -273,7 +291,7 @@ fn hand_over<S: Site>(
         return Ok(());
     };
     let progress = deliver_data(service, site, request.tag, row, reply, cursor)?;
-    end_command(service, records, request, progress)
+    end_command(service, records, request, command, progress)
 }
 
 // Makes the disk step, and gives the command its row.
@@ -286,25 +304,47 @@ fn make_step<S: Site, B: Blocks>(
     records: &mut Records,
     disk: &mut Disk<B>,
 ) -> Result<(), NoMemory>
-    ensures once { (rest : List Request) → AnswersOnce
+    requires asked { request.now.order ≡ Order.Command command.now }
+    ensures once { (rest : List Request) → AnswersOnceOn
+        (held disk.old.count (B.state disk.old.image).blocks)
+        (held disk.new.count (B.state disk.new.image).blocks)
         (desk_at id service.old None (request.now ∷ rest))
         (desk_at id service.new None (request.now ∷ rest))
         (S.state site.old).queue (S.state site.new).queue records.old records.new }
     ensures queue { (S.state site.new).queue ≡ (S.state site.old).queue }
     ensures advances { Advances (S.state site.old) (S.state site.new) }
 {
+    let Stage::DataOut(_) = service.stage else {
+        return Ok(());
+    };
     let expected = service.inn.total();
     let mut row = records.new_row(id, site.session(), request)?;
-    let mut out = records.zeros(service.out.total())?;
+    let out = records.zeros(service.out.total())?;
+    let room = records.room(expected)?;
     service.make_room(expected)?;
-    site.read_data(&mut out);
+    named_pieces_sum_up();
+    let out = read_out(site, out);
     let reply = disk.execute(command.lun, &command.cdb, &out);
-    service.keep(disk.given(reply.in_len.min(expected) as usize));
+    let given = disk.given(reply.in_len.min(expected) as usize);
+    service.keep(given);
+    row.inn = filled(room, given);
     row.out = Bytes::from(out);
     row.fault = reply.fault;
     let row = records.add_row(row);
     service.stage = Stage::Given { row, reply };
     Ok(())
+}
+
+// Reads the data-out that were copied, as many bytes as there is room for.
+fn read_out<S: Site>(site: &mut S, room: Vec<u8>) -> Vec<u8>
+    requires { length room.items ≤ 131072 }
+    ensures len { length result.items ≡ length room.items }
+    ensures queue { (S.state site.new).queue ≡ (S.state site.old).queue }
+    ensures advances { Advances (S.state site.old) (S.state site.new) }
+{
+    let mut out = room;
+    site.read_data(&mut out);
+    out
 }
 
 // Copies the data-in that are left from a place on to the client.
@@ -319,6 +359,9 @@ fn deliver_data<S: Site>(
     requires stage { service.old.stage ≡ Stage.DataIn row reply start }
     ensures stage { (cursor : Cursor) × (service.new.stage ≡ Stage.DataIn row reply cursor) }
     ensures answer { service.new.answer.items ≡ service.old.answer.items }
+    ensures given { service.new.given.items ≡ service.old.given.items }
+    ensures refused { IfOk result (λ progress. progress ≡ Progress.Refused →
+        0 < length service.new.given.items) }
     ensures queue { (S.state site.new).queue ≡ (S.state site.old).queue }
     ensures advances { Advances (S.state site.old) (S.state site.new) }
 {
@@ -345,48 +388,51 @@ fn end_command(
     service: &mut Service,
     records: &mut Records,
     request: &Request,
+    command: &Cmd,
     progress: Progress,
 ) -> Result<(), NoMemory>
-    ensures once { (id : UnitId) → (pending : List Request) → (q : EndState) → AnswersOnce
-        (desk_at id service.old None pending) (desk_at id service.new None pending) q q
-        records.old records.new }
+    requires asked { request.now.order ≡ Order.Command command.now }
+    requires some { progress ≡ Progress.Refused → 0 < length service.old.given.items }
+    ensures once { (id : UnitId) → (rest : List Request) → (q : EndState) → AnswersOnce
+        (desk_at id service.old None (request.now ∷ rest))
+        (desk_at id service.new None (request.now ∷ rest)) q q records.old records.new }
 {
-    let Stage::DataIn { reply, .. } = service.stage else {
+    let Stage::DataIn { row, reply, .. } = service.stage else {
         return Ok(());
     };
     match progress {
         Progress::Busy => Ok(()),
-        Progress::Refused => answer_command(
-            service,
-            records,
-            &with_code(request.tag, ResponseCode::FieldsInvalid),
-        ),
+        Progress::Refused => refuse_data(service, records, request),
         Progress::Done => {
-            let (out, inn) = (service.out.total(), service.inn.total());
-            answer_command(
-                service,
-                records,
+            bytes_spell_one();
+            let (out, inn) = (total_len(&command.out), total_len(&command.inn));
+            service.set_answer(
                 &with_status(request.tag, &reply, out, inn),
+                Outcome::Served { row },
             )
         }
     }
 }
 
-// Keeps the answer to a command, and gives its row the data-in that were copied.
-fn answer_command(
+// Answers a command whose data-in the client's window refused, and leaves its row those that were copied.
+fn refuse_data(
     service: &mut Service,
     records: &mut Records,
-    answer: &[u8],
+    request: &Request,
 ) -> Result<(), NoMemory>
-    requires { is_response_len (length answer.now) ≡ true }
-    ensures once { (id : UnitId) → (pending : List Request) → (q : EndState) → AnswersOnce
-        (desk_at id service.old None pending) (desk_at id service.new None pending) q q
-        records.old records.new }
+    requires some { 0 < length service.old.given.items }
+    ensures once { (id : UnitId) → (rest : List Request) → (q : EndState) → AnswersOnce
+        (desk_at id service.old None (request.now ∷ rest))
+        (desk_at id service.new None (request.now ∷ rest)) q q records.old records.new }
 {
     let Stage::DataIn { row, cursor, .. } = service.stage else {
         return Ok(());
     };
-    service.set_answer(answer, Outcome::Served { row })?;
+    bytes_spell_one();
+    service.set_answer(
+        &with_code(request.tag, ResponseCode::FieldsInvalid),
+        Outcome::Served { row },
+    )?;
     let inn = service.take_given(cursor.done());
     records.fill(row, inn);
     Ok(())

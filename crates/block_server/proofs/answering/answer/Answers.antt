@@ -6,14 +6,14 @@ use Rattle.block_server.proofs.Quieting.{quiet_on, quiet_still, still_reserves}
 use Rattle.block_server.proofs.answering.answer.Goals as goal
 
 pub returns-in_err-make_room-clause-once : goal.returns-in_err-make_room-clause-once
-returns-in_err-make_room-clause-once g c = λ serving. once_same _ _ _ _ _ _ refl c.make_room.ensures.lists.history refl serving
+returns-in_err-make_room-clause-once g c = λ disk serving. once_same _ _ _ _ _ _ refl c.make_room.ensures.lists.history refl disk serving
 
 pub returns-in_err-make_room-2-clause-once : goal.returns-in_err-make_room-2-clause-once
-returns-in_err-make_room-2-clause-once g c = λ serving. once_same _ _ _ _ _ _ refl c.make_room.ensures.lists.history refl serving
+returns-in_err-make_room-2-clause-once g c = λ disk serving. once_same _ _ _ _ _ _ refl c.make_room.ensures.lists.history refl disk serving
 
 pub returns-in_err-reserve-clause-once : goal.returns-in_err-reserve-clause-once
-returns-in_err-reserve-clause-once g c = λ serving.
-    once_same _ _ _ _ _ _ refl c.make_room.ensures.lists.history (ap responses c.reserve.ensures.rest.sent) serving
+returns-in_err-reserve-clause-once g c = λ disk serving.
+    once_same _ _ _ _ _ _ refl c.make_room.ensures.lists.history (ap responses c.reserve.ensures.rest.sent) disk serving
 
 pub returns-in-Entry-clause-once : goal.returns-in-Entry-clause-once
 returns-in-Entry-clause-once g c =

@@ -3,7 +3,7 @@ use Rattle.block_server.proofs.Onces.{once_on, once_same}
 use Rattle.block_server.proofs.answering.copy_answer.Goals as goal
 
 pub returns-in_default-clause-once : goal.returns-in_default-clause-once
-returns-in_default-clause-once g c = λ serving. once_same _ _ _ _ _ _ refl refl refl serving
+returns-in_default-clause-once g c = λ disk serving. once_same _ _ _ _ _ _ refl refl refl disk serving
 
 pub returns-in-Refused-clause-once : goal.returns-in-Refused-clause-once
 returns-in-Refused-clause-once g c =

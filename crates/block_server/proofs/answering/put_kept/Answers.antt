@@ -8,33 +8,33 @@ use Rattle.block_server.specs.Serving.{SettlesRow}
 use Rattle.block_server.specs.Stage.{has_answer}
 use Rattle.block_server.specs.declared.line.Kept.TheVariants as keeps
 use Rattle.block_server.specs.declared.service.Stage.{Stage}
-use Rattle.block_server.proofs.Onces.{Still, once_cleared, once_same, once_settled, responses_plain}
-use Rattle.block_server.proofs.Serves.{none_sent, once_to}
+use Rattle.block_server.proofs.Onces.{once_cleared, once_same, once_settled, once_still, responses_plain}
+use Rattle.block_server.proofs.Serves.{none_sent}
 use Rattle.block_server.proofs.answering.put_kept.Goals as goal
 
 pub returns-in_default-clause-once : goal.returns-in_default-clause-once
-returns-in_default-clause-once g c = λ serving. once_same _ _ _ _ _ _ refl refl refl serving
+returns-in_default-clause-once g c = λ disk serving. once_same _ _ _ _ _ _ refl refl refl disk serving
 
 pub returns-in_err-make_room-clause-once : goal.returns-in_err-make_room-clause-once
-returns-in_err-make_room-clause-once g c = λ serving. once_same _ _ _ _ _ _ refl c.make_room.ensures.lists.history refl serving
+returns-in_err-make_room-clause-once g c = λ disk serving. once_same _ _ _ _ _ _ refl c.make_room.ensures.lists.history refl disk serving
 
 pub returns-in_err-make_room-2-clause-once : goal.returns-in_err-make_room-2-clause-once
-returns-in_err-make_room-2-clause-once g c = λ serving. once_same _ _ _ _ _ _ refl c.make_room.ensures.lists.history refl serving
+returns-in_err-make_room-2-clause-once g c = λ disk serving. once_same _ _ _ _ _ _ refl c.make_room.ensures.lists.history refl disk serving
 
 pub returns-in_err-reserve-clause-once : goal.returns-in_err-reserve-clause-once
-returns-in_err-reserve-clause-once g c = λ serving.
-    once_same _ _ _ _ _ _ refl c.make_room.ensures.lists.history (ap responses c.reserve.ensures.rest.sent) serving
+returns-in_err-reserve-clause-once g c = λ disk serving.
+    once_same _ _ _ _ _ _ refl c.make_room.ensures.lists.history (ap responses c.reserve.ensures.rest.sent) disk serving
 
 pub returns-in-Dropped-clause-once : goal.returns-in-Dropped-clause-once
-returns-in-Dropped-clause-once g c = λ serving.
-    once_same _ _ _ _ _ _ refl c.make_room.ensures.lists.history (ap responses (c.in-Dropped.ensures.dropped.sent ∙ c.reserve.ensures.rest.sent)) serving
+returns-in-Dropped-clause-once g c = λ disk serving.
+    once_same _ _ _ _ _ _ refl c.make_room.ensures.lists.history (ap responses (c.in-Dropped.ensures.dropped.sent ∙ c.reserve.ensures.rest.sent)) disk serving
 
 pub returns-in-Answer-clause-once : goal.returns-in-Answer-clause-once
-returns-in-Answer-clause-once g c = λ serving.
+returns-in-Answer-clause-once g c = λ disk serving.
     let is = serving.kept (keeps.Answer c.in-Answer.entry c.in-Answer.outcome) (c.in-Some.is ∙ ap Some c.in-Answer.is) in
     let answer = c.args.unit.now.service.answer.items in
     let put : PipeRow = record { session = (g.S.Site.state c.send.new.self).queue.counts.partner_session; entry = c.entry.result } in
-    once_settled _ _ _ _ _ _ put is.request is.rest serving c.settle.ensures.id c.settle.ensures.stage c.settle.ensures.kept is.front
+    once_settled _ _ _ _ _ _ put is.request is.rest disk serving c.settle.ensures.id c.settle.ensures.stage c.settle.ensures.kept is.front
     (c.entry.ensures ∙ ap kept_entry c.in-Answer.is ∙ is.entry_is)
     (c.in-Success.ensures.success.puts.sent ∙ ap (λ (rows : List PipeRow). rows ++ put ∷ []) c.reserve.ensures.rest.sent)
     c.in-Answer.outcome is.stage
@@ -42,20 +42,20 @@ returns-in-Answer-clause-once g c = λ serving.
     (subst (λ (rows : List Served). SettlesRow c.in-Answer.outcome answer rows c.settle.new.records.history.items) c.make_room.ensures.lists.history c.settle.ensures.row)
 
 pub returns-in_default-kept-clause-once : goal.returns-in_default-kept-clause-once
-returns-in_default-kept-clause-once g c = λ serving.
+returns-in_default-kept-clause-once g c = λ disk serving.
     let is = serving.kept (keeps.Reply c.in_default-kept.field-0) (c.in-Some.is ∙ ap Some c.in_default-kept.is) in
-    once_to _ _ _ _ _ _ _ _ refl refl refl refl (Still c.args.unit.now.service.stage) refl c.make_room.ensures.lists.history
+    once_still _ _ _ _ _ _ refl refl refl refl refl refl c.make_room.ensures.lists.history
     (responses_plain _ _ _ (ap is_response (c.entry.ensures ∙ ap kept_entry c.in_default-kept.is) ∙ is.no_response) c.in-Success.ensures.success.puts.sent
-    ∙ ap responses c.reserve.ensures.rest.sent) serving
+    ∙ ap responses c.reserve.ensures.rest.sent) disk serving
 
 pub returns-in-Answer-kept-clause-once : goal.returns-in-Answer-kept-clause-once
-returns-in-Answer-kept-clause-once g c = λ serving.
+returns-in-Answer-kept-clause-once g c = λ disk serving.
     once_cleared _ _ _ _ _ _ c.finish.ensures.id c.finish.ensures.stage c.finish.ensures.kept c.make_room.ensures.lists.history
     (none_sent _ _ _ _ c.in_default-send.not-Success c.in_default-send.not-Dropped c.send.ensures.closed c.send.ensures.refused
-    ∙ ap responses c.reserve.ensures.rest.sent)
+    ∙ ap responses c.reserve.ensures.rest.sent) disk
 
 pub returns-in_default-kept-2-clause-once : goal.returns-in_default-kept-2-clause-once
-returns-in_default-kept-2-clause-once g c = λ serving.
-    once_to _ _ _ _ _ _ _ _ refl refl refl refl (Still c.args.unit.now.service.stage) refl c.make_room.ensures.lists.history
+returns-in_default-kept-2-clause-once g c = λ disk serving.
+    once_still _ _ _ _ _ _ refl refl refl refl refl refl c.make_room.ensures.lists.history
     (none_sent _ _ _ _ c.in_default-send.not-Success c.in_default-send.not-Dropped c.send.ensures.closed c.send.ensures.refused
-    ∙ ap responses c.reserve.ensures.rest.sent) serving
+    ∙ ap responses c.reserve.ensures.rest.sent) disk serving

@@ -5,13 +5,13 @@ use Rattle.block_server.proofs.Serves.{none_sent}
 use Rattle.block_server.proofs.answering.put_reply.Goals as goal
 
 pub returns-in-Dropped-clause-once : goal.returns-in-Dropped-clause-once
-returns-in-Dropped-clause-once g c = λ records serving.
-    once_reply_kept _ _ _ _ _ c.args.reply refl refl refl refl c.requires.plain (ap responses c.in-Dropped.ensures.dropped.sent) serving
+returns-in-Dropped-clause-once g c = λ records disk serving.
+    once_reply_kept _ _ _ _ _ c.args.reply refl refl refl refl refl refl c.requires.plain (ap responses c.in-Dropped.ensures.dropped.sent) disk serving
 
 pub returns-in-Success-clause-once : goal.returns-in-Success-clause-once
-returns-in-Success-clause-once g c = λ records serving.
-    once_same _ _ _ _ _ _ refl refl (responses_plain _ _ _ c.requires.plain.no_response c.in-Success.ensures.success.puts.sent) serving
+returns-in-Success-clause-once g c = λ records disk serving.
+    once_same _ _ _ _ _ _ refl refl (responses_plain _ _ _ c.requires.plain.no_response c.in-Success.ensures.success.puts.sent) disk serving
 
 pub returns-in_default-clause-once : goal.returns-in_default-clause-once
-returns-in_default-clause-once g c = λ records serving.
-    once_same _ _ _ _ _ _ refl refl (none_sent _ _ _ _ c.in_default.not-Success c.in_default.not-Dropped c.send.ensures.closed c.send.ensures.refused) serving
+returns-in_default-clause-once g c = λ records disk serving.
+    once_same _ _ _ _ _ _ refl refl (none_sent _ _ _ _ c.in_default.not-Success c.in_default.not-Dropped c.send.ensures.closed c.send.ensures.refused) disk serving

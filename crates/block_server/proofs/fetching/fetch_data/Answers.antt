@@ -14,6 +14,8 @@ returns-in-Err-NoMemory-clause-advances g c = advances_on _ _ _ c.loop-part.inva
 pub loop-part-preserved : goal.loop-part-preserved
 loop-part-preserved g c = record {
   advances = advances_on _ _ _ c.loop-part.invariant.advances c.fetch_data.ensures.advances;
-  before = λ is. refl;
+  stage = refl;
+  out = c.loop-part.invariant.out;
+  inn = c.loop-part.invariant.inn;
   queue = c.fetch_data.ensures.queue ∙ c.loop-part.invariant.queue;
 }

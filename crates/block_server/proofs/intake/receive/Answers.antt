@@ -6,19 +6,19 @@ use Rattle.block_server.proofs.intake.receive.Goals as goal
 
 pub returns-in-Ok-clause-once : goal.returns-in-Ok-clause-once
 returns-in-Ok-clause-once g c =
-    once_on _ _ _ _ _ _ _ _ _ (λ serving. once_same _ _ _ _ _ _ refl refl (ap (λ (q : EndState). responses q.sent) c.fetch_unit.ensures.queue) serving)
+    once_on _ _ _ _ _ _ _ _ _ (λ disk serving. once_same _ _ _ _ _ _ refl refl (ap (λ (q : EndState). responses q.sent) c.fetch_unit.ensures.queue) disk serving)
     (c.judge.ensures.once (g.S.Site.state c.fetch_unit.new.self).queue)
 
 pub returns-in-Err-Refused-clause-once : goal.returns-in-Err-Refused-clause-once
 returns-in-Err-Refused-clause-once g c =
-    once_on _ _ _ _ _ _ _ _ _ (λ serving. once_same _ _ _ _ _ _ refl refl (ap (λ (q : EndState). responses q.sent) c.fetch_unit.ensures.queue) serving)
+    once_on _ _ _ _ _ _ _ _ _ (λ disk serving. once_same _ _ _ _ _ _ refl refl (ap (λ (q : EndState). responses q.sent) c.fetch_unit.ensures.queue) disk serving)
     (c.end_session-in-Err-Refused.ensures.once (g.S.Site.state c.fetch_unit.new.self).queue)
 
 pub returns-in-Err-Busy-clause-once : goal.returns-in-Err-Busy-clause-once
-returns-in-Err-Busy-clause-once g c = λ serving. once_same _ _ _ _ _ _ refl refl (ap (λ (q : EndState). responses q.sent) c.fetch_unit.ensures.queue) serving
+returns-in-Err-Busy-clause-once g c = λ disk serving. once_same _ _ _ _ _ _ refl refl (ap (λ (q : EndState). responses q.sent) c.fetch_unit.ensures.queue) disk serving
 
 pub returns-in-Err-NoMemory-clause-once : goal.returns-in-Err-NoMemory-clause-once
-returns-in-Err-NoMemory-clause-once g c = λ serving. once_same _ _ _ _ _ _ refl refl (ap (λ (q : EndState). responses q.sent) c.fetch_unit.ensures.queue) serving
+returns-in-Err-NoMemory-clause-once g c = λ disk serving. once_same _ _ _ _ _ _ refl refl (ap (λ (q : EndState). responses q.sent) c.fetch_unit.ensures.queue) disk serving
 
 pub returns-then-not-is_up-clause-once : goal.returns-then-not-is_up-clause-once
 returns-then-not-is_up-clause-once g c = c.end_session.ensures.once (g.S.Site.state c.args.site.now).queue

@@ -10,7 +10,7 @@ pub returns-in-2-clause-none : goal.returns-in-2-clause-none
 returns-in-2-clause-none g c = as_none_next c.put_reply.result _ _ c.requires.none c.put_reply.ensures.still
 
 pub returns-in_default-clause-once : goal.returns-in_default-clause-once
-returns-in_default-clause-once g c = λ serving. once_same _ _ _ _ _ _ refl refl refl serving
+returns-in_default-clause-once g c = λ disk serving. once_same _ _ _ _ _ _ refl refl refl disk serving
 
 pub returns-in-1-clause-once : goal.returns-in-1-clause-once
 returns-in-1-clause-once g c = c.receive.ensures.once

@@ -21,12 +21,12 @@ loop-taken-init g c = record {
 
 pub returns-in_err-make_room-clause-once : goal.returns-in_err-make_room-clause-once
 returns-in_err-make_room-clause-once g c =
-    once_on _ _ _ _ _ _ _ _ _ c.loop-taken.invariant.once (λ serving. once_same _ _ _ _ _ _ c.make_room.ensures.desk c.make_room.ensures.history refl serving)
+    once_on _ _ _ _ _ _ _ _ _ c.loop-taken.invariant.once (λ disk serving. once_same _ _ _ _ _ _ c.make_room.ensures.desk c.make_room.ensures.history refl disk serving)
 
 pub returns-in_err-next-2-clause-once : goal.returns-in_err-next-2-clause-once
 returns-in_err-next-2-clause-once g c =
     once_on _ _ _ _ _ _ _ _ _
-    (once_on _ _ _ _ _ _ _ _ _ c.loop-taken.invariant.once (λ serving. once_same _ _ _ _ _ _ c.make_room.ensures.desk c.make_room.ensures.history refl serving))
+    (once_on _ _ _ _ _ _ _ _ _ c.loop-taken.invariant.once (λ disk serving. once_same _ _ _ _ _ _ c.make_room.ensures.desk c.make_room.ensures.history refl disk serving))
     c.take_one.ensures.once
 
 pub returns-in_err-next-2-clause-advances : goal.returns-in_err-next-2-clause-advances
@@ -35,7 +35,7 @@ returns-in_err-next-2-clause-advances g c = advances_on _ _ _ c.loop-taken.invar
 pub returns-then-ne-2-clause-once : goal.returns-then-ne-2-clause-once
 returns-then-ne-2-clause-once g c =
     once_on _ _ _ _ _ _ _ _ _
-    (once_on _ _ _ _ _ _ _ _ _ c.loop-taken.invariant.once (λ serving. once_same _ _ _ _ _ _ c.make_room.ensures.desk c.make_room.ensures.history refl serving))
+    (once_on _ _ _ _ _ _ _ _ _ c.loop-taken.invariant.once (λ disk serving. once_same _ _ _ _ _ _ c.make_room.ensures.desk c.make_room.ensures.history refl disk serving))
     c.take_one.ensures.once
 
 pub returns-then-ne-2-clause-advances : goal.returns-then-ne-2-clause-advances
@@ -53,7 +53,7 @@ loop-taken-preserved g c = record {
       (quiet_on _ _ _ _ _ _ (quiet_way _ _ _ c.make_room.ensures.moved c.make_room.ensures.way) c.in_ok-next-2.ensures.quiet);
   none = entry_none c.in_ok-next-2.next _ c.in_ok-next-2.ensures.none (search rules);
   once = once_on _ _ _ _ _ _ _ _ _
-      (once_on _ _ _ _ _ _ _ _ _ c.loop-taken.invariant.once (λ serving. once_same _ _ _ _ _ _ c.make_room.ensures.desk c.make_room.ensures.history refl serving))
+      (once_on _ _ _ _ _ _ _ _ _ c.loop-taken.invariant.once (λ disk serving. once_same _ _ _ _ _ _ c.make_room.ensures.desk c.make_room.ensures.history refl disk serving))
       c.take_one.ensures.once;
 }
 

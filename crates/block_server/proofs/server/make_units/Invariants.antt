@@ -1,4 +1,5 @@
-use Rattle.std.proofs.Common.{◌≡◌, []}
+use Rattle.std.proofs.Common.{◌≡◌, ℕ, List}
+use Rattle.vio_num.specs.declared.history.Served.{Served}
 use Rattle.std.specs.Vec.{vec_len}
 use Rattle.block_server.specs.Units.{AreServing}
 use Rattle.block_server.proofs.server.make_units.Given as goal
@@ -6,5 +7,5 @@ use Rattle.block_server.proofs.server.make_units.Given as goal
 abbrev pub invariant-loop-unit : goal.invariant-loop-unit
 invariant-loop-unit l = record {
   count : vec_len l.units ≡ l.unit;
-  serving : AreServing l.partition l.units.items [];
+  serving : (blocks : ℕ) → (rows : List Served) → AreServing blocks l.partition l.units.items rows;
 }

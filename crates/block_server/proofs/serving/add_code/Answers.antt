@@ -1,22 +1,42 @@
-use Rattle.std.proofs.Common.{ap, refl, ◌≡◌, ◌∙◌, ℕ, length}
+use Rattle.std.proofs.Common.{ap, refl, rules, subst, sym, ◌≡◌, ◌∙◌, ◌++◌, ◌∷◌, [], ℕ, List, length}
+use Rattle.vio_num.specs.declared.history.Served.{Served as ServedRow}
+use Rattle.srp_iu.specs.Layout.{field}
+use Rattle.block_server.specs.Orders.{IsOrder}
+use Rattle.block_server.specs.Responses.{Answers, HasCode}
 use Rattle.block_server.specs.declared.service.Outcome.TheVariants.{Served}
 use Rattle.block_server.specs.declared.service.Stage.TheVariants.{Answer}
-use Rattle.block_server.proofs.Onces.{Still, once_same}
-use Rattle.block_server.proofs.Serves.{once_added, once_to}
+use Rattle.block_server.proofs.DiskRows.{code_row, may_code}
+use Rattle.block_server.proofs.Onces.{once_same, once_still, tells_same}
+use Rattle.block_server.proofs.Serves.{once_added, says_none, stays_pushed}
 use Rattle.block_server.proofs.serving.add_code.Goals as goal
 
 pub returns-in_err-blank-clause-once : goal.returns-in_err-blank-clause-once
-returns-in_err-blank-clause-once c = λ rest q serving. once_same _ _ _ _ _ _ refl c.new_row.ensures.lists.history refl serving
+returns-in_err-blank-clause-once c = λ rest q disk serving. once_same _ _ _ _ _ _ refl c.new_row.ensures.lists.history refl disk serving
 
 pub returns-in_err-set_answer-clause-once : goal.returns-in_err-set_answer-clause-once
-returns-in_err-set_answer-clause-once c = λ rest q serving.
-    once_to _ _ _ _ _ _ _ _ refl refl refl c.in_err-set_answer.ensures.err (Still c.args.service.now.stage) refl c.new_row.ensures.lists.history refl serving
+returns-in_err-set_answer-clause-once c = λ rest q disk serving.
+    once_still _ _ _ _ _ _ refl c.in_err-set_answer.ensures.err c.in_err-set_answer.ensures.same
+    (λ i. record { outs = (c.set_answer.ensures.out i).list.items; inns = (c.set_answer.ensures.inn i).list.items; given = (c.set_answer.ensures.given i).items })
+    refl refl c.new_row.ensures.lists.history refl disk serving
 
 pub returns-clause-once : goal.returns-clause-once
-returns-clause-once c = λ rest q serving.
+returns-clause-once c = λ rest q disk serving.
     let row = c.in_ok-blank.ensures.row in
+    let blank = c.in_ok-blank.blank in
+    let order = c.args.request.now.order in
+    let code = c.args.code in
     let place : c.len-row.result ≡ length c.args.records.now.history.items =
     c.len-row.ensures ∙ c.new_row.new.self.history.ok.0 ∙ ap length c.new_row.ensures.lists.history in
-    once_added _ _ _ _ _ _ _ c.args.request.now rest _ (Answer (Served (length c.args.records.now.history.items)))
+    let added = c.add_row.ensures.history ∙ ap (λ (list : List ServedRow). list ++ blank ∷ []) c.new_row.ensures.lists.history in
+    let spelled : IsOrder order blank.iu = subst (IsOrder order) (sym row.iu) c.args.request.now.spelled in
+    let tag : c.args.request.now.tag ≡ field 8 8 blank.iu = c.args.request.now.tagged ∙ ap (field 8 8) (sym row.iu) in
+    let bytes = c.set_answer.new.self.answer.items in
+    let same : c.deref.result.now ≡ c.with_code.result.items = search (rules, c.deref.ensures) in
+    let says : Answers bytes (HasCode (field 8 8 blank.iu) code) =
+    subst (λ (z : List ℕ × ℕ). Answers z.0 (HasCode z.1 code)) (λ i. ((sym (c.in_ok-set_answer.ensures.answer ∙ same)) i, tag i)) c.with_code.ensures.answer in
+    once_added disk disk _ _ _ _ _ _ c.args.request.now rest blank (Answer (Served (length c.args.records.now.history.items)))
     refl refl refl (c.in_ok-set_answer.ensures.stage ∙ ap (λ (n : ℕ). Answer (Served n)) place) (λ P is. is)
-    row.unit_is row.iu row.answer c.new_row.ensures.lists.history c.add_row.ensures.history refl
+    row.unit_is row.iu row.answer added refl refl tt
+    (may_code order code blank disk.count bytes spelled c.requires.code row.out row.inn row.fault says)
+    (stays_pushed disk _ _ blank added (λ b. code_row order code blank b spelled c.requires.code row.out row.inn row.fault (says_none blank.answer (HasCode (field 8 8 blank.iu) code) row.answer)))
+    (tells_same disk.now)

@@ -16,5 +16,6 @@ loop-part-preserved g c = record {
   advances = advances_on _ _ _ c.loop-part.invariant.advances c.deliver_data.ensures.advances;
   stage = refl;
   answer = c.loop-part.invariant.answer;
+  given = c.loop-part.invariant.given;
   queue = c.deliver_data.ensures.queue ∙ c.loop-part.invariant.queue;
 }

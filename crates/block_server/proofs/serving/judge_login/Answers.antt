@@ -4,10 +4,10 @@ use Rattle.block_server.proofs.Serves.{once_judged}
 use Rattle.block_server.proofs.serving.judge_login.Goals as goal
 
 pub returns-in-Some-clause-once : goal.returns-in-Some-clause-once
-returns-in-Some-clause-once c = λ id pending q records serving.
-    once_judged _ _ _ _ Rejected c.set_answer.result refl refl refl (λ P. tt) c.set_answer.ensures.stage c.set_answer.ensures.err serving
+returns-in-Some-clause-once c = λ id pending q records disk serving.
+    once_judged _ _ _ _ Rejected c.set_answer.result refl refl refl (λ P. tt) c.set_answer.ensures.stage c.set_answer.ensures.err c.set_answer.ensures.same (λ i. record { outs = (c.set_answer.ensures.out i).list.items; inns = (c.set_answer.ensures.inn i).list.items; given = (c.set_answer.ensures.given i).items }) disk serving
 
 pub returns-in-None-clause-once : goal.returns-in-None-clause-once
-returns-in-None-clause-once c = λ id pending q records serving.
+returns-in-None-clause-once c = λ id pending q records disk serving.
     once_judged _ _ _ _ (Granted c.args.number) c.set_answer-in-None.result refl refl refl (λ P. tt)
-    c.set_answer-in-None.ensures.stage c.set_answer-in-None.ensures.err serving
+    c.set_answer-in-None.ensures.stage c.set_answer-in-None.ensures.err c.set_answer-in-None.ensures.same (λ i. record { outs = (c.set_answer-in-None.ensures.out i).list.items; inns = (c.set_answer-in-None.ensures.inn i).list.items; given = (c.set_answer-in-None.ensures.given i).items }) disk serving

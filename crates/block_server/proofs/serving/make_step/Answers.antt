@@ -1,25 +1,80 @@
-use Rattle.std.proofs.Common.{ap, refl, ◌∙◌, ℕ, length}
+use Rattle.std.proofs.Common.{ap, refl, subst, sym, ◌≡◌, ◌∙◌, ◌++◌, ◌∷◌, [], ℕ, List, true, length, min, take, arith}
+use Rattle.vio_num.specs.declared.history.Served.{Served as ServedRow}
 use Rattle.crq_session.specs.EndState.{EndState}
 use Rattle.block_server.specs.Answering.{responses}
 use Rattle.block_server.specs.declared.service.Stage.TheVariants.{Given}
-use Rattle.block_server.proofs.Onces.{Still, once_same}
-use Rattle.block_server.proofs.Serves.{once_added, once_to}
+use Rattle.srp_iu.specs.declared.buffer.Desc.{Desc}
+use Rattle.block_disk.specs.Steps.{made_step}
+use Rattle.block_server.specs.Fetched.{Gathers, HasBoth, HasPieces}
+use Rattle.block_server.specs.Serving.{HasReply, held}
+use Rattle.block_server.specs.Stage.{is_before_step}
+use Rattle.block_server.specs.declared.data_pieces.DataPieces.{DataPieces}
+use Rattle.block_server.specs.declared.service.Stage.{Stage}
+use Rattle.block_server.proofs.Stepping.{IsNewRow, has_reply, new_row_serves, stays_stepped, tells_map}
+use Rattle.block_server.proofs.Onces.{once_same}
+use Rattle.block_server.proofs.Serves.{gathers_of, once_added, once_before}
 use Rattle.block_server.proofs.serving.make_step.Goals as goal
 
+pub returns-in_default-clause-once : goal.returns-in_default-clause-once
+returns-in_default-clause-once g c = λ rest serving. once_same _ _ _ _ _ _ refl refl refl _ serving
+
 pub returns-in_err-row-clause-once : goal.returns-in_err-row-clause-once
-returns-in_err-row-clause-once g c = λ rest serving. once_same _ _ _ _ _ _ refl c.new_row.ensures.lists.history refl serving
+returns-in_err-row-clause-once g c = λ rest serving. once_same _ _ _ _ _ _ refl c.new_row.ensures.lists.history refl _ serving
 
 pub returns-in_err-out-clause-once : goal.returns-in_err-out-clause-once
-returns-in_err-out-clause-once g c = λ rest serving. once_same _ _ _ _ _ _ refl c.new_row.ensures.lists.history refl serving
+returns-in_err-out-clause-once g c = λ rest serving. once_same _ _ _ _ _ _ refl c.new_row.ensures.lists.history refl _ serving
+
+pub returns-in_err-room-clause-once : goal.returns-in_err-room-clause-once
+returns-in_err-room-clause-once g c = λ rest serving. once_same _ _ _ _ _ _ refl c.new_row.ensures.lists.history refl _ serving
 
 pub returns-in_err-make_room-clause-once : goal.returns-in_err-make_room-clause-once
 returns-in_err-make_room-clause-once g c = λ rest serving.
-    once_to _ _ _ _ _ _ _ _ refl refl refl c.make_room.ensures.stage (Still c.args.service.now.stage) refl c.new_row.ensures.lists.history refl serving
+    let made = c.make_room.ensures in
+    once_before _ _ _ _ _ _ refl (ap is_before_step (made.stage ∙ c.in-DataOut.is)) refl
+    (subst (λ (z : Stage × DataPieces × DataPieces). HasPieces z.0 z.1.list.items z.2.list.items (c.args.request.now ∷ rest))
+    (λ i. ((sym made.stage) i, (sym made.out) i, (sym made.inn) i)) serving.fetched)
+    c.new_row.ensures.lists.history refl _
 
 pub returns-clause-once : goal.returns-clause-once
 returns-clause-once g c = λ rest serving.
-    let row = c.in_ok-row.ensures.row in
-    once_added _ _ _ _ _ _ _ c.args.request.now rest _ (Given (length c.args.records.now.history.items) c.execute-reply.result)
-    refl refl refl (ap (λ (n : ℕ). Given n c.execute-reply.result) (c.add_row-row.ensures.place ∙ ap length c.new_row.ensures.lists.history)) (λ P is. is)
-    row.unit_is row.iu row.answer c.new_row.ensures.lists.history c.add_row-row.ensures.history
-    (ap (λ (q : EndState). responses q.sent) c.read_data.ensures.queue)
+    let blank = c.in_ok-row.ensures.row in
+    let service = c.args.service.now in
+    let request = c.args.request.now in
+    let command = c.args.command.now in
+    let outs = service.out.list.items in
+    let inns = service.inn.list.items in
+    let reply = c.execute-reply.result in
+    let buffer = c.execute-reply.new.self.given.items in
+    let out = c.deref.result.now in
+    let given = c.given-given.result.now in
+    let both : HasBoth command outs inns =
+    subst (λ (stage : Stage). Gathers command stage outs inns) c.in-DataOut.is (gathers_of _ _ _ request rest command c.requires.asked serving.fetched) in
+    let size = c.args.disk.now.count in
+    let row : ServedRow = record c.in_ok-row.row { out = c.from.result; inn = c.filled.result; fault = reply.fault } in
+    let expected = c.named_pieces_sum_up.ensures.sum command.inn both.in_named.table inns both.in_named.named_is in
+    let kept : c.keep.new.self.given.items ≡ given = c.keep.ensures.given ∙ ap (λ (xs : List ℕ). xs ++ given) c.make_room.ensures.none in
+    let new : IsNewRow request command outs inns out given buffer size reply row = record {
+      order = c.requires.asked;
+      both = both;
+      all_out = ap length c.deref.ensures.value ∙ c.read_out-out.ensures.len ∙ c.in_ok-out.ensures ∙ c.total.ensures.total ∙ sym service.out.summed;
+      expected = expected;
+      given_is = c.given-given.ensures ∙ ap (λ (n : ℕ). take n buffer) (c.min.ensures ∙ ap (min reply.in_len) (c.total-expected.ensures.total ∙ sym service.inn.summed ∙ expected));
+      room = omega (arith, c.execute-reply.ensures.room, c.execute-reply.new.self.room);
+      reply_is = c.execute-reply.ensures.reply;
+      iu = blank.iu;
+      out_is = c.from.ensures ∙ sym c.deref.ensures.value;
+      inn_is = c.filled.ensures;
+      fault_is = refl;
+      blank = blank.answer;
+    } in
+    let added = c.add_row-row.ensures.history ∙ ap (λ (list : List ServedRow). list ++ row ∷ []) c.new_row.ensures.lists.history in
+    once_added (held size (g.B.Blocks.state c.args.disk.now.image).blocks) (held c.execute-reply.new.self.count (g.B.Blocks.state c.execute-reply.new.self.image).blocks) _ _ _ _ _ _ request rest row
+    (Given (length c.args.records.now.history.items) reply)
+    refl refl refl (ap (λ (n : ℕ). Given n reply) (c.add_row-row.ensures.place ∙ ap length c.new_row.ensures.lists.history)) (λ P is. is)
+    blank.unit_is blank.iu blank.answer added
+    (ap (λ (q : EndState). responses q.sent) c.read_out-out.ensures.queue)
+    c.execute-reply.ensures.count tt
+    (subst (λ (z : ℕ × List ℕ). HasReply z.0 request z.1 reply row) (λ i. ((sym c.execute-reply.ensures.count) i, (sym kept) i)) (has_reply request command outs inns out given buffer size reply row new))
+    (stays_stepped _ _ _ _ row (made_step command.lun command.cdb out reply buffer) _ c.execute-reply.ensures.count c.execute-reply.ensures.step c.execute-reply.ensures.image added
+    (new_row_serves request command outs inns out given buffer size reply row new))
+    (tells_map _ _ _ c.execute-reply.ensures.image)

@@ -6,16 +6,16 @@ pub returns-in-Command-clause-once : goal.returns-in-Command-clause-once
 returns-in-Command-clause-once g c = λ rest. c.serve_command.ensures.once rest
 
 pub returns-in-Login-clause-once : goal.returns-in-Login-clause-once
-returns-in-Login-clause-once g c = λ rest. c.judge_login.ensures.once c.args.id (c.args.request.now ∷ rest) (g.S.Site.state c.args.site.now).queue c.args.records.now
+returns-in-Login-clause-once g c = λ rest. c.judge_login.ensures.once c.args.id (c.args.request.now ∷ rest) (g.S.Site.state c.args.site.now).queue c.args.records.now _
 
 pub returns-in-Task-clause-once : goal.returns-in-Task-clause-once
-returns-in-Task-clause-once g c = λ rest. c.add_code.ensures.once rest (g.S.Site.state c.args.site.now).queue
+returns-in-Task-clause-once g c = λ rest. c.add_code.ensures.once rest (g.S.Site.state c.args.site.now).queue _
 
 pub returns-in-Unreadable-clause-once : goal.returns-in-Unreadable-clause-once
-returns-in-Unreadable-clause-once g c = λ rest. c.add_code-in-Unreadable.ensures.once rest (g.S.Site.state c.args.site.now).queue
+returns-in-Unreadable-clause-once g c = λ rest. c.add_code-in-Unreadable.ensures.once rest (g.S.Site.state c.args.site.now).queue _
 
 pub returns-in-Logout-clause-once : goal.returns-in-Logout-clause-once
-returns-in-Logout-clause-once g c = λ rest serving. once_same _ _ _ _ _ _ refl refl refl serving
+returns-in-Logout-clause-once g c = λ rest serving. once_same _ _ _ _ _ _ refl refl refl _ serving
 
 pub returns-in_default-clause-once : goal.returns-in_default-clause-once
-returns-in_default-clause-once g c = λ rest serving. once_same _ _ _ _ _ _ refl refl refl serving
+returns-in_default-clause-once g c = λ rest serving. once_same _ _ _ _ _ _ refl refl refl _ serving

@@ -3,35 +3,47 @@ use Rattle.crq_session.specs.EndState.{EndState}
 use Rattle.block_server.specs.Answering.{responses}
 use Rattle.block_server.specs.Stage.{is_before_step}
 use Rattle.block_server.proofs.Advancing.{advances_on}
-use Rattle.block_server.proofs.Onces.{once_on, once_same}
-use Rattle.block_server.proofs.Serves.{once_before}
+use Rattle.block_server.proofs.Onces.{once_on, once_same, once_then}
+use Rattle.block_server.proofs.Serves.{gathers_of, once_before, pieces_of}
 use Rattle.block_server.proofs.serving.run_step.Goals as goal
 
 pub returns-then-not-is_before_step-clause-once : goal.returns-then-not-is_before_step-clause-once
-returns-then-not-is_before_step-clause-once g c = λ rest serving. once_same _ _ _ _ _ _ refl refl refl serving
+returns-then-not-is_before_step-clause-once g c = λ rest serving. once_same _ _ _ _ _ _ refl refl refl _ serving
 
 pub returns-in_err-fetch-clause-once : goal.returns-in_err-fetch-clause-once
 returns-in_err-fetch-clause-once g c = λ rest serving.
     let before : is_before_step c.args.service.now.stage ≡ true = cc in
-    once_before _ _ _ _ _ refl (c.fetch.ensures.before before) refl (ap (λ (q : EndState). responses q.sent) c.fetch.ensures.queue)
+    once_before _ _ _ _ _ _ refl (c.fetch.ensures.before before) refl
+    (pieces_of _ _ _ c.args.request.now rest c.args.command.now c.requires.asked
+    (c.fetch.ensures.named (gathers_of _ _ _ c.args.request.now rest c.args.command.now c.requires.asked serving.fetched))) refl
+    (ap (λ (q : EndState). responses q.sent) c.fetch.ensures.queue) _
 
 pub returns-in-Busy-clause-once : goal.returns-in-Busy-clause-once
 returns-in-Busy-clause-once g c = λ rest serving.
     let before : is_before_step c.args.service.now.stage ≡ true = cc in
-    once_before _ _ _ _ _ refl (c.fetch.ensures.before before) refl (ap (λ (q : EndState). responses q.sent) c.fetch.ensures.queue)
+    once_before _ _ _ _ _ _ refl (c.fetch.ensures.before before) refl
+    (pieces_of _ _ _ c.args.request.now rest c.args.command.now c.requires.asked
+    (c.fetch.ensures.named (gathers_of _ _ _ c.args.request.now rest c.args.command.now c.requires.asked serving.fetched))) refl
+    (ap (λ (q : EndState). responses q.sent) c.fetch.ensures.queue) _
 
 pub returns-in-Refused-clause-once : goal.returns-in-Refused-clause-once
 returns-in-Refused-clause-once g c = λ rest.
     let before : is_before_step c.args.service.now.stage ≡ true = cc in
     once_on _ _ _ _ _ _ _ _ _
-    (λ serving. once_before _ _ _ _ _ refl (c.fetch.ensures.before before) refl (ap (λ (q : EndState). responses q.sent) c.fetch.ensures.queue))
-    (c.add_code.ensures.once rest (g.S.Site.state c.fetch.new.site).queue)
+    (λ disk serving. once_before _ _ _ _ _ _ refl (c.fetch.ensures.before before) refl
+    (pieces_of _ _ _ c.args.request.now rest c.args.command.now c.requires.asked
+    (c.fetch.ensures.named (gathers_of _ _ _ c.args.request.now rest c.args.command.now c.requires.asked serving.fetched))) refl
+    (ap (λ (q : EndState). responses q.sent) c.fetch.ensures.queue) disk)
+    (c.add_code.ensures.once rest (g.S.Site.state c.fetch.new.site).queue) _
 
 pub returns-in-Done-clause-once : goal.returns-in-Done-clause-once
 returns-in-Done-clause-once g c = λ rest.
     let before : is_before_step c.args.service.now.stage ≡ true = cc in
-    once_on _ _ _ _ _ _ _ _ _
-    (λ serving. once_before _ _ _ _ _ refl (c.fetch.ensures.before before) refl (ap (λ (q : EndState). responses q.sent) c.fetch.ensures.queue))
+    once_then _ _ _ _ _ _ _ _ _ _ _ _
+    (λ serving. once_before _ _ _ _ _ _ refl (c.fetch.ensures.before before) refl
+    (pieces_of _ _ _ c.args.request.now rest c.args.command.now c.requires.asked
+    (c.fetch.ensures.named (gathers_of _ _ _ c.args.request.now rest c.args.command.now c.requires.asked serving.fetched))) refl
+    (ap (λ (q : EndState). responses q.sent) c.fetch.ensures.queue) _)
     (c.make_step.ensures.once rest)
 
 pub returns-in-Done-clause-advances : goal.returns-in-Done-clause-advances

@@ -1,6 +1,6 @@
 use Rattle.std.proofs.Common.{◌∙◌}
 use Rattle.block_server.proofs.Advancing.{advances_on}
-use Rattle.block_server.proofs.Onces.{once_on}
+use Rattle.block_server.proofs.Onces.{once_then}
 use Rattle.block_server.proofs.serving.serve_command.Goals as goal
 
 pub returns-in_err-run_step-clause-once : goal.returns-in_err-run_step-clause-once
@@ -8,13 +8,13 @@ returns-in_err-run_step-clause-once g c = λ rest. c.run_step.ensures.once rest
 
 pub returns-in_err-store-clause-once : goal.returns-in_err-store-clause-once
 returns-in_err-store-clause-once g c = λ rest.
-    once_on _ _ _ _ _ _ _ _ _ (c.run_step.ensures.once rest) (c.store.ensures.once c.args.id rest c.run_step.new.records)
+    once_then _ _ _ _ _ _ _ _ _ _ _ _ (c.run_step.ensures.once rest) (c.store.ensures.once c.args.id rest c.run_step.new.records _)
 
 pub returns-clause-once : goal.returns-clause-once
 returns-clause-once g c = λ rest.
-    once_on _ _ _ _ _ _ _ _ _
-    (once_on _ _ _ _ _ _ _ _ _ (c.run_step.ensures.once rest) (c.store.ensures.once c.args.id rest c.run_step.new.records))
-    (c.hand_over.ensures.once c.args.id rest)
+    once_then _ _ _ _ _ _ _ _ _ _ _ _
+    (once_then _ _ _ _ _ _ _ _ _ _ _ _ (c.run_step.ensures.once rest) (c.store.ensures.once c.args.id rest c.run_step.new.records _))
+    (c.hand_over.ensures.once c.args.id rest _)
 
 pub returns-in_err-store-clause-advances : goal.returns-in_err-store-clause-advances
 returns-in_err-store-clause-advances g c = advances_on _ _ _ c.run_step.ensures.advances c.store.ensures.advances

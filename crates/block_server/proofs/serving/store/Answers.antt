@@ -1,18 +1,18 @@
 use Rattle.std.proofs.Common.{ap, refl}
 use Rattle.crq_session.specs.EndState.{EndState}
 use Rattle.block_server.specs.Answering.{responses}
-use Rattle.block_server.proofs.Onces.{Stored, once_same}
-use Rattle.block_server.proofs.Serves.{once_to}
+use Rattle.block_server.proofs.Onces.{once_same}
+use Rattle.block_server.proofs.Serves.{once_stored}
 use Rattle.block_server.proofs.serving.store.Goals as goal
 
 pub returns-in_err-write_data-clause-once : goal.returns-in_err-write_data-clause-once
-returns-in_err-write_data-clause-once g c = λ id rest records serving.
-    once_same _ _ _ _ _ _ refl refl (ap (λ (q : EndState). responses q.sent) c.write_data.ensures.queue) serving
+returns-in_err-write_data-clause-once g c = λ id rest records disk serving.
+    once_same _ _ _ _ _ _ refl refl (ap (λ (q : EndState). responses q.sent) c.write_data.ensures.queue) disk serving
 
 pub returns-in_ok-write_data-clause-once : goal.returns-in_ok-write_data-clause-once
-returns-in_ok-write_data-clause-once g c = λ id rest records serving.
-    once_to _ _ _ _ _ _ _ _ refl refl c.in-Given.is refl (Stored c.in-Given.row c.in-Given.reply c.start.result) refl refl
-    (ap (λ (q : EndState). responses q.sent) c.write_data.ensures.queue) serving
+returns-in_ok-write_data-clause-once g c = λ id rest records disk serving.
+    once_stored _ _ _ _ _ _ c.in-Given.row c.in-Given.reply c.start.result refl refl c.in-Given.is refl refl refl refl
+    (ap (λ (q : EndState). responses q.sent) c.write_data.ensures.queue) disk serving
 
 pub returns-in_default-clause-once : goal.returns-in_default-clause-once
-returns-in_default-clause-once g c = λ id rest records serving. once_same _ _ _ _ _ _ refl refl refl serving
+returns-in_default-clause-once g c = λ id rest records disk serving. once_same _ _ _ _ _ _ refl refl refl disk serving

@@ -3,4 +3,4 @@ use Rattle.block_server.proofs.Onces.{once_same}
 use Rattle.block_server.proofs.turning.free_closed.Goals as goal
 
 pub returns-then-not-unit-clause-once : goal.returns-then-not-unit-clause-once
-returns-then-not-unit-clause-once g c = λ records serving. once_same _ _ _ _ _ _ refl refl refl serving
+returns-then-not-unit-clause-once g c = λ records disk serving. once_same _ _ _ _ _ _ refl refl refl disk serving

@@ -6,16 +6,16 @@ use Rattle.block_server.proofs.Quieting.{quiet_on, quiet_still, still_reserves}
 use Rattle.block_server.proofs.turning.open_line.Goals as goal
 
 pub returns-in_err-reserve-clause-once : goal.returns-in_err-reserve-clause-once
-returns-in_err-reserve-clause-once g c = λ records serving. once_same _ _ _ _ _ _ refl refl (ap responses c.reserve.ensures.rest.sent) serving
+returns-in_err-reserve-clause-once g c = λ records disk serving. once_same _ _ _ _ _ _ refl refl (ap responses c.reserve.ensures.rest.sent) disk serving
 
 pub returns-then-eq-clause-once : goal.returns-then-eq-clause-once
 returns-then-eq-clause-once g c = λ records.
-    once_on _ _ _ _ _ _ _ _ _ (λ serving. once_same _ _ _ _ _ _ refl refl (ap responses c.reserve.ensures.rest.sent) serving) (c.push_event.ensures.once records)
+    once_on _ _ _ _ _ _ _ _ _ (λ disk serving. once_same _ _ _ _ _ _ refl refl (ap responses c.reserve.ensures.rest.sent) disk serving) (c.push_event.ensures.once records)
 
 pub returns-then-eq-2-clause-once : goal.returns-then-eq-2-clause-once
 returns-then-eq-2-clause-once g c = λ records.
     once_on _ _ _ _ _ _ _ _ _
-    (once_on _ _ _ _ _ _ _ _ _ (λ serving. once_same _ _ _ _ _ _ refl refl (ap responses c.reserve.ensures.rest.sent) serving) (c.push_event.ensures.once records))
+    (once_on _ _ _ _ _ _ _ _ _ (λ disk serving. once_same _ _ _ _ _ _ refl refl (ap responses c.reserve.ensures.rest.sent) disk serving) (c.push_event.ensures.once records))
     (c.free_closed.ensures.once records)
 
 pub returns-then-eq-2-clause-advances : goal.returns-then-eq-2-clause-advances
@@ -29,7 +29,7 @@ pub returns-then-is_down-clause-once : goal.returns-then-is_down-clause-once
 returns-then-is_down-clause-once g c = λ records.
     once_on _ _ _ _ _ _ _ _ _
     (once_on _ _ _ _ _ _ _ _ _
-    (once_on _ _ _ _ _ _ _ _ _ (λ serving. once_same _ _ _ _ _ _ refl refl (ap responses c.reserve.ensures.rest.sent) serving) (c.push_event.ensures.once records))
+    (once_on _ _ _ _ _ _ _ _ _ (λ disk serving. once_same _ _ _ _ _ _ refl refl (ap responses c.reserve.ensures.rest.sent) disk serving) (c.push_event.ensures.once records))
     (c.free_closed.ensures.once records)) (c.register.ensures.once records)
 
 pub returns-then-is_down-clause-advances : goal.returns-then-is_down-clause-advances
@@ -43,7 +43,7 @@ returns-then-is_down-clause-quiet g c =
 pub returns-clause-once : goal.returns-clause-once
 returns-clause-once g c = λ records.
     once_on _ _ _ _ _ _ _ _ _
-    (once_on _ _ _ _ _ _ _ _ _ (λ serving. once_same _ _ _ _ _ _ refl refl (ap responses c.reserve.ensures.rest.sent) serving) (c.push_event.ensures.once records))
+    (once_on _ _ _ _ _ _ _ _ _ (λ disk serving. once_same _ _ _ _ _ _ refl refl (ap responses c.reserve.ensures.rest.sent) disk serving) (c.push_event.ensures.once records))
     (c.free_closed.ensures.once records)
 
 pub returns-clause-advances : goal.returns-clause-advances

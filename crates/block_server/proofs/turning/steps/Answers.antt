@@ -1,32 +1,32 @@
 use Rattle.block_server.proofs.Advancing.{advances_on}
 use Rattle.block_server.proofs.Quieting.{on_ok, quiet_on}
-use Rattle.block_server.proofs.Onces.{once_on}
+use Rattle.block_server.proofs.Onces.{once_on, once_then}
 use Rattle.block_server.proofs.turning.steps.Goals as goal
 
 pub returns-in_err-open_line-clause-once : goal.returns-in_err-open_line-clause-once
-returns-in_err-open_line-clause-once g c = c.open_line.ensures.once c.args.records.now
+returns-in_err-open_line-clause-once g c = c.open_line.ensures.once c.args.records.now _
 
 pub returns-then-eq-clause-once : goal.returns-then-eq-clause-once
-returns-then-eq-clause-once g c = c.open_line.ensures.once c.args.records.now
+returns-then-eq-clause-once g c = c.open_line.ensures.once c.args.records.now _
 
 pub returns-in_err-put_kept-clause-once : goal.returns-in_err-put_kept-clause-once
-returns-in_err-put_kept-clause-once g c = once_on _ _ _ _ _ _ _ _ _ (c.open_line.ensures.once c.args.records.now) c.put_kept.ensures.once
+returns-in_err-put_kept-clause-once g c = once_on _ _ _ _ _ _ _ _ _ (c.open_line.ensures.once c.args.records.now) c.put_kept.ensures.once _
 
 pub returns-then-eq-2-clause-once : goal.returns-then-eq-2-clause-once
-returns-then-eq-2-clause-once g c = once_on _ _ _ _ _ _ _ _ _ (c.open_line.ensures.once c.args.records.now) c.put_kept.ensures.once
+returns-then-eq-2-clause-once g c = once_on _ _ _ _ _ _ _ _ _ (c.open_line.ensures.once c.args.records.now) c.put_kept.ensures.once _
 
 pub returns-in_err-take_in-clause-once : goal.returns-in_err-take_in-clause-once
 returns-in_err-take_in-clause-once g c =
-    once_on _ _ _ _ _ _ _ _ _ (once_on _ _ _ _ _ _ _ _ _ (c.open_line.ensures.once c.args.records.now) c.put_kept.ensures.once) c.take_in.ensures.once
+    once_on _ _ _ _ _ _ _ _ _ (once_on _ _ _ _ _ _ _ _ _ (c.open_line.ensures.once c.args.records.now) c.put_kept.ensures.once) c.take_in.ensures.once _
 
 pub returns-then-eq-3-clause-once : goal.returns-then-eq-3-clause-once
 returns-then-eq-3-clause-once g c =
-    once_on _ _ _ _ _ _ _ _ _ (once_on _ _ _ _ _ _ _ _ _ (c.open_line.ensures.once c.args.records.now) c.put_kept.ensures.once) c.take_in.ensures.once
+    once_on _ _ _ _ _ _ _ _ _ (once_on _ _ _ _ _ _ _ _ _ (c.open_line.ensures.once c.args.records.now) c.put_kept.ensures.once) c.take_in.ensures.once _
 
 pub returns-clause-once : goal.returns-clause-once
 returns-clause-once g c =
-    once_on _ _ _ _ _ _ _ _ _
-    (once_on _ _ _ _ _ _ _ _ _ (once_on _ _ _ _ _ _ _ _ _ (c.open_line.ensures.once c.args.records.now) c.put_kept.ensures.once) c.take_in.ensures.once)
+    once_then _ _ _ _ _ _ _ _ _ _ _ _
+    (once_on _ _ _ _ _ _ _ _ _ (once_on _ _ _ _ _ _ _ _ _ (c.open_line.ensures.once c.args.records.now) c.put_kept.ensures.once) c.take_in.ensures.once _)
     c.serve.ensures.once
 
 pub returns-in_err-put_kept-clause-advances : goal.returns-in_err-put_kept-clause-advances

@@ -1,0 +1,120 @@
+-- The disk step of a command gives a row that the disk law serves.
+use Rattle.std.proofs.Common.{◌≡◌, inl, ℕ, ◌≤◌, List, [], ◌∷◌, ◌++◌, Option, Some, None, IfSome, length, min, take, drop, refl, sym, ◌∙◌, ap, subst, arith, length-take}
+use Rattle.std.specs.Prelude.{IsSome, option_map}
+use Rattle.std.proofs.Math.Seq.{take-append_seam, drop-append_seam}
+use Rattle.std.proofs.lemmas.List.{take-take, take_all}
+use Rattle.vio_num.specs.declared.history.Served.{Served as ServedRow}
+use Rattle.srp_iu.specs.declared.buffer.Desc.{Desc}
+use Rattle.srp_iu.specs.declared.command.Cmd.{Cmd}
+use Rattle.srp_iu.specs.declared.unit.Iu.TheVariants as units
+use Rattle.srp_iu.specs.Grammar.{Spells}
+use Rattle.srp_desc.specs.Pieces.{named, pieces, sum_of, total_of}
+use Rattle.srp_desc.specs.Tables.{table_len}
+use Rattle.block_disk.specs.Disk.{reply_to}
+use Rattle.block_disk.specs.Steps.{DiskStep, IsStep, StepOn, blocks_after, made_step}
+use Rattle.block_disk.specs.declared.reply.ScsiReply.{ScsiReply}
+use Rattle.block_server.specs.DiskLaw.{HasData, IsStepped, Serve, ServesRow, handed_over, step_of}
+use Rattle.block_server.specs.Fetched.{HasBoth}
+use Rattle.block_server.specs.Orders.{IsOrder}
+use Rattle.block_server.specs.Serving.{HasReply, Held, ServeFrom, StaysServed}
+use Rattle.block_server.specs.declared.request.Order.{Order}
+use Rattle.block_server.specs.declared.request.Order.TheVariants.{Command}
+use Rattle.block_server.specs.declared.request.Request.{Request}
+use Rattle.block_server.proofs.DiskLaws.{serve_push, serve_size}
+
+-- each buffer's own table, in the bytes of both
+own_out : (n : ℕ) (first next : List ℕ) → length first ≡ n → take n (first ++ next) ≡ first
+own_out n first next full = ap (λ (k : ℕ). take k (first ++ next)) (sym full) ∙ take-append_seam first next
+
+own_in : (n m : ℕ) (first next : List ℕ) → length first ≡ n → length next ≡ m → take m (drop n (first ++ next)) ≡ next
+own_in n m first next full size =
+    ap (λ (k : ℕ). take m (drop k (first ++ next))) (sym full) ∙ ap (take m) (drop-append_seam first next) ∙ take_all m next (omega (arith, size))
+
+pub has_data : (command : Cmd) (outs inns : List Desc) (out : List ℕ) → HasBoth command outs inns → length out ≡ sum_of outs → HasData command out
+has_data command outs inns out both all = record {
+  tables = both.out_named.table ++ both.in_named.table;
+  outs = outs;
+  inns = inns;
+  out_named = ap (pieces command.out) (own_out (table_len command.out) both.out_named.table both.in_named.table both.out_named.full) ∙ both.out_named.named_is;
+  in_named = ap (pieces command.inn) (own_in (table_len command.out) (table_len command.inn) both.out_named.table both.in_named.table both.out_named.full both.in_named.full) ∙ both.in_named.named_is;
+  all_out = all;
+}
+
+-- what the disk step of a command gave, and the row that it got
+pub record IsNewRow (request : Request) (command : Cmd) (outs inns : List Desc) (out given buffer : List ℕ) (count : ℕ) (reply : ScsiReply) (row : ServedRow) : Type 0 where
+  pub order : request.order ≡ Command command
+  pub both : HasBoth command outs inns
+  pub all_out : length out ≡ sum_of outs
+  pub expected : sum_of inns ≡ total_of command.inn
+  pub given_is : given ≡ take (handed_over command reply) buffer
+  pub room : reply.in_len ≤ length buffer
+  pub reply_is : reply ≡ reply_to count command.lun command.cdb (length out) reply.fault
+  pub iu : row.iu ≡ request.unit.items
+  pub out_is : row.out ≡ out
+  pub inn_is : row.inn ≡ given
+  pub fault_is : row.fault ≡ reply.fault
+  pub blank : row.answer ≡ []
+
+module _ (request : Request) (command : Cmd) (outs inns : List Desc) (out given buffer : List ℕ) (count : ℕ) (reply : ScsiReply) (row : ServedRow)
+    (new : IsNewRow request command outs inns out given buffer count reply row) where
+  len_given : length row.inn ≡ handed_over command reply
+  len_given = omega (arith, ap length new.inn_is, ap length new.given_is, length-take (handed_over command reply) buffer, new.room)
+
+  brought : HasData command row.out
+  brought = subst (HasData command) (sym new.out_is) (has_data command outs inns out new.both new.all_out)
+
+  pub has_reply : HasReply count request given reply row
+  has_reply = record {
+    command = command;
+    order = new.order;
+    brought = brought;
+    fault_is = sym new.fault_is;
+    reply_is = new.reply_is ∙ (λ i. reply_to count command.lun command.cdb (length ((sym new.out_is) i)) ((sym new.fault_is) i));
+    given_is = new.inn_is;
+    all_in = len_given;
+  }
+
+  first_given : row.inn ≡ take (length row.inn) (take reply.in_len buffer)
+  first_given =
+      new.inn_is ∙ new.given_is ∙ sym (take-take (handed_over command reply) reply.in_len buffer (omega arith))
+      ∙ ap (λ (n : ℕ). take n (take reply.in_len buffer)) (sym len_given)
+
+  pub new_row_serves : (b a : List (List ℕ)) → IsStep b (made_step command.lun command.cdb out reply buffer) a → ServesRow b row a
+  new_row_serves b a made = inl (record {
+    command = command;
+    spells = subst (λ (bytes : List ℕ). Spells bytes (units.Cmd command)) (sym new.iu)
+        (subst (λ (order : Order). IsOrder order request.unit.items) new.order request.spelled);
+    brought = brought;
+    reply = reply;
+    given = take reply.in_len buffer;
+    step = subst (λ (bytes : List ℕ). IsStep b (record { lun = command.lun; cdb = command.cdb; data_out = bytes; reply = reply; given = take reply.in_len buffer }) a) (sym new.out_is) made;
+    fault = sym new.fault_is;
+    inn = first_given;
+    few = omega (arith, len_given);
+    answer = inl new.blank;
+  })
+
+-- the disk law goes on over a step and its row
+stepped : (count : ℕ) (now now' : Option (List (List ℕ))) (h h' : List ServedRow) (row : ServedRow) (made : DiskStep) → StepOn now made now' → (now ≡ None → now' ≡ None)
+    → h' ≡ h ++ row ∷ [] → ((b a : List (List ℕ)) → IsStep b made a → ServesRow b row a) → (before : List (List ℕ))
+    → IfSome now (ServeFrom count before h) → IfSome now' (ServeFrom count before h')
+stepped count None now' h h' row made step none added serves before is = subst (λ (n : Option (List (List ℕ))). IfSome n (ServeFrom count before h')) (sym (none refl)) tt
+stepped count (Some all) now' h h' row made step none added serves before is =
+    subst (λ (n : Option (List (List ℕ))). IfSome n (ServeFrom count before h')) (sym step.0) (record {
+      size = is.size;
+      serve = subst (λ (list : List ServedRow). Serve before list (blocks_after all made)) (sym added)
+          (serve_push before all (blocks_after all made) h row is.serve (serves all (blocks_after all made) step.1));
+    })
+
+none_map : (now now' : Option (List (List ℕ))) (f : List (List ℕ) → List (List ℕ)) → now' ≡ option_map f now → now ≡ None → now' ≡ None
+none_map now now' f is none = is ∙ ap (option_map f) none
+
+pub tells_map : (now now' : Option (List (List ℕ))) (f : List (List ℕ) → List (List ℕ)) → now' ≡ option_map f now → IfSome now (λ all. IsSome now')
+tells_map None now' f is = tt
+tells_map (Some all) now' f is = subst (λ (n : Option (List (List ℕ))). IsSome n) (sym is) refl
+
+pub stays_stepped : (d d' : Held) (h h' : List ServedRow) (row : ServedRow) (made : DiskStep) (f : List (List ℕ) → List (List ℕ)) → d'.count ≡ d.count → StepOn d.now made d'.now
+    → d'.now ≡ option_map f d.now → h' ≡ h ++ row ∷ [] → ((b a : List (List ℕ)) → IsStep b made a → ServesRow b row a) → StaysServed d d' h h'
+stays_stepped d d' h h' row made f count step image added serves before is =
+    subst (λ (n : ℕ). IfSome d'.now (ServeFrom n before h')) (sym count)
+    (stepped d.count d.now d'.now h h' row made step (none_map d.now d'.now f image) added serves before is)
