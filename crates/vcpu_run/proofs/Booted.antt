@@ -25,7 +25,7 @@ mapped : {X Y : Type 0} (f : X → Y) (o : Option X) (y : Y) → option_map f o 
 mapped f (Some x) y e = (x, refl, some_is (f x) y e)
 mapped f None y e = cc
 
-there_is : {X : Type 0} (xs : List X) (k : ℕ) → k < length xs → (x : X) × (slice_get xs k ≡ Some x)
+pub there_is : {X : Type 0} (xs : List X) (k : ℕ) → k < length xs → (x : X) × (slice_get xs k ≡ Some x)
 there_is [] k less = absurd (omega arith)
 there_is (x ∷ xs) zero less = (x, refl)
 there_is (x ∷ xs) (suc k) less = there_is xs k (omega arith)
@@ -39,14 +39,14 @@ few_pairs partitions pairs sound planned =
     omega arith
 
 -- a server unit is one of the first partition
-server_at_home : (partitions : List Partition) (server : UnitId) → AreSound partitions → ServesFirst partitions → IsServer partitions server
+pub server_at_home : (partitions : List Partition) (server : UnitId) → AreSound partitions → ServesFirst partitions → IsServer partitions server
     → server ≡ server_id server.unit
 server_at_home partitions server sound first is =
     let e : server.partition ≡ 0 = sound.one_home server (record { partition = 0; unit = 0 }) is (home_unit partitions sound first) in
     ap (λ (p : ℕ). record { partition = p; unit = server.unit }) e
 
 -- and has its pair
-server_below : (partitions : List Partition) (pairs : List Pair) (k : ℕ) → ArePlanned partitions pairs → IsServer partitions (server_id k) → k < length pairs
+pub server_below : (partitions : List Partition) (pairs : List Pair) (k : ℕ) → ArePlanned partitions pairs → IsServer partitions (server_id k) → k < length pairs
 server_below partitions pairs k planned is =
     let there = unit_found (slice_get partitions 0) k (kinds.Server is.0) is.1 in
     let within : k < length there.0.units = slice_get_within there.0.units k (kinds.Server is.0) there.2 in

@@ -1,5 +1,5 @@
 -- What gathering asks of a machine's parts, from what is so of them.
-use Rattle.std.proofs.Common.{◌≡◌, ◌≤◌, All, List, Result, Ok, Err, IfOk, OnOk, length, get_or, sym, subst, arith}
+use Rattle.std.proofs.Common.{◌≡◌, ◌≤◌, All, List, [], Result, Ok, Err, IfOk, OnOk, length, get_or, sym, subst, arith}
 use Rattle.std.specs.List.{flat_map}
 use Rattle.std.proofs.lemmas.Option.{slice_get-get_or}
 use Rattle.rdma_copy.specs.declared.copy.CopyRecord.{CopyRecord}
@@ -7,6 +7,11 @@ use Rattle.vio_num.specs.declared.memory.NoMemory.{NoMemory}
 use Rattle.vio_num.specs.declared.history.Grant.{Grant}
 use Rattle.vio_num.specs.declared.history.Served.{Served}
 use Rattle.vio_trace.specs.declared.rows.Trace.{Trace}
+use Rattle.vio_trace.specs.declared.lan_rows.DeliverRow.{DeliverRow}
+use Rattle.vio_trace.specs.declared.lan_rows.FrameRow.{FrameRow}
+use Rattle.vio_trace.specs.declared.lan_rows.HarvestRow.{HarvestRow}
+use Rattle.vio_trace.specs.declared.lan_rows.PortRow.{PortRow}
+use Rattle.vio_trace.specs.declared.lan_rows.PostRow.{PostRow}
 use Rattle.vio_trace.specs.declared.rows.AnswerRow.{AnswerRow}
 use Rattle.vio_trace.specs.declared.rows.LogRow.{LogRow}
 use Rattle.vio_trace.specs.declared.rows.QueueRow.{QueueRow}
@@ -34,22 +39,28 @@ pub from_rows : (r : Result Trace NoMemory) (trace : Trace) (A : Type 0) (P : Tr
 from_rows (Ok t) trace A P is a step = subst P (sym is) (step a)
 from_rows (Err none) trace A P is a step = tt
 
-abbrev pub made_of : List LogRow → List QueueRow → List Grant → List Served → List AnswerRow → List TceValueRow → List CopyRow → List StrokeRow → Trace
-made_of logs queues grants history answers tces made strokes = record {
+abbrev pub made_of : List LogRow → List QueueRow → List Grant → List Served → List AnswerRow → List FrameRow → List PortRow → List PostRow → List DeliverRow → List HarvestRow → List TceValueRow → List CopyRow → List StrokeRow → Trace
+made_of logs queues grants history answers frames ports posts delivers harvests tces made strokes = record {
   logs = logs;
   queues = queues;
   grants = grants;
   serves = history;
   answers = answers;
+  frames = frames;
+  ports = ports;
+  posts = posts;
+  delivers = delivers;
+  harvests = harvests;
   tces = tces;
   copies = made;
   strokes = strokes;
 }
 
 pub trace_is : (pairs : List Pair) (scripts : List Script) (history history' : List Served) (grants grants' : List Grant) (copies : List CopyRecord)
-    (logs : List LogRow) (queues : List QueueRow) (answers : List AnswerRow) (tces : List TceValueRow) (made : List CopyRow) (strokes : List StrokeRow)
+    (logs : List LogRow) (queues : List QueueRow) (answers : List AnswerRow)
+    (frames : List FrameRow) (ports : List PortRow) (posts : List PostRow) (delivers : List DeliverRow) (harvests : List HarvestRow) (tces : List TceValueRow) (made : List CopyRow) (strokes : List StrokeRow)
     → logs ≡ flat_map logs_of scripts → queues ≡ flat_map (sessions_at pairs) (seats_of pairs scripts) → grants' ≡ grants → history' ≡ history
-    → answers ≡ flat_map (answers_at pairs) (seats_of pairs scripts) → tces ≡ flat_map (values_at pairs) (seats_of pairs scripts)
+    → answers ≡ flat_map (answers_at pairs) (seats_of pairs scripts) → frames ≡ [] → ports ≡ [] → posts ≡ [] → delivers ≡ [] → harvests ≡ [] → tces ≡ flat_map (values_at pairs) (seats_of pairs scripts)
     → made ≡ flat_map (copies_of copies) pairs → strokes ≡ flat_map (marks_at pairs) (seats_of pairs scripts)
-    → made_of logs queues grants' history' answers tces made strokes ≡ trace_of pairs scripts history grants copies
-trace_is pairs scripts history history' grants grants' copies logs queues answers tces made strokes a b c d e f g h = cc
+    → made_of logs queues grants' history' answers frames ports posts delivers harvests tces made strokes ≡ trace_of pairs scripts history grants copies
+trace_is pairs scripts history history' grants grants' copies logs queues answers frames ports posts delivers harvests tces made strokes a b c d e i j k l m f g h = cc

@@ -9,6 +9,7 @@ use Rattle.boot_text.specs.declared.plan.Partition.{Partition}
 use Rattle.boot_text.specs.declared.plan.TheConstants.{MOST_UNITS}
 use Rattle.boot_text.specs.declared.plan.UnitPlan.{UnitPlan}
 use Rattle.boot_text.specs.declared.plan.UnitPlan.TheVariants as kinds
+use Rattle.vcpu_run.specs.Machines.{IsSilent}
 use Rattle.vcpu_run.specs.Runnable.{IsPlainPartition, ServesFirst}
 use Rattle.vcpu_run.specs.Machines.{is_client}
 
@@ -45,6 +46,10 @@ unit_below partitions id plan sound found =
 pub home_serves : (partitions : List Partition) (home : Partition) → AreSound partitions → ServesFirst partitions → slice_get partitions 0 ≡ Some home
     → All (λ unit. is_server unit ≡ true) home.units
 home_serves partitions home sound first found = (partition_at partitions 0 home sound found).alone (first home found)
+
+-- the first partition has no script
+pub home_silent : (partitions : List Partition) → AreSound partitions → ServesFirst partitions → IsSilent partitions
+home_silent partitions sound first home found = (partition_at partitions 0 home sound found).silent (first home found)
 
 server_is : (unit : UnitPlan) → is_server unit ≡ true → (queue : ℕ) × (unit ≡ kinds.Server queue)
 server_is (kinds.Server queue) is = (queue, refl)

@@ -72,6 +72,8 @@ pub plan_lasts : (partitions : List Partition) (pairs pairs' : List Pair) (scrip
 plan_lasts partitions pairs pairs' scripts scripts' stay run is = record {
   pairs_are = planned_stay partitions pairs pairs' stay is.pairs_are;
   scripts_are = scripts_run partitions scripts scripts' run is.scripts_are;
+  silent = is.silent;
+  at_home = is.at_home;
 }
 
 -- A list that was lent whole is what was written to it.

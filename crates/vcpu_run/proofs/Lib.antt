@@ -1,4 +1,5 @@
 pub mod Agreeing
+pub mod Answering
 pub mod Blocks
 pub mod Booted
 pub mod Calls
@@ -6,6 +7,7 @@ pub mod Copied
 pub mod Crediting
 pub mod Credits
 pub mod Cuts
+pub mod Disks
 pub mod Driving
 pub mod Elsewhere
 pub mod Following
@@ -14,6 +16,7 @@ pub mod Growing
 pub mod Homes
 pub mod Keeping
 pub mod Lasting
+pub mod Lined
 pub mod Listed
 pub mod Logging
 pub mod Opened
@@ -23,9 +26,12 @@ pub mod Parts
 pub mod Placing
 pub mod Plain
 pub mod QueueLaws
+pub mod RawCalling
+pub mod RawSaid
 pub mod RecordLaws
 pub mod Scripted
 pub mod Seated
+pub mod SentTo
 pub mod Showing
 pub mod Sole
 pub mod Told

@@ -1,6 +1,6 @@
 -- The rows of a script's lines, and what is so of a script as it goes on.
-use Rattle.std.proofs.Common.{◌≡◌, ◌∙◌, ℕ, zero, suc, false, ◌+◌, ◌<◌, All, List, [], ◌∷◌, ◌++◌, Some, length, map, option_map, slice_get, refl, sym, ap, subst, arith, length-append}
-use Rattle.std.proofs.lemmas.List.{length-map, map-append}
+use Rattle.std.proofs.Common.{◌≡◌, ◌∙◌, ℕ, zero, suc, true, false, Bool, cond, drop, ◌+◌, ◌<◌, ◌≤◌, All, List, [], ◌∷◌, ◌++◌, Some, length, map, option_map, slice_get, refl, sym, ap, subst, arith, length-append, append_assoc}
+use Rattle.std.proofs.lemmas.List.{drop_all, length-map, map-append}
 use Rattle.std.proofs.lemmas.List.Elements.{All-nil, All-cons, All-append, All-head, All-tail}
 use Rattle.std.proofs.lemmas.Option.{slice_get_within, slice_get-map}
 use Rattle.vio_num.specs.Words.{Begins}
@@ -11,6 +11,7 @@ use Rattle.vio_trace.specs.declared.rows.LogRow.{LogRow}
 use Rattle.vcpu_run.specs.declared.pair.Pair.{Pair}
 use Rattle.vcpu_run.specs.declared.script.Progress.{Progress}
 use Rattle.vcpu_run.specs.declared.script.Script.{Script}
+use Rattle.vcpu_run.specs.Lines.{lines_to_fail, numbers_to_fail, place_behind}
 use Rattle.vcpu_run.specs.Pairs.{AreDriven}
 use Rattle.vcpu_run.specs.Scripts.{AreLogged, IsScript}
 use Rattle.vcpu_run.specs.Works.{fails}
@@ -33,13 +34,55 @@ logged_none partition lines = record {
   own = All-nil (λ (row : LogRow). row.partition ≡ partition);
   numbers = (map (λ (line : Line). line.number) lines, refl);
   reached = λ some. refl;
+  whole = refl;
 }
+
+-- the lines that are left, from the one at this place on
+left_one : (lines : List Line) (at : ℕ) (line : Line) → slice_get lines at ≡ Some line
+    → numbers_to_fail (drop at lines) ≡ line.number ∷ numbers_to_fail (drop (place_behind lines at line) lines)
+left_one [] at line found = cc
+left_one (first ∷ lines) zero line found =
+    subst (λ (l : Line). numbers_to_fail (first ∷ lines) ≡ l.number ∷ numbers_to_fail (drop (place_behind (first ∷ lines) 0 l) (first ∷ lines))) (some_is first line found)
+    (ap (λ rest. first.number ∷ rest) (left (fails first.verb)))
+  where
+    left : (b : Bool) → map (λ line. line.number) (cond b [] (lines_to_fail lines)) ≡ numbers_to_fail (drop (cond b (length (first ∷ lines)) 1) (first ∷ lines))
+    left true = ap numbers_to_fail (sym (drop_all (length lines) lines (omega arith)))
+    left false = refl
+left_one (first ∷ lines) (suc at) line found = left_one lines at line found ∙ ap (λ rest. line.number ∷ numbers_to_fail rest) (behind (fails line.verb))
+  where
+    behind : (b : Bool) → drop (cond b (length lines) (at + 1)) lines ≡ drop (cond b (length (first ∷ lines)) (suc at + 1)) (first ∷ lines)
+    behind true = refl
+    behind false = let next : suc at + 1 ≡ suc (at + 1) = omega arith in sym (ap (λ n. drop n (first ∷ lines)) next)
+
+whole_one : (lines : List Line) (at n : ℕ) (line : Line) (logs : List LogRow) (row : LogRow) → slice_get lines at ≡ Some line → row.line ≡ line.number → n ≡ place_behind lines at line
+    → numbers_to_fail lines ≡ map (λ row. row.line) logs ++ numbers_to_fail (drop at lines)
+    → numbers_to_fail lines ≡ map (λ row. row.line) (logs ++ row ∷ []) ++ numbers_to_fail (drop n lines)
+whole_one lines at n line logs row found number behind whole =
+    let numbers : List ℕ = map (λ (row : LogRow). row.line) logs in
+    let rest : List ℕ = numbers_to_fail (drop n lines) in
+    let left : numbers_to_fail (drop at lines) ≡ row.line ∷ rest =
+    left_one lines at line found ∙ (ap (λ x. x ∷ numbers_to_fail (drop (place_behind lines at line) lines)) (sym number) ∙ ap (λ k. row.line ∷ numbers_to_fail (drop k lines)) (sym behind)) in
+    whole ∙ (ap (λ more. numbers ++ more) left ∙ (sym (append_assoc numbers (row.line ∷ []) rest) ∙ ap (λ front. front ++ rest) (sym (map-append (λ (row : LogRow). row.line) logs (row ∷ [])))))
+
+next_reached : (lines : List Line) (at n : ℕ) (line : Line) → n ≡ place_behind lines at line → n < length lines → n ≡ at + 1
+next_reached lines at n line behind less = behind ∙ next (fails line.verb) (subst (λ k. k < length lines) behind less)
+  where
+    next : (b : Bool) → cond b (length lines) (at + 1) < length lines → cond b (length lines) (at + 1) ≡ at + 1
+    next true less = absurd (omega (arith, less))
+    next false less = refl
+
+pub behind_within : (lines : List Line) (at : ℕ) (line : Line) → at < length lines → place_behind lines at line ≤ length lines
+behind_within lines at line less = within (fails line.verb)
+  where
+    within : (b : Bool) → cond b (length lines) (at + 1) ≤ length lines
+    within true = omega arith
+    within false = omega (arith, less)
 
 -- one row more, of the line at which the script stands
 pub logged_one : (partition at n : ℕ) (lines : List Line) (logs : List LogRow) (line : Line) (row : LogRow) → slice_get lines at ≡ Some line
-    → row.partition ≡ partition → row.line ≡ line.number → (n < length lines → n ≡ at + 1) → AreLogged partition at lines logs
+    → row.partition ≡ partition → row.line ≡ line.number → n ≡ place_behind lines at line → AreLogged partition at lines logs
     → AreLogged partition n lines (logs ++ row ∷ [])
-logged_one partition at n lines logs line row found own number next logged =
+logged_one partition at n lines logs line row found own number behind logged =
     let within : at < length lines = slice_get_within lines at line found in
     let many : length logs ≡ at = logged.reached within in
     let numbers : List ℕ = map (λ (row : LogRow). row.line) logs in
@@ -52,7 +95,8 @@ logged_one partition at n lines logs line row found own number next logged =
           (All-cons (λ (row : LogRow). row.partition ≡ partition) row [] own (All-nil (λ (row : LogRow). row.partition ≡ partition)));
       numbers = subst (λ front. Begins front (map (λ (line : Line). line.number) lines)) (sym (map-append (λ (row : LogRow). row.line) logs (row ∷ [])))
           (begins_more numbers (map (λ (line : Line). line.number) lines) row.line logged.numbers there);
-      reached = λ less. omega (arith, next less, many, length-append logs (row ∷ []));
+      reached = λ less. omega (arith, next_reached lines at n line behind less, many, length-append logs (row ∷ []));
+      whole = whole_one lines at n line logs row found number behind logged.whole;
     }
 
 -- a script between turns of pairs

@@ -9,7 +9,9 @@ use Rattle.crq_session.specs.PlainState.{side_of}
 use Rattle.tce_window.specs.Window.{strokes_at}
 use Rattle.rdma_copy.specs.declared.copy.CopyRecord.{CopyRecord}
 use Rattle.boot_text.specs.declared.plan.Line.{Line}
-use Rattle.vio_trace.specs.Form.{AnswerBefore, CopyBefore, IsInOrder, LogBefore, QueueBefore, StrokeBefore, TceValueBefore, UnitBefore}
+use Rattle.std.proofs.lemmas.List.Elements.{All-nil}
+use Rattle.vio_trace.specs.declared.lan_rows.FrameRow.{FrameRow}
+use Rattle.vio_trace.specs.Form.{AnswerBefore, CopyBefore, IsInOrder, IsOfferOf, LogBefore, QueueBefore, StrokeBefore, TceValueBefore, UnitBefore}
 use Rattle.vio_trace.specs.declared.rows.AnswerRow.{AnswerRow}
 use Rattle.vio_trace.specs.declared.rows.LogRow.{LogRow}
 use Rattle.vio_trace.specs.declared.rows.QueueRow.{QueueRow}
@@ -221,6 +223,12 @@ order_is pairs scripts history grants copies are are' lawful =
       logs = ascends LogBefore _ (logs_in_order pairs scripts are');
       queues = ascends QueueBefore _ (queues_in_order pairs seats order);
       answers = ascends AnswerBefore _ (answers_in_order pairs seats order);
+      frames = tt;
+      offers = All-nil (λ (frame : FrameRow). All (IsOfferOf frame) frame.offers);
+      ports = tt;
+      posts = tt;
+      delivers = tt;
+      harvests = tt;
       tces = ascends TceValueBefore _ (values_in_order pairs seats (each_from_all (HasLawfulWindow pairs) seats lawful) order);
       copies = ascends CopyBefore _ (copies_in_order copies pairs are);
       strokes = ascends StrokeBefore _ (strokes_in_order pairs seats order);

@@ -1,11 +1,11 @@
--- A partition is plain where the tests of its units and of its lines say so.
+-- A partition is plain where the tests of its units says so.
 use Rattle.std.proofs.Common.{◌≡◌, ◌↔◌, ◌&&◌, ◌||◌, not, Bool, true, false, List, [], ◌∷◌, All, refl, ◌∙◌, ap}
 use Rattle.std.specs.List.{list_all, list_any}
 use Rattle.std.proofs.lemmas.List.Elements.{All-nil, All-cons, All-head, All-tail}
 use Rattle.std.proofs.lemmas.List.Folds.{list_any_none}
 use Rattle.boot_text.specs.SoFar.{is_port}
 use Rattle.boot_text.specs.declared.plan.Partition.{Partition}
-use Rattle.vcpu_run.specs.Runnable.{IsPlainPartition, has_port, has_call, is_call, is_plain}
+use Rattle.vcpu_run.specs.Runnable.{IsPlainPartition, has_port, is_plain}
 
 either_false : (a b : Bool) → (a || b) ≡ false → (a ≡ false) × (b ≡ false)
 either_false false false e = (refl, refl)
@@ -18,26 +18,19 @@ none_any p (x ∷ xs) none =
     let both = either_false (p x) (list_any p xs) none in
     All-cons (λ x. p x ≡ false) x xs both.0 (none_any p xs both.1)
 
-both_not : (a b : Bool) → (not a && not b) ≡ true → (a ≡ false) × (b ≡ false)
-both_not false false e = (refl, refl)
-both_not false true e = cc
-both_not true b e = cc
+was_not : (a : Bool) → not a ≡ true → a ≡ false
+was_not false e = refl
+was_not true e = cc
 
 plain_from : (partition : Partition) → is_plain partition ≡ true → IsPlainPartition partition
-plain_from partition is =
-    let both = both_not (has_port partition) (has_call partition) is in
-    record {
-      no_port = none_any is_port partition.units both.0;
-      no_call = none_any (λ line. is_call line.verb) partition.lines both.1;
-    }
+plain_from partition is = record { no_port = none_any is_port partition.units (was_not (has_port partition) is) }
 
 plain_to : (partition : Partition) → IsPlainPartition partition → is_plain partition ≡ true
 plain_to partition is =
     let no_port : has_port partition ≡ false = list_any_none is_port partition.units is.no_port in
-    let no_call : has_call partition ≡ false = list_any_none (λ line. is_call line.verb) partition.lines is.no_call in
-    ap (λ a. not a && not (has_call partition)) no_port ∙ ap (λ b. not b) no_call
+    ap (λ a. not a) no_port
 
-both_true : (a b : Bool) → (a && b) ≡ true → (a ≡ true) × (b ≡ true)
+pub both_true : (a b : Bool) → (a && b) ≡ true → (a ≡ true) × (b ≡ true)
 both_true true true e = (refl, refl)
 both_true true false e = cc
 both_true false b e = cc

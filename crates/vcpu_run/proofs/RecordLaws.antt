@@ -1,8 +1,10 @@
--- The records of a gathered trace are of the first lines of each script, one a line, and keep the credits of its units.
-use Rattle.std.proofs.Common.{◌≡◌, ◌∙◌, ℕ, ◌+◌, ◌==◌, ◌<◌, ◌≤◌, Bool, true, false, List, [], ◌∷◌, ◌++◌, Option, Some, None, IsSomeAnd, filter, map, slice_get, refl, sym, ap, subst, arith, zero, suc}
+-- The records of a gathered trace are of the lines of each script up to the first that fails its partition, one a line, and
+-- keep the credits of its units.
+use Rattle.std.proofs.Common.{◌≡◌, ◌∙◌, ℕ, ◌+◌, ◌==◌, ◌<◌, ◌≤◌, Bool, true, false, All, List, [], ◌∷◌, ◌++◌, Option, Some, None, IsSomeAnd, drop, filter, length, map, slice_get, refl, sym, ap, subst, arith, append-nil, zero, suc}
 use Rattle.std.specs.List.{flat_map}
+use Rattle.std.proofs.lemmas.List.{drop_all}
+use Rattle.std.proofs.lemmas.Option.{slice_get_past}
 use Rattle.std.proofs.lemmas.Bool.Decides.{nat_tests}
-use Rattle.vio_num.specs.Words.{Begins}
 use Rattle.vio_num.specs.declared.history.Grant.{Grant}
 use Rattle.vio_num.specs.declared.history.Served.{Served}
 use Rattle.rdma_copy.specs.declared.copy.CopyRecord.{CopyRecord}
@@ -14,17 +16,16 @@ use Rattle.vcpu_run.specs.declared.script.Script.{Script}
 use Rattle.vcpu_run.specs.Agreed.{AreCredited}
 use Rattle.vcpu_run.specs.Credited.{KeepsCredit, ended_by}
 use Rattle.vcpu_run.specs.Gathered.{logs_of, trace_of}
+use Rattle.vcpu_run.specs.Lines.{IsOver, numbers_to_fail}
 use Rattle.vcpu_run.specs.Machines.{AreScripts, AreScriptsOf, IsOfPlan, IsScriptFor}
 use Rattle.vcpu_run.specs.RunLaw.{CreditsAreKept, RecordsAreOfLines, script_in, script_of}
 use Rattle.vcpu_run.proofs.Following.{each_from_all}
+use Rattle.vcpu_run.proofs.Homes.{all_at}
 use Rattle.vcpu_run.proofs.Order.{Each, Ordered, each_weaker}
 use Rattle.vcpu_run.proofs.Ordering.{each_script}
+use Rattle.vcpu_run.proofs.Parts.{found, in_slice}
 use Rattle.vcpu_run.proofs.Placing.{ArePartitions, first_partition, partitions_are, partitions_behind}
 use Rattle.vcpu_run.proofs.Sole.{sole}
-
--- the records are of a front of the script of partition p
-abbrev pub AreFrontOf : List Partition → ℕ → List LogRow → Type 0
-AreFrontOf partitions p rows = Begins (map (λ row. row.line) rows) (map (λ line. line.number) (script_of partitions p))
 
 same_partition : (a p : ℕ) → (a == p) ≡ true → a ≡ p
 same_partition a p is = grind (arith, nat_tests)
@@ -48,18 +49,68 @@ lines_in : (slot : Option Partition) (script : Script) → IsSomeAnd slot (λ pa
 lines_in None script none = absurd none
 lines_in (Some partition) script is = sym is.lines
 
-pub records_are : (pairs : List Pair) (scripts : List Script) (history : List Served) (grants : List Grant) (copies : List CopyRecord) (partitions : List Partition)
-    → AreScripts pairs scripts → IsOfPlan partitions pairs scripts → RecordsAreOfLines partitions (trace_of pairs scripts history grants copies)
-records_are pairs scripts history grants copies partitions are of_plan p =
-    sole (λ (row : LogRow). row.partition == p) (λ (script : Script). script.partition == p) (AreFrontOf partitions p) logs_of (_, refl) scripts
-    (each_script scripts (λ i script e. each_weaker (λ (row : LogRow). row.partition ≡ script.partition) (λ (row : LogRow). (row.partition == p) ≡ (script.partition == p)) (λ row h. ap (λ k. k == p) h)
-    (logs_of script) (each_from_all (λ row. row.partition ≡ script.partition) script.logs.items (are i script e).script_is.logs.own)))
-    (each_script scripts (λ i script e is.
-    let here : p ≡ i + 1 = sym (same_partition script.partition p is) ∙ (are i script e).number in
-    let lines : script_of partitions p ≡ script.lines.now =
-    ap (script_of partitions) here ∙ lines_in (slice_get partitions (i + 1)) script (of_plan.scripts_are.each i script e) in
-    subst (λ ls. Begins (map (λ row. row.line) script.logs.items) (map (λ line. line.number) ls)) (sym lines) (are i script e).script_is.logs.numbers))
+-- the rows of each script are of its partition
+rows_told : (pairs : List Pair) (scripts : List Script) (p : ℕ) → AreScripts pairs scripts
+    → Each (λ script. Each (λ row. (row.partition == p) ≡ (script.partition == p)) (logs_of script)) scripts
+rows_told pairs scripts p are =
+    each_script scripts (λ i script e. each_weaker (λ (row : LogRow). row.partition ≡ script.partition) (λ (row : LogRow). (row.partition == p) ≡ (script.partition == p)) (λ row h. ap (λ k. k == p) h)
+    (logs_of script) (each_from_all (λ row. row.partition ≡ script.partition) script.logs.items (are i script e).script_is.logs.own))
+
+-- a partition that no script is of has none
+no_records : (pairs : List Pair) (scripts : List Script) (p : ℕ) → AreScripts pairs scripts → ((i : ℕ) (script : Script) → slice_get scripts i ≡ Some script → p ≡ i + 1 → ⊥)
+    → filter (λ (row : LogRow). row.partition == p) (flat_map logs_of scripts) ≡ []
+no_records pairs scripts p are none =
+    sole (λ (row : LogRow). row.partition == p) (λ (script : Script). script.partition == p) (λ rows. rows ≡ []) logs_of refl scripts
+    (rows_told pairs scripts p are)
+    (each_script scripts (λ i script e is. absurd (none i script e (sym (same_partition script.partition p is) ∙ (are i script e).number))))
     (partitions_apart p 1 scripts (partitions_are pairs scripts are))
+
+silent_script : (slot : Option Partition) → ((home : Partition) → slot ≡ Some home → home.lines ≡ []) → script_in slot ≡ []
+silent_script None silent = refl
+silent_script (Some home) silent = silent home refl
+
+no_value : {X : Type 0} (slot : Option X) (x : X) → slot ≡ None → slot ≡ Some x → ⊥
+no_value slot x none some = cc
+
+none_past : {X : Type 0} (xs : List X) (i : ℕ) → slice_get xs i ≡ None → length xs ≤ i
+none_past [] i e = omega arith
+none_past (x ∷ xs) zero e = cc
+none_past (x ∷ xs) (suc i) e = omega (arith, none_past xs i e)
+
+-- once a script is over, its rows are of the lines up to the first that fails its partition
+over_rows : (lines : List Line) (at : ℕ) (logs : List LogRow) → length lines ≤ at → numbers_to_fail lines ≡ map (λ row. row.line) logs ++ numbers_to_fail (drop at lines)
+    → map (λ row. row.line) logs ≡ numbers_to_fail lines
+over_rows lines at logs over whole =
+    sym (whole ∙ (ap (λ (rest : List Line). map (λ (row : LogRow). row.line) logs ++ numbers_to_fail rest) (drop_all at lines over) ∙ append-nil (map (λ (row : LogRow). row.line) logs)))
+
+pub records_are : (pairs : List Pair) (scripts : List Script) (history : List Served) (grants : List Grant) (copies : List CopyRecord) (partitions : List Partition)
+    → AreScripts pairs scripts → All IsOver scripts → IsOfPlan partitions pairs scripts → RecordsAreOfLines partitions (trace_of pairs scripts history grants copies)
+records_are pairs scripts history grants copies partitions are over of_plan zero =
+    ap (map (λ (row : LogRow). row.line)) (no_records pairs scripts 0 are (λ i script e is. absurd (omega (arith, is))))
+    ∙ ap numbers_to_fail (sym (silent_script (slice_get partitions 0) of_plan.silent))
+records_are pairs scripts history grants copies partitions are over of_plan (suc i) = at (slice_get scripts i) refl
+  where
+    rows : List LogRow
+    rows = filter (λ (row : LogRow). row.partition == suc i) (flat_map logs_of scripts)
+
+    at : (slot : Option Script) → slice_get scripts i ≡ slot → map (λ row. row.line) rows ≡ numbers_to_fail (script_of partitions (suc i))
+    at None e =
+        let past : length scripts ≤ i = none_past scripts i e in
+        let none : slice_get partitions (suc i) ≡ None = slice_get_past partitions (suc i) (omega (arith, past, of_plan.scripts_are.clients)) in
+        ap (map (λ (row : LogRow). row.line)) (no_records pairs scripts (suc i) are (λ j script e' is. let same : j ≡ i = omega (arith, is) in no_value (slice_get scripts i) script e (ap (slice_get scripts) (sym same) ∙ e')))
+        ∙ ap (λ slot. numbers_to_fail (script_in slot)) (sym none)
+    at (Some script) e =
+        let own = are i script e in
+        let next : suc i ≡ i + 1 = omega arith in
+        let here : script.partition ≡ suc i = own.number ∙ sym next in
+        let hit : (script.partition == suc i) ≡ true = grind (arith, nat_tests, here) in
+        let only : rows ≡ script.logs.items =
+        found (λ (row : LogRow). row.partition == suc i) (λ (script : Script). script.partition == suc i) logs_of script hit scripts (in_slice scripts i script e)
+        (rows_told pairs scripts (suc i) are) (partitions_apart (suc i) 1 scripts (partitions_are pairs scripts are)) in
+        let lines : script_of partitions (suc i) ≡ script.lines.now =
+        ap (script_of partitions) next ∙ lines_in (slice_get partitions (i + 1)) script (of_plan.scripts_are.each i script e) in
+        ap (map (λ (row : LogRow). row.line)) only
+        ∙ (over_rows script.lines.now script.at script.logs.items (all_at IsOver scripts i script over e) own.script_is.logs.whole ∙ ap numbers_to_fail (sym lines))
 
 no_rows : (unit : ℕ) (lines : List Line) → KeepsCredit None (ended_by unit lines [])
 no_rows unit [] = tt

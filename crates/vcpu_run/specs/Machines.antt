@@ -1,11 +1,11 @@
 -- What is so of a machine between the turns of its units, and what its pairs and its scripts have of a plan.
-use Rattle.std.specs.Prelude.{◌≡◌, ◌≢◌, ℕ, ◌+◌, ◌*◌, ◌≤◌, Bool, true, false, List, Option, Some, None, IsSomeAnd, MatchOption, length, map}
+use Rattle.std.specs.Prelude.{◌≡◌, ◌≢◌, ℕ, ◌+◌, ◌*◌, ◌≤◌, Bool, true, false, List, [], Option, Some, None, IsSomeAnd, MatchOption, length, map}
 use Rattle.std.specs.List.{slice_get}
 use Rattle.vio_num.specs.declared.names.UnitId.{UnitId}
 use Rattle.crq_session.specs.PlainState.{side_of}
 use Rattle.crq_session.specs.declared.TheConstants.{PAGE_SLOTS}
 use Rattle.rdma_copy.specs.declared.copy.CopyRecord.{CopyRecord}
-use Rattle.boot_text.specs.Sound.{unit_at, IsClientOf, IsFrom}
+use Rattle.boot_text.specs.Sound.{unit_at, IsClientOf, IsFrom, IsServer}
 use Rattle.boot_text.specs.declared.statement.TheConstants.{LEAST_CLIENT_PAGES, MOST_UNIT_PAGES, MOST_QUEUE}
 use Rattle.boot_text.specs.declared.plan.Partition.{Partition}
 use Rattle.boot_text.specs.declared.plan.UnitPlan.{UnitPlan}
@@ -127,7 +127,17 @@ pub record AreScriptsOf (partitions : List Partition) (scripts : List Script) : 
   pub each : (i : ℕ) (script : Script) → slice_get scripts i ≡ Some script
       → IsSomeAnd (slice_get partitions (i + 1)) (λ partition. IsScriptFor partition script)
 
+-- the first partition has no script
+abbrev pub IsSilent : List Partition → Type 0
+IsSilent partitions = (home : Partition) → slice_get partitions 0 ≡ Some home → home.lines ≡ []
+
+-- all server units are of the first partition
+abbrev pub AreAtHome : List Partition → Type 0
+AreAtHome partitions = (server : UnitId) → IsServer partitions server → server ≡ server_id server.unit
+
 -- The machine of a plan.
 pub record IsOfPlan (partitions : List Partition) (pairs : List Pair) (scripts : List Script) : Type 0 where
   pub pairs_are : ArePlanned partitions pairs
   pub scripts_are : AreScriptsOf partitions scripts
+  pub silent : IsSilent partitions
+  pub at_home : AreAtHome partitions

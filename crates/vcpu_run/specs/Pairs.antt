@@ -45,14 +45,15 @@ abbrev pub GoesOn : (before after : WindowValue) → Option Driver → Option Dr
 GoesOn before after old new = MatchOption old (new ≡ None)
     (λ driver. IsSomeAnd new (λ driver'. (driver'.unit ≡ driver.unit) × (IsDriver before driver → IsDriver after driver')))
 
--- What a client's part of a turn leaves of its pair: the server unit and its window are as before, and the client's window
--- has no stroke and no value less.
+-- What a client's part of a turn leaves of its pair: the server unit and its window are as before, nothing was put into the
+-- client's own queue, and the client's window has no stroke and no value less.
 pub record Drives (old new : Pair) : Type 0 where
   pub server : new.server ≡ old.server
   pub own : new.own ≡ old.own
   pub event : (side_of new.link true).kept ≡ (side_of old.link true).kept
   pub server_slots : (side_of new.link true).queue.slots ≡ (side_of old.link true).queue.slots
   pub client_slots : (side_of new.link false).queue.slots ≡ (side_of old.link false).queue.slots
+  pub got : (side_of new.link false).queue.sent ≡ (side_of old.link false).queue.sent
   pub unit : new.window.unit ≡ old.window.unit
   pub pages : length new.window.pages ≡ length old.window.pages
   pub held : new.window.held_count ≡ old.window.held_count

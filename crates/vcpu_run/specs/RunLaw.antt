@@ -1,8 +1,7 @@
 -- The law of a run, so far as it is proved: what its trace says of its queues, its copies and windows, its
--- records, and the credits that they tell of.
+-- records, the credits that they tell of, and the answers that were sent.
 use Rattle.std.specs.Prelude.{◌≡◌, ◌⊎◌, ℕ, ◌+◌, ◌*◌, ◌<◌, ◌≤◌, List, [], ◌∷◌, All, Option, Some, None, length, map, slice_get}
 use Rattle.std.specs.List.{AllPairs}
-use Rattle.vio_num.specs.Words.{Begins}
 use Rattle.vio_num.specs.Queue.{Handed, LawfulDrop}
 use Rattle.vio_num.specs.declared.names.UnitId.{UnitId}
 use Rattle.rdma_copy.specs.Copy.{IsLawful}
@@ -19,8 +18,10 @@ use Rattle.vio_trace.specs.declared.rows.QueueRow.{QueueRow}
 use Rattle.vio_trace.specs.declared.window_rows.CopyRow.{CopyRow}
 use Rattle.vio_trace.specs.declared.window_rows.StrokeRow.{StrokeRow}
 use Rattle.vio_trace.specs.declared.window_rows.TceValueRow.{TceValueRow}
+use Rattle.vcpu_run.specs.AnswersSent.{AnswersAreSent}
 use Rattle.vcpu_run.specs.CopyRows.{copy_row}
 use Rattle.vcpu_run.specs.Credited.{KeepsCredit, ended_by}
+use Rattle.vcpu_run.specs.Lines.{numbers_to_fail}
 use Rattle.vcpu_run.specs.Shown.{pages_at, puts_into, records_of, sessions_of, strokes_on, window_shown}
 
 -- so many slots, 256 for each page of a unit's queue
@@ -93,9 +94,9 @@ script_in (Some partition) = partition.lines
 abbrev pub script_of : List Partition → ℕ → List Line
 script_of partitions p = script_in (slice_get partitions p)
 
--- the records of each partition are of its first lines, one a line, in their order
+-- the records of each partition are of exactly its lines up to the first that fails it, one a line, in their order
 abbrev pub RecordsAreOfLines : List Partition → Trace → Type 0
-RecordsAreOfLines partitions trace = (p : ℕ) → Begins (map (λ row. row.line) (records_of trace p)) (map (λ line. line.number) (script_of partitions p))
+RecordsAreOfLines partitions trace = (p : ℕ) → map (λ row. row.line) (records_of trace p) ≡ numbers_to_fail (script_of partitions p)
 
 -- of each unit of a partition the records keep its credits: never more is outstanding than was granted
 abbrev pub CreditsAreKept : List Partition → Trace → Type 0
@@ -107,6 +108,7 @@ pub record KeepsLawOf (partitions : List Partition) (trace : Trace) : Type 0 whe
   pub copies : CopiesAreLawful partitions trace
   pub records : RecordsAreOfLines partitions trace
   pub credits : CreditsAreKept partitions trace
+  pub answers : AnswersAreSent partitions trace
 
 abbrev pub KeepsLaw : Plan → Trace → Type 0
 KeepsLaw plan trace = KeepsLawOf plan.partitions trace

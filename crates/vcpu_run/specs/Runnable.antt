@@ -1,5 +1,5 @@
--- What a machine runs: plans of server units and client units, without LAN ports and raw hypervisor calls.
-use Rattle.std.specs.Prelude.{◌≡◌, ℕ, ◌<◌, ◌&&◌, not, Bool, true, false, All, List, Some}
+-- What a machine runs: plans of server units and client units, without LAN ports.
+use Rattle.std.specs.Prelude.{◌≡◌, ℕ, ◌<◌, not, Bool, true, false, All, List, Some}
 use Rattle.std.specs.List.{slice_get, list_any}
 use Rattle.boot_text.specs.SoFar.{is_port, is_for_client, has_server}
 use Rattle.boot_text.specs.Sound.{IsSound, IsInRange}
@@ -14,20 +14,16 @@ abbrev pub is_call : Verb → Bool
 is_call (verbs.Hcall number arguments) = true
 is_call _ = false
 
--- a partition without LAN ports and raw calls
+-- a partition without LAN ports
 pub record IsPlainPartition (partition : Partition) : Type 0 where
   pub no_port : All (λ unit. is_port unit ≡ false) partition.units
-  pub no_call : All (λ line. is_call line.verb ≡ false) partition.lines
 
 -- whether a partition is such
 abbrev pub has_port : Partition → Bool
 has_port partition = list_any is_port partition.units
 
-abbrev pub has_call : Partition → Bool
-has_call partition = list_any (λ line. is_call line.verb) partition.lines
-
 abbrev pub is_plain : Partition → Bool
-is_plain partition = not (has_port partition) && not (has_call partition)
+is_plain partition = not (has_port partition)
 
 -- the first partition has server units
 abbrev pub ServesFirst : List Partition → Type 0
@@ -42,5 +38,4 @@ pub record IsRunnable (plan : Plan) : Type 0 where
 pub record IsClientLine (count : ℕ) (line : Line) : Type 0 where
   pub unit : line.unit < count
   pub client : is_for_client line.verb ≡ true
-  pub no_call : is_call line.verb ≡ false
   pub ranged : IsInRange line.verb

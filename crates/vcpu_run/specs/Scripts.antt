@@ -1,11 +1,12 @@
 -- What is so of a client partition's script at each moment of a run.
-use Rattle.std.specs.Prelude.{◌≡◌, ℕ, ◌<◌, ◌≤◌, All, List, Some, IsSomeAnd, length, map}
+use Rattle.std.specs.Prelude.{◌≡◌, ℕ, ◌<◌, ◌≤◌, ◌++◌, All, List, Some, IsSomeAnd, length, map, drop}
 use Rattle.std.specs.List.{slice_get, AllPairs}
 use Rattle.vio_num.specs.Words.{Begins}
 use Rattle.boot_text.specs.declared.plan.Line.{Line}
 use Rattle.vio_trace.specs.declared.rows.LogRow.{LogRow}
 use Rattle.vcpu_run.specs.declared.pair.Pair.{Pair}
 use Rattle.vcpu_run.specs.declared.script.Script.{Script}
+use Rattle.vcpu_run.specs.Lines.{numbers_to_fail}
 use Rattle.vcpu_run.specs.Runnable.{IsClientLine}
 
 -- unit u of a partition is the client of pair k
@@ -18,11 +19,12 @@ abbrev pub AreSeats : (partition : ℕ) → List ℕ → List Pair → Type 0
 AreSeats partition seats pairs = (u k : ℕ) → slice_get seats u ≡ Some k → IsSeat partition u k pairs
 
 -- The rows of the lines that ended: they are of this partition, and a front of its lines has one each; while lines are left,
--- all those before the current one.
+-- all those before the current one; with those that are left, the lines up to the first that fails the partition.
 pub record AreLogged (partition at : ℕ) (lines : List Line) (logs : List LogRow) : Type 0 where
   pub own : All (λ row. row.partition ≡ partition) logs
   pub numbers : Begins (map (λ row. row.line) logs) (map (λ line. line.number) lines)
   pub reached : at < length lines → length logs ≡ at
+  pub whole : numbers_to_fail lines ≡ map (λ row. row.line) logs ++ numbers_to_fail (drop at lines)
 
 pub record IsScript (pairs : List Pair) (script : Script) : Type 0 where
   pub seats : AreSeats script.partition script.seats.items pairs

@@ -48,6 +48,12 @@ abbrev pub fails : Verb → Bool
 fails verbs.Fail = true
 fails _ = false
 
+-- what one unit of a client partition does, or a raw call on its units
+pub record IsLineVerb (verb : Verb) : Type 0 where
+  pub client : is_for_client verb ≡ true
+  pub one : fails verb ≡ false
+  pub ranged : IsInRange verb
+
 -- what one unit of a client partition does
 pub record IsUnitVerb (verb : Verb) : Type 0 where
   pub client : is_for_client verb ≡ true

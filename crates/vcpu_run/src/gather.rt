@@ -5,6 +5,9 @@ ghost use Rattle.vcpu_run.specs.Gathered.{logs_of, sessions_at, answer_by, answe
 ghost use Rattle.boot_text.specs.declared.plan.Partition.{Partition};
 ghost use Rattle.vio_trace.specs.Form.{IsInOrder};
 ghost use Rattle.vcpu_run.specs.Agreed.{AreCredited};
+ghost use Rattle.vcpu_run.specs.Answered.{AreAnswered};
+ghost use Rattle.vcpu_run.specs.AnswersSent.{AnswersAreSent};
+ghost use Rattle.vcpu_run.specs.Lines.{IsOver};
 ghost use Rattle.vcpu_run.specs.Machines.{AreScripts, IsOfPlan};
 ghost use Rattle.vcpu_run.specs.Pairs.{ArePairs};
 ghost use Rattle.vcpu_run.specs.Units.{seats_of};
@@ -34,7 +37,10 @@ pub(crate) fn gather(
 ) -> Result<Trace, NoMemory>
     requires pairs { ArePairs 0 copies.items pairs.items }
     requires scripts { AreScripts pairs.items scripts.items }
+    ensures trace { IfOk result (λ trace. trace ≡ trace_of pairs.items scripts.entry.items
+        history.items grants.items copies.items) }
     ensures order { IfOk result IsInOrder }
+    ensures serves { IfOk result (λ trace. trace.serves ≡ history.items) }
     ensures queues { IfOk result (λ trace. (partitions : List Partition) →
         IsOfPlan partitions pairs.items scripts.entry.items →
         QueuesAreLawful partitions trace) }
@@ -43,10 +49,13 @@ pub(crate) fn gather(
         CopiesAreLawful partitions trace) }
     ensures records { IfOk result (λ trace. (partitions : List Partition) →
         IsOfPlan partitions pairs.items scripts.entry.items →
-        RecordsAreOfLines partitions trace) }
+        All IsOver scripts.entry.items → RecordsAreOfLines partitions trace) }
     ensures credits { IfOk result (λ trace. (partitions : List Partition) →
         IsOfPlan partitions pairs.items scripts.entry.items →
         AreCredited pairs.items scripts.entry.items → CreditsAreKept partitions trace) }
+    ensures answers { IfOk result (λ trace. (partitions : List Partition) →
+        IsOfPlan partitions pairs.items scripts.entry.items →
+        AreAnswered history.items pairs.items → AnswersAreSent partitions trace) }
 {
     rows_of(alloc, pairs, scripts, history, grants, copies)
 }
@@ -82,6 +91,11 @@ fn rows_of(
         grants: Sequence::from(grants),
         serves: Sequence::from(history),
         answers: Sequence::from(answers),
+        frames: Sequence::new(alloc),
+        ports: Sequence::new(alloc),
+        posts: Sequence::new(alloc),
+        delivers: Sequence::new(alloc),
+        harvests: Sequence::new(alloc),
         tces: Sequence::from(tces),
         copies: Sequence::from(copies),
         strokes: Sequence::from(strokes),

@@ -1,8 +1,12 @@
 // The machine: its making, its rounds, and how it settles.
-ghost use Rattle.std.specs.Prelude.{◌≡◌, IfErr, IfOk, IfSome, List, OnOk, vec_len};
+ghost use Rattle.std.specs.Prelude.{◌≡◌, [], All, IfErr, IfOk, IfSome, IsSome, List, OnOk, vec_len};
 ghost use Rattle.boot_text.specs.declared.plan.Partition.{Partition};
+ghost use Rattle.block_server.specs.DiskLaw.{KeepsDisk};
 ghost use Rattle.vcpu_run.specs.Agreed.{AreCredited};
+ghost use Rattle.vcpu_run.specs.Answered.{AreAnswered};
+ghost use Rattle.vcpu_run.specs.Lines.{IsOver};
 ghost use Rattle.vcpu_run.specs.Machines.{AreScripts, IsMachine, IsOfPlan};
+ghost use Rattle.vcpu_run.specs.OnDisk.{LeadsOn};
 ghost use Rattle.vcpu_run.specs.Pairs.{ArePairs};
 ghost use Rattle.vcpu_run.specs.RunLaw.{KeepsLaw, KeepsLawOf};
 ghost use Rattle.vcpu_run.specs.Runnable.{IsRunnable};
@@ -52,6 +56,8 @@ impl<'p, Di: Blocks> Machine<'p, Di> {
             IsOfPlan plan.now.partitions machine.pairs.items machine.scripts.items) }
         ensures credited { IfOk result (λ machine.
             AreCredited machine.pairs.items machine.scripts.items) }
+        ensures answered { IfOk result (λ machine. AreAnswered [] machine.pairs.items) }
+        ensures none { IfOk result (λ machine. machine.server.records.history.items ≡ []) }
     {
         let partitions = plan.partitions.as_slice();
         let Ok(pairs) = make_pairs(alloc, partitions) else {
@@ -75,9 +81,15 @@ impl<'p, Di: Blocks> Machine<'p, Di> {
         requires machine { IsMachine self.server.partition (vec_len self.server.units)
             self.server.copies.items self.pairs.items self.scripts.items }
         requires credited { AreCredited self.pairs.items self.scripts.items }
-        ensures { IfSome result.trace (λ trace. (partitions : List Partition) →
+        requires answered { AreAnswered self.server.records.history.items self.pairs.items }
+        ensures law { IfSome result.trace (λ trace. (partitions : List Partition) →
             IsOfPlan partitions self.entry.pairs.items self.entry.scripts.items →
             KeepsLawOf partitions trace) }
+        ensures disk { IfSome result.trace (λ trace. ∥ KeepsDisk
+            self.entry.server.records.history.items trace.serves
+            (Di.state self.entry.server.disk.image).blocks (Di.state result.image).blocks ∥₁) }
+        ensures tells { IfSome (Di.state self.entry.server.disk.image).blocks
+            (λ _. IsSome (Di.state result.image).blocks) }
     {
         let Machine {
             alloc,
@@ -98,7 +110,7 @@ impl<'p, Di: Blocks> Machine<'p, Di> {
 }
 
 /// Runs a plan over an image of `count` blocks until nothing moves any more. Its trace keeps the law of the
-/// plan's runs.
+/// plan's runs, and its rows lead from the image's blocks to those that the image then has.
 pub fn settle_plan<Di: Blocks + Drop>(
     alloc: Global,
     plan: &Plan,
@@ -108,6 +120,9 @@ pub fn settle_plan<Di: Blocks + Drop>(
     requires runnable { IsRunnable plan.now }
     requires count { count ≡ (Di.state image).size }
     ensures law { IfSome result.trace (KeepsLaw plan.now) }
+    ensures disk { IfSome result.trace (λ trace. LeadsOn trace.serves
+        (Di.state image).blocks (Di.state result.image).blocks) }
+    ensures tells { IfSome (Di.state image).blocks (λ _. IsSome (Di.state result.image).blocks) }
 {
     match Machine::boot(alloc, plan, image, count) {
         Ok(machine) => machine.settle(),
@@ -128,7 +143,10 @@ fn trace_of(
     requires pairs { ArePairs 0 copies.items pairs.items }
     requires scripts { AreScripts pairs.items scripts.items }
     requires credited { OnOk run (AreCredited pairs.items scripts.items) }
-    ensures { IfSome result (λ trace. (partitions : List Partition) →
+    requires over { OnOk run (All IsOver scripts.items) }
+    requires answered { AreAnswered history.items pairs.items }
+    ensures serves { IfSome result (λ trace. trace.serves ≡ history.items) }
+    ensures law { IfSome result (λ trace. (partitions : List Partition) →
         IsOfPlan partitions pairs.items scripts.entry.items → KeepsLawOf partitions trace) }
 {
     match run {

@@ -5,10 +5,11 @@ ghost use Rattle.boot_text.specs.SoFar.{is_server};
 ghost use Rattle.boot_text.specs.Sound.{AreSound, IsClientOf, IsSoundPartition, unit_at};
 ghost use Rattle.boot_text.specs.declared.plan.UnitPlan.TheVariants as kinds;
 ghost use Rattle.vcpu_run.specs.Agreed.{AreAllOut, IsLoggedOut};
+ghost use Rattle.vcpu_run.specs.Answered.{AreAnswered, IsAnswered};
 ghost use Rattle.vcpu_run.specs.Machines.{ArePlanned, IsPlanned, is_client, seat_of, server_id};
 ghost use Rattle.vcpu_run.specs.Making.{AreMade, HasNoneIn, IsMade, IsSeatAt, IsSeatIn, IsSeatOf};
 ghost use Rattle.vcpu_run.specs.Pairs.{ArePairs, IsPair};
-ghost use Rattle.vcpu_run.specs.Runnable.{IsPlainPartition, ServesFirst, is_call};
+ghost use Rattle.vcpu_run.specs.Runnable.{IsPlainPartition, ServesFirst};
 
 use crate::pair::{ClientSeat, Pair};
 use crate::script::Script;
@@ -23,6 +24,7 @@ pub(crate) fn make_pairs(alloc: Global, partitions: &[Partition]) -> Result<Vec<
     ensures pairs { IfOk result (λ pairs. ArePairs 0 [] pairs.items) }
     ensures planned { IfOk result (λ pairs. ArePlanned partitions.now pairs.items) }
     ensures out { IfOk result (λ pairs. AreAllOut pairs.items) }
+    ensures answered { IfOk result (λ pairs. AreAnswered [] pairs.items) }
 {
     let mut pairs = Vec::new(alloc);
     let home = &partitions[0];
@@ -51,6 +53,7 @@ fn make_pair(alloc: Global, partitions: &[Partition], unit: u8, queue: u8) -> Re
     ensures pair { IfOk result (IsPair 0 [] unit) }
     ensures planned { IfOk result (IsPlanned partitions.now unit) }
     ensures out { IfOk result IsLoggedOut }
+    ensures answered { IfOk result (IsAnswered []) }
 {
     let server = UnitId { partition: 0, unit };
     let client = client_of(partitions, server);
@@ -139,7 +142,6 @@ pub(crate) fn make_scripts(
 fn make_script(alloc: Global, partition: &Partition, number: u8) -> Result<Script<'_>, NoMemory>
     requires sound { IsSoundPartition partition.now }
     requires clients { All (λ unit. is_client unit ≡ true) partition.now.units }
-    requires calls { All (λ line. is_call line.verb ≡ false) partition.now.lines }
     ensures { IfOk result (IsMade partition.now number) }
 {
     let seats = make_seats(alloc, partition.units.as_slice())?;

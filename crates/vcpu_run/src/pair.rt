@@ -4,10 +4,13 @@ ghost use Rattle.boot_text.specs.Sound.{IsFrom};
 ghost use Rattle.boot_text.specs.declared.statement.TheConstants.{MOST_QUEUE};
 ghost use Rattle.crq_session.specs.PlainState.{side_of, IsNewLink};
 ghost use Rattle.vcpu_run.specs.Agreed.{IsLoggedOut};
+ghost use Rattle.vcpu_run.specs.Answered.{IsAnswered};
 ghost use Rattle.vcpu_run.specs.Machines.{FitsSeat, HasSeat, SitsAt, Stays, server_id};
+ghost use Rattle.vcpu_run.specs.OnDisk.{LastsOnDisk};
 ghost use Rattle.vcpu_run.specs.Pairs.{IsPair};
 
 use crate::driver::Driver;
+use crate::session_end::SessionEnd;
 use block_server::Server;
 use boot_text::SERVER_PAGES;
 use crq_session::{PAGE_SLOTS, PlainLink};
@@ -62,6 +65,7 @@ impl Pair {
             (side_of pair.link true).queue.slots ≡ PAGE_SLOTS * queue) }
         ensures client { IfOk result (HasSeat client) }
         ensures out { IfOk result IsLoggedOut }
+        ensures answered { IfOk result (IsAnswered []) }
     {
         match client {
             Some(seat) => Pair::with_client(alloc, unit, queue, seat),
@@ -78,6 +82,7 @@ impl Pair {
             (side_of pair.link true).queue.slots ≡ PAGE_SLOTS * queue) }
         ensures client { IfOk result (SitsAt seat) }
         ensures out { IfOk result IsLoggedOut }
+        ensures answered { IfOk result (IsAnswered []) }
     {
         let server = UnitId { partition: 0, unit };
         Ok(Pair {
@@ -97,6 +102,7 @@ impl Pair {
         ensures slots { IfOk result (λ pair.
             (side_of pair.link true).queue.slots ≡ PAGE_SLOTS * queue) }
         ensures client { IfOk result (λ pair. pair.driver ≡ None) }
+        ensures answered { IfOk result (IsAnswered []) }
     {
         let server = UnitId { partition: 0, unit };
         let absent = UnitId {
@@ -121,6 +127,7 @@ impl Pair {
         requires partition { server.old.partition ≡ 0 }
         requires unit { unit < vec_len server.old.units }
         requires pair { IsPair 0 server.old.copies.items unit self.old }
+        requires answered { IsAnswered server.old.records.history.items self.old }
         ensures pair { IsPair 0 server.new.copies.items unit self.new }
         ensures others { (k : ℕ) (other : Pair) → k ≢ unit →
             IsPair 0 server.old.copies.items k other → IsPair 0 server.new.copies.items k other }
@@ -128,8 +135,17 @@ impl Pair {
         ensures driver { self.new.driver ≡ self.old.driver }
         ensures units { vec_len server.new.units ≡ vec_len server.old.units }
         ensures partition { server.new.partition ≡ 0 }
+        ensures answered { IsAnswered server.new.records.history.items self.new }
+        ensures elsewhere { (k : ℕ) (other : Pair) → k ≢ unit → other.server ≡ server_id k →
+            IsAnswered server.old.records.history.items other →
+            IsAnswered server.new.records.history.items other }
+        ensures disk { LastsOnDisk server.old.records.history.items
+            server.new.records.history.items (Di.state server.old.disk.image).blocks
+            (Di.state server.new.disk.image).blocks }
     {
-        let mut end = self.link.side(true);
+        let mut end = SessionEnd {
+            end: self.link.side(true),
+        };
         server.turn(unit, &mut end, &mut self.own, &mut self.window)
     }
 }

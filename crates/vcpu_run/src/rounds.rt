@@ -1,8 +1,13 @@
 // The turns of a round: those of the server units, and those of the client partitions.
-ghost use Rattle.std.specs.Prelude.{◌≡◌, ◌<◌, List, OnOk, length, vec_len};
+ghost use Rattle.std.specs.Prelude.{◌≡◌, ◌<◌, All, IsTrue, List, OnOk, length, vec_len};
+ghost use Rattle.std.specs.List.{list_all};
 ghost use Rattle.rdma_copy.specs.declared.copy.CopyRecord.{CopyRecord};
 ghost use Rattle.vcpu_run.specs.declared.pair.Pair.{Pair};
+ghost use Rattle.vio_num.specs.declared.history.Served.{Served};
 ghost use Rattle.vcpu_run.specs.Agreed.{AreCredited, SameDrivers};
+ghost use Rattle.vcpu_run.specs.Answered.{AreAnswered};
+ghost use Rattle.vcpu_run.specs.OnDisk.{LastsOnDisk};
+ghost use Rattle.vcpu_run.specs.Lines.{IsOver, is_over};
 ghost use Rattle.vcpu_run.specs.Machines.{AllRun, AllStay, AreScripts, IsMachine, IsServing};
 ghost use Rattle.vcpu_run.specs.Pairs.{ArePairs, AreDrivers};
 
@@ -13,27 +18,52 @@ use block_server::Server;
 use vio_io::Blocks;
 use vio_num::{Moved, NoMemory};
 
-/// Runs rounds until nothing moves and no line is left.
+/// Runs rounds until nothing moves and no line is left: a round in which nothing moved ends the run only where each
+/// script is over.
 pub(crate) fn run<Di: Blocks>(
     server: &mut Server<Di>,
     pairs: &mut [Pair],
     scripts: &mut [Script<'_>],
 ) -> Result<(), NoMemory>
-    requires { IsMachine server.old.partition (vec_len server.old.units)
+    requires machine { IsMachine server.old.partition (vec_len server.old.units)
         server.old.copies.items pairs.old scripts.old }
+    requires answered { AreAnswered server.old.records.history.items pairs.old }
     ensures machine { IsMachine server.new.partition (vec_len server.new.units)
         server.new.copies.items pairs.new scripts.new }
     ensures stay { AllStay pairs.old pairs.new }
     ensures run { AllRun scripts.old scripts.new }
     ensures credited { OnOk result (AreCredited pairs.old scripts.old →
         AreCredited pairs.new scripts.new) }
+    ensures over { OnOk result (All IsOver scripts.new) }
+    ensures answered { AreAnswered server.new.records.history.items pairs.new }
+    ensures disk { LastsOnDisk server.old.records.history.items server.new.records.history.items
+        (Di.state server.old.disk.image).blocks (Di.state server.new.disk.image).blocks }
 {
     for _round in 0..u64::MAX {
-        if step(server, pairs, scripts)? == Moved::Quiet {
+        let moved = step(server, pairs, scripts)?;
+        if is_end(moved, scripts) {
             return Ok(());
         }
     }
     Err(NoMemory)
+}
+
+// Whether the run ends behind a round that moved so: nothing moved, and each script is over.
+fn is_end(moved: Moved, scripts: &[Script<'_>]) -> bool
+    ensures quiet { IsTrue result → moved ≡ Moved.Quiet }
+    ensures over { IsTrue result → All IsOver scripts.now }
+{
+    match moved {
+        Moved::Moved => false,
+        Moved::Quiet => are_over(scripts),
+    }
+}
+
+// Whether each script is over.
+fn are_over(scripts: &[Script<'_>]) -> bool
+    ensures { result ≡ list_all is_over scripts.now }
+{
+    scripts.iter().all(|script| script.is_over())
 }
 
 // Makes one round, and ends the lines that wait where nothing moved.
@@ -42,14 +72,18 @@ fn step<Di: Blocks>(
     pairs: &mut [Pair],
     scripts: &mut [Script<'_>],
 ) -> Result<Moved, NoMemory>
-    requires { IsMachine server.old.partition (vec_len server.old.units)
+    requires machine { IsMachine server.old.partition (vec_len server.old.units)
         server.old.copies.items pairs.old scripts.old }
+    requires answered { AreAnswered server.old.records.history.items pairs.old }
     ensures machine { IsMachine server.new.partition (vec_len server.new.units)
         server.new.copies.items pairs.new scripts.new }
     ensures stay { AllStay pairs.old pairs.new }
     ensures run { AllRun scripts.old scripts.new }
     ensures credited { OnOk result (AreCredited pairs.old scripts.old →
         AreCredited pairs.new scripts.new) }
+    ensures answered { AreAnswered server.new.records.history.items pairs.new }
+    ensures disk { LastsOnDisk server.old.records.history.items server.new.records.history.items
+        (Di.state server.old.disk.image).blocks (Di.state server.new.disk.image).blocks }
 {
     match round(server, pairs, scripts)? {
         Moved::Moved => Ok(Moved::Moved),
@@ -63,14 +97,18 @@ fn round<Di: Blocks>(
     pairs: &mut [Pair],
     scripts: &mut [Script<'_>],
 ) -> Result<Moved, NoMemory>
-    requires { IsMachine server.old.partition (vec_len server.old.units)
+    requires machine { IsMachine server.old.partition (vec_len server.old.units)
         server.old.copies.items pairs.old scripts.old }
+    requires answered { AreAnswered server.old.records.history.items pairs.old }
     ensures machine { IsMachine server.new.partition (vec_len server.new.units)
         server.new.copies.items pairs.new scripts.new }
     ensures stay { AllStay pairs.old pairs.new }
     ensures run { AllRun scripts.old scripts.new }
     ensures credited { OnOk result (AreCredited pairs.old scripts.old →
         AreCredited pairs.new scripts.new) }
+    ensures answered { AreAnswered server.new.records.history.items pairs.new }
+    ensures disk { LastsOnDisk server.old.records.history.items server.new.records.history.items
+        (Di.state server.old.disk.image).blocks (Di.state server.new.disk.image).blocks }
 {
     let served = serve(server, pairs)?;
     let turned = turn_each(scripts, pairs)?;
@@ -79,12 +117,16 @@ fn round<Di: Blocks>(
 
 // One turn of each server unit.
 fn serve<Di: Blocks>(server: &mut Server<Di>, pairs: &mut [Pair]) -> Result<Moved, NoMemory>
-    requires { IsServing server.old.partition (vec_len server.old.units)
+    requires serving { IsServing server.old.partition (vec_len server.old.units)
         server.old.copies.items pairs.old }
+    requires answered { AreAnswered server.old.records.history.items pairs.old }
     ensures serving { IsServing server.new.partition (vec_len server.new.units)
         server.new.copies.items pairs.new }
     ensures stay { AllStay pairs.old pairs.new }
     ensures drivers { SameDrivers pairs.old pairs.new }
+    ensures answered { AreAnswered server.new.records.history.items pairs.new }
+    ensures disk { LastsOnDisk server.old.records.history.items server.new.records.history.items
+        (Di.state server.old.disk.image).blocks (Di.state server.new.disk.image).blocks }
 {
     let mut moved = Moved::Quiet;
     for unit in 0..pairs.len() {
@@ -103,10 +145,14 @@ fn serve_at<Di: Blocks>(
     requires there { unit < length pairs.old }
     requires serving { IsServing server.old.partition (vec_len server.old.units)
         server.old.copies.items pairs.old }
+    requires answered { AreAnswered server.old.records.history.items pairs.old }
     ensures serving { IsServing server.new.partition (vec_len server.new.units)
         server.new.copies.items pairs.new }
     ensures stay { AllStay pairs.old pairs.new }
     ensures drivers { SameDrivers pairs.old pairs.new }
+    ensures answered { AreAnswered server.new.records.history.items pairs.new }
+    ensures disk { LastsOnDisk server.old.records.history.items server.new.records.history.items
+        (Di.state server.old.disk.image).blocks (Di.state server.new.disk.image).blocks }
 {
     pairs[unit].serve(server, unit as u8)
 }
@@ -123,6 +169,8 @@ fn turn_each(scripts: &mut [Script<'_>], pairs: &mut [Pair]) -> Result<Moved, No
     ensures run { AllRun scripts.old scripts.new }
     ensures credited { OnOk result (AreCredited pairs.old scripts.old →
         AreCredited pairs.new scripts.new) }
+    ensures answered { (history : List Served) →
+        AreAnswered history pairs.old → AreAnswered history pairs.new }
 {
     let mut moved = Moved::Quiet;
     for number in 0..scripts.len() {
@@ -145,6 +193,8 @@ fn turn_at(scripts: &mut [Script<'_>], pairs: &mut [Pair], number: usize) -> Res
     ensures run { AllRun scripts.old scripts.new }
     ensures credited { OnOk result (AreCredited pairs.old scripts.old →
         AreCredited pairs.new scripts.new) }
+    ensures answered { (history : List Served) →
+        AreAnswered history pairs.old → AreAnswered history pairs.new }
 {
     scripts[number].turn(pairs)
 }

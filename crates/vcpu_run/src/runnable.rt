@@ -1,11 +1,11 @@
-// Which plans a machine runs: those without LAN ports and raw hypervisor calls.
+// Which plans a machine runs: those without LAN ports.
 ghost use Rattle.std.specs.Prelude.{◌≡◌, ◌↔◌, All, IsTrue};
 ghost use Rattle.std.specs.List.{list_all};
-ghost use Rattle.vcpu_run.specs.Runnable.{IsPlainPartition, is_plain, has_port, has_call, is_call};
+ghost use Rattle.vcpu_run.specs.Runnable.{IsPlainPartition, is_plain, has_port};
 
-use boot_text::{Partition, Plan, Verb};
+use boot_text::{Partition, Plan};
 
-/// Whether a plan has neither LAN ports nor raw hypervisor calls.
+/// Whether a plan has no LAN ports.
 pub fn is_runnable(plan: &Plan) -> bool
     ensures { IsTrue result ↔ All IsPlainPartition plan.now.partitions }
 {
@@ -19,11 +19,11 @@ fn are_plain(partitions: &[Partition]) -> bool
     partitions.iter().all(|partition| is_plain(partition))
 }
 
-// Whether a partition has neither.
+// Whether a partition has no LAN port.
 fn is_plain(partition: &Partition) -> bool
     ensures { result ≡ is_plain partition.now }
 {
-    !has_port(partition) && !has_call(partition)
+    !has_port(partition)
 }
 
 // Whether a partition has a LAN port.
@@ -31,22 +31,4 @@ fn has_port(partition: &Partition) -> bool
     ensures { result ≡ has_port partition.now }
 {
     partition.units.as_slice().iter().any(|unit| unit.is_port())
-}
-
-// Whether a partition has a line with a raw call.
-fn has_call(partition: &Partition) -> bool
-    ensures { result ≡ has_call partition.now }
-{
-    partition
-        .lines
-        .as_slice()
-        .iter()
-        .any(|line| is_call(&line.verb))
-}
-
-// Whether a line makes a raw call.
-fn is_call(verb: &Verb) -> bool
-    ensures { result ≡ is_call verb.now }
-{
-    matches!(verb, Verb::Hcall { .. })
 }

@@ -1,13 +1,15 @@
 // A client partition: its script, and a turn of it.
-ghost use Rattle.std.specs.Prelude.{◌≡◌, ◌<◌, All, List, Some, OnOk, length, slice_get};
+ghost use Rattle.std.specs.Prelude.{◌≡◌, ◌<◌, All, List, Some, OnOk, length, slice_get, true};
 ghost use Rattle.std.specs.List.{AllPairs};
 ghost use Rattle.vcpu_run.specs.declared.pair.Pair.{Pair as PairValue};
 ghost use Rattle.vcpu_run.specs.Agreed.{AreLoggedOut, IsCredited, IsEnded, SameElse};
 ghost use Rattle.vcpu_run.specs.Credited.{taken_in};
+ghost use Rattle.vcpu_run.specs.Lines.{is_over, place_behind};
 ghost use Rattle.vcpu_run.specs.Pairs.{AreDriven, AreDrivers};
 ghost use Rattle.vcpu_run.specs.Quietly.{OnQuiet};
 ghost use Rattle.vcpu_run.specs.Runnable.{IsClientLine};
 ghost use Rattle.vcpu_run.specs.Scripts.{AreSeats, IsScript, OnlyRuns};
+ghost use Rattle.vcpu_run.specs.Works.{fails};
 
 use crate::pair::Pair;
 use crate::seats::{either, fail, push_events, step_unit, take_rest};
@@ -43,6 +45,7 @@ impl Progress {
 /// A client partition.
 #[derive(Drop)]
 pub(crate) struct Script<'p> {
+    alloc: Global,
     pub(crate) partition: u8,
     lines: &'p [Line],
     /// The place of the current line.
@@ -71,6 +74,7 @@ impl<'p> Script<'p> {
         ensures seats { result.seats ≡ seats }
     {
         Script {
+            alloc,
             partition,
             lines,
             at: 0,
@@ -130,7 +134,14 @@ impl<'p> Script<'p> {
         if let Verb::Fail = line.verb {
             return self.step_fail(pairs, line);
         }
-        let step = step_unit(&self.seats, pairs, line, &mut self.progress)?;
+        let step = step_unit(
+            self.alloc,
+            self.partition,
+            &self.seats,
+            pairs,
+            line,
+            &mut self.progress,
+        )?;
         match step {
             Step::Ends(outcome) => {
                 self.end(line, outcome)?;
@@ -140,8 +151,9 @@ impl<'p> Script<'p> {
         }
     }
 
-    // One step of a line that fails the partition: no line comes after it.
+    // One step of a line that fails the partition.
     fn step_fail(&mut self, pairs: &mut [Pair], line: &Line) -> Result<Moved, NoMemory>
+        requires fails { fails line.now.verb ≡ true }
         requires script { IsScript pairs.old self.old }
         requires pairs { AreDrivers pairs.old }
         requires line { slice_get self.old.lines.now self.old.at ≡ Some line.now }
@@ -154,27 +166,35 @@ impl<'p> Script<'p> {
     {
         if fail(&self.seats, pairs)? {
             self.end(line, Outcome::Done)?;
-            self.at = self.lines.len();
             return Ok(Moved::Moved);
         }
         Ok(Moved::Quiet)
     }
 
-    // Logs how the current line ended, and goes to the next.
+    // Logs how the current line ended, and goes to the next, if one comes behind it.
     fn end(&mut self, line: &Line, outcome: Outcome) -> Result<(), NoMemory>
         requires line { slice_get self.old.lines.now self.old.at ≡ Some line.now }
         ensures script { (pairs : List PairValue) → IsScript pairs self.old → IsScript pairs self.new }
         ensures rest { OnlyRuns self.old self.new }
         ensures ended { OnOk result (IsEnded line.now outcome self.old self.new) }
+        ensures at { OnOk result (self.new.at ≡
+            place_behind self.old.lines.now self.old.at line.now) }
     {
         self.logs.push(LogRow {
             partition: self.partition,
             line: line.number,
             outcome,
         })?;
-        self.at += 1;
+        self.at = place_behind(self.lines, self.at, line);
         self.progress = Progress::Fresh;
         Ok(())
+    }
+
+    /// Whether no line is left.
+    pub(crate) fn is_over(&self) -> bool
+        ensures { result ≡ is_over self.now }
+    {
+        self.at >= self.lines.len()
     }
 
     /// Ends the current line if it waits for what does not come any more.
@@ -198,4 +218,16 @@ impl<'p> Script<'p> {
         self.end(line, outcome)?;
         Ok(Moved::Moved)
     }
+}
+
+// The place at which a script stands once its line at this place has ended: there is none behind one that fails the
+// partition.
+fn place_behind(lines: &[Line], at: usize, line: &Line) -> usize
+    requires { at < length lines.now }
+    ensures { result ≡ place_behind lines.now at line.now }
+{
+    if let Verb::Fail = line.verb {
+        return lines.len();
+    }
+    at + 1
 }

@@ -1,18 +1,24 @@
 // What a client partition does at one of its pairs.
-ghost use Rattle.std.specs.Prelude.{◌≡◌, IsSomeAnd};
+ghost use Rattle.std.specs.Prelude.{◌≡◌, true, IfOk, IsSomeAnd};
 ghost use Rattle.vcpu_run.specs.Pairs.{Drives, IsDriver};
 ghost use Rattle.vcpu_run.specs.Credited.{StepsAgreed, taken_in};
 ghost use Rattle.vcpu_run.specs.Agreed.{OnDrivers};
+ghost use Rattle.hcall_table.specs.Rows.{IsAnswer, may_answer};
+ghost use Rattle.vcpu_run.specs.CallRows.{queue_row, row_for};
 ghost use Rattle.vcpu_run.specs.Sendings.{SameCredits};
 ghost use Rattle.vcpu_run.specs.Works.{IsUnitVerb};
 
+use crate::client_call::{ClientCall, QueueCall};
 use crate::pair::Pair;
 use crate::script::Progress;
 use crate::step::Step;
 use crate::watched::Watched;
+use crate::{entry_calls, queue_calls};
 use boot_text::Line;
 use crq_session::{CrqEnd, FreeAnswer};
-use vio_num::{Moved, NoMemory};
+use hcall_table::Returned;
+use std::alloc::Global;
+use vio_num::{Hrc, Moved, NoMemory};
 
 /// Puts the event that the client's end keeps.
 pub(crate) fn push_event(pair: &mut Pair) -> Result<Moved, NoMemory>
@@ -93,4 +99,27 @@ fn freed(pair: &mut Pair)
         unreachable!()
     };
     driver.freed();
+}
+
+/// Makes a raw hypervisor call on the client. Its driver is not told.
+pub(crate) fn call(alloc: Global, pair: &mut Pair, call: ClientCall) -> Result<Returned, NoMemory>
+    ensures drives { Drives pair.old pair.new }
+    ensures driver { pair.new.driver ≡ pair.old.driver }
+    ensures answer { IfOk result (IsAnswer (row_for call)) }
+{
+    match call {
+        ClientCall::Entry(call) => entry_calls::make(alloc, &mut pair.window, call),
+        ClientCall::Queue(call) => Ok(Returned::bare(queue_code(pair, call)?)),
+    }
+}
+
+// Makes a call on the client's queue, or on its partner's.
+fn queue_code(pair: &mut Pair, call: QueueCall) -> Result<Hrc, NoMemory>
+    ensures drives { Drives pair.old pair.new }
+    ensures driver { pair.new.driver ≡ pair.old.driver }
+    ensures code { IfOk result (λ code. may_answer (queue_row call) code ≡ true) }
+{
+    let is_registered = pair.link.is_registered(false);
+    let mut end = pair.link.side(false);
+    queue_calls::make(&mut end, is_registered, call)
 }

@@ -3,13 +3,15 @@ ghost use Rattle.std.specs.Prelude.{◌≡◌, ◌<◌, ℕ, Some, IsSomeAnd, le
 ghost use Rattle.vcpu_run.specs.Agreed.{AllSame, SameDrivers, SameElse, SameOthers, StepsSeat};
 ghost use Rattle.vcpu_run.specs.Credited.{taken_in};
 ghost use Rattle.vcpu_run.specs.Pairs.{AreDriven, IsDriver};
-ghost use Rattle.vcpu_run.specs.Works.{HaveClients, IsUnitVerb};
+ghost use Rattle.vcpu_run.specs.Works.{HaveClients, IsLineVerb, IsUnitVerb};
 
 use crate::pair::Pair;
+use crate::raw_call::{RawCall, make_call};
 use crate::script::Progress;
 use crate::seat;
 use crate::step::Step;
 use boot_text::Line;
+use std::alloc::Global;
 use vio_num::{Moved, NoMemory};
 
 /// Whether either did something.
@@ -61,8 +63,10 @@ pub(crate) fn step_at(
     seat::step(&mut pairs[seat], line, progress)
 }
 
-/// One step of a line at its unit.
+/// One step of a line at its unit, or the raw call that it makes on the units of the partition.
 pub(crate) fn step_unit(
+    alloc: Global,
+    partition: u8,
     seats: &[usize],
     pairs: &mut [Pair],
     line: &Line,
@@ -70,13 +74,16 @@ pub(crate) fn step_unit(
 ) -> Result<Step, NoMemory>
     requires clients { HaveClients seats.now pairs.old }
     requires unit { line.now.unit < length seats.now }
-    requires verb { IsUnitVerb line.now.verb }
+    requires verb { IsLineVerb line.now.verb }
     ensures driven { AreDriven pairs.old pairs.new }
     ensures credit { (k : ℕ) → slice_get seats.now line.now.unit ≡ Some k →
         StepsSeat k line.now.verb (taken_in progress.old)
         (taken_in progress.new) pairs.old pairs.new result }
 {
-    step_at(pairs, seats[usize::from(line.unit)], line, progress)
+    match RawCall::of(&line.verb) {
+        Some(raw) => make_call(alloc, partition, seats, pairs, &raw),
+        None => step_at(pairs, seats[usize::from(line.unit)], line, progress),
+    }
 }
 
 // Takes what stands in the queue of the client of this pair.

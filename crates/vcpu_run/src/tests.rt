@@ -14,7 +14,7 @@ const CALL: &[u8] =
 
 #[test]
 fn plans_of_clients_run_and_others_do_not(rt: HostRuntime) -> Result<(), Fail> {
-    for (text, runs) in [(CLIENT, true), (PORT, false), (CALL, false)] {
+    for (text, runs) in [(CLIENT, true), (PORT, false), (CALL, true)] {
         match read_plan(rt.alloc(), text) {
             Ok(plan) => assert_eq!(rt; is_runnable(&plan), runs),
             Err(fault) => assert!(rt; false, "{fault:?}"),

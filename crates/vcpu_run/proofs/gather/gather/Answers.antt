@@ -5,6 +5,9 @@ use Rattle.vcpu_run.proofs.RecordLaws.{credits_are, records_are}
 use Rattle.vio_trace.specs.Form.{IsInOrder}
 use Rattle.vcpu_run.proofs.Freed.{few_seats, free_pairs, from_rows}
 use Rattle.vcpu_run.proofs.Ordering.{order_is}
+use Rattle.vcpu_run.proofs.SentTo.{answers_are}
+use Rattle.vcpu_run.proofs.Told.{served_rows}
+use Rattle.std.proofs.Common.{refl}
 use Rattle.vcpu_run.proofs.gather.gather.Goals as goal
 
 pub rows_of-requires : goal.rows_of-requires
@@ -26,7 +29,7 @@ returns-clause-queues c =
 pub returns-clause-records : goal.returns-clause-records
 returns-clause-records c =
     from_rows c.rows_of.result _ _ _ c.rows_of.ensures.trace c.rows_of.ensures.queues
-    (λ lawful partitions of_plan. records_are c.args.pairs.items c.args.scripts.items c.args.history.items c.args.grants.items c.args.copies.items partitions c.requires.scripts of_plan)
+    (λ lawful partitions of_plan over. records_are c.args.pairs.items c.args.scripts.items c.args.history.items c.args.grants.items c.args.copies.items partitions c.requires.scripts over of_plan)
 
 pub returns-clause-copies : goal.returns-clause-copies
 returns-clause-copies c =
@@ -37,3 +40,11 @@ pub returns-clause-credits : goal.returns-clause-credits
 returns-clause-credits c =
     from_rows c.rows_of.result _ _ _ c.rows_of.ensures.trace c.rows_of.ensures.queues
     (λ lawful partitions of_plan credited. credits_are c.args.pairs.items c.args.scripts.items c.args.history.items c.args.grants.items c.args.copies.items partitions c.requires.scripts of_plan credited)
+
+pub returns-clause-answers : goal.returns-clause-answers
+returns-clause-answers c =
+    from_rows c.rows_of.result _ _ _ c.rows_of.ensures.trace c.rows_of.ensures.queues
+    (λ lawful partitions of_plan answered. answers_are c.args.pairs.items c.args.scripts.items c.args.history.items c.args.grants.items c.args.copies.items partitions c.requires.pairs c.requires.scripts lawful of_plan answered)
+
+pub returns-clause-serves : goal.returns-clause-serves
+returns-clause-serves c = served_rows c.rows_of.result _ _ c.rows_of.ensures.trace refl

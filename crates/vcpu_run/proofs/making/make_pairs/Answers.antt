@@ -1,6 +1,7 @@
 use Rattle.std.proofs.Common.{◌≡◌, ℕ, [], ◌∷◌, ◌++◌, length, sym, ap, subst, arith, length-append}
 use Rattle.vcpu_run.specs.declared.pair.Pair.{Pair}
 use Rattle.vcpu_run.specs.Agreed.{IsLoggedOut}
+use Rattle.vcpu_run.specs.Answered.{IsAnswered}
 use Rattle.vcpu_run.specs.Machines.{IsPlanned}
 use Rattle.vcpu_run.specs.Pairs.{IsPair}
 use Rattle.vcpu_run.proofs.Listed.{each_pushed}
@@ -22,4 +23,5 @@ loop-place-preserved c =
       planned = λ k other found. each_pushed planned items pair before.planned
           (subst (λ n. planned n pair) (sym before.count) c.in_ok-make_pair.ensures.planned) k other (rw push at found);
       out = λ k other found. each_pushed (λ k pair. IsLoggedOut pair) items pair before.out c.in_ok-make_pair.ensures.out k other (rw push at found);
+      answered = λ k other found. each_pushed (λ k pair. IsAnswered [] pair) items pair before.answered c.in_ok-make_pair.ensures.answered k other (rw push at found);
     }

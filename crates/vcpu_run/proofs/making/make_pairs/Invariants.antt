@@ -2,6 +2,7 @@ use Rattle.std.proofs.Common.{◌≡◌, ℕ, [], Some, length}
 use Rattle.std.specs.List.{slice_get}
 use Rattle.vcpu_run.specs.declared.pair.Pair.{Pair}
 use Rattle.vcpu_run.specs.Agreed.{AreAllOut}
+use Rattle.vcpu_run.specs.Answered.{AreAnswered}
 use Rattle.vcpu_run.specs.Machines.{IsPlanned}
 use Rattle.vcpu_run.specs.Pairs.{ArePairs}
 use Rattle.vcpu_run.proofs.making.make_pairs.Given as goal
@@ -12,4 +13,5 @@ invariant-loop-place l = record {
   are : ArePairs 0 [] l.pairs.items;
   planned : (k : ℕ) (pair : Pair) → slice_get l.pairs.items k ≡ Some pair → IsPlanned l.partitions k pair;
   out : AreAllOut l.pairs.items;
+  answered : AreAnswered [] l.pairs.items;
 }

@@ -3,8 +3,7 @@ use Rattle.std.specs.List.{slice_get}
 use Rattle.std.proofs.lemmas.Option.{slice_get_read}
 use Rattle.vcpu_run.specs.declared.script.Script.{Script}
 use Rattle.vcpu_run.specs.Making.{IsMade}
-use Rattle.vcpu_run.specs.Runnable.{IsPlainPartition}
-use Rattle.vcpu_run.proofs.Homes.{all_at, others_drive}
+use Rattle.vcpu_run.proofs.Homes.{others_drive}
 use Rattle.vcpu_run.proofs.Listed.{each_pushed, is_held}
 use Rattle.vcpu_run.proofs.making.make_scripts.Goals as goal
 
@@ -17,15 +16,6 @@ make_script-requires-clause-clients c =
     others_drive partitions number partition c.requires.sound c.requires.plain c.requires.first
     (slice_get_read partitions (length partitions) number partition refl less c.index-partitions-number.is)
     (λ e. absurd (omega arith))
-
-pub make_script-requires-clause-calls : goal.make_script-requires-clause-calls
-make_script-requires-clause-calls c =
-    let partitions = c.args.partitions.now in
-    let number = c.loop-number.number in
-    let partition = c.index-partitions-number.result in
-    let less : number < length partitions = omega arith in
-    (all_at IsPlainPartition partitions number partition c.requires.plain
-    (slice_get_read partitions (length partitions) number partition refl less c.index-partitions-number.is)).no_call
 
 pub loop-number-preserved : goal.loop-number-preserved
 loop-number-preserved c =

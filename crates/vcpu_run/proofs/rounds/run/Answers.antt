@@ -1,9 +1,10 @@
+use Rattle.vcpu_run.proofs.Disks.{lasts_same, lasts_then}
 use Rattle.vcpu_run.proofs.Keeping.{all_same, all_then}
 use Rattle.vcpu_run.proofs.Scripted.{run_same, run_then}
 use Rattle.vcpu_run.proofs.rounds.run.Goals as goal
 
 pub loop-round-init : goal.loop-round-init
-loop-round-init g c = record { machine = c.requires; stay = all_same c.args.pairs.now; run = run_same c.args.scripts.now; credited = λ are. are }
+loop-round-init g c = record { machine = c.requires.machine; stay = all_same c.args.pairs.now; run = run_same c.args.scripts.now; answered = c.requires.answered; disk = lasts_same c.args.server.now.records.history.items (g.Di.Blocks.state c.args.server.now.disk.image).blocks; credited = λ are. are }
 
 pub loop-round-preserved : goal.loop-round-preserved
 loop-round-preserved g c =
@@ -13,24 +14,37 @@ loop-round-preserved g c =
       machine = after.machine;
       stay = all_then c.args.pairs.now c.loop-round.pairs c.step.new.pairs before.stay after.stay;
       run = run_then c.args.scripts.now c.loop-round.scripts c.step.new.scripts before.run after.run;
-      credited = λ are. c.in_ok-step.ensures.credited (before.credited are);
+      answered = after.answered;
+      disk = lasts_then c.args.server.now.records.history.items c.loop-round.server.records.history.items c.step.new.server.records.history.items
+          (g.Di.Blocks.state c.args.server.now.disk.image).blocks (g.Di.Blocks.state c.loop-round.server.disk.image).blocks (g.Di.Blocks.state c.step.new.server.disk.image).blocks c.loop-round.invariant.disk c.step.ensures.disk;
+      credited = λ are. c.in_ok-moved.ensures.credited (before.credited are);
     }
 
-pub returns-in_err-step-clause-stay : goal.returns-in_err-step-clause-stay
-returns-in_err-step-clause-stay g c =
+pub returns-in_err-moved-clause-stay : goal.returns-in_err-moved-clause-stay
+returns-in_err-moved-clause-stay g c =
     all_then c.args.pairs.now c.loop-round.pairs c.step.new.pairs c.loop-round.invariant.stay c.step.ensures.stay
 
-pub returns-in_err-step-clause-run : goal.returns-in_err-step-clause-run
-returns-in_err-step-clause-run g c =
+pub returns-in_err-moved-clause-run : goal.returns-in_err-moved-clause-run
+returns-in_err-moved-clause-run g c =
     run_then c.args.scripts.now c.loop-round.scripts c.step.new.scripts c.loop-round.invariant.run c.step.ensures.run
 
-pub returns-then-eq-clause-stay : goal.returns-then-eq-clause-stay
-returns-then-eq-clause-stay g c =
+pub returns-then-is_end-clause-stay : goal.returns-then-is_end-clause-stay
+returns-then-is_end-clause-stay g c =
     all_then c.args.pairs.now c.loop-round.pairs c.step.new.pairs c.loop-round.invariant.stay c.step.ensures.stay
 
-pub returns-then-eq-clause-run : goal.returns-then-eq-clause-run
-returns-then-eq-clause-run g c =
+pub returns-then-is_end-clause-run : goal.returns-then-is_end-clause-run
+returns-then-is_end-clause-run g c =
     run_then c.args.scripts.now c.loop-round.scripts c.step.new.scripts c.loop-round.invariant.run c.step.ensures.run
 
-pub returns-then-eq-clause-credited : goal.returns-then-eq-clause-credited
-returns-then-eq-clause-credited g c = λ are. c.in_ok-step.ensures.credited (c.loop-round.invariant.credited are)
+pub returns-then-is_end-clause-credited : goal.returns-then-is_end-clause-credited
+returns-then-is_end-clause-credited g c = λ are. c.in_ok-moved.ensures.credited (c.loop-round.invariant.credited are)
+
+pub returns-in_err-moved-clause-disk : goal.returns-in_err-moved-clause-disk
+returns-in_err-moved-clause-disk g c =
+    lasts_then c.args.server.now.records.history.items c.loop-round.server.records.history.items c.step.new.server.records.history.items
+    (g.Di.Blocks.state c.args.server.now.disk.image).blocks (g.Di.Blocks.state c.loop-round.server.disk.image).blocks (g.Di.Blocks.state c.step.new.server.disk.image).blocks c.loop-round.invariant.disk c.step.ensures.disk
+
+pub returns-then-is_end-clause-disk : goal.returns-then-is_end-clause-disk
+returns-then-is_end-clause-disk g c =
+    lasts_then c.args.server.now.records.history.items c.loop-round.server.records.history.items c.step.new.server.records.history.items
+    (g.Di.Blocks.state c.args.server.now.disk.image).blocks (g.Di.Blocks.state c.loop-round.server.disk.image).blocks (g.Di.Blocks.state c.step.new.server.disk.image).blocks c.loop-round.invariant.disk c.step.ensures.disk

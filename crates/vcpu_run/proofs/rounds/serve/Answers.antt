@@ -1,15 +1,19 @@
 use Rattle.std.proofs.Common.{◌∙◌, refl}
+use Rattle.vcpu_run.proofs.Disks.{lasts_same, lasts_then}
 use Rattle.vcpu_run.proofs.Keeping.{all_same, all_then}
 use Rattle.vcpu_run.proofs.rounds.serve.Goals as goal
 
 pub loop-unit-init : goal.loop-unit-init
-loop-unit-init g c = record { serving = c.requires; stay = all_same c.args.pairs.now; drivers = λ k. refl }
+loop-unit-init g c = record { serving = c.requires.serving; stay = all_same c.args.pairs.now; drivers = λ k. refl; answered = c.requires.answered; disk = lasts_same c.args.server.now.records.history.items (g.Di.Blocks.state c.args.server.now.disk.image).blocks }
 
 pub loop-unit-preserved : goal.loop-unit-preserved
 loop-unit-preserved g c = record {
   serving = c.serve_at.ensures.serving;
   stay = all_then c.args.pairs.now c.loop-unit.pairs c.serve_at.new.pairs c.loop-unit.invariant.stay c.serve_at.ensures.stay;
   drivers = λ k. c.serve_at.ensures.drivers k ∙ c.loop-unit.invariant.drivers k;
+  answered = c.serve_at.ensures.answered;
+  disk = lasts_then c.args.server.now.records.history.items c.loop-unit.server.records.history.items c.serve_at.new.server.records.history.items
+      (g.Di.Blocks.state c.args.server.now.disk.image).blocks (g.Di.Blocks.state c.loop-unit.server.disk.image).blocks (g.Di.Blocks.state c.serve_at.new.server.disk.image).blocks c.loop-unit.invariant.disk c.serve_at.ensures.disk;
 }
 
 pub returns-in_err-turned-clause-stay : goal.returns-in_err-turned-clause-stay
@@ -18,3 +22,8 @@ returns-in_err-turned-clause-stay g c =
 
 pub returns-in_err-turned-clause-drivers : goal.returns-in_err-turned-clause-drivers
 returns-in_err-turned-clause-drivers g c = λ k. c.serve_at.ensures.drivers k ∙ c.loop-unit.invariant.drivers k
+
+pub returns-in_err-turned-clause-disk : goal.returns-in_err-turned-clause-disk
+returns-in_err-turned-clause-disk g c =
+    lasts_then c.args.server.now.records.history.items c.loop-unit.server.records.history.items c.serve_at.new.server.records.history.items
+    (g.Di.Blocks.state c.args.server.now.disk.image).blocks (g.Di.Blocks.state c.loop-unit.server.disk.image).blocks (g.Di.Blocks.state c.serve_at.new.server.disk.image).blocks c.loop-unit.invariant.disk c.serve_at.ensures.disk

@@ -1,5 +1,7 @@
-use Rattle.std.proofs.Common.{◌≡◌, ◌≤◌, length, slice_index_or, sym, ◌∙◌, subst, length-set}
+use Rattle.std.proofs.Common.{◌≡◌, ◌≤◌, ℕ, length, slice_index_or, sym, ◌∙◌, subst, length-set}
 use Rattle.std.proofs.lemmas.Option.{slice_get-get_or}
+use Rattle.vcpu_run.specs.declared.pair.Pair.{Pair}
+use Rattle.vcpu_run.specs.Answered.{IsAnswered}
 use Rattle.vcpu_run.specs.Machines.{Stays}
 use Rattle.vcpu_run.specs.Pairs.{IsPair}
 use Rattle.vcpu_run.proofs.Agreeing.{set_same}
@@ -42,3 +44,15 @@ returns-clause-drivers g c =
     let pairs = c.args.pairs.now in
     set_same pairs c.args.unit (slice_index_or pairs c.args.unit c.index-pairs-unit.result) c.serve.new.self
     (slice_get-get_or pairs c.args.unit c.index-pairs-unit.result c.requires.there) c.serve.ensures.driver
+
+pub returns-clause-answered : goal.returns-clause-answered
+returns-clause-answered g c =
+    let pairs = c.args.pairs.now in
+    each_set (λ (k : ℕ) (other : Pair). IsAnswered c.serve.new.server.records.history.items other) pairs c.args.unit c.serve.new.self
+    (λ k other there apart. c.serve.ensures.elsewhere k other apart (c.requires.serving.pairs_are k other there).server (c.requires.answered k other there))
+    c.serve.ensures.answered
+
+pub serve-requires-clause-answered : goal.serve-requires-clause-answered
+serve-requires-clause-answered g c =
+    let pairs = c.args.pairs.now in
+    c.requires.answered c.args.unit (slice_index_or pairs c.args.unit c.index-pairs-unit.result) (slice_get-get_or pairs c.args.unit c.index-pairs-unit.result c.requires.there)

@@ -1,5 +1,6 @@
 use Rattle.std.proofs.Common.{slice_index_or}
 use Rattle.std.proofs.lemmas.Option.{slice_get-get_or}
+use Rattle.vcpu_run.proofs.Answering.{answered_driven}
 use Rattle.vcpu_run.proofs.Elsewhere.{credits_turned, ok_then}
 use Rattle.vcpu_run.proofs.Keeping.{driven_stay, drivers_driven, pairs_driven}
 use Rattle.vcpu_run.proofs.Scripted.{run_one, script_turned}
@@ -46,3 +47,6 @@ returns-clause-credited c =
     credits_turned c.args.pairs.now c.turn.new.pairs scripts c.args.number old c.turn.new.self found c.requires.scripts c.turn.ensures.others are
     (kept (are c.args.number old found)))
     c.turn.ensures.credited
+
+pub returns-clause-answered : goal.returns-clause-answered
+returns-clause-answered c history = answered_driven history c.args.pairs.now c.turn.new.pairs c.turn.ensures.driven

@@ -7,6 +7,7 @@ loop-number-init c = record {
   pairs = λ copies are. are;
   drivers = c.requires.drivers;
   scripts = c.requires.scripts;
+  answered = λ history are. are;
   stay = all_same c.args.pairs.now;
   run = run_same c.args.scripts.now;
   credited = λ are. are;
@@ -20,6 +21,7 @@ loop-number-preserved c =
       pairs = λ copies are. after.pairs copies (before.pairs copies are);
       drivers = after.drivers;
       scripts = after.scripts;
+      answered = λ history are. after.answered history (before.answered history are);
       stay = all_then c.args.pairs.now c.loop-number.pairs c.turn_at.new.pairs before.stay after.stay;
       run = run_then c.args.scripts.now c.loop-number.scripts c.turn_at.new.scripts before.run after.run;
       credited = λ are. c.in_ok-turned.ensures.credited (before.credited are);
@@ -35,3 +37,6 @@ returns-in_err-turned-clause-stay c =
 pub returns-in_err-turned-clause-run : goal.returns-in_err-turned-clause-run
 returns-in_err-turned-clause-run c =
     run_then c.args.scripts.now c.loop-number.scripts c.turn_at.new.scripts c.loop-number.invariant.run c.turn_at.ensures.run
+
+pub returns-in_err-turned-clause-answered : goal.returns-in_err-turned-clause-answered
+returns-in_err-turned-clause-answered c history are = c.turn_at.ensures.answered history (c.loop-number.invariant.answered history are)

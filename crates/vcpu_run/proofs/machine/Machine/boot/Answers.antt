@@ -3,9 +3,9 @@ use Rattle.rdma_copy.specs.declared.copy.CopyRecord.{CopyRecord}
 use Rattle.vcpu_run.specs.Machines.{ArePlanned}
 use Rattle.vcpu_run.specs.Making.{AreMade}
 use Rattle.vcpu_run.specs.Pairs.{ArePairs}
-use Rattle.vcpu_run.proofs.Booted.{few_pairs, scripts_made, scripts_of_plan}
+use Rattle.vcpu_run.proofs.Booted.{few_pairs, server_at_home, scripts_made, scripts_of_plan}
 use Rattle.vcpu_run.proofs.Elsewhere.{credits_made}
-use Rattle.vcpu_run.proofs.Homes.{first_serves}
+use Rattle.vcpu_run.proofs.Homes.{first_serves, home_silent}
 use Rattle.vcpu_run.proofs.machine.Machine.boot.Goals as goal
 
 pub make_pairs-requires-clause-first : goal.make_pairs-requires-clause-first
@@ -65,6 +65,8 @@ returns-clause-of_plan g c =
     record {
       pairs_are = rw (← c.as_slice-partitions.ensures) c.in-Ok.ensures.planned;
       scripts_are = scripts_of_plan partitions scripts.items made;
+      silent = home_silent partitions c.requires.runnable.sound.partitions (first_serves partitions c.requires.runnable.sound.partitions c.requires.runnable.each);
+      at_home = λ server is. server_at_home partitions server c.requires.runnable.sound.partitions (first_serves partitions c.requires.runnable.sound.partitions c.requires.runnable.each) is;
     }
 
 pub returns-clause-credited : goal.returns-clause-credited
@@ -74,3 +76,6 @@ returns-clause-credited g c =
     let partitions = c.args.plan.now.partitions in
     let made : AreMade partitions scripts.items = rw (← c.as_slice-partitions.ensures) c.in-Ok-make_scripts.ensures in
     credits_made partitions pairs.items scripts.items made c.in-Ok.ensures.out
+
+pub returns-clause-none : goal.returns-clause-none
+returns-clause-none g c = c.in_ok-server.ensures.history

@@ -1,10 +1,14 @@
-use Rattle.std.proofs.Common.{rules, ◌≡◌, ◌++◌, List, length, take, drop, ◌∙◌, ap, subst, sym}
+use Rattle.std.proofs.Common.{rules, ◌≡◌, ◌++◌, All, List, refl, length, take, drop, ◌∙◌, ap, subst, sym}
 use Rattle.std.proofs.lemmas.Option.{IfSome_then}
 use Rattle.vcpu_run.specs.declared.pair.Pair.{Pair}
 use Rattle.vcpu_run.specs.declared.script.Script.{Script}
 use Rattle.vcpu_run.specs.Agreed.{AreCredited}
+use Rattle.vio_num.specs.declared.history.Served.{Served}
+use Rattle.vcpu_run.specs.Answered.{AreAnswered}
+use Rattle.vcpu_run.specs.Lines.{IsOver}
 use Rattle.vcpu_run.specs.Machines.{AllRun, AllStay, AreScripts}
 use Rattle.vcpu_run.specs.Pairs.{ArePairs}
+use Rattle.vcpu_run.proofs.Disks.{disk_told, tells_told}
 use Rattle.vcpu_run.proofs.Elsewhere.{ok_then}
 use Rattle.vcpu_run.proofs.Lasting.{lent, plan_lasts}
 use Rattle.vcpu_run.proofs.machine.Machine.settle.Goals as goal
@@ -55,8 +59,43 @@ trace_of-trace-requires-clause-credited g c =
     (subst (λ (list : List Script). AreCredited new list) (sym scripts) (kept before)))
     c.run-run.ensures.credited
 
-pub returns : goal.returns
-returns g c =
+pub trace_of-trace-requires-clause-over : goal.trace_of-trace-requires-clause-over
+trace_of-trace-requires-clause-over g c =
+    let old_scripts = c.args.self.scripts in
+    let new_scripts = c.run-run.new.scripts in
+    let size_scripts : old_scripts.len ≡ length old_scripts.items = search rules in
+    let scripts : take old_scripts.len (new_scripts ++ drop (length new_scripts) old_scripts.items) ≡ new_scripts =
+    lent old_scripts.len old_scripts.items new_scripts size_scripts (c.run-run.ensures.run.count ∙ ap length c.deref_mut-2.ensures.value) in
+    ok_then c.run-run.result (All IsOver new_scripts) _ (λ over. subst (λ (list : List Script). All IsOver list) (sym scripts) over) c.run-run.ensures.over
+
+pub trace_of-trace-requires-clause-answered : goal.trace_of-trace-requires-clause-answered
+trace_of-trace-requires-clause-answered g c =
+    let old = c.args.self.pairs in
+    let new = c.run-run.new.pairs in
+    let size : old.len ≡ length old.items = search rules in
+    let pairs : take old.len (new ++ drop (length new) old.items) ≡ new =
+    lent old.len old.items new size (c.run-run.ensures.stay.count ∙ ap length c.deref_mut.ensures.value) in
+    let here : AreAnswered c.finish-image.result.history.items new = rw c.finish-image.ensures.history c.run-run.ensures.answered in
+    subst (λ (list : List Pair). AreAnswered c.finish-image.result.history.items list) (sym pairs) here
+
+pub run-run-requires-clause-answered : goal.run-run-requires-clause-answered
+run-run-requires-clause-answered g c = rw c.deref_mut.ensures.value c.requires.answered
+
+pub returns-clause-disk : goal.returns-clause-disk
+returns-clause-disk g c =
+    let history : c.finish-image.result.history.items ≡ c.run-run.new.server.records.history.items = rw c.finish-image.ensures.history refl in
+    disk_told c.trace_of-trace.result c.args.self.server.records.history.items c.run-run.new.server.records.history.items c.finish-image.result.history.items
+    (g.Di.Blocks.state c.args.self.server.disk.image).blocks (g.Di.Blocks.state c.run-run.new.server.disk.image).blocks (g.Di.Blocks.state c.finish-image.result.image).blocks
+    history (ap (λ image. (g.Di.Blocks.state image).blocks) c.finish-image.ensures.image)
+    c.run-run.ensures.disk c.trace_of-trace.ensures.serves
+
+pub returns-clause-tells : goal.returns-clause-tells
+returns-clause-tells g c =
+    tells_told (g.Di.Blocks.state c.args.self.server.disk.image).blocks (g.Di.Blocks.state c.run-run.new.server.disk.image).blocks (g.Di.Blocks.state c.finish-image.result.image).blocks
+    (ap (λ image. (g.Di.Blocks.state image).blocks) c.finish-image.ensures.image) c.run-run.ensures.disk.tells
+
+pub returns-clause-law : goal.returns-clause-law
+returns-clause-law g c =
     let old = c.args.self.pairs in
     let new = c.run-run.new.pairs in
     let old_scripts = c.args.self.scripts in
@@ -68,6 +107,6 @@ returns g c =
     let pairs : take old.len (new ++ drop (length new) old.items) ≡ new = lent old.len old.items new size stay.count in
     let scripts : take old_scripts.len (new_scripts ++ drop (length new_scripts) old_scripts.items) ≡ new_scripts =
     lent old_scripts.len old_scripts.items new_scripts size_scripts run.count in
-    IfSome_then c.trace_of-trace.result c.trace_of-trace.ensures
+    IfSome_then c.trace_of-trace.result c.trace_of-trace.ensures.law
     (λ trace keeps partitions of_plan.
     keeps partitions (rw (pairs, scripts) (plan_lasts partitions old.items new old_scripts.items new_scripts stay run of_plan)))

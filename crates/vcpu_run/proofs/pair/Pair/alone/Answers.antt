@@ -1,5 +1,6 @@
 use Rattle.std.proofs.Common.{◌≡◌, ◌*◌, None, ap, arith}
 use Rattle.vio_num.specs.declared.names.UnitId.{UnitId}
+use Rattle.vcpu_run.proofs.Answering.{answered_new}
 use Rattle.vcpu_run.proofs.Opened.{pair_new}
 use Rattle.vcpu_run.proofs.pair.Pair.alone.Goals as goal
 
@@ -10,3 +11,6 @@ returns-clause-pair c =
     c.in_ok-open.ensures c.in_ok-open-2.ensures
     (λ same. let e : 255 ≡ c.args.unit = ap (λ (id : UnitId). id.unit) same in absurd (omega (arith, e, c.requires.unit)))
     c.in_ok-open_link.ensures tt
+
+pub returns-clause-answered : goal.returns-clause-answered
+returns-clause-answered c = answered_new _ (256 * c.args.queue) (256 * 1) c.in_ok-open_link.ensures

@@ -1,6 +1,7 @@
 use Rattle.std.proofs.Common.{◌*◌, Some, ap, arith}
 use Rattle.vscsi_client.specs.State.{ClientState}
 use Rattle.vcpu_run.specs.Machines.{server_id}
+use Rattle.vcpu_run.proofs.Answering.{answered_new}
 use Rattle.vcpu_run.proofs.Opened.{driver_new, pair_new}
 use Rattle.vcpu_run.proofs.pair.Pair.with_client.Goals as goal
 
@@ -15,3 +16,6 @@ returns-clause-pair c =
 
 pub returns-clause-out : goal.returns-clause-out
 returns-clause-out c = ap (λ (s : ClientState). s.granted) c.in_ok-open-3.ensures.client
+
+pub returns-clause-answered : goal.returns-clause-answered
+returns-clause-answered c = answered_new _ (256 * c.args.queue) (256 * c.args.seat.queue) c.in_ok-open_link.ensures

@@ -19,7 +19,6 @@ step_unit-requires c =
       unit = rw c.deref.ensures.value line.unit;
       verb = record {
         client = line.client;
-        no_call = line.no_call;
         one = one_unit c.args.line.now.verb c.in_default.not-Fail;
         ranged = line.ranged;
       };

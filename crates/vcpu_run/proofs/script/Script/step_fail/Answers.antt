@@ -1,4 +1,4 @@
-use Rattle.std.proofs.Common.{arith, refl}
+use Rattle.std.proofs.Common.{◌≡◌, ◌+◌, ◌∙◌, ap, cond, length, refl, sym}
 use Rattle.std.proofs.lemmas.Option.{slice_get_within}
 use Rattle.vcpu_run.proofs.Crediting.{credited_all, credited_fails}
 use Rattle.vcpu_run.proofs.Driving.{clients_of}
@@ -18,23 +18,19 @@ returns-in_err-end-clause-script c =
 
 pub returns-then-branch-clause-script : goal.returns-then-branch-clause-script
 returns-then-branch-clause-script c =
-    let ended = c.end.ensures.script c.fail.new.pairs (script_stays c.args.pairs.now c.fail.new.pairs c.args.self.now c.fail.ensures.driven c.requires.script) in
-    record {
-      seats = ended.seats;
-      lines = ended.lines;
-      in_order = ended.in_order;
-      at = omega arith;
-      logs = record { own = ended.logs.own; numbers = ended.logs.numbers; reached = λ less. absurd (omega (arith, less)) };
-    }
+    c.end.ensures.script c.fail.new.pairs (script_stays c.args.pairs.now c.fail.new.pairs c.args.self.now c.fail.ensures.driven c.requires.script)
 
 pub returns-clause-script : goal.returns-clause-script
 returns-clause-script c = script_stays c.args.pairs.now c.fail.new.pairs c.args.self.now c.fail.ensures.driven c.requires.script
 
 pub returns-then-branch-clause-credited : goal.returns-then-branch-clause-credited
 returns-then-branch-clause-credited c = λ is.
+    let over : c.end.new.self.at ≡ length c.end.new.self.lines.now =
+    c.in_ok-end.ensures.at ∙ (ap (λ b. cond b (length c.args.self.now.lines.now) (c.args.self.now.at + 1)) c.requires.fails
+    ∙ sym (ap (λ lines. length lines.now) c.end.ensures.rest.lines)) in
     credited_fails c.args.pairs.now c.fail.new.pairs c.args.self.now _ c.args.line.now _ c.requires.line
     (c.requires.script.logs.reached (slice_get_within c.args.self.now.lines.now c.args.self.now.at c.args.line.now c.requires.line))
-    refl c.end.ensures.rest.lines c.in_ok-end.ensures.ended.logs refl is
+    refl c.end.ensures.rest.lines c.in_ok-end.ensures.ended.logs over is
 
 pub returns-clause-credited : goal.returns-clause-credited
 returns-clause-credited c = λ is. credited_all c.args.pairs.now c.fail.new.pairs c.args.self.now c.fail.ensures.credit is

@@ -1,0 +1,58 @@
+-- What a raw call leaves of a partition's client units, whether a row answers it or the table of calls refuses it.
+use Rattle.std.proofs.Common.{◌≡◌, ℕ, false, List, Option, Some, None, Result, IfSome, refl, sym, subst}
+use Rattle.vio_num.specs.declared.hypervisor.Hrc.TheVariants as codes
+use Rattle.vio_num.specs.declared.memory.NoMemory.{NoMemory}
+use Rattle.boot_text.specs.declared.verb.Verb.{Verb}
+use Rattle.hcall_table.specs.Asked.{Refuses}
+use Rattle.hcall_table.specs.Named.{unit_of}
+use Rattle.hcall_table.specs.Rows.{row_of}
+use Rattle.hcall_table.specs.declared.hcall.Hcall.{Hcall}
+use Rattle.hcall_table.specs.declared.returned.Returned.{Returned}
+use Rattle.vcpu_run.specs.declared.client_units.ClientUnits.{ClientUnits}
+use Rattle.vcpu_run.specs.declared.driver.Driver.{Driver}
+use Rattle.vcpu_run.specs.declared.pair.Pair.{Pair}
+use Rattle.vcpu_run.specs.declared.step.Step.{Step}
+use Rattle.vcpu_run.specs.Agreed.{OnDrivers, SameDrivers, StepsSeat, driver_at}
+use Rattle.vcpu_run.specs.Credited.{IsPlain, StepsAgreed, is_take}
+use Rattle.vcpu_run.specs.RawCalls.{CallsUnits, place_of}
+use Rattle.vcpu_run.proofs.Credits.{plain_fresh}
+use Rattle.vcpu_run.proofs.Driving.{driven_same}
+
+units_same : (old new : ClientUnits) → new ≡ old → CallsUnits old new
+units_same old new same = subst (CallsUnits old) (sym same) (record { lender = refl; driven = driven_same old.pairs.now; told = λ k. refl })
+
+-- a row that has a unit, or none of this partition
+called_on : (old new : ClientUnits) (unit : Option ℕ) (result : Result Returned NoMemory)
+    → (unit ≡ None → Refuses ClientUnits codes.Parameter old new result) → IfSome unit (λ unit. CallsUnits old new) → CallsUnits old new
+called_on old new None result elsewhere made = units_same old new (elsewhere refl).same
+called_on old new (Some unit) result elsewhere made = made
+
+pub units_called : (old new : ClientUnits) (number : ℕ) (args : List ℕ) (result : Result Returned NoMemory)
+    → (row_of number ≡ None → Refuses ClientUnits codes.Function old new result)
+    → IfSome (row_of number) (λ row. unit_of (place_of old) row args ≡ None → Refuses ClientUnits codes.Parameter old new result)
+    → IfSome (row_of number) (λ row. IfSome (unit_of (place_of old) row args) (λ unit. CallsUnits old new))
+    → CallsUnits old new
+units_called old new number args result unknown elsewhere made = at (row_of number) refl elsewhere made
+  where
+    at : (row : Option Hcall) → row_of number ≡ row
+        → IfSome row (λ row. unit_of (place_of old) row args ≡ None → Refuses ClientUnits codes.Parameter old new result)
+        → IfSome row (λ row. IfSome (unit_of (place_of old) row args) (λ unit. CallsUnits old new)) → CallsUnits old new
+    at None e p m = units_same old new (unknown e).same
+    at (Some row) e p m = called_on old new (unit_of (place_of old) row args) result p m
+
+-- a step that told no driver, and changed no credit
+told_here : (verb : Verb) (taken : ℕ) (o p : Option Driver) (result : Result Step NoMemory) → is_take verb ≡ false → p ≡ o → IsPlain result
+    → OnDrivers o p (λ a b. StepsAgreed verb taken taken a.client b.client result)
+told_here verb taken o p result other same plain =
+    subst (λ (q : Option Driver). OnDrivers o q (λ a b. StepsAgreed verb taken taken a.client b.client result)) (sym same) (at o)
+  where
+    at : (q : Option Driver) → OnDrivers q q (λ a b. StepsAgreed verb taken taken a.client b.client result)
+    at None = tt
+    at (Some d) = plain_fresh verb taken d.client d.client result other (record { granted = refl; outgoing = refl }) plain
+
+pub told_steps : (old new : List Pair) (verb : Verb) (taken k : ℕ) (result : Result Step NoMemory) → is_take verb ≡ false → SameDrivers old new
+    → IsPlain result → StepsSeat k verb taken taken old new result
+told_steps old new verb taken k result other told plain = record {
+  others = λ j apart. told j;
+  credit = told_here verb taken (driver_at old k) (driver_at new k) result other (told k) plain;
+}

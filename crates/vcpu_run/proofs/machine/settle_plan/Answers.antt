@@ -1,0 +1,27 @@
+use Rattle.std.proofs.Common.{◌≡◌, List, [], IfSome, IsSome, subst, sym}
+use Rattle.vio_num.specs.declared.history.Served.{Served}
+use Rattle.block_server.specs.DiskLaw.{KeepsDisk}
+use Rattle.vcpu_run.specs.Answered.{AreAnswered}
+use Rattle.vcpu_run.proofs.Disks.{served_from, told_same}
+use Rattle.vcpu_run.proofs.machine.settle_plan.Goals as goal
+
+pub settle-requires-clause-answered : goal.settle-requires-clause-answered
+settle-requires-clause-answered g c =
+    subst (λ (rows : List Served). AreAnswered rows c.in-Ok.machine.pairs.items) (sym c.in-Ok.ensures.none) c.in-Ok.ensures.answered
+
+pub returns-in-Ok-clause-disk : goal.returns-in-Ok-clause-disk
+returns-in-Ok-clause-disk g c =
+    let trace = c.settle.result.trace in
+    let after = (g.Di.Blocks.state c.settle.result.image).blocks in
+    served_from trace (g.Di.Blocks.state c.args.image).blocks after
+    (subst (λ image. IfSome trace (λ told. ∥ KeepsDisk [] told.serves (g.Di.Blocks.state image).blocks after ∥₁)) c.in-Ok.ensures.image
+    (subst (λ (rows : List Served). IfSome trace (λ told. ∥ KeepsDisk rows told.serves (g.Di.Blocks.state c.in-Ok.machine.server.disk.image).blocks after ∥₁)) c.in-Ok.ensures.none c.settle.ensures.disk))
+
+pub returns-in-Ok-clause-tells : goal.returns-in-Ok-clause-tells
+returns-in-Ok-clause-tells g c =
+    subst (λ image. IfSome (g.Di.Blocks.state image).blocks (λ blocks. IsSome (g.Di.Blocks.state c.settle.result.image).blocks)) c.in-Ok.ensures.image c.settle.ensures.tells
+
+pub returns-in-Err-clause-tells : goal.returns-in-Err-clause-tells
+returns-in-Err-clause-tells g c =
+    subst (λ image. IfSome (g.Di.Blocks.state c.args.image).blocks (λ blocks. IsSome (g.Di.Blocks.state image).blocks)) (sym c.in-Err.ensures.err)
+    (told_same (g.Di.Blocks.state c.args.image).blocks)

@@ -1,0 +1,5 @@
+use Rattle.vcpu_run.proofs.RawCalling.{units_called}
+use Rattle.vcpu_run.proofs.raw_call.call_units.Goals as goal
+
+pub returns-clause-units : goal.returns-clause-units
+returns-clause-units c = units_called c.args.units.now c.call.new.units c.args.number c.args.arguments.now _ c.call.ensures.function c.call.ensures.parameter c.call.ensures.made

@@ -1,0 +1,26 @@
+-- Which responses the queue of a pair's client got between turns, by the rows of its server unit (SRP, "SRP_RSP response").
+use Rattle.std.specs.Prelude.{◌≡◌, ◌≤◌, ℕ, false, true, All, List, Some, slice_get}
+use Rattle.vio_num.specs.declared.history.Served.{Served}
+use Rattle.crq_ring.specs.declared.rows.PipeRow.{PipeRow}
+use Rattle.crq_session.specs.EndState.{EndState}
+use Rattle.crq_session.specs.PlainState.{side_of}
+use Rattle.block_server.specs.Answering.{answers_of, responses}
+use Rattle.vcpu_run.specs.declared.pair.Pair.{Pair}
+
+-- each row is of a session, which count from 1
+abbrev pub AreBegun : List PipeRow → Type 0
+AreBegun rows = All (λ row. 1 ≤ row.session) rows
+
+-- Rows were put into the partner's queue in sessions alone; and it is in one where it is registered.
+pub record PutsInSessions (end : EndState) : Type 0 where
+  pub begun : AreBegun end.sent
+  pub registered : end.place.partner_registered ≡ true → 1 ≤ end.counts.partner_session
+
+-- The responses that were put into the client's queue are those of the unit's answered rows, one each, in their order; and all
+-- entries were put there in sessions.
+pub record IsAnswered (history : List Served) (pair : Pair) : Type 0 where
+  pub answers : ∥ responses (side_of pair.link false).queue.sent ≡ answers_of pair.server history ∥₁
+  pub begun : AreBegun (side_of pair.link false).queue.sent
+
+abbrev pub AreAnswered : List Served → List Pair → Type 0
+AreAnswered history pairs = (k : ℕ) (pair : Pair) → slice_get pairs k ≡ Some pair → IsAnswered history pair

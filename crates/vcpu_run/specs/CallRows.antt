@@ -1,0 +1,77 @@
+-- The rows of the calls that reach client units, and what their codes say.
+use Rattle.std.specs.Prelude.{◌≡◌, ℕ, Bool, true, false, Option, Some, None, if◌then◌else◌}
+use Rattle.vio_num.specs.declared.hypervisor.Hrc.{Hrc}
+use Rattle.vio_num.specs.declared.hypervisor.Hrc.TheVariants as codes
+use Rattle.tce_window.specs.declared.answers.GetTce.{GetTce}
+use Rattle.tce_window.specs.declared.answers.GetTce.TheVariants as gets
+use Rattle.tce_window.specs.declared.answers.TceAnswer.{TceAnswer}
+use Rattle.tce_window.specs.declared.answers.TceAnswer.TheVariants as tces
+use Rattle.hcall_table.specs.Rows.{gives_value, may_answer, row_of}
+use Rattle.hcall_table.specs.declared.hcall.Hcall.{Hcall}
+use Rattle.hcall_table.specs.declared.hcall.Hcall.TheVariants as rows
+use Rattle.hcall_table.specs.declared.returned.Returned.{Returned}
+use Rattle.vio_trace.specs.declared.outcome.Outcome.{Outcome}
+use Rattle.vio_trace.specs.declared.outcome.Outcome.TheVariants as outcomes
+use Rattle.vcpu_run.specs.declared.client_call.ClientCall.{ClientCall}
+use Rattle.vcpu_run.specs.declared.client_call.ClientCall.TheVariants as calls
+use Rattle.vcpu_run.specs.declared.client_call.EntryCall.{EntryCall}
+use Rattle.vcpu_run.specs.declared.client_call.EntryCall.TheVariants as entries
+use Rattle.vcpu_run.specs.declared.client_call.QueueCall.{QueueCall}
+use Rattle.vcpu_run.specs.declared.client_call.QueueCall.TheVariants as queues
+use Rattle.vcpu_run.specs.declared.step.Step.{Step}
+use Rattle.vcpu_run.specs.declared.step.Step.TheVariants as steps
+
+abbrev pub entry_row : EntryCall → Hcall
+entry_row (entries.Get address) = rows.GetTce
+entry_row (entries.Put address value) = rows.PutTce
+entry_row (entries.Stuff address value count) = rows.StuffTce
+entry_row (entries.PutList address list count) = rows.PutTceIndirect
+
+abbrev pub queue_row : QueueCall → Hcall
+queue_row (queues.Register address length) = rows.RegCrq
+queue_row queues.Free = rows.FreeCrq
+queue_row (queues.Send high low) = rows.SendCrq
+queue_row queues.Enable = rows.EnableCrq
+
+-- the row of a call
+abbrev pub row_for : ClientCall → Hcall
+row_for (calls.Entry call) = entry_row call
+row_for (calls.Queue call) = queue_row call
+
+-- the code of an answer of a window
+abbrev pub tce_code : TceAnswer → Hrc
+tce_code tces.Done = codes.Success
+tce_code tces.Parameter = codes.Parameter
+tce_code (tces.Busy entry pins done) = codes.Busy
+
+-- what a window answered, as registers return it
+abbrev pub answer_by : Hrc → ℕ → GetTce
+answer_by codes.Success value = gets.Value value
+answer_by _ value = gets.Parameter
+
+abbrev pub answer_of : Returned → GetTce
+answer_of returned = answer_by returned.code returned.r4
+
+-- whether a number's row gives a value with a code
+abbrev pub gives : Option Hcall → Hrc → Bool
+gives (Some row) code = gives_value row code
+gives None code = false
+
+-- what a record says of what a call returned
+abbrev pub says : ℕ → Returned → Outcome
+says number returned = if gives (row_of number) returned.code then outcomes.Value returned.r4 else outcomes.Code returned.code
+
+-- a code that a number's row may answer; a number without a row is a function that is not there
+abbrev pub CodedBy : Option Hcall → Hrc → Type 0
+CodedBy (Some row) code = may_answer row code ≡ true
+CodedBy None code = code ≡ codes.Function
+
+-- a raw call ends its line, by a code of its row, or by the value of an entry
+abbrev pub SaysCall : ℕ → Outcome → Type 0
+SaysCall number (outcomes.Code code) = CodedBy (row_of number) code
+SaysCall number (outcomes.Value value) = row_of number ≡ Some rows.GetTce
+SaysCall number _ = ⊥
+
+abbrev pub EndsCall : ℕ → Step → Type 0
+EndsCall number (steps.Ends outcome) = SaysCall number outcome
+EndsCall number (steps.Waits did) = ⊥

@@ -1,0 +1,101 @@
+// A line that makes a raw hypervisor call.
+ghost use Rattle.std.specs.Prelude.{◌≡◌, true, false, None, IfOk, IfSome, IfNone};
+ghost use Rattle.vio_num.specs.declared.hypervisor.Hrc.TheVariants as codes;
+ghost use Rattle.hcall_table.specs.Rows.{IsAnswer, row_of};
+ghost use Rattle.vcpu_run.specs.Agreed.{SameDrivers};
+ghost use Rattle.vcpu_run.specs.CallRows.{EndsCall, gives, says};
+ghost use Rattle.vcpu_run.specs.Credited.{IsPlain, is_plain, is_take};
+ghost use Rattle.vcpu_run.specs.Pairs.{AreDriven};
+ghost use Rattle.vcpu_run.specs.RawCalls.{CallsUnits};
+ghost use Rattle.vcpu_run.specs.Runnable.{is_call};
+
+use crate::client_units::ClientUnits;
+use crate::pair::Pair;
+use crate::step::Step;
+use boot_text::Verb;
+use hcall_table::{Hcall, Returned, call};
+use std::alloc::Global;
+use vio_num::{Hrc, NoMemory};
+use vio_trace::Outcome;
+
+/// A raw hypervisor call: its number, and its arguments.
+#[derive(Clone, Copy, Debug, PartialEq, Eq)]
+pub(crate) struct RawCall {
+    number: u64,
+    arguments: [u64; 9],
+}
+
+impl RawCall {
+    /// The call that a line makes, if it makes one.
+    pub(crate) fn of(verb: &Verb) -> Option<RawCall>
+        ensures some { IfSome result (λ _. is_take verb.now ≡ false) }
+        ensures none { IfNone result (is_call verb.now ≡ false) }
+    {
+        match verb {
+            Verb::Hcall { number, arguments } => Some(RawCall {
+                number: *number,
+                arguments: *arguments,
+            }),
+            _ => None,
+        }
+    }
+}
+
+/// Makes a call on the client units of a partition. It is made once, whatever it answers.
+#[tactic(auto, using(crate::proofs::RawSaid::says_call))]
+pub(crate) fn make_call(
+    alloc: Global,
+    partition: u8,
+    seats: &[usize],
+    pairs: &mut [Pair],
+    raw: &RawCall,
+) -> Result<Step, NoMemory>
+    ensures driven { AreDriven pairs.old pairs.new }
+    ensures told { SameDrivers pairs.old pairs.new }
+    ensures plain { IsPlain result }
+    ensures said { IfOk result (EndsCall raw.now.number) }
+{
+    let mut units = ClientUnits {
+        alloc,
+        partition,
+        seats,
+        pairs,
+    };
+    let returned = call_units(&mut units, raw.number, &raw.arguments)?;
+    Ok(Step::Ends(outcome_of(raw.number, returned)))
+}
+
+// Makes the call, which changes no driver.
+fn call_units(
+    units: &mut ClientUnits<'_>,
+    number: u64,
+    arguments: &[u64; 9],
+) -> Result<Returned, NoMemory>
+    ensures units { CallsUnits units.old units.new }
+    ensures function { row_of number ≡ None → IfOk result (λ r. r.code ≡ codes.Function) }
+    ensures answer { IfSome (row_of number) (λ row. IfOk result (IsAnswer row)) }
+{
+    call(units, number, arguments)
+}
+
+// What a record says of a call: the value where its row gives one, else the code.
+fn outcome_of(number: u64, returned: Returned) -> Outcome
+    ensures exact { result ≡ says number returned }
+    ensures plain { is_plain result ≡ true }
+{
+    if gives(Hcall::read(number), returned.code) {
+        Outcome::Value(returned.r4)
+    } else {
+        Outcome::Code(returned.code)
+    }
+}
+
+// Whether a row gives a value with a code.
+fn gives(row: Option<Hcall>, code: Hrc) -> bool
+    ensures { result ≡ gives row code }
+{
+    match row {
+        Some(Hcall::GetTce) => matches!(code, Hrc::Success),
+        _ => false,
+    }
+}
