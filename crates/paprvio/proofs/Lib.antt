@@ -1,3 +1,9 @@
+pub mod Asking
+pub mod Decimals
 pub mod Endings
+pub mod Generating
 pub mod Musts
 pub mod Pieces
+pub mod Rows
+pub mod Sizing
+pub mod Tasks

@@ -14,8 +14,13 @@ use Rattle.boot_text.specs.declared.plan.Plan.{Plan}
 use Rattle.vcpu_run.specs.Runnable.{IsPlainPartition}
 use Rattle.paprvio.specs.declared.status.Status.{Status}
 use Rattle.paprvio.specs.declared.status.Status.TheVariants.{Done, Usage, Refused, SourceFailed, SinkFailed, ImageFailed, NoMemory}
+use Rattle.paprvio.specs.Words.{asked}
+use Rattle.paprvio.specs.declared.request.Request.{Request}
+use Rattle.paprvio.specs.declared.request.Request.TheVariants.{Run, Generate, Summarize}
+use Rattle.vio_io.specs.Image.{ImageState}
+use Rattle.paprvio.proofs.Endings.{asks_runs, done_asks, refused_runs}
 use Rattle.paprvio.specs.Ending.{Outside, EndsAs}
-use Rattle.paprvio.specs.Run.{AreRun, AsksForRun, GivesPlan, ReadWhole, ReadTooMuch, BootRefusal, IsRefused, SaysPlainPlan, RunAnswer, RunEndsWith, IsOrStarved, MustEndAs}
+use Rattle.paprvio.specs.Run.{AreRun, AsksFor, AsksForRun, GivesPlan, IsDone, IsDoneAs, IsGenerate, IsRefusedAs, IsRun, IsSummarize, RunsPlan, ReadWhole, ReadTooMuch, BootRefusal, IsRefused, SaysPlainPlan, RunAnswer, RunEndsWith, IsOrStarved, MustEndAs}
 use Rattle.paprvio.specs.Status.{status_code}
 
 -- a source that told its bytes and was read to its end gave them all
@@ -72,26 +77,97 @@ gives_none : (text : List ℕ) (new : Option (List ℕ)) (plan : Plan) → ((pla
 gives_none text new plan none gives =
     none plan (subst (λ (boot : List ℕ). SaysPlainPlan boot plan) (whole_text text gives.boot new gives.whole) gives.says)
 
+-- what belongs to a request for the source's boot text
+run_done : (request : Option Request) (left left' : Option (List ℕ)) (image image' : ImageState) (text : List ℕ) → IsRun request → IsDoneAs request left left' image image' text
+    → IsDone left left' image image' text
+run_done None left left' image image' text run done = absurd run
+run_done (Some (Run workers)) left left' image image' text run done = done
+run_done (Some (Generate seed)) left left' image image' text run done = absurd run
+run_done (Some (Summarize seed workers)) left left' image image' text run done = absurd run
+
+run_refused : (request : Option Request) (left left' : Option (List ℕ)) (text : List ℕ) → IsRun request → IsRefusedAs request left left' text → IsRefused left left' text
+run_refused None left left' text run told = absurd run
+run_refused (Some (Run workers)) left left' text run told = told
+run_refused (Some (Generate seed)) left left' text run told = absurd run
+run_refused (Some (Summarize seed workers)) left left' text run told = absurd run
+
+run_gives : (request : Option Request) (left left' : Option (List ℕ)) → IsRun request → AsksFor request left left' → (plan : Plan) × GivesPlan left left' plan
+run_gives None left left' run asks = absurd run
+run_gives (Some (Run workers)) left left' run asks = asks
+run_gives (Some (Generate seed)) left left' run asks = absurd run
+run_gives (Some (Summarize seed workers)) left left' run asks = absurd run
+
+-- a seed's text is not refused, and no image is counted for it
+generate_not_refused : (request : Option Request) (left left' : Option (List ℕ)) (text : List ℕ) → IsGenerate request → ¬ IsRefusedAs request left left' text
+generate_not_refused None left left' text generate told = generate
+generate_not_refused (Some (Run workers)) left left' text generate told = generate
+generate_not_refused (Some (Generate seed)) left left' text generate told = told
+generate_not_refused (Some (Summarize seed workers)) left left' text generate told = generate
+
+generate_asks_none : (request : Option Request) (left left' : Option (List ℕ)) → IsGenerate request → ¬ AsksFor request left left'
+generate_asks_none None left left' generate asks = generate
+generate_asks_none (Some (Run workers)) left left' generate asks = generate
+generate_asks_none (Some (Generate seed)) left left' generate asks = asks
+generate_asks_none (Some (Summarize seed workers)) left left' generate asks = generate
+
+generate_is_no_run : (request : Option Request) → IsGenerate request → ¬ IsRun request
+generate_is_no_run None generate run = run
+generate_is_no_run (Some (Run workers)) generate run = generate
+generate_is_no_run (Some (Generate seed)) generate run = run
+generate_is_no_run (Some (Summarize seed workers)) generate run = run
+
+summarize_is_no_run : (request : Option Request) → IsSummarize request → ¬ IsRun request
+summarize_is_no_run None summarize run = run
+summarize_is_no_run (Some (Run workers)) summarize run = summarize
+summarize_is_no_run (Some (Generate seed)) summarize run = run
+summarize_is_no_run (Some (Summarize seed workers)) summarize run = run
+
 -- other words
 usage_said : (words : List (List ℕ)) (status : Status) (old new : Outside) → RunEndsWith words status old new
     → (status ≡ SourceFailed → AreRun words) → (status ≡ ImageFailed → AsksForRun words old.left new.left)
-    → ¬ AreRun words → ¬ Rose old.sink_faults new.sink_faults → IsOrStarved (status_code status) Usage
-usage_said words Done old new ends asked runs other sink = absurd (other ends.belongs.0)
-usage_said words Usage old new ends asked runs other sink = inl refl
-usage_said words Refused old new ends asked runs other sink = absurd (other ends.belongs.0)
-usage_said words SourceFailed old new ends asked runs other sink = absurd (other (asked refl))
-usage_said words SinkFailed old new ends asked runs other sink = absurd (sink ends.sink_faults)
-usage_said words ImageFailed old new ends asked runs other sink = absurd (other (runs refl).asked)
-usage_said words NoMemory old new ends asked runs other sink = inr refl
+    → asked words ≡ None → ¬ Rose old.sink_faults new.sink_faults → IsOrStarved (status_code status) Usage
+usage_said words Done old new ends read runs other sink =
+    absurd (done_asks (asked words) old.left new.left old.image new.image ends.text ends.belongs other)
+usage_said words Usage old new ends read runs other sink = inl refl
+usage_said words Refused old new ends read runs other sink = absurd (subst RunsPlan other (refused_runs (asked words) old.left new.left ends.text ends.belongs))
+usage_said words SourceFailed old new ends read runs other sink = absurd (subst IsRun other (read refl))
+usage_said words SinkFailed old new ends read runs other sink = absurd (sink ends.sink_faults)
+usage_said words ImageFailed old new ends read runs other sink = absurd (subst RunsPlan other (asks_runs (asked words) old.left new.left (runs refl)))
+usage_said words NoMemory old new ends read runs other sink = inr refl
+
+-- a seed's text
+generated_said : (words : List (List ℕ)) (status : Status) (old new : Outside) → RunEndsWith words status old new
+    → (status ≡ SourceFailed → AreRun words) → (status ≡ ImageFailed → AsksForRun words old.left new.left)
+    → IsGenerate (asked words) → ¬ Rose old.sink_faults new.sink_faults → IsOrStarved (status_code status) Done
+generated_said words Done old new ends read runs generate sink = inl refl
+generated_said words Usage old new ends read runs generate sink = absurd (subst IsGenerate ends.belongs.0 generate)
+generated_said words Refused old new ends read runs generate sink =
+    absurd (generate_not_refused (asked words) old.left new.left ends.text generate ends.belongs)
+generated_said words SourceFailed old new ends read runs generate sink = absurd (generate_is_no_run (asked words) generate (read refl))
+generated_said words SinkFailed old new ends read runs generate sink = absurd (sink ends.sink_faults)
+generated_said words ImageFailed old new ends read runs generate sink = absurd (generate_asks_none (asked words) old.left new.left generate (runs refl))
+generated_said words NoMemory old new ends read runs generate sink = inr refl
+
+-- the summary of a seed's run
+summed_said : (words : List (List ℕ)) (status : Status) (old new : Outside) → RunEndsWith words status old new → (status ≡ SourceFailed → AreRun words)
+    → IsSummarize (asked words) → ¬ Rose old.sink_faults new.sink_faults
+    → (status_code status ≡ status_code ImageFailed) ⊎ ((status_code status ≡ status_code Refused) ⊎ IsOrStarved (status_code status) Done)
+summed_said words Done old new ends read summarize sink = inr (inr (inl refl))
+summed_said words Usage old new ends read summarize sink = absurd (subst IsSummarize ends.belongs.0 summarize)
+summed_said words Refused old new ends read summarize sink = inr (inl refl)
+summed_said words SourceFailed old new ends read summarize sink = absurd (summarize_is_no_run (asked words) summarize (read refl))
+summed_said words SinkFailed old new ends read summarize sink = absurd (sink ends.sink_faults)
+summed_said words ImageFailed old new ends read summarize sink = inl refl
+summed_said words NoMemory old new ends read summarize sink = inr (inr (inr refl))
 
 -- a boot text that says a plan of the kind that is run
 done_said : (words : List (List ℕ)) (status : Status) (old new : Outside) (boot : List ℕ) (plan : Plan)
-    → EndsAs (RunAnswer words (Some boot) new.left old.image) status old new → AreRun words → ¬ Rose old.source_faults new.source_faults
+    → EndsAs (RunAnswer words (Some boot) new.left old.image new.image) status old new → AreRun words → ¬ Rose old.source_faults new.source_faults
     → ¬ Rose old.sink_faults new.sink_faults → SaysPlainPlan boot plan
     → (status_code status ≡ status_code ImageFailed) ⊎ IsOrStarved (status_code status) Done
 done_said words Done old new boot plan ends run source sink is = inr (inl refl)
-done_said words Usage old new boot plan ends run source sink is = absurd (ends.belongs.0 run)
-done_said words Refused old new boot plan ends run source sink is = absurd (not_refused boot ends.text new.left plan is ends.belongs.1)
+done_said words Usage old new boot plan ends run source sink is = absurd (subst IsRun ends.belongs.0 run)
+done_said words Refused old new boot plan ends run source sink is = absurd (not_refused boot ends.text new.left plan is (run_refused (asked words) (Some boot) new.left ends.text run ends.belongs))
 done_said words SourceFailed old new boot plan ends run source sink is = absurd (source ends.source_faults)
 done_said words SinkFailed old new boot plan ends run source sink is = absurd (sink ends.sink_faults)
 done_said words ImageFailed old new boot plan ends run source sink is = inl refl
@@ -99,28 +175,30 @@ done_said words NoMemory old new boot plan ends run source sink is = inr (inr re
 
 -- a boot text that says none
 refused_said : (words : List (List ℕ)) (status : Status) (old new : Outside) (boot : List ℕ)
-    → EndsAs (RunAnswer words (Some boot) new.left old.image) status old new → (status ≡ ImageFailed → AsksForRun words (Some boot) new.left)
+    → EndsAs (RunAnswer words (Some boot) new.left old.image new.image) status old new → (status ≡ ImageFailed → AsksForRun words (Some boot) new.left)
     → AreRun words → ¬ Rose old.source_faults new.source_faults → ¬ Rose old.sink_faults new.sink_faults
     → ((plan : Plan) → ¬ SaysPlainPlan boot plan) → IsOrStarved (status_code status) Refused
 refused_said words Done old new boot ends runs run source sink none =
-    absurd (gives_none boot new.left ends.belongs.1.plan none ends.belongs.1.gives)
-refused_said words Usage old new boot ends runs run source sink none = absurd (ends.belongs.0 run)
+    let done = run_done (asked words) (Some boot) new.left old.image new.image ends.text run ends.belongs in
+    absurd (gives_none boot new.left done.plan none done.gives)
+refused_said words Usage old new boot ends runs run source sink none = absurd (subst IsRun ends.belongs.0 run)
 refused_said words Refused old new boot ends runs run source sink none = inl refl
 refused_said words SourceFailed old new boot ends runs run source sink none = absurd (source ends.source_faults)
 refused_said words SinkFailed old new boot ends runs run source sink none = absurd (sink ends.sink_faults)
 refused_said words ImageFailed old new boot ends runs run source sink none =
-    absurd (gives_none boot new.left (runs refl).plan none (runs refl).gives)
+    let gives = run_gives (asked words) (Some boot) new.left run (runs refl) in
+    absurd (gives_none boot new.left gives.0 none gives.1)
 refused_said words NoMemory old new boot ends runs run source sink none = inr refl
 
 done_if_told : (words : List (List ℕ)) (status : Status) (old new : Outside) (left : Option (List ℕ))
-    → EndsAs (RunAnswer words left new.left old.image) status old new → AreRun words → ¬ Rose old.source_faults new.source_faults
+    → EndsAs (RunAnswer words left new.left old.image new.image) status old new → AreRun words → ¬ Rose old.source_faults new.source_faults
     → ¬ Rose old.sink_faults new.sink_faults
     → IfSome left (λ boot. (plan : Plan) → SaysPlainPlan boot plan → (status_code status ≡ status_code ImageFailed) ⊎ IsOrStarved (status_code status) Done)
 done_if_told words status old new None ends run source sink = tt
 done_if_told words status old new (Some boot) ends run source sink = λ plan is. done_said words status old new boot plan ends run source sink is
 
 refused_if_told : (words : List (List ℕ)) (status : Status) (old new : Outside) (left : Option (List ℕ))
-    → EndsAs (RunAnswer words left new.left old.image) status old new → (status ≡ ImageFailed → AsksForRun words left new.left)
+    → EndsAs (RunAnswer words left new.left old.image new.image) status old new → (status ≡ ImageFailed → AsksForRun words left new.left)
     → AreRun words → ¬ Rose old.source_faults new.source_faults → ¬ Rose old.sink_faults new.sink_faults
     → IfSome left (λ boot. ((plan : Plan) → ¬ SaysPlainPlan boot plan) → IsOrStarved (status_code status) Refused)
 refused_if_told words status old new None ends runs run source sink = tt
@@ -130,8 +208,10 @@ refused_if_told words status old new (Some boot) ends runs run source sink = λ 
 pub must_end : (words : List (List ℕ)) (status : Status) (old new : Outside) → RunEndsWith words status old new
     → (status ≡ SourceFailed → AreRun words) → (status ≡ ImageFailed → AsksForRun words old.left new.left)
     → MustEndAs words (status_code status) old new
-must_end words status old new ends asked runs = record {
-  usage = λ other sink. usage_said words status old new ends asked runs other sink;
+must_end words status old new ends read runs = record {
+  usage = λ other sink. usage_said words status old new ends read runs other sink;
+  generated = λ generate sink. generated_said words status old new ends read runs generate sink;
+  summed = λ summarize sink. summed_said words status old new ends read summarize sink;
   done = λ run source sink. done_if_told words status old new old.left ends run source sink;
   refused = λ run source sink. refused_if_told words status old new old.left ends runs run source sink;
 }

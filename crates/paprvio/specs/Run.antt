@@ -1,10 +1,12 @@
 -- What a run answers: the text that belongs to its words, to the bytes that it read, and to its image.
-use Rattle.std.specs.Prelude.{◌≡◌, ℕ, ◌+◌, ◌≤◌, ◌^◌, ◌⊎◌, List, [], ◌∷◌, All, Option, IfSome, length, codes}
+use Rattle.std.specs.Prelude.{◌≡◌, ◌≢◌, ℕ, ◌+◌, ◌≤◌, ◌^◌, ◌⊎◌, List, All, Option, Some, None, IfSome, IsSome, length}
+use Rattle.std.specs.Bool.{⊤}
 use Rattle.std.specs.Io.KnownBytes.{Consumes, IsAtEnd}
 use Rattle.boot_text.specs.BootText.{plan_of, refused, SaysPlan}
 use Rattle.boot_text.specs.declared.cause.Cause.{Cause}
 use Rattle.boot_text.specs.declared.plan.Plan.{Plan}
 use Rattle.boot_text.specs.declared.read.TheConstants.{MOST_TEXT}
+use Rattle.vcpu_run.specs.OnDisk.{LeadsOn}
 use Rattle.vcpu_run.specs.RunLaw.{KeepsLaw}
 use Rattle.vcpu_run.specs.Runnable.{IsPlainPartition}
 use Rattle.vio_io.specs.Image.{ImageState, AreWhole}
@@ -13,15 +15,38 @@ use Rattle.vio_trace.specs.declared.rows.Trace.{Trace}
 use Rattle.vio_trace.specs.Form.{IsTextOf}
 use Rattle.paprvio.specs.declared.status.Status.{Status}
 use Rattle.paprvio.specs.declared.status.Status.TheVariants.{Done, Usage, Refused, SourceFailed, ImageFailed, NoMemory}
+use Rattle.paprvio.specs.declared.request.Request.{Request}
+use Rattle.paprvio.specs.declared.request.Request.TheVariants.{Run, Generate, Summarize}
+use Rattle.paprvio.specs.Generated.{generated}
+use Rattle.paprvio.specs.Words.{asked}
 use Rattle.paprvio.specs.Ending.{Outside, EndsAs}
 use Rattle.paprvio.specs.Status.{status_code}
-use Rattle.paprvio.specs.Texts.{usage_text, refused_text, not_built_text, too_long_text}
+use Rattle.paprvio.specs.Texts.{usage_text, refused_text, not_built_text, summary_text, too_long_text}
 
--- the words that are accepted
+-- the words ask for the run of the boot text that the source gives
+abbrev pub IsRun : Option Request → Type 0
+IsRun (Some (Run workers)) = ⊤
+IsRun _ = ⊥
+
 abbrev pub AreRun : List (List ℕ) → Type 0
-AreRun words = words ≡ codes "run" ∷ []
+AreRun words = IsRun (asked words)
 
--- the plan has neither LAN ports nor raw hypervisor calls
+-- for a seed's boot text, and for the summary of its run
+abbrev pub IsGenerate : Option Request → Type 0
+IsGenerate (Some (Generate seed)) = ⊤
+IsGenerate _ = ⊥
+
+abbrev pub IsSummarize : Option Request → Type 0
+IsSummarize (Some (Summarize seed workers)) = ⊤
+IsSummarize _ = ⊥
+
+-- for the run of some plan
+abbrev pub RunsPlan : Option Request → Type 0
+RunsPlan (Some (Run workers)) = ⊤
+RunsPlan (Some (Summarize seed workers)) = ⊤
+RunsPlan _ = ⊥
+
+-- the plan has no LAN ports
 abbrev pub IsPlain : Plan → Type 0
 IsPlain plan = All IsPlainPartition plan.partitions
 
@@ -30,10 +55,17 @@ pub record SaysPlainPlan (boot : List ℕ) (plan : Plan) : Type 0 where
   pub says : SaysPlan (plan_of boot) plan
   pub plain : IsPlain plan
 
--- the text of a trace that keeps the law of a run of the plan
-pub record IsTraceOf (plan : Plan) (text : List ℕ) : Type 0 where
-  pub trace : Trace
+-- A trace that keeps the law of a run of the plan, whose rows of served requests lead from the blocks of the image to those that
+-- it then has; an image that told its blocks still tells them.
+pub record IsTraceOn (plan : Plan) (image image' : ImageState) (trace : Trace) : Type 0 where
   pub lawful : KeepsLaw plan trace
+  pub served : LeadsOn trace.serves image.blocks image'.blocks
+  pub tells : IfSome image.blocks (λ blocks. IsSome image'.blocks)
+
+-- the text of such a trace
+pub record IsTraceOf (plan : Plan) (image image' : ImageState) (text : List ℕ) : Type 0 where
+  pub trace : Trace
+  pub ran : IsTraceOn plan image image' trace
   pub spelled : IsTextOf trace text
 
 -- the image has blocks that can be counted: 1 to 2^48, each whole
@@ -73,18 +105,21 @@ pub record GivesPlan (old new : Option (List ℕ)) (plan : Plan) : Type 0 where
   pub whole : ReadWhole old new boot
   pub says : SaysPlainPlan boot plan
 
--- the words and the source ask for the run of a plan
-pub record AsksForRun (words : List (List ℕ)) (old new : Option (List ℕ)) : Type 0 where
-  pub asked : AreRun words
-  pub plan : Plan
-  pub gives : GivesPlan old new plan
+-- the words and the source ask for the run of a plan: of the source's, or of a seed's
+abbrev pub AsksFor : Option Request → (old new : Option (List ℕ)) → Type 0
+AsksFor (Some (Run workers)) old new = (plan : Plan) × GivesPlan old new plan
+AsksFor (Some (Summarize seed workers)) old new = (plan : Plan) × SaysPlainPlan (generated seed) plan
+AsksFor _ old new = ⊥
+
+abbrev pub AsksForRun : List (List ℕ) → (old new : Option (List ℕ)) → Type 0
+AsksForRun words old new = AsksFor (asked words) old new
 
 -- the run was done: the source gave a plan, the image was counted, and the text is that of a trace of the plan
-pub record IsDone (old new : Option (List ℕ)) (image : ImageState) (text : List ℕ) : Type 0 where
+pub record IsDone (old new : Option (List ℕ)) (image image' : ImageState) (text : List ℕ) : Type 0 where
   pub plan : Plan
   pub gives : GivesPlan old new plan
   pub counted : IsCounted image
-  pub trace : IsTraceOf plan text
+  pub trace : IsTraceOf plan image image' text
 
 -- the bytes were refused, with this text of the cause
 abbrev pub BootRefusal : List ℕ → List ℕ → Type 0
@@ -102,17 +137,43 @@ pub record IsRefusedLong (old new : Option (List ℕ)) (text : List ℕ) : Type 
 abbrev pub IsRefused : Option (List ℕ) → Option (List ℕ) → List ℕ → Type 0
 IsRefused old new text = IsRefusedWhole old new text ⊎ IsRefusedLong old new text
 
--- the text that belongs to a run, of whose source `old` was left before and `new` is left behind it: the usage alone for other
--- words
-abbrev pub RunAnswer : List (List ℕ) → (old new : Option (List ℕ)) → ImageState → Status → List ℕ → Type 0
-RunAnswer words old new image Done text = AreRun words × IsDone old new image text
-RunAnswer words old new image Usage text = ¬ AreRun words × (text ≡ usage_text)
-RunAnswer words old new image Refused text = AreRun words × IsRefused old new text
-RunAnswer words old new image _ text = ⊥
+-- the summary of such a trace
+pub record IsSummaryOf (plan : Plan) (image image' : ImageState) (text : List ℕ) : Type 0 where
+  pub trace : Trace
+  pub ran : IsTraceOn plan image image' trace
+  pub told : text ≡ summary_text trace
+
+-- the run of a seed's boot text was done and summed up
+pub record IsSummed (seed : ℕ) (image image' : ImageState) (text : List ℕ) : Type 0 where
+  pub plan : Plan
+  pub says : SaysPlainPlan (generated seed) plan
+  pub counted : IsCounted image
+  pub summary : IsSummaryOf plan image image' text
+
+-- The text of what was asked for and done. The source had `old` left before and `new` behind the run; the image was `image` before,
+-- and is `image'`.
+abbrev pub IsDoneAs : Option Request → (old new : Option (List ℕ)) → (image image' : ImageState) → List ℕ → Type 0
+IsDoneAs (Some (Run workers)) old new image image' text = IsDone old new image image' text
+IsDoneAs (Some (Generate seed)) old new image image' text = text ≡ generated seed
+IsDoneAs (Some (Summarize seed workers)) old new image image' text = IsSummed seed image image' text
+IsDoneAs None old new image image' text = ⊥
+
+-- the refusal of the boot text that was to be run
+abbrev pub IsRefusedAs : Option Request → (old new : Option (List ℕ)) → List ℕ → Type 0
+IsRefusedAs (Some (Run workers)) old new text = IsRefused old new text
+IsRefusedAs (Some (Summarize seed workers)) old new text = BootRefusal (generated seed) text
+IsRefusedAs _ old new text = ⊥
+
+-- the text that belongs to a run: the usage alone for words that ask for nothing
+abbrev pub RunAnswer : List (List ℕ) → (old new : Option (List ℕ)) → (image image' : ImageState) → Status → List ℕ → Type 0
+RunAnswer words old new image image' Done text = IsDoneAs (asked words) old new image image' text
+RunAnswer words old new image image' Usage text = (asked words ≡ None) × (text ≡ usage_text)
+RunAnswer words old new image image' Refused text = IsRefusedAs (asked words) old new text
+RunAnswer words old new image image' _ text = ⊥
 
 -- a run of these words ended with this status, and did what belongs to it
 abbrev pub RunEndsWith : List (List ℕ) → Status → Outside → Outside → Type 0
-RunEndsWith words status old new = EndsAs (RunAnswer words old.left new.left old.image) status old new
+RunEndsWith words status old new = EndsAs (RunAnswer words old.left new.left old.image new.image) status old new
 
 -- the exit status of a run, and what it did to its source, its sink and its image
 pub record RunEndsAs (words : List (List ℕ)) (code : ℕ) (old new : Outside) : Type 0 where
@@ -122,11 +183,11 @@ pub record RunEndsAs (words : List (List ℕ)) (code : ℕ) (old new : Outside) 
 
 -- what an exit status says of the words, whatever happened outside
 pub record FitsWords (words : List (List ℕ)) (code : ℕ) : Type 0 where
-  pub done : code ≡ status_code Done → AreRun words
-  pub usage : code ≡ status_code Usage → ¬ AreRun words
-  pub refused : code ≡ status_code Refused → AreRun words
+  pub done : code ≡ status_code Done → asked words ≢ None
+  pub usage : code ≡ status_code Usage → asked words ≡ None
+  pub refused : code ≡ status_code Refused → RunsPlan (asked words)
   pub source_failed : code ≡ status_code SourceFailed → AreRun words
-  pub image_failed : code ≡ status_code ImageFailed → AreRun words
+  pub image_failed : code ≡ status_code ImageFailed → RunsPlan (asked words)
 
 -- the exit status of a run that wrote nothing
 abbrev pub IsUnwritten : ℕ → Type 0
@@ -140,10 +201,14 @@ IsUnrun code = (code ≡ status_code Usage) ⊎ ((code ≡ status_code Refused) 
 abbrev pub IsOrStarved : ℕ → Status → Type 0
 IsOrStarved code status = (code ≡ status_code status) ⊎ (code ≡ status_code NoMemory)
 
--- where neither source nor sink failed, words and bytes decide the exit status: that of other words, of a boot text that says a
--- plan that is run, where the image did not fail as its blocks were counted, and of one that says none
+-- where neither source nor sink failed, words and bytes decide the exit status: that of other words, of a seed's text, of a boot
+-- text that says a plan that is run, where the image did not fail as its blocks were counted, and of one that says none. A
+-- seed's boot text is told to be refused where it is; that it never is, no clause says.
 pub record MustEndAs (words : List (List ℕ)) (code : ℕ) (old new : Outside) : Type 0 where
-  pub usage : ¬ AreRun words → ¬ Rose old.sink_faults new.sink_faults → IsOrStarved code Usage
+  pub usage : asked words ≡ None → ¬ Rose old.sink_faults new.sink_faults → IsOrStarved code Usage
+  pub generated : IsGenerate (asked words) → ¬ Rose old.sink_faults new.sink_faults → IsOrStarved code Done
+  pub summed : IsSummarize (asked words) → ¬ Rose old.sink_faults new.sink_faults
+      → (code ≡ status_code ImageFailed) ⊎ ((code ≡ status_code Refused) ⊎ IsOrStarved code Done)
   pub done : AreRun words → ¬ Rose old.source_faults new.source_faults → ¬ Rose old.sink_faults new.sink_faults
       → IfSome old.left (λ boot. (plan : Plan) → SaysPlainPlan boot plan → (code ≡ status_code ImageFailed) ⊎ IsOrStarved code Done)
   pub refused : AreRun words → ¬ Rose old.source_faults new.source_faults → ¬ Rose old.sink_faults new.sink_faults

@@ -17,6 +17,10 @@ pub enum Answer {
     Refused(Vec<u8>),
     /// The text of the run's trace.
     Trace(Vec<u8>),
+    /// The boot text of a seed.
+    Generated(Vec<u8>),
+    /// The summary of a run.
+    Summary(Vec<u8>),
 }
 
 impl Answer {
@@ -27,7 +31,7 @@ impl Answer {
         match self {
             Answer::Usage => Status::Usage,
             Answer::TooLong | Answer::NotBuilt | Answer::Refused(_) => Status::Refused,
-            Answer::Trace(_) => Status::Done,
+            Answer::Trace(_) | Answer::Generated(_) | Answer::Summary(_) => Status::Done,
         }
     }
 
@@ -39,7 +43,10 @@ impl Answer {
             Answer::Usage => b"paprvio: usage\n",
             Answer::TooLong => b"paprvio: line 0: TooLong\n",
             Answer::NotBuilt => b"paprvio: line 0: NotBuilt\n",
-            Answer::Refused(text) | Answer::Trace(text) => text,
+            Answer::Refused(text)
+            | Answer::Trace(text)
+            | Answer::Generated(text)
+            | Answer::Summary(text) => text,
         }
     }
 }

@@ -9,15 +9,21 @@ ghost use Rattle.paprvio.specs.declared.status.Status.TheVariants.{Done, SinkFai
 
 mod answer;
 mod answering;
+mod draws;
+mod generator;
 mod reading;
 mod refusal;
+mod request;
 mod run;
 mod running;
 mod status;
 mod stop;
+mod summary;
 mod task;
+mod telling;
 #[cfg(test)]
 mod tests;
+mod words;
 mod writing;
 
 use crate::run::run;
@@ -29,11 +35,20 @@ use std::{env, io};
 use vio_io::{Blocks, FileBlocks, FreeGate, StdSink, StdSource, SureBlocks};
 
 // The launcher beside this repository's README prints these two where nothing is built yet.
-const USAGE: &str = "usage: paprvio IMAGE run < BOOT-TEXT > TRACE
+const USAGE: &str = "usage: paprvio IMAGE run [--workers N] < BOOT-TEXT > TRACE
+       paprvio IMAGE summary SEED [--workers N]
+       paprvio IMAGE gen SEED > BOOT-TEXT
        paprvio --help | --version
 
 IMAGE is a file of 512-byte blocks, or - for 2,048 blocks of zeros in memory.
-run reads a boot text from standard input and writes the trace of its run to standard output.
+run reads a boot text from standard input and writes the trace of its run to standard output:
+    paprvio - run < examples/first-login.vio
+gen writes the boot text of SEED, a number below 4294967296: eight clients that write and read back.
+    paprvio - gen 7 > seven.txt
+summary runs the boot text of SEED and writes how many requests were served, how many answers were
+taken, and the sum of the bytes that were read:
+    paprvio - summary 7
+--workers N, 1 to 16, is read and has no effect yet: every run is on one thread.
 Statuses: 0 done, 1 other words, 2 refused boot text, 3 input failed, 4 output failed,
 5 image failed, 6 no memory.
 ";
@@ -128,7 +143,7 @@ where
 // Says on standard error why the run ended so, where standard output does not.
 fn explain<R: Eprint>(rt: &R, status: u8) {
     let cause = match status {
-        1 => "the words are IMAGE run, and paprvio --help says more",
+        1 => "the words are IMAGE and run, gen SEED or summary SEED, and paprvio --help says more",
         3 => "standard input could not be read",
         4 => "standard output could not be written",
         5 => "the image could not be read, or is no file of 512-byte blocks",

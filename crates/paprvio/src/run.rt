@@ -9,7 +9,7 @@ ghost use Rattle.paprvio.specs.Status.{status_code};
 ghost use Rattle.paprvio.specs.declared.status.Status.TheVariants.{Done, SourceFailed, ImageFailed};
 
 use crate::answer::Answer;
-use crate::answering::source_task;
+use crate::answering::words_task;
 use crate::running::{Answered, run_plan};
 use crate::status::Status;
 use crate::stop::Stop;
@@ -27,40 +27,6 @@ pub struct Ended<Di> {
     pub image: Di,
 }
 
-fn are_run(words: &[String]) -> bool
-    ensures { IsTrue result ↔ AreRun (map string_bytes words.now) }
-{
-    match words {
-        [word] => is_run(word.as_str()),
-        _ => false,
-    }
-}
-
-fn is_run(word: &str) -> bool
-    ensures { IsTrue result ↔ (word.now ≡ codes "run") }
-{
-    word == "run"
-}
-
-// Says what the words ask for: the usage alone, or what the source gives.
-fn words_task<So: Source>(alloc: Global, words: &[String], source: &mut So) -> Result<Task, Stop>
-    ensures task { IfOk result (WordsTask (map string_bytes words.now) (So.left source.old)
-        (So.left source.new)) }
-    ensures failed { IsErrOf result Stop.SourceFailed
-        → Rose (So.faults source.old) (So.faults source.new) }
-    ensures same { ¬ IsErrOf result Stop.SourceFailed
-        → So.faults source.new ≡ So.faults source.old }
-    ensures image { ¬ IsErrOf result Stop.ImageFailed }
-    ensures asked { IsErr result → AreRun (map string_bytes words.now) }
-    ensures unread { ¬ AreRun (map string_bytes words.now) → source.new ≡ source.old }
-{
-    if are_run(words) {
-        source_task(alloc, source)
-    } else {
-        Ok(Task::Tell(Answer::Usage))
-    }
-}
-
 // Does what the words ask for. The image is handed on as it is unless a plan is run.
 fn answer_words<So: Source, Di: Blocks + Drop>(
     alloc: Global,
@@ -69,7 +35,7 @@ fn answer_words<So: Source, Di: Blocks + Drop>(
     image: Di,
 ) -> Answered<Di>
     ensures answer { IfOk result.answer (IsAnswerTo (map string_bytes words.now)
-        (So.left source.old) (So.left source.new) (Di.state image)) }
+        (So.left source.old) (So.left source.new) (Di.state image) (Di.state result.image)) }
     ensures failed { IsErrOf result.answer Stop.SourceFailed
         → Rose (So.faults source.old) (So.faults source.new) }
     ensures same { ¬ IsErrOf result.answer Stop.SourceFailed
@@ -80,7 +46,7 @@ fn answer_words<So: Source, Di: Blocks + Drop>(
         → AsksForRun (map string_bytes words.now) (So.left source.old) (So.left source.new) }
     ensures counted { ¬ IsErrOf result.answer Stop.ImageFailed
         → (result.image ≡ image) ⊎ IsCounted (Di.state image) }
-    ensures asked { IsErr result.answer → AreRun (map string_bytes words.now) }
+    ensures asked { IsErrOf result.answer Stop.SourceFailed → AreRun (map string_bytes words.now) }
     ensures unread { ¬ AreRun (map string_bytes words.now) → source.new ≡ source.old }
     ensures unrun { ¬ AsksForRun (map string_bytes words.now) (So.left source.old) (So.left source.new)
         → result.image ≡ image }
@@ -93,7 +59,7 @@ fn answer_words<So: Source, Di: Blocks + Drop>(
             image,
             answer: Ok(answer),
         },
-        Ok(Task::Run(plan)) => run_plan(alloc, &plan, image),
+        Ok(Task::Run { plan, telling }) => run_plan(alloc, &plan, telling, image),
         Err(stop) => Answered {
             image,
             answer: Err(stop),

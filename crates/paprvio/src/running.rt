@@ -1,18 +1,22 @@
 // The run of a plan over an image: its blocks are counted, the plan is run, and its trace is written as a text.
 ghost use Rattle.std.specs.Prelude.{◌≡◌, IfOk, IsErrOf};
 ghost use Rattle.vcpu_run.specs.Runnable.{IsRunnable};
+ghost use Rattle.vio_trace.specs.Form.{IsInOrder};
 ghost use Rattle.vio_io.specs.Image.{FailsAfter, after_sizing};
-ghost use Rattle.paprvio.specs.Answer.{IsTraceAnswer};
+ghost use Rattle.paprvio.specs.Answer.{IsToldOfTrace, TellsOf, answer_status, answer_text};
+ghost use Rattle.paprvio.specs.declared.status.Status.TheVariants.{Done};
 ghost use Rattle.paprvio.specs.Run.{IsCounted};
 
 use crate::answer::Answer;
 use crate::stop::Stop;
+use crate::summary::summary_text;
+use crate::telling::Telling;
 use boot_text::Plan;
 use std::alloc::Global;
 use vcpu_run::settle_plan;
 use vio_io::{Blocks, Failed};
 use vio_num::NoMemory;
-use vio_trace::write_trace;
+use vio_trace::{Trace, write_trace};
 
 /// An answer or why there is none, and the image as it was left.
 #[derive(Drop)]
@@ -21,18 +25,37 @@ pub struct Answered<Di> {
     pub answer: Result<Answer, Stop>,
 }
 
+// Tells of a trace what is to be told.
+fn tell(alloc: Global, telling: Telling, trace: &Trace) -> Result<Answer, NoMemory>
+    requires { IsInOrder trace.now }
+    ensures done { IfOk result (λ answer. answer_status answer ≡ Done) }
+    ensures told { IfOk result (λ answer. IsToldOfTrace telling trace.now (answer_text answer)) }
+{
+    match telling {
+        Telling::Whole => Ok(Answer::Trace(write_trace(alloc, trace)?)),
+        Telling::Summary => Ok(Answer::Summary(summary_text(alloc, trace)?)),
+    }
+}
+
 // Runs a plan over an image of `count` blocks.
-fn run_counted<Di: Blocks + Drop>(alloc: Global, plan: &Plan, image: Di, count: u64) -> Answered<Di>
+fn run_counted<Di: Blocks + Drop>(
+    alloc: Global,
+    plan: &Plan,
+    telling: Telling,
+    image: Di,
+    count: u64,
+) -> Answered<Di>
     requires runnable { IsRunnable plan.now }
     requires count { count ≡ (Di.state image).size }
-    ensures trace { IfOk result.answer (IsTraceAnswer plan.now) }
+    ensures told { IfOk result.answer (TellsOf telling plan.now
+        (Di.state image) (Di.state result.image)) }
     ensures read { ¬ IsErrOf result.answer Stop.SourceFailed }
     ensures image { ¬ IsErrOf result.answer Stop.ImageFailed }
 {
     let settled = settle_plan(alloc, plan, image, count);
     let answer = match &settled.trace {
-        Some(trace) => match write_trace(alloc, trace) {
-            Ok(text) => Ok(Answer::Trace(text)),
+        Some(trace) => match tell(alloc, telling, trace) {
+            Ok(answer) => Ok(answer),
             Err(NoMemory) => Err(Stop::NoMemory),
         },
         None => Err(Stop::NoMemory),
@@ -43,10 +66,16 @@ fn run_counted<Di: Blocks + Drop>(alloc: Global, plan: &Plan, image: Di, count: 
     }
 }
 
-/// Counts the blocks of the image, and runs the plan over it.
-pub fn run_plan<Di: Blocks + Drop>(alloc: Global, plan: &Plan, image: Di) -> Answered<Di>
+/// Counts the blocks of the image, runs the plan over it, and tells what is to be told of that.
+pub fn run_plan<Di: Blocks + Drop>(
+    alloc: Global,
+    plan: &Plan,
+    telling: Telling,
+    image: Di,
+) -> Answered<Di>
     requires { IsRunnable plan.now }
-    ensures trace { IfOk result.answer (IsTraceAnswer plan.now) }
+    ensures told { IfOk result.answer (TellsOf telling plan.now
+        (Di.state image) (Di.state result.image)) }
     ensures counted { ¬ IsErrOf result.answer Stop.ImageFailed → IsCounted (Di.state image) }
     ensures failed { IsErrOf result.answer Stop.ImageFailed
         → FailsAfter (after_sizing (Di.state image)) (Di.state result.image) }
@@ -54,7 +83,7 @@ pub fn run_plan<Di: Blocks + Drop>(alloc: Global, plan: &Plan, image: Di) -> Ans
 {
     let mut image = image;
     match image.count() {
-        Ok(count) => run_counted(alloc, plan, image, count),
+        Ok(count) => run_counted(alloc, plan, telling, image, count),
         Err(Failed) => Answered {
             image,
             answer: Err(Stop::ImageFailed),

@@ -1,5 +1,7 @@
 // Runs that are refused or that the outside ends, against causes that were written by hand from the formats' tables.
 mod runs;
+mod seeds;
+mod words;
 
 use crate::run::run;
 use std::alloc::{AllocError, Global};
@@ -208,11 +210,9 @@ fn a_text_too_long_is_refused(rt: HostRuntime) -> Result<(), Fail> {
 
 #[test]
 fn plans_of_other_kinds_are_not_built(rt: HostRuntime) -> Result<(), Fail> {
-    let call = edited(rt.alloc(), "0 tur", "0 hcall 0x110 16")?;
     let cut = repeated(rt.alloc(), "", LAN_PORT.as_bytes(), 1)?;
     for (text, told) in [
         (LAN_PORT.as_bytes(), NOT_BUILT),
-        (call.as_bytes(), NOT_BUILT),
         (
             &cut[..cut.len().saturating_sub(4)],
             "paprvio: line 6: Place\n",

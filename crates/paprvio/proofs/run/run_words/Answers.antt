@@ -8,12 +8,12 @@ if_ok P result value is holds = subst (λ r. IfOk r P) is holds
 pub returns-in-Ok-clause-ends : goal.returns-in-Ok-clause-ends
 returns-in-Ok-clause-ends g c =
     let answered = c.answer_words-image.ensures in
-    written_end _ _ _ (g.Di.Blocks.state c.args.image) _ c.finish.result _ _ _ (if_ok _ _ c.in-Ok.answer c.in-Ok.is answered.answer)
+    written_end _ _ _ (g.Di.Blocks.state c.args.image) _ _ c.finish.result _ _ _ (if_ok _ _ c.in-Ok.answer c.in-Ok.is answered.answer)
     (answered.same (λ e. cc (c.in-Ok.is, e))) c.finish.ensures
 
 pub returns-in-Ok-clause-unwritten : goal.returns-in-Ok-clause-unwritten
 returns-in-Ok-clause-unwritten g c e =
-    absurd (not_unwritten _ _ _ (g.Di.Blocks.state c.args.image) _ c.finish.result _ _ _ _ _
+    absurd (not_unwritten _ _ _ (g.Di.Blocks.state c.args.image) _ _ c.finish.result _ _ _ _ _
     (if_ok _ _ c.in-Ok.answer c.in-Ok.is c.answer_words-image.ensures.answer) c.finish.ensures e)
 
 pub returns-in-Ok-clause-untouched : goal.returns-in-Ok-clause-untouched
