@@ -1,5 +1,5 @@
 -- Data-in lie in the region, whatever a client does.
-use Rattle.std.proofs.Common.{◌≡◌, ◌∙◌, ℕ, ◌+◌, ◌-◌, ◌*◌, ◌≤◌, ◌<◌, ◌&&◌, nat_lt, cond, Bool, true, false, All, List, [], ◌∷◌, ◌++◌, Option, Some, None, length, refl, sym, ap, subst, arith}
+use Rattle.std.proofs.Common.{◌≡◌, ◌∙◌, ℕ, ◌-◌, ◌≤◌, ◌<◌, nat_lt, cond, Bool, true, false, All, List, [], ◌∷◌, ◌++◌, None, length, refl, sym, ap, subst, arith}
 use Rattle.std.specs.List.{slice_index_or}
 use Rattle.std.proofs.lemmas.Bool.Decides.{nat_tests}
 use Rattle.std.proofs.lemmas.List.{get_or_past}
@@ -21,10 +21,9 @@ use Rattle.vscsi_client.specs.declared.op.Dir.TheVariants.{Neither, In, Out}
 use Rattle.vscsi_client.specs.declared.op.Op.{Op}
 use Rattle.vscsi_client.specs.declared.row.Row.{Row}
 use Rattle.vscsi_client.specs.declared.row.Row.TheVariants as rows
-use Rattle.vscsi_client.specs.declared.answers.Refused.{Refused}
 use Rattle.vscsi_client.specs.State.{ClientState}
 use Rattle.vscsi_client.specs.Ports.{Ports}
-use Rattle.vscsi_client.specs.Spans.{op_in_range, data_in_range, table_in_range, in_range, by_dir, first_sharing}
+use Rattle.vscsi_client.specs.Spans.{op_in_range, data_in_range, table_in_range, in_range, by_dir}
 use Rattle.vscsi_client.specs.Units.{FitsOp, InDir, FitsNone, FitsData}
 use Rattle.vscsi_client.specs.Sending.{Submitted, Tasked, LoggedOut}
 use Rattle.vscsi_client.specs.Transferred.{FitsRow, FitRows}

@@ -1,14 +1,13 @@
 -- Laws of a client: its calls keep its credits, and its data lie in the region.
-use Rattle.std.proofs.Common.{◌≡◌, ◌∙◌, ℕ, ◌+◌, ◌*◌, ◌≤◌, ◌<◌, true, false, Bool, All, List, [], ◌∷◌, ◌++◌, Option, Some, None, Result, Ok, Err, nat_le, length, ◌==◌, map, min, cond, refl, sym, ap, subst, arith}
+use Rattle.std.proofs.Common.{◌≡◌, ◌∙◌, ℕ, ◌≤◌, ◌<◌, true, false, Bool, List, [], ◌∷◌, ◌++◌, Option, Some, None, nat_le, length, ◌==◌, min, cond, refl, sym, ap, subst, arith}
 use Rattle.std.proofs.lemmas.Bool.Decides.{nat_tests}
 use Rattle.std.proofs.lemmas.List.{length-map, map-append, length-append}
 use Rattle.std.specs.Option.{option_map}
 use Rattle.crq_session.specs.declared.answers.RegAnswer.TheVariants as reg
 use Rattle.crq_session.specs.declared.answers.SendAnswer.{SendAnswer}
-use Rattle.srp_credits.specs.History.{Event, Login, Sent, Answered, Logout, Lost, is_on, outstanding, granted, without}
+use Rattle.srp_credits.specs.History.{Event, Sent, Logout, Lost, is_on, outstanding, granted, without}
 use Rattle.vio_num.specs.declared.entry.Entry.{Entry}
-use Rattle.vscsi_client.specs.declared.answers.Refused.{Refused}
-use Rattle.vscsi_client.specs.declared.answers.Refused.TheVariants.{Range, NotLoggedIn, NoCredit, Overlap}
+use Rattle.vscsi_client.specs.declared.answers.Refused.TheVariants.{NoCredit, Overlap}
 use Rattle.vscsi_client.specs.declared.answers.Taken.{Taken}
 use Rattle.vscsi_client.specs.declared.answers.Taken.TheVariants as takens
 use Rattle.vscsi_client.specs.declared.found.Found.{Found}
@@ -19,8 +18,8 @@ use Rattle.vscsi_client.specs.declared.op.Op.{Op}
 use Rattle.vscsi_client.specs.Spans.{op_in_range, first_sharing}
 use Rattle.vscsi_client.specs.State.{ClientState, tags_of, next_tag}
 use Rattle.vscsi_client.specs.Ports.{Ports}
-use Rattle.vscsi_client.specs.Sending.{command_refusal, task_refusal, refused_by, request_of, task_of, Submitted, Tasked, LoggedOut}
-use Rattle.vscsi_client.specs.Taking.{taken_by, without_tag, TakesAs}
+use Rattle.vscsi_client.specs.Sending.{refused_by, request_of, task_of, Submitted, Tasked, LoggedOut}
+use Rattle.vscsi_client.specs.Taking.{taken_by, TakesAs}
 use Rattle.vscsi_client.specs.Login.{found_by}
 use Rattle.vscsi_client.specs.Turned.{Site, LoginStep, Registered, Took, TookNone, Looked, Began, Wrote, NotWritten, Put, RanOut, Runs, Steps, is_dropped, sent_by, sent_stage}
 use Rattle.vscsi_client.specs.Credits.{IsGranted, Lives, taken_events, step_events, turn_events}

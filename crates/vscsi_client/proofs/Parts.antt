@@ -22,10 +22,10 @@ use Rattle.vscsi_client.specs.declared.turning.Next.{Next}
 use Rattle.vscsi_client.specs.declared.turning.Next.TheVariants as nexts
 use Rattle.vscsi_client.specs.State.{ClientState}
 use Rattle.vscsi_client.specs.Ports.{ports}
-use Rattle.vscsi_client.specs.Turned.{Site, site, LoginStep, Took, TookNone, Looked, Began, RanOut, Put, Registered, Runs, NoneEnds, ends_turn, ends_login, EndsOr, Ends, Did, IsHeldUp, IsSpent, IsLooked, is_none, meets_use, finds_use, times_taken, is_up, is_idle, is_login, begins, login_due, is_dropped, sent_stage, IsEntryOf, is_found_used, Registers}
-use Rattle.vscsi_client.specs.TurnParts.{next_after, TookOne, TookAll, Went, PutAll, PutOne, PutsAs, begun, is_unwritten, IsWritten, HoldsNoMore}
+use Rattle.vscsi_client.specs.Turned.{Site, site, LoginStep, Took, TookNone, Looked, Began, RanOut, Put, Registered, Runs, NoneEnds, ends_turn, ends_login, EndsOr, Ends, Did, IsHeldUp, IsSpent, IsLooked, finds_use, times_taken, is_up, is_idle, is_login, begins, login_due, is_dropped, sent_stage, IsEntryOf, is_found_used, Registers, FollowOn, AreInOrder}
+use Rattle.vscsi_client.specs.TurnParts.{next_after, TookOne, TookAll, Went, PutAll, PutOne, PutsAs, begun, is_unwritten, IsWritten, HoldsNoMore, InParts}
 use Rattle.vscsi_client.proofs.Same.{lays_none}
-use Rattle.vscsi_client.proofs.Runs.{runs_after, none_ends_append, times_append, ends_with_append, held_up_append, spent_append, looked_append, looked_none_held, looked_used, hands, did_after}
+use Rattle.vscsi_client.proofs.Runs.{runs_after, none_ends_append, times_append, ends_with_append, held_up_append, none_before, spent_append, looked_append, looked_none_held, looked_used, hands, did_after, parts_append, parts_more, parts_none, parts_took, parts_took_none, parts_looked, parts_looked_on}
 
 -- want of memory ends what began before
 pub err_after : (X Y : Type 0) (line : ℕ) (a b c : Site) (P : X → List LoginStep → Type 0) (Q : Y → List LoginStep → Type 0) (result : Result X NoMemory)
@@ -37,7 +37,7 @@ err_after X Y line a b c P Q result m m' first is runs none did = record {
 }
 
 pub none_after : (line slots n : ℕ) (a b c : Site) (result : Result (Option Found) NoMemory) → result ≡ Ok None → n ≤ slots → b.client.held ≡ None
-    → Went line a b n → Did line b c TookOne result → Did line a c (TookAll slots c) (Ok nexts.Pause)
+    → Went line 1 a b n → Did line b c TookOne result → Did line a c (TookAll slots c) (Ok nexts.Pause)
 none_after line slots n a b c result is most none went did =
     let e : did.steps ≡ TookNone ∷ [] = subst (λ r. EndsOr TookOne r did.steps) is did.ends in
     let runs : Runs line (TookNone ∷ []) b c = subst (λ ss. Runs line ss b c) e did.runs in
@@ -45,33 +45,33 @@ none_after line slots n a b c result is most none went did =
     record {
       steps = TookNone ∷ went.steps;
       runs = runs_after line went.steps (TookNone ∷ []) a b c went.runs runs;
-      ends = (went.going, inl refl, (let times = went.times in omega (arith, times, most)), looked_none_held c.client.held (TookNone ∷ went.steps) held);
+      ends = (went.going, inl refl, (let times = went.times in omega (arith, times, most)), looked_none_held c.client.held (TookNone ∷ went.steps) held, parts_took_none went.steps went.order);
     }
 
 -- an entry ends the taking, or the turn
 ends_by : (slots : ℕ) (b : Site) (found : Found) (steps : List LoginStep) → NoneEnds steps → times_taken steps ≤ slots
-    → (next_after found ≡ nexts.GoOn → ⊥) → TookAll slots b (next_after found) (Looked found ∷ steps)
-ends_by slots b (Granted credits) steps none most some = (omega (arith, most), record { rest = steps; is = refl; going = none })
-ends_by slots b (Rejected reason) steps none most some = (omega (arith, most), record { rest = steps; is = refl; going = none })
-ends_by slots b Lost steps none most some = (omega (arith, most), record { rest = steps; is = refl; going = none })
-ends_by slots b (InUse page word) steps none most some = (none, inr (inr refl), omega (arith, most), looked_used b.client.held page word steps)
-ends_by slots b Step steps none most some = absurd (some refl)
-ends_by slots b Answer steps none most some = absurd (some refl)
-ends_by slots b Nothing steps none most some = absurd (some refl)
+    → InParts 1 1 steps → (next_after found ≡ nexts.GoOn → ⊥) → TookAll slots b (next_after found) (Looked found ∷ steps)
+ends_by slots b (Granted credits) steps none most order some = (omega (arith, most), record { rest = steps; is = refl; going = none }, parts_looked (Granted credits) steps order)
+ends_by slots b (Rejected reason) steps none most order some = (omega (arith, most), record { rest = steps; is = refl; going = none }, parts_looked (Rejected reason) steps order)
+ends_by slots b Lost steps none most order some = (omega (arith, most), record { rest = steps; is = refl; going = none }, parts_looked Lost steps order)
+ends_by slots b (InUse page word) steps none most order some = (none, inr (inr refl), omega (arith, most), looked_used b.client.held page word steps, parts_looked (InUse page word) steps order)
+ends_by slots b Step steps none most order some = absurd (some refl)
+ends_by slots b Answer steps none most order some = absurd (some refl)
+ends_by slots b Nothing steps none most order some = absurd (some refl)
 
 pub looked_ends : (line slots : ℕ) (b : Site) (found : Found) (next : Next) (steps : List LoginStep) → next ≡ next_after found → (next ≡ nexts.GoOn → ⊥)
-    → NoneEnds steps → times_taken steps ≤ slots → TookAll slots b next (Looked found ∷ steps)
-looked_ends line slots b found next steps is some none most =
-    subst (λ n. TookAll slots b n (Looked found ∷ steps)) (sym is) (ends_by slots b found steps none most (λ e. some (is ∙ e)))
+    → NoneEnds steps → times_taken steps ≤ slots → InParts 1 1 steps → TookAll slots b next (Looked found ∷ steps)
+looked_ends line slots b found next steps is some none most order =
+    subst (λ n. TookAll slots b n (Looked found ∷ steps)) (sym is) (ends_by slots b found steps none most order (λ e. some (is ∙ e)))
 
 pub ended_after : (line slots n : ℕ) (a b c : Site) (found : Found) (next : Next) (result : Result (Option Found) NoMemory) → result ≡ Ok (Some found)
-    → n < slots → next ≡ next_after found → (next ≡ nexts.GoOn → ⊥) → Went line a b n → Did line b c TookOne result → Did line a c (TookAll slots c) (Ok next)
+    → n < slots → next ≡ next_after found → (next ≡ nexts.GoOn → ⊥) → Went line 1 a b n → Did line b c TookOne result → Did line a c (TookAll slots c) (Ok next)
 ended_after line slots n a b c found next result is less next_is some went did =
     let e : did.steps ≡ Looked found ∷ Took ∷ [] = subst (λ r. EndsOr TookOne r did.steps) is did.ends in
     record {
       steps = Looked found ∷ Took ∷ went.steps;
       runs = runs_after line went.steps (Looked found ∷ Took ∷ []) a b c went.runs (subst (λ ss. Runs line ss b c) e did.runs);
-      ends = looked_ends line slots c found next (Took ∷ went.steps) next_is some went.going (let times = went.times in omega (arith, times, less));
+      ends = looked_ends line slots c found next (Took ∷ went.steps) next_is some went.going (let times = went.times in omega (arith, times, less)) (parts_took went.steps went.order);
     }
 
 not_ending : (found : Found) → next_after found ≡ nexts.GoOn → ends_login found ≡ false
@@ -86,25 +86,6 @@ not_ending Nothing is = refl
 pub looked_none : (found : Found) (steps : List LoginStep) → next_after found ≡ nexts.GoOn → NoneEnds steps → NoneEnds (Looked found ∷ steps)
 looked_none found steps is none = subst (λ b. (b || list_any ends_turn steps) ≡ false) (sym (not_ending found is)) none
 
-pub went_on : (line n : ℕ) (a b c : Site) (found : Found) (result : Result (Option Found) NoMemory) → result ≡ Ok (Some found)
-    → next_after found ≡ nexts.GoOn → Went line a b n → Did line b c TookOne result → Went line a c (n + 1)
-went_on line n a b c found result is on went did =
-    let e : did.steps ≡ Looked found ∷ Took ∷ [] = subst (λ r. EndsOr TookOne r did.steps) is did.ends in
-    record {
-      steps = Looked found ∷ Took ∷ went.steps;
-      runs = runs_after line went.steps (Looked found ∷ Took ∷ []) a b c went.runs (subst (λ ss. Runs line ss b c) e did.runs);
-      going = looked_none found (Took ∷ went.steps) on went.going;
-      times = let times = went.times in omega (arith, times);
-    }
-
--- as many entries were taken as the queue has slots
-pub all_taken : (line slots n : ℕ) (a b : Site) → n ≡ slots → b.client.held ≡ None → Went line a b n → Did line a b (TookAll slots b) (Ok nexts.Pause)
-all_taken line slots n a b is none went = record {
-  steps = went.steps;
-  runs = went.runs;
-  ends = (went.going, inr (inl (went.times ∙ is)), (let times = went.times in omega (arith, times, is)), looked_none_held b.client.held went.steps none);
-}
-
 pub held_none : (found : Found) → next_after found ≡ nexts.GoOn → is_found_used found ≡ false
 held_none (Granted credits) is = refl
 held_none (Rejected reason) is = refl
@@ -113,6 +94,26 @@ held_none (InUse page word) is = absurd (cc)
 held_none Step is = refl
 held_none Answer is = refl
 held_none Nothing is = refl
+
+pub went_on : (line n : ℕ) (a b c : Site) (found : Found) (result : Result (Option Found) NoMemory) → result ≡ Ok (Some found)
+    → next_after found ≡ nexts.GoOn → Went line 1 a b n → Did line b c TookOne result → Went line 1 a c (n + 1)
+went_on line n a b c found result is on went did =
+    let e : did.steps ≡ Looked found ∷ Took ∷ [] = subst (λ r. EndsOr TookOne r did.steps) is did.ends in
+    record {
+      steps = Looked found ∷ Took ∷ went.steps;
+      runs = runs_after line went.steps (Looked found ∷ Took ∷ []) a b c went.runs (subst (λ ss. Runs line ss b c) e did.runs);
+      going = looked_none found (Took ∷ went.steps) on went.going;
+      times = let times = went.times in omega (arith, times);
+      order = parts_looked_on found (Took ∷ went.steps) (held_none found on) (parts_took went.steps went.order);
+    }
+
+-- as many entries were taken as the queue has slots
+pub all_taken : (line slots n : ℕ) (a b : Site) → n ≡ slots → b.client.held ≡ None → Went line 1 a b n → Did line a b (TookAll slots b) (Ok nexts.Pause)
+all_taken line slots n a b is none went = record {
+  steps = went.steps;
+  runs = went.runs;
+  ends = (went.going, inr (inl (went.times ∙ is)), (let times = went.times in omega (arith, times, is)), looked_none_held b.client.held went.steps none, parts_more 1 1 2 went.steps (omega arith) went.order);
+}
 
 pub held_after : (s : ClientState) (found : Found) (result : Result (Option Found) NoMemory) → result ≡ Ok (Some found) → is_found_used found ≡ false
     → IfOk result (HoldsNoMore s) → s.held ≡ None
@@ -128,9 +129,9 @@ any_front p (x ∷ xs) ys some = at (p x) (any_front p xs ys) some
     at false later e = later e
 
 spent_front : (slots : ℕ) (xs ys : List LoginStep) → times_taken ys ≡ 0 → IsSpent slots xs → IsSpent slots (xs ++ ys)
-spent_front slots xs ys none (inl e) = inl (any_front is_none xs ys e)
+spent_front slots xs ys none (inl e) = inl (none_before xs ys e)
 spent_front slots xs ys none (inr (inl e)) = inr (inl (let sum = times_append xs ys in omega (arith, sum, none, e)))
-spent_front slots xs ys none (inr (inr e)) = inr (inr (any_front meets_use xs ys e))
+spent_front slots xs ys none (inr (inr e)) = inr (inr (any_front finds_use xs ys e))
 
 looked_front : (h : Option Entry) (xs ys : List LoginStep) → IsLooked h xs → IsLooked h (xs ++ ys)
 looked_front None xs ys e = tt
@@ -153,20 +154,26 @@ ends_front slots b (turns.Rejected reason) xs ys none going h = ends_with_append
 ends_front slots b turns.Lost xs ys none going h = ends_with_append (Looked Lost) xs ys h going
 ends_front slots b (turns.Busy number held) xs ys none going h = ends_with_append _ xs ys h going
 
-pub took_front : (slots : ℕ) (b : Site) (ys : List LoginStep) → times_taken ys ≡ 0 → NoneEnds ys → (next : Next) (xs : List LoginStep) → TookAll slots b next xs → TookAll slots b next (xs ++ ys)
-took_front slots b ys none going nexts.Pause xs h =
-    (none_ends_append xs ys h.0 going, spent_front slots xs ys none h.1, most_front slots xs ys none h.2, looked_front b.client.held xs ys h.3)
-took_front slots b ys none going (nexts.End turn) xs h = (most_front slots xs ys none h.0, ends_front slots b turn xs ys none going h.1)
-took_front slots b ys none going nexts.GoOn xs h = absurd h
+pub took_front : (slots : ℕ) (b : Site) (ys : List LoginStep) → times_taken ys ≡ 0 → NoneEnds ys → InParts 1 1 ys → (next : Next) (xs : List LoginStep) → TookAll slots b next xs → TookAll slots b next (xs ++ ys)
+took_front slots b ys none going order nexts.Pause xs h =
+    (none_ends_append xs ys h.0 going, spent_front slots xs ys none h.1, most_front slots xs ys none h.2, looked_front b.client.held xs ys h.3, parts_append 1 1 2 xs ys (omega arith) h.4 order)
+took_front slots b ys none going order (nexts.End turn) xs h =
+    (most_front slots xs ys none h.0, ends_front slots b turn xs ys none going h.1, parts_append 1 1 2 xs ys (omega arith) h.2 order)
+took_front slots b ys none going order nexts.GoOn xs h = absurd h
 
-pub turn_front : (slots : ℕ) (b : Site) (ys : List LoginStep) → times_taken ys ≡ 0 → NoneEnds ys → (turn : LoginTurn) (xs : List LoginStep)
-    → (times_taken xs ≤ slots) × Ends slots b turn xs → (times_taken (xs ++ ys) ≤ slots) × Ends slots b turn (xs ++ ys)
-turn_front slots b ys none going turn xs h = (most_front slots xs ys none h.0, ends_front slots b turn xs ys none going h.1)
+pub turn_front : (slots : ℕ) (b : Site) (answer : RegAnswer) → NoneEnds (Registered answer ∷ []) → (turn : LoginTurn) (xs : List LoginStep)
+    → (times_taken xs ≤ slots) × Ends slots b turn xs × FollowOn 1 xs
+    → (times_taken (xs ++ Registered answer ∷ []) ≤ slots) × Ends slots b turn (xs ++ Registered answer ∷ []) × AreInOrder (xs ++ Registered answer ∷ [])
+turn_front slots b answer going turn xs h = (
+  most_front slots xs (Registered answer ∷ []) refl h.0,
+  ends_front slots b turn xs (Registered answer ∷ []) refl going h.1,
+  record { answer = answer; later = xs; is = refl; order = h.2 },
+)
 
 -- what was taken, and then all that is due was put
 pub paused_after : (line slots : ℕ) (a b c : Site) (taken : Did line a b (TookAll slots b) (Ok nexts.Pause))
     → c.at.crq.registered ≡ true → c.client.held ≡ b.client.held → (put : Did line b c (λ (_ : Unit {0}). PutAll c.client) (Ok tt))
-    → Did line a c (λ turn steps. (times_taken steps ≤ slots) × Ends slots c turn steps) (Ok turns.Again)
+    → Did line a c (λ turn steps. (times_taken steps ≤ slots) × Ends slots c turn steps × FollowOn 1 steps) (Ok turns.Again)
 paused_after line slots a b c taken registered held put = record {
   steps = put.steps ++ taken.steps;
   runs = runs_after line taken.steps put.steps a b c taken.runs put.runs;
@@ -180,6 +187,7 @@ paused_after line slots a b c taken registered held put = record {
       begun = put.ends.2;
       held_up = held_up_append c.client.due put.steps taken.steps put.ends.3;
     },
+    (parts_append 1 2 3 put.steps taken.steps (omega arith) put.ends.4 taken.ends.4).order,
   );
 }
 
@@ -250,6 +258,7 @@ put_did line cs os s s' e e' w due (Ok true) begun put same none =
         refl,
         subst (λ (t : ClientState). begins t ≡ false) (sym client) (begins_sent s due put.1.others put.1.entry put.1.first put.1.is_entry begun),
         subst (λ (t : ClientState). length t.due < length s.due) (sym client) (subst (λ ds. length put.1.others < length ds) (sym put.1.first) (omega arith)),
+        record { order = (omega arith, tt); most = subst (λ b. cond b 3 2 ≤ 2) (sym go) (omega arith) },
       );
     }
 put_did line cs os s s' e e' w due (Ok false) begun put same none =
@@ -263,6 +272,7 @@ put_did line cs os s s' e e' w due (Ok false) begun put same none =
         refl,
         subst (λ (t : ClientState). begins t ≡ false) (sym client) begun,
         subst (λ (t : ClientState). IsHeldUp t.due (Put due put.0 ∷ [])) (sym client) (held_by_drop due put.1.others s.due put.0 put.1.first stop),
+        record { order = (omega arith, tt); most = subst (λ b. cond b 3 2 ≤ 3) (sym stop) (omega arith) },
       );
     }
 put_did line cs os s s' e e' w due (Err m) begun put same none = record {
@@ -291,17 +301,18 @@ begun_once s = at (begins s) refl
     at true is = due_now
     at false is = is
 
-pub begun_went : (line : ℕ) (cs os : Bool) (s : ClientState) (e : EndState) (w : PortState) → Went line (site s (ports cs e os w)) (site (begun s) (ports cs e os w)) 0
+pub begun_went : (line : ℕ) (cs os : Bool) (s : ClientState) (e : EndState) (w : PortState) → Went line 2 (site s (ports cs e os w)) (site (begun s) (ports cs e os w)) 0
 begun_went line cs os s e w = at (begins s) refl
   where
-    at : (b : Bool) → begins s ≡ b → Went line (site s (ports cs e os w)) (site (cond b (login_due s) s) (ports cs e os w)) 0
+    at : (b : Bool) → begins s ≡ b → Went line 2 (site s (ports cs e os w)) (site (cond b (login_due s) s) (ports cs e os w)) 0
     at true is = record {
       steps = Began ∷ [];
       runs = (site s (ports cs e os w), refl, (record { begins_now = is; client = refl }, refl, refl), hands cs os s (login_due s) e e w w);
       going = refl;
       times = refl;
+      order = record { order = (omega arith, tt); most = omega arith };
     }
-    at false is = record { steps = []; runs = refl; going = refl; times = refl }
+    at false is = record { steps = []; runs = refl; going = refl; times = refl; order = parts_none 2 }
 
 pub ok_true : (result : Result Bool NoMemory) (b : Bool) → result ≡ Ok b → b ≡ true → result ≡ Ok true
 ok_true result b is e = is ∙ ap Ok e
@@ -311,7 +322,7 @@ ok_false result b is e = is ∙ ap Ok e
 
 -- one more of what is due was put
 pub one_more : (line : ℕ) (a b c : Site) (s s' : ClientState) (result : Result Bool NoMemory) → result ≡ Ok true
-    → Went line a b 0 → Did line b c (PutOne s s') result → Went line a c 0 × (begins s' ≡ false) × (length s'.due < length s.due)
+    → Went line 2 a b 0 → Did line b c (PutOne s s') result → Went line 2 a c 0 × (begins s' ≡ false) × (length s'.due < length s.due)
 one_more line a b c s s' result is went did =
     let h : PutOne s s' true did.steps = subst (λ r. EndsOr (PutOne s s') r did.steps) is did.ends in (
       record {
@@ -319,6 +330,7 @@ one_more line a b c s s' result is went did =
         runs = runs_after line went.steps did.steps a b c went.runs did.runs;
         going = none_ends_append did.steps went.steps h.0 went.going;
         times = let sum = times_append did.steps went.steps in let none = h.1 in let times = went.times in omega (arith, sum, none, times);
+        order = parts_append 2 2 2 did.steps went.steps (omega arith) h.4 went.order;
       },
       h.2,
       h.3,
@@ -326,7 +338,7 @@ one_more line a b c s s' result is went did =
 
 -- the first of it is held up
 pub one_held : (line : ℕ) (a b c : Site) (s s' : ClientState) (result : Result Bool NoMemory) → result ≡ Ok false
-    → Went line a b 0 → Did line b c (PutOne s s') result → Did line a c (λ (_ : Unit {0}). PutAll s') (Ok tt)
+    → Went line 2 a b 0 → Did line b c (PutOne s s') result → Did line a c (λ (_ : Unit {0}). PutAll s') (Ok tt)
 one_held line a b c s s' result is went did =
     let h : PutOne s s' false did.steps = subst (λ r. EndsOr (PutOne s s') r did.steps) is did.ends in
     record {
@@ -337,6 +349,7 @@ one_held line a b c s s' result is went did =
         (let sum = times_append did.steps went.steps in let none = h.1 in let times = went.times in omega (arith, sum, none, times)),
         h.2,
         held_up_append s'.due did.steps went.steps h.3,
+        parts_append 2 2 3 did.steps went.steps (omega arith) h.4 went.order,
       );
     }
 
@@ -345,12 +358,10 @@ pub no_go_on : (line slots : ℕ) (a b c : Site) (result : Result Next NoMemory)
 no_go_on line slots a b c result is did = subst (λ r. EndsOr (TookAll slots c) r did.steps) is did.ends
 
 pub ended_turn : (line slots : ℕ) (a b c : Site) (turn : LoginTurn) (result : Result Next NoMemory) → result ≡ Ok (nexts.End turn)
-    → Did line a b (TookAll slots c) result → Did line a b (λ turn steps. (times_taken steps ≤ slots) × Ends slots c turn steps) (Ok turn)
-ended_turn line slots a b c turn result is did = record {
-  steps = did.steps;
-  runs = did.runs;
-  ends = subst (λ r. EndsOr (TookAll slots c) r did.steps) is did.ends;
-}
+    → Did line a b (TookAll slots c) result → Did line a b (λ turn steps. (times_taken steps ≤ slots) × Ends slots c turn steps × FollowOn 1 steps) (Ok turn)
+ended_turn line slots a b c turn result is did =
+    let ends : TookAll slots c (nexts.End turn) did.steps = subst (λ r. EndsOr (TookAll slots c) r did.steps) is did.ends in
+    record { steps = did.steps; runs = did.runs; ends = (ends.0, ends.1, ends.2.order) }
 
 pub paused_took : (line slots : ℕ) (a b c : Site) (result : Result Next NoMemory) → result ≡ Ok nexts.Pause
     → Did line a b (TookAll slots c) result → Did line a b (TookAll slots c) (Ok nexts.Pause)
@@ -384,9 +395,12 @@ pub registers_ok : (shared : Bool) (s s' : ClientState) (old new : EndState) (re
 registers_ok shared s s' old new result answer is ok = subst (λ r. IfOk r (Registers shared s s' old new)) is ok
 
 -- a turn of a registered queue, once it was registered
-pub turned_after : (line : ℕ) (a r b : Site) (slots slots' : ℕ) (result : Result LoginTurn NoMemory) (first : List LoginStep) → Runs line first a r → NoneEnds first
-    → times_taken first ≡ 0 → slots' ≡ slots → Did line r b (λ turn steps. (times_taken steps ≤ slots') × Ends slots' b turn steps) result
-    → Did line a b (λ turn steps. (times_taken steps ≤ slots) × Ends slots b turn steps) result
-turned_after line a r b slots slots' result first runs none zero same did =
-    did_after LoginTurn line a r b (λ turn steps. (times_taken steps ≤ slots') × Ends slots' b turn steps) (λ turn steps. (times_taken steps ≤ slots) × Ends slots b turn steps) result first runs none
-    (λ turn xs h. subst (λ n. (times_taken (xs ++ first) ≤ n) × Ends n b turn (xs ++ first)) same (turn_front slots' b first zero none turn xs h)) did
+pub turned_after : (line : ℕ) (a r b : Site) (slots slots' : ℕ) (result : Result LoginTurn NoMemory) (answer : RegAnswer) → Runs line (Registered answer ∷ []) a r
+    → NoneEnds (Registered answer ∷ []) → slots' ≡ slots
+    → Did line r b (λ turn steps. (times_taken steps ≤ slots') × Ends slots' b turn steps × FollowOn 1 steps) result
+    → Did line a b (λ turn steps. (times_taken steps ≤ slots) × Ends slots b turn steps × AreInOrder steps) result
+turned_after line a r b slots slots' result answer runs none same did =
+    did_after LoginTurn line a r b (λ turn steps. (times_taken steps ≤ slots') × Ends slots' b turn steps × FollowOn 1 steps)
+    (λ turn steps. (times_taken steps ≤ slots) × Ends slots b turn steps × AreInOrder steps) result (Registered answer ∷ []) runs none
+    (λ turn xs h. subst (λ n. (times_taken (xs ++ Registered answer ∷ []) ≤ n) × Ends n b turn (xs ++ Registered answer ∷ []) × AreInOrder (xs ++ Registered answer ∷ [])) same
+    (turn_front slots' b answer none turn xs h)) did

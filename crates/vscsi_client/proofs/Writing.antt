@@ -10,8 +10,8 @@ use Rattle.vscsi_client.specs.declared.stage.Due.TheVariants as dues
 use Rattle.vscsi_client.specs.State.{ClientState}
 use Rattle.vscsi_client.specs.Ports.{ports}
 use Rattle.vscsi_client.specs.Turned.{site, LoginStep, NotWritten, Wrote, Did, IsHeldUp, is_up, begins, IsFirst, IsUnwritten, WritesLogin, WritesNone}
-use Rattle.vscsi_client.specs.TurnParts.{PutOne, PutsAs, WritesAs, is_unwritten}
-use Rattle.vscsi_client.proofs.Runs.{hands, did_after, none_ends_append, times_append, held_up_append}
+use Rattle.vscsi_client.specs.TurnParts.{PutOne, PutsAs, WritesAs, is_unwritten, InParts}
+use Rattle.vscsi_client.proofs.Runs.{hands, did_after, none_ends_append, times_append, held_up_append, parts_append}
 use Rattle.vscsi_client.proofs.Parts.{unwritten_is, put_did, and_false}
 
 -- a login whose unit is not written is due first
@@ -38,6 +38,7 @@ not_written line cs os s s' e w w' due result page word is un first begun wrote 
         refl,
         subst (λ (t : ClientState). begins t ≡ false) (sym none.client) begun,
         subst (λ (t : ClientState). IsHeldUp t.due (NotWritten page word ∷ [])) (sym none.client) (used_up s.due page word unwritten.first),
+        record { order = (omega arith, tt); most = omega arith },
       );
     }
 
@@ -45,18 +46,23 @@ pub was_written : (os : Bool) (line : ℕ) (s s' : ClientState) (w w' : PortStat
     → IfOk result (WritesAs os line s s' w w') → WritesLogin os line s s' w w'
 was_written os line s s' w w' result is wrote = subst (λ r. IfOk r (WritesAs os line s s' w w')) is wrote
 
+parts_wrote : InParts 2 2 (Wrote ∷ [])
+parts_wrote = record { order = (omega arith, tt); most = omega arith }
+
 more_one : (s m s' : ClientState) → m.due ≡ s.due → (x : Bool) (steps : List LoginStep) → PutOne m s' x steps → PutOne s s' x (steps ++ Wrote ∷ [])
 more_one s m s' same true steps h = (
   none_ends_append steps (Wrote ∷ []) h.0 refl,
   (let sum = times_append steps (Wrote ∷ []) in let none = h.1 in omega (arith, sum, none)),
   h.2,
   subst (λ ds. length s'.due < length ds) same h.3,
+  parts_append 2 2 2 steps (Wrote ∷ []) (omega arith) h.4 parts_wrote,
 )
 more_one s m s' same false steps h = (
   none_ends_append steps (Wrote ∷ []) h.0 refl,
   (let sum = times_append steps (Wrote ∷ []) in let none = h.1 in omega (arith, sum, none)),
   h.2,
   held_up_append s'.due steps (Wrote ∷ []) h.3,
+  parts_append 2 2 3 steps (Wrote ∷ []) (omega arith) h.4 parts_wrote,
 )
 
 pub wrote_one : (line : ℕ) (cs os : Bool) (s m s' : ClientState) (e e' : EndState) (w w' : PortState) (due : Due) (result : Result Bool NoMemory)

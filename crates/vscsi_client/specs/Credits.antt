@@ -1,7 +1,7 @@
 -- The credits of a client over its calls, as the history of its logins (SRP, "Flow control").
-use Rattle.std.specs.Prelude.{◌≡◌, ℕ, ◌≤◌, true, false, List, [], ◌∷◌, Option, Some, None, MatchOption, length, min}
+use Rattle.std.specs.Prelude.{◌≡◌, ℕ, ◌≤◌, true, false, List, [], ◌∷◌, Option, MatchOption, length, min}
 use Rattle.crq_session.specs.declared.answers.RegAnswer.TheVariants as reg
-use Rattle.srp_credits.specs.History.{Event, Login, Sent, Answered, Logout, Lost, is_on, outstanding, granted}
+use Rattle.srp_credits.specs.History.{Event, Login, Answered, Lost, is_on, outstanding, granted}
 use Rattle.vscsi_client.specs.declared.answers.Taken.{Taken}
 use Rattle.vscsi_client.specs.declared.answers.Taken.TheVariants as taken
 use Rattle.vscsi_client.specs.declared.found.Found.TheVariants as found

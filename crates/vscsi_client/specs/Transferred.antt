@@ -1,5 +1,5 @@
 -- The data-in of a command that was answered.
-use Rattle.std.specs.Prelude.{◌≡◌, ◌⊎◌, ℕ, ◌+◌, ◌-◌, ◌*◌, ◌<◌, ◌≤◌, ◌==◌, nat_le, Bool, All, List, [], Option, Some, None, IfSome, MatchBool, bit_and, length, min, take, drop, slice_index_or, ⊤, if◌then◌else◌}
+use Rattle.std.specs.Prelude.{◌≡◌, ◌⊎◌, ℕ, ◌+◌, ◌-◌, ◌*◌, ◌<◌, ◌≤◌, ◌==◌, nat_le, Bool, All, List, [], Option, Some, None, IfSome, MatchBool, bit_and, length, min, take, drop, slice_index_or, if◌then◌else◌}
 use Rattle.vio_num.specs.declared.TheConstants.{PAGE_BYTES}
 use Rattle.vio_num.specs.Counts.{Rose}
 use Rattle.page_slots.specs.declared.stroke.StrokeName.{StrokeName}

@@ -1,10 +1,12 @@
 -- What the parts of a turn of a login do.
-use Rattle.std.specs.Prelude.{◌≡◌, ℕ, ◌<◌, ◌≤◌, Bool, true, false, not, List, [], ◌∷◌, Option, Some, None, length, ⊤, if◌then◌else◌}
+use Rattle.std.specs.Prelude.{◌≡◌, ℕ, ◌<◌, ◌≤◌, Bool, true, false, not, List, [], ◌∷◌, Option, Some, None, Result, length, ⊤, if◌then◌else◌}
+use Rattle.vio_num.specs.declared.memory.NoMemory.{NoMemory}
 use Rattle.crq_session.specs.declared.answers.SendAnswer.{SendAnswer}
 use Rattle.crq_session.specs.EndState.{EndState}
 use Rattle.tce_window.specs.PortState.{PortState}
 use Rattle.vscsi_client.specs.declared.found.Found.{Found}
 use Rattle.vscsi_client.specs.declared.found.Found.TheVariants.{Granted, Rejected, Lost, InUse}
+use Rattle.vscsi_client.specs.declared.answers.LoginTurn.{LoginTurn}
 use Rattle.vscsi_client.specs.declared.answers.LoginTurn.TheVariants as turns
 use Rattle.vscsi_client.specs.declared.login_put.Wrote.{Wrote}
 use Rattle.vscsi_client.specs.declared.login_put.Wrote.TheVariants as wrotes
@@ -15,7 +17,7 @@ use Rattle.vscsi_client.specs.declared.stage.Due.TheVariants as dues
 use Rattle.vscsi_client.specs.declared.turning.Next.{Next}
 use Rattle.vscsi_client.specs.declared.turning.Next.TheVariants.{GoOn, Pause, End}
 use Rattle.vscsi_client.specs.State.{ClientState}
-use Rattle.vscsi_client.specs.Turned.{Site, LoginStep, Took, TookNone, Looked, Runs, NoneEnds, times_taken, IsSpent, IsLooked, IsHeldUp, Ends, begins, login_due, is_idle, WritesLogin, WritesNone, TakesNext, PollsNone, Puts, is_dropped, is_found_used}
+use Rattle.vscsi_client.specs.Turned.{Site, LoginStep, Took, TookNone, Looked, Runs, NoneEnds, times_taken, IsSpent, IsLooked, IsHeldUp, Ends, Did, begins, login_due, is_idle, WritesLogin, WritesNone, TakesNext, PollsNone, Puts, is_dropped, is_found_used, part_after, FollowOn}
 
 -- what a turn does once it found this
 abbrev pub next_after : Found → Next
@@ -35,18 +37,29 @@ abbrev pub TookOne : Option Found → List LoginStep → Type 0
 TookOne None steps = steps ≡ TookNone ∷ []
 TookOne (Some found) steps = steps ≡ Looked found ∷ Took ∷ []
 
--- these steps went from one site to another, took so many entries, and did not end the turn
-pub record Went (line : ℕ) (a b : Site) (taken : ℕ) : Type 0 where
+-- these steps are of the parts of a turn from one to another, in their order
+pub record InParts (first last : ℕ) (steps : List LoginStep) : Type 0 where
+  pub order : FollowOn first steps
+  pub most : part_after first steps ≤ last
+
+-- these steps of one part went from one site to another, took so many entries, and did not end the turn
+pub record Went (line part : ℕ) (a b : Site) (taken : ℕ) : Type 0 where
   pub steps : List LoginStep
   pub runs : Runs line steps a b
   pub going : NoneEnds steps
   pub times : times_taken steps ≡ taken
+  pub order : InParts part part steps
 
 -- nothing more is to be taken, or the turn has ended
 abbrev pub TookAll : (slots : ℕ) → Site → Next → List LoginStep → Type 0
-TookAll slots b Pause steps = NoneEnds steps × IsSpent slots steps × (times_taken steps ≤ slots) × IsLooked b.client.held steps
-TookAll slots b (End turn) steps = (times_taken steps ≤ slots) × Ends slots b turn steps
+TookAll slots b Pause steps = NoneEnds steps × IsSpent slots steps × (times_taken steps ≤ slots) × IsLooked b.client.held steps × InParts 1 2 steps
+TookAll slots b (End turn) steps = (times_taken steps ≤ slots) × Ends slots b turn steps × InParts 1 2 steps
 TookAll slots b GoOn steps = ⊥
+
+-- what a turn did once its queue was registered
+abbrev pub TurnedOn : (line : ℕ) → Site → Site → Result LoginTurn NoMemory → Type 0
+TurnedOn line a b = Did line a b (λ turn steps. (times_taken steps ≤ a.at.crq.place.own_slots)
+    × Ends a.at.crq.place.own_slots b turn steps × FollowOn 1 steps)
 
 -- a login is due where it is to be
 abbrev pub begun : ClientState → ClientState
@@ -69,11 +82,11 @@ IsWritten due stage = ⊤
 
 -- all that is due was put, or the first of it is held up
 abbrev pub PutAll : ClientState → List LoginStep → Type 0
-PutAll s steps = NoneEnds steps × (times_taken steps ≡ 0) × (begins s ≡ false) × IsHeldUp s.due steps
+PutAll s steps = NoneEnds steps × (times_taken steps ≡ 0) × (begins s ≡ false) × IsHeldUp s.due steps × InParts 2 3 steps
 
 -- what is due first was put, or is held up
 abbrev pub PutOne : ClientState → ClientState → Bool → List LoginStep → Type 0
-PutOne s s' true steps = NoneEnds steps × (times_taken steps ≡ 0) × (begins s' ≡ false) × (length s'.due < length s.due)
+PutOne s s' true steps = NoneEnds steps × (times_taken steps ≡ 0) × (begins s' ≡ false) × (length s'.due < length s.due) × InParts 2 2 steps
 PutOne s s' false steps = PutAll s' steps
 
 -- the entry of what is due first was sent, and it is due no more or was dropped

@@ -267,19 +267,23 @@ abbrev pub times_taken : List LoginStep → ℕ
 times_taken [] = 0
 times_taken (step ∷ steps) = taken_in step + times_taken steps
 
-abbrev pub is_none : LoginStep → Bool
-is_none TookNone = true
-is_none _ = false
+-- whether the last poll of these steps, the latest of which stands first, found nothing
+abbrev pub found_none_last : List LoginStep → Bool
+found_none_last [] = false
+found_none_last (Took ∷ steps) = false
+found_none_last (TookNone ∷ steps) = true
+found_none_last (Registered answer ∷ steps) = found_none_last steps
+found_none_last (Looked found ∷ steps) = found_none_last steps
+found_none_last (Began ∷ steps) = found_none_last steps
+found_none_last (Wrote ∷ steps) = found_none_last steps
+found_none_last (NotWritten page word ∷ steps) = found_none_last steps
+found_none_last (Put due answer ∷ steps) = found_none_last steps
+found_none_last (RanOut ∷ steps) = found_none_last steps
 
--- whether a page that the step needed was read in use
+-- whether the page of its answer was read in use
 abbrev pub is_found_used : Found → Bool
 is_found_used (InUse page word) = true
 is_found_used _ = false
-
-abbrev pub meets_use : LoginStep → Bool
-meets_use (Looked found) = is_found_used found
-meets_use (NotWritten page word) = true
-meets_use _ = false
 
 -- whether an entry was looked at whose page was in use
 abbrev pub finds_use : LoginStep → Bool
@@ -291,11 +295,11 @@ abbrev pub IsLooked : Option Entry → List LoginStep → Type 0
 IsLooked None steps = ⊤
 IsLooked (Some entry) steps = list_any finds_use steps ≡ true
 
--- nothing more is to be taken in this call: a poll found nothing, as many entries were taken as the queue has
--- slots, or a page was in use
+-- nothing more is to be taken in this call: the last poll found nothing, as many entries were taken as the queue
+-- has slots, or the page of the entry that is held was in use
 abbrev pub IsSpent : (slots : ℕ) → List LoginStep → Type 0
 IsSpent slots steps =
-    (list_any is_none steps ≡ true) ⊎ ((times_taken steps ≡ slots) ⊎ (list_any meets_use steps ≡ true))
+    (found_none_last steps ≡ true) ⊎ ((times_taken steps ≡ slots) ⊎ (list_any finds_use steps ≡ true))
 
 -- this was the last step
 pub record LastIs (step : LoginStep) (steps : List LoginStep) : Type 0 where
@@ -343,7 +347,43 @@ pub record Did {X : Type 0} (line : ℕ) (a b : Site) (P : X → List LoginStep 
   pub runs : Runs line steps a b
   pub ends : EndsOr P result steps
 
+-- A turn has three parts: the queue is registered (0), entries are taken (1), and what is due is put (2). A step is of
+-- one of them
+abbrev pub part_of : LoginStep → ℕ
+part_of (Registered answer) = 0
+part_of Took = 1
+part_of TookNone = 1
+part_of (Looked found) = 1
+part_of _ = 2
+
+-- the part from which on steps may follow this one: none is taken once there is none, or a page is in use, and none is
+-- put once what is due first is held up
+abbrev pub part_behind : LoginStep → ℕ
+part_behind (Registered answer) = 1
+part_behind Took = 1
+part_behind (Looked found) = if is_found_used found then 2 else 1
+part_behind (NotWritten page word) = 3
+part_behind (Put due answer) = if is_dropped answer then 3 else 2
+part_behind _ = 2
+
+-- the part from which on steps may follow these, of which the latest stands first and which began at one part
+abbrev pub part_after : (first : ℕ) → List LoginStep → ℕ
+part_after first [] = first
+part_after first (step ∷ steps) = part_behind step
+
+-- each of these steps is of the part that was reached, or of a later one
+abbrev pub FollowOn : (first : ℕ) → List LoginStep → Type 0
+FollowOn first [] = ⊤
+FollowOn first (step ∷ steps) = (part_after first steps ≤ part_of step) × FollowOn first steps
+
+-- the steps of a turn stand in the order of its parts, and begin with the registration
+pub record AreInOrder (steps : List LoginStep) : Type 0 where
+  pub answer : RegAnswer
+  pub later : List LoginStep
+  pub is : steps ≡ later ++ Registered answer ∷ []
+  pub order : FollowOn 1 later
+
 -- what a turn of a login did: it took at most as many entries as the queue has slots
 abbrev pub Turned : (line : ℕ) → Site → Site → Result LoginTurn NoMemory → Type 0
 Turned line a b = Did line a b (λ turn steps. (times_taken steps ≤ a.at.crq.place.own_slots)
-    × Ends a.at.crq.place.own_slots b turn steps)
+    × Ends a.at.crq.place.own_slots b turn steps × AreInOrder steps)

@@ -8,6 +8,8 @@ mod logins;
 mod moves;
 mod pages;
 mod requests;
+mod rows;
+mod wire;
 
 use crate::client::Client;
 use crate::op::{Dir, Op};
@@ -54,6 +56,8 @@ pub enum Step {
     Lay(u64, u64, u64),
     /// The eight bytes at this address of the region are looked at.
     Word(u64),
+    /// The partition writes these eight bytes at this address.
+    Poke(u64, u64),
 }
 
 /// A client with its queue and its region of 64 pages, of which no page is held.
@@ -87,6 +91,7 @@ impl Desk {
             Step::Partner(partner) => self.partner(partner),
             Step::Lay(first, count, tag) => Ok(self.lay(first, count, tag)),
             Step::Word(address) => Ok(self.word(address)),
+            Step::Poke(address, word) => Ok(self.poke(address, word)),
         }
     }
 
@@ -116,6 +121,13 @@ impl Desk {
         match self.window.read(address, &mut bytes) {
             Ok(()) => Seen::Word(u64::from_be_bytes(bytes)),
             Err(_fault) => Seen::Nothing,
+        }
+    }
+
+    fn poke(&mut self, address: u64, word: u64) -> Seen {
+        match self.window.write(address, &word.to_be_bytes(), 900) {
+            Ok(()) => Seen::Nothing,
+            Err(_fault) => Seen::Barred,
         }
     }
 

@@ -5,7 +5,7 @@ ghost use Rattle.tce_window.specs.PortState.{OnlyReads, OnlyWrites};
 ghost use Rattle.vscsi_client.specs.Frames.{KeepsEnd, OnlyTurns};
 ghost use Rattle.vscsi_client.specs.Ports.{ports};
 ghost use Rattle.vscsi_client.specs.Turned.{site, begins, Did, IsFirst, Registers, Turned};
-ghost use Rattle.vscsi_client.specs.TurnParts.{next_after, PutAll, PutOne, TookAll, TookAs, TookOne, HoldsNoMore, IsWritten, PutsAs};
+ghost use Rattle.vscsi_client.specs.TurnParts.{next_after, PutAll, PutOne, TookAll, TookAs, TookOne, TurnedOn, HoldsNoMore, IsWritten, PutsAs};
 
 use crate::MIN_PAGES;
 use crate::answers::LoginTurn;
@@ -299,7 +299,7 @@ impl Client {
     ) -> Result<LoginTurn, NoMemory>
         requires registered { (C.state crq.old).registered ≡ true }
         requires pages { MIN_PAGES ≤ (O.state own.old).place.size }
-        ensures turned { Turned line
+        ensures turned { TurnedOn line
             (site self.old (ports C.is_shared (C.state crq.old) O.is_shared (O.state own.old)))
             (site self.new (ports C.is_shared (C.state crq.new) O.is_shared (O.state own.new)))
             result }

@@ -3,6 +3,7 @@ ghost use Rattle.std.specs.Prelude.{◌≡◌, ◌<◌};
 
 use super::SERVER;
 use super::calls::Seen;
+use super::wire::{Wire, wire_bytes};
 use crate::client::Client;
 use arrayvec::ArrayVec;
 use crq_session::{CrqEnd, PlainLink, PollAnswer};
@@ -26,6 +27,8 @@ pub enum Unit {
     Over { tag: u64, residual: u32 },
     /// One with less and a response code, so that its residual counts for nothing.
     Coded { tag: u64, residual: u32 },
+    /// What a server in use answered, but for the tag.
+    Wire(Wire, u64),
     /// Bytes that are no unit.
     Nothing,
 }
@@ -55,6 +58,8 @@ pub enum Act {
     Free,
     /// It fails, and tells the client.
     Fail,
+    /// It frees its own queue, and tells the client.
+    Reset,
     /// It sends this many entries of its own.
     Fill(usize),
 }
@@ -69,7 +74,7 @@ pub fn make_move(
 {
     match partner {
         Move::Register => register(link),
-        Move::Free => free(link),
+        Move::Free => free(link, true),
         Move::Fail => fail(link, true),
         Move::Send(entry) => send(link, true, entry),
         Move::SendAll(count) => fill(link, true, count),
@@ -86,14 +91,14 @@ pub fn make_move(
 /// Does what the partition does, on the link's second side.
 pub fn act_beside(client: &mut Client, link: &mut PlainLink, own: Act) -> Result<Seen, NoMemory> {
     match own {
-        Act::Free => {
-            let mut end = link.side(false);
-            end.reserve(1)?;
-            Ok(Seen::Freed(end.free()))
-        }
+        Act::Free => free(link, false),
         Act::Fail => {
             client.freed();
             fail(link, false)
+        }
+        Act::Reset => {
+            client.freed();
+            free(link, false)
         }
         Act::Fill(count) => fill(link, false, count),
     }
@@ -105,10 +110,10 @@ fn register(link: &mut PlainLink) -> Result<Seen, NoMemory> {
     Ok(Seen::Registered(server.register(0, 4096)))
 }
 
-fn free(link: &mut PlainLink) -> Result<Seen, NoMemory> {
-    let mut server = link.side(true);
-    server.reserve(1)?;
-    Ok(Seen::Freed(server.free()))
+fn free(link: &mut PlainLink, first: bool) -> Result<Seen, NoMemory> {
+    let mut end = link.side(first);
+    end.reserve(1)?;
+    Ok(Seen::Freed(end.free()))
 }
 
 fn fail(link: &mut PlainLink, first: bool) -> Result<Seen, NoMemory> {
@@ -158,6 +163,7 @@ fn bytes_of(unit: Unit) -> ArrayVec<u8, 256> {
         Unit::Short { tag, residual } => response_bytes(tag, 1, DIUNDER, residual),
         Unit::Over { tag, residual } => response_bytes(tag, 1, DIOVER, residual),
         Unit::Coded { tag, residual } => coded_bytes(tag, residual),
+        Unit::Wire(wire, tag) => wire_bytes(wire, tag),
         Unit::Nothing => ArrayVec::from([0xFF; 256]),
     }
 }

@@ -1,4 +1,4 @@
-use Rattle.std.proofs.Common.{◌≡◌, ◌+◌, ◌-◌, ◌≤◌, ℕ, length, refl, ap, arith}
+use Rattle.std.proofs.Common.{◌+◌, ap}
 use Rattle.vscsi_client.proofs.Giving.{reads_trans, both_given, second_not}
 use Rattle.vscsi_client.proofs.data_in.read_both.Goals as goal
 

@@ -33,7 +33,11 @@ returns-in-Busy-clause-turned g c = record {
     (c.in-Ok.ensures.registers, refl),
     hands _ _ _ _ _ _ _ _,
   );
-  ends = (omega arith, record { rest = []; is = ap (λ a. Registered a ∷ []) c.in-Busy.is; going = refl });
+  ends = (
+    omega arith,
+    record { rest = []; is = ap (λ a. Registered a ∷ []) c.in-Busy.is; going = refl },
+    record { answer = c.in-Ok.answer; later = []; is = refl; order = tt },
+  );
 }
 
 pub turn_registered-requires-clause-registered : goal.turn_registered-requires-clause-registered
@@ -47,8 +51,8 @@ returns-in_default g c =
     let none = none_busy c.in-Ok.answer (not_busy c.in-Ok.answer c.in_default.not-Busy) in
     record {
       turned = turned_after c.args.line a r b (g.C.CrqEnd.state c.args.crq.now).place.own_slots (g.C.CrqEnd.state c.register.new.crq).place.own_slots
-          c.turn_registered.result (Registered c.in-Ok.answer ∷ [])
-          (a, refl, (c.in-Ok.ensures.registers, refl), hands _ _ _ _ _ _ _ _) none refl
+          c.turn_registered.result c.in-Ok.answer
+          (a, refl, (c.in-Ok.ensures.registers, refl), hands _ _ _ _ _ _ _ _) none
           (ap (λ (p : EndPlace). p.own_slots) c.register.ensures.rest.place) c.turn_registered.ensures.turned;
       crq_rest = turns_after _ _ _ _ c.register.ensures.rest c.turn_registered.ensures.crq_rest;
       own_rest = c.turn_registered.ensures.own_rest;

@@ -34,7 +34,7 @@ loop-due-init g c =
       begun = subst (λ (s : ClientState). begins s ≡ false) (sym is) (begun_once c.args.self.now);
       held = c.begin.ensures.held;
       pages = c.requires.pages;
-      went = subst (λ (s : ClientState). Went c.args.line (site c.args.self.now p) (site s p) 0) (sym is)
+      went = subst (λ (s : ClientState). Went c.args.line 2 (site c.args.self.now p) (site s p) 0) (sym is)
           (begun_went c.args.line g.C.CrqEnd.is_shared g.O.WindowPort.is_shared c.args.self.now (g.C.CrqEnd.state c.args.crq.now) (g.O.WindowPort.state c.args.own.now));
       crq = keeps_same _ (g.C.CrqEnd.state c.args.crq.now);
       own = writes_same (g.O.WindowPort.state c.args.own.now);

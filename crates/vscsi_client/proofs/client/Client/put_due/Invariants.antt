@@ -11,7 +11,7 @@ invariant-loop-due g l = record {
   begun : begins l.self ≡ false;
   held : l.self.held ≡ l.fn.self.held;
   pages : 14 ≤ (g.O.WindowPort.state l.own).place.size;
-  went : Went l.fn.line
+  went : Went l.fn.line 2
       (site l.fn.self (ports g.C.CrqEnd.is_shared (g.C.CrqEnd.state l.fn.crq) g.O.WindowPort.is_shared (g.O.WindowPort.state l.fn.own)))
       (site l.self (ports g.C.CrqEnd.is_shared (g.C.CrqEnd.state l.crq) g.O.WindowPort.is_shared (g.O.WindowPort.state l.own))) 0;
   crq : KeepsEnd g.C.CrqEnd.is_shared (g.C.CrqEnd.state l.fn.crq) (g.C.CrqEnd.state l.crq);

@@ -5,8 +5,8 @@ use Rattle.vscsi_client.specs.State.{ClientState}
 use Rattle.vscsi_client.specs.Turned.{site, Looked, RanOut}
 use Rattle.vscsi_client.specs.TurnParts.{TookAll}
 use Rattle.vscsi_client.proofs.Frames.{keeps_same, writes_reads}
-use Rattle.vscsi_client.proofs.Runs.{hands, same_end, same_window, looks_some, some_held, did_after}
-use Rattle.vscsi_client.proofs.Parts.{looked_ends, looked_none, took_front}
+use Rattle.vscsi_client.proofs.Runs.{hands, same_end, same_window, looks_some, some_held, did_after, parts_none, parts_looked_on}
+use Rattle.vscsi_client.proofs.Parts.{looked_ends, looked_none, held_none, took_front}
 use Rattle.vscsi_client.proofs.client.Client.take_all.Goals as goal
 
 pub returns-in-Err-clause-did : goal.returns-in-Err-clause-did
@@ -43,7 +43,7 @@ returns-in-GoOn-clause-did g c = λ line.
       ),
       hands _ _ _ _ _ _ _ _,
     )
-    none (took_front slots b (Looked c.in-Ok.found ∷ []) refl none) (c.take_more-in-GoOn.ensures.did line)
+    none (took_front slots b (Looked c.in-Ok.found ∷ []) refl none (parts_looked_on c.in-Ok.found [] (held_none c.in-Ok.found on) (parts_none 1))) (c.take_more-in-GoOn.ensures.did line)
 
 pub returns-in_default : goal.returns-in_default
 returns-in_default g c = record {
@@ -62,7 +62,7 @@ returns-in_default g c = record {
           ),
           hands _ _ _ _ _ _ _ _,
         );
-        ends = looked_ends line (g.C.CrqEnd.state c.args.crq.now).place.own_slots m c.in-Ok.found c.next_after.result [] c.next_after.ensures c.in_default.not-GoOn refl (omega arith);
+        ends = looked_ends line (g.C.CrqEnd.state c.args.crq.now).place.own_slots m c.in-Ok.found c.next_after.result [] c.next_after.ensures c.in_default.not-GoOn refl (omega arith) (parts_none 1);
       };
   crq_rest = keeps_same _ (g.C.CrqEnd.state c.args.crq.now);
   own_rest = writes_reads _ _ _ c.look.ensures.rest;

@@ -10,7 +10,7 @@ abbrev pub invariant-loop-taken : goal.invariant-loop-taken
 invariant-loop-taken g l = record {
   held : l.self.held ≡ None;
   pages : 14 ≤ (g.O.WindowPort.state l.own).place.size;
-  went : (line : ℕ) → Went line
+  went : (line : ℕ) → Went line 1
       (site l.fn.self (ports g.C.CrqEnd.is_shared (g.C.CrqEnd.state l.fn.crq) g.O.WindowPort.is_shared (g.O.WindowPort.state l.fn.own)))
       (site l.self (ports g.C.CrqEnd.is_shared (g.C.CrqEnd.state l.crq) g.O.WindowPort.is_shared (g.O.WindowPort.state l.own))) l._taken;
   crq : KeepsEnd g.C.CrqEnd.is_shared (g.C.CrqEnd.state l.fn.crq) (g.C.CrqEnd.state l.crq);
