@@ -1,8 +1,9 @@
 -- What calls leave of a unit's site, one after the other.
-use Rattle.std.proofs.Common.{◌≡◌, ◌⊎◌, inl, inr, ℕ, ◌++◌, List, [], ◌∷◌, refl, sym, ◌∙◌, ap, arith, append-nil, append_assoc}
+use Rattle.std.proofs.Common.{◌≡◌, ◌⊎◌, inl, inr, ℕ, ◌++◌, Bool, true, false, List, [], ◌∷◌, refl, sym, ◌∙◌, ap, subst, arith, append-nil, append_assoc}
 use Rattle.std.proofs.lemmas.List.Elements.{All-nil, All-cons, All-append, All-weaker}
 use Rattle.crq_ring.specs.declared.rows.PipeRow.{PipeRow}
 use Rattle.vio_num.specs.Words.{Begins}
+use Rattle.tce_window.specs.Port.{Later}
 use Rattle.tce_window.specs.PortState.{PortState}
 use Rattle.rdma_copy.proofs.Laws.{lawful_stays, side_same, side_on}
 use Rattle.rdma_copy.specs.declared.copy.CopyRecord.{CopyRecord}
@@ -18,6 +19,15 @@ begins_same xs = ([], sym (append-nil xs))
 pub begins_on : {X : Type 0} (old mid new : List X) → Begins old mid → Begins mid new → Begins old new
 begins_on old mid new first next =
     (first.0 ++ next.0, next.1 ∙ ap (λ front. front ++ next.0) first.1 ∙ append_assoc old first.0 next.0)
+
+-- a list as it is found later, and later still
+pub later_same : {X : Type 0} (shared : Bool) (xs : List X) → Later shared xs xs
+later_same true xs = begins_same xs
+later_same false xs = refl
+
+pub later_on : {X : Type 0} (shared : Bool) (old mid new : List X) → Later shared old mid → Later shared mid new → Later shared old new
+later_on true old mid new first next = begins_on old mid new first next
+later_on false old mid new first next = next ∙ first
 
 pub puts_none : (old new : List PipeRow) → new ≡ old → PutsMore old new
 puts_none old new same = record { more = []; put = same ∙ sym (append-nil old); may = All-nil (λ row. MayPut row.entry) }
@@ -75,6 +85,8 @@ advances_same site = record {
   queue_place = refl;
   own_place = refl;
   client_place = refl;
+  shared = refl;
+  values = λ e. later_same site.shared (site.client.values e);
   session = omega arith;
   taken = begins_same site.queue.taken;
   put = puts_none site.queue.sent site.queue.sent refl;
@@ -89,6 +101,9 @@ advances_on old mid new first next = record {
   queue_place = next.queue_place ∙ first.queue_place;
   own_place = next.own_place ∙ first.own_place;
   client_place = next.client_place ∙ first.client_place;
+  shared = next.shared ∙ first.shared;
+  values = λ e. later_on old.shared (old.client.values e) (mid.client.values e) (new.client.values e) (first.values e)
+      (subst (λ (shared : Bool). Later shared (mid.client.values e) (new.client.values e)) first.shared (next.values e));
   session = omega (arith, first.session, next.session);
   taken = begins_on old.queue.taken mid.queue.taken new.queue.taken first.taken next.taken;
   put = puts_on old.queue.sent mid.queue.sent new.queue.sent first.put next.put;

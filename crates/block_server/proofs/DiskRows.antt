@@ -18,10 +18,11 @@ use Rattle.block_disk.specs.Steps.{IsStep}
 use Rattle.block_disk.specs.declared.command.DiskOp.{DiskOp}
 use Rattle.block_disk.specs.declared.command.DiskOp.TheVariants.{Ready, Inquiry, Capacity10, Capacity16, Luns, Read, Write, Sync}
 use Rattle.block_disk.specs.declared.reply.ScsiReply.{ScsiReply}
-use Rattle.block_server.specs.DiskLaw.{HasData, HasNoStep, IsOfTask, IsStepped, IsTurnedDown, IsUnread, SaysCode, ServesRow, handed_over, step_of}
-use Rattle.block_server.specs.Orders.{IsCodeOf, IsOrder}
+use Rattle.block_server.specs.Causes.{RefusesIn, told_to}
+use Rattle.block_server.specs.DiskLaw.{HasData, HasNoStep, IsOfTask, IsStepped, IsTurnedDown, IsUnread, SaysCode, ServesRowBy, handed_over, step_of}
+use Rattle.block_server.specs.Orders.{IsCauseOf, IsCodeOf, IsOrder}
 use Rattle.block_server.specs.Responses.{Answers, HasCode, HasStatus}
-use Rattle.block_server.specs.Serving.{HasReply, MayAnswer}
+use Rattle.block_server.specs.Serving.{HasReply, MayAnswer, Terms}
 use Rattle.block_server.specs.declared.request.Order.{Order}
 use Rattle.block_server.specs.declared.request.Order.TheVariants as orders
 use Rattle.block_server.proofs.DiskLaws.{none_written, row_still}
@@ -69,11 +70,11 @@ sound None (Some (Sync lba n)) count sent fault some = sync_sound (nat_lt count 
 -- ---- the disk step of a row
 
 -- what is known of a row whose disk step was made
-pub record IsKnown (count : ℕ) (command : Cmd) (reply : ScsiReply) (row : Served) : Type 0 where
+pub record IsKnown (terms : Terms) (command : Cmd) (reply : ScsiReply) (row : Served) : Type 0 where
   pub spells : Spells row.iu (units.Cmd command)
   pub brought : HasData command row.out
   pub fault_is : reply.fault ≡ row.fault
-  pub reply_is : reply ≡ reply_to count command.lun command.cdb (length row.out) row.fault
+  pub reply_is : reply ≡ reply_to terms.size command.lun command.cdb (length row.out) row.fault
   pub few : length row.inn ≤ handed_over command reply
 
 -- the step, with the data-in that it gave
@@ -82,15 +83,15 @@ pub record Made (command : Cmd) (reply : ScsiReply) (row : Served) (b a : List (
   pub step : IsStep b (step_of command row reply given) a
   pub inn : row.inn ≡ take (length row.inn) given
 
-module _ (one : SpellsOne) (count : ℕ) (command : Cmd) (reply : ScsiReply) (row : Served) (known : IsKnown count command reply row)
-    (b a : List (List ℕ)) (size : length b ≡ count) where
+module _ (one : SpellsOne) (terms : Terms) (command : Cmd) (reply : ScsiReply) (row : Served) (known : IsKnown terms command reply row)
+    (b a : List (List ℕ)) (size : length b ≡ terms.size) where
   same_command : (c : Cmd) → Spells row.iu (units.Cmd c) → c ≡ command
   same_command c spells = command_is c command (one row.iu (units.Cmd c) (units.Cmd command) spells known.spells)
     where
       command_is : (x y : Cmd) → units.Cmd x ≡ units.Cmd y → x ≡ y
       command_is x y same = cc (same)
 
-  made_stepped : IsStepped b row a → Made command reply row b a
+  made_stepped : IsStepped terms.told b row a → Made command reply row b a
   made_stepped is =
       let same = same_command is.command is.spells in
       let reply_same : is.reply ≡ reply =
@@ -116,7 +117,7 @@ module _ (one : SpellsOne) (count : ℕ) (command : Cmd) (reply : ScsiReply) (ro
         inn = subst (λ (xs : List ℕ). xs ≡ take (length xs) (step b command.lun command.cdb row.out reply.fault).given) (sym inn) refl;
       }
 
-  pub made_of : ServesRow b row a → Made command reply row b a
+  pub made_of : ServesRowBy terms.told b row a → Made command reply row b a
   made_of (inl is) = made_stepped is
   made_of (inr (inl is)) = made_still is.none.out is.none.inn is.none.fault is.none.same
   made_of (inr (inr (inl is))) = absurd (apart is.task command (one row.iu (units.TskMgmt is.task) (units.Cmd command) is.spells known.spells))
@@ -140,12 +141,12 @@ first_of (suc n) (x ∷ xs) (y ∷ ys) is = (λ i. (head is) i ∷ (first_of n x
     tail : x ∷ xs ≡ y ∷ take (length xs) ys → xs ≡ take (length xs) ys
     tail same = cc (same)
 
-module _ (one : SpellsOne) (count : ℕ) (command : Cmd) (reply : ScsiReply) (row : Served) (known : IsKnown count command reply row) where
+module _ (one : SpellsOne) (terms : Terms) (command : Cmd) (reply : ScsiReply) (row : Served) (known : IsKnown terms command reply row) where
   -- the answer says the status, where the row has all data-in
   pub may_status : length row.inn ≡ handed_over command reply → (bytes : List ℕ)
-      → Answers bytes (HasStatus (field 8 8 row.iu) (total_of command.out) (total_of command.inn) reply) → MayAnswer count bytes row
+      → Answers bytes (HasStatus (field 8 8 row.iu) (total_of command.out) (total_of command.inn) reply) → MayAnswer terms bytes row
   may_status all_in bytes says b a size is =
-      let made = made_of one count command reply row known b a size is in
+      let made = made_of one terms command reply row known b a size is in
       inl (record {
         command = command;
         spells = known.spells;
@@ -160,14 +161,14 @@ module _ (one : SpellsOne) (count : ℕ) (command : Cmd) (reply : ScsiReply) (ro
       })
 
   -- the answer says that the data-in were refused
-  pub may_refuse : 0 < handed_over command reply → (bytes : List ℕ) → Answers bytes (HasCode (field 8 8 row.iu) FieldsInvalid) → MayAnswer count bytes row
-  may_refuse some bytes says b a size is =
-      let made = made_of one count command reply row known b a size is in
-      let given : 0 < (reply_to count command.lun command.cdb (length row.out) row.fault).in_len =
+  pub may_refuse : RefusesIn (told_to terms.told row.unit) command → 0 < handed_over command reply → (bytes : List ℕ) → Answers bytes (HasCode (field 8 8 row.iu) FieldsInvalid) → MayAnswer terms bytes row
+  may_refuse cause some bytes says b a size is =
+      let made = made_of one terms command reply row known b a size is in
+      let given : 0 < (reply_to terms.size command.lun command.cdb (length row.out) row.fault).in_len =
       subst (λ (r : ScsiReply). 0 < r.in_len) known.reply_is (omega (arith, some)) in
       let none : reply.fault ≡ None =
       ap (λ (r : ScsiReply). r.fault) known.reply_is
-      ∙ sound (refusal command.lun command.cdb) (command_of command.cdb) count (length row.out) row.fault given in
+      ∙ sound (refusal command.lun command.cdb) (command_of command.cdb) terms.size (length row.out) row.fault given in
       inl (record {
         command = command;
         spells = known.spells;
@@ -178,13 +179,13 @@ module _ (one : SpellsOne) (count : ℕ) (command : Cmd) (reply : ScsiReply) (ro
         fault = known.fault_is;
         inn = made.inn;
         few = known.few;
-        answer = inr (inr (record { some = some; no_fault = sym known.fault_is ∙ none; answer = says }));
+        answer = inr (inr (record { cause = cause; some = some; no_fault = sym known.fault_is ∙ none; answer = says }));
       })
 
   -- its data-in are cut
-  pub may_cut : (n : ℕ) → row.answer ≡ [] → (b a : List (List ℕ)) → length b ≡ count → ServesRow b row a → ServesRow b (record row { inn = take n row.inn }) a
+  pub may_cut : (n : ℕ) → row.answer ≡ [] → (b a : List (List ℕ)) → length b ≡ terms.size → ServesRowBy terms.told b row a → ServesRowBy terms.told b (record row { inn = take n row.inn }) a
   may_cut n blank b a size is =
-      let made = made_of one count command reply row known b a size is in
+      let made = made_of one terms command reply row known b a size is in
       inl (record {
         command = command;
         spells = known.spells;
@@ -198,7 +199,7 @@ module _ (one : SpellsOne) (count : ℕ) (command : Cmd) (reply : ScsiReply) (ro
         answer = inl blank;
       })
 
-  pub known_cut : (n : ℕ) → IsKnown count command reply (record row { inn = take n row.inn })
+  pub known_cut : (n : ℕ) → IsKnown terms command reply (record row { inn = take n row.inn })
   known_cut n = record {
     spells = known.spells;
     brought = known.brought;
@@ -210,23 +211,23 @@ module _ (one : SpellsOne) (count : ℕ) (command : Cmd) (reply : ScsiReply) (ro
 -- ---- rows without a disk step
 
 -- what a row is whose request is answered with this code
-pub code_row : (order : Order) (code : ResponseCode) (row : Served) (b : List (List ℕ)) → IsOrder order row.iu → IsCodeOf order code
-    → row.out ≡ [] → row.inn ≡ [] → row.fault ≡ None → SaysCode code row → ServesRow b row b
-code_row (orders.Task task) code row b order is out inn fault says =
+pub code_row : (terms : Terms) (order : Order) (code : ResponseCode) (row : Served) (b : List (List ℕ)) → IsOrder order row.iu → IsCodeOf order code
+    → IsCauseOf (told_to terms.told row.unit) order → row.out ≡ [] → row.inn ≡ [] → row.fault ≡ None → SaysCode code row → ServesRowBy terms.told b row b
+code_row terms (orders.Task task) code row b order is cause out inn fault says =
     let says' : SaysCode _ row = subst (λ (c : ResponseCode). SaysCode c row) is says in
     inr (inr (inl (record { task = task; spells = order; none = record { same = refl; out = out; inn = inn; fault = fault; answer = says' } })))
-code_row (orders.Command command) code row b order is out inn fault says =
+code_row terms (orders.Command command) code row b order is cause out inn fault says =
     let says' : SaysCode FieldsInvalid row = subst (λ (c : ResponseCode). SaysCode c row) is says in
-    inr (inl (record { command = command; spells = order; none = record { same = refl; out = out; inn = inn; fault = fault; answer = says' } }))
-code_row orders.Unreadable code row b order is out inn fault says =
+    inr (inl (record { command = command; spells = order; cause = cause; none = record { same = refl; out = out; inn = inn; fault = fault; answer = says' } }))
+code_row terms orders.Unreadable code row b order is cause out inn fault says =
     let says' : SaysCode FieldsInvalid row = subst (λ (c : ResponseCode). SaysCode c row) is says in
     inr (inr (inr (record { unread = order; none = record { same = refl; out = out; inn = inn; fault = fault; answer = says' } })))
-code_row (orders.Login request) code row b order is out inn fault says = absurd is
-code_row orders.Logout code row b order is out inn fault says = absurd is
+code_row terms (orders.Login request) code row b order is cause out inn fault says = absurd is
+code_row terms orders.Logout code row b order is cause out inn fault says = absurd is
 
 -- it may get that answer
-pub may_code : (order : Order) (code : ResponseCode) (row : Served) (count : ℕ) (bytes : List ℕ) → IsOrder order row.iu → IsCodeOf order code
-    → row.out ≡ [] → row.inn ≡ [] → row.fault ≡ None → Answers bytes (HasCode (field 8 8 row.iu) code) → MayAnswer count bytes row
-may_code order code row count bytes spelled is out inn fault says b a size serves =
-    subst (λ (x : List (List ℕ)). ServesRow b (record row { answer = bytes }) x) (sym (row_still b row a out fault serves))
-    (code_row order code (record row { answer = bytes }) b spelled is out inn fault says)
+pub may_code : (order : Order) (code : ResponseCode) (row : Served) (terms : Terms) (bytes : List ℕ) → IsOrder order row.iu → IsCodeOf order code
+    → IsCauseOf (told_to terms.told row.unit) order → row.out ≡ [] → row.inn ≡ [] → row.fault ≡ None → Answers bytes (HasCode (field 8 8 row.iu) code) → MayAnswer terms bytes row
+may_code order code row terms bytes spelled is cause out inn fault says b a size serves =
+    subst (λ (x : List (List ℕ)). ServesRowBy terms.told b (record row { answer = bytes }) x) (sym (row_still terms.told b row a out fault serves))
+    (code_row terms order code (record row { answer = bytes }) b spelled is cause out inn fault says)

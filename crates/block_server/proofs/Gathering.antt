@@ -1,5 +1,5 @@
 -- What is known of a command's pieces, while its tables and its data-out are fetched.
-use Rattle.std.proofs.Common.{◌≡◌, ◌*◌, ◌<◌, ◌==◌, ℕ, Bool, true, false, List, [], ◌∷◌, length, replicate, refl, sym, ◌∙◌, ap, subst, arith}
+use Rattle.std.proofs.Common.{◌≡◌, ◌⊎◌, inl, inr, Option, Some, None, Result, Ok, Err, ◌*◌, ◌<◌, ◌==◌, ℕ, Bool, true, false, List, [], ◌∷◌, length, replicate, refl, sym, ◌∙◌, ap, subst, arith}
 use Rattle.std.proofs.lemmas.List.{length-replicate}
 use Rattle.std.proofs.lemmas.Bool.{eqb-true}
 use Rattle.arrayvec.specs.ArrayVec.{ArrayVec}
@@ -7,11 +7,16 @@ use Rattle.srp_iu.specs.declared.buffer.Buffer.{Buffer}
 use Rattle.srp_iu.specs.declared.buffer.Buffer.TheVariants.{Indirect}
 use Rattle.srp_iu.specs.declared.buffer.Desc.{Desc}
 use Rattle.srp_iu.specs.declared.command.Cmd.{Cmd}
-use Rattle.srp_desc.specs.Pieces.{IsGiven, IsToFetch, descs_in, named, pieces, sum_of, summing_to, tables_in}
-use Rattle.srp_desc.specs.Tables.{table_len, tables_of}
+use Rattle.srp_desc.specs.Pieces.{IsGiven, IsToFetch, descs_in, named, pieces, refusal, sum_of, summing_to, tables_in}
+use Rattle.srp_desc.specs.Tables.{command_refusal, first_refusal, table_len, tables_of}
+use Rattle.srp_desc.specs.declared.pieces.DescFault.{DescFault}
 use Rattle.srp_desc.specs.declared.pieces.Pieces.{Pieces}
 use Rattle.srp_desc.specs.declared.pieces.Pieces.TheVariants.{Fetch, Whole}
-use Rattle.block_server.specs.Fetched.{Gathers, HasBoth, IsNamed, IsRead}
+use Rattle.vio_num.specs.declared.memory.NoMemory.{NoMemory}
+use Rattle.block_server.specs.Causes.{IsBad, IsNamed, Refusing, RefusesBuffer, TurnsDown}
+use Rattle.block_server.specs.Fetched.{DeniesTable, Gathers, HasBadSum, HasBoth, IfRefused, IsRead}
+use Rattle.block_server.specs.declared.fetching.Progress.{Progress}
+use Rattle.block_server.specs.declared.fetching.Progress.TheVariants.{Busy, Done, Refused}
 use Rattle.block_server.specs.declared.cursor.Cursor.{Cursor}
 use Rattle.block_server.specs.declared.data_pieces.DataPieces.{DataPieces}
 use Rattle.block_server.specs.declared.service.Stage.{Stage}
@@ -41,3 +46,50 @@ named_read buffer given table total list is_given tables is law read = record {
   full = let one : table.len ≡ sum_of (table ∷ []) = omega arith in read.full ∙ one ∙ ap sum_of (sym (ap tables_in is) ∙ tables);
   named_is = law buffer table total read.table (subst (IsGiven buffer) is is_given) ∙ read.sums;
 }
+
+-- ---- why pieces are not to be had
+
+pub if_refused : (result : Result Progress NoMemory) (P Q : Type 0) → (P → Q) → IfRefused result P → IfRefused result Q
+if_refused (Ok Refused) P Q then is = then is
+if_refused (Ok Done) P Q then is = tt
+if_refused (Ok Busy) P Q then is = tt
+if_refused (Err memory) P Q then is = tt
+
+-- what is so where it was refused
+pub where_refused : (progress : Progress) (P : Type 0) → progress ≡ Refused → IfRefused (Ok progress) P → P
+where_refused progress P at = subst (λ (p : Progress). IfRefused (Ok p) P) at
+
+-- a table that was fetched and does not sum up, or whose copy was refused
+table_refused : (Refuses : Refusing) (buffer : Buffer) (given : Pieces) (table : Desc) (total : ℕ) → IsGiven buffer given → tables_in given ≡ tables_of buffer → given ≡ Fetch table total
+    → ((buffer : Buffer) (table : Desc) (total : ℕ) (bytes : List ℕ) → IsToFetch buffer table total → pieces buffer bytes ≡ summing_to total (descs_in bytes))
+    → HasBadSum table.len total ⊎ DeniesTable Refuses table → RefusesBuffer Refuses buffer
+table_refused Refuses buffer given table total is_given tables is law (inl bad) = inr (inl (record {
+  table = table;
+  own = sym tables ∙ ap tables_in is;
+  bytes = bad.bytes;
+  full = bad.full;
+  fault = bad.fault;
+  refused_is = law buffer table total bad.bytes (subst (IsGiven buffer) is is_given) ∙ bad.sums;
+}))
+table_refused Refuses buffer given table total is_given tables is law (inr denied) =
+    inr (inr (record { table = table; own = sym tables ∙ ap tables_in is; fault = denied.fault; told = denied.told }))
+
+pub buffer_refused : (Refuses : Refusing) (buffer : Buffer) (given : Pieces) (table : Desc) (total : ℕ) (result : Result Progress NoMemory) → IsGiven buffer given → tables_in given ≡ tables_of buffer
+    → given ≡ Fetch table total
+    → ((buffer : Buffer) (table : Desc) (total : ℕ) (bytes : List ℕ) → IsToFetch buffer table total → pieces buffer bytes ≡ summing_to total (descs_in bytes))
+    → IfRefused result (HasBadSum table.len total ⊎ DeniesTable Refuses table) → IfRefused result (RefusesBuffer Refuses buffer)
+buffer_refused Refuses buffer given table total result is_given tables is law =
+    if_refused result (HasBadSum table.len total ⊎ DeniesTable Refuses table) (RefusesBuffer Refuses buffer)
+    (table_refused Refuses buffer given table total is_given tables is law)
+
+-- a command one of whose buffers is refused by itself
+pub start_refused : (command : Cmd) (fault : DescFault) → command_refusal command ≡ Some fault → IsBad command.out ⊎ IsBad command.inn
+start_refused command fault is = by (refusal command.out) refl
+  where
+    by : (why : Option DescFault) → refusal command.out ≡ why → IsBad command.out ⊎ IsBad command.inn
+    by (Some first) e = inl (record { fault = first; refused_is = e })
+    by None e = inr (record { fault = fault; refused_is = ap (λ (why : Option DescFault). first_refusal why (refusal command.inn)) (sym e) ∙ is })
+
+pub bad_down : (Refuses : Refusing) (command : Cmd) → IsBad command.out ⊎ IsBad command.inn → TurnsDown Refuses command
+bad_down Refuses command (inl bad) = inl (inl bad)
+bad_down Refuses command (inr bad) = inr (inl (inl bad))

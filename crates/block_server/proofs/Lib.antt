@@ -1,7 +1,9 @@
 pub mod Advancing
 pub mod Answered
 pub mod Named
+pub mod Denying
 pub mod Opening
+pub mod Owning
 pub mod Putting
 pub mod Quieting
 pub mod Sending

@@ -22,7 +22,7 @@ use Rattle.block_server.specs.declared.line.Kept.TheVariants as keeps
 use Rattle.block_server.specs.declared.service.Outcome.{Outcome}
 use Rattle.block_server.specs.declared.service.Outcome.TheVariants.{Granted, Rejected, Served}
 use Rattle.srp_iu.specs.declared.unit.Iu.TheVariants as units
-use Rattle.block_server.specs.DiskLaw.{Serve, ServesRow}
+use Rattle.block_server.specs.DiskLaw.{ServeBy, ServesRowBy}
 use Rattle.srp_iu.specs.Grammar.{Spells}
 use Rattle.block_server.specs.Orders.{IsOrder}
 use Rattle.block_server.specs.declared.request.Order.{Order}
@@ -30,7 +30,7 @@ use Rattle.block_server.specs.Records.{FillsRow}
 use Rattle.std.proofs.lemmas.Option.{IfSome_then}
 use Rattle.std.specs.Prelude.{IsSome}
 use Rattle.block_server.specs.Fetched.{Buffers, HasPieces}
-use Rattle.block_server.specs.Serving.{Desk, HasReply, Held, MayAnswer, IfRow, IsKept, IsServed, IsServing, LeavesRow, Once, Place, ServeFrom, SettlesRow, StaysServed, place_of}
+use Rattle.block_server.specs.Serving.{Desk, HasReply, Held, MayAnswer, IfRow, IsKept, IsServed, IsServing, LeavesRow, Once, Place, ServeFrom, SettlesRow, StaysServed, Terms, place_of}
 use Rattle.block_server.proofs.AnswerLaws.{answered_there, answers_filled, answers_one, filled_there, only_there}
 use Rattle.block_server.proofs.DiskLaws.{serve_changed}
 use Rattle.block_server.proofs.DiskRows.{IsKnown, SpellsOne, known_cut, may_cut}
@@ -60,28 +60,28 @@ tells_same None = tt
 tells_same (Some all) = refl
 
 -- the rows of later take the blocks to where those of before did
-pub stays_rows : (d : Held) (h h' : List ServedRow) → ((before all : List (List ℕ)) → length before ≡ d.count → Serve before h all → Serve before h' all) → StaysServed d d h h'
-stays_rows d h h' rows before is = IfSome_then d.now is (λ all (from : ServeFrom d.count before h all). record { size = from.size; serve = rows before all from.size from.serve })
+pub stays_rows : (d : Held) (h h' : List ServedRow) → ((before all : List (List ℕ)) → length before ≡ d.terms.size → ServeBy d.terms.told before h all → ServeBy d.terms.told before h' all) → StaysServed d d h h'
+stays_rows d h h' rows before is = IfSome_then d.now is (λ all (from : ServeFrom d.terms before h all). record { size = from.size; serve = rows before all from.size from.serve })
 
 pub stays_equal : (d : Held) (h h' : List ServedRow) → h' ≡ h → StaysServed d d h h'
-stays_equal d h h' rows = stays_rows d h h' (λ before all size is. subst (λ (list : List ServedRow). Serve before list all) (sym rows) is)
+stays_equal d h h' rows = stays_rows d h h' (λ before all size is. subst (λ (list : List ServedRow). ServeBy d.terms.told before list all) (sym rows) is)
 
 -- another row in the place of the one in service
 pub stays_there : (d : Held) (h h' before behind : List ServedRow) (row new : ServedRow) → h ≡ before ++ row ∷ behind → h' ≡ before ++ new ∷ behind
-    → ((b a : List (List ℕ)) → length b ≡ d.count → ServesRow b row a → ServesRow b new a) → StaysServed d d h h'
+    → ((b a : List (List ℕ)) → length b ≡ d.terms.size → ServesRowBy d.terms.told b row a → ServesRowBy d.terms.told b new a) → StaysServed d d h h'
 stays_there d h h' before behind row new was is changed = stays_rows d h h' (λ b all size serve.
-    subst (λ (list : List ServedRow). Serve b list all) (sym is)
-    (serve_changed b all before behind row new (λ m m' same. changed m m' (same ∙ size)) (subst (λ (list : List ServedRow). Serve b list all) was serve)))
+    subst (λ (list : List ServedRow). ServeBy d.terms.told b list all) (sym is)
+    (serve_changed d.terms.told b all before behind row new (λ m m' same. changed m m' (same ∙ size)) (subst (λ (list : List ServedRow). ServeBy d.terms.told b list all) was serve)))
 
 -- one part of a turn behind another
-pub once_then : (d d' d'' : Held) (a b c : Desk) (s s' s'' : List PipeRow) (h h' h'' : List ServedRow) → (IsServing d.count a h → Once d d' a b s s' h h')
-    → (IsServing d'.count b h' → Once d' d'' b c s' s'' h' h'') → IsServing d.count a h → Once d d'' a c s s'' h h''
+pub once_then : (d d' d'' : Held) (a b c : Desk) (s s' s'' : List PipeRow) (h h' h'' : List ServedRow) → (IsServing d.terms a h → Once d d' a b s s' h h')
+    → (IsServing d'.terms b h' → Once d' d'' b c s' s'' h' h'') → IsServing d.terms a h → Once d d'' a c s s'' h h''
 once_then d d' d'' a b c s s' s'' h h' h'' first next serving =
     let did = first serving in
     let then = next did.serving in
     record {
       id = then.id ∙ did.id;
-      count = then.count ∙ did.count;
+      terms = then.terms ∙ did.terms;
       serving = then.serving;
       answers = more_on a.id s s' s'' h h' h'' did.answers (subst (λ unit. AnswersMore unit s' s'' h' h'') did.id then.answers);
       others = stays_on a.id h h' h'' did.others (subst (λ unit. OnlyRowsOf unit h' h'') did.id then.others);
@@ -89,16 +89,16 @@ once_then d d' d'' a b c s s' s'' h h' h'' first next serving =
       tells = tells_on d.now d'.now d''.now did.tells then.tells;
     }
 
-pub once_on : (a b c : Desk) (s s' s'' : List PipeRow) (h h' h'' : List ServedRow) → ((d : Held) → IsServing d.count a h → Once d d a b s s' h h')
-    → ((d : Held) → IsServing d.count b h' → Once d d b c s' s'' h' h'') → (d : Held) → IsServing d.count a h → Once d d a c s s'' h h''
+pub once_on : (a b c : Desk) (s s' s'' : List PipeRow) (h h' h'' : List ServedRow) → ((d : Held) → IsServing d.terms a h → Once d d a b s s' h h')
+    → ((d : Held) → IsServing d.terms b h' → Once d d b c s' s'' h' h'') → (d : Held) → IsServing d.terms a h → Once d d a c s s'' h h''
 once_on a b c s s' s'' h h' h'' first next d = once_then d d d a b c s s' s'' h h' h'' (first d) (next d)
 
 -- the desk and its rows are as they were, and no response was put
-pub once_same : (a b : Desk) (s s' : List PipeRow) (h h' : List ServedRow) → b ≡ a → h' ≡ h → responses s' ≡ responses s → (d : Held) → IsServing d.count a h → Once d d a b s s' h h'
+pub once_same : (a b : Desk) (s s' : List PipeRow) (h h' : List ServedRow) → b ≡ a → h' ≡ h → responses s' ≡ responses s → (d : Held) → IsServing d.terms a h → Once d d a b s s' h h'
 once_same a b s s' h h' same rows put d serving = record {
   id = ap (λ x. x.id) same;
-  count = refl;
-  serving = subst (λ (z : Desk × List ServedRow). IsServing d.count z.0 z.1) (λ i. (sym same i, sym rows i)) serving;
+  terms = refl;
+  serving = subst (λ (z : Desk × List ServedRow). IsServing d.terms z.0 z.1) (λ i. (sym same i, sym rows i)) serving;
   answers = more_none a.id s s' h h' put (ap (answers_of a.id) rows);
   others = subst (OnlyRowsOf a.id h) (sym rows) (stays_same a.id h);
   stays = stays_equal d h h' rows;
@@ -106,8 +106,8 @@ once_same a b s s' h h' same rows put d serving = record {
 }
 
 -- the same over a disk that changed in nothing
-pub once_disk : (d d' : Held) (a b : Desk) (s s' : List PipeRow) (h h' : List ServedRow) → d' ≡ d → ((x : Held) → IsServing x.count a h → Once x x a b s s' h h')
-    → IsServing d.count a h → Once d d' a b s s' h h'
+pub once_disk : (d d' : Held) (a b : Desk) (s s' : List PipeRow) (h h' : List ServedRow) → d' ≡ d → ((x : Held) → IsServing x.terms a h → Once x x a b s s' h h')
+    → IsServing d.terms a h → Once d d' a b s s' h h'
 once_disk d d' a b s s' h h' same once serving = subst (λ (x : Held). Once d x a b s s' h h') (sym same) (once d serving)
 
 pub responses_append : (xs ys : List PipeRow) → responses (xs ++ ys) ≡ responses xs ++ responses ys
@@ -128,17 +128,17 @@ responses_one sent sent' row answers put = ap responses put ∙ responses_append
     one e = rw e refl
 
 -- A desk without a service and without a kept entry is in order.
-pub cleared : (count : ℕ) (desk : Desk) (history : List ServedRow) → desk.stage ≡ Start → desk.kept ≡ None → IsServing count desk history
-cleared count desk history stage kept = record {
-  row = subst (λ st. IfRow st (IsServed count (place_of desk) history)) (sym stage) tt;
+pub cleared : (terms : Terms) (desk : Desk) (history : List ServedRow) → desk.stage ≡ Start → desk.kept ≡ None → IsServing terms desk history
+cleared terms desk history stage kept = record {
+  row = subst (λ st. IfRow st (IsServed terms (place_of desk) history)) (sym stage) tt;
   kept = λ entry is. absurd (cc (kept, is));
   fetched = subst (λ st. HasPieces st desk.buffers.outs desk.buffers.inns desk.pending) (sym stage) tt;
 }
 
 -- the row in service, whose disk step was made
-pub known_of : (count : ℕ) (p : Place) (h : List ServedRow) (row : ℕ) (reply : ScsiReply) (is : IsServed count p h row)
-    → (made : HasReply count is.request p.given reply is.in_service.served) → IsKnown count made.command reply is.in_service.served
-known_of count p h row reply is made = record {
+pub known_of : (terms : Terms) (p : Place) (h : List ServedRow) (row : ℕ) (reply : ScsiReply) (is : IsServed terms p h row)
+    → (made : HasReply terms is.request p.given reply is.in_service.served) → IsKnown terms made.command reply is.in_service.served
+known_of terms p h row reply is made = record {
   spells = subst (λ (iu : List ℕ). Spells iu (units.Cmd made.command)) (sym is.in_service.iu_is)
       (subst (λ (order : Order). IsOrder order is.request.unit.items) made.order is.request.spelled);
   brought = made.brought;
@@ -148,12 +148,12 @@ known_of count p h row reply is made = record {
 }
 
 -- a service that is broken off leaves the answers and the disk law as they are
-module _ (one : SpellsOne) (d : Held) (a : Desk) (h h' : List ServedRow) (serving : IsServing d.count a h) where
+module _ (one : SpellsOne) (d : Held) (a : Desk) (h h' : List ServedRow) (serving : IsServing d.terms a h) where
   left_same : h' ≡ h → (answers_of a.id h' ≡ answers_of a.id h) × OnlyRowsOf a.id h h' × StaysServed d d h h'
   left_same same = (ap (answers_of a.id) same, subst (OnlyRowsOf a.id h) (sym same) (stays_same a.id h), stays_equal d h h' same)
 
-  left_cut : (at : ℕ) (reply : ScsiReply) (p : Place) → p.id ≡ a.id → p.given ≡ a.buffers.given → (row : IsServed d.count p h at)
-      → HasReply d.count row.request p.given reply row.in_service.served
+  left_cut : (at : ℕ) (reply : ScsiReply) (p : Place) → p.id ≡ a.id → p.given ≡ a.buffers.given → (row : IsServed d.terms p h at)
+      → HasReply d.terms row.request p.given reply row.in_service.served
       → (n : ℕ) × FillsRow h h' at (take n a.buffers.given) → (answers_of a.id h' ≡ answers_of a.id h) × OnlyRowsOf a.id h h' × StaysServed d d h h'
   left_cut at reply p id given row made leaves =
       let is = subst (λ (unit : UnitId). IsInService unit row.request.unit.items h at) id row.in_service in
@@ -167,10 +167,10 @@ module _ (one : SpellsOne) (d : Held) (a : Desk) (h h' : List ServedRow) (servin
         answers_filled a.id iu h h' at inn is there,
         only_there a.id iu h h' at is (record is.served { inn = inn }) is.unit_is there,
         stays_there d h h' row.in_service.before row.in_service.behind row.in_service.served new row.in_service.history_is there'
-            (may_cut one d.count made.command reply row.in_service.served (known_of d.count p h at reply row made) leaves.0 row.in_service.unanswered),
+            (may_cut one d.terms made.command reply row.in_service.served (known_of d.terms p h at reply row made) leaves.0 row.in_service.unanswered),
       )
 
-  broken : (stage : Stage) → stage ≡ a.stage → IfRow stage (IsServed d.count (record { id = a.id; stage = stage; answer = a.answer; given = a.buffers.given; pending = a.pending }) h)
+  broken : (stage : Stage) → stage ≡ a.stage → IfRow stage (IsServed d.terms (record { id = a.id; stage = stage; answer = a.answer; given = a.buffers.given; pending = a.pending }) h)
       → LeavesRow stage a.buffers.given h h' → (answers_of a.id h' ≡ answers_of a.id h) × OnlyRowsOf a.id h h' × StaysServed d d h h'
   broken Start at row leaves = left_same leaves
   broken OutTable at row leaves = left_same leaves
@@ -190,8 +190,8 @@ module _ (one : SpellsOne) (d : Held) (a : Desk) (h h' : List ServedRow) (servin
       let rest = broken a.stage refl serving.row leaves in
       record {
         id = id;
-        count = refl;
-        serving = cleared d.count b h' stage kept;
+        terms = refl;
+        serving = cleared d.terms b h' stage kept;
         answers = more_none a.id s s' h h' put rest.0;
         others = rest.1;
         stays = rest.2;
@@ -203,8 +203,8 @@ pub once_cleared : (a b : Desk) (s s' : List PipeRow) (h h' : List ServedRow) �
     → (d : Held) → Once d d a b s s' h h'
 once_cleared a b s s' h h' id stage kept rows put d = record {
   id = id;
-  count = refl;
-  serving = cleared d.count b h' stage kept;
+  terms = refl;
+  serving = cleared d.terms b h' stage kept;
   answers = more_none a.id s s' h h' put (ap (answers_of a.id) rows);
   others = subst (OnlyRowsOf a.id h) (sym rows) (stays_same a.id h);
   stays = stays_equal d h h' rows;
@@ -213,12 +213,12 @@ once_cleared a b s s' h h' id stage kept rows put d = record {
 
 -- nothing is kept, no response was put, and the row in service is the same
 pub once_goes : (a b : Desk) (s s' : List PipeRow) (h h' : List ServedRow) → b.id ≡ a.id → b.kept ≡ None → h' ≡ h → responses s' ≡ responses s
-    → (d : Held) → IfRow b.stage (IsServed d.count (place_of b) h) → HasPieces b.stage b.buffers.outs b.buffers.inns b.pending → Once d d a b s s' h h'
+    → (d : Held) → IfRow b.stage (IsServed d.terms (place_of b) h) → HasPieces b.stage b.buffers.outs b.buffers.inns b.pending → Once d d a b s s' h h'
 once_goes a b s s' h h' id kept rows put d row fetched = record {
   id = id;
-  count = refl;
+  terms = refl;
   serving = record {
-    row = subst (λ list. IfRow b.stage (IsServed d.count (place_of b) list)) (sym rows) row;
+    row = subst (λ list. IfRow b.stage (IsServed d.terms (place_of b) list)) (sym rows) row;
     kept = λ entry is. absurd (cc (kept, is));
     fetched = fetched;
   };
@@ -234,10 +234,10 @@ place_is a b id stage answer buffers pending =
     λ i. record { id = id i; stage = stage i; answer = answer i; given = (buffers i).given; pending = pending i }
 
 -- the row in service and the pieces, at a desk whose parts are those of another
-pub row_at : (count : ℕ) (a b : Desk) (h : List ServedRow) → b.id ≡ a.id → b.stage ≡ a.stage → b.answer ≡ a.answer → b.buffers ≡ a.buffers → b.pending ≡ a.pending
-    → IfRow a.stage (IsServed count (place_of a) h) → IfRow b.stage (IsServed count (place_of b) h)
-row_at count a b h id stage answer buffers pending =
-    subst (λ (p : Place). IfRow p.stage (IsServed count p h)) (sym (place_is a b id stage answer buffers pending))
+pub row_at : (terms : Terms) (a b : Desk) (h : List ServedRow) → b.id ≡ a.id → b.stage ≡ a.stage → b.answer ≡ a.answer → b.buffers ≡ a.buffers → b.pending ≡ a.pending
+    → IfRow a.stage (IsServed terms (place_of a) h) → IfRow b.stage (IsServed terms (place_of b) h)
+row_at terms a b h id stage answer buffers pending =
+    subst (λ (p : Place). IfRow p.stage (IsServed terms p h)) (sym (place_is a b id stage answer buffers pending))
 
 pub pieces_at : (a b : Desk) → b.stage ≡ a.stage → b.buffers ≡ a.buffers → b.pending ≡ a.pending → HasPieces a.stage a.buffers.outs a.buffers.inns a.pending
     → HasPieces b.stage b.buffers.outs b.buffers.inns b.pending
@@ -245,18 +245,18 @@ pieces_at a b stage buffers pending = subst (λ (z : Stage × Buffers × List Re
 
 -- the service is where it was; nothing is kept, and no response was put
 pub once_still : (a b : Desk) (s s' : List PipeRow) (h h' : List ServedRow) → b.id ≡ a.id → b.stage ≡ a.stage → b.answer ≡ a.answer → b.buffers ≡ a.buffers → b.pending ≡ a.pending
-    → b.kept ≡ None → h' ≡ h → responses s' ≡ responses s → (d : Held) → IsServing d.count a h → Once d d a b s s' h h'
+    → b.kept ≡ None → h' ≡ h → responses s' ≡ responses s → (d : Held) → IsServing d.terms a h → Once d d a b s s' h h'
 once_still a b s s' h h' id stage answer buffers pending kept rows put d serving =
-    once_goes a b s s' h h' id kept rows put d (row_at d.count a b h id stage answer buffers pending serving.row) (pieces_at a b stage buffers pending serving.fetched)
+    once_goes a b s s' h h' id kept rows put d (row_at d.terms a b h id stage answer buffers pending serving.row) (pieces_at a b stage buffers pending serving.fetched)
 
 -- an entry that answers no request is kept in the place of what was kept
 pub once_reply_kept : (a b : Desk) (s s' : List PipeRow) (h : List ServedRow) (entry : QueueEntry) → b.id ≡ a.id → b.pending ≡ a.pending → b.stage ≡ a.stage → b.answer ≡ a.answer
-    → b.buffers ≡ a.buffers → b.kept ≡ Some (keeps.Reply entry) → IsPlain entry → responses s' ≡ responses s → (d : Held) → IsServing d.count a h → Once d d a b s s' h h
+    → b.buffers ≡ a.buffers → b.kept ≡ Some (keeps.Reply entry) → IsPlain entry → responses s' ≡ responses s → (d : Held) → IsServing d.terms a h → Once d d a b s s' h h
 once_reply_kept a b s s' h entry id pending stage answer buffers kept plain put d serving = record {
   id = id;
-  count = refl;
+  terms = refl;
   serving = record {
-    row = row_at d.count a b h id stage answer buffers pending serving.row;
+    row = row_at d.terms a b h id stage answer buffers pending serving.row;
     kept = λ other is. subst (IsKept b) (some_is entry other (sym kept ∙ is)) plain;
     fetched = pieces_at a b stage buffers pending serving.fetched;
   };
@@ -295,13 +295,13 @@ some_bytes (byte ∷ bytes) is = refl
 
 -- The answer in service was put: its row, if it has one, has it, and nothing is kept.
 module _ (a b : Desk) (s s' : List PipeRow) (h h' : List ServedRow) (put : PipeRow) (request : Request) (rest : List Request) (d : Held)
-    (serving : IsServing d.count a h) (id : b.id ≡ a.id) (stage : b.stage ≡ Start) (kept : b.kept ≡ None) (front : a.pending ≡ request ∷ rest)
+    (serving : IsServing d.terms a h) (id : b.id ≡ a.id) (stage : b.stage ≡ Start) (kept : b.kept ≡ None) (front : a.pending ≡ request ∷ rest)
     (entry_is : put.entry ≡ srp_entry (length a.answer) request.tag) (sent : s' ≡ s ++ put ∷ []) where
   login : (outcome : Outcome) → is_response (srp_entry (length a.answer) request.tag) ≡ false → h' ≡ h → Once d d a b s s' h h'
   login outcome none rows =
       once_cleared a b s s' h h' id stage kept rows (responses_plain s s' put (ap is_response entry_is ∙ none) sent) d
 
-  served : (row : ℕ) (p : Place) → p.id ≡ a.id → p.pending ≡ a.pending → (is : IsServed d.count p h row) → MayAnswer d.count a.answer is.in_service.served
+  served : (row : ℕ) (p : Place) → p.id ≡ a.id → p.pending ≡ a.pending → (is : IsServed d.terms p h row) → MayAnswer d.terms a.answer is.in_service.served
       → (length a.answer ≡ 36) ⊎ ((length a.answer ≡ 40) ⊎ (length a.answer ≡ 54)) → AnswersRow h h' row a.answer → Once d d a b s s' h h'
   served row p p_id p_pending is may len answers =
       let iu = is.request.unit.items in
@@ -311,8 +311,8 @@ module _ (a b : Desk) (s s' : List PipeRow) (h h' : List ServedRow) (put : PipeR
       let one = answers_one a.id iu h h' row a.answer in_service (some_bytes a.answer len) there in
       record {
         id = id;
-        count = refl;
-        serving = cleared d.count b h' stage kept;
+        terms = refl;
+        serving = cleared d.terms b h' stage kept;
         answers = record {
           more = put.entry ∷ [];
           put = responses_one s s' put (ap is_response entry_is ∙ answers_command (length a.answer) request.tag len) sent;
@@ -329,10 +329,10 @@ module _ (a b : Desk) (s s' : List PipeRow) (h h' : List ServedRow) (put : PipeR
       head_is x y xs ys e = cc (e)
 
   served_at : (stage : Stage) (row : ℕ) → stage ≡ Entry (Served row)
-      → IfRow stage (IsServed d.count (record { id = a.id; stage = stage; answer = a.answer; given = a.buffers.given; pending = a.pending }) h)
-      → IsServed d.count (record { id = a.id; stage = Entry (Served row); answer = a.answer; given = a.buffers.given; pending = a.pending }) h row
+      → IfRow stage (IsServed d.terms (record { id = a.id; stage = stage; answer = a.answer; given = a.buffers.given; pending = a.pending }) h)
+      → IsServed d.terms (record { id = a.id; stage = Entry (Served row); answer = a.answer; given = a.buffers.given; pending = a.pending }) h row
   served_at stage row at =
-      subst (λ (st : Stage). IfRow st (IsServed d.count (record { id = a.id; stage = st; answer = a.answer; given = a.buffers.given; pending = a.pending }) h)) at
+      subst (λ (st : Stage). IfRow st (IsServed d.terms (record { id = a.id; stage = st; answer = a.answer; given = a.buffers.given; pending = a.pending }) h)) at
 
   pub once_settled : (outcome : Outcome) → a.stage ≡ Entry outcome → fits outcome (length a.answer) ≡ true → SettlesRow outcome a.answer h h' → Once d d a b s s' h h'
   once_settled (Granted number) at len rows = login (Granted number) (answers_login (length a.answer) 52 request.tag len refl) rows

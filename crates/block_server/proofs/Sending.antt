@@ -22,17 +22,19 @@ use Rattle.rdma_copy.specs.declared.copy.CopyRecord.{CopyRecord}
 use Rattle.block_server.specs.Advances.{Advances, KeepsFreed, PutsMore}
 use Rattle.block_server.specs.Entries.{MayPut}
 use Rattle.block_server.specs.SiteState.{Lenders, site}
-use Rattle.block_server.proofs.Advancing.{copies_none, puts_none, puts_one}
+use Rattle.block_server.proofs.Advancing.{copies_none, later_same, puts_none, puts_one}
 use Rattle.block_server.proofs.Quieting.{lost_none}
 
 -- a call of the queue's end alone
-pub queue_call : (reached : Lenders) (own client : PortState) (copies : List CopyRecord) (old new : EndState) → new.place ≡ old.place → old.last_session ≤ new.last_session
-    → Begins old.taken new.taken → PutsMore old.sent new.sent → Advances (site reached old own client copies) (site reached new own client copies)
-queue_call reached own client copies old new place session taken put = record {
+pub queue_call : (reached : Lenders) (own client : PortState) (shared : Bool) (copies : List CopyRecord) (old new : EndState) → new.place ≡ old.place → old.last_session ≤ new.last_session
+    → Begins old.taken new.taken → PutsMore old.sent new.sent → Advances (site reached old own client shared copies) (site reached new own client shared copies)
+queue_call reached own client shared copies old new place session taken put = record {
   reached = refl;
   queue_place = place;
   own_place = refl;
   client_place = refl;
+  shared = refl;
+  values = λ e. later_same shared (client.values e);
   session = session;
   taken = taken;
   put = put;

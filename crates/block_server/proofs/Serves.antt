@@ -26,7 +26,7 @@ use Rattle.block_server.specs.declared.service.Outcome.{Outcome}
 use Rattle.block_server.specs.declared.service.Outcome.TheVariants.{Granted, Rejected, Served}
 use Rattle.block_server.specs.declared.service.Stage.{Stage}
 use Rattle.block_server.specs.declared.service.Stage.TheVariants.{Start, OutTable, InTable, DataOut, Given, DataIn, Answer, Entry}
-use Rattle.block_server.specs.Serving.{AsNone, Desk, Held, HoldsAtStage, IfRow, IsAnswerKept, IsKept, IsServed, IsServing, MayAnswer, Once, Place, StaysServed, desk_at, place_of}
+use Rattle.block_server.specs.Serving.{AsNone, Desk, Held, HoldsAtStage, IfRow, IsAnswerKept, IsKept, IsServed, IsServing, MayAnswer, Once, Place, StaysServed, Terms, desk_at, place_of}
 use Rattle.srp_iu.specs.Layout.{field}
 use Rattle.srp_iu.specs.declared.buffer.Desc.{Desc}
 use Rattle.srp_iu.specs.declared.command.Cmd.{Cmd}
@@ -35,8 +35,9 @@ use Rattle.srp_iu.specs.declared.response_code.ResponseCode.TheVariants.{FieldsI
 use Rattle.srp_desc.specs.Pieces.{total_of}
 use Rattle.block_server.specs.declared.request.Order.TheVariants.{Command}
 use Rattle.block_server.specs.declared.service.Service.{Service}
-use Rattle.block_server.specs.DiskLaw.{Serve, ServesRow, handed_over}
-use Rattle.block_server.specs.Fetched.{Buffers, Gathers, HasBoth, HasPieces, IsNamed, OfFirst}
+use Rattle.block_server.specs.Causes.{IsNamed, RefusesIn, told_to}
+use Rattle.block_server.specs.DiskLaw.{ServeBy, ServesRowBy, handed_over}
+use Rattle.block_server.specs.Fetched.{Buffers, Gathers, HasBoth, HasPieces, OfFirst}
 use Rattle.block_server.specs.Responses.{Answers, HasCode, HasStatus}
 use Rattle.block_server.proofs.AnswerLaws.{answers_blank, answers_filled, filled_there, in_service_filled, in_service_new, only_there}
 use Rattle.block_server.proofs.DiskLaws.{serve_push}
@@ -47,12 +48,12 @@ use Rattle.block_server.proofs.Rows.{stays_one, stays_same}
 -- the answer's entry is kept in the place of what was kept
 pub once_kept : (a b : Desk) (s s' : List PipeRow) (h : List ServedRow) (entry : QueueEntry) (outcome : Outcome) → b.id ≡ a.id → b.pending ≡ a.pending → b.stage ≡ a.stage
     → b.answer ≡ a.answer → b.buffers ≡ a.buffers → b.kept ≡ Some (keeps.Answer entry outcome) → IsAnswerKept b entry outcome → responses s' ≡ responses s
-    → (d : Held) → IsServing d.count a h → Once d d a b s s' h h
+    → (d : Held) → IsServing d.terms a h → Once d d a b s s' h h
 once_kept a b s s' h entry outcome id pending stage answer buffers kept is put d serving = record {
   id = id;
-  count = refl;
+  terms = refl;
   serving = record {
-    row = row_at d.count a b h id stage answer buffers pending serving.row;
+    row = row_at d.terms a b h id stage answer buffers pending serving.row;
     kept = λ other other_is. subst (IsKept b) (some_is entry outcome other (sym kept ∙ other_is)) is;
     fetched = pieces_at a b stage buffers pending serving.fetched;
   };
@@ -66,9 +67,9 @@ once_kept a b s s' h entry outcome id pending stage answer buffers kept is put d
     some_is e o other same = cc (same)
 
 -- the row of the oldest request is served still as another comes behind it
-served_pushed : (count : ℕ) (p q : Place) (h : List ServedRow) (new : Request) (row : ℕ) → q ≡ record p { pending = p.pending ++ new ∷ [] }
-    → IsServed count p h row → IsServed count q h row
-served_pushed count p q h new row same is = subst (λ (x : Place). IsServed count x h row) (sym same) (record {
+served_pushed : (terms : Terms) (p q : Place) (h : List ServedRow) (new : Request) (row : ℕ) → q ≡ record p { pending = p.pending ++ new ∷ [] }
+    → IsServed terms p h row → IsServed terms q h row
+served_pushed terms p q h new row same is = subst (λ (x : Place). IsServed terms x h row) (sym same) (record {
   request = is.request;
   rest = is.rest ++ new ∷ [];
   front = ap (λ list. list ++ new ∷ []) is.front;
@@ -100,19 +101,19 @@ pieces_pushed Start outs inns pending new is = tt
 pieces_pushed OutTable outs inns pending new is = tt
 pieces_pushed InTable outs inns pending new is = first_pushed (λ command. IsNamed command.out outs) pending new is
 pieces_pushed (DataOut cursor) outs inns pending new is = first_pushed (λ command. HasBoth command outs inns) pending new is
-pieces_pushed (Given row reply) outs inns pending new is = tt
-pieces_pushed (DataIn row reply cursor) outs inns pending new is = tt
+pieces_pushed (Given row reply) outs inns pending new is = first_pushed (λ command. IsNamed command.inn inns) pending new is
+pieces_pushed (DataIn row reply cursor) outs inns pending new is = first_pushed (λ command. IsNamed command.inn inns) pending new is
 pieces_pushed (Answer outcome) outs inns pending new is = tt
 pieces_pushed (Entry outcome) outs inns pending new is = tt
 
 -- a request came behind those that are pending
 pub once_pushed : (a b : Desk) (s s' : List PipeRow) (h : List ServedRow) (new : Request) → b.id ≡ a.id → b.pending ≡ a.pending ++ new ∷ [] → b.stage ≡ a.stage
-    → b.answer ≡ a.answer → b.buffers ≡ a.buffers → b.kept ≡ None → responses s' ≡ responses s → (d : Held) → IsServing d.count a h → Once d d a b s s' h h
+    → b.answer ≡ a.answer → b.buffers ≡ a.buffers → b.kept ≡ None → responses s' ≡ responses s → (d : Held) → IsServing d.terms a h → Once d d a b s s' h h
 once_pushed a b s s' h new id pending stage answer buffers kept put d serving =
     let q : Place = record (place_of a) { pending = a.pending ++ new ∷ [] } in
     once_goes a b s s' h h id kept refl put d
-    (subst (λ (p : Place). IfRow p.stage (IsServed d.count p h)) (λ i. record { id = (sym id) i; stage = (sym stage) i; answer = (sym answer) i; given = ((sym buffers) i).given; pending = (sym pending) i })
-    (row_map a.stage (IsServed d.count (place_of a) h) (IsServed d.count q h) (λ row. served_pushed d.count (place_of a) q h new row refl) serving.row))
+    (subst (λ (p : Place). IfRow p.stage (IsServed d.terms p h)) (λ i. record { id = (sym id) i; stage = (sym stage) i; answer = (sym answer) i; given = ((sym buffers) i).given; pending = (sym pending) i })
+    (row_map a.stage (IsServed d.terms (place_of a) h) (IsServed d.terms q h) (λ row. served_pushed d.terms (place_of a) q h new row refl) serving.row))
     (subst (λ (z : Stage × Buffers × List Request). HasPieces z.0 z.1.outs z.1.inns z.2) (λ i. ((sym stage) i, (sym buffers) i, (sym pending) i))
     (pieces_pushed a.stage a.buffers.outs a.buffers.inns a.pending new serving.fetched))
 
@@ -131,7 +132,7 @@ before_row (Entry outcome) P is = absurd (cc (is))
 pub once_before : (a b : Desk) (s s' : List PipeRow) (h h' : List ServedRow) → b.id ≡ a.id → is_before_step b.stage ≡ true → b.kept ≡ None
     → HasPieces b.stage b.buffers.outs b.buffers.inns b.pending → h' ≡ h → responses s' ≡ responses s → (d : Held) → Once d d a b s s' h h'
 once_before a b s s' h h' id stage kept fetched rows put d =
-    once_goes a b s s' h h' id kept rows put d (before_row b.stage (IsServed d.count (place_of b) h) stage) fetched
+    once_goes a b s s' h h' id kept rows put d (before_row b.stage (IsServed d.terms (place_of b) h) stage) fetched
 
 -- what is known of the pieces of a command that is the oldest request, and back
 first_is : (request other : Request) (rest tail : List Request) → request ∷ rest ≡ other ∷ tail → other ≡ request
@@ -146,8 +147,8 @@ gathers_of Start outs inns request rest command order is = tt
 gathers_of OutTable outs inns request rest command order is = tt
 gathers_of InTable outs inns request rest command order is = is.holds command (ap (λ (r : Request). r.order) (first_is request is.request rest is.rest is.front) ∙ order)
 gathers_of (DataOut cursor) outs inns request rest command order is = is.holds command (ap (λ (r : Request). r.order) (first_is request is.request rest is.rest is.front) ∙ order)
-gathers_of (Given row reply) outs inns request rest command order is = tt
-gathers_of (DataIn row reply cursor) outs inns request rest command order is = tt
+gathers_of (Given row reply) outs inns request rest command order is = is.holds command (ap (λ (r : Request). r.order) (first_is request is.request rest is.rest is.front) ∙ order)
+gathers_of (DataIn row reply cursor) outs inns request rest command order is = is.holds command (ap (λ (r : Request). r.order) (first_is request is.request rest is.rest is.front) ∙ order)
 gathers_of (Answer outcome) outs inns request rest command order is = tt
 gathers_of (Entry outcome) outs inns request rest command order is = tt
 
@@ -167,8 +168,18 @@ pieces_of (DataOut cursor) outs inns request rest command order is = record {
   front = refl;
   holds = λ c other. subst (λ (x : Cmd). HasBoth x outs inns) (command_is command c (sym order ∙ other)) is;
 }
-pieces_of (Given row reply) outs inns request rest command order is = tt
-pieces_of (DataIn row reply cursor) outs inns request rest command order is = tt
+pieces_of (Given row reply) outs inns request rest command order is = record {
+  request = request;
+  rest = rest;
+  front = refl;
+  holds = λ c other. subst (λ (x : Cmd). IsNamed x.inn inns) (command_is command c (sym order ∙ other)) is;
+}
+pieces_of (DataIn row reply cursor) outs inns request rest command order is = record {
+  request = request;
+  rest = rest;
+  front = refl;
+  holds = λ c other. subst (λ (x : Cmd). IsNamed x.inn inns) (command_is command c (sym order ∙ other)) is;
+}
 pieces_of (Answer outcome) outs inns request rest command order is = tt
 pieces_of (Entry outcome) outs inns request rest command order is = tt
 
@@ -179,24 +190,24 @@ abbrev placed : Desk → Stage → Place
 placed desk stage = record (place_of desk) { stage = stage }
 
 -- what is so at a stage that the desk's is
-row_from : (count : ℕ) (a : Desk) (h : List ServedRow) (stage : Stage) → a.stage ≡ stage → IfRow a.stage (IsServed count (place_of a) h) → IfRow stage (IsServed count (placed a stage) h)
-row_from count a h stage is = subst (λ (st : Stage). IfRow st (IsServed count (placed a st) h)) is
+row_from : (terms : Terms) (a : Desk) (h : List ServedRow) (stage : Stage) → a.stage ≡ stage → IfRow a.stage (IsServed terms (place_of a) h) → IfRow stage (IsServed terms (placed a stage) h)
+row_from terms a h stage is = subst (λ (st : Stage). IfRow st (IsServed terms (placed a st) h)) is
 
-row_into : (count : ℕ) (b : Desk) (h : List ServedRow) (stage : Stage) → b.stage ≡ stage → IfRow stage (IsServed count (placed b stage) h) → IfRow b.stage (IsServed count (place_of b) h)
-row_into count b h stage is = subst (λ (st : Stage). IfRow st (IsServed count (placed b st) h)) (sym is)
+row_into : (terms : Terms) (b : Desk) (h : List ServedRow) (stage : Stage) → b.stage ≡ stage → IfRow stage (IsServed terms (placed b stage) h) → IfRow b.stage (IsServed terms (place_of b) h)
+row_into terms b h stage is = subst (λ (st : Stage). IfRow st (IsServed terms (placed b st) h)) (sym is)
 
 -- the place of a desk at a stage, with this answer and these data-in
 abbrev pub staged : Desk → Stage → (answer given : List ℕ) → Place
 staged a stage answer given = record { id = a.id; stage = stage; answer = answer; given = given; pending = a.pending }
 
 -- what is so of a row at one stage, so that something is at another
-abbrev Carries : (count : ℕ) → Desk → (h : List ServedRow) → (row : ℕ) → (old new : Stage) → (answer given answer' given' : List ℕ) → Type 0
-Carries count a h row old new answer given answer' given' =
-    (is : IsServed count (staged a old answer given) h row) → HoldsAtStage count new answer' given' is.request is.in_service.served
+abbrev Carries : (terms : Terms) → Desk → (h : List ServedRow) → (row : ℕ) → (old new : Stage) → (answer given answer' given' : List ℕ) → Type 0
+Carries terms a h row old new answer given answer' given' =
+    (is : IsServed terms (staged a old answer given) h row) → HoldsAtStage terms new answer' given' is.request is.in_service.served
 
-carried : (count : ℕ) (a : Desk) (h : List ServedRow) (row : ℕ) (old new : Stage) (answer given answer' given' : List ℕ) → Carries count a h row old new answer given answer' given'
-    → IsServed count (staged a old answer given) h row → IsServed count (staged a new answer' given') h row
-carried count a h row old new answer given answer' given' carry is = record {
+carried : (terms : Terms) (a : Desk) (h : List ServedRow) (row : ℕ) (old new : Stage) (answer given answer' given' : List ℕ) → Carries terms a h row old new answer given answer' given'
+    → IsServed terms (staged a old answer given) h row → IsServed terms (staged a new answer' given') h row
+carried terms a h row old new answer given answer' given' carry is = record {
   request = is.request;
   rest = is.rest;
   front = is.front;
@@ -207,43 +218,53 @@ carried count a h row old new answer given answer' given' carry is = record {
 -- the service came from one stage to another, both with a row; nothing is kept, and no response was put
 pub once_to : (a b : Desk) (s s' : List PipeRow) (h h' : List ServedRow) (old new : Stage) (answer given : List ℕ) → b.id ≡ a.id → b.pending ≡ a.pending → a.stage ≡ old → b.stage ≡ new
     → b.answer ≡ answer → b.buffers.given ≡ given → b.kept ≡ None → h' ≡ h → responses s' ≡ responses s → HasPieces new b.buffers.outs b.buffers.inns b.pending → (d : Held)
-    → (IfRow old (IsServed d.count (staged a old a.answer a.buffers.given) h) → IfRow new (IsServed d.count (staged a new answer given) h)) → IsServing d.count a h → Once d d a b s s' h h'
+    → (IfRow old (IsServed d.terms (staged a old a.answer a.buffers.given) h) → IfRow new (IsServed d.terms (staged a new answer given) h)) → IsServing d.terms a h → Once d d a b s s' h h'
 once_to a b s s' h h' old new answer given id pending was is answer_is given_is kept rows put fetched d row serving =
     once_goes a b s s' h h' id kept rows put d
-    (subst (λ (p : Place). IfRow p.stage (IsServed d.count p h)) (λ i. record { id = (sym id) i; stage = (sym is) i; answer = (sym answer_is) i; given = (sym given_is) i; pending = (sym pending) i })
-    (row (subst (λ (st : Stage). IfRow st (IsServed d.count (staged a st a.answer a.buffers.given) h)) was serving.row)))
+    (subst (λ (p : Place). IfRow p.stage (IsServed d.terms p h)) (λ i. record { id = (sym id) i; stage = (sym is) i; answer = (sym answer_is) i; given = (sym given_is) i; pending = (sym pending) i })
+    (row (subst (λ (st : Stage). IfRow st (IsServed d.terms (staged a st a.answer a.buffers.given) h)) was serving.row)))
     (subst (λ (st : Stage). HasPieces st b.buffers.outs b.buffers.inns b.pending) (sym is) fetched)
+
+-- what is known of the pieces at one stage is known at another which says the same of them
+pieces_there : (a b : Desk) (old new : Stage) → a.stage ≡ old → b.buffers ≡ a.buffers → b.pending ≡ a.pending
+    → ((outs inns : List Desc) (pending : List Request) → HasPieces old outs inns pending → HasPieces new outs inns pending)
+    → HasPieces a.stage a.buffers.outs a.buffers.inns a.pending → HasPieces new b.buffers.outs b.buffers.inns b.pending
+pieces_there a b old new was buffers pending same fetched =
+    subst (λ (z : Buffers × List Request). HasPieces new z.0.outs z.0.inns z.1) (λ i. ((sym buffers) i, (sym pending) i))
+    (same a.buffers.outs a.buffers.inns a.pending (subst (λ (st : Stage). HasPieces st a.buffers.outs a.buffers.inns a.pending) was fetched))
 
 -- data-in were written to the unit's region
 pub once_stored : (a b : Desk) (s s' : List PipeRow) (h h' : List ServedRow) (row : ℕ) (reply : ScsiReply) (cursor : Cursor) → b.id ≡ a.id → b.pending ≡ a.pending
-    → a.stage ≡ Given row reply → b.stage ≡ DataIn row reply cursor → b.buffers.given ≡ a.buffers.given → b.kept ≡ None → h' ≡ h → responses s' ≡ responses s
-    → (d : Held) → IsServing d.count a h → Once d d a b s s' h h'
-once_stored a b s s' h h' row reply cursor id pending was is given kept rows put d =
-    once_to a b s s' h h' (Given row reply) (DataIn row reply cursor) b.answer a.buffers.given id pending was is refl given kept rows put tt d
-    (carried d.count a h row (Given row reply) (DataIn row reply cursor) a.answer a.buffers.given b.answer a.buffers.given (λ is. is.holds))
+    → a.stage ≡ Given row reply → b.stage ≡ DataIn row reply cursor → b.buffers ≡ a.buffers → b.kept ≡ None → h' ≡ h → responses s' ≡ responses s
+    → (d : Held) → IsServing d.terms a h → Once d d a b s s' h h'
+once_stored a b s s' h h' row reply cursor id pending was is same kept rows put d serving =
+    once_to a b s s' h h' (Given row reply) (DataIn row reply cursor) b.answer a.buffers.given id pending was is refl (ap (λ (x : Buffers). x.given) same) kept rows put
+    (pieces_there a b (Given row reply) (DataIn row reply cursor) was same pending (λ outs inns list is. is) serving.fetched) d
+    (carried d.terms a h row (Given row reply) (DataIn row reply cursor) a.answer a.buffers.given b.answer a.buffers.given (λ is. is.holds)) serving
 
 -- data-in were copied on, as far as it went
 pub once_moved : (a b : Desk) (s s' : List PipeRow) (h : List ServedRow) (row : ℕ) (reply : ScsiReply) (old : Cursor) → b.id ≡ a.id → b.pending ≡ a.pending
-    → a.stage ≡ DataIn row reply old → (new : Cursor) × (b.stage ≡ DataIn row reply new) → b.buffers.given ≡ a.buffers.given → b.kept ≡ None → responses s' ≡ responses s
-    → (d : Held) → IsServing d.count a h → Once d d a b s s' h h
-once_moved a b s s' h row reply old id pending was is given kept put d =
-    once_to a b s s' h h (DataIn row reply old) (DataIn row reply is.0) b.answer a.buffers.given id pending was is.1 refl given kept refl put tt d
-    (carried d.count a h row (DataIn row reply old) (DataIn row reply is.0) a.answer a.buffers.given b.answer a.buffers.given (λ is. is.holds))
+    → a.stage ≡ DataIn row reply old → (new : Cursor) × (b.stage ≡ DataIn row reply new) → b.buffers ≡ a.buffers → b.kept ≡ None → responses s' ≡ responses s
+    → (d : Held) → IsServing d.terms a h → Once d d a b s s' h h
+once_moved a b s s' h row reply old id pending was is same kept put d serving =
+    once_to a b s s' h h (DataIn row reply old) (DataIn row reply is.0) b.answer a.buffers.given id pending was is.1 refl (ap (λ (x : Buffers). x.given) same) kept refl put
+    (pieces_there a b (DataIn row reply old) (DataIn row reply is.0) was same pending (λ outs inns list is. is) serving.fetched) d
+    (carried d.terms a h row (DataIn row reply old) (DataIn row reply is.0) a.answer a.buffers.given b.answer a.buffers.given (λ is. is.holds)) serving
 
 -- the answer was copied over the request
 pub once_copied : (a b : Desk) (s s' : List PipeRow) (h h' : List ServedRow) (outcome : Outcome) → b.id ≡ a.id → b.pending ≡ a.pending → a.stage ≡ Answer outcome → b.stage ≡ Entry outcome
-    → b.answer ≡ a.answer → b.kept ≡ None → h' ≡ h → responses s' ≡ responses s → (d : Held) → IsServing d.count a h → Once d d a b s s' h h'
+    → b.answer ≡ a.answer → b.kept ≡ None → h' ≡ h → responses s' ≡ responses s → (d : Held) → IsServing d.terms a h → Once d d a b s s' h h'
 once_copied a b s s' h h' outcome id pending was is answer kept rows put d =
     once_to a b s s' h h' (Answer outcome) (Entry outcome) a.answer b.buffers.given id pending was is answer refl kept rows put tt d (row outcome)
   where
-    row : (o : Outcome) → IfRow (Answer o) (IsServed d.count (staged a (Answer o) a.answer a.buffers.given) h) → IfRow (Entry o) (IsServed d.count (staged a (Entry o) a.answer b.buffers.given) h)
+    row : (o : Outcome) → IfRow (Answer o) (IsServed d.terms (staged a (Answer o) a.answer a.buffers.given) h) → IfRow (Entry o) (IsServed d.terms (staged a (Entry o) a.answer b.buffers.given) h)
     row (Granted number) none = tt
     row Rejected none = tt
-    row (Served at) served = carried d.count a h at (Answer (Served at)) (Entry (Served at)) a.answer a.buffers.given a.answer b.buffers.given (λ is. is.holds) served
+    row (Served at) served = carried d.terms a h at (Answer (Served at)) (Entry (Served at)) a.answer a.buffers.given a.answer b.buffers.given (λ is. is.holds) served
 
 -- the command of the row in service is that of the oldest request
-module _ (count : ℕ) (a : Desk) (h : List ServedRow) (row : ℕ) (stage : Stage) (request : Request) (rest : List Request) (command : Cmd) (front : a.pending ≡ request ∷ rest)
-    (order : request.order ≡ Command command) (is : IsServed count (staged a stage a.answer a.buffers.given) h row) where
+module _ (terms : Terms) (a : Desk) (h : List ServedRow) (row : ℕ) (stage : Stage) (request : Request) (rest : List Request) (command : Cmd) (front : a.pending ≡ request ∷ rest)
+    (order : request.order ≡ Command command) (is : IsServed terms (staged a stage a.answer a.buffers.given) h row) where
   request_same : is.request ≡ request
   request_same = first_is request is.request rest is.rest (sym front ∙ is.front)
 
@@ -257,18 +278,18 @@ module _ (count : ℕ) (a : Desk) (h : List ServedRow) (row : ℕ) (stage : Stag
 pub once_stated : SpellsOne → (a b : Desk) (s s' : List PipeRow) (h h' : List ServedRow) (row : ℕ) (reply : ScsiReply) (cursor : Cursor) (request : Request) (rest : List Request) (command : Cmd)
     → b.id ≡ a.id → b.pending ≡ a.pending → a.stage ≡ DataIn row reply cursor → b.stage ≡ Answer (Served row) → a.pending ≡ request ∷ rest → request.order ≡ Command command
     → Answers b.answer (HasStatus request.tag (total_of command.out) (total_of command.inn) reply) → b.kept ≡ None → h' ≡ h → responses s' ≡ responses s
-    → (d : Held) → IsServing d.count a h → Once d d a b s s' h h'
+    → (d : Held) → IsServing d.terms a h → Once d d a b s s' h h'
 once_stated one a b s s' h h' row reply cursor request rest command id pending was is front order says kept rows put d =
     once_to a b s s' h h' (DataIn row reply cursor) (Answer (Served row)) b.answer b.buffers.given id pending was is refl refl kept rows put tt d
-    (carried d.count a h row (DataIn row reply cursor) (Answer (Served row)) a.answer a.buffers.given b.answer b.buffers.given may)
+    (carried d.terms a h row (DataIn row reply cursor) (Answer (Served row)) a.answer a.buffers.given b.answer b.buffers.given may)
   where
-    may : (is : IsServed d.count (staged a (DataIn row reply cursor) a.answer a.buffers.given) h row) → MayAnswer d.count b.answer is.in_service.served
+    may : (is : IsServed d.terms (staged a (DataIn row reply cursor) a.answer a.buffers.given) h row) → MayAnswer d.terms b.answer is.in_service.served
     may is =
         let made = is.holds in
-        let same = command_same d.count a h row (DataIn row reply cursor) request rest command front order is made.command made.order in
-        let tag = tag_same d.count a h row (DataIn row reply cursor) request rest command front order is in
-        may_status one d.count made.command reply is.in_service.served
-        (known_of d.count (staged a (DataIn row reply cursor) a.answer a.buffers.given) h row reply is made) made.all_in b.answer
+        let same = command_same d.terms a h row (DataIn row reply cursor) request rest command front order is made.command made.order in
+        let tag = tag_same d.terms a h row (DataIn row reply cursor) request rest command front order is in
+        may_status one d.terms made.command reply is.in_service.served
+        (known_of d.terms (staged a (DataIn row reply cursor) a.answer a.buffers.given) h row reply is made) made.all_in b.answer
         (subst (λ (z : ℕ × Cmd). Answers b.answer (HasStatus z.0 (total_of z.1.out) (total_of z.1.inn) reply)) (λ i. (tag i, (sym same) i)) says)
 
 -- the same, or there was no memory for the answer and the service is where it was
@@ -276,7 +297,7 @@ pub once_stated_if : SpellsOne → (a b : Desk) (s : List PipeRow) (h : List Ser
     (bytes : List ℕ) (result : Result (Unit {0}) NoMemory)
     → b.id ≡ a.id → b.pending ≡ a.pending → a.stage ≡ DataIn row reply cursor → OnOk result (b.stage ≡ Answer (Served row)) → OnOk result (b.answer ≡ bytes) → OnErr result (b.stage ≡ a.stage)
     → OnErr result (b.answer ≡ a.answer) → b.buffers ≡ a.buffers → a.pending ≡ request ∷ rest → request.order ≡ Command command
-    → Answers bytes (HasStatus request.tag (total_of command.out) (total_of command.inn) reply) → b.kept ≡ None → (d : Held) → IsServing d.count a h → Once d d a b s s h h
+    → Answers bytes (HasStatus request.tag (total_of command.out) (total_of command.inn) reply) → b.kept ≡ None → (d : Held) → IsServing d.terms a h → Once d d a b s s h h
 once_stated_if one a b s h row reply cursor request rest command bytes (Ok done) id pending was is answer err same buffers front order says kept d =
     once_stated one a b s s h h row reply cursor request rest command id pending was is front order
     (subst (λ (xs : List ℕ). Answers xs (HasStatus request.tag (total_of command.out) (total_of command.inn) reply)) (sym answer) says) kept refl refl d
@@ -284,43 +305,46 @@ once_stated_if one a b s h row reply cursor request rest command bytes (Err memo
     once_still a b s s h h id err same buffers pending kept refl refl d
 
 -- the data-in were refused: the row keeps those that were copied, and the answer that says so is next
-pub once_cut : SpellsOne → (a b : Desk) (s : List PipeRow) (h h' : List ServedRow) (row n : ℕ) (reply : ScsiReply) (cursor : Cursor) (request : Request) (rest : List Request)
-    → b.id ≡ a.id → b.pending ≡ a.pending → a.stage ≡ DataIn row reply cursor → b.stage ≡ Answer (Served row) → a.pending ≡ request ∷ rest → 0 < length a.buffers.given
-    → Answers b.answer (HasCode request.tag FieldsInvalid) → b.kept ≡ None → FillsRow h h' row (take n a.buffers.given) → (d : Held) → IsServing d.count a h → Once d d a b s s h h'
-once_cut one a b s h h' row n reply cursor request rest id pending was is front some says kept fills d serving =
+pub once_cut : SpellsOne → (a b : Desk) (s : List PipeRow) (h h' : List ServedRow) (row n : ℕ) (reply : ScsiReply) (cursor : Cursor) (request : Request) (rest : List Request) (command : Cmd)
+    → b.id ≡ a.id → b.pending ≡ a.pending → a.stage ≡ DataIn row reply cursor → b.stage ≡ Answer (Served row) → a.pending ≡ request ∷ rest → request.order ≡ Command command → 0 < length a.buffers.given
+    → Answers b.answer (HasCode request.tag FieldsInvalid) → b.kept ≡ None → FillsRow h h' row (take n a.buffers.given) → (d : Held) → RefusesIn (told_to d.terms.told a.id) command → IsServing d.terms a h → Once d d a b s s h h'
+once_cut one a b s h h' row n reply cursor request rest command id pending was is front order some says kept fills d refuses serving =
     let p = staged a (DataIn row reply cursor) a.answer a.buffers.given in
-    let served : IsServed d.count p h row = subst (λ (st : Stage). IfRow st (IsServed d.count (staged a st a.answer a.buffers.given) h)) was serving.row in
+    let served : IsServed d.terms p h row = subst (λ (st : Stage). IfRow st (IsServed d.terms (staged a st a.answer a.buffers.given) h)) was serving.row in
     let made = served.holds in
     let old = served.in_service.served in
     let iu = served.request.unit.items in
-    let known = known_of d.count p h row reply served made in
+    let known = known_of d.terms p h row reply served made in
     let new : ServedRow = record old { inn = take n old.inn } in
     let there : h' ≡ served.in_service.before ++ new ∷ served.in_service.behind =
     filled_there a.id iu h h' row (take n a.buffers.given) served.in_service fills
     ∙ ap (λ (xs : List ℕ). served.in_service.before ++ record old { inn = take n xs } ∷ served.in_service.behind) (sym made.given_is) in
     let tag : request.tag ≡ field 8 8 old.iu =
     request.tagged ∙ ap (λ (r : Request). field 8 8 r.unit.items) (sym (first_is request served.request rest served.rest (sym front ∙ served.front))) ∙ ap (field 8 8) (sym served.in_service.iu_is) in
+    let same = command_same d.terms a h row (DataIn row reply cursor) request rest command front order served made.command made.order in
+    let cause : RefusesIn (told_to d.terms.told new.unit) made.command =
+    subst (λ (z : UnitId × Cmd). RefusesIn (told_to d.terms.told z.0) z.1) (λ i. ((sym served.in_service.unit_is) i, (sym same) i)) refuses in
     let given_some : 0 < handed_over made.command reply = omega (arith, some, ap length made.given_is, made.all_in) in
-    let served' : IsServed d.count (staged a (Answer (Served row)) b.answer b.buffers.given) h' row = record {
+    let served' : IsServed d.terms (staged a (Answer (Served row)) b.answer b.buffers.given) h' row = record {
       request = served.request;
       rest = served.rest;
       front = served.front;
       in_service = in_service_filled a.id iu h h' row (take n old.inn) served.in_service there;
-      holds = may_refuse one d.count made.command reply new (known_cut one d.count made.command reply old known n) given_some b.answer
+      holds = may_refuse one d.terms made.command reply new (known_cut one d.terms made.command reply old known n) cause given_some b.answer
           (subst (λ (t : ℕ). Answers b.answer (HasCode t FieldsInvalid)) tag says);
     } in
     record {
       id = id;
-      count = refl;
+      terms = refl;
       serving = record {
-        row = subst (λ (q : Place). IfRow q.stage (IsServed d.count q h')) (λ i. record { id = (sym id) i; stage = (sym is) i; answer = b.answer; given = b.buffers.given; pending = (sym pending) i }) served';
+        row = subst (λ (q : Place). IfRow q.stage (IsServed d.terms q h')) (λ i. record { id = (sym id) i; stage = (sym is) i; answer = b.answer; given = b.buffers.given; pending = (sym pending) i }) served';
         kept = λ entry some_kept. absurd (cc (kept, some_kept));
         fetched = subst (λ (st : Stage). HasPieces st b.buffers.outs b.buffers.inns b.pending) (sym is) tt;
       };
       answers = more_none a.id s s h h' refl (answers_filled a.id iu h h' row (take n old.inn) served.in_service there);
       others = only_there a.id iu h h' row served.in_service new served.in_service.unit_is there;
       stays = stays_there d h h' served.in_service.before served.in_service.behind old new served.in_service.history_is there
-          (may_cut one d.count made.command reply old known n served.in_service.unanswered);
+          (may_cut one d.terms made.command reply old known n served.in_service.unanswered);
       tells = tells_same d.now;
     }
 
@@ -332,11 +356,11 @@ IsStageOf stage row = (P : ℕ → Type 0) → P row → IfRow stage P
 pub once_added : (d d' : Held) (a b : Desk) (s s' : List PipeRow) (h h' : List ServedRow) (request : Request) (rest : List Request) (served : ServedRow) (stage : Stage)
     → b.id ≡ a.id → b.pending ≡ request ∷ rest → b.kept ≡ None → b.stage ≡ stage → IsStageOf stage (length h)
     → served.unit ≡ a.id → served.iu ≡ request.unit.items → served.answer ≡ [] → h' ≡ h ++ served ∷ [] → responses s' ≡ responses s
-    → d'.count ≡ d.count → HasPieces stage b.buffers.outs b.buffers.inns b.pending → HoldsAtStage d'.count stage b.answer b.buffers.given request served
+    → d'.terms ≡ d.terms → HasPieces stage b.buffers.outs b.buffers.inns b.pending → HoldsAtStage d'.terms stage b.answer b.buffers.given request served
     → StaysServed d d' h h' → IfSome d.now (λ all. IsSome d'.now) → Once d d' a b s s' h h'
-once_added d d' a b s s' h h' request rest served stage id front kept stage_is of unit iu blank added put count fetched holds disk tells =
+once_added d d' a b s s' h h' request rest served stage id front kept stage_is of unit iu blank added put terms fetched holds disk tells =
     let q : Place = record { id = b.id; stage = stage; answer = b.answer; given = b.buffers.given; pending = b.pending } in
-    let served' : IsServed d'.count q h' (length h) = record {
+    let served' : IsServed d'.terms q h' (length h) = record {
       request = request;
       rest = rest;
       front = front;
@@ -345,10 +369,10 @@ once_added d d' a b s s' h h' request rest served stage id front kept stage_is o
     } in
     record {
       id = id;
-      count = count;
+      terms = terms;
       serving = record {
-        row = subst (λ (st : Stage). IfRow st (IsServed d'.count (record { id = b.id; stage = st; answer = b.answer; given = b.buffers.given; pending = b.pending }) h')) (sym stage_is)
-            (of (IsServed d'.count q h') served');
+        row = subst (λ (st : Stage). IfRow st (IsServed d'.terms (record { id = b.id; stage = st; answer = b.answer; given = b.buffers.given; pending = b.pending }) h')) (sym stage_is)
+            (of (IsServed d'.terms q h') served');
         kept = λ entry some. absurd (cc (kept, some));
         fetched = subst (λ (st : Stage). HasPieces st b.buffers.outs b.buffers.inns b.pending) (sym stage_is) fetched;
       };
@@ -359,9 +383,9 @@ once_added d d' a b s s' h h' request rest served stage id front kept stage_is o
     }
 
 -- a row without a disk step leaves the disk law as it is
-pub stays_pushed : (d : Held) (h h' : List ServedRow) (row : ServedRow) → h' ≡ h ++ row ∷ [] → ((b : List (List ℕ)) → ServesRow b row b) → StaysServed d d h h'
+pub stays_pushed : (d : Held) (h h' : List ServedRow) (row : ServedRow) → h' ≡ h ++ row ∷ [] → ((b : List (List ℕ)) → ServesRowBy d.terms.told b row b) → StaysServed d d h h'
 stays_pushed d h h' row added still = stays_rows d h h' (λ before all size serve.
-    subst (λ (list : List ServedRow). Serve before list all) (sym added) (serve_push before all all h row serve (still all)))
+    subst (λ (list : List ServedRow). ServeBy d.terms.told before list all) (sym added) (serve_push d.terms.told before all all h row serve (still all)))
 
 -- a response code says nothing of a row without an answer
 pub says_none : (bytes : List ℕ) (P : Rsp → Type 0) → bytes ≡ [] → Answers bytes P
@@ -370,19 +394,19 @@ says_none bytes P none = subst (λ (xs : List ℕ). Answers xs P) (sym none) tt
 -- an answer without a row is next, or there was no memory for it and the service is where it was
 pub once_judged : (a b : Desk) (s : List PipeRow) (h : List ServedRow) (outcome : Outcome) (result : Result (Unit {0}) NoMemory) → b.id ≡ a.id → b.pending ≡ a.pending → b.kept ≡ None
     → ((P : ℕ → Type 0) → IfRow (Answer outcome) P) → OnOk result (b.stage ≡ Answer outcome) → OnErr result (b.stage ≡ a.stage) → OnErr result (b.answer ≡ a.answer) → b.buffers ≡ a.buffers
-    → (d : Held) → IsServing d.count a h → Once d d a b s s h h
+    → (d : Held) → IsServing d.terms a h → Once d d a b s s h h
 once_judged a b s h outcome (Ok done) id pending kept none ok err same buffers d serving =
     once_goes a b s s h h id kept refl refl d
-    (subst (λ st. IfRow st (IsServed d.count (place_of b) h)) (sym ok) (none (IsServed d.count (place_of b) h)))
+    (subst (λ st. IfRow st (IsServed d.terms (place_of b) h)) (sym ok) (none (IsServed d.terms (place_of b) h)))
     (subst (λ st. HasPieces st b.buffers.outs b.buffers.inns b.pending) (sym ok) tt)
 once_judged a b s h outcome (Err memory) id pending kept none ok err same buffers d serving =
     once_still a b s s h h id err same buffers pending kept refl refl d serving
 
 -- the same between desks that are equal to these
-pub once_between : (a b a' b' : Desk) (s s' : List PipeRow) (h h' : List ServedRow) → a' ≡ a → b' ≡ b → (d d' : Held) → (IsServing d.count a h → Once d d' a b s s' h h')
-    → IsServing d.count a' h → Once d d' a' b' s s' h h'
+pub once_between : (a b a' b' : Desk) (s s' : List PipeRow) (h h' : List ServedRow) → a' ≡ a → b' ≡ b → (d d' : Held) → (IsServing d.terms a h → Once d d' a b s s' h h')
+    → IsServing d.terms a' h → Once d d' a' b' s s' h h'
 once_between a b a' b' s s' h h' was is d d' once =
-    subst (λ (z : Desk × Desk). IsServing d.count z.0 h → Once d d' z.0 z.1 s s' h h') (λ i. (sym was i, sym is i)) once
+    subst (λ (z : Desk × Desk). IsServing d.terms z.0 h → Once d d' z.0 z.1 s s' h h') (λ i. (sym was i, sym is i)) once
 
 -- what a next step says of what is kept
 pub as_none_next : (next : Next) (kept kept' : Option Kept) → kept ≡ None → (next ≢ nexts.End → kept' ≡ kept) → AsNone (Ok next) kept'

@@ -13,10 +13,10 @@ use Rattle.srp_desc.specs.Tables.{table_len}
 use Rattle.block_disk.specs.Disk.{reply_to}
 use Rattle.block_disk.specs.Steps.{DiskStep, IsStep, StepOn, blocks_after, made_step}
 use Rattle.block_disk.specs.declared.reply.ScsiReply.{ScsiReply}
-use Rattle.block_server.specs.DiskLaw.{HasData, IsStepped, Serve, ServesRow, handed_over, step_of}
+use Rattle.block_server.specs.DiskLaw.{HasData, IsStepped, ServeBy, ServesRowBy, handed_over, step_of}
 use Rattle.block_server.specs.Fetched.{HasBoth}
 use Rattle.block_server.specs.Orders.{IsOrder}
-use Rattle.block_server.specs.Serving.{HasReply, Held, ServeFrom, StaysServed}
+use Rattle.block_server.specs.Serving.{HasReply, Held, ServeFrom, StaysServed, Terms}
 use Rattle.block_server.specs.declared.request.Order.{Order}
 use Rattle.block_server.specs.declared.request.Order.TheVariants.{Command}
 use Rattle.block_server.specs.declared.request.Request.{Request}
@@ -55,21 +55,21 @@ pub record IsNewRow (request : Request) (command : Cmd) (outs inns : List Desc) 
   pub fault_is : row.fault ≡ reply.fault
   pub blank : row.answer ≡ []
 
-module _ (request : Request) (command : Cmd) (outs inns : List Desc) (out given buffer : List ℕ) (count : ℕ) (reply : ScsiReply) (row : ServedRow)
-    (new : IsNewRow request command outs inns out given buffer count reply row) where
+module _ (request : Request) (command : Cmd) (outs inns : List Desc) (out given buffer : List ℕ) (terms : Terms) (reply : ScsiReply) (row : ServedRow)
+    (new : IsNewRow request command outs inns out given buffer terms.size reply row) where
   len_given : length row.inn ≡ handed_over command reply
   len_given = omega (arith, ap length new.inn_is, ap length new.given_is, length-take (handed_over command reply) buffer, new.room)
 
   brought : HasData command row.out
   brought = subst (HasData command) (sym new.out_is) (has_data command outs inns out new.both new.all_out)
 
-  pub has_reply : HasReply count request given reply row
+  pub has_reply : HasReply terms request given reply row
   has_reply = record {
     command = command;
     order = new.order;
     brought = brought;
     fault_is = sym new.fault_is;
-    reply_is = new.reply_is ∙ (λ i. reply_to count command.lun command.cdb (length ((sym new.out_is) i)) ((sym new.fault_is) i));
+    reply_is = new.reply_is ∙ (λ i. reply_to terms.size command.lun command.cdb (length ((sym new.out_is) i)) ((sym new.fault_is) i));
     given_is = new.inn_is;
     all_in = len_given;
   }
@@ -79,7 +79,7 @@ module _ (request : Request) (command : Cmd) (outs inns : List Desc) (out given 
       new.inn_is ∙ new.given_is ∙ sym (take-take (handed_over command reply) reply.in_len buffer (omega arith))
       ∙ ap (λ (n : ℕ). take n (take reply.in_len buffer)) (sym len_given)
 
-  pub new_row_serves : (b a : List (List ℕ)) → IsStep b (made_step command.lun command.cdb out reply buffer) a → ServesRow b row a
+  pub new_row_serves : (b a : List (List ℕ)) → IsStep b (made_step command.lun command.cdb out reply buffer) a → ServesRowBy terms.told b row a
   new_row_serves b a made = inl (record {
     command = command;
     spells = subst (λ (bytes : List ℕ). Spells bytes (units.Cmd command)) (sym new.iu)
@@ -95,15 +95,15 @@ module _ (request : Request) (command : Cmd) (outs inns : List Desc) (out given 
   })
 
 -- the disk law goes on over a step and its row
-stepped : (count : ℕ) (now now' : Option (List (List ℕ))) (h h' : List ServedRow) (row : ServedRow) (made : DiskStep) → StepOn now made now' → (now ≡ None → now' ≡ None)
-    → h' ≡ h ++ row ∷ [] → ((b a : List (List ℕ)) → IsStep b made a → ServesRow b row a) → (before : List (List ℕ))
-    → IfSome now (ServeFrom count before h) → IfSome now' (ServeFrom count before h')
-stepped count None now' h h' row made step none added serves before is = subst (λ (n : Option (List (List ℕ))). IfSome n (ServeFrom count before h')) (sym (none refl)) tt
-stepped count (Some all) now' h h' row made step none added serves before is =
-    subst (λ (n : Option (List (List ℕ))). IfSome n (ServeFrom count before h')) (sym step.0) (record {
+stepped : (terms : Terms) (now now' : Option (List (List ℕ))) (h h' : List ServedRow) (row : ServedRow) (made : DiskStep) → StepOn now made now' → (now ≡ None → now' ≡ None)
+    → h' ≡ h ++ row ∷ [] → ((b a : List (List ℕ)) → IsStep b made a → ServesRowBy terms.told b row a) → (before : List (List ℕ))
+    → IfSome now (ServeFrom terms before h) → IfSome now' (ServeFrom terms before h')
+stepped terms None now' h h' row made step none added serves before is = subst (λ (n : Option (List (List ℕ))). IfSome n (ServeFrom terms before h')) (sym (none refl)) tt
+stepped terms (Some all) now' h h' row made step none added serves before is =
+    subst (λ (n : Option (List (List ℕ))). IfSome n (ServeFrom terms before h')) (sym step.0) (record {
       size = is.size;
-      serve = subst (λ (list : List ServedRow). Serve before list (blocks_after all made)) (sym added)
-          (serve_push before all (blocks_after all made) h row is.serve (serves all (blocks_after all made) step.1));
+      serve = subst (λ (list : List ServedRow). ServeBy terms.told before list (blocks_after all made)) (sym added)
+          (serve_push terms.told before all (blocks_after all made) h row is.serve (serves all (blocks_after all made) step.1));
     })
 
 none_map : (now now' : Option (List (List ℕ))) (f : List (List ℕ) → List (List ℕ)) → now' ≡ option_map f now → now ≡ None → now' ≡ None
@@ -113,8 +113,8 @@ pub tells_map : (now now' : Option (List (List ℕ))) (f : List (List ℕ) → L
 tells_map None now' f is = tt
 tells_map (Some all) now' f is = subst (λ (n : Option (List (List ℕ))). IsSome n) (sym is) refl
 
-pub stays_stepped : (d d' : Held) (h h' : List ServedRow) (row : ServedRow) (made : DiskStep) (f : List (List ℕ) → List (List ℕ)) → d'.count ≡ d.count → StepOn d.now made d'.now
-    → d'.now ≡ option_map f d.now → h' ≡ h ++ row ∷ [] → ((b a : List (List ℕ)) → IsStep b made a → ServesRow b row a) → StaysServed d d' h h'
-stays_stepped d d' h h' row made f count step image added serves before is =
-    subst (λ (n : ℕ). IfSome d'.now (ServeFrom n before h')) (sym count)
-    (stepped d.count d.now d'.now h h' row made step (none_map d.now d'.now f image) added serves before is)
+pub stays_stepped : (d d' : Held) (h h' : List ServedRow) (row : ServedRow) (made : DiskStep) (f : List (List ℕ) → List (List ℕ)) → d'.terms ≡ d.terms → StepOn d.now made d'.now
+    → d'.now ≡ option_map f d.now → h' ≡ h ++ row ∷ [] → ((b a : List (List ℕ)) → IsStep b made a → ServesRowBy d.terms.told b row a) → StaysServed d d' h h'
+stays_stepped d d' h h' row made f terms step image added serves before is =
+    subst (λ (t : Terms). IfSome d'.now (ServeFrom t before h')) (sym terms)
+    (stepped d.terms d.now d'.now h h' row made step (none_map d.now d'.now f image) added serves before is)

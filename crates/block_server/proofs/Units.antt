@@ -15,9 +15,9 @@ use Rattle.vio_num.specs.declared.hypervisor.Moved.{Moved}
 use Rattle.vio_num.specs.declared.hypervisor.Moved.TheVariants.{Quiet}
 use Rattle.crq_session.specs.EndState.{EndState}
 use Rattle.block_server.specs.Turns.{IsQuietTurn, under_way, way_of}
-use Rattle.block_server.specs.DiskLaw.{KeepsDisk, Serve}
+use Rattle.block_server.specs.DiskLaw.{KeepsDiskBy, ServeBy}
 use Rattle.block_server.proofs.DiskLaws.{serve_size}
-use Rattle.block_server.specs.Serving.{Desk, Held, ServeFrom, StaysServed, IsServed, IsServing, Once, Place, desk_of, place_of}
+use Rattle.block_server.specs.Serving.{Desk, Held, ServeFrom, StaysServed, IsServed, IsServing, Once, Place, Terms, desk_of, place_of}
 use Rattle.block_server.specs.Units.{AreServing, IsUnitOf}
 use Rattle.block_server.specs.declared.service.Stage.TheVariants.{Start}
 use Rattle.block_server.specs.declared.unit.Unit.{Unit}
@@ -26,8 +26,8 @@ use Rattle.block_server.proofs.Onces.{cleared}
 use Rattle.block_server.proofs.Serves.{row_map}
 
 -- what another unit does leaves a desk in order
-served_stays : (unit : UnitId) (count : ℕ) (p : Place) (h h' : List ServedRow) (row : ℕ) → p.id ≢ unit → OnlyRowsOf unit h h' → IsServed count p h row → IsServed count p h' row
-served_stays unit count p h h' row apart only is = record {
+served_stays : (unit : UnitId) (terms : Terms) (p : Place) (h h' : List ServedRow) (row : ℕ) → p.id ≢ unit → OnlyRowsOf unit h h' → IsServed terms p h row → IsServed terms p h' row
+served_stays unit terms p h h' row apart only is = record {
   request = is.request;
   rest = is.rest;
   front = is.front;
@@ -35,9 +35,9 @@ served_stays unit count p h h' row apart only is = record {
   holds = is.holds;
 }
 
-serving_stays : (unit : UnitId) (count : ℕ) (desk : Desk) (h h' : List ServedRow) → desk.id ≢ unit → OnlyRowsOf unit h h' → IsServing count desk h → IsServing count desk h'
-serving_stays unit count desk h h' apart only serving = record {
-  row = row_map desk.stage (IsServed count (place_of desk) h) (IsServed count (place_of desk) h') (λ row. served_stays unit count (place_of desk) h h' row apart only) serving.row;
+serving_stays : (unit : UnitId) (terms : Terms) (desk : Desk) (h h' : List ServedRow) → desk.id ≢ unit → OnlyRowsOf unit h h' → IsServing terms desk h → IsServing terms desk h'
+serving_stays unit terms desk h h' apart only serving = record {
+  row = row_map desk.stage (IsServed terms (place_of desk) h) (IsServed terms (place_of desk) h') (λ row. served_stays unit terms (place_of desk) h h' row apart only) serving.row;
   kept = serving.kept;
   fetched = serving.fetched;
 }
@@ -56,29 +56,29 @@ get_set_other (unit ∷ units) (suc i) (suc j) new apart = get_set_other units i
 
 -- One unit took its turn: each unit is in order still.
 pub units_on : (d d' : Held) (partition number : ℕ) (units : List Unit) (unit unit' : Unit) (s s' : List PipeRow) (h h' : List ServedRow) → slice_get units number ≡ Some unit
-    → Once d d' (desk_of unit) (desk_of unit') s s' h h' → AreServing d.count partition units h → AreServing d'.count partition (slice_set units number unit') h'
+    → Once d d' (desk_of unit) (desk_of unit') s s' h h' → AreServing d.terms partition units h → AreServing d'.terms partition (slice_set units number unit') h'
 units_on d d' partition number units unit unit' s s' h h' there once all n other at = by (n == number) refl
   where
     some_is : (x y : Unit) → Some x ≡ Some y → x ≡ y
     some_is x y same = cc (same)
 
-    this : n ≡ number → IsUnitOf d'.count partition n other h'
+    this : n ≡ number → IsUnitOf d'.terms partition n other h'
     this same =
         let is : unit' ≡ other = some_is unit' other (sym (get_set_same units number unit unit' there) ∙ ap (slice_get (slice_set units number unit')) (sym same) ∙ at) in
-        subst (λ (z : ℕ × Unit). IsUnitOf d'.count partition z.0 z.1 h') (λ i. (sym same i, is i))
+        subst (λ (z : ℕ × Unit). IsUnitOf d'.terms partition z.0 z.1 h') (λ i. (sym same i, is i))
         (record { id = once.id ∙ (all number unit there).id; serving = once.serving })
 
-    another : n ≢ number → IsUnitOf d'.count partition n other h'
+    another : n ≢ number → IsUnitOf d'.terms partition n other h'
     another apart =
         let is = all n other (sym (get_set_other units number n unit' apart) ∙ at) in
         record {
           id = is.id;
-          serving = subst (λ (count : ℕ). IsServing count (desk_of other) h') (sym once.count)
-              (serving_stays unit.id d.count (desk_of other) h h'
+          serving = subst (λ (terms : Terms). IsServing terms (desk_of other) h') (sym once.terms)
+              (serving_stays unit.id d.terms (desk_of other) h h'
               (λ same. apart (ap (λ (id : UnitId). id.unit) (sym is.id ∙ same ∙ (all number unit there).id))) once.others is.serving);
         }
 
-    by : (b : Bool) → (n == number) ≡ b → IsUnitOf d'.count partition n other h'
+    by : (b : Bool) → (n == number) ≡ b → IsUnitOf d'.terms partition n other h'
     by true e = this (eqb-true n number e)
     by false e = another (λ same. absurd (cc (eq-eqb n number same, e)))
 
@@ -93,24 +93,26 @@ push_all P (first ∷ units) new all is zero unit at = all zero unit at
 push_all P (first ∷ units) new all is (suc n) unit at = push_all (λ m. P (suc m)) units new (λ m. all (suc m)) is n unit at
 
 -- A unit that took nothing yet is in order, whatever was served.
-pub units_more : (count partition number : ℕ) (units : List Unit) (new : Unit) (h : List ServedRow) → number ≡ length units
+pub units_more : (terms : Terms) (partition number : ℕ) (units : List Unit) (new : Unit) (h : List ServedRow) → number ≡ length units
     → new.id ≡ record { partition = partition; unit = number } → new.service.stage ≡ Start → new.line.kept ≡ None
-    → AreServing count partition units h → AreServing count partition (units ++ new ∷ []) h
-units_more count partition number units new h len id stage kept all =
-    push_all (λ n unit. IsUnitOf count partition n unit h) units new all
-    (subst (λ (n : ℕ). IsUnitOf count partition n new h) len (record { id = id; serving = cleared count (desk_of new) h stage kept }))
+    → AreServing terms partition units h → AreServing terms partition (units ++ new ∷ []) h
+units_more terms partition number units new h len id stage kept all =
+    push_all (λ n unit. IsUnitOf terms partition n unit h) units new all
+    (subst (λ (n : ℕ). IsUnitOf terms partition n new h) len (record { id = id; serving = cleared terms (desk_of new) h stage kept }))
 
-pub units_none : (count partition : ℕ) (units : List Unit) (h : List ServedRow) → units ≡ [] → AreServing count partition units h
-units_none count partition units h none = subst (λ (list : List Unit). AreServing count partition list h) (sym none) (λ n unit at. absurd (cc (at)))
+pub units_none : (terms : Terms) (partition : ℕ) (units : List Unit) (h : List ServedRow) → units ≡ [] → AreServing terms partition units h
+units_none terms partition units h none = subst (λ (list : List Unit). AreServing terms partition list h) (sym none) (λ n unit at. absurd (cc (at)))
 
 -- the disk law of a turn, over an image that tells as many blocks as it has
-pub keeps_disk : (d d' : Held) (h h' : List ServedRow) (size : ℕ) → d.count ≡ size → IfSome d.now (λ all. length all ≡ size) → StaysServed d d' h h' → KeepsDisk h h' d.now d'.now
-keeps_disk d d' h h' size sized told stays before is =
-    IfSome_then d'.now (stays before (from d.now told is)) (λ all (then : ServeFrom d'.count before h' all). then.serve)
+pub keeps_disk : (d d' : Held) (h h' : List ServedRow) (size : ℕ) → d.terms.size ≡ size → d'.terms ≡ d.terms → IfSome d.now (λ all. length all ≡ size)
+    → StaysServed d d' h h' → KeepsDiskBy d.terms.told h h' d.now d'.now
+keeps_disk d d' h h' size sized same told stays before is =
+    IfSome_then d'.now (stays before (from d.now told is))
+    (λ all (then : ServeFrom d'.terms before h' all). subst (λ (t : Terms). ServeBy t.told before h' all) same then.serve)
   where
-    from : (now : Option (List (List ℕ))) → IfSome now (λ all. length all ≡ size) → IfSome now (λ all. Serve before h all) → IfSome now (ServeFrom d.count before h)
+    from : (now : Option (List (List ℕ))) → IfSome now (λ all. length all ≡ size) → IfSome now (λ all. ServeBy d.terms.told before h all) → IfSome now (ServeFrom d.terms before h)
     from None told is = tt
-    from (Some all) told is = record { size = sym (serve_size before h all is) ∙ told ∙ sym sized; serve = is }
+    from (Some all) told is = record { size = sym (serve_size d.terms.told before h all is) ∙ told ∙ sym sized; serve = is }
 
 pub tells_prop : (now now' : Option (List (List ℕ))) → IsProp (IfSome now (λ all. IsSome now'))
 tells_prop None now' = hlevel props

@@ -5,7 +5,7 @@ use Rattle.page_slots.specs.declared.stroke.StrokeName.{StrokeName}
 use Rattle.tce_window.specs.declared.piece.Piece.{Piece}
 use Rattle.tce_window.specs.declared.answers.OwnFault.{OwnFault}
 use Rattle.tce_window.specs.Moved.{IsLaid, strokes_on}
-use Rattle.tce_window.specs.Port.{Grows, IsWritten}
+use Rattle.tce_window.specs.Port.{Grows, IsWritten, Later}
 use Rattle.tce_window.specs.PortState.{PortState, LaysNone, OnlyReads, OnlyWrites, Writes}
 use Rattle.tce_window.specs.Region.{touches, stroke_on, written}
 use Rattle.tce_window.specs.Strokes.{with_strokes}
@@ -64,15 +64,18 @@ target_grows shared src old new from to len name (copies.DestParm fault) copied 
 target_grows shared src old new from to len name (copies.Busy page word) copied refused rest = source_grows shared old new refused rest
 target_grows shared src old new from to len name copies.NoMemory copied refused rest = source_grows shared old new refused rest
 
-pub windows_move : (reached : Lenders) (queue : EndState) (own own' client client' : PortState) (copies copies' : List CopyRecord) → own'.place ≡ own.place → client'.place ≡ client.place
+pub windows_move : (reached : Lenders) (queue : EndState) (own own' client client' : PortState) (shared : Bool) (copies copies' : List CopyRecord) → own'.place ≡ own.place → client'.place ≡ client.place
+    → ((e : ℕ) → Later shared (client.values e) (client'.values e))
     → SideGrows (side_of own) (side_of own') → SideGrows (side_of client) (side_of client')
     → CopiesMore own' client' copies copies'
-    → Advances (site reached queue own client copies) (site reached queue own' client' copies')
-windows_move reached queue own own' client client' copies copies' own_place client_place own_grows client_grows made = record {
+    → Advances (site reached queue own client shared copies) (site reached queue own' client' shared copies')
+windows_move reached queue own own' client client' shared copies copies' own_place client_place values own_grows client_grows made = record {
   reached = refl;
   queue_place = refl;
   own_place = own_place;
   client_place = client_place;
+  shared = refl;
+  values = values;
   session = omega arith;
   taken = begins_same queue.taken;
   put = puts_none queue.sent queue.sent refl;

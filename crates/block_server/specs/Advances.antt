@@ -6,6 +6,7 @@ use Rattle.vio_num.specs.Entry.{partner_freed}
 use Rattle.crq_ring.specs.declared.rows.PipeRow.{PipeRow}
 use Rattle.crq_session.specs.EndState.{EndState}
 use Rattle.vio_num.specs.Words.{Begins}
+use Rattle.tce_window.specs.Port.{Later}
 use Rattle.tce_window.specs.PortState.{PortState}
 use Rattle.rdma_copy.specs.Copy.{IsLawful, SideGrows}
 use Rattle.rdma_copy.specs.declared.copy.CopyRecord.{CopyRecord}
@@ -41,6 +42,8 @@ pub record Advances (old new : SiteState) : Type 0 where
   pub queue_place : new.queue.place ≡ old.queue.place
   pub own_place : new.own.place ≡ old.own.place
   pub client_place : new.client.place ≡ old.client.place
+  pub shared : new.shared ≡ old.shared
+  pub values : (e : ℕ) → Later old.shared (old.client.values e) (new.client.values e)
   pub session : old.queue.last_session ≤ new.queue.last_session
   pub taken : Begins old.queue.taken new.queue.taken
   pub put : PutsMore old.queue.sent new.queue.sent

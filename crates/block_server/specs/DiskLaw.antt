@@ -1,6 +1,6 @@
 -- The disk law: the rows of a history, in their order, take an image's blocks from what they were to what they are, each as
 -- its row law says (SRP, "SRP_RSP response"; SPC, SBC).
-use Rattle.std.specs.Prelude.{◌≡◌, ◌⊎◌, ◌<◌, ◌≤◌, ℕ, List, [], ◌∷◌, Option, None, IfSome, length, min, take}
+use Rattle.std.specs.Prelude.{◌≡◌, ◌⊎◌, ◌<◌, ◌≤◌, ℕ, Bool, List, [], ◌∷◌, Option, None, IfSome, length, min, take}
 use Rattle.vio_num.specs.declared.history.Served.{Served}
 use Rattle.srp_iu.specs.declared.unit.Iu.{Iu}
 use Rattle.srp_iu.specs.declared.unit.Iu.TheVariants as units
@@ -15,6 +15,7 @@ use Rattle.srp_desc.specs.Pieces.{named, sum_of, total_of}
 use Rattle.srp_desc.specs.Tables.{in_pieces, out_pieces}
 use Rattle.block_disk.specs.Steps.{DiskStep, IsStep}
 use Rattle.block_disk.specs.declared.reply.ScsiReply.{ScsiReply}
+use Rattle.block_server.specs.Causes.{RefusesIn, Told, TurnsDown, anything, told_to}
 use Rattle.block_server.specs.Responses.{Answers, HasCode, HasStatus, task_code}
 
 -- The descriptors of a command name pieces, where its tables hold these bytes, and the data-out are all that theirs name.
@@ -39,23 +40,24 @@ pub record SaysStatus (command : Cmd) (reply : ScsiReply) (row : Served) : Type 
   pub all_in : length row.inn ≡ handed_over command reply
   pub answer : Answers row.answer (HasStatus (field 8 8 row.iu) (total_of command.out) (total_of command.inn) reply)
 
--- There were data-in, and a copy of them was refused: no device call failed, and the answer says that fields are invalid.
--- (Why the copy was refused is not said.)
-pub record IsCutShort (command : Cmd) (reply : ScsiReply) (row : Served) : Type 0 where
+-- There were data-in, and the client's window told the unit that it refuses a copy of them: no device call failed, and the
+-- answer says that fields are invalid.
+pub record IsCutShort (told : Told → Bool) (command : Cmd) (reply : ScsiReply) (row : Served) : Type 0 where
+  pub cause : RefusesIn (told_to told row.unit) command
   pub some : 0 < handed_over command reply
   pub no_fault : row.fault ≡ None
   pub answer : SaysCode FieldsInvalid row
 
 -- what the answer to a command says whose disk step was made; a row whose answer's entry was not put has none
-abbrev pub AnswersStep : Cmd → ScsiReply → Served → Type 0
-AnswersStep command reply row = (row.answer ≡ []) ⊎ (SaysStatus command reply row ⊎ IsCutShort command reply row)
+abbrev pub AnswersStep : (Told → Bool) → Cmd → ScsiReply → Served → Type 0
+AnswersStep told command reply row = (row.answer ≡ []) ⊎ (SaysStatus command reply row ⊎ IsCutShort told command reply row)
 
 -- the disk step of a row's command
 abbrev pub step_of : Cmd → Served → ScsiReply → List ℕ → DiskStep
 step_of command row reply given = record { lun = command.lun; cdb = command.cdb; data_out = row.out; reply = reply; given = given }
 
 -- The row is of a command whose disk step was made: its data-in are the first of those that the step gave.
-pub record IsStepped (before : List (List ℕ)) (row : Served) (after : List (List ℕ)) : Type 0 where
+pub record IsStepped (told : Told → Bool) (before : List (List ℕ)) (row : Served) (after : List (List ℕ)) : Type 0 where
   pub command : Cmd
   pub spells : Spells row.iu (units.Cmd command)
   pub brought : HasData command row.out
@@ -65,7 +67,7 @@ pub record IsStepped (before : List (List ℕ)) (row : Served) (after : List (Li
   pub fault : reply.fault ≡ row.fault
   pub inn : row.inn ≡ take (length row.inn) given
   pub few : length row.inn ≤ handed_over command reply
-  pub answer : AnswersStep command reply row
+  pub answer : AnswersStep told command reply row
 
 -- No disk step was made for the row, and its answer, if it has one, says this code.
 pub record HasNoStep (code : ResponseCode) (before : List (List ℕ)) (row : Served) (after : List (List ℕ)) : Type 0 where
@@ -75,11 +77,12 @@ pub record HasNoStep (code : ResponseCode) (before : List (List ℕ)) (row : Ser
   pub fault : row.fault ≡ None
   pub answer : SaysCode code row
 
--- The row is of a command that was refused before its disk step: its descriptors were, or a copy of its tables or of its
--- data-out. (Which of them, and why, is not said.)
-pub record IsTurnedDown (before : List (List ℕ)) (row : Served) (after : List (List ℕ)) : Type 0 where
+-- The row is of a command that was refused before its disk step: its descriptors were, or the client's window told the unit
+-- that it refuses a copy of a table or of data-out.
+pub record IsTurnedDown (told : Told → Bool) (before : List (List ℕ)) (row : Served) (after : List (List ℕ)) : Type 0 where
   pub command : Cmd
   pub spells : Spells row.iu (units.Cmd command)
+  pub cause : TurnsDown (told_to told row.unit) command
   pub none : HasNoStep FieldsInvalid before row after
 
 -- The row is of a task management request, or of bytes that are no information unit.
@@ -92,15 +95,27 @@ pub record IsUnread (before : List (List ℕ)) (row : Served) (after : List (Lis
   pub unread : (iu : Iu) → ¬ Spells row.iu iu
   pub none : HasNoStep FieldsInvalid before row after
 
--- The row law: what a row says belongs to what its bytes spell, and to what the disk did.
-abbrev pub ServesRow : (before : List (List ℕ)) → Served → (after : List (List ℕ)) → Type 0
-ServesRow before row after = IsStepped before row after ⊎ (IsTurnedDown before row after ⊎ (IsOfTask before row after ⊎ IsUnread before row after))
+-- The row law: what a row says belongs to what its bytes spell, to what the disk did, and to what the unit was told.
+abbrev pub ServesRowBy : (told : Told → Bool) → (before : List (List ℕ)) → Served → (after : List (List ℕ)) → Type 0
+ServesRowBy told before row after =
+    IsStepped told before row after ⊎ (IsTurnedDown told before row after ⊎ (IsOfTask before row after ⊎ IsUnread before row after))
 
 -- The rows in their order take the blocks before to those after.
-abbrev pub Serve : (before : List (List ℕ)) → List Served → (after : List (List ℕ)) → Type 0
-Serve before [] after = after ≡ before
-Serve before (row ∷ rows) after = (between : List (List ℕ)) × ServesRow before row between × Serve between rows after
+abbrev pub ServeBy : (told : Told → Bool) → (before : List (List ℕ)) → List Served → (after : List (List ℕ)) → Type 0
+ServeBy told before [] after = after ≡ before
+ServeBy told before (row ∷ rows) after = (between : List (List ℕ)) × ServesRowBy told before row between × ServeBy told between rows after
 
 -- Where the rows took some blocks to those of now, the rows of later take them to those of later.
+abbrev pub KeepsDiskBy : (told : Told → Bool) → (rows rows' : List Served) → (now now' : Option (List (List ℕ))) → Type 0
+KeepsDiskBy told rows rows' now now' =
+    (before : List (List ℕ)) → IfSome now (λ all. ServeBy told before rows all) → IfSome now' (λ all. ServeBy told before rows' all)
+
+-- the same, whatever the units were told
+abbrev pub ServesRow : (before : List (List ℕ)) → Served → (after : List (List ℕ)) → Type 0
+ServesRow before row after = ServesRowBy anything before row after
+
+abbrev pub Serve : (before : List (List ℕ)) → List Served → (after : List (List ℕ)) → Type 0
+Serve before rows after = ServeBy anything before rows after
+
 abbrev pub KeepsDisk : (rows rows' : List Served) → (now now' : Option (List (List ℕ))) → Type 0
-KeepsDisk rows rows' now now' = (before : List (List ℕ)) → IfSome now (λ all. Serve before rows all) → IfSome now' (λ all. Serve before rows' all)
+KeepsDisk rows rows' now now' = KeepsDiskBy anything rows rows' now now'

@@ -1,5 +1,6 @@
 pub mod Advances
 pub mod Answering
+pub mod Causes
 pub mod Copied
 pub mod DiskLaw
 pub mod Ends
@@ -7,6 +8,7 @@ pub mod Entries
 pub mod Fetched
 pub mod Kept
 pub mod Orders
+pub mod Parts
 pub mod Records
 pub mod Responses
 pub mod Service

@@ -1,5 +1,5 @@
 -- What a unit has in service, and that each answer is put once.
-use Rattle.std.specs.Prelude.{◌≡◌, ℕ, ⊤, List, ◌∷◌, Option, Some, None, IfSome, IsSome, Result, Ok, Err, length, take}
+use Rattle.std.specs.Prelude.{◌≡◌, ℕ, ⊤, Bool, List, ◌∷◌, Option, Some, None, IfSome, IsSome, Result, Ok, Err, length, take}
 use Rattle.vio_num.specs.declared.entry.Entry.{Entry as QueueEntry}
 use Rattle.vio_num.specs.declared.names.UnitId.{UnitId}
 use Rattle.vio_num.specs.declared.history.Served.{Served as ServedRow}
@@ -23,7 +23,8 @@ use Rattle.srp_iu.specs.declared.command.Cmd.{Cmd}
 use Rattle.block_disk.specs.Disk.{reply_to}
 use Rattle.block_disk.specs.declared.reply.ScsiReply.{ScsiReply}
 use Rattle.block_server.specs.declared.request.Order.TheVariants.{Command}
-use Rattle.block_server.specs.DiskLaw.{HasData, Serve, ServesRow, handed_over}
+use Rattle.block_server.specs.Causes.{Refusing, Told, told_to}
+use Rattle.block_server.specs.DiskLaw.{HasData, ServeBy, ServesRowBy, handed_over}
 use Rattle.block_server.specs.Fetched.{HasPieces, Buffers, buffers_of}
 use Rattle.block_server.specs.Answering.{AnswersMore, IsInService, OnlyRowsOf}
 use Rattle.block_server.specs.Entries.{IsPlain}
@@ -68,36 +69,44 @@ IfRow (Answer (Served row)) P = P row
 IfRow (Entry (Served row)) P = P row
 IfRow _ P = ⊤
 
--- A disk as a turn knows it: the number of its blocks, and they themselves, where its image tells them.
+-- What rows are judged by: the number of the disk's blocks, and what client windows told the units.
+pub record Terms : Type 0 where
+  pub size : ℕ
+  pub told : Told → Bool
+
+abbrev pub terms_of : (Told → Bool) → ℕ → Terms
+terms_of told size = record { size = size; told = told }
+
+-- A disk as a turn knows it: the terms of its rows, and its blocks, where its image tells them.
 pub record Held : Type 0 where
-  pub count : ℕ
+  pub terms : Terms
   pub now : Option (List (List ℕ))
 
-abbrev pub held : ℕ → Option (List (List ℕ)) → Held
-held count now = record { count = count; now = now }
+abbrev pub held : (Told → Bool) → ℕ → Option (List (List ℕ)) → Held
+held told size now = record { terms = terms_of told size; now = now }
 
 -- The row of a command whose disk step answered this: it has all data-in that are to be handed over.
-pub record HasReply (count : ℕ) (request : Request) (given : List ℕ) (reply : ScsiReply) (served : ServedRow) : Type 0 where
+pub record HasReply (terms : Terms) (request : Request) (given : List ℕ) (reply : ScsiReply) (served : ServedRow) : Type 0 where
   pub command : Cmd
   pub order : request.order ≡ Command command
   pub brought : HasData command served.out
   pub fault_is : reply.fault ≡ served.fault
-  pub reply_is : reply ≡ reply_to count command.lun command.cdb (length served.out) served.fault
+  pub reply_is : reply ≡ reply_to terms.size command.lun command.cdb (length served.out) served.fault
   pub given_is : served.inn ≡ given
   pub all_in : length served.inn ≡ handed_over command reply
 
--- The row law stays as the row gets this answer, on a disk of so many blocks.
-abbrev pub MayAnswer : (count : ℕ) → (answer : List ℕ) → ServedRow → Type 0
-MayAnswer count answer served =
-    (before after : List (List ℕ)) → length before ≡ count → ServesRow before served after → ServesRow before (record served { answer = answer }) after
+-- The row law stays as the row gets this answer, on these terms.
+abbrev pub MayAnswer : (terms : Terms) → (answer : List ℕ) → ServedRow → Type 0
+MayAnswer terms answer served =
+    (before after : List (List ℕ)) → length before ≡ terms.size → ServesRowBy terms.told before served after → ServesRowBy terms.told before (record served { answer = answer }) after
 
 -- what is so of the row in service at a stage
-abbrev pub HoldsAtStage : (count : ℕ) → Stage → (answer given : List ℕ) → Request → ServedRow → Type 0
-HoldsAtStage count (Given row reply) answer given request served = HasReply count request given reply served
-HoldsAtStage count (DataIn row reply cursor) answer given request served = HasReply count request given reply served
-HoldsAtStage count (Answer outcome) answer given request served = MayAnswer count answer served
-HoldsAtStage count (Entry outcome) answer given request served = MayAnswer count answer served
-HoldsAtStage count _ answer given request served = ⊤
+abbrev pub HoldsAtStage : (terms : Terms) → Stage → (answer given : List ℕ) → Request → ServedRow → Type 0
+HoldsAtStage terms (Given row reply) answer given request served = HasReply terms request given reply served
+HoldsAtStage terms (DataIn row reply cursor) answer given request served = HasReply terms request given reply served
+HoldsAtStage terms (Answer outcome) answer given request served = MayAnswer terms answer served
+HoldsAtStage terms (Entry outcome) answer given request served = MayAnswer terms answer served
+HoldsAtStage terms _ answer given request served = ⊤
 
 -- what of a desk says which row is in service
 pub record Place : Type 0 where
@@ -111,12 +120,12 @@ abbrev pub place_of : Desk → Place
 place_of desk = record { id = desk.id; stage = desk.stage; answer = desk.answer; given = desk.buffers.given; pending = desk.pending }
 
 -- The oldest request is in service, and this row is its.
-pub record IsServed (count : ℕ) (place : Place) (history : List ServedRow) (row : ℕ) : Type 0 where
+pub record IsServed (terms : Terms) (place : Place) (history : List ServedRow) (row : ℕ) : Type 0 where
   pub request : Request
   pub rest : List Request
   pub front : place.pending ≡ request ∷ rest
   pub in_service : IsInService place.id request.unit.items history row
-  pub holds : HoldsAtStage count place.stage place.answer place.given request in_service.served
+  pub holds : HoldsAtStage terms place.stage place.answer place.given request in_service.served
 
 -- The entry is that of the oldest request's answer, which is to be put.
 pub record IsAnswerKept (desk : Desk) (entry : QueueEntry) (outcome : Outcome) : Type 0 where
@@ -132,27 +141,27 @@ IsKept desk (keeps.Reply entry) = IsPlain entry
 IsKept desk (keeps.Answer entry outcome) = IsAnswerKept desk entry outcome
 
 -- The desk is in order: its row is in service, what it keeps may be put, and the pieces that were fetched are its request's.
-pub record IsServing (count : ℕ) (desk : Desk) (history : List ServedRow) : Type 0 where
-  pub row : IfRow desk.stage (IsServed count (place_of desk) history)
+pub record IsServing (terms : Terms) (desk : Desk) (history : List ServedRow) : Type 0 where
+  pub row : IfRow desk.stage (IsServed terms (place_of desk) history)
   pub kept : (kept : Kept) → desk.kept ≡ Some kept → IsKept desk kept
   pub fetched : HasPieces desk.stage desk.buffers.outs desk.buffers.inns desk.pending
 
 -- The rows took these blocks, as many as the disk has, to others.
-pub record ServeFrom (count : ℕ) (before : List (List ℕ)) (history : List ServedRow) (all : List (List ℕ)) : Type 0 where
-  pub size : length before ≡ count
-  pub serve : Serve before history all
+pub record ServeFrom (terms : Terms) (before : List (List ℕ)) (history : List ServedRow) (all : List (List ℕ)) : Type 0 where
+  pub size : length before ≡ terms.size
+  pub serve : ServeBy terms.told before history all
 
 -- The disk law stays, over the rows and the blocks of later.
 abbrev pub StaysServed : (disk disk' : Held) → (history history' : List ServedRow) → Type 0
 StaysServed disk disk' history history' =
-    (before : List (List ℕ)) → IfSome disk.now (ServeFrom disk.count before history) → IfSome disk'.now (ServeFrom disk'.count before history')
+    (before : List (List ℕ)) → IfSome disk.now (ServeFrom disk.terms before history) → IfSome disk'.now (ServeFrom disk'.terms before history')
 
 -- Each answer that was put is that of one row more: the desk stays in order, no row of another unit changed, and the disk law
 -- stays.
 pub record Once (disk disk' : Held) (desk desk' : Desk) (sent sent' : List PipeRow) (history history' : List ServedRow) : Type 0 where
   pub id : desk'.id ≡ desk.id
-  pub count : disk'.count ≡ disk.count
-  pub serving : IsServing disk'.count desk' history'
+  pub terms : disk'.terms ≡ disk.terms
+  pub serving : IsServing disk'.terms desk' history'
   pub answers : AnswersMore desk.id sent sent' history history'
   pub others : OnlyRowsOf desk.id history history'
   pub stays : StaysServed disk disk' history history'
@@ -161,13 +170,19 @@ pub record Once (disk disk' : Held) (desk desk' : Desk) (sent sent' : List PipeR
 -- the same of a part of a turn that makes no disk step, whatever the disk is
 abbrev pub AnswersOnce : (desk desk' : Desk) (queue queue' : EndState) (records records' : Records) → Type 0
 AnswersOnce desk desk' queue queue' records records' =
-    (disk : Held) → IsServing disk.count desk records.history.items
+    (disk : Held) → IsServing disk.terms desk records.history.items
+    → Once disk disk desk desk' queue.sent queue'.sent records.history.items records'.history.items
+
+-- of one that needs a cause, which holds of what the unit was told
+abbrev pub AnswersOnceIf : (Refusing → Type 0) → (desk desk' : Desk) (queue queue' : EndState) (records records' : Records) → Type 0
+AnswersOnceIf Cause desk desk' queue queue' records records' =
+    (disk : Held) → Cause (told_to disk.terms.told desk.id) → IsServing disk.terms desk records.history.items
     → Once disk disk desk desk' queue.sent queue'.sent records.history.items records'.history.items
 
 -- and of one that may make some
 abbrev pub AnswersOnceOn : (disk disk' : Held) (desk desk' : Desk) (queue queue' : EndState) (records records' : Records) → Type 0
 AnswersOnceOn disk disk' desk desk' queue queue' records records' =
-    IsServing disk.count desk records.history.items
+    IsServing disk.terms desk records.history.items
     → Once disk disk' desk desk' queue.sent queue'.sent records.history.items records'.history.items
 
 -- What becomes of the row in service where its service is broken off: of its data-in only those that were copied are left.

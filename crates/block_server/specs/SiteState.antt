@@ -1,10 +1,13 @@
 -- What a server unit knows of its queue's end, of its own window and of its client's, and what stays of it; and the copies
 -- that the server made.
-use Rattle.std.specs.Prelude.{◌≡◌, ◌≢◌, ◌*◌, ◌+◌, ◌<◌, ℕ, List, [], ◌∷◌}
+use Rattle.std.specs.Prelude.{◌≡◌, ◌≢◌, ◌*◌, ◌+◌, ◌<◌, ℕ, Bool, List, [], ◌∷◌}
 use Rattle.std.specs.Borrow.{GName}
 use Rattle.crq_session.specs.EndState.{EndState}
 use Rattle.tce_window.specs.PortState.{PortState}
+use Rattle.tce_window.specs.declared.answers.Right.{Right}
+use Rattle.vio_num.specs.declared.names.UnitId.{UnitId}
 use Rattle.rdma_copy.specs.declared.copy.CopyRecord.{CopyRecord}
+use Rattle.block_server.specs.Causes.{Denies, IsDenied, Refusing, Tells, Told}
 
 -- the borrows through which the queue's end and the two windows are reached, by their ghost names
 pub record Lenders : Type 0 where
@@ -21,11 +24,26 @@ pub record SiteState : Type 0 where
   pub queue : EndState
   pub own : PortState
   pub client : PortState
+  -- whether others have a hand in the client's window
+  pub shared : Bool
   -- the copies that the server made, of all its units, in the order of time
   pub copies : List CopyRecord
 
-abbrev pub site : Lenders → EndState → PortState → PortState → List CopyRecord → SiteState
-site reached queue own client copies = record { reached = reached; queue = queue; own = own; client = client; copies = copies }
+abbrev pub site : Lenders → EndState → PortState → PortState → (shared : Bool) → List CopyRecord → SiteState
+site reached queue own client shared copies =
+    record { reached = reached; queue = queue; own = own; client = client; shared = shared; copies = copies }
+
+-- what the client's window refused between these two states
+abbrev pub denied_between : (old new : SiteState) → Refusing
+denied_between old new = Denies old.shared old.client new.client
+
+-- A range of it was refused for a right.
+abbrev pub IsDeniedBetween : (old new : SiteState) → Right → (address len : ℕ) → Type 0
+IsDeniedBetween old new right address len = IsDenied old.shared old.client new.client right address len
+
+-- It is told as told to this unit.
+abbrev pub TellsAll : (Told → Bool) → UnitId → (old new : SiteState) → Type 0
+TellsAll told unit old new = Tells told unit old.shared old.client new.client
 
 -- The windows of a turn: the unit's own has 34 pages and its first values, neither holds anything, and they are of two
 -- units.

@@ -1,21 +1,22 @@
 -- The units of a server between their turns, and what a turn adds to the answers of one.
-use Rattle.std.specs.Prelude.{◌≡◌, ℕ, List, Some, slice_get}
+use Rattle.std.specs.Prelude.{◌≡◌, ℕ, Bool, List, Some, slice_get}
 use Rattle.crq_session.specs.EndState.{EndState}
 use Rattle.vio_num.specs.declared.names.UnitId.{UnitId}
 use Rattle.vio_num.specs.declared.history.Served.{Served as ServedRow}
 use Rattle.block_server.specs.Answering.{AnswersMore, OnlyRowsOf}
-use Rattle.block_server.specs.Serving.{IsServing, desk_of}
+use Rattle.block_server.specs.Causes.{Told}
+use Rattle.block_server.specs.Serving.{IsServing, Terms, desk_of, terms_of}
 use Rattle.block_server.specs.declared.records.Records.{Records}
 use Rattle.block_server.specs.declared.unit.Unit.{Unit}
 
--- A unit bears its number, and its desk is in order, on a disk of so many blocks.
-pub record IsUnitOf (count partition number : ℕ) (unit : Unit) (history : List ServedRow) : Type 0 where
+-- A unit bears its number, and its desk is in order, on these terms.
+pub record IsUnitOf (terms : Terms) (partition number : ℕ) (unit : Unit) (history : List ServedRow) : Type 0 where
   pub id : unit.id ≡ record { partition = partition; unit = number }
-  pub serving : IsServing count (desk_of unit) history
+  pub serving : IsServing terms (desk_of unit) history
 
 -- Each unit of a server does.
-abbrev pub AreServing : (count partition : ℕ) → List Unit → List ServedRow → Type 0
-AreServing count partition units history = (number : ℕ) (unit : Unit) → slice_get units number ≡ Some unit → IsUnitOf count partition number unit history
+abbrev pub AreServing : (terms : Terms) (partition : ℕ) → List Unit → List ServedRow → Type 0
+AreServing terms partition units history = (number : ℕ) (unit : Unit) → slice_get units number ≡ Some unit → IsUnitOf terms partition number unit history
 
 -- Each response that was put is that of one row more of the unit which has its answer: in the order of the rows, with the
 -- answer's length and the request's tag.
@@ -25,3 +26,7 @@ AnswersItsRows unit queue queue' records records' = AnswersMore unit queue.sent 
 -- Only rows of this unit changed or came.
 abbrev pub ServesItsRows : UnitId → (records records' : Records) → Type 0
 ServesItsRows unit records records' = OnlyRowsOf unit records.history.items records'.history.items
+
+-- Each unit is in order, on a disk of so many blocks and by what the units were told.
+abbrev pub AreInOrder : (Told → Bool) → (size partition : ℕ) → List Unit → Records → Type 0
+AreInOrder told size partition units records = AreServing (terms_of told size) partition units records.history.items

@@ -1,5 +1,6 @@
 // A place in the data that pieces name, as the copies between the windows pass over them.
 ghost use Rattle.std.specs.Prelude.{◌≡◌, ◌+◌, ◌-◌, ◌^◌, ◌<◌, ◌≤◌, IfSome, length, min};
+ghost use Rattle.block_server.specs.Parts.{LiesIn};
 
 use srp_iu::Desc;
 
@@ -55,6 +56,7 @@ impl Cursor {
         ensures at { IfSome result (λ part. part.at ≡ self.done) }
         ensures end { IfSome result (λ part. part.end.done ≡ part.at + part.len) }
         ensures within { IfSome result (λ part. part.at + part.len ≤ limit) }
+        ensures piece { IfSome result (λ part. LiesIn pieces.now part.address part.len) }
     {
         let mut piece = self.piece;
         let mut inside = self.inside;

@@ -1,7 +1,10 @@
 // What a command brings: the tables of its descriptors, and its data-out.
-ghost use Rattle.std.specs.Prelude.{◌≡◌, ◌%◌, ◌≤◌, true};
+ghost use Rattle.std.specs.Prelude.{◌≡◌, ◌⊎◌, ◌%◌, ◌≤◌, true};
 ghost use Rattle.block_server.specs.Advances.{Advances};
-ghost use Rattle.block_server.specs.Fetched.{Gathers, IfDone, IsNamed, IsRead};
+ghost use Rattle.block_server.specs.Causes.{IsBad, IsNamed, RefusesBuffer, RefusesData, RefusesOut, TurnsDown};
+ghost use Rattle.block_server.specs.Fetched.{DeniesTable, Gathers, HasBadSum, IfDone, IfRefused, IsRead};
+ghost use Rattle.block_server.specs.SiteState.{denied_between};
+ghost use Rattle.tce_window.specs.declared.answers.Right.TheVariants.{Read};
 ghost use Rattle.block_server.specs.Stage.{is_before_step};
 
 use crate::answers::total_len;
@@ -39,14 +42,14 @@ pub(crate) fn fetch<S: Site>(
         service.old.out.list.items service.old.inn.list.items →
         Gathers command.now service.new.stage
         service.new.out.list.items service.new.inn.list.items }
+    ensures refused { Gathers command.now service.old.stage
+        service.old.out.list.items service.old.inn.list.items → IfRefused result
+        (TurnsDown (denied_between (S.state site.old) (S.state site.new)) command.now) }
     ensures queue { (S.state site.new).queue ≡ (S.state site.old).queue }
     ensures advances { Advances (S.state site.old) (S.state site.new) }
 {
-    if service.stage == Stage::Start {
-        if tables_to_fetch(command).is_err() {
-            return Ok(Progress::Refused);
-        }
-        service.stage = Stage::OutTable;
+    if is_refused(service, command) {
+        return Ok(Progress::Refused);
     }
     let progress = fetch_out_pieces(service, site, command)?;
     if progress != Progress::Done {
@@ -57,6 +60,28 @@ pub(crate) fn fetch<S: Site>(
         return Ok(progress);
     }
     fetch_data_out(service, site)
+}
+
+// Judges the descriptors of a command, if that is to be done: whether one of its buffers is refused by itself.
+fn is_refused(service: &mut Service, command: &Cmd) -> bool
+    ensures before { is_before_step service.old.stage ≡ true →
+        is_before_step service.new.stage ≡ true }
+    ensures named { Gathers command.now service.old.stage
+        service.old.out.list.items service.old.inn.list.items →
+        Gathers command.now service.new.stage
+        service.new.out.list.items service.new.inn.list.items }
+    ensures refused { result ≡ true → IsBad command.now.out ⊎ IsBad command.now.inn }
+{
+    if service.stage != Stage::Start {
+        return false;
+    }
+    match tables_to_fetch(command) {
+        Ok(_) => {
+            service.stage = Stage::OutTable;
+            false
+        }
+        Err(_) => true,
+    }
 }
 
 // Finds the pieces of data-out, if that is to be done.
@@ -71,6 +96,8 @@ fn fetch_out_pieces<S: Site>(
         service.old.out.list.items service.old.inn.list.items →
         Gathers command.now service.new.stage
         service.new.out.list.items service.new.inn.list.items }
+    ensures refused { IfRefused result
+        (RefusesBuffer (denied_between (S.state site.old) (S.state site.new)) command.now.out) }
     ensures queue { (S.state site.new).queue ≡ (S.state site.old).queue }
     ensures advances { Advances (S.state site.old) (S.state site.new) }
 {
@@ -96,6 +123,8 @@ fn fetch_in_pieces<S: Site>(
         service.old.out.list.items service.old.inn.list.items →
         Gathers command.now service.new.stage
         service.new.out.list.items service.new.inn.list.items }
+    ensures refused { IfRefused result
+        (RefusesBuffer (denied_between (S.state site.old) (S.state site.new)) command.now.inn) }
     ensures queue { (S.state site.new).queue ≡ (S.state site.old).queue }
     ensures advances { Advances (S.state site.old) (S.state site.new) }
 {
@@ -117,6 +146,9 @@ fn fetch_data_out<S: Site>(service: &mut Service, site: &mut S) -> Result<Progre
         service.old.out.list.items service.old.inn.list.items →
         Gathers command service.new.stage
         service.new.out.list.items service.new.inn.list.items }
+    ensures refused { (command : Cmd) → Gathers command service.old.stage
+        service.old.out.list.items service.old.inn.list.items → IfRefused result
+        (RefusesOut (denied_between (S.state site.old) (S.state site.new)) command) }
     ensures queue { (S.state site.new).queue ≡ (S.state site.old).queue }
     ensures advances { Advances (S.state site.old) (S.state site.new) }
 {
@@ -133,6 +165,8 @@ fn fetch_pieces<S: Site>(
     buffer: &Buffer,
 ) -> Result<Progress, NoMemory>
     ensures named { IfDone result (IsNamed buffer.now pieces.new.list.items) }
+    ensures refused { IfRefused result
+        (RefusesBuffer (denied_between (S.state site.old) (S.state site.new)) buffer.now) }
     ensures queue { (S.state site.new).queue ≡ (S.state site.old).queue }
     ensures advances { Advances (S.state site.old) (S.state site.new) }
 {
@@ -162,6 +196,8 @@ fn fetch_table<S: Site>(
     requires evenly { table.len % 16 ≡ 0 }
     requires small { total ≤ 131072 }
     ensures read { IfDone result (IsRead table.len total pieces.new.list.items) }
+    ensures refused { IfRefused result (HasBadSum table.len total
+        ⊎ DeniesTable (denied_between (S.state site.old) (S.state site.new)) table) }
     ensures queue { (S.state site.new).queue ≡ (S.state site.old).queue }
     ensures advances { Advances (S.state site.old) (S.state site.new) }
 {
@@ -192,6 +228,8 @@ fn fetch_data<S: Site>(
     ensures stage { (cursor : Cursor) × (service.new.stage ≡ Stage.DataOut cursor) }
     ensures out { service.new.out ≡ service.old.out }
     ensures inn { service.new.inn ≡ service.old.inn }
+    ensures refused { IfRefused result (RefusesData
+        (denied_between (S.state site.old) (S.state site.new)) Read service.old.out.list.items) }
     ensures queue { (S.state site.new).queue ≡ (S.state site.old).queue }
     ensures advances { Advances (S.state site.old) (S.state site.new) }
 {

@@ -1,6 +1,8 @@
 // The three ports of a unit's turn as one site.
-ghost use Rattle.std.specs.Prelude.{◌≡◌, ◌+◌, ◌<◌, ◌≤◌, ◌++◌, false, length, vec_len, vec_capacity};
-ghost use Rattle.block_server.specs.Copied.{copies_in};
+ghost use Rattle.std.specs.Prelude.{◌≡◌, ◌+◌, ◌<◌, ◌≤◌, ◌++◌, false, IsErrOf, length, vec_len, vec_capacity};
+ghost use Rattle.tce_window.specs.declared.answers.Right.TheVariants.{Read, Write};
+ghost use Rattle.block_server.specs.Causes.{IsDenied};
+ghost use Rattle.block_server.specs.Copied.{IsRefusal, copies_in};
 ghost use Rattle.block_server.specs.Advances.{Advances, KeepsFreed};
 ghost use Rattle.block_server.specs.SiteState.{AreReady, lenders, site};
 
@@ -43,7 +45,8 @@ pub(crate) struct Ports<'a, 'b, 'c, 'd, C: CrqEnd, O: OwnerPort + GuestPort, R: 
 // Adds a copy, for which there is room, to those that were made, or tells why it was not made.
 fn note(copies: &mut Vec<CopyRecord>, answer: CopyAnswer) -> Result<(), Halt>
     requires { vec_len copies.old < vec_capacity copies.old }
-    ensures { copies.new.items ≡ copies.old.items ++ copies_in answer }
+    ensures copies { copies.new.items ≡ copies.old.items ++ copies_in answer }
+    ensures refused { IsErrOf result Halt.Refused → IsRefusal answer }
 {
     match answer {
         CopyAnswer::Copied(copy) => {
@@ -61,14 +64,19 @@ fn note(copies: &mut Vec<CopyRecord>, answer: CopyAnswer) -> Result<(), Halt>
 impl<C: CrqEnd, O: OwnerPort + GuestPort, R: GuestPort> Ports<'_, '_, '_, '_, C, O, R> {
     // Copies from the client's window to a place of the own region.
     fn copy_in(&mut self, address: u64, at: u64, len: u64) -> Result<(), Halt>
+        requires some { 1 ≤ len }
+        requires few { len ≤ 65536 }
+        requires inside { at + len ≤ 139264 }
+        ensures refused { IsErrOf result Halt.Refused → IsDenied R.is_shared
+            (R.state self.old.client.now) (R.state self.new.client.now) Read address len }
         ensures queue { C.state self.new.queue.now ≡ C.state self.old.queue.now }
         ensures advances { Advances
             (site (lenders self.old.queue.ghost_name self.old.own.ghost_name self.old.client.ghost_name
             self.old.copies.ghost_name) (C.state self.old.queue.now) (O.state self.old.own.now)
-            (R.state self.old.client.now) self.old.copies.now.items)
+            (R.state self.old.client.now) R.is_shared self.old.copies.now.items)
             (site (lenders self.new.queue.ghost_name self.new.own.ghost_name self.new.client.ghost_name
             self.new.copies.ghost_name) (C.state self.new.queue.now) (O.state self.new.own.now)
-            (R.state self.new.client.now) self.new.copies.now.items) }
+            (R.state self.new.client.now) R.is_shared self.new.copies.now.items) }
     {
         let name = StrokeName {
             who: self.unit,
@@ -83,14 +91,19 @@ impl<C: CrqEnd, O: OwnerPort + GuestPort, R: GuestPort> Ports<'_, '_, '_, '_, C,
 
     // Copies from a place of the own region to the client's window.
     fn copy_out(&mut self, at: u64, address: u64, len: u64, mark: u64) -> Result<(), Halt>
+        requires some { 1 ≤ len }
+        requires few { len ≤ 65536 }
+        requires inside { at + len ≤ 139264 }
+        ensures refused { IsErrOf result Halt.Refused → IsDenied R.is_shared
+            (R.state self.old.client.now) (R.state self.new.client.now) Write address len }
         ensures queue { C.state self.new.queue.now ≡ C.state self.old.queue.now }
         ensures advances { Advances
             (site (lenders self.old.queue.ghost_name self.old.own.ghost_name self.old.client.ghost_name
             self.old.copies.ghost_name) (C.state self.old.queue.now) (O.state self.old.own.now)
-            (R.state self.old.client.now) self.old.copies.now.items)
+            (R.state self.old.client.now) R.is_shared self.old.copies.now.items)
             (site (lenders self.new.queue.ghost_name self.new.own.ghost_name self.new.client.ghost_name
             self.new.copies.ghost_name) (C.state self.new.queue.now) (O.state self.new.own.now)
-            (R.state self.new.client.now) self.new.copies.now.items) }
+            (R.state self.new.client.now) R.is_shared self.new.copies.now.items) }
     {
         let name = StrokeName {
             who: self.unit,
@@ -112,10 +125,10 @@ impl<C: CrqEnd, O: OwnerPort + GuestPort, R: GuestPort> Ports<'_, '_, '_, '_, C,
         ensures advances { Advances
             (site (lenders self.old.queue.ghost_name self.old.own.ghost_name self.old.client.ghost_name
             self.old.copies.ghost_name) (C.state self.old.queue.now) (O.state self.old.own.now)
-            (R.state self.old.client.now) self.old.copies.now.items)
+            (R.state self.old.client.now) R.is_shared self.old.copies.now.items)
             (site (lenders self.new.queue.ghost_name self.new.own.ghost_name self.new.client.ghost_name
             self.new.copies.ghost_name) (C.state self.new.queue.now) (O.state self.new.own.now)
-            (R.state self.new.client.now) self.new.copies.now.items) }
+            (R.state self.new.client.now) R.is_shared self.new.copies.now.items) }
     {
         let _there = self.own.pages();
         match self.own.read(at, out) {
@@ -130,10 +143,10 @@ impl<C: CrqEnd, O: OwnerPort + GuestPort, R: GuestPort> Ports<'_, '_, '_, '_, C,
         ensures advances { Advances
             (site (lenders self.old.queue.ghost_name self.old.own.ghost_name self.old.client.ghost_name
             self.old.copies.ghost_name) (C.state self.old.queue.now) (O.state self.old.own.now)
-            (R.state self.old.client.now) self.old.copies.now.items)
+            (R.state self.old.client.now) R.is_shared self.old.copies.now.items)
             (site (lenders self.new.queue.ghost_name self.new.own.ghost_name self.new.client.ghost_name
             self.new.copies.ghost_name) (C.state self.new.queue.now) (O.state self.new.own.now)
-            (R.state self.new.client.now) self.new.copies.now.items) }
+            (R.state self.new.client.now) R.is_shared self.new.copies.now.items) }
     {
         match self.own.write(at, bytes, mark) {
             Ok(()) => Ok(()),
@@ -147,9 +160,7 @@ impl<C: CrqEnd, O: OwnerPort + GuestPort, R: GuestPort> Site for Ports<'_, '_, '
 
     ghost link_shared = { C.is_shared };
 
-    ghost client_shared = { R.is_shared };
-
-    ghost state = { λ ports. site (lenders ports.queue.ghost_name ports.own.ghost_name ports.client.ghost_name ports.copies.ghost_name) (C.state ports.queue.now) (O.state ports.own.now) (R.state ports.client.now) ports.copies.now.items };
+    ghost state = { λ ports. site (lenders ports.queue.ghost_name ports.own.ghost_name ports.client.ghost_name ports.copies.ghost_name) (C.state ports.queue.now) (O.state ports.own.now) (R.state ports.client.now) R.is_shared ports.copies.now.items };
 
     fn slots(&self) -> u32 {
         self.queue.slots()

@@ -1,10 +1,12 @@
 // A server: its units, the disk that they serve, and what they keep for good.
-ghost use Rattle.std.specs.Prelude.{◌≡◌, ◌<◌, ◌≤◌, ℕ, List, [], false, IfErr, IfOk, IfSome, IsSome, vec_len};
+ghost use Rattle.std.specs.Prelude.{◌≡◌, ◌<◌, ◌≤◌, ℕ, Bool, List, [], false, IfErr, IfOk, IfSome, IsSome, vec_len};
 ghost use Rattle.block_server.specs.Advances.{CopiesMore, Goes, KeepsFreed};
-ghost use Rattle.block_server.specs.DiskLaw.{KeepsDisk};
+ghost use Rattle.block_server.specs.Causes.{Tells, Told, anything};
+ghost use Rattle.block_server.specs.DiskLaw.{KeepsDisk, KeepsDiskBy};
 ghost use Rattle.block_server.specs.Turns.{IsStill, way_of};
 ghost use Rattle.block_server.specs.SiteState.{AreReady};
-ghost use Rattle.block_server.specs.Units.{AnswersItsRows, AreServing, ServesItsRows};
+ghost use Rattle.block_server.specs.Serving.{Terms};
+ghost use Rattle.block_server.specs.Units.{AnswersItsRows, AreInOrder, AreServing, ServesItsRows};
 
 use crate::disk::Disk;
 use crate::ports::Ports;
@@ -27,7 +29,7 @@ pub struct Server<B: Blocks> {
     units: Vec<Unit>,
     records: Records,
     copies: Vec<CopyRecord>,
-    ghost serving: { ∥ AreServing disk.count partition units.items records.history.items ∥₁ },
+    ghost serving: { ∥ AreInOrder anything disk.count partition units.items records ∥₁ },
 }
 
 /// What a server leaves.
@@ -62,6 +64,8 @@ impl<B: Blocks> Server<B> {
         ensures units { IfOk result (λ server. vec_len server.units ≡ units) }
         ensures partition { IfOk result (λ server. server.partition ≡ partition) }
         ensures history { IfOk result (λ server. server.records.history.items ≡ []) }
+        ensures order { IfOk result (λ server. (told : Told → Bool) →
+            AreInOrder told server.disk.count server.partition server.units.items server.records) }
         ensures lines { IfOk result (λ server. server.records.grants.items ≡ []) }
         ensures copies { IfOk result (λ server. server.copies.items ≡ []) }
     {
@@ -103,6 +107,16 @@ impl<B: Blocks> Server<B> {
         ensures disk { ∥ KeepsDisk
             self.old.records.history.items self.new.records.history.items
             (B.state self.old.disk.image).blocks (B.state self.new.disk.image).blocks ∥₁ }
+        ensures causes { (told : Told → Bool) → Tells told (O.state own.old).place.unit
+            R.is_shared (R.state client.old) (R.state client.new) → AreInOrder told
+            self.old.disk.count self.old.partition self.old.units.items self.old.records →
+            KeepsDiskBy told self.old.records.history.items self.new.records.history.items
+            (B.state self.old.disk.image).blocks (B.state self.new.disk.image).blocks }
+        ensures order { (told : Told → Bool) → Tells told (O.state own.old).place.unit
+            R.is_shared (R.state client.old) (R.state client.new) → AreInOrder told
+            self.old.disk.count self.old.partition self.old.units.items self.old.records →
+            AreInOrder told
+            self.new.disk.count self.new.partition self.new.units.items self.new.records }
         ensures tells { IfSome (B.state self.old.disk.image).blocks
             (λ _. IsSome (B.state self.new.disk.image).blocks) }
         ensures quiet { IfOk result (λ moved. moved ≡ Moved.Quiet →
@@ -171,8 +185,8 @@ fn make_units(alloc: Global, partition: u8, grant: u8, count: u8) -> Result<Vec<
     requires some { 1 ≤ grant }
     requires few { grant ≤ 200 }
     ensures units { IfOk result (λ units. vec_len units ≡ count) }
-    ensures serving { IfOk result (λ units. (blocks : ℕ) →
-        (rows : List Served) → AreServing blocks partition units.items rows) }
+    ensures serving { IfOk result (λ units. (terms : Terms) →
+        (rows : List Served) → AreServing terms partition units.items rows) }
 {
     let mut units = Vec::new(alloc);
     for unit in 0..count {

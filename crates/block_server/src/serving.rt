@@ -1,10 +1,14 @@
 // The service of the oldest request: what it asks is done, and then it is answered.
-ghost use Rattle.std.specs.Prelude.{◌≡◌, ◌∷◌, ◌<◌, ◌≤◌, List, Some, None, IfOk, OnOk, false, true, length};
+ghost use Rattle.std.specs.Prelude.{◌≡◌, ◌∷◌, ◌<◌, ◌≤◌, ℕ, Bool, List, Option, Some, None, IfOk, OnOk, false, true, length};
 ghost use Rattle.block_server.specs.Advances.{Advances};
+ghost use Rattle.block_server.specs.Causes.{RefusesData, RefusesIn, Told};
 ghost use Rattle.block_server.specs.Ends.{IsGrantable};
-ghost use Rattle.block_server.specs.Orders.{IsCodeOf};
+ghost use Rattle.block_server.specs.Fetched.{IfRefused};
+ghost use Rattle.block_server.specs.Orders.{IsCauseOf, IsCodeOf};
 ghost use Rattle.block_server.specs.Records.{AddsRow};
-ghost use Rattle.block_server.specs.Serving.{AnswersOnce, AnswersOnceOn, desk_at, desk_of, held};
+ghost use Rattle.block_server.specs.Serving.{AnswersOnce, AnswersOnceIf, AnswersOnceOn, desk_at, desk_of, held};
+ghost use Rattle.block_server.specs.SiteState.{TellsAll, denied_between};
+ghost use Rattle.tce_window.specs.declared.answers.Right.TheVariants.{Write};
 ghost use Rattle.block_server.specs.Entries.{is_response_len};
 ghost use Rattle.block_server.specs.Stage.{how_far, is_answered};
 ghost use Rattle.crq_session.specs.EndState.{EndState};
@@ -37,9 +41,10 @@ pub(crate) fn serve<S: Site, B: Blocks>(
     disk: &mut Disk<B>,
 ) -> Result<(), NoMemory>
     requires none { unit.old.line.kept ≡ None }
-    ensures once { AnswersOnceOn
-        (held disk.old.count (B.state disk.old.image).blocks)
-        (held disk.new.count (B.state disk.new.image).blocks)
+    ensures once { (told : Told → Bool) →
+        TellsAll told unit.old.id (S.state site.old) (S.state site.new) → AnswersOnceOn
+        (held told disk.old.count (B.state disk.old.image).blocks)
+        (held told disk.new.count (B.state disk.new.image).blocks)
         (desk_of unit.old) (desk_of unit.new)
         (S.state site.old).queue (S.state site.new).queue records.old records.new }
     ensures quiet { OnOk result (IfQuiet unit.old unit.new
@@ -92,9 +97,10 @@ fn prepare<S: Site, B: Blocks>(
     records: &mut Records,
     disk: &mut Disk<B>,
 ) -> Result<(), NoMemory>
-    ensures once { (rest : List Request) → AnswersOnceOn
-        (held disk.old.count (B.state disk.old.image).blocks)
-        (held disk.new.count (B.state disk.new.image).blocks)
+    ensures once { (told : Told → Bool) → TellsAll told id (S.state site.old) (S.state site.new) →
+        (rest : List Request) → AnswersOnceOn
+        (held told disk.old.count (B.state disk.old.image).blocks)
+        (held told disk.new.count (B.state disk.new.image).blocks)
         (desk_at id service.old None (request.now ∷ rest))
         (desk_at id service.new None (request.now ∷ rest))
         (S.state site.old).queue (S.state site.new).queue records.old records.new }
@@ -175,7 +181,8 @@ fn add_code(
     code: ResponseCode,
 ) -> Result<(), NoMemory>
     requires code { IsCodeOf request.now.order code }
-    ensures once { (rest : List Request) → (q : EndState) → AnswersOnce
+    ensures once { (rest : List Request) → (q : EndState) → AnswersOnceIf
+        (λ Refuses. IsCauseOf Refuses request.now.order)
         (desk_at id service.old None (request.now ∷ rest))
         (desk_at id service.new None (request.now ∷ rest)) q q records.old records.new }
     ensures row { OnOk result (AddsRow id session request.now records.old records.new) }
@@ -200,9 +207,10 @@ fn serve_command<S: Site, B: Blocks>(
     disk: &mut Disk<B>,
 ) -> Result<(), NoMemory>
     requires asked { request.now.order ≡ Order.Command command.now }
-    ensures once { (rest : List Request) → AnswersOnceOn
-        (held disk.old.count (B.state disk.old.image).blocks)
-        (held disk.new.count (B.state disk.new.image).blocks)
+    ensures once { (told : Told → Bool) → TellsAll told id (S.state site.old) (S.state site.new) →
+        (rest : List Request) → AnswersOnceOn
+        (held told disk.old.count (B.state disk.old.image).blocks)
+        (held told disk.new.count (B.state disk.new.image).blocks)
         (desk_at id service.old None (request.now ∷ rest))
         (desk_at id service.new None (request.now ∷ rest))
         (S.state site.old).queue (S.state site.new).queue records.old records.new }
@@ -225,9 +233,10 @@ fn run_step<S: Site, B: Blocks>(
     disk: &mut Disk<B>,
 ) -> Result<(), NoMemory>
     requires asked { request.now.order ≡ Order.Command command.now }
-    ensures once { (rest : List Request) → AnswersOnceOn
-        (held disk.old.count (B.state disk.old.image).blocks)
-        (held disk.new.count (B.state disk.new.image).blocks)
+    ensures once { (told : Told → Bool) → TellsAll told id (S.state site.old) (S.state site.new) →
+        (rest : List Request) → AnswersOnceOn
+        (held told disk.old.count (B.state disk.old.image).blocks)
+        (held told disk.new.count (B.state disk.new.image).blocks)
         (desk_at id service.old None (request.now ∷ rest))
         (desk_at id service.new None (request.now ∷ rest))
         (S.state site.old).queue (S.state site.new).queue records.old records.new }
@@ -280,7 +289,10 @@ fn hand_over<S: Site>(
     records: &mut Records,
 ) -> Result<(), NoMemory>
     requires asked { request.now.order ≡ Order.Command command.now }
-    ensures once { (id : UnitId) → (rest : List Request) → AnswersOnce
+    ensures once { (id : UnitId) → (told : Told → Bool) →
+        TellsAll told id (S.state site.old) (S.state site.new) →
+        (size : ℕ) → (now : Option (List (List ℕ))) → (rest : List Request) →
+        AnswersOnceOn (held told size now) (held told size now)
         (desk_at id service.old None (request.now ∷ rest))
         (desk_at id service.new None (request.now ∷ rest))
         (S.state site.old).queue (S.state site.new).queue records.old records.new }
@@ -305,9 +317,9 @@ fn make_step<S: Site, B: Blocks>(
     disk: &mut Disk<B>,
 ) -> Result<(), NoMemory>
     requires asked { request.now.order ≡ Order.Command command.now }
-    ensures once { (rest : List Request) → AnswersOnceOn
-        (held disk.old.count (B.state disk.old.image).blocks)
-        (held disk.new.count (B.state disk.new.image).blocks)
+    ensures once { (told : Told → Bool) → (rest : List Request) → AnswersOnceOn
+        (held told disk.old.count (B.state disk.old.image).blocks)
+        (held told disk.new.count (B.state disk.new.image).blocks)
         (desk_at id service.old None (request.now ∷ rest))
         (desk_at id service.new None (request.now ∷ rest))
         (S.state site.old).queue (S.state site.new).queue records.old records.new }
@@ -360,8 +372,11 @@ fn deliver_data<S: Site>(
     ensures stage { (cursor : Cursor) × (service.new.stage ≡ Stage.DataIn row reply cursor) }
     ensures answer { service.new.answer.items ≡ service.old.answer.items }
     ensures given { service.new.given.items ≡ service.old.given.items }
-    ensures refused { IfOk result (λ progress. progress ≡ Progress.Refused →
-        0 < length service.new.given.items) }
+    ensures out { service.new.out ≡ service.old.out }
+    ensures inn { service.new.inn ≡ service.old.inn }
+    ensures some { IfRefused result (0 < length service.new.given.items) }
+    ensures refused { IfRefused result (RefusesData
+        (denied_between (S.state site.old) (S.state site.new)) Write service.old.inn.list.items) }
     ensures queue { (S.state site.new).queue ≡ (S.state site.old).queue }
     ensures advances { Advances (S.state site.old) (S.state site.new) }
 {
@@ -393,7 +408,8 @@ fn end_command(
 ) -> Result<(), NoMemory>
     requires asked { request.now.order ≡ Order.Command command.now }
     requires some { progress ≡ Progress.Refused → 0 < length service.old.given.items }
-    ensures once { (id : UnitId) → (rest : List Request) → (q : EndState) → AnswersOnce
+    ensures once { (id : UnitId) → (rest : List Request) → (q : EndState) → AnswersOnceIf
+        (λ Refuses. progress ≡ Progress.Refused → RefusesIn Refuses command.now)
         (desk_at id service.old None (request.now ∷ rest))
         (desk_at id service.new None (request.now ∷ rest)) q q records.old records.new }
 {
@@ -402,7 +418,7 @@ fn end_command(
     };
     match progress {
         Progress::Busy => Ok(()),
-        Progress::Refused => refuse_data(service, records, request),
+        Progress::Refused => refuse_data(service, records, request, command),
         Progress::Done => {
             bytes_spell_one();
             let (out, inn) = (total_len(&command.out), total_len(&command.inn));
@@ -419,9 +435,12 @@ fn refuse_data(
     service: &mut Service,
     records: &mut Records,
     request: &Request,
+    command: &Cmd,
 ) -> Result<(), NoMemory>
+    requires asked { request.now.order ≡ Order.Command command.now }
     requires some { 0 < length service.old.given.items }
-    ensures once { (id : UnitId) → (rest : List Request) → (q : EndState) → AnswersOnce
+    ensures once { (id : UnitId) → (rest : List Request) → (q : EndState) → AnswersOnceIf
+        (λ Refuses. RefusesIn Refuses command.now)
         (desk_at id service.old None (request.now ∷ rest))
         (desk_at id service.new None (request.now ∷ rest)) q q records.old records.new }
 {

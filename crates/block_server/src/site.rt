@@ -1,5 +1,6 @@
 // What a server unit does with its queue and with the two windows.
-ghost use Rattle.std.specs.Prelude.{◌≡◌, ◌↔◌, ◌+◌, ◌<◌, ◌≤◌, Bool, OnOk, length};
+ghost use Rattle.std.specs.Prelude.{◌≡◌, ◌↔◌, ◌+◌, ◌<◌, ◌≤◌, Bool, IsErrOf, OnOk, length};
+ghost use Rattle.tce_window.specs.declared.answers.Right.TheVariants.{Read, Write};
 ghost use Rattle.crq_session.specs.declared.answers.FreeAnswer.TheVariants as freeing;
 ghost use Rattle.crq_session.specs.declared.answers.PollAnswer.TheVariants as polling;
 ghost use Rattle.crq_session.specs.Answers.{OnOpened, OnNotRegistered, IfHeldUp, OnFreed, OnNotFreed, IfInUse, IfSent, OnNotSent, IfClosed, IfDropped, IfGot, IfEmpty, OnNotPolled, OnNothing, OnPut, IfKept};
@@ -8,7 +9,7 @@ ghost use Rattle.crq_session.specs.EndState.{OnlyReserves, OnlyRegisters, OnlyFr
 ghost use Rattle.block_server.specs.Advances.{Advances};
 ghost use Rattle.block_server.specs.Answering.{responses};
 ghost use Rattle.block_server.specs.Entries.{MayPut};
-ghost use Rattle.block_server.specs.SiteState.{SiteState, SameWindows};
+ghost use Rattle.block_server.specs.SiteState.{IsDeniedBetween, SiteState, SameWindows};
 
 use crq_session::{EventAnswer, FreeAnswer, PollAnswer, RegAnswer, SendAnswer};
 use vio_num::{Entry, NoMemory};
@@ -25,10 +26,8 @@ pub(crate) enum Halt {
 
 /// The queue of a server unit, its own window and its client's, and the list to which each copy is added.
 pub(crate) trait Site {
-    // Whether others change the link, and whether others have a hand in the client's window.
+    // Whether others change the link.
     ghost link_shared: { Bool };
-
-    ghost client_shared: { Bool };
 
     // What the unit knows of its queue's end, of its own window and of its client's.
     ghost state: { Self → SiteState };
@@ -142,6 +141,8 @@ pub(crate) trait Site {
     fn fetch_table(&mut self, address: u64, out: &mut [u8]) -> Result<(), Halt>
         requires some { 1 ≤ length out.old }
         requires few { length out.old ≤ 4096 }
+        ensures refused { IsErrOf result Halt.Refused →
+            IsDeniedBetween (state self.old) (state self.new) Read address (length out.old) }
         ensures queue { (state self.new).queue ≡ (state self.old).queue }
         ensures advances { Advances (state self.old) (state self.new) };
 
@@ -158,6 +159,8 @@ pub(crate) trait Site {
         requires some { 1 ≤ len }
         requires few { len ≤ 65536 }
         requires inside { at + len ≤ 131072 }
+        ensures refused { IsErrOf result Halt.Refused →
+            IsDeniedBetween (state self.old) (state self.new) Read address len }
         ensures queue { (state self.new).queue ≡ (state self.old).queue }
         ensures advances { Advances (state self.old) (state self.new) };
 
@@ -178,6 +181,8 @@ pub(crate) trait Site {
         requires some { 1 ≤ len }
         requires few { len ≤ 65536 }
         requires inside { at + len ≤ 131072 }
+        ensures refused { IsErrOf result Halt.Refused →
+            IsDeniedBetween (state self.old) (state self.new) Write address len }
         ensures queue { (state self.new).queue ≡ (state self.old).queue }
         ensures advances { Advances (state self.old) (state self.new) };
 }

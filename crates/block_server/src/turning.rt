@@ -1,7 +1,9 @@
 // The steps of a unit's turn.
-ghost use Rattle.std.specs.Prelude.{◌≡◌, ◌+◌, ◌<◌, ◌≤◌, IfOk, OnOk};
+ghost use Rattle.std.specs.Prelude.{◌≡◌, ◌+◌, ◌<◌, ◌≤◌, Bool, IfOk, OnOk};
 ghost use Rattle.block_server.specs.Advances.{Advances};
+ghost use Rattle.block_server.specs.Causes.{Told};
 ghost use Rattle.block_server.specs.Serving.{AnswersOnce, AnswersOnceOn, desk_of, held};
+ghost use Rattle.block_server.specs.SiteState.{TellsAll};
 ghost use Rattle.block_server.specs.Turns.{IfQuiet, IsQuietTurn};
 
 use crate::answering::{put_kept, put_reply};
@@ -26,9 +28,10 @@ pub(crate) fn turn<S: Site, B: Blocks>(
     records: &mut Records,
     disk: &mut Disk<B>,
 ) -> Result<Moved, NoMemory>
-    ensures once { AnswersOnceOn
-        (held disk.old.count (B.state disk.old.image).blocks)
-        (held disk.new.count (B.state disk.new.image).blocks)
+    ensures once { (told : Told → Bool) →
+        TellsAll told unit.old.id (S.state site.old) (S.state site.new) → AnswersOnceOn
+        (held told disk.old.count (B.state disk.old.image).blocks)
+        (held told disk.new.count (B.state disk.new.image).blocks)
         (desk_of unit.old) (desk_of unit.new)
         (S.state site.old).queue (S.state site.new).queue records.old records.new }
     ensures quiet { IfOk result (λ moved. moved ≡ Moved.Quiet →
@@ -51,9 +54,10 @@ fn steps<S: Site, B: Blocks>(
     records: &mut Records,
     disk: &mut Disk<B>,
 ) -> Result<(), NoMemory>
-    ensures once { AnswersOnceOn
-        (held disk.old.count (B.state disk.old.image).blocks)
-        (held disk.new.count (B.state disk.new.image).blocks)
+    ensures once { (told : Told → Bool) →
+        TellsAll told unit.old.id (S.state site.old) (S.state site.new) → AnswersOnceOn
+        (held told disk.old.count (B.state disk.old.image).blocks)
+        (held told disk.new.count (B.state disk.new.image).blocks)
         (desk_of unit.old) (desk_of unit.new)
         (S.state site.old).queue (S.state site.new).queue records.old records.new }
     ensures quiet { OnOk result (IfQuiet unit.old unit.new

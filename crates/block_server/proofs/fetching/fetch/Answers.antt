@@ -1,5 +1,8 @@
-use Rattle.std.proofs.Common.{◌∙◌}
+use Rattle.std.proofs.Common.{◌∙◌, Ok, inl, inr}
 use Rattle.block_server.proofs.Advancing.{advances_on}
+use Rattle.block_server.specs.SiteState.{denied_between}
+use Rattle.block_server.proofs.Denying.{buffer_map, denied_after, out_map}
+use Rattle.block_server.proofs.Gathering.{bad_down, if_refused}
 use Rattle.block_server.proofs.fetching.fetch.Goals as goal
 
 pub returns-in_err-progress-2-clause-advances : goal.returns-in_err-progress-2-clause-advances
@@ -13,3 +16,20 @@ returns-clause-advances g c = advances_on _ _ _ (advances_on _ _ _ c.fetch_out_p
 
 pub returns-clause-queue : goal.returns-clause-queue
 returns-clause-queue g c = c.fetch_data_out.ensures.queue ∙ c.fetch_in_pieces.ensures.queue ∙ c.fetch_out_pieces.ensures.queue
+
+pub returns-then-is_refused-clause-refused : goal.returns-then-is_refused-clause-refused
+returns-then-is_refused-clause-refused g c = λ known. bad_down (denied_between (g.S.Site.state c.args.site.now) (g.S.Site.state c.args.site.now)) c.args.command.now (c.is_refused.ensures.refused c.if-is_refused.true)
+
+pub returns-then-ne-clause-refused : goal.returns-then-ne-clause-refused
+returns-then-ne-clause-refused g c = λ known. if_refused (Ok c.in_ok-progress.progress) _ _ (λ is. inl is) c.in_ok-progress.ensures.refused
+
+pub returns-then-ne-2-clause-refused : goal.returns-then-ne-2-clause-refused
+returns-then-ne-2-clause-refused g c = λ known.
+    if_refused (Ok c.in_ok-progress-2.progress) _ _
+    (λ is. inr (inl (buffer_map (denied_between (g.S.Site.state c.fetch_out_pieces.new.site) (g.S.Site.state c.fetch_in_pieces.new.site)) (denied_between (g.S.Site.state c.args.site.now) (g.S.Site.state c.fetch_in_pieces.new.site)) c.args.command.now.inn (denied_after (g.S.Site.state c.args.site.now) (g.S.Site.state c.fetch_out_pieces.new.site) (g.S.Site.state c.fetch_in_pieces.new.site) c.fetch_out_pieces.ensures.advances) is))) c.in_ok-progress-2.ensures.refused
+
+pub returns-clause-refused : goal.returns-clause-refused
+returns-clause-refused g c = λ known.
+    if_refused c.fetch_data_out.result _ _
+    (λ is. inr (inr (out_map (denied_between (g.S.Site.state c.fetch_in_pieces.new.site) (g.S.Site.state c.fetch_data_out.new.site)) (denied_between (g.S.Site.state c.args.site.now) (g.S.Site.state c.fetch_data_out.new.site)) c.args.command.now (denied_after (g.S.Site.state c.args.site.now) (g.S.Site.state c.fetch_in_pieces.new.site) (g.S.Site.state c.fetch_data_out.new.site) (advances_on _ _ _ c.fetch_out_pieces.ensures.advances c.fetch_in_pieces.ensures.advances)) is)))
+    (c.fetch_data_out.ensures.refused c.args.command.now (c.fetch_in_pieces.ensures.named (c.fetch_out_pieces.ensures.named (c.is_refused.ensures.named known))))

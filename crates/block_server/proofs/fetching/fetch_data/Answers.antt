@@ -1,4 +1,9 @@
-use Rattle.std.proofs.Common.{◌∙◌, refl}
+use Rattle.std.proofs.Common.{◌∙◌, ap, refl}
+use Rattle.std.specs.Result.{IsErrOf}
+use Rattle.tce_window.specs.declared.answers.Right.TheVariants.{Read}
+use Rattle.block_server.specs.declared.data_pieces.DataPieces.{DataPieces}
+use Rattle.block_server.specs.declared.site.Halt.TheVariants.{Refused}
+use Rattle.block_server.proofs.Denying.{part_refused}
 use Rattle.block_server.proofs.Advancing.{advances_on}
 use Rattle.block_server.proofs.fetching.fetch_data.Goals as goal
 
@@ -19,3 +24,10 @@ loop-part-preserved g c = record {
   inn = c.loop-part.invariant.inn;
   queue = c.fetch_data.ensures.queue ∙ c.loop-part.invariant.queue;
 }
+
+pub returns-in-Err-Refused-clause-refused : goal.returns-in-Err-Refused-clause-refused
+returns-in-Err-Refused-clause-refused g c =
+    let refused : IsErrOf c.fetch_data.result Refused = cc (c.in-Err-Refused.is, c.in-Err-Refused.field-0-is) in
+    part_refused (g.S.Site.state c.args.site.now) (g.S.Site.state c.loop-part.site) (g.S.Site.state c.fetch_data.new.self) Read _ _ _ _ _ c.loop-part.invariant.advances c.in-Some-address.is
+    (c.as_slice.ensures ∙ ap (λ (pieces : DataPieces). pieces.list.items) c.loop-part.invariant.out)
+    c.in-Some.ensures.piece (c.fetch_data.ensures.refused refused)

@@ -40,3 +40,6 @@ returns-in-Reserved-clause-once g c = λ disk serving. once_same _ _ _ _ _ _ ref
 
 pub returns-in-Command-clause-advances : goal.returns-in-Command-clause-advances
 returns-in-Command-clause-advances g c = advances_on _ _ _ (advances_on _ _ _ c.reserve.ensures.advances c.poll.ensures.advances) c.take_command.ensures.advances
+
+pub returns-in-Some-clause-advances : goal.returns-in-Some-clause-advances
+returns-in-Some-clause-advances g c = advances_on _ _ _ (advances_on _ _ _ c.reserve.ensures.advances c.poll.ensures.advances) c.put_reply.ensures.advances

@@ -1,11 +1,12 @@
 use Rattle.std.proofs.Common.{◌≡◌, ℕ, List}
 use Rattle.vio_num.specs.declared.history.Served.{Served}
 use Rattle.std.specs.Vec.{vec_len}
+use Rattle.block_server.specs.Serving.{Terms}
 use Rattle.block_server.specs.Units.{AreServing}
 use Rattle.block_server.proofs.server.make_units.Given as goal
 
 abbrev pub invariant-loop-unit : goal.invariant-loop-unit
 invariant-loop-unit l = record {
   count : vec_len l.units ≡ l.unit;
-  serving : (blocks : ℕ) → (rows : List Served) → AreServing blocks l.partition l.units.items rows;
+  serving : (terms : Terms) → (rows : List Served) → AreServing terms l.partition l.units.items rows;
 }

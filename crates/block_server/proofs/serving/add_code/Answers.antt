@@ -1,7 +1,9 @@
 use Rattle.std.proofs.Common.{ap, refl, rules, subst, sym, ◌≡◌, ◌∙◌, ◌++◌, ◌∷◌, [], ℕ, List, length}
 use Rattle.vio_num.specs.declared.history.Served.{Served as ServedRow}
 use Rattle.srp_iu.specs.Layout.{field}
-use Rattle.block_server.specs.Orders.{IsOrder}
+use Rattle.vio_num.specs.declared.names.UnitId.{UnitId}
+use Rattle.block_server.specs.Causes.{told_to}
+use Rattle.block_server.specs.Orders.{IsCauseOf, IsOrder}
 use Rattle.block_server.specs.Responses.{Answers, HasCode}
 use Rattle.block_server.specs.declared.service.Outcome.TheVariants.{Served}
 use Rattle.block_server.specs.declared.service.Stage.TheVariants.{Answer}
@@ -11,16 +13,16 @@ use Rattle.block_server.proofs.Serves.{once_added, says_none, stays_pushed}
 use Rattle.block_server.proofs.serving.add_code.Goals as goal
 
 pub returns-in_err-blank-clause-once : goal.returns-in_err-blank-clause-once
-returns-in_err-blank-clause-once c = λ rest q disk serving. once_same _ _ _ _ _ _ refl c.new_row.ensures.lists.history refl disk serving
+returns-in_err-blank-clause-once c = λ rest q disk cause serving. once_same _ _ _ _ _ _ refl c.new_row.ensures.lists.history refl disk serving
 
 pub returns-in_err-set_answer-clause-once : goal.returns-in_err-set_answer-clause-once
-returns-in_err-set_answer-clause-once c = λ rest q disk serving.
+returns-in_err-set_answer-clause-once c = λ rest q disk cause serving.
     once_still _ _ _ _ _ _ refl c.in_err-set_answer.ensures.err c.in_err-set_answer.ensures.same
     (λ i. record { outs = (c.set_answer.ensures.out i).list.items; inns = (c.set_answer.ensures.inn i).list.items; given = (c.set_answer.ensures.given i).items })
     refl refl c.new_row.ensures.lists.history refl disk serving
 
 pub returns-clause-once : goal.returns-clause-once
-returns-clause-once c = λ rest q disk serving.
+returns-clause-once c = λ rest q disk cause serving.
     let row = c.in_ok-blank.ensures.row in
     let blank = c.in_ok-blank.blank in
     let order = c.args.request.now.order in
@@ -29,6 +31,7 @@ returns-clause-once c = λ rest q disk serving.
     c.len-row.ensures ∙ c.new_row.new.self.history.ok.0 ∙ ap length c.new_row.ensures.lists.history in
     let added = c.add_row.ensures.history ∙ ap (λ (list : List ServedRow). list ++ blank ∷ []) c.new_row.ensures.lists.history in
     let spelled : IsOrder order blank.iu = subst (IsOrder order) (sym row.iu) c.args.request.now.spelled in
+    let cause' : IsCauseOf (told_to disk.terms.told blank.unit) order = subst (λ (unit : UnitId). IsCauseOf (told_to disk.terms.told unit) order) (sym row.unit_is) cause in
     let tag : c.args.request.now.tag ≡ field 8 8 blank.iu = c.args.request.now.tagged ∙ ap (field 8 8) (sym row.iu) in
     let bytes = c.set_answer.new.self.answer.items in
     let same : c.deref.result.now ≡ c.with_code.result.items = search (rules, c.deref.ensures) in
@@ -37,6 +40,6 @@ returns-clause-once c = λ rest q disk serving.
     once_added disk disk _ _ _ _ _ _ c.args.request.now rest blank (Answer (Served (length c.args.records.now.history.items)))
     refl refl refl (c.in_ok-set_answer.ensures.stage ∙ ap (λ (n : ℕ). Answer (Served n)) place) (λ P is. is)
     row.unit_is row.iu row.answer added refl refl tt
-    (may_code order code blank disk.count bytes spelled c.requires.code row.out row.inn row.fault says)
-    (stays_pushed disk _ _ blank added (λ b. code_row order code blank b spelled c.requires.code row.out row.inn row.fault (says_none blank.answer (HasCode (field 8 8 blank.iu) code) row.answer)))
+    (may_code order code blank disk.terms bytes spelled c.requires.code cause' row.out row.inn row.fault says)
+    (stays_pushed disk _ _ blank added (λ b. code_row disk.terms order code blank b spelled c.requires.code cause' row.out row.inn row.fault (says_none blank.answer (HasCode (field 8 8 blank.iu) code) row.answer)))
     (tells_same disk.now)

@@ -8,6 +8,8 @@ invariant-loop-part g l = record {
   advances : Advances (g.S.Site.state l.fn.site) (g.S.Site.state l.site);
   stage : l.service.stage ≡ DataIn l.row l.reply l.cursor;
   answer : l.service.answer.items ≡ l.fn.service.answer.items;
+  out : l.service.out ≡ l.fn.service.out;
+  inn : l.service.inn ≡ l.fn.service.inn;
   given : l.service.given.items ≡ l.fn.service.given.items;
   queue : (g.S.Site.state l.site).queue ≡ (g.S.Site.state l.fn.site).queue;
 }

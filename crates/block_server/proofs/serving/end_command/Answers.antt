@@ -5,21 +5,21 @@ use Rattle.block_server.proofs.Serves.{once_stated_if}
 use Rattle.block_server.proofs.serving.end_command.Goals as goal
 
 pub returns-in_default : goal.returns-in_default
-returns-in_default c = record { once = λ id rest q disk serving. once_same _ _ _ _ _ _ refl refl refl disk serving }
+returns-in_default c = record { once = λ id rest q disk cause serving. once_same _ _ _ _ _ _ refl refl refl disk serving }
 
 pub returns-in-Busy : goal.returns-in-Busy
-returns-in-Busy c = record { once = λ id rest q disk serving. once_same _ _ _ _ _ _ refl refl refl disk serving }
+returns-in-Busy c = record { once = λ id rest q disk cause serving. once_same _ _ _ _ _ _ refl refl refl disk serving }
 
 pub returns-in-Refused : goal.returns-in-Refused
-returns-in-Refused c = record { once = λ id rest q. c.refuse_data.ensures.once id rest q }
+returns-in-Refused c = record { once = λ id rest q disk cause serving. c.refuse_data.ensures.once id rest q disk (cause c.in-Refused.is) serving }
 
 pub returns-in-Done : goal.returns-in-Done
 returns-in-Done c = record {
-  once = λ id rest q.
+  once = λ id rest q disk cause.
       let same : c.deref.result.now ≡ c.with_status.result.items = search (rules, c.deref.ensures) in
       once_stated_if c.bytes_spell_one.ensures _ _ _ _ c.in-DataIn.row c.in-DataIn.reply c.in-DataIn.cursor c.args.request.now rest c.args.command.now _ c.set_answer.result refl refl c.in-DataIn.is
       c.set_answer.ensures.stage c.set_answer.ensures.answer c.set_answer.ensures.err c.set_answer.ensures.same
       (λ i. record { outs = (c.set_answer.ensures.out i).list.items; inns = (c.set_answer.ensures.inn i).list.items; given = (c.set_answer.ensures.given i).items })
       refl c.requires.asked
-      (subst (λ (z : List ℕ × ℕ × ℕ). Answers z.0 (HasStatus c.args.request.now.tag z.1 z.2 c.in-DataIn.reply)) (λ i. ((sym same) i, c.total_len-out.ensures i, c.total_len-inn.ensures i)) c.with_status.ensures.answer) refl;
+      (subst (λ (z : List ℕ × ℕ × ℕ). Answers z.0 (HasStatus c.args.request.now.tag z.1 z.2 c.in-DataIn.reply)) (λ i. ((sym same) i, c.total_len-out.ensures i, c.total_len-inn.ensures i)) c.with_status.ensures.answer) refl disk;
 }

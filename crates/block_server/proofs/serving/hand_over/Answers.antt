@@ -1,21 +1,28 @@
-use Rattle.std.proofs.Common.{ap, refl, ◌∷◌}
+use Rattle.std.proofs.Common.{ap, refl, ◌∷◌, ◌≡◌}
 use Rattle.crq_session.specs.EndState.{EndState}
 use Rattle.block_server.specs.Answering.{responses}
-use Rattle.block_server.proofs.Onces.{once_on, once_same}
-use Rattle.block_server.proofs.Serves.{once_moved}
+use Rattle.block_server.specs.Fetched.{Buffers, buffers_of}
+use Rattle.block_server.proofs.Denying.{handed_cause}
+use Rattle.block_server.proofs.Onces.{once_same, once_then}
+use Rattle.block_server.proofs.Serves.{gathers_of, once_moved}
 use Rattle.block_server.proofs.serving.hand_over.Goals as goal
 
 pub returns-in_default-clause-once : goal.returns-in_default-clause-once
-returns-in_default-clause-once g c = λ id rest disk serving. once_same _ _ _ _ _ _ refl refl refl disk serving
+returns-in_default-clause-once g c = λ id told all size now rest serving. once_same _ _ _ _ _ _ refl refl refl _ serving
 
 pub returns-in_err-progress-clause-once : goal.returns-in_err-progress-clause-once
-returns-in_err-progress-clause-once g c = λ id rest disk serving.
-    once_moved _ _ _ _ _ c.in-DataIn.row c.in-DataIn.reply c.in-DataIn.cursor refl refl c.in-DataIn.is c.deliver_data.ensures.stage c.deliver_data.ensures.given refl
-    (ap (λ (q : EndState). responses q.sent) c.deliver_data.ensures.queue) disk serving
+returns-in_err-progress-clause-once g c = λ id told all size now rest serving.
+    let same : buffers_of c.deliver_data.new.service ≡ buffers_of c.args.service.now = (λ i. record { outs = (c.deliver_data.ensures.out i).list.items; inns = (c.deliver_data.ensures.inn i).list.items; given = c.deliver_data.ensures.given i }) in
+    once_moved _ _ _ _ _ c.in-DataIn.row c.in-DataIn.reply c.in-DataIn.cursor refl refl c.in-DataIn.is c.deliver_data.ensures.stage same refl
+    (ap (λ (q : EndState). responses q.sent) c.deliver_data.ensures.queue) _ serving
 
 pub returns-clause-once : goal.returns-clause-once
-returns-clause-once g c = λ id rest.
-    once_on _ _ _ _ _ _ _ _ _
-    (once_moved _ _ _ _ _ c.in-DataIn.row c.in-DataIn.reply c.in-DataIn.cursor refl refl c.in-DataIn.is c.deliver_data.ensures.stage c.deliver_data.ensures.given refl
-    (ap (λ (q : EndState). responses q.sent) c.deliver_data.ensures.queue))
-    (c.end_command.ensures.once id rest (g.S.Site.state c.deliver_data.new.site).queue)
+returns-clause-once g c = λ id told all size now rest serving.
+    let same : buffers_of c.deliver_data.new.service ≡ buffers_of c.args.service.now = (λ i. record { outs = (c.deliver_data.ensures.out i).list.items; inns = (c.deliver_data.ensures.inn i).list.items; given = c.deliver_data.ensures.given i }) in
+    once_then _ _ _ _ _ _ _ _ _ _ _ _
+    (once_moved _ _ _ _ _ c.in-DataIn.row c.in-DataIn.reply c.in-DataIn.cursor refl refl c.in-DataIn.is c.deliver_data.ensures.stage same refl
+    (ap (λ (q : EndState). responses q.sent) c.deliver_data.ensures.queue) _)
+    (c.end_command.ensures.once id rest (g.S.Site.state c.deliver_data.new.site).queue _
+    (handed_cause told id (g.S.Site.state c.args.site.now) (g.S.Site.state c.deliver_data.new.site) c.args.command.now c.in-DataIn.row c.in-DataIn.reply c.in-DataIn.cursor c.args.service.now.stage c.args.service.now.out.list.items c.args.service.now.inn.list.items c.in_ok-progress.progress c.in-DataIn.is all
+    (gathers_of _ _ _ c.args.request.now rest c.args.command.now c.requires.asked serving.fetched) c.in_ok-progress.ensures.refused))
+    serving

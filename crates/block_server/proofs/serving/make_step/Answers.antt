@@ -5,30 +5,31 @@ use Rattle.block_server.specs.Answering.{responses}
 use Rattle.block_server.specs.declared.service.Stage.TheVariants.{Given}
 use Rattle.srp_iu.specs.declared.buffer.Desc.{Desc}
 use Rattle.block_disk.specs.Steps.{made_step}
+use Rattle.block_server.specs.Causes.{IsNamed}
 use Rattle.block_server.specs.Fetched.{Gathers, HasBoth, HasPieces}
-use Rattle.block_server.specs.Serving.{HasReply, held}
+use Rattle.block_server.specs.Serving.{HasReply, held, terms_of}
 use Rattle.block_server.specs.Stage.{is_before_step}
 use Rattle.block_server.specs.declared.data_pieces.DataPieces.{DataPieces}
 use Rattle.block_server.specs.declared.service.Stage.{Stage}
 use Rattle.block_server.proofs.Stepping.{IsNewRow, has_reply, new_row_serves, stays_stepped, tells_map}
 use Rattle.block_server.proofs.Onces.{once_same}
-use Rattle.block_server.proofs.Serves.{gathers_of, once_added, once_before}
+use Rattle.block_server.proofs.Serves.{gathers_of, once_added, once_before, pieces_of}
 use Rattle.block_server.proofs.serving.make_step.Goals as goal
 
 pub returns-in_default-clause-once : goal.returns-in_default-clause-once
-returns-in_default-clause-once g c = λ rest serving. once_same _ _ _ _ _ _ refl refl refl _ serving
+returns-in_default-clause-once g c = λ told rest serving. once_same _ _ _ _ _ _ refl refl refl _ serving
 
 pub returns-in_err-row-clause-once : goal.returns-in_err-row-clause-once
-returns-in_err-row-clause-once g c = λ rest serving. once_same _ _ _ _ _ _ refl c.new_row.ensures.lists.history refl _ serving
+returns-in_err-row-clause-once g c = λ told rest serving. once_same _ _ _ _ _ _ refl c.new_row.ensures.lists.history refl _ serving
 
 pub returns-in_err-out-clause-once : goal.returns-in_err-out-clause-once
-returns-in_err-out-clause-once g c = λ rest serving. once_same _ _ _ _ _ _ refl c.new_row.ensures.lists.history refl _ serving
+returns-in_err-out-clause-once g c = λ told rest serving. once_same _ _ _ _ _ _ refl c.new_row.ensures.lists.history refl _ serving
 
 pub returns-in_err-room-clause-once : goal.returns-in_err-room-clause-once
-returns-in_err-room-clause-once g c = λ rest serving. once_same _ _ _ _ _ _ refl c.new_row.ensures.lists.history refl _ serving
+returns-in_err-room-clause-once g c = λ told rest serving. once_same _ _ _ _ _ _ refl c.new_row.ensures.lists.history refl _ serving
 
 pub returns-in_err-make_room-clause-once : goal.returns-in_err-make_room-clause-once
-returns-in_err-make_room-clause-once g c = λ rest serving.
+returns-in_err-make_room-clause-once g c = λ told rest serving.
     let made = c.make_room.ensures in
     once_before _ _ _ _ _ _ refl (ap is_before_step (made.stage ∙ c.in-DataOut.is)) refl
     (subst (λ (z : Stage × DataPieces × DataPieces). HasPieces z.0 z.1.list.items z.2.list.items (c.args.request.now ∷ rest))
@@ -36,7 +37,7 @@ returns-in_err-make_room-clause-once g c = λ rest serving.
     c.new_row.ensures.lists.history refl _
 
 pub returns-clause-once : goal.returns-clause-once
-returns-clause-once g c = λ rest serving.
+returns-clause-once g c = λ told rest serving.
     let blank = c.in_ok-row.ensures.row in
     let service = c.args.service.now in
     let request = c.args.request.now in
@@ -67,14 +68,16 @@ returns-clause-once g c = λ rest serving.
       fault_is = refl;
       blank = blank.answer;
     } in
+    let in_named : IsNamed command.inn c.keep.new.self.inn.list.items =
+    subst (λ (inn : DataPieces). IsNamed command.inn inn.list.items) (sym (c.keep.ensures.inn ∙ c.make_room.ensures.inn)) both.in_named in
     let added = c.add_row-row.ensures.history ∙ ap (λ (list : List ServedRow). list ++ row ∷ []) c.new_row.ensures.lists.history in
-    once_added (held size (g.B.Blocks.state c.args.disk.now.image).blocks) (held c.execute-reply.new.self.count (g.B.Blocks.state c.execute-reply.new.self.image).blocks) _ _ _ _ _ _ request rest row
+    once_added (held told size (g.B.Blocks.state c.args.disk.now.image).blocks) (held told c.execute-reply.new.self.count (g.B.Blocks.state c.execute-reply.new.self.image).blocks) _ _ _ _ _ _ request rest row
     (Given (length c.args.records.now.history.items) reply)
     refl refl refl (ap (λ (n : ℕ). Given n reply) (c.add_row-row.ensures.place ∙ ap length c.new_row.ensures.lists.history)) (λ P is. is)
     blank.unit_is blank.iu blank.answer added
     (ap (λ (q : EndState). responses q.sent) c.read_out-out.ensures.queue)
-    c.execute-reply.ensures.count tt
-    (subst (λ (z : ℕ × List ℕ). HasReply z.0 request z.1 reply row) (λ i. ((sym c.execute-reply.ensures.count) i, (sym kept) i)) (has_reply request command outs inns out given buffer size reply row new))
-    (stays_stepped _ _ _ _ row (made_step command.lun command.cdb out reply buffer) _ c.execute-reply.ensures.count c.execute-reply.ensures.step c.execute-reply.ensures.image added
-    (new_row_serves request command outs inns out given buffer size reply row new))
+    (ap (terms_of told) c.execute-reply.ensures.count) (pieces_of (Given (length c.args.records.now.history.items) reply) c.keep.new.self.out.list.items c.keep.new.self.inn.list.items request rest command c.requires.asked in_named)
+    (subst (λ (z : ℕ × List ℕ). HasReply (terms_of told z.0) request z.1 reply row) (λ i. ((sym c.execute-reply.ensures.count) i, (sym kept) i)) (has_reply request command outs inns out given buffer (terms_of told size) reply row new))
+    (stays_stepped _ _ _ _ row (made_step command.lun command.cdb out reply buffer) _ (ap (terms_of told) c.execute-reply.ensures.count) c.execute-reply.ensures.step c.execute-reply.ensures.image added
+    (new_row_serves request command outs inns out given buffer (terms_of told size) reply row new))
     (tells_map _ _ _ c.execute-reply.ensures.image)

@@ -7,11 +7,11 @@ use Rattle.block_server.proofs.Serves.{once_cut}
 use Rattle.block_server.proofs.serving.refuse_data.Goals as goal
 
 pub returns-in_default : goal.returns-in_default
-returns-in_default c = record { once = λ id rest q disk serving. once_same _ _ _ _ _ _ refl refl refl disk serving }
+returns-in_default c = record { once = λ id rest q disk cause serving. once_same _ _ _ _ _ _ refl refl refl disk serving }
 
 pub returns-in_err-set_answer : goal.returns-in_err-set_answer
 returns-in_err-set_answer c = record {
-  once = λ id rest q disk serving.
+  once = λ id rest q disk cause serving.
       once_still _ _ _ _ _ _ refl c.in_err-set_answer.ensures.err c.in_err-set_answer.ensures.same
       (λ i. record { outs = (c.set_answer.ensures.out i).list.items; inns = (c.set_answer.ensures.inn i).list.items; given = (c.set_answer.ensures.given i).items })
       refl refl refl refl disk serving;
@@ -19,12 +19,12 @@ returns-in_err-set_answer c = record {
 
 pub returns : goal.returns
 returns c = record {
-  once = λ id rest q disk serving.
+  once = λ id rest q disk cause serving.
       let same : c.deref.result.now ≡ c.with_code.result.items = search (rules, c.deref.ensures) in
-      once_cut c.bytes_spell_one.ensures _ _ _ _ _ c.in-DataIn.row c.done.result c.in-DataIn.reply c.in-DataIn.cursor c.args.request.now rest refl refl c.in-DataIn.is
-      (c.take_given-inn.ensures.stage ∙ c.in_ok-set_answer.ensures.stage) refl c.requires.some
+      once_cut c.bytes_spell_one.ensures _ _ _ _ _ c.in-DataIn.row c.done.result c.in-DataIn.reply c.in-DataIn.cursor c.args.request.now rest c.args.command.now refl refl c.in-DataIn.is
+      (c.take_given-inn.ensures.stage ∙ c.in_ok-set_answer.ensures.stage) refl c.requires.asked c.requires.some
       (subst (λ (bytes : List ℕ). Answers bytes (HasCode c.args.request.now.tag FieldsInvalid))
       (sym ((λ i. (c.take_given-inn.ensures.answer i).items) ∙ c.in_ok-set_answer.ensures.answer ∙ same)) c.with_code.ensures.answer) refl
       (subst (λ (inn : List ℕ). FillsRow c.args.records.now.history.items c.fill.new.self.history.items c.in-DataIn.row inn)
-      (c.take_given-inn.ensures.given ∙ (λ i. take c.done.result (c.set_answer.ensures.given i).items)) c.fill.ensures.row) disk serving;
+      (c.take_given-inn.ensures.given ∙ (λ i. take c.done.result (c.set_answer.ensures.given i).items)) c.fill.ensures.row) disk cause serving;
 }

@@ -1,20 +1,24 @@
 use Rattle.std.proofs.Common.{◌∙◌}
 use Rattle.block_server.proofs.Advancing.{advances_on}
+use Rattle.block_server.proofs.Denying.{tells_first, tells_next}
 use Rattle.block_server.proofs.Onces.{once_then}
 use Rattle.block_server.proofs.serving.serve_command.Goals as goal
 
 pub returns-in_err-run_step-clause-once : goal.returns-in_err-run_step-clause-once
-returns-in_err-run_step-clause-once g c = λ rest. c.run_step.ensures.once rest
+returns-in_err-run_step-clause-once g c = λ told all rest. c.run_step.ensures.once told all rest
 
 pub returns-in_err-store-clause-once : goal.returns-in_err-store-clause-once
-returns-in_err-store-clause-once g c = λ rest.
-    once_then _ _ _ _ _ _ _ _ _ _ _ _ (c.run_step.ensures.once rest) (c.store.ensures.once c.args.id rest c.run_step.new.records _)
+returns-in_err-store-clause-once g c = λ told all rest.
+    once_then _ _ _ _ _ _ _ _ _ _ _ _
+    (c.run_step.ensures.once told (tells_first told c.args.id (g.S.Site.state c.args.site.now) (g.S.Site.state c.run_step.new.site) (g.S.Site.state c.store.new.site) c.store.ensures.advances all) rest) (c.store.ensures.once c.args.id rest c.run_step.new.records _)
 
 pub returns-clause-once : goal.returns-clause-once
-returns-clause-once g c = λ rest.
+returns-clause-once g c = λ told all rest.
     once_then _ _ _ _ _ _ _ _ _ _ _ _
-    (once_then _ _ _ _ _ _ _ _ _ _ _ _ (c.run_step.ensures.once rest) (c.store.ensures.once c.args.id rest c.run_step.new.records _))
-    (c.hand_over.ensures.once c.args.id rest _)
+    (once_then _ _ _ _ _ _ _ _ _ _ _ _
+    (c.run_step.ensures.once told (tells_first told c.args.id (g.S.Site.state c.args.site.now) (g.S.Site.state c.run_step.new.site) (g.S.Site.state c.hand_over.new.site) (advances_on _ _ _ c.store.ensures.advances c.hand_over.ensures.advances) all) rest)
+    (c.store.ensures.once c.args.id rest c.run_step.new.records _))
+    (c.hand_over.ensures.once c.args.id told (tells_next told c.args.id (g.S.Site.state c.args.site.now) (g.S.Site.state c.store.new.site) (g.S.Site.state c.hand_over.new.site) (advances_on _ _ _ c.run_step.ensures.advances c.store.ensures.advances) all) _ _ rest)
 
 pub returns-in_err-store-clause-advances : goal.returns-in_err-store-clause-advances
 returns-in_err-store-clause-advances g c = advances_on _ _ _ c.run_step.ensures.advances c.store.ensures.advances

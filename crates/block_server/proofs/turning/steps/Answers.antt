@@ -1,33 +1,39 @@
+use Rattle.std.proofs.Common.{subst, sym}
+use Rattle.vio_num.specs.declared.names.UnitId.{UnitId}
+use Rattle.block_server.specs.SiteState.{TellsAll}
+use Rattle.block_server.proofs.Denying.{tells_next}
 use Rattle.block_server.proofs.Advancing.{advances_on}
 use Rattle.block_server.proofs.Quieting.{on_ok, quiet_on}
 use Rattle.block_server.proofs.Onces.{once_on, once_then}
 use Rattle.block_server.proofs.turning.steps.Goals as goal
 
 pub returns-in_err-open_line-clause-once : goal.returns-in_err-open_line-clause-once
-returns-in_err-open_line-clause-once g c = c.open_line.ensures.once c.args.records.now _
+returns-in_err-open_line-clause-once g c = λ told all. c.open_line.ensures.once c.args.records.now _
 
 pub returns-then-eq-clause-once : goal.returns-then-eq-clause-once
-returns-then-eq-clause-once g c = c.open_line.ensures.once c.args.records.now _
+returns-then-eq-clause-once g c = λ told all. c.open_line.ensures.once c.args.records.now _
 
 pub returns-in_err-put_kept-clause-once : goal.returns-in_err-put_kept-clause-once
-returns-in_err-put_kept-clause-once g c = once_on _ _ _ _ _ _ _ _ _ (c.open_line.ensures.once c.args.records.now) c.put_kept.ensures.once _
+returns-in_err-put_kept-clause-once g c = λ told all. once_on _ _ _ _ _ _ _ _ _ (c.open_line.ensures.once c.args.records.now) c.put_kept.ensures.once _
 
 pub returns-then-eq-2-clause-once : goal.returns-then-eq-2-clause-once
-returns-then-eq-2-clause-once g c = once_on _ _ _ _ _ _ _ _ _ (c.open_line.ensures.once c.args.records.now) c.put_kept.ensures.once _
+returns-then-eq-2-clause-once g c = λ told all. once_on _ _ _ _ _ _ _ _ _ (c.open_line.ensures.once c.args.records.now) c.put_kept.ensures.once _
 
 pub returns-in_err-take_in-clause-once : goal.returns-in_err-take_in-clause-once
-returns-in_err-take_in-clause-once g c =
+returns-in_err-take_in-clause-once g c = λ told all.
     once_on _ _ _ _ _ _ _ _ _ (once_on _ _ _ _ _ _ _ _ _ (c.open_line.ensures.once c.args.records.now) c.put_kept.ensures.once) c.take_in.ensures.once _
 
 pub returns-then-eq-3-clause-once : goal.returns-then-eq-3-clause-once
-returns-then-eq-3-clause-once g c =
+returns-then-eq-3-clause-once g c = λ told all.
     once_on _ _ _ _ _ _ _ _ _ (once_on _ _ _ _ _ _ _ _ _ (c.open_line.ensures.once c.args.records.now) c.put_kept.ensures.once) c.take_in.ensures.once _
 
 pub returns-clause-once : goal.returns-clause-once
-returns-clause-once g c =
+returns-clause-once g c = λ told all serving.
+    let opened = once_on _ _ _ _ _ _ _ _ _ (once_on _ _ _ _ _ _ _ _ _ (c.open_line.ensures.once c.args.records.now) c.put_kept.ensures.once) c.take_in.ensures.once _ serving in
+    let first = advances_on _ _ _ (advances_on _ _ _ c.open_line.ensures.advances c.put_kept.ensures.advances) c.take_in.ensures.advances in
     once_then _ _ _ _ _ _ _ _ _ _ _ _
-    (once_on _ _ _ _ _ _ _ _ _ (once_on _ _ _ _ _ _ _ _ _ (c.open_line.ensures.once c.args.records.now) c.put_kept.ensures.once) c.take_in.ensures.once _)
-    c.serve.ensures.once
+    (λ serving. opened)
+    (c.serve.ensures.once told (tells_next told c.take_in.new.unit.id (g.S.Site.state c.args.site.now) (g.S.Site.state c.take_in.new.site) (g.S.Site.state c.serve.new.site) first (subst (λ (id : UnitId). TellsAll told id (g.S.Site.state c.args.site.now) (g.S.Site.state c.serve.new.site)) (sym opened.id) all))) serving
 
 pub returns-in_err-put_kept-clause-advances : goal.returns-in_err-put_kept-clause-advances
 returns-in_err-put_kept-clause-advances g c = advances_on _ _ _ c.open_line.ensures.advances c.put_kept.ensures.advances

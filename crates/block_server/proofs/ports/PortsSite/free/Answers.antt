@@ -6,7 +6,7 @@ pub returns-clause-advances : goal.returns-clause-advances
 returns-clause-advances g c =
     let old = g.C.CrqEnd.state c.args.self.now.queue.now in
     let new = g.C.CrqEnd.state c.free.new.self in
-    queue_call _ _ _ _ old new c.free.ensures.rest.place (same_session old new c.free.ensures.rest.last_session) (same_taken old new c.free.ensures.rest.taken)
+    queue_call _ _ _ _ _ old new c.free.ensures.rest.place (same_session old new c.free.ensures.rest.last_session) (same_taken old new c.free.ensures.rest.taken)
     (free_puts g.C.CrqEnd.is_shared old new c.free.result c.free.ensures.success c.free.ensures.busy c.free.ensures.refused)
 
 pub returns-clause-plain : goal.returns-clause-plain

@@ -1,12 +1,14 @@
-use Rattle.std.proofs.Common.{◌≡◌, ◌∙◌, Some, IfSome, ap, slice_get, subst, sym}
+use Rattle.std.proofs.Common.{◌≡◌, ◌∙◌, Some, IfSome, ap, refl, slice_get, subst, sym}
 use Rattle.std.specs.Prelude.{IsSome}
 use Rattle.std.proofs.Math.Logic.{∥∥₁_elim, ∥∥₁_map}
 use Rattle.std.proofs.lemmas.Option.{slice_get_read}
 use Rattle.vio_num.specs.declared.names.UnitId.{UnitId}
 use Rattle.crq_session.specs.EndState.{EndState}
-use Rattle.block_server.specs.Serving.{held}
+use Rattle.block_server.specs.Causes.{anything}
+use Rattle.block_server.specs.Serving.{held, terms_of}
 use Rattle.block_server.specs.SiteState.{Lenders}
 use Rattle.block_server.specs.Units.{AnswersItsRows, AreServing, ServesItsRows}
+use Rattle.block_server.proofs.Denying.{tells_turn}
 use Rattle.block_server.proofs.Units.{keeps_disk, tells_prop, units_on, way_quiet}
 use Rattle.block_server.proofs.server.Server.turn.Goals as goal
 
@@ -18,29 +20,54 @@ returns-clause-answers g c =
     let reached = ap (λ (lent : Lenders). lent.queue) c.turn.ensures.advances.reached in
     subst (λ (queue : EndState). ∥ AnswersItsRows (g.O.WindowPort.state c.args.own.now).place.unit (g.C.CrqEnd.state c.args.crq.now) queue server.records c.turn.new.records ∥₁)
     (sym (ap g.C.CrqEnd.state (c.crq-1.given.1 (sym reached))))
-    (∥∥₁_map server.serving (λ (all : AreServing server.disk.count server.partition server.units.items server.records.history.items).
+    (∥∥₁_map server.serving (λ (all : AreServing (terms_of anything server.disk.count) server.partition server.units.items server.records.history.items).
     let is = all c.args.unit c.index_mut.result.now there in
     subst (λ (id : UnitId). AnswersItsRows id (g.C.CrqEnd.state c.args.crq.now) (g.C.CrqEnd.state c.turn.new.site.queue.now) server.records c.turn.new.records)
-    (is.id ∙ sym c.requires.named) (c.turn.ensures.once is.serving).answers))
+    (is.id ∙ sym c.requires.named) (c.turn.ensures.once anything (λ right address len fault denied. refl) is.serving).answers))
 
 pub returns-clause-others : goal.returns-clause-others
 returns-clause-others g c =
     let server = c.args.self.now in
     let there : slice_get server.units.items c.args.unit ≡ Some c.index_mut.result.now =
     slice_get_read server.units.items _ c.args.unit _ server.units.ok.0 c.requires.unit c.index_mut.ensures.value in
-    ∥∥₁_map server.serving (λ (all : AreServing server.disk.count server.partition server.units.items server.records.history.items).
+    ∥∥₁_map server.serving (λ (all : AreServing (terms_of anything server.disk.count) server.partition server.units.items server.records.history.items).
     let is = all c.args.unit c.index_mut.result.now there in
-    subst (λ (id : UnitId). ServesItsRows id server.records c.turn.new.records) (is.id ∙ sym c.requires.named) (c.turn.ensures.once is.serving).others)
+    subst (λ (id : UnitId). ServesItsRows id server.records c.turn.new.records) (is.id ∙ sym c.requires.named) (c.turn.ensures.once anything (λ right address len fault denied. refl) is.serving).others)
 
 pub returns-clause-disk : goal.returns-clause-disk
 returns-clause-disk g c =
     let server = c.args.self.now in
     let there : slice_get server.units.items c.args.unit ≡ Some c.index_mut.result.now =
     slice_get_read server.units.items _ c.args.unit _ server.units.ok.0 c.requires.unit c.index_mut.ensures.value in
-    ∥∥₁_map server.serving (λ (all : AreServing server.disk.count server.partition server.units.items server.records.history.items).
-    keeps_disk (held server.disk.count (g.B.Blocks.state server.disk.image).blocks) (held c.turn.new.disk.count (g.B.Blocks.state c.turn.new.disk.image).blocks) _ _
-    (g.B.Blocks.state server.disk.image).size server.disk.sized (g.met.B.Blocks.told server.disk.image)
-    (c.turn.ensures.once (all c.args.unit c.index_mut.result.now there).serving).stays)
+    ∥∥₁_map server.serving (λ (all : AreServing (terms_of anything server.disk.count) server.partition server.units.items server.records.history.items).
+    keeps_disk (held anything server.disk.count (g.B.Blocks.state server.disk.image).blocks) (held anything c.turn.new.disk.count (g.B.Blocks.state c.turn.new.disk.image).blocks) _ _
+    (g.B.Blocks.state server.disk.image).size server.disk.sized
+    (c.turn.ensures.once anything (λ right address len fault denied. refl) (all c.args.unit c.index_mut.result.now there).serving).terms
+    (g.met.B.Blocks.told server.disk.image)
+    (c.turn.ensures.once anything (λ right address len fault denied. refl) (all c.args.unit c.index_mut.result.now there).serving).stays)
+
+pub returns-clause-causes : goal.returns-clause-causes
+returns-clause-causes g c = λ told tells all.
+    let server = c.args.self.now in
+    let there : slice_get server.units.items c.args.unit ≡ Some c.index_mut.result.now =
+    slice_get_read server.units.items _ c.args.unit _ server.units.ok.0 c.requires.unit c.index_mut.ensures.value in
+    let is = all c.args.unit c.index_mut.result.now there in
+    let reached = ap (λ (lent : Lenders). lent.client) c.turn.ensures.advances.reached in
+    let heard = tells_turn told _ _ _ _ _ _ (sym (is.id ∙ sym c.requires.named)) (sym (ap g.R.WindowPort.state (c.client-1.given.1 (sym reached)))) tells in
+    let once = c.turn.ensures.once told heard is.serving in
+    keeps_disk (held told server.disk.count (g.B.Blocks.state server.disk.image).blocks) (held told c.turn.new.disk.count (g.B.Blocks.state c.turn.new.disk.image).blocks) _ _
+    (g.B.Blocks.state server.disk.image).size server.disk.sized once.terms (g.met.B.Blocks.told server.disk.image) once.stays
+
+pub returns-clause-order : goal.returns-clause-order
+returns-clause-order g c = λ told tells all.
+    let server = c.args.self.now in
+    let there : slice_get server.units.items c.args.unit ≡ Some c.index_mut.result.now =
+    slice_get_read server.units.items _ c.args.unit _ server.units.ok.0 c.requires.unit c.index_mut.ensures.value in
+    let is = all c.args.unit c.index_mut.result.now there in
+    let reached = ap (λ (lent : Lenders). lent.client) c.turn.ensures.advances.reached in
+    let heard = tells_turn told _ _ _ _ _ _ (sym (is.id ∙ sym c.requires.named)) (sym (ap g.R.WindowPort.state (c.client-1.given.1 (sym reached)))) tells in
+    units_on (held told server.disk.count (g.B.Blocks.state server.disk.image).blocks) (held told c.turn.new.disk.count (g.B.Blocks.state c.turn.new.disk.image).blocks)
+    server.partition c.args.unit server.units.items c.index_mut.result.now c.turn.new.unit _ _ _ _ there (c.turn.ensures.once told heard is.serving) all
 
 pub returns-clause-tells : goal.returns-clause-tells
 returns-clause-tells g c =
@@ -48,8 +75,8 @@ returns-clause-tells g c =
     let there : slice_get server.units.items c.args.unit ≡ Some c.index_mut.result.now =
     slice_get_read server.units.items _ c.args.unit _ server.units.ok.0 c.requires.unit c.index_mut.ensures.value in
     ∥∥₁_elim server.serving (tells_prop (g.B.Blocks.state server.disk.image).blocks (g.B.Blocks.state c.turn.new.disk.image).blocks)
-    (λ (all : AreServing server.disk.count server.partition server.units.items server.records.history.items).
-    (c.turn.ensures.once (all c.args.unit c.index_mut.result.now there).serving).tells)
+    (λ (all : AreServing (terms_of anything server.disk.count) server.partition server.units.items server.records.history.items).
+    (c.turn.ensures.once anything (λ right address len fault denied. refl) (all c.args.unit c.index_mut.result.now there).serving).tells)
 
 pub returns-clause-way : goal.returns-clause-way
 returns-clause-way g c =
@@ -64,8 +91,8 @@ invariant_of-self g c =
     let there : slice_get server.units.items c.args.unit ≡ Some c.index_mut.result.now =
     slice_get_read server.units.items _ c.args.unit _ server.units.ok.0 c.requires.unit c.index_mut.ensures.value in
     record {
-      serving = ∥∥₁_map server.serving (λ (all : AreServing server.disk.count server.partition server.units.items server.records.history.items).
-          units_on (held server.disk.count (g.B.Blocks.state server.disk.image).blocks) (held c.turn.new.disk.count (g.B.Blocks.state c.turn.new.disk.image).blocks)
+      serving = ∥∥₁_map server.serving (λ (all : AreServing (terms_of anything server.disk.count) server.partition server.units.items server.records.history.items).
+          units_on (held anything server.disk.count (g.B.Blocks.state server.disk.image).blocks) (held anything c.turn.new.disk.count (g.B.Blocks.state c.turn.new.disk.image).blocks)
           server.partition c.args.unit server.units.items c.index_mut.result.now c.turn.new.unit _ _ _ _ there
-          (c.turn.ensures.once (all c.args.unit c.index_mut.result.now there).serving) all);
+          (c.turn.ensures.once anything (λ right address len fault denied. refl) (all c.args.unit c.index_mut.result.now there).serving) all);
     }
