@@ -1,5 +1,5 @@
 -- Each plan that a text says is sound.
-use Rattle.std.proofs.Common.{◌≡◌, ℕ, ◌+◌, ◌==◌, Bool, true, false, List, [], ◌∷◌, length, nat_lt, if◌then◌else◌, Option, Some, None, Result, Ok, Err, IfOk, refl, ap, ◌∙◌, subst}
+use Rattle.std.proofs.Common.{◌≡◌, ℕ, ◌+◌, ◌==◌, Bool, true, false, List, [], ◌∷◌, length, nat_lt, if◌then◌else◌, Option, Some, None, Result, Ok, Err, IfOk, refl, ap, ◌∙◌, subst, arith}
 use Rattle.boot_text.specs.BootText.{accepted, refused, has_bad_byte, is_header, is_skipped, verb_of_line, added, judge_statement, judge_line, judge_keyword, judge_words, judge_first, judge, may_end, ends, goes_on, read_from, plan_of, SaysPlan}
 use Rattle.boot_text.specs.Keywords.{keyword}
 use Rattle.boot_text.specs.Said.{Said, good, bad, said_then}
@@ -67,6 +67,7 @@ partitions_sound : (number : ℕ) (s : SoFar) → may_end s.last ≡ true → St
 partitions_sound number s e h = record {
   some = h.some e;
   few = h.few;
+  few_ports = omega (arith, h.few_ports);
   each = h.each;
   one_home = λ a b x y. links.one_home a b x.0 y.0 x.1 y.1;
   served = λ id server x. links.served id server x.0 x.1 x.2;

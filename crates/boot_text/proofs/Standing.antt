@@ -4,7 +4,7 @@ use Rattle.std.proofs.lemmas.List.Elements.{All-nil, All-push, All-weaker}
 use Rattle.std.proofs.lemmas.List.Quantifiers.{all_pairs_push}
 use Rattle.vio_num.specs.declared.names.UnitId.{UnitId}
 use Rattle.boot_text.specs.BootText.{may_end}
-use Rattle.boot_text.specs.SoFar.{SoFar, nothing, is_server, has_server, suits, follows, is_in_script}
+use Rattle.boot_text.specs.SoFar.{SoFar, nothing, is_server, has_server, suits, follows, is_in_script, ports_of}
 use Rattle.boot_text.specs.Sums.{is_before_script}
 use Rattle.boot_text.specs.Sound.{IsFrom, IsInRange, IsSized, IsSoundLine, IsSoundPartition, unit_at}
 use Rattle.boot_text.specs.declared.keyword.Keyword.{Keyword}
@@ -12,7 +12,7 @@ use Rattle.boot_text.specs.declared.keyword.Keyword.TheVariants as keywords
 use Rattle.boot_text.specs.declared.plan.Line.{Line}
 use Rattle.boot_text.specs.declared.plan.Partition.{Partition}
 use Rattle.boot_text.specs.declared.plan.UnitPlan.{UnitPlan}
-use Rattle.boot_text.specs.declared.plan.TheConstants.{MOST_PARTITIONS, MOST_UNITS}
+use Rattle.boot_text.specs.declared.plan.TheConstants.{MOST_PARTITIONS, MOST_PORTS, MOST_UNITS}
 use Rattle.boot_text.specs.declared.statement.TheConstants.{MOST_ROUNDS, MOST_GRANT}
 use Rattle.boot_text.specs.declared.verb.Verb.{Verb}
 use Rattle.boot_text.proofs.Units.{no_way, empty_at}
@@ -68,6 +68,7 @@ pub record Stands (number : ℕ) (s : SoFar) : Type 0 where
   pub grant : past_grant s.last ≡ true → IsFrom 1 MOST_GRANT s.grant
   pub some : may_end s.last ≡ true → 1 ≤ length s.ended
   pub few : length s.ended ≤ MOST_PARTITIONS
+  pub few_ports : ports_of s ≤ MOST_PORTS
   pub room : is_open s.last ≡ true → length s.ended + 1 ≤ MOST_PARTITIONS
   pub closed : may_end s.last ≡ true → s.units ≡ []
   pub each : All IsSoundPartition s.ended
@@ -212,6 +213,7 @@ nothing_stands number = record {
   grant = λ h. cc;
   some = λ h. cc;
   few = lit≤ tt;
+  few_ports = lit≤ tt;
   room = λ h. cc;
   closed = λ h. refl;
   each = All-nil IsSoundPartition;

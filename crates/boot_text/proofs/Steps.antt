@@ -1,20 +1,22 @@
 -- Each line that may stand where it does, and with which nothing is wrong, keeps what is so of the plan so far.
-use Rattle.std.proofs.Common.{◌≡◌, ◌≤◌, ◌<◌, ℕ, ◌+◌, ◌==◌, ◌||◌, not, Bool, true, false, List, [], ◌∷◌, ◌++◌, length, length-append, slice_get, Some, None, refl, sym, ◌∙◌, arith, All, ◌⊎◌, inl, inr, eq-or-lt_of_le, eq-eqb}
+use Rattle.std.proofs.Common.{◌≡◌, ◌≤◌, ◌<◌, ℕ, ◌+◌, ◌==◌, ◌||◌, not, nat_lt, Bool, true, false, cond, List, [], ◌∷◌, ◌++◌, length, length-append, slice_get, Some, None, refl, sym, ◌∙◌, arith, All, ◌⊎◌, inl, inr, eq-or-lt_of_le, eq-eqb}
 use Rattle.std.specs.List.{list_any}
+use Rattle.std.proofs.lemmas.List.Sums.{sum_by-append}
 use Rattle.std.proofs.lemmas.List.Elements.{All-nil, All-cons, All-push}
 use Rattle.std.proofs.lemmas.List.Folds.{list_any-append}
 use Rattle.vio_num.specs.declared.names.Mac.{Mac}
 use Rattle.boot_text.specs.BootText.{may_end}
-use Rattle.boot_text.specs.SoFar.{SoFar, adds, kind_of, offence, is_server, has_server, suits, follows, is_unit, is_in_script, is_served, is_named, names, unit_id, exceeds, partition_offence, server_offence, client_offence, port_offence, script_offence}
+use Rattle.boot_text.specs.SoFar.{SoFar, adds, kind_of, offence, is_server, is_port, has_server, ports_in, ports_of, pages_so_far, suits, follows, is_unit, is_in_script, is_served, is_named, names, unit_id, exceeds, partition_offence, server_offence, client_offence, port_offence, script_offence}
 use Rattle.boot_text.specs.Sums.{with_unit}
 use Rattle.boot_text.specs.Sound.{IsSized, IsSoundPartition, unit_at}
 use Rattle.boot_text.specs.declared.cause.Cause.TheVariants as causes
 use Rattle.boot_text.specs.declared.keyword.Keyword.{Keyword}
 use Rattle.boot_text.specs.declared.keyword.Keyword.TheVariants as keywords
 use Rattle.boot_text.specs.declared.names.Name.{Name}
+use Rattle.boot_text.specs.declared.plan.Partition.{Partition}
 use Rattle.boot_text.specs.declared.plan.UnitPlan.{UnitPlan}
 use Rattle.boot_text.specs.declared.plan.UnitPlan.TheVariants as units
-use Rattle.boot_text.specs.declared.plan.TheConstants.{MOST_PARTITIONS, MOST_UNITS, SERVER_PAGES}
+use Rattle.boot_text.specs.declared.plan.TheConstants.{MOST_PAGES, MOST_PARTITIONS, MOST_PORTS, MOST_UNITS, SERVER_PAGES}
 use Rattle.boot_text.specs.declared.statement.Statement.{Statement}
 use Rattle.boot_text.specs.declared.statement.Statement.TheVariants as statements
 use Rattle.boot_text.specs.declared.verb.Verb.{Verb}
@@ -35,6 +37,15 @@ one_left n most other h = go (eq-or-lt_of_le h)
 unit_left : (s : SoFar) (pages : ℕ) (port : Bool) → exceeds s pages port ≡ false → length s.units ≤ MOST_UNITS → length s.units + 1 ≤ MOST_UNITS
 unit_left s pages port h few = one_left (length s.units) MOST_UNITS (neither (length s.units == MOST_UNITS) _ h).0 few
 
+port_left : (s : SoFar) (pages : ℕ) → exceeds s pages true ≡ false → ports_of s ≤ MOST_PORTS → ports_of s + 1 ≤ MOST_PORTS
+port_left s pages h few =
+    let many = (neither (length s.units == MOST_UNITS) _ h).1 in
+    one_left (ports_of s) MOST_PORTS (neither (nat_lt MOST_PAGES (pages_so_far s + pages)) (ports_of s == MOST_PORTS) many).1 few
+
+-- the ports with one unit more
+ports_more : (us : List UnitPlan) (u : UnitPlan) → ports_in (us ++ u ∷ []) ≡ ports_in us + ports_in (u ∷ [])
+ports_more us u = sum_by-append (λ (x : UnitPlan). cond (is_port x) 1 0) us (u ∷ [])
+
 -- a line that is skipped, or the first
 pub skipped_stands : (number : ℕ) (s : SoFar) → Stands number s → Stands (number + 1) s
 skipped_stands number s h = record {
@@ -42,6 +53,7 @@ skipped_stands number s h = record {
   grant = h.grant;
   some = h.some;
   few = h.few;
+  few_ports = h.few_ports;
   room = h.room;
   closed = h.closed;
   each = h.each;
@@ -57,6 +69,7 @@ rounds_stand number s n place range h = record {
   grant = λ e. cc;
   some = λ e. cc;
   few = h.few;
+  few_ports = h.few_ports;
   room = λ e. cc;
   closed = λ e. cc;
   each = h.each;
@@ -71,6 +84,7 @@ grant_stands number s n place range h = record {
   grant = λ e. range;
   some = λ e. cc;
   few = h.few;
+  few_ports = h.few_ports;
   room = λ e. cc;
   closed = λ e. cc;
   each = h.each;
@@ -85,6 +99,7 @@ partition_stands number s place good h = record {
   grant = λ e. h.grant (grant_before s.last keywords.Partition place refl);
   some = λ e. cc;
   few = h.few;
+  few_ports = h.few_ports;
   room = λ e. one_left (length s.ended) MOST_PARTITIONS (none_told (length s.ended == MOST_PARTITIONS) causes.Limit None good) h.few;
   closed = λ e. cc;
   each = h.each;
@@ -99,6 +114,7 @@ end_stands number s place h = record {
   grant = λ e. h.grant (grant_before s.last keywords.End place refl);
   some = λ e. omega (arith, length-append s.ended (begun_of s ∷ []));
   few = omega (arith, length-append s.ended (begun_of s ∷ []), h.room (open_before s.last keywords.End place refl));
+  few_ports = omega (arith, sum_by-append (λ (q : Partition). ports_in q.units) s.ended (begun_of s ∷ []), h.few_ports);
   room = λ e. cc;
   closed = λ e. refl;
   each = All-push IsSoundPartition s.ended (begun_of s) h.each (partition_sound number s.last s.units s.lines (h.begun.some (units_before s.last keywords.End place refl)) h.begun);
@@ -114,6 +130,7 @@ script_stands number s unit verb place range good h = record {
   grant = λ e. h.grant (grant_before s.last keywords.Script place refl);
   some = λ e. cc;
   few = h.few;
+  few_ports = h.few_ports;
   room = λ e. h.room (open_before s.last keywords.Script place refl);
   closed = λ e. cc;
   each = h.each;
@@ -133,14 +150,15 @@ unit_kind keywords.Client h = (refl, refl, refl, refl, refl)
 unit_kind keywords.Lan h = (refl, refl, refl, refl, refl)
 unit_kind _ h = cc
 
-unit_stands : (number : ℕ) (s : SoFar) (next : Keyword) (unit : UnitPlan) → follows s.last next ≡ true → is_unit next ≡ true → length s.units + 1 ≤ MOST_UNITS → IsSized unit
+unit_stands : (number : ℕ) (s : SoFar) (next : Keyword) (unit : UnitPlan) → follows s.last next ≡ true → is_unit next ≡ true → length s.units + 1 ≤ MOST_UNITS → ports_of s + ports_in (unit ∷ []) ≤ MOST_PORTS → IsSized unit
     → (has_server (s.units ++ unit ∷ []) ≡ true → All (λ u. is_server u ≡ true) (s.units ++ unit ∷ [])) → AreLinked (unit_at (whole (with_unit next unit s)))
     → Stands number s → Stands (number + 1) (with_unit next unit s)
-unit_stands number s next unit place kind left size alone links h = record {
+unit_stands number s next unit place kind left ports size alone links h = record {
   rounds = λ e. h.rounds (rounds_before s.last next place k.0);
   grant = λ e. h.grant (grant_before s.last next place k.1);
   some = λ e. no_way (may_end next) e k.4;
   few = h.few;
+  few_ports = omega (arith, ports, ports_more s.units unit);
   room = λ e. h.room (open_before s.last next place k.2);
   closed = λ e. no_way (may_end next) e k.4;
   each = h.each;
@@ -171,7 +189,7 @@ server_stands : (number : ℕ) (s : SoFar) (queue : ℕ) → follows s.last keyw
     → Stands (number + 1) (adds number (statements.Server queue) s)
 server_stands number s queue place range good h =
     unit_stands number s keywords.Server (units.Server queue) place refl
-    (unit_left s SERVER_PAGES false (none_told (exceeds s SERVER_PAGES false) causes.Limit _ good) h.begun.few) range
+    (unit_left s SERVER_PAGES false (none_told (exceeds s SERVER_PAGES false) causes.Limit _ good) h.begun.few) (omega (arith, h.few_ports)) range
     (λ e. All-push (λ (u : UnitPlan). is_server u ≡ true) s.units (units.Server queue) (all_servers s.units among.0) refl)
     (server_linked (unit_added s.ended (begun_of s) (begun_of (with_unit keywords.Server (units.Server queue) s)) (units.Server queue) refl)
     (λ id q x. last_at is_server (units.Server q) refl s.ended (begun_of s) id.partition id.unit among.1 x) h.links) h
@@ -185,7 +203,7 @@ client_stands : (number : ℕ) (s : SoFar) (server : Name) (pages queue : ℕ) �
     → client_offence s server pages ≡ None → Stands number s → Stands (number + 1) (adds number (statements.Client server pages queue) s)
 client_stands number s server pages queue place range good h =
     unit_stands number s keywords.Client unit place refl
-    (unit_left s pages false (none_told (exceeds s pages false) causes.Limit _ good) h.begun.few) range
+    (unit_left s pages false (none_told (exceeds s pages false) causes.Limit _ good) h.begun.few) (omega (arith, h.few_ports)) range
     (no_server s.units unit linked.0 refl)
     (client_linked (unit_added s.ended (begun_of s) (begun_of (with_unit keywords.Client unit s)) unit refl) there
     (served_within s.ended server.partition server.unit linked.1)
@@ -210,7 +228,8 @@ port_stands : (number : ℕ) (s : SoFar) (mac : Mac) (pages slots : ℕ) → fol
     → port_offence s pages ≡ None → Stands number s → Stands (number + 1) (adds number (statements.Lan mac pages slots) s)
 port_stands number s mac pages slots place range good h =
     unit_stands number s keywords.Lan unit place refl
-    (unit_left s pages true (none_told (exceeds s pages true) causes.Limit _ good) h.begun.few) range
+    (unit_left s pages true (none_told (exceeds s pages true) causes.Limit _ good) h.begun.few)
+    (port_left s pages (none_told (exceeds s pages true) causes.Limit _ good) h.few_ports) range
     (no_server s.units unit (none_told (has_server s.units) causes.Link None (rest_told (exceeds s pages true) causes.Limit _ good)) refl)
     (port_linked (unit_added s.ended (begun_of s) (begun_of (with_unit keywords.Lan unit s)) unit refl) h.links) h
   where

@@ -106,15 +106,15 @@ post_is words =
     good_if IsInRange (length words == 5) _ _ (good_numbered IsInRange _
     (some_then Any IsInRange _ _ (some_any (number (word words 2))) (λ at t.
     some_then Any IsInRange _ _ (some_any (number (word words 3))) (λ len u.
-    some_map Any IsInRange _ _ (some_any (number_in 1 MOST_BUFFERS (word words 4))) (λ count v. tt))))) tt
+    some_map (IsFrom 1 MOST_BUFFERS) IsInRange _ _ (in_range 1 MOST_BUFFERS (word words 4)) (λ count h. h))))) tt
 
 send_is : (words : List (List ℕ)) → IfGood (send_of words) IsInRange
 send_is words =
     good_if IsInRange (length words == 6) _ _ (good_numbered IsInRange _
     (some_then Any IsInRange _ _ (some_any (mac (word words 2))) (λ to t.
-    some_then Any IsInRange _ _ (some_any (number_in LEAST_FRAME MOST_FRAME (word words 3))) (λ len u.
+    some_then (IsFrom LEAST_FRAME MOST_FRAME) IsInRange _ _ (in_range LEAST_FRAME MOST_FRAME (word words 3)) (λ len h.
     some_then Any IsInRange _ _ (some_any (number (word words 4))) (λ seed v.
-    some_map Any IsInRange _ _ (some_any (number (word words 5))) (λ at w. tt)))))) tt
+    some_map Any IsInRange _ _ (some_any (number (word words 5))) (λ at w. h)))))) tt
 
 change_mac_is : (words : List (List ℕ)) → IfGood (change_mac_of words) IsInRange
 change_mac_is words =

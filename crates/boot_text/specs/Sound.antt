@@ -1,19 +1,20 @@
 -- What is so of each plan that a text says: its units and scripts keep the rules and ranges of boot texts.
 use Rattle.std.specs.Prelude.{◌≡◌, ℕ, ◌<◌, ◌≤◌, true, List, [], All, Option, Some, None, MatchOption, length, slice_get, ⊤}
-use Rattle.std.specs.List.{AllPairs}
+use Rattle.std.specs.List.{AllPairs, sum_by}
 use Rattle.vio_num.specs.declared.names.UnitId.{UnitId}
-use Rattle.boot_text.specs.SoFar.{is_server, has_server, suits}
+use Rattle.boot_text.specs.SoFar.{is_server, has_server, ports_in, suits}
 use Rattle.boot_text.specs.declared.plan.Line.{Line}
 use Rattle.boot_text.specs.declared.plan.Partition.{Partition}
 use Rattle.boot_text.specs.declared.plan.Plan.{Plan}
 use Rattle.boot_text.specs.declared.plan.UnitPlan.{UnitPlan}
 use Rattle.boot_text.specs.declared.plan.UnitPlan.TheVariants as units
-use Rattle.boot_text.specs.declared.plan.TheConstants.{MOST_PARTITIONS, MOST_UNITS}
+use Rattle.boot_text.specs.declared.plan.TheConstants.{MOST_PARTITIONS, MOST_PORTS, MOST_UNITS}
 use Rattle.boot_text.specs.declared.statement.TheConstants.{MOST_ROUNDS, MOST_GRANT, MOST_QUEUE, LEAST_CLIENT_PAGES, MOST_UNIT_PAGES, MOST_SLOTS}
 use Rattle.boot_text.specs.declared.script.TheConstants.{MOST_CDB, MOST_FUNCTION}
 use Rattle.boot_text.specs.declared.transfer.TheConstants.{MOST_DATA, MOST_LBA, MOST_BLOCKS, MOST_PIECES, MOST_IN_TABLE}
 use Rattle.boot_text.specs.declared.common_script.TheConstants.{MOST_FILL, MOST_PEEK, MOST_PAGE}
 use Rattle.boot_text.specs.declared.names.TheConstants.{MOST_HEX}
+use Rattle.boot_text.specs.declared.port_script.TheConstants.{MOST_BUFFERS, LEAST_FRAME, MOST_FRAME}
 use Rattle.boot_text.specs.declared.verb.Verb.{Verb}
 use Rattle.boot_text.specs.declared.verb.Verb.TheVariants as verbs
 
@@ -41,7 +42,7 @@ pub record AreBlocks (lba blocks pieces : ℕ) (table : Option ℕ) : Type 0 whe
 abbrev pub IsCommand : List ℕ → Type 0
 IsCommand cdb = IsFrom 1 MOST_CDB (length cdb)
 
--- the numbers of a client's line are within their ranges
+-- the numbers of a line are within their ranges
 abbrev pub IsInRange : Verb → Type 0
 IsInRange (verbs.Read lba blocks at pieces table) = AreBlocks lba blocks pieces table
 IsInRange (verbs.Write lba blocks at pieces table) = AreBlocks lba blocks pieces table
@@ -53,6 +54,8 @@ IsInRange (verbs.Fill at len seed) = IsFrom 1 MOST_FILL len
 IsInRange (verbs.Poke at bytes) = IsFrom 1 MOST_HEX (length bytes)
 IsInRange (verbs.Peek at len) = IsFrom 1 MOST_PEEK len
 IsInRange (verbs.Tce entry page readable writable) = page ≤ MOST_PAGE
+IsInRange (verbs.Post at len count) = IsFrom 1 MOST_BUFFERS count
+IsInRange (verbs.Send to len seed at) = IsFrom LEAST_FRAME MOST_FRAME len
 IsInRange _ = ⊤
 
 -- A script line: its unit is there and of the line's kind, and its numbers are within their ranges.
@@ -93,11 +96,12 @@ IsClientOf partitions id server = (pages : ℕ) × (queue : ℕ) × (unit_at par
 abbrev pub IsServer : List Partition → UnitId → Type 0
 IsServer partitions id = (queue : ℕ) × (unit_at partitions id ≡ Some (units.Server queue))
 
--- Partitions: 1 to 16, one of which may have server units; each client names a server unit of an earlier partition, which no
+-- Partitions: 1 to 16, with at most 16 LAN ports, one of which may have server units; each client names a server unit of an earlier partition, which no
 -- other client names.
 pub record AreSound (partitions : List Partition) : Type 0 where
   pub some : 1 ≤ length partitions
   pub few : length partitions ≤ MOST_PARTITIONS
+  pub few_ports : sum_by (λ partition. ports_in partition.units) partitions ≤ MOST_PORTS
   pub each : All IsSoundPartition partitions
   pub one_home : (a b : UnitId) → IsServer partitions a → IsServer partitions b → a.partition ≡ b.partition
   pub served : (id server : UnitId) → IsClientOf partitions id server → IsServer partitions server
