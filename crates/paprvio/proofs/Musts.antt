@@ -9,9 +9,7 @@ use Rattle.boot_text.specs.SoFar.{nothing}
 use Rattle.boot_text.specs.Words.{lines_of}
 use Rattle.boot_text.specs.declared.cause.Cause.{Cause}
 use Rattle.boot_text.specs.declared.cause.Cause.TheVariants as causes
-use Rattle.boot_text.specs.declared.plan.Partition.{Partition}
 use Rattle.boot_text.specs.declared.plan.Plan.{Plan}
-use Rattle.vcpu_run.specs.Runnable.{IsPlainPartition}
 use Rattle.paprvio.specs.declared.status.Status.{Status}
 use Rattle.paprvio.specs.declared.status.Status.TheVariants.{Done, Usage, Refused, SourceFailed, SinkFailed, ImageFailed, NoMemory}
 use Rattle.paprvio.specs.Words.{asked}
@@ -20,7 +18,7 @@ use Rattle.paprvio.specs.declared.request.Request.TheVariants.{Run, Generate, Su
 use Rattle.vio_io.specs.Image.{ImageState}
 use Rattle.paprvio.proofs.Endings.{asks_runs, done_asks, refused_runs}
 use Rattle.paprvio.specs.Ending.{Outside, EndsAs}
-use Rattle.paprvio.specs.Run.{AreRun, AsksFor, AsksForRun, GivesPlan, IsDone, IsDoneAs, IsGenerate, IsRefusedAs, IsRun, IsSummarize, RunsPlan, ReadWhole, ReadTooMuch, BootRefusal, IsRefused, SaysPlainPlan, RunAnswer, RunEndsWith, IsOrStarved, MustEndAs}
+use Rattle.paprvio.specs.Run.{AreRun, AsksFor, AsksForRun, GivesPlan, IsDone, IsDoneAs, IsGenerate, IsRefusedAs, IsRun, IsSummarize, RunsPlan, ReadWhole, ReadTooMuch, IsFaulty, IsRefused, Says, RunAnswer, RunEndsWith, IsOrStarved, MustEndAs}
 use Rattle.paprvio.specs.Status.{status_code}
 
 -- a source that told its bytes and was read to its end gave them all
@@ -39,18 +37,9 @@ longer text (Some left) long =
     let count = long.long in
     rw read (omega (arith, length-append long.bytes left, count))
 
--- what is told of a reading where it is a plan
-abbrev partitions_or : List Partition → Reading → List Partition
-partitions_or other (accepted rounds grant partitions) = partitions
-partitions_or other (refused line cause) = other
-
 abbrev IsAccepted : Reading → Type 0
 IsAccepted (accepted rounds grant partitions) = ⊤
 IsAccepted (refused line cause) = ⊥
-
--- a text says one plan's partitions
-same_partitions : (reading : Reading) (a b : Plan) → SaysPlan reading a → SaysPlan reading b → a.partitions ≡ b.partitions
-same_partitions reading a b says_a says_b = ap (partitions_or []) (sym says_a ∙ says_b)
 
 -- a text that says a plan is not refused
 not_faulty : (line : ℕ) (cause : Cause) (reading : Reading) (plan : Plan) → reading ≡ refused line cause → ¬ SaysPlan reading plan
@@ -60,22 +49,20 @@ long_text : (text : List ℕ) → 1048577 ≤ length text → plan_of text ≡ r
 long_text text long =
     ap (λ (is_long : Bool). if is_long then refused 0 causes.TooLong else read_from 1 nothing (lines_of text)) (lt-ltb 1048576 (length text) long)
 
--- a text that says a plan of the kind that is run has no refusal
-not_boot_refusal : (text out : List ℕ) (plan : Plan) → SaysPlainPlan text plan → ¬ BootRefusal text out
-not_boot_refusal text out plan is (inl faulty) = not_faulty faulty.line faulty.cause (plan_of text) plan faulty.refusal is.says
-not_boot_refusal text out plan is (inr other) =
-    other.other (subst (λ partitions. All IsPlainPartition partitions) (same_partitions (plan_of text) plan other.plan is.says other.says) is.plain)
+-- a text that says a plan has no refusal
+not_boot_refusal : (text out : List ℕ) (plan : Plan) → Says text plan → ¬ IsFaulty text out
+not_boot_refusal text out plan is faulty = not_faulty faulty.line faulty.cause (plan_of text) plan faulty.refusal is
 
-not_refused : (text out : List ℕ) (new : Option (List ℕ)) (plan : Plan) → SaysPlainPlan text plan → ¬ IsRefused (Some text) new out
+not_refused : (text out : List ℕ) (new : Option (List ℕ)) (plan : Plan) → Says text plan → ¬ IsRefused (Some text) new out
 not_refused text out new plan is (inl short) =
-    not_boot_refusal text out plan is (subst (λ (boot : List ℕ). BootRefusal boot out) (whole_text text short.boot new short.whole) short.refusal)
+    not_boot_refusal text out plan is (subst (λ (boot : List ℕ). IsFaulty boot out) (whole_text text short.boot new short.whole) short.refusal)
 not_refused text out new plan is (inr long) =
-    not_faulty 0 causes.TooLong (plan_of text) plan (long_text text (longer text new long.long)) is.says
+    not_faulty 0 causes.TooLong (plan_of text) plan (long_text text (longer text new long.long)) is
 
 -- a text that says none gives none
-gives_none : (text : List ℕ) (new : Option (List ℕ)) (plan : Plan) → ((plan : Plan) → ¬ SaysPlainPlan text plan) → ¬ GivesPlan (Some text) new plan
+gives_none : (text : List ℕ) (new : Option (List ℕ)) (plan : Plan) → ((plan : Plan) → ¬ Says text plan) → ¬ GivesPlan (Some text) new plan
 gives_none text new plan none gives =
-    none plan (subst (λ (boot : List ℕ). SaysPlainPlan boot plan) (whole_text text gives.boot new gives.whole) gives.says)
+    none plan (subst (λ (boot : List ℕ). Says boot plan) (whole_text text gives.boot new gives.whole) gives.says)
 
 -- what belongs to a request for the source's boot text
 run_done : (request : Option Request) (left left' : Option (List ℕ)) (image image' : ImageState) (text : List ℕ) → IsRun request → IsDoneAs request left left' image image' text
@@ -160,10 +147,10 @@ summed_said words SinkFailed old new ends read summarize sink = absurd (sink end
 summed_said words ImageFailed old new ends read summarize sink = inl refl
 summed_said words NoMemory old new ends read summarize sink = inr (inr (inr refl))
 
--- a boot text that says a plan of the kind that is run
+-- a boot text that says a plan
 done_said : (words : List (List ℕ)) (status : Status) (old new : Outside) (boot : List ℕ) (plan : Plan)
     → EndsAs (RunAnswer words (Some boot) new.left old.image new.image) status old new → AreRun words → ¬ Rose old.source_faults new.source_faults
-    → ¬ Rose old.sink_faults new.sink_faults → SaysPlainPlan boot plan
+    → ¬ Rose old.sink_faults new.sink_faults → Says boot plan
     → (status_code status ≡ status_code ImageFailed) ⊎ IsOrStarved (status_code status) Done
 done_said words Done old new boot plan ends run source sink is = inr (inl refl)
 done_said words Usage old new boot plan ends run source sink is = absurd (subst IsRun ends.belongs.0 run)
@@ -177,7 +164,7 @@ done_said words NoMemory old new boot plan ends run source sink is = inr (inr re
 refused_said : (words : List (List ℕ)) (status : Status) (old new : Outside) (boot : List ℕ)
     → EndsAs (RunAnswer words (Some boot) new.left old.image new.image) status old new → (status ≡ ImageFailed → AsksForRun words (Some boot) new.left)
     → AreRun words → ¬ Rose old.source_faults new.source_faults → ¬ Rose old.sink_faults new.sink_faults
-    → ((plan : Plan) → ¬ SaysPlainPlan boot plan) → IsOrStarved (status_code status) Refused
+    → ((plan : Plan) → ¬ Says boot plan) → IsOrStarved (status_code status) Refused
 refused_said words Done old new boot ends runs run source sink none =
     let done = run_done (asked words) (Some boot) new.left old.image new.image ends.text run ends.belongs in
     absurd (gives_none boot new.left done.plan none done.gives)
@@ -193,14 +180,14 @@ refused_said words NoMemory old new boot ends runs run source sink none = inr re
 done_if_told : (words : List (List ℕ)) (status : Status) (old new : Outside) (left : Option (List ℕ))
     → EndsAs (RunAnswer words left new.left old.image new.image) status old new → AreRun words → ¬ Rose old.source_faults new.source_faults
     → ¬ Rose old.sink_faults new.sink_faults
-    → IfSome left (λ boot. (plan : Plan) → SaysPlainPlan boot plan → (status_code status ≡ status_code ImageFailed) ⊎ IsOrStarved (status_code status) Done)
+    → IfSome left (λ boot. (plan : Plan) → Says boot plan → (status_code status ≡ status_code ImageFailed) ⊎ IsOrStarved (status_code status) Done)
 done_if_told words status old new None ends run source sink = tt
 done_if_told words status old new (Some boot) ends run source sink = λ plan is. done_said words status old new boot plan ends run source sink is
 
 refused_if_told : (words : List (List ℕ)) (status : Status) (old new : Outside) (left : Option (List ℕ))
     → EndsAs (RunAnswer words left new.left old.image new.image) status old new → (status ≡ ImageFailed → AsksForRun words left new.left)
     → AreRun words → ¬ Rose old.source_faults new.source_faults → ¬ Rose old.sink_faults new.sink_faults
-    → IfSome left (λ boot. ((plan : Plan) → ¬ SaysPlainPlan boot plan) → IsOrStarved (status_code status) Refused)
+    → IfSome left (λ boot. ((plan : Plan) → ¬ Says boot plan) → IsOrStarved (status_code status) Refused)
 refused_if_told words status old new None ends runs run source sink = tt
 refused_if_told words status old new (Some boot) ends runs run source sink = λ none. refused_said words status old new boot ends runs run source sink none
 

@@ -2,7 +2,6 @@
 use Rattle.std.proofs.Common.{◌≡◌, ◌≢◌, ℕ, List, Option, Some, None, refl, sym, subst}
 use Rattle.boot_text.specs.Sound.{IsSound}
 use Rattle.boot_text.specs.declared.plan.Plan.{Plan}
-use Rattle.vcpu_run.specs.Runnable.{IsRunnable}
 use Rattle.vio_io.specs.Image.{ImageState}
 use Rattle.paprvio.specs.declared.answer.Answer.{Answer}
 use Rattle.paprvio.specs.declared.request.Request.{Request}
@@ -15,7 +14,7 @@ use Rattle.paprvio.specs.declared.telling.Telling.{Telling}
 use Rattle.paprvio.specs.declared.telling.Telling.TheVariants as tellings
 use Rattle.paprvio.specs.Answer.{answer_status, answer_text, BootAnswer, BootTask, IsAnswerTo, IsToldOf, OwnTask, RequestAnswer, SourceAnswer, SourceTask, SumsUp, TellsOf, WordsTask}
 use Rattle.paprvio.specs.Generated.{generated}
-use Rattle.paprvio.specs.Run.{AreRun, GivesPlan, IsCounted, IsDoneAs, IsRefused, IsRefusedAs, IsRun, RunAnswer, SaysPlainPlan}
+use Rattle.paprvio.specs.Run.{AreRun, GivesPlan, IsCounted, IsDoneAs, IsRefused, IsRefusedAs, IsRun, RunAnswer, Says}
 use Rattle.paprvio.specs.Words.{asked}
 
 -- the boot text of a seed is to be run, or is refused
@@ -84,16 +83,10 @@ pub words_of_own : (words : List (List ℕ)) (request : Option Request) (old new
     → WordsTask words old new task
 words_of_own words request old new task is other own = own_to_words request words old new task other own (sym is)
 
--- a plan that is to be run can be
-sums_runnable : (request : Option Request) (plan : Plan) → SumsUp request plan → IsSound plan → IsRunnable plan
-sums_runnable None plan sums sound = absurd sums
-sums_runnable (Some (Run workers)) plan sums sound = absurd sums
-sums_runnable (Some (Generate seed)) plan sums sound = absurd sums
-sums_runnable (Some (Summarize seed workers)) plan sums sound = record { sound = sound; each = sums.plain }
-
-pub runnable_of : (words : List (List ℕ)) (old new : Option (List ℕ)) (plan : Plan) (telling : Telling) → WordsTask words old new (tasks.Run plan telling) → IsRunnable plan
-runnable_of words old new plan tellings.Whole task = record { sound = task.2; each = task.1.says.plain }
-runnable_of words old new plan tellings.Summary task = sums_runnable (asked words) plan task.0 task.1
+-- a plan that is to be run is sound
+pub sound_of : (words : List (List ℕ)) (old new : Option (List ℕ)) (plan : Plan) (telling : Telling) → WordsTask words old new (tasks.Run plan telling) → IsSound plan
+sound_of words old new plan tellings.Whole task = task.2
+sound_of words old new plan tellings.Summary task = task.1
 
 -- what is told without a run
 told_done : (request : Option Request) (old new : Option (List ℕ)) (image image' : ImageState) (text : List ℕ) → RequestAnswer request old new Done text → IsDoneAs request old new image image' text

@@ -17,15 +17,14 @@ use Rattle.paprvio.specs.declared.stop.Stop.{Stop}
 use Rattle.paprvio.specs.declared.stop.Stop.TheVariants as stops
 use Rattle.paprvio.specs.declared.task.Task.{Task}
 use Rattle.paprvio.specs.declared.task.Task.TheVariants as tasks
-use Rattle.paprvio.specs.Run.{AreRun, BootRefusal, GivesPlan, IsRefused, IsRefusedAs, IsSummaryOf, IsTraceOf, RunAnswer, SaysPlainPlan}
-use Rattle.paprvio.specs.Texts.{not_built_text, summary_text, too_long_text, usage_text}
+use Rattle.paprvio.specs.Run.{AreRun, GivesPlan, IsFaulty, IsRefused, IsRefusedAs, IsSummaryOf, IsTraceOf, RunAnswer, Says}
+use Rattle.paprvio.specs.Texts.{summary_text, too_long_text, usage_text}
 use Rattle.vio_trace.specs.Form.{IsTextOf}
 use Rattle.vio_trace.specs.declared.rows.Trace.{Trace}
 
 abbrev pub answer_status : Answer → Status
 answer_status answers.Usage = Usage
 answer_status answers.TooLong = Refused
-answer_status answers.NotBuilt = Refused
 answer_status (answers.Refused text) = Refused
 answer_status (answers.Trace text) = Done
 answer_status (answers.Generated text) = Done
@@ -34,7 +33,6 @@ answer_status (answers.Summary text) = Done
 abbrev pub answer_text : Answer → List ℕ
 answer_text answers.Usage = usage_text
 answer_text answers.TooLong = too_long_text
-answer_text answers.NotBuilt = not_built_text
 answer_text (answers.Refused text) = text.items
 answer_text (answers.Trace text) = text.items
 answer_text (answers.Generated text) = text.items
@@ -60,12 +58,12 @@ TellsOf telling plan image image' answer = (answer_status answer ≡ Done) × Is
 
 -- the text that belongs to a boot text that is refused
 abbrev pub BootAnswer : List ℕ → Status → List ℕ → Type 0
-BootAnswer boot Refused text = BootRefusal boot text
+BootAnswer boot Refused text = IsFaulty boot text
 BootAnswer boot _ text = ⊥
 
 -- what is to be done with a boot text: its plan is run, or its refusal is told
 abbrev pub BootTask : List ℕ → Telling → Task → Type 0
-BootTask boot asked_telling (tasks.Run plan telling) = (telling ≡ asked_telling) × SaysPlainPlan boot plan × IsSound plan
+BootTask boot asked_telling (tasks.Run plan telling) = (telling ≡ asked_telling) × Says boot plan × IsSound plan
 BootTask boot asked_telling (tasks.Tell answer) = BootAnswer boot (answer_status answer) (answer_text answer)
 
 -- the text that belongs to what a source gave, where no plan is run
@@ -95,7 +93,7 @@ WordsAnswer words = RequestAnswer (asked words)
 
 -- a seed's boot text says this plan
 abbrev pub SumsUp : Option Request → Plan → Type 0
-SumsUp (Some (requests.Summarize seed workers)) plan = SaysPlainPlan (generated seed) plan
+SumsUp (Some (requests.Summarize seed workers)) plan = Says (generated seed) plan
 SumsUp _ plan = ⊥
 
 -- what is to be done where the source is not asked

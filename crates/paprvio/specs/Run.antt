@@ -8,7 +8,6 @@ use Rattle.boot_text.specs.declared.plan.Plan.{Plan}
 use Rattle.boot_text.specs.declared.read.TheConstants.{MOST_TEXT}
 use Rattle.vcpu_run.specs.OnDisk.{LeadsOn}
 use Rattle.vcpu_run.specs.RunLaw.{KeepsLaw}
-use Rattle.vcpu_run.specs.Runnable.{IsPlainPartition}
 use Rattle.vio_io.specs.Image.{ImageState, AreWhole}
 use Rattle.vio_num.specs.Counts.{Rose}
 use Rattle.vio_trace.specs.declared.rows.Trace.{Trace}
@@ -21,7 +20,7 @@ use Rattle.paprvio.specs.Generated.{generated}
 use Rattle.paprvio.specs.Words.{asked}
 use Rattle.paprvio.specs.Ending.{Outside, EndsAs}
 use Rattle.paprvio.specs.Status.{status_code}
-use Rattle.paprvio.specs.Texts.{usage_text, refused_text, not_built_text, summary_text, too_long_text}
+use Rattle.paprvio.specs.Texts.{usage_text, refused_text, summary_text, too_long_text}
 
 -- the words ask for the run of the boot text that the source gives
 abbrev pub IsRun : Option Request → Type 0
@@ -46,14 +45,9 @@ RunsPlan (Some (Run workers)) = ⊤
 RunsPlan (Some (Summarize seed workers)) = ⊤
 RunsPlan _ = ⊥
 
--- the plan has no LAN ports
-abbrev pub IsPlain : Plan → Type 0
-IsPlain plan = All IsPlainPartition plan.partitions
-
--- the boot text says this plan, which is of the kind that is run
-pub record SaysPlainPlan (boot : List ℕ) (plan : Plan) : Type 0 where
-  pub says : SaysPlan (plan_of boot) plan
-  pub plain : IsPlain plan
+-- the boot text says this plan
+abbrev pub Says : (boot : List ℕ) → Plan → Type 0
+Says boot plan = SaysPlan (plan_of boot) plan
 
 -- A trace that keeps the law of a run of the plan, whose rows of served requests lead from the blocks of the image to those that
 -- it then has; an image that told its blocks still tells them.
@@ -81,13 +75,6 @@ pub record IsFaulty (boot text : List ℕ) : Type 0 where
   pub refusal : plan_of boot ≡ refused line cause
   pub told : text ≡ refused_text line cause
 
--- the refusal of a boot text that says a plan of a kind that is not run
-pub record IsNotBuilt (boot text : List ℕ) : Type 0 where
-  pub plan : Plan
-  pub says : SaysPlan (plan_of boot) plan
-  pub other : ¬ IsPlain plan
-  pub told : text ≡ not_built_text
-
 -- the source was read to its end, and gave these bytes
 pub record ReadWhole (old new : Option (List ℕ)) (boot : List ℕ) : Type 0 where
   pub read : Consumes old new boot
@@ -99,16 +86,16 @@ pub record ReadTooMuch (old new : Option (List ℕ)) : Type 0 where
   pub read : Consumes old new bytes
   pub long : length bytes ≡ MOST_TEXT + 1
 
--- the source was read to its end, and its bytes say this plan, which is run
+-- the source was read to its end, and its bytes say this plan
 pub record GivesPlan (old new : Option (List ℕ)) (plan : Plan) : Type 0 where
   pub boot : List ℕ
   pub whole : ReadWhole old new boot
-  pub says : SaysPlainPlan boot plan
+  pub says : Says boot plan
 
 -- the words and the source ask for the run of a plan: of the source's, or of a seed's
 abbrev pub AsksFor : Option Request → (old new : Option (List ℕ)) → Type 0
 AsksFor (Some (Run workers)) old new = (plan : Plan) × GivesPlan old new plan
-AsksFor (Some (Summarize seed workers)) old new = (plan : Plan) × SaysPlainPlan (generated seed) plan
+AsksFor (Some (Summarize seed workers)) old new = (plan : Plan) × Says (generated seed) plan
 AsksFor _ old new = ⊥
 
 abbrev pub AsksForRun : List (List ℕ) → (old new : Option (List ℕ)) → Type 0
@@ -121,14 +108,10 @@ pub record IsDone (old new : Option (List ℕ)) (image image' : ImageState) (tex
   pub counted : IsCounted image
   pub trace : IsTraceOf plan image image' text
 
--- the bytes were refused, with this text of the cause
-abbrev pub BootRefusal : List ℕ → List ℕ → Type 0
-BootRefusal boot text = IsFaulty boot text ⊎ IsNotBuilt boot text
-
 pub record IsRefusedWhole (old new : Option (List ℕ)) (text : List ℕ) : Type 0 where
   pub boot : List ℕ
   pub whole : ReadWhole old new boot
-  pub refusal : BootRefusal boot text
+  pub refusal : IsFaulty boot text
 
 pub record IsRefusedLong (old new : Option (List ℕ)) (text : List ℕ) : Type 0 where
   pub long : ReadTooMuch old new
@@ -146,7 +129,7 @@ pub record IsSummaryOf (plan : Plan) (image image' : ImageState) (text : List �
 -- the run of a seed's boot text was done and summed up
 pub record IsSummed (seed : ℕ) (image image' : ImageState) (text : List ℕ) : Type 0 where
   pub plan : Plan
-  pub says : SaysPlainPlan (generated seed) plan
+  pub says : Says (generated seed) plan
   pub counted : IsCounted image
   pub summary : IsSummaryOf plan image image' text
 
@@ -161,7 +144,7 @@ IsDoneAs None old new image image' text = ⊥
 -- the refusal of the boot text that was to be run
 abbrev pub IsRefusedAs : Option Request → (old new : Option (List ℕ)) → List ℕ → Type 0
 IsRefusedAs (Some (Run workers)) old new text = IsRefused old new text
-IsRefusedAs (Some (Summarize seed workers)) old new text = BootRefusal (generated seed) text
+IsRefusedAs (Some (Summarize seed workers)) old new text = IsFaulty (generated seed) text
 IsRefusedAs _ old new text = ⊥
 
 -- the text that belongs to a run: the usage alone for words that ask for nothing
@@ -202,14 +185,14 @@ abbrev pub IsOrStarved : ℕ → Status → Type 0
 IsOrStarved code status = (code ≡ status_code status) ⊎ (code ≡ status_code NoMemory)
 
 -- where neither source nor sink failed, words and bytes decide the exit status: that of other words, of a seed's text, of a boot
--- text that says a plan that is run, where the image did not fail as its blocks were counted, and of one that says none. A
--- seed's boot text is told to be refused where it is; that it never is, no clause says.
+-- text that says a plan, where the image did not fail as its blocks were counted, and of one that says none. A seed's boot text
+-- is told to be refused where it is; that it never is, no clause says.
 pub record MustEndAs (words : List (List ℕ)) (code : ℕ) (old new : Outside) : Type 0 where
   pub usage : asked words ≡ None → ¬ Rose old.sink_faults new.sink_faults → IsOrStarved code Usage
   pub generated : IsGenerate (asked words) → ¬ Rose old.sink_faults new.sink_faults → IsOrStarved code Done
   pub summed : IsSummarize (asked words) → ¬ Rose old.sink_faults new.sink_faults
       → (code ≡ status_code ImageFailed) ⊎ ((code ≡ status_code Refused) ⊎ IsOrStarved code Done)
   pub done : AreRun words → ¬ Rose old.source_faults new.source_faults → ¬ Rose old.sink_faults new.sink_faults
-      → IfSome old.left (λ boot. (plan : Plan) → SaysPlainPlan boot plan → (code ≡ status_code ImageFailed) ⊎ IsOrStarved code Done)
+      → IfSome old.left (λ boot. (plan : Plan) → Says boot plan → (code ≡ status_code ImageFailed) ⊎ IsOrStarved code Done)
   pub refused : AreRun words → ¬ Rose old.source_faults new.source_faults → ¬ Rose old.sink_faults new.sink_faults
-      → IfSome old.left (λ boot. ((plan : Plan) → ¬ SaysPlainPlan boot plan) → IsOrStarved code Refused)
+      → IfSome old.left (λ boot. ((plan : Plan) → ¬ Says boot plan) → IsOrStarved code Refused)

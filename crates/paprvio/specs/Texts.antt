@@ -28,10 +28,6 @@ cause_name causes.Transfer = codes "Transfer"
 abbrev pub refused_text : ℕ → Cause → List ℕ
 refused_text line cause = codes "paprvio: line " ++ decimal line ++ codes ": " ++ cause_name cause ++ codes "\n"
 
--- for bytes that say a plan of a kind that no machine runs yet
-abbrev pub not_built_text : List ℕ
-not_built_text = codes "paprvio: line 0: NotBuilt\n"
-
 -- for bytes that are more than a boot text
 abbrev pub too_long_text : List ℕ
 too_long_text = codes "paprvio: line 0: TooLong\n"

@@ -11,8 +11,6 @@ pub enum Answer {
     Usage,
     /// The input is longer than a boot text may be.
     TooLong,
-    /// The boot text says a plan of a kind that is not run.
-    NotBuilt,
     /// The boot text says no plan: the text names its first wrong line and the cause.
     Refused(Vec<u8>),
     /// The text of the run's trace.
@@ -30,7 +28,7 @@ impl Answer {
     {
         match self {
             Answer::Usage => Status::Usage,
-            Answer::TooLong | Answer::NotBuilt | Answer::Refused(_) => Status::Refused,
+            Answer::TooLong | Answer::Refused(_) => Status::Refused,
             Answer::Trace(_) | Answer::Generated(_) | Answer::Summary(_) => Status::Done,
         }
     }
@@ -42,7 +40,6 @@ impl Answer {
         match self {
             Answer::Usage => b"paprvio: usage\n",
             Answer::TooLong => b"paprvio: line 0: TooLong\n",
-            Answer::NotBuilt => b"paprvio: line 0: NotBuilt\n",
             Answer::Refused(text)
             | Answer::Trace(text)
             | Answer::Generated(text)

@@ -16,7 +16,6 @@ use crate::telling::Telling;
 use crate::words::read_words;
 use boot_text::{PlanFault, read_plan};
 use std::alloc::Global;
-use vcpu_run::is_runnable;
 use vio_io::Source;
 use vio_num::NoMemory;
 
@@ -25,13 +24,7 @@ fn boot_task(alloc: Global, boot: &[u8], telling: Telling) -> Result<Task, NoMem
     ensures { IfOk result (BootTask boot.now telling) }
 {
     match read_plan(alloc, boot) {
-        Ok(plan) => {
-            if is_runnable(&plan) {
-                Ok(Task::Run { plan, telling })
-            } else {
-                Ok(Task::Tell(Answer::NotBuilt))
-            }
-        }
+        Ok(plan) => Ok(Task::Run { plan, telling }),
         Err(PlanFault::Refused { line, cause }) => {
             Ok(Task::Tell(Answer::Refused(refused_text(alloc, line, cause)?)))
         }

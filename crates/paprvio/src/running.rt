@@ -1,6 +1,6 @@
 // The run of a plan over an image: its blocks are counted, the plan is run, and its trace is written as a text.
 ghost use Rattle.std.specs.Prelude.{◌≡◌, IfOk, IsErrOf};
-ghost use Rattle.vcpu_run.specs.Runnable.{IsRunnable};
+ghost use Rattle.boot_text.specs.Sound.{IsSound};
 ghost use Rattle.vio_trace.specs.Form.{IsInOrder};
 ghost use Rattle.vio_io.specs.Image.{FailsAfter, after_sizing};
 ghost use Rattle.paprvio.specs.Answer.{IsToldOfTrace, TellsOf, answer_status, answer_text};
@@ -45,7 +45,7 @@ fn run_counted<Di: Blocks + Drop>(
     image: Di,
     count: u64,
 ) -> Answered<Di>
-    requires runnable { IsRunnable plan.now }
+    requires sound { IsSound plan.now }
     requires count { count ≡ (Di.state image).size }
     ensures told { IfOk result.answer (TellsOf telling plan.now
         (Di.state image) (Di.state result.image)) }
@@ -73,7 +73,7 @@ pub fn run_plan<Di: Blocks + Drop>(
     telling: Telling,
     image: Di,
 ) -> Answered<Di>
-    requires { IsRunnable plan.now }
+    requires { IsSound plan.now }
     ensures told { IfOk result.answer (TellsOf telling plan.now
         (Di.state image) (Di.state result.image)) }
     ensures counted { ¬ IsErrOf result.answer Stop.ImageFailed → IsCounted (Di.state image) }

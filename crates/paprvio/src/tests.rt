@@ -18,7 +18,8 @@ const LAN_PORT: &str =
 
 const USAGE: &str = "paprvio: usage\n";
 
-const NOT_BUILT: &str = "paprvio: line 0: NotBuilt\n";
+// The trace of a port that does nothing.
+const PORT_TRACE: &str = "trace 1\nend\n";
 
 const TOO_LONG: &str = "paprvio: line 0: TooLong\n";
 
@@ -195,33 +196,26 @@ fn a_text_cut_short_is_refused(rt: HostRuntime) -> Result<(), Fail> {
 #[test]
 fn a_text_too_long_is_refused(rt: HostRuntime) -> Result<(), Fail> {
     for (len, told) in [
-        (1_048_576, NOT_BUILT),
-        (1_048_577, TOO_LONG),
-        (1_100_000, TOO_LONG),
+        (1_048_576, (0, PORT_TRACE)),
+        (1_048_577, (2, TOO_LONG)),
+        (1_100_000, (2, TOO_LONG)),
     ] {
         let mut text = LAN_PORT.as_bytes().to_vec(rt.alloc())?;
         text.resize(len, b'\n')?;
         let (status, written) = run_text(&rt, rt.alloc(), &["run"], &text, &SURE)?;
-        assert_eq!(rt; status, 2, "{len}");
-        assert_eq!(rt; written.as_slice(), told.as_bytes(), "{len}");
+        assert_eq!(rt; status, told.0, "{len}");
+        assert_eq!(rt; written.as_slice(), told.1.as_bytes(), "{len}");
     }
     Ok(())
 }
 
 #[test]
-fn plans_of_other_kinds_are_not_built(rt: HostRuntime) -> Result<(), Fail> {
+fn a_text_without_its_end_is_refused(rt: HostRuntime) -> Result<(), Fail> {
     let cut = repeated(rt.alloc(), "", LAN_PORT.as_bytes(), 1)?;
-    for (text, told) in [
-        (LAN_PORT.as_bytes(), NOT_BUILT),
-        (
-            &cut[..cut.len().saturating_sub(4)],
-            "paprvio: line 6: Place\n",
-        ),
-    ] {
-        let (status, written) = run_text(&rt, rt.alloc(), &["run"], text, &SURE)?;
-        assert_eq!(rt; status, 2, "{told:?}");
-        assert_eq!(rt; written.as_slice(), told.as_bytes(), "{told:?}");
-    }
+    let cut = &cut[..cut.len().saturating_sub(4)];
+    let (status, written) = run_text(&rt, rt.alloc(), &["run"], cut, &SURE)?;
+    assert_eq!(rt; status, 2);
+    assert_eq!(rt; written.as_slice(), b"paprvio: line 6: Place\n".as_slice());
     Ok(())
 }
 
@@ -301,7 +295,7 @@ fn a_sink_that_fails_ends_the_run(rt: HostRuntime) -> Result<(), Fail> {
     for (words, text, told) in [
         ("Run", FIRST_LOGIN, USAGE),
         ("run", "", "paprvio: line 1: Header\n"),
-        ("run", LAN_PORT, NOT_BUILT),
+        ("run", "vio 1", "paprvio: line 2: Place\n"),
     ] {
         let outside = Outside {
             write_most: 9,
@@ -324,7 +318,7 @@ fn an_image_that_fails_ends_a_run_of_a_plan_alone(rt: HostRuntime) -> Result<(),
     };
     for (text, status, told) in [
         (FIRST_LOGIN, 5, ""),
-        (LAN_PORT, 2, NOT_BUILT),
+        (LAN_PORT, 5, ""),
         ("vio 1", 2, "paprvio: line 2: Place\n"),
     ] {
         let ended = run_text(&rt, rt.alloc(), &["run"], text.as_bytes(), &outside)?;

@@ -1,5 +1,5 @@
 -- The responses in each client's queue are those of its server unit's rows, turn by turn.
-use Rattle.std.proofs.Common.{◌≡◌, ◌≢◌, ◌≤◌, ◌∙◌, inl, inr, ℕ, ◌==◌, ◌&&◌, Bool, true, false, cond, List, [], ◌∷◌, ◌++◌, Some, filter, map, slice_get, refl, sym, ap, subst}
+use Rattle.std.proofs.Common.{◌≡◌, ◌≢◌, ◌≤◌, ◌∙◌, inl, inr, ℕ, ◌==◌, ◌&&◌, Bool, true, false, cond, List, [], ◌∷◌, ◌++◌, Some, filter, map, slice_get, refl, sym, ap, subst, eq-eqb}
 use Rattle.std.proofs.Math.Logic.{∥∥₁_map, ∥∥₁_map₂}
 use Rattle.std.proofs.lemmas.Bool.{ne_eqb}
 use Rattle.std.proofs.lemmas.List.Elements.{All-nil}
@@ -19,28 +19,29 @@ use Rattle.vcpu_run.proofs.Order.{each_weaker}
 use Rattle.vcpu_run.proofs.Sole.{none_passes}
 
 -- a row of another server unit is no answered one of this
-not_of : (k j : ℕ) (row : Served) → k ≢ j → row.unit ≡ server_id k → is_answered_row (server_id j) row ≡ false
-not_of k j row apart is =
-    ap (λ (u : UnitId). ((u.partition == 0) && (u.unit == j)) && has_bytes row.answer) is ∙ ap (λ b. b && has_bytes row.answer) (ne_eqb k j apart)
+not_of : (home k j : ℕ) (row : Served) → k ≢ j → row.unit ≡ server_id home k → is_answered_row (server_id home j) row ≡ false
+not_of home k j row apart is =
+    ap (λ (u : UnitId). ((u.partition == home) && (u.unit == j)) && has_bytes row.answer) is
+    ∙ (ap (λ b. (b && (k == j)) && has_bytes row.answer) (eq-eqb home home refl) ∙ ap (λ b. b && has_bytes row.answer) (ne_eqb k j apart))
 
 skips : (test : Served → Bool) (row : Served) (rows : List Served) → test row ≡ false → filter test (row ∷ rows) ≡ filter test rows
 skips test row rows e = ap (λ b. cond b (row ∷ filter test rows) (filter test rows)) e
 
-only_others : (k j : ℕ) (old new : List Served) → k ≢ j → OnlyRowsOf (server_id k) old new
-    → filter (is_answered_row (server_id j)) new ≡ filter (is_answered_row (server_id j)) old
-only_others k j [] new apart only =
-    none_passes (is_answered_row (server_id j)) new
-    (each_weaker (λ (row : Served). row.unit ≡ server_id k) (λ row. is_answered_row (server_id j) row ≡ false) (λ row is. not_of k j row apart is) new
-    (each_from_all (λ (row : Served). row.unit ≡ server_id k) new only))
-only_others k j (row ∷ rows) [] apart only = absurd only
-only_others k j (row ∷ rows) (next ∷ nexts) apart only = at only.0 (only_others k j rows nexts apart only.1)
+only_others : (home k j : ℕ) (old new : List Served) → k ≢ j → OnlyRowsOf (server_id home k) old new
+    → filter (is_answered_row (server_id home j)) new ≡ filter (is_answered_row (server_id home j)) old
+only_others home k j [] new apart only =
+    none_passes (is_answered_row (server_id home j)) new
+    (each_weaker (λ (row : Served). row.unit ≡ server_id home k) (λ row. is_answered_row (server_id home j) row ≡ false) (λ row is. not_of home k j row apart is) new
+    (each_from_all (λ (row : Served). row.unit ≡ server_id home k) new only))
+only_others home k j (row ∷ rows) [] apart only = absurd only
+only_others home k j (row ∷ rows) (next ∷ nexts) apart only = at only.0 (only_others home k j rows nexts apart only.1)
   where
     test : Served → Bool
-    test = is_answered_row (server_id j)
+    test = is_answered_row (server_id home j)
 
-    at : StaysRow (server_id k) row next → filter test nexts ≡ filter test rows → filter test (next ∷ nexts) ≡ filter test (row ∷ rows)
+    at : StaysRow (server_id home k) row next → filter test nexts ≡ filter test rows → filter test (next ∷ nexts) ≡ filter test (row ∷ rows)
     at (inl same) rest = subst (λ (r : Served). filter test (r ∷ nexts) ≡ filter test (row ∷ rows)) (sym same) (ap (λ (l : List Served). cond (test row) (row ∷ l) l) rest)
-    at (inr both) rest = skips test next nexts (not_of k j next apart both.1) ∙ (rest ∙ sym (skips test row rows (not_of k j row apart both.0)))
+    at (inr both) rest = skips test next nexts (not_of home k j next apart both.1) ∙ (rest ∙ sym (skips test row rows (not_of home k j row apart both.0)))
 
 -- a turn of the server unit
 pub answered_served : (unit : UnitId) (old new : Pair) (history history' : List Served) → unit ≡ old.server → new.server ≡ old.server
@@ -53,12 +54,12 @@ answered_served unit old new history history' named server more begun is = recor
 }
 
 -- a turn of another one
-pub answered_elsewhere : (k j : ℕ) (other : Pair) (history history' : List Served) → k ≢ j → other.server ≡ server_id j
-    → ∥ OnlyRowsOf (server_id k) history history' ∥₁ → IsAnswered history other → IsAnswered history' other
-answered_elsewhere k j other history history' apart server only is = record {
+pub answered_elsewhere : (home k j : ℕ) (other : Pair) (history history' : List Served) → k ≢ j → other.server ≡ server_id home j
+    → ∥ OnlyRowsOf (server_id home k) history history' ∥₁ → IsAnswered history other → IsAnswered history' other
+answered_elsewhere home k j other history history' apart server only is = record {
   answers = ∥∥₁_map₂ only is.answers (λ only is.
       is ∙ (ap (λ u. answers_of u history) server
-      ∙ (ap (map answer_entry) (sym (only_others k j history history' apart only)) ∙ ap (λ u. answers_of u history') (sym server))));
+      ∙ (ap (map answer_entry) (sym (only_others home k j history history' apart only)) ∙ ap (λ u. answers_of u history') (sym server))));
   begun = is.begun;
 }
 

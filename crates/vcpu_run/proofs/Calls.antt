@@ -22,7 +22,7 @@ use Rattle.vscsi_client.specs.Transferred.{FitRows}
 use Rattle.vscsi_client.specs.Turned.{Site, LoginStep, Registered, Took, TookNone, Looked, Began, Wrote, NotWritten, Put, RanOut, Steps, Runs, Turned}
 use Rattle.vscsi_client.specs.Units.{FitsOp}
 use Rattle.vscsi_client.proofs.Fits.{submitted_fits, tasked_fits, logged_out_fits, taken_fits, turned_fits}
-use Rattle.vcpu_run.proofs.Growing.{StrokesGrow, strokes_same, strokes_on, strokes_none, strokes_read, strokes_written}
+use Rattle.unit_region.proofs.Growing.{StrokesGrow, strokes_same, strokes_on, strokes_none, strokes_read, strokes_written}
 
 -- writes of bytes
 laid : (shared : Bool) (mark : ℕ) (write : Write) (old new : PortState) → Lays shared mark write old new → StrokesGrow old new

@@ -1,5 +1,5 @@
 -- The copies and windows of a gathered trace keep the copy law.
-use Rattle.std.proofs.Common.{◌≡◌, ◌∙◌, ◌⊎◌, inl, inr, ℕ, ◌+◌, ◌==◌, ◌&&◌, ◌<◌, ◌≤◌, nat_lt, Bool, true, false, cond, List, [], ◌∷◌, All, Option, Some, None, IfSome, filter, length, map, slice_get, refl, sym, ap, subst, arith, zero, suc}
+use Rattle.std.proofs.Common.{◌≡◌, ◌∙◌, ◌⊎◌, inl, inr, ℕ, ◌+◌, ◌==◌, ◌&&◌, ◌<◌, ◌≤◌, nat_lt, Bool, true, false, cond, List, [], ◌∷◌, All, Option, Some, None, IfSome, filter, length, map, option_map, slice_get, refl, sym, ap, subst, arith, zero, suc}
 use Rattle.std.specs.List.{flat_map}
 use Rattle.std.proofs.lemmas.Bool.Decides.{nat_tests}
 use Rattle.vio_num.specs.declared.history.Grant.{Grant}
@@ -13,34 +13,38 @@ use Rattle.rdma_copy.specs.declared.copy.CopyRecord.{CopyRecord}
 use Rattle.rdma_copy.proofs.Laws.{lawful_stays}
 use Rattle.tce_window.specs.PlainPort.{known_of}
 use Rattle.tce_window.specs.Strokes.{AllWithin, IsWithin}
-use Rattle.tce_window.specs.Window.{strokes_at}
+use Rattle.tce_window.specs.Window.{WindowValue, strokes_at}
 use Rattle.tce_window.specs.declared.answers.TceRow.{TceRow}
 use Rattle.block_server.specs.Advances.{IsOwnCopy}
 use Rattle.boot_text.specs.Sound.{unit_at, IsClientOf, IsServer}
 use Rattle.boot_text.specs.declared.plan.Partition.{Partition}
+use Rattle.boot_text.specs.declared.plan.UnitPlan.TheVariants as units
+use Rattle.lan_script.specs.Units.{LanValue}
+use Rattle.lan_script.specs.declared.rows.LanRows.{LanRows}
 use Rattle.vio_trace.specs.declared.rows.Trace.{Trace}
 use Rattle.vio_trace.specs.declared.window_rows.CopyRow.{CopyRow}
 use Rattle.vio_trace.specs.declared.window_rows.StrokeRow.{StrokeRow}
 use Rattle.vio_trace.specs.declared.window_rows.TceValueRow.{TceValueRow}
 use Rattle.vcpu_run.specs.declared.pair.Pair.{Pair}
 use Rattle.vcpu_run.specs.declared.script.Script.{Script}
-use Rattle.vcpu_run.specs.declared.units.Seat.{Seat}
+use Rattle.vcpu_run.specs.declared.unit_seat.Seat.TheVariants as sits
+use Rattle.vcpu_run.specs.declared.unit_seat.UnitSeat.{UnitSeat}
 use Rattle.vcpu_run.specs.CopyRows.{copies_by, copy_row, same_unit}
-use Rattle.vcpu_run.specs.Gathered.{copies_of, marks_at, rows_if, trace_of, values_at, window_of, HasLawfulWindow, IsLawfulWindow}
-use Rattle.vcpu_run.specs.Machines.{server_id, AreScripts, IsOfPlan}
+use Rattle.vcpu_run.specs.Gathered.{copies_of, marks_at, rows_if, trace_of, values_at, window_at, HasLawfulWindow, IsLawfulWindow}
+use Rattle.vcpu_run.specs.Machines.{AreScripts, IsOfPlan}
 use Rattle.vcpu_run.specs.Numbered.{numbered}
-use Rattle.vcpu_run.specs.Pairs.{ArePairs, IsCopyOf}
+use Rattle.vcpu_run.specs.Pairs.{AreOfOneHome, IsCopyOf}
 use Rattle.vcpu_run.specs.RunLaw.{ArePlaced, AreVersions, CopiesAreLawful, IsBetween, IsLawfulCopy, LiesInRegion}
-use Rattle.vcpu_run.specs.Units.{client_seat, seats_of, server_seat}
+use Rattle.vcpu_run.specs.Units.{seats_of, unit_seat}
 use Rattle.vcpu_run.specs.Shown.{pages_at, puts_into, strokes_on, window_shown}
 use Rattle.vcpu_run.specs.Windows.{rows_from, rows_of_entry, rows_on, stroke_row, strokes_in_rows, values_from, values_in_rows}
 use Rattle.vcpu_run.proofs.Blocks.{entry_named, first_versions, pages_named, strokes_placed, values_named, IsOfEntry, IsOfWindow, IsOnPage}
 use Rattle.vcpu_run.proofs.Following.{each_from_all}
 use Rattle.vcpu_run.proofs.Order.{Each, Ordered, each_append, each_flat, each_weaker}
-use Rattle.vcpu_run.proofs.Ordering.{each_if, each_of}
+use Rattle.vcpu_run.proofs.Ordering.{each_of, marks_own, values_own}
 use Rattle.vcpu_run.proofs.Parts.{IsIn, Told, each_in, filter_both, found}
 use Rattle.vcpu_run.proofs.Placing.{SeatBefore, seats_ordered}
-use Rattle.vcpu_run.proofs.Seated.{IsSeated, IsSeatedAt, all_seated, client_in, server_in}
+use Rattle.vcpu_run.proofs.Seated.{IsSeated, IsSeatedAt, all_seated, planned_in}
 use Rattle.vcpu_run.proofs.Showing.{entry_shown, is_less, is_past, none_past, page_shown, shown_grows}
 use Rattle.vcpu_run.proofs.Sole.{all_from_each, apart_names, ordered_weaker, same_refl, sole}
 
@@ -69,21 +73,11 @@ pages_lie partitions unit strokes within (suc n) q most =
     (page_lies partitions unit q (strokes q) (omega (arith, most)) (within q))
     (pages_lie partitions unit strokes within n (q + 1) (omega (arith, most)))
 
-abbrev IsLawfulAt : Seat → Pair → Type 0
-IsLawfulAt seat pair = IsLawfulWindow (window_of pair seat.is_server)
-
-abbrev marks_of : Seat → Pair → List StrokeRow
-marks_of seat pair = strokes_in_rows seat.unit (window_of pair seat.is_server)
-
-abbrev values_by : Seat → Pair → List TceValueRow
-values_by seat pair = values_in_rows seat.unit (window_of pair seat.is_server)
-
-marks_lie : (partitions : List Partition) (seat : Seat) (slot : Option Pair) → IfSome slot (IsSeatedAt partitions seat) → IfSome slot (IsLawfulAt seat)
-    → Each (LiesInRegion partitions) (rows_if (marks_of seat) slot)
-marks_lie partitions seat None seated lawful = tt
-marks_lie partitions seat (Some pair) seated lawful =
-    let window = window_of pair seat.is_server in
-    pages_lie partitions seat.unit (strokes_at window.pages) lawful.within (length window.pages) 0 (omega (arith, seated.size))
+marks_lie : (partitions : List Partition) (unit : UnitId) (slot : Option WindowValue) → IfSome slot (IsSeatedAt partitions unit) → IfSome slot IsLawfulWindow
+    → Each (LiesInRegion partitions) (rows_if (strokes_in_rows unit) slot)
+marks_lie partitions unit None seated lawful = tt
+marks_lie partitions unit (Some window) seated lawful =
+    pages_lie partitions unit (strokes_at window.pages) lawful.within (length window.pages) 0 (omega (arith, seated.size))
 
 -- and values are put into entries of it
 
@@ -100,34 +94,29 @@ entries_lie partitions unit rows (suc n) q most =
     (rows_of_entry unit rows q) (entry_named unit q rows))
     (entries_lie partitions unit rows n (q + 1) (omega (arith, most)))
 
-values_lie : (partitions : List Partition) (seat : Seat) (slot : Option Pair) → IfSome slot (IsSeatedAt partitions seat)
-    → Each (LiesInWindow partitions) (rows_if (values_by seat) slot)
-values_lie partitions seat None seated = tt
-values_lie partitions seat (Some pair) seated =
-    let window = window_of pair seat.is_server in
-    entries_lie partitions seat.unit window.rows (length window.pages) 0 (omega (arith, seated.size))
+values_lie : (partitions : List Partition) (unit : UnitId) (slot : Option WindowValue) → IfSome slot (IsSeatedAt partitions unit)
+    → Each (LiesInWindow partitions) (rows_if (values_in_rows unit) slot)
+values_lie partitions unit None seated = tt
+values_lie partitions unit (Some window) seated =
+    entries_lie partitions unit window.rows (length window.pages) 0 (omega (arith, seated.size))
 
 -- a unit's rows are those of one seat
 
-pub marks_told : (pairs : List Pair) (unit : UnitId) (seats : List Seat)
-    → Told (λ (row : StrokeRow). same_unit row.unit unit) (λ (seat : Seat). same_unit seat.unit unit) (marks_at pairs) seats
-marks_told pairs unit seats =
-    each_of (λ seat. Each (λ (row : StrokeRow). same_unit row.unit unit ≡ same_unit seat.unit unit) (marks_at pairs seat)) seats
-    (λ seat. each_if (λ (row : StrokeRow). same_unit row.unit unit ≡ same_unit seat.unit unit) (marks_of seat) (slice_get pairs seat.pair)
-    (λ pair. let window = window_of pair seat.is_server in
-    each_weaker (IsOnPage seat.unit 0) (λ (row : StrokeRow). same_unit row.unit unit ≡ same_unit seat.unit unit) (λ row h. ap (λ u. same_unit u unit) h.0)
-    (marks_of seat pair) (pages_named seat.unit (strokes_at window.pages) 0 (length window.pages))))
+pub marks_told : (pairs : List Pair) (lan : LanValue) (unit : UnitId) (seats : List UnitSeat)
+    → Told (λ (row : StrokeRow). same_unit row.unit unit) (λ (seat : UnitSeat). same_unit seat.unit unit) (marks_at pairs lan) seats
+marks_told pairs lan unit seats =
+    each_of (λ seat. Each (λ (row : StrokeRow). same_unit row.unit unit ≡ same_unit seat.unit unit) (marks_at pairs lan seat)) seats
+    (λ seat. each_weaker (λ (row : StrokeRow). row.unit ≡ seat.unit) (λ (row : StrokeRow). same_unit row.unit unit ≡ same_unit seat.unit unit)
+    (λ row h. ap (λ u. same_unit u unit) h) (marks_at pairs lan seat) (marks_own pairs lan seat))
 
-pub values_told : (pairs : List Pair) (unit : UnitId) (seats : List Seat)
-    → Told (λ (row : TceValueRow). same_unit row.unit unit) (λ (seat : Seat). same_unit seat.unit unit) (values_at pairs) seats
-values_told pairs unit seats =
-    each_of (λ seat. Each (λ (row : TceValueRow). same_unit row.unit unit ≡ same_unit seat.unit unit) (values_at pairs seat)) seats
-    (λ seat. each_if (λ (row : TceValueRow). same_unit row.unit unit ≡ same_unit seat.unit unit) (values_by seat) (slice_get pairs seat.pair)
-    (λ pair. let window = window_of pair seat.is_server in
-    each_weaker (IsOfWindow seat.unit 0) (λ (row : TceValueRow). same_unit row.unit unit ≡ same_unit seat.unit unit) (λ row h. ap (λ u. same_unit u unit) h.0)
-    (values_by seat pair) (values_named seat.unit window.rows 0 (length window.pages))))
+pub values_told : (pairs : List Pair) (lan : LanValue) (unit : UnitId) (seats : List UnitSeat)
+    → Told (λ (row : TceValueRow). same_unit row.unit unit) (λ (seat : UnitSeat). same_unit seat.unit unit) (values_at pairs lan) seats
+values_told pairs lan unit seats =
+    each_of (λ seat. Each (λ (row : TceValueRow). same_unit row.unit unit ≡ same_unit seat.unit unit) (values_at pairs lan seat)) seats
+    (λ seat. each_weaker (λ (row : TceValueRow). row.unit ≡ seat.unit) (λ (row : TceValueRow). same_unit row.unit unit ≡ same_unit seat.unit unit)
+    (λ row h. ap (λ u. same_unit u unit) h) (values_at pairs lan seat) (values_own pairs lan seat))
 
-pub names_apart : (unit : UnitId) (seats : List Seat) → Ordered SeatBefore seats
+pub names_apart : (unit : UnitId) (seats : List UnitSeat) → Ordered SeatBefore seats
     → Ordered (λ a b. same_unit a.unit unit ≡ true → same_unit b.unit unit ≡ false) seats
 names_apart unit seats order =
     ordered_weaker SeatBefore (λ a b. same_unit a.unit unit ≡ true → same_unit b.unit unit ≡ false)
@@ -139,40 +128,37 @@ on_placed : (unit : UnitId) (page : ℕ) (strokes : Option (List StrokeValue)) �
 on_placed unit page None = tt
 on_placed unit page (Some strokes) = strokes_placed unit page 0 strokes
 
-marks_placed : (seat : Seat) (page : ℕ) (slot : Option Pair) → ArePlaced 0 (filter (λ (row : StrokeRow). row.page == page) (rows_if (marks_of seat) slot))
-marks_placed seat page None = tt
-marks_placed seat page (Some pair) =
-    let window = window_of pair seat.is_server in
-    subst (ArePlaced 0) (sym (page_shown seat.unit window page)) (on_placed seat.unit page (strokes_at window.pages page))
+marks_placed : (unit : UnitId) (page : ℕ) (slot : Option WindowValue) → ArePlaced 0 (filter (λ (row : StrokeRow). row.page == page) (rows_if (strokes_in_rows unit) slot))
+marks_placed unit page None = tt
+marks_placed unit page (Some window) = subst (ArePlaced 0) (sym (page_shown unit window page)) (on_placed unit page (strokes_at window.pages page))
 
-all_placed : (pairs : List Pair) (seats : List Seat) → Ordered SeatBefore seats → (unit : UnitId) (page : ℕ)
-    → ArePlaced 0 (filter (λ (row : StrokeRow). same_unit row.unit unit && row.page == page) (flat_map (marks_at pairs) seats))
-all_placed pairs seats order unit page =
+all_placed : (pairs : List Pair) (lan : LanValue) (seats : List UnitSeat) → Ordered SeatBefore seats → (unit : UnitId) (page : ℕ)
+    → ArePlaced 0 (filter (λ (row : StrokeRow). same_unit row.unit unit && row.page == page) (flat_map (marks_at pairs lan) seats))
+all_placed pairs lan seats order unit page =
     let test : StrokeRow → Bool = λ row. same_unit row.unit unit in
     let on : StrokeRow → Bool = λ row. row.page == page in
-    let hits : Seat → Bool = λ seat. same_unit seat.unit unit in
-    subst (ArePlaced 0) (sym (filter_both test on (flat_map (marks_at pairs) seats)))
-    (sole test hits (λ rows. ArePlaced 0 (filter on rows)) (marks_at pairs) tt seats (marks_told pairs unit seats)
-    (each_of (λ seat. hits seat ≡ true → ArePlaced 0 (filter on (marks_at pairs seat))) seats (λ seat is. marks_placed seat page (slice_get pairs seat.pair)))
+    let hits : UnitSeat → Bool = λ seat. same_unit seat.unit unit in
+    subst (ArePlaced 0) (sym (filter_both test on (flat_map (marks_at pairs lan) seats)))
+    (sole test hits (λ rows. ArePlaced 0 (filter on rows)) (marks_at pairs lan) tt seats (marks_told pairs lan unit seats)
+    (each_of (λ seat. hits seat ≡ true → ArePlaced 0 (filter on (marks_at pairs lan seat))) seats (λ seat is. marks_placed seat.unit page (window_at pairs lan seat)))
     (names_apart unit seats order))
 
-values_versioned : (seat : Seat) (e : ℕ) (slot : Option Pair) → IfSome slot (IsLawfulAt seat)
-    → AreVersions 1 (filter (λ (row : TceValueRow). row.entry == e) (rows_if (values_by seat) slot))
-values_versioned seat e None lawful = tt
-values_versioned seat e (Some pair) lawful =
-    let window = window_of pair seat.is_server in
-    subst (AreVersions 1) (sym (entry_shown seat.unit window e lawful.numbered)) (first_versions seat.unit e (length window.pages) window.rows lawful.numbered)
+values_versioned : (unit : UnitId) (e : ℕ) (slot : Option WindowValue) → IfSome slot IsLawfulWindow
+    → AreVersions 1 (filter (λ (row : TceValueRow). row.entry == e) (rows_if (values_in_rows unit) slot))
+values_versioned unit e None lawful = tt
+values_versioned unit e (Some window) lawful =
+    subst (AreVersions 1) (sym (entry_shown unit window e lawful.numbered)) (first_versions unit e (length window.pages) window.rows lawful.numbered)
 
-all_versioned : (pairs : List Pair) (seats : List Seat) → Ordered SeatBefore seats → Each (HasLawfulWindow pairs) seats → (unit : UnitId) (e : ℕ)
-    → AreVersions 1 (filter (λ (row : TceValueRow). same_unit row.unit unit && row.entry == e) (flat_map (values_at pairs) seats))
-all_versioned pairs seats order lawful unit e =
+all_versioned : (pairs : List Pair) (lan : LanValue) (seats : List UnitSeat) → Ordered SeatBefore seats → Each (HasLawfulWindow pairs lan) seats → (unit : UnitId) (e : ℕ)
+    → AreVersions 1 (filter (λ (row : TceValueRow). same_unit row.unit unit && row.entry == e) (flat_map (values_at pairs lan) seats))
+all_versioned pairs lan seats order lawful unit e =
     let test : TceValueRow → Bool = λ row. same_unit row.unit unit in
     let on : TceValueRow → Bool = λ row. row.entry == e in
-    let hits : Seat → Bool = λ seat. same_unit seat.unit unit in
-    subst (AreVersions 1) (sym (filter_both test on (flat_map (values_at pairs) seats)))
-    (sole test hits (λ rows. AreVersions 1 (filter on rows)) (values_at pairs) tt seats (values_told pairs unit seats)
-    (each_weaker (HasLawfulWindow pairs) (λ seat. hits seat ≡ true → AreVersions 1 (filter on (values_at pairs seat)))
-    (λ seat h is. values_versioned seat e (slice_get pairs seat.pair) h) seats lawful)
+    let hits : UnitSeat → Bool = λ seat. same_unit seat.unit unit in
+    subst (AreVersions 1) (sym (filter_both test on (flat_map (values_at pairs lan) seats)))
+    (sole test hits (λ rows. AreVersions 1 (filter on rows)) (values_at pairs lan) tt seats (values_told pairs lan unit seats)
+    (each_weaker (HasLawfulWindow pairs lan) (λ seat. hits seat ≡ true → AreVersions 1 (filter on (values_at pairs lan seat)))
+    (λ seat h is. values_versioned seat.unit e (window_at pairs lan seat) h.lawful) seats lawful)
     (names_apart unit seats order))
 
 -- nothing is put into a server unit's window
@@ -187,50 +173,49 @@ below_or_past a b P below past = at (nat_lt a b) refl
     at true is = below (is_less a b is)
     at false is = past (is_past a b is)
 
-none_put : (partitions : List Partition) (seat : Seat) (e : ℕ) (slot : Option Pair) → IfSome slot (IsSeatedAt partitions seat) → IfSome slot (IsLawfulAt seat)
-    → IsServer partitions seat.unit → filter (λ (row : TceValueRow). row.entry == e) (rows_if (values_by seat) slot) ≡ []
-none_put partitions seat e None seated lawful server = refl
-none_put partitions seat e (Some pair) seated lawful server =
-    let window = window_of pair seat.is_server in
+none_put : (partitions : List Partition) (unit : UnitId) (e : ℕ) (slot : Option WindowValue) → IfSome slot (IsSeatedAt partitions unit) → IfSome slot IsLawfulWindow
+    → IsServer partitions unit → filter (λ (row : TceValueRow). row.entry == e) (rows_if (values_in_rows unit) slot) ≡ []
+none_put partitions unit e None seated lawful server = refl
+none_put partitions unit e (Some window) seated lawful server =
     let none = seated.no_puts server in
-    entry_shown seat.unit window e lawful.numbered
-    ∙ below_or_past e 34 (rows_of_entry seat.unit window.rows e ≡ []) (λ below. none.1 e below)
-    (λ past. none_past seat.unit (length window.pages) e window.rows lawful.numbered (omega (arith, past, none.0, seated.size)))
+    entry_shown unit window e lawful.numbered
+    ∙ below_or_past e 34 (rows_of_entry unit window.rows e ≡ []) (λ below. none.1 e below)
+    (λ past. none_past unit (length window.pages) e window.rows lawful.numbered (omega (arith, past, none.0, seated.size)))
 
-no_server_puts : (partitions : List Partition) (pairs : List Pair) (seats : List Seat) → Ordered SeatBefore seats → Each (IsSeated partitions pairs) seats
-    → Each (HasLawfulWindow pairs) seats → (unit : UnitId) (e : ℕ) → IsServer partitions unit
-    → filter (λ (row : TceValueRow). same_unit row.unit unit && row.entry == e) (flat_map (values_at pairs) seats) ≡ []
-no_server_puts partitions pairs seats order seated lawful unit e server =
+no_server_puts : (partitions : List Partition) (pairs : List Pair) (lan : LanValue) (seats : List UnitSeat) → Ordered SeatBefore seats → Each (IsSeated partitions pairs lan) seats
+    → Each (HasLawfulWindow pairs lan) seats → (unit : UnitId) (e : ℕ) → IsServer partitions unit
+    → filter (λ (row : TceValueRow). same_unit row.unit unit && row.entry == e) (flat_map (values_at pairs lan) seats) ≡ []
+no_server_puts partitions pairs lan seats order seated lawful unit e server =
     let test : TceValueRow → Bool = λ row. same_unit row.unit unit in
     let on : TceValueRow → Bool = λ row. row.entry == e in
-    let hits : Seat → Bool = λ seat. same_unit seat.unit unit in
-    filter_both test on (flat_map (values_at pairs) seats)
-    ∙ sole test hits (λ rows. filter on rows ≡ []) (values_at pairs) refl seats (values_told pairs unit seats)
-    (each_two (IsSeated partitions pairs) (HasLawfulWindow pairs) (λ seat. hits seat ≡ true → filter on (values_at pairs seat) ≡ [])
-    (λ seat h h' is. none_put partitions seat e (slice_get pairs seat.pair) h h' (subst (IsServer partitions) (sym (one_name seat.unit unit is)) server)) seats seated lawful)
+    let hits : UnitSeat → Bool = λ seat. same_unit seat.unit unit in
+    filter_both test on (flat_map (values_at pairs lan) seats)
+    ∙ sole test hits (λ rows. filter on rows ≡ []) (values_at pairs lan) refl seats (values_told pairs lan unit seats)
+    (each_two (IsSeated partitions pairs lan) (HasLawfulWindow pairs lan) (λ seat. hits seat ≡ true → filter on (values_at pairs lan seat) ≡ [])
+    (λ seat h h' is. none_put partitions seat.unit e (window_at pairs lan seat) h h'.lawful (subst (IsServer partitions) (sym (one_name seat.unit unit is)) server)) seats seated lawful)
     (names_apart unit seats order)
 
--- what is shown of a seat's unit
+-- what is shown of a unit's window
 
-seat_shown : (partitions : List Partition) (pairs : List Pair) (scripts : List Script) (history : List Served) (grants : List Grant) (copies : List CopyRecord)
-    → Ordered SeatBefore (seats_of pairs scripts) → Each (IsSeated partitions pairs) (seats_of pairs scripts) → Each (HasLawfulWindow pairs) (seats_of pairs scripts)
-    → (seat : Seat) (pair : Pair) → IsIn seat (seats_of pairs scripts) → slice_get pairs seat.pair ≡ Some pair
-    → SideGrows (side_of (known_of (window_of pair seat.is_server))) (window_shown partitions (trace_of pairs scripts history grants copies) seat.unit)
-seat_shown partitions pairs scripts history grants copies order seated lawful seat pair inside e =
-    let trace = trace_of pairs scripts history grants copies in
-    let seats = seats_of pairs scripts in
-    let window = window_of pair seat.is_server in
-    let sits : IsSeatedAt partitions seat pair = subst (λ slot. IfSome slot (IsSeatedAt partitions seat)) e (each_in (IsSeated partitions pairs) seat seats inside seated) in
-    let law : IsLawfulWindow window = subst (λ slot. IfSome slot (IsLawfulAt seat)) e (each_in (HasLawfulWindow pairs) seat seats inside lawful) in
-    let hits : Seat → Bool = λ other. same_unit other.unit seat.unit in
+seat_shown : (partitions : List Partition) (pairs : List Pair) (scripts : List Script) (lan : LanValue) (rows : LanRows) (history : List Served) (grants : List Grant) (copies : List CopyRecord)
+    → Ordered SeatBefore (seats_of scripts) → Each (IsSeated partitions pairs lan) (seats_of scripts) → Each (HasLawfulWindow pairs lan) (seats_of scripts)
+    → (seat : UnitSeat) (window : WindowValue) → IsIn seat (seats_of scripts) → window_at pairs lan seat ≡ Some window
+    → SideGrows (side_of (known_of window)) (window_shown partitions (trace_of pairs scripts lan rows history grants copies) seat.unit)
+seat_shown partitions pairs scripts lan rows history grants copies order seated lawful seat window inside e =
+    let trace = trace_of pairs scripts lan rows history grants copies in
+    let seats = seats_of scripts in
+    let sits : IsSeatedAt partitions seat.unit window = subst (λ slot. IfSome slot (IsSeatedAt partitions seat.unit)) e (each_in (IsSeated partitions pairs lan) seat seats inside seated) in
+    let has : HasLawfulWindow pairs lan seat = each_in (HasLawfulWindow pairs lan) seat seats inside lawful in
+    let law : IsLawfulWindow window = subst (λ slot. IfSome slot IsLawfulWindow) e has.lawful in
+    let hits : UnitSeat → Bool = λ other. same_unit other.unit seat.unit in
     let put : TceValueRow → Bool = λ row. same_unit row.unit seat.unit in
     let laid : StrokeRow → Bool = λ row. same_unit row.unit seat.unit in
-    let own_values : filter put trace.tces ≡ values_by seat pair =
-    found put hits (values_at pairs) seat (same_refl seat.unit) seats inside (values_told pairs seat.unit seats) (names_apart seat.unit seats order)
-    ∙ ap (rows_if (values_by seat)) e in
-    let own_marks : filter laid trace.strokes ≡ marks_of seat pair =
-    found laid hits (marks_at pairs) seat (same_refl seat.unit) seats inside (marks_told pairs seat.unit seats) (names_apart seat.unit seats order)
-    ∙ ap (rows_if (marks_of seat)) e in
+    let own_values : filter put trace.tces ≡ values_in_rows seat.unit window =
+    found put hits (values_at pairs lan) seat (same_refl seat.unit) seats inside (values_told pairs lan seat.unit seats) (names_apart seat.unit seats order)
+    ∙ ap (rows_if (values_in_rows seat.unit)) e in
+    let own_marks : filter laid trace.strokes ≡ strokes_in_rows seat.unit window =
+    found laid hits (marks_at pairs lan) seat (same_refl seat.unit) seats inside (marks_told pairs lan seat.unit seats) (names_apart seat.unit seats order)
+    ∙ ap (rows_if (strokes_in_rows seat.unit)) e in
     shown_grows seat.unit window (pages_at partitions seat.unit) (puts_into trace seat.unit) (strokes_on trace seat.unit)
     sits.unit_is sits.size (law.there sits.free)
     (λ entry. filter_both put (λ row. row.entry == entry) trace.tces ∙ ap (filter (λ row. row.entry == entry)) own_values ∙ entry_shown seat.unit window entry law.numbered)
@@ -257,29 +242,33 @@ each_pair : (P : Pair → Type 0) (pairs : List Pair) → ((k : ℕ) (pair : Pai
 each_pair P [] h = tt
 each_pair P (pair ∷ pairs) h = (h 0 pair refl, each_pair P pairs (λ k other e. h (suc k) other e))
 
-all_copies : (partitions : List Partition) (pairs : List Pair) (scripts : List Script) (history : List Served) (grants : List Grant) (copies : List CopyRecord)
-    → ArePairs 0 copies pairs → AreScripts pairs scripts → IsOfPlan partitions pairs scripts
-    → ((seat : Seat) (pair : Pair) → IsIn seat (seats_of pairs scripts) → slice_get pairs seat.pair ≡ Some pair
-    → SideGrows (side_of (known_of (window_of pair seat.is_server))) (window_shown partitions (trace_of pairs scripts history grants copies) seat.unit))
-    → Each (IsLawfulCopy partitions (trace_of pairs scripts history grants copies)) (flat_map (copies_of copies) pairs)
-all_copies partitions pairs scripts history grants copies are are' plan shown =
+all_copies : (partitions : List Partition) (pairs : List Pair) (scripts : List Script) (lan : LanValue) (rows : LanRows) (history : List Served) (grants : List Grant) (copies : List CopyRecord)
+    → AreOfOneHome copies pairs → AreScripts pairs lan.seats scripts → IsOfPlan partitions pairs scripts lan.seats
+    → ((seat : UnitSeat) (window : WindowValue) → IsIn seat (seats_of scripts) → window_at pairs lan seat ≡ Some window
+    → SideGrows (side_of (known_of window)) (window_shown partitions (trace_of pairs scripts lan rows history grants copies) seat.unit))
+    → Each (IsLawfulCopy partitions (trace_of pairs scripts lan rows history grants copies)) (flat_map (copies_of copies) pairs)
+all_copies partitions pairs scripts lan rows history grants copies are are' plan shown =
     each_flat (IsLawfulCopy partitions trace) (copies_of copies) pairs
     (each_pair (λ pair. Each (IsLawfulCopy partitions trace) (copies_of copies pair)) pairs
     (λ k pair e. copies_each (IsLawfulCopy partitions trace) (IsCopyOf pair) pair.server (lawful_copy k pair e)
-    copies (each_from_all (IsCopyOf pair) copies (are k pair e).copies)))
+    copies (each_from_all (IsCopyOf pair) copies (are.pairs_are k pair e).copies)))
   where
     trace : Trace
-    trace = trace_of pairs scripts history grants copies
+    trace = trace_of pairs scripts lan rows history grants copies
 
     between : (k : ℕ) (pair : Pair) → slice_get pairs k ≡ Some pair → (copy : CopyRecord) → IsOwnCopy (known_of pair.own) (known_of pair.window) copy
         → (client : UnitId) → IsClientOf partitions client pair.server → IsBetween partitions trace copy pair.server client
     between k pair e copy own client is_client =
-        let named : IsClientOf partitions client (server_id k) = subst (IsClientOf partitions client) (are k pair e).server is_client in (
+        let planned = plan.pairs_are.each k pair e in
+        let there : slice_get pairs pair.server.unit ≡ Some pair = ap (slice_get pairs) planned.number ∙ e in (
           own.from,
           own.to,
           still_lawful copy (side_of (known_of pair.window)) (window_shown partitions trace client) (side_of (known_of pair.own)) (window_shown partitions trace pair.server) own.from own.to
-              (shown (client_seat client.partition client.unit k) pair (client_in partitions pairs scripts client k are' plan named) e)
-              (shown (server_seat k pair) pair (server_in pairs scripts k pair e) e) own.lawful,
+              (shown (unit_seat client.partition client.unit (sits.Client pair.server.unit)) pair.window
+              (planned_in partitions pairs scripts lan.seats client (units.Client pair.server is_client.0 is_client.1) are' plan is_client.2) (ap (option_map (λ (pair : Pair). pair.window)) there))
+              (shown (unit_seat pair.server.partition pair.server.unit sits.Server) pair.own
+              (planned_in partitions pairs scripts lan.seats pair.server (units.Server planned.pages) are' plan planned.planned) (ap (option_map (λ (pair : Pair). pair.own)) there))
+              own.lawful,
         )
 
     lawful_copy : (k : ℕ) (pair : Pair) → slice_get pairs k ≡ Some pair → (copy : CopyRecord) → IsCopyOf pair copy → copy.name.who ≡ pair.server
@@ -289,31 +278,31 @@ all_copies partitions pairs scripts history grants copies are are' plan shown =
         record {
           copy = copy;
           shown = refl;
-          by = (planned.pages, ap (unit_at partitions) (who ∙ (are k pair e).server) ∙ planned.planned);
+          by = (planned.pages, ap (unit_at partitions) who ∙ planned.planned);
           lawful = subst (λ unit. (client : UnitId) → IsClientOf partitions client unit → IsBetween partitions trace copy unit client) (sym who) (between k pair e copy (own who));
         }
 
-pub copies_are : (pairs : List Pair) (scripts : List Script) (history : List Served) (grants : List Grant) (copies : List CopyRecord) (partitions : List Partition)
-    → ArePairs 0 copies pairs → AreScripts pairs scripts → All (HasLawfulWindow pairs) (seats_of pairs scripts) → IsOfPlan partitions pairs scripts
-    → CopiesAreLawful partitions (trace_of pairs scripts history grants copies)
-copies_are pairs scripts history grants copies partitions are are' windows plan =
-    let trace = trace_of pairs scripts history grants copies in
-    let seats = seats_of pairs scripts in
-    let order = seats_ordered copies pairs scripts are are' in
-    let seated = all_seated partitions pairs scripts copies are are' plan in
-    let lawful = each_from_all (HasLawfulWindow pairs) seats windows in
+pub copies_are : (pairs : List Pair) (scripts : List Script) (lan : LanValue) (rows : LanRows) (history : List Served) (grants : List Grant) (copies : List CopyRecord) (partitions : List Partition)
+    → AreOfOneHome copies pairs → AreScripts pairs lan.seats scripts → All (HasLawfulWindow pairs lan) (seats_of scripts) → IsOfPlan partitions pairs scripts lan.seats
+    → CopiesAreLawful partitions (trace_of pairs scripts lan rows history grants copies)
+copies_are pairs scripts lan rows history grants copies partitions are are' windows plan =
+    let trace = trace_of pairs scripts lan rows history grants copies in
+    let seats = seats_of scripts in
+    let order = seats_ordered pairs lan.seats scripts are' in
+    let lawful = each_from_all (HasLawfulWindow pairs lan) seats windows in
+    let seated = all_seated partitions pairs scripts lan copies are are' plan lawful in
     record {
       each = all_from_each (IsLawfulCopy partitions trace) trace.copies
-          (all_copies partitions pairs scripts history grants copies are are' plan (seat_shown partitions pairs scripts history grants copies order seated lawful));
+          (all_copies partitions pairs scripts lan rows history grants copies are are' plan (seat_shown partitions pairs scripts lan rows history grants copies order seated lawful));
       strokes = all_from_each (LiesInRegion partitions) trace.strokes
-          (each_flat (LiesInRegion partitions) (marks_at pairs) seats
-          (each_two (IsSeated partitions pairs) (HasLawfulWindow pairs) (λ seat. Each (LiesInRegion partitions) (marks_at pairs seat))
-          (λ seat h h'. marks_lie partitions seat (slice_get pairs seat.pair) h h') seats seated lawful));
-      places = all_placed pairs seats order;
-      versions = all_versioned pairs seats order lawful;
+          (each_flat (LiesInRegion partitions) (marks_at pairs lan) seats
+          (each_two (IsSeated partitions pairs lan) (HasLawfulWindow pairs lan) (λ seat. Each (LiesInRegion partitions) (marks_at pairs lan seat))
+          (λ seat h h'. marks_lie partitions seat.unit (window_at pairs lan seat) h h'.lawful) seats seated lawful));
+      places = all_placed pairs lan seats order;
+      versions = all_versioned pairs lan seats order lawful;
       windows = all_from_each (LiesInWindow partitions) trace.tces
-          (each_flat (LiesInWindow partitions) (values_at pairs) seats
-          (each_weaker (IsSeated partitions pairs) (λ seat. Each (LiesInWindow partitions) (values_at pairs seat))
-          (λ seat h. values_lie partitions seat (slice_get pairs seat.pair) h) seats seated));
-      no_server = no_server_puts partitions pairs seats order seated lawful;
+          (each_flat (LiesInWindow partitions) (values_at pairs lan) seats
+          (each_weaker (IsSeated partitions pairs lan) (λ seat. Each (LiesInWindow partitions) (values_at pairs lan seat))
+          (λ seat h. values_lie partitions seat.unit (window_at pairs lan seat) h) seats seated));
+      no_server = no_server_puts partitions pairs lan seats order seated lawful;
     }

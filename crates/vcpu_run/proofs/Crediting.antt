@@ -1,26 +1,31 @@
 -- A script's records and its clients' credits, as lines end.
-use Rattle.std.proofs.Common.{◌≡◌, ◌≢◌, ◌∙◌, ◌⊎◌, inl, inr, ℕ, ◌<◌, ◌≤◌, nat_lt, ◌==◌, cond, Bool, true, false, List, [], ◌∷◌, ◌++◌, Option, Some, None, Result, Ok, Err, OnOk, IfSome, IsSomeAnd, length, slice_get, refl, sym, ap, subst, arith, eq-eqb, eqb-true}
+use Rattle.std.proofs.Common.{◌≡◌, ◌≢◌, ◌∙◌, ◌⊎◌, inl, inr, ℕ, ◌+◌, ◌<◌, ◌≤◌, nat_lt, ◌==◌, cond, Bool, true, false, List, [], ◌∷◌, ◌++◌, Option, Some, None, Result, Ok, Err, OnOk, IfSome, IsSomeAnd, length, slice_get, refl, sym, ap, subst, arith, eq-eqb, eqb-true}
+use Rattle.std.specs.Option.{option_map}
 use Rattle.std.proofs.lemmas.Bool.Decides.{nat_tests}
 use Rattle.std.proofs.lemmas.Option.{slice_get_past, slice_get_within}
 use Rattle.vio_num.specs.declared.hypervisor.Moved.{Moved}
 use Rattle.vio_num.specs.declared.memory.NoMemory.{NoMemory}
 use Rattle.boot_text.specs.declared.plan.Line.{Line}
 use Rattle.boot_text.specs.declared.verb.Verb.{Verb}
+use Rattle.vio_trace.specs.declared.outcome.Outcome.{Outcome}
 use Rattle.vio_trace.specs.declared.outcome.Outcome.TheVariants as outcomes
 use Rattle.vio_trace.specs.declared.rows.LogRow.{LogRow}
 use Rattle.vscsi_client.specs.State.{ClientState}
 use Rattle.vcpu_run.specs.declared.driver.Driver.{Driver}
 use Rattle.vcpu_run.specs.declared.pair.Pair.{Pair}
+use Rattle.vcpu_run.specs.declared.unit_seat.Seat.{Seat}
+use Rattle.vcpu_run.specs.declared.unit_seat.Seat.TheVariants as places
 use Rattle.vcpu_run.specs.declared.script.Progress.{Progress}
 use Rattle.vcpu_run.specs.declared.script.Script.{Script}
-use Rattle.vcpu_run.specs.declared.step.Step.{Step}
-use Rattle.vcpu_run.specs.declared.step.Step.TheVariants as steps
-use Rattle.vcpu_run.specs.Credited.{Agrees, Credit, Ended, IsFresh, IsWithin, KeepsAgreed, KeepsCredit, StepsAgreed, credit_after, credit_by, ended_by, taken_in}
-use Rattle.vcpu_run.specs.Agreed.{AllSame, AreLoggedOut, IsCredited, OnDrivers, SameDrivers, StepsSeat, driver_at, driver_in, taken_at, taken_by}
+use Rattle.unit_region.specs.declared.step.Step.{Step}
+use Rattle.unit_region.specs.declared.step.Step.TheVariants as steps
+use Rattle.vcpu_run.specs.Credited.{Agrees, Credit, Ended, IsFresh, IsWithin, KeepsAgreed, KeepsCredit, StepsAgreed, StepsPort, credit_after, credit_by, ended_by, grants, taken_in, uses_credit}
+use Rattle.vcpu_run.specs.Agreed.{AllSame, AreLoggedOut, IsCredited, OnDrivers, SameDrivers, StepsLine, StepsSeat, driver_at, driver_in, taken_at, taken_by}
 use Rattle.vcpu_run.specs.Sendings.{SameCredits}
 use Rattle.vcpu_run.specs.Scripts.{AreSeats}
+use Rattle.vcpu_run.specs.Suited.{suits}
 use Rattle.vcpu_run.proofs.Credits.{agrees_none, agrees_same}
-use Rattle.vcpu_run.proofs.Driving.{some_is}
+use Rattle.vcpu_run.proofs.Driving.{client_is, no_port, some_is}
 
 -- one line more
 pub after_more : (credit : Option Credit) (es : List Ended) (e : Ended) → credit_after credit (es ++ e ∷ []) ≡ credit_by e.verb e.outcome (credit_after credit es)
@@ -72,7 +77,8 @@ ended_more unit (l ∷ lines) (r ∷ logs) line row found = at (l.unit == unit) 
     at false e = e
 
 -- two units have not one seat
-pub one_seat : (partition u v k : ℕ) (seats : List ℕ) (pairs : List Pair) → AreSeats partition seats pairs → slice_get seats u ≡ Some k → slice_get seats v ≡ Some k → u ≡ v
+pub one_seat : (partition u v k : ℕ) (seats : List Seat) (pairs : List Pair) → AreSeats partition seats pairs → slice_get seats u ≡ Some (places.Client k)
+    → slice_get seats v ≡ Some (places.Client k) → u ≡ v
 one_seat partition u v k seats pairs are here there = at (slice_get pairs k) (are u k here) (are v k there)
   where
     driver : (o : Option Driver) → IsSomeAnd o (λ d. d.unit ≡ record { partition = partition; unit = u }) → IsSomeAnd o (λ d. d.unit ≡ record { partition = partition; unit = v }) → u ≡ v
@@ -103,7 +109,7 @@ two_of None p P Q on there = absurd there
 two_of (Some a) None P Q on there = absurd on
 two_of (Some a) (Some b) P Q on there = record { a = a; b = b; was = refl; is = refl; holds = on }
 
-seat_there : (partition u k : ℕ) (seats : List ℕ) (pairs : List Pair) → AreSeats partition seats pairs → slice_get seats u ≡ Some k
+seat_there : (partition u k : ℕ) (seats : List Seat) (pairs : List Pair) → AreSeats partition seats pairs → slice_get seats u ≡ Some (places.Client k)
     → IsSomeAnd (driver_at pairs k) (λ d. d.unit ≡ record { partition = partition; unit = u })
 seat_there partition u k seats pairs are found = at (slice_get pairs k) (are u k found)
   where
@@ -120,17 +126,19 @@ credited_same old new script same is = record {
   agrees = λ less unit k found.
       subst (λ (o : Option Driver). IfSome o (λ driver. Agrees (taken_by unit script) (credit_after None (ended_by unit script.lines.now script.logs.items)) driver.client))
       (sym (same k)) (is.agrees less unit k found);
+  ports = is.ports;
 }
 
 -- or nothing of the credits of the script's own clients
 pub credited_by_own : (old new : List Pair) (script : Script)
-    → ((unit k : ℕ) → slice_get script.seats.items unit ≡ Some k → OnDrivers (driver_at old k) (driver_at new k) (λ a b. SameCredits a.client b.client))
+    → ((unit k : ℕ) → slice_get script.seats.items unit ≡ Some (places.Client k) → OnDrivers (driver_at old k) (driver_at new k) (λ a b. SameCredits a.client b.client))
     → IsCredited old script → IsCredited new script
 credited_by_own old new script same is = record {
   law = is.law;
   fresh = is.fresh;
   agrees = λ less unit k found.
       at (taken_by unit script) (credit_after None (ended_by unit script.lines.now script.logs.items)) (driver_at old k) (driver_at new k) (same unit k found) (is.agrees less unit k found);
+  ports = is.ports;
 }
   where
     at : (taken : ℕ) (credit : Option Credit) (o p : Option Driver) → OnDrivers o p (λ a b. SameCredits a.client b.client)
@@ -152,7 +160,7 @@ here_or a b = at (a == b)
 
 -- the current line is to be gone on with
 pub credited_waits : (old new : List Pair) (script : Script) (progress : Progress) (line : Line) (seat : ℕ) (did : Moved)
-    → slice_get script.lines.now script.at ≡ Some line → slice_get script.seats.items line.unit ≡ Some seat
+    → slice_get script.lines.now script.at ≡ Some line → slice_get script.seats.items line.unit ≡ Some (places.Client seat)
     → AreSeats script.partition script.seats.items old
     → StepsSeat seat line.verb (taken_in script.progress) (taken_in progress) old new (Ok (steps.Waits did))
     → IsCredited old script → IsCredited new (record script { progress = progress })
@@ -160,6 +168,7 @@ credited_waits old new script progress line seat did found sits are step is = re
   law = is.law;
   fresh = subst (λ (o : Option Line). IfSome o (λ l. IsFresh l.verb (taken_in progress))) (sym found) agreed.0;
   agrees = λ less unit k at. by less unit k at (here_or line.unit unit);
+  ports = is.ports;
 }
   where
     two : Two (driver_at old seat) (driver_at new seat) (λ a b. StepsAgreed line.verb (taken_in script.progress) (taken_in progress) a.client b.client (Ok (steps.Waits did)))
@@ -171,11 +180,11 @@ credited_waits old new script progress line seat did found sits are step is = re
     agreed : KeepsAgreed line.verb (taken_in script.progress) (taken_in progress) two.a.client two.b.client (steps.Waits did)
     agreed = two.holds fresh
 
-    by : script.at < length script.lines.now → (unit k : ℕ) → slice_get script.seats.items unit ≡ Some k → ((line.unit == unit) ≡ true) ⊎ ((line.unit == unit) ≡ false)
+    by : script.at < length script.lines.now → (unit k : ℕ) → slice_get script.seats.items unit ≡ Some (places.Client k) → ((line.unit == unit) ≡ true) ⊎ ((line.unit == unit) ≡ false)
         → IfSome (driver_at new k) (λ driver. Agrees (taken_at unit (taken_in progress) (slice_get script.lines.now script.at)) (credit_after None (ended_by unit script.lines.now script.logs.items)) driver.client)
     by less unit k at (inl e) =
         let same : line.unit ≡ unit = eqb-true line.unit unit e in
-        let one : seat ≡ k = some_is seat k (sym sits ∙ (ap (λ n. slice_get script.seats.items n) same ∙ at)) in
+        let one : seat ≡ k = client_is seat k (sym sits ∙ (ap (λ n. slice_get script.seats.items n) same ∙ at)) in
         let credit : Option Credit = credit_after None (ended_by unit script.lines.now script.logs.items) in
         let before : Agrees (taken_in script.progress) credit two.a.client =
         subst (λ b. Agrees (cond b (taken_in script.progress) 0) credit two.a.client) e
@@ -186,7 +195,7 @@ credited_waits old new script progress line seat did found sits are step is = re
         (subst (λ b. Agrees (cond b (taken_in progress) 0) credit two.b.client) (sym e) (agreed.1 credit before)))
     by less unit k at (inr e) =
         let credit : Option Credit = credit_after None (ended_by unit script.lines.now script.logs.items) in
-        let apart : k ≢ seat = λ is. apart_by line.unit unit e (one_seat script.partition line.unit unit k script.seats.items old are (sits ∙ ap Some (sym is)) at) in
+        let apart : k ≢ seat = λ is. apart_by line.unit unit e (one_seat script.partition line.unit unit k script.seats.items old are (sits ∙ ap (λ n. Some (places.Client n)) (sym is)) at) in
         subst (λ (o : Option Driver). IfSome o (λ driver. Agrees (taken_at unit (taken_in progress) (slice_get script.lines.now script.at)) credit driver.client)) (sym (step.others k apart))
         (subst (λ n. IfSome (driver_at old k) (λ driver. Agrees n credit driver.client))
         (ap (taken_at unit (taken_in script.progress)) found ∙ (ap (λ b. cond b (taken_in script.progress) 0) e ∙ (sym (ap (λ b. cond b (taken_in progress) 0) e) ∙ sym (ap (taken_at unit (taken_in progress)) found))))
@@ -194,7 +203,7 @@ credited_waits old new script progress line seat did found sits are step is = re
 
 -- the current line ended
 pub credited_ends : (old new : List Pair) (script ended : Script) (line : Line) (row : LogRow) (seat taken' : ℕ)
-    → slice_get script.lines.now script.at ≡ Some line → slice_get script.seats.items line.unit ≡ Some seat
+    → slice_get script.lines.now script.at ≡ Some line → slice_get script.seats.items line.unit ≡ Some (places.Client seat)
     → AreSeats script.partition script.seats.items old → length script.logs.items ≡ script.at
     → StepsSeat seat line.verb (taken_in script.progress) taken' old new (Ok (steps.Ends row.outcome))
     → ended.lines ≡ script.lines → ended.seats ≡ script.seats → ended.logs.items ≡ script.logs.items ++ row ∷ [] → taken_in ended.progress ≡ 0
@@ -205,7 +214,10 @@ credited_ends old new script ended line row seat taken' found sits are many step
   agrees = λ less unit k at.
       subst (λ n. IfSome (driver_at new k) (λ driver. Agrees n (credit_after None (ended_by unit ended.lines.now ended.logs.items)) driver.client)) (sym (none_taken unit (slice_get ended.lines.now ended.at)))
       (subst (λ es. IfSome (driver_at new k) (λ driver. Agrees 0 (credit_after None es) driver.client)) (sym (records unit))
-      (by unit k (subst (λ ss. slice_get ss.items unit ≡ Some k) seats at) (here_or line.unit unit)));
+      (by unit k (subst (λ ss. slice_get ss.items unit ≡ Some (places.Client k)) seats at) (here_or line.unit unit)));
+  ports = λ unit at.
+      let here : slice_get script.seats.items unit ≡ Some places.Port = subst (λ ss. slice_get ss.items unit ≡ Some places.Port) seats at in
+      ap (credit_after None) (records unit) ∙ port unit here (here_or line.unit unit);
 }
   where
     within : script.at < length script.lines.now
@@ -250,20 +262,26 @@ credited_ends old new script ended line row seat taken' found sits are many step
         (subst (λ (o : Option Driver). IfSome o (λ driver. Agrees (taken_by unit script) (credit_after None (before unit)) driver.client)) two.was
         (is.agrees within unit seat (ap (λ n. slice_get script.seats.items n) (sym same) ∙ sits)))))
 
+    port : (unit : ℕ) → slice_get script.seats.items unit ≡ Some places.Port → ((line.unit == unit) ≡ true) ⊎ ((line.unit == unit) ≡ false)
+        → credit_after None (cond (line.unit == unit) (before unit ++ e ∷ []) (before unit)) ≡ None
+    port unit at (inl h) =
+        absurd (no_port seat (sym sits ∙ (ap (λ n. slice_get script.seats.items n) (eqb-true line.unit unit h) ∙ at)))
+    port unit at (inr h) = ap (λ b. credit_after None (cond b (before unit ++ e ∷ []) (before unit))) h ∙ is.ports unit at
+
     law : (unit : ℕ) → ((line.unit == unit) ≡ true) ⊎ ((line.unit == unit) ≡ false) → KeepsCredit None (cond (line.unit == unit) (before unit ++ e ∷ []) (before unit))
     law unit (inl h) = subst (λ b. KeepsCredit None (cond b (before unit ++ e ∷ []) (before unit))) (sym h) (keeps_more None (before unit) e (is.law unit) (both unit h).0)
     law unit (inr h) = subst (λ b. KeepsCredit None (cond b (before unit ++ e ∷ []) (before unit))) (sym h) (is.law unit)
 
-    by : (unit k : ℕ) → slice_get script.seats.items unit ≡ Some k → ((line.unit == unit) ≡ true) ⊎ ((line.unit == unit) ≡ false)
+    by : (unit k : ℕ) → slice_get script.seats.items unit ≡ Some (places.Client k) → ((line.unit == unit) ≡ true) ⊎ ((line.unit == unit) ≡ false)
         → IfSome (driver_at new k) (λ driver. Agrees 0 (credit_after None (cond (line.unit == unit) (before unit ++ e ∷ []) (before unit))) driver.client)
     by unit k at (inl h) =
         let same : line.unit ≡ unit = eqb-true line.unit unit h in
-        let one : seat ≡ k = some_is seat k (sym sits ∙ (ap (λ n. slice_get script.seats.items n) same ∙ at)) in
+        let one : seat ≡ k = client_is seat k (sym sits ∙ (ap (λ n. slice_get script.seats.items n) same ∙ at)) in
         subst (λ b. IfSome (driver_at new k) (λ driver. Agrees 0 (credit_after None (cond b (before unit ++ e ∷ []) (before unit))) driver.client)) (sym h)
         (subst (λ (o : Option Driver). IfSome o (λ driver. Agrees 0 (credit_after None (before unit ++ e ∷ [])) driver.client)) (sym (ap (λ n. driver_at new n) (sym one) ∙ two.is))
         (subst (λ c. Agrees 0 c two.b.client) (sym (after_more None (before unit) e)) (both unit h).1))
     by unit k at (inr h) =
-        let apart : k ≢ seat = λ t. apart_by line.unit unit h (one_seat script.partition line.unit unit k script.seats.items old are (sits ∙ ap Some (sym t)) at) in
+        let apart : k ≢ seat = λ t. apart_by line.unit unit h (one_seat script.partition line.unit unit k script.seats.items old are (sits ∙ ap (λ n. Some (places.Client n)) (sym t)) at) in
         let zero_taken : taken_by unit script ≡ 0 = ap (taken_at unit (taken_in script.progress)) found ∙ ap (λ b. cond b (taken_in script.progress) 0) h in
         subst (λ b. IfSome (driver_at new k) (λ driver. Agrees 0 (credit_after None (cond b (before unit ++ e ∷ []) (before unit))) driver.client)) (sym h)
         (subst (λ (o : Option Driver). IfSome o (λ driver. Agrees 0 (credit_after None (before unit)) driver.client)) (sym (step.others k apart))
@@ -271,12 +289,15 @@ credited_ends old new script ended line row seat taken' found sits are many step
 
 -- the partition failed: no line is left
 pub credited_fails : (old new : List Pair) (script ended : Script) (line : Line) (row : LogRow) → slice_get script.lines.now script.at ≡ Some line
-    → length script.logs.items ≡ script.at → row.outcome ≡ outcomes.Done → ended.lines ≡ script.lines → ended.logs.items ≡ script.logs.items ++ row ∷ []
+    → length script.logs.items ≡ script.at → row.outcome ≡ outcomes.Done → ended.lines ≡ script.lines → ended.seats ≡ script.seats → ended.logs.items ≡ script.logs.items ++ row ∷ []
     → ended.at ≡ length ended.lines.now → IsCredited old script → IsCredited new ended
-credited_fails old new script ended line row found many done lines logs over is = record {
+credited_fails old new script ended line row found many done lines seats logs over is = record {
   law = λ unit. subst (KeepsCredit None) (sym (records unit)) (law unit (line.unit == unit));
   fresh = subst (λ (o : Option Line). IfSome o (λ l. IsFresh l.verb (taken_in ended.progress))) (sym none) tt;
   agrees = λ less unit k at. absurd (omega (arith, less, over));
+  ports = λ unit at.
+      let here : slice_get script.seats.items unit ≡ Some places.Port = subst (λ ss. slice_get ss.items unit ≡ Some places.Port) seats at in
+      ap (credit_after None) (records unit) ∙ port unit here (line.unit == unit);
 }
   where
     none : slice_get ended.lines.now ended.at ≡ None
@@ -294,6 +315,12 @@ credited_fails old new script ended line row found many done lines logs over is 
     records : (unit : ℕ) → ended_by unit ended.lines.now ended.logs.items ≡ cond (line.unit == unit) (before unit ++ e ∷ []) (before unit)
     records unit = ap (λ ls. ended_by unit ls.now ended.logs.items) lines ∙ (ap (ended_by unit script.lines.now) logs ∙ ended_more unit script.lines.now script.logs.items line row there)
 
+    port : (unit : ℕ) → slice_get script.seats.items unit ≡ Some places.Port → (b : Bool) → credit_after None (cond b (before unit ++ e ∷ []) (before unit)) ≡ None
+    port unit at true =
+        after_more None (before unit) e
+        ∙ (ap (λ o. credit_by line.verb o (credit_after None (before unit))) done ∙ is.ports unit at)
+    port unit at false = is.ports unit at
+
     law : (unit : ℕ) (b : Bool) → KeepsCredit None (cond b (before unit ++ e ∷ []) (before unit))
     law unit true = keeps_more None (before unit) e (is.law unit)
         (subst (λ o. IsWithin (credit_by line.verb o (credit_after None (before unit)))) (sym done) (within_last None (before unit) tt (is.law unit)))
@@ -310,7 +337,7 @@ steps_none pairs seat verb taken result agreed = record { others = λ k apart. r
 
 -- where no line is left
 pub credited_rest : (old new : List Pair) (script : Script) → length script.lines.now ≤ script.at → IsCredited old script → IsCredited new script
-credited_rest old new script over is = record { law = is.law; fresh = is.fresh; agrees = λ less unit k at. absurd (omega (arith, over, less)) }
+credited_rest old new script over is = record { law = is.law; fresh = is.fresh; agrees = λ less unit k at. absurd (omega (arith, over, less)); ports = is.ports }
 
 pub over_by : (x y : ℕ) → nat_lt x y ≡ false → y ≤ x
 over_by x y e = grind (arith, nat_tests)
@@ -325,11 +352,16 @@ credited_new pairs script logs none out = record {
   law = λ unit. subst (λ rs. KeepsCredit None (ended_by unit script.lines.now rs)) (sym logs) (empty unit script.lines.now);
   fresh = fresh (slice_get script.lines.now script.at);
   agrees = λ less unit k at. agrees (taken_by unit script) (credit_after None (ended_by unit script.lines.now script.logs.items)) (driver_at pairs k) (out unit k at);
+  ports = λ unit at. ap (λ rs. credit_after None (ended_by unit script.lines.now rs)) logs ∙ ap (credit_after None) (nothing unit script.lines.now);
 }
   where
     empty : (unit : ℕ) (ls : List Line) → KeepsCredit None (ended_by unit ls [])
     empty unit [] = tt
     empty unit (l ∷ ls) = tt
+
+    nothing : (unit : ℕ) (ls : List Line) → ended_by unit ls [] ≡ []
+    nothing unit [] = refl
+    nothing unit (l ∷ ls) = refl
 
     fresh : (o : Option Line) → IfSome o (λ l. IsFresh l.verb (taken_in script.progress))
     fresh None = tt
@@ -341,3 +373,172 @@ credited_new pairs script logs none out = record {
 
 pub less_by : (x y : ℕ) → nat_lt x y ≡ true → x < y
 less_by x y e = grind (arith, nat_tests)
+
+-- an outcome that grants nothing leaves a unit without a login
+none_by : (verb : Verb) (outcome : Outcome) → grants outcome ≡ false → credit_by verb outcome None ≡ None
+none_by verb (outcomes.Granted credits) h = absurd (cc)
+none_by verb (outcomes.Sent tag) h = at (uses_credit verb)
+  where
+    at : (b : Bool) → cond b (option_map (λ (c : Credit). record c { outstanding = c.outstanding + 1 }) None) None ≡ None
+    at true = refl
+    at false = refl
+none_by verb (outcomes.Took count) h = refl
+none_by verb outcomes.Lost h = refl
+none_by verb (outcomes.TookThenLost count) h = refl
+none_by verb (outcomes.Rejected reason) h = refl
+none_by verb outcomes.Unanswered h = refl
+none_by verb outcomes.Range h = refl
+none_by verb outcomes.NotLoggedIn h = refl
+none_by verb (outcomes.NoCredit limit) h = refl
+none_by verb (outcomes.Overlap tag) h = refl
+none_by verb outcomes.Closed h = refl
+none_by verb (outcomes.Dropped number held) h = refl
+none_by verb (outcomes.Data len sum) h = refl
+none_by verb (outcomes.Stale page) h = refl
+none_by verb outcomes.Unknown h = refl
+none_by verb (outcomes.Code code) h = refl
+none_by verb (outcomes.Value value) h = refl
+none_by verb (outcomes.Posted buffers code) h = refl
+none_by verb (outcomes.Frame code number) h = refl
+none_by verb outcomes.Done h = refl
+none_by verb (outcomes.Bytes shown) h = refl
+
+-- the current line, of a unit at a port, is to be gone on with
+pub port_waits : (old new : List Pair) (script : Script) (progress : Progress) (line : Line) (did : Moved)
+    → slice_get script.lines.now script.at ≡ Some line → slice_get script.seats.items line.unit ≡ Some places.Port → SameDrivers old new
+    → StepsPort line.verb (taken_in script.progress) (taken_in progress) (Ok (steps.Waits did))
+    → IsCredited old script → IsCredited new (record script { progress = progress })
+port_waits old new script progress line did found sits same step is = record {
+  law = is.law;
+  fresh = subst (λ (o : Option Line). IfSome o (λ l. IsFresh l.verb (taken_in progress))) (sym found)
+      (step (subst (λ (o : Option Line). IfSome o (λ l. IsFresh l.verb (taken_in script.progress))) found is.fresh));
+  agrees = λ less unit k at.
+      subst (λ (o : Option Driver). IfSome o (λ driver. Agrees (taken_at unit (taken_in progress) (slice_get script.lines.now script.at)) (credit_after None (ended_by unit script.lines.now script.logs.items)) driver.client)) (sym (same k))
+      (subst (λ n. IfSome (driver_at old k) (λ driver. Agrees n (credit_after None (ended_by unit script.lines.now script.logs.items)) driver.client)) (alike unit k at)
+      (is.agrees less unit k at));
+  ports = is.ports;
+}
+  where
+    apart : (unit k : ℕ) → slice_get script.seats.items unit ≡ Some (places.Client k) → (line.unit == unit) ≡ false
+    apart unit k at = by (here_or line.unit unit)
+      where
+        by : ((line.unit == unit) ≡ true) ⊎ ((line.unit == unit) ≡ false) → (line.unit == unit) ≡ false
+        by (inl h) = absurd (no_port k (sym at ∙ (ap (λ n. slice_get script.seats.items n) (sym (eqb-true line.unit unit h)) ∙ sits)))
+        by (inr h) = h
+
+    alike : (unit k : ℕ) → slice_get script.seats.items unit ≡ Some (places.Client k) → taken_by unit script ≡ taken_at unit (taken_in progress) (slice_get script.lines.now script.at)
+    alike unit k at =
+        let other = apart unit k at in
+        ap (taken_at unit (taken_in script.progress)) found ∙ (ap (λ b. cond b (taken_in script.progress) 0) other ∙ (sym (ap (λ b. cond b (taken_in progress) 0) other) ∙ sym (ap (taken_at unit (taken_in progress)) found)))
+
+-- it ended
+pub port_ends : (old new : List Pair) (script ended : Script) (line : Line) (row : LogRow)
+    → slice_get script.lines.now script.at ≡ Some line → slice_get script.seats.items line.unit ≡ Some places.Port
+    → length script.logs.items ≡ script.at → SameDrivers old new → grants row.outcome ≡ false
+    → ended.lines ≡ script.lines → ended.seats ≡ script.seats → ended.logs.items ≡ script.logs.items ++ row ∷ [] → taken_in ended.progress ≡ 0
+    → IsCredited old script → IsCredited new ended
+port_ends old new script ended line row found sits many same plain lines seats logs none is = record {
+  law = λ unit. subst (KeepsCredit None) (sym (records unit)) (law unit (here_or line.unit unit));
+  fresh = fresh_none (slice_get ended.lines.now ended.at);
+  agrees = λ less unit k at.
+      subst (λ n. IfSome (driver_at new k) (λ driver. Agrees n (credit_after None (ended_by unit ended.lines.now ended.logs.items)) driver.client)) (sym (none_taken unit (slice_get ended.lines.now ended.at)))
+      (subst (λ es. IfSome (driver_at new k) (λ driver. Agrees 0 (credit_after None es) driver.client)) (sym (records unit))
+      (by unit k (subst (λ ss. slice_get ss.items unit ≡ Some (places.Client k)) seats at) (here_or line.unit unit)));
+  ports = λ unit at.
+      let here : slice_get script.seats.items unit ≡ Some places.Port = subst (λ ss. slice_get ss.items unit ≡ Some places.Port) seats at in
+      ap (credit_after None) (records unit) ∙ port unit here (here_or line.unit unit);
+}
+  where
+    within : script.at < length script.lines.now
+    within = slice_get_within script.lines.now script.at line found
+
+    there : slice_get script.lines.now (length script.logs.items) ≡ Some line
+    there = ap (λ n. slice_get script.lines.now n) many ∙ found
+
+    e : Ended
+    e = record { verb = line.verb; outcome = row.outcome }
+
+    before : ℕ → List Ended
+    before unit = ended_by unit script.lines.now script.logs.items
+
+    records : (unit : ℕ) → ended_by unit ended.lines.now ended.logs.items ≡ cond (line.unit == unit) (before unit ++ e ∷ []) (before unit)
+    records unit = ap (λ ls. ended_by unit ls.now ended.logs.items) lines ∙ (ap (ended_by unit script.lines.now) logs ∙ ended_more unit script.lines.now script.logs.items line row there)
+
+    fresh_none : (o : Option Line) → IfSome o (λ l. IsFresh l.verb (taken_in ended.progress))
+    fresh_none None = tt
+    fresh_none (Some l) = λ take. none
+
+    none_taken : (unit : ℕ) (o : Option Line) → taken_at unit (taken_in ended.progress) o ≡ 0
+    none_taken unit None = refl
+    none_taken unit (Some l) = at (l.unit == unit)
+      where
+        at : (b : Bool) → cond b (taken_in ended.progress) 0 ≡ 0
+        at true = none
+        at false = refl
+
+    own : credit_after None (before line.unit) ≡ None
+    own = is.ports line.unit sits
+
+    still : credit_after None (before line.unit ++ e ∷ []) ≡ None
+    still = after_more None (before line.unit) e ∙ (ap (credit_by line.verb row.outcome) own ∙ none_by line.verb row.outcome plain)
+
+    one : IsWithin (credit_by e.verb e.outcome (credit_after None (before line.unit)))
+    one = subst IsWithin (sym (ap (credit_by line.verb row.outcome) own ∙ none_by line.verb row.outcome plain)) tt
+
+    law : (unit : ℕ) → ((line.unit == unit) ≡ true) ⊎ ((line.unit == unit) ≡ false) → KeepsCredit None (cond (line.unit == unit) (before unit ++ e ∷ []) (before unit))
+    law unit (inl h) = subst (λ b. KeepsCredit None (cond b (before unit ++ e ∷ []) (before unit))) (sym h)
+        (subst (λ u. KeepsCredit None (before u ++ e ∷ [])) (eqb-true line.unit unit h) (keeps_more None (before line.unit) e (is.law line.unit) one))
+    law unit (inr h) = subst (λ b. KeepsCredit None (cond b (before unit ++ e ∷ []) (before unit))) (sym h) (is.law unit)
+
+    port : (unit : ℕ) → slice_get script.seats.items unit ≡ Some places.Port → ((line.unit == unit) ≡ true) ⊎ ((line.unit == unit) ≡ false)
+        → credit_after None (cond (line.unit == unit) (before unit ++ e ∷ []) (before unit)) ≡ None
+    port unit at (inl h) = ap (λ b. credit_after None (cond b (before unit ++ e ∷ []) (before unit))) h
+        ∙ subst (λ u. credit_after None (before u ++ e ∷ []) ≡ None) (eqb-true line.unit unit h) still
+    port unit at (inr h) = ap (λ b. credit_after None (cond b (before unit ++ e ∷ []) (before unit))) h ∙ is.ports unit at
+
+    by : (unit k : ℕ) → slice_get script.seats.items unit ≡ Some (places.Client k) → ((line.unit == unit) ≡ true) ⊎ ((line.unit == unit) ≡ false)
+        → IfSome (driver_at new k) (λ driver. Agrees 0 (credit_after None (cond (line.unit == unit) (before unit ++ e ∷ []) (before unit))) driver.client)
+    by unit k at (inl h) = absurd (no_port k (sym at ∙ (ap (λ n. slice_get script.seats.items n) (sym (eqb-true line.unit unit h)) ∙ sits)))
+    by unit k at (inr h) =
+        let zero_taken : taken_by unit script ≡ 0 = ap (taken_at unit (taken_in script.progress)) found ∙ ap (λ b. cond b (taken_in script.progress) 0) h in
+        subst (λ b. IfSome (driver_at new k) (λ driver. Agrees 0 (credit_after None (cond b (before unit ++ e ∷ []) (before unit))) driver.client)) (sym h)
+        (subst (λ (o : Option Driver). IfSome o (λ driver. Agrees 0 (credit_after None (before unit)) driver.client)) (sym (same k))
+        (subst (λ n. IfSome (driver_at old k) (λ driver. Agrees n (credit_after None (before unit)) driver.client)) zero_taken (is.agrees within unit k at)))
+
+-- the current line ended, at whichever unit it is
+pub line_ends : (old new : List Pair) (script ended : Script) (line : Line) (row : LogRow) (taken' : ℕ)
+    → slice_get script.lines.now script.at ≡ Some line → IsSomeAnd (slice_get script.seats.items line.unit) (suits line.verb)
+    → AreSeats script.partition script.seats.items old → length script.logs.items ≡ script.at
+    → StepsLine script.seats.items line (taken_in script.progress) taken' old new (Ok (steps.Ends row.outcome))
+    → ended.lines ≡ script.lines → ended.seats ≡ script.seats → ended.logs.items ≡ script.logs.items ++ row ∷ [] → taken_in ended.progress ≡ 0
+    → IsCredited old script → IsCredited new ended
+line_ends old new script ended line row taken' found suited are many step lines seats logs none is = at (slice_get script.seats.items line.unit) refl suited
+  where
+    at : (o : Option Seat) → slice_get script.seats.items line.unit ≡ o → IsSomeAnd o (suits line.verb) → IsCredited new ended
+    at None e h = absurd h
+    at (Some places.Server) e h = absurd h
+    at (Some (places.Client k)) e h = credited_ends old new script ended line row k taken' found e are many (step.client k e) lines seats logs none is
+    at (Some places.Port) e h = port_ends old new script ended line row found e many (step.port e).0 (step.port e).1 lines seats logs none is
+
+-- it is to be gone on with
+pub line_waits : (old new : List Pair) (script : Script) (progress : Progress) (line : Line) (did : Moved)
+    → slice_get script.lines.now script.at ≡ Some line → IsSomeAnd (slice_get script.seats.items line.unit) (suits line.verb)
+    → AreSeats script.partition script.seats.items old
+    → StepsLine script.seats.items line (taken_in script.progress) (taken_in progress) old new (Ok (steps.Waits did))
+    → IsCredited old script → IsCredited new (record script { progress = progress })
+line_waits old new script progress line did found suited are step is = at (slice_get script.seats.items line.unit) refl suited
+  where
+    at : (o : Option Seat) → slice_get script.seats.items line.unit ≡ o → IsSomeAnd o (suits line.verb) → IsCredited new (record script { progress = progress })
+    at None e h = absurd h
+    at (Some places.Server) e h = absurd h
+    at (Some (places.Client k)) e h = credited_waits old new script progress line k did found e are (step.client k e) is
+    at (Some places.Port) e h = port_waits old new script progress line did found e (step.port e).0 (step.port e).1 is
+
+-- a line that waits for what does not come any more, at whichever unit it is
+pub lines_none : (pairs : List Pair) (seats : List Seat) (line : Line) (taken : ℕ) (outcome : Outcome)
+    → ((s : ClientState) → StepsAgreed line.verb taken taken s s (Ok (steps.Ends outcome))) → grants outcome ≡ false
+    → StepsLine seats line taken taken pairs pairs (Ok (steps.Ends outcome))
+lines_none pairs seats line taken outcome agreed plain = record {
+  client = λ k at. steps_none pairs k line.verb taken (Ok (steps.Ends outcome)) agreed;
+  port = λ at. (λ k. refl, plain);
+}

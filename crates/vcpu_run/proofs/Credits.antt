@@ -32,9 +32,10 @@ use Rattle.vscsi_client.specs.State.{ClientState}
 use Rattle.vscsi_client.specs.Taking.{TakesEntry, without_tag}
 use Rattle.vscsi_client.specs.Turned.{Site, LoginStep, Registered, Took, TookNone, Looked, Began, Wrote, NotWritten, Put, RanOut, Steps, Runs, Turned, NoneEnds, Ends, ends_turn, is_dropped, sent_by, sent_stage, unlinked}
 use Rattle.vscsi_client.proofs.Allowing.{not_range}
-use Rattle.vcpu_run.specs.declared.step.Step.{Step}
-use Rattle.vcpu_run.specs.declared.step.Step.TheVariants as steps
-use Rattle.vcpu_run.specs.Credited.{Credit, IsWithin, uses_credit, one_more, gives_back, credit_by, Agrees, KeepsAgreed, StepsAgreed, is_take, is_plain, IsPlain}
+use Rattle.unit_region.specs.declared.step.Step.{Step}
+use Rattle.unit_region.specs.declared.step.Step.TheVariants as steps
+use Rattle.vcpu_run.specs.Credited.{Credit, IsWithin, uses_credit, one_more, gives_back, credit_by, Agrees, KeepsAgreed, StepsAgreed, is_take}
+use Rattle.unit_region.specs.Steps.{is_plain, IsPlain}
 use Rattle.vcpu_run.specs.Works.{sends}
 use Rattle.vcpu_run.specs.Sendings.{SaysSent, SaysTurned, SameCredits, AnswersOne}
 

@@ -15,7 +15,6 @@ use Rattle.vio_trace.specs.declared.rows.QueueRow.{QueueRow}
 use Rattle.vcpu_run.specs.Sessions.{drops_of, entries_of, session_row, sessions_from}
 use Rattle.vcpu_run.specs.Numbered.{numbered}
 use Rattle.vcpu_run.specs.Gathered.{rows_if}
-use Rattle.vcpu_run.specs.declared.pair.Pair.{Pair}
 use Rattle.vcpu_run.specs.Windows.{rows_on, rows_from, rows_of_entry, values_from}
 
 pub sessions_more : (unit : UnitId) (pipe : PipeValue) (q n : ℕ)
@@ -104,8 +103,8 @@ pub row_is : (unit : UnitId) (pipe : PipeValue) (q slots : ℕ) (sent taken : Li
     → row_of unit q slots sent taken drops ≡ session_row unit pipe q
 row_is unit pipe q slots sent taken drops e f g h = cc
 
--- a unit whose pair is not there has no rows
-pub rows_none : {Row : Type 0} (rows : List Row) (f : Pair → List Row) (slot : Option Pair) → slot ≡ None → rows ≡ rows ++ rows_if f slot
+-- a unit that has no such part has no rows of it
+pub rows_none : {Part Row : Type 0} (rows : List Row) (f : Part → List Row) (slot : Option Part) → slot ≡ None → rows ≡ rows ++ rows_if f slot
 rows_none rows f slot e = subst (λ s. rows ≡ rows ++ rows_if f s) (sym e) (sym (append-nil rows))
 
 -- one element more

@@ -7,6 +7,8 @@ use Rattle.rdma_copy.specs.Copies.{side_of}
 use Rattle.rdma_copy.proofs.Laws.{side_same, side_on}
 use Rattle.vcpu_run.specs.declared.driver.Driver.{Driver}
 use Rattle.vcpu_run.specs.declared.pair.Pair.{Pair}
+use Rattle.vcpu_run.specs.declared.unit_seat.Seat.{Seat}
+use Rattle.vcpu_run.specs.declared.unit_seat.Seat.TheVariants as places
 use Rattle.vcpu_run.specs.Pairs.{AreDriven, AreDrivers, Drives, GoesOn, IsDriver}
 use Rattle.vcpu_run.specs.Scripts.{AreSeats}
 use Rattle.vcpu_run.specs.Works.{HaveClients}
@@ -126,11 +128,11 @@ still_client a b drives is = at a.driver is drives.driver
     at None h goes = absurd h
     at (Some driver) h goes = some_more b.driver _ (IsDriver b.window) (λ d step. step.1 h) goes
 
-pub still_clients : (seats : List ℕ) (old new : List Pair) → AreDriven old new → HaveClients seats old → HaveClients seats new
+pub still_clients : (seats : List Seat) (old new : List Pair) → AreDriven old new → HaveClients seats old → HaveClients seats new
 still_clients seats old new driven have u k found =
     driven_at (λ pair. IsSomeAnd pair.driver (IsDriver pair.window)) old new k driven still_client (have u k found)
 
-pub still_seats : (partition : ℕ) (seats : List ℕ) (old new : List Pair) → AreDriven old new → AreSeats partition seats old → AreSeats partition seats new
+pub still_seats : (partition : ℕ) (seats : List Seat) (old new : List Pair) → AreDriven old new → AreSeats partition seats old → AreSeats partition seats new
 still_seats partition seats old new driven are u k found = driven_at (λ pair. IsSomeAnd pair.driver _) old new k driven still (are u k found)
   where
     still : (a b : Pair) → Drives a b → IsSomeAnd a.driver (λ driver. driver.unit ≡ record { partition = partition; unit = u })
@@ -174,7 +176,7 @@ still_drivers old new driven are k pair found = at (slice_get old k) refl
         each a pair drives (are k a e)
 
 -- a partition's units have drivers, which are those of their windows
-pub clients_of : (partition : ℕ) (seats : List ℕ) (pairs : List Pair) → AreSeats partition seats pairs → AreDrivers pairs → HaveClients seats pairs
+pub clients_of : (partition : ℕ) (seats : List Seat) (pairs : List Pair) → AreSeats partition seats pairs → AreDrivers pairs → HaveClients seats pairs
 clients_of partition seats pairs are drivers u k found = at (slice_get pairs k) refl (are u k found)
   where
     both : (Q R : Driver → Type 0) (o : Option Driver) → IsSomeAnd o Q → IfSome o R → IsSomeAnd o R
@@ -194,5 +196,12 @@ seat_within P (x ∷ xs) (suc i) h = let less = seat_within P xs i h in omega (a
 pub some_there : {X : Type 0} (P : X → Type 0) (o : Option X) (x : X) → o ≡ Some x → IsSomeAnd o P → P x
 some_there P o x is h = subst (λ (t : Option _). IsSomeAnd t P) is h
 
-pub seat_of : (seats : List ℕ) (k : ℕ) → k < length seats → slice_get seats k ≡ Some (slice_index_or seats k 0)
-seat_of seats k less = slice_get-get_or seats k 0 less
+pub seat_of : (seats : List Seat) (k : ℕ) → k < length seats → slice_get seats k ≡ Some (slice_index_or seats k places.Server)
+seat_of seats k less = slice_get-get_or seats k places.Server less
+
+-- a client sits at one pair
+pub client_is : (j k : ℕ) → Some (places.Client j) ≡ Some (places.Client k) → j ≡ k
+client_is j k e = cc
+
+pub no_port : (k : ℕ) → Some (places.Client k) ≡ Some places.Port → ⊥
+no_port k e = cc

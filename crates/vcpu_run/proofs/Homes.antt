@@ -1,17 +1,16 @@
--- Where the units of a plan that runs stand: server units in the first partition, clients in the others.
-use Rattle.std.proofs.Common.{◌≡◌, ◌≢◌, ℕ, ◌<◌, ◌≤◌, true, false, List, [], ◌∷◌, All, Option, Some, None, length, refl, sym, ◌∙◌, ap, subst, arith}
+-- Where the units of a plan stand: its server units in one partition.
+use Rattle.std.proofs.Common.{◌≡◌, ℕ, zero, suc, ◌<◌, ◌≤◌, ◌||◌, Bool, true, false, cond, List, [], ◌∷◌, All, Option, Some, None, length, refl, sym, ◌∙◌, ap, subst, arith}
 use Rattle.std.specs.List.{slice_get}
 use Rattle.std.proofs.lemmas.Option.{slice_get_within, slice_get-get_or, get_or_from_slice_get}
 use Rattle.vio_num.specs.declared.names.UnitId.{UnitId}
-use Rattle.boot_text.specs.SoFar.{is_server, is_port, has_server}
+use Rattle.boot_text.specs.SoFar.{is_server, has_server}
 use Rattle.boot_text.specs.Sound.{AreSound, IsServer, IsSized, IsSoundPartition, unit_at, unit_in}
 use Rattle.boot_text.specs.declared.plan.Partition.{Partition}
 use Rattle.boot_text.specs.declared.plan.TheConstants.{MOST_UNITS}
 use Rattle.boot_text.specs.declared.plan.UnitPlan.{UnitPlan}
 use Rattle.boot_text.specs.declared.plan.UnitPlan.TheVariants as kinds
-use Rattle.vcpu_run.specs.Machines.{IsSilent}
-use Rattle.vcpu_run.specs.Runnable.{IsPlainPartition, ServesFirst}
-use Rattle.vcpu_run.specs.Machines.{is_client}
+use Rattle.vcpu_run.specs.Machines.{home_of}
+use Rattle.vcpu_run.specs.Ports.{unit_of}
 
 -- what is so of all elements is so of one that is there
 pub all_at : {X : Type 0} (P : X → Type 0) (xs : List X) (k : ℕ) (x : X) → All P xs → slice_get xs k ≡ Some x → P x
@@ -42,73 +41,81 @@ unit_below partitions id plan sound found =
     let few : length there.0.units ≤ MOST_UNITS = (partition_at partitions id.partition there.0 sound there.1).few in
     omega arith
 
--- the units of the first partition are server units
-pub home_serves : (partitions : List Partition) (home : Partition) → AreSound partitions → ServesFirst partitions → slice_get partitions 0 ≡ Some home
-    → All (λ unit. is_server unit ≡ true) home.units
-home_serves partitions home sound first found = (partition_at partitions 0 home sound found).alone (first home found)
-
--- the first partition has no script
-pub home_silent : (partitions : List Partition) → AreSound partitions → ServesFirst partitions → IsSilent partitions
-home_silent partitions sound first home found = (partition_at partitions 0 home sound found).silent (first home found)
-
 server_is : (unit : UnitPlan) → is_server unit ≡ true → (queue : ℕ) × (unit ≡ kinds.Server queue)
 server_is (kinds.Server queue) is = (queue, refl)
 server_is (kinds.Client server pages queue) is = cc
 server_is (kinds.Lan mac pages slots) is = cc
 
--- there is a first partition, with a first unit
-pub first_there : (partitions : List Partition) → AreSound partitions → (home : Partition) × (slice_get partitions 0 ≡ Some home)
-first_there [] sound = absurd (omega (arith, sound.some))
-first_there (home ∷ rest) sound = (home, refl)
-
 unit_there : (units : List UnitPlan) → 1 ≤ length units → (unit : UnitPlan) × (slice_get units 0 ≡ Some unit)
 unit_there [] some = absurd (omega arith)
 unit_there (unit ∷ rest) some = (unit, refl)
 
-pub home_unit : (partitions : List Partition) → AreSound partitions → ServesFirst partitions → IsServer partitions (record { partition = 0; unit = 0 })
-home_unit partitions sound first =
-    let home = first_there partitions sound in
-    let unit = unit_there home.0.units (partition_at partitions 0 home.0 sound home.1).some in
-    let is = server_is unit.0 (all_at (λ unit. is_server unit ≡ true) home.0.units 0 unit.0 (home_serves partitions home.0 sound first home.1) unit.1) in
-    (is.0, ap (λ partition. unit_in partition 0) home.1 ∙ unit.1 ∙ ap Some is.1)
+some_is : {X : Type 0} (x y : X) → Some x ≡ Some y → x ≡ y
+some_is x y e = cc
 
--- a unit of another partition is a client
-client_is : (partitions : List Partition) (p u : ℕ) (partition : Partition) (unit : UnitPlan) → AreSound partitions → ServesFirst partitions
-    → slice_get partitions p ≡ Some partition → slice_get partition.units u ≡ Some unit → is_port unit ≡ false → p ≢ 0 → is_client unit ≡ true
-client_is partitions p u partition (kinds.Server queue) sound first found at no_port apart =
-    absurd (apart (sound.one_home (record { partition = p; unit = u }) (record { partition = 0; unit = 0 })
-    (queue, ap (λ partition. unit_in partition u) found ∙ at) (home_unit partitions sound first)))
-client_is partitions p u partition (kinds.Client server pages queue) sound first found at no_port apart = refl
-client_is partitions p u partition (kinds.Lan mac pages slots) sound first found at no_port apart = cc
-
-pub others_drive : (partitions : List Partition) (p : ℕ) (partition : Partition) → AreSound partitions → All IsPlainPartition partitions → ServesFirst partitions
-    → slice_get partitions p ≡ Some partition → p ≢ 0 → All (λ unit. is_client unit ≡ true) partition.units
-others_drive partitions p partition sound plain first found apart =
-    all_from (λ unit. is_client unit ≡ true) partition.units
-    (λ u unit at. client_is partitions p u partition unit sound first found at
-    (all_at (λ unit. is_port unit ≡ false) partition.units u unit (all_at IsPlainPartition partitions p partition plain found).no_port at) apart)
-
-served_first : (partitions : List Partition) (home : Partition) (unit : UnitPlan) → AreSound partitions
-    → slice_get partitions 0 ≡ Some home → slice_get home.units 0 ≡ Some unit → is_port unit ≡ false → is_server unit ≡ true
-served_first partitions home (kinds.Server queue) sound found at no_port = refl
-served_first partitions home (kinds.Client server pages queue) sound found at no_port =
-    let less : server.partition < 0 = sound.earlier (record { partition = 0; unit = 0 }) server (pages, queue, ap (λ partition. unit_in partition 0) found ∙ at) in
-    absurd (omega arith)
-served_first partitions home (kinds.Lan mac pages slots) sound found at no_port = cc
-
-any_first : (units : List UnitPlan) (unit : UnitPlan) → slice_get units 0 ≡ Some unit → is_server unit ≡ true → has_server units ≡ true
-any_first [] unit at is = cc
-any_first (one ∷ rest) unit at is =
-    let e : is_server one ≡ true = subst (λ (unit : UnitPlan). is_server unit ≡ true) (sym (same one unit at)) is in
-    rw e refl
+-- units of which one is a server unit have one
+has_one : (units : List UnitPlan) (u queue : ℕ) → slice_get units u ≡ Some (kinds.Server queue) → has_server units ≡ true
+has_one [] u queue at = cc
+has_one (first ∷ rest) zero queue at = let e : first ≡ kinds.Server queue = some_is first (kinds.Server queue) at in rw e refl
+has_one (first ∷ rest) (suc u) queue at = either (is_server first) (has_one rest u queue at)
   where
-    same : (a b : UnitPlan) → Some a ≡ Some b → a ≡ b
-    same a b e = cc
+    either : (b : Bool) → has_server rest ≡ true → (b || has_server rest) ≡ true
+    either true e = refl
+    either false e = e
 
--- The first partition has server units: its clients could name none of an earlier one.
-pub first_serves : (partitions : List Partition) → AreSound partitions → All IsPlainPartition partitions → ServesFirst partitions
-first_serves partitions sound plain home found =
-    let unit = unit_there home.units (partition_at partitions 0 home sound found).some in
-    any_first home.units unit.0 unit.1
-    (served_first partitions home unit.0 sound found unit.1
-    (all_at (λ unit. is_port unit ≡ false) home.units 0 unit.0 (all_at IsPlainPartition partitions 0 home plain found).no_port unit.1))
+-- where a partition has server units the first such is at its number
+pub home_there : (partitions : List Partition) (p : ℕ) (partition : Partition) → slice_get partitions p ≡ Some partition → has_server partition.units ≡ true
+    → (one : Partition) × (slice_get partitions (home_of partitions) ≡ Some one)
+home_there [] p partition found has = cc
+home_there (first ∷ others) zero partition found has =
+    let e : has_server first.units ≡ true = ap (λ (one : Partition). has_server one.units) (some_is first partition found) ∙ has in
+    (first, ap (λ b. slice_get (first ∷ others) (cond b zero (suc (home_of others)))) e)
+home_there (first ∷ others) (suc p) partition found has = at (has_server first.units) (home_there others p partition found has)
+  where
+    at : (b : Bool) → (one : Partition) × (slice_get others (home_of others) ≡ Some one)
+        → (one : Partition) × (slice_get (first ∷ others) (cond b zero (suc (home_of others))) ≡ Some one)
+    at true there = (first, refl)
+    at false there = there
+
+-- and the partition at that number has server units, and no other ones
+pub home_has : (partitions : List Partition) (home : Partition) → slice_get partitions (home_of partitions) ≡ Some home → has_server home.units ≡ true
+home_has [] home found = cc
+home_has (first ∷ others) home found = at (has_server first.units) refl (λ there. home_has others home there) found
+  where
+    at : (b : Bool) → has_server first.units ≡ b → (slice_get others (home_of others) ≡ Some home → has_server home.units ≡ true)
+        → slice_get (first ∷ others) (cond b zero (suc (home_of others))) ≡ Some home → has_server home.units ≡ true
+    at true is rest there = ap (λ (one : Partition). has_server one.units) (sym (some_is first home there)) ∙ is
+    at false is rest there = rest there
+
+pub home_serves : (partitions : List Partition) (home : Partition) → AreSound partitions → slice_get partitions (home_of partitions) ≡ Some home
+    → All (λ unit. is_server unit ≡ true) home.units
+home_serves partitions home sound found = (partition_at partitions (home_of partitions) home sound found).alone (home_has partitions home found)
+
+-- a server unit is one of the partition at that number
+pub at_home : (partitions : List Partition) (server : UnitId) → AreSound partitions → IsServer partitions server
+    → (home : Partition) × (slice_get partitions (home_of partitions) ≡ Some home) × (server.partition ≡ home_of partitions)
+at_home partitions server sound is =
+    let there = unit_found (slice_get partitions server.partition) server.unit (kinds.Server is.0) is.1 in
+    let home = home_there partitions server.partition there.0 there.1 (has_one there.0.units server.unit is.0 there.2) in
+    let unit = unit_there home.0.units (partition_at partitions (home_of partitions) home.0 sound home.1).some in
+    let first = server_is unit.0 (all_at (λ unit. is_server unit ≡ true) home.0.units 0 unit.0 (home_serves partitions home.0 sound home.1) unit.1) in (
+      home.0,
+      home.1,
+      sound.one_home server (unit_of (home_of partitions) 0) is (first.0, ap (λ partition. unit_in partition 0) home.1 ∙ (unit.1 ∙ ap Some first.1)),
+    )
+
+-- where no partition is at that number there is no server unit
+pub no_home : (partitions : List Partition) (server : UnitId) → AreSound partitions → slice_get partitions (home_of partitions) ≡ None → IsServer partitions server → ⊥
+no_home partitions server sound none is = (let there = at_home partitions server sound is in nothing (slice_get partitions (home_of partitions)) there.0 none there.1)
+  where
+    nothing : (slot : Option Partition) (one : Partition) → slot ≡ None → slot ≡ Some one → ⊥
+    nothing slot one e e' = cc
+
+-- it is at most the number of partitions
+pub home_within : (partitions : List Partition) → home_of partitions ≤ length partitions
+home_within [] = omega arith
+home_within (first ∷ others) = at (has_server first.units) (home_within others)
+  where
+    at : (b : Bool) → home_of others ≤ length others → cond b zero (suc (home_of others)) ≤ length (first ∷ others)
+    at true less = omega arith
+    at false less = omega (arith, less)

@@ -50,14 +50,14 @@ driver_stays old new driver place is =
     })
 
 -- A turn of the server unit.
-pub served : (k : ℕ) (before after : List CopyRecord) (old new : Pair) → new.server ≡ old.server → new.driver ≡ old.driver
+pub served : (home k : ℕ) (before after : List CopyRecord) (old new : Pair) → new.server ≡ old.server → new.driver ≡ old.driver
     → (known_of new.own).place ≡ (known_of old.own).place → (known_of new.window).place ≡ (known_of old.window).place
     → SideGrows (side_at (known_of old.own)) (side_at (known_of new.own)) → SideGrows (side_at (known_of old.window)) (side_at (known_of new.window))
     → AreReady (known_of new.own) (known_of new.window)
     → ((event : Entry) → (side_of new.link true).kept ≡ Some event → event ≡ partner_freed)
     → CopiesMore (known_of new.own) (known_of new.window) before after
-    → IsPair 0 before k old → IsPair 0 after k new
-served k before after old new server driver own_place window_place own window ready event more is = record {
+    → IsPair home before k old → IsPair home after k new
+served home k before after old new server driver own_place window_place own window ready event more is = record {
   server = server ∙ is.server;
   own_unit = ap (λ (place : PortPlace). place.unit) own_place ∙ (is.own_unit ∙ sym server);
   ready = ready;
@@ -77,8 +77,8 @@ own_stays old new same =
     subst (λ (window : WindowValue). SideGrows (side_at (known_of old.own)) (side_at (known_of window))) (sym same) (side_same (side_at (known_of old.own)))
 
 -- A turn of the client's partition.
-pub driven : (k : ℕ) (made : List CopyRecord) (old new : Pair) → Drives old new → IsPair 0 made k old → IsPair 0 made k new
-driven k made old new d is = record {
+pub driven : (home k : ℕ) (made : List CopyRecord) (old new : Pair) → Drives old new → IsPair home made k old → IsPair home made k new
+driven home k made old new d is = record {
   server = d.server ∙ is.server;
   own_unit = ap (λ (window : WindowValue). window.unit) d.own ∙ (is.own_unit ∙ sym d.server);
   ready = record {
@@ -95,18 +95,18 @@ driven k made old new d is = record {
   driver = goes_on old.window new.window old.driver new.driver d.driver is.driver;
 }
 
-pub pairs_driven : (made : List CopyRecord) (old new : List Pair) → AreDriven old new → ArePairs 0 made old → ArePairs 0 made new
-pairs_driven made old new d are k pair found =
+pub pairs_driven : (home : ℕ) (made : List CopyRecord) (old new : List Pair) → AreDriven old new → ArePairs home made old → ArePairs home made new
+pairs_driven home made old new d are k pair found =
     let from = came_from Drives old new d.count d.each k pair found in
-    driven k made from.0 pair from.2 (are k from.0 from.1)
+    driven home k made from.0 pair from.2 (are k from.0 from.1)
 
 pub drivers_driven : (old new : List Pair) → AreDriven old new → AreDrivers old → AreDrivers new
 drivers_driven old new d are k pair found =
     let from = came_from Drives old new d.count d.each k pair found in
     goes_on from.0.window pair.window from.0.driver pair.driver from.2.driver (are k from.0 from.1)
 
-pub drivers_of : (made : List CopyRecord) (pairs : List Pair) → ArePairs 0 made pairs → AreDrivers pairs
-drivers_of made pairs are k pair found = (are k pair found).driver
+pub drivers_of : (home : ℕ) (made : List CopyRecord) (pairs : List Pair) → ArePairs home made pairs → AreDrivers pairs
+drivers_of home made pairs are k pair found = (are k pair found).driver
 
 -- the driver of a pair is that of the same unit
 driver_same : (driver : Option Driver) → KeepsDriver driver driver
@@ -132,10 +132,11 @@ driver_keeps id (Some old) None keeps is = absurd keeps
 driver_keeps id (Some old) (Some new) keeps is = keeps ∙ is
 
 pub stays_same : (pair : Pair) → Stays pair pair
-stays_same pair = record { server_slots = refl; client_slots = refl; pages = refl; driver = driver_same pair.driver }
+stays_same pair = record { server = refl; server_slots = refl; client_slots = refl; pages = refl; driver = driver_same pair.driver }
 
 stays_then : (a b c : Pair) → Stays a b → Stays b c → Stays a c
 stays_then a b c one two = record {
+  server = two.server ∙ one.server;
   server_slots = two.server_slots ∙ one.server_slots;
   client_slots = two.client_slots ∙ one.client_slots;
   pages = two.pages ∙ one.pages;
@@ -144,6 +145,7 @@ stays_then a b c one two = record {
 
 drives_stays : (old new : Pair) → Drives old new → Stays old new
 drives_stays old new d = record {
+  server = d.server;
   server_slots = d.server_slots;
   client_slots = d.client_slots;
   pages = d.pages;

@@ -12,7 +12,6 @@ pub mod Driving
 pub mod Elsewhere
 pub mod Following
 pub mod Freed
-pub mod Growing
 pub mod Homes
 pub mod Keeping
 pub mod Lasting
@@ -24,7 +23,8 @@ pub mod Order
 pub mod Ordering
 pub mod Parts
 pub mod Placing
-pub mod Plain
+pub mod PortOrder
+pub mod PortsFound
 pub mod QueueLaws
 pub mod RawCalling
 pub mod RawSaid

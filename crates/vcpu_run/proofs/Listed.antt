@@ -1,7 +1,8 @@
 -- What is so of the elements of a list once one is replaced, or each went on.
-use Rattle.std.proofs.Common.{◌≡◌, ◌≢◌, ℕ, zero, suc, ◌<◌, List, [], ◌∷◌, ◌++◌, Option, Some, None, IsSomeAnd, length, slice_index_or, refl, sym, ◌∙◌, subst, arith}
+use Rattle.std.proofs.Common.{◌≡◌, ◌≢◌, ℕ, zero, suc, ◌<◌, List, [], ◌∷◌, ◌++◌, Option, Some, None, IfSome, IsSomeAnd, length, map, slice_index_or, refl, sym, ◌∙◌, subst, arith}
 use Rattle.std.specs.List.{slice_get, slice_set}
-use Rattle.std.proofs.lemmas.Option.{slice_get_within, slice_get-get_or}
+use Rattle.std.specs.Option.{option_map}
+use Rattle.std.proofs.lemmas.Option.{slice_get_within, slice_get-get_or, slice_get-map}
 
 pub some_is : {X : Type 0} (x y : X) → Some x ≡ Some y → x ≡ y
 some_is x y h = cc
@@ -76,3 +77,21 @@ each_pushed Q [] y all here zero x found = subst (Q 0) (some_is y x found) here
 each_pushed Q [] y all here (suc k) x found = cc
 each_pushed Q (z ∷ zs) y all here zero x found = all zero x found
 each_pushed Q (z ∷ zs) y all here (suc k) x found = each_pushed (λ k. Q (suc k)) zs y (λ k x there. all (suc k) x there) here k x found
+
+-- the element that a mapped list has comes from one of the list
+mapped_one : {X Y : Type 0} (f : X → Y) (o : Option X) (y : Y) → option_map f o ≡ Some y → (x : X) × (o ≡ Some x) × (f x ≡ y)
+mapped_one f (Some x) y e = (x, refl, some_is (f x) y e)
+mapped_one f None y e = cc
+
+pub mapped : {X Y : Type 0} (f : X → Y) (xs : List X) (i : ℕ) (y : Y) → slice_get (map f xs) i ≡ Some y → (x : X) × (slice_get xs i ≡ Some x) × (f x ≡ y)
+mapped f xs i y e = mapped_one f (slice_get xs i) y (sym (slice_get-map f xs i) ∙ e)
+
+pub there_is : {X : Type 0} (xs : List X) (k : ℕ) → k < length xs → (x : X) × (slice_get xs k ≡ Some x)
+there_is [] k less = absurd (omega arith)
+there_is (x ∷ xs) zero less = (x, refl)
+there_is (x ∷ xs) (suc k) less = there_is xs k (omega arith)
+
+-- what is held is so where there is something
+pub if_held : {X : Type 0} (P Q : X → Type 0) (o : Option X) → ((x : X) → P x → Q x) → IsSomeAnd o P → IfSome o Q
+if_held P Q (Some x) f h = f x h
+if_held P Q None f h = absurd h

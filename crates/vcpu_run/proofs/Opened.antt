@@ -15,7 +15,6 @@ use Rattle.vscsi_client.specs.State.{ClientState, new_client}
 use Rattle.vscsi_client.specs.Transferred.{FitsRow}
 use Rattle.vcpu_run.specs.declared.driver.Driver.{Driver}
 use Rattle.vcpu_run.specs.declared.pair.Pair.{Pair}
-use Rattle.vcpu_run.specs.Machines.{server_id}
 use Rattle.vcpu_run.specs.Pairs.{IsCopyOf, IsDriver, IsPair}
 
 -- a window of so many pages, before any call
@@ -37,10 +36,10 @@ first_value e = refl
 size_new : (unit : UnitId) (pages : ℕ) (window : WindowValue) → window ≡ new_window unit pages → length window.pages ≡ pages
 size_new unit pages window new = ap (λ (w : WindowValue). length w.pages) new ∙ length-replicate pages blank_page
 
-ready_new : (k pages : ℕ) (client : UnitId) (own window : WindowValue) → own ≡ new_window (server_id k) 34 → window ≡ new_window client pages
-    → client ≢ server_id k → AreReady (known_of own) (known_of window)
-ready_new k pages client own window own_new window_new apart = record {
-  size = size_new (server_id k) 34 own own_new;
+ready_new : (server : UnitId) (pages : ℕ) (client : UnitId) (own window : WindowValue) → own ≡ new_window server 34 → window ≡ new_window client pages
+    → client ≢ server → AreReady (known_of own) (known_of window)
+ready_new server pages client own window own_new window_new apart = record {
+  size = size_new server 34 own own_new;
   first = λ e less. ap (λ (w : WindowValue). (known_of w).values e) own_new ∙ first_value e;
   own_free = ap (λ (w : WindowValue). w.held_count) own_new;
   client_free = ap (λ (w : WindowValue). w.held_count) window_new;
@@ -62,16 +61,16 @@ driver_new unit server pages window driver new unit_is client least most =
     }
 
 -- A server unit, with this client or none.
-pub pair_new : (k pages slots_a slots_b : ℕ) (client : UnitId) (link : PlainLink) (own window : WindowValue) (driver : Option Driver)
-    → own ≡ new_window (server_id k) 34 → window ≡ new_window client pages → client ≢ server_id k → IsNewLink link slots_a slots_b
+pub pair_new : (server : UnitId) (pages slots_a slots_b : ℕ) (client : UnitId) (link : PlainLink) (own window : WindowValue) (driver : Option Driver)
+    → own ≡ new_window server 34 → window ≡ new_window client pages → client ≢ server → IsNewLink link slots_a slots_b
     → IfSome driver (IsDriver window)
-    → IsPair 0 [] k (record { server = server_id k; link = link; own = own; window = window; driver = driver })
-pair_new k pages slots_a slots_b client link own window driver own_new window_new apart link_new driver_is =
-    let pair : Pair = record { server = server_id k; link = link; own = own; window = window; driver = driver } in
+    → IsPair server.partition [] server.unit (record { server = server; link = link; own = own; window = window; driver = driver })
+pair_new server pages slots_a slots_b client link own window driver own_new window_new apart link_new driver_is =
+    let pair : Pair = record { server = server; link = link; own = own; window = window; driver = driver } in
     record {
       server = refl;
       own_unit = ap (λ (w : WindowValue). w.unit) own_new;
-      ready = ready_new k pages client own window own_new window_new apart;
+      ready = ready_new server pages client own window own_new window_new apart;
       event = λ event kept. no_event link event link_new.first.kept kept;
       copies = All-nil (IsCopyOf pair);
       driver = driver_is;

@@ -5,13 +5,14 @@ use Rattle.std.proofs.lemmas.Bool.Decides.{nat_tests}
 use Rattle.vio_num.specs.declared.names.UnitId.{UnitId}
 use Rattle.vio_num.specs.declared.history.Grant.{Grant}
 use Rattle.vio_num.specs.declared.history.Served.{Served}
-use Rattle.crq_session.specs.PlainState.{side_of}
 use Rattle.tce_window.specs.Window.{strokes_at}
 use Rattle.rdma_copy.specs.declared.copy.CopyRecord.{CopyRecord}
 use Rattle.boot_text.specs.declared.plan.Line.{Line}
-use Rattle.std.proofs.lemmas.List.Elements.{All-nil}
-use Rattle.vio_trace.specs.declared.lan_rows.FrameRow.{FrameRow}
-use Rattle.vio_trace.specs.Form.{AnswerBefore, CopyBefore, IsInOrder, IsOfferOf, LogBefore, QueueBefore, StrokeBefore, TceValueBefore, UnitBefore}
+use Rattle.lan_script.specs.PortLaw.{AreOrdered}
+use Rattle.lan_script.specs.Units.{LanValue}
+use Rattle.lan_script.specs.declared.rows.LanRows.{LanRows}
+use Rattle.lan_script.specs.declared.seat.PortSeat.{PortSeat}
+use Rattle.vio_trace.specs.Form.{AnswerBefore, CopyBefore, IsInOrder, LogBefore, QueueBefore, StrokeBefore, TceValueBefore, UnitBefore}
 use Rattle.vio_trace.specs.declared.rows.AnswerRow.{AnswerRow}
 use Rattle.vio_trace.specs.declared.rows.LogRow.{LogRow}
 use Rattle.vio_trace.specs.declared.rows.QueueRow.{QueueRow}
@@ -21,94 +22,99 @@ use Rattle.vio_trace.specs.declared.window_rows.TceValueRow.{TceValueRow}
 use Rattle.vcpu_run.specs.declared.driver.Driver.{Driver}
 use Rattle.vcpu_run.specs.declared.pair.Pair.{Pair}
 use Rattle.vcpu_run.specs.declared.script.Script.{Script}
-use Rattle.vcpu_run.specs.declared.units.Seat.{Seat}
+use Rattle.vcpu_run.specs.declared.unit_seat.UnitSeat.{UnitSeat}
 use Rattle.vcpu_run.specs.CopyRows.{copies_by, copy_row, same_unit}
-use Rattle.vcpu_run.specs.Gathered.{answer_by, answers_at, answers_if, copies_of, logs_of, marks_at, rows_if, sessions_at, trace_of, values_at, window_of, HasLawfulWindow, IsLawfulWindow}
+use Rattle.vcpu_run.specs.Gathered.{answer_by, answers_at, copies_of, driver_of, logs_of, marks_at, queue_at, rows_if, sessions_at, trace_of, values_at, window_at, HasLawfulWindow, IsLawfulWindow}
 use Rattle.vcpu_run.specs.Machines.{AreScripts}
-use Rattle.vcpu_run.specs.Numbered.{numbered}
-use Rattle.vcpu_run.specs.Pairs.{ArePairs}
+use Rattle.vcpu_run.specs.Sessions.{session_rows}
+use Rattle.vcpu_run.specs.Windows.{strokes_in_rows, values_in_rows}
+use Rattle.vcpu_run.specs.Pairs.{ArePairs, AreOfOneHome}
 use Rattle.vcpu_run.specs.Scripts.{IsScript}
-use Rattle.vcpu_run.specs.Units.{seats_of, server_seat}
+use Rattle.vcpu_run.specs.Units.{seats_of}
 use Rattle.vcpu_run.proofs.Blocks.{alone, pages_named, pages_ordered, sessions_named, sessions_ordered, values_named, values_ordered, IsOfWindow, IsOnPage}
 use Rattle.vcpu_run.proofs.Following.{each_from_all, ordered_from}
 use Rattle.vcpu_run.proofs.Order.{Each, Ordered, ascends, each_weaker, ordered_flat}
-use Rattle.vcpu_run.proofs.Placing.{ArePartitions, SeatBefore, first_partition, partitions_are, partitions_behind, seats_ordered, servers_are, servers_ordered}
+use Rattle.vcpu_run.proofs.Placing.{ArePartitions, SeatBefore, first_partition, pairs_ordered, partitions_are, partitions_behind, seats_ordered}
 
--- what is so of each element, and what is so of the rows of a unit's pair
+-- what is so of each element, and what is so of the rows of a part that may be there
 pub each_of : {X : Type 0} (P : X → Type 0) (xs : List X) → ((x : X) → P x) → Each P xs
 each_of P [] h = tt
 each_of P (x ∷ xs) h = (h x, each_of P xs h)
 
-pub each_if : {Row : Type 0} (P : Row → Type 0) (rows : Pair → List Row) (slot : Option Pair) → ((pair : Pair) → Each P (rows pair)) → Each P (rows_if rows slot)
+pub each_if : {Part Row : Type 0} (P : Row → Type 0) (rows : Part → List Row) (slot : Option Part) → ((part : Part) → Each P (rows part)) → Each P (rows_if rows slot)
 each_if P rows None h = tt
-each_if P rows (Some pair) h = h pair
+each_if P rows (Some part) h = h part
 
-ordered_if : {Row : Type 0} (before : Row → Row → Type 0) (rows : Pair → List Row) (slot : Option Pair)
-    → ((pair : Pair) → slot ≡ Some pair → Ordered before (rows pair)) → Ordered before (rows_if rows slot)
+ordered_if : {Part Row : Type 0} (before : Row → Row → Type 0) (rows : Part → List Row) (slot : Option Part)
+    → ((part : Part) → slot ≡ Some part → Ordered before (rows part)) → Ordered before (rows_if rows slot)
 ordered_if before rows None h = tt
-ordered_if before rows (Some pair) h = h pair refl
+ordered_if before rows (Some part) h = h part refl
 
-queues_in_order : (pairs : List Pair) (seats : List Seat) → Ordered SeatBefore seats → Ordered QueueBefore (flat_map (sessions_at pairs) seats)
+-- the rows of a unit bear its name
+pub sessions_own : (pairs : List Pair) (seat : UnitSeat) → Each (λ (row : QueueRow). row.unit ≡ seat.unit) (sessions_at pairs seat)
+sessions_own pairs seat =
+    each_if (λ (row : QueueRow). row.unit ≡ seat.unit) (session_rows seat.unit) (queue_at pairs seat)
+    (λ pipe. each_weaker (λ (row : QueueRow). (row.unit ≡ seat.unit) × (1 ≤ row.session)) (λ (row : QueueRow). row.unit ≡ seat.unit) (λ row h. h.0)
+    (session_rows seat.unit pipe) (sessions_named seat.unit pipe 1 pipe.session))
+
+pub marks_own : (pairs : List Pair) (lan : LanValue) (seat : UnitSeat) → Each (λ (row : StrokeRow). row.unit ≡ seat.unit) (marks_at pairs lan seat)
+marks_own pairs lan seat =
+    each_if (λ (row : StrokeRow). row.unit ≡ seat.unit) (strokes_in_rows seat.unit) (window_at pairs lan seat)
+    (λ window. each_weaker (IsOnPage seat.unit 0) (λ (row : StrokeRow). row.unit ≡ seat.unit) (λ row h. h.0)
+    (strokes_in_rows seat.unit window) (pages_named seat.unit (strokes_at window.pages) 0 (length window.pages)))
+
+pub values_own : (pairs : List Pair) (lan : LanValue) (seat : UnitSeat) → Each (λ (row : TceValueRow). row.unit ≡ seat.unit) (values_at pairs lan seat)
+values_own pairs lan seat =
+    each_if (λ (row : TceValueRow). row.unit ≡ seat.unit) (values_in_rows seat.unit) (window_at pairs lan seat)
+    (λ window. each_weaker (IsOfWindow seat.unit 0) (λ (row : TceValueRow). row.unit ≡ seat.unit) (λ row h. h.0)
+    (values_in_rows seat.unit window) (values_named seat.unit window.rows 0 (length window.pages)))
+
+queues_in_order : (pairs : List Pair) (seats : List UnitSeat) → Ordered SeatBefore seats → Ordered QueueBefore (flat_map (sessions_at pairs) seats)
 queues_in_order pairs seats order =
-    ordered_flat (λ (seat : Seat). seat.unit) (λ (row : QueueRow). row.unit) QueueBefore (λ a b h. inl h) (sessions_at pairs) seats
-    (each_of (λ seat. Each (λ row. row.unit ≡ seat.unit) (sessions_at pairs seat)) seats
-    (λ seat. each_if (λ row. row.unit ≡ seat.unit) _ (slice_get pairs seat.pair)
-    (λ pair. each_weaker (λ (row : QueueRow). (row.unit ≡ seat.unit) × (1 ≤ row.session)) (λ (row : QueueRow). row.unit ≡ seat.unit) (λ row h. h.0)
-    _ (sessions_named seat.unit (side_of pair.link seat.is_server).queue 1 (side_of pair.link seat.is_server).queue.session))))
+    ordered_flat (λ (seat : UnitSeat). seat.unit) (λ (row : QueueRow). row.unit) QueueBefore (λ a b h. inl h) (sessions_at pairs) seats
+    (each_of (λ seat. Each (λ row. row.unit ≡ seat.unit) (sessions_at pairs seat)) seats (sessions_own pairs))
     (each_of (λ seat. Ordered QueueBefore (sessions_at pairs seat)) seats
-    (λ seat. ordered_if QueueBefore _ (slice_get pairs seat.pair)
-    (λ pair e. sessions_ordered seat.unit (side_of pair.link seat.is_server).queue 1 (side_of pair.link seat.is_server).queue.session)))
+    (λ seat. ordered_if QueueBefore (session_rows seat.unit) (queue_at pairs seat) (λ pipe e. sessions_ordered seat.unit pipe 1 pipe.session)))
     order
 
-strokes_in_order : (pairs : List Pair) (seats : List Seat) → Ordered SeatBefore seats → Ordered StrokeBefore (flat_map (marks_at pairs) seats)
-strokes_in_order pairs seats order =
-    ordered_flat (λ (seat : Seat). seat.unit) (λ (row : StrokeRow). row.unit) StrokeBefore (λ a b h. inl h) (marks_at pairs) seats
-    (each_of (λ seat. Each (λ row. row.unit ≡ seat.unit) (marks_at pairs seat)) seats
-    (λ seat. each_if (λ row. row.unit ≡ seat.unit) _ (slice_get pairs seat.pair)
-    (λ pair. let window = window_of pair seat.is_server in
-    each_weaker (IsOnPage seat.unit 0) (λ (row : StrokeRow). row.unit ≡ seat.unit) (λ row h. h.0)
-    _ (pages_named seat.unit (strokes_at window.pages) 0 (length window.pages)))))
-    (each_of (λ seat. Ordered StrokeBefore (marks_at pairs seat)) seats
-    (λ seat. ordered_if StrokeBefore _ (slice_get pairs seat.pair)
-    (λ pair e. let window = window_of pair seat.is_server in pages_ordered seat.unit (strokes_at window.pages) 0 (length window.pages))))
+strokes_in_order : (pairs : List Pair) (lan : LanValue) (seats : List UnitSeat) → Ordered SeatBefore seats → Ordered StrokeBefore (flat_map (marks_at pairs lan) seats)
+strokes_in_order pairs lan seats order =
+    ordered_flat (λ (seat : UnitSeat). seat.unit) (λ (row : StrokeRow). row.unit) StrokeBefore (λ a b h. inl h) (marks_at pairs lan) seats
+    (each_of (λ seat. Each (λ row. row.unit ≡ seat.unit) (marks_at pairs lan seat)) seats (marks_own pairs lan))
+    (each_of (λ seat. Ordered StrokeBefore (marks_at pairs lan seat)) seats
+    (λ seat. ordered_if StrokeBefore (strokes_in_rows seat.unit) (window_at pairs lan seat)
+    (λ window e. pages_ordered seat.unit (strokes_at window.pages) 0 (length window.pages))))
     order
 
-window_if : (pairs : List Pair) (seat : Seat) (pair : Pair) → HasLawfulWindow pairs seat → slice_get pairs seat.pair ≡ Some pair → IsLawfulWindow (window_of pair seat.is_server)
-window_if pairs seat pair lawful e = subst (λ slot. IfSome slot (λ (p : Pair). IsLawfulWindow (window_of p seat.is_server))) e lawful
-
-values_in_order : (pairs : List Pair) (seats : List Seat) → Each (HasLawfulWindow pairs) seats → Ordered SeatBefore seats → Ordered TceValueBefore (flat_map (values_at pairs) seats)
-values_in_order pairs seats lawful order =
-    ordered_flat (λ (seat : Seat). seat.unit) (λ (row : TceValueRow). row.unit) TceValueBefore (λ a b h. inl h) (values_at pairs) seats
-    (each_of (λ seat. Each (λ row. row.unit ≡ seat.unit) (values_at pairs seat)) seats
-    (λ seat. each_if (λ row. row.unit ≡ seat.unit) _ (slice_get pairs seat.pair)
-    (λ pair. let window = window_of pair seat.is_server in
-    each_weaker (IsOfWindow seat.unit 0) (λ (row : TceValueRow). row.unit ≡ seat.unit) (λ row h. h.0)
-    _ (values_named seat.unit window.rows 0 (length window.pages)))))
-    (each_weaker (HasLawfulWindow pairs) (λ seat. Ordered TceValueBefore (values_at pairs seat))
-    (λ seat h. ordered_if TceValueBefore _ (slice_get pairs seat.pair)
-    (λ pair e. let window = window_of pair seat.is_server in
-    values_ordered seat.unit (length window.pages) window.rows (window_if pairs seat pair h e).numbered 0 (length window.pages)))
+values_in_order : (pairs : List Pair) (lan : LanValue) (seats : List UnitSeat) → Each (HasLawfulWindow pairs lan) seats → Ordered SeatBefore seats
+    → Ordered TceValueBefore (flat_map (values_at pairs lan) seats)
+values_in_order pairs lan seats lawful order =
+    ordered_flat (λ (seat : UnitSeat). seat.unit) (λ (row : TceValueRow). row.unit) TceValueBefore (λ a b h. inl h) (values_at pairs lan) seats
+    (each_of (λ seat. Each (λ row. row.unit ≡ seat.unit) (values_at pairs lan seat)) seats (values_own pairs lan))
+    (each_weaker (HasLawfulWindow pairs lan) (λ seat. Ordered TceValueBefore (values_at pairs lan seat))
+    (λ seat h. ordered_if TceValueBefore (values_in_rows seat.unit) (window_at pairs lan seat)
+    (λ window e. let law : IsLawfulWindow window = subst (λ slot. IfSome slot IsLawfulWindow) e h.lawful in
+    values_ordered seat.unit (length window.pages) window.rows law.numbered 0 (length window.pages)))
     seats lawful)
     order
+
+-- answers, by client
 
 each_map : {X Row : Type 0} (P : Row → Type 0) (f : X → Row) (xs : List X) → ((x : X) → P (f x)) → Each P (map f xs)
 each_map P f [] h = tt
 each_map P f (x ∷ xs) h = (h x, each_map P f xs h)
 
-answers_named : (seat : Seat) (is_server : Bool) (driver : Option Driver) → Each (λ row. row.unit ≡ seat.unit) (answers_if seat is_server driver)
-answers_named seat true None = tt
-answers_named seat true (Some driver) = tt
-answers_named seat false None = tt
-answers_named seat false (Some driver) = each_map (λ (row : AnswerRow). row.unit ≡ seat.unit) (answer_by seat.unit) driver.answers.items (λ row. refl)
+answers_own : (pairs : List Pair) (seat : UnitSeat) → Each (λ (row : AnswerRow). row.unit ≡ seat.unit) (answers_at pairs seat)
+answers_own pairs seat =
+    each_if (λ (row : AnswerRow). row.unit ≡ seat.unit) (λ (driver : Driver). map (answer_by seat.unit) driver.answers.items) (driver_of pairs seat)
+    (λ driver. each_map (λ (row : AnswerRow). row.unit ≡ seat.unit) (answer_by seat.unit) driver.answers.items (λ row. refl))
 
-answers_in_order : (pairs : List Pair) (seats : List Seat) → Ordered SeatBefore seats → Ordered AnswerBefore (flat_map (answers_at pairs) seats)
+answers_in_order : (pairs : List Pair) (seats : List UnitSeat) → Ordered SeatBefore seats → Ordered AnswerBefore (flat_map (answers_at pairs) seats)
 answers_in_order pairs seats order =
-    let named = λ (seat : Seat). each_if (λ (row : AnswerRow). row.unit ≡ seat.unit) (λ pair. answers_if seat seat.is_server pair.driver) (slice_get pairs seat.pair)
-    (λ pair. answers_named seat seat.is_server pair.driver) in
-    ordered_flat (λ (seat : Seat). seat.unit) (λ (row : AnswerRow). row.unit) AnswerBefore (λ a b h. inl h) (answers_at pairs) seats
-    (each_of (λ seat. Each (λ row. row.unit ≡ seat.unit) (answers_at pairs seat)) seats named)
+    ordered_flat (λ (seat : UnitSeat). seat.unit) (λ (row : AnswerRow). row.unit) AnswerBefore (λ a b h. inl h) (answers_at pairs) seats
+    (each_of (λ seat. Each (λ row. row.unit ≡ seat.unit) (answers_at pairs seat)) seats (answers_own pairs))
     (each_of (λ seat. Ordered AnswerBefore (answers_at pairs seat)) seats
-    (λ seat. alone (λ (row : AnswerRow). row.unit) seat.unit AnswerBefore (λ a b e. inr e) (answers_at pairs seat) (named seat)))
+    (λ seat. alone (λ (row : AnswerRow). row.unit) seat.unit AnswerBefore (λ a b e. inr e) (answers_at pairs seat) (answers_own pairs seat)))
     order
 
 -- copies, by server unit
@@ -125,25 +131,13 @@ copies_named unit (copy ∷ copies) = at (same_unit copy.name.who unit) refl (co
     at true is rest = (same_name copy.name.who unit is, rest)
     at false is rest = rest
 
-each_numbered : {X Row : Type 0} (P : Row → Type 0) (Q : X → Type 0) (make : ℕ → X → Row) (n : ℕ) (xs : List X) → ((k : ℕ) (x : X) → P (make k x) → Q x)
-    → Each P (numbered make n xs) → Each Q xs
-each_numbered P Q make n [] step all = tt
-each_numbered P Q make n (x ∷ xs) step all = (step n x all.0, each_numbered P Q make (n + 1) xs step all.1)
-
-pub pairs_ordered : (n : ℕ) (pairs : List Pair) → Ordered SeatBefore (numbered server_seat n pairs) → Ordered (λ a b. UnitBefore a.server b.server) pairs
-pairs_ordered n [] order = tt
-pairs_ordered n (pair ∷ pairs) order = (
-  each_numbered (SeatBefore (server_seat n pair)) (λ (other : Pair). UnitBefore pair.server other.server) server_seat (n + 1) pairs (λ k other h. h) order.0,
-  pairs_ordered (n + 1) pairs order.1,
-)
-
-copies_in_order : (copies : List CopyRecord) (pairs : List Pair) → ArePairs 0 copies pairs → Ordered CopyBefore (flat_map (copies_of copies) pairs)
-copies_in_order copies pairs are =
+copies_in_order : (home : ℕ) (copies : List CopyRecord) (pairs : List Pair) → ArePairs home copies pairs → Ordered CopyBefore (flat_map (copies_of copies) pairs)
+copies_in_order home copies pairs are =
     ordered_flat (λ (pair : Pair). pair.server) (λ (row : CopyRow). row.unit) CopyBefore (λ a b h. inl h) (copies_of copies) pairs
     (each_of (λ pair. Each (λ row. row.unit ≡ pair.server) (copies_of copies pair)) pairs (λ pair. copies_named pair.server copies))
     (each_of (λ pair. Ordered CopyBefore (copies_of copies pair)) pairs
     (λ pair. alone (λ (row : CopyRow). row.unit) pair.server CopyBefore (λ a b e. inr e) (copies_of copies pair) (copies_named pair.server copies)))
-    (pairs_ordered 0 pairs (servers_ordered 0 0 pairs (servers_are copies pairs are)))
+    (pairs_ordered home copies pairs are)
 
 -- records, by partition
 
@@ -206,30 +200,31 @@ apart_by_partition : (a b : LogRow) → UnitBefore (named_by a.partition) (named
 apart_by_partition a b (inl less) = inl less
 apart_by_partition a b (inr h) = absurd (omega (arith, h.1))
 
-logs_in_order : (pairs : List Pair) (scripts : List Script) → AreScripts pairs scripts → Ordered LogBefore (flat_map logs_of scripts)
-logs_in_order pairs scripts are =
+logs_in_order : (pairs : List Pair) (ports : List PortSeat) (scripts : List Script) → AreScripts pairs ports scripts → Ordered LogBefore (flat_map logs_of scripts)
+logs_in_order pairs ports scripts are =
     ordered_flat (λ (script : Script). named_by script.partition) (λ (row : LogRow). named_by row.partition) LogBefore apart_by_partition logs_of scripts
     (each_script scripts (λ i script e. each_weaker (λ (row : LogRow). row.partition ≡ script.partition) (λ (row : LogRow). named_by row.partition ≡ named_by script.partition) (λ row h. ap named_by h)
     (logs_of script) (each_from_all (λ row. row.partition ≡ script.partition) script.logs.items (are i script e).script_is.logs.own)))
     (each_script scripts (λ i script e. script_logged pairs script (are i script e).script_is))
-    (scripts_named 1 scripts (partitions_are pairs scripts are))
+    (scripts_named 0 scripts (partitions_are pairs ports scripts are))
 
-pub order_is : (pairs : List Pair) (scripts : List Script) (history : List Served) (grants : List Grant) (copies : List CopyRecord)
-    → ArePairs 0 copies pairs → AreScripts pairs scripts → All (HasLawfulWindow pairs) (seats_of pairs scripts) → IsInOrder (trace_of pairs scripts history grants copies)
-order_is pairs scripts history grants copies are are' lawful =
-    let order = seats_ordered copies pairs scripts are are' in
-    let seats = seats_of pairs scripts in
+pub order_is : (pairs : List Pair) (scripts : List Script) (lan : LanValue) (rows : LanRows) (history : List Served) (grants : List Grant) (copies : List CopyRecord)
+    → AreOfOneHome copies pairs → AreScripts pairs lan.seats scripts → AreOrdered rows → All (HasLawfulWindow pairs lan) (seats_of scripts)
+    → IsInOrder (trace_of pairs scripts lan rows history grants copies)
+order_is pairs scripts lan rows history grants copies are are' ordered lawful =
+    let seats = seats_of scripts in
+    let order = seats_ordered pairs lan.seats scripts are' in
     record {
-      logs = ascends LogBefore _ (logs_in_order pairs scripts are');
+      logs = ascends LogBefore _ (logs_in_order pairs lan.seats scripts are');
       queues = ascends QueueBefore _ (queues_in_order pairs seats order);
       answers = ascends AnswerBefore _ (answers_in_order pairs seats order);
-      frames = tt;
-      offers = All-nil (λ (frame : FrameRow). All (IsOfferOf frame) frame.offers);
-      ports = tt;
-      posts = tt;
-      delivers = tt;
-      harvests = tt;
-      tces = ascends TceValueBefore _ (values_in_order pairs seats (each_from_all (HasLawfulWindow pairs) seats lawful) order);
-      copies = ascends CopyBefore _ (copies_in_order copies pairs are);
-      strokes = ascends StrokeBefore _ (strokes_in_order pairs seats order);
+      frames = ordered.frames;
+      offers = ordered.offers;
+      ports = ordered.ports;
+      posts = ordered.posts;
+      delivers = ordered.delivers;
+      harvests = ordered.harvests;
+      tces = ascends TceValueBefore _ (values_in_order pairs lan seats (each_from_all (HasLawfulWindow pairs lan) seats lawful) order);
+      copies = ascends CopyBefore _ (copies_in_order are.home copies pairs are.pairs_are);
+      strokes = ascends StrokeBefore _ (strokes_in_order pairs lan seats order);
     }

@@ -1,23 +1,23 @@
--- The units of a machine stand in the order of their names.
+-- The units of a machine stand in the order of their names, and so do its pairs.
 use Rattle.std.proofs.Common.{◌≡◌, inl, inr, ℕ, ◌+◌, ◌≤◌, List, [], ◌∷◌, Some, slice_get, refl, sym, ◌∙◌, ap, subst, arith, suc}
 use Rattle.std.specs.List.{flat_map}
 use Rattle.vio_num.specs.declared.names.UnitId.{UnitId}
 use Rattle.rdma_copy.specs.declared.copy.CopyRecord.{CopyRecord}
 use Rattle.vio_trace.specs.Form.{UnitBefore}
+use Rattle.lan_script.specs.declared.seat.PortSeat.{PortSeat}
 use Rattle.vcpu_run.specs.declared.pair.Pair.{Pair}
 use Rattle.vcpu_run.specs.declared.script.Script.{Script}
-use Rattle.vcpu_run.specs.declared.units.Seat.{Seat}
-use Rattle.vcpu_run.specs.Machines.{AreScripts}
+use Rattle.vcpu_run.specs.declared.unit_seat.Seat.{Seat}
+use Rattle.vcpu_run.specs.declared.unit_seat.UnitSeat.{UnitSeat}
+use Rattle.vcpu_run.specs.Machines.{AreScripts, server_id}
 use Rattle.vcpu_run.specs.Numbered.{numbered}
 use Rattle.vcpu_run.specs.Pairs.{ArePairs}
-use Rattle.vcpu_run.specs.Units.{client_seat, seats_by, seats_of, server_seat}
+use Rattle.vcpu_run.specs.Ports.{unit_of}
+use Rattle.vcpu_run.specs.Units.{seats_by, seats_of, unit_seat}
 use Rattle.vcpu_run.proofs.Order.{Each, Ordered, each_append, each_weaker, ordered_append}
 
-abbrev pub SeatBefore : Seat → Seat → Type 0
+abbrev pub SeatBefore : UnitSeat → UnitSeat → Type 0
 SeatBefore a b = UnitBefore a.unit b.unit
-
-abbrev zero_unit : ℕ → UnitId
-zero_unit u = record { partition = 0; unit = u }
 
 -- the units of partition p from unit n on
 pub record IsFrom (p n : ℕ) (unit : UnitId) : Type 0 where
@@ -27,58 +27,68 @@ pub record IsFrom (p n : ℕ) (unit : UnitId) : Type 0 where
 further : (p n : ℕ) (unit : UnitId) → IsFrom p (n + 1) unit → IsFrom p n unit
 further p n unit h = record { partition = h.partition; unit_from = omega (arith, h.unit_from) }
 
--- pairs of the server units from unit n on
-abbrev pub AreServers : ℕ → List Pair → Type 0
-AreServers n pairs = (k : ℕ) (pair : Pair) → slice_get pairs k ≡ Some pair → pair.server ≡ record { partition = 0; unit = n + k }
-
-servers_behind : (n : ℕ) (first : Pair) (pairs : List Pair) → AreServers n (first ∷ pairs) → AreServers (n + 1) pairs
-servers_behind n first pairs are k pair e =
-    let more : n + suc k ≡ (n + 1) + k = omega arith in
-    are (suc k) pair e ∙ ap zero_unit more
-
-first_server : (n : ℕ) (first : Pair) (pairs : List Pair) → AreServers n (first ∷ pairs) → first.server ≡ record { partition = 0; unit = n }
-first_server n first pairs are =
-    let e : n + 0 ≡ n = omega arith in are 0 first refl ∙ ap zero_unit e
-
-is_first : (n : ℕ) (unit : UnitId) → unit ≡ record { partition = 0; unit = n } → IsFrom 0 n unit
-is_first n unit e = subst (IsFrom 0 n) (sym e) (record { partition = refl; unit_from = omega arith })
-
-pub servers_from : (n k : ℕ) (pairs : List Pair) → AreServers n pairs → Each (λ seat. IsFrom 0 n seat.unit) (numbered server_seat k pairs)
-servers_from n k [] are = tt
-servers_from n k (pair ∷ pairs) are = (
-  is_first n pair.server (first_server n pair pairs are),
-  each_weaker (λ (seat : Seat). IsFrom 0 (n + 1) seat.unit) (λ (seat : Seat). IsFrom 0 n seat.unit) (λ seat h. further 0 n seat.unit h)
-      (numbered server_seat (k + 1) pairs) (servers_from (n + 1) (k + 1) pairs (servers_behind n pair pairs are)),
-)
-
-stands_before : (p n : ℕ) (unit : UnitId) (other : UnitId) → unit ≡ record { partition = p; unit = n } → IsFrom p (n + 1) other → UnitBefore unit other
+stands_before : (p n : ℕ) (unit : UnitId) (other : UnitId) → unit ≡ unit_of p n → IsFrom p (n + 1) other → UnitBefore unit other
 stands_before p n unit other e h =
     subst (λ u. UnitBefore u other) (sym e) (inr (sym h.partition, omega (arith, h.unit_from)))
 
-pub servers_ordered : (n k : ℕ) (pairs : List Pair) → AreServers n pairs → Ordered SeatBefore (numbered server_seat k pairs)
-servers_ordered n k [] are = tt
-servers_ordered n k (pair ∷ pairs) are = (
-  each_weaker (λ (seat : Seat). IsFrom 0 (n + 1) seat.unit) (SeatBefore (server_seat k pair))
-      (λ seat h. stands_before 0 n pair.server seat.unit (first_server n pair pairs are) h)
-      (numbered server_seat (k + 1) pairs) (servers_from (n + 1) (k + 1) pairs (servers_behind n pair pairs are)),
-  servers_ordered (n + 1) (k + 1) pairs (servers_behind n pair pairs are),
+-- pairs of the server units of a partition from unit n on
+abbrev pub AreServers : (home n : ℕ) → List Pair → Type 0
+AreServers home n pairs = (k : ℕ) (pair : Pair) → slice_get pairs k ≡ Some pair → pair.server ≡ unit_of home (n + k)
+
+servers_behind : (home n : ℕ) (first : Pair) (pairs : List Pair) → AreServers home n (first ∷ pairs) → AreServers home (n + 1) pairs
+servers_behind home n first pairs are k pair e =
+    let more : n + suc k ≡ (n + 1) + k = omega arith in
+    are (suc k) pair e ∙ ap (unit_of home) more
+
+first_server : (home n : ℕ) (first : Pair) (pairs : List Pair) → AreServers home n (first ∷ pairs) → first.server ≡ unit_of home n
+first_server home n first pairs are =
+    let e : n + 0 ≡ n = omega arith in are 0 first refl ∙ ap (unit_of home) e
+
+is_first : (home n : ℕ) (unit : UnitId) → unit ≡ unit_of home n → IsFrom home n unit
+is_first home n unit e = subst (IsFrom home n) (sym e) (record { partition = refl; unit_from = omega arith })
+
+servers_from : (home n : ℕ) (pairs : List Pair) → AreServers home n pairs → Each (λ (pair : Pair). IsFrom home n pair.server) pairs
+servers_from home n [] are = tt
+servers_from home n (pair ∷ pairs) are = (
+  is_first home n pair.server (first_server home n pair pairs are),
+  each_weaker (λ (other : Pair). IsFrom home (n + 1) other.server) (λ (other : Pair). IsFrom home n other.server) (λ other h. further home n other.server h)
+      pairs (servers_from home (n + 1) pairs (servers_behind home n pair pairs are)),
 )
 
-pub clients_from : (p n : ℕ) (seats : List ℕ) → Each (λ seat. IsFrom p n seat.unit) (numbered (client_seat p) n seats)
-clients_from p n [] = tt
-clients_from p n (k ∷ seats) = (
+servers_ordered : (home n : ℕ) (pairs : List Pair) → AreServers home n pairs → Ordered (λ (a b : Pair). UnitBefore a.server b.server) pairs
+servers_ordered home n [] are = tt
+servers_ordered home n (pair ∷ pairs) are = (
+  each_weaker (λ (other : Pair). IsFrom home (n + 1) other.server) (λ (other : Pair). UnitBefore pair.server other.server)
+      (λ other h. stands_before home n pair.server other.server (first_server home n pair pairs are) h)
+      pairs (servers_from home (n + 1) pairs (servers_behind home n pair pairs are)),
+  servers_ordered home (n + 1) pairs (servers_behind home n pair pairs are),
+)
+
+servers_are : (home : ℕ) (copies : List CopyRecord) (pairs : List Pair) → ArePairs home copies pairs → AreServers home 0 pairs
+servers_are home copies pairs are k pair e =
+    let same : k ≡ 0 + k = omega arith in (are k pair e).server ∙ ap (unit_of home) same
+
+-- the pairs of a partition's server units
+pub pairs_ordered : (home : ℕ) (copies : List CopyRecord) (pairs : List Pair) → ArePairs home copies pairs
+    → Ordered (λ (a b : Pair). UnitBefore a.server b.server) pairs
+pairs_ordered home copies pairs are = servers_ordered home 0 pairs (servers_are home copies pairs are)
+
+-- the units of one partition
+pub units_from : (p n : ℕ) (seats : List Seat) → Each (λ (unit : UnitSeat). IsFrom p n unit.unit) (numbered (unit_seat p) n seats)
+units_from p n [] = tt
+units_from p n (seat ∷ seats) = (
   record { partition = refl; unit_from = omega arith },
-  each_weaker (λ (seat : Seat). IsFrom p (n + 1) seat.unit) (λ (seat : Seat). IsFrom p n seat.unit) (λ seat h. further p n seat.unit h)
-      (numbered (client_seat p) (n + 1) seats) (clients_from p (n + 1) seats),
+  each_weaker (λ (unit : UnitSeat). IsFrom p (n + 1) unit.unit) (λ (unit : UnitSeat). IsFrom p n unit.unit) (λ unit h. further p n unit.unit h)
+      (numbered (unit_seat p) (n + 1) seats) (units_from p (n + 1) seats),
 )
 
-pub clients_ordered : (p n : ℕ) (seats : List ℕ) → Ordered SeatBefore (numbered (client_seat p) n seats)
-clients_ordered p n [] = tt
-clients_ordered p n (k ∷ seats) = (
-  each_weaker (λ (seat : Seat). IsFrom p (n + 1) seat.unit) (SeatBefore (client_seat p n k))
-      (λ seat h. stands_before p n (record { partition = p; unit = n }) seat.unit refl h)
-      (numbered (client_seat p) (n + 1) seats) (clients_from p (n + 1) seats),
-  clients_ordered p (n + 1) seats,
+pub units_ordered : (p n : ℕ) (seats : List Seat) → Ordered SeatBefore (numbered (unit_seat p) n seats)
+units_ordered p n [] = tt
+units_ordered p n (seat ∷ seats) = (
+  each_weaker (λ (unit : UnitSeat). IsFrom p (n + 1) unit.unit) (SeatBefore (unit_seat p n seat))
+      (λ unit h. stands_before p n (unit_of p n) unit.unit refl h)
+      (numbered (unit_seat p) (n + 1) seats) (units_from p (n + 1) seats),
+  units_ordered p (n + 1) seats,
 )
 
 -- scripts of the partitions from partition n on
@@ -91,14 +101,14 @@ partitions_behind n first scripts are i script e = let more : n + suc i ≡ (n +
 pub first_partition : (n : ℕ) (first : Script) (scripts : List Script) → ArePartitions n (first ∷ scripts) → first.partition ≡ n
 first_partition n first scripts are = let e : n + 0 ≡ n = omega arith in are 0 first refl ∙ e
 
-pub scripts_from : (n : ℕ) (scripts : List Script) → ArePartitions n scripts → Each (λ seat. n ≤ seat.unit.partition) (flat_map seats_by scripts)
+pub scripts_from : (n : ℕ) (scripts : List Script) → ArePartitions n scripts → Each (λ (unit : UnitSeat). n ≤ unit.unit.partition) (flat_map seats_by scripts)
 scripts_from n [] are = tt
 scripts_from n (script ∷ scripts) are =
     let p = first_partition n script scripts are in
-    each_append (λ (seat : Seat). n ≤ seat.unit.partition) (seats_by script) (flat_map seats_by scripts)
-    (each_weaker (λ (seat : Seat). IsFrom script.partition 0 seat.unit) (λ (seat : Seat). n ≤ seat.unit.partition) (λ seat h. omega (arith, h.partition, p))
-    (seats_by script) (clients_from script.partition 0 script.seats.items))
-    (each_weaker (λ (seat : Seat). n + 1 ≤ seat.unit.partition) (λ (seat : Seat). n ≤ seat.unit.partition) (λ seat h. omega (arith, h))
+    each_append (λ (unit : UnitSeat). n ≤ unit.unit.partition) (seats_by script) (flat_map seats_by scripts)
+    (each_weaker (λ (unit : UnitSeat). IsFrom script.partition 0 unit.unit) (λ (unit : UnitSeat). n ≤ unit.unit.partition) (λ unit h. omega (arith, h.partition, p))
+    (seats_by script) (units_from script.partition 0 script.seats.items))
+    (each_weaker (λ (unit : UnitSeat). n + 1 ≤ unit.unit.partition) (λ (unit : UnitSeat). n ≤ unit.unit.partition) (λ unit h. omega (arith, h))
     (flat_map seats_by scripts) (scripts_from (n + 1) scripts (partitions_behind n script scripts are)))
 
 pub scripts_ordered : (n : ℕ) (scripts : List Script) → ArePartitions n scripts → Ordered SeatBefore (flat_map seats_by scripts)
@@ -107,26 +117,14 @@ scripts_ordered n (script ∷ scripts) are =
     let p = first_partition n script scripts are in
     let later = scripts_from (n + 1) scripts (partitions_behind n script scripts are) in
     ordered_append SeatBefore (seats_by script) (flat_map seats_by scripts)
-    (clients_ordered script.partition 0 script.seats.items) (scripts_ordered (n + 1) scripts (partitions_behind n script scripts are))
-    (each_weaker (λ (seat : Seat). IsFrom script.partition 0 seat.unit) (λ (seat : Seat). Each (SeatBefore seat) (flat_map seats_by scripts))
-    (λ seat h. each_weaker (λ (other : Seat). n + 1 ≤ other.unit.partition) (SeatBefore seat) (λ other m. inl (omega (arith, h.partition, p, m))) (flat_map seats_by scripts) later)
-    (seats_by script) (clients_from script.partition 0 script.seats.items))
+    (units_ordered script.partition 0 script.seats.items) (scripts_ordered (n + 1) scripts (partitions_behind n script scripts are))
+    (each_weaker (λ (unit : UnitSeat). IsFrom script.partition 0 unit.unit) (λ (unit : UnitSeat). Each (SeatBefore unit) (flat_map seats_by scripts))
+    (λ unit h. each_weaker (λ (other : UnitSeat). n + 1 ≤ other.unit.partition) (SeatBefore unit) (λ other m. inl (omega (arith, h.partition, p, m))) (flat_map seats_by scripts) later)
+    (seats_by script) (units_from script.partition 0 script.seats.items))
 
-pub servers_are : (copies : List CopyRecord) (pairs : List Pair) → ArePairs 0 copies pairs → AreServers 0 pairs
-servers_are copies pairs are k pair e =
-    let same : k ≡ 0 + k = omega arith in (are k pair e).server ∙ ap zero_unit same
-
-pub partitions_are : (pairs : List Pair) (scripts : List Script) → AreScripts pairs scripts → ArePartitions 1 scripts
-partitions_are pairs scripts are i script e = let same : i + 1 ≡ 1 + i = omega arith in (are i script e).number ∙ same
+pub partitions_are : (pairs : List Pair) (ports : List PortSeat) (scripts : List Script) → AreScripts pairs ports scripts → ArePartitions 0 scripts
+partitions_are pairs ports scripts are i script e = let same : i ≡ 0 + i = omega arith in (are i script e).number ∙ same
 
 -- all of them
-pub seats_ordered : (copies : List CopyRecord) (pairs : List Pair) (scripts : List Script) → ArePairs 0 copies pairs → AreScripts pairs scripts
-    → Ordered SeatBefore (seats_of pairs scripts)
-seats_ordered copies pairs scripts are are' =
-    let servers = servers_are copies pairs are in
-    let partitions = partitions_are pairs scripts are' in
-    ordered_append SeatBefore (numbered server_seat 0 pairs) (flat_map seats_by scripts)
-    (servers_ordered 0 0 pairs servers) (scripts_ordered 1 scripts partitions)
-    (each_weaker (λ (seat : Seat). IsFrom 0 0 seat.unit) (λ (seat : Seat). Each (SeatBefore seat) (flat_map seats_by scripts))
-    (λ seat h. each_weaker (λ (other : Seat). 1 ≤ other.unit.partition) (SeatBefore seat) (λ other m. inl (omega (arith, h.partition, m))) (flat_map seats_by scripts) (scripts_from 1 scripts partitions))
-    (numbered server_seat 0 pairs) (servers_from 0 0 pairs servers))
+pub seats_ordered : (pairs : List Pair) (ports : List PortSeat) (scripts : List Script) → AreScripts pairs ports scripts → Ordered SeatBefore (seats_of scripts)
+seats_ordered pairs ports scripts are = scripts_ordered 0 scripts (partitions_are pairs ports scripts are)

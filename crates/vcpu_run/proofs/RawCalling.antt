@@ -1,5 +1,5 @@
--- What a raw call leaves of a partition's client units, whether a row answers it or the table of calls refuses it.
-use Rattle.std.proofs.Common.{◌≡◌, ℕ, false, List, Option, Some, None, Result, IfSome, refl, sym, subst}
+-- What a raw call leaves of a partition's units, whether a row answers it or the table of calls refuses it.
+use Rattle.std.proofs.Common.{◌≡◌, ℕ, true, false, List, Option, Some, None, Result, Ok, Err, IfSome, refl, sym, subst}
 use Rattle.vio_num.specs.declared.hypervisor.Hrc.TheVariants as codes
 use Rattle.vio_num.specs.declared.memory.NoMemory.{NoMemory}
 use Rattle.boot_text.specs.declared.verb.Verb.{Verb}
@@ -8,34 +8,38 @@ use Rattle.hcall_table.specs.Named.{unit_of}
 use Rattle.hcall_table.specs.Rows.{row_of}
 use Rattle.hcall_table.specs.declared.hcall.Hcall.{Hcall}
 use Rattle.hcall_table.specs.declared.returned.Returned.{Returned}
-use Rattle.vcpu_run.specs.declared.client_units.ClientUnits.{ClientUnits}
+use Rattle.vcpu_run.specs.declared.partition_units.PartitionUnits.{PartitionUnits}
 use Rattle.vcpu_run.specs.declared.driver.Driver.{Driver}
 use Rattle.vcpu_run.specs.declared.pair.Pair.{Pair}
-use Rattle.vcpu_run.specs.declared.step.Step.{Step}
+use Rattle.vio_trace.specs.declared.outcome.Outcome.{Outcome}
+use Rattle.vio_trace.specs.declared.outcome.Outcome.TheVariants as outcomes
+use Rattle.unit_region.specs.declared.step.Step.{Step}
+use Rattle.unit_region.specs.declared.step.Step.TheVariants as steps
 use Rattle.vcpu_run.specs.Agreed.{OnDrivers, SameDrivers, StepsSeat, driver_at}
-use Rattle.vcpu_run.specs.Credited.{IsPlain, StepsAgreed, is_take}
+use Rattle.vcpu_run.specs.Credited.{StepsAgreed, StepsPort, grants, is_take}
+use Rattle.unit_region.specs.Steps.{IsPlain, is_plain}
 use Rattle.vcpu_run.specs.RawCalls.{CallsUnits, place_of}
 use Rattle.vcpu_run.proofs.Credits.{plain_fresh}
 use Rattle.vcpu_run.proofs.Driving.{driven_same}
 
-units_same : (old new : ClientUnits) → new ≡ old → CallsUnits old new
-units_same old new same = subst (CallsUnits old) (sym same) (record { lender = refl; driven = driven_same old.pairs.now; told = λ k. refl })
+units_same : (old new : PartitionUnits) → new ≡ old → CallsUnits old new
+units_same old new same = subst (CallsUnits old) (sym same) (record { lender = refl; lan_lender = refl; driven = driven_same old.pairs.now; told = λ k. refl; ports = refl })
 
 -- a row that has a unit, or none of this partition
-called_on : (old new : ClientUnits) (unit : Option ℕ) (result : Result Returned NoMemory)
-    → (unit ≡ None → Refuses ClientUnits codes.Parameter old new result) → IfSome unit (λ unit. CallsUnits old new) → CallsUnits old new
+called_on : (old new : PartitionUnits) (unit : Option ℕ) (result : Result Returned NoMemory)
+    → (unit ≡ None → Refuses PartitionUnits codes.Parameter old new result) → IfSome unit (λ unit. CallsUnits old new) → CallsUnits old new
 called_on old new None result elsewhere made = units_same old new (elsewhere refl).same
 called_on old new (Some unit) result elsewhere made = made
 
-pub units_called : (old new : ClientUnits) (number : ℕ) (args : List ℕ) (result : Result Returned NoMemory)
-    → (row_of number ≡ None → Refuses ClientUnits codes.Function old new result)
-    → IfSome (row_of number) (λ row. unit_of (place_of old) row args ≡ None → Refuses ClientUnits codes.Parameter old new result)
+pub units_called : (old new : PartitionUnits) (number : ℕ) (args : List ℕ) (result : Result Returned NoMemory)
+    → (row_of number ≡ None → Refuses PartitionUnits codes.Function old new result)
+    → IfSome (row_of number) (λ row. unit_of (place_of old) row args ≡ None → Refuses PartitionUnits codes.Parameter old new result)
     → IfSome (row_of number) (λ row. IfSome (unit_of (place_of old) row args) (λ unit. CallsUnits old new))
     → CallsUnits old new
 units_called old new number args result unknown elsewhere made = at (row_of number) refl elsewhere made
   where
     at : (row : Option Hcall) → row_of number ≡ row
-        → IfSome row (λ row. unit_of (place_of old) row args ≡ None → Refuses ClientUnits codes.Parameter old new result)
+        → IfSome row (λ row. unit_of (place_of old) row args ≡ None → Refuses PartitionUnits codes.Parameter old new result)
         → IfSome row (λ row. IfSome (unit_of (place_of old) row args) (λ unit. CallsUnits old new)) → CallsUnits old new
     at None e p m = units_same old new (unknown e).same
     at (Some row) e p m = called_on old new (unit_of (place_of old) row args) result p m
@@ -56,3 +60,33 @@ told_steps old new verb taken k result other told plain = record {
   others = λ j apart. told j;
   credit = told_here verb taken (driver_at old k) (driver_at new k) result other (told k) plain;
 }
+
+-- a plain outcome grants nothing
+plain_grants : (outcome : Outcome) → is_plain outcome ≡ true → grants outcome ≡ false
+plain_grants (outcomes.Granted credits) h = absurd (cc)
+plain_grants (outcomes.Sent tag) h = refl
+plain_grants (outcomes.Took count) h = refl
+plain_grants outcomes.Lost h = refl
+plain_grants (outcomes.TookThenLost count) h = refl
+plain_grants (outcomes.Rejected reason) h = refl
+plain_grants outcomes.Unanswered h = refl
+plain_grants outcomes.Range h = refl
+plain_grants outcomes.NotLoggedIn h = refl
+plain_grants (outcomes.NoCredit limit) h = refl
+plain_grants (outcomes.Overlap tag) h = refl
+plain_grants outcomes.Closed h = refl
+plain_grants (outcomes.Dropped number held) h = refl
+plain_grants (outcomes.Data len sum) h = refl
+plain_grants (outcomes.Stale page) h = refl
+plain_grants outcomes.Unknown h = refl
+plain_grants (outcomes.Code code) h = refl
+plain_grants (outcomes.Value value) h = refl
+plain_grants (outcomes.Posted buffers code) h = refl
+plain_grants (outcomes.Frame code number) h = refl
+plain_grants outcomes.Done h = refl
+plain_grants (outcomes.Bytes shown) h = refl
+
+pub plain_port : (verb : Verb) (taken : ℕ) (result : Result Step NoMemory) → IsPlain result → StepsPort verb taken taken result
+plain_port verb taken (Ok (steps.Ends outcome)) plain = plain_grants outcome plain
+plain_port verb taken (Ok (steps.Waits did)) plain = λ fresh. fresh
+plain_port verb taken (Err memory) plain = tt

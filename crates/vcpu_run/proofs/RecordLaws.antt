@@ -8,6 +8,9 @@ use Rattle.std.proofs.lemmas.Bool.Decides.{nat_tests}
 use Rattle.vio_num.specs.declared.history.Grant.{Grant}
 use Rattle.vio_num.specs.declared.history.Served.{Served}
 use Rattle.rdma_copy.specs.declared.copy.CopyRecord.{CopyRecord}
+use Rattle.lan_script.specs.Units.{LanValue}
+use Rattle.lan_script.specs.declared.rows.LanRows.{LanRows}
+use Rattle.lan_script.specs.declared.seat.PortSeat.{PortSeat}
 use Rattle.boot_text.specs.declared.plan.Line.{Line}
 use Rattle.boot_text.specs.declared.plan.Partition.{Partition}
 use Rattle.vio_trace.specs.declared.rows.LogRow.{LogRow}
@@ -50,24 +53,20 @@ lines_in None script none = absurd none
 lines_in (Some partition) script is = sym is.lines
 
 -- the rows of each script are of its partition
-rows_told : (pairs : List Pair) (scripts : List Script) (p : ℕ) → AreScripts pairs scripts
+rows_told : (pairs : List Pair) (ports : List PortSeat) (scripts : List Script) (p : ℕ) → AreScripts pairs ports scripts
     → Each (λ script. Each (λ row. (row.partition == p) ≡ (script.partition == p)) (logs_of script)) scripts
-rows_told pairs scripts p are =
+rows_told pairs ports scripts p are =
     each_script scripts (λ i script e. each_weaker (λ (row : LogRow). row.partition ≡ script.partition) (λ (row : LogRow). (row.partition == p) ≡ (script.partition == p)) (λ row h. ap (λ k. k == p) h)
     (logs_of script) (each_from_all (λ row. row.partition ≡ script.partition) script.logs.items (are i script e).script_is.logs.own))
 
 -- a partition that no script is of has none
-no_records : (pairs : List Pair) (scripts : List Script) (p : ℕ) → AreScripts pairs scripts → ((i : ℕ) (script : Script) → slice_get scripts i ≡ Some script → p ≡ i + 1 → ⊥)
+no_records : (pairs : List Pair) (ports : List PortSeat) (scripts : List Script) (p : ℕ) → AreScripts pairs ports scripts → ((i : ℕ) (script : Script) → slice_get scripts i ≡ Some script → p ≡ i → ⊥)
     → filter (λ (row : LogRow). row.partition == p) (flat_map logs_of scripts) ≡ []
-no_records pairs scripts p are none =
+no_records pairs ports scripts p are none =
     sole (λ (row : LogRow). row.partition == p) (λ (script : Script). script.partition == p) (λ rows. rows ≡ []) logs_of refl scripts
-    (rows_told pairs scripts p are)
+    (rows_told pairs ports scripts p are)
     (each_script scripts (λ i script e is. absurd (none i script e (sym (same_partition script.partition p is) ∙ (are i script e).number))))
-    (partitions_apart p 1 scripts (partitions_are pairs scripts are))
-
-silent_script : (slot : Option Partition) → ((home : Partition) → slot ≡ Some home → home.lines ≡ []) → script_in slot ≡ []
-silent_script None silent = refl
-silent_script (Some home) silent = silent home refl
+    (partitions_apart p 0 scripts (partitions_are pairs ports scripts are))
 
 no_value : {X : Type 0} (slot : Option X) (x : X) → slot ≡ None → slot ≡ Some x → ⊥
 no_value slot x none some = cc
@@ -83,49 +82,45 @@ over_rows : (lines : List Line) (at : ℕ) (logs : List LogRow) → length lines
 over_rows lines at logs over whole =
     sym (whole ∙ (ap (λ (rest : List Line). map (λ (row : LogRow). row.line) logs ++ numbers_to_fail rest) (drop_all at lines over) ∙ append-nil (map (λ (row : LogRow). row.line) logs)))
 
-pub records_are : (pairs : List Pair) (scripts : List Script) (history : List Served) (grants : List Grant) (copies : List CopyRecord) (partitions : List Partition)
-    → AreScripts pairs scripts → All IsOver scripts → IsOfPlan partitions pairs scripts → RecordsAreOfLines partitions (trace_of pairs scripts history grants copies)
-records_are pairs scripts history grants copies partitions are over of_plan zero =
-    ap (map (λ (row : LogRow). row.line)) (no_records pairs scripts 0 are (λ i script e is. absurd (omega (arith, is))))
-    ∙ ap numbers_to_fail (sym (silent_script (slice_get partitions 0) of_plan.silent))
-records_are pairs scripts history grants copies partitions are over of_plan (suc i) = at (slice_get scripts i) refl
+pub records_are : (pairs : List Pair) (scripts : List Script) (lan : LanValue) (lan_rows : LanRows) (history : List Served) (grants : List Grant) (copies : List CopyRecord) (partitions : List Partition)
+    → AreScripts pairs lan.seats scripts → All IsOver scripts → IsOfPlan partitions pairs scripts lan.seats
+    → RecordsAreOfLines partitions (trace_of pairs scripts lan lan_rows history grants copies)
+records_are pairs scripts lan lan_rows history grants copies partitions are over of_plan p = at (slice_get scripts p) refl
   where
     rows : List LogRow
-    rows = filter (λ (row : LogRow). row.partition == suc i) (flat_map logs_of scripts)
+    rows = filter (λ (row : LogRow). row.partition == p) (flat_map logs_of scripts)
 
-    at : (slot : Option Script) → slice_get scripts i ≡ slot → map (λ row. row.line) rows ≡ numbers_to_fail (script_of partitions (suc i))
+    at : (slot : Option Script) → slice_get scripts p ≡ slot → map (λ row. row.line) rows ≡ numbers_to_fail (script_of partitions p)
     at None e =
-        let past : length scripts ≤ i = none_past scripts i e in
-        let none : slice_get partitions (suc i) ≡ None = slice_get_past partitions (suc i) (omega (arith, past, of_plan.scripts_are.clients)) in
-        ap (map (λ (row : LogRow). row.line)) (no_records pairs scripts (suc i) are (λ j script e' is. let same : j ≡ i = omega (arith, is) in no_value (slice_get scripts i) script e (ap (slice_get scripts) (sym same) ∙ e')))
+        let past : length scripts ≤ p = none_past scripts p e in
+        let none : slice_get partitions p ≡ None = slice_get_past partitions p (omega (arith, past, of_plan.scripts_are.count)) in
+        ap (map (λ (row : LogRow). row.line)) (no_records pairs lan.seats scripts p are (λ j script e' is. no_value (slice_get scripts p) script e (ap (slice_get scripts) is ∙ e')))
         ∙ ap (λ slot. numbers_to_fail (script_in slot)) (sym none)
     at (Some script) e =
-        let own = are i script e in
-        let next : suc i ≡ i + 1 = omega arith in
-        let here : script.partition ≡ suc i = own.number ∙ sym next in
-        let hit : (script.partition == suc i) ≡ true = grind (arith, nat_tests, here) in
+        let own = are p script e in
+        let here : script.partition ≡ p = own.number in
+        let hit : (script.partition == p) ≡ true = grind (arith, nat_tests, here) in
         let only : rows ≡ script.logs.items =
-        found (λ (row : LogRow). row.partition == suc i) (λ (script : Script). script.partition == suc i) logs_of script hit scripts (in_slice scripts i script e)
-        (rows_told pairs scripts (suc i) are) (partitions_apart (suc i) 1 scripts (partitions_are pairs scripts are)) in
-        let lines : script_of partitions (suc i) ≡ script.lines.now =
-        ap (script_of partitions) next ∙ lines_in (slice_get partitions (i + 1)) script (of_plan.scripts_are.each i script e) in
+        found (λ (row : LogRow). row.partition == p) (λ (script : Script). script.partition == p) logs_of script hit scripts (in_slice scripts p script e)
+        (rows_told pairs lan.seats scripts p are) (partitions_apart p 0 scripts (partitions_are pairs lan.seats scripts are)) in
+        let lines : script_of partitions p ≡ script.lines.now = lines_in (slice_get partitions p) script (of_plan.scripts_are.each p script e) in
         ap (map (λ (row : LogRow). row.line)) only
-        ∙ (over_rows script.lines.now script.at script.logs.items (all_at IsOver scripts i script over e) own.script_is.logs.whole ∙ ap numbers_to_fail (sym lines))
+        ∙ (over_rows script.lines.now script.at script.logs.items (all_at IsOver scripts p script over e) own.script_is.logs.whole ∙ ap numbers_to_fail (sym lines))
 
 no_rows : (unit : ℕ) (lines : List Line) → KeepsCredit None (ended_by unit lines [])
 no_rows unit [] = tt
 no_rows unit (line ∷ lines) = tt
 
-pub credits_are : (pairs : List Pair) (scripts : List Script) (history : List Served) (grants : List Grant) (copies : List CopyRecord) (partitions : List Partition)
-    → AreScripts pairs scripts → IsOfPlan partitions pairs scripts → AreCredited pairs scripts → CreditsAreKept partitions (trace_of pairs scripts history grants copies)
-credits_are pairs scripts history grants copies partitions are of_plan credited p unit =
+pub credits_are : (pairs : List Pair) (scripts : List Script) (lan : LanValue) (lan_rows : LanRows) (history : List Served) (grants : List Grant) (copies : List CopyRecord) (partitions : List Partition)
+    → AreScripts pairs lan.seats scripts → IsOfPlan partitions pairs scripts lan.seats → AreCredited pairs scripts
+    → CreditsAreKept partitions (trace_of pairs scripts lan lan_rows history grants copies)
+credits_are pairs scripts lan lan_rows history grants copies partitions are of_plan credited p unit =
     sole (λ (row : LogRow). row.partition == p) (λ (script : Script). script.partition == p) (λ rows. KeepsCredit None (ended_by unit (script_of partitions p) rows)) logs_of
     (no_rows unit (script_of partitions p)) scripts
-    (each_script scripts (λ i script e. each_weaker (λ (row : LogRow). row.partition ≡ script.partition) (λ (row : LogRow). (row.partition == p) ≡ (script.partition == p)) (λ row h. ap (λ k. k == p) h)
-    (logs_of script) (each_from_all (λ row. row.partition ≡ script.partition) script.logs.items (are i script e).script_is.logs.own)))
+    (rows_told pairs lan.seats scripts p are)
     (each_script scripts (λ i script e is.
-    let here : p ≡ i + 1 = sym (same_partition script.partition p is) ∙ (are i script e).number in
+    let here : p ≡ i = sym (same_partition script.partition p is) ∙ (are i script e).number in
     let lines : script_of partitions p ≡ script.lines.now =
-    ap (script_of partitions) here ∙ lines_in (slice_get partitions (i + 1)) script (of_plan.scripts_are.each i script e) in
+    ap (script_of partitions) here ∙ lines_in (slice_get partitions i) script (of_plan.scripts_are.each i script e) in
     subst (λ ls. KeepsCredit None (ended_by unit ls script.logs.items)) (sym lines) ((credited i script e).law unit)))
-    (partitions_apart p 1 scripts (partitions_are pairs scripts are))
+    (partitions_apart p 0 scripts (partitions_are pairs lan.seats scripts are))

@@ -1,5 +1,5 @@
 -- What a gathered trace shows as sent to a client's queue is all that was put there; so its responses are those of its pair.
-use Rattle.std.proofs.Common.{◌≡◌, ◌≢◌, ◌∙◌, ℕ, ◌+◌, ◌==◌, ◌<◌, ◌≤◌, Bool, true, false, cond, List, [], ◌∷◌, ◌++◌, All, Option, Some, IfSome, filter, length, map, slice_get, refl, sym, ap, ap₂, subst, arith, zero, suc}
+use Rattle.std.proofs.Common.{◌≡◌, ◌≢◌, ◌∙◌, ℕ, ◌+◌, ◌==◌, ◌<◌, ◌≤◌, Bool, true, false, cond, List, [], ◌∷◌, ◌++◌, All, Option, Some, IfSome, filter, length, map, option_map, slice_get, refl, sym, ap, ap₂, subst, arith, zero, suc}
 use Rattle.std.specs.List.{flat_map}
 use Rattle.std.proofs.Math.Logic.{∥∥₁_elim}
 use mathlib.Core.HLevel.{Discrete, hedberg}
@@ -17,30 +17,32 @@ use Rattle.crq_session.specs.PlainState.{side_of}
 use Rattle.rdma_copy.specs.declared.copy.CopyRecord.{CopyRecord}
 use Rattle.block_server.specs.Answering.{answers_of}
 use Rattle.block_server.specs.Entries.{is_response}
-use Rattle.boot_text.specs.Sound.{IsClientOf, IsServer}
 use Rattle.boot_text.specs.declared.plan.Partition.{Partition}
+use Rattle.boot_text.specs.declared.plan.UnitPlan.TheVariants as units
+use Rattle.lan_script.specs.Units.{LanValue}
+use Rattle.lan_script.specs.declared.rows.LanRows.{LanRows}
 use Rattle.vio_trace.specs.declared.rows.QueueRow.{QueueRow}
 use Rattle.vcpu_run.specs.declared.pair.Pair.{Pair}
 use Rattle.vcpu_run.specs.declared.script.Script.{Script}
-use Rattle.vcpu_run.specs.declared.units.Seat.{Seat}
+use Rattle.vcpu_run.specs.declared.unit_seat.Seat.TheVariants as sits
+use Rattle.vcpu_run.specs.declared.unit_seat.UnitSeat.{UnitSeat}
 use Rattle.vcpu_run.specs.Answered.{AreAnswered, AreBegun}
 use Rattle.vcpu_run.specs.AnswersSent.{AnswersAreSent, sent_to}
 use Rattle.vcpu_run.specs.CopyRows.{same_unit}
-use Rattle.vcpu_run.specs.Gathered.{HasLawfulQueue, rows_if, sessions_at, trace_of}
-use Rattle.vcpu_run.specs.Machines.{AreScripts, IsOfPlan, server_id}
-use Rattle.vcpu_run.specs.Pairs.{ArePairs}
+use Rattle.vcpu_run.specs.Gathered.{HasLawfulQueue, queue_at, rows_if, sessions_at, trace_of}
+use Rattle.vcpu_run.specs.Machines.{AreScripts, IsOfPlan}
 use Rattle.vcpu_run.specs.Sessions.{entries_of, session_rows, sessions_from}
 use Rattle.vcpu_run.specs.Shown.{sessions_of}
-use Rattle.vcpu_run.specs.Units.{client_seat, seats_of}
-use Rattle.vcpu_run.proofs.Blocks.{sessions_named}
-use Rattle.vcpu_run.proofs.Booted.{server_below, there_is}
+use Rattle.vcpu_run.specs.Units.{seats_of, unit_seat}
+use Rattle.vcpu_run.proofs.Copied.{names_apart}
 use Rattle.vcpu_run.proofs.Following.{each_from_all, ordered_from}
 use Rattle.vcpu_run.proofs.Order.{Each, Ordered, each_weaker}
-use Rattle.vcpu_run.proofs.Ordering.{each_if, each_of}
-use Rattle.vcpu_run.proofs.Parts.{Told, each_in, found}
-use Rattle.vcpu_run.proofs.Placing.{SeatBefore, seats_ordered}
-use Rattle.vcpu_run.proofs.Seated.{client_in}
-use Rattle.vcpu_run.proofs.Sole.{apart_names, ordered_weaker, same_refl}
+use Rattle.vcpu_run.proofs.Listed.{held}
+use Rattle.vcpu_run.proofs.Parts.{IsIn, each_in, found}
+use Rattle.vcpu_run.proofs.Placing.{seats_ordered}
+use Rattle.vcpu_run.proofs.QueueLaws.{sessions_told}
+use Rattle.vcpu_run.proofs.Seated.{planned_in}
+use Rattle.vcpu_run.proofs.Sole.{same_refl}
 
 -- entries are told apart, and so an equation of lists of them has one proof
 same_entries : (a b : Entry) → a.high ≡ b.high → a.low ≡ b.low → a ≡ b
@@ -129,34 +131,25 @@ all_sent unit pipe laws begun =
     ∙ all_flat pipe.session pipe.sent (ordered_from (λ (a b : PipeRow). a.session ≤ b.session) pipe.sent laws.sent.in_order)
     (each_from_all (λ (row : PipeRow). 1 ≤ row.session) pipe.sent begun) (each_from_all (λ (row : PipeRow). row.session ≤ pipe.session) pipe.sent laws.sent.none_later)
 
-sessions_told : (pairs : List Pair) (unit : UnitId) (seats : List Seat) → Told (λ (row : QueueRow). same_unit row.unit unit) (λ (seat : Seat). same_unit seat.unit unit) (sessions_at pairs) seats
-sessions_told pairs unit seats =
-    each_of (λ seat. Each (λ row. same_unit row.unit unit ≡ same_unit seat.unit unit) (sessions_at pairs seat)) seats
-    (λ seat. each_if (λ (row : QueueRow). same_unit row.unit unit ≡ same_unit seat.unit unit) (λ pair. session_rows seat.unit (side_of pair.link seat.is_server).queue) (slice_get pairs seat.pair)
-    (λ pair. each_weaker (λ (row : QueueRow). (row.unit ≡ seat.unit) × (1 ≤ row.session)) (λ (row : QueueRow). same_unit row.unit unit ≡ same_unit seat.unit unit) (λ row h. ap (λ u. same_unit u unit) h.0)
-    _ (sessions_named seat.unit (side_of pair.link seat.is_server).queue 1 (side_of pair.link seat.is_server).queue.session)))
-
-pub answers_are : (pairs : List Pair) (scripts : List Script) (history : List Served) (grants : List Grant) (copies : List CopyRecord) (partitions : List Partition)
-    → ArePairs 0 copies pairs → AreScripts pairs scripts → All (HasLawfulQueue pairs) (seats_of pairs scripts) → IsOfPlan partitions pairs scripts → AreAnswered history pairs
-    → AnswersAreSent partitions (trace_of pairs scripts history grants copies)
-answers_are pairs scripts history grants copies partitions are are' lawful of_plan answered server client serves drives =
-    let k = server.unit in
-    let home : server ≡ server_id k = of_plan.at_home server serves in
-    let there = there_is pairs k (server_below partitions pairs k of_plan.pairs_are (subst (IsServer partitions) home serves)) in
+pub answers_are : (pairs : List Pair) (scripts : List Script) (lan : LanValue) (rows : LanRows) (history : List Served) (grants : List Grant) (copies : List CopyRecord) (partitions : List Partition)
+    → AreScripts pairs lan.seats scripts → All (HasLawfulQueue pairs) (seats_of scripts) → IsOfPlan partitions pairs scripts lan.seats → AreAnswered history pairs
+    → AnswersAreSent partitions (trace_of pairs scripts lan rows history grants copies)
+answers_are pairs scripts lan rows history grants copies partitions are lawful of_plan answered server client serves drives =
+    let there = held (λ (pair : Pair). pair.server ≡ server) (slice_get pairs server.unit) (of_plan.pairs_are.servers server serves) in
     let pair : Pair = there.0 in
     let pipe : PipeValue = (side_of pair.link false).queue in
-    let seat : Seat = client_seat client.partition client.unit k in
-    let inside = client_in partitions pairs scripts client k are' of_plan (subst (IsClientOf partitions client) home drives) in
-    let is = answered k pair there.1 in
+    let seats = seats_of scripts in
+    let seat : UnitSeat = unit_seat client.partition client.unit (sits.Client server.unit) in
+    let inside : IsIn seat seats = planned_in partitions pairs scripts lan.seats client (units.Client server drives.0 drives.1) are of_plan drives.2 in
+    let is = answered server.unit pair there.1 in
+    let queue : queue_at pairs seat ≡ Some pipe = ap (option_map (λ (pair : Pair). (side_of pair.link false).queue)) there.1 in
     let laws : IsLawfulPipe pipe =
-    subst (λ slot. IfSome slot (λ (pair : Pair). IsLawfulPipe (side_of pair.link false).queue)) there.1
-    (each_in (HasLawfulQueue pairs) seat (seats_of pairs scripts) inside (each_from_all (HasLawfulQueue pairs) (seats_of pairs scripts) lawful)) in
-    let sessions : sessions_of (trace_of pairs scripts history grants copies) client ≡ session_rows client pipe =
-    found (λ (row : QueueRow). same_unit row.unit client) (λ (seat : Seat). same_unit seat.unit client) (sessions_at pairs) seat (same_refl client) (seats_of pairs scripts) inside
-    (sessions_told pairs client (seats_of pairs scripts))
-    (ordered_weaker SeatBefore (λ a b. same_unit a.unit client ≡ true → same_unit b.unit client ≡ false) (λ a b before is. apart_names a.unit b.unit client before is) (seats_of pairs scripts)
-    (seats_ordered copies pairs scripts are are'))
-    ∙ ap (rows_if (λ (pair : Pair). session_rows client (side_of pair.link false).queue)) there.1 in
-    let sent : sent_to (trace_of pairs scripts history grants copies) client ≡ map (λ row. row.entry) pipe.sent =
+    subst (λ slot. IfSome slot IsLawfulPipe) queue (each_in (HasLawfulQueue pairs) seat seats inside (each_from_all (HasLawfulQueue pairs) seats lawful)) in
+    let trace = trace_of pairs scripts lan rows history grants copies in
+    let sessions : sessions_of trace client ≡ session_rows client pipe =
+    found (λ (row : QueueRow). same_unit row.unit client) (λ (other : UnitSeat). same_unit other.unit client) (sessions_at pairs) seat (same_refl client) seats inside
+    (sessions_told pairs client seats) (names_apart client seats (seats_ordered pairs lan.seats scripts are))
+    ∙ ap (rows_if (session_rows client)) queue in
+    let sent : sent_to trace client ≡ map (λ row. row.entry) pipe.sent =
     ap (flat_map (λ (row : QueueRow). row.sent)) sessions ∙ all_sent client pipe laws is.begun in
-    ∥∥₁_elim is.answers (entries_set _ _) (λ e. ap (filter is_response) sent ∙ (e ∙ ap (λ u. answers_of u history) ((are k pair there.1).server ∙ sym home)))
+    ∥∥₁_elim is.answers (entries_set _ _) (λ e. ap (filter is_response) sent ∙ (e ∙ ap (λ u. answers_of u history) there.2))

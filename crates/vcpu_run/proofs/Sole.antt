@@ -6,12 +6,12 @@ use Rattle.std.proofs.lemmas.List.Elements.{filter-append, All-cons, All-nil}
 use Rattle.std.proofs.lemmas.List.Kept.{AllPairs-cons}
 use Rattle.vio_num.specs.declared.names.UnitId.{UnitId}
 use Rattle.vio_trace.specs.Form.{UnitBefore}
-use Rattle.vcpu_run.specs.declared.pair.Pair.{Pair}
 use Rattle.vcpu_run.specs.declared.script.Script.{Script}
-use Rattle.vcpu_run.specs.declared.units.Seat.{Seat}
+use Rattle.vcpu_run.specs.declared.unit_seat.Seat.{Seat}
+use Rattle.vcpu_run.specs.declared.unit_seat.UnitSeat.{UnitSeat}
 use Rattle.vcpu_run.specs.CopyRows.{same_unit}
 use Rattle.vcpu_run.specs.Numbered.{numbered}
-use Rattle.vcpu_run.specs.Units.{client_seat, seats_by, seats_of, server_seat}
+use Rattle.vcpu_run.specs.Units.{seats_by, seats_of, unit_seat}
 use Rattle.vcpu_run.proofs.Order.{Each, Ordered, each_append, each_weaker}
 
 -- back from the recursion on a list
@@ -75,40 +75,22 @@ pub ordered_weaker : {X : Type 0} (R S : X → X → Type 0) → ((a b : X) → 
 ordered_weaker R S step [] order = tt
 ordered_weaker R S step (x ∷ xs) order = (each_weaker (R x) (S x) (λ y h. step x y h) xs order.0, ordered_weaker R S step xs order.1)
 
--- what is so of each server unit's seat and of each client's is so of all seats
-each_server : (P : Seat → Type 0) (all : List Pair) → ((k : ℕ) (pair : Pair) → slice_get all k ≡ Some pair → P (server_seat k pair))
-    → (n : ℕ) (pairs : List Pair) → ((i : ℕ) → slice_get all (n + i) ≡ slice_get pairs i) → Each P (numbered server_seat n pairs)
-each_server P all h n [] part = tt
-each_server P all h n (pair ∷ pairs) part =
+-- what is so of each unit of a script's partition, and of each partition's, is so of all units
+each_unit : (P : UnitSeat → Type 0) (p : ℕ) (all : List Seat) → ((u : ℕ) (seat : Seat) → slice_get all u ≡ Some seat → P (unit_seat p u seat))
+    → (n : ℕ) (seats : List Seat) → ((i : ℕ) → slice_get all (n + i) ≡ slice_get seats i) → Each P (numbered (unit_seat p) n seats)
+each_unit P p all h n [] part = tt
+each_unit P p all h n (seat ∷ seats) part =
     let first : n + 0 ≡ n = omega arith in (
-      h n pair (subst (λ k. slice_get all k ≡ Some pair) first (part 0)),
-      each_server P all h (n + 1) pairs (λ i. let e : n + suc i ≡ (n + 1) + i = omega arith in subst (λ k. slice_get all k ≡ slice_get pairs i) e (part (suc i))),
+      h n seat (subst (λ u. slice_get all u ≡ Some seat) first (part 0)),
+      each_unit P p all h (n + 1) seats (λ i. let e : n + suc i ≡ (n + 1) + i = omega arith in subst (λ u. slice_get all u ≡ slice_get seats i) e (part (suc i))),
     )
 
-each_client : (P : Seat → Type 0) (p : ℕ) (all : List ℕ) → ((u k : ℕ) → slice_get all u ≡ Some k → P (client_seat p u k))
-    → (n : ℕ) (seats : List ℕ) → ((i : ℕ) → slice_get all (n + i) ≡ slice_get seats i) → Each P (numbered (client_seat p) n seats)
-each_client P p all h n [] part = tt
-each_client P p all h n (k ∷ seats) part =
-    let first : n + 0 ≡ n = omega arith in (
-      h n k (subst (λ u. slice_get all u ≡ Some k) first (part 0)),
-      each_client P p all h (n + 1) seats (λ i. let e : n + suc i ≡ (n + 1) + i = omega arith in subst (λ u. slice_get all u ≡ slice_get seats i) e (part (suc i))),
-    )
-
-each_script_seat : (P : Seat → Type 0) (scripts : List Script)
-    → ((i : ℕ) (script : Script) (u k : ℕ) → slice_get scripts i ≡ Some script → slice_get script.seats.items u ≡ Some k → P (client_seat script.partition u k))
-    → Each P (flat_map seats_by scripts)
-each_script_seat P [] h = tt
-each_script_seat P (script ∷ scripts) h =
+pub each_seat : (P : UnitSeat → Type 0) (scripts : List Script)
+    → ((i : ℕ) (script : Script) (u : ℕ) (seat : Seat) → slice_get scripts i ≡ Some script → slice_get script.seats.items u ≡ Some seat → P (unit_seat script.partition u seat))
+    → Each P (seats_of scripts)
+each_seat P [] h = tt
+each_seat P (script ∷ scripts) h =
     each_append P (seats_by script) (flat_map seats_by scripts)
-    (each_client P script.partition script.seats.items (λ u k e. h 0 script u k refl e) 0 script.seats.items
+    (each_unit P script.partition script.seats.items (λ u seat e. h 0 script u seat refl e) 0 script.seats.items
     (λ i. let e : i ≡ 0 + i = omega arith in subst (λ u. slice_get script.seats.items u ≡ slice_get script.seats.items i) e refl))
-    (each_script_seat P scripts (λ i other u k e e'. h (suc i) other u k e e'))
-
-pub each_seat : (P : Seat → Type 0) (pairs : List Pair) (scripts : List Script)
-    → ((k : ℕ) (pair : Pair) → slice_get pairs k ≡ Some pair → P (server_seat k pair))
-    → ((i : ℕ) (script : Script) (u k : ℕ) → slice_get scripts i ≡ Some script → slice_get script.seats.items u ≡ Some k → P (client_seat script.partition u k))
-    → Each P (seats_of pairs scripts)
-each_seat P pairs scripts servers clients =
-    each_append P (numbered server_seat 0 pairs) (flat_map seats_by scripts)
-    (each_server P pairs servers 0 pairs (λ i. let e : i ≡ 0 + i = omega arith in subst (λ k. slice_get pairs k ≡ slice_get pairs i) e refl))
-    (each_script_seat P scripts clients)
+    (each_seat P scripts (λ i other u seat e e'. h (suc i) other u seat e e'))

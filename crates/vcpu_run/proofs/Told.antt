@@ -2,6 +2,7 @@
 use Rattle.std.proofs.Common.{◌≡◌, All, List, Option, Result, Ok, Err, IfOk, IfSome, sym, subst, ap, ◌∙◌}
 use Rattle.std.specs.Result.{result_ok}
 use Rattle.boot_text.specs.declared.plan.Partition.{Partition}
+use Rattle.lan_script.specs.declared.seat.PortSeat.{PortSeat}
 use Rattle.vio_trace.specs.Form.{IsInOrder}
 use Rattle.vio_trace.specs.declared.rows.Trace.{Trace}
 use Rattle.vcpu_run.specs.declared.pair.Pair.{Pair}
@@ -12,20 +13,25 @@ use Rattle.vcpu_run.specs.AnswersSent.{AnswersAreSent}
 use Rattle.vcpu_run.specs.Agreed.{AreCredited}
 use Rattle.vcpu_run.specs.Lines.{IsOver}
 use Rattle.vcpu_run.specs.Machines.{IsOfPlan}
-use Rattle.vcpu_run.specs.RunLaw.{CopiesAreLawful, CreditsAreKept, KeepsLawOf, QueuesAreLawful, RecordsAreOfLines}
+use Rattle.vcpu_run.specs.RunLaw.{CopiesAreLawful, CreditsAreKept, KeepsLawOf, PortsKeepLaw, QueuesAreLawful, RecordsAreOfLines}
 
 -- a law of traces is kept over each plan that this is the machine of
-abbrev pub Keeps : (List Partition → Trace → Type 0) → List Pair → List Script → Trace → Type 0
-Keeps law pairs scripts trace = (partitions : List Partition) → IsOfPlan partitions pairs scripts → law partitions trace
+abbrev pub Keeps : (List Partition → Trace → Type 0) → List Pair → List Script → List PortSeat → Trace → Type 0
+Keeps law pairs scripts ports trace = (partitions : List Partition) → IsOfPlan partitions pairs scripts ports → law partitions trace
 
-pub law_told : {E : Type 0} (r : Result Trace E) (o : Option Trace) (pairs : List Pair) (scripts : List Script) (history : List Served) → o ≡ result_ok r
-    → IfOk r IsInOrder → IfOk r (Keeps QueuesAreLawful pairs scripts) → IfOk r (Keeps CopiesAreLawful pairs scripts)
-    → IfOk r (λ trace. (partitions : List Partition) → IsOfPlan partitions pairs scripts → All IsOver scripts → RecordsAreOfLines partitions trace) → All IsOver scripts
-    → IfOk r (λ trace. (partitions : List Partition) → IsOfPlan partitions pairs scripts → AreCredited pairs scripts → CreditsAreKept partitions trace) → AreCredited pairs scripts
-    → IfOk r (λ trace. (partitions : List Partition) → IsOfPlan partitions pairs scripts → AreAnswered history pairs → AnswersAreSent partitions trace) → AreAnswered history pairs
-    → IfSome o (Keeps KeepsLawOf pairs scripts)
-law_told (Ok trace) o pairs scripts history e order queues copies records over credits are answers answered =
-    subst (λ (o : Option Trace). IfSome o (Keeps KeepsLawOf pairs scripts)) (sym e)
+-- and so once this is so, too
+abbrev pub KeepsOnce : Type 0 → (List Partition → Trace → Type 0) → List Pair → List Script → List PortSeat → Trace → Type 0
+KeepsOnce once law pairs scripts ports trace = (partitions : List Partition) → IsOfPlan partitions pairs scripts ports → once → law partitions trace
+
+pub law_told : {E : Type 0} (r : Result Trace E) (o : Option Trace) (pairs : List Pair) (scripts : List Script) (ports : List PortSeat) (history : List Served) → o ≡ result_ok r
+    → IfOk r IsInOrder → IfOk r (Keeps QueuesAreLawful pairs scripts ports) → IfOk r (Keeps CopiesAreLawful pairs scripts ports)
+    → IfOk r (KeepsOnce (All IsOver scripts) RecordsAreOfLines pairs scripts ports) → All IsOver scripts
+    → IfOk r (KeepsOnce (AreCredited pairs scripts) CreditsAreKept pairs scripts ports) → AreCredited pairs scripts
+    → IfOk r (KeepsOnce (AreAnswered history pairs) AnswersAreSent pairs scripts ports) → AreAnswered history pairs
+    → IfOk r (Keeps PortsKeepLaw pairs scripts ports)
+    → IfSome o (Keeps KeepsLawOf pairs scripts ports)
+law_told (Ok trace) o pairs scripts ports history e order queues copies records over credits are answers answered keeps =
+    subst (λ (o : Option Trace). IfSome o (Keeps KeepsLawOf pairs scripts ports)) (sym e)
     (λ partitions of_plan. record {
       order = order;
       queues = queues partitions of_plan;
@@ -33,16 +39,12 @@ law_told (Ok trace) o pairs scripts history e order queues copies records over c
       records = records partitions of_plan over;
       credits = credits partitions of_plan are;
       answers = answers partitions of_plan answered;
+      ports = keeps partitions of_plan;
     })
-law_told (Err error) o pairs scripts history e order queues copies records over credits are answers answered =
-    subst (λ (o : Option Trace). IfSome o (Keeps KeepsLawOf pairs scripts)) (sym e) tt
+law_told (Err error) o pairs scripts ports history e order queues copies records over credits are answers answered keeps =
+    subst (λ (o : Option Trace). IfSome o (Keeps KeepsLawOf pairs scripts ports)) (sym e) tt
 
 -- the rows that were served
-pub served_rows : {E : Type 0} (r : Result Trace E) (trace : Trace) (rows : List Served) → IfOk r (λ told. told ≡ trace) → trace.serves ≡ rows
-    → IfOk r (λ told. told.serves ≡ rows)
-served_rows (Ok told) trace rows same is = ap (λ (t : Trace). t.serves) same ∙ is
-served_rows (Err error) trace rows same is = tt
-
 pub served_told : {E : Type 0} (r : Result Trace E) (o : Option Trace) (rows : List Served) → o ≡ result_ok r → IfOk r (λ told. told.serves ≡ rows)
     → IfSome o (λ told. told.serves ≡ rows)
 served_told (Ok told) o rows e is = subst (λ (o : Option Trace). IfSome o (λ told. told.serves ≡ rows)) (sym e) is

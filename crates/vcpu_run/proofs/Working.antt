@@ -18,7 +18,7 @@ use Rattle.vscsi_client.specs.Units.{FitsOp}
 use Rattle.vcpu_run.specs.declared.driver.Driver.{Driver}
 use Rattle.vcpu_run.specs.Works.{Works}
 use Rattle.vcpu_run.proofs.Calls.{submit_grows, submit_fits, task_grows, task_fits, logout_grows, logout_fits, turn_grows, turn_fits, take_fits}
-use Rattle.vcpu_run.proofs.Growing.{keeps_on, keeps_reads, keeps_same, keeps_writes}
+use Rattle.unit_region.proofs.Growing.{keeps_on, keeps_reads, keeps_same, keeps_writes}
 
 pub works_same : (end : EndState) (own : PortState) (driver : Driver) → Works end end own own driver driver
 works_same end own driver = record { place = refl; window = keeps_same own; unit = refl; rows = λ fit. fit }

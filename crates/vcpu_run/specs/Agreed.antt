@@ -8,8 +8,10 @@ use Rattle.vio_trace.specs.declared.outcome.Outcome.{Outcome}
 use Rattle.vcpu_run.specs.declared.driver.Driver.{Driver}
 use Rattle.vcpu_run.specs.declared.pair.Pair.{Pair}
 use Rattle.vcpu_run.specs.declared.script.Script.{Script}
-use Rattle.vcpu_run.specs.declared.step.Step.{Step}
-use Rattle.vcpu_run.specs.Credited.{Agrees, IsFresh, KeepsCredit, StepsAgreed, credit_after, ended_by, taken_in}
+use Rattle.unit_region.specs.declared.step.Step.{Step}
+use Rattle.vcpu_run.specs.declared.unit_seat.Seat.{Seat}
+use Rattle.vcpu_run.specs.declared.unit_seat.Seat.TheVariants as sits
+use Rattle.vcpu_run.specs.Credited.{Agrees, IsFresh, KeepsCredit, StepsAgreed, StepsPort, credit_after, ended_by, taken_in}
 use Rattle.vcpu_run.specs.Sendings.{SameCredits}
 
 -- P of a driver before and after, where there is one
@@ -46,13 +48,20 @@ taken_by unit script =
 pub record IsCredited (pairs : List Pair) (script : Script) : Type 0 where
   pub law : (unit : ℕ) → KeepsCredit None (ended_by unit script.lines.now script.logs.items)
   pub fresh : IfSome (slice_get script.lines.now script.at) (λ line. IsFresh line.verb (taken_in script.progress))
-  pub agrees : script.at < length script.lines.now → (unit k : ℕ) → slice_get script.seats.items unit ≡ Some k
+  pub agrees : script.at < length script.lines.now → (unit k : ℕ) → slice_get script.seats.items unit ≡ Some (sits.Client k)
       → IfSome (driver_at pairs k) (λ driver. Agrees (taken_by unit script) (credit_after None (ended_by unit script.lines.now script.logs.items)) driver.client)
+  pub ports : (unit : ℕ) → slice_get script.seats.items unit ≡ Some sits.Port
+      → credit_after None (ended_by unit script.lines.now script.logs.items) ≡ None
 
 -- A step of a line at one pair.
 pub record StepsSeat (seat : ℕ) (verb : Verb) (taken taken' : ℕ) (old new : List Pair) (result : Result Step NoMemory) : Type 0 where
   pub others : SameOthers seat old new
   pub credit : OnDrivers (driver_at old seat) (driver_at new seat) (λ a b. StepsAgreed verb taken taken' a.client b.client result)
+
+-- A step of a line at its unit: at the pair where a client sits, and at none where a port does.
+pub record StepsLine (seats : List Seat) (line : Line) (taken taken' : ℕ) (old new : List Pair) (result : Result Step NoMemory) : Type 0 where
+  pub client : (k : ℕ) → slice_get seats line.unit ≡ Some (sits.Client k) → StepsSeat k line.verb taken taken' old new result
+  pub port : slice_get seats line.unit ≡ Some sits.Port → SameDrivers old new × StepsPort line.verb taken taken' result
 
 -- the credits of all clients are as before
 abbrev pub AllSame : List Pair → List Pair → Type 0
@@ -64,8 +73,8 @@ pub record IsEnded (line : Line) (outcome : Outcome) (old new : Script) : Type 0
   pub none : taken_in new.progress ≡ 0
 
 -- no client of these seats is logged in
-abbrev pub AreLoggedOut : (seats : List ℕ) → List Pair → Type 0
-AreLoggedOut seats pairs = (unit k : ℕ) → slice_get seats unit ≡ Some k → IfSome (driver_at pairs k) (λ driver. driver.client.granted ≡ None)
+abbrev pub AreLoggedOut : List Seat → List Pair → Type 0
+AreLoggedOut seats pairs = (unit k : ℕ) → slice_get seats unit ≡ Some (sits.Client k) → IfSome (driver_at pairs k) (λ driver. driver.client.granted ≡ None)
 
 -- no client of a pair is logged in
 abbrev pub IsLoggedOut : Pair → Type 0
@@ -75,9 +84,9 @@ abbrev pub AreAllOut : List Pair → Type 0
 AreAllOut pairs = (k : ℕ) (pair : Pair) → slice_get pairs k ≡ Some pair → IsLoggedOut pair
 
 -- of the pairs that are none of these seats the clients' credits are as before
-abbrev pub SameElse : (seats : List ℕ) → List Pair → List Pair → Type 0
+abbrev pub SameElse : List Seat → List Pair → List Pair → Type 0
 SameElse seats old new =
-    (k : ℕ) → ((u : ℕ) → slice_get seats u ≡ Some k → ⊥) → OnDrivers (driver_at old k) (driver_at new k) (λ a b. SameCredits a.client b.client)
+    (k : ℕ) → ((u : ℕ) → slice_get seats u ≡ Some (sits.Client k) → ⊥) → OnDrivers (driver_at old k) (driver_at new k) (λ a b. SameCredits a.client b.client)
 
 -- the records of each script keep the credits of its units, and its clients agree with them
 abbrev pub AreCredited : List Pair → List Script → Type 0

@@ -14,18 +14,13 @@ use Rattle.vio_trace.specs.declared.outcome.Outcome.{Outcome}
 use Rattle.vio_trace.specs.declared.outcome.Outcome.TheVariants as outcomes
 use Rattle.vcpu_run.specs.declared.client_call.ClientCall.{ClientCall}
 use Rattle.vcpu_run.specs.declared.client_call.ClientCall.TheVariants as calls
-use Rattle.vcpu_run.specs.declared.client_call.EntryCall.{EntryCall}
-use Rattle.vcpu_run.specs.declared.client_call.EntryCall.TheVariants as entries
+use Rattle.unit_region.specs.declared.entry_calls.EntryCall.{EntryCall}
+use Rattle.unit_region.specs.declared.entry_calls.EntryCall.TheVariants as entries
 use Rattle.vcpu_run.specs.declared.client_call.QueueCall.{QueueCall}
 use Rattle.vcpu_run.specs.declared.client_call.QueueCall.TheVariants as queues
-use Rattle.vcpu_run.specs.declared.step.Step.{Step}
-use Rattle.vcpu_run.specs.declared.step.Step.TheVariants as steps
-
-abbrev pub entry_row : EntryCall → Hcall
-entry_row (entries.Get address) = rows.GetTce
-entry_row (entries.Put address value) = rows.PutTce
-entry_row (entries.Stuff address value count) = rows.StuffTce
-entry_row (entries.PutList address list count) = rows.PutTceIndirect
+use Rattle.unit_region.specs.EntryRows.{entry_row}
+use Rattle.unit_region.specs.declared.step.Step.{Step}
+use Rattle.unit_region.specs.declared.step.Step.TheVariants as steps
 
 abbrev pub queue_row : QueueCall → Hcall
 queue_row (queues.Register address length) = rows.RegCrq
@@ -37,20 +32,6 @@ queue_row queues.Enable = rows.EnableCrq
 abbrev pub row_for : ClientCall → Hcall
 row_for (calls.Entry call) = entry_row call
 row_for (calls.Queue call) = queue_row call
-
--- the code of an answer of a window
-abbrev pub tce_code : TceAnswer → Hrc
-tce_code tces.Done = codes.Success
-tce_code tces.Parameter = codes.Parameter
-tce_code (tces.Busy entry pins done) = codes.Busy
-
--- what a window answered, as registers return it
-abbrev pub answer_by : Hrc → ℕ → GetTce
-answer_by codes.Success value = gets.Value value
-answer_by _ value = gets.Parameter
-
-abbrev pub answer_of : Returned → GetTce
-answer_of returned = answer_by returned.code returned.r4
 
 -- whether a number's row gives a value with a code
 abbrev pub gives : Option Hcall → Hrc → Bool

@@ -11,8 +11,8 @@ use Rattle.vio_trace.specs.declared.rows.LogRow.{LogRow}
 use Rattle.vscsi_client.specs.State.{ClientState}
 use Rattle.vcpu_run.specs.declared.script.Progress.{Progress}
 use Rattle.vcpu_run.specs.declared.script.Progress.TheVariants as progress
-use Rattle.vcpu_run.specs.declared.step.Step.{Step}
-use Rattle.vcpu_run.specs.declared.step.Step.TheVariants as steps
+use Rattle.unit_region.specs.declared.step.Step.{Step}
+use Rattle.unit_region.specs.declared.step.Step.TheVariants as steps
 
 -- a line that ended, and how
 pub record Ended : Type 0 where
@@ -97,19 +97,13 @@ abbrev pub StepsAgreed : Verb → (taken taken' : ℕ) → (s s' : ClientState) 
 StepsAgreed verb taken taken' s s' (Ok step) = IsFresh verb taken → KeepsAgreed verb taken taken' s s' step
 StepsAgreed verb taken taken' s s' (Err memory) = ⊤
 
--- a step whose outcome changes no credit
-abbrev pub is_plain : Outcome → Bool
-is_plain (outcomes.Granted credits) = false
-is_plain (outcomes.Sent tag) = false
-is_plain (outcomes.Took count) = false
-is_plain outcomes.Lost = false
-is_plain (outcomes.TookThenLost count) = false
-is_plain _ = true
+-- whether an outcome says that a login was granted
+abbrev pub grants : Outcome → Bool
+grants (outcomes.Granted credits) = true
+grants _ = false
 
-abbrev pub IsPlainStep : Step → Type 0
-IsPlainStep (steps.Ends outcome) = is_plain outcome ≡ true
-IsPlainStep (steps.Waits did) = ⊤
-
-abbrev pub IsPlain : Result Step NoMemory → Type 0
-IsPlain (Ok step) = IsPlainStep step
-IsPlain (Err memory) = ⊤
+-- a step of a line at a unit that has no credits
+abbrev pub StepsPort : Verb → (taken taken' : ℕ) → Result Step NoMemory → Type 0
+StepsPort verb taken taken' (Ok (steps.Ends outcome)) = grants outcome ≡ false
+StepsPort verb taken taken' (Ok (steps.Waits did)) = IsFresh verb taken → IsFresh verb taken'
+StepsPort verb taken taken' (Err memory) = ⊤

@@ -11,14 +11,15 @@ pub mod Making
 pub mod Numbered
 pub mod OnDisk
 pub mod Pairs
+pub mod Ports
 pub mod Quietly
 pub mod RawCalls
 pub mod RunLaw
-pub mod Runnable
 pub mod Scripts
 pub mod Sendings
 pub mod Sessions
 pub mod Shown
+pub mod Suited
 pub mod Units
 pub mod Windows
 pub mod Works

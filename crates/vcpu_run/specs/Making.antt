@@ -38,7 +38,7 @@ pub record IsSeatAt (unit : UnitPlan) (id server : UnitId) (seat : ClientSeat) :
   pub unit_is : seat.unit ≡ id
   pub client : unit ≡ kinds.Client server seat.pages seat.queue
 
--- A script was made for a partition: once its seats are those of clients, it is whole, and its records keep the credits of
+-- A script was made for a partition: once its clients sit at their pairs, it is whole, and its records keep the credits of
 -- clients that are not logged in.
 pub record IsMade (partition : Partition) (number : ℕ) (script : Script) : Type 0 where
   pub number_is : script.partition ≡ number
@@ -46,14 +46,14 @@ pub record IsMade (partition : Partition) (number : ℕ) (script : Script) : Typ
   pub whole : (pairs : List Pair) → AreSeats number script.seats.items pairs → IsScript pairs script
   pub credited : (pairs : List Pair) → AreLoggedOut script.seats.items pairs → IsCredited pairs script
 
--- The scripts were made for the partitions behind the first.
+-- The scripts were made for the partitions.
 pub record AreMade (partitions : List Partition) (scripts : List Script) : Type 0 where
-  pub clients : length partitions ≡ length scripts + 1
+  pub count : length partitions ≡ length scripts
   pub each : (i : ℕ) (script : Script) → slice_get scripts i ≡ Some script
-      → IsSomeAnd (slice_get partitions (i + 1)) (λ partition. IsMade partition (i + 1) script)
+      → IsSomeAnd (slice_get partitions i) (λ partition. IsMade partition i script)
 
--- The same of the first partitions behind the first.
+-- The same of the first partitions.
 pub record AreMadeTo (count : ℕ) (partitions : List Partition) (scripts : List Script) : Type 0 where
-  pub so_far : length scripts + 1 ≡ count
+  pub so_far : length scripts ≡ count
   pub each_made : (i : ℕ) (script : Script) → slice_get scripts i ≡ Some script
-      → IsSomeAnd (slice_get partitions (i + 1)) (λ partition. IsMade partition (i + 1) script)
+      → IsSomeAnd (slice_get partitions i) (λ partition. IsMade partition i script)

@@ -40,6 +40,11 @@ pub record IsPair (home : ℕ) (made : List CopyRecord) (k : ℕ) (pair : Pair) 
 abbrev pub ArePairs : (home : ℕ) → List CopyRecord → List Pair → Type 0
 ArePairs home copies pairs = (k : ℕ) (pair : Pair) → slice_get pairs k ≡ Some pair → IsPair home copies k pair
 
+-- All server units of a partition, whichever it is.
+pub record AreOfOneHome (copies : List CopyRecord) (pairs : List Pair) : Type 0 where
+  pub home : ℕ
+  pub pairs_are : ArePairs home copies pairs
+
 -- the driver is that of the same unit, and its data lie in the window if they did
 abbrev pub GoesOn : (before after : WindowValue) → Option Driver → Option Driver → Type 0
 GoesOn before after old new = MatchOption old (new ≡ None)

@@ -1,35 +1,59 @@
--- What raw hypervisor calls leave of the client units of a partition.
-use Rattle.std.specs.Prelude.{◌≡◌, ℕ, nat_lt, List, Option, Some, None, length, if◌then◌else◌}
+-- What raw hypervisor calls leave of the units of a partition.
+use Rattle.std.specs.Prelude.{◌≡◌, ℕ, nat_lt, true, List, Option, Some, None, length, ⊤, if◌then◌else◌}
 use Rattle.std.specs.List.{slice_get}
 use Rattle.hcall_table.specs.Named.{Place}
 use Rattle.hcall_table.specs.declared.kind.UnitKind.{UnitKind}
 use Rattle.hcall_table.specs.declared.kind.UnitKind.TheVariants as kinds
-use Rattle.vcpu_run.specs.declared.client_units.ClientUnits.{ClientUnits}
+use Rattle.lan_script.specs.Seats.{seat_at}
+use Rattle.lan_script.specs.declared.seat.PortSeat.{PortSeat}
+use Rattle.vcpu_run.specs.declared.partition_units.PartitionUnits.{PartitionUnits}
+use Rattle.vcpu_run.specs.declared.unit_seat.Seat.{Seat}
+use Rattle.vcpu_run.specs.declared.unit_seat.Seat.TheVariants as sits
 use Rattle.vcpu_run.specs.Agreed.{SameDrivers}
 use Rattle.vcpu_run.specs.Pairs.{AreDriven}
+use Rattle.vcpu_run.specs.Ports.{IsPortOf, unit_of}
 
--- the place of a unit's pair, if it is one of so many
-abbrev pub below : ℕ → Option ℕ → Option ℕ
-below count (Some k) = if nat_lt k count then Some k else None
-below count None = None
+-- where a unit sits, if its pair is one of so many, or its port one of these
+abbrev pub port_if : Option PortSeat → Option Seat
+port_if None = None
+port_if (Some port) = Some sits.Port
 
-abbrev pub pair_of : (seats : List ℕ) (count unit : ℕ) → Option ℕ
-pair_of seats count unit = below count (slice_get seats unit)
+abbrev pub seat_among : (partition unit count : ℕ) → List PortSeat → Option Seat → Option Seat
+seat_among partition unit count ports None = None
+seat_among partition unit count ports (Some sits.Server) = Some sits.Server
+seat_among partition unit count ports (Some (sits.Client k)) = if nat_lt k count then Some (sits.Client k) else None
+seat_among partition unit count ports (Some sits.Port) = port_if (seat_at ports (unit_of partition unit))
 
--- a unit of a pair is a client
-abbrev pub client_at : Option ℕ → Option UnitKind
-client_at (Some k) = Some kinds.Client
-client_at None = None
+abbrev pub seat_by : (partition : ℕ) → List Seat → (count : ℕ) → List PortSeat → (unit : ℕ) → Option Seat
+seat_by partition seats count ports unit = seat_among partition unit count ports (slice_get seats unit)
 
--- the partition, and its units: clients, where there are pairs of them
-abbrev pub units_at : (partition : ℕ) (seats : List ℕ) (count : ℕ) → Place
-units_at partition seats count = record { partition = partition; kind = λ unit. client_at (pair_of seats count unit) }
+abbrev pub seat_in : PartitionUnits → ℕ → Option Seat
+seat_in units unit = seat_by units.partition units.seats.now (length units.pairs.now) units.lan.now.seats unit
 
-abbrev pub place_of : ClientUnits → Place
-place_of units = units_at units.partition units.seats.now (length units.pairs.now)
+-- what a unit is that sits there
+abbrev pub kind_of : Option Seat → Option UnitKind
+kind_of None = None
+kind_of (Some sits.Server) = Some kinds.Server
+kind_of (Some (sits.Client k)) = Some kinds.Client
+kind_of (Some sits.Port) = Some kinds.Lan
 
--- Each pair is left as its client's part of a turn leaves it, and no driver is told.
-pub record CallsUnits (old new : ClientUnits) : Type 0 where
+-- the partition, and its units
+abbrev pub units_at : (partition : ℕ) → List Seat → (count : ℕ) → List PortSeat → Place
+units_at partition seats count ports = record { partition = partition; kind = λ unit. kind_of (seat_by partition seats count ports unit) }
+
+abbrev pub place_of : PartitionUnits → Place
+place_of units = units_at units.partition units.seats.now (length units.pairs.now) units.lan.now.seats
+
+-- a unit that sits there has its pair, or its port
+abbrev pub IsThere : PartitionUnits → (unit : ℕ) → Seat → Type 0
+IsThere units unit sits.Server = ⊤
+IsThere units unit (sits.Client k) = nat_lt k (length units.pairs.now) ≡ true
+IsThere units unit sits.Port = IsPortOf units.lan.now.seats (unit_of units.partition unit)
+
+-- Each pair is left as its client's part of a turn leaves it, no driver is told, and the ports are the same.
+pub record CallsUnits (old new : PartitionUnits) : Type 0 where
   pub lender : new.pairs.ghost_name ≡ old.pairs.ghost_name
+  pub lan_lender : new.lan.ghost_name ≡ old.lan.ghost_name
   pub driven : AreDriven old.pairs.now new.pairs.now
   pub told : SameDrivers old.pairs.now new.pairs.now
+  pub ports : new.lan.now.seats ≡ old.lan.now.seats

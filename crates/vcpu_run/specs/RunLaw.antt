@@ -1,5 +1,5 @@
 -- The law of a run, so far as it is proved: what its trace says of its queues, its copies and windows, its
--- records, the credits that they tell of, and the answers that were sent.
+-- records, the credits that they tell of, the answers that were sent, and its LAN ports.
 use Rattle.std.specs.Prelude.{◌≡◌, ◌⊎◌, ℕ, ◌+◌, ◌*◌, ◌<◌, ◌≤◌, List, [], ◌∷◌, All, Option, Some, None, length, map, slice_get}
 use Rattle.std.specs.List.{AllPairs}
 use Rattle.vio_num.specs.Queue.{Handed, LawfulDrop}
@@ -18,10 +18,12 @@ use Rattle.vio_trace.specs.declared.rows.QueueRow.{QueueRow}
 use Rattle.vio_trace.specs.declared.window_rows.CopyRow.{CopyRow}
 use Rattle.vio_trace.specs.declared.window_rows.StrokeRow.{StrokeRow}
 use Rattle.vio_trace.specs.declared.window_rows.TceValueRow.{TceValueRow}
+use Rattle.lan_script.specs.PortLaw.{PortsAreLawful}
 use Rattle.vcpu_run.specs.AnswersSent.{AnswersAreSent}
 use Rattle.vcpu_run.specs.CopyRows.{copy_row}
 use Rattle.vcpu_run.specs.Credited.{KeepsCredit, ended_by}
 use Rattle.vcpu_run.specs.Lines.{numbers_to_fail}
+use Rattle.vcpu_run.specs.Ports.{ports_of}
 use Rattle.vcpu_run.specs.Shown.{pages_at, puts_into, records_of, sessions_of, strokes_on, window_shown}
 
 -- so many slots, 256 for each page of a unit's queue
@@ -102,6 +104,11 @@ RecordsAreOfLines partitions trace = (p : ℕ) → map (λ row. row.line) (recor
 abbrev pub CreditsAreKept : List Partition → Trace → Type 0
 CreditsAreKept partitions trace = (p unit : ℕ) → KeepsCredit None (ended_by unit (script_of partitions p) (records_of trace p))
 
+-- The port law of a run: over the plan's ports.
+abbrev pub PortsKeepLaw : List Partition → Trace → Type 0
+PortsKeepLaw partitions trace =
+    PortsAreLawful (ports_of partitions) trace.frames trace.ports trace.posts trace.delivers trace.harvests
+
 pub record KeepsLawOf (partitions : List Partition) (trace : Trace) : Type 0 where
   pub order : IsInOrder trace
   pub queues : QueuesAreLawful partitions trace
@@ -109,6 +116,7 @@ pub record KeepsLawOf (partitions : List Partition) (trace : Trace) : Type 0 whe
   pub records : RecordsAreOfLines partitions trace
   pub credits : CreditsAreKept partitions trace
   pub answers : AnswersAreSent partitions trace
+  pub ports : PortsKeepLaw partitions trace
 
 abbrev pub KeepsLaw : Plan → Trace → Type 0
 KeepsLaw plan trace = KeepsLawOf plan.partitions trace

@@ -6,11 +6,11 @@ use Rattle.vscsi_client.specs.declared.answers.LoginTurn.{LoginTurn}
 use Rattle.vscsi_client.specs.declared.answers.LoginTurn.TheVariants as turns
 use Rattle.vscsi_client.specs.declared.answers.Refused.{Refused}
 use Rattle.vscsi_client.specs.State.{ClientState}
-use Rattle.vcpu_run.specs.declared.step.Step.{Step}
-use Rattle.vcpu_run.specs.declared.step.Step.TheVariants as steps
+use Rattle.unit_region.specs.declared.step.Step.{Step}
+use Rattle.unit_region.specs.declared.step.Step.TheVariants as steps
 use Rattle.vcpu_run.specs.declared.taking.Took.{Took}
 use Rattle.vcpu_run.specs.declared.taking.Took.TheVariants as tooks
-use Rattle.vcpu_run.specs.Credited.{IsPlain}
+use Rattle.unit_region.specs.Steps.{IsPlain}
 
 -- a request that was sent gave its tag; else no credit is changed
 abbrev pub SaysSent : Result ℕ Refused → Result Step NoMemory → Type 0

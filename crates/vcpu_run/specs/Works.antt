@@ -1,7 +1,7 @@
 -- What the steps of a script line leave of a client's window, of its end of the link, and of its driver.
 use Rattle.std.specs.Prelude.{◌≡◌, ℕ, Bool, true, false, List, Some, IsSomeAnd}
 use Rattle.std.specs.List.{slice_get}
-use Rattle.boot_text.specs.SoFar.{is_for_client}
+use Rattle.boot_text.specs.SoFar.{is_for_client, is_for_port}
 use Rattle.boot_text.specs.Sound.{IsInRange}
 use Rattle.boot_text.specs.declared.verb.Verb.{Verb}
 use Rattle.boot_text.specs.declared.verb.Verb.TheVariants as verbs
@@ -12,14 +12,11 @@ use Rattle.rdma_copy.specs.Copies.{side_of as side_at}
 use Rattle.vscsi_client.specs.Transferred.{FitRows}
 use Rattle.vcpu_run.specs.declared.driver.Driver.{Driver}
 use Rattle.vcpu_run.specs.declared.pair.Pair.{Pair}
+use Rattle.unit_region.specs.Kept.{KeepsWindow}
 use Rattle.vcpu_run.specs.Pairs.{IsDriver}
-use Rattle.vcpu_run.specs.Runnable.{is_call}
-
--- The window is where it was and holds as much, and no stroke and no value of it is gone.
-pub record KeepsWindow (old new : PortState) : Type 0 where
-  pub place : new.place ≡ old.place
-  pub held : new.held_count ≡ old.held_count
-  pub grows : SideGrows (side_at old) (side_at new)
+use Rattle.vcpu_run.specs.Suited.{is_call}
+use Rattle.vcpu_run.specs.declared.unit_seat.Seat.{Seat}
+use Rattle.vcpu_run.specs.declared.unit_seat.Seat.TheVariants as sits
 
 -- The end is where it was, the window was kept, and the driver is that of the same unit, whose data still lie in the region.
 pub record Works (end end' : EndState) (own own' : PortState) (driver driver' : Driver) : Type 0 where
@@ -28,10 +25,10 @@ pub record Works (end end' : EndState) (own own' : PortState) (driver driver' : 
   pub unit : driver'.unit ≡ driver.unit
   pub rows : FitRows own.place.size driver.client → FitRows own.place.size driver'.client
 
--- each of these pairs has a driver, which is that of its window
-abbrev pub HaveClients : (seats : List ℕ) → List Pair → Type 0
+-- each pair at which a client sits has a driver, which is that of its window
+abbrev pub HaveClients : List Seat → List Pair → Type 0
 HaveClients seats pairs =
-    (u k : ℕ) → slice_get seats u ≡ Some k → IsSomeAnd (slice_get pairs k) (λ pair. IsSomeAnd pair.driver (IsDriver pair.window))
+    (u k : ℕ) → slice_get seats u ≡ Some (sits.Client k) → IsSomeAnd (slice_get pairs k) (λ pair. IsSomeAnd pair.driver (IsDriver pair.window))
 
 -- whether a line sends a command
 abbrev pub sends : Verb → Bool
@@ -48,15 +45,21 @@ abbrev pub fails : Verb → Bool
 fails verbs.Fail = true
 fails _ = false
 
--- what one unit of a client partition does, or a raw call on its units
+-- what one unit of a partition does, or a raw call on its units
 pub record IsLineVerb (verb : Verb) : Type 0 where
-  pub client : is_for_client verb ≡ true
   pub one : fails verb ≡ false
   pub ranged : IsInRange verb
 
--- what one unit of a client partition does
+-- what one client unit does
 pub record IsUnitVerb (verb : Verb) : Type 0 where
   pub client : is_for_client verb ≡ true
+  pub no_call : is_call verb ≡ false
+  pub one : fails verb ≡ false
+  pub ranged : IsInRange verb
+
+-- what one LAN port does
+pub record IsPortVerb (verb : Verb) : Type 0 where
+  pub port : is_for_port verb ≡ true
   pub no_call : is_call verb ≡ false
   pub one : fails verb ≡ false
   pub ranged : IsInRange verb

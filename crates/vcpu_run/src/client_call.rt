@@ -1,4 +1,5 @@
 // The hypervisor calls that reach a client unit.
+use unit_region::EntryCall;
 
 /// A call of a row of client units, with its arguments.
 #[derive(Clone, Copy, Debug, PartialEq, Eq)]
@@ -7,32 +8,6 @@ pub(crate) enum ClientCall {
     Entry(EntryCall),
     /// On its queue, or its partner's.
     Queue(QueueCall),
-}
-
-/// A call on a window's translation entries.
-#[derive(Clone, Copy, Debug, PartialEq, Eq)]
-pub(crate) enum EntryCall {
-    /// H_GET_TCE.
-    Get {
-        address: u64,
-    },
-    /// H_PUT_TCE.
-    Put {
-        address: u64,
-        value: u64,
-    },
-    /// H_STUFF_TCE.
-    Stuff {
-        address: u64,
-        value: u64,
-        count: u64,
-    },
-    /// H_PUT_TCE_INDIRECT: the list lies at this address of the region.
-    PutList {
-        address: u64,
-        list: u64,
-        count: u64,
-    },
 }
 
 /// A call on a unit's queue, or on its partner's.

@@ -1,7 +1,8 @@
 // The trace of what a machine did.
 ghost use Rattle.std.specs.Prelude.{◌≡◌, ◌++◌, ◌≤◌, List, All, IfOk, OnOk, length, map};
 ghost use Rattle.std.specs.List.{flat_map};
-ghost use Rattle.vcpu_run.specs.Gathered.{logs_of, sessions_at, answer_by, answers_if, answers_at, values_at, marks_at, copies_of, trace_of, window_of, IsFree, HasLawfulQueue, HasLawfulWindow};
+ghost use Rattle.std.specs.Option.{option_map};
+ghost use Rattle.vcpu_run.specs.Gathered.{logs_of, sessions_at, answer_by, answers_at, values_at, marks_at, copies_of, driver_of, queue_at, window_at, FitsPort, IsFree, IsGathered, HasLawfulQueue, HasLawfulWindow};
 ghost use Rattle.boot_text.specs.declared.plan.Partition.{Partition};
 ghost use Rattle.vio_trace.specs.Form.{IsInOrder};
 ghost use Rattle.vcpu_run.specs.Agreed.{AreCredited};
@@ -9,17 +10,20 @@ ghost use Rattle.vcpu_run.specs.Answered.{AreAnswered};
 ghost use Rattle.vcpu_run.specs.AnswersSent.{AnswersAreSent};
 ghost use Rattle.vcpu_run.specs.Lines.{IsOver};
 ghost use Rattle.vcpu_run.specs.Machines.{AreScripts, IsOfPlan};
-ghost use Rattle.vcpu_run.specs.Pairs.{ArePairs};
+ghost use Rattle.vcpu_run.specs.Pairs.{AreOfOneHome};
 ghost use Rattle.vcpu_run.specs.Units.{seats_of};
-ghost use Rattle.vcpu_run.specs.RunLaw.{CopiesAreLawful, CreditsAreKept, QueuesAreLawful, RecordsAreOfLines};
+ghost use Rattle.vcpu_run.specs.RunLaw.{CopiesAreLawful, CreditsAreKept, PortsKeepLaw, QueuesAreLawful, RecordsAreOfLines};
 
 use crate::copying::put_copies;
 use crate::driver::Driver;
 use crate::pair::Pair;
 use crate::script::Script;
 use crate::sessions::put_sessions;
-use crate::units::{Seat, seats_in_order};
+use crate::unit_seat::{Seat, UnitSeat};
+use crate::units::seats_in_order;
 use crate::windows::{put_strokes, put_values};
+use crq_ring::PlainPipe;
+use lan_script::{Lan, LanRows};
 use rdma_copy::CopyRecord;
 use std::alloc::Global;
 use tce_window::PlainWindow;
@@ -31,33 +35,37 @@ pub(crate) fn gather(
     alloc: Global,
     pairs: Vec<Pair>,
     scripts: Vec<Script<'_>>,
+    lan: Lan,
     history: Vec<Served>,
     grants: Vec<Grant>,
     copies: Vec<CopyRecord>,
 ) -> Result<Trace, NoMemory>
-    requires pairs { ArePairs 0 copies.items pairs.items }
-    requires scripts { AreScripts pairs.items scripts.items }
-    ensures trace { IfOk result (λ trace. trace ≡ trace_of pairs.items scripts.entry.items
+    requires pairs { AreOfOneHome copies.items pairs.items }
+    requires scripts { AreScripts pairs.items lan.seats scripts.items }
+    ensures trace { IfOk result (IsGathered pairs.items scripts.entry.items lan
         history.items grants.items copies.items) }
     ensures order { IfOk result IsInOrder }
     ensures serves { IfOk result (λ trace. trace.serves ≡ history.items) }
     ensures queues { IfOk result (λ trace. (partitions : List Partition) →
-        IsOfPlan partitions pairs.items scripts.entry.items →
+        IsOfPlan partitions pairs.items scripts.entry.items lan.seats →
         QueuesAreLawful partitions trace) }
     ensures copies { IfOk result (λ trace. (partitions : List Partition) →
-        IsOfPlan partitions pairs.items scripts.entry.items →
+        IsOfPlan partitions pairs.items scripts.entry.items lan.seats →
         CopiesAreLawful partitions trace) }
     ensures records { IfOk result (λ trace. (partitions : List Partition) →
-        IsOfPlan partitions pairs.items scripts.entry.items →
+        IsOfPlan partitions pairs.items scripts.entry.items lan.seats →
         All IsOver scripts.entry.items → RecordsAreOfLines partitions trace) }
     ensures credits { IfOk result (λ trace. (partitions : List Partition) →
-        IsOfPlan partitions pairs.items scripts.entry.items →
+        IsOfPlan partitions pairs.items scripts.entry.items lan.seats →
         AreCredited pairs.items scripts.entry.items → CreditsAreKept partitions trace) }
     ensures answers { IfOk result (λ trace. (partitions : List Partition) →
-        IsOfPlan partitions pairs.items scripts.entry.items →
+        IsOfPlan partitions pairs.items scripts.entry.items lan.seats →
         AreAnswered history.items pairs.items → AnswersAreSent partitions trace) }
+    ensures ports { IfOk result (λ trace. (partitions : List Partition) →
+        IsOfPlan partitions pairs.items scripts.entry.items lan.seats →
+        PortsKeepLaw partitions trace) }
 {
-    rows_of(alloc, pairs, scripts, history, grants, copies)
+    rows_of(alloc, pairs, scripts, lan, history, grants, copies)
 }
 
 // Gathers the rows of the parts of a machine.
@@ -65,25 +73,33 @@ fn rows_of(
     alloc: Global,
     pairs: Vec<Pair>,
     scripts: Vec<Script<'_>>,
+    lan: Lan,
     history: Vec<Served>,
     grants: Vec<Grant>,
     copies: Vec<CopyRecord>,
 ) -> Result<Trace, NoMemory>
     requires free { All IsFree pairs.items }
     requires few { All (λ script. length script.seats.items ≤ 256) scripts.items }
-    ensures trace { IfOk result (λ trace. trace ≡ trace_of pairs.items scripts.entry.items
+    ensures trace { IfOk result (IsGathered pairs.items scripts.entry.items lan
         history.items grants.items copies.items) }
     ensures queues { OnOk result (All (HasLawfulQueue pairs.items)
-        (seats_of pairs.items scripts.entry.items)) }
-    ensures windows { OnOk result (All (HasLawfulWindow pairs.items)
-        (seats_of pairs.items scripts.entry.items)) }
+        (seats_of scripts.entry.items)) }
+    ensures windows { OnOk result (All (HasLawfulWindow pairs.items lan)
+        (seats_of scripts.entry.items)) }
 {
-    let seats = seats_in_order(alloc, &pairs, &scripts)?;
-    let queues = queue_rows(alloc, &seats, &pairs)?;
-    let answers = answer_rows(alloc, &seats, &pairs)?;
-    let tces = value_rows(alloc, &seats, &pairs)?;
+    let units = seats_in_order(alloc, &scripts)?;
+    let queues = queue_rows(alloc, &units, &pairs)?;
+    let answers = answer_rows(alloc, &units, &pairs)?;
+    let tces = value_rows(alloc, &units, &pairs, &lan)?;
     let copies = copy_rows(alloc, &pairs, &copies)?;
-    let strokes = stroke_rows(alloc, &seats, &pairs)?;
+    let strokes = stroke_rows(alloc, &units, &pairs, &lan)?;
+    let LanRows {
+        frames,
+        ports,
+        posts,
+        delivers,
+        harvests,
+    } = lan.into_rows(alloc)?;
     let logs = log_rows(alloc, scripts)?;
     Ok(Trace {
         logs: Sequence::from(logs),
@@ -91,11 +107,11 @@ fn rows_of(
         grants: Sequence::from(grants),
         serves: Sequence::from(history),
         answers: Sequence::from(answers),
-        frames: Sequence::new(alloc),
-        ports: Sequence::new(alloc),
-        posts: Sequence::new(alloc),
-        delivers: Sequence::new(alloc),
-        harvests: Sequence::new(alloc),
+        frames: Sequence::from(frames),
+        ports: Sequence::from(ports),
+        posts: Sequence::from(posts),
+        delivers: Sequence::from(delivers),
+        harvests: Sequence::from(harvests),
         tces: Sequence::from(tces),
         copies: Sequence::from(copies),
         strokes: Sequence::from(strokes),
@@ -123,13 +139,13 @@ fn put_logs(rows: &mut Vec<LogRow>, logs: Vec<LogRow>) -> Result<(), NoMemory>
 }
 
 // Gathers the sessions of all queues.
-fn queue_rows(alloc: Global, seats: &[Seat], pairs: &[Pair]) -> Result<Vec<QueueRow>, NoMemory>
-    ensures rows { IfOk result (λ rows. rows.items ≡ flat_map (sessions_at pairs.now) seats.now) }
-    ensures lawful { OnOk result (All (HasLawfulQueue pairs.now) seats.now) }
+fn queue_rows(alloc: Global, units: &[UnitSeat], pairs: &[Pair]) -> Result<Vec<QueueRow>, NoMemory>
+    ensures rows { IfOk result (λ rows. rows.items ≡ flat_map (sessions_at pairs.now) units.now) }
+    ensures lawful { OnOk result (All (HasLawfulQueue pairs.now) units.now) }
 {
     let mut rows = Vec::new(alloc);
-    for seat in seats {
-        put_queue(alloc, &mut rows, seat, pairs)?;
+    for unit in units {
+        put_queue(alloc, &mut rows, unit, pairs)?;
     }
     Ok(rows)
 }
@@ -138,26 +154,57 @@ fn queue_rows(alloc: Global, seats: &[Seat], pairs: &[Pair]) -> Result<Vec<Queue
 fn put_queue(
     alloc: Global,
     rows: &mut Vec<QueueRow>,
-    seat: &Seat,
+    unit: &UnitSeat,
     pairs: &[Pair],
 ) -> Result<(), NoMemory>
-    ensures rows { OnOk result (rows.new.items ≡ rows.old.items ++ sessions_at pairs.now seat.now) }
-    ensures lawful { OnOk result (HasLawfulQueue pairs.now seat.now) }
+    ensures rows { OnOk result (rows.new.items ≡ rows.old.items ++ sessions_at pairs.now unit.now) }
+    ensures lawful { OnOk result (HasLawfulQueue pairs.now unit.now) }
 {
-    match pairs.get(seat.pair) {
-        Some(pair) => put_sessions(alloc, rows, seat.unit, pair.link.queue(seat.is_server)),
+    match queue_at(pairs, unit) {
+        Some(queue) => put_sessions(alloc, rows, unit.unit, queue),
         None => Ok(()),
     }
 }
 
+// Lends the queue of a unit, if it has one.
+fn queue_at<'a>(pairs: &'a [Pair], unit: &UnitSeat) -> Option<&'a PlainPipe>
+    ensures { option_map (λ queue. queue.now) result ≡ queue_at pairs.now unit.now }
+{
+    match unit.seat {
+        Seat::Server => Some(pairs.get(usize::from(unit.unit.unit))?.link.queue(true)),
+        Seat::Client(pair) => Some(pairs.get(pair)?.link.queue(false)),
+        Seat::Port => None,
+    }
+}
+
+// Lends the window of a unit.
+fn window_at<'a>(pairs: &'a [Pair], lan: &'a Lan, unit: &UnitSeat) -> Option<&'a PlainWindow>
+    ensures window { option_map (λ window. window.now) result
+        ≡ window_at pairs.now lan.now unit.now }
+    ensures fits { FitsPort lan.now unit.now.unit unit.now.seat }
+{
+    match unit.seat {
+        Seat::Server => Some(&pairs.get(usize::from(unit.unit.unit))?.own),
+        Seat::Client(pair) => Some(&pairs.get(pair)?.window),
+        Seat::Port if lan.is_port(unit.unit) => Some(lan.window(unit.unit)),
+        Seat::Port => None,
+    }
+}
+
 // Gathers the values of all windows.
-fn value_rows(alloc: Global, seats: &[Seat], pairs: &[Pair]) -> Result<Vec<TceValueRow>, NoMemory>
-    ensures rows { IfOk result (λ rows. rows.items ≡ flat_map (values_at pairs.now) seats.now) }
-    ensures lawful { OnOk result (All (HasLawfulWindow pairs.now) seats.now) }
+fn value_rows(
+    alloc: Global,
+    units: &[UnitSeat],
+    pairs: &[Pair],
+    lan: &Lan,
+) -> Result<Vec<TceValueRow>, NoMemory>
+    ensures rows { IfOk result (λ rows.
+        rows.items ≡ flat_map (values_at pairs.now lan.now) units.now) }
+    ensures lawful { OnOk result (All (HasLawfulWindow pairs.now lan.now) units.now) }
 {
     let mut rows = Vec::new(alloc);
-    for seat in seats {
-        put_window_values(&mut rows, seat, pairs)?;
+    for unit in units {
+        put_window_values(&mut rows, unit, pairs, lan)?;
     }
     Ok(rows)
 }
@@ -165,26 +212,33 @@ fn value_rows(alloc: Global, seats: &[Seat], pairs: &[Pair]) -> Result<Vec<TceVa
 // Adds the values of a unit's window.
 fn put_window_values(
     rows: &mut Vec<TceValueRow>,
-    seat: &Seat,
+    unit: &UnitSeat,
     pairs: &[Pair],
+    lan: &Lan,
 ) -> Result<(), NoMemory>
-    ensures rows { OnOk result (rows.new.items ≡ rows.old.items ++ values_at pairs.now seat.now) }
-    ensures lawful { OnOk result (HasLawfulWindow pairs.now seat.now) }
+    ensures rows { OnOk result (rows.new.items
+        ≡ rows.old.items ++ values_at pairs.now lan.now unit.now) }
+    ensures lawful { OnOk result (HasLawfulWindow pairs.now lan.now unit.now) }
 {
-    match pairs.get(seat.pair) {
-        Some(pair) => put_values(rows, seat.unit, window_of(pair, seat.is_server)),
+    match window_at(pairs, lan, unit) {
+        Some(window) => put_values(rows, unit.unit, window),
         None => Ok(()),
     }
 }
 
 // Gathers the strokes of all windows.
-fn stroke_rows(alloc: Global, seats: &[Seat], pairs: &[Pair]) -> Result<Vec<StrokeRow>, NoMemory>
+fn stroke_rows(
+    alloc: Global,
+    units: &[UnitSeat],
+    pairs: &[Pair],
+    lan: &Lan,
+) -> Result<Vec<StrokeRow>, NoMemory>
     requires free { All IsFree pairs.now }
-    ensures { IfOk result (λ rows. rows.items ≡ flat_map (marks_at pairs.now) seats.now) }
+    ensures { IfOk result (λ rows. rows.items ≡ flat_map (marks_at pairs.now lan.now) units.now) }
 {
     let mut rows = Vec::new(alloc);
-    for seat in seats {
-        put_window_strokes(alloc, &mut rows, seat, pairs)?;
+    for unit in units {
+        put_window_strokes(alloc, &mut rows, unit, pairs, lan)?;
     }
     Ok(rows)
 }
@@ -193,60 +247,57 @@ fn stroke_rows(alloc: Global, seats: &[Seat], pairs: &[Pair]) -> Result<Vec<Stro
 fn put_window_strokes(
     alloc: Global,
     rows: &mut Vec<StrokeRow>,
-    seat: &Seat,
+    unit: &UnitSeat,
     pairs: &[Pair],
+    lan: &Lan,
 ) -> Result<(), NoMemory>
     requires free { All IsFree pairs.now }
-    ensures { OnOk result (rows.new.items ≡ rows.old.items ++ marks_at pairs.now seat.now) }
+    ensures { OnOk result (rows.new.items
+        ≡ rows.old.items ++ marks_at pairs.now lan.now unit.now) }
 {
-    match pairs.get(seat.pair) {
-        Some(pair) => put_strokes(alloc, rows, seat.unit, window_of(pair, seat.is_server)),
+    match window_at(pairs, lan, unit) {
+        Some(window) => put_strokes(alloc, rows, unit.unit, window),
         None => Ok(()),
     }
 }
 
 // Gathers the answers that the clients took.
-fn answer_rows(alloc: Global, seats: &[Seat], pairs: &[Pair]) -> Result<Vec<AnswerRow>, NoMemory>
-    ensures { IfOk result (λ rows. rows.items ≡ flat_map (answers_at pairs.now) seats.now) }
+fn answer_rows(
+    alloc: Global,
+    units: &[UnitSeat],
+    pairs: &[Pair],
+) -> Result<Vec<AnswerRow>, NoMemory>
+    ensures { IfOk result (λ rows. rows.items ≡ flat_map (answers_at pairs.now) units.now) }
 {
     let mut rows = Vec::new(alloc);
-    for seat in seats {
-        put_client_answers(alloc, &mut rows, seat, pairs)?;
+    for unit in units {
+        put_client_answers(alloc, &mut rows, unit, pairs)?;
     }
     Ok(rows)
 }
 
-// Adds the answers that a client took; a server unit takes none.
+// Adds the answers that a client took; another unit takes none.
 fn put_client_answers(
     alloc: Global,
     rows: &mut Vec<AnswerRow>,
-    seat: &Seat,
+    unit: &UnitSeat,
     pairs: &[Pair],
 ) -> Result<(), NoMemory>
-    ensures { OnOk result (rows.new.items ≡ rows.old.items ++ answers_at pairs.now seat.now) }
+    ensures { OnOk result (rows.new.items ≡ rows.old.items ++ answers_at pairs.now unit.now) }
 {
-    match pairs.get(seat.pair) {
-        Some(pair) => put_driver_answers(alloc, rows, seat, &pair.driver),
+    match driver_at(pairs, unit) {
+        Some(driver) => put_answers(alloc, rows, unit.unit, &driver.answers),
         None => Ok(()),
     }
 }
 
-// Adds the answers that the driver of a client unit took.
-fn put_driver_answers(
-    alloc: Global,
-    rows: &mut Vec<AnswerRow>,
-    seat: &Seat,
-    driver: &Option<Driver>,
-) -> Result<(), NoMemory>
-    ensures { OnOk result (rows.new.items ≡ rows.old.items
-        ++ answers_if seat.now seat.now.is_server driver.now) }
+// Lends the driver of a client.
+fn driver_at<'a>(pairs: &'a [Pair], unit: &UnitSeat) -> Option<&'a Driver>
+    ensures { option_map (λ driver. driver.now) result ≡ driver_of pairs.now unit.now }
 {
-    if seat.is_server {
-        return Ok(());
-    }
-    match driver {
-        Some(driver) => put_answers(alloc, rows, seat.unit, &driver.answers),
-        None => Ok(()),
+    match unit.seat {
+        Seat::Client(pair) => pairs.get(pair)?.driver.as_ref(),
+        Seat::Server | Seat::Port => None,
     }
 }
 
@@ -279,11 +330,4 @@ fn copy_rows(alloc: Global, pairs: &[Pair], copies: &[CopyRecord]) -> Result<Vec
         put_copies(alloc, &mut rows, pair.server, copies)?;
     }
     Ok(rows)
-}
-
-// Lends the window of the server unit, or that of its client.
-fn window_of(pair: &Pair, is_server: bool) -> &PlainWindow
-    ensures { result.now ≡ window_of pair.now is_server }
-{
-    if is_server { &pair.own } else { &pair.window }
 }

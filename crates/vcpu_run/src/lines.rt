@@ -5,19 +5,20 @@ ghost use Rattle.vscsi_client.specs.Transferred.{FitRows};
 ghost use Rattle.vscsi_client.specs.Units.{FitsOp};
 ghost use Rattle.boot_text.specs.declared.verb.Verb.{Verb as VerbValue};
 ghost use Rattle.boot_text.specs.declared.verb.Verb.TheVariants as verbs;
-ghost use Rattle.vcpu_run.specs.Credited.{IsPlain, StepsAgreed, taken_in, uses_credit};
+ghost use Rattle.vcpu_run.specs.Credited.{StepsAgreed, taken_in, uses_credit};
+ghost use Rattle.unit_region.specs.Steps.{IsPlain};
 ghost use Rattle.vcpu_run.specs.Sendings.{SaysSent, SaysTurned};
-ghost use Rattle.vcpu_run.specs.Works.{IsUnitVerb, KeepsWindow, Works, sends};
+ghost use Rattle.vcpu_run.specs.Works.{IsUnitVerb, Works, sends};
+ghost use Rattle.unit_region.specs.Kept.{KeepsWindow};
 
 use crate::driver::Driver;
 use crate::op::op_of;
-use crate::region;
 use crate::script::Progress;
-use crate::step::Step;
 use crate::watched::Watched;
 use boot_text::{Line, Verb};
 use crq_session::{CrqEnd, FreeAnswer};
 use tce_window::OwnerPort;
+use unit_region::{Step, fill, peek, poke, put_tce};
 use vio_num::{Moved, NoMemory};
 use vio_trace::Outcome;
 use vscsi_client::{DataFault, LoginTurn, Op, Refused};
@@ -251,15 +252,15 @@ impl Driver {
             Verb::Task { function, tag } => self.task(crq, own, *function as u8, *tag, mark),
             Verb::Take { count } => self.take_on(crq, own, *count, progress),
             Verb::Data { tag } => self.data(own, *tag),
-            Verb::Fill { at, len, seed } => region::fill(self.alloc, own, *at, *len, *seed, mark),
-            Verb::Poke { at, bytes } => region::poke(own, *at, bytes.as_slice(), mark),
-            Verb::Peek { at, len } => region::peek(self.alloc, own, *at, *len),
+            Verb::Fill { at, len, seed } => fill(self.alloc, own, *at, *len, *seed, mark),
+            Verb::Poke { at, bytes } => poke(own, *at, bytes.as_slice(), mark),
+            Verb::Peek { at, len } => peek(self.alloc, own, *at, *len),
             Verb::Tce {
                 entry,
                 page,
                 readable,
                 writable,
-            } => { region::put_tce(own, *entry, *page, *readable, *writable) }
+            } => { put_tce(own, *entry, *page, *readable, *writable) }
             _ => unreachable!(),
         }
     }

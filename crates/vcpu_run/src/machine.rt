@@ -1,5 +1,6 @@
 // The machine: its making, its rounds, and how it settles.
 ghost use Rattle.std.specs.Prelude.{◌≡◌, [], All, IfErr, IfOk, IfSome, IsSome, List, OnOk, vec_len};
+ghost use Rattle.boot_text.specs.Sound.{AreSound, IsSound};
 ghost use Rattle.boot_text.specs.declared.plan.Partition.{Partition};
 ghost use Rattle.block_server.specs.DiskLaw.{KeepsDisk};
 ghost use Rattle.vcpu_run.specs.Agreed.{AreCredited};
@@ -7,32 +8,35 @@ ghost use Rattle.vcpu_run.specs.Answered.{AreAnswered};
 ghost use Rattle.vcpu_run.specs.Lines.{IsOver};
 ghost use Rattle.vcpu_run.specs.Machines.{AreScripts, IsMachine, IsOfPlan};
 ghost use Rattle.vcpu_run.specs.OnDisk.{LeadsOn};
-ghost use Rattle.vcpu_run.specs.Pairs.{ArePairs};
+ghost use Rattle.vcpu_run.specs.Pairs.{AreOfOneHome};
+ghost use Rattle.vcpu_run.specs.Ports.{ports_of};
 ghost use Rattle.vcpu_run.specs.RunLaw.{KeepsLaw, KeepsLawOf};
-ghost use Rattle.vcpu_run.specs.Runnable.{IsRunnable};
 
 use crate::gather::gather;
-use crate::making::{make_pairs, make_scripts};
+use crate::making::{home_of, make_pairs, make_scripts, ports_of};
 use crate::pair::Pair;
 use crate::rounds::run;
 use crate::script::Script;
 use block_server::{Finished, Server};
-use boot_text::Plan;
+use boot_text::{Partition, Plan};
+use lan_script::Lan;
 use rdma_copy::CopyRecord;
 use std::alloc::Global;
 use vio_io::Blocks;
 use vio_num::{Grant, NoMemory, Served};
 use vio_trace::Trace;
 
-/// A machine: the server units of the first partition with their image, and the client partitions.
+/// A machine: the server units with their image, the partitions, and the LAN.
 #[derive(Drop)]
 pub struct Machine<'p, Di: Blocks> {
     alloc: Global,
     server: Server<Di>,
     /// The server units, each with its client.
     pairs: Vec<Pair>,
-    /// The client partitions, in order.
+    /// The partitions, in order.
     scripts: Vec<Script<'p>>,
+    /// The LAN units of all partitions.
+    lan: Lan,
 }
 
 /// What a machine leaves once nothing moves any more: the image, and the trace where memory sufficed.
@@ -45,33 +49,46 @@ pub struct Settled<Di> {
 impl<'p, Di: Blocks> Machine<'p, Di> {
     /// Makes all that a plan asks for, over an image of `count` blocks. Want of memory hands the image back.
     pub fn boot(alloc: Global, plan: &'p Plan, image: Di, count: u64) -> Result<Machine<'p, Di>, Di>
-        requires runnable { IsRunnable plan.now }
+        requires sound { IsSound plan.now }
         requires count { count ≡ (Di.state image).size }
         ensures err { IfErr result (λ back. back ≡ image) }
         ensures image { IfOk result (λ machine. machine.server.disk.image ≡ image) }
         ensures machine { IfOk result (λ machine.
             IsMachine machine.server.partition (vec_len machine.server.units)
-            machine.server.copies.items machine.pairs.items machine.scripts.items) }
-        ensures of_plan { IfOk result (λ machine.
-            IsOfPlan plan.now.partitions machine.pairs.items machine.scripts.items) }
+            machine.server.copies.items machine.pairs.items machine.scripts.items
+            machine.lan.seats) }
+        ensures of_plan { IfOk result (λ machine. IsOfPlan plan.now.partitions
+            machine.pairs.items machine.scripts.items machine.lan.seats) }
         ensures credited { IfOk result (λ machine.
             AreCredited machine.pairs.items machine.scripts.items) }
         ensures answered { IfOk result (λ machine. AreAnswered [] machine.pairs.items) }
         ensures none { IfOk result (λ machine. machine.server.records.history.items ≡ []) }
     {
         let partitions = plan.partitions.as_slice();
-        let Ok(pairs) = make_pairs(alloc, partitions) else {
+        let home = home_of(partitions);
+        let Ok(pairs) = make_pairs(alloc, partitions, home) else {
             return Err(image);
         };
         let Ok(scripts) = make_scripts(alloc, partitions) else {
             return Err(image);
         };
-        let server = Server::open(alloc, 0, image, count, plan.grant, pairs.len() as u8)?;
+        let Ok(lan) = open_lan(alloc, partitions) else {
+            return Err(image);
+        };
+        let server = Server::open(
+            alloc,
+            home as u8,
+            image,
+            count,
+            plan.grant,
+            pairs.len() as u8,
+        )?;
         Ok(Machine {
             alloc,
             server,
             pairs,
             scripts,
+            lan,
         })
     }
 
@@ -79,12 +96,12 @@ impl<'p, Di: Blocks> Machine<'p, Di> {
     /// keeps the law of its runs.
     pub fn settle(self) -> Settled<Di>
         requires machine { IsMachine self.server.partition (vec_len self.server.units)
-            self.server.copies.items self.pairs.items self.scripts.items }
+            self.server.copies.items self.pairs.items self.scripts.items self.lan.seats }
         requires credited { AreCredited self.pairs.items self.scripts.items }
         requires answered { AreAnswered self.server.records.history.items self.pairs.items }
         ensures law { IfSome result.trace (λ trace. (partitions : List Partition) →
-            IsOfPlan partitions self.entry.pairs.items self.entry.scripts.items →
-            KeepsLawOf partitions trace) }
+            IsOfPlan partitions self.entry.pairs.items self.entry.scripts.items
+            self.entry.lan.seats → KeepsLawOf partitions trace) }
         ensures disk { IfSome result.trace (λ trace. ∥ KeepsDisk
             self.entry.server.records.history.items trace.serves
             (Di.state self.entry.server.disk.image).blocks (Di.state result.image).blocks ∥₁) }
@@ -96,15 +113,16 @@ impl<'p, Di: Blocks> Machine<'p, Di> {
             mut server,
             mut pairs,
             mut scripts,
+            mut lan,
         } = self;
-        let run = run(&mut server, &mut pairs, &mut scripts);
+        let run = run(&mut server, &mut pairs, &mut scripts, &mut lan);
         let Finished {
             image,
             history,
             grants,
             copies,
         } = server.finish();
-        let trace = trace_of(run, alloc, pairs, scripts, history, grants, copies);
+        let trace = trace_of(run, alloc, pairs, scripts, lan, history, grants, copies);
         Settled { image, trace }
     }
 }
@@ -117,7 +135,7 @@ pub fn settle_plan<Di: Blocks + Drop>(
     image: Di,
     count: u64,
 ) -> Settled<Di>
-    requires runnable { IsRunnable plan.now }
+    requires sound { IsSound plan.now }
     requires count { count ≡ (Di.state image).size }
     ensures law { IfSome result.trace (KeepsLaw plan.now) }
     ensures disk { IfSome result.trace (λ trace. LeadsOn trace.serves
@@ -136,21 +154,31 @@ fn trace_of(
     alloc: Global,
     pairs: Vec<Pair>,
     scripts: Vec<Script<'_>>,
+    lan: Lan,
     history: Vec<Served>,
     grants: Vec<Grant>,
     copies: Vec<CopyRecord>,
 ) -> Option<Trace>
-    requires pairs { ArePairs 0 copies.items pairs.items }
-    requires scripts { AreScripts pairs.items scripts.items }
+    requires pairs { AreOfOneHome copies.items pairs.items }
+    requires scripts { AreScripts pairs.items lan.seats scripts.items }
     requires credited { OnOk run (AreCredited pairs.items scripts.items) }
     requires over { OnOk run (All IsOver scripts.items) }
     requires answered { AreAnswered history.items pairs.items }
     ensures serves { IfSome result (λ trace. trace.serves ≡ history.items) }
     ensures law { IfSome result (λ trace. (partitions : List Partition) →
-        IsOfPlan partitions pairs.items scripts.entry.items → KeepsLawOf partitions trace) }
+        IsOfPlan partitions pairs.items scripts.entry.items lan.seats → KeepsLawOf partitions trace) }
 {
     match run {
-        Ok(()) => gather(alloc, pairs, scripts, history, grants, copies).ok(),
+        Ok(()) => gather(alloc, pairs, scripts, lan, history, grants, copies).ok(),
         Err(NoMemory) => None,
     }
+}
+
+// Opens the LAN ports of a plan.
+fn open_lan(alloc: Global, partitions: &[Partition]) -> Result<Lan, NoMemory>
+    requires sound { AreSound partitions.now }
+    ensures { IfOk result (λ lan. lan.seats ≡ ports_of partitions.now) }
+{
+    let ports = ports_of(alloc, partitions)?;
+    Lan::open(alloc, &ports)
 }

@@ -50,17 +50,17 @@ pub(crate) struct ClientSeat {
 }
 
 impl Pair {
-    /// Server unit `unit` of the first partition, whose queue has this many pages, and its client.
+    /// This server unit, whose queue has this many pages, and its client.
     pub(crate) fn open(
         alloc: Global,
-        unit: u8,
+        server: UnitId,
         queue: u8,
         client: Option<ClientSeat>,
     ) -> Result<Pair, NoMemory>
-        requires unit { unit < ABSENT_UNIT }
+        requires unit { server.unit < ABSENT_UNIT }
         requires queue { IsFrom 1 MOST_QUEUE queue }
-        requires client { IfSome client (FitsSeat (server_id unit)) }
-        ensures pair { IfOk result (IsPair 0 [] unit) }
+        requires client { IfSome client (FitsSeat server) }
+        ensures pair { IfOk result (IsPair server.partition [] server.unit) }
         ensures slots { IfOk result (λ pair.
             (side_of pair.link true).queue.slots ≡ PAGE_SLOTS * queue) }
         ensures client { IfOk result (HasSeat client) }
@@ -68,23 +68,27 @@ impl Pair {
         ensures answered { IfOk result (IsAnswered []) }
     {
         match client {
-            Some(seat) => Pair::with_client(alloc, unit, queue, seat),
-            None => Pair::alone(alloc, unit, queue),
+            Some(seat) => Pair::with_client(alloc, server, queue, seat),
+            None => Pair::alone(alloc, server, queue),
         }
     }
 
     // A server unit and its client.
-    fn with_client(alloc: Global, unit: u8, queue: u8, seat: ClientSeat) -> Result<Pair, NoMemory>
+    fn with_client(
+        alloc: Global,
+        server: UnitId,
+        queue: u8,
+        seat: ClientSeat,
+    ) -> Result<Pair, NoMemory>
         requires queue { IsFrom 1 MOST_QUEUE queue }
-        requires seat { FitsSeat (server_id unit) seat }
-        ensures pair { IfOk result (IsPair 0 [] unit) }
+        requires seat { FitsSeat server seat }
+        ensures pair { IfOk result (IsPair server.partition [] server.unit) }
         ensures slots { IfOk result (λ pair.
             (side_of pair.link true).queue.slots ≡ PAGE_SLOTS * queue) }
         ensures client { IfOk result (SitsAt seat) }
         ensures out { IfOk result IsLoggedOut }
         ensures answered { IfOk result (IsAnswered []) }
     {
-        let server = UnitId { partition: 0, unit };
         Ok(Pair {
             server,
             link: open_link(alloc, queue, seat.queue)?,
@@ -95,18 +99,17 @@ impl Pair {
     }
 
     // A server unit that has no client.
-    fn alone(alloc: Global, unit: u8, queue: u8) -> Result<Pair, NoMemory>
-        requires unit { unit < ABSENT_UNIT }
+    fn alone(alloc: Global, server: UnitId, queue: u8) -> Result<Pair, NoMemory>
+        requires unit { server.unit < ABSENT_UNIT }
         requires queue { IsFrom 1 MOST_QUEUE queue }
-        ensures pair { IfOk result (IsPair 0 [] unit) }
+        ensures pair { IfOk result (IsPair server.partition [] server.unit) }
         ensures slots { IfOk result (λ pair.
             (side_of pair.link true).queue.slots ≡ PAGE_SLOTS * queue) }
         ensures client { IfOk result (λ pair. pair.driver ≡ None) }
         ensures answered { IfOk result (IsAnswered []) }
     {
-        let server = UnitId { partition: 0, unit };
         let absent = UnitId {
-            partition: 0,
+            partition: server.partition,
             unit: ABSENT_UNIT,
         };
         Ok(Pair {
@@ -124,19 +127,20 @@ impl Pair {
         server: &mut Server<Di>,
         unit: u8,
     ) -> Result<Moved, NoMemory>
-        requires partition { server.old.partition ≡ 0 }
         requires unit { unit < vec_len server.old.units }
-        requires pair { IsPair 0 server.old.copies.items unit self.old }
+        requires pair { IsPair server.old.partition server.old.copies.items unit self.old }
         requires answered { IsAnswered server.old.records.history.items self.old }
-        ensures pair { IsPair 0 server.new.copies.items unit self.new }
+        ensures pair { IsPair server.old.partition server.new.copies.items unit self.new }
         ensures others { (k : ℕ) (other : Pair) → k ≢ unit →
-            IsPair 0 server.old.copies.items k other → IsPair 0 server.new.copies.items k other }
+            IsPair server.old.partition server.old.copies.items k other →
+            IsPair server.old.partition server.new.copies.items k other }
         ensures stays { Stays self.old self.new }
         ensures driver { self.new.driver ≡ self.old.driver }
         ensures units { vec_len server.new.units ≡ vec_len server.old.units }
-        ensures partition { server.new.partition ≡ 0 }
+        ensures partition { server.new.partition ≡ server.old.partition }
         ensures answered { IsAnswered server.new.records.history.items self.new }
-        ensures elsewhere { (k : ℕ) (other : Pair) → k ≢ unit → other.server ≡ server_id k →
+        ensures elsewhere { (k : ℕ) (other : Pair) → k ≢ unit →
+            other.server ≡ server_id server.old.partition k →
             IsAnswered server.old.records.history.items other →
             IsAnswered server.new.records.history.items other }
         ensures disk { LastsOnDisk server.old.records.history.items

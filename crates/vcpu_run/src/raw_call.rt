@@ -4,17 +4,20 @@ ghost use Rattle.vio_num.specs.declared.hypervisor.Hrc.TheVariants as codes;
 ghost use Rattle.hcall_table.specs.Rows.{IsAnswer, row_of};
 ghost use Rattle.vcpu_run.specs.Agreed.{SameDrivers};
 ghost use Rattle.vcpu_run.specs.CallRows.{EndsCall, gives, says};
-ghost use Rattle.vcpu_run.specs.Credited.{IsPlain, is_plain, is_take};
+ghost use Rattle.vcpu_run.specs.Credited.{is_take};
+ghost use Rattle.unit_region.specs.Steps.{IsPlain, is_plain};
 ghost use Rattle.vcpu_run.specs.Pairs.{AreDriven};
 ghost use Rattle.vcpu_run.specs.RawCalls.{CallsUnits};
-ghost use Rattle.vcpu_run.specs.Runnable.{is_call};
+ghost use Rattle.vcpu_run.specs.Suited.{is_call};
 
-use crate::client_units::ClientUnits;
 use crate::pair::Pair;
-use crate::step::Step;
+use crate::partition_units::PartitionUnits;
+use crate::unit_seat::Seat;
 use boot_text::Verb;
 use hcall_table::{Hcall, Returned, call};
+use lan_script::Lan;
 use std::alloc::Global;
+use unit_region::Step;
 use vio_num::{Hrc, NoMemory};
 use vio_trace::Outcome;
 
@@ -41,25 +44,28 @@ impl RawCall {
     }
 }
 
-/// Makes a call on the client units of a partition. It is made once, whatever it answers.
+/// Makes a call on the units of a partition. It is made once, whatever it answers.
 #[tactic(auto, using(crate::proofs::RawSaid::says_call))]
 pub(crate) fn make_call(
     alloc: Global,
     partition: u8,
-    seats: &[usize],
+    seats: &[Seat],
     pairs: &mut [Pair],
+    lan: &mut Lan,
     raw: &RawCall,
 ) -> Result<Step, NoMemory>
     ensures driven { AreDriven pairs.old pairs.new }
     ensures told { SameDrivers pairs.old pairs.new }
+    ensures lan { lan.new.seats ≡ lan.old.seats }
     ensures plain { IsPlain result }
     ensures said { IfOk result (EndsCall raw.now.number) }
 {
-    let mut units = ClientUnits {
+    let mut units = PartitionUnits {
         alloc,
         partition,
         seats,
         pairs,
+        lan,
     };
     let returned = call_units(&mut units, raw.number, &raw.arguments)?;
     Ok(Step::Ends(outcome_of(raw.number, returned)))
@@ -67,7 +73,7 @@ pub(crate) fn make_call(
 
 // Makes the call, which changes no driver.
 fn call_units(
-    units: &mut ClientUnits<'_>,
+    units: &mut PartitionUnits<'_>,
     number: u64,
     arguments: &[u64; 9],
 ) -> Result<Returned, NoMemory>

@@ -1,7 +1,8 @@
-// The turns of a round: those of the server units, and those of the client partitions.
-ghost use Rattle.std.specs.Prelude.{◌≡◌, ◌<◌, All, IsTrue, List, OnOk, length, vec_len};
+// The turns of a round: one of each partition, in their order.
+ghost use Rattle.std.specs.Prelude.{◌≡◌, ◌<◌, ℕ, All, IsTrue, List, OnOk, length, vec_len};
 ghost use Rattle.std.specs.List.{list_all};
 ghost use Rattle.rdma_copy.specs.declared.copy.CopyRecord.{CopyRecord};
+ghost use Rattle.lan_script.specs.declared.seat.PortSeat.{PortSeat};
 ghost use Rattle.vcpu_run.specs.declared.pair.Pair.{Pair};
 ghost use Rattle.vio_num.specs.declared.history.Served.{Served};
 ghost use Rattle.vcpu_run.specs.Agreed.{AreCredited, SameDrivers};
@@ -15,6 +16,7 @@ use crate::pair::Pair;
 use crate::script::Script;
 use crate::seats::either;
 use block_server::Server;
+use lan_script::Lan;
 use vio_io::Blocks;
 use vio_num::{Moved, NoMemory};
 
@@ -24,12 +26,13 @@ pub(crate) fn run<Di: Blocks>(
     server: &mut Server<Di>,
     pairs: &mut [Pair],
     scripts: &mut [Script<'_>],
+    lan: &mut Lan,
 ) -> Result<(), NoMemory>
     requires machine { IsMachine server.old.partition (vec_len server.old.units)
-        server.old.copies.items pairs.old scripts.old }
+        server.old.copies.items pairs.old scripts.old lan.old.seats }
     requires answered { AreAnswered server.old.records.history.items pairs.old }
     ensures machine { IsMachine server.new.partition (vec_len server.new.units)
-        server.new.copies.items pairs.new scripts.new }
+        server.new.copies.items pairs.new scripts.new lan.new.seats }
     ensures stay { AllStay pairs.old pairs.new }
     ensures run { AllRun scripts.old scripts.new }
     ensures credited { OnOk result (AreCredited pairs.old scripts.old →
@@ -38,9 +41,10 @@ pub(crate) fn run<Di: Blocks>(
     ensures answered { AreAnswered server.new.records.history.items pairs.new }
     ensures disk { LastsOnDisk server.old.records.history.items server.new.records.history.items
         (Di.state server.old.disk.image).blocks (Di.state server.new.disk.image).blocks }
+    ensures lan { lan.new.seats ≡ lan.old.seats }
 {
     for _round in 0..u64::MAX {
-        let moved = step(server, pairs, scripts)?;
+        let moved = step(server, pairs, scripts, lan)?;
         if is_end(moved, scripts) {
             return Ok(());
         }
@@ -71,12 +75,13 @@ fn step<Di: Blocks>(
     server: &mut Server<Di>,
     pairs: &mut [Pair],
     scripts: &mut [Script<'_>],
+    lan: &mut Lan,
 ) -> Result<Moved, NoMemory>
     requires machine { IsMachine server.old.partition (vec_len server.old.units)
-        server.old.copies.items pairs.old scripts.old }
+        server.old.copies.items pairs.old scripts.old lan.old.seats }
     requires answered { AreAnswered server.old.records.history.items pairs.old }
     ensures machine { IsMachine server.new.partition (vec_len server.new.units)
-        server.new.copies.items pairs.new scripts.new }
+        server.new.copies.items pairs.new scripts.new lan.new.seats }
     ensures stay { AllStay pairs.old pairs.new }
     ensures run { AllRun scripts.old scripts.new }
     ensures credited { OnOk result (AreCredited pairs.old scripts.old →
@@ -84,8 +89,9 @@ fn step<Di: Blocks>(
     ensures answered { AreAnswered server.new.records.history.items pairs.new }
     ensures disk { LastsOnDisk server.old.records.history.items server.new.records.history.items
         (Di.state server.old.disk.image).blocks (Di.state server.new.disk.image).blocks }
+    ensures lan { lan.new.seats ≡ lan.old.seats }
 {
-    match round(server, pairs, scripts)? {
+    match round(server, pairs, scripts, lan)? {
         Moved::Moved => Ok(Moved::Moved),
         Moved::Quiet => end_lines(scripts),
     }
@@ -96,12 +102,13 @@ fn round<Di: Blocks>(
     server: &mut Server<Di>,
     pairs: &mut [Pair],
     scripts: &mut [Script<'_>],
+    lan: &mut Lan,
 ) -> Result<Moved, NoMemory>
     requires machine { IsMachine server.old.partition (vec_len server.old.units)
-        server.old.copies.items pairs.old scripts.old }
+        server.old.copies.items pairs.old scripts.old lan.old.seats }
     requires answered { AreAnswered server.old.records.history.items pairs.old }
     ensures machine { IsMachine server.new.partition (vec_len server.new.units)
-        server.new.copies.items pairs.new scripts.new }
+        server.new.copies.items pairs.new scripts.new lan.new.seats }
     ensures stay { AllStay pairs.old pairs.new }
     ensures run { AllRun scripts.old scripts.new }
     ensures credited { OnOk result (AreCredited pairs.old scripts.old →
@@ -109,10 +116,44 @@ fn round<Di: Blocks>(
     ensures answered { AreAnswered server.new.records.history.items pairs.new }
     ensures disk { LastsOnDisk server.old.records.history.items server.new.records.history.items
         (Di.state server.old.disk.image).blocks (Di.state server.new.disk.image).blocks }
+    ensures lan { lan.new.seats ≡ lan.old.seats }
 {
-    let served = serve(server, pairs)?;
-    let turned = turn_each(scripts, pairs)?;
-    Ok(either(served, turned))
+    let mut moved = Moved::Quiet;
+    for number in 0..scripts.len() {
+        let turned = turn_at(server, pairs, scripts, lan, number)?;
+        moved = either(moved, turned);
+    }
+    Ok(moved)
+}
+
+// One turn of the partition with this number: its server units have one each.
+fn turn_at<Di: Blocks>(
+    server: &mut Server<Di>,
+    pairs: &mut [Pair],
+    scripts: &mut [Script<'_>],
+    lan: &mut Lan,
+    number: usize,
+) -> Result<Moved, NoMemory>
+    requires there { number < length scripts.old }
+    requires machine { IsMachine server.old.partition (vec_len server.old.units)
+        server.old.copies.items pairs.old scripts.old lan.old.seats }
+    requires answered { AreAnswered server.old.records.history.items pairs.old }
+    ensures machine { IsMachine server.new.partition (vec_len server.new.units)
+        server.new.copies.items pairs.new scripts.new lan.new.seats }
+    ensures stay { AllStay pairs.old pairs.new }
+    ensures run { AllRun scripts.old scripts.new }
+    ensures credited { OnOk result (AreCredited pairs.old scripts.old →
+        AreCredited pairs.new scripts.new) }
+    ensures answered { AreAnswered server.new.records.history.items pairs.new }
+    ensures disk { LastsOnDisk server.old.records.history.items server.new.records.history.items
+        (Di.state server.old.disk.image).blocks (Di.state server.new.disk.image).blocks }
+    ensures lan { lan.new.seats ≡ lan.old.seats }
+{
+    if scripts[number].is_of_servers() {
+        serve(server, pairs)
+    } else {
+        run_script(scripts, pairs, lan, number)
+    }
 }
 
 // One turn of each server unit.
@@ -157,54 +198,37 @@ fn serve_at<Di: Blocks>(
     pairs[unit].serve(server, unit as u8)
 }
 
-// One turn of each client partition, in their order.
-fn turn_each(scripts: &mut [Script<'_>], pairs: &mut [Pair]) -> Result<Moved, NoMemory>
-    requires drivers { AreDrivers pairs.old }
-    requires scripts { AreScripts pairs.old scripts.old }
-    ensures pairs { (copies : List CopyRecord) →
-        ArePairs 0 copies pairs.old → ArePairs 0 copies pairs.new }
-    ensures drivers { AreDrivers pairs.new }
-    ensures scripts { AreScripts pairs.new scripts.new }
-    ensures stay { AllStay pairs.old pairs.new }
-    ensures run { AllRun scripts.old scripts.new }
-    ensures credited { OnOk result (AreCredited pairs.old scripts.old →
-        AreCredited pairs.new scripts.new) }
-    ensures answered { (history : List Served) →
-        AreAnswered history pairs.old → AreAnswered history pairs.new }
-{
-    let mut moved = Moved::Quiet;
-    for number in 0..scripts.len() {
-        let turned = turn_at(scripts, pairs, number)?;
-        moved = either(moved, turned);
-    }
-    Ok(moved)
-}
-
-// One turn of the client partition with this place.
-fn turn_at(scripts: &mut [Script<'_>], pairs: &mut [Pair], number: usize) -> Result<Moved, NoMemory>
+// One turn of the script of the partition with this number.
+fn run_script(
+    scripts: &mut [Script<'_>],
+    pairs: &mut [Pair],
+    lan: &mut Lan,
+    number: usize,
+) -> Result<Moved, NoMemory>
     requires there { number < length scripts.old }
     requires drivers { AreDrivers pairs.old }
-    requires scripts { AreScripts pairs.old scripts.old }
-    ensures pairs { (copies : List CopyRecord) →
-        ArePairs 0 copies pairs.old → ArePairs 0 copies pairs.new }
+    requires scripts { AreScripts pairs.old lan.old.seats scripts.old }
+    ensures pairs { (home : ℕ) (copies : List CopyRecord) →
+        ArePairs home copies pairs.old → ArePairs home copies pairs.new }
     ensures drivers { AreDrivers pairs.new }
-    ensures scripts { AreScripts pairs.new scripts.new }
+    ensures scripts { AreScripts pairs.new lan.new.seats scripts.new }
     ensures stay { AllStay pairs.old pairs.new }
     ensures run { AllRun scripts.old scripts.new }
     ensures credited { OnOk result (AreCredited pairs.old scripts.old →
         AreCredited pairs.new scripts.new) }
     ensures answered { (history : List Served) →
         AreAnswered history pairs.old → AreAnswered history pairs.new }
+    ensures lan { lan.new.seats ≡ lan.old.seats }
 {
-    scripts[number].turn(pairs)
+    scripts[number].turn(pairs, lan)
 }
 
 // Ends the lines that wait.
 fn end_lines(scripts: &mut [Script<'_>]) -> Result<Moved, NoMemory>
-    ensures scripts { (pairs : List Pair) →
-        AreScripts pairs scripts.old → AreScripts pairs scripts.new }
+    ensures scripts { (pairs : List Pair) (ports : List PortSeat) →
+        AreScripts pairs ports scripts.old → AreScripts pairs ports scripts.new }
     ensures run { AllRun scripts.old scripts.new }
-    ensures credited { OnOk result ((pairs : List Pair) → AreScripts pairs scripts.old →
+    ensures credited { OnOk result ((pairs : List Pair) (ports : List PortSeat) → AreScripts pairs ports scripts.old →
         AreCredited pairs scripts.old → AreCredited pairs scripts.new) }
 {
     let mut moved = Moved::Quiet;
@@ -215,13 +239,13 @@ fn end_lines(scripts: &mut [Script<'_>]) -> Result<Moved, NoMemory>
     Ok(moved)
 }
 
-// Ends the line of the client partition with this place, if it waits.
+// Ends the line of the partition with this place, if it waits.
 fn end_line_at(scripts: &mut [Script<'_>], number: usize) -> Result<Moved, NoMemory>
     requires { number < length scripts.old }
-    ensures scripts { (pairs : List Pair) →
-        AreScripts pairs scripts.old → AreScripts pairs scripts.new }
+    ensures scripts { (pairs : List Pair) (ports : List PortSeat) →
+        AreScripts pairs ports scripts.old → AreScripts pairs ports scripts.new }
     ensures run { AllRun scripts.old scripts.new }
-    ensures credited { OnOk result ((pairs : List Pair) → AreScripts pairs scripts.old →
+    ensures credited { OnOk result ((pairs : List Pair) (ports : List PortSeat) → AreScripts pairs ports scripts.old →
         AreCredited pairs scripts.old → AreCredited pairs scripts.new) }
 {
     scripts[number].end_waiting()

@@ -1,4 +1,4 @@
-// A client partition: its script, and a turn of it.
+// A partition: its script, and a turn of it.
 ghost use Rattle.std.specs.Prelude.{◌≡◌, ◌<◌, All, List, Some, OnOk, length, slice_get, true};
 ghost use Rattle.std.specs.List.{AllPairs};
 ghost use Rattle.vcpu_run.specs.declared.pair.Pair.{Pair as PairValue};
@@ -7,15 +7,18 @@ ghost use Rattle.vcpu_run.specs.Credited.{taken_in};
 ghost use Rattle.vcpu_run.specs.Lines.{is_over, place_behind};
 ghost use Rattle.vcpu_run.specs.Pairs.{AreDriven, AreDrivers};
 ghost use Rattle.vcpu_run.specs.Quietly.{OnQuiet};
-ghost use Rattle.vcpu_run.specs.Runnable.{IsClientLine};
-ghost use Rattle.vcpu_run.specs.Scripts.{AreSeats, IsScript, OnlyRuns};
+ghost use Rattle.vcpu_run.specs.Ports.{HasPorts};
+ghost use Rattle.vcpu_run.specs.Suited.{IsLineAt};
+ghost use Rattle.vcpu_run.specs.Scripts.{AreSeats, IsScript, OnlyRuns, are_servers};
 ghost use Rattle.vcpu_run.specs.Works.{fails};
 
 use crate::pair::Pair;
 use crate::seats::{either, fail, push_events, step_unit, take_rest};
-use crate::step::Step;
+use crate::unit_seat::Seat;
 use boot_text::{Line, Verb};
+use lan_script::Lan;
 use std::alloc::Global;
+use unit_region::Step;
 use vio_num::{Moved, NoMemory};
 use vio_trace::{LogRow, Outcome};
 
@@ -26,8 +29,10 @@ pub(crate) enum Progress {
     Fresh,
     /// Its queue was freed.
     Freed,
-    /// It took so many answers.
+    /// It took so many answers or frames.
     Took(u64),
+    /// It posted so many buffers.
+    Posted(u64),
 }
 
 impl Progress {
@@ -37,12 +42,20 @@ impl Progress {
     {
         match self {
             Progress::Took(taken) => taken,
+            Progress::Fresh | Progress::Freed | Progress::Posted(_) => 0,
+        }
+    }
+
+    /// The answers or frames that it took, or the buffers that it posted.
+    pub(crate) fn done(self) -> u64 {
+        match self {
+            Progress::Took(done) | Progress::Posted(done) => done,
             Progress::Fresh | Progress::Freed => 0,
         }
     }
 }
 
-/// A client partition.
+/// A partition. That of server units has no line.
 #[derive(Drop)]
 pub(crate) struct Script<'p> {
     alloc: Global,
@@ -51,8 +64,8 @@ pub(crate) struct Script<'p> {
     /// The place of the current line.
     at: usize,
     progress: Progress,
-    /// The pairs of its units, by unit.
-    pub(crate) seats: Vec<usize>,
+    /// Where its units sit, by unit.
+    pub(crate) seats: Vec<Seat>,
     pub(crate) logs: Vec<LogRow>,
 }
 
@@ -62,9 +75,9 @@ impl<'p> Script<'p> {
         alloc: Global,
         partition: u8,
         lines: &'p [Line],
-        seats: Vec<usize>,
+        seats: Vec<Seat>,
     ) -> Script<'p>
-        requires lines { All (IsClientLine (length seats.items)) lines.now }
+        requires lines { All (IsLineAt seats.items) lines.now }
         requires in_order { AllPairs (λ a b. a.number < b.number) lines.now }
         ensures script { (pairs : List PairValue) → AreSeats partition seats.items pairs → IsScript pairs result }
         ensures credited { (pairs : List PairValue) → AreLoggedOut seats.items pairs →
@@ -86,59 +99,66 @@ impl<'p> Script<'p> {
 
     /// One turn: it pushes the kept events, and does one step of the current line; after the last line it takes
     /// what stands in its queues.
-    pub(crate) fn turn(&mut self, pairs: &mut [Pair]) -> Result<Moved, NoMemory>
+    pub(crate) fn turn(&mut self, pairs: &mut [Pair], lan: &mut Lan) -> Result<Moved, NoMemory>
         requires script { IsScript pairs.old self.old }
         requires pairs { AreDrivers pairs.old }
+        requires ports { HasPorts lan.old.seats self.old }
         ensures driven { AreDriven pairs.old pairs.new }
         ensures script { IsScript pairs.new self.new }
         ensures rest { OnlyRuns self.old self.new }
         ensures others { SameElse self.old.seats.items pairs.old pairs.new }
+        ensures lan { lan.new.seats ≡ lan.old.seats }
         ensures credited { OnOk result (IsCredited pairs.old self.old →
             IsCredited pairs.new self.new) }
     {
         let pushed = push_events(&self.seats, pairs)?;
-        let moved = self.go_on(pairs)?;
+        let moved = self.go_on(pairs, lan)?;
         Ok(either(pushed, moved))
     }
 
     // Does one step of the current line, or takes what stands in the queues where there is none.
-    fn go_on(&mut self, pairs: &mut [Pair]) -> Result<Moved, NoMemory>
+    fn go_on(&mut self, pairs: &mut [Pair], lan: &mut Lan) -> Result<Moved, NoMemory>
         requires script { IsScript pairs.old self.old }
         requires pairs { AreDrivers pairs.old }
+        requires ports { HasPorts lan.old.seats self.old }
         ensures driven { AreDriven pairs.old pairs.new }
         ensures script { IsScript pairs.new self.new }
         ensures rest { OnlyRuns self.old self.new }
         ensures others { SameElse self.old.seats.items pairs.old pairs.new }
+        ensures lan { lan.new.seats ≡ lan.old.seats }
         ensures credited { OnOk result (IsCredited pairs.old self.old →
             IsCredited pairs.new self.new) }
     {
         let lines = self.lines;
         match lines.get(self.at) {
-            Some(line) => self.step(pairs, line),
-            None => take_rest(&self.seats, pairs),
+            Some(line) => self.step(pairs, lan, line),
+            None => take_rest(self.partition, &self.seats, pairs, lan),
         }
     }
 
     // One step of this line, which is the current one.
-    fn step(&mut self, pairs: &mut [Pair], line: &Line) -> Result<Moved, NoMemory>
+    fn step(&mut self, pairs: &mut [Pair], lan: &mut Lan, line: &Line) -> Result<Moved, NoMemory>
         requires script { IsScript pairs.old self.old }
         requires pairs { AreDrivers pairs.old }
+        requires ports { HasPorts lan.old.seats self.old }
         requires line { slice_get self.old.lines.now self.old.at ≡ Some line.now }
         ensures driven { AreDriven pairs.old pairs.new }
         ensures script { IsScript pairs.new self.new }
         ensures rest { OnlyRuns self.old self.new }
         ensures others { SameElse self.old.seats.items pairs.old pairs.new }
+        ensures lan { lan.new.seats ≡ lan.old.seats }
         ensures credited { OnOk result (IsCredited pairs.old self.old →
             IsCredited pairs.new self.new) }
     {
         if let Verb::Fail = line.verb {
-            return self.step_fail(pairs, line);
+            return self.step_fail(pairs, lan, line);
         }
         let step = step_unit(
             self.alloc,
             self.partition,
             &self.seats,
             pairs,
+            lan,
             line,
             &mut self.progress,
         )?;
@@ -152,19 +172,26 @@ impl<'p> Script<'p> {
     }
 
     // One step of a line that fails the partition.
-    fn step_fail(&mut self, pairs: &mut [Pair], line: &Line) -> Result<Moved, NoMemory>
+    fn step_fail(
+        &mut self,
+        pairs: &mut [Pair],
+        lan: &mut Lan,
+        line: &Line,
+    ) -> Result<Moved, NoMemory>
         requires fails { fails line.now.verb ≡ true }
         requires script { IsScript pairs.old self.old }
         requires pairs { AreDrivers pairs.old }
+        requires ports { HasPorts lan.old.seats self.old }
         requires line { slice_get self.old.lines.now self.old.at ≡ Some line.now }
         ensures driven { AreDriven pairs.old pairs.new }
         ensures script { IsScript pairs.new self.new }
         ensures rest { OnlyRuns self.old self.new }
         ensures others { SameElse self.old.seats.items pairs.old pairs.new }
+        ensures lan { lan.new.seats ≡ lan.old.seats }
         ensures credited { OnOk result (IsCredited pairs.old self.old →
             IsCredited pairs.new self.new) }
     {
-        if fail(&self.seats, pairs)? {
+        if fail(self.partition, &self.seats, pairs, lan)? {
             self.end(line, Outcome::Done)?;
             return Ok(Moved::Moved);
         }
@@ -188,6 +215,13 @@ impl<'p> Script<'p> {
         self.at = place_behind(self.lines, self.at, line);
         self.progress = Progress::Fresh;
         Ok(())
+    }
+
+    /// Whether its units are server units.
+    pub(crate) fn is_of_servers(&self) -> bool
+        ensures { result ≡ are_servers self.now.seats.items }
+    {
+        matches!(self.seats.first(), Some(Seat::Server))
     }
 
     /// Whether no line is left.

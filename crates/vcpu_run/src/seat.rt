@@ -10,14 +10,14 @@ ghost use Rattle.vcpu_run.specs.Works.{IsUnitVerb};
 
 use crate::client_call::{ClientCall, QueueCall};
 use crate::pair::Pair;
+use crate::queue_calls;
 use crate::script::Progress;
-use crate::step::Step;
 use crate::watched::Watched;
-use crate::{entry_calls, queue_calls};
 use boot_text::Line;
 use crq_session::{CrqEnd, FreeAnswer};
 use hcall_table::Returned;
 use std::alloc::Global;
+use unit_region::{Step, make_entry_call};
 use vio_num::{Hrc, Moved, NoMemory};
 
 /// Puts the event that the client's end keeps.
@@ -108,7 +108,7 @@ pub(crate) fn call(alloc: Global, pair: &mut Pair, call: ClientCall) -> Result<R
     ensures answer { IfOk result (IsAnswer (row_for call)) }
 {
     match call {
-        ClientCall::Entry(call) => entry_calls::make(alloc, &mut pair.window, call),
+        ClientCall::Entry(call) => make_entry_call(alloc, &mut pair.window, call),
         ClientCall::Queue(call) => Ok(Returned::bare(queue_code(pair, call)?)),
     }
 }

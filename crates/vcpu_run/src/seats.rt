@@ -1,18 +1,23 @@
-// What a client partition does at its pairs, one after the other or at one of them.
-ghost use Rattle.std.specs.Prelude.{◌≡◌, ◌<◌, ℕ, Some, IsSomeAnd, length, slice_get};
-ghost use Rattle.vcpu_run.specs.Agreed.{AllSame, SameDrivers, SameElse, SameOthers, StepsSeat};
+// What a partition does at its units, one after the other or at one of them.
+ghost use Rattle.std.specs.Prelude.{◌≡◌, ◌<◌, ◌≤◌, ◌∷◌, [], ℕ, false, Some, IsSomeAnd, length, slice_get};
+ghost use Rattle.vcpu_run.specs.Agreed.{AllSame, SameDrivers, SameElse, SameOthers, StepsLine, StepsSeat};
 ghost use Rattle.vcpu_run.specs.Credited.{taken_in};
 ghost use Rattle.vcpu_run.specs.Pairs.{AreDriven, IsDriver};
-ghost use Rattle.vcpu_run.specs.Works.{HaveClients, IsLineVerb, IsUnitVerb};
+ghost use Rattle.vcpu_run.specs.Ports.{HavePorts, IsPortOf};
+ghost use Rattle.vcpu_run.specs.Suited.{is_call, suits};
+ghost use Rattle.vcpu_run.specs.Works.{HaveClients, IsLineVerb, IsPortVerb, IsUnitVerb};
+ghost use Rattle.vcpu_run.specs.declared.unit_seat.Seat.TheVariants as sits;
 
 use crate::pair::Pair;
 use crate::raw_call::{RawCall, make_call};
 use crate::script::Progress;
-use crate::seat;
-use crate::step::Step;
+use crate::unit_seat::Seat;
+use crate::{port_line, seat};
 use boot_text::Line;
+use lan_script::Lan;
 use std::alloc::Global;
-use vio_num::{Moved, NoMemory};
+use unit_region::Step;
+use vio_num::{Moved, NoMemory, UnitId};
 
 /// Whether either did something.
 pub(crate) fn either(one: Moved, other: Moved) -> Moved {
@@ -23,16 +28,28 @@ pub(crate) fn either(one: Moved, other: Moved) -> Moved {
 }
 
 // Puts the event that the client of this pair keeps.
-fn push_event_at(pairs: &mut [Pair], seat: usize) -> Result<Moved, NoMemory>
-    requires { seat < length pairs.old }
+fn push_event_of(pairs: &mut [Pair], pair: usize) -> Result<Moved, NoMemory>
+    requires { pair < length pairs.old }
     ensures driven { AreDriven pairs.old pairs.new }
     ensures drivers { SameDrivers pairs.old pairs.new }
 {
-    seat::push_event(&mut pairs[seat])
+    seat::push_event(&mut pairs[pair])
 }
 
-/// Puts the events that the clients of these pairs keep.
-pub(crate) fn push_events(seats: &[usize], pairs: &mut [Pair]) -> Result<Moved, NoMemory>
+// Puts the event that the unit that sits here keeps.
+fn push_event_at(pairs: &mut [Pair], seat: Seat) -> Result<Moved, NoMemory>
+    requires { (k : ℕ) → seat ≡ sits.Client k → k < length pairs.old }
+    ensures driven { AreDriven pairs.old pairs.new }
+    ensures drivers { SameDrivers pairs.old pairs.new }
+{
+    match seat {
+        Seat::Client(pair) => push_event_of(pairs, pair),
+        Seat::Server | Seat::Port => Ok(Moved::Quiet),
+    }
+}
+
+/// Puts the events that the units of these seats keep.
+pub(crate) fn push_events(seats: &[Seat], pairs: &mut [Pair]) -> Result<Moved, NoMemory>
     requires { HaveClients seats.now pairs.old }
     ensures driven { AreDriven pairs.old pairs.new }
     ensures drivers { SameDrivers pairs.old pairs.new }
@@ -48,88 +65,185 @@ pub(crate) fn push_events(seats: &[usize], pairs: &mut [Pair]) -> Result<Moved, 
 /// One step of this line at the client of this pair.
 pub(crate) fn step_at(
     pairs: &mut [Pair],
-    seat: usize,
+    pair: usize,
     line: &Line,
     progress: &mut Progress,
 ) -> Result<Step, NoMemory>
-    requires there { seat < length pairs.old }
-    requires client { IsSomeAnd (slice_get pairs.old seat)
+    requires there { pair < length pairs.old }
+    requires client { IsSomeAnd (slice_get pairs.old pair)
         (λ pair. IsSomeAnd pair.driver (IsDriver pair.window)) }
     requires verb { IsUnitVerb line.now.verb }
     ensures driven { AreDriven pairs.old pairs.new }
-    ensures credit { StepsSeat seat line.now.verb (taken_in progress.old)
+    ensures credit { StepsSeat pair line.now.verb (taken_in progress.old)
         (taken_in progress.new) pairs.old pairs.new result }
 {
-    seat::step(&mut pairs[seat], line, progress)
+    seat::step(&mut pairs[pair], line, progress)
+}
+
+// Where a unit sits.
+fn seat_at(seats: &[Seat], unit: u8) -> Seat
+    requires { unit < length seats.now }
+    ensures { slice_get seats.now unit ≡ Some result }
+{
+    seats[usize::from(unit)]
+}
+
+// One step of a line at its unit.
+fn step_own(
+    partition: u8,
+    seats: &[Seat],
+    pairs: &mut [Pair],
+    lan: &mut Lan,
+    line: &Line,
+    progress: &mut Progress,
+) -> Result<Step, NoMemory>
+    requires clients { HaveClients seats.now pairs.old }
+    requires ports { HavePorts partition seats.now lan.old.seats }
+    requires suited { IsSomeAnd (slice_get seats.now line.now.unit) (suits line.now.verb) }
+    requires no_call { is_call line.now.verb ≡ false }
+    requires verb { IsLineVerb line.now.verb }
+    ensures driven { AreDriven pairs.old pairs.new }
+    ensures credit { StepsLine seats.now line.now (taken_in progress.old)
+        (taken_in progress.new) pairs.old pairs.new result }
+    ensures lan { lan.new.seats ≡ lan.old.seats }
+{
+    match seat_at(seats, line.unit) {
+        Seat::Client(pair) => step_at(pairs, pair, line, progress),
+        Seat::Port => port_line::step(lan, partition, line, progress),
+        Seat::Server => unreachable!(),
+    }
 }
 
 /// One step of a line at its unit, or the raw call that it makes on the units of the partition.
 pub(crate) fn step_unit(
     alloc: Global,
     partition: u8,
-    seats: &[usize],
+    seats: &[Seat],
     pairs: &mut [Pair],
+    lan: &mut Lan,
     line: &Line,
     progress: &mut Progress,
 ) -> Result<Step, NoMemory>
     requires clients { HaveClients seats.now pairs.old }
-    requires unit { line.now.unit < length seats.now }
+    requires ports { HavePorts partition seats.now lan.old.seats }
+    requires suited { IsSomeAnd (slice_get seats.now line.now.unit) (suits line.now.verb) }
     requires verb { IsLineVerb line.now.verb }
     ensures driven { AreDriven pairs.old pairs.new }
-    ensures credit { (k : ℕ) → slice_get seats.now line.now.unit ≡ Some k →
-        StepsSeat k line.now.verb (taken_in progress.old)
+    ensures credit { StepsLine seats.now line.now (taken_in progress.old)
         (taken_in progress.new) pairs.old pairs.new result }
+    ensures lan { lan.new.seats ≡ lan.old.seats }
 {
     match RawCall::of(&line.verb) {
-        Some(raw) => make_call(alloc, partition, seats, pairs, &raw),
-        None => step_at(pairs, seats[usize::from(line.unit)], line, progress),
+        Some(raw) => make_call(alloc, partition, seats, pairs, lan, &raw),
+        None => step_own(partition, seats, pairs, lan, line, progress),
     }
 }
 
 // Takes what stands in the queue of the client of this pair.
-fn take_rest_at(pairs: &mut [Pair], seat: usize) -> Result<Moved, NoMemory>
-    requires there { seat < length pairs.old }
-    requires client { IsSomeAnd (slice_get pairs.old seat)
+fn take_rest_of(pairs: &mut [Pair], pair: usize) -> Result<Moved, NoMemory>
+    requires there { pair < length pairs.old }
+    requires client { IsSomeAnd (slice_get pairs.old pair)
         (λ pair. IsSomeAnd pair.driver (IsDriver pair.window)) }
     ensures driven { AreDriven pairs.old pairs.new }
-    ensures others { SameOthers seat pairs.old pairs.new }
+    ensures others { SameOthers pair pairs.old pairs.new }
 {
-    seat::take_rest(&mut pairs[seat])
+    seat::take_rest(&mut pairs[pair])
 }
 
-/// Takes what stands in the queues of these pairs' clients.
-pub(crate) fn take_rest(seats: &[usize], pairs: &mut [Pair]) -> Result<Moved, NoMemory>
-    requires { HaveClients seats.now pairs.old }
+// Takes what stands in the queue of the unit that sits here.
+fn take_rest_at(
+    unit: UnitId,
+    seat: Seat,
+    pairs: &mut [Pair],
+    lan: &mut Lan,
+) -> Result<Moved, NoMemory>
+    requires client { (k : ℕ) → seat ≡ sits.Client k → IsSomeAnd (slice_get pairs.old k)
+        (λ pair. IsSomeAnd pair.driver (IsDriver pair.window)) }
+    requires port { seat ≡ sits.Port → IsPortOf lan.old.seats unit }
+    ensures driven { AreDriven pairs.old pairs.new }
+    ensures others { SameElse (seat ∷ []) pairs.old pairs.new }
+    ensures lan { lan.new.seats ≡ lan.old.seats }
+{
+    match seat {
+        Seat::Client(pair) => take_rest_of(pairs, pair),
+        Seat::Port => lan.take_rest(unit),
+        Seat::Server => Ok(Moved::Quiet),
+    }
+}
+
+/// Takes what stands in the queues of these units.
+pub(crate) fn take_rest(
+    partition: u8,
+    seats: &[Seat],
+    pairs: &mut [Pair],
+    lan: &mut Lan,
+) -> Result<Moved, NoMemory>
+    requires clients { HaveClients seats.now pairs.old }
+    requires ports { HavePorts partition seats.now lan.old.seats }
+    requires few { length seats.now ≤ 8 }
     ensures driven { AreDriven pairs.old pairs.new }
     ensures others { SameElse seats.now pairs.old pairs.new }
+    ensures lan { lan.new.seats ≡ lan.old.seats }
 {
     let mut moved = Moved::Quiet;
     for k in 0..seats.len() {
-        let here = take_rest_at(pairs, seats[k])?;
+        let unit = UnitId {
+            partition,
+            unit: k as u8,
+        };
+        let here = take_rest_at(unit, seats[k], pairs, lan)?;
         moved = either(moved, here);
     }
     Ok(moved)
 }
 
 // Fails the queue of the client of this pair, if it is registered. Tells whether it is not any more.
-fn fail_at(pairs: &mut [Pair], seat: usize) -> Result<bool, NoMemory>
-    requires there { seat < length pairs.old }
-    requires client { IsSomeAnd (slice_get pairs.old seat)
+fn fail_of(pairs: &mut [Pair], pair: usize) -> Result<bool, NoMemory>
+    requires there { pair < length pairs.old }
+    requires client { IsSomeAnd (slice_get pairs.old pair)
         (λ pair. IsSomeAnd pair.driver (IsDriver pair.window)) }
     ensures driven { AreDriven pairs.old pairs.new }
     ensures credit { AllSame pairs.old pairs.new }
 {
-    seat::fail(&mut pairs[seat])
+    seat::fail(&mut pairs[pair])
 }
 
-/// Fails the queues of these pairs' clients that are registered. Tells whether none is any more.
-pub(crate) fn fail(seats: &[usize], pairs: &mut [Pair]) -> Result<bool, NoMemory>
-    requires { HaveClients seats.now pairs.old }
+// Fails the queue, or frees the port, of the unit that sits here, if it is registered. Tells whether it is not any more.
+fn fail_at(unit: UnitId, seat: Seat, pairs: &mut [Pair], lan: &mut Lan) -> Result<bool, NoMemory>
+    requires client { (k : ℕ) → seat ≡ sits.Client k → IsSomeAnd (slice_get pairs.old k)
+        (λ pair. IsSomeAnd pair.driver (IsDriver pair.window)) }
+    requires port { seat ≡ sits.Port → IsPortOf lan.old.seats unit }
     ensures driven { AreDriven pairs.old pairs.new }
     ensures credit { AllSame pairs.old pairs.new }
+    ensures lan { lan.new.seats ≡ lan.old.seats }
+{
+    match seat {
+        Seat::Client(pair) => fail_of(pairs, pair),
+        Seat::Port => lan.fail(unit),
+        Seat::Server => Ok(true),
+    }
+}
+
+/// Fails the queues and frees the ports of these units that are registered. Tells whether none is any more.
+pub(crate) fn fail(
+    partition: u8,
+    seats: &[Seat],
+    pairs: &mut [Pair],
+    lan: &mut Lan,
+) -> Result<bool, NoMemory>
+    requires clients { HaveClients seats.now pairs.old }
+    requires ports { HavePorts partition seats.now lan.old.seats }
+    requires few { length seats.now ≤ 8 }
+    ensures driven { AreDriven pairs.old pairs.new }
+    ensures credit { AllSame pairs.old pairs.new }
+    ensures lan { lan.new.seats ≡ lan.old.seats }
 {
     for k in 0..seats.len() {
-        if !fail_at(pairs, seats[k])? {
+        let unit = UnitId {
+            partition,
+            unit: k as u8,
+        };
+        if !fail_at(unit, seats[k], pairs, lan)? {
             return Ok(false);
         }
     }

@@ -7,10 +7,10 @@ ghost use Rattle.vcpu_run.specs.Sendings.{TookOf};
 ghost use Rattle.vcpu_run.specs.Works.{Works};
 
 use crate::driver::Driver;
-use crate::step::Step;
 use crate::watched::Watched;
 use crq_session::CrqEnd;
 use tce_window::OwnerPort;
+use unit_region::Step;
 use vio_num::{Moved, NoMemory};
 use vio_trace::Outcome;
 use vscsi_client::Taken;

@@ -1,7 +1,7 @@
 use Rattle.std.proofs.Common.{map, string_bytes, subst}
 use Rattle.paprvio.specs.Answer.{WordsTask}
 use Rattle.paprvio.specs.declared.task.Task.{Task}
-use Rattle.paprvio.proofs.Tasks.{runnable_of}
+use Rattle.paprvio.proofs.Tasks.{sound_of}
 use Rattle.paprvio.proofs.run.answer_words.Goals as goal
 
 pub run_plan-requires : goal.run_plan-requires
@@ -9,5 +9,5 @@ run_plan-requires g c =
     let words = map string_bytes c.args.words.now in
     let old = g.So.Source.left c.args.source.now in
     let new = g.So.Source.left c.words_task.new.source in
-    runnable_of words old new c.in-Ok-Run.plan c.in-Ok-Run.telling
+    sound_of words old new c.in-Ok-Run.plan c.in-Ok-Run.telling
     (subst (λ (task : Task). WordsTask words old new task) c.in-Ok-Run.field-0-is c.in-Ok-Run.ensures.task)

@@ -1,50 +1,56 @@
 -- The trace is the one of the machine's parts, which keeps the law.
+use Rattle.vio_trace.specs.Form.{IsInOrder}
 use Rattle.vcpu_run.proofs.Copied.{copies_are}
+use Rattle.vcpu_run.proofs.Freed.{few_seats, free_pairs, from_rows, ports_are}
+use Rattle.vcpu_run.proofs.Ordering.{order_is}
 use Rattle.vcpu_run.proofs.QueueLaws.{queues_are}
 use Rattle.vcpu_run.proofs.RecordLaws.{credits_are, records_are}
-use Rattle.vio_trace.specs.Form.{IsInOrder}
-use Rattle.vcpu_run.proofs.Freed.{few_seats, free_pairs, from_rows}
-use Rattle.vcpu_run.proofs.Ordering.{order_is}
 use Rattle.vcpu_run.proofs.SentTo.{answers_are}
-use Rattle.vcpu_run.proofs.Told.{served_rows}
 use Rattle.std.proofs.Common.{refl}
 use Rattle.vcpu_run.proofs.gather.gather.Goals as goal
 
 pub rows_of-requires : goal.rows_of-requires
 rows_of-requires c = record {
   free = free_pairs c.args.copies.items c.args.pairs.items c.requires.pairs;
-  few = few_seats c.args.pairs.items c.args.scripts.items c.requires.scripts;
+  few = few_seats c.args.pairs.items c.args.lan.seats c.args.scripts.items c.requires.scripts;
 }
 
 pub returns-clause-order : goal.returns-clause-order
 returns-clause-order c =
-    from_rows c.rows_of.result _ _ IsInOrder c.rows_of.ensures.trace c.rows_of.ensures.windows
-    (λ lawful. order_is c.args.pairs.items c.args.scripts.items c.args.history.items c.args.grants.items c.args.copies.items c.requires.pairs c.requires.scripts lawful)
+    from_rows c.args.pairs.items c.args.scripts.items c.args.lan c.args.history.items c.args.grants.items c.args.copies.items c.rows_of.result _ IsInOrder c.rows_of.ensures.trace c.rows_of.ensures.windows
+    (λ rows keeps ordered lawful. order_is c.args.pairs.items c.args.scripts.items c.args.lan rows c.args.history.items c.args.grants.items c.args.copies.items c.requires.pairs c.requires.scripts ordered lawful)
 
 pub returns-clause-queues : goal.returns-clause-queues
 returns-clause-queues c =
-    from_rows c.rows_of.result _ _ _ c.rows_of.ensures.trace c.rows_of.ensures.queues
-    (λ lawful partitions of_plan. queues_are c.args.pairs.items c.args.scripts.items c.args.history.items c.args.grants.items c.args.copies.items partitions c.requires.pairs c.requires.scripts lawful of_plan)
+    from_rows c.args.pairs.items c.args.scripts.items c.args.lan c.args.history.items c.args.grants.items c.args.copies.items c.rows_of.result _ _ c.rows_of.ensures.trace c.rows_of.ensures.queues
+    (λ rows keeps ordered lawful partitions of_plan. queues_are c.args.pairs.items c.args.scripts.items c.args.lan rows c.args.history.items c.args.grants.items c.args.copies.items partitions c.requires.scripts lawful of_plan)
 
 pub returns-clause-records : goal.returns-clause-records
 returns-clause-records c =
-    from_rows c.rows_of.result _ _ _ c.rows_of.ensures.trace c.rows_of.ensures.queues
-    (λ lawful partitions of_plan over. records_are c.args.pairs.items c.args.scripts.items c.args.history.items c.args.grants.items c.args.copies.items partitions c.requires.scripts over of_plan)
+    from_rows c.args.pairs.items c.args.scripts.items c.args.lan c.args.history.items c.args.grants.items c.args.copies.items c.rows_of.result _ _ c.rows_of.ensures.trace c.rows_of.ensures.queues
+    (λ rows keeps ordered lawful partitions of_plan over. records_are c.args.pairs.items c.args.scripts.items c.args.lan rows c.args.history.items c.args.grants.items c.args.copies.items partitions c.requires.scripts over of_plan)
 
 pub returns-clause-copies : goal.returns-clause-copies
 returns-clause-copies c =
-    from_rows c.rows_of.result _ _ _ c.rows_of.ensures.trace c.rows_of.ensures.windows
-    (λ lawful partitions of_plan. copies_are c.args.pairs.items c.args.scripts.items c.args.history.items c.args.grants.items c.args.copies.items partitions c.requires.pairs c.requires.scripts lawful of_plan)
+    from_rows c.args.pairs.items c.args.scripts.items c.args.lan c.args.history.items c.args.grants.items c.args.copies.items c.rows_of.result _ _ c.rows_of.ensures.trace c.rows_of.ensures.windows
+    (λ rows keeps ordered lawful partitions of_plan. copies_are c.args.pairs.items c.args.scripts.items c.args.lan rows c.args.history.items c.args.grants.items c.args.copies.items partitions c.requires.pairs c.requires.scripts lawful of_plan)
 
 pub returns-clause-credits : goal.returns-clause-credits
 returns-clause-credits c =
-    from_rows c.rows_of.result _ _ _ c.rows_of.ensures.trace c.rows_of.ensures.queues
-    (λ lawful partitions of_plan credited. credits_are c.args.pairs.items c.args.scripts.items c.args.history.items c.args.grants.items c.args.copies.items partitions c.requires.scripts of_plan credited)
+    from_rows c.args.pairs.items c.args.scripts.items c.args.lan c.args.history.items c.args.grants.items c.args.copies.items c.rows_of.result _ _ c.rows_of.ensures.trace c.rows_of.ensures.queues
+    (λ rows keeps ordered lawful partitions of_plan credited. credits_are c.args.pairs.items c.args.scripts.items c.args.lan rows c.args.history.items c.args.grants.items c.args.copies.items partitions c.requires.scripts of_plan credited)
 
 pub returns-clause-answers : goal.returns-clause-answers
 returns-clause-answers c =
-    from_rows c.rows_of.result _ _ _ c.rows_of.ensures.trace c.rows_of.ensures.queues
-    (λ lawful partitions of_plan answered. answers_are c.args.pairs.items c.args.scripts.items c.args.history.items c.args.grants.items c.args.copies.items partitions c.requires.pairs c.requires.scripts lawful of_plan answered)
+    from_rows c.args.pairs.items c.args.scripts.items c.args.lan c.args.history.items c.args.grants.items c.args.copies.items c.rows_of.result _ _ c.rows_of.ensures.trace c.rows_of.ensures.queues
+    (λ rows keeps ordered lawful partitions of_plan answered. answers_are c.args.pairs.items c.args.scripts.items c.args.lan rows c.args.history.items c.args.grants.items c.args.copies.items partitions c.requires.scripts lawful of_plan answered)
+
+pub returns-clause-ports : goal.returns-clause-ports
+returns-clause-ports c =
+    from_rows c.args.pairs.items c.args.scripts.items c.args.lan c.args.history.items c.args.grants.items c.args.copies.items c.rows_of.result _ _ c.rows_of.ensures.trace c.rows_of.ensures.queues
+    (λ rows keeps ordered lawful partitions of_plan. ports_are c.args.lan rows partitions keeps of_plan.ports_are)
 
 pub returns-clause-serves : goal.returns-clause-serves
-returns-clause-serves c = served_rows c.rows_of.result _ _ c.rows_of.ensures.trace refl
+returns-clause-serves c =
+    from_rows c.args.pairs.items c.args.scripts.items c.args.lan c.args.history.items c.args.grants.items c.args.copies.items c.rows_of.result _ _ c.rows_of.ensures.trace c.rows_of.ensures.queues
+    (λ rows keeps ordered lawful. refl)

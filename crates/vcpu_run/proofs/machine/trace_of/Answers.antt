@@ -9,7 +9,8 @@ returns-in-Ok-clause-law c =
     let told = c.gather.ensures in
     let credited = subst (λ r. OnOk r (AreCredited c.args.pairs.items c.args.scripts.items)) c.in-Ok.is c.requires.credited in
     let over = subst (λ r. OnOk r (All IsOver c.args.scripts.items)) c.in-Ok.is c.requires.over in
-    law_told c.gather.result c.ok.result c.args.pairs.items c.args.scripts.items c.args.history.items c.ok.ensures.value told.order told.queues told.copies told.records over told.credits credited told.answers c.requires.answered
+    law_told c.gather.result c.ok.result c.args.pairs.items c.args.scripts.items c.args.lan.seats c.args.history.items c.ok.ensures.value
+    told.order told.queues told.copies told.records over told.credits credited told.answers c.requires.answered told.ports
 
 pub returns-in-Ok-clause-serves : goal.returns-in-Ok-clause-serves
 returns-in-Ok-clause-serves c = served_told c.gather.result c.ok.result c.args.history.items c.ok.ensures.value c.gather.ensures.serves

@@ -10,7 +10,7 @@ use Rattle.vcpu_run.proofs.making.make_pairs.Given as goal
 abbrev pub invariant-loop-place : goal.invariant-loop-place
 invariant-loop-place l = record {
   count : length l.pairs.items ≡ l.place;
-  are : ArePairs 0 [] l.pairs.items;
+  are : ArePairs l.home [] l.pairs.items;
   planned : (k : ℕ) (pair : Pair) → slice_get l.pairs.items k ≡ Some pair → IsPlanned l.partitions k pair;
   out : AreAllOut l.pairs.items;
   answered : AreAnswered [] l.pairs.items;

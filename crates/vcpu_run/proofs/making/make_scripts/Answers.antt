@@ -3,19 +3,8 @@ use Rattle.std.specs.List.{slice_get}
 use Rattle.std.proofs.lemmas.Option.{slice_get_read}
 use Rattle.vcpu_run.specs.declared.script.Script.{Script}
 use Rattle.vcpu_run.specs.Making.{IsMade}
-use Rattle.vcpu_run.proofs.Homes.{others_drive}
 use Rattle.vcpu_run.proofs.Listed.{each_pushed, is_held}
 use Rattle.vcpu_run.proofs.making.make_scripts.Goals as goal
-
-pub make_script-requires-clause-clients : goal.make_script-requires-clause-clients
-make_script-requires-clause-clients c =
-    let partitions = c.args.partitions.now in
-    let number = c.loop-number.number in
-    let partition = c.index-partitions-number.result in
-    let less : number < length partitions = omega arith in
-    others_drive partitions number partition c.requires.sound c.requires.plain c.requires.first
-    (slice_get_read partitions (length partitions) number partition refl less c.index-partitions-number.is)
-    (λ e. absurd (omega arith))
 
 pub loop-number-preserved : goal.loop-number-preserved
 loop-number-preserved c =
@@ -28,7 +17,7 @@ loop-number-preserved c =
     let items = c.loop-number.scripts.items in
     let script = c.in_ok-make_script.field-0 in
     let push : c.push.new.self.items ≡ items ++ script ∷ [] = c.in_ok-push.ensures.items in
-    let made : ℕ → Script → Type 0 = λ i script. IsSomeAnd (slice_get partitions (i + 1)) (λ partition. IsMade partition (i + 1) script) in
+    let made : ℕ → Script → Type 0 = λ i script. IsSomeAnd (slice_get partitions i) (λ partition. IsMade partition i script) in
     let here : IsSomeAnd (slice_get partitions number) (λ partition. IsMade partition number script) =
     is_held (λ partition. IsMade partition number script) (slice_get partitions number) partition found c.in_ok-make_script.ensures in
     record {

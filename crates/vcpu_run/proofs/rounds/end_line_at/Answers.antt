@@ -6,12 +6,12 @@ use Rattle.vcpu_run.proofs.Scripted.{run_one, script_turned}
 use Rattle.vcpu_run.proofs.rounds.end_line_at.Goals as goal
 
 pub returns-clause-scripts : goal.returns-clause-scripts
-returns-clause-scripts c pairs are =
+returns-clause-scripts c pairs ports are =
     let scripts = c.args.scripts.now in
     let d = c.index-scripts-number.result in
     let old = slice_index_or scripts c.args.number d in
     let found = slice_get-get_or scripts c.args.number d c.requires in
-    script_turned pairs pairs scripts c.args.number old c.end_waiting.new.self found
+    script_turned pairs pairs ports scripts c.args.number old c.end_waiting.new.self found
     (all_same pairs) c.end_waiting.ensures.rest (c.end_waiting.ensures.script pairs (are c.args.number old found).script_is) are
 
 pub returns-clause-run : goal.returns-clause-run
@@ -28,7 +28,7 @@ returns-clause-credited c =
     let old = slice_index_or scripts c.args.number d in
     let found = slice_get-get_or scripts c.args.number d c.requires in
     ok_then c.end_waiting.result _ _
-    (λ kept pairs scripts_are are.
-    credits_turned pairs pairs scripts c.args.number old c.end_waiting.new.self found scripts_are (else_none old.seats.items pairs) are
+    (λ kept pairs ports scripts_are are.
+    credits_turned pairs pairs ports scripts c.args.number old c.end_waiting.new.self found scripts_are (else_none old.seats.items pairs) are
     (kept pairs (scripts_are c.args.number old found).script_is (are c.args.number old found)))
     c.end_waiting.ensures.credited

@@ -1,4 +1,5 @@
 use Rattle.std.proofs.Common.{List}
+use Rattle.lan_script.specs.declared.seat.PortSeat.{PortSeat}
 use Rattle.vcpu_run.specs.declared.pair.Pair.{Pair}
 use Rattle.vcpu_run.specs.Agreed.{AreCredited}
 use Rattle.vcpu_run.specs.Machines.{AllRun, AreScripts}
@@ -6,7 +7,7 @@ use Rattle.vcpu_run.proofs.rounds.end_lines.Given as goal
 
 abbrev pub invariant-loop-number : goal.invariant-loop-number
 invariant-loop-number l = record {
-  scripts : (pairs : List Pair) → AreScripts pairs l.initial.scripts → AreScripts pairs l.scripts;
+  scripts : (pairs : List Pair) (ports : List PortSeat) → AreScripts pairs ports l.initial.scripts → AreScripts pairs ports l.scripts;
   run : AllRun l.initial.scripts l.scripts;
-  credited : (pairs : List Pair) → AreScripts pairs l.initial.scripts → AreCredited pairs l.initial.scripts → AreCredited pairs l.scripts;
+  credited : (pairs : List Pair) (ports : List PortSeat) → AreScripts pairs ports l.initial.scripts → AreCredited pairs l.initial.scripts → AreCredited pairs l.scripts;
 }

@@ -1,52 +1,36 @@
-use Rattle.std.proofs.Common.{vec_len}
-use Rattle.vcpu_run.proofs.Elsewhere.{credits_served}
-use Rattle.vcpu_run.proofs.Keeping.{all_then, drivers_of}
-use Rattle.vcpu_run.proofs.Lasting.{serving_stays}
-use Rattle.vcpu_run.proofs.Scripted.{scripts_stay}
+use Rattle.std.proofs.Common.{◌∙◌, refl}
+use Rattle.vcpu_run.proofs.Disks.{lasts_same, lasts_then}
+use Rattle.vcpu_run.proofs.Keeping.{all_same, all_then}
+use Rattle.vcpu_run.proofs.Scripted.{run_same, run_then}
 use Rattle.vcpu_run.proofs.rounds.round.Goals as goal
 
-pub turn_each-requires : goal.turn_each-requires
-turn_each-requires g c = record {
-  drivers = drivers_of c.serve.new.server.copies.items c.serve.new.pairs c.serve.ensures.serving.pairs_are;
-  scripts = scripts_stay c.args.pairs.now c.serve.new.pairs c.args.scripts.now c.serve.ensures.stay c.requires.machine.scripts_are;
-}
+pub loop-number-init : goal.loop-number-init
+loop-number-init g c = record { machine = c.requires.machine; stay = all_same c.args.pairs.now; run = run_same c.args.scripts.now; answered = c.requires.answered; disk = lasts_same c.args.server.now.records.history.items (g.Di.Blocks.state c.args.server.now.disk.image).blocks; credited = λ are. are; lan = refl }
 
-pub returns-in_err-served-clause-machine : goal.returns-in_err-served-clause-machine
-returns-in_err-served-clause-machine g c = record {
-  serving = c.serve.ensures.serving;
-  scripts_are = scripts_stay c.args.pairs.now c.serve.new.pairs c.args.scripts.now c.serve.ensures.stay c.requires.machine.scripts_are;
-}
-
-pub returns-in_err-turned-clause-machine : goal.returns-in_err-turned-clause-machine
-returns-in_err-turned-clause-machine g c =
-    let server = c.serve.new.server in
-    let turned = c.turn_each.ensures in
+pub loop-number-preserved : goal.loop-number-preserved
+loop-number-preserved g c =
+    let before = c.loop-number.invariant in
+    let after = c.turn_at.ensures in
     record {
-      serving = serving_stays server.partition (vec_len server.units) server.copies.items c.serve.new.pairs c.turn_each.new.pairs
-          turned.stay turned.pairs c.serve.ensures.serving;
-      scripts_are = turned.scripts;
+      machine = after.machine;
+      stay = all_then c.args.pairs.now c.loop-number.pairs c.turn_at.new.pairs before.stay after.stay;
+      run = run_then c.args.scripts.now c.loop-number.scripts c.turn_at.new.scripts before.run after.run;
+      answered = after.answered;
+      disk = lasts_then c.args.server.now.records.history.items c.loop-number.server.records.history.items c.turn_at.new.server.records.history.items
+          (g.Di.Blocks.state c.args.server.now.disk.image).blocks (g.Di.Blocks.state c.loop-number.server.disk.image).blocks (g.Di.Blocks.state c.turn_at.new.server.disk.image).blocks c.loop-number.invariant.disk c.turn_at.ensures.disk;
+      credited = λ are. c.in_ok-turned.ensures.credited (before.credited are);
+      lan = after.lan ∙ before.lan;
     }
 
 pub returns-in_err-turned-clause-stay : goal.returns-in_err-turned-clause-stay
 returns-in_err-turned-clause-stay g c =
-    all_then c.args.pairs.now c.serve.new.pairs c.turn_each.new.pairs c.serve.ensures.stay c.turn_each.ensures.stay
+    all_then c.args.pairs.now c.loop-number.pairs c.turn_at.new.pairs c.loop-number.invariant.stay c.turn_at.ensures.stay
 
-pub returns : goal.returns
-returns g c =
-    let server = c.serve.new.server in
-    let turned = c.turn_each.ensures in
-    record {
-      machine = record {
-        serving = serving_stays server.partition (vec_len server.units) server.copies.items c.serve.new.pairs c.turn_each.new.pairs
-            turned.stay turned.pairs c.serve.ensures.serving;
-        scripts_are = turned.scripts;
-      };
-      stay = all_then c.args.pairs.now c.serve.new.pairs c.turn_each.new.pairs c.serve.ensures.stay turned.stay;
-      run = turned.run;
-      answered = turned.answered server.records.history.items c.serve.ensures.answered;
-      disk = c.serve.ensures.disk;
-      credited = λ are. c.in_ok-turned.ensures.credited (credits_served c.args.pairs.now c.serve.new.pairs c.args.scripts.now c.serve.ensures.drivers are);
-    }
+pub returns-in_err-turned-clause-run : goal.returns-in_err-turned-clause-run
+returns-in_err-turned-clause-run g c =
+    run_then c.args.scripts.now c.loop-number.scripts c.turn_at.new.scripts c.loop-number.invariant.run c.turn_at.ensures.run
 
-pub returns-in_err-turned-clause-answered : goal.returns-in_err-turned-clause-answered
-returns-in_err-turned-clause-answered g c = c.turn_each.ensures.answered c.serve.new.server.records.history.items c.serve.ensures.answered
+pub returns-in_err-turned-clause-disk : goal.returns-in_err-turned-clause-disk
+returns-in_err-turned-clause-disk g c =
+    lasts_then c.args.server.now.records.history.items c.loop-number.server.records.history.items c.turn_at.new.server.records.history.items
+    (g.Di.Blocks.state c.args.server.now.disk.image).blocks (g.Di.Blocks.state c.loop-number.server.disk.image).blocks (g.Di.Blocks.state c.turn_at.new.server.disk.image).blocks c.loop-number.invariant.disk c.turn_at.ensures.disk

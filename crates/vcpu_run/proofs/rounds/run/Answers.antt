@@ -1,10 +1,11 @@
+use Rattle.std.proofs.Common.{◌∙◌, refl}
 use Rattle.vcpu_run.proofs.Disks.{lasts_same, lasts_then}
 use Rattle.vcpu_run.proofs.Keeping.{all_same, all_then}
 use Rattle.vcpu_run.proofs.Scripted.{run_same, run_then}
 use Rattle.vcpu_run.proofs.rounds.run.Goals as goal
 
 pub loop-round-init : goal.loop-round-init
-loop-round-init g c = record { machine = c.requires.machine; stay = all_same c.args.pairs.now; run = run_same c.args.scripts.now; answered = c.requires.answered; disk = lasts_same c.args.server.now.records.history.items (g.Di.Blocks.state c.args.server.now.disk.image).blocks; credited = λ are. are }
+loop-round-init g c = record { machine = c.requires.machine; stay = all_same c.args.pairs.now; run = run_same c.args.scripts.now; answered = c.requires.answered; disk = lasts_same c.args.server.now.records.history.items (g.Di.Blocks.state c.args.server.now.disk.image).blocks; credited = λ are. are; lan = refl }
 
 pub loop-round-preserved : goal.loop-round-preserved
 loop-round-preserved g c =
@@ -18,6 +19,7 @@ loop-round-preserved g c =
       disk = lasts_then c.args.server.now.records.history.items c.loop-round.server.records.history.items c.step.new.server.records.history.items
           (g.Di.Blocks.state c.args.server.now.disk.image).blocks (g.Di.Blocks.state c.loop-round.server.disk.image).blocks (g.Di.Blocks.state c.step.new.server.disk.image).blocks c.loop-round.invariant.disk c.step.ensures.disk;
       credited = λ are. c.in_ok-moved.ensures.credited (before.credited are);
+      lan = after.lan ∙ before.lan;
     }
 
 pub returns-in_err-moved-clause-stay : goal.returns-in_err-moved-clause-stay

@@ -1,4 +1,4 @@
-use Rattle.std.proofs.Common.{vec_len}
+use Rattle.std.proofs.Common.{◌≡◌, vec_len}
 use Rattle.vcpu_run.specs.Agreed.{AreCredited}
 use Rattle.vcpu_run.specs.Answered.{AreAnswered}
 use Rattle.vcpu_run.specs.OnDisk.{LastsOnDisk}
@@ -7,11 +7,12 @@ use Rattle.vcpu_run.proofs.rounds.run.Given as goal
 
 abbrev pub invariant-loop-round : goal.invariant-loop-round
 invariant-loop-round g l = record {
-  machine : IsMachine l.server.partition (vec_len l.server.units) l.server.copies.items l.pairs l.scripts;
+  machine : IsMachine l.server.partition (vec_len l.server.units) l.server.copies.items l.pairs l.scripts l.lan.seats;
   stay : AllStay l.initial.pairs l.pairs;
   run : AllRun l.initial.scripts l.scripts;
   answered : AreAnswered l.server.records.history.items l.pairs;
   disk : LastsOnDisk l.initial.server.records.history.items l.server.records.history.items
       (g.Di.Blocks.state l.initial.server.disk.image).blocks (g.Di.Blocks.state l.server.disk.image).blocks;
   credited : AreCredited l.initial.pairs l.initial.scripts → AreCredited l.pairs l.scripts;
+  lan : l.lan.seats ≡ l.initial.lan.seats;
 }

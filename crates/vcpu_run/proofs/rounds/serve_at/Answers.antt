@@ -22,11 +22,10 @@ returns-clause-serving g c =
     let after = c.serve.ensures in
     let count : length _ ≡ length pairs = length-set pairs c.args.unit c.serve.new.self in
     record {
-      home = after.partition;
       each = after.units ∙ (before.each ∙ sym count);
       few = subst (λ n. n ≤ 8) (sym count) before.few;
-      pairs_are = each_set (IsPair 0 c.serve.new.server.copies.items) pairs c.args.unit c.serve.new.self
-          (λ k other there apart. after.others k other apart (before.pairs_are k other there)) after.pair;
+      pairs_are = rw after.partition (each_set (IsPair c.args.server.now.partition c.serve.new.server.copies.items) pairs c.args.unit c.serve.new.self
+          (λ k other there apart. after.others k other apart (before.pairs_are k other there)) after.pair);
     }
 
 pub returns-clause-stay : goal.returns-clause-stay

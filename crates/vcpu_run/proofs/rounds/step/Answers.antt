@@ -5,7 +5,7 @@ use Rattle.vcpu_run.proofs.rounds.step.Goals as goal
 pub returns-in-Quiet-clause-machine : goal.returns-in-Quiet-clause-machine
 returns-in-Quiet-clause-machine g c = record {
   serving = c.round.ensures.machine.serving;
-  scripts_are = c.end_lines.ensures.scripts c.round.new.pairs c.round.ensures.machine.scripts_are;
+  scripts_are = c.end_lines.ensures.scripts c.round.new.pairs c.round.new.lan.seats c.round.ensures.machine.scripts_are;
 }
 
 pub returns-in-Quiet-clause-run : goal.returns-in-Quiet-clause-run
@@ -15,5 +15,5 @@ returns-in-Quiet-clause-run g c =
 pub returns-in-Quiet-clause-credited : goal.returns-in-Quiet-clause-credited
 returns-in-Quiet-clause-credited g c =
     ok_then c.end_lines.result _ _
-    (λ kept are. kept c.round.new.pairs c.round.ensures.machine.scripts_are (c.in_ok-round.ensures.credited are))
+    (λ kept are. kept c.round.new.pairs c.round.new.lan.seats c.round.ensures.machine.scripts_are (c.in_ok-round.ensures.credited are))
     c.end_lines.ensures.credited

@@ -1,52 +1,35 @@
-use Rattle.std.proofs.Common.{slice_index_or}
-use Rattle.std.proofs.lemmas.Option.{slice_get-get_or}
-use Rattle.vcpu_run.proofs.Answering.{answered_driven}
-use Rattle.vcpu_run.proofs.Elsewhere.{credits_turned, ok_then}
-use Rattle.vcpu_run.proofs.Keeping.{driven_stay, drivers_driven, pairs_driven}
-use Rattle.vcpu_run.proofs.Scripted.{run_one, script_turned}
+use Rattle.std.proofs.Common.{vec_len}
+use Rattle.vcpu_run.proofs.Crediting.{on_ok}
+use Rattle.vcpu_run.proofs.Elsewhere.{credits_served}
+use Rattle.vcpu_run.proofs.Keeping.{drivers_of}
+use Rattle.vcpu_run.proofs.Lasting.{serving_stays}
+use Rattle.vcpu_run.proofs.Scripted.{run_same, scripts_stay}
 use Rattle.vcpu_run.proofs.rounds.turn_at.Goals as goal
 
-pub turn-requires-clause-script : goal.turn-requires-clause-script
-turn-requires-clause-script c =
-    let scripts = c.args.scripts.now in
-    let d = c.index-scripts-number.result in
-    (c.requires.scripts c.args.number (slice_index_or scripts c.args.number d) (slice_get-get_or scripts c.args.number d c.requires.there)).script_is
+pub run_script-requires-clause-drivers : goal.run_script-requires-clause-drivers
+run_script-requires-clause-drivers g c = drivers_of c.args.server.now.partition c.args.server.now.copies.items c.args.pairs.now c.requires.machine.serving.pairs_are
 
-pub returns-clause-pairs : goal.returns-clause-pairs
-returns-clause-pairs c copies = pairs_driven copies c.args.pairs.now c.turn.new.pairs c.turn.ensures.driven
+pub returns-then-is_of_servers-clause-machine : goal.returns-then-is_of_servers-clause-machine
+returns-then-is_of_servers-clause-machine g c = record {
+  serving = c.serve.ensures.serving;
+  scripts_are = scripts_stay c.args.pairs.now c.serve.new.pairs c.args.lan.now.seats c.args.scripts.now c.serve.ensures.stay c.requires.machine.scripts_are;
+}
 
-pub returns-clause-drivers : goal.returns-clause-drivers
-returns-clause-drivers c = drivers_driven c.args.pairs.now c.turn.new.pairs c.turn.ensures.driven c.requires.drivers
+pub returns-then-is_of_servers-clause-run : goal.returns-then-is_of_servers-clause-run
+returns-then-is_of_servers-clause-run g c = run_same c.args.scripts.now
 
-pub returns-clause-scripts : goal.returns-clause-scripts
-returns-clause-scripts c =
-    let scripts = c.args.scripts.now in
-    let d = c.index-scripts-number.result in
-    script_turned c.args.pairs.now c.turn.new.pairs scripts c.args.number (slice_index_or scripts c.args.number d) c.turn.new.self
-    (slice_get-get_or scripts c.args.number d c.requires.there)
-    (driven_stay c.args.pairs.now c.turn.new.pairs c.turn.ensures.driven) c.turn.ensures.rest c.turn.ensures.script c.requires.scripts
+pub returns-then-is_of_servers-clause-credited : goal.returns-then-is_of_servers-clause-credited
+returns-then-is_of_servers-clause-credited g c =
+    on_ok c.serve.result _ (λ are. credits_served c.args.pairs.now c.serve.new.pairs c.args.scripts.now c.serve.ensures.drivers are)
 
-pub returns-clause-stay : goal.returns-clause-stay
-returns-clause-stay c = driven_stay c.args.pairs.now c.turn.new.pairs c.turn.ensures.driven
+pub returns-else-is_of_servers-clause-machine : goal.returns-else-is_of_servers-clause-machine
+returns-else-is_of_servers-clause-machine g c =
+    let server = c.args.server.now in
+    record {
+      serving = serving_stays server.partition (vec_len server.units) server.copies.items c.args.pairs.now c.run_script.new.pairs
+          c.run_script.ensures.stay c.run_script.ensures.pairs c.requires.machine.serving;
+      scripts_are = c.run_script.ensures.scripts;
+    }
 
-pub returns-clause-run : goal.returns-clause-run
-returns-clause-run c =
-    let scripts = c.args.scripts.now in
-    let d = c.index-scripts-number.result in
-    run_one scripts c.args.number (slice_index_or scripts c.args.number d) c.turn.new.self
-    (slice_get-get_or scripts c.args.number d c.requires.there) c.turn.ensures.rest
-
-pub returns-clause-credited : goal.returns-clause-credited
-returns-clause-credited c =
-    let scripts = c.args.scripts.now in
-    let d = c.index-scripts-number.result in
-    let old = slice_index_or scripts c.args.number d in
-    let found = slice_get-get_or scripts c.args.number d c.requires.there in
-    ok_then c.turn.result _ _
-    (λ kept are.
-    credits_turned c.args.pairs.now c.turn.new.pairs scripts c.args.number old c.turn.new.self found c.requires.scripts c.turn.ensures.others are
-    (kept (are c.args.number old found)))
-    c.turn.ensures.credited
-
-pub returns-clause-answered : goal.returns-clause-answered
-returns-clause-answered c history = answered_driven history c.args.pairs.now c.turn.new.pairs c.turn.ensures.driven
+pub returns-else-is_of_servers-clause-answered : goal.returns-else-is_of_servers-clause-answered
+returns-else-is_of_servers-clause-answered g c = c.run_script.ensures.answered c.args.server.now.records.history.items c.requires.answered

@@ -1,13 +1,8 @@
-use Rattle.std.proofs.lemmas.Option.{slice_get-get_or}
-use Rattle.vcpu_run.proofs.Agreeing.{set_all}
-use Rattle.vcpu_run.proofs.Driving.{driven_set, some_there}
+use Rattle.vcpu_run.proofs.Driving.{seat_within}
 use Rattle.vcpu_run.proofs.seats.fail_at.Goals as goal
 
-pub fail-requires : goal.fail-requires
-fail-requires c = some_there _ _ _ (slice_get-get_or c.args.pairs.now c.args.seat _ c.requires.there) c.requires.client
+pub fail_of-requires-clause-there : goal.fail_of-requires-clause-there
+fail_of-requires-clause-there c = seat_within _ c.args.pairs.now c.in-Client.pair (c.requires.client c.in-Client.pair c.in-Client.is)
 
-pub returns-clause-driven : goal.returns-clause-driven
-returns-clause-driven c = driven_set c.args.pairs.now c.args.seat _ c.fail.new.pair (slice_get-get_or c.args.pairs.now c.args.seat _ c.requires.there) c.fail.ensures.drives
-
-pub returns-clause-credit : goal.returns-clause-credit
-returns-clause-credit c = set_all c.args.pairs.now c.args.seat _ c.fail.new.pair (slice_get-get_or c.args.pairs.now c.args.seat _ c.requires.there) c.fail.ensures.credit
+pub fail_of-requires-clause-client : goal.fail_of-requires-clause-client
+fail_of-requires-clause-client c = c.requires.client c.in-Client.pair c.in-Client.is

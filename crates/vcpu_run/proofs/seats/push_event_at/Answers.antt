@@ -1,10 +1,9 @@
-use Rattle.std.proofs.lemmas.Option.{slice_get-get_or}
-use Rattle.vcpu_run.proofs.Agreeing.{set_same}
-use Rattle.vcpu_run.proofs.Driving.{driven_set}
+use Rattle.std.proofs.Common.{refl}
+use Rattle.vcpu_run.proofs.Driving.{driven_same}
 use Rattle.vcpu_run.proofs.seats.push_event_at.Goals as goal
 
-pub returns-clause-driven : goal.returns-clause-driven
-returns-clause-driven c = driven_set c.args.pairs.now c.args.seat _ c.push_event.new.pair (slice_get-get_or c.args.pairs.now c.args.seat _ c.requires) c.push_event.ensures.drives
+pub push_event_of-requires : goal.push_event_of-requires
+push_event_of-requires c = c.requires c.in-Client.pair c.in-Client.is
 
-pub returns-clause-drivers : goal.returns-clause-drivers
-returns-clause-drivers c = set_same c.args.pairs.now c.args.seat _ c.push_event.new.pair (slice_get-get_or c.args.pairs.now c.args.seat _ c.requires) c.push_event.ensures.driver
+pub returns-in-Server-clause-driven : goal.returns-in-Server-clause-driven
+returns-in-Server-clause-driven c = driven_same c.args.pairs.now

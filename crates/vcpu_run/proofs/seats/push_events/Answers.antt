@@ -1,11 +1,11 @@
-use Rattle.std.proofs.Common.{◌∙◌, slice_index_or}
+use Rattle.std.proofs.Common.{◌∙◌, Some, ap}
 use Rattle.vcpu_run.proofs.Driving.{driven_on, seat_of, seat_within, still_clients}
 use Rattle.vcpu_run.proofs.seats.push_events.Goals as goal
 
 pub push_event_at-requires : goal.push_event_at-requires
-push_event_at-requires c =
-    seat_within _ c.loop-k.pairs (slice_index_or c.args.seats.now c.loop-k.k 0)
-    (c.loop-k.invariant.clients c.loop-k.k _ (seat_of c.args.seats.now c.loop-k.k c.loop-k-test.true))
+push_event_at-requires c = λ k at.
+    seat_within _ c.loop-k.pairs k
+    (c.loop-k.invariant.clients c.loop-k.k k (seat_of c.args.seats.now c.loop-k.k c.loop-k-test.true ∙ ap Some at))
 
 pub returns-in_err-here-clause-driven : goal.returns-in_err-here-clause-driven
 returns-in_err-here-clause-driven c = driven_on c.args.pairs.now c.loop-k.pairs c.push_event_at.new.pairs c.loop-k.invariant.driven c.push_event_at.ensures.driven

@@ -4,13 +4,13 @@ use Rattle.vcpu_run.proofs.Driving.{driven_set, some_there}
 use Rattle.vcpu_run.proofs.seats.step_at.Goals as goal
 
 pub step-requires-clause-driver : goal.step-requires-clause-driver
-step-requires-clause-driver c = some_there _ _ _ (slice_get-get_or c.args.pairs.now c.args.seat _ c.requires.there) c.requires.client
+step-requires-clause-driver c = some_there _ _ _ (slice_get-get_or c.args.pairs.now c.args.pair _ c.requires.there) c.requires.client
 
 pub returns-clause-driven : goal.returns-clause-driven
-returns-clause-driven c = driven_set c.args.pairs.now c.args.seat _ c.step.new.pair (slice_get-get_or c.args.pairs.now c.args.seat _ c.requires.there) c.step.ensures.drives
+returns-clause-driven c = driven_set c.args.pairs.now c.args.pair _ c.step.new.pair (slice_get-get_or c.args.pairs.now c.args.pair _ c.requires.there) c.step.ensures.drives
 
 pub returns-clause-credit : goal.returns-clause-credit
 returns-clause-credit c = record {
-  others = set_others c.args.pairs.now c.args.seat c.step.new.pair;
-  credit = set_credit _ c.args.pairs.now c.args.seat _ c.step.new.pair (slice_get-get_or c.args.pairs.now c.args.seat _ c.requires.there) c.step.ensures.credit;
+  others = set_others c.args.pairs.now c.args.pair c.step.new.pair;
+  credit = set_credit _ c.args.pairs.now c.args.pair _ c.step.new.pair (slice_get-get_or c.args.pairs.now c.args.pair _ c.requires.there) c.step.ensures.credit;
 }

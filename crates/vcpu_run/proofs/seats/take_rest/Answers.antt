@@ -1,15 +1,16 @@
-use Rattle.std.proofs.Common.{slice_index_or}
-use Rattle.vcpu_run.proofs.Driving.{driven_on, seat_of, seat_within, still_clients}
-use Rattle.vcpu_run.proofs.Elsewhere.{else_on, else_one}
+use Rattle.std.proofs.Common.{◌∙◌, Some, ap, slice_index_or}
+use Rattle.vcpu_run.proofs.Driving.{driven_on, seat_of, still_clients}
+use Rattle.vcpu_run.proofs.Elsewhere.{else_on, else_within}
+use Rattle.vcpu_run.specs.declared.unit_seat.Seat.TheVariants as places
 use Rattle.vcpu_run.proofs.seats.take_rest.Goals as goal
 
-pub take_rest_at-requires-clause-there : goal.take_rest_at-requires-clause-there
-take_rest_at-requires-clause-there c =
-    seat_within _ c.loop-k.pairs (slice_index_or c.args.seats.now c.loop-k.k 0)
-    (c.loop-k.invariant.clients c.loop-k.k _ (seat_of c.args.seats.now c.loop-k.k c.loop-k-test.true))
-
 pub take_rest_at-requires-clause-client : goal.take_rest_at-requires-clause-client
-take_rest_at-requires-clause-client c = c.loop-k.invariant.clients c.loop-k.k _ (seat_of c.args.seats.now c.loop-k.k c.loop-k-test.true)
+take_rest_at-requires-clause-client c = λ k at.
+    c.loop-k.invariant.clients c.loop-k.k k (seat_of c.args.seats.now c.loop-k.k c.loop-k-test.true ∙ ap Some at)
+
+pub take_rest_at-requires-clause-port : goal.take_rest_at-requires-clause-port
+take_rest_at-requires-clause-port c = λ at.
+    c.loop-k.invariant.ports c.loop-k.k (seat_of c.args.seats.now c.loop-k.k c.loop-k-test.true ∙ ap Some at)
 
 pub returns-in_err-here-clause-driven : goal.returns-in_err-here-clause-driven
 returns-in_err-here-clause-driven c = driven_on c.args.pairs.now c.loop-k.pairs c.take_rest_at.new.pairs c.loop-k.invariant.driven c.take_rest_at.ensures.driven
@@ -17,14 +18,16 @@ returns-in_err-here-clause-driven c = driven_on c.args.pairs.now c.loop-k.pairs 
 pub returns-in_err-here-clause-others : goal.returns-in_err-here-clause-others
 returns-in_err-here-clause-others c =
     else_on c.args.seats.now c.args.pairs.now c.loop-k.pairs c.take_rest_at.new.pairs c.loop-k.invariant.others
-    (else_one c.args.seats.now c.loop-k.k (slice_index_or c.args.seats.now c.loop-k.k 0) c.loop-k.pairs c.take_rest_at.new.pairs
+    (else_within c.args.seats.now c.loop-k.k (slice_index_or c.args.seats.now c.loop-k.k places.Server) c.loop-k.pairs c.take_rest_at.new.pairs
     (seat_of c.args.seats.now c.loop-k.k c.loop-k-test.true) c.take_rest_at.ensures.others)
 
 pub loop-k-preserved : goal.loop-k-preserved
 loop-k-preserved c = record {
   driven = driven_on c.args.pairs.now c.loop-k.pairs c.take_rest_at.new.pairs c.loop-k.invariant.driven c.take_rest_at.ensures.driven;
   others = else_on c.args.seats.now c.args.pairs.now c.loop-k.pairs c.take_rest_at.new.pairs c.loop-k.invariant.others
-      (else_one c.args.seats.now c.loop-k.k (slice_index_or c.args.seats.now c.loop-k.k 0) c.loop-k.pairs c.take_rest_at.new.pairs
+      (else_within c.args.seats.now c.loop-k.k (slice_index_or c.args.seats.now c.loop-k.k places.Server) c.loop-k.pairs c.take_rest_at.new.pairs
       (seat_of c.args.seats.now c.loop-k.k c.loop-k-test.true) c.take_rest_at.ensures.others);
   clients = still_clients c.args.seats.now c.loop-k.pairs c.take_rest_at.new.pairs c.take_rest_at.ensures.driven c.loop-k.invariant.clients;
+  ports = rw c.take_rest_at.ensures.lan c.loop-k.invariant.ports;
+  lan = c.take_rest_at.ensures.lan ∙ c.loop-k.invariant.lan;
 }

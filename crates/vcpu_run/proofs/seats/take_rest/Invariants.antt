@@ -1,5 +1,7 @@
+use Rattle.std.proofs.Common.{◌≡◌}
 use Rattle.vcpu_run.specs.Agreed.{SameElse}
 use Rattle.vcpu_run.specs.Pairs.{AreDriven}
+use Rattle.vcpu_run.specs.Ports.{HavePorts}
 use Rattle.vcpu_run.specs.Works.{HaveClients}
 use Rattle.vcpu_run.proofs.seats.take_rest.Given as goal
 
@@ -8,4 +10,6 @@ invariant-loop-k l = record {
   driven : AreDriven l.initial.pairs l.pairs;
   others : SameElse l.seats l.initial.pairs l.pairs;
   clients : HaveClients l.seats l.pairs;
+  ports : HavePorts l.partition l.seats l.lan.seats;
+  lan : l.lan.seats ≡ l.initial.lan.seats;
 }

@@ -1,13 +1,14 @@
-use Rattle.std.proofs.lemmas.Option.{slice_get-get_or}
-use Rattle.vcpu_run.proofs.Agreeing.{set_others}
-use Rattle.vcpu_run.proofs.Driving.{driven_set, some_there}
+use Rattle.std.proofs.Common.{◌∷◌, [], Some, ap}
+use Rattle.vcpu_run.proofs.Driving.{driven_same, seat_within}
+use Rattle.vcpu_run.proofs.Elsewhere.{else_none, else_one}
 use Rattle.vcpu_run.proofs.seats.take_rest_at.Goals as goal
 
-pub take_rest-requires : goal.take_rest-requires
-take_rest-requires c = some_there _ _ _ (slice_get-get_or c.args.pairs.now c.args.seat _ c.requires.there) c.requires.client
+pub take_rest_of-requires-clause-there : goal.take_rest_of-requires-clause-there
+take_rest_of-requires-clause-there c = seat_within _ c.args.pairs.now c.in-Client.pair (c.requires.client c.in-Client.pair c.in-Client.is)
 
-pub returns-clause-driven : goal.returns-clause-driven
-returns-clause-driven c = driven_set c.args.pairs.now c.args.seat _ c.take_rest.new.pair (slice_get-get_or c.args.pairs.now c.args.seat _ c.requires.there) c.take_rest.ensures
+pub take_rest_of-requires-clause-client : goal.take_rest_of-requires-clause-client
+take_rest_of-requires-clause-client c = c.requires.client c.in-Client.pair c.in-Client.is
 
-pub returns-clause-others : goal.returns-clause-others
-returns-clause-others c = set_others c.args.pairs.now c.args.seat c.take_rest.new.pair
+pub returns-in-Client-clause-others : goal.returns-in-Client-clause-others
+returns-in-Client-clause-others c =
+    else_one (c.args.seat ∷ []) 0 c.in-Client.pair c.args.pairs.now c.take_rest_of.new.pairs (ap Some c.in-Client.is) c.take_rest_of.ensures.others

@@ -7,7 +7,7 @@ use Rattle.vio_num.specs.declared.history.Served.{Served}
 use Rattle.vcpu_run.specs.Answered.{AreAnswered}
 use Rattle.vcpu_run.specs.Lines.{IsOver}
 use Rattle.vcpu_run.specs.Machines.{AllRun, AllStay, AreScripts}
-use Rattle.vcpu_run.specs.Pairs.{ArePairs}
+use Rattle.vcpu_run.specs.Pairs.{AreOfOneHome}
 use Rattle.vcpu_run.proofs.Disks.{disk_told, tells_told}
 use Rattle.vcpu_run.proofs.Elsewhere.{ok_then}
 use Rattle.vcpu_run.proofs.Lasting.{lent, plan_lasts}
@@ -20,8 +20,9 @@ trace_of-trace-requires-clause-pairs g c =
     let size : old.len ≡ length old.items = search rules in
     let pairs : take old.len (new ++ drop (length new) old.items) ≡ new =
     lent old.len old.items new size (c.run-run.ensures.stay.count ∙ ap length c.deref_mut.ensures.value) in
-    let here : ArePairs 0 c.finish-image.result.copies.items new = rw c.finish-image.ensures.copies c.run-run.ensures.machine.serving.pairs_are in
-    subst (λ (list : List Pair). ArePairs 0 c.finish-image.result.copies.items list) (sym pairs) here
+    let here : AreOfOneHome c.finish-image.result.copies.items new =
+    record { home = c.run-run.new.server.partition; pairs_are = rw c.finish-image.ensures.copies c.run-run.ensures.machine.serving.pairs_are } in
+    subst (λ (list : List Pair). AreOfOneHome c.finish-image.result.copies.items list) (sym pairs) here
 
 pub trace_of-trace-requires-clause-scripts : goal.trace_of-trace-requires-clause-scripts
 trace_of-trace-requires-clause-scripts g c =
@@ -35,8 +36,8 @@ trace_of-trace-requires-clause-scripts g c =
     lent old.len old.items new size (c.run-run.ensures.stay.count ∙ ap length c.deref_mut.ensures.value) in
     let scripts : take old_scripts.len (new_scripts ++ drop (length new_scripts) old_scripts.items) ≡ new_scripts =
     lent old_scripts.len old_scripts.items new_scripts size_scripts (c.run-run.ensures.run.count ∙ ap length c.deref_mut-2.ensures.value) in
-    subst (λ (list : List Pair). AreScripts list (take old_scripts.len (new_scripts ++ drop (length new_scripts) old_scripts.items))) (sym pairs)
-    (subst (λ (list : List Script). AreScripts new list) (sym scripts) c.run-run.ensures.machine.scripts_are)
+    subst (λ (list : List Pair). AreScripts list c.run-run.new.lan.seats (take old_scripts.len (new_scripts ++ drop (length new_scripts) old_scripts.items))) (sym pairs)
+    (subst (λ (list : List Script). AreScripts new c.run-run.new.lan.seats list) (sym scripts) c.run-run.ensures.machine.scripts_are)
 
 pub trace_of-trace-requires-clause-credited : goal.trace_of-trace-requires-clause-credited
 trace_of-trace-requires-clause-credited g c =
@@ -109,4 +110,4 @@ returns-clause-law g c =
     lent old_scripts.len old_scripts.items new_scripts size_scripts run.count in
     IfSome_then c.trace_of-trace.result c.trace_of-trace.ensures.law
     (λ trace keeps partitions of_plan.
-    keeps partitions (rw (pairs, scripts) (plan_lasts partitions old.items new old_scripts.items new_scripts stay run of_plan)))
+    keeps partitions (rw (pairs, scripts) (plan_lasts partitions old.items new old_scripts.items new_scripts c.args.self.lan.seats c.run-run.new.lan.seats stay run c.run-run.ensures.lan of_plan)))

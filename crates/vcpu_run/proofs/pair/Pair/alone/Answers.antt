@@ -6,10 +6,10 @@ use Rattle.vcpu_run.proofs.pair.Pair.alone.Goals as goal
 
 pub returns-clause-pair : goal.returns-clause-pair
 returns-clause-pair c =
-    let absent : UnitId = record { partition = 0; unit = 255 } in
-    pair_new c.args.unit 1 (256 * c.args.queue) (256 * 1) absent c.in_ok-open_link.field-0 c.in_ok-open.field-0 c.in_ok-open-2.field-0 None
+    let absent : UnitId = record { partition = c.args.server.partition; unit = 255 } in
+    pair_new c.args.server 1 (256 * c.args.queue) (256 * 1) absent c.in_ok-open_link.field-0 c.in_ok-open.field-0 c.in_ok-open-2.field-0 None
     c.in_ok-open.ensures c.in_ok-open-2.ensures
-    (λ same. let e : 255 ≡ c.args.unit = ap (λ (id : UnitId). id.unit) same in absurd (omega (arith, e, c.requires.unit)))
+    (λ same. let e : 255 ≡ c.args.server.unit = ap (λ (id : UnitId). id.unit) same in absurd (omega (arith, e, c.requires.unit)))
     c.in_ok-open_link.ensures tt
 
 pub returns-clause-answered : goal.returns-clause-answered

@@ -20,8 +20,8 @@ returns-clause-pair g c =
     let goes = c.turn.ensures.goes in
     let first : c.turn.new.crq.end.first ≡ true = ap (λ (place : EndPlace). place.first) goes.queue_place ∙ c.side.ensures.first in
     let link_is : link ≡ c.self-1.given.0 = search rules in
-    subst (λ (l : PlainLink). IsPair 0 c.turn.new.self.copies.items c.args.unit (record { server = old.server; link = l; own = c.turn.new.own; window = c.turn.new.client; driver = old.driver })) link_is
-    (served c.args.unit c.args.server.now.copies.items c.turn.new.self.copies.items old new refl refl goes.own_place goes.client_place
+    subst (λ (l : PlainLink). IsPair c.args.server.now.partition c.turn.new.self.copies.items c.args.unit (record { server = old.server; link = l; own = c.turn.new.own; window = c.turn.new.client; driver = old.driver })) link_is
+    (served c.args.server.now.partition c.args.unit c.args.server.now.copies.items c.turn.new.self.copies.items old new refl refl goes.own_place goes.client_place
     goes.own_grows goes.client_grows c.turn.ensures.ready
     (λ event kept. c.turn.ensures.event event (ap (λ (b : Bool). (side_of link b).kept) first ∙ kept))
     c.turn.ensures.copies c.requires.pair)
@@ -46,7 +46,7 @@ returns-clause-answered g c =
 
 pub returns-clause-elsewhere : goal.returns-clause-elsewhere
 returns-clause-elsewhere g c = λ k other apart server.
-    answered_elsewhere c.args.unit k other c.args.server.now.records.history.items c.turn.new.self.records.history.items
+    answered_elsewhere c.args.server.now.partition c.args.unit k other c.args.server.now.records.history.items c.turn.new.self.records.history.items
     (λ same. apart (sym same)) server
     (subst (λ (u : UnitId). ∥ OnlyRowsOf u c.args.server.now.records.history.items c.turn.new.self.records.history.items ∥₁)
     (c.requires.pair.own_unit ∙ c.requires.pair.server) c.turn.ensures.others)

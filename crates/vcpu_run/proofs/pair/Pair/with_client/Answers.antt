@@ -1,6 +1,5 @@
 use Rattle.std.proofs.Common.{◌*◌, Some, ap, arith}
 use Rattle.vscsi_client.specs.State.{ClientState}
-use Rattle.vcpu_run.specs.Machines.{server_id}
 use Rattle.vcpu_run.proofs.Answering.{answered_new}
 use Rattle.vcpu_run.proofs.Opened.{driver_new, pair_new}
 use Rattle.vcpu_run.proofs.pair.Pair.with_client.Goals as goal
@@ -9,9 +8,9 @@ pub returns-clause-pair : goal.returns-clause-pair
 returns-clause-pair c =
     let seat = c.args.seat in
     let driver = c.in_ok-open-3 in
-    pair_new c.args.unit seat.pages (256 * c.args.queue) (256 * seat.queue) seat.unit c.in_ok-open_link.field-0 c.in_ok-open.field-0 c.in_ok-open-2.field-0 (Some driver.field-0)
+    pair_new c.args.server seat.pages (256 * c.args.queue) (256 * seat.queue) seat.unit c.in_ok-open_link.field-0 c.in_ok-open.field-0 c.in_ok-open-2.field-0 (Some driver.field-0)
     c.in_ok-open.ensures c.in_ok-open-2.ensures c.requires.seat.apart c.in_ok-open_link.ensures
-    (driver_new seat.unit (server_id c.args.unit) seat.pages c.in_ok-open-2.field-0 driver.field-0 c.in_ok-open-2.ensures driver.ensures.unit driver.ensures.client
+    (driver_new seat.unit c.args.server seat.pages c.in_ok-open-2.field-0 driver.field-0 c.in_ok-open-2.ensures driver.ensures.unit driver.ensures.client
     (omega (arith, c.requires.seat.pages)) (omega (arith, c.requires.seat.pages)))
 
 pub returns-clause-out : goal.returns-clause-out

@@ -1,12 +1,19 @@
-use Rattle.std.proofs.Common.{◌∙◌, ◌≤◌, ℕ, List, ap, length, is_some, subst, sym}
+use Rattle.std.proofs.Common.{◌∙◌, ◌≤◌, List, ap, length, is_some, subst, sym}
+use Rattle.vcpu_run.specs.declared.unit_seat.Seat.{Seat}
 use Rattle.vcpu_run.specs.Agreed.{SameElse}
 use Rattle.vcpu_run.proofs.Crediting.{credited_rest, on_ok, over_by}
 use Rattle.vcpu_run.proofs.Driving.{clients_of}
 use Rattle.vcpu_run.proofs.Logging.{script_stays}
 use Rattle.vcpu_run.proofs.script.Script.go_on.Goals as goal
 
-pub take_rest-requires : goal.take_rest-requires
-take_rest-requires c = rw c.deref.ensures.value (clients_of c.args.self.now.partition c.args.self.now.seats.items c.args.pairs.now c.requires.script.seats c.requires.pairs)
+pub take_rest-requires-clause-few : goal.take_rest-requires-clause-few
+take_rest-requires-clause-few c = rw c.deref.ensures.value c.requires.ports.few
+
+pub take_rest-requires-clause-ports : goal.take_rest-requires-clause-ports
+take_rest-requires-clause-ports c = rw c.deref.ensures.value c.requires.ports.have
+
+pub take_rest-requires-clause-clients : goal.take_rest-requires-clause-clients
+take_rest-requires-clause-clients c = rw c.deref.ensures.value (clients_of c.args.self.now.partition c.args.self.now.seats.items c.args.pairs.now c.requires.script.seats c.requires.pairs)
 
 pub returns-in-None-clause-script : goal.returns-in-None-clause-script
 returns-in-None-clause-script c = script_stays c.args.pairs.now c.take_rest.new.pairs c.args.self.now c.take_rest.ensures.driven c.requires.script
@@ -17,4 +24,4 @@ returns-in-None-clause-credited c =
     on_ok c.take_rest.result _ (λ is. credited_rest c.args.pairs.now c.take_rest.new.pairs c.args.self.now over is)
 
 pub returns-in-None-clause-others : goal.returns-in-None-clause-others
-returns-in-None-clause-others c = subst (λ (seats : List ℕ). SameElse seats c.args.pairs.now c.take_rest.new.pairs) c.deref.ensures.value c.take_rest.ensures.others
+returns-in-None-clause-others c = subst (λ (seats : List Seat). SameElse seats c.args.pairs.now c.take_rest.new.pairs) c.deref.ensures.value c.take_rest.ensures.others

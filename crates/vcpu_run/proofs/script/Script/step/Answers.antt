@@ -1,24 +1,24 @@
-use Rattle.std.proofs.Common.{rules, ◌≡◌, Some, Ok, length, refl, slice_get, slice_index_or, subst}
+use Rattle.std.proofs.Common.{rules, ◌≡◌, ◌∙◌, Ok, length, refl, slice_get, subst}
 use Rattle.std.proofs.lemmas.Option.{slice_get_within}
-use Rattle.vcpu_run.specs.declared.step.Step.{Step}
-use Rattle.vcpu_run.specs.Agreed.{StepsSeat}
+use Rattle.unit_region.specs.declared.step.Step.{Step}
+use Rattle.vcpu_run.specs.Agreed.{StepsLine}
 use Rattle.vcpu_run.specs.Credited.{taken_in}
-use Rattle.vcpu_run.specs.Runnable.{IsClientLine}
-use Rattle.vcpu_run.proofs.Crediting.{credited_ends, credited_waits}
-use Rattle.vcpu_run.proofs.Driving.{clients_of, seat_of}
-use Rattle.vcpu_run.proofs.Elsewhere.{else_one}
+use Rattle.vcpu_run.specs.Suited.{IsLineAt}
+use Rattle.vcpu_run.proofs.Crediting.{line_ends, line_waits}
+use Rattle.vcpu_run.proofs.Driving.{clients_of}
+use Rattle.vcpu_run.proofs.Elsewhere.{else_line}
 use Rattle.vcpu_run.proofs.Logging.{all_at, one_unit, script_steps}
 use Rattle.vcpu_run.proofs.script.Script.step.Goals as goal
 
 pub step_unit-requires : goal.step_unit-requires
 step_unit-requires c =
-    let line : IsClientLine (length c.args.self.now.seats.items) c.args.line.now =
-    all_at (IsClientLine (length c.args.self.now.seats.items)) c.args.self.now.lines.now c.args.self.now.at c.args.line.now c.requires.line c.requires.script.lines in
+    let line : IsLineAt c.args.self.now.seats.items c.args.line.now =
+    all_at (IsLineAt c.args.self.now.seats.items) c.args.self.now.lines.now c.args.self.now.at c.args.line.now c.requires.line c.requires.script.lines in
     record {
       clients = rw c.deref.ensures.value (clients_of c.args.self.now.partition c.args.self.now.seats.items c.args.pairs.now c.requires.script.seats c.requires.pairs);
-      unit = rw c.deref.ensures.value line.unit;
+      ports = rw c.deref.ensures.value c.requires.ports.have;
+      suited = rw c.deref.ensures.value line.suited;
       verb = record {
-        client = line.client;
         one = one_unit c.args.line.now.verb c.in_default.not-Fail;
         ranged = line.ranged;
       };
@@ -26,64 +26,67 @@ step_unit-requires c =
 
 pub returns-in_err-step : goal.returns-in_err-step
 returns-in_err-step c =
-    let line : IsClientLine (length c.args.self.now.seats.items) c.args.line.now =
-    all_at (IsClientLine (length c.args.self.now.seats.items)) c.args.self.now.lines.now c.args.self.now.at c.args.line.now c.requires.line c.requires.script.lines in
-    let sits : slice_get c.args.self.now.seats.items c.args.line.now.unit ≡ Some (slice_index_or c.args.self.now.seats.items c.args.line.now.unit 0) = seat_of c.args.self.now.seats.items c.args.line.now.unit line.unit in
+    let line : IsLineAt c.args.self.now.seats.items c.args.line.now =
+    all_at (IsLineAt c.args.self.now.seats.items) c.args.self.now.lines.now c.args.self.now.at c.args.line.now c.requires.line c.requires.script.lines in
     record {
       driven = c.step_unit.ensures.driven;
       script = script_steps c.args.pairs.now c.step_unit.new.pairs c.args.self.now c.step_unit.new.progress c.step_unit.ensures.driven c.requires.script;
       rest = record { partition = refl; lines = refl; seats = refl };
-      others = else_one c.args.self.now.seats.items c.args.line.now.unit (slice_index_or c.args.self.now.seats.items c.args.line.now.unit 0) c.args.pairs.now c.step_unit.new.pairs sits
-          (c.step_unit.ensures.credit (slice_index_or c.args.self.now.seats.items c.args.line.now.unit 0) (rw c.deref.ensures.value sits)).others;
+      others = else_line c.args.self.now.seats.items c.args.line.now (taken_in c.args.self.now.progress) (taken_in c.step_unit.new.progress) c.args.pairs.now c.step_unit.new.pairs c.step_unit.result line.suited
+          (rw (← c.deref.ensures.value) c.step_unit.ensures.credit);
+      lan = c.step_unit.ensures.lan;
       credited = search rules;
     }
 
 pub returns-in_err-end-in-Ends : goal.returns-in_err-end-in-Ends
 returns-in_err-end-in-Ends c =
-    let line : IsClientLine (length c.args.self.now.seats.items) c.args.line.now =
-    all_at (IsClientLine (length c.args.self.now.seats.items)) c.args.self.now.lines.now c.args.self.now.at c.args.line.now c.requires.line c.requires.script.lines in
-    let sits : slice_get c.args.self.now.seats.items c.args.line.now.unit ≡ Some (slice_index_or c.args.self.now.seats.items c.args.line.now.unit 0) = seat_of c.args.self.now.seats.items c.args.line.now.unit line.unit in
+    let line : IsLineAt c.args.self.now.seats.items c.args.line.now =
+    all_at (IsLineAt c.args.self.now.seats.items) c.args.self.now.lines.now c.args.self.now.at c.args.line.now c.requires.line c.requires.script.lines in
     record {
       driven = c.step_unit.ensures.driven;
       script = c.end.ensures.script c.step_unit.new.pairs (script_steps c.args.pairs.now c.step_unit.new.pairs c.args.self.now c.step_unit.new.progress c.step_unit.ensures.driven c.requires.script);
       rest = record { partition = c.end.ensures.rest.partition; lines = c.end.ensures.rest.lines; seats = c.end.ensures.rest.seats };
-      others = else_one c.args.self.now.seats.items c.args.line.now.unit (slice_index_or c.args.self.now.seats.items c.args.line.now.unit 0) c.args.pairs.now c.step_unit.new.pairs sits
-          (c.step_unit.ensures.credit (slice_index_or c.args.self.now.seats.items c.args.line.now.unit 0) (rw c.deref.ensures.value sits)).others;
+      others = else_line c.args.self.now.seats.items c.args.line.now (taken_in c.args.self.now.progress) (taken_in c.step_unit.new.progress) c.args.pairs.now c.step_unit.new.pairs c.step_unit.result line.suited
+          (rw (← c.deref.ensures.value) c.step_unit.ensures.credit);
+      lan = c.step_unit.ensures.lan;
       credited = search rules;
     }
 
 pub returns-in_ok-end-in-Ends : goal.returns-in_ok-end-in-Ends
 returns-in_ok-end-in-Ends c =
-    let line : IsClientLine (length c.args.self.now.seats.items) c.args.line.now =
-    all_at (IsClientLine (length c.args.self.now.seats.items)) c.args.self.now.lines.now c.args.self.now.at c.args.line.now c.requires.line c.requires.script.lines in
-    let sits : slice_get c.args.self.now.seats.items c.args.line.now.unit ≡ Some (slice_index_or c.args.self.now.seats.items c.args.line.now.unit 0) = seat_of c.args.self.now.seats.items c.args.line.now.unit line.unit in
+    let line : IsLineAt c.args.self.now.seats.items c.args.line.now =
+    all_at (IsLineAt c.args.self.now.seats.items) c.args.self.now.lines.now c.args.self.now.at c.args.line.now c.requires.line c.requires.script.lines in
     record {
       driven = c.step_unit.ensures.driven;
       script = c.end.ensures.script c.step_unit.new.pairs (script_steps c.args.pairs.now c.step_unit.new.pairs c.args.self.now c.step_unit.new.progress c.step_unit.ensures.driven c.requires.script);
       rest = record { partition = c.end.ensures.rest.partition; lines = c.end.ensures.rest.lines; seats = c.end.ensures.rest.seats };
-      others = else_one c.args.self.now.seats.items c.args.line.now.unit (slice_index_or c.args.self.now.seats.items c.args.line.now.unit 0) c.args.pairs.now c.step_unit.new.pairs sits
-          (c.step_unit.ensures.credit (slice_index_or c.args.self.now.seats.items c.args.line.now.unit 0) (rw c.deref.ensures.value sits)).others;
+      others = else_line c.args.self.now.seats.items c.args.line.now (taken_in c.args.self.now.progress) (taken_in c.step_unit.new.progress) c.args.pairs.now c.step_unit.new.pairs c.step_unit.result line.suited
+          (rw (← c.deref.ensures.value) c.step_unit.ensures.credit);
+      lan = c.step_unit.ensures.lan;
       credited = λ is.
-          credited_ends c.args.pairs.now c.step_unit.new.pairs c.args.self.now c.end.new.self c.args.line.now
-          (record { partition = c.args.self.now.partition; line = c.args.line.now.number; outcome = c.in-Ends.outcome }) (slice_index_or c.args.self.now.seats.items c.args.line.now.unit 0) (taken_in c.step_unit.new.progress)
-          c.requires.line sits c.requires.script.seats
+          line_ends c.args.pairs.now c.step_unit.new.pairs c.args.self.now c.end.new.self c.args.line.now
+          (record { partition = c.args.self.now.partition; line = c.args.line.now.number; outcome = c.in-Ends.outcome }) (taken_in c.step_unit.new.progress)
+          c.requires.line line.suited c.requires.script.seats
           (c.requires.script.logs.reached (slice_get_within c.args.self.now.lines.now c.args.self.now.at c.args.line.now c.requires.line))
-          (subst (λ (st : Step). StepsSeat (slice_index_or c.args.self.now.seats.items c.args.line.now.unit 0) c.args.line.now.verb (taken_in c.args.self.now.progress) (taken_in c.step_unit.new.progress) c.args.pairs.now c.step_unit.new.pairs (Ok st)) c.in-Ends.is (c.in_ok-step.ensures.credit (slice_index_or c.args.self.now.seats.items c.args.line.now.unit 0) (rw c.deref.ensures.value sits)))
+          (subst (λ (st : Step). StepsLine c.args.self.now.seats.items c.args.line.now (taken_in c.args.self.now.progress) (taken_in c.step_unit.new.progress) c.args.pairs.now c.step_unit.new.pairs (Ok st)) c.in-Ends.is
+          (rw (← c.deref.ensures.value) c.in_ok-step.ensures.credit))
           c.end.ensures.rest.lines c.end.ensures.rest.seats c.in_ok-end-in-Ends.ensures.ended.logs c.in_ok-end-in-Ends.ensures.ended.none is;
     }
 
 pub returns-in-Waits : goal.returns-in-Waits
 returns-in-Waits c =
-    let line : IsClientLine (length c.args.self.now.seats.items) c.args.line.now =
-    all_at (IsClientLine (length c.args.self.now.seats.items)) c.args.self.now.lines.now c.args.self.now.at c.args.line.now c.requires.line c.requires.script.lines in
-    let sits : slice_get c.args.self.now.seats.items c.args.line.now.unit ≡ Some (slice_index_or c.args.self.now.seats.items c.args.line.now.unit 0) = seat_of c.args.self.now.seats.items c.args.line.now.unit line.unit in
+    let line : IsLineAt c.args.self.now.seats.items c.args.line.now =
+    all_at (IsLineAt c.args.self.now.seats.items) c.args.self.now.lines.now c.args.self.now.at c.args.line.now c.requires.line c.requires.script.lines in
     record {
       driven = c.step_unit.ensures.driven;
       script = script_steps c.args.pairs.now c.step_unit.new.pairs c.args.self.now c.step_unit.new.progress c.step_unit.ensures.driven c.requires.script;
       rest = record { partition = refl; lines = refl; seats = refl };
-      others = else_one c.args.self.now.seats.items c.args.line.now.unit (slice_index_or c.args.self.now.seats.items c.args.line.now.unit 0) c.args.pairs.now c.step_unit.new.pairs sits
-          (c.step_unit.ensures.credit (slice_index_or c.args.self.now.seats.items c.args.line.now.unit 0) (rw c.deref.ensures.value sits)).others;
+      others = else_line c.args.self.now.seats.items c.args.line.now (taken_in c.args.self.now.progress) (taken_in c.step_unit.new.progress) c.args.pairs.now c.step_unit.new.pairs c.step_unit.result line.suited
+          (rw (← c.deref.ensures.value) c.step_unit.ensures.credit);
+      lan = c.step_unit.ensures.lan;
       credited = λ is.
-          credited_waits c.args.pairs.now c.step_unit.new.pairs c.args.self.now c.step_unit.new.progress c.args.line.now (slice_index_or c.args.self.now.seats.items c.args.line.now.unit 0) c.in-Waits.moved
-          c.requires.line sits c.requires.script.seats (subst (λ (st : Step). StepsSeat (slice_index_or c.args.self.now.seats.items c.args.line.now.unit 0) c.args.line.now.verb (taken_in c.args.self.now.progress) (taken_in c.step_unit.new.progress) c.args.pairs.now c.step_unit.new.pairs (Ok st)) c.in-Waits.is (c.in_ok-step.ensures.credit (slice_index_or c.args.self.now.seats.items c.args.line.now.unit 0) (rw c.deref.ensures.value sits))) is;
+          line_waits c.args.pairs.now c.step_unit.new.pairs c.args.self.now c.step_unit.new.progress c.args.line.now c.in-Waits.moved
+          c.requires.line line.suited c.requires.script.seats
+          (subst (λ (st : Step). StepsLine c.args.self.now.seats.items c.args.line.now (taken_in c.args.self.now.progress) (taken_in c.step_unit.new.progress) c.args.pairs.now c.step_unit.new.pairs (Ok st)) c.in-Waits.is
+          (rw (← c.deref.ensures.value) c.in_ok-step.ensures.credit)) is;
     }

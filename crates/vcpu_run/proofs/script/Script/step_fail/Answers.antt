@@ -6,8 +6,14 @@ use Rattle.vcpu_run.proofs.Elsewhere.{else_all}
 use Rattle.vcpu_run.proofs.Logging.{script_stays}
 use Rattle.vcpu_run.proofs.script.Script.step_fail.Goals as goal
 
-pub fail-requires : goal.fail-requires
-fail-requires c = rw c.deref.ensures.value (clients_of c.args.self.now.partition c.args.self.now.seats.items c.args.pairs.now c.requires.script.seats c.requires.pairs)
+pub fail-requires-clause-few : goal.fail-requires-clause-few
+fail-requires-clause-few c = rw c.deref.ensures.value c.requires.ports.few
+
+pub fail-requires-clause-ports : goal.fail-requires-clause-ports
+fail-requires-clause-ports c = rw c.deref.ensures.value c.requires.ports.have
+
+pub fail-requires-clause-clients : goal.fail-requires-clause-clients
+fail-requires-clause-clients c = rw c.deref.ensures.value (clients_of c.args.self.now.partition c.args.self.now.seats.items c.args.pairs.now c.requires.script.seats c.requires.pairs)
 
 pub returns-in_err-fail-clause-script : goal.returns-in_err-fail-clause-script
 returns-in_err-fail-clause-script c = script_stays c.args.pairs.now c.fail.new.pairs c.args.self.now c.fail.ensures.driven c.requires.script
@@ -30,7 +36,7 @@ returns-then-branch-clause-credited c = λ is.
     ∙ sym (ap (λ lines. length lines.now) c.end.ensures.rest.lines)) in
     credited_fails c.args.pairs.now c.fail.new.pairs c.args.self.now _ c.args.line.now _ c.requires.line
     (c.requires.script.logs.reached (slice_get_within c.args.self.now.lines.now c.args.self.now.at c.args.line.now c.requires.line))
-    refl c.end.ensures.rest.lines c.in_ok-end.ensures.ended.logs over is
+    refl c.end.ensures.rest.lines c.end.ensures.rest.seats c.in_ok-end.ensures.ended.logs over is
 
 pub returns-clause-credited : goal.returns-clause-credited
 returns-clause-credited c = λ is. credited_all c.args.pairs.now c.fail.new.pairs c.args.self.now c.fail.ensures.credit is

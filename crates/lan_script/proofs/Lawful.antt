@@ -1,0 +1,356 @@
+-- The rows of all units keep the law of ports, and stand in a trace's order.
+use Rattle.std.proofs.Common.{◌≡◌, ◌+◌, ◌<◌, ◌≤◌, ℕ, Bool, true, false, All, List, [], ◌∷◌, ◌++◌, inl, Option, Some, None, IsSome, filter, length, map, refl, sym, ◌∙◌, ap, subst}
+use Rattle.std.specs.List.{flat_map}
+use Rattle.std.proofs.lemmas.List.Elements.{All-weaker}
+use Rattle.vio_num.specs.declared.names.UnitId.{UnitId}
+use Rattle.lan_buffers.specs.Port.{IsLawfulPort, PortValue}
+use Rattle.lan_switch.specs.declared.station.Station.{Station}
+use Rattle.lan_switch.specs.Switch.{IsPort, port_of, same_unit}
+use Rattle.vio_trace.specs.Form.{Ascend, DeliverBefore, FrameBefore, HarvestBefore, IsOfferOf, PortBefore, PostBefore, UnitBefore}
+use Rattle.vio_trace.specs.declared.lan_rows.DeliverRow.{DeliverRow}
+use Rattle.vio_trace.specs.declared.lan_rows.FrameRow.{FrameRow}
+use Rattle.vio_trace.specs.declared.lan_rows.HarvestRow.{HarvestRow}
+use Rattle.vio_trace.specs.declared.lan_rows.OfferRow.{OfferRow}
+use Rattle.vio_trace.specs.declared.lan_rows.PortRow.{PortRow}
+use Rattle.vio_trace.specs.declared.lan_rows.PostRow.{PostRow}
+use Rattle.lan_script.specs.declared.rows.LanRows.{LanRows}
+use Rattle.lan_script.specs.declared.seat.PortSeat.{PortSeat}
+use Rattle.lan_script.specs.PortLaw.{AreOrdered, IsOfPort, PortsAreLawful}
+use Rattle.lan_script.specs.Rows.{HasLawfulPort, deliver_rows, harvest_rows, port_in, port_or, port_rows, post_rows}
+use Rattle.lan_script.specs.RowsOf.{IsRowsOf}
+use Rattle.lan_script.specs.Seats.{seat_at}
+use Rattle.lan_script.specs.Units.{AreFrames, HavePorts, IsLan, IsLawfulFrame, IsLawfulOffer, LanValue, PortKey, port_key}
+use Rattle.lan_script.proofs.Blocks.{all_from_each, before_other, both_each, each_from_all, of_seats, seats_ordered, self, sole_block}
+use Rattle.lan_script.proofs.Order.{Each, Ordered, ascends, each_append, each_weaker, ordered_flat}
+use Rattle.lan_script.proofs.Placing.{by_bool}
+use Rattle.lan_script.proofs.RowLaws.{IsFrom, deliveries_are, frames_named, frames_ordered, harvests_are, ports_named, ports_ordered, posts_are}
+
+every : {X : Type 0} (P : X → Type 0) → ((x : X) → P x) → (xs : List X) → Each P xs
+every P all [] = tt
+every P all (x ∷ xs) = (all x, every P all xs)
+
+-- units apart
+other_unit : (a b : UnitId) → UnitBefore a b → same_unit a b ≡ false
+other_unit a b before = before_other a b before
+
+-- A seat's port is there, with the seat's slots.
+pub record HasOwn (ss : List Station) (seat : PortSeat) : Type 0 where
+  pub port : PortValue
+  pub is : port_of ss seat.unit ≡ Some port
+  pub slots : port.slots ≡ seat.slots
+
+pub own_ports : (whole : Bool) (seats : List PortSeat) (ss : List Station) (frames : List (List FrameRow)) → HavePorts whole seats (map port_key ss) frames
+    → Ordered (λ (a b : PortSeat). UnitBefore a.unit b.unit) seats → Each (HasOwn ss) seats
+own_ports whole [] ss frames have order = tt
+own_ports whole (s ∷ seats) [] frames have order = absurd have
+own_ports whole (s ∷ seats) (t ∷ ss) [] have order = absurd have
+own_ports whole (s ∷ seats) (t ∷ ss) (f ∷ frames) have order = (
+  record { port = t.port; is = here have.0.0.unit_is; slots = have.0.0.slots_is },
+  both_each (λ (y : PortSeat). UnitBefore s.unit y.unit) (HasOwn ss) (HasOwn (t ∷ ss)) seats
+      (λ y before own. record { port = own.port; is = later y before ∙ own.is; slots = own.slots }) order.0
+      (own_ports whole seats ss frames have.1 order.1),
+)
+  where
+    here : t.port.unit ≡ s.unit → port_of (t ∷ ss) s.unit ≡ Some t.port
+    here e = head (ap (λ (u : UnitId). same_unit u s.unit) e ∙ self s.unit)
+      where
+        head : same_unit t.port.unit s.unit ≡ true → port_of (t ∷ ss) s.unit ≡ Some t.port
+        head g = rw g refl
+
+    later : (y : PortSeat) → UnitBefore s.unit y.unit → port_of (t ∷ ss) y.unit ≡ port_of ss y.unit
+    later y before = tail (ap (λ (u : UnitId). same_unit u y.unit) have.0.0.unit_is ∙ other_unit s.unit y.unit before)
+      where
+        tail : same_unit t.port.unit y.unit ≡ false → port_of (t ∷ ss) y.unit ≡ port_of ss y.unit
+        tail g = rw g refl
+
+own_slots : (ss : List Station) (seat : PortSeat) → HasOwn ss seat → (port_in ss seat).slots ≡ seat.slots
+own_slots ss seat own = ap (λ o. (port_or seat.unit o).slots) own.is ∙ own.slots
+
+pub are_ports : (ss : List Station) (seats : List PortSeat) → Each (HasOwn ss) seats → All (λ (seat : PortSeat). IsPort ss seat.unit) seats
+are_ports ss seats own =
+    all_from_each (λ (seat : PortSeat). IsPort ss seat.unit) seats
+    (each_weaker (HasOwn ss) (λ (seat : PortSeat). IsPort ss seat.unit) (λ seat h. some (port_of ss seat.unit) h.port h.is) seats own)
+  where
+    some : (o : Option PortValue) (p : PortValue) → o ≡ Some p → IsSome o
+    some (Some q) p e = refl
+    some None p e = absurd (cc (e))
+
+-- whose the rows of each seat are
+named_by : {Row : Type 0} (unit : Row → UnitId) (number : Row → ℕ) (f : PortSeat → List Row)
+    → ((seat : PortSeat) → Each (IsFrom unit number seat.unit 1) (f seat)) → (seats : List PortSeat)
+    → Each (λ seat. Each (λ row. unit row ≡ seat.unit) (f seat)) seats
+named_by unit number f own seats =
+    every (λ seat. Each (λ row. unit row ≡ seat.unit) (f seat))
+    (λ seat. each_weaker (IsFrom unit number seat.unit 1) (λ row. unit row ≡ seat.unit) (λ row h. h.0) (f seat) (own seat)) seats
+
+-- frames with the seats of their units
+abbrev zipped : List PortSeat → List (List FrameRow) → List (PortSeat × List FrameRow)
+zipped [] frames = []
+zipped (s ∷ seats) [] = []
+zipped (s ∷ seats) (f ∷ frames) = (s, f) ∷ zipped seats frames
+
+zip_flat : (whole : Bool) (seats : List PortSeat) (keys : List PortKey) (frames : List (List FrameRow)) → HavePorts whole seats keys frames
+    → flat_map (λ (x : PortSeat × List FrameRow). x.1) (zipped seats frames) ≡ flat_map (λ own. own) frames
+zip_flat whole [] [] [] have = refl
+zip_flat whole [] (k ∷ keys) frames have = absurd have
+zip_flat whole [] [] (f ∷ frames) have = absurd have
+zip_flat whole (s ∷ seats) [] frames have = absurd have
+zip_flat whole (s ∷ seats) (k ∷ keys) [] have = absurd have
+zip_flat whole (s ∷ seats) (k ∷ keys) (f ∷ frames) have = ap (λ l. f ++ l) (zip_flat whole seats keys frames have.1)
+
+zip_frames : (seats : List PortSeat) (keys : List PortKey) (frames : List (List FrameRow)) → HavePorts true seats keys frames
+    → Each (λ (x : PortSeat × List FrameRow). AreFrames x.0.unit 1 x.1) (zipped seats frames)
+zip_frames [] keys frames have = tt
+zip_frames (s ∷ seats) [] frames have = absurd have
+zip_frames (s ∷ seats) (k ∷ keys) [] have = absurd have
+zip_frames (s ∷ seats) (k ∷ keys) (f ∷ frames) have =
+    (subst (λ (u : UnitId). AreFrames u 1 f) have.0.0.unit_is (have.0.1 refl).numbered, zip_frames seats keys frames have.1)
+
+zip_ordered : (seats : List PortSeat) (frames : List (List FrameRow)) → Ordered (λ (a b : PortSeat). UnitBefore a.unit b.unit) seats
+    → Ordered (λ (a b : PortSeat × List FrameRow). UnitBefore a.0.unit b.0.unit) (zipped seats frames)
+zip_ordered [] frames order = tt
+zip_ordered (s ∷ seats) [] order = tt
+zip_ordered (s ∷ seats) (f ∷ frames) order = (behind seats frames order.0, zip_ordered seats frames order.1)
+  where
+    behind : (ys : List PortSeat) (fs : List (List FrameRow)) → Each (λ (y : PortSeat). UnitBefore s.unit y.unit) ys
+        → Each (λ (x : PortSeat × List FrameRow). UnitBefore s.unit x.0.unit) (zipped ys fs)
+    behind [] fs all = tt
+    behind (y ∷ ys) [] all = tt
+    behind (y ∷ ys) (g ∷ fs) all = (all.0, behind ys fs all.1)
+
+zip_seats : (P : PortSeat → Type 0) (whole : Bool) (seats : List PortSeat) (keys : List PortKey) (frames : List (List FrameRow)) → HavePorts whole seats keys frames
+    → Each (λ (x : PortSeat × List FrameRow). P x.0) (zipped seats frames) → Each P seats
+zip_seats P whole [] keys frames have all = tt
+zip_seats P whole (s ∷ seats) [] frames have all = absurd have
+zip_seats P whole (s ∷ seats) (k ∷ keys) [] have all = absurd have
+zip_seats P whole (s ∷ seats) (k ∷ keys) (f ∷ frames) have all = (all.0, zip_seats P whole seats keys frames have.1 all.1)
+
+-- the frames of the seat of a unit stand among all
+zip_named : (seats : List PortSeat) (frames : List (List FrameRow)) → Each (λ (x : PortSeat × List FrameRow). AreFrames x.0.unit 1 x.1) (zipped seats frames)
+    → Each (λ (x : PortSeat × List FrameRow). Each (λ row. row.unit ≡ x.0.unit) x.1) (zipped seats frames)
+zip_named seats frames all =
+    each_weaker (λ (x : PortSeat × List FrameRow). AreFrames x.0.unit 1 x.1) (λ (x : PortSeat × List FrameRow). Each (λ row. row.unit ≡ x.0.unit) x.1)
+    (λ x are. each_weaker (IsFrom (λ (row : FrameRow). row.unit) (λ row. row.number) x.0.unit 1) (λ row. row.unit ≡ x.0.unit) (λ row h. h.0) x.1 (frames_named x.0.unit 1 x.1 are))
+    (zipped seats frames) all
+
+frames_of_seats : (seats : List PortSeat) (keys : List PortKey) (frames : List (List FrameRow)) → HavePorts true seats keys frames
+    → Each (λ (row : FrameRow). IsSome (seat_at seats row.unit)) (flat_map (λ own. own) frames)
+frames_of_seats [] [] [] have = tt
+frames_of_seats [] (k ∷ keys) frames have = absurd have
+frames_of_seats [] [] (f ∷ frames) have = absurd have
+frames_of_seats (s ∷ seats) [] frames have = absurd have
+frames_of_seats (s ∷ seats) (k ∷ keys) [] have = absurd have
+frames_of_seats (s ∷ seats) (k ∷ keys) (f ∷ frames) have =
+    each_append (λ (row : FrameRow). IsSome (seat_at (s ∷ seats) row.unit)) f (flat_map (λ own. own) frames)
+    (each_weaker (IsFrom (λ (row : FrameRow). row.unit) (λ row. row.number) k.unit 1) (λ (row : FrameRow). IsSome (seat_at (s ∷ seats) row.unit))
+    (λ row h. here row.unit (h.0 ∙ have.0.0.unit_is)) f (frames_named k.unit 1 f (have.0.1 refl).numbered))
+    (each_weaker (λ (row : FrameRow). IsSome (seat_at seats row.unit)) (λ (row : FrameRow). IsSome (seat_at (s ∷ seats) row.unit)) (λ row h. later row.unit h)
+    (flat_map (λ own. own) frames) (frames_of_seats seats keys frames have.1))
+  where
+    here : (u : UnitId) → u ≡ s.unit → IsSome (seat_at (s ∷ seats) u)
+    here u e = subst (λ (v : UnitId). IsSome (seat_at (s ∷ seats) v)) (sym e) (head (self s.unit))
+      where
+        head : same_unit s.unit s.unit ≡ true → IsSome (seat_at (s ∷ seats) s.unit)
+        head g = rw g refl
+
+    later : (u : UnitId) → IsSome (seat_at seats u) → IsSome (seat_at (s ∷ seats) u)
+    later u h = by_bool (same_unit s.unit u) (IsSome (seat_at (s ∷ seats) u)) (λ g. rw g refl) (λ g. rw g h)
+
+-- each offer names its frame
+offers_in : (u : UnitId) (n : ℕ) (rows : List FrameRow) → AreFrames u n rows → Each (λ frame. All (IsOfferOf frame) frame.offers) rows
+offers_in u n [] are = tt
+offers_in u n (row ∷ rows) are =
+    (All-weaker (IsLawfulOffer row) (IsOfferOf row) (λ offer h. h.named) row.offers are.0.offers, offers_in u (n + 1) rows are.1)
+
+offers_named : (seats : List PortSeat) (keys : List PortKey) (frames : List (List FrameRow)) → HavePorts true seats keys frames
+    → Each (λ (frame : FrameRow). All (IsOfferOf frame) frame.offers) (flat_map (λ own. own) frames)
+offers_named [] [] [] have = tt
+offers_named [] (k ∷ keys) frames have = absurd have
+offers_named [] [] (f ∷ frames) have = absurd have
+offers_named (s ∷ seats) [] frames have = absurd have
+offers_named (s ∷ seats) (k ∷ keys) [] have = absurd have
+offers_named (s ∷ seats) (k ∷ keys) (f ∷ frames) have =
+    each_append (λ (frame : FrameRow). All (IsOfferOf frame) frame.offers) f (flat_map (λ own. own) frames) (offers_in k.unit 1 f (have.0.1 refl).numbered)
+    (offers_named seats keys frames have.1)
+
+-- the rows of a seat
+abbrev ports_by : List Station → PortSeat → List PortRow
+ports_by ss seat = port_rows seat.unit (port_in ss seat)
+
+abbrev posts_by : List Station → PortSeat → List PostRow
+posts_by ss seat = post_rows seat.unit (port_in ss seat)
+
+abbrev delivers_by : List Station → PortSeat → List DeliverRow
+delivers_by ss seat = deliver_rows seat.unit (port_in ss seat)
+
+abbrev harvests_by : List Station → PortSeat → List HarvestRow
+harvests_by ss seat = harvest_rows seat.unit (port_in ss seat)
+
+ports_own : (ss : List Station) (seats : List PortSeat) → Each (λ (seat : PortSeat). Each (λ (row : PortRow). row.unit ≡ seat.unit) (ports_by ss seat)) seats
+ports_own ss seats =
+    named_by (λ (row : PortRow). row.unit) (λ row. row.session) (ports_by ss)
+    (λ seat. ports_named seat.unit (port_in ss seat).slots 1 (port_in ss seat).drop_counts) seats
+
+posts_own : (ss : List Station) (seats : List PortSeat) → Each (λ (seat : PortSeat). Each (λ (row : PostRow). row.unit ≡ seat.unit) (posts_by ss seat)) seats
+posts_own ss seats =
+    named_by (λ (row : PostRow). row.unit) (λ row. row.session) (posts_by ss)
+    (λ seat. (posts_are seat.unit (port_in ss seat).posts 1 (length (port_in ss seat).drop_counts)).1) seats
+
+delivers_own : (ss : List Station) (seats : List PortSeat) → Each (λ (seat : PortSeat). Each (λ (row : DeliverRow). row.unit ≡ seat.unit) (delivers_by ss seat)) seats
+delivers_own ss seats =
+    named_by (λ (row : DeliverRow). row.unit) (λ row. row.session) (delivers_by ss)
+    (λ seat. (deliveries_are seat.unit (port_in ss seat).deliveries 1 (length (port_in ss seat).drop_counts)).1) seats
+
+harvests_own : (ss : List Station) (seats : List PortSeat) → Each (λ (seat : PortSeat). Each (λ (row : HarvestRow). row.unit ≡ seat.unit) (harvests_by ss seat)) seats
+harvests_own ss seats =
+    named_by (λ (row : HarvestRow). row.unit) (λ row. row.session) (harvests_by ss)
+    (λ seat. (harvests_are seat.unit (port_in ss seat).harvests 1 (length (port_in ss seat).drop_counts)).1) seats
+
+-- what a filter by a seat's unit leaves of these rows is the seat's own block
+abbrev IsSole : {Row : Type 0} → (Row → UnitId) → (PortSeat → List Row) → List Row → PortSeat → Type 0
+IsSole unit f rows seat = filter (λ row. same_unit (unit row) seat.unit) rows ≡ f seat
+
+soles : {Row : Type 0} (unit : Row → UnitId) (f : PortSeat → List Row) (rows : List Row) (seats : List PortSeat) → rows ≡ flat_map f seats
+    → Each (λ seat. Each (λ row. unit row ≡ seat.unit) (f seat)) seats → Ordered (λ (a b : PortSeat). UnitBefore a.unit b.unit) seats
+    → Each (IsSole unit f rows) seats
+soles unit f rows seats e named order =
+    subst (λ l. Each (IsSole unit f l) seats) (sym e) (sole_block (λ (seat : PortSeat). seat.unit) unit f seats named order)
+
+of_ports : (ss : List Station) (seats : List PortSeat) (ports : List PortRow) (posts : List PostRow) (delivers : List DeliverRow) (harvests : List HarvestRow)
+    → Each (HasOwn ss) seats → Each (HasLawfulPort ss) seats → Each (IsSole (λ row. row.unit) (ports_by ss) ports) seats
+    → Each (IsSole (λ row. row.unit) (posts_by ss) posts) seats → Each (IsSole (λ row. row.unit) (delivers_by ss) delivers) seats
+    → Each (IsSole (λ row. row.unit) (harvests_by ss) harvests) seats → Each (λ seat. IsOfPort seat ports posts delivers harvests) seats
+of_ports ss [] ports posts delivers harvests own lawful a b c d = tt
+of_ports ss (s ∷ seats) ports posts delivers harvests own lawful a b c d = (
+  record {
+    port = port_in ss s;
+    lawful = lawful.0;
+    slots_is = own_slots ss s own.0;
+    sessions = a.0;
+    posted = b.0;
+    delivered = c.0;
+    harvested = d.0;
+  },
+  of_ports ss seats ports posts delivers harvests own.1 lawful.1 a.1 b.1 c.1 d.1,
+)
+
+-- the frames of each seat are numbered
+all_numbered : (seats : List PortSeat) (keys : List PortKey) (frames : List (List FrameRow)) (rows : List FrameRow) → HavePorts true seats keys frames
+    → rows ≡ flat_map (λ own. own) frames → Ordered (λ (a b : PortSeat). UnitBefore a.unit b.unit) seats
+    → Each (λ (seat : PortSeat). AreFrames seat.unit 1 (filter (λ (row : FrameRow). same_unit row.unit seat.unit) rows)) seats
+all_numbered seats keys frames rows have e order =
+    zip_seats (λ (seat : PortSeat). AreFrames seat.unit 1 (filter (λ (row : FrameRow). same_unit row.unit seat.unit) rows)) true seats keys frames have
+    (both_each (λ (x : PortSeat × List FrameRow). AreFrames x.0.unit 1 x.1) (λ (x : PortSeat × List FrameRow). filter (λ (row : FrameRow). same_unit row.unit x.0.unit) rows ≡ x.1)
+    (λ (x : PortSeat × List FrameRow). AreFrames x.0.unit 1 (filter (λ (row : FrameRow). same_unit row.unit x.0.unit) rows)) (zipped seats frames)
+    (λ x are same. subst (λ (l : List FrameRow). AreFrames x.0.unit 1 l) (sym same) are) (zip_frames seats keys frames have)
+    (subst (λ l. Each (λ (x : PortSeat × List FrameRow). filter (λ (row : FrameRow). same_unit row.unit x.0.unit) l ≡ x.1) (zipped seats frames))
+    (zip_flat true seats keys frames have ∙ sym e)
+    (sole_block (λ (x : PortSeat × List FrameRow). x.0.unit) (λ (row : FrameRow). row.unit) (λ (x : PortSeat × List FrameRow). x.1) (zipped seats frames)
+    (zip_named seats frames (zip_frames seats keys frames have)) (zip_ordered seats frames order))))
+
+own_rows : {Row : Type 0} (unit : Row → UnitId) (f : PortSeat → List Row) (seats : List PortSeat) (rows : List Row) → rows ≡ flat_map f seats
+    → Each (λ seat. Each (λ row. unit row ≡ seat.unit) (f seat)) seats → All (λ row. IsSome (seat_at seats (unit row))) rows
+own_rows unit f seats rows e named =
+    all_from_each (λ row. IsSome (seat_at seats (unit row))) rows
+    (subst (λ l. Each (λ row. IsSome (seat_at seats (unit row))) l) (sym e) (of_seats unit f seats named))
+
+whole_ports : (lan : LanValue) → IsLan lan → lan.whole ≡ true → HavePorts true lan.seats (map port_key lan.stations) lan.frames
+whole_ports lan is whole = subst (λ w. HavePorts w lan.seats (map port_key lan.stations) lan.frames) whole is.ports
+
+in_order : (lan : LanValue) → IsLan lan → Ordered (λ (a b : PortSeat). UnitBefore a.unit b.unit) lan.seats
+in_order lan is = seats_ordered lan.seats is.ascending (each_from_all (λ (seat : PortSeat). seat.unit.unit < 256) lan.seats is.named)
+
+pub ports_there : (lan : LanValue) → IsLan lan → All (λ (seat : PortSeat). IsPort lan.stations seat.unit) lan.seats
+ports_there lan is = are_ports lan.stations lan.seats (own_ports lan.whole lan.seats lan.stations lan.frames is.ports (in_order lan is))
+
+-- The law of ports.
+pub law : (lan : LanValue) (rows : LanRows) → IsLan lan → lan.whole ≡ true → IsRowsOf lan rows → All (HasLawfulPort lan.stations) lan.seats
+    → PortsAreLawful lan.seats rows.frames.items rows.ports.items rows.posts.items rows.delivers.items rows.harvests.items
+law lan rows is whole exact lawful =
+    let ss = lan.stations in
+    let seats = lan.seats in
+    let order = in_order lan is in
+    let have = whole_ports lan is whole in
+    record {
+      of_ports = all_from_each (λ seat. IsOfPort seat rows.ports.items rows.posts.items rows.delivers.items rows.harvests.items) seats
+          (of_ports ss seats rows.ports.items rows.posts.items rows.delivers.items rows.harvests.items
+          (own_ports true seats ss lan.frames have order) (each_from_all (HasLawfulPort ss) seats lawful)
+          (soles (λ (row : PortRow). row.unit) (ports_by ss) rows.ports.items seats exact.ports (ports_own ss seats) order)
+          (soles (λ (row : PostRow). row.unit) (posts_by ss) rows.posts.items seats exact.posts (posts_own ss seats) order)
+          (soles (λ (row : DeliverRow). row.unit) (delivers_by ss) rows.delivers.items seats exact.delivers (delivers_own ss seats) order)
+          (soles (λ (row : HarvestRow). row.unit) (harvests_by ss) rows.harvests.items seats exact.harvests (harvests_own ss seats) order));
+      numbered = all_from_each (λ (seat : PortSeat). AreFrames seat.unit 1 (filter (λ (row : FrameRow). same_unit row.unit seat.unit) rows.frames.items)) seats
+          (all_numbered seats (map port_key ss) lan.frames rows.frames.items have exact.frames order);
+      own_frames = all_from_each (λ (row : FrameRow). IsSome (seat_at seats row.unit)) rows.frames.items
+          (subst (λ l. Each (λ (row : FrameRow). IsSome (seat_at seats row.unit)) l) (sym exact.frames) (frames_of_seats seats (map port_key ss) lan.frames have));
+      own_ports = own_rows (λ (row : PortRow). row.unit) (ports_by ss) seats rows.ports.items exact.ports (ports_own ss seats);
+      own_posts = own_rows (λ (row : PostRow). row.unit) (posts_by ss) seats rows.posts.items exact.posts (posts_own ss seats);
+      own_deliveries = own_rows (λ (row : DeliverRow). row.unit) (delivers_by ss) seats rows.delivers.items exact.delivers (delivers_own ss seats);
+      own_harvests = own_rows (λ (row : HarvestRow). row.unit) (harvests_by ss) seats rows.harvests.items exact.harvests (harvests_own ss seats);
+    }
+
+-- blocks in order
+blocks : {Row : Type 0} (unit : Row → UnitId) (before : Row → Row → Type 0) → ((a b : Row) → UnitBefore (unit a) (unit b) → before a b)
+    → (f : PortSeat → List Row) → ((seat : PortSeat) → Ordered before (f seat)) → (seats : List PortSeat) (rows : List Row) → rows ≡ flat_map f seats
+    → Each (λ seat. Each (λ row. unit row ≡ seat.unit) (f seat)) seats → Ordered (λ (a b : PortSeat). UnitBefore a.unit b.unit) seats → Ascend before rows
+blocks unit before apart f own seats rows e named order =
+    subst (Ascend before) (sym e)
+    (ascends before (flat_map f seats)
+    (ordered_flat (λ (seat : PortSeat). seat.unit) unit before apart f seats named (every (λ seat. Ordered before (f seat)) own seats) order))
+
+-- The order of a trace.
+pub order : (lan : LanValue) (rows : LanRows) → IsLan lan → lan.whole ≡ true → IsRowsOf lan rows → AreOrdered rows
+order lan rows is whole exact =
+    let ss = lan.stations in
+    let seats = lan.seats in
+    let stands = in_order lan is in
+    let have = whole_ports lan is whole in
+    let framed = zip_frames seats (map port_key ss) lan.frames have in
+    record {
+      frames = subst (Ascend FrameBefore) (zip_flat true seats (map port_key ss) lan.frames have ∙ sym exact.frames)
+          (ascends FrameBefore (flat_map (λ (x : PortSeat × List FrameRow). x.1) (zipped seats lan.frames))
+          (ordered_flat (λ (x : PortSeat × List FrameRow). x.0.unit) (λ (row : FrameRow). row.unit) FrameBefore (λ a b before. inl before)
+          (λ (x : PortSeat × List FrameRow). x.1) (zipped seats lan.frames) (zip_named seats lan.frames framed)
+          (each_weaker (λ (x : PortSeat × List FrameRow). AreFrames x.0.unit 1 x.1) (λ (x : PortSeat × List FrameRow). Ordered FrameBefore x.1)
+          (λ x are. frames_ordered x.0.unit 1 x.1 are) (zipped seats lan.frames) framed) (zip_ordered seats lan.frames stands)));
+      offers = all_from_each (λ (frame : FrameRow). All (IsOfferOf frame) frame.offers) rows.frames.items
+          (subst (λ l. Each (λ (frame : FrameRow). All (IsOfferOf frame) frame.offers) l) (sym exact.frames) (offers_named seats (map port_key ss) lan.frames have));
+      ports = blocks (λ (row : PortRow). row.unit) PortBefore (λ a b before. inl before) (ports_by ss)
+          (λ seat. ports_ordered seat.unit (port_in ss seat).slots 1 (port_in ss seat).drop_counts) seats rows.ports.items exact.ports (ports_own ss seats) stands;
+      posts = blocks (λ (row : PostRow). row.unit) PostBefore (λ a b before. inl before) (posts_by ss)
+          (λ seat. (posts_are seat.unit (port_in ss seat).posts 1 (length (port_in ss seat).drop_counts)).0) seats rows.posts.items exact.posts (posts_own ss seats) stands;
+      delivers = blocks (λ (row : DeliverRow). row.unit) DeliverBefore (λ a b before. inl before) (delivers_by ss)
+          (λ seat. (deliveries_are seat.unit (port_in ss seat).deliveries 1 (length (port_in ss seat).drop_counts)).0) seats rows.delivers.items exact.delivers (delivers_own ss seats) stands;
+      harvests = blocks (λ (row : HarvestRow). row.unit) HarvestBefore (λ a b before. inl before) (harvests_by ss)
+          (λ seat. (harvests_are seat.unit (port_in ss seat).harvests 1 (length (port_in ss seat).drop_counts)).0) seats rows.harvests.items exact.harvests (harvests_own ss seats) stands;
+    }
+
+pub flat_mapped : {X Row : Type 0} (f : X → List Row) (xs : List X) → flat_map f xs ≡ flat_map (λ own. own) (map f xs)
+flat_mapped f [] = refl
+flat_mapped f (x ∷ xs) = ap (λ l. f x ++ l) (flat_mapped f xs)
+
+-- What is so of rows that were gathered list by list.
+pub record IsTold (now : LanValue) (rows : LanRows) : Type 0 where
+  pub lawful : PortsAreLawful now.seats rows.frames.items rows.ports.items rows.posts.items rows.delivers.items rows.harvests.items
+  pub ordered : AreOrdered rows
+  pub exact : IsRowsOf now rows
+
+pub told : (lan now : LanValue) (rows : LanRows) (a b c d : List PortSeat) → lan ≡ now → IsLan lan → lan.whole ≡ true
+    → rows.frames.items ≡ flat_map (λ own. own) lan.frames → rows.ports.items ≡ flat_map (ports_by lan.stations) a
+    → rows.posts.items ≡ flat_map (posts_by lan.stations) b → rows.delivers.items ≡ flat_map (delivers_by lan.stations) c
+    → rows.harvests.items ≡ flat_map (harvests_by lan.stations) d → a ≡ lan.seats → b ≡ lan.seats → c ≡ lan.seats → d ≡ lan.seats
+    → All (HasLawfulPort lan.stations) a → IsTold now rows
+told lan now rows a b c d same is whole frames ports posts delivers harvests ea eb ec ed lawful =
+    let exact : IsRowsOf lan rows = record {
+      frames = frames;
+      ports = ports ∙ ap (λ l. flat_map (ports_by lan.stations) l) ea;
+      posts = posts ∙ ap (λ l. flat_map (posts_by lan.stations) l) eb;
+      delivers = delivers ∙ ap (λ l. flat_map (delivers_by lan.stations) l) ec;
+      harvests = harvests ∙ ap (λ l. flat_map (harvests_by lan.stations) l) ed;
+    } in
+    subst (λ (l : LanValue). IsTold l rows) same
+    (record {
+      lawful = law lan rows is whole exact (subst (λ l. All (HasLawfulPort lan.stations) l) ea lawful);
+      ordered = order lan rows is whole exact;
+      exact = exact;
+    })

@@ -1,0 +1,17 @@
+pub mod Blocks
+pub mod Called
+pub mod Cuts
+pub mod Keeping
+pub mod Kept
+pub mod Keys
+pub mod Lans
+pub mod Lawful
+pub mod Laws
+pub mod Lent
+pub mod Mapped
+pub mod Offering
+pub mod Opened
+pub mod Order
+pub mod Placing
+pub mod RowLaws
+pub mod Sent

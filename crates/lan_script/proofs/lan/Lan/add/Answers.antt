@@ -1,0 +1,36 @@
+use Rattle.std.proofs.Common.{◌≡◌, ◌∙◌, ℕ, false, List, IsSome, sym, subst}
+use Rattle.tce_window.specs.PlainPort.{known_of}
+use Rattle.lan_switch.specs.Calls.{Adds}
+use Rattle.lan_script.specs.declared.seat.PortSeat.{PortSeat}
+use Rattle.lan_script.specs.Seats.{seat_at}
+use Rattle.lan_script.proofs.Called.{adds_same}
+use Rattle.lan_script.proofs.Lans.{lan_back, lan_made, place_after, window_free, window_there}
+use Rattle.lan_script.proofs.lan.Lan.add.Goals as goal
+
+abbrev none_found : ℕ → ℕ → Type 0
+none_found page word = ⊥
+
+pub take-own-requires : goal.take-own-requires
+take-own-requires c =
+    window_there _ c.make_room.new.self c.args.unit c.self.view_is c.self.invariant
+    (subst (λ (l : List PortSeat). IsSome (seat_at l c.args.unit)) (sym c.make_room.ensures.seats) c.requires.there)
+
+pub add-answer-requires-clause-free : goal.add-answer-requires-clause-free
+add-answer-requires-clause-free c =
+    window_free _ c.make_room.new.self c.args.unit c.take-own.result c.self.view_is c.self.invariant
+    (subst (λ (l : List PortSeat). IsSome (seat_at l c.args.unit)) (sym c.make_room.ensures.seats) c.requires.there) c.take-own.ensures.window
+
+pub put-requires-clause-place : goal.put-requires-clause-place
+put-requires-clause-place c =
+    place_after c.args.unit c.self.inside.windows c.take-own.new.self c.take-own.result c.take-own.ensures.window c.take-own.ensures.rest
+
+pub invariant_of-self : goal.invariant_of-self
+invariant_of-self c =
+    let there = subst (λ (l : List PortSeat). IsSome (seat_at l c.args.unit)) (sym c.make_room.ensures.seats) c.requires.there in
+    let free = window_free _ c.make_room.new.self c.args.unit c.take-own.result c.self.view_is c.self.invariant there c.take-own.ensures.window in
+    lan_back _ c.args.unit c.take-own.new.self c.put.new.self c.take-own.result c.add-answer.new.window
+    (lan_made _ c.make_room.new.self c.args.unit c.add-answer.result c.add-answer.new.self
+    (Adds c.args.descriptor false none_found (known_of c.take-own.result) (known_of c.add-answer.new.window) c.add-answer.result) c.self.view_is
+    c.self.invariant there c.add-answer.ensures.made
+    (λ before after h. adds_same c.args.descriptor false none_found (known_of c.take-own.result) (known_of c.add-answer.new.window) c.add-answer.result before after h))
+    c.take-own.ensures.window c.take-own.ensures.rest c.put.ensures c.add-answer.ensures.window.rest.place (c.add-answer.ensures.window.free ∙ sym free)

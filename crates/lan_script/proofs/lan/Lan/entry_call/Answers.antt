@@ -1,0 +1,15 @@
+use Rattle.std.proofs.Common.{◌≡◌}
+use Rattle.lan_script.proofs.Lans.{lan_back, place_after, window_there}
+use Rattle.lan_script.proofs.lan.Lan.entry_call.Goals as goal
+
+pub take-own-requires : goal.take-own-requires
+take-own-requires c = window_there _ c.args.self.now c.args.unit c.self.view_is c.self.invariant c.requires.there
+
+pub put-requires-clause-place : goal.put-requires-clause-place
+put-requires-clause-place c =
+    place_after c.args.unit c.self.inside.windows c.take-own.new.self c.take-own.result c.take-own.ensures.window c.take-own.ensures.rest
+
+pub invariant_of-self : goal.invariant_of-self
+invariant_of-self c =
+    lan_back _ c.args.unit c.take-own.new.self c.put.new.self c.take-own.result c.make-returned.new.own c.self.invariant c.take-own.ensures.window
+    c.take-own.ensures.rest c.put.ensures c.make-returned.ensures.window.place c.make-returned.ensures.window.held

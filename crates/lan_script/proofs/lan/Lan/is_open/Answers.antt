@@ -1,0 +1,6 @@
+use Rattle.std.proofs.Common.{◌≡◌}
+use Rattle.lan_script.proofs.Lans.{port_there}
+use Rattle.lan_script.proofs.lan.Lan.is_open.Goals as goal
+
+pub port-requires : goal.port-requires
+port-requires c = record { port = port_there _ c.args.self.now c.args.unit c.self.view_is c.self.invariant c.requires.there }

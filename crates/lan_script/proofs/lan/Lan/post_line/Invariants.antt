@@ -1,0 +1,5 @@
+use Rattle.std.proofs.Common.{◌≡◌}
+use Rattle.lan_script.proofs.lan.Lan.post_line.Given as goal
+
+abbrev pub invariant-loop-posted : goal.invariant-loop-posted
+invariant-loop-posted l = l.self.seats ≡ l.fn.self.seats

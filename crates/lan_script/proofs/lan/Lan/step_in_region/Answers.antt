@@ -1,0 +1,20 @@
+use Rattle.std.proofs.Common.{◌≡◌}
+use Rattle.lan_script.proofs.Lans.{lan_back, place_after, window_there}
+use Rattle.lan_script.proofs.lan.Lan.step_in_region.Goals as goal
+
+pub take-own-requires : goal.take-own-requires
+take-own-requires c = window_there _ c.args.self.now c.args.unit c.self.view_is c.self.invariant c.requires.there
+
+pub put-requires-clause-place : goal.put-requires-clause-place
+put-requires-clause-place c =
+    place_after c.args.unit c.self.inside.windows c.take-own.new.self c.take-own.result c.take-own.ensures.window c.take-own.ensures.rest
+
+pub invariant_of-self : goal.invariant_of-self
+invariant_of-self c =
+    lan_back _ c.args.unit c.take-own.new.self c.put.new.self c.take-own.result c.step_in-step.new.own c.self.invariant c.take-own.ensures.window
+    c.take-own.ensures.rest c.put.ensures c.step_in-step.ensures.window.place c.step_in-step.ensures.window.held
+
+pub invariant_of-self-2 : goal.invariant_of-self-2
+invariant_of-self-2 c =
+    lan_back _ c.args.unit c.take-own.new.self c.put.new.self c.take-own.result c.step_in-step.new.own c.self.invariant c.take-own.ensures.window
+    c.take-own.ensures.rest c.put.ensures c.step_in-step.ensures.window.place c.step_in-step.ensures.window.held

@@ -1,0 +1,17 @@
+use Rattle.std.proofs.Common.{◌≡◌, List, IsSome, sym, subst}
+use Rattle.lan_switch.specs.Calls.{Harvests}
+use Rattle.lan_script.specs.declared.seat.PortSeat.{PortSeat}
+use Rattle.lan_script.specs.Seats.{seat_at}
+use Rattle.lan_script.proofs.Called.{harvests_same}
+use Rattle.lan_script.proofs.Lans.{lan_at, port_there}
+use Rattle.lan_script.proofs.lan.Lan.take_one.Goals as goal
+
+pub harvest-requires-clause-port : goal.harvest-requires-clause-port
+harvest-requires-clause-port c =
+    port_there _ c.make_room.new.self c.args.unit c.self.view_is c.self.invariant
+    (subst (λ (l : List PortSeat). IsSome (seat_at l c.args.unit)) (sym c.make_room.ensures.seats) c.requires.there)
+
+pub invariant_of-self : goal.invariant_of-self
+invariant_of-self c =
+    lan_at _ c.args.unit c.harvest.new.self (Harvests c.harvest.result) c.self.invariant c.harvest.ensures
+    (λ before after h. harvests_same c.harvest.result before after h)

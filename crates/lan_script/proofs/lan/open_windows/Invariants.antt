@@ -1,0 +1,9 @@
+use Rattle.std.proofs.Common.{◌≡◌, ◌≤◌, ◌+◌, ℕ, List, [], drop, take, map, length, replicate, vec_len, vec_capacity}
+use Rattle.lan_script.specs.Opening.{window_of}
+use Rattle.lan_script.proofs.lan.open_windows.Given as goal
+
+abbrev pub invariant-loop-seat : goal.invariant-loop-seat
+invariant-loop-seat l = record {
+  made : l.places.items ≡ map window_of (take l.seat-index l.seats);
+  room : length l.seats ≤ vec_capacity l.places;
+}

@@ -1,0 +1,6 @@
+use Rattle.std.proofs.Common.{◌≡◌, ◌≤◌, ◌+◌, ℕ, List, [], drop, take, map, length, replicate, vec_len, vec_capacity}
+use Rattle.lan_script.specs.Seats.{seat_place}
+use Rattle.lan_script.proofs.lan.place_of.Given as goal
+
+abbrev pub invariant-loop-place : goal.invariant-loop-place
+invariant-loop-place l = l.place + seat_place l.unit (drop l.place l.seats) ≡ seat_place l.unit l.seats

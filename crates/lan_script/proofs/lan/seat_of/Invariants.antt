@@ -1,0 +1,6 @@
+use Rattle.std.proofs.Common.{◌≡◌, ◌≤◌, ◌+◌, ℕ, List, [], drop, take, map, length, replicate, vec_len, vec_capacity}
+use Rattle.lan_script.specs.Seats.{seat_at}
+use Rattle.lan_script.proofs.lan.seat_of.Given as goal
+
+abbrev pub invariant-loop-seat : goal.invariant-loop-seat
+invariant-loop-seat l = seat_at (drop l.seat-index l.seats) l.unit ≡ seat_at l.seats l.unit

@@ -1,0 +1,9 @@
+pub mod Frames
+pub mod Opening
+pub mod PortLaw
+pub mod PortRows
+pub mod Rows
+pub mod RowsOf
+pub mod Seats
+pub mod Units
+pub mod Windows

@@ -1,0 +1,15 @@
+-- The rows that a trace has of LAN units, exactly.
+use Rattle.std.specs.Prelude.{◌≡◌, List}
+use Rattle.std.specs.List.{flat_map}
+use Rattle.lan_script.specs.declared.rows.LanRows.{LanRows}
+use Rattle.lan_script.specs.Rows.{deliver_rows, harvest_rows, port_in, port_rows, post_rows}
+use Rattle.lan_script.specs.Units.{LanValue}
+
+-- The rows are all that the units keep: their frames, and of their ports the sessions, posts, deliveries and harvests, in the
+-- order of the seats.
+pub record IsRowsOf (lan : LanValue) (rows : LanRows) : Type 0 where
+  pub frames : rows.frames.items ≡ flat_map (λ own. own) lan.frames
+  pub ports : rows.ports.items ≡ flat_map (λ seat. port_rows seat.unit (port_in lan.stations seat)) lan.seats
+  pub posts : rows.posts.items ≡ flat_map (λ seat. post_rows seat.unit (port_in lan.stations seat)) lan.seats
+  pub delivers : rows.delivers.items ≡ flat_map (λ seat. deliver_rows seat.unit (port_in lan.stations seat)) lan.seats
+  pub harvests : rows.harvests.items ≡ flat_map (λ seat. harvest_rows seat.unit (port_in lan.stations seat)) lan.seats

@@ -1,0 +1,172 @@
+// Raw hypervisor calls on a LAN unit, each made once whatever it answers.
+ghost use Rattle.std.specs.Prelude.{◌≡◌, ◌↔◌, IfOk, IsSome, IsTrue, OnOk, true};
+ghost use Rattle.hcall_table.specs.Rows.{IsAnswer, may_answer};
+ghost use Rattle.hcall_table.specs.declared.hcall.Hcall.TheVariants as rows;
+ghost use Rattle.lan_switch.specs.Switch.{HasRoom};
+ghost use Rattle.lan_script.specs.PortRows.{port_row};
+ghost use Rattle.lan_script.specs.Seats.{seat_at};
+ghost use Rattle.lan_script.specs.Units.{IsOpenAt};
+
+use crate::lan::Lan;
+use hcall_table::Returned;
+use unit_region::{EntryCall, make_entry_call};
+use vio_num::{Hrc, Mac, NoMemory, UnitId};
+
+/// A hypervisor call on a LAN unit. An address of a station is in the low 48 bits.
+#[derive(Clone, Copy, Debug, PartialEq, Eq)]
+pub enum PortCall {
+    /// A call on the window's translation entries.
+    Entry(EntryCall),
+    /// H_REGISTER_LOGICAL_LAN.
+    Register {
+        list: u64,
+        queue: u64,
+        filters: u64,
+        mac: u64,
+    },
+    /// H_FREE_LOGICAL_LAN.
+    Free,
+    /// H_ADD_LOGICAL_LAN_BUFFER.
+    Add {
+        descriptor: u64,
+    },
+    /// H_SEND_LOGICAL_LAN.
+    Send {
+        descriptors: [u64; 6],
+    },
+    /// H_MULTICAST_CTRL.
+    Multicast {
+        control: u64,
+        mac: u64,
+    },
+    /// H_CHANGE_LOGICAL_LAN_MAC.
+    ChangeMac {
+        mac: u64,
+    },
+}
+
+impl Lan {
+    /// Makes a call on a unit.
+    pub fn call(&mut self, unit: UnitId, call: PortCall) -> Result<Returned, NoMemory>
+        requires there { IsSome (seat_at self.old.seats unit) }
+        ensures seats { self.new.seats ≡ self.old.seats }
+        ensures answer { IfOk result (IsAnswer (port_row call)) }
+    {
+        match call {
+            PortCall::Entry(call) => self.entry_call(unit, call),
+            PortCall::Register {
+                list,
+                queue,
+                filters,
+                mac,
+            } => {
+                let code = self.register(unit, list, queue, filters, mac_of(mac))?;
+                Ok(Returned::bare(code))
+            }
+            PortCall::Free => Ok(Returned::bare(self.free(unit))),
+            PortCall::Add { descriptor } => Ok(Returned::bare(self.add(unit, descriptor)?)),
+            PortCall::Send { descriptors } => {
+                let sent = self.send(unit, &descriptors)?;
+                Ok(Returned::bare(sent.code))
+            }
+            PortCall::Multicast { control, mac } => {
+                Ok(Returned::bare(self.multicast(unit, control, mac_of(mac))))
+            }
+            PortCall::ChangeMac { mac } => Ok(Returned::bare(self.change_mac(unit, mac_of(mac)))),
+        }
+    }
+
+    // Makes a call on the entries of the unit's window.
+    fn entry_call(&mut self, unit: UnitId, call: EntryCall) -> Result<Returned, NoMemory>
+        requires there { IsSome (seat_at self.old.seats unit) }
+        ensures seats { self.new.seats ≡ self.old.seats }
+        ensures answer { IfOk result (IsAnswer (port_row (PortCall.Entry call))) }
+    {
+        let mut own = self.windows.take(unit);
+        let returned = make_entry_call(self.alloc, &mut own, call);
+        self.windows.put(unit, own);
+        returned
+    }
+
+    // Registers the unit.
+    pub(crate) fn register(
+        &mut self,
+        unit: UnitId,
+        list: u64,
+        queue: u64,
+        filters: u64,
+        mac: Mac,
+    ) -> Result<Hrc, NoMemory>
+        requires there { IsSome (seat_at self.old.seats unit) }
+        ensures seats { self.new.seats ≡ self.old.seats }
+        ensures code { IfOk result (λ code. may_answer rows.RegisterLogicalLan code ≡ true) }
+    {
+        self.make_room(unit)?;
+        Ok(self.switch.register(unit, list, queue, filters, mac).code)
+    }
+
+    // Makes room for one registration, post or harvest of the unit.
+    pub(crate) fn make_room(&mut self, unit: UnitId) -> Result<(), NoMemory>
+        requires there { IsSome (seat_at self.old.seats unit) }
+        ensures seats { self.new.seats ≡ self.old.seats }
+        ensures room { OnOk result (HasRoom self.new.stations unit) }
+    {
+        self.switch.reserve(unit, 1)
+    }
+
+    // Frees the unit.
+    pub(crate) fn free(&mut self, unit: UnitId) -> Hrc
+        requires there { IsSome (seat_at self.old.seats unit) }
+        ensures seats { self.new.seats ≡ self.old.seats }
+        ensures code { may_answer rows.FreeLogicalLan result ≡ true }
+    {
+        self.switch.free(unit).code
+    }
+
+    // Controls the filters of the unit.
+    pub(crate) fn multicast(&mut self, unit: UnitId, control: u64, mac: Mac) -> Hrc
+        requires there { IsSome (seat_at self.old.seats unit) }
+        ensures seats { self.new.seats ≡ self.old.seats }
+        ensures code { may_answer rows.MulticastCtrl result ≡ true }
+    {
+        self.switch.multicast(unit, control, mac).code
+    }
+
+    // Gives the unit another address.
+    pub(crate) fn change_mac(&mut self, unit: UnitId, mac: Mac) -> Hrc
+        requires there { IsSome (seat_at self.old.seats unit) }
+        ensures seats { self.new.seats ≡ self.old.seats }
+        ensures code { may_answer rows.ChangeLogicalLanMac result ≡ true }
+    {
+        self.switch.change_mac(unit, mac).code
+    }
+
+    /// Closes the unit's port if it is open. Tells whether it is closed.
+    pub fn fail(&mut self, unit: UnitId) -> Result<bool, NoMemory>
+        requires there { IsSome (seat_at self.old.seats unit) }
+        ensures seats { self.new.seats ≡ self.old.seats }
+        ensures closed { IfOk result (λ closed. IsTrue closed ↔ (¬ IsOpenAt self.new unit)) }
+    {
+        if !self.is_open(unit) {
+            return Ok(true);
+        }
+        let _code = self.free(unit);
+        Ok(!self.is_open(unit))
+    }
+
+    // Whether the unit's port is open.
+    pub(crate) fn is_open(&self, unit: UnitId) -> bool
+        requires there { IsSome (seat_at self.now.seats unit) }
+        ensures { IsTrue result ↔ IsOpenAt self.now unit }
+    {
+        self.switch.port(unit).is_open()
+    }
+}
+
+// Reads the address of a station in the low 48 bits.
+fn mac_of(number: u64) -> Mac {
+    let [_, _, a, b, c, d, e, f] = number.to_be_bytes();
+    Mac {
+        bytes: [a, b, c, d, e, f],
+    }
+}

@@ -1,0 +1,132 @@
+// What a script line does at a LAN unit.
+ghost use Rattle.std.specs.Prelude.{◌≡◌, IfOk, IsSome, true};
+ghost use Rattle.boot_text.specs.Sound.{IsInRange};
+ghost use Rattle.lan_script.specs.Seats.{TellsOfPort, TellsOfRegion, is_for_port, is_in_region, seat_at};
+ghost use Rattle.unit_region.specs.Kept.{KeepsWindow};
+
+use crate::lan::Lan;
+use boot_text::{Line, Verb};
+use std::alloc::Global;
+use tce_window::OwnerPort;
+use unit_region::{Step, fill, peek, poke, put_tce};
+use vio_num::{Hrc, Moved, NoMemory, UnitId};
+use vio_trace::Outcome;
+
+/// What came of a step of a line.
+#[derive(Debug, Drop)]
+pub enum PortStep {
+    /// The line ended so.
+    Ends(Outcome),
+    /// It is to be gone on with in the next turn.
+    Waits {
+        /// Whether the step did something.
+        moved: Moved,
+        /// How many frames the line took, or buffers it posted.
+        done: u64,
+    },
+}
+
+impl PortStep {
+    // A line that waits, and did nothing in this step.
+    pub(crate) fn waits(done: u64) -> PortStep
+        ensures { TellsOfPort result }
+    {
+        PortStep::Waits {
+            moved: Moved::Quiet,
+            done,
+        }
+    }
+
+    // A line that ends with this code, or waits where another was at work.
+    pub(crate) fn coded(code: Hrc) -> PortStep
+        ensures { TellsOfPort result }
+    {
+        match code {
+            Hrc::Busy => PortStep::waits(0),
+            code => PortStep::Ends(Outcome::Code(code)),
+        }
+    }
+
+    // The same of a line in the unit's region.
+    fn of(step: Step) -> PortStep
+        requires { TellsOfRegion step }
+        ensures { TellsOfPort result }
+    {
+        match step {
+            Step::Ends(outcome) => PortStep::Ends(outcome),
+            Step::Waits(moved) => PortStep::Waits { moved, done: 0 },
+        }
+    }
+}
+
+impl Lan {
+    /// One step of a line at a unit. `done` is how far it came in earlier turns.
+    pub fn step(&mut self, unit: UnitId, line: &Line, done: u64) -> Result<PortStep, NoMemory>
+        requires there { IsSome (seat_at self.old.seats unit) }
+        requires port { is_for_port line.now.verb ≡ true }
+        requires ranged { IsInRange line.now.verb }
+        ensures seats { self.new.seats ≡ self.old.seats }
+        ensures told { IfOk result TellsOfPort }
+    {
+        let mark = u64::from(line.number);
+        match &line.verb {
+            Verb::Open => self.open_line(unit),
+            Verb::Close => Ok(PortStep::coded(self.free(unit))),
+            Verb::Post { at, len, count } => self.post_line(unit, *at, *len, *count, done, mark),
+            Verb::Send { mac, len, seed, at } => self.send_line(unit, *mac, *len, *seed, *at, mark),
+            Verb::Take { count } => self.take_line(unit, *count, done),
+            Verb::ChangeMac { mac } => Ok(PortStep::coded(self.change_mac(unit, *mac))),
+            Verb::Multicast { control, mac } => {
+                Ok(PortStep::coded(self.multicast(unit, *control, *mac)))
+            }
+            _ => self.step_in_region(unit, line),
+        }
+    }
+
+    // Registers the unit with the address of its seat.
+    fn open_line(&mut self, unit: UnitId) -> Result<PortStep, NoMemory>
+        requires there { IsSome (seat_at self.old.seats unit) }
+        ensures seats { self.new.seats ≡ self.old.seats }
+        ensures told { IfOk result TellsOfPort }
+    {
+        let seat = self.seat(unit);
+        let code = self.register(unit, 0, seat.queue(), 0, seat.mac)?;
+        Ok(PortStep::coded(code))
+    }
+
+    // Does a line in the unit's own region.
+    fn step_in_region(&mut self, unit: UnitId, line: &Line) -> Result<PortStep, NoMemory>
+        requires there { IsSome (seat_at self.old.seats unit) }
+        requires region { is_in_region line.now.verb ≡ true }
+        requires ranged { IsInRange line.now.verb }
+        ensures seats { self.new.seats ≡ self.old.seats }
+        ensures told { IfOk result TellsOfPort }
+    {
+        let mut own = self.windows.take(unit);
+        let step = step_in(self.alloc, &mut own, line);
+        self.windows.put(unit, own);
+        Ok(PortStep::of(step?))
+    }
+}
+
+// Does a line in a region.
+fn step_in<O: OwnerPort>(alloc: Global, own: &mut O, line: &Line) -> Result<Step, NoMemory>
+    requires region { is_in_region line.now.verb ≡ true }
+    requires ranged { IsInRange line.now.verb }
+    ensures window { KeepsWindow (O.state own.old) (O.state own.new) }
+    ensures told { IfOk result TellsOfRegion }
+{
+    let mark = u64::from(line.number);
+    match &line.verb {
+        Verb::Fill { at, len, seed } => fill(alloc, own, *at, *len, *seed, mark),
+        Verb::Poke { at, bytes } => poke(own, *at, bytes.as_slice(), mark),
+        Verb::Peek { at, len } => peek(alloc, own, *at, *len),
+        Verb::Tce {
+            entry,
+            page,
+            readable,
+            writable,
+        } => put_tce(own, *entry, *page, *readable, *writable),
+        _ => unreachable!(),
+    }
+}

@@ -1,0 +1,116 @@
+// The line that posts receive buffers, one behind the other.
+ghost use Rattle.std.specs.Prelude.{◌≡◌, ◌≤◌, ◌^◌, IfOk, IsSome, true};
+ghost use Rattle.boot_text.specs.declared.port_script.TheConstants.{MOST_BUFFERS};
+ghost use Rattle.hcall_table.specs.Rows.{may_answer};
+ghost use Rattle.hcall_table.specs.declared.hcall.Hcall.TheVariants as rows;
+ghost use Rattle.lan_script.specs.Seats.{TellsOfPort, seat_at};
+
+use crate::lan::Lan;
+use crate::lines::PortStep;
+use crate::seat::descriptor;
+use byteorder::{BigEndian, ByteOrder};
+use tce_window::OwnFault;
+use vio_num::{Hrc, Moved, NoMemory, PAGE_BYTES, UnitId};
+use vio_trace::Outcome;
+
+/// The bytes of a correlator, with which a buffer begins.
+const CORRELATOR: u64 = 8;
+
+impl Lan {
+    // Posts buffers of `len` bytes from the address on, of which `done` were posted before. It stops at the first that
+    // is refused.
+    pub(crate) fn post_line(
+        &mut self,
+        unit: UnitId,
+        at: u64,
+        len: u64,
+        count: u64,
+        done: u64,
+        mark: u64,
+    ) -> Result<PortStep, NoMemory>
+        requires there { IsSome (seat_at self.old.seats unit) }
+        requires few { count ≤ MOST_BUFFERS }
+        ensures seats { self.new.seats ≡ self.old.seats }
+        ensures told { IfOk result TellsOfPort }
+    {
+        for posted in done..count {
+            match self.post_one(unit, buffer_at(at, len, posted), len, mark)? {
+                Hrc::Success => {}
+                Hrc::Busy => {
+                    return Ok(PortStep::Waits {
+                        moved: Moved::Quiet,
+                        done: posted,
+                    });
+                }
+                code => return Ok(ended(posted, code)),
+            }
+        }
+        Ok(ended(count, Hrc::Success))
+    }
+
+    // Posts one buffer, whose correlator, its own address, is written first.
+    fn post_one(
+        &mut self,
+        unit: UnitId,
+        address: Option<u64>,
+        len: u64,
+        mark: u64,
+    ) -> Result<Hrc, NoMemory>
+        requires there { IsSome (seat_at self.old.seats unit) }
+        ensures seats { self.new.seats ≡ self.old.seats }
+    {
+        let Some(address) = address else {
+            return Ok(Hrc::Parameter);
+        };
+        if !self.has_buffer(unit, address, len) {
+            return Ok(Hrc::Parameter);
+        }
+        let mut correlator = [0u8; 8];
+        BigEndian::write_u64(&mut correlator, address);
+        match self.write(unit, address, &correlator, mark) {
+            Ok(()) => self.add(unit, descriptor(address, len)),
+            Err(OwnFault::Range) => Ok(Hrc::Parameter),
+            Err(OwnFault::InUse { page: _, word: _ }) => Ok(Hrc::Busy),
+            Err(OwnFault::NoMemory) => Err(NoMemory),
+        }
+    }
+
+    // Tells whether a buffer and its correlator lie in the region of the unit.
+    fn has_buffer(&self, unit: UnitId, address: u64, len: u64) -> bool
+        requires there { IsSome (seat_at self.now.seats unit) }
+        ensures address { result ≡ true → address ≤ 2 ^ 20 }
+        ensures len { result ≡ true → len ≤ 2 ^ 20 }
+    {
+        let size = PAGE_BYTES * u64::from(self.windows.at(unit).pages());
+        address <= size && len.max(CORRELATOR) <= size - address
+    }
+
+    // Adds a buffer of the unit.
+    pub(crate) fn add(&mut self, unit: UnitId, descriptor: u64) -> Result<Hrc, NoMemory>
+        requires there { IsSome (seat_at self.old.seats unit) }
+        ensures seats { self.new.seats ≡ self.old.seats }
+        ensures code { IfOk result (λ code. may_answer rows.AddLogicalLanBuffer code ≡ true) }
+    {
+        self.make_room(unit)?;
+        let mut own = self.windows.take(unit);
+        let answer = self.switch.add(unit, &mut own, descriptor);
+        self.windows.put(unit, own);
+        Ok(answer.code)
+    }
+}
+
+// Gives the address of a buffer, if it is a number of 64 bits.
+fn buffer_at(at: u64, len: u64, number: u64) -> Option<u64> {
+    at.checked_add(len.checked_mul(number)?)
+}
+
+// Says how many buffers were posted, and the code of the last call.
+fn ended(posted: u64, code: Hrc) -> PortStep
+    requires { posted ≤ MOST_BUFFERS }
+    ensures { TellsOfPort result }
+{
+    PortStep::Ends(Outcome::Posted {
+        buffers: posted as u32,
+        code,
+    })
+}

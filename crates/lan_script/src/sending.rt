@@ -1,0 +1,173 @@
+// Frames: what a line writes of one, and how a frame is sent and kept.
+ghost use Rattle.std.specs.Prelude.{◌≡◌, ◌≤◌, IfOk, IsSome, OnOk, ◌^◌, false, length, true};
+ghost use Rattle.boot_text.specs.declared.port_script.TheConstants.{LEAST_FRAME, MOST_FRAME};
+ghost use Rattle.hcall_table.specs.Rows.{may_answer};
+ghost use Rattle.hcall_table.specs.declared.hcall.Hcall.TheVariants as rows;
+ghost use Rattle.lan_script.specs.Seats.{TellsOfPort, seat_at};
+ghost use Rattle.lan_script.specs.Frames.{Owes};
+
+use crate::frames::frame_row;
+use crate::lan::{Lan, place_of};
+use crate::lines::PortStep;
+use crate::seat::descriptor;
+use lan_switch::SendRecord;
+use std::alloc::Global;
+use tce_window::{OwnFault, OwnerPort};
+use vio_num::{Hrc, Mac, NoMemory, UnitId};
+use vio_trace::Outcome;
+
+/// The code of a frame's call, and the frame's number where it has one.
+#[derive(Clone, Copy, Debug, PartialEq, Eq)]
+pub(crate) struct Sent {
+    pub(crate) code: Hrc,
+    pub(crate) number: Option<u64>,
+}
+
+/// The bytes of a frame's head: two addresses, and its type.
+const HEAD: u64 = 14;
+
+impl Lan {
+    // Writes a frame of `len` bytes at an address of the region, under the mark of a line, and sends it as one part.
+    pub(crate) fn send_line(
+        &mut self,
+        unit: UnitId,
+        to: Mac,
+        len: u64,
+        seed: u64,
+        at: u64,
+        mark: u64,
+    ) -> Result<PortStep, NoMemory>
+        requires there { IsSome (seat_at self.old.seats unit) }
+        requires least { LEAST_FRAME ≤ len }
+        requires most { len ≤ MOST_FRAME }
+        ensures seats { self.new.seats ≡ self.old.seats }
+        ensures told { IfOk result TellsOfPort }
+    {
+        let from = self.present(unit);
+        let frame = frame_bytes(self.alloc, to, from, len, seed)?;
+        match self.write(unit, at, &frame, mark) {
+            Ok(()) => {}
+            Err(OwnFault::Range) => return Ok(PortStep::Ends(Outcome::Range)),
+            Err(OwnFault::InUse { page: _, word: _ }) => return Ok(PortStep::waits(0)),
+            Err(OwnFault::NoMemory) => return Err(NoMemory),
+        }
+        let sent = self.send(unit, &[descriptor(at, len), 0, 0, 0, 0, 0])?;
+        Ok(said(sent))
+    }
+
+    // Gives the present address of the unit: its port's, or that of its seat where the port is closed.
+    fn present(&self, unit: UnitId) -> Mac
+        requires there { IsSome (seat_at self.now.seats unit) }
+    {
+        match self.switch.settings(unit) {
+            Some(settings) => settings.mac,
+            None => self.seat(unit).mac,
+        }
+    }
+
+    // Writes bytes into the region of the unit.
+    pub(crate) fn write(
+        &mut self,
+        unit: UnitId,
+        at: u64,
+        bytes: &[u8],
+        mark: u64,
+    ) -> Result<(), OwnFault>
+        requires there { IsSome (seat_at self.old.seats unit) }
+        ensures seats { self.new.seats ≡ self.old.seats }
+        ensures inside { OnOk result (at ≤ 2 ^ 20) }
+    {
+        let mut own = self.windows.take(unit);
+        let answer = OwnerPort::write(&mut own, at, bytes, mark);
+        self.windows.put(unit, own);
+        answer
+    }
+
+    // Sends a frame of these parts from the unit, and keeps its row if it has a number.
+    pub(crate) fn send(&mut self, unit: UnitId, parts: &[u64; 6]) -> Result<Sent, NoMemory>
+        requires there { IsSome (seat_at self.old.seats unit) }
+        ensures seats { self.new.seats ≡ self.old.seats }
+        ensures code { IfOk result (λ sent. may_answer rows.SendLogicalLan sent.code ≡ true) }
+    {
+        if !self.whole {
+            return Err(NoMemory);
+        }
+        let made = self.offer(unit, parts)?;
+        self.keep(unit, made)
+    }
+
+    // Passes a frame to the switch. Until its row is kept the frames are not whole.
+    fn offer(&mut self, unit: UnitId, parts: &[u64; 6]) -> Result<SendRecord, NoMemory>
+        requires there { IsSome (seat_at self.old.seats unit) }
+        requires whole { self.old.whole ≡ true }
+        ensures seats { self.new.seats ≡ self.old.seats }
+        ensures short { self.new.whole ≡ false }
+        ensures code { IfOk result (λ made. may_answer rows.SendLogicalLan made.code ≡ true) }
+        ensures owes { IfOk result (Owes self.new unit) }
+    {
+        self.whole = false;
+        let mut own = self.windows.take(unit);
+        let answer = self.switch.send(unit, &mut own, parts, &mut self.windows);
+        self.windows.put(unit, own);
+        answer
+    }
+
+    // Keeps the row of a frame, if it has a number: then the frames are whole.
+    fn keep(&mut self, unit: UnitId, made: SendRecord) -> Result<Sent, NoMemory>
+        requires there { IsSome (seat_at self.old.seats unit) }
+        requires short { self.old.whole ≡ false }
+        requires owes { Owes self.old unit made }
+        ensures seats { self.new.seats ≡ self.old.seats }
+        ensures code { IfOk result (λ sent. sent.code ≡ made.code) }
+    {
+        let sent = Sent {
+            code: made.code,
+            number: made.frame,
+        };
+        let Some(number) = made.frame else {
+            self.whole = true;
+            return Ok(sent);
+        };
+        let row = frame_row(self.alloc, unit, number, made)?;
+        let place = place_of(&self.seats, unit);
+        self.frames[place].push(row)?;
+        self.whole = true;
+        Ok(sent)
+    }
+}
+
+// Says how the line of a frame ends.
+fn said(sent: Sent) -> PortStep
+    ensures { TellsOfPort result }
+{
+    match sent.number {
+        Some(number) => PortStep::Ends(Outcome::Frame {
+            code: sent.code,
+            number,
+        }),
+        None => PortStep::coded(sent.code),
+    }
+}
+
+// Makes the bytes of a frame: whom it is for, whom it is from, its type, and a pattern.
+fn frame_bytes(alloc: Global, to: Mac, from: Mac, len: u64, seed: u64) -> Result<Vec<u8>, NoMemory>
+    requires least { LEAST_FRAME ≤ len }
+    requires most { len ≤ MOST_FRAME }
+    ensures { IfOk result (λ bytes. length bytes.items ≡ len) }
+{
+    let mut bytes = Vec::with_capacity(alloc, len as usize)?;
+    bytes.extend_from_slice(&to.bytes)?;
+    bytes.extend_from_slice(&from.bytes)?;
+    bytes.extend_from_slice(&[0x88, 0xB5])?;
+    for i in 0..len - HEAD {
+        bytes.push(pattern(seed, i))?;
+    }
+    Ok(bytes)
+}
+
+// Gives byte i of the pattern of this seed.
+fn pattern(seed: u64, i: u64) -> u8
+    requires { i ≤ MOST_FRAME }
+{
+    ((seed % 256 + i + i / 256) % 256) as u8
+}

@@ -1,0 +1,4 @@
+pub mod Answers
+pub mod EntryRows
+pub mod Kept
+pub mod Steps

@@ -1,0 +1,10 @@
+use Rattle.std.proofs.lemmas.Option.{slice_get-get_or}
+use Rattle.vcpu_run.proofs.Agreeing.{set_same}
+use Rattle.vcpu_run.proofs.Driving.{driven_set}
+use Rattle.vcpu_run.proofs.partition_units.call_at.Goals as goal
+
+pub returns-clause-driven : goal.returns-clause-driven
+returns-clause-driven c = driven_set c.args.pairs.now c.args.pair _ c.call.new.pair (slice_get-get_or c.args.pairs.now c.args.pair _ c.requires) c.call.ensures.drives
+
+pub returns-clause-told : goal.returns-clause-told
+returns-clause-told c = set_same c.args.pairs.now c.args.pair _ c.call.new.pair (slice_get-get_or c.args.pairs.now c.args.pair _ c.requires) c.call.ensures.driver

@@ -1,0 +1,18 @@
+use Rattle.std.proofs.Common.{◌≡◌, vec_len}
+use Rattle.vcpu_run.specs.Agreed.{AreCredited}
+use Rattle.vcpu_run.specs.Answered.{AreAnswered}
+use Rattle.vcpu_run.specs.OnDisk.{LastsOnDisk}
+use Rattle.vcpu_run.specs.Machines.{AllRun, AllStay, IsMachine}
+use Rattle.vcpu_run.proofs.rounds.round.Given as goal
+
+abbrev pub invariant-loop-number : goal.invariant-loop-number
+invariant-loop-number g l = record {
+  machine : IsMachine l.server.partition (vec_len l.server.units) l.server.copies.items l.pairs l.scripts l.lan.seats;
+  stay : AllStay l.initial.pairs l.pairs;
+  run : AllRun l.initial.scripts l.scripts;
+  answered : AreAnswered l.server.records.history.items l.pairs;
+  disk : LastsOnDisk l.initial.server.records.history.items l.server.records.history.items
+      (g.Di.Blocks.state l.initial.server.disk.image).blocks (g.Di.Blocks.state l.server.disk.image).blocks;
+  credited : AreCredited l.initial.pairs l.initial.scripts → AreCredited l.pairs l.scripts;
+  lan : l.lan.seats ≡ l.initial.lan.seats;
+}

@@ -1,0 +1,58 @@
+use Rattle.std.proofs.Common.{slice_index_or}
+use Rattle.std.proofs.lemmas.Option.{slice_get-get_or}
+use Rattle.vcpu_run.proofs.Answering.{answered_driven}
+use Rattle.vcpu_run.proofs.Elsewhere.{credits_turned, ok_then}
+use Rattle.vcpu_run.proofs.Keeping.{driven_stay, drivers_driven, pairs_driven}
+use Rattle.vcpu_run.proofs.Scripted.{run_one, script_turned}
+use Rattle.vcpu_run.proofs.rounds.run_script.Goals as goal
+
+pub turn-requires-clause-script : goal.turn-requires-clause-script
+turn-requires-clause-script c =
+    let scripts = c.args.scripts.now in
+    let d = c.index-scripts-number.result in
+    (c.requires.scripts c.args.number (slice_index_or scripts c.args.number d) (slice_get-get_or scripts c.args.number d c.requires.there)).script_is
+
+pub turn-requires-clause-ports : goal.turn-requires-clause-ports
+turn-requires-clause-ports c =
+    let scripts = c.args.scripts.now in
+    let d = c.index-scripts-number.result in
+    (c.requires.scripts c.args.number (slice_index_or scripts c.args.number d) (slice_get-get_or scripts c.args.number d c.requires.there)).has_ports
+
+pub returns-clause-pairs : goal.returns-clause-pairs
+returns-clause-pairs c home copies = pairs_driven home copies c.args.pairs.now c.turn.new.pairs c.turn.ensures.driven
+
+pub returns-clause-drivers : goal.returns-clause-drivers
+returns-clause-drivers c = drivers_driven c.args.pairs.now c.turn.new.pairs c.turn.ensures.driven c.requires.drivers
+
+pub returns-clause-scripts : goal.returns-clause-scripts
+returns-clause-scripts c =
+    let scripts = c.args.scripts.now in
+    let d = c.index-scripts-number.result in
+    rw c.turn.ensures.lan (script_turned c.args.pairs.now c.turn.new.pairs c.args.lan.now.seats scripts c.args.number (slice_index_or scripts c.args.number d) c.turn.new.self
+    (slice_get-get_or scripts c.args.number d c.requires.there)
+    (driven_stay c.args.pairs.now c.turn.new.pairs c.turn.ensures.driven) c.turn.ensures.rest c.turn.ensures.script c.requires.scripts)
+
+pub returns-clause-stay : goal.returns-clause-stay
+returns-clause-stay c = driven_stay c.args.pairs.now c.turn.new.pairs c.turn.ensures.driven
+
+pub returns-clause-run : goal.returns-clause-run
+returns-clause-run c =
+    let scripts = c.args.scripts.now in
+    let d = c.index-scripts-number.result in
+    run_one scripts c.args.number (slice_index_or scripts c.args.number d) c.turn.new.self
+    (slice_get-get_or scripts c.args.number d c.requires.there) c.turn.ensures.rest
+
+pub returns-clause-credited : goal.returns-clause-credited
+returns-clause-credited c =
+    let scripts = c.args.scripts.now in
+    let d = c.index-scripts-number.result in
+    let old = slice_index_or scripts c.args.number d in
+    let found = slice_get-get_or scripts c.args.number d c.requires.there in
+    ok_then c.turn.result _ _
+    (λ kept are.
+    credits_turned c.args.pairs.now c.turn.new.pairs c.args.lan.now.seats scripts c.args.number old c.turn.new.self found c.requires.scripts c.turn.ensures.others are
+    (kept (are c.args.number old found)))
+    c.turn.ensures.credited
+
+pub returns-clause-answered : goal.returns-clause-answered
+returns-clause-answered c history = answered_driven history c.args.pairs.now c.turn.new.pairs c.turn.ensures.driven

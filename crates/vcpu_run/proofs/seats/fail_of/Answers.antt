@@ -1,0 +1,13 @@
+use Rattle.std.proofs.lemmas.Option.{slice_get-get_or}
+use Rattle.vcpu_run.proofs.Agreeing.{set_all}
+use Rattle.vcpu_run.proofs.Driving.{driven_set, some_there}
+use Rattle.vcpu_run.proofs.seats.fail_of.Goals as goal
+
+pub fail-requires : goal.fail-requires
+fail-requires c = some_there _ _ _ (slice_get-get_or c.args.pairs.now c.args.pair _ c.requires.there) c.requires.client
+
+pub returns-clause-driven : goal.returns-clause-driven
+returns-clause-driven c = driven_set c.args.pairs.now c.args.pair _ c.fail.new.pair (slice_get-get_or c.args.pairs.now c.args.pair _ c.requires.there) c.fail.ensures.drives
+
+pub returns-clause-credit : goal.returns-clause-credit
+returns-clause-credit c = set_all c.args.pairs.now c.args.pair _ c.fail.new.pair (slice_get-get_or c.args.pairs.now c.args.pair _ c.requires.there) c.fail.ensures.credit

@@ -1,0 +1,68 @@
+use Rattle.std.proofs.Common.{◌≡◌, ◌∙◌, Some, ap, refl, slice_get, subst, sym}
+use Rattle.vcpu_run.specs.declared.unit_seat.Seat.TheVariants as places
+use Rattle.vcpu_run.specs.Agreed.{StepsSeat}
+use Rattle.vcpu_run.specs.Credited.{taken_in}
+use Rattle.vcpu_run.specs.Suited.{suits}
+use Rattle.vcpu_run.proofs.Driving.{client_is, driven_same, no_port, seat_within, some_there}
+use Rattle.vcpu_run.proofs.seats.step_own.Goals as goal
+
+pub seat_at-requires : goal.seat_at-requires
+seat_at-requires c = seat_within (suits c.args.line.now.verb) c.args.seats.now c.args.line.now.unit c.requires.suited
+
+pub step_at-requires-clause-there : goal.step_at-requires-clause-there
+step_at-requires-clause-there c =
+    let here : slice_get c.args.seats.now c.args.line.now.unit ≡ Some (places.Client c.in-Client.pair) = c.seat_at.ensures ∙ ap Some c.in-Client.is in
+    seat_within _ c.args.pairs.now c.in-Client.pair (c.requires.clients c.args.line.now.unit c.in-Client.pair here)
+
+pub step_at-requires-clause-client : goal.step_at-requires-clause-client
+step_at-requires-clause-client c =
+    let here : slice_get c.args.seats.now c.args.line.now.unit ≡ Some (places.Client c.in-Client.pair) = c.seat_at.ensures ∙ ap Some c.in-Client.is in
+    c.requires.clients c.args.line.now.unit c.in-Client.pair here
+
+pub step_at-requires-clause-verb : goal.step_at-requires-clause-verb
+step_at-requires-clause-verb c =
+    let here : slice_get c.args.seats.now c.args.line.now.unit ≡ Some (places.Client c.in-Client.pair) = c.seat_at.ensures ∙ ap Some c.in-Client.is in
+    record {
+      client = some_there (suits c.args.line.now.verb) (slice_get c.args.seats.now c.args.line.now.unit) (places.Client c.in-Client.pair) here c.requires.suited;
+      no_call = c.requires.no_call;
+      one = c.requires.verb.one;
+      ranged = c.requires.verb.ranged;
+    }
+
+pub step-requires-clause-there : goal.step-requires-clause-there
+step-requires-clause-there c = c.requires.ports c.args.line.now.unit (c.seat_at.ensures ∙ ap Some c.in-Port.is)
+
+pub step-requires-clause-verb : goal.step-requires-clause-verb
+step-requires-clause-verb c =
+    let here : slice_get c.args.seats.now c.args.line.now.unit ≡ Some places.Port = c.seat_at.ensures ∙ ap Some c.in-Port.is in
+    record {
+      port = some_there (suits c.args.line.now.verb) (slice_get c.args.seats.now c.args.line.now.unit) places.Port here c.requires.suited;
+      no_call = c.requires.no_call;
+      one = c.requires.verb.one;
+      ranged = c.requires.verb.ranged;
+    }
+
+pub unreachable-requires : goal.unreachable-requires
+unreachable-requires c =
+    some_there (suits c.args.line.now.verb) (slice_get c.args.seats.now c.args.line.now.unit) places.Server (c.seat_at.ensures ∙ ap Some c.in-Server.is) c.requires.suited
+
+pub returns-in-Client-clause-credit : goal.returns-in-Client-clause-credit
+returns-in-Client-clause-credit c =
+    let here : slice_get c.args.seats.now c.args.line.now.unit ≡ Some (places.Client c.in-Client.pair) = c.seat_at.ensures ∙ ap Some c.in-Client.is in
+    record {
+      client = λ k at.
+          subst (λ n. StepsSeat n c.args.line.now.verb (taken_in c.args.progress.now) (taken_in c.step_at.new.progress) c.args.pairs.now c.step_at.new.pairs c.step_at.result)
+          (client_is c.in-Client.pair k (sym here ∙ at)) c.step_at.ensures.credit;
+      port = λ at. absurd (no_port c.in-Client.pair (sym here ∙ at));
+    }
+
+pub returns-in-Port-clause-driven : goal.returns-in-Port-clause-driven
+returns-in-Port-clause-driven c = driven_same c.args.pairs.now
+
+pub returns-in-Port-clause-credit : goal.returns-in-Port-clause-credit
+returns-in-Port-clause-credit c =
+    let here : slice_get c.args.seats.now c.args.line.now.unit ≡ Some places.Port = c.seat_at.ensures ∙ ap Some c.in-Port.is in
+    record {
+      client = λ k at. absurd (no_port k (sym at ∙ here));
+      port = λ at. (λ k. refl, c.step.ensures.credit);
+    }

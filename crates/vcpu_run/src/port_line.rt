@@ -1,0 +1,46 @@
+// One step of a script line at a LAN port.
+ghost use Rattle.std.specs.Prelude.{◌≡◌};
+ghost use Rattle.vcpu_run.specs.Credited.{IsFresh, StepsPort, taken_in};
+ghost use Rattle.vcpu_run.specs.Ports.{IsPortOf, unit_of};
+ghost use Rattle.vcpu_run.specs.Works.{IsPortVerb};
+
+use crate::script::Progress;
+use boot_text::{Line, Verb};
+use lan_script::{Lan, PortStep};
+use unit_region::Step;
+use vio_num::{NoMemory, UnitId};
+
+/// One step of this line at the port of its unit.
+pub(crate) fn step(
+    lan: &mut Lan,
+    partition: u8,
+    line: &Line,
+    progress: &mut Progress,
+) -> Result<Step, NoMemory>
+    requires there { IsPortOf lan.old.seats (unit_of partition line.now.unit) }
+    requires verb { IsPortVerb line.now.verb }
+    ensures lan { lan.new.seats ≡ lan.old.seats }
+    ensures credit { StepsPort line.now.verb (taken_in progress.old) (taken_in progress.new) result }
+{
+    let unit = UnitId {
+        partition,
+        unit: line.unit,
+    };
+    match lan.step(unit, line, progress.done())? {
+        PortStep::Ends(outcome) => Ok(Step::Ends(outcome)),
+        PortStep::Waits { moved, done } => {
+            *progress = progress_at(&line.verb, done);
+            Ok(Step::Waits(moved))
+        }
+    }
+}
+
+// How far a line came that took, or posted, so many.
+fn progress_at(verb: &Verb, done: u64) -> Progress
+    ensures { IsFresh verb.now (taken_in result) }
+{
+    match verb {
+        Verb::Take { .. } => Progress::Took(done),
+        _ => Progress::Posted(done),
+    }
+}
