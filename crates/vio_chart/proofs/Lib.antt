@@ -1,0 +1,4 @@
+pub mod Escapes
+pub mod Lists
+pub mod Put
+pub mod Steps
