@@ -3,7 +3,7 @@ ghost use Rattle.std.specs.Prelude.{◌≡◌, [], true, false, OnOk, IfOk, IfEr
 ghost use Rattle.boot_text.specs.BootText.{ends, SaysPlan, IsFault};
 ghost use Rattle.boot_text.specs.Sums.{with_unit, with_line, with_end};
 ghost use Rattle.std.specs.List.{list_any};
-ghost use Rattle.boot_text.specs.SoFar.{adds, kind_of, follows, offence as offence_of, partition_offence as partition_offence_of, server_offence as server_offence_of, client_offence as client_offence_of, port_offence as port_offence_of, script_offence as script_offence_of, is_over as is_over_of, exceeds as is_above, has_server as has_server_unit, is_served as serves, is_named as names_it, is_server, is_port, is_unit, pages_of, names, nothing};
+ghost use Rattle.boot_text.specs.SoFar.{adds, kind_of, follows, offence as offence_of, partition_offence as partition_offence_of, server_offence as server_offence_of, client_offence as client_offence_of, port_offence as port_offence_of, script_offence as script_offence_of, is_over as is_over_of, exceeds as is_above, has_server as has_server_unit, is_served as serves, is_named as names_it, is_server, is_port, is_unit, pages_of, names, nothing, unit_id};
 
 use crate::cause::{Cause, PlanFault};
 use crate::cost::{MOST_COST, cost_of, is_over_cost};
@@ -298,10 +298,7 @@ impl Draft {
                 pages,
                 queue,
             } => {
-                let server = UnitId {
-                    partition: server.partition,
-                    unit: server.unit,
-                };
+                let server = id_of(server);
                 self.add_unit(
                     Keyword::Client,
                     UnitPlan::Client {
@@ -385,5 +382,15 @@ impl Draft {
         });
         self.last = Keyword::End;
         Ok(())
+    }
+}
+
+// The unit that a name names.
+fn id_of(name: Name) -> UnitId
+    ensures { result ≡ unit_id name }
+{
+    UnitId {
+        partition: name.partition,
+        unit: name.unit,
     }
 }

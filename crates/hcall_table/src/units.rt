@@ -101,7 +101,8 @@ pub trait Units {
         destination: u64,
         destination_address: u64,
     ) -> Result<Returned, NoMemory>
-        ensures made { made (ask rows.CopyRdma unit (length ∷ source ∷ source_address ∷ destination ∷ destination_address ∷ []))
+        ensures made { made (ask rows.CopyRdma unit
+            (length ∷ source ∷ source_address ∷ destination ∷ destination_address ∷ []))
             self.old self.new result }
         ensures answer { IfOk result (IsAnswer rows.CopyRdma) }
         ensures place { place self.new ≡ place self.old };
@@ -144,8 +145,8 @@ pub trait Units {
         fifth: u64,
         sixth: u64,
     ) -> Result<Returned, NoMemory>
-        ensures made { made (ask rows.SendLogicalLan unit (first ∷ second ∷ third ∷ fourth ∷ fifth ∷ sixth ∷ []))
-            self.old self.new result }
+        ensures made { made (ask rows.SendLogicalLan unit
+            (first ∷ second ∷ third ∷ fourth ∷ fifth ∷ sixth ∷ [])) self.old self.new result }
         ensures answer { IfOk result (IsAnswer rows.SendLogicalLan) }
         ensures place { place self.new ≡ place self.old };
 
