@@ -13,14 +13,14 @@ use Rattle.vio_trace.proofs.RowsTold.{word_of, told, half_is_word}
 
 -- logins
 
-abbrev granted_words : UnitId → (session login number credits : ℕ) → List (List ℕ)
+abbrev pub granted_words : UnitId → (session login number credits : ℕ) → List (List ℕ)
 granted_words unit session login number credits = name unit ∷ decimal session ∷ decimal login ∷ decimal number ∷ decimal credits ∷ []
 
-abbrev lapsed_words : UnitId → (session login : ℕ) → Lapse → (outstanding granted : ℕ) → List (List ℕ)
+abbrev pub lapsed_words : UnitId → (session login : ℕ) → Lapse → (outstanding granted : ℕ) → List (List ℕ)
 lapsed_words unit session login why outstanding granted =
     name unit ∷ decimal session ∷ decimal login ∷ cause why ∷ decimal outstanding ∷ decimal granted ∷ []
 
-granted_plain : (u : UnitId) (s l n c : ℕ) → IsGranted u s l n c → ArePlain (codes "grant" ∷ granted_words u s l n c)
+pub granted_plain : (u : UnitId) (s l n c : ℕ) → IsGranted u s l n c → ArePlain (codes "grant" ∷ granted_words u s l n c)
 granted_plain u s l n c h = (
   search (rules, arith),
   (
@@ -32,7 +32,7 @@ granted_plain u s l n c h = (
   ),
 )
 
-lapsed_plain : (u : UnitId) (s l : ℕ) (w : Lapse) (o g : ℕ) → IsLapsed u s l o g → ArePlain (codes "lapse" ∷ lapsed_words u s l w o g)
+pub lapsed_plain : (u : UnitId) (s l : ℕ) (w : Lapse) (o g : ℕ) → IsLapsed u s l o g → ArePlain (codes "lapse" ∷ lapsed_words u s l w o g)
 lapsed_plain u s l w o g h = (
   search (rules, arith),
   (

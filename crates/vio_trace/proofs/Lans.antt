@@ -174,10 +174,10 @@ pub record SameDeliverLine (a b : DeliverRow) (xs ys : List ℕ) : Type 0 where
   pub to : length a.to ≡ length b.to
   pub rest : xs ≡ ys
 
-abbrev deliver_words : DeliverRow → List (List ℕ)
+abbrev pub deliver_words : DeliverRow → List (List ℕ)
 deliver_words row = name row.unit ∷ decimal row.session ∷ decimal row.post ∷ name row.sender ∷ decimal row.frame ∷ filled row.filled ∷ decimal (length row.to) ∷ []
 
-deliver_plain : (a : DeliverRow) → IsDeliverLine a → ArePlain (codes "deliver" ∷ deliver_words a)
+pub deliver_plain : (a : DeliverRow) → IsDeliverLine a → ArePlain (codes "deliver" ∷ deliver_words a)
 deliver_plain a h = (search (rules, arith), (plain_name a.unit h.unit, (plain_decimal a.session h.session, (plain_decimal a.post h.post, (plain_name a.sender h.sender, (plain_decimal a.frame h.frame, (plain_filled a.filled, (plain_decimal (length a.to) h.to, tt))))))))
 
 deliver_line_cut : (a b : DeliverRow) (xs ys : List ℕ) → IsDeliverLine a → IsDeliverLine b → deliver_line a ++ xs ≡ deliver_line b ++ ys → SameDeliverLine a b xs ys
@@ -224,13 +224,13 @@ pub record SameFrameLine (a b : FrameRow) (xs ys : List ℕ) : Type 0 where
   pub bytes : a.bytes ≡ b.bytes
   pub rest : xs ≡ ys
 
-abbrev frame_words : FrameRow → List (List ℕ)
+abbrev pub frame_words : FrameRow → List (List ℕ)
 frame_words row = name row.unit ∷ decimal row.number ∷ code row.code ∷ decimal (length row.from) ∷ bytes row.bytes ∷ []
 
-frame_plain : (a : FrameRow) → IsFrameLine a → ArePlain (codes "frame" ∷ frame_words a)
+pub frame_plain : (a : FrameRow) → IsFrameLine a → ArePlain (codes "frame" ∷ frame_words a)
 frame_plain a h = (search (rules, arith), (plain_name a.unit h.unit, (plain_decimal a.number h.number, (plain_code a.code, (plain_decimal (length a.from) h.from, (plain_bytes a.bytes h.bytes, tt))))))
 
-frame_line_cut : (a b : FrameRow) (xs ys : List ℕ) → IsFrameLine a → IsFrameLine b → frame_line a ++ xs ≡ frame_line b ++ ys → SameFrameLine a b xs ys
+pub frame_line_cut : (a b : FrameRow) (xs ys : List ℕ) → IsFrameLine a → IsFrameLine b → frame_line a ++ xs ≡ frame_line b ++ ys → SameFrameLine a b xs ys
 frame_line_cut a b xs ys h k e =
     let s = line_cut (codes "frame") (frame_words a) (codes "frame") (frame_words b) xs ys (frame_plain a h) (frame_plain b k) e in
     record {
@@ -250,10 +250,10 @@ frame_parts : (a az : UnitId) (b bz : ℕ) (c cz : Hrc) (d dz : List PieceRow) (
     → frame_row a b c d e f ≡ frame_row az bz cz dz ez fz
 frame_parts a az b bz c cz d dz e ez f fz e0 e1 e2 e3 e4 e5 = rw (e0, e1, e2, e3, e4, e5) refl
 
-frame_from : (x y : FrameRow) → x.unit ≡ y.unit → x.number ≡ y.number → x.code ≡ y.code → x.from ≡ y.from → x.bytes ≡ y.bytes → x.offers ≡ y.offers → x ≡ y
+pub frame_from : (x y : FrameRow) → x.unit ≡ y.unit → x.number ≡ y.number → x.code ≡ y.code → x.from ≡ y.from → x.bytes ≡ y.bytes → x.offers ≡ y.offers → x ≡ y
 frame_from x y = frame_parts x.unit y.unit x.number y.number x.code y.code x.from y.from x.bytes y.bytes x.offers y.offers
 
-frame_apart : (row : FrameRow) (xs : List ℕ) → frame_text row ++ xs
+pub frame_apart : (row : FrameRow) (xs : List ℕ) → frame_text row ++ xs
     ≡ frame_line row ++ (flat_map (piece_text (codes "from")) row.from ++ (flat_map offer_text row.offers ++ xs))
 frame_apart row xs = simp append_assoc
 

@@ -1,5 +1,5 @@
 -- The law of the text: it is that of one trace in form alone.
-use Rattle.std.proofs.Common.{◌≡◌, ◌<◌, ℕ, List, ◌++◌, ◌==◌, slice_index, codes, refl, sym, ◌∙◌, append_assoc, arith, if◌then◌else◌}
+use Rattle.std.proofs.Common.{◌≡◌, ◌<◌, ℕ, List, ◌++◌, codes, refl, sym, ◌∙◌, append_assoc, arith}
 use Rattle.std.specs.List.{flat_map}
 use Rattle.std.proofs.lemmas.List.{append_cancel_left}
 use Rattle.vio_num.specs.declared.history.Grant.{Grant}
@@ -19,6 +19,7 @@ use Rattle.vio_trace.specs.declared.window_rows.TceValueRow.{TceValueRow}
 use Rattle.vio_trace.specs.declared.window_rows.CopyRow.{CopyRow}
 use Rattle.vio_trace.specs.declared.window_rows.StrokeRow.{StrokeRow}
 use Rattle.vio_trace.specs.Form.{IsLogRow, IsQueueRow, IsGrantRow, IsServeRow, IsAnswerRow, IsFrameRow, IsPortRow, IsPostRow, IsDeliverRow, IsHarvestRow, IsTceValueRow, IsCopyRow, IsStrokeRow, IsTextOf}
+use Rattle.vio_trace.specs.Sections.{section}
 use Rattle.vio_trace.specs.Text.{log_text, queue_text, grant_text, serve_text, answer_text, frame_text, offer_text, port_text, post_text, deliver_text, harvest_text, tce_text, copy_text, stroke_text, trace_text}
 use Rattle.vio_trace.proofs.Cuts.{kind_cut, kind_cut_before, kind_after}
 use Rattle.vio_trace.proofs.RowsTold.{log_cut, queue_cut}
@@ -26,66 +27,47 @@ use Rattle.vio_trace.proofs.Histories.{grant_cut, serve_cut, answer_cut}
 use Rattle.vio_trace.proofs.Lans.{frame_cut, port_cut, post_cut, deliver_cut, harvest_cut}
 use Rattle.vio_trace.proofs.Windows.{tce_cut, copy_cut, stroke_cut}
 
--- the section of a line, by its letters; an offer, which stands below a frame, is of none
-abbrev section : List ℕ → ℕ
-section text =
-    if slice_index text 0 == 111 then 0
-    else if slice_index text 0 == 101 then 14
-    else if slice_index text 1 == 116 then 13
-    else if slice_index text 0 == 99 then 12
-    else if slice_index text 0 == 116 then 11
-    else if slice_index text 0 == 104 then 10
-    else if slice_index text 0 == 100 then 9
-    else if slice_index text 0 == 112 then (if slice_index text 2 == 115 then 8 else 7)
-    else if slice_index text 0 == 102 then 6
-    else if slice_index text 0 == 97 then 5
-    else if slice_index text 0 == 115 then 4
-    else if slice_index text 0 == 103 then 3
-    else if slice_index text 0 == 113 then 2
-    else if slice_index text 1 == 97 then 3
-    else 1
-
-offer_section : (a : OfferRow) (xs : List ℕ) → section (offer_text a ++ xs) ≡ 0
+pub offer_section : (a : OfferRow) (xs : List ℕ) → section (offer_text a ++ xs) ≡ 0
 offer_section a xs = refl
 
-log_section : (a : LogRow) (xs : List ℕ) → section (log_text a ++ xs) ≡ 1
+pub log_section : (a : LogRow) (xs : List ℕ) → section (log_text a ++ xs) ≡ 1
 log_section a xs = refl
 
-queue_section : (a : QueueRow) (xs : List ℕ) → section (queue_text a ++ xs) ≡ 2
+pub queue_section : (a : QueueRow) (xs : List ℕ) → section (queue_text a ++ xs) ≡ 2
 queue_section a xs = refl
 
-grant_section : (a : Grant) (xs : List ℕ) → section (grant_text a ++ xs) ≡ 3
+pub grant_section : (a : Grant) (xs : List ℕ) → section (grant_text a ++ xs) ≡ 3
 grant_section (grants.Granted u s l n c) xs = refl
 grant_section (grants.Lapsed u s l w n c) xs = refl
 
-serve_section : (a : Served) (xs : List ℕ) → section (serve_text a ++ xs) ≡ 4
+pub serve_section : (a : Served) (xs : List ℕ) → section (serve_text a ++ xs) ≡ 4
 serve_section a xs = refl
 
-answer_section : (a : AnswerRow) (xs : List ℕ) → section (answer_text a ++ xs) ≡ 5
+pub answer_section : (a : AnswerRow) (xs : List ℕ) → section (answer_text a ++ xs) ≡ 5
 answer_section a xs = refl
 
-frame_section : (a : FrameRow) (xs : List ℕ) → section (frame_text a ++ xs) ≡ 6
+pub frame_section : (a : FrameRow) (xs : List ℕ) → section (frame_text a ++ xs) ≡ 6
 frame_section a xs = refl
 
-port_section : (a : PortRow) (xs : List ℕ) → section (port_text a ++ xs) ≡ 7
+pub port_section : (a : PortRow) (xs : List ℕ) → section (port_text a ++ xs) ≡ 7
 port_section a xs = refl
 
-post_section : (a : PostRow) (xs : List ℕ) → section (post_text a ++ xs) ≡ 8
+pub post_section : (a : PostRow) (xs : List ℕ) → section (post_text a ++ xs) ≡ 8
 post_section a xs = refl
 
-deliver_section : (a : DeliverRow) (xs : List ℕ) → section (deliver_text a ++ xs) ≡ 9
+pub deliver_section : (a : DeliverRow) (xs : List ℕ) → section (deliver_text a ++ xs) ≡ 9
 deliver_section a xs = refl
 
-harvest_section : (a : HarvestRow) (xs : List ℕ) → section (harvest_text a ++ xs) ≡ 10
+pub harvest_section : (a : HarvestRow) (xs : List ℕ) → section (harvest_text a ++ xs) ≡ 10
 harvest_section a xs = refl
 
-tce_section : (a : TceValueRow) (xs : List ℕ) → section (tce_text a ++ xs) ≡ 11
+pub tce_section : (a : TceValueRow) (xs : List ℕ) → section (tce_text a ++ xs) ≡ 11
 tce_section a xs = refl
 
-copy_section : (a : CopyRow) (xs : List ℕ) → section (copy_text a ++ xs) ≡ 12
+pub copy_section : (a : CopyRow) (xs : List ℕ) → section (copy_text a ++ xs) ≡ 12
 copy_section a xs = refl
 
-stroke_section : (a : StrokeRow) (xs : List ℕ) → section (stroke_text a ++ xs) ≡ 13
+pub stroke_section : (a : StrokeRow) (xs : List ℕ) → section (stroke_text a ++ xs) ≡ 13
 stroke_section a xs = refl
 
 -- what follows each section
@@ -134,40 +116,40 @@ from_logs t = flat_map log_text t.logs ++ from_queues t
 pub apart : (t : Trace) → trace_text t ≡ codes "trace 1\n" ++ from_logs t
 apart t = simp append_assoc
 
-strokes_after : (j : ℕ) → j < 13 → (t : Trace) → j < section (from_strokes t)
+pub strokes_after : (j : ℕ) → j < 13 → (t : Trace) → j < section (from_strokes t)
 strokes_after j h t = kind_after stroke_text section j 13 h stroke_section t.strokes last (omega (arith, h))
 
-copies_after : (j : ℕ) → j < 12 → (t : Trace) → j < section (from_copies t)
+pub copies_after : (j : ℕ) → j < 12 → (t : Trace) → j < section (from_copies t)
 copies_after j h t = kind_after copy_text section j 12 h copy_section t.copies (from_strokes t) (strokes_after j (omega (arith, h)) t)
 
-tces_after : (j : ℕ) → j < 11 → (t : Trace) → j < section (from_tces t)
+pub tces_after : (j : ℕ) → j < 11 → (t : Trace) → j < section (from_tces t)
 tces_after j h t = kind_after tce_text section j 11 h tce_section t.tces (from_copies t) (copies_after j (omega (arith, h)) t)
 
-harvests_after : (j : ℕ) → j < 10 → (t : Trace) → j < section (from_harvests t)
+pub harvests_after : (j : ℕ) → j < 10 → (t : Trace) → j < section (from_harvests t)
 harvests_after j h t = kind_after harvest_text section j 10 h harvest_section t.harvests (from_tces t) (tces_after j (omega (arith, h)) t)
 
-delivers_after : (j : ℕ) → j < 9 → (t : Trace) → j < section (from_delivers t)
+pub delivers_after : (j : ℕ) → j < 9 → (t : Trace) → j < section (from_delivers t)
 delivers_after j h t = kind_after deliver_text section j 9 h deliver_section t.delivers (from_harvests t) (harvests_after j (omega (arith, h)) t)
 
-posts_after : (j : ℕ) → j < 8 → (t : Trace) → j < section (from_posts t)
+pub posts_after : (j : ℕ) → j < 8 → (t : Trace) → j < section (from_posts t)
 posts_after j h t = kind_after post_text section j 8 h post_section t.posts (from_delivers t) (delivers_after j (omega (arith, h)) t)
 
-ports_after : (j : ℕ) → j < 7 → (t : Trace) → j < section (from_ports t)
+pub ports_after : (j : ℕ) → j < 7 → (t : Trace) → j < section (from_ports t)
 ports_after j h t = kind_after port_text section j 7 h port_section t.ports (from_posts t) (posts_after j (omega (arith, h)) t)
 
-frames_after : (j : ℕ) → j < 6 → (t : Trace) → j < section (from_frames t)
+pub frames_after : (j : ℕ) → j < 6 → (t : Trace) → j < section (from_frames t)
 frames_after j h t = kind_after frame_text section j 6 h frame_section t.frames (from_ports t) (ports_after j (omega (arith, h)) t)
 
-answers_after : (j : ℕ) → j < 5 → (t : Trace) → j < section (from_answers t)
+pub answers_after : (j : ℕ) → j < 5 → (t : Trace) → j < section (from_answers t)
 answers_after j h t = kind_after answer_text section j 5 h answer_section t.answers (from_frames t) (frames_after j (omega (arith, h)) t)
 
-serves_after : (j : ℕ) → j < 4 → (t : Trace) → j < section (from_serves t)
+pub serves_after : (j : ℕ) → j < 4 → (t : Trace) → j < section (from_serves t)
 serves_after j h t = kind_after serve_text section j 4 h serve_section t.serves (from_answers t) (answers_after j (omega (arith, h)) t)
 
-grants_after : (j : ℕ) → j < 3 → (t : Trace) → j < section (from_grants t)
+pub grants_after : (j : ℕ) → j < 3 → (t : Trace) → j < section (from_grants t)
 grants_after j h t = kind_after grant_text section j 3 h grant_section t.grants (from_serves t) (serves_after j (omega (arith, h)) t)
 
-queues_after : (j : ℕ) → j < 2 → (t : Trace) → j < section (from_queues t)
+pub queues_after : (j : ℕ) → j < 2 → (t : Trace) → j < section (from_queues t)
 queues_after j h t = kind_after queue_text section j 2 h queue_section t.queues (from_grants t) (grants_after j (omega (arith, h)) t)
 
 abbrev pub made : List LogRow → List QueueRow → List Grant → List Served → List AnswerRow → List FrameRow → List PortRow → List PostRow → List DeliverRow → List HarvestRow → List TceValueRow → List CopyRow → List StrokeRow → Trace

@@ -1,5 +1,13 @@
+pub mod Ahead
+pub mod AheadShared
+pub mod Apart
+pub mod Badly
+pub mod Counted
 pub mod Cuts
 pub mod Digits
+pub mod Ends
+pub mod Firsts
+pub mod Headed
 pub mod Histories
 pub mod Lans
 pub mod Laws
@@ -8,9 +16,13 @@ pub mod Order
 pub mod Outcomes
 pub mod Parted
 pub mod Ranges
+pub mod Refused
 pub mod Recorded
 pub mod Pushed
 pub mod RowsTold
+pub mod Sectioned
+pub mod SectionedShared
+pub mod Sharing
 pub mod Spelled
 pub mod Undone
 pub mod Whole

@@ -1,5 +1,5 @@
 -- Lists of rows that grow by one that was read.
-use Rattle.std.proofs.Common.{◌≡◌, ◌+◌, ℕ, zero, suc, List, [], ◌∷◌, ◌++◌, sym, ap, ◌∙◌, append_assoc, append-nil, get_or, length, subst, arith}
+use Rattle.std.proofs.Common.{Bool, not, true, false, ◌≡◌, ◌+◌, ℕ, zero, suc, List, [], ◌∷◌, ◌++◌, sym, ap, ◌∙◌, append_assoc, append-nil, get_or, length, subst, arith}
 use Rattle.std.specs.List.{flat_map}
 use Rattle.vio_trace.specs.Form.{Ascend}
 use Rattle.vio_trace.specs.Reading.{FollowsLast}
@@ -29,3 +29,20 @@ follows_get {Row} before (x ∷ []) row last zero e is h = subst (λ (r : Row). 
 follows_get before (x ∷ []) row last (suc i) e is h = absurd (omega (arith, e))
 follows_get before (x ∷ y ∷ rows) row last zero e is h = absurd (omega (arith, e))
 follows_get before (x ∷ y ∷ rows) row last (suc i) e is h = follows_get before (y ∷ rows) row last i (omega (arith, e)) is h
+
+-- what stands behind the last of some rows may do so
+pub get_follows : {Row : Type 0} (before : Row → Row → Type 0) (rows : List Row) (row last : Row) (i : ℕ)
+    → i + 1 ≡ length rows → last ≡ get_or rows i last → FollowsLast before rows row → before last row
+get_follows before [] row last i e is h = absurd (omega (arith, e))
+get_follows {Row} before (x ∷ []) row last zero e is h = subst (λ (r : Row). before r row) (sym is) h
+get_follows before (x ∷ []) row last (suc i) e is h = absurd (omega (arith, e))
+get_follows before (x ∷ y ∷ rows) row last zero e is h = absurd (omega (arith, e))
+get_follows before (x ∷ y ∷ rows) row last (suc i) e is h = get_follows before (y ∷ rows) row last i (omega (arith, e)) is h
+
+-- no answer is both
+pub not_both : (answer : Bool) → answer ≡ false → answer ≡ true → ⊥
+not_both answer is_not is = cc (is_not, is)
+
+pub not_negated : (answer : Bool) → not answer ≡ true → answer ≡ true → ⊥
+not_negated true negated is = cc (negated)
+not_negated false negated is = cc (is)

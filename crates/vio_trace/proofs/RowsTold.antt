@@ -85,11 +85,11 @@ pub record SameHead (a b : QueueRow) (xs ys : List ℕ) : Type 0 where
   pub drops : length a.drops ≡ length b.drops
   pub rest : xs ≡ ys
 
-abbrev queue_words : QueueRow → List (List ℕ)
+abbrev pub queue_words : QueueRow → List (List ℕ)
 queue_words row = name row.unit ∷ decimal row.session ∷ decimal row.slots
     ∷ decimal (length row.sent) ∷ decimal (length row.taken) ∷ decimal (length row.drops) ∷ []
 
-queue_plain : (a : QueueRow) → IsQueueLine a → ArePlain (codes "queue" ∷ queue_words a)
+pub queue_plain : (a : QueueRow) → IsQueueLine a → ArePlain (codes "queue" ∷ queue_words a)
 queue_plain a h = (
   search (rules, arith),
   (

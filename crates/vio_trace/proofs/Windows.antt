@@ -12,7 +12,7 @@ use Rattle.vio_trace.proofs.Cuts.{Above, ArePlain, IsCut, line_row, line_cut, co
 use Rattle.vio_trace.proofs.Spelled.{plain_decimal, plain_name, name_tells, plain_digits, digits_tell, plain_bytes, bytes_tell}
 use Rattle.vio_trace.proofs.RowsTold.{word_of, told, half_is_word}
 
-short_is_word : (n : ℕ) → IsShort n → IsWord n
+pub short_is_word : (n : ℕ) → IsShort n → IsWord n
 short_is_word n h = omega (arith, h)
 
 -- values
@@ -91,10 +91,10 @@ pub record SameCopyLine (a b : CopyRow) (xs ys : List ℕ) : Type 0 where
   pub to : length a.to ≡ length b.to
   pub rest : xs ≡ ys
 
-abbrev copy_words : CopyRow → List (List ℕ)
+abbrev pub copy_words : CopyRow → List (List ℕ)
 copy_words row = name row.unit ∷ decimal row.mark ∷ decimal row.len ∷ decimal (length row.from) ∷ decimal (length row.to) ∷ []
 
-copy_plain : (a : CopyRow) → IsCopyLine a → ArePlain (codes "copy" ∷ copy_words a)
+pub copy_plain : (a : CopyRow) → IsCopyLine a → ArePlain (codes "copy" ∷ copy_words a)
 copy_plain a h = (
   search (rules, arith),
   (

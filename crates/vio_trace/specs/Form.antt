@@ -347,3 +347,7 @@ pub record IsInForm (trace : Trace) : Type 0 where
 pub record IsTextOf (trace : Trace) (text : List ℕ) : Type 0 where
   pub form : IsInForm trace
   pub spelled : text ≡ trace_text trace
+
+-- the text is that of no trace
+abbrev pub IsNoText : List ℕ → Type 0
+IsNoText text = (trace : Trace) → ¬ (IsTextOf trace text)

@@ -1,4 +1,6 @@
 pub mod Form
 pub mod Heads
 pub mod Reading
+pub mod Sections
+pub mod Shared
 pub mod Text

@@ -1,6 +1,8 @@
 // The trace of a text, read section by section.
-ghost use Rattle.std.specs.Prelude.{◌≡◌, IfOk, OnOk, codes};
-ghost use Rattle.vio_trace.specs.Form.{IsTextOf};
+ghost use Rattle.std.specs.Prelude.{◌≡◌, ◌≤◌, ◌+◌, ◌-◌, ◌^◌, [], ◌∷◌, IfErr, IfOk, OnOk, codes, length, take};
+ghost use Rattle.vio_trace.specs.Form.{IsNoText, IsTextOf};
+ghost use Rattle.vio_trace.specs.Reading.{IsBad, WhereBad};
+ghost use Rattle.vio_trace.specs.Shared.{NoneHasLines, NoneShares, WhereBadAt, line_ends};
 
 use crate::read_lines::behind;
 use crate::read_rows::read_section;
@@ -22,6 +24,8 @@ pub enum TraceFault {
 /// The trace whose text the bytes are.
 pub fn read_trace(alloc: Global, bytes: &[u8]) -> Result<Trace, TraceFault>
     ensures ok { IfOk result (λ trace. IsTextOf trace bytes.now) }
+    ensures refused { IfErr result (λ fault. IsBad fault → IsNoText bytes.now) }
+    ensures line { IfErr result (NoneHasLines bytes.now) }
 {
     match read_sections(alloc, bytes) {
         Ok(trace) => Ok(trace),
@@ -33,21 +37,31 @@ pub fn read_trace(alloc: Global, bytes: &[u8]) -> Result<Trace, TraceFault>
 }
 
 // The number of the line at which so many bytes are left.
-fn line_at(bytes: &[u8], left: usize) -> u64 {
+fn line_at(bytes: &[u8], left: usize) -> u64
+    ensures { result ≡ line_ends (take (length bytes.now - left) bytes.now) + 1 }
+{
     let mut line = 1;
     let mut at = 0;
     while at < bytes.len() && left < bytes.len() - at {
-        if bytes[at] == b'\n' {
-            line += 1;
-        }
+        line = line_behind(line, bytes[at]);
         at += 1;
     }
     line
 }
 
+// The number of the line behind a byte of this one.
+fn line_behind(line: u64, byte: u8) -> u64
+    requires { line ≤ 2 ^ 63 }
+    ensures { result ≡ line + line_ends (byte ∷ []) }
+{
+    if byte == b'\n' { line + 1 } else { line }
+}
+
 // Reads the sections in their order.
 fn read_sections(alloc: Global, bytes: &[u8]) -> Result<Trace, Fault>
-    ensures { IfOk result (λ trace. IsTextOf trace bytes.now) }
+    ensures ok { IfOk result (λ trace. IsTextOf trace bytes.now) }
+    ensures refused { IfErr result (λ fault. WhereBad fault (IsNoText bytes.now)) }
+    ensures bad { IfErr result (λ fault. WhereBadAt fault (NoneShares IsNoText bytes.now)) }
 {
     let Some(rest) = behind(bytes, b"trace 1\n") else {
         return Err(Fault::Bad(bytes.len()));
@@ -85,7 +99,10 @@ fn read_sections(alloc: Global, bytes: &[u8]) -> Result<Trace, Fault>
 
 // Reads the last line, behind which nothing stands.
 fn read_end(text: &[u8]) -> Result<(), Fault>
-    ensures { OnOk result (text.now ≡ codes "end\n") }
+    ensures ok { OnOk result (text.now ≡ codes "end\n") }
+    ensures refused { IfErr result (λ fault. WhereBad fault (¬ (text.now ≡ codes "end\n"))) }
+    ensures bad { IfErr result (λ fault.
+        WhereBadAt fault (NoneShares (λ rest. ¬ (rest ≡ codes "end\n")) text.now)) }
 {
     if are_same(text, b"end\n") {
         return Ok(());

@@ -1,7 +1,7 @@
 // The lines of a trace of which several make a row, and those of two forms, read.
 ghost use Rattle.std.specs.Prelude.{◌≡◌, IfOk, codes};
 ghost use Rattle.vio_trace.specs.Form.{IsEntry, IsLogRow, IsGrantRow, IsPieceRow};
-ghost use Rattle.vio_trace.specs.Reading.{Reads};
+ghost use Rattle.vio_trace.specs.Reading.{Reads, piece_in};
 ghost use Rattle.vio_trace.specs.Text.{entry_text, grant_text, log_text, piece_text};
 
 use crate::fields::{Fields, Last, Then};
@@ -43,6 +43,8 @@ impl Line for SentLine {
             low: fields.rest.word.value,
         })
     }
+
+    fn is_one_line() {}
 }
 
 impl Line for TookLine {
@@ -62,10 +64,27 @@ impl Line for TookLine {
             low: fields.rest.word.value,
         })
     }
+
+    fn is_one_line() {}
 }
 
 // The words of a piece's line behind its first.
 type PieceFields = Then<UnitId, Then<u16, Then<u32, Then<u16, Then<u16, Then<u16, Last<u32>>>>>>>;
+
+// Makes a piece of the words of its line behind the first.
+fn piece_of(fields: &PieceFields) -> PieceRow
+    ensures { result ≡ piece_in fields.now }
+{
+    PieceRow {
+        unit: fields.word,
+        entry: fields.rest.word,
+        version: fields.rest.rest.word,
+        page: fields.rest.rest.rest.word,
+        offset: fields.rest.rest.rest.rest.word,
+        len: fields.rest.rest.rest.rest.rest.word,
+        at: fields.rest.rest.rest.rest.rest.rest.word,
+    }
+}
 
 impl Line for FromLine {
     type Row = PieceRow;
@@ -79,16 +98,10 @@ impl Line for FromLine {
             return Err(Unread::Bad);
         };
         let fields = PieceFields::read(alloc, rest)?;
-        Ok(PieceRow {
-            unit: fields.word,
-            entry: fields.rest.word,
-            version: fields.rest.rest.word,
-            page: fields.rest.rest.rest.word,
-            offset: fields.rest.rest.rest.rest.word,
-            len: fields.rest.rest.rest.rest.rest.word,
-            at: fields.rest.rest.rest.rest.rest.rest.word,
-        })
+        Ok(piece_of(&fields))
     }
+
+    fn is_one_line() {}
 }
 
 impl Line for ToLine {
@@ -103,16 +116,10 @@ impl Line for ToLine {
             return Err(Unread::Bad);
         };
         let fields = PieceFields::read(alloc, rest)?;
-        Ok(PieceRow {
-            unit: fields.word,
-            entry: fields.rest.word,
-            version: fields.rest.rest.word,
-            page: fields.rest.rest.rest.word,
-            offset: fields.rest.rest.rest.rest.word,
-            len: fields.rest.rest.rest.rest.rest.word,
-            at: fields.rest.rest.rest.rest.rest.rest.word,
-        })
+        Ok(piece_of(&fields))
     }
+
+    fn is_one_line() {}
 }
 
 // The words of a script line's record behind the first.
@@ -144,6 +151,8 @@ impl Line for LogRow {
             outcome,
         })
     }
+
+    fn is_one_line() {}
 }
 
 // The words of a granted login's line behind the first, and those of a login's that ended.
@@ -180,4 +189,6 @@ impl Line for Grant {
             granted: fields.rest.rest.rest.rest.rest.word,
         })
     }
+
+    fn is_one_line() {}
 }

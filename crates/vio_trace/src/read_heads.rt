@@ -43,6 +43,8 @@ impl Line for QueueHead {
             drops: fields.rest.rest.rest.rest.rest.word,
         })
     }
+
+    fn is_one_line() {}
 }
 
 /// A frame, without the lines below it.
@@ -83,6 +85,8 @@ impl Line for FrameHead {
             bytes,
         })
     }
+
+    fn is_one_line() {}
 }
 
 /// A delivery, without the lines below it.
@@ -125,6 +129,8 @@ impl Line for DeliverHead {
             to: fields.rest.rest.rest.rest.rest.rest.word,
         })
     }
+
+    fn is_one_line() {}
 }
 
 /// A copy, without the lines below it.
@@ -160,4 +166,6 @@ impl Line for CopyHead {
             to: fields.rest.rest.rest.rest.word,
         })
     }
+
+    fn is_one_line() {}
 }

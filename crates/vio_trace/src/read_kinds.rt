@@ -1,8 +1,8 @@
 // The words that are no plain decimal: digits of fixed length, names, bytes, and the words of enums.
-ghost use Rattle.std.specs.Prelude.{◌≡◌, ◌↔◌, ◌≤◌, ◌/◌, ℕ, List, IfErr, IfOk, IfSome, IsTrue, OnErr, OnOk, codes, length};
+ghost use Rattle.std.specs.Prelude.{◌≡◌, ◌↔◌, ◌≤◌, ◌/◌, IfErr, IfOk, IfSome, IsTrue, OnErr, OnOk, codes, length};
 ghost use Rattle.hex.specs.Hex.{IsBytes, decode_sized, encode_lower};
 ghost use Rattle.vio_trace.specs.Form.{AreShown, IsHalf, IsName, IsWord};
-ghost use Rattle.vio_trace.specs.Reading.{Reads, Undecoded, Without};
+ghost use Rattle.vio_trace.specs.Reading.{DecodesToNone, Reads, Undecoded, Without};
 ghost use Rattle.vio_trace.specs.Text.{name, digits, half_digits, bytes as bytes_word, number_or_none, cause, code, offered as offered_word, filled as filled_word};
 
 use crate::fields::split_at_byte;
@@ -31,7 +31,7 @@ impl Word for Digits {
 
 // Reads a number in sixteen digits.
 fn read_number(text: &[u8]) -> Result<Digits, Unread>
-    ensures { Reads (λ number. digits number.value) (λ number. IsWord number.value) text.now result }
+    ensures { Reads (λ word. digits word.value) (λ word. IsWord word.value) text.now result }
 {
     let value = read_digits(text)?;
     Ok(Digits { value })
@@ -83,7 +83,7 @@ impl Word for HalfDigits {
 
 // Reads a number in eight digits.
 fn read_half_number(text: &[u8]) -> Result<HalfDigits, Unread>
-    ensures { Reads (λ number. half_digits number.value) (λ number. IsHalf number.value) text.now result }
+    ensures { Reads (λ half. half_digits half.value) (λ half. IsHalf half.value) text.now result }
 {
     let mut bytes = [0; 4];
     match hex::decode_to_slice(text, &mut bytes) {
@@ -169,7 +169,7 @@ fn read_some(alloc: Global, text: &[u8]) -> Result<Bytes, Unread>
 
 // Reads bytes of which each has two digits, in lower or upper case.
 fn decode(alloc: Global, text: &[u8]) -> Result<Vec<u8>, Unread>
-    ensures ok { IfOk result (λ bytes. decode_sized text.now (length text.now / 2) ≡ Ok bytes.items) }
+    ensures ok { IfOk result (λ xs. decode_sized text.now (length text.now / 2) ≡ Ok xs.items) }
     ensures err { IfErr result (Undecoded text.now) }
 {
     let mut bytes = zeros(alloc, text.len() / 2)?;
@@ -189,7 +189,7 @@ fn zeros(alloc: Global, len: usize) -> Result<Vec<u8>, NoMemory>
 // Reads as many bytes as there is room for.
 fn decode_to(text: &[u8], bytes: &mut [u8]) -> Result<(), Unread>
     ensures ok { OnOk result (decode_sized text.now (length bytes.old) ≡ Ok bytes.new) }
-    ensures err { OnErr result ((xs : List ℕ) → ¬ (decode_sized text.now (length bytes.old) ≡ Ok xs)) }
+    ensures err { OnErr result (DecodesToNone text.now (length bytes.old)) }
 {
     match hex::decode_to_slice(text, bytes) {
         Ok(()) => Ok(()),

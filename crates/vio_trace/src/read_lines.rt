@@ -1,7 +1,7 @@
 // The lines of a trace that are a row of their own, read.
 ghost use Rattle.std.specs.Prelude.{◌≡◌, ◌++◌, ℕ, List, IfOk, MatchOption};
 ghost use Rattle.vio_trace.specs.Form.{IsTceValueRow, IsStrokeRow, IsAnswerRow, IsServeRow, IsDropRow, IsOfferRow, IsPortRow, IsPostRow, IsHarvestRow};
-ghost use Rattle.vio_trace.specs.Reading.{Finds, Reads};
+ghost use Rattle.vio_trace.specs.Reading.{Finds, IsLine, Reads};
 ghost use Rattle.vio_trace.specs.Text.{tce_text, stroke_text, answer_text, serve_text, drop_text, offer_text, port_text, post_text, harvest_text};
 
 use crate::fields::{Fields, Last, Then};
@@ -26,6 +26,10 @@ pub trait Line {
     /// The row whose line this is, its end counted in.
     fn read(alloc: Global, line: &[u8]) -> Result<Self::Row, Unread>
         ensures { Reads text fits line.now result };
+
+    /// The law that the text of each row is one line.
+    fn is_one_line()
+        ensures { (row : Self.Row) → fits row → IsLine (text row) };
 }
 
 /// What stands behind this front.
@@ -80,6 +84,8 @@ impl Line for TceValueRow {
             value: fields.rest.rest.rest.word.value,
         })
     }
+
+    fn is_one_line() {}
 }
 
 // The words of the line behind its first.
@@ -117,6 +123,8 @@ impl Line for StrokeRow {
             bytes,
         })
     }
+
+    fn is_one_line() {}
 }
 
 // The words of the line behind its first.
@@ -148,6 +156,8 @@ impl Line for AnswerRow {
             answer,
         })
     }
+
+    fn is_one_line() {}
 }
 
 // The words of the line behind its first.
@@ -195,6 +205,8 @@ impl Line for Served {
             inn,
         })
     }
+
+    fn is_one_line() {}
 }
 
 // The words of the line behind its first.
@@ -217,6 +229,8 @@ impl Line for DropRow {
             held: fields.rest.word.value,
         })
     }
+
+    fn is_one_line() {}
 }
 
 // The words of the line behind its first.
@@ -241,6 +255,8 @@ impl Line for OfferRow {
             offered: fields.rest.rest.rest.word,
         })
     }
+
+    fn is_one_line() {}
 }
 
 // The words of the line behind its first.
@@ -265,6 +281,8 @@ impl Line for PortRow {
             drops: fields.rest.rest.rest.word,
         })
     }
+
+    fn is_one_line() {}
 }
 
 // The words of the line behind its first.
@@ -290,6 +308,8 @@ impl Line for PostRow {
             correlator: fields.rest.rest.rest.rest.word.value,
         })
     }
+
+    fn is_one_line() {}
 }
 
 // The words of the line behind its first.
@@ -314,4 +334,6 @@ impl Line for HarvestRow {
             low: fields.rest.rest.rest.word.value,
         })
     }
+
+    fn is_one_line() {}
 }

@@ -1,7 +1,8 @@
 // The sections of a trace: what each row's lines are, and in which order the rows stand.
-ghost use Rattle.std.specs.Prelude.{◌≡◌, ◌↔◌, ◌≤◌, ◌++◌, All, IfOk, IsTrue, flat_map, length};
+ghost use Rattle.std.specs.Prelude.{◌≡◌, ◌↔◌, ◌≤◌, ◌++◌, All, IfErr, IfOk, IsTrue, flat_map, length};
 ghost use Rattle.vio_trace.specs.Form.{AnswerBefore, CopyBefore, DeliverBefore, FrameBefore, HarvestBefore, IsOfferOf, IsOfferRow, LogBefore, PortBefore, PostBefore, QueueBefore, StrokeBefore, TceValueBefore, UnitBefore};
-ghost use Rattle.vio_trace.specs.Reading.{IsNamed};
+ghost use Rattle.vio_trace.specs.Reading.{IsNamed, WhereBad};
+ghost use Rattle.vio_trace.specs.Sections.{AnyBehind, NoOfferBehind, NoOfferOf};
 ghost use Rattle.vio_trace.specs.Text.{offer_text};
 
 use crate::lan_rows::{DeliverRow, FrameRow, HarvestRow, OfferRow, PortRow, PostRow};
@@ -26,6 +27,10 @@ impl SectionRow for LogRow {
 
     ghost names_itself = { λ row. Unit {0} };
 
+    ghost follows = { AnyBehind };
+
+    ghost kind = { 1 };
+
     fn is_before(&self, next: &LogRow) -> bool {
         self.partition < next.partition || self.partition == next.partition && self.line < next.line
     }
@@ -37,12 +42,18 @@ impl SectionRow for LogRow {
     fn read_first(alloc: Global, text: &[u8]) -> Result<LogRow, Fault> {
         Ok(read_line::<LogRow>(alloc, text)?.0)
     }
+
+    fn keeps_apart() {}
 }
 
 impl SectionRow for Grant {
     ghost before = { λ a b. Unit {0} };
 
     ghost names_itself = { λ row. Unit {0} };
+
+    ghost follows = { AnyBehind };
+
+    ghost kind = { 3 };
 
     fn is_before(&self, _next: &Grant) -> bool {
         true
@@ -55,12 +66,18 @@ impl SectionRow for Grant {
     fn read_first(alloc: Global, text: &[u8]) -> Result<Grant, Fault> {
         Ok(read_line::<Grant>(alloc, text)?.0)
     }
+
+    fn keeps_apart() {}
 }
 
 impl SectionRow for Served {
     ghost before = { λ a b. Unit {0} };
 
     ghost names_itself = { λ row. Unit {0} };
+
+    ghost follows = { AnyBehind };
+
+    ghost kind = { 4 };
 
     fn is_before(&self, _next: &Served) -> bool {
         true
@@ -73,12 +90,18 @@ impl SectionRow for Served {
     fn read_first(alloc: Global, text: &[u8]) -> Result<Served, Fault> {
         Ok(read_line::<Served>(alloc, text)?.0)
     }
+
+    fn keeps_apart() {}
 }
 
 impl SectionRow for AnswerRow {
     ghost before = { AnswerBefore };
 
     ghost names_itself = { λ row. Unit {0} };
+
+    ghost follows = { AnyBehind };
+
+    ghost kind = { 5 };
 
     fn is_before(&self, next: &AnswerRow) -> bool {
         is_unit_before(self.unit, next.unit) || self.unit == next.unit
@@ -91,12 +114,18 @@ impl SectionRow for AnswerRow {
     fn read_first(alloc: Global, text: &[u8]) -> Result<AnswerRow, Fault> {
         Ok(read_line::<AnswerRow>(alloc, text)?.0)
     }
+
+    fn keeps_apart() {}
 }
 
 impl SectionRow for PortRow {
     ghost before = { PortBefore };
 
     ghost names_itself = { λ row. Unit {0} };
+
+    ghost follows = { AnyBehind };
+
+    ghost kind = { 7 };
 
     fn is_before(&self, next: &PortRow) -> bool {
         is_unit_before(self.unit, next.unit)
@@ -110,12 +139,18 @@ impl SectionRow for PortRow {
     fn read_first(alloc: Global, text: &[u8]) -> Result<PortRow, Fault> {
         Ok(read_line::<PortRow>(alloc, text)?.0)
     }
+
+    fn keeps_apart() {}
 }
 
 impl SectionRow for PostRow {
     ghost before = { PostBefore };
 
     ghost names_itself = { λ row. Unit {0} };
+
+    ghost follows = { AnyBehind };
+
+    ghost kind = { 8 };
 
     fn is_before(&self, next: &PostRow) -> bool {
         is_unit_before(self.unit, next.unit)
@@ -131,12 +166,18 @@ impl SectionRow for PostRow {
     fn read_first(alloc: Global, text: &[u8]) -> Result<PostRow, Fault> {
         Ok(read_line::<PostRow>(alloc, text)?.0)
     }
+
+    fn keeps_apart() {}
 }
 
 impl SectionRow for HarvestRow {
     ghost before = { HarvestBefore };
 
     ghost names_itself = { λ row. Unit {0} };
+
+    ghost follows = { AnyBehind };
+
+    ghost kind = { 10 };
 
     fn is_before(&self, next: &HarvestRow) -> bool {
         is_unit_before(self.unit, next.unit)
@@ -150,12 +191,18 @@ impl SectionRow for HarvestRow {
     fn read_first(alloc: Global, text: &[u8]) -> Result<HarvestRow, Fault> {
         Ok(read_line::<HarvestRow>(alloc, text)?.0)
     }
+
+    fn keeps_apart() {}
 }
 
 impl SectionRow for TceValueRow {
     ghost before = { TceValueBefore };
 
     ghost names_itself = { λ row. Unit {0} };
+
+    ghost follows = { AnyBehind };
+
+    ghost kind = { 11 };
 
     fn is_before(&self, next: &TceValueRow) -> bool {
         is_unit_before(self.unit, next.unit)
@@ -171,12 +218,18 @@ impl SectionRow for TceValueRow {
     fn read_first(alloc: Global, text: &[u8]) -> Result<TceValueRow, Fault> {
         Ok(read_line::<TceValueRow>(alloc, text)?.0)
     }
+
+    fn keeps_apart() {}
 }
 
 impl SectionRow for StrokeRow {
     ghost before = { StrokeBefore };
 
     ghost names_itself = { λ row. Unit {0} };
+
+    ghost follows = { AnyBehind };
+
+    ghost kind = { 13 };
 
     fn is_before(&self, next: &StrokeRow) -> bool {
         is_unit_before(self.unit, next.unit)
@@ -191,12 +244,18 @@ impl SectionRow for StrokeRow {
     fn read_first(alloc: Global, text: &[u8]) -> Result<StrokeRow, Fault> {
         Ok(read_line::<StrokeRow>(alloc, text)?.0)
     }
+
+    fn keeps_apart() {}
 }
 
 impl SectionRow for QueueRow {
     ghost before = { QueueBefore };
 
     ghost names_itself = { λ row. Unit {0} };
+
+    ghost follows = { AnyBehind };
+
+    ghost kind = { 2 };
 
     fn is_before(&self, next: &QueueRow) -> bool {
         is_unit_before(self.unit, next.unit)
@@ -230,12 +289,18 @@ impl SectionRow for QueueRow {
             drops: Sequence::new(alloc),
         })
     }
+
+    fn keeps_apart() {}
 }
 
 impl SectionRow for DeliverRow {
     ghost before = { DeliverBefore };
 
     ghost names_itself = { λ row. Unit {0} };
+
+    ghost follows = { AnyBehind };
+
+    ghost kind = { 9 };
 
     fn is_before(&self, next: &DeliverRow) -> bool {
         is_unit_before(self.unit, next.unit)
@@ -269,12 +334,18 @@ impl SectionRow for DeliverRow {
             to: Sequence::new(alloc),
         })
     }
+
+    fn keeps_apart() {}
 }
 
 impl SectionRow for CopyRow {
     ghost before = { CopyBefore };
 
     ghost names_itself = { λ row. Unit {0} };
+
+    ghost follows = { AnyBehind };
+
+    ghost kind = { 12 };
 
     fn is_before(&self, next: &CopyRow) -> bool {
         is_unit_before(self.unit, next.unit) || self.unit == next.unit
@@ -304,12 +375,18 @@ impl SectionRow for CopyRow {
             to: Sequence::new(alloc),
         })
     }
+
+    fn keeps_apart() {}
 }
 
 impl SectionRow for FrameRow {
     ghost before = { FrameBefore };
 
     ghost names_itself = { λ frame. All (IsOfferOf frame) frame.offers };
+
+    ghost follows = { NoOfferBehind };
+
+    ghost kind = { 6 };
 
     fn is_before(&self, next: &FrameRow) -> bool {
         is_unit_before(self.unit, next.unit) || self.unit == next.unit && self.number < next.number
@@ -341,6 +418,8 @@ impl SectionRow for FrameRow {
             offers: Sequence::new(alloc),
         })
     }
+
+    fn keeps_apart() {}
 }
 
 // Reads the offers of a frame, and what is behind them.
@@ -353,6 +432,8 @@ fn read_offers(
     ensures rows { IfOk result (λ read. All IsOfferRow read.0
         × (text.now ≡ flat_map offer_text read.0 ++ read.1.now)) }
     ensures frame { IfOk result (λ read. All (IsNamed unit number) read.0) }
+    ensures behind { IfOk result (λ read. NoOfferOf unit number read.1.now) }
+    ensures refused { IfErr result (λ fault. WhereBad fault ⊥) }
     ensures shorter { IfOk result (λ read. length read.1.now ≤ length text.now) }
 {
     let mut offers = Sequence::new(alloc);
@@ -377,6 +458,7 @@ fn read_offers(
 fn is_of_frame(offer: OfferRow, unit: UnitId, number: u64) -> bool
     ensures unit { IsTrue result → offer.unit ≡ unit }
     ensures number { IsTrue result → offer.number ≡ number }
+    ensures other { (offer.unit ≡ unit) → (offer.number ≡ number) → IsTrue result }
 {
     offer.unit == unit && offer.number == number
 }

@@ -38,7 +38,7 @@ fn offer(port: UnitId, offered: Offered) -> OfferRow
 }
 
 fn offers(alloc: Global) -> Result<Sequence<OfferRow>, Fail>
-    ensures { IfOk result (λ offers. All (λ offer. (offer.unit ≡ CLIENT) × (offer.number ≡ 7)) offers) }
+    ensures { IfOk result (λ rows. All (λ row. (row.unit ≡ CLIENT) × (row.number ≡ 7)) rows) }
 {
     let offers = [
         offer(SERVER, Offered::Done),
@@ -49,7 +49,7 @@ fn offers(alloc: Global) -> Result<Sequence<OfferRow>, Fail>
 
 fn frames(alloc: Global) -> Result<Sequence<FrameRow>, Fail>
     ensures order { IfOk result (λ frames. Ascend FrameBefore frames) }
-    ensures offers { IfOk result (λ frames. All (λ frame. All (IsOfferOf frame) frame.offers) frames) }
+    ensures offers { IfOk result (λ rows. All (λ row. All (IsOfferOf row) row.offers) rows) }
 {
     let mut frames = Sequence::new(alloc);
     frames.push(FrameRow {
