@@ -93,6 +93,10 @@ advances_same site = record {
   own = side_same (side_of site.own);
   client = side_same (side_of site.client);
   copies = copies_none site.own site.client site.copies site.copies refl;
+  own_in_use = omega arith;
+  client_in_use = omega arith;
+  named = λ alone is. is;
+  own_named = λ is. is;
 }
 
 pub advances_on : (old mid new : SiteState) → Advances old mid → Advances mid new → Advances old new
@@ -110,4 +114,8 @@ advances_on old mid new first next = record {
   own = side_on (side_of old.own) (side_of mid.own) (side_of new.own) first.own next.own;
   client = side_on (side_of old.client) (side_of mid.client) (side_of new.client) first.client next.client;
   copies = copies_on mid.own new.own mid.client new.client next.own next.client old.copies mid.copies new.copies first.copies next.copies;
+  own_in_use = omega (arith, first.own_in_use, next.own_in_use);
+  client_in_use = omega (arith, first.client_in_use, next.client_in_use);
+  named = λ alone is. next.named (first.shared ∙ alone) (first.named alone is);
+  own_named = λ is. next.own_named (first.own_named is);
 }

@@ -1,6 +1,5 @@
 -- What a client's window denied, over calls one after the other, and which causes that gives.
-use Rattle.std.proofs.Common.{◌≡◌, ◌⊎◌, inl, inr, ◌+◌, ◌*◌, ◌<◌, ◌≤◌, ℕ, Bool, false, List, ap, subst, sym}
-use Rattle.vio_num.specs.Words.{Begins}
+use Rattle.std.proofs.Common.{◌≡◌, inl, inr, ℕ, Bool, false, List, ap, subst, sym}
 use Rattle.vio_num.specs.declared.names.UnitId.{UnitId}
 use Rattle.srp_iu.specs.declared.buffer.Buffer.{Buffer}
 use Rattle.srp_iu.specs.declared.buffer.Desc.{Desc}
@@ -10,8 +9,7 @@ use Rattle.tce_window.specs.Port.{Later}
 use Rattle.tce_window.specs.PortState.{PortState}
 use Rattle.tce_window.specs.declared.answers.HoldFault.{HoldFault}
 use Rattle.tce_window.specs.declared.answers.Right.{Right}
-use Rattle.std.specs.Prelude.{Option, Result, Ok, Some, None}
-use Rattle.vio_num.specs.declared.memory.NoMemory.{NoMemory}
+use Rattle.std.specs.Prelude.{Option, Ok, Some, None}
 use Rattle.block_disk.specs.declared.reply.ScsiReply.{ScsiReply}
 use Rattle.tce_window.specs.declared.answers.Right.TheVariants.{Write}
 use Rattle.block_server.specs.Fetched.{Gathers, IfRefused}
@@ -21,7 +19,7 @@ use Rattle.block_server.specs.declared.fetching.Progress.TheVariants.{Refused}
 use Rattle.block_server.specs.declared.service.Stage.{Stage}
 use Rattle.block_server.specs.declared.service.Stage.TheVariants.{DataIn}
 use Rattle.block_server.specs.Advances.{Advances}
-use Rattle.block_server.specs.Causes.{Denies, IsDenied, Refusing, RefusesBuffer, RefusesData, RefusesIn, RefusesOut, Tells, Told, TurnsDown, told_to}
+use Rattle.block_server.specs.Causes.{Denies, Refusing, RefusesBuffer, RefusesData, RefusesIn, RefusesOut, Tells, Told, TurnsDown, told_to}
 use Rattle.block_server.specs.Parts.{LiesIn}
 use Rattle.block_server.specs.SiteState.{IsDeniedBetween, SiteState, TellsAll, denied_between}
 use Rattle.block_server.proofs.Advancing.{begins_on, later_on}

@@ -1,26 +1,15 @@
 -- The disk law, as rows come, get their answers, and lose data-in that were not copied.
-use Rattle.std.proofs.Common.{◌≡◌, ◌⊎◌, inl, inr, ℕ, zero, suc, ◌+◌, ◌*◌, ◌<◌, ◌≤◌, nat_lt, Bool, true, false, if◌then◌else◌, List, [], ◌∷◌, ◌++◌, Option, Some, None, IfSome, length, min, take, drop, refl, sym, ◌∙◌, ap, subst, arith, append-nil, length-take}
+use Rattle.std.proofs.Common.{◌≡◌, inl, inr, ℕ, ◌+◌, ◌*◌, ◌≤◌, nat_lt, Bool, true, false, if◌then◌else◌, List, [], ◌∷◌, ◌++◌, Option, Some, None, length, take, drop, refl, ◌∙◌, ap, subst, arith, append-nil}
 use Rattle.std.proofs.lemmas.Bool.{ltb-false}
 use Rattle.std.proofs.lemmas.List.{take-append-drop}
 use Rattle.vio_num.specs.declared.history.Served.{Served}
-use Rattle.srp_iu.specs.declared.unit.Iu.{Iu}
-use Rattle.srp_iu.specs.declared.unit.Iu.TheVariants as units
-use Rattle.srp_iu.specs.declared.command.Cmd.{Cmd}
-use Rattle.srp_iu.specs.declared.response_code.ResponseCode.{ResponseCode}
-use Rattle.srp_iu.specs.declared.response_code.ResponseCode.TheVariants.{FieldsInvalid}
-use Rattle.srp_iu.specs.Grammar.{Spells}
-use Rattle.srp_iu.specs.Layout.{field}
-use Rattle.srp_desc.specs.Pieces.{total_of}
 use Rattle.block_disk.specs.Cdb.{command_of, refusal}
-use Rattle.block_disk.specs.Disk.{answer, good, image_after, performed, read_reply, refused, reply_to, step, sync_reply, write_reply, written}
-use Rattle.block_disk.specs.Steps.{IsStep}
+use Rattle.block_disk.specs.Disk.{image_after, written}
 use Rattle.block_disk.specs.declared.command.DiskOp.{DiskOp}
 use Rattle.block_disk.specs.declared.command.DiskOp.TheVariants.{Ready, Inquiry, Capacity10, Capacity16, Luns, Read, Write, Sync}
-use Rattle.block_disk.specs.declared.reply.ScsiReply.{ScsiReply}
 use Rattle.block_disk.proofs.Laws.{step-size}
 use Rattle.block_server.specs.Causes.{Told}
-use Rattle.block_server.specs.DiskLaw.{HasData, HasNoStep, IsOfTask, IsStepped, IsTurnedDown, IsUnread, SaysCode, ServeBy, ServesRowBy, handed_over, step_of}
-use Rattle.block_server.specs.Responses.{Answers, HasCode, HasStatus}
+use Rattle.block_server.specs.DiskLaw.{ServeBy, ServesRowBy, step_of}
 
 abbrev Blocks : Type 0
 Blocks = List (List ℕ)

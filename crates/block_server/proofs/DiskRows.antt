@@ -1,28 +1,27 @@
 -- The row in service, as the disk law goes: what its answer may be, and what stays where its data-in are cut.
-use Rattle.std.proofs.Common.{◌≡◌, ◌⊎◌, inl, inr, ℕ, zero, suc, ◌+◌, ◌-◌, ◌*◌, ◌<◌, ◌≤◌, nat_lt, Bool, true, false, if◌then◌else◌, List, [], ◌∷◌, ◌++◌, Option, Some, None, IfSome, length, min, take, refl, sym, ◌∙◌, ap, subst, arith, length-take}
+use Rattle.std.proofs.Common.{◌≡◌, inl, inr, ℕ, zero, suc, ◌+◌, ◌-◌, ◌*◌, ◌<◌, ◌≤◌, nat_lt, Bool, true, false, if◌then◌else◌, List, [], ◌∷◌, Option, Some, None, IfSome, length, take, refl, sym, ◌∙◌, ap, subst, arith, length-take}
 use Rattle.vio_num.specs.declared.history.Served.{Served}
 use Rattle.srp_iu.specs.declared.unit.Iu.{Iu}
 use Rattle.srp_iu.specs.declared.unit.Iu.TheVariants as units
 use Rattle.srp_iu.specs.declared.command.Cmd.{Cmd}
 use Rattle.srp_iu.specs.declared.task.TskMgmt.{TskMgmt}
-use Rattle.srp_iu.specs.declared.response.Rsp.{Rsp}
 use Rattle.srp_iu.specs.declared.response_code.ResponseCode.{ResponseCode}
 use Rattle.srp_iu.specs.declared.response_code.ResponseCode.TheVariants.{FieldsInvalid}
 use Rattle.srp_iu.specs.Grammar.{Spells}
 use Rattle.srp_iu.specs.Layout.{field}
 use Rattle.srp_desc.specs.Pieces.{total_of}
 use Rattle.block_disk.specs.Cdb.{command_of, refusal}
-use Rattle.block_disk.specs.Disk.{answer, device_calls, image_after, performed, read_reply, refused, reply_to, step, sync_reply, write_reply}
+use Rattle.block_disk.specs.Disk.{answer, device_calls, image_after, read_reply, refused, reply_to, step, sync_reply, write_reply}
 use Rattle.block_disk.specs.Sense.{invalid_field, out_of_range}
 use Rattle.block_disk.specs.Steps.{IsStep}
 use Rattle.block_disk.specs.declared.command.DiskOp.{DiskOp}
 use Rattle.block_disk.specs.declared.command.DiskOp.TheVariants.{Ready, Inquiry, Capacity10, Capacity16, Luns, Read, Write, Sync}
 use Rattle.block_disk.specs.declared.reply.ScsiReply.{ScsiReply}
 use Rattle.block_server.specs.Causes.{RefusesIn, told_to}
-use Rattle.block_server.specs.DiskLaw.{HasData, HasNoStep, IsOfTask, IsStepped, IsTurnedDown, IsUnread, SaysCode, ServesRowBy, handed_over, step_of}
+use Rattle.block_server.specs.DiskLaw.{HasData, IsStepped, SaysCode, ServesRowBy, handed_over, step_of}
 use Rattle.block_server.specs.Orders.{IsCauseOf, IsCodeOf, IsOrder}
 use Rattle.block_server.specs.Responses.{Answers, HasCode, HasStatus}
-use Rattle.block_server.specs.Serving.{HasReply, MayAnswer, Terms}
+use Rattle.block_server.specs.Serving.{MayAnswer, Terms}
 use Rattle.block_server.specs.declared.request.Order.{Order}
 use Rattle.block_server.specs.declared.request.Order.TheVariants as orders
 use Rattle.block_server.proofs.DiskLaws.{none_written, row_still}

@@ -1,26 +1,24 @@
 -- What is known of a command's pieces, while its tables and its data-out are fetched.
-use Rattle.std.proofs.Common.{◌≡◌, ◌⊎◌, inl, inr, Option, Some, None, Result, Ok, Err, ◌*◌, ◌<◌, ◌==◌, ℕ, Bool, true, false, List, [], ◌∷◌, length, replicate, refl, sym, ◌∙◌, ap, subst, arith}
+use Rattle.std.proofs.Common.{◌≡◌, ◌⊎◌, inl, inr, Option, Some, None, Result, Ok, Err, ℕ, List, [], ◌∷◌, replicate, refl, sym, ◌∙◌, ap, subst, arith}
 use Rattle.std.proofs.lemmas.List.{length-replicate}
-use Rattle.std.proofs.lemmas.Bool.{eqb-true}
 use Rattle.arrayvec.specs.ArrayVec.{ArrayVec}
 use Rattle.srp_iu.specs.declared.buffer.Buffer.{Buffer}
-use Rattle.srp_iu.specs.declared.buffer.Buffer.TheVariants.{Indirect}
 use Rattle.srp_iu.specs.declared.buffer.Desc.{Desc}
 use Rattle.srp_iu.specs.declared.command.Cmd.{Cmd}
-use Rattle.srp_desc.specs.Pieces.{IsGiven, IsToFetch, descs_in, named, pieces, refusal, sum_of, summing_to, tables_in}
+use Rattle.srp_desc.specs.Pieces.{IsGiven, IsToFetch, descs_in, pieces, refusal, sum_of, summing_to, tables_in}
 use Rattle.srp_desc.specs.Tables.{command_refusal, first_refusal, table_len, tables_of}
 use Rattle.srp_desc.specs.declared.pieces.DescFault.{DescFault}
 use Rattle.srp_desc.specs.declared.pieces.Pieces.{Pieces}
 use Rattle.srp_desc.specs.declared.pieces.Pieces.TheVariants.{Fetch, Whole}
 use Rattle.vio_num.specs.declared.memory.NoMemory.{NoMemory}
 use Rattle.block_server.specs.Causes.{IsBad, IsNamed, Refusing, RefusesBuffer, TurnsDown}
-use Rattle.block_server.specs.Fetched.{DeniesTable, Gathers, HasBadSum, HasBoth, IfRefused, IsRead}
+use Rattle.block_server.specs.Fetched.{DeniesTable, Gathers, HasBadSum, IfRefused, IsRead}
 use Rattle.block_server.specs.declared.fetching.Progress.{Progress}
 use Rattle.block_server.specs.declared.fetching.Progress.TheVariants.{Busy, Done, Refused}
 use Rattle.block_server.specs.declared.cursor.Cursor.{Cursor}
 use Rattle.block_server.specs.declared.data_pieces.DataPieces.{DataPieces}
 use Rattle.block_server.specs.declared.service.Stage.{Stage}
-use Rattle.block_server.specs.declared.service.Stage.TheVariants.{OutTable, InTable, DataOut}
+use Rattle.block_server.specs.declared.service.Stage.TheVariants.{DataOut}
 
 -- data-out were copied on
 pub gathers_moved : (command : Cmd) (stage stage' : Stage) (o o' i i' : DataPieces) (from : Cursor) → stage ≡ DataOut from → (to : Cursor) × (stage' ≡ DataOut to) → o' ≡ o → i' ≡ i

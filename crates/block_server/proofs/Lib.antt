@@ -18,3 +18,8 @@ pub mod Serves
 pub mod Plains
 pub mod Stepping
 pub mod Units
+pub mod Making
+pub mod NamedWindows
+pub mod Agreeing
+pub mod Readying
+pub mod Staging

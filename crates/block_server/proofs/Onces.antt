@@ -13,7 +13,6 @@ use Rattle.block_server.specs.Entries.{IsPlain, is_response, is_response_len}
 use Rattle.block_server.specs.declared.service.Stage.{Stage}
 use Rattle.block_server.specs.declared.service.Stage.TheVariants.{Start, OutTable, InTable, DataOut, Given, DataIn, Answer, Entry}
 use Rattle.block_disk.specs.declared.reply.ScsiReply.{ScsiReply}
-use Rattle.block_server.specs.declared.cursor.Cursor.{Cursor}
 use Rattle.block_server.specs.declared.line.Kept.{Kept}
 use Rattle.block_server.specs.declared.request.Request.{Request}
 use Rattle.block_server.specs.Records.{AnswersRow}
@@ -33,7 +32,7 @@ use Rattle.block_server.specs.Fetched.{Buffers, HasPieces}
 use Rattle.block_server.specs.Serving.{Desk, HasReply, Held, MayAnswer, IfRow, IsKept, IsServed, IsServing, LeavesRow, Once, Place, ServeFrom, SettlesRow, StaysServed, Terms, place_of}
 use Rattle.block_server.proofs.AnswerLaws.{answered_there, answers_filled, answers_one, filled_there, only_there}
 use Rattle.block_server.proofs.DiskLaws.{serve_changed}
-use Rattle.block_server.proofs.DiskRows.{IsKnown, SpellsOne, known_cut, may_cut}
+use Rattle.block_server.proofs.DiskRows.{IsKnown, SpellsOne, may_cut}
 use Rattle.block_server.proofs.Rows.{stays_on, stays_same}
 
 pub more_none : (unit : UnitId) (sent sent' : List PipeRow) (history history' : List ServedRow) → responses sent' ≡ responses sent → answers_of unit history' ≡ answers_of unit history

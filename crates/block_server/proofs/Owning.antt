@@ -1,11 +1,7 @@
 -- A copy that was refused was refused by the client's window: the unit's own grants all.
-use Rattle.std.proofs.Common.{◌≡◌, ◌⊎◌, inl, inr, ◌+◌, ◌*◌, ◌/◌, ◌%◌, ◌<◌, ◌≤◌, ◌==◌, ℕ, zero, suc, Bool, true, false, List, [], ◌∷◌, Some, length, slice_get, refl, sym, ◌∙◌, ap, subst, arith, append-nil}
-use Rattle.std.proofs.lemmas.Bool.{eqb-true}
-use Rattle.vio_num.specs.Words.{Begins}
-use Rattle.page_slots.specs.declared.stroke.StrokeName.{StrokeName}
-use Rattle.tce_window.specs.Grant.{IsCurrent, grants}
-use Rattle.tce_window.specs.Pieces.{IsOfEntry, IsRefused, Lacks, end_entry}
-use Rattle.tce_window.specs.Port.{Later}
+use Rattle.std.proofs.Common.{◌≡◌, ◌+◌, ◌*◌, ◌/◌, ◌%◌, ◌<◌, ◌≤◌, ◌==◌, ℕ, Bool, true, false, List, [], ◌∷◌, Some, length, slice_get, refl, sym, ◌∙◌, ap, subst, arith}
+use Rattle.tce_window.specs.Grant.{grants}
+use Rattle.tce_window.specs.Pieces.{IsOfEntry, IsRefused}
 use Rattle.tce_window.specs.PortState.{PortState}
 use Rattle.tce_window.specs.declared.answers.HoldFault.{HoldFault}
 use Rattle.tce_window.specs.declared.answers.HoldFault.TheVariants.{InUse, NotGranted, Past}

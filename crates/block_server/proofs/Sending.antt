@@ -1,5 +1,6 @@
 -- What a send leaves of a unit's site.
-use Rattle.std.proofs.Common.{◌≡◌, ◌⊎◌, inl, inr, IfSome, ◌≤◌, List, [], Bool, Option, Some, None, refl, sym, ◌∙◌, subst, arith, append-nil}
+use Rattle.std.proofs.Common.{◌≡◌, ◌⊎◌, inl, inr, IfSome, ◌*◌, ◌/◌, ◌≤◌, ℕ, true, false, List, [], Bool, Option, Some, None, refl, sym, ◌∙◌, subst, arith, append-nil}
+use Rattle.std.proofs.lemmas.Bool.{eq-eqb}
 use Rattle.std.specs.Option.{IsSome}
 use Rattle.vio_num.specs.declared.entry.Entry.{Entry}
 use Rattle.vio_num.specs.Entry.{partner_freed}
@@ -12,7 +13,8 @@ use Rattle.crq_session.specs.declared.answers.FreeAnswer.TheVariants as freeing
 use Rattle.crq_session.specs.declared.answers.EventAnswer.{EventAnswer}
 use Rattle.crq_session.specs.declared.answers.EventAnswer.TheVariants as pushing
 use Rattle.crq_session.specs.Answers.{IfSent, OnNotSent, IfClosed, IfDropped, IfHeldUp, IfInUse, IfKept, OnFreed, OnNotFreed, OnNotRegistered, OnNothing, OnOpened, OnPut}
-use Rattle.crq_session.specs.Answered.{FindsInUse, HoldsUp, Keeps, Loses, Opens, Pushes, Puts, PutsNone, Sends, Settles, StillKept, TellsFreed, TurnsBack, FindsFull}
+use Rattle.crq_session.specs.Answered.{IsRegisteredAt, fits_own, FindsInUse, HoldsUp, Keeps, Loses, Opens, Pushes, Puts, PutsNone, Sends, Settles, StillKept, TellsFreed, TurnsBack, FindsFull}
+use Rattle.crq_session.specs.Control.{IsQueueSize, fits_queue}
 use Rattle.crq_session.specs.EndState.{EndState, OnlyReserves}
 use Rattle.vio_num.specs.Words.{Begins}
 use Rattle.tce_window.specs.PortState.{PortState}
@@ -41,6 +43,10 @@ queue_call reached own client shared copies old new place session taken put = re
   own = side_same (side_of own);
   client = side_same (side_of client);
   copies = copies_none own client copies copies refl;
+  own_in_use = omega arith;
+  client_in_use = omega arith;
+  named = λ alone is. is;
+  own_named = λ is. is;
 }
 
 pub same_session : (old new : EndState) → new.last_session ≡ old.last_session → old.last_session ≤ new.last_session
@@ -99,3 +105,16 @@ pub push_puts : (shared : Bool) (old new : EndState) (answer : EventAnswer) → 
 push_puts shared old new pushing.Nothing freed nothing put still = puts_none old.sent new.sent (lost_none shared old.kept old new nothing.loses)
 push_puts shared old new pushing.Put freed nothing put still = kept_puts shared old.kept old new freed put.some put.puts
 push_puts shared old new (pushing.Kept number held) freed nothing put still = puts_none old.sent new.sent still.full.sent
+
+-- the own queue, registered at its whole length, is not registered only where it was before
+whole_fits : (own slots : ℕ) → slots ≡ own → IsQueueSize slots → fits_queue own 0 (16 * slots) ≡ true
+whole_fits own slots is size = eq-eqb (16 * slots) (own / 256 * 4096) (omega (arith, is, size.whole))
+
+pub register_stands : (old : EndState) (slots : ℕ) (answer : RegAnswer) → slots ≡ old.place.own_slots → IsQueueSize slots
+    → ((answer ≡ registering.Parameter) → fits_own old 0 (16 * slots) ≡ false) → ((answer ≡ registering.Resource) → IsRegisteredAt old 0 (16 * slots))
+    → OnNotRegistered answer (old.registered ≡ true)
+register_stands old slots registering.Parameter is size parameter resource = absurd (cc (parameter refl, whole_fits old.place.own_slots slots is size))
+register_stands old slots registering.Resource is size parameter resource = (resource refl).1
+register_stands old slots registering.Success is size parameter resource = tt
+register_stands old slots (registering.Closed control) is size parameter resource = tt
+register_stands old slots (registering.Busy number held) is size parameter resource = tt

@@ -13,7 +13,7 @@ use Rattle.crq_session.specs.declared.answers.SendAnswer.TheVariants as sending
 use Rattle.crq_session.specs.Answers.{IfClosed, OnNotSent}
 use Rattle.crq_session.specs.Answered.{TurnsBack}
 use Rattle.crq_session.specs.EndState.{EndState, OnlyReserves}
-use Rattle.block_server.specs.Answering.{IsInService, OnlyRowsOf, responses}
+use Rattle.block_server.specs.Answering.{OnlyRowsOf, responses}
 use Rattle.block_server.specs.Records.{FillsRow}
 use Rattle.block_server.specs.Stage.{is_before_step}
 use Rattle.block_server.specs.declared.cursor.Cursor.{Cursor}

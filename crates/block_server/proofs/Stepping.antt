@@ -1,5 +1,5 @@
 -- The disk step of a command gives a row that the disk law serves.
-use Rattle.std.proofs.Common.{◌≡◌, inl, ℕ, ◌≤◌, List, [], ◌∷◌, ◌++◌, Option, Some, None, IfSome, length, min, take, drop, refl, sym, ◌∙◌, ap, subst, arith, length-take}
+use Rattle.std.proofs.Common.{◌≡◌, inl, ℕ, ◌≤◌, List, [], ◌∷◌, ◌++◌, Option, Some, None, IfSome, length, take, drop, refl, sym, ◌∙◌, ap, subst, arith, length-take}
 use Rattle.std.specs.Prelude.{IsSome, option_map}
 use Rattle.std.proofs.Math.Seq.{take-append_seam, drop-append_seam}
 use Rattle.std.proofs.lemmas.List.{take-take, take_all}
@@ -8,19 +8,19 @@ use Rattle.srp_iu.specs.declared.buffer.Desc.{Desc}
 use Rattle.srp_iu.specs.declared.command.Cmd.{Cmd}
 use Rattle.srp_iu.specs.declared.unit.Iu.TheVariants as units
 use Rattle.srp_iu.specs.Grammar.{Spells}
-use Rattle.srp_desc.specs.Pieces.{named, pieces, sum_of, total_of}
+use Rattle.srp_desc.specs.Pieces.{pieces, sum_of, total_of}
 use Rattle.srp_desc.specs.Tables.{table_len}
 use Rattle.block_disk.specs.Disk.{reply_to}
 use Rattle.block_disk.specs.Steps.{DiskStep, IsStep, StepOn, blocks_after, made_step}
 use Rattle.block_disk.specs.declared.reply.ScsiReply.{ScsiReply}
-use Rattle.block_server.specs.DiskLaw.{HasData, IsStepped, ServeBy, ServesRowBy, handed_over, step_of}
+use Rattle.block_server.specs.DiskLaw.{HasData, ServeBy, ServesRowBy, handed_over}
 use Rattle.block_server.specs.Fetched.{HasBoth}
 use Rattle.block_server.specs.Orders.{IsOrder}
 use Rattle.block_server.specs.Serving.{HasReply, Held, ServeFrom, StaysServed, Terms}
 use Rattle.block_server.specs.declared.request.Order.{Order}
 use Rattle.block_server.specs.declared.request.Order.TheVariants.{Command}
 use Rattle.block_server.specs.declared.request.Request.{Request}
-use Rattle.block_server.proofs.DiskLaws.{serve_push, serve_size}
+use Rattle.block_server.proofs.DiskLaws.{serve_push}
 
 -- each buffer's own table, in the bytes of both
 own_out : (n : ℕ) (first next : List ℕ) → length first ≡ n → take n (first ++ next) ≡ first

@@ -42,12 +42,12 @@ serving_stays unit terms desk h h' apart only serving = record {
   fetched = serving.fetched;
 }
 
-get_set_same : (units : List Unit) (i : ℕ) (old new : Unit) → slice_get units i ≡ Some old → slice_get (slice_set units i new) i ≡ Some new
+pub get_set_same : (units : List Unit) (i : ℕ) (old new : Unit) → slice_get units i ≡ Some old → slice_get (slice_set units i new) i ≡ Some new
 get_set_same [] i old new at = absurd (cc (at))
 get_set_same (unit ∷ units) zero old new at = refl
 get_set_same (unit ∷ units) (suc i) old new at = get_set_same units i old new at
 
-get_set_other : (units : List Unit) (i j : ℕ) (new : Unit) → j ≢ i → slice_get (slice_set units i new) j ≡ slice_get units j
+pub get_set_other : (units : List Unit) (i j : ℕ) (new : Unit) → j ≢ i → slice_get (slice_set units i new) j ≡ slice_get units j
 get_set_other [] i j new apart = refl
 get_set_other (unit ∷ units) zero zero new apart = absurd (apart refl)
 get_set_other (unit ∷ units) zero (suc j) new apart = refl

@@ -1,5 +1,5 @@
 -- What copies, reads and writes leave of a unit's site.
-use Rattle.std.proofs.Common.{◌≡◌, ℕ, ◌++◌, List, [], ◌∷◌, inl, inr, Bool, true, false, Option, Some, None, Result, Ok, Err, OnOk, OnErr, length, refl, sym, ◌∙◌, ap, subst, arith, append-nil}
+use Rattle.std.proofs.Common.{◌≡◌, ◌⊎◌, ℕ, ◌≤◌, ◌++◌, List, [], ◌∷◌, inl, inr, Bool, true, false, Option, Some, None, Result, Ok, Err, OnOk, OnErr, length, refl, sym, ◌∙◌, ap, subst, arith, append-nil}
 use Rattle.page_slots.specs.Stroke.{StrokeValue}
 use Rattle.page_slots.specs.declared.stroke.StrokeName.{StrokeName}
 use Rattle.tce_window.specs.declared.piece.Piece.{Piece}
@@ -12,13 +12,17 @@ use Rattle.tce_window.specs.Strokes.{with_strokes}
 use Rattle.rdma_copy.specs.declared.copy.CopyRecord.{CopyRecord}
 use Rattle.rdma_copy.specs.declared.copy.CopyAnswer.{CopyAnswer}
 use Rattle.rdma_copy.specs.declared.copy.CopyAnswer.TheVariants as copies
-use Rattle.rdma_copy.specs.Answers.{IfCopied, OnRefused}
-use Rattle.rdma_copy.specs.Copies.{Copies, OnlyCopies, side_of}
+use Rattle.vio_num.specs.Counts.{Rose}
+use Rattle.tce_window.specs.declared.answers.Right.TheVariants.{Read, Write}
+use Rattle.rdma_copy.specs.Answers.{CountsCopy, IfBusy, IfCopied, IsBusySide, OnRefused}
+use Rattle.rdma_copy.specs.Copies.{Copies, MayHold, OnlyCopies, side_of}
 use Rattle.rdma_copy.specs.Copy.{SideGrows}
 use Rattle.rdma_copy.proofs.Laws.{later_begins, learns_grows}
 use Rattle.crq_session.specs.EndState.{EndState}
-use Rattle.block_server.specs.Advances.{Advances, CopiesMore}
-use Rattle.block_server.specs.Copied.{copies_in}
+use Rattle.block_server.specs.Advances.{Advances, CopiesMore, StayNamed}
+use Rattle.block_server.specs.Copied.{IsBusy, copies_in}
+use Rattle.block_server.specs.Ready.{FindsUse}
+use Rattle.block_server.specs.Makers.{AreNamed}
 use Rattle.block_server.specs.SiteState.{Lenders, site}
 use Rattle.block_server.proofs.Advancing.{begins_on, begins_same, copies_none, copies_one, puts_none}
 
@@ -67,9 +71,11 @@ target_grows shared src old new from to len name copies.NoMemory copied refused 
 pub windows_move : (reached : Lenders) (queue : EndState) (own own' client client' : PortState) (shared : Bool) (copies copies' : List CopyRecord) → own'.place ≡ own.place → client'.place ≡ client.place
     → ((e : ℕ) → Later shared (client.values e) (client'.values e))
     → SideGrows (side_of own) (side_of own') → SideGrows (side_of client) (side_of client')
-    → CopiesMore own' client' copies copies'
+    → CopiesMore own' client' copies copies' → own.in_use ≤ own'.in_use → client.in_use ≤ client'.in_use
+    → StayNamed shared client client' copies copies'
+    → (AreNamed (side_of own) copies → AreNamed (side_of own') copies')
     → Advances (site reached queue own client shared copies) (site reached queue own' client' shared copies')
-windows_move reached queue own own' client client' shared copies copies' own_place client_place values own_grows client_grows made = record {
+windows_move reached queue own own' client client' shared copies copies' own_place client_place values own_grows client_grows made own_uses client_uses named own_named = record {
   reached = refl;
   queue_place = refl;
   own_place = own_place;
@@ -82,6 +88,10 @@ windows_move reached queue own own' client client' shared copies copies' own_pla
   own = own_grows;
   client = client_grows;
   copies = made;
+  own_in_use = own_uses;
+  client_in_use = client_uses;
+  named = named;
+  own_named = own_named;
 }
 
 pub read_grows : (shared : Bool) (old new : PortState) → OnlyReads shared old new → SideGrows (side_of old) (side_of new)
@@ -128,3 +138,52 @@ delivered_more shared own client client' from to len name (copies.SourceParm fau
 delivered_more shared own client client' from to len name (copies.DestParm fault) old new who copied made = copies_none own client' old new (made ∙ append-nil old)
 delivered_more shared own client client' from to len name (copies.Busy page word) old new who copied made = copies_none own client' old new (made ∙ append-nil old)
 delivered_more shared own client client' from to len name copies.NoMemory old new who copied made = copies_none own client' old new (made ∙ append-nil old)
+
+either_rose : (a b c d : ℕ) → (Rose a b × (d ≡ c)) ⊎ ((b ≡ a) × Rose c d) → Rose a b ⊎ Rose c d
+either_rose a b c d (inl counts) = inl counts.0
+either_rose a b c d (inr counts) = inr counts.1
+
+other_way : (A B : Type 0) → A ⊎ B → B ⊎ A
+other_way A B (inl a) = inr a
+other_way A B (inr b) = inl b
+
+not_alone : (shared : Bool) (P : Type 0) → shared ≡ false → shared ≡ true → P
+not_alone shared P alone is = absurd (cc (alone, is))
+
+-- a copy from the client's window that found a page in use: others have a hand in that window
+pub fetch_busy : (own_shared shared : Bool) (own own' client client' : PortState) (address at len : ℕ) (found own_found : ℕ → ℕ → Type 0) (answer : CopyAnswer)
+    → own_shared ≡ false → IfBusy answer (λ page word. (1 ≤ len) × (len ≤ 65536) × MayHold client' Read address len
+    × (IsBusySide shared client'.values address len page (found page word)
+    ⊎ (IsBusySide own_shared own'.values at len page (own_found page word) × MayHold own' Write at len)))
+    → CountsCopy answer client.in_use client'.in_use own.in_use own'.in_use → IsBusy answer → FindsUse shared own own' client client'
+fetch_busy own_shared shared own own' client client' address at len found own_found (copies.Busy page word) alone busy counts is =
+    record { shared_is = by busy.3; rose = other_way _ _ (either_rose client.in_use client'.in_use own.in_use own'.in_use counts) }
+  where
+    by : IsBusySide shared client'.values address len page (found page word)
+        ⊎ (IsBusySide own_shared own'.values at len page (own_found page word) × MayHold own' Write at len) → shared ≡ true
+    by (inl side) = side.shared
+    by (inr (side, may)) = not_alone own_shared (shared ≡ true) alone side.shared
+fetch_busy own_shared shared own own' client client' address at len found own_found (copies.Copied copy) alone busy counts is = absurd is
+fetch_busy own_shared shared own own' client client' address at len found own_found copies.Parameter alone busy counts is = absurd is
+fetch_busy own_shared shared own own' client client' address at len found own_found (copies.SourceParm fault) alone busy counts is = absurd is
+fetch_busy own_shared shared own own' client client' address at len found own_found (copies.DestParm fault) alone busy counts is = absurd is
+fetch_busy own_shared shared own own' client client' address at len found own_found copies.NoMemory alone busy counts is = absurd is
+
+-- and one to it
+pub deliver_busy : (own_shared shared : Bool) (own own' client client' : PortState) (address at len : ℕ) (found own_found : ℕ → ℕ → Type 0) (answer : CopyAnswer)
+    → own_shared ≡ false → IfBusy answer (λ page word. (1 ≤ len) × (len ≤ 65536) × MayHold own' Read at len
+    × (IsBusySide own_shared own'.values at len page (own_found page word)
+    ⊎ (IsBusySide shared client'.values address len page (found page word) × MayHold client' Write address len)))
+    → CountsCopy answer own.in_use own'.in_use client.in_use client'.in_use → IsBusy answer → FindsUse shared own own' client client'
+deliver_busy own_shared shared own own' client client' address at len found own_found (copies.Busy page word) alone busy counts is =
+    record { shared_is = by busy.3; rose = either_rose own.in_use own'.in_use client.in_use client'.in_use counts }
+  where
+    by : IsBusySide own_shared own'.values at len page (own_found page word)
+        ⊎ (IsBusySide shared client'.values address len page (found page word) × MayHold client' Write address len) → shared ≡ true
+    by (inl side) = not_alone own_shared (shared ≡ true) alone side.shared
+    by (inr (side, may)) = side.shared
+deliver_busy own_shared shared own own' client client' address at len found own_found (copies.Copied copy) alone busy counts is = absurd is
+deliver_busy own_shared shared own own' client client' address at len found own_found copies.Parameter alone busy counts is = absurd is
+deliver_busy own_shared shared own own' client client' address at len found own_found (copies.SourceParm fault) alone busy counts is = absurd is
+deliver_busy own_shared shared own own' client client' address at len found own_found (copies.DestParm fault) alone busy counts is = absurd is
+deliver_busy own_shared shared own own' client client' address at len found own_found copies.NoMemory alone busy counts is = absurd is

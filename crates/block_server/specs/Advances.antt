@@ -1,6 +1,6 @@
 -- What a unit's calls leave of its queue and of the two windows: nothing that was known is gone, nothing was put but what a
 -- unit may put, and nothing was copied but by lawful copies.
-use Rattle.std.specs.Prelude.{◌≡◌, ◌≤◌, ◌⊎◌, ◌++◌, ℕ, All, List, Some}
+use Rattle.std.specs.Prelude.{◌≡◌, ◌≤◌, ◌⊎◌, ◌++◌, ℕ, Bool, false, All, List, Some}
 use Rattle.vio_num.specs.declared.entry.Entry.{Entry}
 use Rattle.vio_num.specs.Entry.{partner_freed}
 use Rattle.crq_ring.specs.declared.rows.PipeRow.{PipeRow}
@@ -12,6 +12,7 @@ use Rattle.rdma_copy.specs.Copy.{IsLawful, SideGrows}
 use Rattle.rdma_copy.specs.declared.copy.CopyRecord.{CopyRecord}
 use Rattle.rdma_copy.specs.Copies.{side_of}
 use Rattle.block_server.specs.Entries.{MayPut}
+use Rattle.block_server.specs.Makers.{AreNamed}
 use Rattle.block_server.specs.SiteState.{SiteState}
 
 -- Entries were put behind those that were, each of which a unit may put.
@@ -37,6 +38,10 @@ pub record CopiesMore (own client : PortState) (old new : List CopyRecord) : Typ
   pub made : new ≡ old ++ more
   pub lawful : All (IsOwnCopy own client) more
 
+-- Where no other has a hand in the window: if the copies named its strokes, they still do.
+abbrev pub StayNamed : (shared : Bool) → (old new : PortState) → (copies copies' : List CopyRecord) → Type 0
+StayNamed shared old new copies copies' = shared ≡ false → AreNamed (side_of old) copies → AreNamed (side_of new) copies'
+
 pub record Advances (old new : SiteState) : Type 0 where
   pub reached : new.reached ≡ old.reached
   pub queue_place : new.queue.place ≡ old.queue.place
@@ -50,6 +55,10 @@ pub record Advances (old new : SiteState) : Type 0 where
   pub own : SideGrows (side_of old.own) (side_of new.own)
   pub client : SideGrows (side_of old.client) (side_of new.client)
   pub copies : CopiesMore new.own new.client old.copies new.copies
+  pub own_in_use : old.own.in_use ≤ new.own.in_use
+  pub client_in_use : old.client.in_use ≤ new.client.in_use
+  pub named : StayNamed old.shared old.client new.client old.copies new.copies
+  pub own_named : AreNamed (side_of old.own) old.copies → AreNamed (side_of new.own) new.copies
 
 -- What a turn leaves of its queue's end, of the unit's own window and of its client's.
 pub record Goes (queue queue' : EndState) (own own' client client' : PortState) : Type 0 where

@@ -2,7 +2,7 @@
 use Rattle.std.specs.Prelude.{⊤, List, [], ◌∷◌}
 use Rattle.rdma_copy.specs.declared.copy.CopyRecord.{CopyRecord}
 use Rattle.rdma_copy.specs.declared.copy.CopyAnswer.{CopyAnswer}
-use Rattle.rdma_copy.specs.declared.copy.CopyAnswer.TheVariants.{Copied, Parameter, SourceParm, DestParm}
+use Rattle.rdma_copy.specs.declared.copy.CopyAnswer.TheVariants.{Busy, Copied, Parameter, SourceParm, DestParm}
 
 -- the copy that was made, if one was
 abbrev pub copies_in : CopyAnswer → List CopyRecord
@@ -15,3 +15,8 @@ IsRefusal Parameter = ⊤
 IsRefusal (SourceParm fault) = ⊤
 IsRefusal (DestParm fault) = ⊤
 IsRefusal _ = ⊥
+
+-- A page was in use.
+abbrev pub IsBusy : CopyAnswer → Type 0
+IsBusy (Busy page word) = ⊤
+IsBusy _ = ⊥

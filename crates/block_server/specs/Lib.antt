@@ -7,8 +7,10 @@ pub mod Ends
 pub mod Entries
 pub mod Fetched
 pub mod Kept
+pub mod Makers
 pub mod Orders
 pub mod Parts
+pub mod Ready
 pub mod Records
 pub mod Responses
 pub mod Service
@@ -18,3 +20,4 @@ pub mod Stage
 pub mod Turns
 pub mod Units
 pub mod Verdicts
+pub mod Waits

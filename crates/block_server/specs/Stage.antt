@@ -14,11 +14,44 @@ is_before_step InTable = true
 is_before_step (DataOut cursor) = true
 is_before_step _ = false
 
+-- whether the descriptors were judged, and the disk step is still to be made
+abbrev pub is_judged : Stage → Bool
+is_judged OutTable = true
+is_judged InTable = true
+is_judged (DataOut cursor) = true
+is_judged _ = false
+
+-- whether the pieces of data-out are found besides
+abbrev pub has_outs : Stage → Bool
+has_outs InTable = true
+has_outs (DataOut cursor) = true
+has_outs _ = false
+
+-- whether data-out are copied from the client
+abbrev pub is_data_out : Stage → Bool
+is_data_out (DataOut cursor) = true
+is_data_out _ = false
+
+-- whether the disk step was made and its data-in are to be written to the unit's region
+abbrev pub is_given : Stage → Bool
+is_given (Given row reply) = true
+is_given _ = false
+
+-- whether data-in are copied to the client
+abbrev pub is_data_in : Stage → Bool
+is_data_in (DataIn row reply cursor) = true
+is_data_in _ = false
+
 -- whether the answer is to be copied, or its entry to be put
 abbrev pub is_answered : Stage → Bool
 is_answered (Answer outcome) = true
 is_answered (Entry outcome) = true
 is_answered _ = false
+
+-- whether its entry is to be put
+abbrev pub is_entry : Stage → Bool
+is_entry (Entry outcome) = true
+is_entry _ = false
 
 -- whether an answer that does this once its entry is put may have so many bytes
 abbrev pub fits : Outcome → ℕ → Bool

@@ -1,11 +1,14 @@
 // Answering: what is put into the client's queue, and what ends a login.
-ghost use Rattle.std.specs.Prelude.{◌≡◌, ◌≢◌, ◌+◌, ◌<◌, None, Some, OnOk, true};
+ghost use Rattle.std.specs.Prelude.{◌≡◌, ◌≢◌, ◌⊎◌, ◌+◌, ◌<◌, None, Some, IfOk, OnOk, false, true};
 ghost use Rattle.block_server.specs.Advances.{Advances};
 ghost use Rattle.block_server.specs.Ends.{EndsLogin};
 ghost use Rattle.block_server.specs.Entries.{IsPlain, MayPut, is_answer_len};
 ghost use Rattle.block_server.specs.Serving.{AnswersOnce, AsNone, LeavesRow, SettlesRow, desk_of};
 ghost use Rattle.crq_session.specs.EndState.{EndState};
+ghost use Rattle.block_server.specs.Ready.{MeetsFull};
+ghost use Rattle.block_server.specs.Stage.{is_answered};
 ghost use Rattle.block_server.specs.Turns.{IfQuiet};
+ghost use Rattle.block_server.specs.Waits.{AsNext, IsEntryDue, IsHeldUp, IsPending, MeetsUse, PassesKept, StaysAgreed};
 ghost use Rattle.vio_num.specs.Entry.{srp_entry};
 ghost use Rattle.block_server.specs.declared.service.Outcome.{Outcome};
 ghost use Rattle.block_server.specs.Records.{HasLineRoom};
@@ -33,6 +36,8 @@ pub(crate) fn put_reply<S: Site>(unit: &mut Unit, site: &mut S, reply: Entry) ->
         (S.state site.old).queue (S.state site.new).queue records records }
     ensures kept { result ≡ Next.End → unit.new.line.kept ≡ Some (Kept.Reply reply) }
     ensures quiet { IfQuiet unit.old unit.new (S.state site.old).queue (S.state site.new).queue }
+    ensures agrees { StaysAgreed unit.old unit.new
+        (S.state site.old).queue (S.state site.new).queue }
     ensures advances { Advances (S.state site.old) (S.state site.new) }
 {
     match site.send(reply) {
@@ -63,6 +68,7 @@ pub(crate) fn end_session(
     ensures end { result ≡ Next.End }
     ensures last { unit.new.logins.last ≡ unit.old.logins.last }
     ensures stage { unit.new.service.stage ≡ Stage.Start }
+    ensures handshake { unit.new.line.handshake ≡ unit.old.line.handshake }
     ensures moved { unit.new.moved ≡ true }
 {
     end_counted(unit, session, records, cause, 0, 0)
@@ -86,6 +92,7 @@ pub(crate) fn end_counted(
     ensures end { result ≡ Next.End }
     ensures last { unit.new.logins.last ≡ unit.old.logins.last }
     ensures stage { unit.new.service.stage ≡ Stage.Start }
+    ensures handshake { unit.new.line.handshake ≡ unit.old.line.handshake }
     ensures moved { unit.new.moved ≡ true }
 {
     end_login(unit, session, records, cause, outstanding, granted);
@@ -100,6 +107,7 @@ pub(crate) fn lose_partner(unit: &mut Unit, session: u64, records: &mut Records)
     ensures ends { EndsLogin unit.old unit.new records.old records.new session Lapse.Lost 0 0 }
     ensures once { (q : EndState) → AnswersOnce (desk_of unit.old) (desk_of unit.new) q q
         records.old records.new }
+    ensures handshake { unit.new.line.handshake ≡ unit.old.line.handshake }
     ensures moved { unit.new.moved ≡ unit.old.moved }
 {
     end_login(unit, session, records, Lapse::Lost, 0, 0);
@@ -121,6 +129,7 @@ fn end_login(
         records.old records.new }
     ensures last { unit.new.logins.last ≡ unit.old.logins.last }
     ensures stage { unit.new.service.stage ≡ Stage.Start }
+    ensures handshake { unit.new.line.handshake ≡ unit.old.line.handshake }
     ensures moved { unit.new.moved ≡ unit.old.moved }
 {
     bytes_spell_one();
@@ -147,6 +156,7 @@ fn leave_row(unit: &mut Unit, records: &mut Records)
     ensures logins { unit.new.logins ≡ unit.old.logins }
     ensures id { unit.new.id ≡ unit.old.id }
     ensures stage { unit.new.service.stage ≡ Stage.Start }
+    ensures line { unit.new.line ≡ unit.old.line }
     ensures moved { unit.new.moved ≡ unit.old.moved }
 {
     cut_data(&mut unit.service, records);
@@ -174,6 +184,7 @@ pub(crate) fn log_out(unit: &mut Unit, session: u64, records: &mut Records)
     requires none { unit.old.line.kept ≡ None }
     ensures once { (q : EndState) → AnswersOnce (desk_of unit.old) (desk_of unit.new) q q
         records.old records.new }
+    ensures handshake { unit.new.line.handshake ≡ unit.old.line.handshake }
     ensures moved { unit.new.moved ≡ true }
 {
     let login = unit.logins.end();
@@ -200,6 +211,11 @@ pub(crate) fn answer<S: Site>(
         (S.state site.old).queue (S.state site.new).queue records.old records.new }
     ensures quiet { OnOk result (IfQuiet unit.old unit.new
         (S.state site.old).queue (S.state site.new).queue) }
+    ensures waits { OnOk result (unit.new.moved ≡ false → IsPending unit.old →
+        is_answered unit.old.service.stage ≡ true →
+        IsHeldUp S.link_shared (S.state site.old) (S.state site.new)) }
+    ensures agrees { StaysAgreed unit.old unit.new
+        (S.state site.old).queue (S.state site.new).queue }
     ensures advances { Advances (S.state site.old) (S.state site.new) }
 {
     records.make_room()?;
@@ -225,6 +241,10 @@ fn copy_answer<S: Site>(
         (S.state site.old).queue (S.state site.new).queue records.old records.new }
     ensures queue { (S.state site.new).queue ≡ (S.state site.old).queue }
     ensures quiet { IfQuiet unit.old unit.new (S.state site.old).queue (S.state site.new).queue }
+    ensures waits { OnOk result (unit.new.moved ≡ false → IsPending unit.old →
+        is_answered unit.old.service.stage ≡ true → MeetsUse (S.state site.old) (S.state site.new) ⊎
+        IsEntryDue unit.new) }
+    ensures handshake { unit.new.line.handshake ≡ unit.old.line.handshake }
     ensures advances { Advances (S.state site.old) (S.state site.new) }
     ensures last { unit.new.logins.last ≡ unit.old.logins.last }
     ensures line { (outcome : Outcome) → unit.new.service.stage ≡ Stage.Entry outcome →
@@ -252,6 +272,10 @@ fn deliver<S: Site>(unit: &mut Unit, site: &mut S, outcome: Outcome) -> Result<P
         (S.state site.old).queue (S.state site.new).queue records records }
     ensures queue { (S.state site.new).queue ≡ (S.state site.old).queue }
     ensures quiet { IfQuiet unit.old unit.new (S.state site.old).queue (S.state site.new).queue }
+    ensures busy { IfOk result (λ progress. progress ≡ Progress.Busy → IsPending unit.old →
+        MeetsUse (S.state site.old) (S.state site.new)) }
+    ensures done { IfOk result (λ progress. progress ≡ Progress.Done → unit.new.moved ≡ true) }
+    ensures line { unit.new.line ≡ unit.old.line }
     ensures advances { Advances (S.state site.old) (S.state site.new) }
     ensures logins { unit.new.logins ≡ unit.old.logins }
 {
@@ -280,6 +304,10 @@ fn put_answer<S: Site>(unit: &mut Unit, site: &mut S, records: &mut Records, out
     ensures once { AnswersOnce (desk_of unit.old) (desk_of unit.new)
         (S.state site.old).queue (S.state site.new).queue records.old records.new }
     ensures quiet { IfQuiet unit.old unit.new (S.state site.old).queue (S.state site.new).queue }
+    ensures waits { unit.new.moved ≡ false → IsPending unit.old →
+        MeetsFull S.link_shared (S.state site.old).queue (S.state site.new).queue }
+    ensures agrees { StaysAgreed unit.old unit.new
+        (S.state site.old).queue (S.state site.new).queue }
     ensures advances { Advances (S.state site.old) (S.state site.new) }
 {
     let Some(request) = unit.pending.front() else {
@@ -313,6 +341,11 @@ pub(crate) fn put_kept<S: Site>(
         (S.state site.old).queue (S.state site.new).queue records.old records.new }
     ensures quiet { OnOk result (IfQuiet unit.old unit.new
         (S.state site.old).queue (S.state site.new).queue) }
+    ensures waits { IfOk result (λ next. unit.new.moved ≡ false → AsNext next
+        (PassesKept S.link_shared unit.old unit.new (S.state site.old).queue (S.state site.new).queue)
+        ⊥ (MeetsFull S.link_shared (S.state site.old).queue (S.state site.new).queue)) }
+    ensures agrees { StaysAgreed unit.old unit.new
+        (S.state site.old).queue (S.state site.new).queue }
     ensures advances { Advances (S.state site.old) (S.state site.new) }
 {
     let Some(kept) = unit.line.kept else {
@@ -350,6 +383,7 @@ fn settle(unit: &mut Unit, session: u64, records: &mut Records, outcome: Outcome
     ensures id { unit.new.id ≡ unit.old.id }
     ensures stage { unit.new.service.stage ≡ Stage.Start }
     ensures kept { unit.new.line.kept ≡ unit.old.line.kept }
+    ensures handshake { unit.new.line.handshake ≡ unit.old.line.handshake }
     ensures moved { unit.new.moved ≡ true }
 {
     match outcome {
@@ -379,6 +413,7 @@ fn finish(unit: &mut Unit)
     ensures id { unit.new.id ≡ unit.old.id }
     ensures stage { unit.new.service.stage ≡ Stage.Start }
     ensures kept { unit.new.line.kept ≡ unit.old.line.kept }
+    ensures handshake { unit.new.line.handshake ≡ unit.old.line.handshake }
     ensures moved { unit.new.moved ≡ true }
 {
     let _served = unit.pending.pop_front();

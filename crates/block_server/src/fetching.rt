@@ -1,11 +1,12 @@
 // What a command brings: the tables of its descriptors, and its data-out.
-ghost use Rattle.std.specs.Prelude.{◌≡◌, ◌⊎◌, ◌%◌, ◌≤◌, true};
+ghost use Rattle.std.specs.Prelude.{◌≡◌, ◌⊎◌, ◌%◌, ◌≤◌, IfOk, false, true};
 ghost use Rattle.block_server.specs.Advances.{Advances};
 ghost use Rattle.block_server.specs.Causes.{IsBad, IsNamed, RefusesBuffer, RefusesData, RefusesOut, TurnsDown};
 ghost use Rattle.block_server.specs.Fetched.{DeniesTable, Gathers, HasBadSum, IfDone, IfRefused, IsRead};
 ghost use Rattle.block_server.specs.SiteState.{denied_between};
 ghost use Rattle.tce_window.specs.declared.answers.Right.TheVariants.{Read};
-ghost use Rattle.block_server.specs.Stage.{is_before_step};
+ghost use Rattle.block_server.specs.Stage.{has_outs, is_before_step, is_data_out, is_judged};
+ghost use Rattle.block_server.specs.Waits.{MeetsUse};
 
 use crate::answers::total_len;
 use crate::cursor::Cursor;
@@ -45,6 +46,10 @@ pub(crate) fn fetch<S: Site>(
     ensures refused { Gathers command.now service.old.stage
         service.old.out.list.items service.old.inn.list.items → IfRefused result
         (TurnsDown (denied_between (S.state site.old) (S.state site.new)) command.now) }
+    ensures busy { IfOk result (λ progress. progress ≡ Progress.Busy →
+        MeetsUse (S.state site.old) (S.state site.new)) }
+    ensures went { IfOk result (λ progress. progress ≡ Progress.Done →
+        is_before_step service.old.stage ≡ true → is_data_out service.new.stage ≡ true) }
     ensures queue { (S.state site.new).queue ≡ (S.state site.old).queue }
     ensures advances { Advances (S.state site.old) (S.state site.new) }
 {
@@ -70,6 +75,8 @@ fn is_refused(service: &mut Service, command: &Cmd) -> bool
         service.old.out.list.items service.old.inn.list.items →
         Gathers command.now service.new.stage
         service.new.out.list.items service.new.inn.list.items }
+    ensures went { result ≡ false → is_before_step service.old.stage ≡ true →
+        is_judged service.new.stage ≡ true }
     ensures refused { result ≡ true → IsBad command.now.out ⊎ IsBad command.now.inn }
 {
     if service.stage != Stage::Start {
@@ -98,6 +105,10 @@ fn fetch_out_pieces<S: Site>(
         service.new.out.list.items service.new.inn.list.items }
     ensures refused { IfRefused result
         (RefusesBuffer (denied_between (S.state site.old) (S.state site.new)) command.now.out) }
+    ensures busy { IfOk result (λ progress. progress ≡ Progress.Busy →
+        MeetsUse (S.state site.old) (S.state site.new)) }
+    ensures went { IfOk result (λ progress. progress ≡ Progress.Done →
+        is_judged service.old.stage ≡ true → has_outs service.new.stage ≡ true) }
     ensures queue { (S.state site.new).queue ≡ (S.state site.old).queue }
     ensures advances { Advances (S.state site.old) (S.state site.new) }
 {
@@ -125,6 +136,10 @@ fn fetch_in_pieces<S: Site>(
         service.new.out.list.items service.new.inn.list.items }
     ensures refused { IfRefused result
         (RefusesBuffer (denied_between (S.state site.old) (S.state site.new)) command.now.inn) }
+    ensures busy { IfOk result (λ progress. progress ≡ Progress.Busy →
+        MeetsUse (S.state site.old) (S.state site.new)) }
+    ensures went { IfOk result (λ progress. progress ≡ Progress.Done →
+        has_outs service.old.stage ≡ true → is_data_out service.new.stage ≡ true) }
     ensures queue { (S.state site.new).queue ≡ (S.state site.old).queue }
     ensures advances { Advances (S.state site.old) (S.state site.new) }
 {
@@ -149,6 +164,10 @@ fn fetch_data_out<S: Site>(service: &mut Service, site: &mut S) -> Result<Progre
     ensures refused { (command : Cmd) → Gathers command service.old.stage
         service.old.out.list.items service.old.inn.list.items → IfRefused result
         (RefusesOut (denied_between (S.state site.old) (S.state site.new)) command) }
+    ensures busy { IfOk result (λ progress. progress ≡ Progress.Busy →
+        MeetsUse (S.state site.old) (S.state site.new)) }
+    ensures stays { is_data_out service.old.stage ≡ true →
+        is_data_out service.new.stage ≡ true }
     ensures queue { (S.state site.new).queue ≡ (S.state site.old).queue }
     ensures advances { Advances (S.state site.old) (S.state site.new) }
 {
@@ -167,6 +186,8 @@ fn fetch_pieces<S: Site>(
     ensures named { IfDone result (IsNamed buffer.now pieces.new.list.items) }
     ensures refused { IfRefused result
         (RefusesBuffer (denied_between (S.state site.old) (S.state site.new)) buffer.now) }
+    ensures busy { IfOk result (λ progress. progress ≡ Progress.Busy →
+        MeetsUse (S.state site.old) (S.state site.new)) }
     ensures queue { (S.state site.new).queue ≡ (S.state site.old).queue }
     ensures advances { Advances (S.state site.old) (S.state site.new) }
 {
@@ -198,6 +219,8 @@ fn fetch_table<S: Site>(
     ensures read { IfDone result (IsRead table.len total pieces.new.list.items) }
     ensures refused { IfRefused result (HasBadSum table.len total
         ⊎ DeniesTable (denied_between (S.state site.old) (S.state site.new)) table) }
+    ensures busy { IfOk result (λ progress. progress ≡ Progress.Busy →
+        MeetsUse (S.state site.old) (S.state site.new)) }
     ensures queue { (S.state site.new).queue ≡ (S.state site.old).queue }
     ensures advances { Advances (S.state site.old) (S.state site.new) }
 {
@@ -230,6 +253,8 @@ fn fetch_data<S: Site>(
     ensures inn { service.new.inn ≡ service.old.inn }
     ensures refused { IfRefused result (RefusesData
         (denied_between (S.state site.old) (S.state site.new)) Read service.old.out.list.items) }
+    ensures busy { IfOk result (λ progress. progress ≡ Progress.Busy →
+        MeetsUse (S.state site.old) (S.state site.new)) }
     ensures queue { (S.state site.new).queue ≡ (S.state site.old).queue }
     ensures advances { Advances (S.state site.old) (S.state site.new) }
 {

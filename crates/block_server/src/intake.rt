@@ -1,9 +1,11 @@
 // Intake: entries are taken from the unit's queue, and the requests among them are fetched and judged.
-ghost use Rattle.std.specs.Prelude.{◌≡◌, ◌+◌, ◌<◌, ◌≤◌, ℕ, List, None, OnOk, length};
+ghost use Rattle.std.specs.Prelude.{◌≡◌, ◌+◌, ◌<◌, ◌≤◌, ℕ, List, None, IfOk, OnOk, false, length};
 ghost use Rattle.std.specs.VecDeque.{deque_len, deque_capacity};
 ghost use Rattle.block_server.specs.Records.{HasLineRoom};
 ghost use Rattle.block_server.specs.Advances.{Advances};
+ghost use Rattle.block_server.specs.Ready.{Idles};
 ghost use Rattle.block_server.specs.Turns.{IfQuiet, StaysMoved, under_way};
+ghost use Rattle.block_server.specs.Waits.{AsNext, EndsIntake, FindsNothing, MeetsUse, StaysAgreed};
 ghost use Rattle.block_server.specs.Serving.{AnswersOnce, AsNone, desk_of};
 ghost use Rattle.block_server.specs.Verdicts.{IsTagged};
 ghost use Rattle.crq_session.specs.EndState.{EndState};
@@ -82,6 +84,10 @@ pub(crate) fn take_in<S: Site>(
         (S.state site.old).queue (S.state site.new).queue records.old records.new }
     ensures quiet { OnOk result (IfQuiet unit.old unit.new
         (S.state site.old).queue (S.state site.new).queue) }
+    ensures waits { IfOk result (λ next. unit.new.moved ≡ false → AsNext next ⊥
+        (EndsIntake S.link_shared unit.old unit.new (S.state site.old) (S.state site.new)) ⊥) }
+    ensures agrees { StaysAgreed unit.old unit.new
+        (S.state site.old).queue (S.state site.new).queue }
     ensures advances { Advances (S.state site.old) (S.state site.new) }
 {
     let next = receive_waiting(unit, site, records)?;
@@ -113,6 +119,11 @@ fn receive_waiting<S: Site>(
         (S.state site.old).queue (S.state site.new).queue records.old records.new }
     ensures quiet { OnOk result (IfQuiet unit.old unit.new
         (S.state site.old).queue (S.state site.new).queue) }
+    ensures waits { IfOk result (λ next. unit.new.moved ≡ false → AsNext next
+        (unit.new.waiting ≡ None) (MeetsUse (S.state site.old) (S.state site.new)) ⊥) }
+    ensures line { OnOk result (unit.new.moved ≡ false → unit.new.line ≡ unit.old.line) }
+    ensures handshake { unit.new.line.handshake ≡ unit.old.line.handshake }
+    ensures queue { (S.state site.new).queue ≡ (S.state site.old).queue }
     ensures advances { Advances (S.state site.old) (S.state site.new) }
 {
     let Some(arrival) = unit.waiting else {
@@ -126,6 +137,7 @@ fn receive_waiting<S: Site>(
 fn make_room(unit: &mut Unit, records: &mut Records) -> Result<(), NoMemory>
     ensures lines { OnOk result (HasLineRoom records.new) }
     ensures pending { OnOk result (deque_len unit.new.pending < deque_capacity unit.new.pending) }
+    ensures line { unit.new.line ≡ unit.old.line }
     ensures way { under_way unit.new ≡ under_way unit.old }
     ensures desk { desk_of unit.new ≡ desk_of unit.old }
     ensures kept { unit.new.line.kept ≡ unit.old.line.kept }
@@ -146,6 +158,13 @@ fn take_one<S: Site>(unit: &mut Unit, site: &mut S, records: &mut Records) -> Re
         (S.state site.old).queue (S.state site.new).queue records.old records.new }
     ensures quiet { OnOk result (IfQuiet unit.old unit.new
         (S.state site.old).queue (S.state site.new).queue) }
+    ensures waits { IfOk result (λ next. unit.new.moved ≡ false → AsNext next ⊥
+        (FindsNothing S.link_shared (S.state site.old).queue (S.state site.new).queue) ⊥) }
+    ensures idles { OnOk result (unit.new.moved ≡ false →
+        Idles S.link_shared (S.state site.old).queue (S.state site.new).queue) }
+    ensures line { OnOk result (unit.new.moved ≡ false → unit.new.line ≡ unit.old.line) }
+    ensures agrees { StaysAgreed unit.old unit.new
+        (S.state site.old).queue (S.state site.new).queue }
     ensures advances { Advances (S.state site.old) (S.state site.new) }
 {
     site.reserve(2)?;
@@ -187,6 +206,8 @@ fn take_command<S: Site>(
     ensures once { AnswersOnce (desk_of unit.old) (desk_of unit.new)
         (S.state site.old).queue (S.state site.new).queue records.old records.new }
     ensures moved { OnOk result (StaysMoved unit.old unit.new) }
+    ensures agrees { StaysAgreed unit.old unit.new
+        (S.state site.old).queue (S.state site.new).queue }
     ensures advances { Advances (S.state site.old) (S.state site.new) }
 {
     match arrival.entry.format() {
@@ -214,6 +235,11 @@ fn receive<S: Site>(
         (S.state site.old).queue (S.state site.new).queue records.old records.new }
     ensures quiet { OnOk result (IfQuiet unit.old unit.new
         (S.state site.old).queue (S.state site.new).queue) }
+    ensures waits { IfOk result (λ next. unit.new.moved ≡ false → AsNext next ⊥
+        (MeetsUse (S.state site.old) (S.state site.new)) ⊥) }
+    ensures line { OnOk result (unit.new.moved ≡ false → unit.new.line ≡ unit.old.line) }
+    ensures handshake { unit.new.line.handshake ≡ unit.old.line.handshake }
+    ensures queue { (S.state site.new).queue ≡ (S.state site.old).queue }
     ensures advances { Advances (S.state site.old) (S.state site.new) }
 {
     let session = site.session();
@@ -253,6 +279,7 @@ fn judge(
     ensures none { unit.new.line.kept ≡ None }
     ensures once { (q : EndState) → AnswersOnce (desk_of unit.old) (desk_of unit.new) q q
         records.old records.new }
+    ensures handshake { unit.new.line.handshake ≡ unit.old.line.handshake }
     ensures moved { StaysMoved unit.old unit.new }
 {
     match judge_unit(&mut unit.logins, bytes) {

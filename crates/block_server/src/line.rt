@@ -58,6 +58,7 @@ impl Line {
 
     /// The session was freed.
     pub(crate) fn freed(&mut self)
+        ensures handshake { self.new.handshake ≡ Down }
         ensures closing { self.new.closing ≡ false }
         ensures kept { self.new.kept ≡ self.old.kept }
     {

@@ -2,8 +2,9 @@
 ghost use Rattle.std.specs.Prelude.{◌≡◌, ◌+◌, ◌<◌, ◌≤◌, ◌++◌, false, IsErrOf, length, vec_len, vec_capacity};
 ghost use Rattle.tce_window.specs.declared.answers.Right.TheVariants.{Read, Write};
 ghost use Rattle.block_server.specs.Causes.{IsDenied};
-ghost use Rattle.block_server.specs.Copied.{IsRefusal, copies_in};
+ghost use Rattle.block_server.specs.Copied.{IsBusy, IsRefusal, copies_in};
 ghost use Rattle.block_server.specs.Advances.{Advances, KeepsFreed};
+ghost use Rattle.block_server.specs.Ready.{FindsUse};
 ghost use Rattle.block_server.specs.SiteState.{AreReady, lenders, site};
 
 use crate::site::{Halt, Site};
@@ -47,6 +48,7 @@ fn note(copies: &mut Vec<CopyRecord>, answer: CopyAnswer) -> Result<(), Halt>
     requires { vec_len copies.old < vec_capacity copies.old }
     ensures copies { copies.new.items ≡ copies.old.items ++ copies_in answer }
     ensures refused { IsErrOf result Halt.Refused → IsRefusal answer }
+    ensures busy { IsErrOf result Halt.Busy → IsBusy answer }
 {
     match answer {
         CopyAnswer::Copied(copy) => {
@@ -69,6 +71,9 @@ impl<C: CrqEnd, O: OwnerPort + GuestPort, R: GuestPort> Ports<'_, '_, '_, '_, C,
         requires inside { at + len ≤ 139264 }
         ensures refused { IsErrOf result Halt.Refused → IsDenied R.is_shared
             (R.state self.old.client.now) (R.state self.new.client.now) Read address len }
+        ensures busy { IsErrOf result Halt.Busy → FindsUse R.is_shared
+            (O.state self.old.own.now) (O.state self.new.own.now)
+            (R.state self.old.client.now) (R.state self.new.client.now) }
         ensures queue { C.state self.new.queue.now ≡ C.state self.old.queue.now }
         ensures advances { Advances
             (site (lenders self.old.queue.ghost_name self.old.own.ghost_name self.old.client.ghost_name
@@ -96,6 +101,9 @@ impl<C: CrqEnd, O: OwnerPort + GuestPort, R: GuestPort> Ports<'_, '_, '_, '_, C,
         requires inside { at + len ≤ 139264 }
         ensures refused { IsErrOf result Halt.Refused → IsDenied R.is_shared
             (R.state self.old.client.now) (R.state self.new.client.now) Write address len }
+        ensures busy { IsErrOf result Halt.Busy → FindsUse R.is_shared
+            (O.state self.old.own.now) (O.state self.new.own.now)
+            (R.state self.old.client.now) (R.state self.new.client.now) }
         ensures queue { C.state self.new.queue.now ≡ C.state self.old.queue.now }
         ensures advances { Advances
             (site (lenders self.old.queue.ghost_name self.old.own.ghost_name self.old.client.ghost_name

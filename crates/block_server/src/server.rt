@@ -1,8 +1,11 @@
 // A server: its units, the disk that they serve, and what they keep for good.
-ghost use Rattle.std.specs.Prelude.{◌≡◌, ◌<◌, ◌≤◌, ℕ, Bool, List, [], false, IfErr, IfOk, IfSome, IsSome, vec_len};
-ghost use Rattle.block_server.specs.Advances.{CopiesMore, Goes, KeepsFreed};
+ghost use Rattle.std.specs.Prelude.{◌≡◌, ◌≢◌, ◌<◌, ◌≤◌, ℕ, Bool, List, [], false, IfErr, IfOk, IfSome, IsSome, slice_get, vec_len};
+ghost use Rattle.rdma_copy.specs.Copies.{side_of};
+ghost use Rattle.block_server.specs.Advances.{CopiesMore, Goes, KeepsFreed, StayNamed};
 ghost use Rattle.block_server.specs.Causes.{Tells, Told, anything};
 ghost use Rattle.block_server.specs.DiskLaw.{KeepsDisk, KeepsDiskBy};
+ghost use Rattle.block_server.specs.Makers.{AreNamed};
+ghost use Rattle.block_server.specs.Ready.{AgreesAt, AreDown, UnitWaits};
 ghost use Rattle.block_server.specs.Turns.{IsStill, way_of};
 ghost use Rattle.block_server.specs.SiteState.{AreReady};
 ghost use Rattle.block_server.specs.Serving.{Terms};
@@ -68,6 +71,7 @@ impl<B: Blocks> Server<B> {
             AreInOrder told server.disk.count server.partition server.units.items server.records) }
         ensures lines { IfOk result (λ server. server.records.grants.items ≡ []) }
         ensures copies { IfOk result (λ server. server.copies.items ≡ []) }
+        ensures down { IfOk result (λ server. AreDown server.units.items) }
     {
         let Ok(units) = make_units(alloc, partition, grant, units) else {
             return Err(image);
@@ -127,6 +131,18 @@ impl<B: Blocks> Server<B> {
         ensures event { KeepsFreed (C.state crq.new) }
         ensures units { vec_len self.new.units ≡ vec_len self.old.units }
         ensures partition { self.new.partition ≡ self.old.partition }
+        ensures named { StayNamed R.is_shared (R.state client.old) (R.state client.new)
+            self.old.copies.items self.new.copies.items }
+        ensures own_named { AreNamed (side_of (O.state own.old)) self.old.copies.items →
+            AreNamed (side_of (O.state own.new)) self.new.copies.items }
+        ensures agrees { AgreesAt self.old.units.items unit (C.state crq.old) →
+            AgreesAt self.new.units.items unit (C.state crq.new) }
+        ensures waits { IfOk result (λ moved. moved ≡ Moved.Quiet → AgreesAt
+            self.old.units.items unit (C.state crq.old) → UnitWaits C.is_shared R.is_shared
+            self.new.units.items unit (C.state crq.old) (C.state crq.new)
+            (O.state own.old) (O.state own.new) (R.state client.old) (R.state client.new)) }
+        ensures others_stay { (k : ℕ) → k ≢ unit →
+            slice_get self.new.units.items k ≡ slice_get self.old.units.items k }
     {
         let id = UnitId {
             partition: self.partition,
@@ -185,6 +201,7 @@ fn make_units(alloc: Global, partition: u8, grant: u8, count: u8) -> Result<Vec<
     requires some { 1 ≤ grant }
     requires few { grant ≤ 200 }
     ensures units { IfOk result (λ units. vec_len units ≡ count) }
+    ensures down { IfOk result (λ units. AreDown units.items) }
     ensures serving { IfOk result (λ units. (terms : Terms) →
         (rows : List Served) → AreServing terms partition units.items rows) }
 {

@@ -1,6 +1,6 @@
 // The request that is in service, and how far its service has come.
 ghost use Rattle.std.specs.Prelude.{◌≡◌, ◌+◌, ◌≤◌, [], ◌++◌, true, OnErr, OnOk, length, take, vec_len, vec_capacity};
-ghost use Rattle.block_server.specs.Stage.{fits, has_answer, how_far, is_before_step};
+ghost use Rattle.block_server.specs.Stage.{fits, has_answer, how_far, is_answered, is_before_step};
 
 use crate::cursor::Cursor;
 use crate::data_pieces::DataPieces;
@@ -58,6 +58,17 @@ impl Stage {
             Stage::OutTable => true,
             Stage::InTable => true,
             Stage::DataOut(_) => true,
+            _ => false,
+        }
+    }
+
+    /// Whether the answer is to be copied, or its entry to be put.
+    pub(crate) fn is_answered(self) -> bool
+        ensures { result ≡ is_answered self }
+    {
+        match self {
+            Stage::Answer(_) => true,
+            Stage::Entry(_) => true,
             _ => false,
         }
     }

@@ -1,5 +1,5 @@
 // The service of the oldest request: what it asks is done, and then it is answered.
-ghost use Rattle.std.specs.Prelude.{◌≡◌, ◌∷◌, ◌<◌, ◌≤◌, ℕ, Bool, List, Option, Some, None, IfOk, OnOk, false, true, length};
+ghost use Rattle.std.specs.Prelude.{◌≡◌, ◌≢◌, ◌⊎◌, ◌∷◌, ◌<◌, ◌≤◌, ℕ, Bool, List, Option, Some, None, [], IfOk, OnOk, false, true, length};
 ghost use Rattle.block_server.specs.Advances.{Advances};
 ghost use Rattle.block_server.specs.Causes.{RefusesData, RefusesIn, Told};
 ghost use Rattle.block_server.specs.Ends.{IsGrantable};
@@ -10,7 +10,8 @@ ghost use Rattle.block_server.specs.Serving.{AnswersOnce, AnswersOnceIf, Answers
 ghost use Rattle.block_server.specs.SiteState.{TellsAll, denied_between};
 ghost use Rattle.tce_window.specs.declared.answers.Right.TheVariants.{Write};
 ghost use Rattle.block_server.specs.Entries.{is_response_len};
-ghost use Rattle.block_server.specs.Stage.{how_far, is_answered};
+ghost use Rattle.block_server.specs.Stage.{how_far, is_answered, is_before_step, is_data_in, is_data_out, is_given};
+ghost use Rattle.block_server.specs.Waits.{IsHeldUp, IsPending, MeetsUse, StaysAgreed};
 ghost use Rattle.crq_session.specs.EndState.{EndState};
 ghost use Rattle.block_server.specs.Turns.{IfQuiet, under_way};
 
@@ -49,6 +50,12 @@ pub(crate) fn serve<S: Site, B: Blocks>(
         (S.state site.old).queue (S.state site.new).queue records.old records.new }
     ensures quiet { OnOk result (IfQuiet unit.old unit.new
         (S.state site.old).queue (S.state site.new).queue) }
+    ensures waits { OnOk result (unit.new.moved ≡ false → IsPending unit.old →
+        IsHeldUp S.link_shared (S.state site.old) (S.state site.new)) }
+    ensures nothing { unit.old.pending.items ≡ [] → unit.new ≡ unit.old }
+    ensures still { unit.old.pending.items ≡ [] → S.state site.new ≡ S.state site.old }
+    ensures agrees { StaysAgreed unit.old unit.new
+        (S.state site.old).queue (S.state site.new).queue }
     ensures advances { Advances (S.state site.old) (S.state site.new) }
 {
     let Some(request) = unit.pending.front() else {
@@ -79,7 +86,7 @@ fn note_stage(unit: &mut Unit, before: (u8, u32))
         (unit.old.moved ≡ false) × (how_far unit.old.service.stage ≡ before) }
     ensures way { under_way unit.new ≡ under_way unit.old }
     ensures desk { desk_of unit.new ≡ desk_of unit.old }
-    ensures kept { unit.new.line.kept ≡ unit.old.line.kept }
+    ensures line { unit.new.line ≡ unit.old.line }
 {
     let (stage, done) = unit.service.stage.how_far();
     if stage != before.0 || done != before.1 {
@@ -104,6 +111,8 @@ fn prepare<S: Site, B: Blocks>(
         (desk_at id service.old None (request.now ∷ rest))
         (desk_at id service.new None (request.now ∷ rest))
         (S.state site.old).queue (S.state site.new).queue records.old records.new }
+    ensures went { OnOk result (request.now.order ≢ Order.Logout →
+        is_answered service.new.stage ≡ true ⊎ MeetsUse (S.state site.old) (S.state site.new)) }
     ensures queue { (S.state site.new).queue ≡ (S.state site.old).queue }
     ensures advances { Advances (S.state site.old) (S.state site.new) }
 {
@@ -111,7 +120,7 @@ fn prepare<S: Site, B: Blocks>(
         Order::Command(command) => {
             serve_command(service, id, request, command, site, records, disk)
         }
-        _ if service.stage != Stage::Start => Ok(()),
+        _ if service.stage.is_answered() => Ok(()),
         Order::Login(login) => judge_login(service, logins, request.number, login),
         Order::Task(task) => add_code(
             service,
@@ -214,6 +223,8 @@ fn serve_command<S: Site, B: Blocks>(
         (desk_at id service.old None (request.now ∷ rest))
         (desk_at id service.new None (request.now ∷ rest))
         (S.state site.old).queue (S.state site.new).queue records.old records.new }
+    ensures went { OnOk result (is_answered service.new.stage ≡ true ⊎
+        MeetsUse (S.state site.old) (S.state site.new)) }
     ensures queue { (S.state site.new).queue ≡ (S.state site.old).queue }
     ensures advances { Advances (S.state site.old) (S.state site.new) }
 {
@@ -240,6 +251,8 @@ fn run_step<S: Site, B: Blocks>(
         (desk_at id service.old None (request.now ∷ rest))
         (desk_at id service.new None (request.now ∷ rest))
         (S.state site.old).queue (S.state site.new).queue records.old records.new }
+    ensures went { OnOk result (is_before_step service.new.stage ≡ false ⊎
+        MeetsUse (S.state site.old) (S.state site.new)) }
     ensures queue { (S.state site.new).queue ≡ (S.state site.old).queue }
     ensures advances { Advances (S.state site.old) (S.state site.new) }
 {
@@ -266,6 +279,8 @@ fn store<S: Site>(service: &mut Service, request: &Request, site: &mut S) -> Res
         (desk_at id service.old None (request.now ∷ rest))
         (desk_at id service.new None (request.now ∷ rest))
         (S.state site.old).queue (S.state site.new).queue records records }
+    ensures went { OnOk result (is_before_step service.old.stage ≡ false →
+        (is_before_step service.new.stage ≡ false) × (is_given service.new.stage ≡ false)) }
     ensures queue { (S.state site.new).queue ≡ (S.state site.old).queue }
     ensures advances { Advances (S.state site.old) (S.state site.new) }
 {
@@ -296,6 +311,9 @@ fn hand_over<S: Site>(
         (desk_at id service.old None (request.now ∷ rest))
         (desk_at id service.new None (request.now ∷ rest))
         (S.state site.old).queue (S.state site.new).queue records.old records.new }
+    ensures went { OnOk result (is_before_step service.old.stage ≡ false →
+        is_given service.old.stage ≡ false → is_answered service.new.stage ≡ true ⊎
+        MeetsUse (S.state site.old) (S.state site.new)) }
     ensures queue { (S.state site.new).queue ≡ (S.state site.old).queue }
     ensures advances { Advances (S.state site.old) (S.state site.new) }
 {
@@ -323,6 +341,8 @@ fn make_step<S: Site, B: Blocks>(
         (desk_at id service.old None (request.now ∷ rest))
         (desk_at id service.new None (request.now ∷ rest))
         (S.state site.old).queue (S.state site.new).queue records.old records.new }
+    ensures went { OnOk result (is_data_out service.old.stage ≡ true →
+        is_before_step service.new.stage ≡ false) }
     ensures queue { (S.state site.new).queue ≡ (S.state site.old).queue }
     ensures advances { Advances (S.state site.old) (S.state site.new) }
 {
@@ -377,6 +397,8 @@ fn deliver_data<S: Site>(
     ensures some { IfRefused result (0 < length service.new.given.items) }
     ensures refused { IfRefused result (RefusesData
         (denied_between (S.state site.old) (S.state site.new)) Write service.old.inn.list.items) }
+    ensures busy { IfOk result (λ progress. progress ≡ Progress.Busy →
+        MeetsUse (S.state site.old) (S.state site.new)) }
     ensures queue { (S.state site.new).queue ≡ (S.state site.old).queue }
     ensures advances { Advances (S.state site.old) (S.state site.new) }
 {
@@ -412,6 +434,8 @@ fn end_command(
         (λ Refuses. progress ≡ Progress.Refused → RefusesIn Refuses command.now)
         (desk_at id service.old None (request.now ∷ rest))
         (desk_at id service.new None (request.now ∷ rest)) q q records.old records.new }
+    ensures went { OnOk result (is_data_in service.old.stage ≡ true → progress ≢ Progress.Busy →
+        is_answered service.new.stage ≡ true) }
 {
     let Stage::DataIn { row, reply, .. } = service.stage else {
         return Ok(());
@@ -443,6 +467,8 @@ fn refuse_data(
         (λ Refuses. RefusesIn Refuses command.now)
         (desk_at id service.old None (request.now ∷ rest))
         (desk_at id service.new None (request.now ∷ rest)) q q records.old records.new }
+    ensures went { OnOk result (is_data_in service.old.stage ≡ true →
+        is_answered service.new.stage ≡ true) }
 {
     let Stage::DataIn { row, cursor, .. } = service.stage else {
         return Ok(());

@@ -1,5 +1,5 @@
 // What a server unit does with its queue and with the two windows.
-ghost use Rattle.std.specs.Prelude.{◌≡◌, ◌↔◌, ◌+◌, ◌<◌, ◌≤◌, Bool, IsErrOf, OnOk, length};
+ghost use Rattle.std.specs.Prelude.{◌≡◌, ◌↔◌, ◌+◌, ◌<◌, ◌≤◌, Bool, IsErrOf, OnOk, length, true};
 ghost use Rattle.tce_window.specs.declared.answers.Right.TheVariants.{Read, Write};
 ghost use Rattle.crq_session.specs.declared.answers.FreeAnswer.TheVariants as freeing;
 ghost use Rattle.crq_session.specs.declared.answers.PollAnswer.TheVariants as polling;
@@ -10,6 +10,7 @@ ghost use Rattle.block_server.specs.Advances.{Advances};
 ghost use Rattle.block_server.specs.Answering.{responses};
 ghost use Rattle.block_server.specs.Entries.{MayPut};
 ghost use Rattle.block_server.specs.SiteState.{IsDeniedBetween, SiteState, SameWindows};
+ghost use Rattle.block_server.specs.Waits.{MeetsUse};
 
 use crq_session::{EventAnswer, FreeAnswer, PollAnswer, RegAnswer, SendAnswer};
 use vio_num::{Entry, NoMemory};
@@ -34,6 +35,7 @@ pub(crate) trait Site {
 
     /// The number of slots of the own queue.
     fn slots(&self) -> u32
+        ensures some { 1 ≤ result }
         ensures few { result ≤ 4096 };
 
     /// The number of the own queue's last session.
@@ -56,6 +58,7 @@ pub(crate) trait Site {
             (HoldsUp link_shared (state self.old).queue (state self.new).queue) }
         ensures refused { OnNotRegistered result
             (OnlyReserves (state self.old).queue (state self.new).queue) }
+        ensures stands { OnNotRegistered result ((state self.old).queue.registered ≡ true) }
         ensures plain { responses (state self.new).queue.sent ≡
             responses (state self.old).queue.sent }
         ensures spare { (state self.old).queue.spare ≤ (state self.new).queue.spare + 1 }
@@ -134,6 +137,8 @@ pub(crate) trait Site {
     fn fetch_unit(&mut self, address: u64, out: &mut [u8]) -> Result<(), Halt>
         requires some { 1 ≤ length out.old }
         requires few { length out.old ≤ 256 }
+        ensures busy { IsErrOf result Halt.Busy →
+            MeetsUse (state self.old) (state self.new) }
         ensures queue { (state self.new).queue ≡ (state self.old).queue }
         ensures advances { Advances (state self.old) (state self.new) };
 
@@ -143,6 +148,8 @@ pub(crate) trait Site {
         requires few { length out.old ≤ 4096 }
         ensures refused { IsErrOf result Halt.Refused →
             IsDeniedBetween (state self.old) (state self.new) Read address (length out.old) }
+        ensures busy { IsErrOf result Halt.Busy →
+            MeetsUse (state self.old) (state self.new) }
         ensures queue { (state self.new).queue ≡ (state self.old).queue }
         ensures advances { Advances (state self.old) (state self.new) };
 
@@ -151,6 +158,8 @@ pub(crate) trait Site {
     fn deliver_unit(&mut self, address: u64, bytes: &[u8], mark: u64) -> Result<(), Halt>
         requires some { 1 ≤ length bytes.now }
         requires few { length bytes.now ≤ 256 }
+        ensures busy { IsErrOf result Halt.Busy →
+            MeetsUse (state self.old) (state self.new) }
         ensures queue { (state self.new).queue ≡ (state self.old).queue }
         ensures advances { Advances (state self.old) (state self.new) };
 
@@ -161,6 +170,8 @@ pub(crate) trait Site {
         requires inside { at + len ≤ 131072 }
         ensures refused { IsErrOf result Halt.Refused →
             IsDeniedBetween (state self.old) (state self.new) Read address len }
+        ensures busy { IsErrOf result Halt.Busy →
+            MeetsUse (state self.old) (state self.new) }
         ensures queue { (state self.new).queue ≡ (state self.old).queue }
         ensures advances { Advances (state self.old) (state self.new) };
 
@@ -183,6 +194,8 @@ pub(crate) trait Site {
         requires inside { at + len ≤ 131072 }
         ensures refused { IsErrOf result Halt.Refused →
             IsDeniedBetween (state self.old) (state self.new) Write address len }
+        ensures busy { IsErrOf result Halt.Busy →
+            MeetsUse (state self.old) (state self.new) }
         ensures queue { (state self.new).queue ≡ (state self.old).queue }
         ensures advances { Advances (state self.old) (state self.new) };
 }

@@ -1,10 +1,12 @@
 // The steps of a unit's turn.
-ghost use Rattle.std.specs.Prelude.{◌≡◌, ◌+◌, ◌<◌, ◌≤◌, Bool, IfOk, OnOk};
+ghost use Rattle.std.specs.Prelude.{◌≡◌, ◌+◌, ◌<◌, ◌≤◌, Bool, IfOk, OnOk, false, true};
 ghost use Rattle.block_server.specs.Advances.{Advances};
 ghost use Rattle.block_server.specs.Causes.{Told};
 ghost use Rattle.block_server.specs.Serving.{AnswersOnce, AnswersOnceOn, desk_of, held};
 ghost use Rattle.block_server.specs.SiteState.{TellsAll};
+ghost use Rattle.block_server.specs.Ready.{Agrees, Idles, MeetsFull, MeetsSender};
 ghost use Rattle.block_server.specs.Turns.{IfQuiet, IsQuietTurn};
+ghost use Rattle.block_server.specs.Waits.{AsNext, IsIdle, PassesEvent, StandsOpen, StaysAgreed, StopsOpening};
 
 use crate::answering::{put_kept, put_reply};
 use crate::disk::Disk;
@@ -14,7 +16,7 @@ use crate::records::Records;
 use crate::serving::serve;
 use crate::site::Site;
 use crate::unit::Unit;
-use crq_session::{EventAnswer, FreeAnswer, RegAnswer};
+use crq_session::{EventAnswer, FreeAnswer, Handshake, RegAnswer};
 use vio_io::Blocks;
 use vio_num::{Moved, NoMemory};
 
@@ -36,6 +38,10 @@ pub(crate) fn turn<S: Site, B: Blocks>(
         (S.state site.old).queue (S.state site.new).queue records.old records.new }
     ensures quiet { IfOk result (λ moved. moved ≡ Moved.Quiet →
         IsQuietTurn unit.old unit.new (S.state site.old).queue (S.state site.new).queue) }
+    ensures waits { IfOk result (λ moved. moved ≡ Moved.Quiet →
+        IsIdle S.link_shared (S.state site.old) (S.state site.new) unit.new) }
+    ensures agrees { StaysAgreed unit.old unit.new
+        (S.state site.old).queue (S.state site.new).queue }
     ensures advances { Advances (S.state site.old) (S.state site.new) }
 {
     unit.moved = false;
@@ -62,6 +68,10 @@ fn steps<S: Site, B: Blocks>(
         (S.state site.old).queue (S.state site.new).queue records.old records.new }
     ensures quiet { OnOk result (IfQuiet unit.old unit.new
         (S.state site.old).queue (S.state site.new).queue) }
+    ensures waits { OnOk result (unit.new.moved ≡ false →
+        IsIdle S.link_shared (S.state site.old) (S.state site.new) unit.new) }
+    ensures agrees { StaysAgreed unit.old unit.new
+        (S.state site.old).queue (S.state site.new).queue }
     ensures advances { Advances (S.state site.old) (S.state site.new) }
 {
     if open_line(unit, site)? == Next::End {
@@ -82,6 +92,11 @@ fn open_line<S: Site>(unit: &mut Unit, site: &mut S) -> Result<Next, NoMemory>
         (S.state site.old).queue (S.state site.new).queue records records }
     ensures quiet { OnOk result (IfQuiet unit.old unit.new
         (S.state site.old).queue (S.state site.new).queue) }
+    ensures waits { IfOk result (λ next. unit.new.moved ≡ false → AsNext next
+        (StandsOpen S.link_shared unit.new (S.state site.old).queue (S.state site.new).queue) ⊥
+        (StopsOpening S.link_shared unit.new (S.state site.old).queue (S.state site.new).queue)) }
+    ensures agrees { StaysAgreed unit.old unit.new
+        (S.state site.old).queue (S.state site.new).queue }
     ensures advances { Advances (S.state site.old) (S.state site.new) }
 {
     site.reserve(FIRST_CALLS)?;
@@ -105,6 +120,12 @@ fn push_event<S: Site>(unit: &mut Unit, site: &mut S) -> Next
         (S.state site.old).queue (S.state site.new).queue records records }
     ensures spare { (S.state site.old).queue.spare ≤ (S.state site.new).queue.spare + 1 }
     ensures quiet { IfQuiet unit.old unit.new (S.state site.old).queue (S.state site.new).queue }
+    ensures waits { unit.new.moved ≡ false → AsNext result
+        (PassesEvent S.link_shared (S.state site.old).queue (S.state site.new).queue) ⊥
+        (MeetsFull S.link_shared (S.state site.old).queue (S.state site.new).queue) }
+    ensures line { unit.new.line ≡ unit.old.line }
+    ensures agrees { StaysAgreed unit.old unit.new
+        (S.state site.old).queue (S.state site.new).queue }
     ensures advances { Advances (S.state site.old) (S.state site.new) }
 {
     match site.push_event() {
@@ -124,6 +145,11 @@ fn free_closed<S: Site>(unit: &mut Unit, site: &mut S) -> Next
         (S.state site.old).queue (S.state site.new).queue records records }
     ensures spare { (S.state site.old).queue.spare ≤ (S.state site.new).queue.spare + 1 }
     ensures quiet { IfQuiet unit.old unit.new (S.state site.old).queue (S.state site.new).queue }
+    ensures waits { unit.new.moved ≡ false → AsNext result
+        (Idles S.link_shared (S.state site.old).queue (S.state site.new).queue) ⊥
+        (MeetsSender S.link_shared (S.state site.old).queue (S.state site.new).queue) }
+    ensures agrees { StaysAgreed unit.old unit.new
+        (S.state site.old).queue (S.state site.new).queue }
     ensures advances { Advances (S.state site.old) (S.state site.new) }
 {
     if !unit.line.closing {
@@ -139,6 +165,11 @@ fn free<S: Site>(unit: &mut Unit, site: &mut S) -> Next
         (S.state site.old).queue (S.state site.new).queue records records }
     ensures spare { (S.state site.old).queue.spare ≤ (S.state site.new).queue.spare + 1 }
     ensures quiet { IfQuiet unit.old unit.new (S.state site.old).queue (S.state site.new).queue }
+    ensures waits { unit.new.moved ≡ false → AsNext result
+        (Idles S.link_shared (S.state site.old).queue (S.state site.new).queue) ⊥
+        (MeetsSender S.link_shared (S.state site.old).queue (S.state site.new).queue) }
+    ensures agrees { StaysAgreed unit.old unit.new
+        (S.state site.old).queue (S.state site.new).queue }
     ensures advances { Advances (S.state site.old) (S.state site.new) }
 {
     match site.free() {
@@ -157,17 +188,34 @@ fn free<S: Site>(unit: &mut Unit, site: &mut S) -> Next
 
 // Registers the queue, and sends Initialize. While the kept event finds its slot full nothing changes.
 fn register<S: Site>(unit: &mut Unit, site: &mut S)
-    requires { 1 < (S.state site.old).queue.spare }
+    requires spare { 1 < (S.state site.old).queue.spare }
+    requires down { unit.old.line.handshake ≡ Handshake.Down }
     ensures once { (records : Records) → AnswersOnce (desk_of unit.old) (desk_of unit.new)
         (S.state site.old).queue (S.state site.new).queue records records }
     ensures quiet { IfQuiet unit.old unit.new (S.state site.old).queue (S.state site.new).queue }
+    ensures waits { unit.new.moved ≡ false →
+        StopsOpening S.link_shared unit.new (S.state site.old).queue (S.state site.new).queue }
+    ensures agrees { StaysAgreed unit.old unit.new
+        (S.state site.old).queue (S.state site.new).queue }
     ensures advances { Advances (S.state site.old) (S.state site.new) }
 {
     match site.register() {
-        RegAnswer::Success => {}
-        RegAnswer::Closed { .. } => {}
-        _ => return,
+        RegAnswer::Success => begin(unit, site),
+        RegAnswer::Closed { .. } => begin(unit, site),
+        _ => {}
     }
+}
+
+// Sends Initialize, in a session that was registered.
+fn begin<S: Site>(unit: &mut Unit, site: &mut S)
+    requires spare { 0 < (S.state site.old).queue.spare }
+    requires on { (S.state site.old).queue.registered ≡ true }
+    ensures once { (records : Records) → AnswersOnce (desk_of unit.old) (desk_of unit.new)
+        (S.state site.old).queue (S.state site.new).queue records records }
+    ensures moved { unit.new.moved ≡ true }
+    ensures agrees { Agrees unit.new.line.handshake (S.state site.new).queue }
+    ensures advances { Advances (S.state site.old) (S.state site.new) }
+{
     unit.moved = true;
     if let Some(initialize) = reply_of(unit.line.handshake.registered()) {
         let _next = put_reply(unit, site, initialize);

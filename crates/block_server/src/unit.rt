@@ -1,5 +1,6 @@
 // A server unit, between its turns.
 ghost use Rattle.std.specs.Prelude.{◌≡◌, ◌≤◌, None};
+ghost use Rattle.crq_session.specs.declared.handshake.Handshake.TheVariants.{Down};
 ghost use Rattle.block_server.specs.declared.service.Stage.TheVariants.{Start};
 
 use crate::line::Line;
@@ -36,6 +37,7 @@ impl Unit {
         ensures id { result.id ≡ id }
         ensures stage { result.service.stage ≡ Start }
         ensures kept { result.line.kept ≡ None }
+        ensures handshake { result.line.handshake ≡ Down }
     {
         Unit {
             id,

@@ -3,6 +3,8 @@ use Rattle.vio_num.specs.Entry.{srp_entry}
 use Rattle.block_server.specs.Answering.{responses}
 use Rattle.block_server.specs.Stage.{has_answer}
 use Rattle.block_server.specs.declared.service.Stage.{Stage}
+use Rattle.block_server.proofs.Agreeing.{agrees_same}
+use Rattle.block_server.proofs.Readying.{full_now}
 use Rattle.block_server.proofs.Onces.{once_cleared, once_same, once_settled}
 use Rattle.block_server.proofs.Serves.{front_is, none_sent, once_kept}
 use Rattle.block_server.proofs.answering.put_answer.Goals as goal
@@ -35,3 +37,18 @@ pub returns-in_default-send-clause-once : goal.returns-in_default-send-clause-on
 returns-in_default-send-clause-once g c = λ disk serving.
     once_cleared _ _ _ _ _ _ c.finish.ensures.id c.finish.ensures.stage (c.finish.ensures.kept ∙ c.requires.none) refl
     (none_sent _ _ _ _ c.in_default-send.not-Success c.in_default-send.not-Dropped c.send.ensures.closed c.send.ensures.refused) disk
+
+pub returns-in_default-clause-agrees : goal.returns-in_default-clause-agrees
+returns-in_default-clause-agrees g c = λ is. is
+
+pub returns-in-Success-clause-agrees : goal.returns-in-Success-clause-agrees
+returns-in-Success-clause-agrees g c = agrees_same _ _ _ _ c.settle.ensures.handshake c.send.ensures.rest.registered
+
+pub returns-in-Dropped-clause-agrees : goal.returns-in-Dropped-clause-agrees
+returns-in-Dropped-clause-agrees g c = agrees_same _ _ _ _ refl c.send.ensures.rest.registered
+
+pub returns-in_default-send-clause-agrees : goal.returns-in_default-send-clause-agrees
+returns-in_default-send-clause-agrees g c = agrees_same _ _ _ _ c.finish.ensures.handshake c.send.ensures.rest.registered
+
+pub returns-in-Dropped-clause-waits : goal.returns-in-Dropped-clause-waits
+returns-in-Dropped-clause-waits g c = λ moved pending. full_now _ _ _ _ _ c.in-Dropped.ensures.dropped

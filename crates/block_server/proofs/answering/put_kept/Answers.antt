@@ -1,4 +1,4 @@
-use Rattle.std.proofs.Common.{ap, refl, subst, true, ◌≡◌, ◌∙◌, ◌++◌, List, [], ◌∷◌, length, Some}
+use Rattle.std.proofs.Common.{ap, refl, rules, subst, true, ◌≡◌, ◌∙◌, ◌++◌, List, [], ◌∷◌, length, Some}
 use Rattle.crq_ring.specs.declared.rows.PipeRow.{PipeRow}
 use Rattle.vio_num.specs.declared.history.Served.{Served}
 use Rattle.block_server.specs.Answering.{responses}
@@ -8,6 +8,8 @@ use Rattle.block_server.specs.Serving.{SettlesRow}
 use Rattle.block_server.specs.Stage.{has_answer}
 use Rattle.block_server.specs.declared.line.Kept.TheVariants as keeps
 use Rattle.block_server.specs.declared.service.Stage.{Stage}
+use Rattle.block_server.proofs.Agreeing.{agrees_same}
+use Rattle.block_server.proofs.Readying.{full_later, full_now, idles_on, idles_reserves, idles_same, send_idles}
 use Rattle.block_server.proofs.Onces.{once_cleared, once_same, once_settled, once_still, responses_plain}
 use Rattle.block_server.proofs.Serves.{none_sent}
 use Rattle.block_server.proofs.answering.put_kept.Goals as goal
@@ -59,3 +61,45 @@ returns-in_default-kept-2-clause-once g c = λ disk serving.
     once_still _ _ _ _ _ _ refl refl refl refl refl refl c.make_room.ensures.lists.history
     (none_sent _ _ _ _ c.in_default-send.not-Success c.in_default-send.not-Dropped c.send.ensures.closed c.send.ensures.refused
     ∙ ap responses c.reserve.ensures.rest.sent) disk serving
+
+pub returns-in_default-clause-agrees : goal.returns-in_default-clause-agrees
+returns-in_default-clause-agrees g c = λ is. is
+
+pub returns-in_err-make_room-clause-agrees : goal.returns-in_err-make_room-clause-agrees
+returns-in_err-make_room-clause-agrees g c = λ is. is
+
+pub returns-in_err-make_room-2-clause-agrees : goal.returns-in_err-make_room-2-clause-agrees
+returns-in_err-make_room-2-clause-agrees g c = λ is. is
+
+pub returns-in_err-reserve-clause-agrees : goal.returns-in_err-reserve-clause-agrees
+returns-in_err-reserve-clause-agrees g c = agrees_same _ _ _ _ refl c.reserve.ensures.rest.registered
+
+pub returns-in-Dropped-clause-agrees : goal.returns-in-Dropped-clause-agrees
+returns-in-Dropped-clause-agrees g c = agrees_same _ _ _ _ refl (c.send.ensures.rest.registered ∙ c.reserve.ensures.rest.registered)
+
+pub returns-in-Answer-clause-agrees : goal.returns-in-Answer-clause-agrees
+returns-in-Answer-clause-agrees g c = agrees_same _ _ _ _ c.settle.ensures.handshake (c.send.ensures.rest.registered ∙ c.reserve.ensures.rest.registered)
+
+pub returns-in_default-kept-clause-agrees : goal.returns-in_default-kept-clause-agrees
+returns-in_default-kept-clause-agrees g c = agrees_same _ _ _ _ refl (c.send.ensures.rest.registered ∙ c.reserve.ensures.rest.registered)
+
+pub returns-in-Answer-kept-clause-agrees : goal.returns-in-Answer-kept-clause-agrees
+returns-in-Answer-kept-clause-agrees g c = agrees_same _ _ _ _ c.finish.ensures.handshake (c.send.ensures.rest.registered ∙ c.reserve.ensures.rest.registered)
+
+pub returns-in_default-kept-2-clause-agrees : goal.returns-in_default-kept-2-clause-agrees
+returns-in_default-kept-2-clause-agrees g c = agrees_same _ _ _ _ refl (c.send.ensures.rest.registered ∙ c.reserve.ensures.rest.registered)
+
+pub returns-in_default-clause-waits : goal.returns-in_default-clause-waits
+returns-in_default-clause-waits g c = λ moved. record { idles = idles_same _ _; none = search rules; handshake = refl }
+
+pub returns-in-Dropped-clause-waits : goal.returns-in-Dropped-clause-waits
+returns-in-Dropped-clause-waits g c = λ moved.
+    full_later _ _ _ _ (idles_reserves _ _ _ c.reserve.ensures.rest) (full_now _ _ _ _ _ c.in-Dropped.ensures.dropped)
+
+pub returns-in_default-kept-2-clause-waits : goal.returns-in_default-kept-2-clause-waits
+returns-in_default-kept-2-clause-waits g c = λ moved. record {
+  idles = idles_on _ _ _ _ (idles_reserves _ _ _ c.reserve.ensures.rest)
+      (send_idles _ _ _ c.send.result c.in_default-send.not-Success c.in_default-send.not-Dropped c.send.ensures.closed c.send.ensures.refused c.send.ensures.rest);
+  none = refl;
+  handshake = refl;
+}

@@ -1,5 +1,6 @@
 use Rattle.std.proofs.Common.{ap, refl}
 use Rattle.block_server.specs.Answering.{responses}
+use Rattle.block_server.proofs.Agreeing.{agrees_same}
 use Rattle.block_server.proofs.Onces.{once_reply_kept, once_same, responses_plain}
 use Rattle.block_server.proofs.Serves.{none_sent}
 use Rattle.block_server.proofs.answering.put_reply.Goals as goal
@@ -15,3 +16,12 @@ returns-in-Success-clause-once g c = λ records disk serving.
 pub returns-in_default-clause-once : goal.returns-in_default-clause-once
 returns-in_default-clause-once g c = λ records disk serving.
     once_same _ _ _ _ _ _ refl refl (none_sent _ _ _ _ c.in_default.not-Success c.in_default.not-Dropped c.send.ensures.closed c.send.ensures.refused) disk serving
+
+pub returns-in-Dropped-clause-agrees : goal.returns-in-Dropped-clause-agrees
+returns-in-Dropped-clause-agrees g c = agrees_same _ _ _ _ refl c.send.ensures.rest.registered
+
+pub returns-in-Success-clause-agrees : goal.returns-in-Success-clause-agrees
+returns-in-Success-clause-agrees g c = agrees_same _ _ _ _ refl c.send.ensures.rest.registered
+
+pub returns-in_default-clause-agrees : goal.returns-in_default-clause-agrees
+returns-in_default-clause-agrees g c = agrees_same _ _ _ _ refl c.send.ensures.rest.registered

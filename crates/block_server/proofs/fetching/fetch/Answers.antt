@@ -1,8 +1,10 @@
-use Rattle.std.proofs.Common.{◌∙◌, Ok, inl, inr}
+use Rattle.std.proofs.Common.{◌≡◌, ◌∙◌, Ok, inl, inr, rules}
+use Rattle.block_server.specs.declared.fetching.Progress.TheVariants.{Done}
 use Rattle.block_server.proofs.Advancing.{advances_on}
 use Rattle.block_server.specs.SiteState.{denied_between}
 use Rattle.block_server.proofs.Denying.{buffer_map, denied_after, out_map}
 use Rattle.block_server.proofs.Gathering.{bad_down, if_refused}
+use Rattle.block_server.proofs.Readying.{busy_on, if_each, uses_later}
 use Rattle.block_server.proofs.fetching.fetch.Goals as goal
 
 pub returns-in_err-progress-2-clause-advances : goal.returns-in_err-progress-2-clause-advances
@@ -33,3 +35,16 @@ returns-clause-refused g c = λ known.
     if_refused c.fetch_data_out.result _ _
     (λ is. inr (inr (out_map (denied_between (g.S.Site.state c.fetch_in_pieces.new.site) (g.S.Site.state c.fetch_data_out.new.site)) (denied_between (g.S.Site.state c.args.site.now) (g.S.Site.state c.fetch_data_out.new.site)) c.args.command.now (denied_after (g.S.Site.state c.args.site.now) (g.S.Site.state c.fetch_in_pieces.new.site) (g.S.Site.state c.fetch_data_out.new.site) (advances_on _ _ _ c.fetch_out_pieces.ensures.advances c.fetch_in_pieces.ensures.advances)) is)))
     (c.fetch_data_out.ensures.refused c.args.command.now (c.fetch_in_pieces.ensures.named (c.fetch_out_pieces.ensures.named (c.is_refused.ensures.named known))))
+
+pub returns-then-ne-2-clause-busy : goal.returns-then-ne-2-clause-busy
+returns-then-ne-2-clause-busy g c = busy_on (Ok c.in_ok-progress-2.progress) _ _ (uses_later (g.S.Site.state c.args.site.now) (g.S.Site.state c.fetch_out_pieces.new.site) (g.S.Site.state c.fetch_in_pieces.new.site) c.fetch_out_pieces.ensures.advances) c.in_ok-progress-2.ensures.busy
+
+pub returns-clause-busy : goal.returns-clause-busy
+returns-clause-busy g c =
+    busy_on c.fetch_data_out.result _ _ (uses_later (g.S.Site.state c.args.site.now) (g.S.Site.state c.fetch_in_pieces.new.site) (g.S.Site.state c.fetch_data_out.new.site) (advances_on _ _ _ c.fetch_out_pieces.ensures.advances c.fetch_in_pieces.ensures.advances)) c.fetch_data_out.ensures.busy
+
+pub returns-clause-went : goal.returns-clause-went
+returns-clause-went g c = if_each c.fetch_data_out.result _ (λ progress done before.
+    let out : c.in_ok-progress.progress ≡ Done = search rules in
+    let inn : c.in_ok-progress-2.progress ≡ Done = search rules in
+    c.fetch_data_out.ensures.stays (c.in_ok-progress-2.ensures.went inn (c.in_ok-progress.ensures.went out (c.is_refused.ensures.went (search rules) before))))

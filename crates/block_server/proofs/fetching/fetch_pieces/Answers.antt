@@ -1,4 +1,7 @@
-use Rattle.std.proofs.Common.{◌∙◌, sym}
+use Rattle.std.proofs.Common.{◌≡◌, ◌∙◌, sym}
+use Rattle.srp_desc.specs.declared.pieces.Pieces.TheVariants.{Fetch}
+use Rattle.block_server.specs.SiteState.{denied_between}
+use Rattle.block_server.proofs.Gathering.{buffer_refused}
 use Rattle.block_server.proofs.Named.{whole_sum}
 use Rattle.block_server.proofs.fetching.fetch_pieces.Goals as goal
 
@@ -6,3 +9,10 @@ pub new-requires-clause-summed : goal.new-requires-clause-summed
 new-requires-clause-summed g c =
     whole_sum c.args.buffer.now c.in-Ok-Whole.field-0 c.in-Ok-Whole.list c.in-Ok-Whole.ensures.ok c.in-Ok-Whole.field-0-is c.named_pieces_sum_up.ensures.sum
     ∙ sym c.total_len.ensures
+
+pub returns-in-Ok-Fetch-clause-refused : goal.returns-in-Ok-Fetch-clause-refused
+returns-in-Ok-Fetch-clause-refused g c =
+    let given : c.in-Ok-Fetch.field-0 ≡ Fetch c.in-Ok-Fetch.table c.in-Ok-Fetch.total = c.in-Ok-Fetch.field-0-is in
+    buffer_refused (denied_between (g.S.Site.state c.args.site.now) (g.S.Site.state c.fetch_table.new.site)) c.args.buffer.now c.in-Ok-Fetch.field-0
+    c.in-Ok-Fetch.table c.in-Ok-Fetch.total c.fetch_table.result c.in-Ok-Fetch.ensures.ok c.in-Ok-Fetch.ensures.tables given c.fetched_table_is_read.ensures
+    c.fetch_table.ensures.refused

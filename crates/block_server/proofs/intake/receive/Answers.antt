@@ -1,6 +1,8 @@
 use Rattle.std.proofs.Common.{ap, refl}
 use Rattle.crq_session.specs.EndState.{EndState}
 use Rattle.block_server.specs.Answering.{responses}
+use Rattle.std.specs.Result.{IsErrOf}
+use Rattle.block_server.specs.declared.site.Halt.TheVariants.{Busy}
 use Rattle.block_server.proofs.Onces.{once_on, once_same}
 use Rattle.block_server.proofs.intake.receive.Goals as goal
 
@@ -25,3 +27,8 @@ returns-then-not-is_up-clause-once g c = c.end_session.ensures.once (g.S.Site.st
 
 pub returns-then-len-eq0-clause-once : goal.returns-then-len-eq0-clause-once
 returns-then-len-eq0-clause-once g c = c.end_session-then-len-eq0.ensures.once (g.S.Site.state c.args.site.now).queue
+
+pub returns-in-Err-Busy-clause-waits : goal.returns-in-Err-Busy-clause-waits
+returns-in-Err-Busy-clause-waits g c = λ moved.
+    let busy : IsErrOf c.fetch_unit.result Busy = cc (c.in-Err-Busy.is, c.in-Err-Busy.field-0-is) in
+    c.fetch_unit.ensures.busy busy

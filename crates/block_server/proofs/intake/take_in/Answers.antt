@@ -1,4 +1,9 @@
-use Rattle.std.proofs.Common.{refl, rules}
+use Rattle.std.proofs.Common.{ap, refl, rules, sym, ◌∙◌}
+use Rattle.crq_session.specs.EndState.{EndState}
+use Rattle.block_server.specs.Turns.{UnderWay}
+use Rattle.block_server.specs.declared.line.Line.{Line}
+use Rattle.block_server.proofs.Agreeing.{agrees_on, agrees_same}
+use Rattle.block_server.proofs.Readying.{intake_finds, intake_full, intake_waits, next_apart, next_entry, next_found}
 use Rattle.block_server.proofs.Advancing.{advances_on}
 use Rattle.block_server.proofs.Onces.{once_on, once_same}
 use Rattle.block_server.proofs.Quieting.{quiet_on, quiet_way}
@@ -17,6 +22,13 @@ loop-taken-init g c = record {
   quiet = c.in_ok-next.ensures.quiet;
   none = entry_none c.in_ok-next.next _ c.in_ok-next.ensures.none (search rules);
   once = c.receive_waiting.ensures.once;
+  agrees = agrees_same _ _ _ _ c.receive_waiting.ensures.handshake (ap (λ (q : EndState). q.registered) c.receive_waiting.ensures.queue);
+  waits = λ moved. record {
+    first = refl;
+    same = c.receive_waiting.ensures.queue;
+    line = c.in_ok-next.ensures.line moved;
+    waiting = next_entry c.in_ok-next.next _ _ (search rules) (c.in_ok-next.ensures.waits moved);
+  };
 }
 
 pub returns-in_err-make_room-clause-once : goal.returns-in_err-make_room-clause-once
@@ -55,7 +67,48 @@ loop-taken-preserved g c = record {
   once = once_on _ _ _ _ _ _ _ _ _
       (once_on _ _ _ _ _ _ _ _ _ c.loop-taken.invariant.once (λ disk serving. once_same _ _ _ _ _ _ c.make_room.ensures.desk c.make_room.ensures.history refl disk serving))
       c.take_one.ensures.once;
+  agrees = agrees_on _ _ _ (agrees_on _ _ _ c.loop-taken.invariant.agrees (agrees_same _ _ _ _ (ap (λ (line : Line). line.handshake) c.make_room.ensures.line) refl)) c.take_one.ensures.agrees;
+  waits = λ moved. absurd (next_entry c.in_ok-next-2.next _ _ (search rules) (c.in_ok-next-2.ensures.waits moved));
 }
 
 pub returns-after-loop-taken-clause-once : goal.returns-after-loop-taken-clause-once
 returns-after-loop-taken-clause-once g c = c.loop-taken.invariant.once
+
+pub returns-in_err-next-clause-agrees : goal.returns-in_err-next-clause-agrees
+returns-in_err-next-clause-agrees g c = agrees_same _ _ _ _ c.receive_waiting.ensures.handshake (ap (λ (q : EndState). q.registered) c.receive_waiting.ensures.queue)
+
+pub returns-then-ne-clause-agrees : goal.returns-then-ne-clause-agrees
+returns-then-ne-clause-agrees g c = agrees_same _ _ _ _ c.receive_waiting.ensures.handshake (ap (λ (q : EndState). q.registered) c.receive_waiting.ensures.queue)
+
+pub returns-in_err-make_room-clause-agrees : goal.returns-in_err-make_room-clause-agrees
+returns-in_err-make_room-clause-agrees g c = agrees_on _ _ _ c.loop-taken.invariant.agrees (agrees_same _ _ _ _ (ap (λ (line : Line). line.handshake) c.make_room.ensures.line) refl)
+
+pub returns-in_err-next-2-clause-agrees : goal.returns-in_err-next-2-clause-agrees
+returns-in_err-next-2-clause-agrees g c = agrees_on _ _ _ (agrees_on _ _ _ c.loop-taken.invariant.agrees (agrees_same _ _ _ _ (ap (λ (line : Line). line.handshake) c.make_room.ensures.line) refl)) c.take_one.ensures.agrees
+
+pub returns-then-ne-2-clause-agrees : goal.returns-then-ne-2-clause-agrees
+returns-then-ne-2-clause-agrees g c = agrees_on _ _ _ (agrees_on _ _ _ c.loop-taken.invariant.agrees (agrees_same _ _ _ _ (ap (λ (line : Line). line.handshake) c.make_room.ensures.line) refl)) c.take_one.ensures.agrees
+
+pub returns-after-loop-taken-clause-agrees : goal.returns-after-loop-taken-clause-agrees
+returns-after-loop-taken-clause-agrees g c = c.loop-taken.invariant.agrees
+
+pub returns-then-ne-clause-waits : goal.returns-then-ne-clause-waits
+returns-then-ne-clause-waits g c = λ moved.
+    next_apart c.in_ok-next.next _ _ _ (search rules)
+    (intake_waits _ _ _ (g.S.Site.state c.args.site.now) (g.S.Site.state c.receive_waiting.new.site) c.receive_waiting.ensures.queue (c.in_ok-next.ensures.line moved))
+    (c.in_ok-next.ensures.waits moved)
+
+pub returns-then-ne-2-clause-waits : goal.returns-then-ne-2-clause-waits
+returns-then-ne-2-clause-waits g c = λ moved.
+    let quiet = c.in_ok-next-2.ensures.quiet moved in
+    let none = c.loop-taken.invariant.waits (sym c.make_room.ensures.moved ∙ quiet.was) in
+    next_found c.in_ok-next-2.next _ _
+    (intake_finds _ _ _ c.loop-taken.unit _ (g.S.Site.state c.args.site.now) (g.S.Site.state c.loop-taken.site) (g.S.Site.state c.take_one.new.site) none
+    (c.in_ok-next-2.ensures.line moved ∙ c.make_room.ensures.line)
+    (ap (λ (way : UnderWay). way.waiting) (quiet.same ∙ c.make_room.ensures.way)) (c.in_ok-next-2.ensures.idles moved))
+    (c.in_ok-next-2.ensures.waits moved)
+
+pub returns-after-loop-taken-clause-waits : goal.returns-after-loop-taken-clause-waits
+returns-after-loop-taken-clause-waits g c = λ moved.
+    let none = c.loop-taken.invariant.waits moved in
+    intake_full _ _ _ _ (g.S.Site.state c.args.site.now) (g.S.Site.state c.loop-taken.site) none (λ empty. search rules)

@@ -1,7 +1,9 @@
-use Rattle.std.proofs.Common.{◌≡◌, ◌-◌, None}
+use Rattle.std.proofs.Common.{◌≡◌, ◌-◌, None, false}
 use Rattle.block_server.specs.Advances.{Advances}
 use Rattle.block_server.specs.Serving.{AnswersOnce, desk_of}
 use Rattle.block_server.specs.Turns.{IfQuiet}
+use Rattle.block_server.specs.Waits.{StaysAgreed}
+use Rattle.block_server.proofs.Readying.{TookNone}
 use Rattle.block_server.proofs.intake.take_in.Given as goal
 
 abbrev pub invariant-loop-taken : goal.invariant-loop-taken
@@ -9,6 +11,8 @@ invariant-loop-taken g l = record {
   advances : Advances (g.S.Site.state l.fn.site) (g.S.Site.state l.site);
   quiet : IfQuiet l.fn.unit l.unit (g.S.Site.state l.fn.site).queue (g.S.Site.state l.site).queue;
   none : l.unit.line.kept ≡ None;
+  agrees : StaysAgreed l.fn.unit l.unit (g.S.Site.state l.fn.site).queue (g.S.Site.state l.site).queue;
+  waits : l.unit.moved ≡ false → TookNone l.taken l.fn.unit l.unit (g.S.Site.state l.fn.site).queue (g.S.Site.state l.site).queue;
   once : AnswersOnce (desk_of l.fn.unit) (desk_of l.unit) (g.S.Site.state l.fn.site).queue (g.S.Site.state l.site).queue l.fn.records l.records;
 }
 

@@ -1,17 +1,20 @@
-use Rattle.std.proofs.Common.{refl, rules, subst, sym, List, ◌≡◌, ℕ}
+use Rattle.std.proofs.Common.{ap, refl, rules, subst, sym, List, ◌≡◌, ℕ}
 use Rattle.block_server.specs.Responses.{Answers, HasStatus}
-use Rattle.block_server.proofs.Onces.{once_same, once_still}
+use Rattle.block_server.specs.Stage.{is_answered}
+use Rattle.block_server.proofs.Quieting.{on_ok}
+use Rattle.block_server.proofs.Onces.{once_same}
 use Rattle.block_server.proofs.Serves.{once_stated_if}
+use Rattle.block_server.proofs.Staging.{not_data_in}
 use Rattle.block_server.proofs.serving.end_command.Goals as goal
 
 pub returns-in_default : goal.returns-in_default
-returns-in_default c = record { once = λ id rest q disk cause serving. once_same _ _ _ _ _ _ refl refl refl disk serving }
+returns-in_default c = record { once = λ id rest q disk cause serving. once_same _ _ _ _ _ _ refl refl refl disk serving; went = λ inn apart. not_data_in _ _ (λ row reply cursor is. c.in_default.not-DataIn row reply cursor is) inn }
 
 pub returns-in-Busy : goal.returns-in-Busy
-returns-in-Busy c = record { once = λ id rest q disk cause serving. once_same _ _ _ _ _ _ refl refl refl disk serving }
+returns-in-Busy c = record { once = λ id rest q disk cause serving. once_same _ _ _ _ _ _ refl refl refl disk serving; went = λ inn apart. absurd (apart c.in-Busy.is) }
 
 pub returns-in-Refused : goal.returns-in-Refused
-returns-in-Refused c = record { once = λ id rest q disk cause serving. c.refuse_data.ensures.once id rest q disk (cause c.in-Refused.is) serving }
+returns-in-Refused c = record { once = λ id rest q disk cause serving. c.refuse_data.ensures.once id rest q disk (cause c.in-Refused.is) serving; went = on_ok c.refuse_data.result _ _ (λ went inn apart. went inn) c.refuse_data.ensures.went }
 
 pub returns-in-Done : goal.returns-in-Done
 returns-in-Done c = record {
@@ -22,4 +25,5 @@ returns-in-Done c = record {
       (λ i. record { outs = (c.set_answer.ensures.out i).list.items; inns = (c.set_answer.ensures.inn i).list.items; given = (c.set_answer.ensures.given i).items })
       refl c.requires.asked
       (subst (λ (z : List ℕ × ℕ × ℕ). Answers z.0 (HasStatus c.args.request.now.tag z.1 z.2 c.in-DataIn.reply)) (λ i. ((sym same) i, c.total_len-out.ensures i, c.total_len-inn.ensures i)) c.with_status.ensures.answer) refl disk;
+  went = on_ok c.set_answer.result _ _ (λ is inn apart. ap is_answered is) c.set_answer.ensures.stage;
 }

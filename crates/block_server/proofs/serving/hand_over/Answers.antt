@@ -1,7 +1,10 @@
-use Rattle.std.proofs.Common.{ap, refl, ◌∷◌, ◌≡◌}
+use Rattle.std.proofs.Common.{ap, inl, refl, ◌≡◌}
 use Rattle.crq_session.specs.EndState.{EndState}
 use Rattle.block_server.specs.Answering.{responses}
-use Rattle.block_server.specs.Fetched.{Buffers, buffers_of}
+use Rattle.block_server.specs.Fetched.{buffers_of}
+use Rattle.block_server.specs.Stage.{is_data_in}
+use Rattle.block_server.proofs.Quieting.{on_ok}
+use Rattle.block_server.proofs.Staging.{at_answer, ended}
 use Rattle.block_server.proofs.Denying.{handed_cause}
 use Rattle.block_server.proofs.Onces.{once_same, once_then}
 use Rattle.block_server.proofs.Serves.{gathers_of, once_moved}
@@ -26,3 +29,12 @@ returns-clause-once g c = λ id told all size now rest serving.
     (handed_cause told id (g.S.Site.state c.args.site.now) (g.S.Site.state c.deliver_data.new.site) c.args.command.now c.in-DataIn.row c.in-DataIn.reply c.in-DataIn.cursor c.args.service.now.stage c.args.service.now.out.list.items c.args.service.now.inn.list.items c.in_ok-progress.progress c.in-DataIn.is all
     (gathers_of _ _ _ c.args.request.now rest c.args.command.now c.requires.asked serving.fetched) c.in_ok-progress.ensures.refused))
     serving
+
+pub returns-in_default-clause-went : goal.returns-in_default-clause-went
+returns-in_default-clause-went g c = λ before given. inl (at_answer _ (λ row reply cursor is. c.in_default.not-DataIn row reply cursor is) before given)
+
+pub returns-clause-went : goal.returns-clause-went
+returns-clause-went g c =
+    on_ok c.end_command.result _ _ (λ is before given. is)
+    (ended c.end_command.result c.in_ok-progress.progress _ _ c.in_ok-progress.ensures.busy
+    (on_ok c.end_command.result _ _ (λ went. went (ap is_data_in c.deliver_data.ensures.stage.1)) c.end_command.ensures.went))

@@ -1,9 +1,8 @@
-use Rattle.std.proofs.Common.{ap, refl, subst, sym, ◌≡◌, ◌∙◌, ◌++◌, ◌∷◌, [], ℕ, List, true, length, min, take, arith}
+use Rattle.std.proofs.Common.{ap, refl, subst, sym, ◌≡◌, ◌∙◌, ◌++◌, ◌∷◌, [], ℕ, List, length, min, take, arith}
 use Rattle.vio_num.specs.declared.history.Served.{Served as ServedRow}
 use Rattle.crq_session.specs.EndState.{EndState}
 use Rattle.block_server.specs.Answering.{responses}
 use Rattle.block_server.specs.declared.service.Stage.TheVariants.{Given}
-use Rattle.srp_iu.specs.declared.buffer.Desc.{Desc}
 use Rattle.block_disk.specs.Steps.{made_step}
 use Rattle.block_server.specs.Causes.{IsNamed}
 use Rattle.block_server.specs.Fetched.{Gathers, HasBoth, HasPieces}
@@ -11,6 +10,7 @@ use Rattle.block_server.specs.Serving.{HasReply, held, terms_of}
 use Rattle.block_server.specs.Stage.{is_before_step}
 use Rattle.block_server.specs.declared.data_pieces.DataPieces.{DataPieces}
 use Rattle.block_server.specs.declared.service.Stage.{Stage}
+use Rattle.block_server.proofs.Staging.{not_data_out}
 use Rattle.block_server.proofs.Stepping.{IsNewRow, has_reply, new_row_serves, stays_stepped, tells_map}
 use Rattle.block_server.proofs.Onces.{once_same}
 use Rattle.block_server.proofs.Serves.{gathers_of, once_added, once_before, pieces_of}
@@ -81,3 +81,6 @@ returns-clause-once g c = λ told rest serving.
     (stays_stepped _ _ _ _ row (made_step command.lun command.cdb out reply buffer) _ (ap (terms_of told) c.execute-reply.ensures.count) c.execute-reply.ensures.step c.execute-reply.ensures.image added
     (new_row_serves request command outs inns out given buffer (terms_of told size) reply row new))
     (tells_map _ _ _ c.execute-reply.ensures.image)
+
+pub returns-in_default-clause-went : goal.returns-in_default-clause-went
+returns-in_default-clause-went g c = λ out. not_data_out _ _ (λ cursor is. c.in_default.not-DataOut cursor is) out

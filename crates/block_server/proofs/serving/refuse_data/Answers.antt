@@ -1,13 +1,15 @@
-use Rattle.std.proofs.Common.{refl, rules, subst, sym, take, ◌≡◌, ◌∙◌, List, ℕ}
+use Rattle.std.proofs.Common.{ap, refl, rules, subst, sym, take, ◌≡◌, ◌∙◌, List, ℕ}
 use Rattle.srp_iu.specs.declared.response_code.ResponseCode.TheVariants.{FieldsInvalid}
 use Rattle.block_server.specs.Records.{FillsRow}
 use Rattle.block_server.specs.Responses.{Answers, HasCode}
+use Rattle.block_server.specs.Stage.{is_answered}
 use Rattle.block_server.proofs.Onces.{once_same, once_still}
 use Rattle.block_server.proofs.Serves.{once_cut}
+use Rattle.block_server.proofs.Staging.{not_data_in}
 use Rattle.block_server.proofs.serving.refuse_data.Goals as goal
 
 pub returns-in_default : goal.returns-in_default
-returns-in_default c = record { once = λ id rest q disk cause serving. once_same _ _ _ _ _ _ refl refl refl disk serving }
+returns-in_default c = record { once = λ id rest q disk cause serving. once_same _ _ _ _ _ _ refl refl refl disk serving; went = λ inn. not_data_in _ _ (λ row reply cursor is. c.in_default.not-DataIn row reply cursor is) inn }
 
 pub returns-in_err-set_answer : goal.returns-in_err-set_answer
 returns-in_err-set_answer c = record {
@@ -15,6 +17,7 @@ returns-in_err-set_answer c = record {
       once_still _ _ _ _ _ _ refl c.in_err-set_answer.ensures.err c.in_err-set_answer.ensures.same
       (λ i. record { outs = (c.set_answer.ensures.out i).list.items; inns = (c.set_answer.ensures.inn i).list.items; given = (c.set_answer.ensures.given i).items })
       refl refl refl refl disk serving;
+  went = search rules;
 }
 
 pub returns : goal.returns
@@ -27,4 +30,5 @@ returns c = record {
       (sym ((λ i. (c.take_given-inn.ensures.answer i).items) ∙ c.in_ok-set_answer.ensures.answer ∙ same)) c.with_code.ensures.answer) refl
       (subst (λ (inn : List ℕ). FillsRow c.args.records.now.history.items c.fill.new.self.history.items c.in-DataIn.row inn)
       (c.take_given-inn.ensures.given ∙ (λ i. take c.done.result (c.set_answer.ensures.given i).items)) c.fill.ensures.row) disk cause serving;
+  went = λ inn. ap is_answered (c.take_given-inn.ensures.stage ∙ c.in_ok-set_answer.ensures.stage);
 }

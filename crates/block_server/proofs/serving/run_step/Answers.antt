@@ -1,10 +1,11 @@
-use Rattle.std.proofs.Common.{ap, refl, subst, sym, true, ◌≡◌}
+use Rattle.std.proofs.Common.{ap, inl, inr, refl, subst, sym, false, true, ◌≡◌}
 use Rattle.crq_session.specs.EndState.{EndState}
 use Rattle.block_server.specs.Answering.{responses}
 use Rattle.block_server.specs.Causes.{TurnsDown, told_to}
 use Rattle.block_server.specs.SiteState.{denied_between}
 use Rattle.block_server.specs.Orders.{IsCauseOf}
 use Rattle.block_server.specs.Stage.{is_before_step}
+use Rattle.block_server.proofs.Quieting.{on_ok}
 use Rattle.block_server.proofs.Advancing.{advances_on}
 use Rattle.block_server.proofs.Denying.{down_map}
 use Rattle.block_server.proofs.Gathering.{where_refused}
@@ -56,3 +57,19 @@ returns-in-Done-clause-once g c = λ told all rest.
 
 pub returns-in-Done-clause-advances : goal.returns-in-Done-clause-advances
 returns-in-Done-clause-advances g c = advances_on _ _ _ c.fetch.ensures.advances c.make_step.ensures.advances
+
+pub returns-then-not-is_before_step-clause-went : goal.returns-then-not-is_before_step-clause-went
+returns-then-not-is_before_step-clause-went g c =
+    let past : is_before_step c.args.service.now.stage ≡ false = cc in
+    inl past
+
+pub returns-in-Busy-clause-went : goal.returns-in-Busy-clause-went
+returns-in-Busy-clause-went g c = inr (c.in_ok-fetch.ensures.busy c.in-Busy.is)
+
+pub returns-in-Refused-clause-went : goal.returns-in-Refused-clause-went
+returns-in-Refused-clause-went g c = on_ok c.add_code.result _ _ (λ stage. inl (ap is_before_step stage)) c.add_code.ensures.stage
+
+pub returns-in-Done-clause-went : goal.returns-in-Done-clause-went
+returns-in-Done-clause-went g c =
+    let before : is_before_step c.args.service.now.stage ≡ true = cc in
+    on_ok c.make_step.result _ _ (λ went. inl (went (c.in_ok-fetch.ensures.went c.in-Done.is before))) c.make_step.ensures.went

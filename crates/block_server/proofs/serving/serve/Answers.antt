@@ -1,7 +1,13 @@
+use Rattle.crq_session.specs.EndState.{EndState}
+use Rattle.block_server.specs.Stage.{is_answered}
+use Rattle.block_server.specs.Turns.{UnderWay}
+use Rattle.block_server.specs.declared.line.Line.{Line}
+use Rattle.block_server.proofs.Agreeing.{agrees_on, agrees_same}
+use Rattle.block_server.proofs.Staging.{serve_held, some_front}
 use Rattle.block_server.proofs.Advancing.{advances_on}
 use Rattle.block_server.proofs.Quieting.{on_ok, quiet_on, quiet_stage}
-use Rattle.std.proofs.Common.{◌∙◌, None, refl}
-use Rattle.block_server.specs.Serving.{desk_of}
+use Rattle.std.proofs.Common.{◌∙◌, None, ap, refl, rules, sym}
+use Rattle.block_server.specs.Serving.{Desk, desk_of}
 use Rattle.block_server.proofs.Denying.{tells_first}
 use Rattle.block_server.proofs.Onces.{once_on, once_same, once_then}
 use Rattle.block_server.proofs.Serves.{desk_is, front_is, once_between}
@@ -47,3 +53,52 @@ returns-clause-once g c = λ told all.
     (c.note_stage.ensures.desk ∙ desk_is unit.id c.prepare.new.service None _ _ _ c.requires.none front.1)
     _ _ (c.prepare.ensures.once told (tells_first told unit.id (g.S.Site.state c.args.site.now) (g.S.Site.state c.prepare.new.site) (g.S.Site.state c.answer.new.site) c.answer.ensures.advances all) front.0))
     (c.answer.ensures.once _)
+
+pub returns-in_default-clause-agrees : goal.returns-in_default-clause-agrees
+returns-in_default-clause-agrees g c = λ is. is
+
+pub returns-in_err-make_room-clause-agrees : goal.returns-in_err-make_room-clause-agrees
+returns-in_err-make_room-clause-agrees g c = λ is. is
+
+pub returns-in-Logout-clause-agrees : goal.returns-in-Logout-clause-agrees
+returns-in-Logout-clause-agrees g c = agrees_same _ _ _ _ c.log_out.ensures.handshake refl
+
+pub returns-in_err-prepare-clause-agrees : goal.returns-in_err-prepare-clause-agrees
+returns-in_err-prepare-clause-agrees g c = agrees_same _ _ _ _ refl (ap (λ (q : EndState). q.registered) c.prepare.ensures.queue)
+
+pub returns-clause-agrees : goal.returns-clause-agrees
+returns-clause-agrees g c = agrees_on _ _ _ (agrees_same _ _ _ _ (ap (λ (line : Line). line.handshake) c.note_stage.ensures.line) (ap (λ (q : EndState). q.registered) c.prepare.ensures.queue)) c.answer.ensures.agrees
+
+pub returns-in_err-make_room-clause-nothing : goal.returns-in_err-make_room-clause-nothing
+returns-in_err-make_room-clause-nothing g c = λ empty. let front = front_is _ _ c.in-Some.ensures.item.3 in some_front _ _ _ _ front.1 empty
+
+pub returns-in_err-make_room-clause-still : goal.returns-in_err-make_room-clause-still
+returns-in_err-make_room-clause-still g c = λ empty. let front = front_is _ _ c.in-Some.ensures.item.3 in some_front _ _ _ _ front.1 empty
+
+pub returns-in-Logout-clause-nothing : goal.returns-in-Logout-clause-nothing
+returns-in-Logout-clause-nothing g c = λ empty. let front = front_is _ _ c.in-Some.ensures.item.3 in some_front _ _ _ _ front.1 empty
+
+pub returns-in-Logout-clause-still : goal.returns-in-Logout-clause-still
+returns-in-Logout-clause-still g c = λ empty. let front = front_is _ _ c.in-Some.ensures.item.3 in some_front _ _ _ _ front.1 empty
+
+pub returns-in_err-prepare-clause-nothing : goal.returns-in_err-prepare-clause-nothing
+returns-in_err-prepare-clause-nothing g c = λ empty. let front = front_is _ _ c.in-Some.ensures.item.3 in some_front _ _ _ _ front.1 empty
+
+pub returns-in_err-prepare-clause-still : goal.returns-in_err-prepare-clause-still
+returns-in_err-prepare-clause-still g c = λ empty. let front = front_is _ _ c.in-Some.ensures.item.3 in some_front _ _ _ _ front.1 empty
+
+pub returns-clause-nothing : goal.returns-clause-nothing
+returns-clause-nothing g c = λ empty. let front = front_is _ _ c.in-Some.ensures.item.3 in some_front _ _ _ _ front.1 empty
+
+pub returns-clause-still : goal.returns-clause-still
+returns-clause-still g c = λ empty. let front = front_is _ _ c.in-Some.ensures.item.3 in some_front _ _ _ _ front.1 empty
+
+pub returns-clause-waits : goal.returns-clause-waits
+returns-clause-waits g c =
+    on_ok c.answer.result _ _
+    (λ waits moved pending.
+    serve_held _ (g.S.Site.state c.args.site.now) (g.S.Site.state c.prepare.new.site) (g.S.Site.state c.answer.new.site) _
+    c.prepare.ensures.advances c.answer.ensures.advances c.prepare.ensures.queue (c.in_ok-prepare.ensures.went (λ is. search rules))
+    (λ answered. waits moved (λ empty. pending (sym (ap (λ (way : UnderWay). way.pending) c.note_stage.ensures.way) ∙ empty))
+    (ap is_answered (ap (λ (desk : Desk). desk.stage) c.note_stage.ensures.desk) ∙ answered)))
+    c.answer.ensures.waits

@@ -1,4 +1,7 @@
 use Rattle.std.proofs.Common.{◌∙◌}
+use Rattle.block_server.proofs.Quieting.{on_ok}
+use Rattle.block_server.proofs.Readying.{uses_later, uses_sooner, went_on}
+use Rattle.block_server.proofs.Staging.{came_on}
 use Rattle.block_server.proofs.Advancing.{advances_on}
 use Rattle.block_server.proofs.Denying.{tells_first, tells_next}
 use Rattle.block_server.proofs.Onces.{once_then}
@@ -28,3 +31,14 @@ returns-clause-advances g c = advances_on _ _ _ (advances_on _ _ _ c.run_step.en
 
 pub returns-clause-queue : goal.returns-clause-queue
 returns-clause-queue g c = c.hand_over.ensures.queue ∙ c.store.ensures.queue ∙ c.run_step.ensures.queue
+
+pub returns-clause-went : goal.returns-clause-went
+returns-clause-went g c =
+    let old = g.S.Site.state c.args.site.now in
+    let stored = g.S.Site.state c.store.new.site in
+    let new = g.S.Site.state c.hand_over.new.site in
+    let rest = advances_on _ _ _ c.store.ensures.advances c.hand_over.ensures.advances in
+    let first = advances_on _ _ _ c.run_step.ensures.advances c.store.ensures.advances in
+    came_on c.hand_over.result _ _ _ _ (λ met. uses_sooner old (g.S.Site.state c.run_step.new.site) new met rest) c.in_ok-run_step.ensures.went
+    (λ before. let stage = c.in_ok-store.ensures.went before in
+    went_on c.hand_over.result _ _ _ (uses_later old stored new first) (on_ok c.hand_over.result _ _ (λ went. went stage.0 stage.1) c.hand_over.ensures.went))

@@ -1,6 +1,7 @@
 use Rattle.std.proofs.Common.{ap, refl}
 use Rattle.crq_session.specs.EndState.{EndState}
 use Rattle.block_server.specs.Answering.{responses}
+use Rattle.block_server.proofs.Staging.{not_given}
 use Rattle.block_server.proofs.Onces.{once_same}
 use Rattle.block_server.proofs.Serves.{once_stored}
 use Rattle.block_server.proofs.serving.store.Goals as goal
@@ -16,3 +17,6 @@ returns-in_ok-write_data-clause-once g c = λ id rest records disk serving.
 
 pub returns-in_default-clause-once : goal.returns-in_default-clause-once
 returns-in_default-clause-once g c = λ id rest records disk serving. once_same _ _ _ _ _ _ refl refl refl disk serving
+
+pub returns-in_default-clause-went : goal.returns-in_default-clause-went
+returns-in_default-clause-went g c = λ before. (before, not_given _ (λ row reply is. c.in_default.not-Given row reply is))

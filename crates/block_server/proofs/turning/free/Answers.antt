@@ -1,4 +1,6 @@
-use Rattle.std.proofs.Common.{refl}
+use Rattle.std.proofs.Common.{refl, sym, ◌∙◌}
+use Rattle.block_server.proofs.Agreeing.{agrees_same, is_down}
+use Rattle.block_server.proofs.Readying.{idles_reserves, sender_now}
 use Rattle.block_server.proofs.Onces.{once_same}
 use Rattle.block_server.proofs.Serves.{desk_is}
 use Rattle.block_server.proofs.turning.free.Goals as goal
@@ -17,3 +19,19 @@ returns-in-Parameter-clause-once g c = λ records disk serving.
     let unit = c.args.unit.now in
     once_same _ _ _ _ _ _ (desk_is unit.id unit.service _ _ unit.pending.items _ c.freed-in-Parameter.ensures.kept refl) refl
     c.free.ensures.plain disk serving
+
+pub returns-in-Busy-clause-waits : goal.returns-in-Busy-clause-waits
+returns-in-Busy-clause-waits g c = λ moved. sender_now _ _ _ _ c.in-Busy.ensures.busy
+
+pub returns-in-Parameter-clause-waits : goal.returns-in-Parameter-clause-waits
+returns-in-Parameter-clause-waits g c = λ moved. idles_reserves _ _ _ c.in-Parameter.ensures.refused
+
+pub returns-in-Busy-clause-agrees : goal.returns-in-Busy-clause-agrees
+returns-in-Busy-clause-agrees g c = agrees_same _ _ _ _ refl (c.in-Busy.ensures.busy.still ∙ sym c.in-Busy.ensures.busy.registered)
+
+pub returns-in-Success-clause-agrees : goal.returns-in-Success-clause-agrees
+returns-in-Success-clause-agrees g c = λ is. is_down _ _ c.freed.ensures.handshake c.in-Success.ensures.success.freed
+
+pub returns-in-Parameter-clause-agrees : goal.returns-in-Parameter-clause-agrees
+returns-in-Parameter-clause-agrees g c = λ is.
+    is_down _ _ c.freed-in-Parameter.ensures.handshake (c.in-Parameter.ensures.refused.registered ∙ c.free.ensures.parameter.0 c.in-Parameter.is)

@@ -1,6 +1,13 @@
 use Rattle.std.proofs.Common.{refl}
+use Rattle.block_server.proofs.Readying.{idles_same}
 use Rattle.block_server.proofs.Onces.{once_same}
 use Rattle.block_server.proofs.turning.free_closed.Goals as goal
 
 pub returns-then-not-unit-clause-once : goal.returns-then-not-unit-clause-once
 returns-then-not-unit-clause-once g c = λ records disk serving. once_same _ _ _ _ _ _ refl refl refl disk serving
+
+pub returns-then-not-unit-clause-waits : goal.returns-then-not-unit-clause-waits
+returns-then-not-unit-clause-waits g c = λ moved. idles_same _ _
+
+pub returns-then-not-unit-clause-agrees : goal.returns-then-not-unit-clause-agrees
+returns-then-not-unit-clause-agrees g c = λ is. is

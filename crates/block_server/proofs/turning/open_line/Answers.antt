@@ -1,5 +1,7 @@
-use Rattle.std.proofs.Common.{ap, refl}
+use Rattle.std.proofs.Common.{ap, inl, inr, refl, rules}
 use Rattle.block_server.specs.Answering.{responses}
+use Rattle.block_server.proofs.Agreeing.{agrees_on, agrees_same}
+use Rattle.block_server.proofs.Readying.{full_later, idles_on, idles_reserves, next_on, next_over, opening_later, sender_later}
 use Rattle.block_server.proofs.Advancing.{advances_on}
 use Rattle.block_server.proofs.Onces.{once_on, once_same}
 use Rattle.block_server.proofs.Quieting.{quiet_on, quiet_still, still_reserves}
@@ -52,3 +54,53 @@ returns-clause-advances g c = advances_on _ _ _ (advances_on _ _ _ c.reserve.ens
 pub returns-clause-quiet : goal.returns-clause-quiet
 returns-clause-quiet g c =
     quiet_on _ _ _ _ _ _ (quiet_on _ _ _ _ _ _ (quiet_still _ _ _ (still_reserves _ _ c.reserve.ensures.rest)) c.push_event.ensures.quiet) c.free_closed.ensures.quiet
+
+pub returns-in_err-reserve-clause-agrees : goal.returns-in_err-reserve-clause-agrees
+returns-in_err-reserve-clause-agrees g c = agrees_same _ _ _ _ refl c.reserve.ensures.rest.registered
+
+pub returns-then-eq-clause-agrees : goal.returns-then-eq-clause-agrees
+returns-then-eq-clause-agrees g c = agrees_on _ _ _ (agrees_same _ _ _ _ refl c.reserve.ensures.rest.registered) c.push_event.ensures.agrees
+
+pub returns-then-eq-2-clause-agrees : goal.returns-then-eq-2-clause-agrees
+returns-then-eq-2-clause-agrees g c =
+    agrees_on _ _ _ (agrees_on _ _ _ (agrees_same _ _ _ _ refl c.reserve.ensures.rest.registered) c.push_event.ensures.agrees) c.free_closed.ensures.agrees
+
+pub returns-then-is_down-clause-agrees : goal.returns-then-is_down-clause-agrees
+returns-then-is_down-clause-agrees g c =
+    agrees_on _ _ _
+    (agrees_on _ _ _ (agrees_on _ _ _ (agrees_same _ _ _ _ refl c.reserve.ensures.rest.registered) c.push_event.ensures.agrees) c.free_closed.ensures.agrees)
+    c.register.ensures.agrees
+
+pub returns-clause-agrees : goal.returns-clause-agrees
+returns-clause-agrees g c =
+    agrees_on _ _ _ (agrees_on _ _ _ (agrees_same _ _ _ _ refl c.reserve.ensures.rest.registered) c.push_event.ensures.agrees) c.free_closed.ensures.agrees
+
+pub returns-then-eq-clause-waits : goal.returns-then-eq-clause-waits
+returns-then-eq-clause-waits g c = λ moved.
+    inl (full_later _ _ _ _ (idles_reserves _ _ _ c.reserve.ensures.rest) (next_over c.push_event.result _ _ _ (search rules) (c.push_event.ensures.waits moved)))
+
+pub returns-then-eq-2-clause-waits : goal.returns-then-eq-2-clause-waits
+returns-then-eq-2-clause-waits g c = λ moved.
+    let event = next_on c.push_event.result _ _ (search rules) (c.push_event.ensures.waits (c.free_closed.ensures.quiet moved).was) in
+    inr (inl (sender_later _ _ _ _ (idles_on _ _ _ _ (idles_reserves _ _ _ c.reserve.ensures.rest) event.idles)
+    (next_over c.free_closed.result _ _ _ (search rules) (c.free_closed.ensures.waits moved))))
+
+pub returns-then-is_down-clause-waits : goal.returns-then-is_down-clause-waits
+returns-then-is_down-clause-waits g c = λ moved.
+    let was = (c.register.ensures.quiet moved).was in
+    let event = next_on c.push_event.result _ _ (search rules) (c.push_event.ensures.waits (c.free_closed.ensures.quiet was).was) in
+    let free = next_on c.free_closed.result _ _ (search rules) (c.free_closed.ensures.waits was) in
+    opening_later _ _ _ _ _
+    (idles_on _ _ _ _ (idles_on _ _ _ _ (idles_reserves _ _ _ c.reserve.ensures.rest) event.idles) free) (c.register.ensures.waits moved)
+
+pub returns-clause-waits : goal.returns-clause-waits
+returns-clause-waits g c = λ moved.
+    let event = next_on c.push_event.result _ _ (search rules) (c.push_event.ensures.waits (c.free_closed.ensures.quiet moved).was) in
+    let free = next_on c.free_closed.result _ _ (search rules) (c.free_closed.ensures.waits moved) in
+    record {
+      passes = record {
+        idles = idles_on _ _ _ _ (idles_on _ _ _ _ (idles_reserves _ _ _ c.reserve.ensures.rest) event.idles) free;
+        none = free.kept event.none;
+      };
+      on = λ down. search rules;
+    }

@@ -1,4 +1,6 @@
 use Rattle.std.proofs.Common.{refl}
+use Rattle.block_server.proofs.Agreeing.{agrees_same}
+use Rattle.block_server.proofs.Readying.{full_now, idles_pushes}
 use Rattle.block_server.proofs.Onces.{once_same}
 use Rattle.block_server.proofs.turning.push_event.Goals as goal
 
@@ -10,3 +12,21 @@ returns-in-Put-clause-once g c = λ records disk serving. once_same _ _ _ _ _ _ 
 
 pub returns-in-Kept-clause-once : goal.returns-in-Kept-clause-once
 returns-in-Kept-clause-once g c = λ records disk serving. once_same _ _ _ _ _ _ refl refl c.push_event.ensures.plain disk serving
+
+pub returns-in-Nothing-clause-waits : goal.returns-in-Nothing-clause-waits
+returns-in-Nothing-clause-waits g c = λ moved. record {
+  idles = idles_pushes _ _ _ c.push_event.ensures.rest c.in-Nothing.ensures.nothing;
+  none = c.in-Nothing.ensures.nothing.kept;
+}
+
+pub returns-in-Kept-clause-waits : goal.returns-in-Kept-clause-waits
+returns-in-Kept-clause-waits g c = λ moved. full_now _ _ _ _ _ c.in-Kept.ensures.still.full
+
+pub returns-in-Nothing-clause-agrees : goal.returns-in-Nothing-clause-agrees
+returns-in-Nothing-clause-agrees g c = agrees_same _ _ _ _ refl c.push_event.ensures.rest.registered
+
+pub returns-in-Put-clause-agrees : goal.returns-in-Put-clause-agrees
+returns-in-Put-clause-agrees g c = agrees_same _ _ _ _ refl c.push_event.ensures.rest.registered
+
+pub returns-in-Kept-clause-agrees : goal.returns-in-Kept-clause-agrees
+returns-in-Kept-clause-agrees g c = agrees_same _ _ _ _ refl c.push_event.ensures.rest.registered

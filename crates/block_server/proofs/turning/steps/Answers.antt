@@ -1,6 +1,8 @@
-use Rattle.std.proofs.Common.{subst, sym}
+use Rattle.std.proofs.Common.{rules, subst, sym}
 use Rattle.vio_num.specs.declared.names.UnitId.{UnitId}
 use Rattle.block_server.specs.SiteState.{TellsAll}
+use Rattle.block_server.proofs.Agreeing.{agrees_on}
+use Rattle.block_server.proofs.Readying.{full_later, idle_full, idle_opening, idle_turn, next_on, next_over, next_service, on_both}
 use Rattle.block_server.proofs.Denying.{tells_next}
 use Rattle.block_server.proofs.Advancing.{advances_on}
 use Rattle.block_server.proofs.Quieting.{on_ok, quiet_on}
@@ -62,3 +64,58 @@ pub returns-clause-quiet : goal.returns-clause-quiet
 returns-clause-quiet g c =
     on_ok c.serve.result _ _ (quiet_on _ _ _ _ _ _
     (quiet_on _ _ _ _ _ _ (quiet_on _ _ _ _ _ _ c.in_ok-open_line.ensures.quiet c.in_ok-put_kept.ensures.quiet) c.in_ok-take_in.ensures.quiet)) c.serve.ensures.quiet
+
+pub returns-in_err-open_line-clause-agrees : goal.returns-in_err-open_line-clause-agrees
+returns-in_err-open_line-clause-agrees g c = c.open_line.ensures.agrees
+
+pub returns-then-eq-clause-agrees : goal.returns-then-eq-clause-agrees
+returns-then-eq-clause-agrees g c = c.open_line.ensures.agrees
+
+pub returns-in_err-put_kept-clause-agrees : goal.returns-in_err-put_kept-clause-agrees
+returns-in_err-put_kept-clause-agrees g c = agrees_on _ _ _ c.open_line.ensures.agrees c.put_kept.ensures.agrees
+
+pub returns-then-eq-2-clause-agrees : goal.returns-then-eq-2-clause-agrees
+returns-then-eq-2-clause-agrees g c = agrees_on _ _ _ c.open_line.ensures.agrees c.put_kept.ensures.agrees
+
+pub returns-in_err-take_in-clause-agrees : goal.returns-in_err-take_in-clause-agrees
+returns-in_err-take_in-clause-agrees g c = agrees_on _ _ _ (agrees_on _ _ _ c.open_line.ensures.agrees c.put_kept.ensures.agrees) c.take_in.ensures.agrees
+
+pub returns-then-eq-3-clause-agrees : goal.returns-then-eq-3-clause-agrees
+returns-then-eq-3-clause-agrees g c = agrees_on _ _ _ (agrees_on _ _ _ c.open_line.ensures.agrees c.put_kept.ensures.agrees) c.take_in.ensures.agrees
+
+pub returns-clause-agrees : goal.returns-clause-agrees
+returns-clause-agrees g c =
+    agrees_on _ _ _ (agrees_on _ _ _ (agrees_on _ _ _ c.open_line.ensures.agrees c.put_kept.ensures.agrees) c.take_in.ensures.agrees)
+    c.serve.ensures.agrees
+
+pub returns-then-eq-clause-waits : goal.returns-then-eq-clause-waits
+returns-then-eq-clause-waits g c = λ moved.
+    idle_opening _ (g.S.Site.state c.args.site.now) (g.S.Site.state c.open_line.new.site) _
+    (next_over c.in_ok-open_line.field-0 _ _ _ (search rules) (c.in_ok-open_line.ensures.waits moved))
+
+pub returns-then-eq-2-clause-waits : goal.returns-then-eq-2-clause-waits
+returns-then-eq-2-clause-waits g c = λ moved.
+    let was = (c.in_ok-put_kept.ensures.quiet moved).was in
+    let opens = next_on c.in_ok-open_line.field-0 _ _ (search rules) (c.in_ok-open_line.ensures.waits was) in
+    idle_full _ (g.S.Site.state c.args.site.now) (g.S.Site.state c.put_kept.new.site) _
+    (full_later _ _ _ _ opens.passes.idles (next_over c.in_ok-put_kept.field-0 _ _ _ (search rules) (c.in_ok-put_kept.ensures.waits moved)))
+
+pub returns-then-eq-3-clause-waits : goal.returns-then-eq-3-clause-waits
+returns-then-eq-3-clause-waits g c = λ moved.
+    absurd (next_over c.in_ok-take_in.field-0 _ _ _ (search rules) (c.in_ok-take_in.ensures.waits moved))
+
+pub returns-clause-waits : goal.returns-clause-waits
+returns-clause-waits g c =
+    on_both c.serve.result _ _ _
+    (λ waits quiet moved.
+    let was3 = (quiet moved).was in
+    let was2 = (c.in_ok-take_in.ensures.quiet was3).was in
+    let was1 = (c.in_ok-put_kept.ensures.quiet was2).was in
+    idle_turn _ (g.S.Site.state c.args.site.now) (g.S.Site.state c.open_line.new.site) (g.S.Site.state c.put_kept.new.site)
+    (g.S.Site.state c.take_in.new.site) (g.S.Site.state c.serve.new.site) _ _ _ _
+    (advances_on _ _ _ c.open_line.ensures.advances c.put_kept.ensures.advances) c.take_in.ensures.advances
+    (next_on c.in_ok-open_line.field-0 _ _ (search rules) (c.in_ok-open_line.ensures.waits was1))
+    (next_on c.in_ok-put_kept.field-0 _ _ (search rules) (c.in_ok-put_kept.ensures.waits was2))
+    (next_service c.in_ok-take_in.field-0 _ (c.in_ok-take_in.ensures.waits was3))
+    (waits moved) c.serve.ensures.nothing c.serve.ensures.still)
+    c.serve.ensures.waits c.serve.ensures.quiet

@@ -1,4 +1,6 @@
-use Rattle.block_server.proofs.Sending.{queue_call, register_puts, same_taken}
+use Rattle.std.proofs.Common.{◌∙◌, subst, sym}
+use Rattle.crq_session.specs.Control.{IsQueueSize}
+use Rattle.block_server.proofs.Sending.{queue_call, register_puts, register_stands, same_taken}
 use Rattle.block_server.proofs.Plains.{register_plain}
 use Rattle.block_server.proofs.ports.PortsSite.register.Goals as goal
 
@@ -13,3 +15,9 @@ pub returns-clause-plain : goal.returns-clause-plain
 returns-clause-plain g c =
     register_plain g.C.CrqEnd.is_shared (g.C.CrqEnd.state c.args.self.now.queue.now) (g.C.CrqEnd.state c.register.new.self) c.register.result
     c.args.self.now.event c.register.ensures.opened c.register.ensures.busy c.register.ensures.refused
+
+pub returns-clause-stands : goal.returns-clause-stands
+returns-clause-stands g c =
+    register_stands (g.C.CrqEnd.state c.args.self.now.queue.now) c.from-length.result c.register.result (c.from-length.ensures ∙ c.slots.ensures.slots)
+    (subst IsQueueSize (sym c.from-length.ensures) c.slots.ensures.size)
+    c.register.ensures.parameter.0 c.register.ensures.resource.0

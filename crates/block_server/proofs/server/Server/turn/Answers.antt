@@ -1,15 +1,18 @@
-use Rattle.std.proofs.Common.{◌≡◌, ◌∙◌, Some, IfSome, ap, refl, slice_get, subst, sym}
-use Rattle.std.specs.Prelude.{IsSome}
+use Rattle.std.proofs.Common.{◌≡◌, ◌∙◌, Some, ap, refl, slice_get, slice_set, subst, sym}
 use Rattle.std.proofs.Math.Logic.{∥∥₁_elim, ∥∥₁_map}
 use Rattle.std.proofs.lemmas.Option.{slice_get_read}
 use Rattle.vio_num.specs.declared.names.UnitId.{UnitId}
 use Rattle.crq_session.specs.EndState.{EndState}
 use Rattle.block_server.specs.Causes.{anything}
+use Rattle.tce_window.specs.PortState.{PortState}
+use Rattle.block_server.specs.Ready.{AgreesAt, NothingReady}
 use Rattle.block_server.specs.Serving.{held, terms_of}
 use Rattle.block_server.specs.SiteState.{Lenders}
 use Rattle.block_server.specs.Units.{AnswersItsRows, AreServing, ServesItsRows}
 use Rattle.block_server.proofs.Denying.{tells_turn}
-use Rattle.block_server.proofs.Units.{keeps_disk, tells_prop, units_on, way_quiet}
+use Rattle.block_server.proofs.Agreeing.{agrees_turn, waits_turn}
+use Rattle.block_server.proofs.Readying.{idle_ready, if_ready}
+use Rattle.block_server.proofs.Units.{get_set_other, keeps_disk, tells_prop, units_on, way_quiet}
 use Rattle.block_server.proofs.server.Server.turn.Goals as goal
 
 pub returns-clause-answers : goal.returns-clause-answers
@@ -96,3 +99,31 @@ invariant_of-self g c =
           server.partition c.args.unit server.units.items c.index_mut.result.now c.turn.new.unit _ _ _ _ there
           (c.turn.ensures.once anything (λ right address len fault denied. refl) (all c.args.unit c.index_mut.result.now there).serving) all);
     }
+
+pub returns-clause-others_stay : goal.returns-clause-others_stay
+returns-clause-others_stay g c = λ k apart. get_set_other c.args.self.now.units.items c.args.unit k c.turn.new.unit apart
+
+pub returns-clause-agrees : goal.returns-clause-agrees
+returns-clause-agrees g c =
+    let server = c.args.self.now in
+    let there : slice_get server.units.items c.args.unit ≡ Some c.index_mut.result.now =
+    slice_get_read server.units.items _ c.args.unit _ server.units.ok.0 c.requires.unit c.index_mut.ensures.value in
+    let reached = ap (λ (lent : Lenders). lent.queue) c.turn.ensures.advances.reached in
+    subst (λ (queue : EndState). AgreesAt server.units.items c.args.unit (g.C.CrqEnd.state c.args.crq.now) → AgreesAt (slice_set server.units.items c.args.unit c.turn.new.unit) c.args.unit queue)
+    (sym (ap g.C.CrqEnd.state (c.crq-1.given.1 (sym reached))))
+    (agrees_turn server.units.items c.args.unit c.index_mut.result.now c.turn.new.unit (g.C.CrqEnd.state c.args.crq.now) (g.C.CrqEnd.state c.turn.new.site.queue.now) there c.turn.ensures.agrees)
+
+pub returns-clause-waits : goal.returns-clause-waits
+returns-clause-waits g c =
+    let server = c.args.self.now in
+    let there : slice_get server.units.items c.args.unit ≡ Some c.index_mut.result.now =
+    slice_get_read server.units.items _ c.args.unit _ server.units.ok.0 c.requires.unit c.index_mut.ensures.value in
+    let lent = c.turn.ensures.advances.reached in
+    let queue = sym (ap g.C.CrqEnd.state (c.crq-1.given.1 (sym (ap (λ (lent : Lenders). lent.queue) lent)))) in
+    let own = sym (ap g.O.WindowPort.state (c.own-1.given.1 (sym (ap (λ (lent : Lenders). lent.own) lent)))) in
+    let client = sym (ap g.R.WindowPort.state (c.client-1.given.1 (sym (ap (λ (lent : Lenders). lent.client) lent)))) in
+    waits_turn c.turn.result server.units.items c.args.unit c.index_mut.result.now c.turn.new.unit (g.C.CrqEnd.state c.args.crq.now) _ there
+    (if_ready c.turn.result _ _ _ (λ agreed idle.
+    subst (λ (z : EndState × PortState × PortState). NothingReady g.C.CrqEnd.is_shared g.R.WindowPort.is_shared (g.C.CrqEnd.state c.args.crq.now) z.0
+    (g.O.WindowPort.state c.args.own.now) z.1 (g.R.WindowPort.state c.args.client.now) z.2 c.turn.new.unit) (λ i. (queue i, own i, client i))
+    (idle_ready _ _ (c.turn.ensures.agrees agreed) idle)) c.turn.ensures.waits)

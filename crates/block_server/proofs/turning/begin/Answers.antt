@@ -1,0 +1,20 @@
+use Rattle.std.proofs.Common.{refl}
+use Rattle.block_server.proofs.Agreeing.{is_waiting}
+use Rattle.block_server.proofs.Onces.{once_same}
+use Rattle.block_server.proofs.Quieting.{stays_moved}
+use Rattle.block_server.proofs.turning.begin.Goals as goal
+
+pub returns-in-Some-clause-once : goal.returns-in-Some-clause-once
+returns-in-Some-clause-once g c = c.put_reply-next.ensures.once
+
+pub returns-in-Some-clause-moved : goal.returns-in-Some-clause-moved
+returns-in-Some-clause-moved g c = stays_moved _ _ _ _ c.put_reply-next.ensures.quiet refl
+
+pub returns-in-Some-clause-agrees : goal.returns-in-Some-clause-agrees
+returns-in-Some-clause-agrees g c = c.put_reply-next.ensures.agrees (is_waiting _ _ c.registered.ensures.state c.requires.on)
+
+pub returns-in_default-clause-once : goal.returns-in_default-clause-once
+returns-in_default-clause-once g c = λ records disk serving. once_same _ _ _ _ _ _ refl refl refl disk serving
+
+pub returns-in_default-clause-agrees : goal.returns-in_default-clause-agrees
+returns-in_default-clause-agrees g c = is_waiting _ _ c.registered.ensures.state c.requires.on
