@@ -1,5 +1,5 @@
 -- The entries that a window has.
-use Rattle.std.proofs.Common.{◌≡◌, ◌≤◌, ◌<◌, ◌*◌, ◌/◌, ◌%◌, ◌==◌, ◌&&◌, ◌||◌, ℕ, Bool, true, false, not, nat_lt, arith, refl}
+use Rattle.std.proofs.Common.{◌≡◌, ◌≤◌, ◌*◌, ◌/◌, ◌%◌, ◌==◌, ◌&&◌, ◌||◌, ℕ, Bool, true, false, not, nat_lt, arith, refl}
 use Rattle.std.proofs.lemmas.Bool.{ltb-true}
 use Rattle.tce_window.specs.Grant.{has_right}
 use Rattle.tce_window.specs.Puts.{takes}

@@ -1,8 +1,8 @@
 -- What lines in a unit's own region answer, and what they leave of it.
-use Rattle.std.specs.Prelude.{◌≡◌, ◌+◌, ◌*◌, ℕ, Bool, true, false, if◌then◌else◌, List, length}
+use Rattle.std.specs.Prelude.{◌≡◌, ◌+◌, ◌*◌, ℕ, Bool, true, false, if◌then◌else◌, List, [], ◌∷◌, length}
 use Rattle.vio_num.specs.Counts.{Rose}
 use Rattle.vio_num.specs.declared.hypervisor.Hrc.TheVariants as codes
-use Rattle.tce_window.specs.PortState.{PortState, LaysNone, Reads, Writes, contains}
+use Rattle.tce_window.specs.PortState.{PortState, LaysNone, Puts, Reads, Writes, contains}
 use Rattle.tce_window.specs.Puts.{takes}
 use Rattle.vio_trace.specs.declared.outcome.Outcome.TheVariants as outcomes
 use Rattle.unit_region.specs.declared.step.Step.{Step}
@@ -20,12 +20,6 @@ AnswersWrite is_shared old new at bytes line (steps.Ends outcomes.Range) = Write
 AnswersWrite is_shared old new at bytes line (steps.Ends _) = ⊥
 AnswersWrite is_shared old new at bytes line (steps.Waits did) = Rose old.in_use new.in_use
 
--- `len` bytes were written so.
-pub record AnswersFill (is_shared : Bool) (old new : PortState) (at len line : ℕ) (step : Step) : Type 0 where
-  pub bytes : List ℕ
-  pub long : length bytes ≡ len
-  pub answer : AnswersWrite is_shared old new at bytes line step
-
 -- Bytes of the region were read.
 pub record ReadsShown (new : PortState) (at len : ℕ) (shown : List ℕ) : Type 0 where
   pub long : length shown ≡ len
@@ -42,9 +36,11 @@ AnswersRead old new at len (steps.Waits did) = Rose old.in_use new.in_use
 abbrev pub tce_of : (page : ℕ) → (readable writable : Bool) → ℕ
 tce_of page readable writable = 4096 * page + (if readable then 1 else 0) + (if writable then 2 else 0)
 
--- a value was put, or the window does not take it, or its entry was in use
+-- a value was put, or the window does not take it, or its entry was in use; no other entry has another value
 abbrev pub AnswersPut : (old new : PortState) → (entry tce : ℕ) → Step → Type 0
-AnswersPut old new entry tce (steps.Ends (outcomes.Code codes.Success)) = takes old.place.size (4096 * entry) tce ≡ true
-AnswersPut old new entry tce (steps.Ends (outcomes.Code codes.Parameter)) = takes old.place.size (4096 * entry) tce ≡ false
+AnswersPut old new entry tce (steps.Ends (outcomes.Code codes.Success)) =
+    (takes old.place.size (4096 * entry) tce ≡ true) × Puts old (4096 * entry) (tce ∷ []) new
+AnswersPut old new entry tce (steps.Ends (outcomes.Code codes.Parameter)) =
+    (takes old.place.size (4096 * entry) tce ≡ false) × Puts old (4096 * entry) [] new
 AnswersPut old new entry tce (steps.Ends _) = ⊥
-AnswersPut old new entry tce (steps.Waits did) = Rose old.in_use new.in_use
+AnswersPut old new entry tce (steps.Waits did) = Rose old.in_use new.in_use × Puts old (4096 * entry) [] new

@@ -1,5 +1,5 @@
 -- The rows of the calls on translation entries, and what their codes say.
-use Rattle.std.specs.Prelude.{◌≡◌, ℕ}
+use Rattle.std.specs.Prelude.{ℕ}
 use Rattle.vio_num.specs.declared.hypervisor.Hrc.{Hrc}
 use Rattle.vio_num.specs.declared.hypervisor.Hrc.TheVariants as codes
 use Rattle.tce_window.specs.declared.answers.GetTce.{GetTce}

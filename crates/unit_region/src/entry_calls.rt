@@ -60,7 +60,7 @@ fn code_of(answer: TceAnswer) -> Hrc
 
 // H_GET_TCE (LoPAR, "H_GET_TCE").
 fn get<O: OwnerPort>(own: &mut O, address: u64) -> Returned
-    ensures window { KeepsWindow (O.state own.old) (O.state own.new) }
+    ensures window { KeepsWindow O.is_shared (O.state own.old) (O.state own.new) }
     ensures value { gives (O.state own.old).place.size
         (O.state own.new).values address (answer_of result) }
     ensures answer { IsAnswer rows.GetTce result }
@@ -76,7 +76,7 @@ fn get<O: OwnerPort>(own: &mut O, address: u64) -> Returned
 
 // H_PUT_TCE (LoPAR, "H_PUT_TCE").
 fn put<O: OwnerPort>(own: &mut O, address: u64, value: u64) -> Result<Hrc, NoMemory>
-    ensures window { KeepsWindow (O.state own.old) (O.state own.new) }
+    ensures window { KeepsWindow O.is_shared (O.state own.old) (O.state own.new) }
     ensures parameter { IfOk result (λ code. (code ≡ codes.Parameter) ↔
         (takes (O.state own.old).place.size address value ≡ false)) }
     ensures code { IfOk result (λ code. may_answer rows.PutTce code ≡ true) }
@@ -87,7 +87,7 @@ fn put<O: OwnerPort>(own: &mut O, address: u64, value: u64) -> Result<Hrc, NoMem
 
 // H_STUFF_TCE (LoPAR, "H_STUFF_TCE").
 fn stuff<O: OwnerPort>(own: &mut O, address: u64, value: u64, count: u64) -> Result<Hrc, NoMemory>
-    ensures window { KeepsWindow (O.state own.old) (O.state own.new) }
+    ensures window { KeepsWindow O.is_shared (O.state own.old) (O.state own.new) }
     ensures code { IfOk result (λ code. may_answer rows.StuffTce code ≡ true) }
 {
     if count > MOST_VALUES {
@@ -106,7 +106,7 @@ fn put_list<O: OwnerPort>(
     list: u64,
     count: u64,
 ) -> Result<Hrc, NoMemory>
-    ensures window { KeepsWindow (O.state own.old) (O.state own.new) }
+    ensures window { KeepsWindow O.is_shared (O.state own.old) (O.state own.new) }
     ensures code { IfOk result (λ code. may_answer rows.PutTceIndirect code ≡ true) }
 {
     if count > MOST_VALUES || list % PAGE_BYTES != 0 || !is_inside(own, list, count) {
@@ -121,7 +121,7 @@ fn put_list<O: OwnerPort>(
 
 // Reads the bytes of a list, which may have none.
 fn read_list<O: OwnerPort>(own: &mut O, list: u64, bytes: &mut [u8]) -> Result<(), Hrc>
-    ensures window { KeepsWindow (O.state own.old) (O.state own.new) }
+    ensures window { KeepsWindow O.is_shared (O.state own.old) (O.state own.new) }
     ensures code { IfErr result (λ code. may_answer rows.PutTceIndirect code ≡ true) }
     ensures count { length bytes.new ≡ length bytes.old }
 {
@@ -143,7 +143,7 @@ fn put_values<O: OwnerPort>(
     bytes: &[u8],
 ) -> Result<Hrc, NoMemory>
     requires { length bytes.now ≤ 4096 }
-    ensures window { KeepsWindow (O.state own.old) (O.state own.new) }
+    ensures window { KeepsWindow O.is_shared (O.state own.old) (O.state own.new) }
     ensures code { IfOk result (λ code. may_answer rows.PutTceIndirect code ≡ true) }
 {
     let values = values_of(alloc, bytes)?;
@@ -171,7 +171,7 @@ fn values_of(alloc: Global, bytes: &[u8]) -> Result<Vec<u64>, NoMemory> {
 
 /// Makes a call on the entries of a window.
 pub fn make<O: OwnerPort>(alloc: Global, own: &mut O, call: EntryCall) -> Result<Returned, NoMemory>
-    ensures window { KeepsWindow (O.state own.old) (O.state own.new) }
+    ensures window { KeepsWindow O.is_shared (O.state own.old) (O.state own.new) }
     ensures answer { IfOk result (IsAnswer (entry_row call)) }
 {
     match call {

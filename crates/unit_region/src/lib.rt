@@ -6,5 +6,5 @@ mod region;
 mod step;
 
 pub use entry_calls::{EntryCall, make as make_entry_call};
-pub use region::{fill, peek, poke, put_tce};
+pub use region::{fill, pattern, peek, poke, put_tce};
 pub use step::Step;

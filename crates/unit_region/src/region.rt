@@ -1,9 +1,10 @@
 // Lines that write, read and map a unit's own region.
-ghost use Rattle.std.specs.Prelude.{◌<◌, ◌≤◌, IfOk};
+ghost use Rattle.std.specs.Prelude.{◌≡◌, ◌<◌, ◌≤◌, IfOk};
 ghost use Rattle.boot_text.specs.declared.common_script.TheConstants.{MOST_FILL, MOST_PAGE, MOST_PEEK};
-ghost use Rattle.unit_region.specs.Answers.{AnswersFill, AnswersPut, AnswersRead, AnswersWrite, tce_of};
+ghost use Rattle.unit_region.specs.Answers.{AnswersPut, AnswersRead, AnswersWrite, tce_of};
 ghost use Rattle.unit_region.specs.Steps.{IsPlain};
 ghost use Rattle.unit_region.specs.Kept.{KeepsWindow};
+ghost use Rattle.unit_region.specs.Pattern.{pattern as filling, pattern_byte};
 
 use crate::step::Step;
 use std::alloc::Global;
@@ -11,9 +12,10 @@ use tce_window::{OwnFault, OwnerPort, TceAnswer};
 use vio_num::{Bytes, Hrc, Moved, NoMemory, PAGE_BYTES};
 use vio_trace::{Outcome, Shown};
 
-// Byte i of the pattern of this seed.
-fn pattern(seed: u64, i: u64) -> u8
+/// Byte `i` of the pattern of this seed.
+pub fn pattern(seed: u64, i: u64) -> u8
     requires { i < MOST_FILL }
+    ensures { result ≡ pattern_byte seed i }
 {
     ((seed % 256 + i + i / 256) % 256) as u8
 }
@@ -28,10 +30,10 @@ pub fn fill<O: OwnerPort>(
     line: u64,
 ) -> Result<Step, NoMemory>
     requires { len ≤ MOST_FILL }
-    ensures window { KeepsWindow (O.state own.old) (O.state own.new) }
+    ensures window { KeepsWindow O.is_shared (O.state own.old) (O.state own.new) }
     ensures plain { IsPlain result }
-    ensures answer { IfOk result (AnswersFill O.is_shared (O.state own.old) (O.state own.new) at len
-        line) }
+    ensures answer { IfOk result (AnswersWrite O.is_shared (O.state own.old) (O.state own.new) at
+        (filling seed len) line) }
 {
     let mut bytes = Vec::with_capacity(alloc, len as usize)?;
     for i in 0..len {
@@ -42,7 +44,7 @@ pub fn fill<O: OwnerPort>(
 
 /// Writes these bytes under the mark of a line.
 pub fn poke<O: OwnerPort>(own: &mut O, at: u64, bytes: &[u8], line: u64) -> Result<Step, NoMemory>
-    ensures window { KeepsWindow (O.state own.old) (O.state own.new) }
+    ensures window { KeepsWindow O.is_shared (O.state own.old) (O.state own.new) }
     ensures plain { IsPlain result }
     ensures answer { IfOk result (AnswersWrite O.is_shared (O.state own.old) (O.state own.new) at
         bytes.now line) }
@@ -59,7 +61,7 @@ pub fn poke<O: OwnerPort>(own: &mut O, at: u64, bytes: &[u8], line: u64) -> Resu
 pub fn peek<O: OwnerPort>(alloc: Global, own: &mut O, at: u64, len: u64) -> Result<Step, NoMemory>
     requires some { 1 ≤ len }
     requires few { len ≤ MOST_PEEK }
-    ensures window { KeepsWindow (O.state own.old) (O.state own.new) }
+    ensures window { KeepsWindow O.is_shared (O.state own.old) (O.state own.new) }
     ensures plain { IsPlain result }
     ensures answer { IfOk result (AnswersRead (O.state own.old) (O.state own.new) at len) }
 {
@@ -82,7 +84,7 @@ pub fn put_tce<O: OwnerPort>(
     writable: bool,
 ) -> Result<Step, NoMemory>
     requires { page ≤ MOST_PAGE }
-    ensures window { KeepsWindow (O.state own.old) (O.state own.new) }
+    ensures window { KeepsWindow O.is_shared (O.state own.old) (O.state own.new) }
     ensures plain { IsPlain result }
     ensures answer { IfOk result (AnswersPut (O.state own.old) (O.state own.new) entry
         (tce_of page readable writable)) }
