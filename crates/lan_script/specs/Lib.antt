@@ -1,4 +1,5 @@
 pub mod Frames
+pub mod LineFrame
 pub mod Opening
 pub mod PortLaw
 pub mod PortRows

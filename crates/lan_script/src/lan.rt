@@ -2,7 +2,7 @@
 ghost use Rattle.std.specs.Prelude.{◌≡◌, ◌↔◌, ◌≤◌, ◌<◌, All, Some, IfOk, IfSome, OnOk, IsSome, IsTrue, [], length, map};
 ghost use Rattle.lan_script.specs.Seats.{IsSizedSeat, seat_at, seat_place};
 ghost use Rattle.lan_script.specs.Units.{window_at};
-ghost use Rattle.lan_script.specs.Opening.{plan_of, window_of};
+ghost use Rattle.lan_script.specs.Opening.{fresh_lan, plan_of, window_of};
 ghost use Rattle.lan_switch.specs.Switch.{AreAscending, same_unit};
 
 use crate::seat::PortSeat;
@@ -57,7 +57,8 @@ impl Lan {
         requires few { length seats.now ≤ 16 }
         requires ascending { AreAscending (map (λ seat. seat.unit) seats.now) }
         requires sized { All IsSizedSeat seats.now }
-        ensures { IfOk result (λ lan. lan.seats ≡ seats.now) }
+        ensures seats { IfOk result (λ lan. lan.seats ≡ seats.now) }
+        ensures fresh { IfOk result (λ lan. lan ≡ fresh_lan seats.now) }
     {
         let plans = plans_of(alloc, seats)?;
         let own = Vec::from_slice(alloc, seats)?;

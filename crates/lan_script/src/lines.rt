@@ -113,7 +113,7 @@ impl Lan {
 fn step_in<O: OwnerPort>(alloc: Global, own: &mut O, line: &Line) -> Result<Step, NoMemory>
     requires region { is_in_region line.now.verb ≡ true }
     requires ranged { IsInRange line.now.verb }
-    ensures window { KeepsWindow (O.state own.old) (O.state own.new) }
+    ensures window { KeepsWindow O.is_shared (O.state own.old) (O.state own.new) }
     ensures told { IfOk result TellsOfRegion }
 {
     let mark = u64::from(line.number);

@@ -1,10 +1,11 @@
 // Frames: what a line writes of one, and how a frame is sent and kept.
-ghost use Rattle.std.specs.Prelude.{◌≡◌, ◌≤◌, IfOk, IsSome, OnOk, ◌^◌, false, length, true};
+ghost use Rattle.std.specs.Prelude.{◌≡◌, ◌≤◌, ◌-◌, IfOk, IsSome, OnOk, ◌^◌, false, length, true};
 ghost use Rattle.boot_text.specs.declared.port_script.TheConstants.{LEAST_FRAME, MOST_FRAME};
 ghost use Rattle.hcall_table.specs.Rows.{may_answer};
 ghost use Rattle.hcall_table.specs.declared.hcall.Hcall.TheVariants as rows;
 ghost use Rattle.lan_script.specs.Seats.{TellsOfPort, seat_at};
 ghost use Rattle.lan_script.specs.Frames.{Owes};
+ghost use Rattle.lan_script.specs.LineFrame.{line_frame};
 
 use crate::frames::frame_row;
 use crate::lan::{Lan, place_of};
@@ -13,6 +14,7 @@ use crate::seat::descriptor;
 use lan_switch::SendRecord;
 use std::alloc::Global;
 use tce_window::{OwnFault, OwnerPort};
+use unit_region::pattern;
 use vio_num::{Hrc, Mac, NoMemory, UnitId};
 use vio_trace::Outcome;
 
@@ -153,7 +155,8 @@ fn said(sent: Sent) -> PortStep
 fn frame_bytes(alloc: Global, to: Mac, from: Mac, len: u64, seed: u64) -> Result<Vec<u8>, NoMemory>
     requires least { LEAST_FRAME ≤ len }
     requires most { len ≤ MOST_FRAME }
-    ensures { IfOk result (λ bytes. length bytes.items ≡ len) }
+    ensures len { IfOk result (λ bytes. length bytes.items ≡ len) }
+    ensures bytes { IfOk result (λ bytes. bytes.items ≡ line_frame to from (len - HEAD) seed) }
 {
     let mut bytes = Vec::with_capacity(alloc, len as usize)?;
     bytes.extend_from_slice(&to.bytes)?;
@@ -163,11 +166,4 @@ fn frame_bytes(alloc: Global, to: Mac, from: Mac, len: u64, seed: u64) -> Result
         bytes.push(pattern(seed, i))?;
     }
     Ok(bytes)
-}
-
-// Gives byte i of the pattern of this seed.
-fn pattern(seed: u64, i: u64) -> u8
-    requires { i ≤ MOST_FRAME }
-{
-    ((seed % 256 + i + i / 256) % 256) as u8
 }
