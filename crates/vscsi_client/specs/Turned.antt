@@ -165,6 +165,7 @@ pub record WritesNone (shared : Bool) (s s' : ClientState) (old new : PortState)
   pub bytes : List ℕ
   pub unit : IsLoginUnit s slot bytes
   pub meets : MeetsUse shared (unit_write slot bytes) old new page
+  pub place : new.place ≡ old.place
   pub client : s' ≡ s
 
 -- the entry of what is due
