@@ -40,6 +40,7 @@ use Rattle.vcpu_run.specs.Shown.{pages_at, puts_into, strokes_on, window_shown}
 use Rattle.vcpu_run.specs.Windows.{rows_from, rows_of_entry, rows_on, stroke_row, strokes_in_rows, values_from, values_in_rows}
 use Rattle.vcpu_run.proofs.Blocks.{entry_named, first_versions, pages_named, strokes_placed, values_named, IsOfEntry, IsOfWindow, IsOnPage}
 use Rattle.vcpu_run.proofs.Following.{each_from_all}
+use Rattle.vcpu_run.proofs.Marked.{strokes_made}
 use Rattle.vcpu_run.proofs.Order.{Each, Ordered, each_append, each_flat, each_weaker}
 use Rattle.vcpu_run.proofs.Ordering.{each_of, marks_own, values_own}
 use Rattle.vcpu_run.proofs.Parts.{IsIn, Told, each_in, filter_both, found}
@@ -305,4 +306,5 @@ copies_are pairs scripts lan rows history grants copies partitions are are' wind
           (each_weaker (IsSeated partitions pairs lan) (λ seat. Each (LiesInWindow partitions) (values_at pairs lan seat))
           (λ seat h. values_lie partitions seat.unit (window_at pairs lan seat) h) seats seated));
       no_server = no_server_puts partitions pairs lan seats order seated lawful;
+      made = strokes_made partitions pairs scripts lan rows history grants copies are are' plan;
     }

@@ -1,10 +1,10 @@
 -- What turns leave of the server's disk, one behind the other.
-use Rattle.std.proofs.Common.{◌≡◌, ◌∙◌, refl, sym, subst, ℕ, List, [], Option, Some, None, IfSome, IsSome}
+use Rattle.std.proofs.Common.{◌≡◌, ◌∙◌, refl, sym, subst, ℕ, List, [], Option, Some, None, IfSome, IsSome, IsSomeAnd}
 use Rattle.std.proofs.Math.Logic.{∥∥₁_map, ∥∥₁_map₂}
 use Rattle.vio_num.specs.declared.history.Served.{Served}
 use Rattle.block_server.specs.DiskLaw.{KeepsDisk}
 use Rattle.vio_trace.specs.declared.rows.Trace.{Trace}
-use Rattle.vcpu_run.specs.OnDisk.{LastsOnDisk, LeadsOn}
+use Rattle.vcpu_run.specs.OnDisk.{IsServed, LastsInRows, LastsOnDisk, LeadsOn}
 
 abbrev pub Blocks : Type 0
 Blocks = Option (List (List ℕ))
@@ -44,3 +44,18 @@ served_from None before after keeps = tt
 served_from (Some told) None after keeps = tt
 served_from (Some told) (Some first) None keeps = tt
 served_from (Some told) (Some first) (Some last) keeps = ∥∥₁_map keeps (λ keep. keep first refl)
+
+-- whatever became of a run, its rows keep the law of the disk
+pub lasts_somehow : (rows rows' : List Served) (a b c : Blocks) → c ≡ b → LastsOnDisk rows rows' a b → LastsInRows rows a c
+lasts_somehow rows rows' a b c same lasts = subst (λ (now : Blocks). LastsInRows rows a now) (sym same) (∥∥₁_map lasts.serves (λ keep. (rows', keep)))
+
+-- and from the first on
+pub served_somehow : (before after : Blocks) → LastsInRows [] before after → IfSome before (λ blocks. IsSome after) → IsServed before after
+served_somehow None after lasts tells = tt
+served_somehow (Some first) None lasts tells = absurd (cc)
+served_somehow (Some first) (Some last) lasts tells = ∥∥₁_map lasts (λ keep. (keep.0, keep.1 first refl))
+
+-- nothing was done
+pub served_same : (now : Blocks) → IsServed now now
+served_same None = tt
+served_same (Some blocks) = ∣ ([], refl) ∣₁

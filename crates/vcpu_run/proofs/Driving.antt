@@ -1,10 +1,13 @@
 -- What turns of clients leave of all pairs, one behind the other.
-use Rattle.std.proofs.Common.{◌≡◌, ◌≢◌, ◌∙◌, ◌⊎◌, inl, inr, ℕ, zero, suc, ◌<◌, List, [], ◌∷◌, Option, Some, None, IfSome, IsSomeAnd, length, slice_get, slice_index_or, slice_set, refl, sym, ap, subst, arith}
+use Rattle.std.proofs.Common.{◌≡◌, ◌≢◌, ◌∙◌, ◌⊎◌, inl, inr, ℕ, zero, suc, ◌<◌, Bool, false, List, [], ◌∷◌, Option, Some, None, IfNone, IfSome, IsSomeAnd, length, slice_get, slice_index_or, slice_set, refl, sym, ap, subst, arith}
 use Rattle.std.proofs.lemmas.Option.{slice_get_within, slice_get-get_or}
-use Rattle.tce_window.specs.Window.{WindowValue}
+use Rattle.tce_window.specs.Window.{WindowValue, strokes_at}
 use Rattle.tce_window.specs.PlainPort.{known_of}
+use Rattle.crq_session.specs.PlainState.{side_of as link_side}
 use Rattle.rdma_copy.specs.Copies.{side_of}
 use Rattle.rdma_copy.proofs.Laws.{side_same, side_on}
+use Rattle.unit_region.specs.Kept.{LaysOwnOn}
+use Rattle.unit_region.proofs.Growing.{own_same, own_then}
 use Rattle.vcpu_run.specs.declared.driver.Driver.{Driver}
 use Rattle.vcpu_run.specs.declared.pair.Pair.{Pair}
 use Rattle.vcpu_run.specs.declared.unit_seat.Seat.{Seat}
@@ -57,6 +60,15 @@ goes_on a b c (Some x) None z first next = absurd first
 goes_on a b c (Some x) (Some y) z first next =
     some_more z _ _ (λ d step. (step.0 ∙ first.0, λ is. step.1 (first.1 is))) next
 
+alone_same : (driver : Option Driver) (b : Bool) → IfNone driver (b ≡ b)
+alone_same None b = refl
+alone_same (Some driver) b = tt
+
+alone_on : (x y z : Bool) (a b : WindowValue) (o p : Option Driver) → GoesOn a b o p → IfNone o (y ≡ x) → IfNone p (z ≡ y) → IfNone o (z ≡ x)
+alone_on x y z a b None None goes first next = next ∙ first
+alone_on x y z a b None (Some driver) goes first next = cc
+alone_on x y z a b (Some driver) p goes first next = tt
+
 pub drives_same : (pair : Pair) → Drives pair pair
 drives_same pair = record {
   server = refl;
@@ -70,6 +82,9 @@ drives_same pair = record {
   held = refl;
   grows = side_same (side_of (known_of pair.window));
   driver = goes_same pair.window pair.driver;
+  laid = λ p. own_same pair.window.unit (strokes_at pair.window.pages p);
+  server_registered = refl;
+  alone = alone_same pair.driver (link_side pair.link false).registered;
 }
 
 drives_on : (a b c : Pair) → Drives a b → Drives b c → Drives a c
@@ -85,6 +100,10 @@ drives_on a b c first next = record {
   held = next.held ∙ first.held;
   grows = side_on (side_of (known_of a.window)) (side_of (known_of b.window)) (side_of (known_of c.window)) first.grows next.grows;
   driver = goes_on a.window b.window c.window a.driver b.driver c.driver first.driver next.driver;
+  laid = λ p. own_then a.window.unit (strokes_at a.window.pages p) (strokes_at b.window.pages p) (strokes_at c.window.pages p) (first.laid p)
+      (subst (λ unit. LaysOwnOn unit (strokes_at b.window.pages p) (strokes_at c.window.pages p)) first.unit (next.laid p));
+  server_registered = next.server_registered ∙ first.server_registered;
+  alone = alone_on _ _ _ a.window b.window a.driver b.driver first.driver first.alone next.alone;
 }
 
 -- all pairs

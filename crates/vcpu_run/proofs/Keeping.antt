@@ -1,5 +1,5 @@
 -- What a turn of either end leaves of a pair.
-use Rattle.std.proofs.Common.{◌≡◌, ℕ, ◌≤◌, true, List, All, Option, Some, None, IfSome, IsSomeAnd, length, refl, sym, ◌∙◌, ap, subst}
+use Rattle.std.proofs.Common.{◌≡◌, ℕ, ◌≤◌, true, List, All, Option, Some, None, IfNone, IfSome, IsSomeAnd, length, refl, sym, ◌∙◌, ap, subst}
 use Rattle.std.specs.List.{slice_get}
 use Rattle.std.proofs.lemmas.Option.{IfSome_then}
 use Rattle.std.proofs.lemmas.List.Elements.{All-append, All-weaker}
@@ -22,6 +22,9 @@ use Rattle.vscsi_client.specs.declared.TheConstants.{MIN_PAGES}
 use Rattle.vcpu_run.specs.declared.driver.Driver.{Driver}
 use Rattle.vcpu_run.specs.declared.pair.Pair.{Pair}
 use Rattle.vcpu_run.specs.Machines.{AllStay, KeepsDriver, Stays}
+use Rattle.block_server.specs.Makers.{AreNamed}
+use Rattle.vcpu_run.specs.Named.{absent_unit}
+use Rattle.vcpu_run.proofs.PairNames.{names_driven, names_served, none_keeps}
 use Rattle.vcpu_run.specs.Pairs.{AreDriven, AreDrivers, ArePairs, Drives, GoesOn, IsCopyOf, IsDriver, IsPair}
 use Rattle.vcpu_run.proofs.Listed.{came_from, each_same, each_then, held_then}
 
@@ -49,6 +52,23 @@ driver_stays old new driver place is =
       rows = subst (λ n. FitRows n driver.client) (sym size) is.rows;
     })
 
+-- the driver of a pair is that of the same unit
+driver_same : (driver : Option Driver) → KeepsDriver driver driver
+driver_same None = refl
+driver_same (Some driver) = refl
+
+driver_goes : (before after : WindowValue) (old new : Option Driver) → GoesOn before after old new → KeepsDriver old new
+driver_goes before after None new goes = goes
+driver_goes before after (Some old) None goes = absurd goes
+driver_goes before after (Some old) (Some new) goes = goes.0
+
+-- a pair without a client stays one
+absent_stays : (old new : Pair) → new.server ≡ old.server → new.driver ≡ old.driver → new.window.unit ≡ old.window.unit
+    → IfNone old.driver (old.window.unit ≡ absent_unit old.server) → IfNone new.driver (new.window.unit ≡ absent_unit new.server)
+absent_stays old new server driver window is =
+    none_keeps (old.window.unit ≡ absent_unit old.server) (new.window.unit ≡ absent_unit new.server) old.driver new.driver
+    (subst (KeepsDriver old.driver) (sym driver) (driver_same old.driver)) (λ e. window ∙ (e ∙ ap absent_unit (sym server))) is
+
 -- A turn of the server unit.
 pub served : (home k : ℕ) (before after : List CopyRecord) (old new : Pair) → new.server ≡ old.server → new.driver ≡ old.driver
     → (known_of new.own).place ≡ (known_of old.own).place → (known_of new.window).place ≡ (known_of old.window).place
@@ -56,14 +76,18 @@ pub served : (home k : ℕ) (before after : List CopyRecord) (old new : Pair) �
     → AreReady (known_of new.own) (known_of new.window)
     → ((event : Entry) → (side_of new.link true).kept ≡ Some event → event ≡ partner_freed)
     → CopiesMore (known_of new.own) (known_of new.window) before after
+    → (AreNamed (side_at (known_of old.own)) before → AreNamed (side_at (known_of new.own)) after)
+    → (AreNamed (side_at (known_of old.window)) before → AreNamed (side_at (known_of new.window)) after)
     → IsPair home before k old → IsPair home after k new
-served home k before after old new server driver own_place window_place own window ready event more is = record {
+served home k before after old new server driver own_place window_place own window ready event more own_named named is = record {
   server = server ∙ is.server;
   own_unit = ap (λ (place : PortPlace). place.unit) own_place ∙ (is.own_unit ∙ sym server);
   ready = ready;
   event = event;
   copies = copies_stay old new before after server own window more is.copies;
   driver = subst (λ driver. IfSome driver (IsDriver new.window)) (sym driver) (driver_stays old.window new.window old.driver window_place is.driver);
+  names = names_served old new before after server own.unit window.unit (own.unit ∙ (is.own_unit ∙ sym server)) more own_named named is.names;
+  absent = absent_stays old new server driver window.unit is.absent;
 }
 
 goes_on : (before after : WindowValue) (old new : Option Driver) → GoesOn before after old new → IfSome old (IsDriver before) → IfSome new (IsDriver after)
@@ -75,6 +99,12 @@ goes_on before after (Some driver) (Some later) goes is = goes.1 is
 own_stays : (old new : Pair) → new.own ≡ old.own → SideGrows (side_at (known_of old.own)) (side_at (known_of new.own))
 own_stays old new same =
     subst (λ (window : WindowValue). SideGrows (side_at (known_of old.own)) (side_at (known_of window))) (sym same) (side_same (side_at (known_of old.own)))
+
+absent_driven : (old new : Pair) → Drives old new
+    → IfNone old.driver (old.window.unit ≡ absent_unit old.server) → IfNone new.driver (new.window.unit ≡ absent_unit new.server)
+absent_driven old new d is =
+    none_keeps (old.window.unit ≡ absent_unit old.server) (new.window.unit ≡ absent_unit new.server) old.driver new.driver
+    (driver_goes old.window new.window old.driver new.driver d.driver) (λ e. d.unit ∙ (e ∙ ap absent_unit (sym d.server))) is
 
 -- A turn of the client's partition.
 pub driven : (home k : ℕ) (made : List CopyRecord) (old new : Pair) → Drives old new → IsPair home made k old → IsPair home made k new
@@ -93,6 +123,8 @@ driven home k made old new d is = record {
       (λ copy is named. copy_stays (known_of old.own) (known_of new.own) (known_of old.window) (known_of new.window) (own_stays old new d.own) d.grows copy (is (named ∙ d.server)))
       made is.copies;
   driver = goes_on old.window new.window old.driver new.driver d.driver is.driver;
+  names = names_driven old new made d is.names;
+  absent = absent_driven old new d is.absent;
 }
 
 pub pairs_driven : (home : ℕ) (made : List CopyRecord) (old new : List Pair) → AreDriven old new → ArePairs home made old → ArePairs home made new
@@ -108,22 +140,12 @@ drivers_driven old new d are k pair found =
 pub drivers_of : (home : ℕ) (made : List CopyRecord) (pairs : List Pair) → ArePairs home made pairs → AreDrivers pairs
 drivers_of home made pairs are k pair found = (are k pair found).driver
 
--- the driver of a pair is that of the same unit
-driver_same : (driver : Option Driver) → KeepsDriver driver driver
-driver_same None = refl
-driver_same (Some driver) = refl
-
 driver_then : (a b c : Option Driver) → KeepsDriver a b → KeepsDriver b c → KeepsDriver a c
 driver_then None None c one two = two
 driver_then None (Some b) c one two = cc
 driver_then (Some a) None c one two = absurd one
 driver_then (Some a) (Some b) None one two = absurd two
 driver_then (Some a) (Some b) (Some c) one two = two ∙ one
-
-driver_goes : (before after : WindowValue) (old new : Option Driver) → GoesOn before after old new → KeepsDriver old new
-driver_goes before after None new goes = goes
-driver_goes before after (Some old) None goes = absurd goes
-driver_goes before after (Some old) (Some new) goes = goes.0
 
 pub driver_keeps : (id : UnitId) (old new : Option Driver) → KeepsDriver old new
     → IsSomeAnd old (λ driver. driver.unit ≡ id) → IsSomeAnd new (λ driver. driver.unit ≡ id)
@@ -132,7 +154,15 @@ driver_keeps id (Some old) None keeps is = absurd keeps
 driver_keeps id (Some old) (Some new) keeps is = keeps ∙ is
 
 pub stays_same : (pair : Pair) → Stays pair pair
-stays_same pair = record { server = refl; server_slots = refl; client_slots = refl; pages = refl; driver = driver_same pair.driver }
+stays_same pair = record {
+  server = refl;
+  server_slots = refl;
+  client_slots = refl;
+  pages = refl;
+  driver = driver_same pair.driver;
+  own_unit = refl;
+  client_unit = refl;
+}
 
 stays_then : (a b c : Pair) → Stays a b → Stays b c → Stays a c
 stays_then a b c one two = record {
@@ -141,6 +171,8 @@ stays_then a b c one two = record {
   client_slots = two.client_slots ∙ one.client_slots;
   pages = two.pages ∙ one.pages;
   driver = driver_then a.driver b.driver c.driver one.driver two.driver;
+  own_unit = two.own_unit ∙ one.own_unit;
+  client_unit = two.client_unit ∙ one.client_unit;
 }
 
 drives_stays : (old new : Pair) → Drives old new → Stays old new
@@ -150,6 +182,8 @@ drives_stays old new d = record {
   client_slots = d.client_slots;
   pages = d.pages;
   driver = driver_goes old.window new.window old.driver new.driver d.driver;
+  own_unit = ap (λ (window : WindowValue). window.unit) d.own;
+  client_unit = d.unit;
 }
 
 pub all_same : (pairs : List Pair) → AllStay pairs pairs

@@ -13,6 +13,7 @@ use Rattle.vcpu_run.specs.declared.pair.Pair.{Pair}
 use Rattle.vcpu_run.specs.declared.script.Script.{Script}
 use Rattle.vcpu_run.specs.Machines.{AllRun, AllStay, ArePlanned, AreScriptsOf, HasNoClient, IsOfPlan, IsPlanned, IsPlannedClient, IsScriptFor, IsServing, KeepsDriver, Stays}
 use Rattle.vcpu_run.specs.Pairs.{ArePairs}
+use Rattle.vcpu_run.proofs.PairNames.{apart_stays}
 use Rattle.vcpu_run.specs.Scripts.{OnlyRuns}
 use Rattle.vcpu_run.proofs.Listed.{came_from, held, held_then}
 
@@ -21,6 +22,7 @@ pub serving_stays : (partition count : ℕ) (copies : List CopyRecord) (old new 
     → ((home : ℕ) (copies : List CopyRecord) → ArePairs home copies old → ArePairs home copies new)
     → IsServing partition count copies old → IsServing partition count copies new
 serving_stays partition count copies old new stay pairs is = record {
+  apart = apart_stays old new stay is.apart;
   each = is.each ∙ sym stay.count;
   few = subst (λ n. n ≤ 8) (sym stay.count) is.few;
   pairs_are = pairs partition copies is.pairs_are;
@@ -80,6 +82,7 @@ plan_lasts partitions pairs pairs' scripts scripts' ports ports' stay run same i
   pairs_are = planned_stay partitions pairs pairs' stay is.pairs_are;
   scripts_are = scripts_run partitions scripts scripts' run is.scripts_are;
   ports_are = same ∙ is.ports_are;
+  sound = is.sound;
 }
 
 -- A list that was lent whole is what was written to it.

@@ -1,5 +1,5 @@
 -- A pair before any turn.
-use Rattle.std.proofs.Common.{◌≡◌, ◌≢◌, ℕ, ◌+◌, ◌*◌, ◌≤◌, true, [], ◌∷◌, All, Option, Some, None, IfSome, length, replicate, refl, sym, ◌∙◌, ap, subst, arith}
+use Rattle.std.proofs.Common.{◌≡◌, ◌≢◌, ℕ, zero, suc, ◌+◌, ◌*◌, ◌≤◌, true, [], ◌∷◌, All, Option, Some, None, IfNone, IfSome, length, replicate, refl, sym, ◌∙◌, ap, subst, arith}
 use Rattle.std.proofs.lemmas.List.{length-replicate}
 use Rattle.std.proofs.lemmas.List.Elements.{All-nil}
 use Rattle.vio_num.specs.declared.entry.Entry.{Entry}
@@ -9,12 +9,16 @@ use Rattle.crq_session.specs.declared.link.PlainLink.{PlainLink}
 use Rattle.crq_session.specs.PlainState.{side_of, IsNewLink}
 use Rattle.tce_window.specs.Grant.{values_of}
 use Rattle.tce_window.specs.PlainPort.{known_of}
-use Rattle.tce_window.specs.Window.{WindowValue, blank_page}
+use Rattle.tce_window.specs.Window.{WindowValue, blank_page, strokes_at}
 use Rattle.block_server.specs.SiteState.{AreReady}
 use Rattle.vscsi_client.specs.State.{ClientState, new_client}
 use Rattle.vscsi_client.specs.Transferred.{FitsRow}
 use Rattle.vcpu_run.specs.declared.driver.Driver.{Driver}
 use Rattle.vcpu_run.specs.declared.pair.Pair.{Pair}
+use Rattle.block_server.specs.Makers.{stroke_in, AreNamed}
+use Rattle.page_slots.specs.Stroke.{StrokeValue}
+use Rattle.rdma_copy.specs.Copies.{side_of as side_at}
+use Rattle.vcpu_run.specs.Named.{HasNames, WritesNone, absent_unit}
 use Rattle.vcpu_run.specs.Pairs.{IsCopyOf, IsDriver, IsPair}
 
 -- a window of so many pages, before any call
@@ -60,12 +64,33 @@ driver_new unit server pages window driver new unit_is client least most =
       rows = (omega arith, subst (λ (s : ClientState). All (FitsRow (length window.pages)) s.rows) (sym client) (All-nil (FitsRow (length window.pages))));
     }
 
+-- no stroke lies on a page of a new window
+blank_at : (n p place : ℕ) (stroke : StrokeValue) → stroke_in (strokes_at (replicate n blank_page) p) place ≡ Some stroke → ⊥
+blank_at zero p place stroke e = cc
+blank_at (suc n) zero place stroke e = cc
+blank_at (suc n) (suc p) place stroke e = blank_at n p place stroke e
+
+named_new : (unit : UnitId) (pages : ℕ) (window : WindowValue) → window ≡ new_window unit pages → AreNamed (side_at (known_of window)) []
+named_new unit pages window new = record {
+  rising = λ page. tt;
+  there = λ page. All-nil _;
+  others = λ page place stroke e other.
+      absurd (blank_at pages page place stroke (ap (λ (w : WindowValue). stroke_in (strokes_at w.pages page) place) (sym new) ∙ e));
+}
+
+names_new : (pair : Pair) (server : UnitId) (pages : ℕ) (client : UnitId) → pair.own ≡ new_window server 34 → pair.window ≡ new_window client pages → HasNames pair []
+names_new pair server pages client own window = record {
+  own = named_new server 34 pair.own own;
+  client = named_new client pages pair.window window;
+  foreign = All-nil (λ copy. copy.name.who ≢ pair.server → WritesNone pair copy);
+}
+
 -- A server unit, with this client or none.
 pub pair_new : (server : UnitId) (pages slots_a slots_b : ℕ) (client : UnitId) (link : PlainLink) (own window : WindowValue) (driver : Option Driver)
     → own ≡ new_window server 34 → window ≡ new_window client pages → client ≢ server → IsNewLink link slots_a slots_b
-    → IfSome driver (IsDriver window)
+    → IfSome driver (IsDriver window) → IfNone driver (window.unit ≡ absent_unit server)
     → IsPair server.partition [] server.unit (record { server = server; link = link; own = own; window = window; driver = driver })
-pair_new server pages slots_a slots_b client link own window driver own_new window_new apart link_new driver_is =
+pair_new server pages slots_a slots_b client link own window driver own_new window_new apart link_new driver_is absent =
     let pair : Pair = record { server = server; link = link; own = own; window = window; driver = driver } in
     record {
       server = refl;
@@ -74,4 +99,6 @@ pair_new server pages slots_a slots_b client link own window driver own_new wind
       event = λ event kept. no_event link event link_new.first.kept kept;
       copies = All-nil (IsCopyOf pair);
       driver = driver_is;
+      names = names_new pair server pages client own_new window_new;
+      absent = absent;
     }

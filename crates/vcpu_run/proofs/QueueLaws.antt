@@ -45,7 +45,7 @@ use Rattle.vcpu_run.proofs.Ordering.{each_of, sessions_own}
 use Rattle.vcpu_run.proofs.Placing.{seats_ordered}
 use Rattle.vcpu_run.proofs.Sole.{all_from_each, each_seat, pairs_from_ordered, sole}
 
-entries_are : (q : ℕ) (rows : List PipeRow) → of_session q rows ≡ entries_of q rows
+pub entries_are : (q : ℕ) (rows : List PipeRow) → of_session q rows ≡ entries_of q rows
 unfolding of_session
 entries_are q rows = refl
 

@@ -12,7 +12,9 @@ use Rattle.vcpu_run.specs.Answered.{AreAnswered}
 use Rattle.vcpu_run.specs.AnswersSent.{AnswersAreSent}
 use Rattle.vcpu_run.specs.Agreed.{AreCredited}
 use Rattle.vcpu_run.specs.Lines.{IsOver}
+use Rattle.vcpu_run.specs.Links.{AreIdle}
 use Rattle.vcpu_run.specs.Machines.{IsOfPlan}
+use Rattle.vcpu_run.specs.Settled.{ServersAreSettled}
 use Rattle.vcpu_run.specs.RunLaw.{CopiesAreLawful, CreditsAreKept, KeepsLawOf, PortsKeepLaw, QueuesAreLawful, RecordsAreOfLines}
 
 -- a law of traces is kept over each plan that this is the machine of
@@ -29,8 +31,9 @@ pub law_told : {E : Type 0} (r : Result Trace E) (o : Option Trace) (pairs : Lis
     → IfOk r (KeepsOnce (AreCredited pairs scripts) CreditsAreKept pairs scripts ports) → AreCredited pairs scripts
     → IfOk r (KeepsOnce (AreAnswered history pairs) AnswersAreSent pairs scripts ports) → AreAnswered history pairs
     → IfOk r (Keeps PortsKeepLaw pairs scripts ports)
+    → IfOk r (KeepsOnce (AreIdle pairs scripts) ServersAreSettled pairs scripts ports) → AreIdle pairs scripts
     → IfSome o (Keeps KeepsLawOf pairs scripts ports)
-law_told (Ok trace) o pairs scripts ports history e order queues copies records over credits are answers answered keeps =
+law_told (Ok trace) o pairs scripts ports history e order queues copies records over credits are answers answered keeps settled idle =
     subst (λ (o : Option Trace). IfSome o (Keeps KeepsLawOf pairs scripts ports)) (sym e)
     (λ partitions of_plan. record {
       order = order;
@@ -40,8 +43,9 @@ law_told (Ok trace) o pairs scripts ports history e order queues copies records 
       credits = credits partitions of_plan are;
       answers = answers partitions of_plan answered;
       ports = keeps partitions of_plan;
+      settled = settled partitions of_plan idle;
     })
-law_told (Err error) o pairs scripts ports history e order queues copies records over credits are answers answered keeps =
+law_told (Err error) o pairs scripts ports history e order queues copies records over credits are answers answered keeps settled idle =
     subst (λ (o : Option Trace). IfSome o (Keeps KeepsLawOf pairs scripts ports)) (sym e) tt
 
 -- the rows that were served

@@ -6,8 +6,10 @@ pub mod CopyRows
 pub mod Credited
 pub mod Gathered
 pub mod Lines
+pub mod Links
 pub mod Machines
 pub mod Making
+pub mod Named
 pub mod Numbered
 pub mod OnDisk
 pub mod Pairs
@@ -18,7 +20,9 @@ pub mod RunLaw
 pub mod Scripts
 pub mod Sendings
 pub mod Sessions
+pub mod Settled
 pub mod Shown
+pub mod StrokeMakers
 pub mod Suited
 pub mod Units
 pub mod Windows

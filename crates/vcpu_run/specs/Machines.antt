@@ -6,7 +6,7 @@ use Rattle.crq_session.specs.PlainState.{side_of}
 use Rattle.crq_session.specs.declared.TheConstants.{PAGE_SLOTS}
 use Rattle.rdma_copy.specs.declared.copy.CopyRecord.{CopyRecord}
 use Rattle.boot_text.specs.SoFar.{has_server}
-use Rattle.boot_text.specs.Sound.{unit_at, IsClientOf, IsFrom, IsServer}
+use Rattle.boot_text.specs.Sound.{unit_at, AreSound, IsClientOf, IsFrom, IsServer}
 use Rattle.boot_text.specs.declared.statement.TheConstants.{LEAST_CLIENT_PAGES, MOST_UNIT_PAGES, MOST_QUEUE}
 use Rattle.boot_text.specs.declared.plan.Partition.{Partition}
 use Rattle.boot_text.specs.declared.plan.UnitPlan.{UnitPlan}
@@ -18,6 +18,7 @@ use Rattle.vcpu_run.specs.declared.pair.Pair.{Pair}
 use Rattle.vcpu_run.specs.declared.script.Script.{Script}
 use Rattle.vcpu_run.specs.declared.unit_seat.Seat.{Seat}
 use Rattle.vcpu_run.specs.declared.unit_seat.Seat.TheVariants as sits
+use Rattle.vcpu_run.specs.Named.{WindowsAreApart}
 use Rattle.vcpu_run.specs.Pairs.{ArePairs}
 use Rattle.vcpu_run.specs.Ports.{HasPorts, ports_of, unit_of}
 use Rattle.vcpu_run.specs.Scripts.{IsScript, OnlyRuns}
@@ -33,11 +34,12 @@ pub record IsNumbered (pairs : List Pair) (ports : List PortSeat) (i : ℕ) (scr
 abbrev pub AreScripts : List Pair → List PortSeat → List Script → Type 0
 AreScripts pairs ports scripts = (i : ℕ) (script : Script) → slice_get scripts i ≡ Some script → IsNumbered pairs ports i script
 
--- A server of this partition, with so many units and these copies: each unit has its pair.
+-- A server of this partition, with so many units and these copies: each unit has its pair, and no window is at two of them.
 pub record IsServing (home count : ℕ) (copies : List CopyRecord) (pairs : List Pair) : Type 0 where
   pub each : count ≡ length pairs
   pub few : length pairs ≤ 8
   pub pairs_are : ArePairs home copies pairs
+  pub apart : WindowsAreApart pairs
 
 -- A machine: its server, the pairs of the server units, the scripts of the partitions, and the ports.
 pub record IsMachine (home count : ℕ) (copies : List CopyRecord) (pairs : List Pair) (scripts : List Script) (ports : List PortSeat) : Type 0 where
@@ -70,14 +72,16 @@ HasSeat (Some seat) pair = SitsAt seat pair
 abbrev pub KeepsDriver : Option Driver → Option Driver → Type 0
 KeepsDriver old new = MatchOption old (new ≡ None) (λ driver. IsSomeAnd new (λ later. later.unit ≡ driver.unit))
 
--- What no turn changes of a pair: the server unit, the slots of both queues, the size of the client's region, and whose
--- driver it has.
+-- What no turn changes of a pair: the server unit, the slots of both queues, the size of the client's region, whose driver
+-- it has, and whose windows they are.
 pub record Stays (old new : Pair) : Type 0 where
   pub server : new.server ≡ old.server
   pub server_slots : (side_of new.link true).queue.slots ≡ (side_of old.link true).queue.slots
   pub client_slots : (side_of new.link false).queue.slots ≡ (side_of old.link false).queue.slots
   pub pages : length new.window.pages ≡ length old.window.pages
   pub driver : KeepsDriver old.driver new.driver
+  pub own_unit : new.own.unit ≡ old.own.unit
+  pub client_unit : new.window.unit ≡ old.window.unit
 
 -- the same of all pairs
 pub record AllStay (old new : List Pair) : Type 0 where
@@ -136,8 +140,9 @@ pub record AreScriptsOf (partitions : List Partition) (scripts : List Script) : 
   pub each : (i : ℕ) (script : Script) → slice_get scripts i ≡ Some script
       → IsSomeAnd (slice_get partitions i) (λ partition. IsScriptFor partition script)
 
--- The machine of a plan.
+-- The machine of a sound plan.
 pub record IsOfPlan (partitions : List Partition) (pairs : List Pair) (scripts : List Script) (ports : List PortSeat) : Type 0 where
   pub pairs_are : ArePlanned partitions pairs
   pub scripts_are : AreScriptsOf partitions scripts
   pub ports_are : ports ≡ ports_of partitions
+  pub sound : AreSound partitions

@@ -1,5 +1,5 @@
 -- What the turns of a run leave of the server's disk.
-use Rattle.std.specs.Prelude.{ℕ, List, Option, IfSome, IsSome}
+use Rattle.std.specs.Prelude.{ℕ, List, Option, IfSome, IsSome, IsSomeAnd}
 use Rattle.vio_num.specs.declared.history.Served.{Served}
 use Rattle.block_server.specs.DiskLaw.{KeepsDisk, Serve}
 
@@ -12,3 +12,11 @@ pub record LastsOnDisk (rows rows' : List Served) (now now' : Option (List (List
 -- rows lead from the blocks of an image to those that it then has, where it tells them
 abbrev pub LeadsOn : List Served → (before after : Option (List (List ℕ))) → Type 0
 LeadsOn rows before after = IfSome before (λ first. IfSome after (λ last. ∥ Serve first rows last ∥₁))
+
+-- whatever became of a run: some rows behind these keep the law of the disk
+abbrev pub LastsInRows : List Served → (now now' : Option (List (List ℕ))) → Type 0
+LastsInRows rows now now' = ∥ ((rows' : List Served) × KeepsDisk rows rows' now now') ∥₁
+
+-- an image that told its blocks tells them, and some commands lead to them, one behind the other
+abbrev pub IsServed : (before after : Option (List (List ℕ))) → Type 0
+IsServed before after = IfSome before (λ first. IsSomeAnd after (λ last. ∥ ((rows : List Served) × Serve first rows last) ∥₁))

@@ -1,11 +1,11 @@
 -- What is so of a server unit, its client and what lies between them, at each moment of a run; and what a turn of the
 -- client's partition leaves of them.
-use Rattle.std.specs.Prelude.{◌≡◌, ℕ, ◌≤◌, true, false, All, List, Option, Some, None, IfSome, IsSomeAnd, MatchOption, length}
+use Rattle.std.specs.Prelude.{◌≡◌, ℕ, ◌≤◌, true, false, All, List, Option, Some, None, IfNone, IfSome, IsSomeAnd, MatchOption, length}
 use Rattle.std.specs.List.{slice_get}
 use Rattle.vio_num.specs.declared.entry.Entry.{Entry}
 use Rattle.vio_num.specs.Entry.{partner_freed}
 use Rattle.crq_session.specs.PlainState.{side_of}
-use Rattle.tce_window.specs.Window.{WindowValue}
+use Rattle.tce_window.specs.Window.{WindowValue, strokes_at}
 use Rattle.tce_window.specs.PlainPort.{known_of}
 use Rattle.rdma_copy.specs.Copy.{SideGrows}
 use Rattle.rdma_copy.specs.Copies.{side_of as side_at}
@@ -14,8 +14,10 @@ use Rattle.block_server.specs.Advances.{IsOwnCopy}
 use Rattle.block_server.specs.SiteState.{AreReady}
 use Rattle.vscsi_client.specs.Transferred.{FitRows}
 use Rattle.vscsi_client.specs.declared.TheConstants.{MIN_PAGES}
+use Rattle.unit_region.specs.Kept.{LaysOwnAll}
 use Rattle.vcpu_run.specs.declared.driver.Driver.{Driver}
 use Rattle.vcpu_run.specs.declared.pair.Pair.{Pair}
+use Rattle.vcpu_run.specs.Named.{HasNames, WindowsAreApart, absent_unit}
 
 -- A client's driver is that of its window's unit, and the data of its commands lie in the window.
 pub record IsDriver (window : WindowValue) (driver : Driver) : Type 0 where
@@ -35,6 +37,8 @@ pub record IsPair (home : ℕ) (made : List CopyRecord) (k : ℕ) (pair : Pair) 
   pub event : (event : Entry) → (side_of pair.link true).kept ≡ Some event → event ≡ partner_freed
   pub copies : All (IsCopyOf pair) made
   pub driver : IfSome pair.driver (IsDriver pair.window)
+  pub names : HasNames pair made
+  pub absent : IfNone pair.driver (pair.window.unit ≡ absent_unit pair.server)
 
 -- all server units of a partition
 abbrev pub ArePairs : (home : ℕ) → List CopyRecord → List Pair → Type 0
@@ -44,6 +48,7 @@ ArePairs home copies pairs = (k : ℕ) (pair : Pair) → slice_get pairs k ≡ S
 pub record AreOfOneHome (copies : List CopyRecord) (pairs : List Pair) : Type 0 where
   pub home : ℕ
   pub pairs_are : ArePairs home copies pairs
+  pub apart : WindowsAreApart pairs
 
 -- the driver is that of the same unit, and its data lie in the window if they did
 abbrev pub GoesOn : (before after : WindowValue) → Option Driver → Option Driver → Type 0
@@ -51,7 +56,8 @@ GoesOn before after old new = MatchOption old (new ≡ None)
     (λ driver. IsSomeAnd new (λ driver'. (driver'.unit ≡ driver.unit) × (IsDriver before driver → IsDriver after driver')))
 
 -- What a client's part of a turn leaves of its pair: the server unit and its window are as before, nothing was put into the
--- client's own queue, and the client's window has no stroke and no value less.
+-- client's own queue, the client's window has no stroke and no value less, and none more that another unit laid, and a queue in
+-- place of a client's is registered as before.
 pub record Drives (old new : Pair) : Type 0 where
   pub server : new.server ≡ old.server
   pub own : new.own ≡ old.own
@@ -64,6 +70,9 @@ pub record Drives (old new : Pair) : Type 0 where
   pub held : new.window.held_count ≡ old.window.held_count
   pub grows : SideGrows (side_at (known_of old.window)) (side_at (known_of new.window))
   pub driver : GoesOn old.window new.window old.driver new.driver
+  pub laid : LaysOwnAll old.window.unit (strokes_at old.window.pages) (strokes_at new.window.pages)
+  pub server_registered : (side_of new.link true).registered ≡ (side_of old.link true).registered
+  pub alone : IfNone old.driver ((side_of new.link false).registered ≡ (side_of old.link false).registered)
 
 -- each of the pairs was left so
 pub record AreDriven (old new : List Pair) : Type 0 where

@@ -1,5 +1,5 @@
 -- The law of a run, so far as it is proved: what its trace says of its queues, its copies and windows, its
--- records, the credits that they tell of, the answers that were sent, and its LAN ports.
+-- records, the credits that they tell of, the answers that were sent, its LAN ports, and how it ends.
 use Rattle.std.specs.Prelude.{◌≡◌, ◌⊎◌, ℕ, ◌+◌, ◌*◌, ◌<◌, ◌≤◌, List, [], ◌∷◌, All, Option, Some, None, length, map, slice_get}
 use Rattle.std.specs.List.{AllPairs}
 use Rattle.vio_num.specs.Queue.{Handed, LawfulDrop}
@@ -24,6 +24,8 @@ use Rattle.vcpu_run.specs.CopyRows.{copy_row}
 use Rattle.vcpu_run.specs.Credited.{KeepsCredit, ended_by}
 use Rattle.vcpu_run.specs.Lines.{numbers_to_fail}
 use Rattle.vcpu_run.specs.Ports.{ports_of}
+use Rattle.vcpu_run.specs.StrokeMakers.{StrokesAreMade}
+use Rattle.vcpu_run.specs.Settled.{ServersAreSettled}
 use Rattle.vcpu_run.specs.Shown.{pages_at, puts_into, records_of, sessions_of, strokes_on, window_shown}
 
 -- so many slots, 256 for each page of a unit's queue
@@ -87,6 +89,7 @@ pub record CopiesAreLawful (partitions : List Partition) (trace : Trace) : Type 
   pub versions : (unit : UnitId) (e : ℕ) → AreVersions 1 (puts_into trace unit e)
   pub windows : All (λ row. row.entry < pages_at partitions row.unit) trace.tces
   pub no_server : (unit : UnitId) (e : ℕ) → IsServer partitions unit → puts_into trace unit e ≡ []
+  pub made : StrokesAreMade partitions trace
 
 -- the script of a partition
 abbrev pub script_in : Option Partition → List Line
@@ -117,6 +120,7 @@ pub record KeepsLawOf (partitions : List Partition) (trace : Trace) : Type 0 whe
   pub credits : CreditsAreKept partitions trace
   pub answers : AnswersAreSent partitions trace
   pub ports : PortsKeepLaw partitions trace
+  pub settled : ServersAreSettled partitions trace
 
 abbrev pub KeepsLaw : Plan → Trace → Type 0
 KeepsLaw plan trace = KeepsLawOf plan.partitions trace

@@ -19,9 +19,9 @@ use Rattle.vcpu_run.specs.declared.unit_seat.Seat.{Seat}
 use Rattle.vcpu_run.specs.declared.unit_seat.Seat.TheVariants as sits
 
 -- The end is where it was, the window was kept, and the driver is that of the same unit, whose data still lie in the region.
-pub record Works (end end' : EndState) (own own' : PortState) (driver driver' : Driver) : Type 0 where
+pub record Works (is_shared : Bool) (end end' : EndState) (own own' : PortState) (driver driver' : Driver) : Type 0 where
   pub place : end'.place ≡ end.place
-  pub window : KeepsWindow own own'
+  pub window : KeepsWindow is_shared own own'
   pub unit : driver'.unit ≡ driver.unit
   pub rows : FitRows own.place.size driver.client → FitRows own.place.size driver'.client
 

@@ -6,8 +6,9 @@ ghost use Rattle.block_server.specs.DiskLaw.{KeepsDisk};
 ghost use Rattle.vcpu_run.specs.Agreed.{AreCredited};
 ghost use Rattle.vcpu_run.specs.Answered.{AreAnswered};
 ghost use Rattle.vcpu_run.specs.Lines.{IsOver};
+ghost use Rattle.vcpu_run.specs.Links.{AreIdle, AreLinked};
 ghost use Rattle.vcpu_run.specs.Machines.{AreScripts, IsMachine, IsOfPlan};
-ghost use Rattle.vcpu_run.specs.OnDisk.{LeadsOn};
+ghost use Rattle.vcpu_run.specs.OnDisk.{IsServed, LastsInRows, LeadsOn};
 ghost use Rattle.vcpu_run.specs.Pairs.{AreOfOneHome};
 ghost use Rattle.vcpu_run.specs.Ports.{ports_of};
 ghost use Rattle.vcpu_run.specs.RunLaw.{KeepsLaw, KeepsLawOf};
@@ -63,6 +64,8 @@ impl<'p, Di: Blocks> Machine<'p, Di> {
             AreCredited machine.pairs.items machine.scripts.items) }
         ensures answered { IfOk result (λ machine. AreAnswered [] machine.pairs.items) }
         ensures none { IfOk result (λ machine. machine.server.records.history.items ≡ []) }
+        ensures linked { IfOk result (λ machine.
+            AreLinked machine.server.units.items machine.pairs.items) }
     {
         let partitions = plan.partitions.as_slice();
         let home = home_of(partitions);
@@ -99,6 +102,7 @@ impl<'p, Di: Blocks> Machine<'p, Di> {
             self.server.copies.items self.pairs.items self.scripts.items self.lan.seats }
         requires credited { AreCredited self.pairs.items self.scripts.items }
         requires answered { AreAnswered self.server.records.history.items self.pairs.items }
+        requires linked { AreLinked self.server.units.items self.pairs.items }
         ensures law { IfSome result.trace (λ trace. (partitions : List Partition) →
             IsOfPlan partitions self.entry.pairs.items self.entry.scripts.items
             self.entry.lan.seats → KeepsLawOf partitions trace) }
@@ -107,6 +111,8 @@ impl<'p, Di: Blocks> Machine<'p, Di> {
             (Di.state self.entry.server.disk.image).blocks (Di.state result.image).blocks ∥₁) }
         ensures tells { IfSome (Di.state self.entry.server.disk.image).blocks
             (λ _. IsSome (Di.state result.image).blocks) }
+        ensures lasts { LastsInRows self.entry.server.records.history.items
+            (Di.state self.entry.server.disk.image).blocks (Di.state result.image).blocks }
     {
         let Machine {
             alloc,
@@ -128,7 +134,8 @@ impl<'p, Di: Blocks> Machine<'p, Di> {
 }
 
 /// Runs a plan over an image of `count` blocks until nothing moves any more. Its trace keeps the law of the
-/// plan's runs, and its rows lead from the image's blocks to those that the image then has.
+/// plan's runs, and its rows lead from the image's blocks to those that the image then has. Where memory runs
+/// out, the image has the blocks to which the commands lead that were served till then.
 pub fn settle_plan<Di: Blocks + Drop>(
     alloc: Global,
     plan: &Plan,
@@ -141,6 +148,7 @@ pub fn settle_plan<Di: Blocks + Drop>(
     ensures disk { IfSome result.trace (λ trace. LeadsOn trace.serves
         (Di.state image).blocks (Di.state result.image).blocks) }
     ensures tells { IfSome (Di.state image).blocks (λ _. IsSome (Di.state result.image).blocks) }
+    ensures served { IsServed (Di.state image).blocks (Di.state result.image).blocks }
 {
     match Machine::boot(alloc, plan, image, count) {
         Ok(machine) => machine.settle(),
@@ -164,6 +172,7 @@ fn trace_of(
     requires credited { OnOk run (AreCredited pairs.items scripts.items) }
     requires over { OnOk run (All IsOver scripts.items) }
     requires answered { AreAnswered history.items pairs.items }
+    requires idle { OnOk run (AreIdle pairs.items scripts.items) }
     ensures serves { IfSome result (λ trace. trace.serves ≡ history.items) }
     ensures law { IfSome result (λ trace. (partitions : List Partition) →
         IsOfPlan partitions pairs.items scripts.entry.items lan.seats → KeepsLawOf partitions trace) }

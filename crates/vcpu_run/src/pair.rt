@@ -1,11 +1,13 @@
 // A server unit and its client unit: the link between them, and both windows.
-ghost use Rattle.std.specs.Prelude.{◌≡◌, ◌≢◌, ◌*◌, ◌<◌, ℕ, [], true, None, IfOk, IfSome, vec_len};
+ghost use Rattle.std.specs.Prelude.{◌≡◌, ◌≢◌, ◌*◌, ◌<◌, ℕ, [], true, None, IfOk, IfSome, OnOk, vec_len};
 ghost use Rattle.boot_text.specs.Sound.{IsFrom};
 ghost use Rattle.boot_text.specs.declared.statement.TheConstants.{MOST_QUEUE};
 ghost use Rattle.crq_session.specs.PlainState.{side_of, IsNewLink};
 ghost use Rattle.vcpu_run.specs.Agreed.{IsLoggedOut};
 ghost use Rattle.vcpu_run.specs.Answered.{IsAnswered};
+ghost use Rattle.vcpu_run.specs.Links.{IsClosed, IsLinked, ServerWaits, link_state};
 ghost use Rattle.vcpu_run.specs.Machines.{FitsSeat, HasSeat, SitsAt, Stays, server_id};
+ghost use Rattle.vcpu_run.specs.Named.{HasWindow};
 ghost use Rattle.vcpu_run.specs.OnDisk.{LastsOnDisk};
 ghost use Rattle.vcpu_run.specs.Pairs.{IsPair};
 
@@ -25,8 +27,8 @@ const ABSENT_PAGES: u16 = 1;
 /// The queue in place of that client's has one page, too.
 const ABSENT_QUEUE: u8 = 1;
 
-/// The number of that window's unit, which no boot text has.
-const ABSENT_UNIT: u8 = 255;
+/// The number of that window's unit is this one and the server unit's, which no boot text has.
+const ABSENT_UNIT: u8 = 128;
 
 /// A server unit, its client, and what lies between them. The link's first side is the server's.
 #[derive(Drop)]
@@ -66,6 +68,7 @@ impl Pair {
         ensures client { IfOk result (HasSeat client) }
         ensures out { IfOk result IsLoggedOut }
         ensures answered { IfOk result (IsAnswered []) }
+        ensures closed { IfOk result IsClosed }
     {
         match client {
             Some(seat) => Pair::with_client(alloc, server, queue, seat),
@@ -88,6 +91,7 @@ impl Pair {
         ensures client { IfOk result (SitsAt seat) }
         ensures out { IfOk result IsLoggedOut }
         ensures answered { IfOk result (IsAnswered []) }
+        ensures closed { IfOk result IsClosed }
     {
         Ok(Pair {
             server,
@@ -107,10 +111,11 @@ impl Pair {
             (side_of pair.link true).queue.slots ≡ PAGE_SLOTS * queue) }
         ensures client { IfOk result (λ pair. pair.driver ≡ None) }
         ensures answered { IfOk result (IsAnswered []) }
+        ensures closed { IfOk result IsClosed }
     {
         let absent = UnitId {
             partition: server.partition,
-            unit: ABSENT_UNIT,
+            unit: ABSENT_UNIT + server.unit,
         };
         Ok(Pair {
             server,
@@ -132,6 +137,7 @@ impl Pair {
         requires answered { IsAnswered server.old.records.history.items self.old }
         ensures pair { IsPair server.old.partition server.new.copies.items unit self.new }
         ensures others { (k : ℕ) (other : Pair) → k ≢ unit →
+            ((id : UnitId) → HasWindow id self.old → HasWindow id other → ⊥) →
             IsPair server.old.partition server.old.copies.items k other →
             IsPair server.old.partition server.new.copies.items k other }
         ensures stays { Stays self.old self.new }
@@ -146,6 +152,13 @@ impl Pair {
         ensures disk { LastsOnDisk server.old.records.history.items
             server.new.records.history.items (Di.state server.old.disk.image).blocks
             (Di.state server.new.disk.image).blocks }
+        ensures linked { OnOk result (IsLinked server.old.units.items unit self.old →
+            IsLinked server.new.units.items unit self.new) }
+        ensures linked_else { (k : ℕ) (other : Pair) → k ≢ unit →
+            IsLinked server.old.units.items k other → IsLinked server.new.units.items k other }
+        ensures quiet { IfOk result (λ moved. moved ≡ Moved.Quiet →
+            IsLinked server.old.units.items unit self.old →
+            ServerWaits (link_state self.new.link)) }
     {
         let mut end = SessionEnd {
             end: self.link.side(true),

@@ -20,7 +20,8 @@ pub(crate) fn step(
     requires there { IsPortOf lan.old.seats (unit_of partition line.now.unit) }
     requires verb { IsPortVerb line.now.verb }
     ensures lan { lan.new.seats ≡ lan.old.seats }
-    ensures credit { StepsPort line.now.verb (taken_in progress.old) (taken_in progress.new) result }
+    ensures credit { StepsPort line.now.verb
+        (taken_in progress.old) (taken_in progress.new) result }
 {
     let unit = UnitId {
         partition,

@@ -1,5 +1,7 @@
 // The turns of a round: one of each partition, in their order.
-ghost use Rattle.std.specs.Prelude.{◌≡◌, ◌<◌, ℕ, All, IsTrue, List, OnOk, length, vec_len};
+ghost use Rattle.std.specs.Prelude.{◌≡◌, ◌≢◌, ◌<◌, ℕ, All, IfOk, IsSomeAnd, IsTrue, List, OnOk};
+ghost use Rattle.std.specs.Prelude.{length, slice_get, vec_len};
+ghost use Rattle.block_server.specs.declared.unit.Unit.{Unit};
 ghost use Rattle.std.specs.List.{list_all};
 ghost use Rattle.rdma_copy.specs.declared.copy.CopyRecord.{CopyRecord};
 ghost use Rattle.lan_script.specs.declared.seat.PortSeat.{PortSeat};
@@ -9,6 +11,8 @@ ghost use Rattle.vcpu_run.specs.Agreed.{AreCredited, SameDrivers};
 ghost use Rattle.vcpu_run.specs.Answered.{AreAnswered};
 ghost use Rattle.vcpu_run.specs.OnDisk.{LastsOnDisk};
 ghost use Rattle.vcpu_run.specs.Lines.{IsOver, is_over};
+ghost use Rattle.vcpu_run.specs.Links.{AreIdle, AreIdleTo, AreLinked, AreOverTo, RestsAt};
+ghost use Rattle.vcpu_run.specs.Links.{SeatsRest, ServerWaits, ServersWait, links_of};
 ghost use Rattle.vcpu_run.specs.Machines.{AllRun, AllStay, AreScripts, IsMachine, IsServing};
 ghost use Rattle.vcpu_run.specs.Pairs.{ArePairs, AreDrivers};
 
@@ -42,6 +46,8 @@ pub(crate) fn run<Di: Blocks>(
     ensures disk { LastsOnDisk server.old.records.history.items server.new.records.history.items
         (Di.state server.old.disk.image).blocks (Di.state server.new.disk.image).blocks }
     ensures lan { lan.new.seats ≡ lan.old.seats }
+    ensures idle { OnOk result (AreLinked server.old.units.items pairs.old →
+        AreIdle pairs.new scripts.new) }
 {
     for _round in 0..u64::MAX {
         let moved = step(server, pairs, scripts, lan)?;
@@ -90,6 +96,12 @@ fn step<Di: Blocks>(
     ensures disk { LastsOnDisk server.old.records.history.items server.new.records.history.items
         (Di.state server.old.disk.image).blocks (Di.state server.new.disk.image).blocks }
     ensures lan { lan.new.seats ≡ lan.old.seats }
+    ensures linked { OnOk result (AreLinked server.old.units.items pairs.old →
+        AreLinked server.new.units.items pairs.new) }
+    ensures idle { IfOk result (λ moved. moved ≡ Moved.Quiet →
+        AreLinked server.old.units.items pairs.old →
+        AreOverTo (length scripts.new) scripts.new →
+        AreIdleTo (length scripts.new) pairs.new scripts.new) }
 {
     match round(server, pairs, scripts, lan)? {
         Moved::Moved => Ok(Moved::Moved),
@@ -117,6 +129,12 @@ fn round<Di: Blocks>(
     ensures disk { LastsOnDisk server.old.records.history.items server.new.records.history.items
         (Di.state server.old.disk.image).blocks (Di.state server.new.disk.image).blocks }
     ensures lan { lan.new.seats ≡ lan.old.seats }
+    ensures linked { OnOk result (AreLinked server.old.units.items pairs.old →
+        AreLinked server.new.units.items pairs.new) }
+    ensures idle { IfOk result (λ moved. moved ≡ Moved.Quiet →
+        AreLinked server.old.units.items pairs.old →
+        AreOverTo (length scripts.new) scripts.new →
+        AreIdleTo (length scripts.new) pairs.new scripts.new) }
 {
     let mut moved = Moved::Quiet;
     for number in 0..scripts.len() {
@@ -148,6 +166,14 @@ fn turn_at<Di: Blocks>(
     ensures disk { LastsOnDisk server.old.records.history.items server.new.records.history.items
         (Di.state server.old.disk.image).blocks (Di.state server.new.disk.image).blocks }
     ensures lan { lan.new.seats ≡ lan.old.seats }
+    ensures linked { OnOk result (AreLinked server.old.units.items pairs.old →
+        AreLinked server.new.units.items pairs.new) }
+    ensures idle { IfOk result (λ moved. moved ≡ Moved.Quiet →
+        AreLinked server.old.units.items pairs.old →
+        IsSomeAnd (slice_get scripts.new number) IsOver →
+        RestsAt number scripts.new pairs.old pairs.new) }
+    ensures elsewhere { (i : ℕ) → i ≢ number →
+        slice_get scripts.new i ≡ slice_get scripts.old i }
 {
     if scripts[number].is_of_servers() {
         serve(server, pairs)
@@ -168,6 +194,10 @@ fn serve<Di: Blocks>(server: &mut Server<Di>, pairs: &mut [Pair]) -> Result<Move
     ensures answered { AreAnswered server.new.records.history.items pairs.new }
     ensures disk { LastsOnDisk server.old.records.history.items server.new.records.history.items
         (Di.state server.old.disk.image).blocks (Di.state server.new.disk.image).blocks }
+    ensures linked { OnOk result (AreLinked server.old.units.items pairs.old →
+        AreLinked server.new.units.items pairs.new) }
+    ensures wait { IfOk result (λ moved. moved ≡ Moved.Quiet →
+        AreLinked server.old.units.items pairs.old → ServersWait (links_of pairs.new)) }
 {
     let mut moved = Moved::Quiet;
     for unit in 0..pairs.len() {
@@ -194,6 +224,12 @@ fn serve_at<Di: Blocks>(
     ensures answered { AreAnswered server.new.records.history.items pairs.new }
     ensures disk { LastsOnDisk server.old.records.history.items server.new.records.history.items
         (Di.state server.old.disk.image).blocks (Di.state server.new.disk.image).blocks }
+    ensures linked { OnOk result (AreLinked server.old.units.items pairs.old →
+        AreLinked server.new.units.items pairs.new) }
+    ensures waits { IfOk result (λ moved. moved ≡ Moved.Quiet →
+        AreLinked server.old.units.items pairs.old →
+        IsSomeAnd (slice_get (links_of pairs.new) unit) ServerWaits) }
+    ensures elsewhere { (k : ℕ) → k ≢ unit → slice_get pairs.new k ≡ slice_get pairs.old k }
 {
     pairs[unit].serve(server, unit as u8)
 }
@@ -219,6 +255,13 @@ fn run_script(
     ensures answered { (history : List Served) →
         AreAnswered history pairs.old → AreAnswered history pairs.new }
     ensures lan { lan.new.seats ≡ lan.old.seats }
+    ensures linked { (units : List Unit) → AreLinked units pairs.old → AreLinked units pairs.new }
+    ensures idle { IfOk result (λ moved. moved ≡ Moved.Quiet →
+        IsSomeAnd (slice_get scripts.new number) IsOver →
+        IsSomeAnd (slice_get scripts.new number)
+        (λ script. SeatsRest script.seats.items pairs.old pairs.new)) }
+    ensures elsewhere { (i : ℕ) → i ≢ number →
+        slice_get scripts.new i ≡ slice_get scripts.old i }
 {
     scripts[number].turn(pairs, lan)
 }
@@ -228,8 +271,10 @@ fn end_lines(scripts: &mut [Script<'_>]) -> Result<Moved, NoMemory>
     ensures scripts { (pairs : List Pair) (ports : List PortSeat) →
         AreScripts pairs ports scripts.old → AreScripts pairs ports scripts.new }
     ensures run { AllRun scripts.old scripts.new }
-    ensures credited { OnOk result ((pairs : List Pair) (ports : List PortSeat) → AreScripts pairs ports scripts.old →
-        AreCredited pairs scripts.old → AreCredited pairs scripts.new) }
+    ensures credited { OnOk result ((pairs : List Pair) (ports : List PortSeat) →
+        AreScripts pairs ports scripts.old → AreCredited pairs scripts.old →
+        AreCredited pairs scripts.new) }
+    ensures quiet { IfOk result (λ moved. moved ≡ Moved.Quiet → scripts.new ≡ scripts.old) }
 {
     let mut moved = Moved::Quiet;
     for number in 0..scripts.len() {
@@ -245,8 +290,10 @@ fn end_line_at(scripts: &mut [Script<'_>], number: usize) -> Result<Moved, NoMem
     ensures scripts { (pairs : List Pair) (ports : List PortSeat) →
         AreScripts pairs ports scripts.old → AreScripts pairs ports scripts.new }
     ensures run { AllRun scripts.old scripts.new }
-    ensures credited { OnOk result ((pairs : List Pair) (ports : List PortSeat) → AreScripts pairs ports scripts.old →
-        AreCredited pairs scripts.old → AreCredited pairs scripts.new) }
+    ensures credited { OnOk result ((pairs : List Pair) (ports : List PortSeat) →
+        AreScripts pairs ports scripts.old → AreCredited pairs scripts.old →
+        AreCredited pairs scripts.new) }
+    ensures quiet { IfOk result (λ moved. moved ≡ Moved.Quiet → scripts.new ≡ scripts.old) }
 {
     scripts[number].end_waiting()
 }

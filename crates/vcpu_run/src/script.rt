@@ -1,10 +1,11 @@
 // A partition: its script, and a turn of it.
-ghost use Rattle.std.specs.Prelude.{◌≡◌, ◌<◌, All, List, Some, OnOk, length, slice_get, true};
+ghost use Rattle.std.specs.Prelude.{◌≡◌, ◌<◌, All, IfOk, List, Some, OnOk, length, slice_get, true};
 ghost use Rattle.std.specs.List.{AllPairs};
 ghost use Rattle.vcpu_run.specs.declared.pair.Pair.{Pair as PairValue};
 ghost use Rattle.vcpu_run.specs.Agreed.{AreLoggedOut, IsCredited, IsEnded, SameElse};
 ghost use Rattle.vcpu_run.specs.Credited.{taken_in};
-ghost use Rattle.vcpu_run.specs.Lines.{is_over, place_behind};
+ghost use Rattle.vcpu_run.specs.Lines.{IsOver, is_over, place_behind};
+ghost use Rattle.vcpu_run.specs.Links.{SeatsRest};
 ghost use Rattle.vcpu_run.specs.Pairs.{AreDriven, AreDrivers};
 ghost use Rattle.vcpu_run.specs.Quietly.{OnQuiet};
 ghost use Rattle.vcpu_run.specs.Ports.{HasPorts};
@@ -79,7 +80,8 @@ impl<'p> Script<'p> {
     ) -> Script<'p>
         requires lines { All (IsLineAt seats.items) lines.now }
         requires in_order { AllPairs (λ a b. a.number < b.number) lines.now }
-        ensures script { (pairs : List PairValue) → AreSeats partition seats.items pairs → IsScript pairs result }
+        ensures script { (pairs : List PairValue) →
+            AreSeats partition seats.items pairs → IsScript pairs result }
         ensures credited { (pairs : List PairValue) → AreLoggedOut seats.items pairs →
             IsCredited pairs result }
         ensures partition { result.partition ≡ partition }
@@ -110,6 +112,8 @@ impl<'p> Script<'p> {
         ensures lan { lan.new.seats ≡ lan.old.seats }
         ensures credited { OnOk result (IsCredited pairs.old self.old →
             IsCredited pairs.new self.new) }
+        ensures quiet { IfOk result (λ moved. moved ≡ Moved.Quiet → IsOver self.new →
+            SeatsRest self.old.seats.items pairs.old pairs.new) }
     {
         let pushed = push_events(&self.seats, pairs)?;
         let moved = self.go_on(pairs, lan)?;
@@ -128,6 +132,8 @@ impl<'p> Script<'p> {
         ensures lan { lan.new.seats ≡ lan.old.seats }
         ensures credited { OnOk result (IsCredited pairs.old self.old →
             IsCredited pairs.new self.new) }
+        ensures quiet { IfOk result (λ moved. moved ≡ Moved.Quiet → IsOver self.new →
+            SeatsRest self.old.seats.items pairs.old pairs.new) }
     {
         let lines = self.lines;
         match lines.get(self.at) {
@@ -149,6 +155,7 @@ impl<'p> Script<'p> {
         ensures lan { lan.new.seats ≡ lan.old.seats }
         ensures credited { OnOk result (IsCredited pairs.old self.old →
             IsCredited pairs.new self.new) }
+        ensures quiet { IfOk result (λ moved. moved ≡ Moved.Quiet → ¬ (IsOver self.new)) }
     {
         if let Verb::Fail = line.verb {
             return self.step_fail(pairs, lan, line);
@@ -190,6 +197,7 @@ impl<'p> Script<'p> {
         ensures lan { lan.new.seats ≡ lan.old.seats }
         ensures credited { OnOk result (IsCredited pairs.old self.old →
             IsCredited pairs.new self.new) }
+        ensures quiet { IfOk result (λ moved. moved ≡ Moved.Quiet → ¬ (IsOver self.new)) }
     {
         if fail(self.partition, &self.seats, pairs, lan)? {
             self.end(line, Outcome::Done)?;
@@ -201,7 +209,8 @@ impl<'p> Script<'p> {
     // Logs how the current line ended, and goes to the next, if one comes behind it.
     fn end(&mut self, line: &Line, outcome: Outcome) -> Result<(), NoMemory>
         requires line { slice_get self.old.lines.now self.old.at ≡ Some line.now }
-        ensures script { (pairs : List PairValue) → IsScript pairs self.old → IsScript pairs self.new }
+        ensures script { (pairs : List PairValue) →
+            IsScript pairs self.old → IsScript pairs self.new }
         ensures rest { OnlyRuns self.old self.new }
         ensures ended { OnOk result (IsEnded line.now outcome self.old self.new) }
         ensures at { OnOk result (self.new.at ≡
@@ -233,7 +242,8 @@ impl<'p> Script<'p> {
 
     /// Ends the current line if it waits for what does not come any more.
     pub(crate) fn end_waiting(&mut self) -> Result<Moved, NoMemory>
-        ensures script { (pairs : List PairValue) → IsScript pairs self.old → IsScript pairs self.new }
+        ensures script { (pairs : List PairValue) →
+            IsScript pairs self.old → IsScript pairs self.new }
         ensures rest { OnlyRuns self.old self.new }
         ensures credited { OnOk result ((pairs : List PairValue) → IsScript pairs self.old →
             IsCredited pairs self.old → IsCredited pairs self.new) }

@@ -2,6 +2,7 @@
 ghost use Rattle.std.specs.Prelude.{◌≡◌, true, IfOk, IsSomeAnd};
 ghost use Rattle.vcpu_run.specs.Pairs.{Drives, IsDriver};
 ghost use Rattle.vcpu_run.specs.Credited.{StepsAgreed, taken_in};
+ghost use Rattle.vcpu_run.specs.Links.{PairRests, link_state};
 ghost use Rattle.vcpu_run.specs.Agreed.{OnDrivers};
 ghost use Rattle.hcall_table.specs.Rows.{IsAnswer, may_answer};
 ghost use Rattle.vcpu_run.specs.CallRows.{queue_row, row_for};
@@ -14,7 +15,7 @@ use crate::queue_calls;
 use crate::script::Progress;
 use crate::watched::Watched;
 use boot_text::Line;
-use crq_session::{CrqEnd, FreeAnswer};
+use crq_session::{CrqEnd, EventAnswer, FreeAnswer};
 use hcall_table::Returned;
 use std::alloc::Global;
 use unit_region::{Step, make_entry_call};
@@ -24,14 +25,16 @@ use vio_num::{Hrc, Moved, NoMemory};
 pub(crate) fn push_event(pair: &mut Pair) -> Result<Moved, NoMemory>
     ensures drives { Drives pair.old pair.new }
     ensures driver { pair.new.driver ≡ pair.old.driver }
+    ensures quiet { IfOk result (λ moved. moved ≡ Moved.Quiet →
+        link_state pair.new.link ≡ link_state pair.old.link) }
 {
-    let mut crq = Watched {
-        end: pair.link.side(false),
-        moved: false,
-    };
-    crq.reserve(1)?;
-    crq.push_event();
-    Ok(crq.moved())
+    let mut end = pair.link.side(false);
+    end.reserve(1)?;
+    match end.push_event() {
+        EventAnswer::Nothing => Ok(Moved::Quiet),
+        EventAnswer::Put => Ok(Moved::Moved),
+        EventAnswer::Kept { number: _, held: _ } => Ok(Moved::Quiet),
+    }
 }
 
 /// One step of this line at its client.
@@ -56,7 +59,8 @@ pub(crate) fn step(pair: &mut Pair, line: &Line, progress: &mut Progress) -> Res
 /// Takes what stands in the client's queue.
 pub(crate) fn take_rest(pair: &mut Pair) -> Result<Moved, NoMemory>
     requires { IsSomeAnd pair.old.driver (IsDriver pair.old.window) }
-    ensures { Drives pair.old pair.new }
+    ensures drives { Drives pair.old pair.new }
+    ensures quiet { IfOk result (λ moved. moved ≡ Moved.Quiet → PairRests pair.old pair.new) }
 {
     let Some(driver) = &mut pair.driver else {
         unreachable!()
@@ -65,8 +69,7 @@ pub(crate) fn take_rest(pair: &mut Pair) -> Result<Moved, NoMemory>
         end: pair.link.side(false),
         moved: false,
     };
-    driver.take_rest(&mut crq, &mut pair.window)?;
-    Ok(crq.moved())
+    driver.take_rest(&mut crq, &mut pair.window)
 }
 
 /// Fails the client's queue if it is registered. Tells whether it is not any more.
@@ -113,12 +116,15 @@ pub(crate) fn call(alloc: Global, pair: &mut Pair, call: ClientCall) -> Result<R
     }
 }
 
-// Makes a call on the client's queue, or on its partner's.
+// Makes a call on the client's queue, or on its partner's. Where there is no client, neither is there a queue.
 fn queue_code(pair: &mut Pair, call: QueueCall) -> Result<Hrc, NoMemory>
     ensures drives { Drives pair.old pair.new }
     ensures driver { pair.new.driver ≡ pair.old.driver }
     ensures code { IfOk result (λ code. may_answer (queue_row call) code ≡ true) }
 {
+    if pair.driver.is_none() {
+        return Ok(Hrc::Parameter);
+    }
     let is_registered = pair.link.is_registered(false);
     let mut end = pair.link.side(false);
     queue_calls::make(&mut end, is_registered, call)

@@ -1,7 +1,8 @@
 // What a partition does at its units, one after the other or at one of them.
-ghost use Rattle.std.specs.Prelude.{◌≡◌, ◌<◌, ◌≤◌, ◌∷◌, [], ℕ, false, Some, IsSomeAnd, length, slice_get};
+ghost use Rattle.std.specs.Prelude.{◌≡◌, ◌<◌, ◌≤◌, ◌∷◌, [], ℕ, false, IfOk, Some, IsSomeAnd, length, slice_get};
 ghost use Rattle.vcpu_run.specs.Agreed.{AllSame, SameDrivers, SameElse, SameOthers, StepsLine, StepsSeat};
 ghost use Rattle.vcpu_run.specs.Credited.{taken_in};
+ghost use Rattle.vcpu_run.specs.Links.{ClientWaits, SeatsRest, links_of};
 ghost use Rattle.vcpu_run.specs.Pairs.{AreDriven, IsDriver};
 ghost use Rattle.vcpu_run.specs.Ports.{HavePorts, IsPortOf};
 ghost use Rattle.vcpu_run.specs.Suited.{is_call, suits};
@@ -20,7 +21,10 @@ use unit_region::Step;
 use vio_num::{Moved, NoMemory, UnitId};
 
 /// Whether either did something.
-pub(crate) fn either(one: Moved, other: Moved) -> Moved {
+pub(crate) fn either(one: Moved, other: Moved) -> Moved
+    ensures one { result ≡ Moved.Quiet → one ≡ Moved.Quiet }
+    ensures other { result ≡ Moved.Quiet → other ≡ Moved.Quiet }
+{
     match one {
         Moved::Moved => Moved::Moved,
         Moved::Quiet => other,
@@ -32,6 +36,8 @@ fn push_event_of(pairs: &mut [Pair], pair: usize) -> Result<Moved, NoMemory>
     requires { pair < length pairs.old }
     ensures driven { AreDriven pairs.old pairs.new }
     ensures drivers { SameDrivers pairs.old pairs.new }
+    ensures quiet { IfOk result (λ moved. moved ≡ Moved.Quiet →
+        links_of pairs.new ≡ links_of pairs.old) }
 {
     seat::push_event(&mut pairs[pair])
 }
@@ -41,6 +47,8 @@ fn push_event_at(pairs: &mut [Pair], seat: Seat) -> Result<Moved, NoMemory>
     requires { (k : ℕ) → seat ≡ sits.Client k → k < length pairs.old }
     ensures driven { AreDriven pairs.old pairs.new }
     ensures drivers { SameDrivers pairs.old pairs.new }
+    ensures quiet { IfOk result (λ moved. moved ≡ Moved.Quiet →
+        links_of pairs.new ≡ links_of pairs.old) }
 {
     match seat {
         Seat::Client(pair) => push_event_of(pairs, pair),
@@ -53,6 +61,8 @@ pub(crate) fn push_events(seats: &[Seat], pairs: &mut [Pair]) -> Result<Moved, N
     requires { HaveClients seats.now pairs.old }
     ensures driven { AreDriven pairs.old pairs.new }
     ensures drivers { SameDrivers pairs.old pairs.new }
+    ensures quiet { IfOk result (λ moved. moved ≡ Moved.Quiet →
+        links_of pairs.new ≡ links_of pairs.old) }
 {
     let mut moved = Moved::Quiet;
     for k in 0..seats.len() {
@@ -146,6 +156,10 @@ fn take_rest_of(pairs: &mut [Pair], pair: usize) -> Result<Moved, NoMemory>
         (λ pair. IsSomeAnd pair.driver (IsDriver pair.window)) }
     ensures driven { AreDriven pairs.old pairs.new }
     ensures others { SameOthers pair pairs.old pairs.new }
+    ensures still { IfOk result (λ moved. moved ≡ Moved.Quiet →
+        links_of pairs.new ≡ links_of pairs.old) }
+    ensures waits { IfOk result (λ moved. moved ≡ Moved.Quiet →
+        IsSomeAnd (slice_get (links_of pairs.new) pair) ClientWaits) }
 {
     seat::take_rest(&mut pairs[pair])
 }
@@ -163,6 +177,10 @@ fn take_rest_at(
     ensures driven { AreDriven pairs.old pairs.new }
     ensures others { SameElse (seat ∷ []) pairs.old pairs.new }
     ensures lan { lan.new.seats ≡ lan.old.seats }
+    ensures still { IfOk result (λ moved. moved ≡ Moved.Quiet →
+        links_of pairs.new ≡ links_of pairs.old) }
+    ensures waits { IfOk result (λ moved. moved ≡ Moved.Quiet → (k : ℕ) → seat ≡ sits.Client k →
+        IsSomeAnd (slice_get (links_of pairs.new) k) ClientWaits) }
 {
     match seat {
         Seat::Client(pair) => take_rest_of(pairs, pair),
@@ -184,6 +202,8 @@ pub(crate) fn take_rest(
     ensures driven { AreDriven pairs.old pairs.new }
     ensures others { SameElse seats.now pairs.old pairs.new }
     ensures lan { lan.new.seats ≡ lan.old.seats }
+    ensures quiet { IfOk result (λ moved. moved ≡ Moved.Quiet →
+        SeatsRest seats.now pairs.old pairs.new) }
 {
     let mut moved = Moved::Quiet;
     for k in 0..seats.len() {

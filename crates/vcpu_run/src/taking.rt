@@ -1,8 +1,9 @@
 // Taking answers.
-ghost use Rattle.std.specs.Prelude.{◌≤◌, IfOk};
+ghost use Rattle.std.specs.Prelude.{◌≡◌, ◌≤◌, IfOk, false};
 ghost use Rattle.boot_text.specs.declared.verb.Verb.TheVariants as verbs;
 ghost use Rattle.vscsi_client.specs.declared.TheConstants.{MIN_PAGES};
 ghost use Rattle.vcpu_run.specs.Credited.{StepsAgreed};
+ghost use Rattle.vcpu_run.specs.Links.{EndRests};
 ghost use Rattle.vcpu_run.specs.Sendings.{TookOf};
 ghost use Rattle.vcpu_run.specs.Works.{Works};
 
@@ -33,9 +34,11 @@ impl Driver {
         own: &mut O,
     ) -> Result<Took, NoMemory>
         requires { MIN_PAGES ≤ (O.state own.old).place.size }
-        ensures works { Works (C.state crq.old.end) (C.state crq.new.end)
+        ensures works { Works O.is_shared (C.state crq.old.end) (C.state crq.new.end)
             (O.state own.old) (O.state own.new) self.old self.new }
         ensures took { IfOk result (λ took. TookOf took self.old.client self.new.client) }
+        ensures none { IfOk result (λ took. C.is_shared ≡ false → took ≡ Took.Nothing →
+            EndRests (C.state crq.old.end) (C.state crq.new.end)) }
     {
         match self.client.take_answer(crq, own)? {
             Taken::Answer { tag, rsp } => {
@@ -50,23 +53,28 @@ impl Driver {
         }
     }
 
-    /// Takes entries until there is none, or as many as the queue has slots.
+    /// Takes entries until there is none, or as many as the queue has slots. Tells whether there was one.
     pub(crate) fn take_rest<C: CrqEnd, O: OwnerPort>(
         &mut self,
         crq: &mut Watched<C>,
         own: &mut O,
-    ) -> Result<(), NoMemory>
+    ) -> Result<Moved, NoMemory>
         requires { MIN_PAGES ≤ (O.state own.old).place.size }
-        ensures { Works (C.state crq.old.end) (C.state crq.new.end)
+        ensures works { Works O.is_shared (C.state crq.old.end) (C.state crq.new.end)
             (O.state own.old) (O.state own.new) self.old self.new }
+        ensures quiet { IfOk result (λ moved. C.is_shared ≡ false → moved ≡ Moved.Quiet →
+            EndRests (C.state crq.old.end) (C.state crq.new.end)) }
     {
+        let mut moved = Moved::Quiet;
         for _taken in 0..crq.slots() {
             match self.take_one(crq, own)? {
-                Took::Nothing | Took::InUse => return Ok(()),
+                Took::Nothing => return Ok(moved),
+                Took::InUse => return Ok(Moved::Moved),
                 Took::Answer | Took::Other | Took::Lost => {}
             }
+            moved = Moved::Moved;
         }
-        Ok(())
+        Ok(Moved::Moved)
     }
 
     /// One step of taking `count` answers, of which `taken` were taken before.
@@ -78,7 +86,7 @@ impl Driver {
         taken: &mut u64,
     ) -> Result<Step, NoMemory>
         requires { MIN_PAGES ≤ (O.state own.old).place.size }
-        ensures works { Works (C.state crq.old.end) (C.state crq.new.end)
+        ensures works { Works O.is_shared (C.state crq.old.end) (C.state crq.new.end)
             (O.state own.old) (O.state own.new) self.old self.new }
         ensures credit { StepsAgreed (verbs.Take count) taken.old taken.new
             self.old.client self.new.client result }

@@ -26,7 +26,8 @@ pub(crate) fn seats_in_order(
 // Adds the units of a partition, which sit there.
 fn put_units(seats: &mut Vec<UnitSeat>, partition: u8, own: &[Seat]) -> Result<(), NoMemory>
     requires { length own.now ≤ 256 }
-    ensures { OnOk result (seats.new.items ≡ seats.old.items ++ numbered (unit_seat partition) 0 own.now) }
+    ensures { OnOk result (seats.new.items
+        ≡ seats.old.items ++ numbered (unit_seat partition) 0 own.now) }
 {
     for (unit, seat) in own.iter().enumerate() {
         seats.push(UnitSeat {

@@ -74,7 +74,8 @@ fn put_page(
     page: u16,
     strokes: &[Stroke],
 ) -> Result<(), NoMemory>
-    ensures { OnOk result (rows.new.items ≡ rows.old.items ++ numbered (stroke_row unit page) 0 strokes.now) }
+    ensures { OnOk result (rows.new.items
+        ≡ rows.old.items ++ numbered (stroke_row unit page) 0 strokes.now) }
 {
     for (place, stroke) in strokes.iter().enumerate() {
         rows.push(row_of(alloc, unit, page, place, stroke)?)?;

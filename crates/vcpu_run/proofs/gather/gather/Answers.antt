@@ -6,6 +6,7 @@ use Rattle.vcpu_run.proofs.Ordering.{order_is}
 use Rattle.vcpu_run.proofs.QueueLaws.{queues_are}
 use Rattle.vcpu_run.proofs.RecordLaws.{credits_are, records_are}
 use Rattle.vcpu_run.proofs.SentTo.{answers_are}
+use Rattle.vcpu_run.proofs.Settling.{settled_are}
 use Rattle.std.proofs.Common.{refl}
 use Rattle.vcpu_run.proofs.gather.gather.Goals as goal
 
@@ -49,6 +50,11 @@ pub returns-clause-ports : goal.returns-clause-ports
 returns-clause-ports c =
     from_rows c.args.pairs.items c.args.scripts.items c.args.lan c.args.history.items c.args.grants.items c.args.copies.items c.rows_of.result _ _ c.rows_of.ensures.trace c.rows_of.ensures.queues
     (λ rows keeps ordered lawful partitions of_plan. ports_are c.args.lan rows partitions keeps of_plan.ports_are)
+
+pub returns-clause-settled : goal.returns-clause-settled
+returns-clause-settled c =
+    from_rows c.args.pairs.items c.args.scripts.items c.args.lan c.args.history.items c.args.grants.items c.args.copies.items c.rows_of.result _ _ c.rows_of.ensures.trace c.rows_of.ensures.queues
+    (λ rows keeps ordered lawful partitions of_plan idle. settled_are c.args.pairs.items c.args.scripts.items c.args.lan rows c.args.history.items c.args.grants.items c.args.copies.items partitions c.requires.scripts lawful of_plan idle)
 
 pub returns-clause-serves : goal.returns-clause-serves
 returns-clause-serves c =

@@ -2,7 +2,8 @@ use Rattle.std.proofs.Common.{◌≡◌, List, [], IfSome, IsSome, subst, sym}
 use Rattle.vio_num.specs.declared.history.Served.{Served}
 use Rattle.block_server.specs.DiskLaw.{KeepsDisk}
 use Rattle.vcpu_run.specs.Answered.{AreAnswered}
-use Rattle.vcpu_run.proofs.Disks.{served_from, told_same}
+use Rattle.vcpu_run.specs.OnDisk.{IsServed, LastsInRows}
+use Rattle.vcpu_run.proofs.Disks.{served_from, served_same, served_somehow, told_same}
 use Rattle.vcpu_run.proofs.machine.settle_plan.Goals as goal
 
 pub settle-requires-clause-answered : goal.settle-requires-clause-answered
@@ -25,3 +26,18 @@ pub returns-in-Err-clause-tells : goal.returns-in-Err-clause-tells
 returns-in-Err-clause-tells g c =
     subst (λ image. IfSome (g.Di.Blocks.state c.args.image).blocks (λ blocks. IsSome (g.Di.Blocks.state image).blocks)) (sym c.in-Err.ensures.err)
     (told_same (g.Di.Blocks.state c.args.image).blocks)
+
+pub returns-in-Ok-clause-served : goal.returns-in-Ok-clause-served
+returns-in-Ok-clause-served g c =
+    let before = (g.Di.Blocks.state c.args.image).blocks in
+    let after = (g.Di.Blocks.state c.settle.result.image).blocks in
+    let lasts : LastsInRows [] before after =
+    subst (λ image. LastsInRows [] (g.Di.Blocks.state image).blocks after) c.in-Ok.ensures.image
+    (subst (λ (rows : List Served). LastsInRows rows (g.Di.Blocks.state c.in-Ok.machine.server.disk.image).blocks after) c.in-Ok.ensures.none c.settle.ensures.lasts) in
+    served_somehow before after lasts
+    (subst (λ image. IfSome (g.Di.Blocks.state image).blocks (λ blocks. IsSome after)) c.in-Ok.ensures.image c.settle.ensures.tells)
+
+pub returns-in-Err-clause-served : goal.returns-in-Err-clause-served
+returns-in-Err-clause-served g c =
+    subst (λ image. IsServed (g.Di.Blocks.state c.args.image).blocks (g.Di.Blocks.state image).blocks) (sym c.in-Err.ensures.err)
+    (served_same (g.Di.Blocks.state c.args.image).blocks)

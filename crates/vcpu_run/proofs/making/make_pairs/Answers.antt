@@ -9,6 +9,7 @@ use Rattle.boot_text.specs.declared.plan.UnitPlan.TheVariants as kinds
 use Rattle.vcpu_run.specs.declared.pair.Pair.{Pair}
 use Rattle.vcpu_run.specs.Agreed.{IsLoggedOut}
 use Rattle.vcpu_run.specs.Answered.{IsAnswered}
+use Rattle.vcpu_run.specs.Links.{IsClosed}
 use Rattle.vcpu_run.specs.Machines.{ArePlanned, IsPlanned, home_of}
 use Rattle.vcpu_run.specs.Pairs.{ArePairs, IsPair}
 use Rattle.vcpu_run.proofs.Booted.{planned_all, planned_none}
@@ -34,6 +35,7 @@ loop-place-preserved c =
           (subst (λ n. planned n pair) (sym before.count) c.in_ok-make_pair.ensures.planned) k other (rw push at found);
       out = λ k other found. each_pushed (λ k pair. IsLoggedOut pair) items pair before.out c.in_ok-make_pair.ensures.out k other (rw push at found);
       answered = λ k other found. each_pushed (λ k pair. IsAnswered [] pair) items pair before.answered c.in_ok-make_pair.ensures.answered k other (rw push at found);
+      closed = λ k other found. each_pushed (λ k pair. IsClosed pair) items pair before.closed c.in_ok-make_pair.ensures.closed k other (rw push at found);
     }
 
 pub returns-in_default-clause-planned : goal.returns-in_default-clause-planned

@@ -3,6 +3,7 @@ use Rattle.std.specs.List.{slice_get}
 use Rattle.vcpu_run.specs.declared.pair.Pair.{Pair}
 use Rattle.vcpu_run.specs.Agreed.{AreAllOut}
 use Rattle.vcpu_run.specs.Answered.{AreAnswered}
+use Rattle.vcpu_run.specs.Links.{AreClosed}
 use Rattle.vcpu_run.specs.Machines.{IsPlanned}
 use Rattle.vcpu_run.specs.Pairs.{ArePairs}
 use Rattle.vcpu_run.proofs.making.make_pairs.Given as goal
@@ -14,4 +15,5 @@ invariant-loop-place l = record {
   planned : (k : ℕ) (pair : Pair) → slice_get l.pairs.items k ≡ Some pair → IsPlanned l.partitions k pair;
   out : AreAllOut l.pairs.items;
   answered : AreAnswered [] l.pairs.items;
+  closed : AreClosed l.pairs.items;
 }

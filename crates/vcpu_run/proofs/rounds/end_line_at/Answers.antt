@@ -1,3 +1,4 @@
+use Rattle.vcpu_run.proofs.Resting.{quiet_set}
 use Rattle.std.proofs.Common.{slice_index_or}
 use Rattle.std.proofs.lemmas.Option.{slice_get-get_or}
 use Rattle.vcpu_run.proofs.Elsewhere.{credits_turned, else_none, ok_then}
@@ -32,3 +33,10 @@ returns-clause-credited c =
     credits_turned pairs pairs ports scripts c.args.number old c.end_waiting.new.self found scripts_are (else_none old.seats.items pairs) are
     (kept pairs (scripts_are c.args.number old found).script_is (are c.args.number old found)))
     c.end_waiting.ensures.credited
+
+pub returns-clause-quiet : goal.returns-clause-quiet
+returns-clause-quiet c =
+    let scripts = c.args.scripts.now in
+    let d = c.index-scripts-number.result in
+    quiet_set scripts c.args.number (slice_index_or scripts c.args.number d) c.end_waiting.new.self c.end_waiting.result
+    (slice_get-get_or scripts c.args.number d c.requires) c.end_waiting.ensures.quiet

@@ -1,8 +1,9 @@
+use Rattle.std.proofs.Common.{◌∙◌, refl}
 use Rattle.vcpu_run.proofs.Scripted.{run_same, run_then}
 use Rattle.vcpu_run.proofs.rounds.end_lines.Goals as goal
 
 pub loop-number-init : goal.loop-number-init
-loop-number-init c = record { scripts = λ pairs ports are. are; run = run_same c.args.scripts.now; credited = λ pairs ports scripts_are are. are }
+loop-number-init c = record { scripts = λ pairs ports are. are; run = run_same c.args.scripts.now; credited = λ pairs ports scripts_are are. are; same = λ is. refl }
 
 pub loop-number-preserved : goal.loop-number-preserved
 loop-number-preserved c =
@@ -12,6 +13,7 @@ loop-number-preserved c =
       scripts = λ pairs ports are. after.scripts pairs ports (before.scripts pairs ports are);
       run = run_then c.args.scripts.now c.loop-number.scripts c.end_line_at.new.scripts before.run after.run;
       credited = λ pairs ports scripts_are are. c.in_ok-turned.ensures.credited pairs ports (before.scripts pairs ports scripts_are) (before.credited pairs ports scripts_are are);
+      same = λ is. c.in_ok-turned.ensures.quiet (c.either-moved.ensures.other is) ∙ before.same (c.either-moved.ensures.one is);
     }
 
 pub returns-in_err-turned-clause-scripts : goal.returns-in_err-turned-clause-scripts

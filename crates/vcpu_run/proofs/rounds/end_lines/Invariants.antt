@@ -1,4 +1,5 @@
-use Rattle.std.proofs.Common.{List}
+use Rattle.std.proofs.Common.{◌≡◌, List}
+use Rattle.vio_num.specs.declared.hypervisor.Moved.TheVariants.{Quiet}
 use Rattle.lan_script.specs.declared.seat.PortSeat.{PortSeat}
 use Rattle.vcpu_run.specs.declared.pair.Pair.{Pair}
 use Rattle.vcpu_run.specs.Agreed.{AreCredited}
@@ -10,4 +11,5 @@ invariant-loop-number l = record {
   scripts : (pairs : List Pair) (ports : List PortSeat) → AreScripts pairs ports l.initial.scripts → AreScripts pairs ports l.scripts;
   run : AllRun l.initial.scripts l.scripts;
   credited : (pairs : List Pair) (ports : List PortSeat) → AreScripts pairs ports l.initial.scripts → AreCredited pairs l.initial.scripts → AreCredited pairs l.scripts;
+  same : l.moved ≡ Quiet → l.scripts ≡ l.initial.scripts;
 }

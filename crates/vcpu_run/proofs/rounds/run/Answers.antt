@@ -1,3 +1,4 @@
+use Rattle.vcpu_run.proofs.Idling.{over_all}
 use Rattle.std.proofs.Common.{◌∙◌, refl}
 use Rattle.vcpu_run.proofs.Disks.{lasts_same, lasts_then}
 use Rattle.vcpu_run.proofs.Keeping.{all_same, all_then}
@@ -5,7 +6,7 @@ use Rattle.vcpu_run.proofs.Scripted.{run_same, run_then}
 use Rattle.vcpu_run.proofs.rounds.run.Goals as goal
 
 pub loop-round-init : goal.loop-round-init
-loop-round-init g c = record { machine = c.requires.machine; stay = all_same c.args.pairs.now; run = run_same c.args.scripts.now; answered = c.requires.answered; disk = lasts_same c.args.server.now.records.history.items (g.Di.Blocks.state c.args.server.now.disk.image).blocks; credited = λ are. are; lan = refl }
+loop-round-init g c = record { machine = c.requires.machine; stay = all_same c.args.pairs.now; run = run_same c.args.scripts.now; answered = c.requires.answered; disk = lasts_same c.args.server.now.records.history.items (g.Di.Blocks.state c.args.server.now.disk.image).blocks; credited = λ are. are; lan = refl; linked = λ are. are }
 
 pub loop-round-preserved : goal.loop-round-preserved
 loop-round-preserved g c =
@@ -20,6 +21,7 @@ loop-round-preserved g c =
           (g.Di.Blocks.state c.args.server.now.disk.image).blocks (g.Di.Blocks.state c.loop-round.server.disk.image).blocks (g.Di.Blocks.state c.step.new.server.disk.image).blocks c.loop-round.invariant.disk c.step.ensures.disk;
       credited = λ are. c.in_ok-moved.ensures.credited (before.credited are);
       lan = after.lan ∙ before.lan;
+      linked = λ are. c.in_ok-moved.ensures.linked (before.linked are);
     }
 
 pub returns-in_err-moved-clause-stay : goal.returns-in_err-moved-clause-stay
@@ -50,3 +52,11 @@ pub returns-then-is_end-clause-disk : goal.returns-then-is_end-clause-disk
 returns-then-is_end-clause-disk g c =
     lasts_then c.args.server.now.records.history.items c.loop-round.server.records.history.items c.step.new.server.records.history.items
     (g.Di.Blocks.state c.args.server.now.disk.image).blocks (g.Di.Blocks.state c.loop-round.server.disk.image).blocks (g.Di.Blocks.state c.step.new.server.disk.image).blocks c.loop-round.invariant.disk c.step.ensures.disk
+
+pub returns-then-is_end-clause-idle : goal.returns-then-is_end-clause-idle
+returns-then-is_end-clause-idle g c = λ are.
+    let linked = c.loop-round.invariant.linked are in
+    record {
+      wait = c.in_ok-moved.ensures.idle (c.is_end.ensures.quiet c.if-is_end.true) linked (over_all c.step.new.scripts (c.is_end.ensures.over c.if-is_end.true));
+      shut = λ k pair found. (c.in_ok-moved.ensures.linked linked k pair found).shut;
+    }

@@ -1,6 +1,7 @@
 use Rattle.std.proofs.Common.{◌≡◌, vec_len}
 use Rattle.vcpu_run.specs.Agreed.{AreCredited}
 use Rattle.vcpu_run.specs.Answered.{AreAnswered}
+use Rattle.vcpu_run.specs.Links.{AreLinked}
 use Rattle.vcpu_run.specs.OnDisk.{LastsOnDisk}
 use Rattle.vcpu_run.specs.Machines.{AllRun, AllStay, IsMachine}
 use Rattle.vcpu_run.proofs.rounds.run.Given as goal
@@ -15,4 +16,5 @@ invariant-loop-round g l = record {
       (g.Di.Blocks.state l.initial.server.disk.image).blocks (g.Di.Blocks.state l.server.disk.image).blocks;
   credited : AreCredited l.initial.pairs l.initial.scripts → AreCredited l.pairs l.scripts;
   lan : l.lan.seats ≡ l.initial.lan.seats;
+  linked : AreLinked l.initial.server.units.items l.initial.pairs → AreLinked l.server.units.items l.pairs;
 }

@@ -1,4 +1,8 @@
-use Rattle.std.proofs.Common.{slice_index_or}
+use Rattle.vcpu_run.proofs.Waiting.{linked_driven}
+use Rattle.vcpu_run.proofs.Resting.{ok_more}
+use Rattle.vcpu_run.proofs.Idling.{set_rests}
+use Rattle.vcpu_run.proofs.Driving.{get_set_other}
+use Rattle.std.proofs.Common.{slice_index_or, refl}
 use Rattle.std.proofs.lemmas.Option.{slice_get-get_or}
 use Rattle.vcpu_run.proofs.Answering.{answered_driven}
 use Rattle.vcpu_run.proofs.Elsewhere.{credits_turned, ok_then}
@@ -56,3 +60,18 @@ returns-clause-credited c =
 
 pub returns-clause-answered : goal.returns-clause-answered
 returns-clause-answered c history = answered_driven history c.args.pairs.now c.turn.new.pairs c.turn.ensures.driven
+
+pub returns-clause-linked : goal.returns-clause-linked
+returns-clause-linked c units = linked_driven units c.args.pairs.now c.turn.new.pairs c.turn.ensures.driven
+
+pub returns-clause-idle : goal.returns-clause-idle
+returns-clause-idle c =
+    let scripts = c.args.scripts.now in
+    let old = slice_index_or scripts c.args.number c.index-scripts-number.result in
+    ok_more c.turn.result _ _
+    (λ moved rests is over.
+    set_rests scripts c.args.number old c.turn.new.self old.seats.items c.args.pairs.now c.turn.new.pairs c.requires.there (rw c.turn.ensures.rest.seats refl) (rests is) over)
+    c.turn.ensures.quiet
+
+pub returns-clause-elsewhere : goal.returns-clause-elsewhere
+returns-clause-elsewhere c = λ i apart. get_set_other c.args.scripts.now c.args.number i c.turn.new.self apart

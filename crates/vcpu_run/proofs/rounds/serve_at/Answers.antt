@@ -1,4 +1,9 @@
-use Rattle.std.proofs.Common.{◌≡◌, ◌≤◌, ℕ, length, slice_index_or, sym, ◌∙◌, subst, length-set}
+use Rattle.vcpu_run.specs.Links.{IsLinked, ServerWaits}
+use Rattle.vcpu_run.proofs.Resting.{ok_more, waits_set}
+use Rattle.vcpu_run.proofs.Elsewhere.{ok_then}
+use Rattle.vcpu_run.proofs.Driving.{get_set_other}
+use Rattle.block_server.specs.declared.unit.Unit.{Unit}
+use Rattle.std.proofs.Common.{◌≡◌, ◌≤◌, ℕ, Some, length, slice_get, slice_index_or, slice_set, sym, ◌∙◌, subst, length-set}
 use Rattle.std.proofs.lemmas.Option.{slice_get-get_or}
 use Rattle.vcpu_run.specs.declared.pair.Pair.{Pair}
 use Rattle.vcpu_run.specs.Answered.{IsAnswered}
@@ -7,6 +12,7 @@ use Rattle.vcpu_run.specs.Pairs.{IsPair}
 use Rattle.vcpu_run.proofs.Agreeing.{set_same}
 use Rattle.vcpu_run.proofs.Keeping.{stays_same}
 use Rattle.vcpu_run.proofs.Listed.{each_on, each_set}
+use Rattle.vcpu_run.proofs.PairNames.{apart_stays}
 use Rattle.vcpu_run.proofs.rounds.serve_at.Goals as goal
 
 pub serve-requires-clause-pair : goal.serve-requires-clause-pair
@@ -20,12 +26,20 @@ returns-clause-serving g c =
     let pairs = c.args.pairs.now in
     let before = c.requires.serving in
     let after = c.serve.ensures in
-    let count : length _ ≡ length pairs = length-set pairs c.args.unit c.serve.new.self in
+    let count : length (slice_set pairs c.args.unit c.serve.new.self) ≡ length pairs = length-set pairs c.args.unit c.serve.new.self in
+    let old = slice_index_or pairs c.args.unit c.index-pairs-unit.result in
+    let here : slice_get pairs c.args.unit ≡ Some old = slice_get-get_or pairs c.args.unit c.index-pairs-unit.result c.requires.there in
     record {
       each = after.units ∙ (before.each ∙ sym count);
       few = subst (λ n. n ≤ 8) (sym count) before.few;
       pairs_are = rw after.partition (each_set (IsPair c.args.server.now.partition c.serve.new.server.copies.items) pairs c.args.unit c.serve.new.self
-          (λ k other there apart. after.others k other apart (before.pairs_are k other there)) after.pair);
+          (λ k other there apart. after.others k other apart
+          (λ unit has has_other. apart (before.apart k c.args.unit other old unit there here has_other has)) (before.pairs_are k other there)) after.pair);
+      apart = apart_stays pairs (slice_set pairs c.args.unit c.serve.new.self)
+          (record {
+            count = count;
+            each = each_on Stays pairs c.args.unit old c.serve.new.self stays_same here after.stays;
+          }) before.apart;
     }
 
 pub returns-clause-stay : goal.returns-clause-stay
@@ -55,3 +69,25 @@ pub serve-requires-clause-answered : goal.serve-requires-clause-answered
 serve-requires-clause-answered g c =
     let pairs = c.args.pairs.now in
     c.requires.answered c.args.unit (slice_index_or pairs c.args.unit c.index-pairs-unit.result) (slice_get-get_or pairs c.args.unit c.index-pairs-unit.result c.requires.there)
+
+pub returns-clause-linked : goal.returns-clause-linked
+returns-clause-linked g c =
+    let pairs = c.args.pairs.now in
+    let old = slice_index_or pairs c.args.unit c.index-pairs-unit.result in
+    let found = slice_get-get_or pairs c.args.unit c.index-pairs-unit.result c.requires.there in
+    ok_then c.serve.result _ _
+    (λ step are. each_set (IsLinked c.serve.new.server.units.items) pairs c.args.unit c.serve.new.self
+    (λ k other there apart. c.serve.ensures.linked_else k other apart (are k other there)) (step (are c.args.unit old found)))
+    c.serve.ensures.linked
+
+pub returns-clause-waits : goal.returns-clause-waits
+returns-clause-waits g c =
+    let pairs = c.args.pairs.now in
+    let old = slice_index_or pairs c.args.unit c.index-pairs-unit.result in
+    let found = slice_get-get_or pairs c.args.unit c.index-pairs-unit.result c.requires.there in
+    ok_more c.serve.result _ _
+    (λ moved wait is are. waits_set ServerWaits pairs c.args.unit c.serve.new.self c.requires.there (wait is (are c.args.unit old found)))
+    c.serve.ensures.quiet
+
+pub returns-clause-elsewhere : goal.returns-clause-elsewhere
+returns-clause-elsewhere g c = λ k apart. get_set_other c.args.pairs.now c.args.unit k c.serve.new.self apart

@@ -1,3 +1,8 @@
+use Rattle.vcpu_run.specs.Links.{AreIdleTo, AreOverTo}
+use Rattle.vcpu_run.specs.declared.script.Script.{Script}
+use Rattle.vcpu_run.proofs.Resting.{ok_more}
+use Rattle.vcpu_run.proofs.Crediting.{on_ok}
+use Rattle.std.proofs.Common.{List, length, subst, sym}
 use Rattle.vcpu_run.proofs.Elsewhere.{ok_then}
 use Rattle.vcpu_run.proofs.Scripted.{run_then}
 use Rattle.vcpu_run.proofs.rounds.step.Goals as goal
@@ -17,3 +22,14 @@ returns-in-Quiet-clause-credited g c =
     ok_then c.end_lines.result _ _
     (λ kept are. kept c.round.new.pairs c.round.new.lan.seats c.round.ensures.machine.scripts_are (c.in_ok-round.ensures.credited are))
     c.end_lines.ensures.credited
+
+pub returns-in-Quiet-clause-linked : goal.returns-in-Quiet-clause-linked
+returns-in-Quiet-clause-linked g c = on_ok c.end_lines.result _ c.in_ok-round.ensures.linked
+
+pub returns-in-Quiet-clause-idle : goal.returns-in-Quiet-clause-idle
+returns-in-Quiet-clause-idle g c =
+    ok_more c.end_lines.result _ _
+    (λ moved same is are.
+    subst (λ (scripts : List Script). AreOverTo (length scripts) scripts → AreIdleTo (length scripts) c.round.new.pairs scripts) (sym (same is))
+    (c.in_ok-round.ensures.idle c.in-Quiet.is are))
+    c.end_lines.ensures.quiet

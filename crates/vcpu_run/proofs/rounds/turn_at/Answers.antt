@@ -1,4 +1,7 @@
-use Rattle.std.proofs.Common.{vec_len}
+use Rattle.vcpu_run.proofs.Resting.{ok_more}
+use Rattle.vcpu_run.proofs.Idling.{rests_clients, rests_servers}
+use Rattle.std.proofs.lemmas.Option.{slice_get-get_or}
+use Rattle.std.proofs.Common.{vec_len, ◌∙◌, slice_index_or, sym}
 use Rattle.vcpu_run.proofs.Crediting.{on_ok}
 use Rattle.vcpu_run.proofs.Elsewhere.{credits_served}
 use Rattle.vcpu_run.proofs.Keeping.{drivers_of}
@@ -33,3 +36,24 @@ returns-else-is_of_servers-clause-machine g c =
 
 pub returns-else-is_of_servers-clause-answered : goal.returns-else-is_of_servers-clause-answered
 returns-else-is_of_servers-clause-answered g c = c.run_script.ensures.answered c.args.server.now.records.history.items c.requires.answered
+
+pub returns-then-is_of_servers-clause-idle : goal.returns-then-is_of_servers-clause-idle
+returns-then-is_of_servers-clause-idle g c =
+    let scripts = c.args.scripts.now in
+    let d = c.index-scripts-number.result in
+    ok_more c.serve.result _ _
+    (λ moved wait is are over. rests_servers scripts c.args.number (slice_index_or scripts c.args.number d) c.args.pairs.now c.serve.new.pairs
+    (slice_get-get_or scripts c.args.number d c.requires.there) (sym c.is_of_servers.ensures ∙ c.if-is_of_servers.true) (wait is are))
+    c.serve.ensures.wait
+
+pub returns-else-is_of_servers-clause-linked : goal.returns-else-is_of_servers-clause-linked
+returns-else-is_of_servers-clause-linked g c = on_ok c.run_script.result _ (c.run_script.ensures.linked c.args.server.now.units.items)
+
+pub returns-else-is_of_servers-clause-idle : goal.returns-else-is_of_servers-clause-idle
+returns-else-is_of_servers-clause-idle g c =
+    let scripts = c.args.scripts.now in
+    let d = c.index-scripts-number.result in
+    ok_more c.run_script.result _ _
+    (λ moved rests is are over. rests_clients scripts c.run_script.new.scripts c.args.number (slice_index_or scripts c.args.number d) c.args.pairs.now c.run_script.new.pairs
+    c.run_script.ensures.run (slice_get-get_or scripts c.args.number d c.requires.there) (sym c.is_of_servers.ensures ∙ c.if-is_of_servers.false) (rests is over))
+    c.run_script.ensures.idle

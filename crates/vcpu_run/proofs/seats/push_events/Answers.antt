@@ -15,6 +15,7 @@ loop-k-preserved c = record {
   driven = driven_on c.args.pairs.now c.loop-k.pairs c.push_event_at.new.pairs c.loop-k.invariant.driven c.push_event_at.ensures.driven;
   drivers = (λ k. c.push_event_at.ensures.drivers k ∙ c.loop-k.invariant.drivers k);
   clients = still_clients c.args.seats.now c.loop-k.pairs c.push_event_at.new.pairs c.push_event_at.ensures.driven c.loop-k.invariant.clients;
+  still = λ is. c.in_ok-here.ensures.quiet (c.either-moved.ensures.other is) ∙ c.loop-k.invariant.still (c.either-moved.ensures.one is);
 }
 
 pub returns-in_err-here-clause-drivers : goal.returns-in_err-here-clause-drivers

@@ -1,3 +1,6 @@
+use Rattle.std.proofs.Common.{◌≡◌}
+use Rattle.vio_num.specs.declared.hypervisor.Moved.TheVariants.{Quiet}
+use Rattle.vcpu_run.specs.Links.{links_of}
 use Rattle.vcpu_run.specs.Agreed.{SameDrivers}
 use Rattle.vcpu_run.specs.Pairs.{AreDriven}
 use Rattle.vcpu_run.specs.Works.{HaveClients}
@@ -8,4 +11,5 @@ invariant-loop-k l = record {
   driven : AreDriven l.initial.pairs l.pairs;
   drivers : SameDrivers l.initial.pairs l.pairs;
   clients : HaveClients l.seats l.pairs;
+  still : l.moved ≡ Quiet → links_of l.pairs ≡ links_of l.initial.pairs;
 }

@@ -1,4 +1,7 @@
-use Rattle.std.proofs.Common.{◌∷◌, [], Some, ap}
+use Rattle.vcpu_run.specs.declared.unit_seat.Seat.TheVariants as sits
+use Rattle.vcpu_run.specs.Links.{ClientWaits, links_of}
+use Rattle.vcpu_run.proofs.Resting.{ok_more}
+use Rattle.std.proofs.Common.{◌∷◌, [], Some, ap, subst, IsSomeAnd, slice_get, ℕ, sym, ◌∙◌, ◌≡◌}
 use Rattle.vcpu_run.proofs.Driving.{driven_same, seat_within}
 use Rattle.vcpu_run.proofs.Elsewhere.{else_none, else_one}
 use Rattle.vcpu_run.proofs.seats.take_rest_at.Goals as goal
@@ -12,3 +15,12 @@ take_rest_of-requires-clause-client c = c.requires.client c.in-Client.pair c.in-
 pub returns-in-Client-clause-others : goal.returns-in-Client-clause-others
 returns-in-Client-clause-others c =
     else_one (c.args.seat ∷ []) 0 c.in-Client.pair c.args.pairs.now c.take_rest_of.new.pairs (ap Some c.in-Client.is) c.take_rest_of.ensures.others
+
+pub returns-in-Client-clause-waits : goal.returns-in-Client-clause-waits
+returns-in-Client-clause-waits c =
+    ok_more c.take_rest_of.result _ _
+    (λ moved wait is k at. subst (λ (n : ℕ). IsSomeAnd (slice_get (links_of c.take_rest_of.new.pairs) n) ClientWaits) (client_here c.in-Client.pair k (sym c.in-Client.is ∙ at)) (wait is))
+    c.take_rest_of.ensures.waits
+  where
+    client_here : (j k : ℕ) → sits.Client j ≡ sits.Client k → j ≡ k
+    client_here j k e = cc

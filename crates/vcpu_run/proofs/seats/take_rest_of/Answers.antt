@@ -1,3 +1,5 @@
+use Rattle.vcpu_run.specs.Links.{ClientWaits}
+use Rattle.vcpu_run.proofs.Resting.{links_set, ok_more, waits_set}
 use Rattle.std.proofs.lemmas.Option.{slice_get-get_or}
 use Rattle.vcpu_run.proofs.Agreeing.{set_others}
 use Rattle.vcpu_run.proofs.Driving.{driven_set, some_there}
@@ -7,7 +9,19 @@ pub take_rest-requires : goal.take_rest-requires
 take_rest-requires c = some_there _ _ _ (slice_get-get_or c.args.pairs.now c.args.pair _ c.requires.there) c.requires.client
 
 pub returns-clause-driven : goal.returns-clause-driven
-returns-clause-driven c = driven_set c.args.pairs.now c.args.pair _ c.take_rest.new.pair (slice_get-get_or c.args.pairs.now c.args.pair _ c.requires.there) c.take_rest.ensures
+returns-clause-driven c = driven_set c.args.pairs.now c.args.pair _ c.take_rest.new.pair (slice_get-get_or c.args.pairs.now c.args.pair _ c.requires.there) c.take_rest.ensures.drives
 
 pub returns-clause-others : goal.returns-clause-others
 returns-clause-others c = set_others c.args.pairs.now c.args.pair c.take_rest.new.pair
+
+pub returns-clause-still : goal.returns-clause-still
+returns-clause-still c =
+    ok_more c.take_rest.result _ _
+    (λ moved rests is. links_set c.args.pairs.now c.args.pair _ c.take_rest.new.pair (slice_get-get_or c.args.pairs.now c.args.pair _ c.requires.there) (rests is).still)
+    c.take_rest.ensures.quiet
+
+pub returns-clause-waits : goal.returns-clause-waits
+returns-clause-waits c =
+    ok_more c.take_rest.result _ _
+    (λ moved rests is. waits_set ClientWaits c.args.pairs.now c.args.pair c.take_rest.new.pair c.requires.there (rests is).wait)
+    c.take_rest.ensures.quiet

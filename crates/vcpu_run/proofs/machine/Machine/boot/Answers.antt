@@ -1,4 +1,5 @@
-use Rattle.std.proofs.Common.{◌≡◌, ◌≤◌, List, length, vec_len, sym, ◌∙◌, ap, subst, arith, rules}
+use Rattle.vcpu_run.proofs.Waiting.{linked_closed}
+use Rattle.std.proofs.Common.{◌≡◌, ◌≤◌, List, [], length, vec_len, sym, ◌∙◌, ap, subst, arith, rules}
 use Rattle.rdma_copy.specs.declared.copy.CopyRecord.{CopyRecord}
 use Rattle.boot_text.specs.declared.plan.TheConstants.{MOST_PARTITIONS}
 use Rattle.lan_script.specs.declared.seat.PortSeat.{PortSeat}
@@ -6,6 +7,7 @@ use Rattle.vcpu_run.specs.Machines.{ArePlanned, AreScripts, home_of}
 use Rattle.vcpu_run.specs.Making.{AreMade}
 use Rattle.vcpu_run.specs.Pairs.{ArePairs}
 use Rattle.vcpu_run.specs.Ports.{ports_of}
+use Rattle.vcpu_run.proofs.Apart.{pairs_apart}
 use Rattle.vcpu_run.proofs.Booted.{few_pairs, scripts_made, scripts_of_plan}
 use Rattle.vcpu_run.proofs.Elsewhere.{credits_made}
 use Rattle.vcpu_run.proofs.Homes.{home_within}
@@ -53,6 +55,7 @@ returns-clause-machine g c =
         few = few_pairs partitions pairs.items sound planned;
         pairs_are = subst (λ home. ArePairs home server.server.copies.items pairs.items) (sym server.ensures.partition)
             (subst (λ (copies : List CopyRecord). ArePairs c.home_of-home.result copies pairs.items) (sym server.ensures.copies) c.in-Ok.ensures.pairs);
+        apart = pairs_apart partitions c.home_of-home.result [] pairs.items sound planned c.in-Ok.ensures.pairs;
       };
       scripts_are = subst (λ (seats : List PortSeat). AreScripts pairs.items seats scripts.items) (sym ports) (scripts_made partitions pairs.items scripts.items sound planned made);
     }
@@ -66,6 +69,7 @@ returns-clause-of_plan g c =
       pairs_are = rw (← c.as_slice-partitions.ensures) c.in-Ok.ensures.planned;
       scripts_are = scripts_of_plan partitions scripts.items made;
       ports_are = rw (← c.as_slice-partitions.ensures) c.in-Ok-open_lan.ensures;
+      sound = c.requires.sound.partitions;
     }
 
 pub returns-clause-credited : goal.returns-clause-credited
@@ -78,3 +82,6 @@ returns-clause-credited g c =
 
 pub returns-clause-none : goal.returns-clause-none
 returns-clause-none g c = c.in_ok-server.ensures.history
+
+pub returns-clause-linked : goal.returns-clause-linked
+returns-clause-linked g c = linked_closed c.in_ok-server.server.units.items c.in-Ok.pairs.items c.in_ok-server.ensures.down c.in-Ok.ensures.closed

@@ -1,3 +1,4 @@
+use Rattle.vcpu_run.specs.Links.{AreIdle, AreLinked}
 use Rattle.std.proofs.Common.{rules, ◌≡◌, ◌++◌, All, List, refl, length, take, drop, ◌∙◌, ap, subst, sym}
 use Rattle.std.proofs.lemmas.Option.{IfSome_then}
 use Rattle.vcpu_run.specs.declared.pair.Pair.{Pair}
@@ -8,7 +9,7 @@ use Rattle.vcpu_run.specs.Answered.{AreAnswered}
 use Rattle.vcpu_run.specs.Lines.{IsOver}
 use Rattle.vcpu_run.specs.Machines.{AllRun, AllStay, AreScripts}
 use Rattle.vcpu_run.specs.Pairs.{AreOfOneHome}
-use Rattle.vcpu_run.proofs.Disks.{disk_told, tells_told}
+use Rattle.vcpu_run.proofs.Disks.{disk_told, lasts_somehow, tells_told}
 use Rattle.vcpu_run.proofs.Elsewhere.{ok_then}
 use Rattle.vcpu_run.proofs.Lasting.{lent, plan_lasts}
 use Rattle.vcpu_run.proofs.machine.Machine.settle.Goals as goal
@@ -21,7 +22,7 @@ trace_of-trace-requires-clause-pairs g c =
     let pairs : take old.len (new ++ drop (length new) old.items) ≡ new =
     lent old.len old.items new size (c.run-run.ensures.stay.count ∙ ap length c.deref_mut.ensures.value) in
     let here : AreOfOneHome c.finish-image.result.copies.items new =
-    record { home = c.run-run.new.server.partition; pairs_are = rw c.finish-image.ensures.copies c.run-run.ensures.machine.serving.pairs_are } in
+    record { home = c.run-run.new.server.partition; pairs_are = rw c.finish-image.ensures.copies c.run-run.ensures.machine.serving.pairs_are; apart = c.run-run.ensures.machine.serving.apart } in
     subst (λ (list : List Pair). AreOfOneHome c.finish-image.result.copies.items list) (sym pairs) here
 
 pub trace_of-trace-requires-clause-scripts : goal.trace_of-trace-requires-clause-scripts
@@ -95,6 +96,12 @@ returns-clause-tells g c =
     tells_told (g.Di.Blocks.state c.args.self.server.disk.image).blocks (g.Di.Blocks.state c.run-run.new.server.disk.image).blocks (g.Di.Blocks.state c.finish-image.result.image).blocks
     (ap (λ image. (g.Di.Blocks.state image).blocks) c.finish-image.ensures.image) c.run-run.ensures.disk.tells
 
+pub returns-clause-lasts : goal.returns-clause-lasts
+returns-clause-lasts g c =
+    lasts_somehow c.args.self.server.records.history.items c.run-run.new.server.records.history.items
+    (g.Di.Blocks.state c.args.self.server.disk.image).blocks (g.Di.Blocks.state c.run-run.new.server.disk.image).blocks (g.Di.Blocks.state c.finish-image.result.image).blocks
+    (ap (λ image. (g.Di.Blocks.state image).blocks) c.finish-image.ensures.image) c.run-run.ensures.disk
+
 pub returns-clause-law : goal.returns-clause-law
 returns-clause-law g c =
     let old = c.args.self.pairs in
@@ -111,3 +118,23 @@ returns-clause-law g c =
     IfSome_then c.trace_of-trace.result c.trace_of-trace.ensures.law
     (λ trace keeps partitions of_plan.
     keeps partitions (rw (pairs, scripts) (plan_lasts partitions old.items new old_scripts.items new_scripts c.args.self.lan.seats c.run-run.new.lan.seats stay run c.run-run.ensures.lan of_plan)))
+
+pub trace_of-trace-requires-clause-idle : goal.trace_of-trace-requires-clause-idle
+trace_of-trace-requires-clause-idle g c =
+    let old = c.args.self.pairs in
+    let new = c.run-run.new.pairs in
+    let old_scripts = c.args.self.scripts in
+    let new_scripts = c.run-run.new.scripts in
+    let size : old.len ≡ length old.items = search rules in
+    let size_scripts : old_scripts.len ≡ length old_scripts.items = search rules in
+    let pairs : take old.len (new ++ drop (length new) old.items) ≡ new =
+    lent old.len old.items new size (c.run-run.ensures.stay.count ∙ ap length c.deref_mut.ensures.value) in
+    let scripts : take old_scripts.len (new_scripts ++ drop (length new_scripts) old_scripts.items) ≡ new_scripts =
+    lent old_scripts.len old_scripts.items new_scripts size_scripts (c.run-run.ensures.run.count ∙ ap length c.deref_mut-2.ensures.value) in
+    let units = c.args.self.server.units.items in
+    let before : AreLinked units c.deref_mut.result.now = subst (AreLinked units) (sym c.deref_mut.ensures.value) c.requires.linked in
+    ok_then c.run-run.result (AreLinked units c.deref_mut.result.now → AreIdle new new_scripts) _
+    (λ idle.
+    subst (λ (list : List Pair). AreIdle list (take old_scripts.len (new_scripts ++ drop (length new_scripts) old_scripts.items))) (sym pairs)
+    (subst (λ (list : List Script). AreIdle new list) (sym scripts) (idle before)))
+    c.run-run.ensures.idle

@@ -1,16 +1,17 @@
-use Rattle.std.proofs.Common.{◌≡◌, ◌*◌, None, ap, arith}
+use Rattle.std.proofs.Common.{◌≡◌, ◌+◌, ◌*◌, None, ap, arith}
 use Rattle.vio_num.specs.declared.names.UnitId.{UnitId}
+use Rattle.tce_window.specs.Window.{WindowValue}
 use Rattle.vcpu_run.proofs.Answering.{answered_new}
 use Rattle.vcpu_run.proofs.Opened.{pair_new}
 use Rattle.vcpu_run.proofs.pair.Pair.alone.Goals as goal
 
 pub returns-clause-pair : goal.returns-clause-pair
 returns-clause-pair c =
-    let absent : UnitId = record { partition = c.args.server.partition; unit = 255 } in
+    let absent : UnitId = record { partition = c.args.server.partition; unit = 128 + c.args.server.unit } in
     pair_new c.args.server 1 (256 * c.args.queue) (256 * 1) absent c.in_ok-open_link.field-0 c.in_ok-open.field-0 c.in_ok-open-2.field-0 None
     c.in_ok-open.ensures c.in_ok-open-2.ensures
-    (λ same. let e : 255 ≡ c.args.server.unit = ap (λ (id : UnitId). id.unit) same in absurd (omega (arith, e, c.requires.unit)))
-    c.in_ok-open_link.ensures tt
+    (λ same. let e : 128 + c.args.server.unit ≡ c.args.server.unit = ap (λ (id : UnitId). id.unit) same in absurd (omega (arith, e)))
+    c.in_ok-open_link.ensures tt (ap (λ (window : WindowValue). window.unit) c.in_ok-open-2.ensures)
 
 pub returns-clause-answered : goal.returns-clause-answered
 returns-clause-answered c = answered_new _ (256 * c.args.queue) (256 * 1) c.in_ok-open_link.ensures

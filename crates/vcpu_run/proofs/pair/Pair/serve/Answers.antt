@@ -1,13 +1,21 @@
-use Rattle.std.proofs.Common.{rules, ◌≡◌, Bool, List, false, true, refl, sym, ◌∙◌, ap, subst}
+use Rattle.vio_num.specs.declared.hypervisor.Moved.TheVariants.{Quiet}
+use Rattle.vcpu_run.specs.Links.{IsLinked, ServerWaits, link_state}
+use Rattle.vcpu_run.proofs.Waiting.{agrees_like, agrees_other, serve_waits}
+use Rattle.vcpu_run.proofs.Resting.{ok_more, ok_both}
+use Rattle.vcpu_run.proofs.Crediting.{on_ok}
+use Rattle.std.proofs.Common.{rules, ◌≡◌, Bool, List, false, true, refl, sym, ◌∙◌, ap, subst, IfNone, ◌<◌, IfOk, OnOk, arith, length}
 use Rattle.vio_num.specs.declared.names.UnitId.{UnitId}
 use Rattle.crq_session.specs.EndState.{EndPlace}
 use Rattle.crq_session.specs.declared.link.PlainLink.{PlainLink}
-use Rattle.crq_session.specs.PlainState.{partner_of, side_of}
+use Rattle.crq_session.specs.PlainState.{partner_of, side_of, end_of}
 use Rattle.crq_ring.specs.declared.rows.PipeRow.{PipeRow}
 use Rattle.block_server.specs.Answering.{AnswersMore, OnlyRowsOf}
 use Rattle.vcpu_run.specs.declared.pair.Pair.{Pair}
 use Rattle.vcpu_run.specs.Answered.{AreBegun, IsAnswered}
+use Rattle.tce_window.specs.PortState.{PortPlace}
+use Rattle.vcpu_run.specs.Named.{HasWindow}
 use Rattle.vcpu_run.specs.Pairs.{IsPair}
+use Rattle.vcpu_run.proofs.PairNames.{copies_beside, has_stays, names_beside}
 use Rattle.vcpu_run.proofs.Answering.{answered_elsewhere, answered_served}
 use Rattle.vcpu_run.proofs.Keeping.{served}
 use Rattle.vcpu_run.proofs.pair.Pair.serve.Goals as goal
@@ -24,7 +32,25 @@ returns-clause-pair g c =
     (served c.args.server.now.partition c.args.unit c.args.server.now.copies.items c.turn.new.self.copies.items old new refl refl goes.own_place goes.client_place
     goes.own_grows goes.client_grows c.turn.ensures.ready
     (λ event kept. c.turn.ensures.event event (ap (λ (b : Bool). (side_of link b).kept) first ∙ kept))
-    c.turn.ensures.copies c.requires.pair)
+    c.turn.ensures.copies c.turn.ensures.own_named (c.turn.ensures.named refl) c.requires.pair)
+
+pub returns-clause-others : goal.returns-clause-others
+returns-clause-others g c = λ k other distinct apart is.
+    let old = c.args.self.now in
+    let new : Pair = record { server = old.server; link = old.link; own = c.turn.new.own; window = c.turn.new.client; driver = old.driver } in
+    let own : new.own.unit ≡ old.own.unit = ap (λ (place : PortPlace). place.unit) c.turn.ensures.goes.own_place in
+    let window : new.window.unit ≡ old.window.unit = ap (λ (place : PortPlace). place.unit) c.turn.ensures.goes.client_place in
+    let apart_now : (unit : UnitId) → HasWindow unit new → HasWindow unit other → ⊥ = λ unit has. apart unit (has_stays unit old new own window has) in
+    record {
+      server = is.server;
+      own_unit = is.own_unit;
+      ready = is.ready;
+      event = is.event;
+      copies = copies_beside new other c.args.server.now.copies.items c.turn.new.self.copies.items apart_now is.own_unit c.turn.ensures.copies is.copies;
+      driver = is.driver;
+      names = names_beside new other c.args.server.now.copies.items c.turn.new.self.copies.items apart_now c.turn.ensures.copies is.names;
+      absent = is.absent;
+    }
 
 pub returns-clause-answered : goal.returns-clause-answered
 returns-clause-answered g c =
@@ -53,3 +79,47 @@ returns-clause-elsewhere g c = λ k other apart server.
 
 pub returns-clause-disk : goal.returns-clause-disk
 returns-clause-disk g c = record { serves = c.turn.ensures.disk; tells = c.turn.ensures.tells }
+
+pub returns-clause-linked_else : goal.returns-clause-linked_else
+returns-clause-linked_else g c = λ k other apart is.
+    record { agrees = agrees_other _ _ k _ (c.turn.ensures.others_stay k apart) is.agrees; shut = is.shut }
+
+pub returns-clause-linked : goal.returns-clause-linked
+returns-clause-linked g c =
+    let old = c.args.self.now in
+    let link = c.turn.new.crq.end.link.now in
+    let units = c.turn.new.self.units.items in
+    let unit = c.args.unit in
+    let first : c.turn.new.crq.end.first ≡ true = ap (λ (place : EndPlace). place.first) c.turn.ensures.goes.queue_place ∙ c.side.ensures.first in
+    let before : (side_of c.side.result.link.now c.side.result.first).registered ≡ (side_of old.link true).registered =
+    ap (λ (b : Bool). (side_of c.side.result.link.now b).registered) c.side.ensures.first ∙ ap (λ (l : PlainLink). (side_of l true).registered) c.side.ensures.link in
+    let after : (side_of link true).registered ≡ (side_of link c.turn.new.crq.end.first).registered = ap (λ (b : Bool). (side_of link b).registered) (sym first) in
+    let client : (side_of link false).registered ≡ (side_of old.link false).registered =
+    ap (λ (b : Bool). (partner_of link b).registered) (sym first)
+    ∙ (ap (λ (place : EndPlace). place.partner_registered) c.turn.ensures.goes.queue_place
+    ∙ (ap (λ (b : Bool). (partner_of c.side.result.link.now b).registered) c.side.ensures.first ∙ ap (λ (l : PlainLink). (partner_of l true).registered) c.side.ensures.link)) in
+    let link_is : link ≡ c.self-1.given.0 = search rules in
+    subst (λ (l : PlainLink). OnOk c.turn.result (IsLinked c.args.server.now.units.items unit old
+    → IsLinked units unit (record { server = old.server; link = l; own = c.turn.new.own; window = c.turn.new.client; driver = old.driver }))) link_is
+    (on_ok c.turn.result _
+    (λ is. record {
+      agrees = agrees_like units unit _ _ after (c.turn.ensures.agrees (agrees_like c.args.server.now.units.items unit _ _ before is.agrees));
+      shut = subst (λ (b : Bool). IfNone old.driver (b ≡ false)) (sym client) is.shut;
+    }))
+
+pub returns-clause-quiet : goal.returns-clause-quiet
+returns-clause-quiet g c =
+    let old = c.args.self.now in
+    let link = c.turn.new.crq.end.link.now in
+    let units = c.turn.new.self.units.items in
+    let unit = c.args.unit in
+    let before : (side_of c.side.result.link.now c.side.result.first).registered ≡ (side_of old.link true).registered =
+    ap (λ (b : Bool). (side_of c.side.result.link.now b).registered) c.side.ensures.first ∙ ap (λ (l : PlainLink). (side_of l true).registered) c.side.ensures.link in
+    let link_is : link ≡ c.self-1.given.0 = search rules in
+    let less : unit < length units = omega (arith, c.requires.unit, c.turn.ensures.units) in
+    subst (λ (l : PlainLink). IfOk c.turn.result (λ moved. moved ≡ Quiet → IsLinked c.args.server.now.units.items unit old → ServerWaits (link_state l))) link_is
+    (ok_both c.turn.result _ _ _
+    (λ moved still waits is linked.
+    serve_waits c.side.result.first c.turn.new.crq.end.first _ _ c.side.result.link.now link _ _ _ _ units unit c.side.ensures.first c.turn.ensures.goes.queue_place less (still is)
+    (waits is (agrees_like c.args.server.now.units.items unit _ _ before linked.agrees)))
+    c.turn.ensures.quiet c.turn.ensures.waits)

@@ -11,7 +11,7 @@ returns-clause-pair c =
     pair_new c.args.server seat.pages (256 * c.args.queue) (256 * seat.queue) seat.unit c.in_ok-open_link.field-0 c.in_ok-open.field-0 c.in_ok-open-2.field-0 (Some driver.field-0)
     c.in_ok-open.ensures c.in_ok-open-2.ensures c.requires.seat.apart c.in_ok-open_link.ensures
     (driver_new seat.unit c.args.server seat.pages c.in_ok-open-2.field-0 driver.field-0 c.in_ok-open-2.ensures driver.ensures.unit driver.ensures.client
-    (omega (arith, c.requires.seat.pages)) (omega (arith, c.requires.seat.pages)))
+    (omega (arith, c.requires.seat.pages)) (omega (arith, c.requires.seat.pages))) tt
 
 pub returns-clause-out : goal.returns-clause-out
 returns-clause-out c = ap (λ (s : ClientState). s.granted) c.in_ok-open-3.ensures.client

@@ -1,3 +1,5 @@
+use Rattle.vcpu_run.specs.Links.{SeatsRest}
+use Rattle.vcpu_run.proofs.Resting.{ok_more}
 use Rattle.std.proofs.Common.{◌∙◌, ◌≤◌, List, ap, length, is_some, subst, sym}
 use Rattle.vcpu_run.specs.declared.unit_seat.Seat.{Seat}
 use Rattle.vcpu_run.specs.Agreed.{SameElse}
@@ -25,3 +27,12 @@ returns-in-None-clause-credited c =
 
 pub returns-in-None-clause-others : goal.returns-in-None-clause-others
 returns-in-None-clause-others c = subst (λ (seats : List Seat). SameElse seats c.args.pairs.now c.take_rest.new.pairs) c.deref.ensures.value c.take_rest.ensures.others
+
+pub returns-in-None-clause-quiet : goal.returns-in-None-clause-quiet
+returns-in-None-clause-quiet c =
+    ok_more c.take_rest.result _ _
+    (λ moved rests is over. subst (λ (seats : List Seat). SeatsRest seats c.args.pairs.now c.take_rest.new.pairs) c.deref.ensures.value (rests is))
+    c.take_rest.ensures.quiet
+
+pub returns-in-Some-clause-quiet : goal.returns-in-Some-clause-quiet
+returns-in-Some-clause-quiet c = ok_more c.step.result _ _ (λ moved left is over. absurd (left is over)) c.step.ensures.quiet

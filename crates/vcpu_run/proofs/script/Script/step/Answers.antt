@@ -1,4 +1,5 @@
-use Rattle.std.proofs.Common.{rules, ◌≡◌, ◌∙◌, Ok, length, refl, slice_get, subst}
+use Rattle.vcpu_run.proofs.Resting.{not_quiet}
+use Rattle.std.proofs.Common.{rules, ◌≡◌, ◌∙◌, Ok, length, refl, slice_get, subst, arith}
 use Rattle.std.proofs.lemmas.Option.{slice_get_within}
 use Rattle.unit_region.specs.declared.step.Step.{Step}
 use Rattle.vcpu_run.specs.Agreed.{StepsLine}
@@ -36,6 +37,7 @@ returns-in_err-step c =
           (rw (← c.deref.ensures.value) c.step_unit.ensures.credit);
       lan = c.step_unit.ensures.lan;
       credited = search rules;
+      quiet = search rules;
     }
 
 pub returns-in_err-end-in-Ends : goal.returns-in_err-end-in-Ends
@@ -50,6 +52,7 @@ returns-in_err-end-in-Ends c =
           (rw (← c.deref.ensures.value) c.step_unit.ensures.credit);
       lan = c.step_unit.ensures.lan;
       credited = search rules;
+      quiet = search rules;
     }
 
 pub returns-in_ok-end-in-Ends : goal.returns-in_ok-end-in-Ends
@@ -71,6 +74,7 @@ returns-in_ok-end-in-Ends c =
           (subst (λ (st : Step). StepsLine c.args.self.now.seats.items c.args.line.now (taken_in c.args.self.now.progress) (taken_in c.step_unit.new.progress) c.args.pairs.now c.step_unit.new.pairs (Ok st)) c.in-Ends.is
           (rw (← c.deref.ensures.value) c.in_ok-step.ensures.credit))
           c.end.ensures.rest.lines c.end.ensures.rest.seats c.in_ok-end-in-Ends.ensures.ended.logs c.in_ok-end-in-Ends.ensures.ended.none is;
+      quiet = λ is. absurd (not_quiet is);
     }
 
 pub returns-in-Waits : goal.returns-in-Waits
@@ -89,4 +93,5 @@ returns-in-Waits c =
           c.requires.line line.suited c.requires.script.seats
           (subst (λ (st : Step). StepsLine c.args.self.now.seats.items c.args.line.now (taken_in c.args.self.now.progress) (taken_in c.step_unit.new.progress) c.args.pairs.now c.step_unit.new.pairs (Ok st)) c.in-Waits.is
           (rw (← c.deref.ensures.value) c.in_ok-step.ensures.credit)) is;
+      quiet = λ is over. let less = slice_get_within c.args.self.now.lines.now c.args.self.now.at c.args.line.now c.requires.line in omega (arith, less, over);
     }

@@ -1,4 +1,5 @@
-use Rattle.std.proofs.Common.{◌≡◌, ◌+◌, ◌∙◌, ap, cond, length, refl, sym}
+use Rattle.vcpu_run.proofs.Resting.{not_quiet}
+use Rattle.std.proofs.Common.{◌≡◌, ◌+◌, ◌∙◌, ap, cond, length, refl, sym, arith}
 use Rattle.std.proofs.lemmas.Option.{slice_get_within}
 use Rattle.vcpu_run.proofs.Crediting.{credited_all, credited_fails}
 use Rattle.vcpu_run.proofs.Driving.{clients_of}
@@ -52,3 +53,11 @@ returns-then-branch-clause-others c = else_all c.args.self.now.seats.items c.arg
 
 pub returns-clause-others : goal.returns-clause-others
 returns-clause-others c = else_all c.args.self.now.seats.items c.args.pairs.now c.fail.new.pairs c.fail.ensures.credit
+
+pub returns-then-branch-clause-quiet : goal.returns-then-branch-clause-quiet
+returns-then-branch-clause-quiet c = λ is. absurd (not_quiet is)
+
+pub returns-clause-quiet : goal.returns-clause-quiet
+returns-clause-quiet c = λ is over.
+    let less = slice_get_within c.args.self.now.lines.now c.args.self.now.at c.args.line.now c.requires.line in
+    omega (arith, less, over)

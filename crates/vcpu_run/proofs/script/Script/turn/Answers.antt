@@ -1,3 +1,4 @@
+use Rattle.std.proofs.Common.{◌∙◌}
 use Rattle.vcpu_run.proofs.Driving.{clients_of, driven_on, still_drivers}
 use Rattle.vcpu_run.proofs.Elsewhere.{else_drivers, else_on}
 use Rattle.vcpu_run.proofs.Logging.{script_stays}
@@ -33,3 +34,8 @@ pub returns-clause-others : goal.returns-clause-others
 returns-clause-others c =
     else_on c.args.self.now.seats.items c.args.pairs.now c.push_events.new.pairs c.go_on.new.pairs
     (else_drivers c.args.self.now.seats.items c.args.pairs.now c.push_events.new.pairs c.push_events.ensures.drivers) c.go_on.ensures.others
+
+pub returns-clause-quiet : goal.returns-clause-quiet
+returns-clause-quiet c = λ is over.
+    let rest = c.in_ok-moved.ensures.quiet (c.either.ensures.other is) over in
+    record { still = rest.still ∙ c.in_ok-pushed.ensures.quiet (c.either.ensures.one is); wait = rest.wait }

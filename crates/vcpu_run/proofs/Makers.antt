@@ -1,0 +1,200 @@
+-- The copies of a gathered trace name each stroke that another unit laid in a server unit's or a client's region, and none twice.
+use Rattle.std.proofs.Common.{◌≡◌, ◌≢◌, ◌∙◌, ◌⊎◌, inl, inr, ℕ, suc, ◌<◌, ◌||◌, Bool, true, false, cond, List, [], ◌∷◌, ◌++◌, Some, filter, map, slice_get, refl, sym, ap, ap₂, subst, arith, append-nil}
+use Rattle.std.proofs.lemmas.Grind.{flat_map-append}
+use Rattle.std.specs.List.{flat_map}
+use Rattle.vio_num.specs.declared.names.UnitId.{UnitId}
+use Rattle.tce_window.specs.PlainPort.{known_of}
+use Rattle.tce_window.specs.declared.piece.Piece.{Piece}
+use Rattle.rdma_copy.specs.declared.copy.CopyRecord.{CopyRecord}
+use Rattle.block_server.specs.Makers.{is_piece_on, named_on, places_in, Rises}
+use Rattle.vio_trace.specs.declared.window_rows.CopyRow.{CopyRow}
+use Rattle.vcpu_run.specs.declared.pair.Pair.{Pair}
+use Rattle.vcpu_run.specs.CopyRows.{copies_by, copy_row, piece_row, same_unit}
+use Rattle.vcpu_run.specs.Gathered.{copies_of}
+use Rattle.vcpu_run.specs.Named.{HasNames, HasWindow}
+use Rattle.vcpu_run.specs.Pairs.{AreOfOneHome, IsCopyOf}
+use Rattle.vcpu_run.specs.StrokeMakers.{places_shown}
+use Rattle.vcpu_run.proofs.Following.{each_from_all}
+use Rattle.vcpu_run.proofs.Naming.{copy_none, one_unit}
+use Rattle.vcpu_run.proofs.PairNames.{IsBy}
+use Rattle.vcpu_run.proofs.Order.{Each, Ordered, each_weaker}
+use Rattle.vcpu_run.proofs.Parts.{IsIn, each_in}
+use Rattle.vcpu_run.proofs.Sole.{same_refl}
+
+-- a piece's row names what the piece does
+shown_places : (unit : UnitId) (page : ℕ) (pieces : List Piece) → places_shown unit page (map piece_row pieces) ≡ places_in unit page pieces
+shown_places unit page [] = refl
+shown_places unit page (piece ∷ pieces) =
+    ap (λ rest. cond (is_piece_on unit page piece) (piece.at ∷ rest) rest) (shown_places unit page pieces)
+
+-- the places that rows of copies name
+abbrev pub places_of : UnitId → (page : ℕ) → CopyRow → List ℕ
+places_of unit page row = places_shown unit page row.to
+
+not_same : (a b : UnitId) → same_unit a b ≡ false → a ≢ b
+not_same a b other e = not_both (same_unit a b) (subst (λ u. same_unit a u ≡ true) e (same_refl a)) other
+  where
+    not_both : (b : Bool) → b ≡ true → b ≡ false → ⊥
+    not_both b is other = cc
+
+-- where only a server's copies name any, its rows name them all
+rows_name : (server unit : UnitId) (page : ℕ) (copies : List CopyRecord) → Each (λ copy. copy.name.who ≢ server → places_in unit page copy.to.items ≡ []) copies
+    → flat_map (places_of unit page) (copies_by server copies) ≡ named_on unit page copies
+rows_name server unit page [] none = refl
+rows_name server unit page (copy ∷ copies) none = at (same_unit copy.name.who server) refl (rows_name server unit page copies none.1)
+  where
+    at : (b : Bool) → same_unit copy.name.who server ≡ b → flat_map (places_of unit page) (copies_by server copies) ≡ named_on unit page copies
+        → flat_map (places_of unit page) (map copy_row (cond b (copy ∷ filter (λ c. same_unit c.name.who server) copies) (filter (λ c. same_unit c.name.who server) copies)))
+        ≡ places_in unit page copy.to.items ++ named_on unit page copies
+    at true is rest = ap₂ (λ xs ys. xs ++ ys) (shown_places unit page copy.to.items) rest
+    at false is rest = rest ∙ ap (λ xs. xs ++ named_on unit page copies) (sym (none.0 (not_same copy.name.who server is)))
+
+-- where its copies name none, its rows name none
+rows_none : (server unit : UnitId) (page : ℕ) (copies : List CopyRecord) → Each (λ copy. copy.name.who ≡ server → places_in unit page copy.to.items ≡ []) copies
+    → flat_map (places_of unit page) (copies_by server copies) ≡ []
+rows_none server unit page [] none = refl
+rows_none server unit page (copy ∷ copies) none = at (same_unit copy.name.who server) refl (rows_none server unit page copies none.1)
+  where
+    at : (b : Bool) → same_unit copy.name.who server ≡ b → flat_map (places_of unit page) (copies_by server copies) ≡ []
+        → flat_map (places_of unit page) (map copy_row (cond b (copy ∷ filter (λ c. same_unit c.name.who server) copies) (filter (λ c. same_unit c.name.who server) copies))) ≡ []
+    at true is rest = ap₂ (λ xs ys. xs ++ ys) (shown_places unit page copy.to.items ∙ none.0 (one_unit copy.name.who server is)) rest
+    at false is rest = rest
+
+flat_flat : {X Y Z : Type 0} (g : Y → List Z) (f : X → List Y) (xs : List X) → flat_map g (flat_map f xs) ≡ flat_map (λ x. flat_map g (f x)) xs
+flat_flat g f [] = refl
+flat_flat g f (x ∷ xs) = flat_map-append g (f x) (flat_map f xs) ∙ ap (λ rest. flat_map g (f x) ++ rest) (flat_flat g f xs)
+
+-- of lists of which at most one is not empty, that one is the whole
+abbrev OneBlock : {X Y : Type 0} → (X → List Y) → (X → Bool) → List X → Type 0
+OneBlock {X} f hits xs = (Each (λ x. hits x ≡ false) xs × (flat_map f xs ≡ [])) ⊎ ((x : X) × IsIn x xs × (hits x ≡ true) × (flat_map f xs ≡ f x))
+
+no_block : {X Y : Type 0} (f : X → List Y) (xs : List X) → Each (λ x. f x ≡ []) xs → flat_map f xs ≡ []
+no_block f [] none = refl
+no_block f (x ∷ xs) none = ap₂ (λ a b. a ++ b) none.0 (no_block f xs none.1)
+
+each_both : {X : Type 0} (P Q R : X → Type 0) → ((x : X) → P x → Q x → R x) → (xs : List X) → Each P xs → Each Q xs → Each R xs
+each_both P Q R step [] p q = tt
+each_both P Q R step (x ∷ xs) p q = (step x p.0 q.0, each_both P Q R step xs p.1 q.1)
+
+one_block : {X Y : Type 0} (f : X → List Y) (hits : X → Bool) (xs : List X) → Each (λ x. hits x ≡ false → f x ≡ []) xs
+    → Ordered (λ a b. hits a ≡ true → hits b ≡ false) xs → OneBlock f hits xs
+one_block f hits [] none apart = inl (tt, refl)
+one_block {X} f hits (x ∷ xs) none apart = at (hits x) refl (one_block f hits xs none.1 apart.1)
+  where
+    at : (b : Bool) → hits x ≡ b → OneBlock f hits xs → OneBlock f hits (x ∷ xs)
+    at true is rest =
+        let behind : Each (λ y. f y ≡ []) xs =
+        each_both (λ y. hits y ≡ false → f y ≡ []) (λ y. hits x ≡ true → hits y ≡ false) (λ y. f y ≡ []) (λ y empty other. empty (other is)) xs none.1 apart.0 in
+        inr (x, inl refl, is, ap (λ others. f x ++ others) (no_block f xs behind) ∙ append-nil (f x))
+    at false is (inl rest) = inl ((is, rest.0), ap₂ (λ a b. a ++ b) (none.0 is) rest.1)
+    at false is (inr rest) = inr (rest.0, inr rest.1, rest.2, ap (λ first. first ++ flat_map f xs) (none.0 is) ∙ rest.3)
+
+pub each_there : {X : Type 0} (P : X → Type 0) (xs : List X) → ((k : ℕ) (x : X) → slice_get xs k ≡ Some x → P x) → Each P xs
+each_there P [] h = tt
+each_there P (x ∷ xs) h = (h 0 x refl, each_there P xs (λ k y e. h (suc k) y e))
+
+ordered_there : {X : Type 0} (R : X → X → Type 0) (xs : List X) → ((j k : ℕ) (a b : X) → j < k → slice_get xs j ≡ Some a → slice_get xs k ≡ Some b → R a b) → Ordered R xs
+ordered_there R [] h = tt
+ordered_there R (x ∷ xs) h = (
+  each_there (R x) xs (λ k b at. h 0 (suc k) x b (omega arith) refl at),
+  ordered_there R xs (λ j k a b less at_j at_k. h (suc j) (suc k) a b (omega (arith, less)) at_j at_k),
+)
+
+-- whether a window of the pair is this unit's
+abbrev pub hits_pair : UnitId → Pair → Bool
+hits_pair unit pair = same_unit pair.own.unit unit || same_unit pair.window.unit unit
+
+has_from : (unit : UnitId) (pair : Pair) → hits_pair unit pair ≡ true → HasWindow unit pair
+has_from unit pair is = at (same_unit pair.own.unit unit) refl is
+  where
+    at : (b : Bool) → same_unit pair.own.unit unit ≡ b → (b || same_unit pair.window.unit unit) ≡ true → HasWindow unit pair
+    at true own is = inl (one_unit pair.own.unit unit own)
+    at false own is = inr (one_unit pair.window.unit unit is)
+
+pub hits_from : (unit : UnitId) (pair : Pair) → HasWindow unit pair → hits_pair unit pair ≡ true
+hits_from unit pair (inl e) = ap (λ b. b || same_unit pair.window.unit unit) (subst (λ u. same_unit pair.own.unit u ≡ true) e (same_refl pair.own.unit))
+hits_from unit pair (inr e) = at (same_unit pair.own.unit unit)
+  where
+    at : (b : Bool) → (b || same_unit pair.window.unit unit) ≡ true
+    at true = refl
+    at false = subst (λ u. same_unit pair.window.unit u ≡ true) e (same_refl pair.window.unit)
+
+miss_own : (a b : Bool) → (a || b) ≡ false → a ≡ false
+miss_own true b e = cc
+miss_own false b e = refl
+
+miss_client : (a b : Bool) → (a || b) ≡ false → b ≡ false
+miss_client true b e = cc
+miss_client false b e = e
+
+-- the rows of copies name what the copies name, if a window of a pair is the unit's, and else nothing
+abbrev pub NamesTold : List CopyRecord → List Pair → UnitId → (page : ℕ) → Type 0
+NamesTold copies pairs unit page =
+    (Each (λ pair. hits_pair unit pair ≡ false) pairs × (flat_map (places_of unit page) (flat_map (copies_of copies) pairs) ≡ []))
+    ⊎ ((pair : Pair) × IsIn pair pairs × (hits_pair unit pair ≡ true) × (flat_map (places_of unit page) (flat_map (copies_of copies) pairs) ≡ named_on unit page copies))
+
+pub names_told : (copies : List CopyRecord) (pairs : List Pair) → AreOfOneHome copies pairs → (unit : UnitId) (page : ℕ) → NamesTold copies pairs unit page
+names_told copies pairs are unit page = by (one_block names (hits_pair unit) pairs misses apart)
+  where
+    names : Pair → List ℕ
+    names pair = flat_map (places_of unit page) (copies_of copies pair)
+
+    whole : flat_map (places_of unit page) (flat_map (copies_of copies) pairs) ≡ flat_map names pairs
+    whole = flat_flat (places_of unit page) (copies_of copies) pairs
+
+    misses : Each (λ pair. hits_pair unit pair ≡ false → names pair ≡ []) pairs
+    misses = each_there (λ pair. hits_pair unit pair ≡ false → names pair ≡ []) pairs
+        (λ k pair e miss. rows_none pair.server unit page copies
+        (each_weaker (IsCopyOf pair) (λ copy. copy.name.who ≡ pair.server → places_in unit page copy.to.items ≡ [])
+        (λ copy own who. copy_none (known_of pair.own) (known_of pair.window) copy unit page (own who)
+        (not_same pair.own.unit unit (miss_own (same_unit pair.own.unit unit) (same_unit pair.window.unit unit) miss))
+        (not_same pair.window.unit unit (miss_client (same_unit pair.own.unit unit) (same_unit pair.window.unit unit) miss)))
+        copies (each_from_all (IsCopyOf pair) copies (are.pairs_are k pair e).copies)))
+
+    either : (b : Bool) → ((b ≡ true) → ⊥) → b ≡ false
+    either true never = absurd (never refl)
+    either false never = refl
+
+    apart : Ordered (λ a b. hits_pair unit a ≡ true → hits_pair unit b ≡ false) pairs
+    apart = ordered_there (λ a b. hits_pair unit a ≡ true → hits_pair unit b ≡ false) pairs
+        (λ j k a b less at_j at_k hit. either (hits_pair unit b)
+        (λ hit'. let same : j ≡ k = are.apart j k a b unit at_j at_k (has_from unit a hit) (has_from unit b hit') in omega (arith, less, same)))
+
+    own : Each (λ pair. hits_pair unit pair ≡ true → names pair ≡ named_on unit page copies) pairs
+    own = each_there (λ pair. hits_pair unit pair ≡ true → names pair ≡ named_on unit page copies) pairs
+        (λ k pair e hit. rows_name pair.server unit page copies
+        (each_weaker (IsBy pair) (λ copy. copy.name.who ≢ pair.server → places_in unit page copy.to.items ≡ [])
+        (λ copy none other. none other unit page (has_from unit pair hit))
+        copies (each_from_all (IsBy pair) copies (are.pairs_are k pair e).names.foreign)))
+
+    by : OneBlock names (hits_pair unit) pairs → NamesTold copies pairs unit page
+    by (inl none) = inl (none.0, whole ∙ none.1)
+    by (inr one) = inr (one.0, one.1, one.2, whole ∙ (one.3 ∙ each_in (λ pair. hits_pair unit pair ≡ true → names pair ≡ named_on unit page copies) one.0 pairs one.1 own one.2))
+
+-- no stroke is named twice
+pub named_once : (copies : List CopyRecord) (pairs : List Pair) → AreOfOneHome copies pairs → (unit : UnitId) (page : ℕ)
+    → Rises (flat_map (places_of unit page) (flat_map (copies_of copies) pairs))
+named_once copies pairs are unit page = by (names_told copies pairs are unit page)
+  where
+    rising : (pair : Pair) → HasNames pair copies → HasWindow unit pair → Rises (named_on unit page copies)
+    rising pair names (inl e) = subst (λ u. Rises (named_on u page copies)) e (names.own.rising page)
+    rising pair names (inr e) = subst (λ u. Rises (named_on u page copies)) e (names.client.rising page)
+
+    all : Each (λ pair. HasNames pair copies) pairs
+    all = each_there (λ pair. HasNames pair copies) pairs (λ k pair e. (are.pairs_are k pair e).names)
+
+    by : NamesTold copies pairs unit page → Rises (flat_map (places_of unit page) (flat_map (copies_of copies) pairs))
+    by (inl none) = subst Rises (sym none.1) tt
+    by (inr one) = subst Rises (sym one.3) (rising one.0 (each_in (λ pair. HasNames pair copies) one.0 pairs one.1 all) (has_from unit one.0 one.2))
+
+-- in a window of a pair the rows name what the copies do
+pub named_there : (copies : List CopyRecord) (pairs : List Pair) → AreOfOneHome copies pairs → (unit : UnitId) (page : ℕ) (pair : Pair) → IsIn pair pairs → HasWindow unit pair
+    → flat_map (places_of unit page) (flat_map (copies_of copies) pairs) ≡ named_on unit page copies
+named_there copies pairs are unit page pair inside has = by (names_told copies pairs are unit page)
+  where
+    not_both : (b : Bool) → b ≡ true → b ≡ false → ⊥
+    not_both b is other = cc
+
+    by : NamesTold copies pairs unit page → flat_map (places_of unit page) (flat_map (copies_of copies) pairs) ≡ named_on unit page copies
+    by (inl none) = absurd (not_both (hits_pair unit pair) (hits_from unit pair has) (each_in (λ pair. hits_pair unit pair ≡ false) pair pairs inside none.0))
+    by (inr one) = one.3
