@@ -1,8 +1,8 @@
 -- What was said of an image whose blocks were counted is so of it as it was before.
-use Rattle.std.proofs.Common.{◌≡◌, ℕ, List, Option, Result, Ok, Err, IfOk, IfSome, IsSome, ap, subst}
+use Rattle.std.proofs.Common.{◌≡◌, ℕ, List, [], Option, Some, None, Result, Ok, Err, IfOk, IfSome, IsSome, ap, refl, subst, sym}
 use Rattle.vio_io.specs.Image.{ImageState, after_sizing}
 use Rattle.boot_text.specs.declared.plan.Plan.{Plan}
-use Rattle.vcpu_run.specs.OnDisk.{LeadsOn}
+use Rattle.vcpu_run.specs.OnDisk.{IsServed, LeadsOn}
 use Rattle.vio_trace.specs.declared.rows.Trace.{Trace}
 use Rattle.paprvio.specs.declared.answer.Answer.{Answer}
 use Rattle.paprvio.specs.declared.stop.Stop.{Stop}
@@ -30,3 +30,13 @@ pub answer_sized : (telling : Telling) (plan : Plan) (image counted image' : Ima
     → IfOk answer (TellsOf telling plan counted image') → IfOk answer (TellsOf telling plan image image')
 answer_sized telling plan image counted image' (Ok answer) same is = (is.0, told_sized telling plan image counted image' _ same is.1)
 answer_sized telling plan image counted image' (Err stop) same is = tt
+
+-- an image whose blocks stayed
+pub served_same : (now now' : Option (List (List ℕ))) → now' ≡ now → IsServed now now'
+served_same None now' same = tt
+served_same (Some blocks) now' same = subst (λ later. IsServed (Some blocks) later) (sym same) ∣ ([], refl) ∣₁
+
+pub served_sized : (image counted image' : ImageState) → counted ≡ after_sizing image → IsServed counted.blocks image'.blocks
+    → IsServed image.blocks image'.blocks
+served_sized image counted image' same is =
+    subst (λ (blocks : Option (List (List ℕ))). IsServed blocks image'.blocks) (ap (λ (s : ImageState). s.blocks) same) is

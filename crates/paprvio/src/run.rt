@@ -2,6 +2,7 @@
 ghost use Rattle.std.specs.Prelude.{◌≡◌, ◌↔◌, ◌∷◌, ◌⊎◌, [], map, string_bytes, codes, IfOk, IsErr, IsErrOf, IsTrue};
 ghost use Rattle.vio_io.specs.Image.{FailsAfter, after_sizing};
 ghost use Rattle.vio_num.specs.Counts.{Rose};
+ghost use Rattle.vcpu_run.specs.OnDisk.{IsServed};
 ghost use Rattle.paprvio.specs.Answer.{answer_status, answer_text, IsAnswerTo, WordsTask};
 ghost use Rattle.paprvio.specs.Ending.{FinishesAs, outside};
 ghost use Rattle.paprvio.specs.Run.{AreRun, AsksForRun, IsCounted, IsUnrun, IsUnwritten, RunEndsAs, RunEndsWith, MustEndAs, FitsWords};
@@ -48,11 +49,12 @@ fn answer_words<So: Source, Di: Blocks + Drop>(
         → (result.image ≡ image) ⊎ IsCounted (Di.state image) }
     ensures asked { IsErrOf result.answer Stop.SourceFailed → AreRun (map string_bytes words.now) }
     ensures unread { ¬ AreRun (map string_bytes words.now) → source.new ≡ source.old }
-    ensures unrun { ¬ AsksForRun (map string_bytes words.now) (So.left source.old) (So.left source.new)
-        → result.image ≡ image }
+    ensures unrun { ¬ AsksForRun (map string_bytes words.now)
+        (So.left source.old) (So.left source.new) → result.image ≡ image }
     ensures told { IfOk result.answer (λ answer. ¬ (answer_status answer ≡ Done)
         → result.image ≡ image) }
     ensures stopped { IsErrOf result.answer Stop.SourceFailed → result.image ≡ image }
+    ensures served { IsServed (Di.state image).blocks (Di.state result.image).blocks }
 {
     match words_task(alloc, words, source) {
         Ok(Task::Tell(answer)) => Answered {
@@ -104,11 +106,12 @@ fn run_words<So: Source, Di: Blocks + Drop, Si: Sink>(
         → AsksForRun (map string_bytes words.now) (So.left source.old) (So.left source.new) }
     ensures unread { ¬ AreRun (map string_bytes words.now) → source.new ≡ source.old }
     ensures unwritten { IsUnwritten (status_code result.status) → sink.new ≡ sink.old }
-    ensures unrun { ¬ AsksForRun (map string_bytes words.now) (So.left source.old) (So.left source.new)
-        → result.image ≡ image }
+    ensures unrun { ¬ AsksForRun (map string_bytes words.now)
+        (So.left source.old) (So.left source.new) → result.image ≡ image }
     ensures untouched { IsUnrun (status_code result.status) → result.image ≡ image }
     ensures counted { ¬ (result.status ≡ ImageFailed)
         → (result.image ≡ image) ⊎ IsCounted (Di.state image) }
+    ensures served { IsServed (Di.state image).blocks (Di.state result.image).blocks }
 {
     let Answered { image, answer } = answer_words(alloc, words, source, image);
     match answer {
@@ -128,7 +131,7 @@ fn run_words<So: Source, Di: Blocks + Drop, Si: Sink>(
 ///
 /// The tests go in the order words, reading, boot text, counting the blocks of the image, running, writing, and the
 /// first that fails decides the status. The image is handed back at each status; it is as it was handed in unless a
-/// plan was run or its blocks were counted.
+/// plan was run or its blocks were counted, and what it then has is what some commands made of it, one behind the other.
 pub fn run<R: Threads + Sync, So: Source, Di: Blocks + Send + Drop, Si: Sink, G: Gate + Sync>(
     _rt: &R,
     alloc: Global,
@@ -153,11 +156,12 @@ pub fn run<R: Threads + Sync, So: Source, Di: Blocks + Send + Drop, Si: Sink, G:
         → AsksForRun (map string_bytes words.now) (So.left source.old) (So.left source.new) }
     ensures unread { ¬ AreRun (map string_bytes words.now) → source.new ≡ source.old }
     ensures unwritten { IsUnwritten result.status → sink.new ≡ sink.old }
-    ensures unrun { ¬ AsksForRun (map string_bytes words.now) (So.left source.old) (So.left source.new)
-        → result.image ≡ image }
+    ensures unrun { ¬ AsksForRun (map string_bytes words.now)
+        (So.left source.old) (So.left source.new) → result.image ≡ image }
     ensures untouched { IsUnrun result.status → result.image ≡ image }
     ensures counted { ¬ (result.status ≡ status_code ImageFailed)
         → (result.image ≡ image) ⊎ IsCounted (Di.state image) }
+    ensures served { IsServed (Di.state image).blocks (Di.state result.image).blocks }
 {
     let finished = run_words(alloc, words, source, image, sink);
     Ended {

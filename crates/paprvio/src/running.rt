@@ -6,6 +6,7 @@ ghost use Rattle.vio_io.specs.Image.{FailsAfter, after_sizing};
 ghost use Rattle.paprvio.specs.Answer.{IsToldOfTrace, TellsOf, answer_status, answer_text};
 ghost use Rattle.paprvio.specs.declared.status.Status.TheVariants.{Done};
 ghost use Rattle.paprvio.specs.Run.{IsCounted};
+ghost use Rattle.vcpu_run.specs.OnDisk.{IsServed};
 
 use crate::answer::Answer;
 use crate::stop::Stop;
@@ -51,6 +52,7 @@ fn run_counted<Di: Blocks + Drop>(
         (Di.state image) (Di.state result.image)) }
     ensures read { ¬ IsErrOf result.answer Stop.SourceFailed }
     ensures image { ¬ IsErrOf result.answer Stop.ImageFailed }
+    ensures served { IsServed (Di.state image).blocks (Di.state result.image).blocks }
 {
     let settled = settle_plan(alloc, plan, image, count);
     let answer = match &settled.trace {
@@ -80,6 +82,7 @@ pub fn run_plan<Di: Blocks + Drop>(
     ensures failed { IsErrOf result.answer Stop.ImageFailed
         → FailsAfter (after_sizing (Di.state image)) (Di.state result.image) }
     ensures read { ¬ IsErrOf result.answer Stop.SourceFailed }
+    ensures served { IsServed (Di.state image).blocks (Di.state result.image).blocks }
 {
     let mut image = image;
     match image.count() {
