@@ -1,9 +1,11 @@
 -- What the program makes of a text.
-use Rattle.std.specs.Prelude.{◌≡◌, List, ℕ, Option, IfSome}
+use Rattle.std.specs.Prelude.{◌≡◌, List, ℕ, Option, IfSome, ⊤}
 use Rattle.std.specs.Io.KnownBytes.{Appends}
 use Rattle.vio_trace.specs.declared.rows.Trace.{Trace}
 use Rattle.vio_trace.specs.Form.{IsTextOf}
 use Rattle.vio_chart.specs.Picture.{IsPictureOf}
+use Rattle.vio_chart.specs.declared.stop.Stop.{Stop}
+use Rattle.vio_chart.specs.declared.stop.Stop.TheVariants.{Bad}
 
 -- the text is that of a trace, and this the trace's picture
 pub record IsPictureOfText (text picture : List ℕ) : Type 0 where
@@ -18,3 +20,8 @@ pub record Draws (told before after : Option (List ℕ)) : Type 0 where
   pub whole : IfSome told (λ all. text ≡ all)
   pub made : IsPictureOfText text picture
   pub written : Appends before after picture
+
+-- the text was refused
+abbrev pub IsRefusal : Stop → Type 0
+IsRefusal (Bad line) = ⊤
+IsRefusal _ = ⊥

@@ -3,7 +3,8 @@
 
 ghost use Rattle.std.specs.Prelude.{◌≡◌, IfErr, IfOk, IfSome, OnOk};
 ghost use Rattle.std.specs.Io.KnownBytes.{IsAtEnd};
-ghost use Rattle.vio_chart.specs.Drawing.{Draws, IsPictureOfText};
+ghost use Rattle.vio_chart.specs.Drawing.{Draws, IsPictureOfText, IsRefusal};
+ghost use Rattle.vio_trace.specs.Form.{IsNoText};
 
 mod chart;
 mod columns;
@@ -14,32 +15,22 @@ mod labels;
 mod levels;
 mod link;
 mod place;
+mod stop;
 mod svg;
 mod walk;
 
 use crate::chart::chart;
+use crate::stop::Stop;
 use std::alloc::Global;
 use std::io::{self, Read, Write};
 use std::process::ExitCode;
 use vio_trace::{TraceFault, read_trace};
 
-/// How the program ended, beside done.
-#[derive(Clone, Copy)]
-enum Stop {
-    /// The bytes are no trace's text from this line on.
-    Bad(u64),
-    /// Standard input failed.
-    Input,
-    /// Standard output failed.
-    Output,
-    /// No memory was found.
-    NoMemory,
-}
-
 // Makes the picture of a text.
 fn picture_of(alloc: Global, text: &[u8]) -> Result<Vec<u8>, Stop>
     ensures ok { IfOk result (λ picture. IsPictureOfText text.now picture.items) }
     ensures other { IfErr result (λ stop. ¬ (stop ≡ Stop.Output)) }
+    ensures refused { IfErr result (λ stop. IsRefusal stop → IsNoText text.now) }
 {
     match read_trace(alloc, text) {
         Ok(trace) => match chart(alloc, &trace) {
@@ -56,6 +47,7 @@ fn read_text<R: Read>(alloc: Global, reader: &mut R) -> Result<Vec<u8>, Stop>
     ensures all { IfOk result (λ text. IfSome (R.remaining reader.old) (λ all. text.items ≡ all)) }
     ensures end { OnOk result (IsAtEnd (R.remaining reader.new)) }
     ensures other { IfErr result (λ stop. ¬ (stop ≡ Stop.Output)) }
+    ensures read { IfErr result (λ stop. ¬ IsRefusal stop) }
 {
     let mut text = Vec::new(alloc);
     match reader.read_to_end(&mut text) {
@@ -73,6 +65,8 @@ fn draw<R: Read, W: Write>(alloc: Global, reader: &mut R, writer: &mut W) -> Res
         (W.contents writer.old) (W.contents writer.new)) }
     ensures end { OnOk result (IsAtEnd (R.remaining reader.new)) }
     ensures unwritten { IfErr result (λ stop. ¬ (stop ≡ Stop.Output) → writer.new ≡ writer.old) }
+    ensures refused { IfErr result (λ stop. IsRefusal stop →
+        IfSome (R.remaining reader.old) IsNoText) }
 {
     let text = read_text(alloc, reader)?;
     let picture = picture_of(alloc, text.as_slice())?;
