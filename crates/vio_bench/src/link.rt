@@ -2,6 +2,7 @@
 ghost use Rattle.std.specs.Prelude.{◌≡◌, ◌+◌, ◌≤◌, ◌<◌, ◌^◌, false, IfOk, OnOk};
 ghost use Rattle.crq_session.specs.LinkSeats.{IsSeatOf};
 
+use crate::work::ROUND;
 use crq_session::{CrqEnd, Link, LinkSeat, OpenedLink, PollAnswer, SendAnswer, SharedEnd};
 use std::alloc::Global;
 use std::thread;
@@ -13,10 +14,6 @@ const SLOTS: u32 = 256;
 
 /// How many entries lie in a queue at a time, on one thread.
 const BATCH: u32 = 32;
-
-/// The entries that one link passes on one thread before it ends, so that what its seats keep of them lies in
-/// memory that was used before.
-const ROUND: u32 = 512;
 
 /// How often a thread tries in vain and in success together, for each entry, before it gives up.
 const TRIES: u64 = 1 << 40;
@@ -88,8 +85,8 @@ fn register<E: CrqEnd>(end: &mut E, count: u32) -> Result<(), NoMemory>
     Ok(())
 }
 
-// Passes this many entries over a new link, which ends with them.
-fn pass_round(alloc: Global, count: u32) -> Result<u32, NoMemory>
+/// Passes this many entries over a new link, which ends with them, and counts those that arrived.
+pub fn pass_round(alloc: Global, count: u32) -> Result<u32, NoMemory>
     requires { count ≤ ROUND }
     ensures { IfOk result (λ done. done ≤ count) }
 {
@@ -105,22 +102,6 @@ fn pass_round(alloc: Global, count: u32) -> Result<u32, NoMemory>
     register(&mut from, count)?;
     register(&mut to, count)?;
     Ok(pass_batches(&mut from, &mut to, count))
-}
-
-/// Passes this many entries on one thread, and counts those that arrived.
-pub fn one_thread(alloc: Global, count: u32) -> Result<u32, NoMemory>
-    ensures { IfOk result (λ done. done ≤ count) }
-{
-    let mut left = count;
-    while left > 0 {
-        let n = left.min(ROUND);
-        let got = pass_round(alloc, n)?;
-        left -= got;
-        if got < n {
-            break;
-        }
-    }
-    Ok(count - left)
 }
 
 // Sends this many entries, each tried until it is put.

@@ -4,6 +4,7 @@
 
 mod link;
 mod ring;
+mod serve;
 mod work;
 
 ghost use Rattle.std.specs.Prelude.{◌≤◌, IfOk, IfSome};
@@ -23,6 +24,7 @@ Does the work COUNT times, 1 to 100000000, and says on standard error what it to
   ring-2-64   the same over 64 slots
   link-1      sends an entry over a shared link of 256 slots, on one thread in batches of 32
   link-2      sends an entry from one thread to another over such a link
+  turn        has a server unit serve a TEST UNIT READY, in a turn
 ";
 
 // Does the work and says what it took, if it was done so many times.

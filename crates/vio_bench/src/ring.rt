@@ -13,10 +13,6 @@ const SLOTS: u32 = 64;
 
 const BATCH: u32 = 32;
 
-/// The entries that one ring passes on one thread before it ends, so that what its ends keep of them lies in
-/// memory that was used before.
-const ROUND: u32 = 512;
-
 /// How often a thread tries in vain and in success together, for each entry, before it gives up.
 const TRIES: u64 = 1 << 40;
 
@@ -84,8 +80,8 @@ fn pass_batches(ring: &Ring, send: &mut SendEnd, recv: &mut RecvEnd, count: u32)
     count - left
 }
 
-// Passes this many entries over a new ring, which ends with them.
-fn pass_round(alloc: Global, count: u32) -> Result<u32, NoMemory>
+/// Passes this many entries over a new ring, which ends with them, and counts those that arrived.
+pub fn pass_round(alloc: Global, count: u32) -> Result<u32, NoMemory>
     ensures { IfOk result (λ done. done ≤ count) }
 {
     let OpenedRing {
@@ -96,22 +92,6 @@ fn pass_round(alloc: Global, count: u32) -> Result<u32, NoMemory>
     send.reserve(count)?;
     recv.reserve(count)?;
     Ok(pass_batches(&ring, &mut send, &mut recv, count))
-}
-
-/// Passes this many entries on one thread, and counts those that arrived.
-pub fn one_thread(alloc: Global, count: u32) -> Result<u32, NoMemory>
-    ensures { IfOk result (λ done. done ≤ count) }
-{
-    let mut left = count;
-    while left > 0 {
-        let n = left.min(ROUND);
-        let got = pass_round(alloc, n)?;
-        left -= got;
-        if got < n {
-            break;
-        }
-    }
-    Ok(count - left)
 }
 
 // Puts this many entries, each tried until its slot is empty.

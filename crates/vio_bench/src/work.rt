@@ -1,12 +1,17 @@
 // The works by their names.
-ghost use Rattle.std.specs.Prelude.{◌≡◌, ◌≤◌, IfSome};
+ghost use Rattle.std.specs.Prelude.{◌≡◌, ◌≤◌, IfOk, IfSome};
 
-use crate::{link, ring};
+use crate::{link, ring, serve};
 use std::alloc::Global;
 use std::thread::Threads;
+use vio_num::NoMemory;
 
 /// A work is done at most so many times.
 pub const MOST: u32 = 100_000_000;
+
+/// The times that a work on one thread is done before it begins anew, with another ring, link or server, so that what is
+/// kept of it lies in memory that was used before.
+pub const ROUND: u32 = 512;
 
 /// What is done over and over.
 #[derive(Clone, Copy, Debug, PartialEq, Eq)]
@@ -21,6 +26,16 @@ pub enum Work {
     LinkOne,
     /// An entry is sent from one thread to another over a shared link.
     LinkTwo,
+    /// A server unit serves a TEST UNIT READY, in a turn.
+    Turn,
+}
+
+/// What is done on one thread.
+#[derive(Clone, Copy, Debug, PartialEq, Eq)]
+enum Alone {
+    Ring,
+    Link,
+    Turn,
 }
 
 impl Work {
@@ -32,6 +47,7 @@ impl Work {
             Work::RingTwo64 => "ring-2-64",
             Work::LinkOne => "link-1",
             Work::LinkTwo => "link-2",
+            Work::Turn => "turn",
         }
     }
 }
@@ -46,6 +62,7 @@ pub fn work_of(name: &str, count: &str) -> Option<(Work, u32)>
         "ring-2-64" => Work::RingTwo64,
         "link-1" => Work::LinkOne,
         "link-2" => Work::LinkTwo,
+        "turn" => Work::Turn,
         _ => return None,
     };
     let count = count.parse::<u32>().ok()?;
@@ -61,10 +78,39 @@ pub fn do_work<R: Threads + Sync>(rt: &R, alloc: Global, work: Work, count: u32)
     ensures { IfSome result (λ done. done ≤ count) }
 {
     match work {
-        Work::RingOne => ring::one_thread(alloc, count).ok(),
+        Work::RingOne => in_rounds(alloc, Alone::Ring, count).ok(),
         Work::RingTwo => ring::two_threads(rt, alloc, 4, count).ok(),
         Work::RingTwo64 => ring::two_threads(rt, alloc, 64, count).ok(),
-        Work::LinkOne => link::one_thread(alloc, count).ok(),
+        Work::LinkOne => in_rounds(alloc, Alone::Link, count).ok(),
         Work::LinkTwo => link::two_threads(rt, alloc, count).ok(),
+        Work::Turn => in_rounds(alloc, Alone::Turn, count).ok(),
+    }
+}
+
+// Does a work in rounds, up to one that is not done whole, and counts how often it was done.
+fn in_rounds(alloc: Global, work: Alone, count: u32) -> Result<u32, NoMemory>
+    ensures { IfOk result (λ done. done ≤ count) }
+{
+    let mut left = count;
+    while left > 0 {
+        let n = left.min(ROUND);
+        let done = do_round(alloc, work, n)?;
+        left -= done;
+        if done < n {
+            break;
+        }
+    }
+    Ok(count - left)
+}
+
+// Does a work so many times, over a ring, a link or a server of its own.
+fn do_round(alloc: Global, work: Alone, count: u32) -> Result<u32, NoMemory>
+    requires { count ≤ ROUND }
+    ensures { IfOk result (λ done. done ≤ count) }
+{
+    match work {
+        Alone::Ring => ring::pass_round(alloc, count),
+        Alone::Link => link::pass_round(alloc, count),
+        Alone::Turn => serve::serve_round(alloc, count),
     }
 }

@@ -1,5 +1,5 @@
 use Rattle.std.proofs.Common.{◌≤◌}
-use Rattle.vio_bench.proofs.link.one_thread.Given as goal
+use Rattle.vio_bench.proofs.work.in_rounds.Given as goal
 
 abbrev pub invariant-loop-left : goal.invariant-loop-left
 invariant-loop-left l = l.left ≤ l.count
