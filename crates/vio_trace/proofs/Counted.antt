@@ -8,7 +8,7 @@ use Rattle.vio_trace.specs.Form.{IsNoText}
 use Rattle.vio_trace.specs.Shared.{NoneHasLines, NoneShares, SharesLine, SharesLines, line_ends}
 use Rattle.vio_trace.proofs.Sharing.{twice}
 
-ends_append : (xs ys : List ℕ) → line_ends (xs ++ ys) ≡ line_ends xs + line_ends ys
+pub ends_append : (xs ys : List ℕ) → line_ends (xs ++ ys) ≡ line_ends xs + line_ends ys
 ends_append [] ys = omega arith
 ends_append (x ∷ xs) ys = at (ends_append xs ys) (x == 10) where
   at : line_ends (xs ++ ys) ≡ line_ends xs + line_ends ys → (b : Bool)

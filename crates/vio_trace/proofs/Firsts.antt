@@ -40,6 +40,10 @@ first_row {Row} text in_range before kind lines cut is bytes rest row h e = reco
       let same = lines_cut s.first (text row) s.rest rest s.is (lines row h) (sym s.bytes_are ∙ e) in
       let rows = cut row b s.theirs more h q (ap (λ (l : List ℕ). l ++ s.theirs) (sym same.line) ∙ sym s.other_is ∙ f) in
       subst (λ (r : Row). before past r) (sym rows.row) k;
+  back = λ past b other more s q f k.
+      let same = lines_cut s.first (text row) s.rest rest s.is (lines row h) (sym s.bytes_are ∙ e) in
+      let rows = cut row b s.theirs more h q (ap (λ (l : List ℕ). l ++ s.theirs) (sym same.line) ∙ sym s.other_is ∙ f) in
+      subst (λ (r : Row). before past r) rows.row k;
 }
 
 pub lines_any : {Row : Type 0} → (text : Row → List ℕ) (in_range : Row → Type 0) (before : Row → Row → Type 0)
@@ -72,6 +76,11 @@ queue_keys past b unit session e f k =
     subst (λ (u : UnitId). UnitBefore past.unit u ⊎ ((past.unit ≡ u) × (past.session < session))) (sym e)
     (subst (λ (n : ℕ). UnitBefore past.unit b.unit ⊎ ((past.unit ≡ b.unit) × (past.session < n))) (sym f) k)
 
+queue_back : (past b : QueueRow) (unit : UnitId) (session : ℕ) → unit ≡ b.unit → session ≡ b.session → UnitBefore past.unit unit ⊎ ((past.unit ≡ unit) × (past.session < session)) → QueueBefore past b
+queue_back past b unit session e f k =
+    subst (λ (u : UnitId). UnitBefore past.unit u ⊎ ((past.unit ≡ u) × (past.session < b.session))) e
+    (subst (λ (n : ℕ). UnitBefore past.unit unit ⊎ ((past.unit ≡ unit) × (past.session < n))) f k)
+
 pub queue_lines : KeepsLines queue_text IsQueueRow QueueBefore AnyBehind
 queue_lines = record {
   lined = λ row bytes other s f. tt;
@@ -90,6 +99,9 @@ queue_first bytes rest h row is e unit key = record {
   keys = λ past b other more s q f k.
       let same = same_words (codes "queue") (queue_head_words h) (queue_words b) bytes other rest (flat_map (entry_text (codes "sent")) b.sent ++ (flat_map (entry_text (codes "took")) b.taken ++ (flat_map drop_text b.drops ++ more))) (queue_head_plain h is) (queue_plain b q.line) e (f ∙ queue_parts b more) s in
       queue_keys past b row.unit row.session (sym unit ∙ name_tells h.unit b.unit is.unit q.line.unit (word_of 0 _ _ same)) (sym key ∙ told 1 h.session b.session _ _ is.session q.line.session same refl refl) k;
+  back = λ past b other more s q f k.
+      let same = same_words (codes "queue") (queue_head_words h) (queue_words b) bytes other rest (flat_map (entry_text (codes "sent")) b.sent ++ (flat_map (entry_text (codes "took")) b.taken ++ (flat_map drop_text b.drops ++ more))) (queue_head_plain h is) (queue_plain b q.line) e (f ∙ queue_parts b more) s in
+      queue_back past b row.unit row.session (sym unit ∙ name_tells h.unit b.unit is.unit q.line.unit (word_of 0 _ _ same)) (sym key ∙ told 1 h.session b.session _ _ is.session q.line.session same refl refl) k;
 }
 
 -- deliver
@@ -98,6 +110,11 @@ deliver_keys : (past b : DeliverRow) (unit : UnitId) (session : ℕ) → unit �
 deliver_keys past b unit session e f k =
     subst (λ (u : UnitId). UnitBefore past.unit u ⊎ ((past.unit ≡ u) × (past.session ≤ session))) (sym e)
     (subst (λ (n : ℕ). UnitBefore past.unit b.unit ⊎ ((past.unit ≡ b.unit) × (past.session ≤ n))) (sym f) k)
+
+deliver_back : (past b : DeliverRow) (unit : UnitId) (session : ℕ) → unit ≡ b.unit → session ≡ b.session → UnitBefore past.unit unit ⊎ ((past.unit ≡ unit) × (past.session ≤ session)) → DeliverBefore past b
+deliver_back past b unit session e f k =
+    subst (λ (u : UnitId). UnitBefore past.unit u ⊎ ((past.unit ≡ u) × (past.session ≤ b.session))) e
+    (subst (λ (n : ℕ). UnitBefore past.unit unit ⊎ ((past.unit ≡ unit) × (past.session ≤ n))) f k)
 
 pub deliver_lines : KeepsLines deliver_text IsDeliverRow DeliverBefore AnyBehind
 deliver_lines = record {
@@ -117,6 +134,9 @@ deliver_first bytes rest h row is e unit key = record {
   keys = λ past b other more s q f k.
       let same = same_words (codes "deliver") (deliver_head_words h) (deliver_words b) bytes other rest (flat_map (piece_text (codes "to")) b.to ++ more) (deliver_head_plain h is) (deliver_plain b q.line) e (f ∙ deliver_parts b more) s in
       deliver_keys past b row.unit row.session (sym unit ∙ name_tells h.unit b.unit is.unit q.line.unit (word_of 0 _ _ same)) (sym key ∙ told 1 h.session b.session _ _ is.session q.line.session same refl refl) k;
+  back = λ past b other more s q f k.
+      let same = same_words (codes "deliver") (deliver_head_words h) (deliver_words b) bytes other rest (flat_map (piece_text (codes "to")) b.to ++ more) (deliver_head_plain h is) (deliver_plain b q.line) e (f ∙ deliver_parts b more) s in
+      deliver_back past b row.unit row.session (sym unit ∙ name_tells h.unit b.unit is.unit q.line.unit (word_of 0 _ _ same)) (sym key ∙ told 1 h.session b.session _ _ is.session q.line.session same refl refl) k;
 }
 
 -- frame
@@ -125,6 +145,11 @@ frame_keys : (past b : FrameRow) (unit : UnitId) (number : ℕ) → unit ≡ b.u
 frame_keys past b unit number e f k =
     subst (λ (u : UnitId). UnitBefore past.unit u ⊎ ((past.unit ≡ u) × (past.number < number))) (sym e)
     (subst (λ (n : ℕ). UnitBefore past.unit b.unit ⊎ ((past.unit ≡ b.unit) × (past.number < n))) (sym f) k)
+
+frame_back : (past b : FrameRow) (unit : UnitId) (number : ℕ) → unit ≡ b.unit → number ≡ b.number → UnitBefore past.unit unit ⊎ ((past.unit ≡ unit) × (past.number < number)) → FrameBefore past b
+frame_back past b unit number e f k =
+    subst (λ (u : UnitId). UnitBefore past.unit u ⊎ ((past.unit ≡ u) × (past.number < b.number))) e
+    (subst (λ (n : ℕ). UnitBefore past.unit unit ⊎ ((past.unit ≡ unit) × (past.number < n))) f k)
 
 pub frame_lines : KeepsLines frame_text IsFrameRow FrameBefore NoOfferBehind
 frame_lines = record {
@@ -145,12 +170,18 @@ frame_first bytes rest h row is e unit key = record {
   keys = λ past b other more s q f k.
       let same = same_words (codes "frame") (frame_head_words h) (frame_words b) bytes other rest (flat_map (piece_text (codes "from")) b.from ++ (flat_map offer_text b.offers ++ more)) (frame_head_plain h is) (frame_plain b q.line) e (f ∙ frame_parts b more) s in
       frame_keys past b row.unit row.number (sym unit ∙ name_tells h.unit b.unit is.unit q.line.unit (word_of 0 _ _ same)) (sym key ∙ told 1 h.number b.number _ _ is.number q.line.number same refl refl) k;
+  back = λ past b other more s q f k.
+      let same = same_words (codes "frame") (frame_head_words h) (frame_words b) bytes other rest (flat_map (piece_text (codes "from")) b.from ++ (flat_map offer_text b.offers ++ more)) (frame_head_plain h is) (frame_plain b q.line) e (f ∙ frame_parts b more) s in
+      frame_back past b row.unit row.number (sym unit ∙ name_tells h.unit b.unit is.unit q.line.unit (word_of 0 _ _ same)) (sym key ∙ told 1 h.number b.number _ _ is.number q.line.number same refl refl) k;
 }
 
 -- copy
 
 copy_keys : (past b : CopyRow) (unit : UnitId) → unit ≡ b.unit → CopyBefore past b → UnitBefore past.unit unit ⊎ (past.unit ≡ unit)
 copy_keys past b unit e k = subst (λ (u : UnitId). UnitBefore past.unit u ⊎ (past.unit ≡ u)) (sym e) k
+
+copy_back : (past b : CopyRow) (unit : UnitId) → unit ≡ b.unit → UnitBefore past.unit unit ⊎ (past.unit ≡ unit) → CopyBefore past b
+copy_back past b unit e k = subst (λ (u : UnitId). UnitBefore past.unit u ⊎ (past.unit ≡ u)) e k
 
 pub copy_lines : KeepsLines copy_text IsCopyRow CopyBefore AnyBehind
 copy_lines = record {
@@ -170,6 +201,9 @@ copy_first bytes rest h row is e unit = record {
   keys = λ past b other more s q f k.
       let same = same_words (codes "copy") (copy_head_words h) (copy_words b) bytes other rest (flat_map (piece_text (codes "from")) b.from ++ (flat_map (piece_text (codes "to")) b.to ++ more)) (copy_head_plain h is) (copy_plain b q.line) e (f ∙ copy_parts b more) s in
       copy_keys past b row.unit (sym unit ∙ name_tells h.unit b.unit is.unit q.line.unit (word_of 0 _ _ same)) k;
+  back = λ past b other more s q f k.
+      let same = same_words (codes "copy") (copy_head_words h) (copy_words b) bytes other rest (flat_map (piece_text (codes "from")) b.from ++ (flat_map (piece_text (codes "to")) b.to ++ more)) (copy_head_plain h is) (copy_plain b q.line) e (f ∙ copy_parts b more) s in
+      copy_back past b row.unit (sym unit ∙ name_tells h.unit b.unit is.unit q.line.unit (word_of 0 _ _ same)) k;
 }
 
 -- rows of one line

@@ -1,7 +1,11 @@
 pub mod Ahead
 pub mod AheadShared
 pub mod Apart
+pub mod BadLine
 pub mod Badly
+pub mod Begun
+pub mod BegunRows
+pub mod BegunTrace
 pub mod Counted
 pub mod Cuts
 pub mod Digits

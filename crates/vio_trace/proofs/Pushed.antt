@@ -1,10 +1,10 @@
 -- Lists of rows that grow by one that was read.
-use Rattle.std.proofs.Common.{Bool, not, true, false, ◌≡◌, ◌+◌, ℕ, zero, suc, List, [], ◌∷◌, ◌++◌, sym, ap, ◌∙◌, append_assoc, append-nil, get_or, length, subst, arith}
+use Rattle.std.proofs.Common.{Bool, not, true, false, ◌≡◌, ◌+◌, ℕ, zero, suc, List, [], ◌∷◌, ◌++◌, sym, ap, ◌∙◌, append_assoc, append-nil, get_or, length, refl, subst, arith}
 use Rattle.std.specs.List.{flat_map}
 use Rattle.vio_trace.specs.Form.{Ascend}
 use Rattle.vio_trace.specs.Reading.{FollowsLast}
 
-flat_push : {A : Type 0} (text : A → List ℕ) (rows : List A) (row : A) → flat_map text (rows ++ row ∷ []) ≡ flat_map text rows ++ text row
+pub flat_push : {A : Type 0} (text : A → List ℕ) (rows : List A) (row : A) → flat_map text (rows ++ row ∷ []) ≡ flat_map text rows ++ text row
 flat_push text [] row = append-nil (text row)
 flat_push text (r ∷ rows) row =
     ap (λ (l : List ℕ). text r ++ l) (flat_push text rows row) ∙ sym (append_assoc (text r) (flat_map text rows) (text row))
@@ -46,3 +46,7 @@ not_both answer is_not is = cc (is_not, is)
 pub not_negated : (answer : Bool) → not answer ≡ true → answer ≡ true → ⊥
 not_negated true negated is = cc (negated)
 not_negated false negated is = cc (is)
+
+pub negated_not : (answer : Bool) → ¬ (not answer ≡ true) → answer ≡ true
+negated_not true is = refl
+negated_not false is = absurd (is refl)

@@ -1,3 +1,4 @@
+pub mod Begun
 pub mod Form
 pub mod Heads
 pub mod Reading

@@ -69,6 +69,8 @@ pub record FirstTells {Row : Type 0} (text : Row → List ℕ) (in_range : Row �
   pub of : (other : List ℕ) → SameFirst bytes other → section other ≡ kind
   pub keys : (past b : Row) (other more : List ℕ) → SameFirst bytes other → in_range b → other ≡ text b ++ more
       → before past b → before past row
+  pub back : (past b : Row) (other more : List ℕ) → SameFirst bytes other → in_range b → other ≡ text b ++ more
+      → before past row → before past b
 
 -- no row that the bytes' first line begins may stand behind the last of these
 abbrev pub NoneFollows : {Row : Type 0} → (Row → List ℕ) → (Row → Type 0) → (Row → Row → Type 0) → List Row → List ℕ → Type 0

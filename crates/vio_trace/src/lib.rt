@@ -30,6 +30,3 @@ pub use read::{TraceFault, read_trace};
 pub use rows::{AnswerRow, DropRow, LogRow, QueueRow, Trace};
 pub use window_rows::{CopyRow, PieceRow, StrokeRow, TceValueRow};
 pub use write::write_trace;
-
-#[cfg(test)]
-mod tests;

@@ -1,8 +1,10 @@
 // The trace of a text, read section by section.
-ghost use Rattle.std.specs.Prelude.{◌≡◌, ◌≤◌, ◌+◌, ◌-◌, ◌^◌, [], ◌∷◌, IfErr, IfOk, OnOk, codes, length, take};
-ghost use Rattle.vio_trace.specs.Form.{IsNoText, IsTextOf};
+ghost use Rattle.std.specs.Prelude.{List, ℕ, ◌≡◌, ◌≤◌, ◌+◌, ◌-◌, ◌^◌, [], ◌∷◌, IfErr, IfOk, OnOk, codes, length, take};
+ghost use Rattle.vio_trace.specs.Begun.{BeginsSome, BegunBefore};
+ghost use Rattle.vio_trace.specs.Form.{IsInForm, IsNoText, IsTextOf};
 ghost use Rattle.vio_trace.specs.Reading.{IsBad, WhereBad};
 ghost use Rattle.vio_trace.specs.Shared.{NoneHasLines, NoneShares, WhereBadAt, line_ends};
+ghost use Rattle.vio_trace.specs.Text.{trace_text};
 
 use crate::read_lines::behind;
 use crate::read_rows::read_section;
@@ -14,8 +16,9 @@ use std::alloc::Global;
 /// Why a text was not read as a trace.
 #[derive(Clone, Copy, Debug, PartialEq, Eq)]
 pub enum TraceFault {
-    /// No trace's text begins with the lines up to this one, counted from 1; a text that ends too
-    /// early is bad at the line behind its last, a last line without its end at that line.
+    /// Some trace's text begins with the lines before this one, counted from 1, and none with those
+    /// up to it; a text that ends too early is bad at the line behind its last, a last line without
+    /// its end at that line.
     Bad { line: u64 },
     /// Memory ran out.
     NoMemory,
@@ -26,6 +29,7 @@ pub fn read_trace(alloc: Global, bytes: &[u8]) -> Result<Trace, TraceFault>
     ensures ok { IfOk result (λ trace. IsTextOf trace bytes.now) }
     ensures refused { IfErr result (λ fault. IsBad fault → IsNoText bytes.now) }
     ensures line { IfErr result (NoneHasLines bytes.now) }
+    ensures before { IfErr result (BegunBefore bytes.now) }
 {
     match read_sections(alloc, bytes) {
         Ok(trace) => Ok(trace),
@@ -62,6 +66,8 @@ fn read_sections(alloc: Global, bytes: &[u8]) -> Result<Trace, Fault>
     ensures ok { IfOk result (λ trace. IsTextOf trace bytes.now) }
     ensures refused { IfErr result (λ fault. WhereBad fault (IsNoText bytes.now)) }
     ensures bad { IfErr result (λ fault. WhereBadAt fault (NoneShares IsNoText bytes.now)) }
+    ensures begun { IfErr result (λ fault.
+        WhereBadAt fault (BeginsSome trace_text IsInForm bytes.now)) }
 {
     let Some(rest) = behind(bytes, b"trace 1\n") else {
         return Err(Fault::Bad(bytes.len()));
@@ -103,6 +109,8 @@ fn read_end(text: &[u8]) -> Result<(), Fault>
     ensures refused { IfErr result (λ fault. WhereBad fault (¬ (text.now ≡ codes "end\n"))) }
     ensures bad { IfErr result (λ fault.
         WhereBadAt fault (NoneShares (λ rest. ¬ (rest ≡ codes "end\n")) text.now)) }
+    ensures begun { IfErr result (λ fault. WhereBadAt fault
+        (BeginsSome (λ last. last) (λ last. last ≡ codes "end\n") text.now)) }
 {
     if are_same(text, b"end\n") {
         return Ok(());

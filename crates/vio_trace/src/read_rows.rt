@@ -1,5 +1,6 @@
 // The rows of a trace, read from the front of a text: one line, a number of lines, or all of a section.
 ghost use Rattle.std.specs.Prelude.{◌≡◌, ◌↔◌, OnOk, ◌++◌, ◌<◌, All, IfErr, IfNone, IfOk, IfSome, IsTrue, List, ℕ, ◌≤◌, flat_map, length};
+ghost use Rattle.vio_trace.specs.Begun.{BeginsFew, BeginsRow, BeginsRows, EachFollows};
 ghost use Rattle.vio_trace.specs.Form.{Ascend};
 ghost use Rattle.vio_trace.specs.Reading.{FollowsLast, IsLine, NoneBegins, NoneCounted, WhereBad, Without};
 ghost use Rattle.vio_trace.specs.Shared.{FirstTells, IsOfSection, KeepsLines, NoneFollows, NoneShares, OnlyShared, WhereBadAt};
@@ -36,7 +37,9 @@ pub trait SectionRow: Lines + Sized + Drop {
         ensures refused { IfErr result (λ fault.
             WhereBad fault (NoneBegins Self.text Self.in_range text.now)) }
         ensures bad { IfErr result (λ fault.
-            WhereBadAt fault (NoneShares (NoneBegins Self.text Self.in_range) text.now)) };
+            WhereBadAt fault (NoneShares (NoneBegins Self.text Self.in_range) text.now)) }
+        ensures begun { IfErr result (λ fault.
+            WhereBadAt fault (BeginsRow Self.text Self.in_range names_itself text.now)) };
 
     /// A row that has the words of the text's first line, and no other lines.
     fn read_first(alloc: Global, text: &[u8]) -> Result<Self, Fault>
@@ -74,6 +77,7 @@ pub fn read_line<K: Line>(alloc: Global, text: &[u8]) -> Result<(K::Row, &[u8]),
         WhereBadAt fault (NoneShares (NoneBegins K.text K.fits) text.now)) }
     ensures first { IfErr result (λ fault.
         WhereBad fault (NoneShares (NoneBegins K.text K.fits) text.now (length text.now))) }
+    ensures alone { IfErr result (λ fault. WhereBadAt fault (λ left. left ≡ length text.now)) }
 {
     K::is_one_line();
     let Some((line, rest)) = split_line(text) else {
@@ -100,6 +104,8 @@ pub fn read_counted<K: Line>(
         WhereBad fault (NoneCounted K.text K.fits count text.now)) }
     ensures bad { IfErr result (λ fault.
         WhereBadAt fault (NoneShares (NoneCounted K.text K.fits count) text.now)) }
+    ensures begun { IfErr result (λ fault.
+        WhereBadAt fault (BeginsFew K.text K.fits count text.now)) }
 {
     K::is_one_line();
     let mut rows = Sequence::new(alloc);
@@ -131,6 +137,8 @@ pub fn read_section<R: SectionRow>(
         R.kind read.0 read.1.now) }
     ensures bad { IfErr result (λ fault. WhereBadAt fault
         (NoneShares (NoSection R.text R.in_range R.names_itself R.before R.kind) text.now)) }
+    ensures begun { IfErr result (λ fault.
+        WhereBadAt fault (BeginsRows R.text R.in_range R.names_itself R.before text.now)) }
 {
     R::keeps_apart();
     let mut rows = Sequence::new(alloc);
@@ -173,6 +181,8 @@ fn is_out_of_order<R: SectionRow>(alloc: Global, rows: &[R], text: &[u8]) -> Res
     ensures of { IfOk result (λ is_out. (¬ (IsTrue is_out)) → IsOfSection R.kind text.now) }
     ensures out { IfOk result (λ is_out. IsTrue is_out
         → NoneFollows R.text R.in_range R.before rows.now text.now) }
+    ensures follows { IfOk result (λ is_out. (¬ (IsTrue is_out))
+        → EachFollows R.text R.in_range R.before rows.now text.now) }
 {
     match R::read_first(alloc, text) {
         Ok(row) => Ok(!is_next(rows, &row)),

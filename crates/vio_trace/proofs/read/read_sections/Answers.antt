@@ -1,7 +1,10 @@
 use Rattle.std.proofs.Common.{◌≡◌, ◌++◌, codes, rules}
-use Rattle.vio_trace.specs.Form.{IsNoText}
+use Rattle.vio_trace.specs.Begun.{BeginsSome}
+use Rattle.vio_trace.specs.Form.{IsInForm, IsNoText}
 use Rattle.vio_trace.specs.Reading.{WhereBad}
 use Rattle.vio_trace.specs.Shared.{NoneShares, WhereBadAt}
+use Rattle.vio_trace.specs.Text.{trace_text}
+use Rattle.vio_trace.proofs.BegunTrace.{all_next, all_start, end_begins, part_begins, title_begins, logs_part, queues_part, grants_part, serves_part, answers_part, frames_part, ports_part, posts_part, delivers_part, harvests_part, tces_part, copies_part, strokes_part}
 use Rattle.vio_trace.proofs.Headed.{where_bad}
 use Rattle.vio_trace.proofs.Sectioned.{none_started, none_ended, started, logs_next, logs_none, queues_next, queues_none, grants_next, grants_none, serves_next, serves_none, answers_next, answers_none, frames_next, frames_none, ports_next, ports_none, posts_next, posts_none, delivers_next, delivers_none, harvests_next, harvests_none, tces_next, tces_none, copies_next, copies_none, strokes_next, strokes_none}
 use Rattle.vio_trace.proofs.SectionedShared.{title_bad, started_in, ended_in, logs_next_in, logs_none_in, queues_next_in, queues_none_in, grants_next_in, grants_none_in, serves_next_in, serves_none_in, answers_next_in, answers_none_in, frames_next_in, frames_none_in, ports_next_in, ports_none_in, posts_next_in, posts_none_in, delivers_next_in, delivers_none_in, harvests_next_in, harvests_none_in, tces_next_in, tces_none_in, copies_next_in, copies_none_in, strokes_next_in, strokes_none_in}
@@ -201,4 +204,91 @@ pub returns-in_err-read_end-clause-bad : goal.returns-in_err-read_end-clause-bad
 returns-in_err-read_end-clause-bad c =
     let b : c.args.bytes.now ≡ codes "trace 1\n" ++ c.in-Some.rest.now = search rules in
     let fact : WhereBadAt c.in_err-read_end.field-0.0 (NoneShares IsNoText c.args.bytes.now) = where_bad_at c.in_err-read_end.field-0.0 _ _ (λ left bad. ended_in (strokes_next_in (copies_next_in (tces_next_in (harvests_next_in (delivers_next_in (posts_next_in (ports_next_in (frames_next_in (answers_next_in (serves_next_in (grants_next_in (queues_next_in (logs_next_in (started_in b) c.in_ok-logs.ensures.rows.1 c.in_ok-logs.ensures.shared) c.in_ok-queues.ensures.rows.1 c.in_ok-queues.ensures.shared) c.in_ok-grants.ensures.rows.1 c.in_ok-grants.ensures.shared) c.in_ok-serves.ensures.rows.1 c.in_ok-serves.ensures.shared) c.in_ok-answers.ensures.rows.1 c.in_ok-answers.ensures.shared) c.in_ok-frames.ensures.rows.1 c.in_ok-frames.ensures.shared) c.in_ok-ports.ensures.rows.1 c.in_ok-ports.ensures.shared) c.in_ok-posts.ensures.rows.1 c.in_ok-posts.ensures.shared) c.in_ok-delivers.ensures.rows.1 c.in_ok-delivers.ensures.shared) c.in_ok-harvests.ensures.rows.1 c.in_ok-harvests.ensures.shared) c.in_ok-tces.ensures.rows.1 c.in_ok-tces.ensures.shared) c.in_ok-copies.ensures.rows.1 c.in_ok-copies.ensures.shared) c.in_ok-strokes.ensures.rows.1 c.in_ok-strokes.ensures.shared) bad) c.in_err-read_end.ensures.bad in
+    search (rules, fact)
+
+pub returns-in_default-clause-begun : goal.returns-in_default-clause-begun
+returns-in_default-clause-begun c = title_begins c.args.bytes.now
+
+pub returns-in_err-logs-clause-begun : goal.returns-in_err-logs-clause-begun
+returns-in_err-logs-clause-begun c =
+    let b : c.args.bytes.now ≡ codes "trace 1\n" ++ c.in-Some.rest.now = search rules in
+    let fact : WhereBadAt c.in_err-logs.field-0.0 (BeginsSome trace_text IsInForm c.args.bytes.now) = where_bad_at c.in_err-logs.field-0.0 _ _ (λ left begun. part_begins logs_part (all_start b) begun) c.in_err-logs.ensures.begun in
+    search (rules, fact)
+
+pub returns-in_err-queues-clause-begun : goal.returns-in_err-queues-clause-begun
+returns-in_err-queues-clause-begun c =
+    let b : c.args.bytes.now ≡ codes "trace 1\n" ++ c.in-Some.rest.now = search rules in
+    let fact : WhereBadAt c.in_err-queues.field-0.0 (BeginsSome trace_text IsInForm c.args.bytes.now) = where_bad_at c.in_err-queues.field-0.0 _ _ (λ left begun. part_begins queues_part (all_next c.in_ok-logs.logs logs_part (all_start b) c.in_ok-logs.ensures.rows c.in_ok-logs.ensures.names c.in_ok-logs.ensures.order) begun) c.in_err-queues.ensures.begun in
+    search (rules, fact)
+
+pub returns-in_err-grants-clause-begun : goal.returns-in_err-grants-clause-begun
+returns-in_err-grants-clause-begun c =
+    let b : c.args.bytes.now ≡ codes "trace 1\n" ++ c.in-Some.rest.now = search rules in
+    let fact : WhereBadAt c.in_err-grants.field-0.0 (BeginsSome trace_text IsInForm c.args.bytes.now) = where_bad_at c.in_err-grants.field-0.0 _ _ (λ left begun. part_begins grants_part (all_next c.in_ok-queues.queues queues_part (all_next c.in_ok-logs.logs logs_part (all_start b) c.in_ok-logs.ensures.rows c.in_ok-logs.ensures.names c.in_ok-logs.ensures.order) c.in_ok-queues.ensures.rows c.in_ok-queues.ensures.names c.in_ok-queues.ensures.order) begun) c.in_err-grants.ensures.begun in
+    search (rules, fact)
+
+pub returns-in_err-serves-clause-begun : goal.returns-in_err-serves-clause-begun
+returns-in_err-serves-clause-begun c =
+    let b : c.args.bytes.now ≡ codes "trace 1\n" ++ c.in-Some.rest.now = search rules in
+    let fact : WhereBadAt c.in_err-serves.field-0.0 (BeginsSome trace_text IsInForm c.args.bytes.now) = where_bad_at c.in_err-serves.field-0.0 _ _ (λ left begun. part_begins serves_part (all_next c.in_ok-grants.grants grants_part (all_next c.in_ok-queues.queues queues_part (all_next c.in_ok-logs.logs logs_part (all_start b) c.in_ok-logs.ensures.rows c.in_ok-logs.ensures.names c.in_ok-logs.ensures.order) c.in_ok-queues.ensures.rows c.in_ok-queues.ensures.names c.in_ok-queues.ensures.order) c.in_ok-grants.ensures.rows c.in_ok-grants.ensures.names c.in_ok-grants.ensures.order) begun) c.in_err-serves.ensures.begun in
+    search (rules, fact)
+
+pub returns-in_err-answers-clause-begun : goal.returns-in_err-answers-clause-begun
+returns-in_err-answers-clause-begun c =
+    let b : c.args.bytes.now ≡ codes "trace 1\n" ++ c.in-Some.rest.now = search rules in
+    let fact : WhereBadAt c.in_err-answers.field-0.0 (BeginsSome trace_text IsInForm c.args.bytes.now) = where_bad_at c.in_err-answers.field-0.0 _ _ (λ left begun. part_begins answers_part (all_next c.in_ok-serves.serves serves_part (all_next c.in_ok-grants.grants grants_part (all_next c.in_ok-queues.queues queues_part (all_next c.in_ok-logs.logs logs_part (all_start b) c.in_ok-logs.ensures.rows c.in_ok-logs.ensures.names c.in_ok-logs.ensures.order) c.in_ok-queues.ensures.rows c.in_ok-queues.ensures.names c.in_ok-queues.ensures.order) c.in_ok-grants.ensures.rows c.in_ok-grants.ensures.names c.in_ok-grants.ensures.order) c.in_ok-serves.ensures.rows c.in_ok-serves.ensures.names c.in_ok-serves.ensures.order) begun) c.in_err-answers.ensures.begun in
+    search (rules, fact)
+
+pub returns-in_err-frames-clause-begun : goal.returns-in_err-frames-clause-begun
+returns-in_err-frames-clause-begun c =
+    let b : c.args.bytes.now ≡ codes "trace 1\n" ++ c.in-Some.rest.now = search rules in
+    let fact : WhereBadAt c.in_err-frames.field-0.0 (BeginsSome trace_text IsInForm c.args.bytes.now) = where_bad_at c.in_err-frames.field-0.0 _ _ (λ left begun. part_begins frames_part (all_next c.in_ok-answers.answers answers_part (all_next c.in_ok-serves.serves serves_part (all_next c.in_ok-grants.grants grants_part (all_next c.in_ok-queues.queues queues_part (all_next c.in_ok-logs.logs logs_part (all_start b) c.in_ok-logs.ensures.rows c.in_ok-logs.ensures.names c.in_ok-logs.ensures.order) c.in_ok-queues.ensures.rows c.in_ok-queues.ensures.names c.in_ok-queues.ensures.order) c.in_ok-grants.ensures.rows c.in_ok-grants.ensures.names c.in_ok-grants.ensures.order) c.in_ok-serves.ensures.rows c.in_ok-serves.ensures.names c.in_ok-serves.ensures.order) c.in_ok-answers.ensures.rows c.in_ok-answers.ensures.names c.in_ok-answers.ensures.order) begun) c.in_err-frames.ensures.begun in
+    search (rules, fact)
+
+pub returns-in_err-ports-clause-begun : goal.returns-in_err-ports-clause-begun
+returns-in_err-ports-clause-begun c =
+    let b : c.args.bytes.now ≡ codes "trace 1\n" ++ c.in-Some.rest.now = search rules in
+    let fact : WhereBadAt c.in_err-ports.field-0.0 (BeginsSome trace_text IsInForm c.args.bytes.now) = where_bad_at c.in_err-ports.field-0.0 _ _ (λ left begun. part_begins ports_part (all_next c.in_ok-frames.frames frames_part (all_next c.in_ok-answers.answers answers_part (all_next c.in_ok-serves.serves serves_part (all_next c.in_ok-grants.grants grants_part (all_next c.in_ok-queues.queues queues_part (all_next c.in_ok-logs.logs logs_part (all_start b) c.in_ok-logs.ensures.rows c.in_ok-logs.ensures.names c.in_ok-logs.ensures.order) c.in_ok-queues.ensures.rows c.in_ok-queues.ensures.names c.in_ok-queues.ensures.order) c.in_ok-grants.ensures.rows c.in_ok-grants.ensures.names c.in_ok-grants.ensures.order) c.in_ok-serves.ensures.rows c.in_ok-serves.ensures.names c.in_ok-serves.ensures.order) c.in_ok-answers.ensures.rows c.in_ok-answers.ensures.names c.in_ok-answers.ensures.order) c.in_ok-frames.ensures.rows c.in_ok-frames.ensures.names c.in_ok-frames.ensures.order) begun) c.in_err-ports.ensures.begun in
+    search (rules, fact)
+
+pub returns-in_err-posts-clause-begun : goal.returns-in_err-posts-clause-begun
+returns-in_err-posts-clause-begun c =
+    let b : c.args.bytes.now ≡ codes "trace 1\n" ++ c.in-Some.rest.now = search rules in
+    let fact : WhereBadAt c.in_err-posts.field-0.0 (BeginsSome trace_text IsInForm c.args.bytes.now) = where_bad_at c.in_err-posts.field-0.0 _ _ (λ left begun. part_begins posts_part (all_next c.in_ok-ports.ports ports_part (all_next c.in_ok-frames.frames frames_part (all_next c.in_ok-answers.answers answers_part (all_next c.in_ok-serves.serves serves_part (all_next c.in_ok-grants.grants grants_part (all_next c.in_ok-queues.queues queues_part (all_next c.in_ok-logs.logs logs_part (all_start b) c.in_ok-logs.ensures.rows c.in_ok-logs.ensures.names c.in_ok-logs.ensures.order) c.in_ok-queues.ensures.rows c.in_ok-queues.ensures.names c.in_ok-queues.ensures.order) c.in_ok-grants.ensures.rows c.in_ok-grants.ensures.names c.in_ok-grants.ensures.order) c.in_ok-serves.ensures.rows c.in_ok-serves.ensures.names c.in_ok-serves.ensures.order) c.in_ok-answers.ensures.rows c.in_ok-answers.ensures.names c.in_ok-answers.ensures.order) c.in_ok-frames.ensures.rows c.in_ok-frames.ensures.names c.in_ok-frames.ensures.order) c.in_ok-ports.ensures.rows c.in_ok-ports.ensures.names c.in_ok-ports.ensures.order) begun) c.in_err-posts.ensures.begun in
+    search (rules, fact)
+
+pub returns-in_err-delivers-clause-begun : goal.returns-in_err-delivers-clause-begun
+returns-in_err-delivers-clause-begun c =
+    let b : c.args.bytes.now ≡ codes "trace 1\n" ++ c.in-Some.rest.now = search rules in
+    let fact : WhereBadAt c.in_err-delivers.field-0.0 (BeginsSome trace_text IsInForm c.args.bytes.now) = where_bad_at c.in_err-delivers.field-0.0 _ _ (λ left begun. part_begins delivers_part (all_next c.in_ok-posts.posts posts_part (all_next c.in_ok-ports.ports ports_part (all_next c.in_ok-frames.frames frames_part (all_next c.in_ok-answers.answers answers_part (all_next c.in_ok-serves.serves serves_part (all_next c.in_ok-grants.grants grants_part (all_next c.in_ok-queues.queues queues_part (all_next c.in_ok-logs.logs logs_part (all_start b) c.in_ok-logs.ensures.rows c.in_ok-logs.ensures.names c.in_ok-logs.ensures.order) c.in_ok-queues.ensures.rows c.in_ok-queues.ensures.names c.in_ok-queues.ensures.order) c.in_ok-grants.ensures.rows c.in_ok-grants.ensures.names c.in_ok-grants.ensures.order) c.in_ok-serves.ensures.rows c.in_ok-serves.ensures.names c.in_ok-serves.ensures.order) c.in_ok-answers.ensures.rows c.in_ok-answers.ensures.names c.in_ok-answers.ensures.order) c.in_ok-frames.ensures.rows c.in_ok-frames.ensures.names c.in_ok-frames.ensures.order) c.in_ok-ports.ensures.rows c.in_ok-ports.ensures.names c.in_ok-ports.ensures.order) c.in_ok-posts.ensures.rows c.in_ok-posts.ensures.names c.in_ok-posts.ensures.order) begun) c.in_err-delivers.ensures.begun in
+    search (rules, fact)
+
+pub returns-in_err-harvests-clause-begun : goal.returns-in_err-harvests-clause-begun
+returns-in_err-harvests-clause-begun c =
+    let b : c.args.bytes.now ≡ codes "trace 1\n" ++ c.in-Some.rest.now = search rules in
+    let fact : WhereBadAt c.in_err-harvests.field-0.0 (BeginsSome trace_text IsInForm c.args.bytes.now) = where_bad_at c.in_err-harvests.field-0.0 _ _ (λ left begun. part_begins harvests_part (all_next c.in_ok-delivers.delivers delivers_part (all_next c.in_ok-posts.posts posts_part (all_next c.in_ok-ports.ports ports_part (all_next c.in_ok-frames.frames frames_part (all_next c.in_ok-answers.answers answers_part (all_next c.in_ok-serves.serves serves_part (all_next c.in_ok-grants.grants grants_part (all_next c.in_ok-queues.queues queues_part (all_next c.in_ok-logs.logs logs_part (all_start b) c.in_ok-logs.ensures.rows c.in_ok-logs.ensures.names c.in_ok-logs.ensures.order) c.in_ok-queues.ensures.rows c.in_ok-queues.ensures.names c.in_ok-queues.ensures.order) c.in_ok-grants.ensures.rows c.in_ok-grants.ensures.names c.in_ok-grants.ensures.order) c.in_ok-serves.ensures.rows c.in_ok-serves.ensures.names c.in_ok-serves.ensures.order) c.in_ok-answers.ensures.rows c.in_ok-answers.ensures.names c.in_ok-answers.ensures.order) c.in_ok-frames.ensures.rows c.in_ok-frames.ensures.names c.in_ok-frames.ensures.order) c.in_ok-ports.ensures.rows c.in_ok-ports.ensures.names c.in_ok-ports.ensures.order) c.in_ok-posts.ensures.rows c.in_ok-posts.ensures.names c.in_ok-posts.ensures.order) c.in_ok-delivers.ensures.rows c.in_ok-delivers.ensures.names c.in_ok-delivers.ensures.order) begun) c.in_err-harvests.ensures.begun in
+    search (rules, fact)
+
+pub returns-in_err-tces-clause-begun : goal.returns-in_err-tces-clause-begun
+returns-in_err-tces-clause-begun c =
+    let b : c.args.bytes.now ≡ codes "trace 1\n" ++ c.in-Some.rest.now = search rules in
+    let fact : WhereBadAt c.in_err-tces.field-0.0 (BeginsSome trace_text IsInForm c.args.bytes.now) = where_bad_at c.in_err-tces.field-0.0 _ _ (λ left begun. part_begins tces_part (all_next c.in_ok-harvests.harvests harvests_part (all_next c.in_ok-delivers.delivers delivers_part (all_next c.in_ok-posts.posts posts_part (all_next c.in_ok-ports.ports ports_part (all_next c.in_ok-frames.frames frames_part (all_next c.in_ok-answers.answers answers_part (all_next c.in_ok-serves.serves serves_part (all_next c.in_ok-grants.grants grants_part (all_next c.in_ok-queues.queues queues_part (all_next c.in_ok-logs.logs logs_part (all_start b) c.in_ok-logs.ensures.rows c.in_ok-logs.ensures.names c.in_ok-logs.ensures.order) c.in_ok-queues.ensures.rows c.in_ok-queues.ensures.names c.in_ok-queues.ensures.order) c.in_ok-grants.ensures.rows c.in_ok-grants.ensures.names c.in_ok-grants.ensures.order) c.in_ok-serves.ensures.rows c.in_ok-serves.ensures.names c.in_ok-serves.ensures.order) c.in_ok-answers.ensures.rows c.in_ok-answers.ensures.names c.in_ok-answers.ensures.order) c.in_ok-frames.ensures.rows c.in_ok-frames.ensures.names c.in_ok-frames.ensures.order) c.in_ok-ports.ensures.rows c.in_ok-ports.ensures.names c.in_ok-ports.ensures.order) c.in_ok-posts.ensures.rows c.in_ok-posts.ensures.names c.in_ok-posts.ensures.order) c.in_ok-delivers.ensures.rows c.in_ok-delivers.ensures.names c.in_ok-delivers.ensures.order) c.in_ok-harvests.ensures.rows c.in_ok-harvests.ensures.names c.in_ok-harvests.ensures.order) begun) c.in_err-tces.ensures.begun in
+    search (rules, fact)
+
+pub returns-in_err-copies-clause-begun : goal.returns-in_err-copies-clause-begun
+returns-in_err-copies-clause-begun c =
+    let b : c.args.bytes.now ≡ codes "trace 1\n" ++ c.in-Some.rest.now = search rules in
+    let fact : WhereBadAt c.in_err-copies.field-0.0 (BeginsSome trace_text IsInForm c.args.bytes.now) = where_bad_at c.in_err-copies.field-0.0 _ _ (λ left begun. part_begins copies_part (all_next c.in_ok-tces.tces tces_part (all_next c.in_ok-harvests.harvests harvests_part (all_next c.in_ok-delivers.delivers delivers_part (all_next c.in_ok-posts.posts posts_part (all_next c.in_ok-ports.ports ports_part (all_next c.in_ok-frames.frames frames_part (all_next c.in_ok-answers.answers answers_part (all_next c.in_ok-serves.serves serves_part (all_next c.in_ok-grants.grants grants_part (all_next c.in_ok-queues.queues queues_part (all_next c.in_ok-logs.logs logs_part (all_start b) c.in_ok-logs.ensures.rows c.in_ok-logs.ensures.names c.in_ok-logs.ensures.order) c.in_ok-queues.ensures.rows c.in_ok-queues.ensures.names c.in_ok-queues.ensures.order) c.in_ok-grants.ensures.rows c.in_ok-grants.ensures.names c.in_ok-grants.ensures.order) c.in_ok-serves.ensures.rows c.in_ok-serves.ensures.names c.in_ok-serves.ensures.order) c.in_ok-answers.ensures.rows c.in_ok-answers.ensures.names c.in_ok-answers.ensures.order) c.in_ok-frames.ensures.rows c.in_ok-frames.ensures.names c.in_ok-frames.ensures.order) c.in_ok-ports.ensures.rows c.in_ok-ports.ensures.names c.in_ok-ports.ensures.order) c.in_ok-posts.ensures.rows c.in_ok-posts.ensures.names c.in_ok-posts.ensures.order) c.in_ok-delivers.ensures.rows c.in_ok-delivers.ensures.names c.in_ok-delivers.ensures.order) c.in_ok-harvests.ensures.rows c.in_ok-harvests.ensures.names c.in_ok-harvests.ensures.order) c.in_ok-tces.ensures.rows c.in_ok-tces.ensures.names c.in_ok-tces.ensures.order) begun) c.in_err-copies.ensures.begun in
+    search (rules, fact)
+
+pub returns-in_err-strokes-clause-begun : goal.returns-in_err-strokes-clause-begun
+returns-in_err-strokes-clause-begun c =
+    let b : c.args.bytes.now ≡ codes "trace 1\n" ++ c.in-Some.rest.now = search rules in
+    let fact : WhereBadAt c.in_err-strokes.field-0.0 (BeginsSome trace_text IsInForm c.args.bytes.now) = where_bad_at c.in_err-strokes.field-0.0 _ _ (λ left begun. part_begins strokes_part (all_next c.in_ok-copies.copies copies_part (all_next c.in_ok-tces.tces tces_part (all_next c.in_ok-harvests.harvests harvests_part (all_next c.in_ok-delivers.delivers delivers_part (all_next c.in_ok-posts.posts posts_part (all_next c.in_ok-ports.ports ports_part (all_next c.in_ok-frames.frames frames_part (all_next c.in_ok-answers.answers answers_part (all_next c.in_ok-serves.serves serves_part (all_next c.in_ok-grants.grants grants_part (all_next c.in_ok-queues.queues queues_part (all_next c.in_ok-logs.logs logs_part (all_start b) c.in_ok-logs.ensures.rows c.in_ok-logs.ensures.names c.in_ok-logs.ensures.order) c.in_ok-queues.ensures.rows c.in_ok-queues.ensures.names c.in_ok-queues.ensures.order) c.in_ok-grants.ensures.rows c.in_ok-grants.ensures.names c.in_ok-grants.ensures.order) c.in_ok-serves.ensures.rows c.in_ok-serves.ensures.names c.in_ok-serves.ensures.order) c.in_ok-answers.ensures.rows c.in_ok-answers.ensures.names c.in_ok-answers.ensures.order) c.in_ok-frames.ensures.rows c.in_ok-frames.ensures.names c.in_ok-frames.ensures.order) c.in_ok-ports.ensures.rows c.in_ok-ports.ensures.names c.in_ok-ports.ensures.order) c.in_ok-posts.ensures.rows c.in_ok-posts.ensures.names c.in_ok-posts.ensures.order) c.in_ok-delivers.ensures.rows c.in_ok-delivers.ensures.names c.in_ok-delivers.ensures.order) c.in_ok-harvests.ensures.rows c.in_ok-harvests.ensures.names c.in_ok-harvests.ensures.order) c.in_ok-tces.ensures.rows c.in_ok-tces.ensures.names c.in_ok-tces.ensures.order) c.in_ok-copies.ensures.rows c.in_ok-copies.ensures.names c.in_ok-copies.ensures.order) begun) c.in_err-strokes.ensures.begun in
+    search (rules, fact)
+
+pub returns-in_err-read_end-clause-begun : goal.returns-in_err-read_end-clause-begun
+returns-in_err-read_end-clause-begun c =
+    let b : c.args.bytes.now ≡ codes "trace 1\n" ++ c.in-Some.rest.now = search rules in
+    let fact : WhereBadAt c.in_err-read_end.field-0.0 (BeginsSome trace_text IsInForm c.args.bytes.now) = where_bad_at c.in_err-read_end.field-0.0 _ _ (λ left begun. end_begins (all_next c.in_ok-strokes.strokes strokes_part (all_next c.in_ok-copies.copies copies_part (all_next c.in_ok-tces.tces tces_part (all_next c.in_ok-harvests.harvests harvests_part (all_next c.in_ok-delivers.delivers delivers_part (all_next c.in_ok-posts.posts posts_part (all_next c.in_ok-ports.ports ports_part (all_next c.in_ok-frames.frames frames_part (all_next c.in_ok-answers.answers answers_part (all_next c.in_ok-serves.serves serves_part (all_next c.in_ok-grants.grants grants_part (all_next c.in_ok-queues.queues queues_part (all_next c.in_ok-logs.logs logs_part (all_start b) c.in_ok-logs.ensures.rows c.in_ok-logs.ensures.names c.in_ok-logs.ensures.order) c.in_ok-queues.ensures.rows c.in_ok-queues.ensures.names c.in_ok-queues.ensures.order) c.in_ok-grants.ensures.rows c.in_ok-grants.ensures.names c.in_ok-grants.ensures.order) c.in_ok-serves.ensures.rows c.in_ok-serves.ensures.names c.in_ok-serves.ensures.order) c.in_ok-answers.ensures.rows c.in_ok-answers.ensures.names c.in_ok-answers.ensures.order) c.in_ok-frames.ensures.rows c.in_ok-frames.ensures.names c.in_ok-frames.ensures.order) c.in_ok-ports.ensures.rows c.in_ok-ports.ensures.names c.in_ok-ports.ensures.order) c.in_ok-posts.ensures.rows c.in_ok-posts.ensures.names c.in_ok-posts.ensures.order) c.in_ok-delivers.ensures.rows c.in_ok-delivers.ensures.names c.in_ok-delivers.ensures.order) c.in_ok-harvests.ensures.rows c.in_ok-harvests.ensures.names c.in_ok-harvests.ensures.order) c.in_ok-tces.ensures.rows c.in_ok-tces.ensures.names c.in_ok-tces.ensures.order) c.in_ok-copies.ensures.rows c.in_ok-copies.ensures.names c.in_ok-copies.ensures.order) c.in_ok-strokes.ensures.rows c.in_ok-strokes.ensures.names c.in_ok-strokes.ensures.order) begun) c.in_err-read_end.ensures.begun in
     search (rules, fact)

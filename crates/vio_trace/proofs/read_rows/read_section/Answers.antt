@@ -1,9 +1,11 @@
 use Rattle.std.proofs.Common.{rules, ◌≡◌, ◌∷◌, [], ◌++◌, length, subst, sym}
 use Rattle.std.proofs.lemmas.List.Elements.{All-push}
+use Rattle.vio_trace.specs.Begun.{BeginsRow, EachFollows}
 use Rattle.vio_trace.specs.Reading.{FollowsLast, NoneBegins, WhereBad}
 use Rattle.vio_trace.specs.Shared.{IsOfSection, NoneFollows, NoneShares}
 use Rattle.vio_trace.proofs.Ahead.{all_more, no_section, only_order, only_refused}
 use Rattle.vio_trace.proofs.AheadShared.{none_begun, none_next, section_bad, shared_more, shared_only}
+use Rattle.vio_trace.proofs.Begun.{begins_rows}
 use Rattle.vio_trace.proofs.Pushed.{not_both, push_text, push_order}
 use Rattle.vio_trace.proofs.read_rows.read_section.Goals as goal
 use Rattle.vio_trace.proofs.read_rows.read_section.Goals.{then-left-rest-via-then-left-rest, then-left-rest-via-else-left-rest+in_ok-is_out_of_order-in-Err-Bad+then-branch}
@@ -71,3 +73,12 @@ returns-in-Err-Bad-clause-bad g c =
     let of : IsOfSection g.R.SectionRow.kind c.loop-row.rest.now = search rules in
     section_bad g.R.Lines.text g.R.Lines.in_range g.R.SectionRow.names_itself g.R.SectionRow.before g.R.SectionRow.kind
     c.loop-row.rows c.args.text.now c.loop-row.rest.now c.in-Err-Bad.left c.loop-row.invariant.shared c.loop-row.invariant.text bad of
+
+pub returns-in-Err-Bad-clause-begun : goal.returns-in-Err-Bad-clause-begun
+returns-in-Err-Bad-clause-begun g c =
+    let begun : BeginsRow g.R.Lines.text g.R.Lines.in_range g.R.SectionRow.names_itself c.loop-row.rest.now c.in-Err-Bad.left = search (rules, c.in-Err-Bad.ensures.begun) in
+    let behind : ¬ (c.in-Err-Bad.left ≡ length c.loop-row.rest.now) = search rules in
+    let follows : EachFollows g.R.Lines.text g.R.Lines.in_range g.R.SectionRow.before c.loop-row.rows c.loop-row.rest.now = search rules in
+    begins_rows g.R.Lines.text g.R.Lines.in_range g.R.SectionRow.names_itself g.R.SectionRow.before
+    c.loop-row.rows c.args.text.now c.loop-row.rest.now c.in-Err-Bad.left c.loop-row.invariant.rows c.loop-row.invariant.names c.loop-row.invariant.order
+    c.loop-row.invariant.text follows (begun behind)

@@ -1,8 +1,12 @@
-use Rattle.std.proofs.Common.{rules}
-use Rattle.vio_trace.specs.Form.{IsFrameRow}
+use Rattle.std.proofs.Common.{rules, All}
+use Rattle.vio_trace.specs.declared.lan_rows.FrameRow.{FrameRow}
+use Rattle.vio_trace.specs.Begun.{BeginsRow}
+use Rattle.vio_trace.specs.Form.{IsFrameRow, IsOfferOf}
 use Rattle.vio_trace.specs.Reading.{NoneBegins, WhereBad}
 use Rattle.vio_trace.specs.Text.{frame_text}
 use Rattle.vio_trace.specs.Shared.{NoneShares, WhereBadAt}
+use Rattle.vio_trace.proofs.Begun.{first_head}
+use Rattle.vio_trace.proofs.BegunRows.{frame_begins_from}
 use Rattle.vio_trace.proofs.Badly.{frame_bad_head, frame_bad_from}
 use Rattle.vio_trace.proofs.Sharing.{where_bad_at, where_bad_none}
 use Rattle.vio_trace.proofs.Headed.{where_bad, frame_none_head, frame_none_from}
@@ -36,4 +40,19 @@ returns-in_err-from-clause-bad c =
 pub returns-in_err-offers-clause-bad : goal.returns-in_err-offers-clause-bad
 returns-in_err-offers-clause-bad c =
     let fact : WhereBadAt c.in_err-offers.field-0.0 (NoneShares (NoneBegins frame_text IsFrameRow) c.args.text.now) = where_bad_none c.in_err-offers.field-0.0 _ c.in_err-offers.ensures.refused in
+    search (rules, fact)
+
+pub returns-in_err-head-clause-begun : goal.returns-in_err-head-clause-begun
+returns-in_err-head-clause-begun c =
+    let fact : WhereBadAt c.in_err-head.field-0.0 (BeginsRow frame_text IsFrameRow (λ (frame : FrameRow). All (IsOfferOf frame) frame.offers) c.args.text.now) = where_bad_at c.in_err-head.field-0.0 _ (BeginsRow frame_text IsFrameRow (λ (frame : FrameRow). All (IsOfferOf frame) frame.offers) c.args.text.now) (λ left. first_head frame_text IsFrameRow (λ (frame : FrameRow). All (IsOfferOf frame) frame.offers) c.args.text.now left) c.in_err-head.ensures.alone in
+    search (rules, fact)
+
+pub returns-in_err-from-clause-begun : goal.returns-in_err-from-clause-begun
+returns-in_err-from-clause-begun c =
+    let fact : WhereBadAt c.in_err-from.field-0.0 (BeginsRow frame_text IsFrameRow (λ (frame : FrameRow). All (IsOfferOf frame) frame.offers) c.args.text.now) = where_bad_at c.in_err-from.field-0.0 _ (BeginsRow frame_text IsFrameRow (λ (frame : FrameRow). All (IsOfferOf frame) frame.offers) c.args.text.now) (λ left. frame_begins_from c.args.text.now c.in_ok-head.rest.now c.in_ok-head.head left c.in_ok-head.ensures.ok.0 c.in_ok-head.ensures.ok.1) c.in_err-from.ensures.begun in
+    search (rules, fact)
+
+pub returns-in_err-offers-clause-begun : goal.returns-in_err-offers-clause-begun
+returns-in_err-offers-clause-begun c =
+    let fact : WhereBadAt c.in_err-offers.field-0.0 (BeginsRow frame_text IsFrameRow (λ (frame : FrameRow). All (IsOfferOf frame) frame.offers) c.args.text.now) = where_bad_none c.in_err-offers.field-0.0 _ c.in_err-offers.ensures.refused in
     search (rules, fact)
