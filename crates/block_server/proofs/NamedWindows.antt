@@ -27,10 +27,10 @@ use Rattle.block_server.proofs.Making.{IsNamedPage, page_laid, page_written}
 one_unit : (a b : UnitId) → same_unit a b ≡ true → a ≡ b
 one_unit a b is = grind (arith, nat_tests)
 
-unit_same : (a b : UnitId) → a ≡ b → same_unit a b ≡ true
+pub unit_same : (a b : UnitId) → a ≡ b → same_unit a b ≡ true
 unit_same a b is = grind (arith, nat_tests, is)
 
-unit_other : (a b : UnitId) → a ≢ b → same_unit a b ≡ false
+pub unit_other : (a b : UnitId) → a ≢ b → same_unit a b ≡ false
 unit_other a b apart = by (same_unit a b) refl
   where
     by : (t : Bool) → same_unit a b ≡ t → t ≡ false
@@ -111,7 +111,7 @@ of_pages : (window : Side) (copies : List CopyRecord) → ((page : ℕ) → IsNa
 of_pages window copies pages = record { rising = λ page. (pages page).rising; there = λ page. (pages page).there; others = λ page. (pages page).others }
 
 -- what is known of a page that no other has a hand in stays the same
-grows_same : (old new : Option (List StrokeValue)) → Grows false old new → new ≡ old
+pub grows_same : (old new : Option (List StrokeValue)) → Grows false old new → new ≡ old
 grows_same (Some old) (Some new) grown = ap Some grown
 grows_same (Some old) None grown = absurd grown
 grows_same None (Some new) grown = absurd grown

@@ -28,7 +28,7 @@ first_grants Write e = odd ((4096 * e + 3) / 2 % 2) (omega arith)
     odd n is = subst (λ (m : ℕ). (m == 1) ≡ true) (sym is) refl
 
 -- the only value of a list of one is its last
-only_one : (xs : List ℕ) (value version x : ℕ) → xs ≡ value ∷ [] → slice_get xs version ≡ Some x → length xs ≡ version + 1 → x ≡ value
+pub only_one : (xs : List ℕ) (value version x : ℕ) → xs ≡ value ∷ [] → slice_get xs version ≡ Some x → length xs ≡ version + 1 → x ≡ value
 only_one xs value version x is shown last =
     let none : version ≡ 0 = omega (arith, ap length is, last) in
     some_is value x (sym (ap (λ (ys : List ℕ). slice_get ys 0) is) ∙ ap (slice_get xs) (sym none) ∙ shown)
@@ -48,7 +48,7 @@ own_grants values right n address len (NotGranted entry version tce) size first 
 own_grants values right n address len (InUse page word) size first inside of_entry is = absurd of_entry
 
 -- of a window in which nobody else has a hand the values are as before a copy
-same_first : (shared : Bool) (old new : PortState) → shared ≡ false → OnlyCopies shared old new → ((e : ℕ) → e < 34 → old.values e ≡ (4096 * e + 3) ∷ [])
+pub same_first : (shared : Bool) (old new : PortState) → shared ≡ false → OnlyCopies shared old new → ((e : ℕ) → e < 34 → old.values e ≡ (4096 * e + 3) ∷ [])
     → (e : ℕ) → e < 34 → new.values e ≡ (4096 * e + 3) ∷ []
 same_first true old new alone rest first e below = absurd (cc (alone))
 same_first false old new alone rest first e below = rest.values e ∙ first e below

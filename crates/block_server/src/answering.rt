@@ -1,15 +1,20 @@
 // Answering: what is put into the client's queue, and what ends a login.
-ghost use Rattle.std.specs.Prelude.{◌≡◌, ◌≢◌, ◌⊎◌, ◌+◌, ◌<◌, None, Some, IfOk, OnOk, false, true};
+ghost use Rattle.std.specs.Prelude.{◌≡◌, ◌≢◌, ◌⊎◌, ◌+◌, ◌<◌, ◌∷◌, ℕ, List, None, Some, IfOk, OnOk, drop, false, true};
 ghost use Rattle.block_server.specs.Advances.{Advances};
+ghost use Rattle.block_server.specs.Books.{books_at, books_of};
 ghost use Rattle.block_server.specs.Ends.{EndsLogin};
 ghost use Rattle.block_server.specs.Entries.{IsPlain, MayPut, is_answer_len};
 ghost use Rattle.block_server.specs.Serving.{AnswersOnce, AsNone, LeavesRow, SettlesRow, desk_of};
 ghost use Rattle.crq_session.specs.EndState.{EndState};
+ghost use Rattle.block_server.specs.Judged.{Keeps, gets_row, is_login, is_logout, keys_of};
+ghost use Rattle.block_server.specs.Moves.{Passes};
+ghost use Rattle.block_server.specs.Receipts.{LinesMore, TakesIn, standing_of};
 ghost use Rattle.block_server.specs.Ready.{MeetsFull};
 ghost use Rattle.block_server.specs.Stage.{is_answered};
 ghost use Rattle.block_server.specs.Turns.{IfQuiet};
 ghost use Rattle.block_server.specs.Waits.{AsNext, IsEntryDue, IsHeldUp, IsPending, MeetsUse, PassesKept, StaysAgreed};
 ghost use Rattle.vio_num.specs.Entry.{srp_entry};
+ghost use Rattle.block_server.specs.declared.request.Request.{Request};
 ghost use Rattle.block_server.specs.declared.service.Outcome.{Outcome};
 ghost use Rattle.block_server.specs.Records.{HasLineRoom};
 
@@ -39,6 +44,10 @@ pub(crate) fn put_reply<S: Site>(unit: &mut Unit, site: &mut S, reply: Entry) ->
     ensures agrees { StaysAgreed unit.old unit.new
         (S.state site.old).queue (S.state site.new).queue }
     ensures advances { Advances (S.state site.old) (S.state site.new) }
+    ensures stands { standing_of unit.new ≡ standing_of unit.old }
+    ensures passes { Passes (S.state site.old) (S.state site.new) }
+    ensures books { (records : Records) → Keeps (books_at unit.old (S.state site.old) records)
+        (books_at unit.new (S.state site.new) records) }
 {
     match site.send(reply) {
         SendAnswer::Dropped { .. } => {
@@ -70,6 +79,9 @@ pub(crate) fn end_session(
     ensures stage { unit.new.service.stage ≡ Stage.Start }
     ensures handshake { unit.new.line.handshake ≡ unit.old.line.handshake }
     ensures moved { unit.new.moved ≡ true }
+    ensures id { unit.new.id ≡ unit.old.id }
+    ensures books { (q q' next next' : ℕ) → is_logout cause ≡ false → Keeps
+        (books_of unit.old q next records.old) (books_of unit.new q' next' records.new) }
 {
     end_counted(unit, session, records, cause, 0, 0)
 }
@@ -94,6 +106,9 @@ pub(crate) fn end_counted(
     ensures stage { unit.new.service.stage ≡ Stage.Start }
     ensures handshake { unit.new.line.handshake ≡ unit.old.line.handshake }
     ensures moved { unit.new.moved ≡ true }
+    ensures id { unit.new.id ≡ unit.old.id }
+    ensures books { (q q' next next' : ℕ) → is_logout cause ≡ false → Keeps
+        (books_of unit.old q next records.old) (books_of unit.new q' next' records.new) }
 {
     end_login(unit, session, records, cause, outstanding, granted);
     unit.line.closing = true;
@@ -109,6 +124,10 @@ pub(crate) fn lose_partner(unit: &mut Unit, session: u64, records: &mut Records)
         records.old records.new }
     ensures handshake { unit.new.line.handshake ≡ unit.old.line.handshake }
     ensures moved { unit.new.moved ≡ unit.old.moved }
+    ensures stands { unit.old.waiting ≡ None →
+        standing_of unit.new ≡ standing_of unit.old }
+    ensures books { (q q' next next' : ℕ) → Keeps
+        (books_of unit.old q next records.old) (books_of unit.new q' next' records.new) }
 {
     end_login(unit, session, records, Lapse::Lost, 0, 0);
 }
@@ -131,6 +150,10 @@ fn end_login(
     ensures stage { unit.new.service.stage ≡ Stage.Start }
     ensures handshake { unit.new.line.handshake ≡ unit.old.line.handshake }
     ensures moved { unit.new.moved ≡ unit.old.moved }
+    ensures id { unit.new.id ≡ unit.old.id }
+    ensures closing { unit.new.line.closing ≡ unit.old.line.closing }
+    ensures books { (q q' next next' : ℕ) → is_logout cause ≡ false → Keeps
+        (books_of unit.old q next records.old) (books_of unit.new q' next' records.new) }
 {
     bytes_spell_one();
     leave_row(unit, records);
@@ -158,6 +181,8 @@ fn leave_row(unit: &mut Unit, records: &mut Records)
     ensures stage { unit.new.service.stage ≡ Stage.Start }
     ensures line { unit.new.line ≡ unit.old.line }
     ensures moved { unit.new.moved ≡ unit.old.moved }
+    ensures waiting { unit.new.waiting ≡ unit.old.waiting }
+    ensures keys { keys_of records.new.history.items ≡ keys_of records.old.history.items }
 {
     cut_data(&mut unit.service, records);
     unit.service.reset();
@@ -168,6 +193,7 @@ fn cut_data(service: &mut Service, records: &mut Records)
     ensures row { LeavesRow service.old.stage service.old.given.items
         records.old.history.items records.new.history.items }
     ensures grants { records.new.grants ≡ records.old.grants }
+    ensures keys { keys_of records.new.history.items ≡ keys_of records.old.history.items }
 {
     match service.stage {
         Stage::Given { row, .. } => records.fill(row, service.take_given(0)),
@@ -186,6 +212,13 @@ pub(crate) fn log_out(unit: &mut Unit, session: u64, records: &mut Records)
         records.old records.new }
     ensures handshake { unit.new.line.handshake ≡ unit.old.line.handshake }
     ensures moved { unit.new.moved ≡ true }
+    ensures stands { standing_of unit.new ≡ standing_of unit.old }
+    ensures lines { LinesMore unit.old.id
+        records.old.grants.items records.new.grants.items }
+    ensures books { (q next : ℕ) → (front : Request) → (rest : List Request) →
+        unit.old.pending.items ≡ front ∷ rest → is_login front.order ≡ false →
+        gets_row front.order ≡ false → Keeps
+        (books_of unit.old q next records.old) (books_of unit.new q next records.new) }
 {
     let login = unit.logins.end();
     records.grants.push_reserved(Grant::Lapsed {
@@ -217,6 +250,12 @@ pub(crate) fn answer<S: Site>(
     ensures agrees { StaysAgreed unit.old unit.new
         (S.state site.old).queue (S.state site.new).queue }
     ensures advances { Advances (S.state site.old) (S.state site.new) }
+    ensures intake { TakesIn (standing_of unit.old) (standing_of unit.new)
+        (S.state site.old) (S.state site.new)
+        records.old.grants.items records.new.grants.items }
+    ensures books { Keeps (books_at unit.old (S.state site.old) records.old)
+        (books_at unit.new (S.state site.new) records.new) }
+    ensures passes { Passes (S.state site.old) (S.state site.new) }
 {
     records.make_room()?;
     unit.logins.make_room()?;
@@ -249,6 +288,12 @@ fn copy_answer<S: Site>(
     ensures last { unit.new.logins.last ≡ unit.old.logins.last }
     ensures line { (outcome : Outcome) → unit.new.service.stage ≡ Stage.Entry outcome →
         HasLineRoom records.new }
+    ensures intake { TakesIn (standing_of unit.old) (standing_of unit.new)
+        (S.state site.old) (S.state site.new)
+        records.old.grants.items records.new.grants.items }
+    ensures books { Keeps (books_at unit.old (S.state site.old) records.old)
+        (books_at unit.new (S.state site.new) records.new) }
+    ensures passes { Passes (S.state site.old) (S.state site.new) }
 {
     let Stage::Answer(outcome) = unit.service.stage else {
         return Ok(());
@@ -278,6 +323,10 @@ fn deliver<S: Site>(unit: &mut Unit, site: &mut S, outcome: Outcome) -> Result<P
     ensures line { unit.new.line ≡ unit.old.line }
     ensures advances { Advances (S.state site.old) (S.state site.new) }
     ensures logins { unit.new.logins ≡ unit.old.logins }
+    ensures stands { standing_of unit.new ≡ standing_of unit.old }
+    ensures passes { Passes (S.state site.old) (S.state site.new) }
+    ensures books { (records : Records) → Keeps (books_at unit.old (S.state site.old) records)
+        (books_at unit.new (S.state site.new) records) }
 {
     let Some(request) = unit.pending.front() else {
         return Ok(Progress::Busy);
@@ -309,6 +358,12 @@ fn put_answer<S: Site>(unit: &mut Unit, site: &mut S, records: &mut Records, out
     ensures agrees { StaysAgreed unit.old unit.new
         (S.state site.old).queue (S.state site.new).queue }
     ensures advances { Advances (S.state site.old) (S.state site.new) }
+    ensures stands { standing_of unit.new ≡ standing_of unit.old }
+    ensures passes { Passes (S.state site.old) (S.state site.new) }
+    ensures lines { LinesMore unit.old.id
+        records.old.grants.items records.new.grants.items }
+    ensures books { Keeps (books_at unit.old (S.state site.old) records.old)
+        (books_at unit.new (S.state site.new) records.new) }
 {
     let Some(request) = unit.pending.front() else {
         return;
@@ -347,6 +402,12 @@ pub(crate) fn put_kept<S: Site>(
     ensures agrees { StaysAgreed unit.old unit.new
         (S.state site.old).queue (S.state site.new).queue }
     ensures advances { Advances (S.state site.old) (S.state site.new) }
+    ensures stands { standing_of unit.new ≡ standing_of unit.old }
+    ensures passes { Passes (S.state site.old) (S.state site.new) }
+    ensures lines { LinesMore unit.old.id
+        records.old.grants.items records.new.grants.items }
+    ensures books { Keeps (books_at unit.old (S.state site.old) records.old)
+        (books_at unit.new (S.state site.new) records.new) }
 {
     let Some(kept) = unit.line.kept else {
         return Ok(Next::Entry);
@@ -385,6 +446,12 @@ fn settle(unit: &mut Unit, session: u64, records: &mut Records, outcome: Outcome
     ensures kept { unit.new.line.kept ≡ unit.old.line.kept }
     ensures handshake { unit.new.line.handshake ≡ unit.old.line.handshake }
     ensures moved { unit.new.moved ≡ true }
+    ensures stands { standing_of unit.new ≡ standing_of unit.old }
+    ensures lines { LinesMore unit.old.id
+        records.old.grants.items records.new.grants.items }
+    ensures books { (next : ℕ) → unit.old.service.stage ≡ Stage.Entry outcome →
+        unit.old.line.kept ≡ None → Keeps (books_of unit.old session next records.old)
+        (books_of unit.new session next records.new) }
 {
     match outcome {
         Outcome::Granted { number } => {
@@ -415,6 +482,10 @@ fn finish(unit: &mut Unit)
     ensures kept { unit.new.line.kept ≡ unit.old.line.kept }
     ensures handshake { unit.new.line.handshake ≡ unit.old.line.handshake }
     ensures moved { unit.new.moved ≡ true }
+    ensures stands { standing_of unit.new ≡ standing_of unit.old }
+    ensures pending { unit.new.pending.items ≡ drop 1 unit.old.pending.items }
+    ensures logins { unit.new.logins ≡ unit.old.logins }
+    ensures line { unit.new.line ≡ unit.old.line }
 {
     let _served = unit.pending.pop_front();
     unit.service.reset();

@@ -3,6 +3,7 @@ ghost use Rattle.std.specs.Prelude.{◌≡◌, ◌⊎◌, ◌%◌, ◌≤◌, If
 ghost use Rattle.block_server.specs.Advances.{Advances};
 ghost use Rattle.block_server.specs.Causes.{IsBad, IsNamed, RefusesBuffer, RefusesData, RefusesOut, TurnsDown};
 ghost use Rattle.block_server.specs.Fetched.{DeniesTable, Gathers, HasBadSum, IfDone, IfRefused, IsRead};
+ghost use Rattle.block_server.specs.Moves.{Passes};
 ghost use Rattle.block_server.specs.SiteState.{denied_between};
 ghost use Rattle.tce_window.specs.declared.answers.Right.TheVariants.{Read};
 ghost use Rattle.block_server.specs.Stage.{has_outs, is_before_step, is_data_out, is_judged};
@@ -52,6 +53,7 @@ pub(crate) fn fetch<S: Site>(
         is_before_step service.old.stage ≡ true → is_data_out service.new.stage ≡ true) }
     ensures queue { (S.state site.new).queue ≡ (S.state site.old).queue }
     ensures advances { Advances (S.state site.old) (S.state site.new) }
+    ensures passes { Passes (S.state site.old) (S.state site.new) }
 {
     if is_refused(service, command) {
         return Ok(Progress::Refused);
@@ -111,6 +113,7 @@ fn fetch_out_pieces<S: Site>(
         is_judged service.old.stage ≡ true → has_outs service.new.stage ≡ true) }
     ensures queue { (S.state site.new).queue ≡ (S.state site.old).queue }
     ensures advances { Advances (S.state site.old) (S.state site.new) }
+    ensures passes { Passes (S.state site.old) (S.state site.new) }
 {
     if service.stage != Stage::OutTable {
         return Ok(Progress::Done);
@@ -142,6 +145,7 @@ fn fetch_in_pieces<S: Site>(
         has_outs service.old.stage ≡ true → is_data_out service.new.stage ≡ true) }
     ensures queue { (S.state site.new).queue ≡ (S.state site.old).queue }
     ensures advances { Advances (S.state site.old) (S.state site.new) }
+    ensures passes { Passes (S.state site.old) (S.state site.new) }
 {
     if service.stage != Stage::InTable {
         return Ok(Progress::Done);
@@ -170,6 +174,7 @@ fn fetch_data_out<S: Site>(service: &mut Service, site: &mut S) -> Result<Progre
         is_data_out service.new.stage ≡ true }
     ensures queue { (S.state site.new).queue ≡ (S.state site.old).queue }
     ensures advances { Advances (S.state site.old) (S.state site.new) }
+    ensures passes { Passes (S.state site.old) (S.state site.new) }
 {
     match service.stage {
         Stage::DataOut(cursor) => fetch_data(service, site, cursor),
@@ -190,6 +195,7 @@ fn fetch_pieces<S: Site>(
         MeetsUse (S.state site.old) (S.state site.new)) }
     ensures queue { (S.state site.new).queue ≡ (S.state site.old).queue }
     ensures advances { Advances (S.state site.old) (S.state site.new) }
+    ensures passes { Passes (S.state site.old) (S.state site.new) }
 {
     match pieces_of(buffer) {
         Ok(Pieces::Whole(list)) => {
@@ -223,6 +229,7 @@ fn fetch_table<S: Site>(
         MeetsUse (S.state site.old) (S.state site.new)) }
     ensures queue { (S.state site.new).queue ≡ (S.state site.old).queue }
     ensures advances { Advances (S.state site.old) (S.state site.new) }
+    ensures passes { Passes (S.state site.old) (S.state site.new) }
 {
     let mut buffer = [0; MAX_TABLE_LEN];
     let bytes = &mut buffer[..table.len as usize];
@@ -257,6 +264,7 @@ fn fetch_data<S: Site>(
         MeetsUse (S.state site.old) (S.state site.new)) }
     ensures queue { (S.state site.new).queue ≡ (S.state site.old).queue }
     ensures advances { Advances (S.state site.old) (S.state site.new) }
+    ensures passes { Passes (S.state site.old) (S.state site.new) }
 {
     let mut cursor = start;
     while let Some(part) = cursor.next(service.out.as_slice(), service.out.total()) {

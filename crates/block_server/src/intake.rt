@@ -1,5 +1,5 @@
 // Intake: entries are taken from the unit's queue, and the requests among them are fetched and judged.
-ghost use Rattle.std.specs.Prelude.{◌≡◌, ◌+◌, ◌<◌, ◌≤◌, ℕ, List, None, IfOk, OnOk, false, length};
+ghost use Rattle.std.specs.Prelude.{◌≡◌, ◌⊎◌, ◌↔◌, ◌+◌, ◌<◌, ◌≤◌, ℕ, List, None, Some, IfOk, IsTrue, OnOk, false, true, length, slice_index};
 ghost use Rattle.std.specs.VecDeque.{deque_len, deque_capacity};
 ghost use Rattle.block_server.specs.Records.{HasLineRoom};
 ghost use Rattle.block_server.specs.Advances.{Advances};
@@ -7,9 +7,16 @@ ghost use Rattle.block_server.specs.Ready.{Idles};
 ghost use Rattle.block_server.specs.Turns.{IfQuiet, StaysMoved, under_way};
 ghost use Rattle.block_server.specs.Waits.{AsNext, EndsIntake, FindsNothing, MeetsUse, StaysAgreed};
 ghost use Rattle.block_server.specs.Serving.{AnswersOnce, AsNone, desk_of};
+ghost use Rattle.block_server.specs.Receipts.{LinesMore, MayTake, Receipt, TakesEntry, TakesIn, is_ended, is_fatal, standing_of};
+ghost use Rattle.block_server.specs.SiteState.{SiteState};
+ghost use Rattle.block_server.specs.Books.{books_at, books_of};
+ghost use Rattle.block_server.specs.Decided.{Decides, IsToJudge, JudgesOne, StaysOn};
+ghost use Rattle.block_server.specs.Judges.{Judges};
+ghost use Rattle.block_server.specs.Judged.{Asks, Keeps, gets_row};
 ghost use Rattle.block_server.specs.Verdicts.{IsTagged};
 ghost use Rattle.crq_session.specs.EndState.{EndState};
 ghost use Rattle.srp_iu.specs.Grammar.{Spells};
+ghost use Rattle.vio_num.specs.Entry.{first_byte};
 ghost use Rattle.srp_iu.specs.Layout.{field};
 ghost use Rattle.block_server.specs.Orders.{IsOrder};
 
@@ -89,6 +96,14 @@ pub(crate) fn take_in<S: Site>(
     ensures agrees { StaysAgreed unit.old unit.new
         (S.state site.old).queue (S.state site.new).queue }
     ensures advances { Advances (S.state site.old) (S.state site.new) }
+    ensures intake { is_ended unit.old.line ≡ false → TakesIn
+        (standing_of unit.old) (standing_of unit.new)
+        (S.state site.old) (S.state site.new)
+        records.old.grants.items records.new.grants.items }
+    ensures judges { is_ended unit.old.line ≡ false → Judges
+        (standing_of unit.old) (standing_of unit.new) (S.state site.old) (S.state site.new)
+        (books_at unit.old (S.state site.old) records.old)
+        (books_at unit.new (S.state site.new) records.new) }
 {
     let next = receive_waiting(unit, site, records)?;
     if next != Next::Entry {
@@ -125,6 +140,15 @@ fn receive_waiting<S: Site>(
     ensures handshake { unit.new.line.handshake ≡ unit.old.line.handshake }
     ensures queue { (S.state site.new).queue ≡ (S.state site.old).queue }
     ensures advances { Advances (S.state site.old) (S.state site.new) }
+    ensures intake { TakesIn (standing_of unit.old) (standing_of unit.new)
+        (S.state site.old) (S.state site.new)
+        records.old.grants.items records.new.grants.items }
+    ensures goes_on { is_ended unit.old.line ≡ false → IfOk result (λ next.
+        next ≡ Next.Entry → MayTake (standing_of unit.new)) }
+    ensures judges { Judges
+        (standing_of unit.old) (standing_of unit.new) (S.state site.old) (S.state site.new)
+        (books_at unit.old (S.state site.old) records.old)
+        (books_at unit.new (S.state site.new) records.new) }
 {
     let Some(arrival) = unit.waiting else {
         return Ok(Next::Entry);
@@ -143,6 +167,10 @@ fn make_room(unit: &mut Unit, records: &mut Records) -> Result<(), NoMemory>
     ensures kept { unit.new.line.kept ≡ unit.old.line.kept }
     ensures history { records.new.history.items ≡ records.old.history.items }
     ensures moved { unit.new.moved ≡ unit.old.moved }
+    ensures stands { standing_of unit.new ≡ standing_of unit.old }
+    ensures grants { records.new.grants.items ≡ records.old.grants.items }
+    ensures books { (site : SiteState) → Keeps (books_at unit.old site records.old)
+        (books_at unit.new site records.new) }
 {
     unit.pending.reserve(1)?;
     records.make_room()
@@ -166,6 +194,16 @@ fn take_one<S: Site>(unit: &mut Unit, site: &mut S, records: &mut Records) -> Re
     ensures agrees { StaysAgreed unit.old unit.new
         (S.state site.old).queue (S.state site.new).queue }
     ensures advances { Advances (S.state site.old) (S.state site.new) }
+    ensures intake { MayTake (standing_of unit.old) → TakesIn
+        (standing_of unit.old) (standing_of unit.new)
+        (S.state site.old) (S.state site.new)
+        records.old.grants.items records.new.grants.items }
+    ensures goes_on { MayTake (standing_of unit.old) → IfOk result (λ next.
+        next ≡ Next.Entry → MayTake (standing_of unit.new)) }
+    ensures judges { MayTake (standing_of unit.old) → Judges
+        (standing_of unit.old) (standing_of unit.new) (S.state site.old) (S.state site.new)
+        (books_at unit.old (S.state site.old) records.old)
+        (books_at unit.new (S.state site.new) records.new) }
 {
     site.reserve(2)?;
     let PollAnswer::Got { number, entry } = site.poll() else {
@@ -209,6 +247,19 @@ fn take_command<S: Site>(
     ensures agrees { StaysAgreed unit.old unit.new
         (S.state site.old).queue (S.state site.new).queue }
     ensures advances { Advances (S.state site.old) (S.state site.new) }
+    ensures intake { (before : SiteState) → MayTake (standing_of unit.old) →
+        first_byte arrival.entry ≡ 0x80 →
+        TakesEntry before (S.state site.old) arrival.number arrival.entry →
+        TakesIn (standing_of unit.old) (standing_of unit.new) before (S.state site.new)
+        records.old.grants.items records.new.grants.items }
+    ensures goes_on { MayTake (standing_of unit.old) → IfOk result (λ next.
+        next ≡ Next.Entry → MayTake (standing_of unit.new)) }
+    ensures judges { (before : SiteState) → MayTake (standing_of unit.old) →
+        first_byte arrival.entry ≡ 0x80 →
+        TakesEntry before (S.state site.old) arrival.number arrival.entry →
+        Judges (standing_of unit.old) (standing_of unit.new) before (S.state site.new)
+        (books_at unit.old before records.old)
+        (books_at unit.new (S.state site.new) records.new) }
 {
     match arrival.entry.format() {
         SRP => {
@@ -241,6 +292,16 @@ fn receive<S: Site>(
     ensures handshake { unit.new.line.handshake ≡ unit.old.line.handshake }
     ensures queue { (S.state site.new).queue ≡ (S.state site.old).queue }
     ensures advances { Advances (S.state site.old) (S.state site.new) }
+    ensures intake { unit.old.waiting ≡ Some arrival → TakesIn
+        (standing_of unit.old) (standing_of unit.new)
+        (S.state site.old) (S.state site.new)
+        records.old.grants.items records.new.grants.items }
+    ensures goes_on { is_ended unit.old.line ≡ false → IfOk result (λ next.
+        next ≡ Next.Entry → MayTake (standing_of unit.new)) }
+    ensures judges { unit.old.waiting ≡ Some arrival → Judges
+        (standing_of unit.old) (standing_of unit.new) (S.state site.old) (S.state site.new)
+        (books_at unit.old (S.state site.old) records.old)
+        (books_at unit.new (S.state site.new) records.new) }
 {
     let session = site.session();
     if !unit.line.is_up() {
@@ -281,6 +342,15 @@ fn judge(
         records.old records.new }
     ensures handshake { unit.new.line.handshake ≡ unit.old.line.handshake }
     ensures moved { StaysMoved unit.old unit.new }
+    ensures id { unit.new.id ≡ unit.old.id }
+    ensures lines { LinesMore unit.old.id
+        records.old.grants.items records.new.grants.items }
+    ensures waiting { unit.old.waiting ≡ None → unit.new.waiting ≡ None }
+    ensures goes_on { result ≡ Next.Entry → unit.new.line ≡ unit.old.line }
+    ensures judged { (next next' : ℕ) → (receipt : Receipt) → IsToJudge
+        (books_of unit.old session next records.old) session next' arrival.number bytes.now receipt →
+        JudgesOne (books_of unit.old session next records.old)
+        (books_of unit.new session next' records.new) receipt }
 {
     match judge_unit(&mut unit.logins, bytes) {
         Verdict::Ignored => Next::Entry,
@@ -308,28 +378,31 @@ fn judge(
 
 // Says what becomes of an information unit.
 fn judge_unit(logins: &mut Logins, bytes: &[u8]) -> Verdict
-    ensures { IsTagged result bytes.now }
+    ensures tagged { IsTagged result bytes.now }
+    ensures decides { Decides logins.old logins.new bytes.now result }
 {
     match read_iu(bytes) {
-        Ok(Iu::LoginReq(login)) => Verdict::Accepted {
-            login: 0,
-            tag: login.tag,
-            order: Order::Login(login),
-        },
-        Ok(Iu::ILogout { tag }) => match logins.taking() {
-            Some(login) => {
-                logins.close();
-                Verdict::Accepted {
-                    login,
-                    tag,
-                    order: Order::Logout,
+        Ok(iu) => match iu {
+            Iu::LoginReq(login) => Verdict::Accepted {
+                login: 0,
+                tag: login.tag,
+                order: Order::Login(login),
+            },
+            Iu::ILogout { tag } => match logins.taking() {
+                Some(login) => {
+                    logins.close();
+                    Verdict::Accepted {
+                        login,
+                        tag,
+                        order: Order::Logout,
+                    }
                 }
-            }
-            None => fatal(Lapse::NotLogin),
+                None => fatal(Lapse::NotLogin),
+            },
+            Iu::TskMgmt(task) => accept(logins, task.tag, Order::Task(task)),
+            Iu::Cmd(command) => accept(logins, command.tag, Order::Command(command)),
+            _ => Verdict::Ignored,
         },
-        Ok(Iu::TskMgmt(task)) => accept(logins, task.tag, Order::Task(task)),
-        Ok(Iu::Cmd(command)) => accept(logins, command.tag, Order::Command(command)),
-        Ok(_) => Verdict::Ignored,
         Err(_) => {
             spelled_bytes_are_read();
             unreadable(logins, bytes)
@@ -339,7 +412,9 @@ fn judge_unit(logins: &mut Logins, bytes: &[u8]) -> Verdict
 
 // A cause that counts nothing.
 fn fatal(cause: Lapse) -> Verdict
-    ensures { (bytes : List ℕ) → IsTagged result bytes }
+    ensures tagged { (bytes : List ℕ) → IsTagged result bytes }
+    ensures decides { (old new : Logins) → (bytes : List ℕ) → StaysOn old new →
+        is_fatal cause ≡ true → Decides old new bytes result }
 {
     Verdict::Fatal {
         cause,
@@ -350,8 +425,10 @@ fn fatal(cause: Lapse) -> Verdict
 
 // Accepts a command or a task under the login that is on.
 fn accept(logins: &mut Logins, tag: u64, order: Order) -> Verdict
-    ensures { (bytes : List ℕ) → tag ≡ field 8 8 bytes → IsOrder order bytes →
+    ensures tagged { (bytes : List ℕ) → tag ≡ field 8 8 bytes → IsOrder order bytes →
         IsTagged result bytes }
+    ensures decides { (bytes : List ℕ) → Asks bytes → gets_row order ≡ true →
+        Decides logins.old logins.new bytes result }
 {
     let Some(login) = logins.taking() else {
         return fatal(Lapse::NotLogin);
@@ -375,15 +452,25 @@ fn accept(logins: &mut Logins, tag: u64, order: Order) -> Verdict
 // Judges bytes that are no information unit: under a login a command or a task that has a tag is accepted.
 fn unreadable(logins: &mut Logins, bytes: &[u8]) -> Verdict
     requires { (iu : Iu) → ¬ Spells bytes.now iu }
-    ensures { IsTagged result bytes.now }
+    ensures tagged { IsTagged result bytes.now }
+    ensures decides { Decides logins.old logins.new bytes.now result }
 {
     let Some(tag) = tag_of(bytes) else {
         return fatal(Lapse::BadIu);
     };
-    if logins.taking().is_none() || (bytes[0] != TSK_MGMT && bytes[0] != CMD) {
+    if logins.taking().is_none() || !asks(bytes) {
         return fatal(Lapse::BadIu);
     }
     accept(logins, tag, Order::Unreadable)
+}
+
+// Whether bytes have the type of a command or a task.
+fn asks(bytes: &[u8]) -> bool
+    requires { 1 ≤ length bytes.now }
+    ensures { IsTrue result ↔ ((slice_index bytes.now 0 ≡ TSK_MGMT) ⊎
+        (slice_index bytes.now 0 ≡ CMD)) }
+{
+    bytes[0] == TSK_MGMT || bytes[0] == CMD
 }
 
 // Keeps the bytes in an array of their own.

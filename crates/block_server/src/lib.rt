@@ -22,6 +22,3 @@ mod turning;
 mod unit;
 
 pub use server::{Finished, Server};
-
-#[cfg(test)]
-mod tests;

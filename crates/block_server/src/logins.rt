@@ -28,6 +28,7 @@ impl Logins {
         requires some { 1 ≤ grant }
         requires few { grant ≤ 200 }
         ensures granted { result.granted ≡ grant }
+        ensures last { result.last ≡ 0 }
         ensures current { result.current ≡ 0 }
         ensures taking { result.taking ≡ false }
     {

@@ -1,8 +1,9 @@
 // The three ports of a unit's turn as one site.
-ghost use Rattle.std.specs.Prelude.{◌≡◌, ◌+◌, ◌<◌, ◌≤◌, ◌++◌, false, IsErrOf, length, vec_len, vec_capacity};
+ghost use Rattle.std.specs.Prelude.{◌≡◌, ◌+◌, ◌<◌, ◌≤◌, ◌++◌, [], false, IsErrOf, OnErr, OnOk, length, vec_len, vec_capacity};
 ghost use Rattle.tce_window.specs.declared.answers.Right.TheVariants.{Read, Write};
+ghost use Rattle.tce_window.specs.PortState.{OnlyReads, OnlyWrites, Reads};
 ghost use Rattle.block_server.specs.Causes.{IsDenied};
-ghost use Rattle.block_server.specs.Copied.{IsBusy, IsRefusal, copies_in};
+ghost use Rattle.block_server.specs.Copied.{FetchesNone, IsBusy, IsMade, IsRefusal, MakesOne, copies_in, own_name};
 ghost use Rattle.block_server.specs.Advances.{Advances, KeepsFreed};
 ghost use Rattle.block_server.specs.Ready.{FindsUse};
 ghost use Rattle.block_server.specs.SiteState.{AreReady, lenders, site};
@@ -49,6 +50,8 @@ fn note(copies: &mut Vec<CopyRecord>, answer: CopyAnswer) -> Result<(), Halt>
     ensures copies { copies.new.items ≡ copies.old.items ++ copies_in answer }
     ensures refused { IsErrOf result Halt.Refused → IsRefusal answer }
     ensures busy { IsErrOf result Halt.Busy → IsBusy answer }
+    ensures made { OnOk result (IsMade answer) }
+    ensures none { OnErr result (copies_in answer ≡ []) }
 {
     match answer {
         CopyAnswer::Copied(copy) => {
@@ -82,6 +85,13 @@ impl<C: CrqEnd, O: OwnerPort + GuestPort, R: GuestPort> Ports<'_, '_, '_, '_, C,
             (site (lenders self.new.queue.ghost_name self.new.own.ghost_name self.new.client.ghost_name
             self.new.copies.ghost_name) (C.state self.new.queue.now) (O.state self.new.own.now)
             (R.state self.new.client.now) R.is_shared self.new.copies.now.items) }
+        ensures behind { 4096 ≤ at → FetchesNone (O.state self.old.own.now).place.unit
+            self.old.copies.now.items self.new.copies.now.items }
+        ensures made { OnOk result (MakesOne O.is_shared (R.state self.new.client.now)
+            (O.state self.old.own.now) (O.state self.new.own.now) address at len
+            (own_name (O.state self.old.own.now) 0)
+            self.old.copies.now.items self.new.copies.now.items) }
+        ensures none { OnErr result (self.new.copies.now.items ≡ self.old.copies.now.items) }
     {
         let name = StrokeName {
             who: self.unit,
@@ -112,6 +122,8 @@ impl<C: CrqEnd, O: OwnerPort + GuestPort, R: GuestPort> Ports<'_, '_, '_, '_, C,
             (site (lenders self.new.queue.ghost_name self.new.own.ghost_name self.new.client.ghost_name
             self.new.copies.ghost_name) (C.state self.new.queue.now) (O.state self.new.own.now)
             (R.state self.new.client.now) R.is_shared self.new.copies.now.items) }
+        ensures behind { FetchesNone (O.state self.old.own.now).place.unit
+            self.old.copies.now.items self.new.copies.now.items }
     {
         let name = StrokeName {
             who: self.unit,
@@ -137,6 +149,10 @@ impl<C: CrqEnd, O: OwnerPort + GuestPort, R: GuestPort> Ports<'_, '_, '_, '_, C,
             (site (lenders self.new.queue.ghost_name self.new.own.ghost_name self.new.client.ghost_name
             self.new.copies.ghost_name) (C.state self.new.queue.now) (O.state self.new.own.now)
             (R.state self.new.client.now) R.is_shared self.new.copies.now.items) }
+        ensures read { Reads (O.state self.new.own.now) at out.new }
+        ensures own { OnlyReads O.is_shared (O.state self.old.own.now) (O.state self.new.own.now) }
+        ensures client { R.state self.new.client.now ≡ R.state self.old.client.now }
+        ensures copies { self.new.copies.now.items ≡ self.old.copies.now.items }
     {
         let _there = self.own.pages();
         match self.own.read(at, out) {
@@ -155,6 +171,8 @@ impl<C: CrqEnd, O: OwnerPort + GuestPort, R: GuestPort> Ports<'_, '_, '_, '_, C,
             (site (lenders self.new.queue.ghost_name self.new.own.ghost_name self.new.client.ghost_name
             self.new.copies.ghost_name) (C.state self.new.queue.now) (O.state self.new.own.now)
             (R.state self.new.client.now) R.is_shared self.new.copies.now.items) }
+        ensures own { OnlyWrites (O.state self.old.own.now) (O.state self.new.own.now) }
+        ensures copies { self.new.copies.now.items ≡ self.old.copies.now.items }
     {
         match self.own.write(at, bytes, mark) {
             Ok(()) => Ok(()),

@@ -1,6 +1,7 @@
 // What a server keeps for good beside its copies: the requests that it served, and the logins that it granted and that
 // ended, each in the order of time.
 ghost use Rattle.std.specs.Prelude.{◌≡◌, ◌+◌, ◌<◌, ◌≤◌, [], ◌∷◌, ◌++◌, None, IfOk, OnOk, length, replicate, vec_len, vec_capacity};
+ghost use Rattle.block_server.specs.Judged.{keys_of};
 ghost use Rattle.block_server.specs.Records.{HasLineRoom, KeepsLists, IsBlankRow, AnswersRow, FillsRow};
 
 use crate::request::Request;
@@ -97,6 +98,7 @@ impl Records {
     pub(crate) fn fill(&mut self, row: usize, inn: Bytes)
         ensures row { FillsRow self.old.history.items self.new.history.items row inn }
         ensures grants { self.new.grants ≡ self.old.grants }
+        ensures keys { keys_of self.new.history.items ≡ keys_of self.old.history.items }
     {
         if let Some(row) = self.history.get_mut(row) {
             row.inn = inn;
@@ -107,6 +109,7 @@ impl Records {
     pub(crate) fn answer(&mut self, row: usize, answer: Bytes)
         ensures row { AnswersRow self.old.history.items self.new.history.items row answer }
         ensures grants { self.new.grants ≡ self.old.grants }
+        ensures keys { keys_of self.new.history.items ≡ keys_of self.old.history.items }
     {
         if let Some(row) = self.history.get_mut(row) {
             row.answer = answer;

@@ -1,10 +1,13 @@
 // A server: its units, the disk that they serve, and what they keep for good.
-ghost use Rattle.std.specs.Prelude.{◌≡◌, ◌≢◌, ◌<◌, ◌≤◌, ℕ, Bool, List, [], false, IfErr, IfOk, IfSome, IsSome, slice_get, vec_len};
+ghost use Rattle.std.specs.Prelude.{◌≡◌, ◌≢◌, ◌<◌, ◌≤◌, ◌++◌, ℕ, Bool, List, [], false, IfErr, IfOk, IfSome, IsSome, slice_get, vec_len};
 ghost use Rattle.rdma_copy.specs.Copies.{side_of};
 ghost use Rattle.block_server.specs.Advances.{CopiesMore, Goes, KeepsFreed, StayNamed};
 ghost use Rattle.block_server.specs.Causes.{Tells, Told, anything};
 ghost use Rattle.block_server.specs.DiskLaw.{KeepsDisk, KeepsDiskBy};
+ghost use Rattle.block_server.specs.Judged.{Judged};
+ghost use Rattle.block_server.specs.Judges.{AreInTime, AreUnused, HasJudged};
 ghost use Rattle.block_server.specs.Makers.{AreNamed};
+ghost use Rattle.block_server.specs.Receipts.{AwaitNone, HasIntake, LinesMore, Receipt};
 ghost use Rattle.block_server.specs.Ready.{AgreesAt, AreDown, UnitWaits};
 ghost use Rattle.block_server.specs.Turns.{IsStill, way_of};
 ghost use Rattle.block_server.specs.SiteState.{AreReady};
@@ -72,6 +75,8 @@ impl<B: Blocks> Server<B> {
         ensures lines { IfOk result (λ server. server.records.grants.items ≡ []) }
         ensures copies { IfOk result (λ server. server.copies.items ≡ []) }
         ensures down { IfOk result (λ server. AreDown server.units.items) }
+        ensures none { IfOk result (λ server. AwaitNone server.units.items) }
+        ensures unused { IfOk result (λ server. AreUnused server.units.items) }
     {
         let Ok(units) = make_units(alloc, partition, grant, units) else {
             return Err(image);
@@ -143,6 +148,21 @@ impl<B: Blocks> Server<B> {
             (O.state own.old) (O.state own.new) (R.state client.old) (R.state client.new)) }
         ensures others_stay { (k : ℕ) → k ≢ unit →
             slice_get self.new.units.items k ≡ slice_get self.old.units.items k }
+        ensures intake { (receipts : List Receipt) → HasIntake self.old.units.items unit
+            (O.state own.old) (R.state client.old) (C.state crq.old)
+            self.old.copies.items self.old.records.grants.items receipts →
+            ∥ ((more : List Receipt) × HasIntake self.new.units.items unit
+            (O.state own.new) (R.state client.new) (C.state crq.new)
+            self.new.copies.items self.new.records.grants.items (receipts ++ more)) ∥₁ }
+        ensures lines { ∥ LinesMore (O.state own.old).place.unit
+            self.old.records.grants.items self.new.records.grants.items ∥₁ }
+        ensures judged { (judged : List Judged) → HasJudged self.old.units.items unit
+            (O.state own.old) (R.state client.old) (C.state crq.old) self.old.copies.items
+            self.old.records.history.items self.old.records.grants.items judged →
+            ∥ ((more : List Judged) × (HasJudged self.new.units.items unit
+            (O.state own.new) (R.state client.new) (C.state crq.new) self.new.copies.items
+            self.new.records.history.items self.new.records.grants.items (judged ++ more) ×
+            AreInTime (O.state own.old).place.unit self.old.records.grants.items more)) ∥₁ }
     {
         let id = UnitId {
             partition: self.partition,
@@ -204,6 +224,8 @@ fn make_units(alloc: Global, partition: u8, grant: u8, count: u8) -> Result<Vec<
     ensures down { IfOk result (λ units. AreDown units.items) }
     ensures serving { IfOk result (λ units. (terms : Terms) →
         (rows : List Served) → AreServing terms partition units.items rows) }
+    ensures none { IfOk result (λ units. AwaitNone units.items) }
+    ensures unused { IfOk result (λ units. AreUnused units.items) }
 {
     let mut units = Vec::new(alloc);
     for unit in 0..count {

@@ -2,8 +2,12 @@
 ghost use Rattle.std.specs.Prelude.{◌≡◌, ◌≢◌, ◌⊎◌, ◌∷◌, ◌<◌, ◌≤◌, ℕ, Bool, List, Option, Some, None, [], IfOk, OnOk, false, true, length};
 ghost use Rattle.block_server.specs.Advances.{Advances};
 ghost use Rattle.block_server.specs.Causes.{RefusesData, RefusesIn, Told};
+ghost use Rattle.block_server.specs.Books.{books_at, books_of};
 ghost use Rattle.block_server.specs.Ends.{IsGrantable};
 ghost use Rattle.block_server.specs.Fetched.{IfRefused};
+ghost use Rattle.block_server.specs.Judged.{Books, IsFor, Keeps, ServesOne, has_row, in_service, is_login};
+ghost use Rattle.block_server.specs.Moves.{Passes};
+ghost use Rattle.block_server.specs.Receipts.{TakesIn, standing_of};
 ghost use Rattle.block_server.specs.Orders.{IsCauseOf, IsCodeOf};
 ghost use Rattle.block_server.specs.Records.{AddsRow};
 ghost use Rattle.block_server.specs.Serving.{AnswersOnce, AnswersOnceIf, AnswersOnceOn, desk_at, desk_of, held};
@@ -13,6 +17,7 @@ ghost use Rattle.block_server.specs.Entries.{is_response_len};
 ghost use Rattle.block_server.specs.Stage.{how_far, is_answered, is_before_step, is_data_in, is_data_out, is_given};
 ghost use Rattle.block_server.specs.Waits.{IsHeldUp, IsPending, MeetsUse, StaysAgreed};
 ghost use Rattle.crq_session.specs.EndState.{EndState};
+ghost use Rattle.vio_num.specs.declared.history.Served.{Served};
 ghost use Rattle.block_server.specs.Turns.{IfQuiet, under_way};
 
 use crate::answering::{answer, log_out};
@@ -57,6 +62,12 @@ pub(crate) fn serve<S: Site, B: Blocks>(
     ensures agrees { StaysAgreed unit.old unit.new
         (S.state site.old).queue (S.state site.new).queue }
     ensures advances { Advances (S.state site.old) (S.state site.new) }
+    ensures intake { TakesIn (standing_of unit.old) (standing_of unit.new)
+        (S.state site.old) (S.state site.new)
+        records.old.grants.items records.new.grants.items }
+    ensures books { Keeps (books_at unit.old (S.state site.old) records.old)
+        (books_at unit.new (S.state site.new) records.new) }
+    ensures passes { Passes (S.state site.old) (S.state site.new) }
 {
     let Some(request) = unit.pending.front() else {
         return Ok(());
@@ -87,6 +98,9 @@ fn note_stage(unit: &mut Unit, before: (u8, u32))
     ensures way { under_way unit.new ≡ under_way unit.old }
     ensures desk { desk_of unit.new ≡ desk_of unit.old }
     ensures line { unit.new.line ≡ unit.old.line }
+    ensures stands { standing_of unit.new ≡ standing_of unit.old }
+    ensures books { (session next : ℕ) → (records : Records) →
+        books_of unit.new session next records ≡ books_of unit.old session next records }
 {
     let (stage, done) = unit.service.stage.how_far();
     if stage != before.0 || done != before.1 {
@@ -115,6 +129,13 @@ fn prepare<S: Site, B: Blocks>(
         is_answered service.new.stage ≡ true ⊎ MeetsUse (S.state site.old) (S.state site.new)) }
     ensures queue { (S.state site.new).queue ≡ (S.state site.old).queue }
     ensures advances { Advances (S.state site.old) (S.state site.new) }
+    ensures passes { Passes (S.state site.old) (S.state site.new) }
+    ensures grants { records.new.grants.items ≡ records.old.grants.items }
+    ensures books { (books : Books) →
+        IsFor books id (S.state site.old).queue.last_session request.now →
+        books.current ≡ logins.now.current → Keeps
+        (in_service books service.old.stage records.old.history.items)
+        (in_service books service.new.stage records.new.history.items) }
 {
     match &request.order {
         Order::Command(command) => {
@@ -157,6 +178,11 @@ fn judge_login(
     ensures rejected { OnOk result (service.new.stage ≡ Stage.Answer Outcome.Rejected →
         ¬ IsGrantable logins.now.current login.now) }
     ensures judged { OnOk result (is_answered service.new.stage ≡ true) }
+    ensures books { (books : Books) → (front : Request) → (rest : List Request) →
+        (rows : List Served) → books.pending ≡ front ∷ rest → is_login front.order ≡ true →
+        front.number ≡ number → books.current ≡ logins.now.current → books.kept ≡ None →
+        is_answered service.old.stage ≡ false → Keeps
+        (in_service books service.old.stage rows) (in_service books service.new.stage rows) }
 {
     match login_refusal(logins.current(), login) {
         Some(reason) => service.set_answer(&login_rejected(login, reason), Outcome::Rejected),
@@ -197,6 +223,10 @@ fn add_code(
     ensures row { OnOk result (AddsRow id session request.now records.old records.new) }
     ensures stage { OnOk result (service.new.stage ≡
         Stage.Answer (Outcome.Served (length records.old.history.items))) }
+    ensures grants { records.new.grants.items ≡ records.old.grants.items }
+    ensures books { has_row service.old.stage ≡ false → ServesOne id session request.now
+        service.old.stage service.new.stage
+        records.old.history.items records.new.history.items }
 {
     let blank = records.new_row(id, session, request)?;
     let row = records.history.len();
@@ -227,6 +257,11 @@ fn serve_command<S: Site, B: Blocks>(
         MeetsUse (S.state site.old) (S.state site.new)) }
     ensures queue { (S.state site.new).queue ≡ (S.state site.old).queue }
     ensures advances { Advances (S.state site.old) (S.state site.new) }
+    ensures passes { Passes (S.state site.old) (S.state site.new) }
+    ensures grants { records.new.grants.items ≡ records.old.grants.items }
+    ensures books { ServesOne id (S.state site.old).queue.last_session request.now
+        service.old.stage service.new.stage
+        records.old.history.items records.new.history.items }
 {
     run_step(service, id, request, command, site, records, disk)?;
     store(service, request, site)?;
@@ -255,6 +290,11 @@ fn run_step<S: Site, B: Blocks>(
         MeetsUse (S.state site.old) (S.state site.new)) }
     ensures queue { (S.state site.new).queue ≡ (S.state site.old).queue }
     ensures advances { Advances (S.state site.old) (S.state site.new) }
+    ensures passes { Passes (S.state site.old) (S.state site.new) }
+    ensures grants { records.new.grants.items ≡ records.old.grants.items }
+    ensures books { ServesOne id (S.state site.old).queue.last_session request.now
+        service.old.stage service.new.stage
+        records.old.history.items records.new.history.items }
 {
     if !service.stage.is_before_step() {
         return Ok(());
@@ -283,6 +323,9 @@ fn store<S: Site>(service: &mut Service, request: &Request, site: &mut S) -> Res
         (is_before_step service.new.stage ≡ false) × (is_given service.new.stage ≡ false)) }
     ensures queue { (S.state site.new).queue ≡ (S.state site.old).queue }
     ensures advances { Advances (S.state site.old) (S.state site.new) }
+    ensures passes { Passes (S.state site.old) (S.state site.new) }
+    ensures books { (id : UnitId) → (session : ℕ) → (rows : List Served) → ServesOne
+        id session request.now service.old.stage service.new.stage rows rows }
 {
     if let Stage::Given { row, reply } = service.stage {
         site.write_data(&service.given, request.tag)?;
@@ -316,6 +359,11 @@ fn hand_over<S: Site>(
         MeetsUse (S.state site.old) (S.state site.new)) }
     ensures queue { (S.state site.new).queue ≡ (S.state site.old).queue }
     ensures advances { Advances (S.state site.old) (S.state site.new) }
+    ensures passes { Passes (S.state site.old) (S.state site.new) }
+    ensures grants { records.new.grants.items ≡ records.old.grants.items }
+    ensures books { (id : UnitId) → (session : ℕ) → ServesOne id session request.now
+        service.old.stage service.new.stage
+        records.old.history.items records.new.history.items }
 {
     let Stage::DataIn { row, reply, cursor } = service.stage else {
         return Ok(());
@@ -345,6 +393,11 @@ fn make_step<S: Site, B: Blocks>(
         is_before_step service.new.stage ≡ false) }
     ensures queue { (S.state site.new).queue ≡ (S.state site.old).queue }
     ensures advances { Advances (S.state site.old) (S.state site.new) }
+    ensures passes { Passes (S.state site.old) (S.state site.new) }
+    ensures grants { records.new.grants.items ≡ records.old.grants.items }
+    ensures books { ServesOne id (S.state site.old).queue.last_session request.now
+        service.old.stage service.new.stage
+        records.old.history.items records.new.history.items }
 {
     let Stage::DataOut(_) = service.stage else {
         return Ok(());
@@ -373,6 +426,7 @@ fn read_out<S: Site>(site: &mut S, room: Vec<u8>) -> Vec<u8>
     ensures len { length result.items ≡ length room.items }
     ensures queue { (S.state site.new).queue ≡ (S.state site.old).queue }
     ensures advances { Advances (S.state site.old) (S.state site.new) }
+    ensures passes { Passes (S.state site.old) (S.state site.new) }
 {
     let mut out = room;
     site.read_data(&mut out);
@@ -401,6 +455,7 @@ fn deliver_data<S: Site>(
         MeetsUse (S.state site.old) (S.state site.new)) }
     ensures queue { (S.state site.new).queue ≡ (S.state site.old).queue }
     ensures advances { Advances (S.state site.old) (S.state site.new) }
+    ensures passes { Passes (S.state site.old) (S.state site.new) }
 {
     let total = service.given.len() as u32;
     let mut cursor = start;
@@ -436,6 +491,10 @@ fn end_command(
         (desk_at id service.new None (request.now ∷ rest)) q q records.old records.new }
     ensures went { OnOk result (is_data_in service.old.stage ≡ true → progress ≢ Progress.Busy →
         is_answered service.new.stage ≡ true) }
+    ensures grants { records.new.grants.items ≡ records.old.grants.items }
+    ensures books { (id : UnitId) → (session : ℕ) → ServesOne id session request.now
+        service.old.stage service.new.stage
+        records.old.history.items records.new.history.items }
 {
     let Stage::DataIn { row, reply, .. } = service.stage else {
         return Ok(());
@@ -469,6 +528,10 @@ fn refuse_data(
         (desk_at id service.new None (request.now ∷ rest)) q q records.old records.new }
     ensures went { OnOk result (is_data_in service.old.stage ≡ true →
         is_answered service.new.stage ≡ true) }
+    ensures grants { records.new.grants.items ≡ records.old.grants.items }
+    ensures books { (id : UnitId) → (session : ℕ) → ServesOne id session request.now
+        service.old.stage service.new.stage
+        records.old.history.items records.new.history.items }
 {
     let Stage::DataIn { row, cursor, .. } = service.stage else {
         return Ok(());

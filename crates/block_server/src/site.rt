@@ -1,5 +1,5 @@
 // What a server unit does with its queue and with the two windows.
-ghost use Rattle.std.specs.Prelude.{◌≡◌, ◌↔◌, ◌+◌, ◌<◌, ◌≤◌, Bool, IsErrOf, OnOk, length, true};
+ghost use Rattle.std.specs.Prelude.{◌≡◌, ◌↔◌, ◌+◌, ◌<◌, ◌≤◌, Bool, IsErrOf, OnErr, OnOk, length, true};
 ghost use Rattle.tce_window.specs.declared.answers.Right.TheVariants.{Read, Write};
 ghost use Rattle.crq_session.specs.declared.answers.FreeAnswer.TheVariants as freeing;
 ghost use Rattle.crq_session.specs.declared.answers.PollAnswer.TheVariants as polling;
@@ -9,6 +9,7 @@ ghost use Rattle.crq_session.specs.EndState.{OnlyReserves, OnlyRegisters, OnlyFr
 ghost use Rattle.block_server.specs.Advances.{Advances};
 ghost use Rattle.block_server.specs.Answering.{responses};
 ghost use Rattle.block_server.specs.Entries.{MayPut};
+ghost use Rattle.block_server.specs.Moves.{FetchesOne, Passes};
 ghost use Rattle.block_server.specs.SiteState.{IsDeniedBetween, SiteState, SameWindows};
 ghost use Rattle.block_server.specs.Waits.{MeetsUse};
 
@@ -47,7 +48,8 @@ pub(crate) trait Site {
         ensures room { OnOk result (n ≤ (state self.new).queue.spare) }
         ensures rest { OnlyReserves (state self.old).queue (state self.new).queue }
         ensures windows { SameWindows (state self.old) (state self.new) }
-        ensures advances { Advances (state self.old) (state self.new) };
+        ensures advances { Advances (state self.old) (state self.new) }
+        ensures passes { Passes (state self.old) (state self.new) };
 
     /// Registers the own queue, all of it.
     fn register(&mut self) -> RegAnswer
@@ -81,7 +83,8 @@ pub(crate) trait Site {
         ensures spare { (state self.old).queue.spare ≤ (state self.new).queue.spare + 1 }
         ensures rest { OnlyFrees link_shared (state self.old).queue (state self.new).queue }
         ensures windows { SameWindows (state self.old) (state self.new) }
-        ensures advances { Advances (state self.old) (state self.new) };
+        ensures advances { Advances (state self.old) (state self.new) }
+        ensures passes { Passes (state self.old) (state self.new) };
 
     /// Sends an entry to the client's queue.
     fn send(&mut self, entry: Entry) -> SendAnswer
@@ -98,7 +101,8 @@ pub(crate) trait Site {
         ensures spare { (state self.old).queue.spare ≤ (state self.new).queue.spare + 1 }
         ensures rest { OnlySends link_shared (state self.old).queue (state self.new).queue }
         ensures windows { SameWindows (state self.old) (state self.new) }
-        ensures advances { Advances (state self.old) (state self.new) };
+        ensures advances { Advances (state self.old) (state self.new) }
+        ensures passes { Passes (state self.old) (state self.new) };
 
     /// Takes the next entry of the own queue.
     fn poll(&mut self) -> PollAnswer
@@ -130,7 +134,8 @@ pub(crate) trait Site {
         ensures spare { (state self.old).queue.spare ≤ (state self.new).queue.spare + 1 }
         ensures rest { OnlyPushes link_shared (state self.old).queue (state self.new).queue }
         ensures windows { SameWindows (state self.old) (state self.new) }
-        ensures advances { Advances (state self.old) (state self.new) };
+        ensures advances { Advances (state self.old) (state self.new) }
+        ensures passes { Passes (state self.old) (state self.new) };
 
     /// Copies an information unit of 1 to 256 bytes from this address of the client's window to page 0, and reads
     /// it.
@@ -140,7 +145,10 @@ pub(crate) trait Site {
         ensures busy { IsErrOf result Halt.Busy →
             MeetsUse (state self.old) (state self.new) }
         ensures queue { (state self.new).queue ≡ (state self.old).queue }
-        ensures advances { Advances (state self.old) (state self.new) };
+        ensures advances { Advances (state self.old) (state self.new) }
+        ensures fetched { OnOk result
+            (FetchesOne (state self.old) (state self.new) address out.new) }
+        ensures missed { OnErr result (Passes (state self.old) (state self.new)) };
 
     /// Copies a table of 1 to 4,096 bytes from this address of the client's window to page 1, and reads it.
     fn fetch_table(&mut self, address: u64, out: &mut [u8]) -> Result<(), Halt>
@@ -151,7 +159,8 @@ pub(crate) trait Site {
         ensures busy { IsErrOf result Halt.Busy →
             MeetsUse (state self.old) (state self.new) }
         ensures queue { (state self.new).queue ≡ (state self.old).queue }
-        ensures advances { Advances (state self.old) (state self.new) };
+        ensures advances { Advances (state self.old) (state self.new) }
+        ensures passes { Passes (state self.old) (state self.new) };
 
     /// Writes an information unit of 1 to 256 bytes to page 0, and copies it over this address of the client's
     /// window.
@@ -161,7 +170,8 @@ pub(crate) trait Site {
         ensures busy { IsErrOf result Halt.Busy →
             MeetsUse (state self.old) (state self.new) }
         ensures queue { (state self.new).queue ≡ (state self.old).queue }
-        ensures advances { Advances (state self.old) (state self.new) };
+        ensures advances { Advances (state self.old) (state self.new) }
+        ensures passes { Passes (state self.old) (state self.new) };
 
     /// Copies data from this address of the client's window to a place of the data's pages.
     fn fetch_data(&mut self, at: u32, address: u64, len: u32) -> Result<(), Halt>
@@ -173,19 +183,22 @@ pub(crate) trait Site {
         ensures busy { IsErrOf result Halt.Busy →
             MeetsUse (state self.old) (state self.new) }
         ensures queue { (state self.new).queue ≡ (state self.old).queue }
-        ensures advances { Advances (state self.old) (state self.new) };
+        ensures advances { Advances (state self.old) (state self.new) }
+        ensures passes { Passes (state self.old) (state self.new) };
 
     /// Reads the first bytes of the data's pages.
     fn read_data(&mut self, out: &mut [u8])
         requires { length out.old ≤ 131072 }
         ensures queue { (state self.new).queue ≡ (state self.old).queue }
-        ensures advances { Advances (state self.old) (state self.new) };
+        ensures advances { Advances (state self.old) (state self.new) }
+        ensures passes { Passes (state self.old) (state self.new) };
 
     /// Writes the first bytes of the data's pages.
     fn write_data(&mut self, bytes: &[u8], mark: u64) -> Result<(), NoMemory>
         requires { length bytes.now ≤ 131072 }
         ensures queue { (state self.new).queue ≡ (state self.old).queue }
-        ensures advances { Advances (state self.old) (state self.new) };
+        ensures advances { Advances (state self.old) (state self.new) }
+        ensures passes { Passes (state self.old) (state self.new) };
 
     /// Copies data from a place of the data's pages to this address of the client's window.
     fn deliver_data(&mut self, at: u32, address: u64, len: u32, mark: u64) -> Result<(), Halt>
@@ -197,5 +210,6 @@ pub(crate) trait Site {
         ensures busy { IsErrOf result Halt.Busy →
             MeetsUse (state self.old) (state self.new) }
         ensures queue { (state self.new).queue ≡ (state self.old).queue }
-        ensures advances { Advances (state self.old) (state self.new) };
+        ensures advances { Advances (state self.old) (state self.new) }
+        ensures passes { Passes (state self.old) (state self.new) };
 }

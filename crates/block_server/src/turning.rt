@@ -1,8 +1,13 @@
 // The steps of a unit's turn.
-ghost use Rattle.std.specs.Prelude.{◌≡◌, ◌+◌, ◌<◌, ◌≤◌, Bool, IfOk, OnOk, false, true};
+ghost use Rattle.std.specs.Prelude.{◌≡◌, ◌≢◌, ◌+◌, ◌<◌, ◌≤◌, Bool, IfOk, List, OnOk, [], false, true};
 ghost use Rattle.block_server.specs.Advances.{Advances};
+ghost use Rattle.block_server.specs.Books.{books_at};
 ghost use Rattle.block_server.specs.Causes.{Told};
+ghost use Rattle.block_server.specs.Judged.{Keeps};
+ghost use Rattle.block_server.specs.Judges.{Judges};
 ghost use Rattle.block_server.specs.Serving.{AnswersOnce, AnswersOnceOn, desk_of, held};
+ghost use Rattle.block_server.specs.Moves.{FetchesNone, Passes};
+ghost use Rattle.block_server.specs.Receipts.{TakesIn, is_ended, standing_of};
 ghost use Rattle.block_server.specs.SiteState.{TellsAll};
 ghost use Rattle.block_server.specs.Ready.{Agrees, Idles, MeetsFull, MeetsSender};
 ghost use Rattle.block_server.specs.Turns.{IfQuiet, IsQuietTurn};
@@ -18,7 +23,7 @@ use crate::site::Site;
 use crate::unit::Unit;
 use crq_session::{EventAnswer, FreeAnswer, Handshake, RegAnswer};
 use vio_io::Blocks;
-use vio_num::{Moved, NoMemory};
+use vio_num::{Grant, Moved, NoMemory};
 
 /// The calls of the queue before intake, but for the kept entry's.
 const FIRST_CALLS: u32 = 4;
@@ -43,6 +48,13 @@ pub(crate) fn turn<S: Site, B: Blocks>(
     ensures agrees { StaysAgreed unit.old unit.new
         (S.state site.old).queue (S.state site.new).queue }
     ensures advances { Advances (S.state site.old) (S.state site.new) }
+    ensures intake { TakesIn (standing_of unit.old) (standing_of unit.new)
+        (S.state site.old) (S.state site.new)
+        records.old.grants.items records.new.grants.items }
+    ensures judges { Judges
+        (standing_of unit.old) (standing_of unit.new) (S.state site.old) (S.state site.new)
+        (books_at unit.old (S.state site.old) records.old)
+        (books_at unit.new (S.state site.new) records.new) }
 {
     unit.moved = false;
     steps(unit, site, records, disk)?;
@@ -73,6 +85,13 @@ fn steps<S: Site, B: Blocks>(
     ensures agrees { StaysAgreed unit.old unit.new
         (S.state site.old).queue (S.state site.new).queue }
     ensures advances { Advances (S.state site.old) (S.state site.new) }
+    ensures intake { TakesIn (standing_of unit.old) (standing_of unit.new)
+        (S.state site.old) (S.state site.new)
+        records.old.grants.items records.new.grants.items }
+    ensures judges { Judges
+        (standing_of unit.old) (standing_of unit.new) (S.state site.old) (S.state site.new)
+        (books_at unit.old (S.state site.old) records.old)
+        (books_at unit.new (S.state site.new) records.new) }
 {
     if open_line(unit, site)? == Next::End {
         return Ok(());
@@ -98,6 +117,14 @@ fn open_line<S: Site>(unit: &mut Unit, site: &mut S) -> Result<Next, NoMemory>
     ensures agrees { StaysAgreed unit.old unit.new
         (S.state site.old).queue (S.state site.new).queue }
     ensures advances { Advances (S.state site.old) (S.state site.new) }
+    ensures intake { (grants : List Grant) → TakesIn
+        (standing_of unit.old) (standing_of unit.new)
+        (S.state site.old) (S.state site.new) grants grants }
+    ensures goes_on { IfOk result (λ next. next ≢ Next.End →
+        is_ended unit.new.line ≡ false) }
+    ensures fetches { FetchesNone (S.state site.old) (S.state site.new) }
+    ensures books { (records : Records) → Keeps (books_at unit.old (S.state site.old) records)
+        (books_at unit.new (S.state site.new) records) }
 {
     site.reserve(FIRST_CALLS)?;
     if push_event(unit, site) == Next::End {
@@ -127,6 +154,10 @@ fn push_event<S: Site>(unit: &mut Unit, site: &mut S) -> Next
     ensures agrees { StaysAgreed unit.old unit.new
         (S.state site.old).queue (S.state site.new).queue }
     ensures advances { Advances (S.state site.old) (S.state site.new) }
+    ensures stands { standing_of unit.new ≡ standing_of unit.old }
+    ensures passes { Passes (S.state site.old) (S.state site.new) }
+    ensures books { (records : Records) → Keeps (books_at unit.old (S.state site.old) records)
+        (books_at unit.new (S.state site.new) records) }
 {
     match site.push_event() {
         EventAnswer::Nothing => Next::Entry,
@@ -151,6 +182,11 @@ fn free_closed<S: Site>(unit: &mut Unit, site: &mut S) -> Next
     ensures agrees { StaysAgreed unit.old unit.new
         (S.state site.old).queue (S.state site.new).queue }
     ensures advances { Advances (S.state site.old) (S.state site.new) }
+    ensures stands { standing_of unit.new ≡ standing_of unit.old }
+    ensures passes { Passes (S.state site.old) (S.state site.new) }
+    ensures goes_on { result ≢ Next.End → unit.new.line.closing ≡ false }
+    ensures books { (records : Records) → Keeps (books_at unit.old (S.state site.old) records)
+        (books_at unit.new (S.state site.new) records) }
 {
     if !unit.line.closing {
         return Next::Entry;
@@ -171,6 +207,13 @@ fn free<S: Site>(unit: &mut Unit, site: &mut S) -> Next
     ensures agrees { StaysAgreed unit.old unit.new
         (S.state site.old).queue (S.state site.new).queue }
     ensures advances { Advances (S.state site.old) (S.state site.new) }
+    ensures stands { unit.old.line.closing ≡ true →
+        standing_of unit.new ≡ standing_of unit.old }
+    ensures passes { Passes (S.state site.old) (S.state site.new) }
+    ensures goes_on { result ≢ Next.End → unit.new.line.closing ≡ false }
+    ensures books { (records : Records) → unit.old.line.closing ≡ true →
+        Keeps (books_at unit.old (S.state site.old) records)
+        (books_at unit.new (S.state site.new) records) }
 {
     match site.free() {
         FreeAnswer::Busy { .. } => Next::End,
@@ -198,6 +241,12 @@ fn register<S: Site>(unit: &mut Unit, site: &mut S)
     ensures agrees { StaysAgreed unit.old unit.new
         (S.state site.old).queue (S.state site.new).queue }
     ensures advances { Advances (S.state site.old) (S.state site.new) }
+    ensures intake { (grants : List Grant) → TakesIn
+        (standing_of unit.old) (standing_of unit.new)
+        (S.state site.old) (S.state site.new) grants grants }
+    ensures fetches { FetchesNone (S.state site.old) (S.state site.new) }
+    ensures books { (records : Records) → Keeps (books_at unit.old (S.state site.old) records)
+        (books_at unit.new (S.state site.new) records) }
 {
     match site.register() {
         RegAnswer::Success => begin(unit, site),
@@ -215,6 +264,12 @@ fn begin<S: Site>(unit: &mut Unit, site: &mut S)
     ensures moved { unit.new.moved ≡ true }
     ensures agrees { Agrees unit.new.line.handshake (S.state site.new).queue }
     ensures advances { Advances (S.state site.old) (S.state site.new) }
+    ensures id { unit.new.id ≡ unit.old.id }
+    ensures waiting { unit.new.waiting ≡ unit.old.waiting }
+    ensures passes { Passes (S.state site.old) (S.state site.new) }
+    ensures books { (records : Records) → unit.old.pending.items ≡ [] →
+        unit.old.logins.current ≡ 0 → Keeps (books_at unit.old (S.state site.old) records)
+        (books_at unit.new (S.state site.new) records) }
 {
     unit.moved = true;
     if let Some(initialize) = reply_of(unit.line.handshake.registered()) {

@@ -1,5 +1,5 @@
 // A server unit, between its turns.
-ghost use Rattle.std.specs.Prelude.{◌≡◌, ◌≤◌, None};
+ghost use Rattle.std.specs.Prelude.{◌≡◌, ◌≤◌, None, [], false};
 ghost use Rattle.crq_session.specs.declared.handshake.Handshake.TheVariants.{Down};
 ghost use Rattle.block_server.specs.declared.service.Stage.TheVariants.{Start};
 
@@ -38,6 +38,11 @@ impl Unit {
         ensures stage { result.service.stage ≡ Start }
         ensures kept { result.line.kept ≡ None }
         ensures handshake { result.line.handshake ≡ Down }
+        ensures waiting { result.waiting ≡ None }
+        ensures pending { result.pending.items ≡ [] }
+        ensures current { result.logins.current ≡ 0 }
+        ensures last { result.logins.last ≡ 0 }
+        ensures taking { result.logins.taking ≡ false }
     {
         Unit {
             id,

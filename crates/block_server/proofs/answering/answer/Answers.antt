@@ -4,9 +4,14 @@ use Rattle.crq_session.specs.EndState.{EndState}
 use Rattle.block_server.proofs.Agreeing.{agrees_on, agrees_same}
 use Rattle.block_server.proofs.Readying.{idles_equal, idles_on, idles_reserves}
 use Rattle.block_server.proofs.Staging.{answer_held, answer_stops}
-use Rattle.block_server.proofs.Advancing.{advances_on}
+use Rattle.block_server.proofs.Advancing.{advances_on, advances_same}
 use Rattle.block_server.proofs.Onces.{once_on, once_same}
 use Rattle.block_server.proofs.Quieting.{quiet_on, quiet_still, still_reserves}
+use Rattle.block_server.proofs.Taking.{lines_same, takes_none, takes_on}
+use Rattle.block_server.proofs.Keeping.{moved_to}
+use Rattle.block_server.proofs.Booking.{passed_next}
+use Rattle.block_server.proofs.Taking.{passed_session}
+use Rattle.block_server.specs.Judged.{keys_of}
 use Rattle.block_server.proofs.answering.answer.Goals as goal
 
 pub returns-in_err-make_room-clause-once : goal.returns-in_err-make_room-clause-once
@@ -62,3 +67,58 @@ pub returns-in_default-clause-waits : goal.returns-in_default-clause-waits
 returns-in_default-clause-waits g c = λ moved pending answered.
     answer_stops _ (g.S.Site.state c.args.site.now) (g.S.Site.state c.reserve.new.self) (g.S.Site.state c.copy_answer.new.site) c.copy_answer.new.unit
     c.reserve.ensures.advances (λ outcome is. c.in_default.not-Entry outcome is) (c.in_ok-copy_answer.ensures.waits moved pending answered)
+
+pub returns-in_err-make_room-clause-intake : goal.returns-in_err-make_room-clause-intake
+returns-in_err-make_room-clause-intake g c = takes_none _ _ _ _ _ _ refl (advances_same _) refl (lines_same _ _ _ c.make_room.ensures.lists.grants)
+
+pub returns-in_err-make_room-2-clause-intake : goal.returns-in_err-make_room-2-clause-intake
+returns-in_err-make_room-2-clause-intake g c = takes_none _ _ _ _ _ _ refl (advances_same _) refl (lines_same _ _ _ c.make_room.ensures.lists.grants)
+
+pub returns-in_err-reserve-clause-intake : goal.returns-in_err-reserve-clause-intake
+returns-in_err-reserve-clause-intake g c = takes_none _ _ _ _ _ _ refl c.reserve.ensures.advances c.reserve.ensures.passes (lines_same _ _ _ c.make_room.ensures.lists.grants)
+
+pub returns-in_err-copy_answer-clause-intake : goal.returns-in_err-copy_answer-clause-intake
+returns-in_err-copy_answer-clause-intake g c = takes_on _ _ _ _ _ _ _ _ _ (takes_none _ _ _ _ _ _ refl c.reserve.ensures.advances c.reserve.ensures.passes (lines_same _ _ _ c.make_room.ensures.lists.grants)) c.copy_answer.ensures.intake
+
+pub returns-in_default-clause-intake : goal.returns-in_default-clause-intake
+returns-in_default-clause-intake g c = takes_on _ _ _ _ _ _ _ _ _ (takes_none _ _ _ _ _ _ refl c.reserve.ensures.advances c.reserve.ensures.passes (lines_same _ _ _ c.make_room.ensures.lists.grants)) c.copy_answer.ensures.intake
+
+pub returns-in-Entry-clause-intake : goal.returns-in-Entry-clause-intake
+returns-in-Entry-clause-intake g c = takes_on _ _ _ _ _ _ _ _ _ (takes_on _ _ _ _ _ _ _ _ _ (takes_none _ _ _ _ _ _ refl c.reserve.ensures.advances c.reserve.ensures.passes (lines_same _ _ _ c.make_room.ensures.lists.grants)) c.copy_answer.ensures.intake)
+    (takes_none _ _ _ _ _ _ c.put_answer.ensures.stands c.put_answer.ensures.advances c.put_answer.ensures.passes c.put_answer.ensures.lines)
+
+pub returns-in_err-make_room-clause-books : goal.returns-in_err-make_room-clause-books
+returns-in_err-make_room-clause-books g c = λ judged is. moved_to _ _ judged refl refl refl refl refl refl refl refl refl (ap keys_of c.make_room.ensures.lists.history) c.make_room.ensures.lists.grants refl is
+
+pub returns-in_err-make_room-2-clause-books : goal.returns-in_err-make_room-2-clause-books
+returns-in_err-make_room-2-clause-books g c = λ judged is. moved_to _ _ judged refl refl refl refl refl refl refl refl refl (ap keys_of c.make_room.ensures.lists.history) c.make_room.ensures.lists.grants refl is
+
+pub returns-in_err-reserve-clause-books : goal.returns-in_err-reserve-clause-books
+returns-in_err-reserve-clause-books g c = λ judged is. moved_to _ _ judged refl (passed_session _ _ c.reserve.ensures.passes) (passed_next c.args.unit.now.waiting c.args.unit.now.waiting _ _ refl c.reserve.ensures.passes) refl refl refl refl refl refl (ap keys_of c.make_room.ensures.lists.history) c.make_room.ensures.lists.grants refl is
+
+pub returns-in_err-copy_answer-clause-books : goal.returns-in_err-copy_answer-clause-books
+returns-in_err-copy_answer-clause-books g c = λ judged is. c.copy_answer.ensures.books judged (moved_to _ _ judged refl (passed_session _ _ c.reserve.ensures.passes) (passed_next c.args.unit.now.waiting c.args.unit.now.waiting _ _ refl c.reserve.ensures.passes) refl refl refl refl refl refl (ap keys_of c.make_room.ensures.lists.history) c.make_room.ensures.lists.grants refl is)
+
+pub returns-in_default-clause-books : goal.returns-in_default-clause-books
+returns-in_default-clause-books g c = λ judged is. c.copy_answer.ensures.books judged (moved_to _ _ judged refl (passed_session _ _ c.reserve.ensures.passes) (passed_next c.args.unit.now.waiting c.args.unit.now.waiting _ _ refl c.reserve.ensures.passes) refl refl refl refl refl refl (ap keys_of c.make_room.ensures.lists.history) c.make_room.ensures.lists.grants refl is)
+
+pub returns-in-Entry-clause-books : goal.returns-in-Entry-clause-books
+returns-in-Entry-clause-books g c = λ judged is. c.put_answer.ensures.books judged (c.copy_answer.ensures.books judged (moved_to _ _ judged refl (passed_session _ _ c.reserve.ensures.passes) (passed_next c.args.unit.now.waiting c.args.unit.now.waiting _ _ refl c.reserve.ensures.passes) refl refl refl refl refl refl (ap keys_of c.make_room.ensures.lists.history) c.make_room.ensures.lists.grants refl is))
+
+pub returns-in_err-make_room-clause-passes : goal.returns-in_err-make_room-clause-passes
+returns-in_err-make_room-clause-passes g c = refl
+
+pub returns-in_err-make_room-2-clause-passes : goal.returns-in_err-make_room-2-clause-passes
+returns-in_err-make_room-2-clause-passes g c = refl
+
+pub returns-in_err-reserve-clause-passes : goal.returns-in_err-reserve-clause-passes
+returns-in_err-reserve-clause-passes g c = c.reserve.ensures.passes
+
+pub returns-in_err-copy_answer-clause-passes : goal.returns-in_err-copy_answer-clause-passes
+returns-in_err-copy_answer-clause-passes g c = c.copy_answer.ensures.passes ∙ c.reserve.ensures.passes
+
+pub returns-in_default-clause-passes : goal.returns-in_default-clause-passes
+returns-in_default-clause-passes g c = c.copy_answer.ensures.passes ∙ c.reserve.ensures.passes
+
+pub returns-in-Entry-clause-passes : goal.returns-in-Entry-clause-passes
+returns-in-Entry-clause-passes g c = c.put_answer.ensures.passes ∙ c.copy_answer.ensures.passes ∙ c.reserve.ensures.passes

@@ -1,6 +1,9 @@
 use Rattle.std.proofs.Common.{inl, inr, refl}
 use Rattle.block_server.proofs.Staging.{at_entry}
 use Rattle.block_server.proofs.Onces.{once_on, once_same}
+use Rattle.block_server.proofs.Taking.{lines_same, takes_ended, takes_none, takes_on}
+use Rattle.block_server.proofs.Advancing.{advances_same}
+use Rattle.vio_num.specs.declared.history.Lapse.TheVariants.{Refused}
 use Rattle.block_server.proofs.answering.copy_answer.Goals as goal
 
 pub returns-in_default-clause-once : goal.returns-in_default-clause-once
@@ -16,3 +19,49 @@ returns-in_default-clause-waits g c = λ moved pending answered.
 
 pub returns-in-Busy-clause-waits : goal.returns-in-Busy-clause-waits
 returns-in-Busy-clause-waits g c = λ moved pending answered. inl (c.in_ok-deliver.ensures.busy c.in-Busy.is pending)
+
+pub returns-in_default-clause-intake : goal.returns-in_default-clause-intake
+returns-in_default-clause-intake g c = takes_none _ _ _ _ _ _ refl (advances_same _) refl (lines_same _ _ _ refl)
+
+pub returns-in_err-deliver-clause-intake : goal.returns-in_err-deliver-clause-intake
+returns-in_err-deliver-clause-intake g c = takes_none _ _ _ _ _ _ c.deliver.ensures.stands c.deliver.ensures.advances c.deliver.ensures.passes (lines_same _ _ _ refl)
+
+pub returns-in-Done-clause-intake : goal.returns-in-Done-clause-intake
+returns-in-Done-clause-intake g c = takes_none _ _ _ _ _ _ c.deliver.ensures.stands c.deliver.ensures.advances c.deliver.ensures.passes (lines_same _ _ _ refl)
+
+pub returns-in-Busy-clause-intake : goal.returns-in-Busy-clause-intake
+returns-in-Busy-clause-intake g c = takes_none _ _ _ _ _ _ c.deliver.ensures.stands c.deliver.ensures.advances c.deliver.ensures.passes (lines_same _ _ _ refl)
+
+pub returns-in-Refused-clause-intake : goal.returns-in-Refused-clause-intake
+returns-in-Refused-clause-intake g c = takes_on _ _ _ _ _ _ _ _ _ (takes_none _ _ _ _ _ _ c.deliver.ensures.stands c.deliver.ensures.advances c.deliver.ensures.passes (lines_same _ _ _ refl))
+    (takes_ended _ _ _ _ _ _ _ Refused 0 0 c.end_session.ensures.ends c.end_session.ensures.id c.end_session.ensures.closing refl c.session.ensures (advances_same _) refl)
+
+pub returns-in_default-clause-books : goal.returns-in_default-clause-books
+returns-in_default-clause-books g c = λ judged is. is
+
+pub returns-in_err-deliver-clause-books : goal.returns-in_err-deliver-clause-books
+returns-in_err-deliver-clause-books g c = c.deliver.ensures.books c.args.records.now
+
+pub returns-in-Done-clause-books : goal.returns-in-Done-clause-books
+returns-in-Done-clause-books g c = c.deliver.ensures.books c.args.records.now
+
+pub returns-in-Busy-clause-books : goal.returns-in-Busy-clause-books
+returns-in-Busy-clause-books g c = c.deliver.ensures.books c.args.records.now
+
+pub returns-in-Refused-clause-books : goal.returns-in-Refused-clause-books
+returns-in-Refused-clause-books g c = λ judged is. c.end_session.ensures.books _ _ _ _ refl judged (c.deliver.ensures.books c.args.records.now judged is)
+
+pub returns-in_default-clause-passes : goal.returns-in_default-clause-passes
+returns-in_default-clause-passes g c = refl
+
+pub returns-in_err-deliver-clause-passes : goal.returns-in_err-deliver-clause-passes
+returns-in_err-deliver-clause-passes g c = c.deliver.ensures.passes
+
+pub returns-in-Done-clause-passes : goal.returns-in-Done-clause-passes
+returns-in-Done-clause-passes g c = c.deliver.ensures.passes
+
+pub returns-in-Busy-clause-passes : goal.returns-in-Busy-clause-passes
+returns-in-Busy-clause-passes g c = c.deliver.ensures.passes
+
+pub returns-in-Refused-clause-passes : goal.returns-in-Refused-clause-passes
+returns-in-Refused-clause-passes g c = c.deliver.ensures.passes

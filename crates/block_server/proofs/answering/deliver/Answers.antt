@@ -5,6 +5,8 @@ use Rattle.std.specs.Result.{IsErrOf}
 use Rattle.block_server.specs.declared.site.Halt.TheVariants.{Busy}
 use Rattle.block_server.proofs.Onces.{once_same}
 use Rattle.block_server.proofs.Serves.{once_copied}
+use Rattle.block_server.proofs.Keeping.{keeps_delivered, moved_to}
+use Rattle.block_server.specs.Books.{next_of}
 use Rattle.block_server.proofs.answering.deliver.Goals as goal
 
 pub returns-in_default-clause-once : goal.returns-in_default-clause-once
@@ -28,3 +30,19 @@ pub returns-in-Err-Busy-clause-busy : goal.returns-in-Err-Busy-clause-busy
 returns-in-Err-Busy-clause-busy g c = λ is pending.
     let busy : IsErrOf c.deliver_unit.result Busy = cc (c.in-Err-Busy.is, c.in-Err-Busy.field-0-is) in
     c.deliver_unit.ensures.busy busy
+
+pub returns-in_default-clause-books : goal.returns-in_default-clause-books
+returns-in_default-clause-books g c = λ records judged is. is
+
+pub returns-in-Ok-clause-books : goal.returns-in-Ok-clause-books
+returns-in-Ok-clause-books g c = λ records judged is. moved_to _ _ judged refl (ap (λ (q : EndState). q.last_session) c.deliver_unit.ensures.queue) (ap (next_of c.args.unit.now.waiting) c.deliver_unit.ensures.queue) refl refl refl refl refl refl refl refl refl
+    (keeps_delivered _ c.args.outcome judged c.requires.stage c.requires.none is)
+
+pub returns-in-Err-Refused-clause-books : goal.returns-in-Err-Refused-clause-books
+returns-in-Err-Refused-clause-books g c = λ records judged is. moved_to _ _ judged refl (ap (λ (q : EndState). q.last_session) c.deliver_unit.ensures.queue) (ap (next_of c.args.unit.now.waiting) c.deliver_unit.ensures.queue) refl refl refl refl refl refl refl refl refl is
+
+pub returns-in-Err-Busy-clause-books : goal.returns-in-Err-Busy-clause-books
+returns-in-Err-Busy-clause-books g c = λ records judged is. moved_to _ _ judged refl (ap (λ (q : EndState). q.last_session) c.deliver_unit.ensures.queue) (ap (next_of c.args.unit.now.waiting) c.deliver_unit.ensures.queue) refl refl refl refl refl refl refl refl refl is
+
+pub returns-in-Err-NoMemory-clause-books : goal.returns-in-Err-NoMemory-clause-books
+returns-in-Err-NoMemory-clause-books g c = λ records judged is. moved_to _ _ judged refl (ap (λ (q : EndState). q.last_session) c.deliver_unit.ensures.queue) (ap (next_of c.args.unit.now.waiting) c.deliver_unit.ensures.queue) refl refl refl refl refl refl refl refl refl is

@@ -7,6 +7,14 @@ use Rattle.block_server.proofs.Agreeing.{agrees_same}
 use Rattle.block_server.proofs.Readying.{full_now}
 use Rattle.block_server.proofs.Onces.{once_cleared, once_same, once_settled}
 use Rattle.block_server.proofs.Serves.{front_is, none_sent, once_kept}
+use Rattle.block_server.proofs.Keeping.{keeps_finished, keeps_kept, moved_to}
+use Rattle.block_server.proofs.Booking.{passed_next}
+use Rattle.block_server.proofs.Taking.{passed_session, waiting_stands}
+use Rattle.block_server.specs.Books.{next_of}
+use Rattle.block_server.specs.Receipts.{is_ended}
+use Rattle.block_server.specs.declared.logins.Logins.{Logins}
+use Rattle.std.proofs.Common.{Some, sym}
+use Rattle.block_server.specs.declared.line.Kept.TheVariants as keeps
 use Rattle.block_server.proofs.answering.put_answer.Goals as goal
 
 pub returns-in_default-clause-once : goal.returns-in_default-clause-once
@@ -52,3 +60,20 @@ returns-in_default-send-clause-agrees g c = agrees_same _ _ _ _ c.finish.ensures
 
 pub returns-in-Dropped-clause-waits : goal.returns-in-Dropped-clause-waits
 returns-in-Dropped-clause-waits g c = λ moved pending. full_now _ _ _ _ _ c.in-Dropped.ensures.dropped
+
+pub returns-in_default-clause-books : goal.returns-in_default-clause-books
+returns-in_default-clause-books g c = λ judged is. is
+
+pub returns-in-Success-clause-books : goal.returns-in-Success-clause-books
+returns-in-Success-clause-books g c = λ judged is.
+    let before = moved_to _ _ judged refl (c.session.ensures ∙ passed_session _ _ c.send.ensures.passes) refl refl refl refl refl refl refl refl refl refl is in
+    moved_to _ _ judged refl (sym c.session.ensures) (passed_next c.args.unit.now.waiting c.settle.new.unit.waiting _ _ (waiting_stands _ _ c.settle.ensures.stands) c.send.ensures.passes) refl refl refl refl refl refl refl refl refl
+    (c.settle.ensures.books (next_of c.args.unit.now.waiting (g.S.Site.state c.args.site.now).queue) c.requires.stage c.requires.none judged before)
+
+pub returns-in-Dropped-clause-books : goal.returns-in-Dropped-clause-books
+returns-in-Dropped-clause-books g c = λ judged is. moved_to _ _ judged refl (passed_session _ _ c.send.ensures.passes) (passed_next c.args.unit.now.waiting c.args.unit.now.waiting _ _ refl c.send.ensures.passes) refl refl refl refl refl refl refl refl refl
+    (keeps_kept _ (Some (keeps.Answer c.answer_entry-entry.result c.args.outcome)) judged c.requires.stage is)
+
+pub returns-in_default-send-clause-books : goal.returns-in_default-send-clause-books
+returns-in_default-send-clause-books g c = λ judged is. moved_to _ _ judged c.finish.ensures.id (passed_session _ _ c.send.ensures.passes) (passed_next c.args.unit.now.waiting c.finish.new.unit.waiting _ _ (waiting_stands _ _ c.finish.ensures.stands) c.send.ensures.passes) (ap (λ (l : Logins). l.current) c.finish.ensures.logins) (ap (λ (l : Logins). l.last) c.finish.ensures.logins) (ap (λ (l : Logins). l.taking) c.finish.ensures.logins) c.finish.ensures.stage (c.finish.ensures.kept ∙ c.requires.none) c.finish.ensures.pending refl refl (ap is_ended c.finish.ensures.line)
+    (keeps_finished _ c.args.outcome judged c.requires.stage is)

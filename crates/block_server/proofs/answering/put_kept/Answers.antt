@@ -12,6 +12,15 @@ use Rattle.block_server.proofs.Agreeing.{agrees_same}
 use Rattle.block_server.proofs.Readying.{full_later, full_now, idles_on, idles_reserves, idles_same, send_idles}
 use Rattle.block_server.proofs.Onces.{once_cleared, once_same, once_settled, once_still, responses_plain}
 use Rattle.block_server.proofs.Serves.{none_sent}
+use Rattle.block_server.proofs.Keeping.{keeps_finished, keeps_kept, moved_to}
+use Rattle.block_server.proofs.Booking.{passed_next}
+use Rattle.block_server.proofs.Taking.{passed_session, waiting_stands}
+use Rattle.block_server.specs.Books.{next_of}
+use Rattle.block_server.specs.Receipts.{is_ended}
+use Rattle.block_server.specs.declared.logins.Logins.{Logins}
+use Rattle.std.proofs.Common.{None, sym}
+use Rattle.block_server.proofs.Booking.{kept_stage}
+use Rattle.block_server.specs.Judged.{keys_of}
 use Rattle.block_server.proofs.answering.put_kept.Goals as goal
 
 pub returns-in_default-clause-once : goal.returns-in_default-clause-once
@@ -103,3 +112,37 @@ returns-in_default-kept-2-clause-waits g c = λ moved. record {
   none = refl;
   handshake = refl;
 }
+
+pub returns-in_default-clause-books : goal.returns-in_default-clause-books
+returns-in_default-clause-books g c = λ judged is. is
+
+pub returns-in_err-make_room-clause-books : goal.returns-in_err-make_room-clause-books
+returns-in_err-make_room-clause-books g c = λ judged is. moved_to _ _ judged refl refl refl refl refl refl refl refl refl (ap keys_of c.make_room.ensures.lists.history) c.make_room.ensures.lists.grants refl is
+
+pub returns-in_err-make_room-2-clause-books : goal.returns-in_err-make_room-2-clause-books
+returns-in_err-make_room-2-clause-books g c = λ judged is. moved_to _ _ judged refl refl refl refl refl refl refl refl refl (ap keys_of c.make_room.ensures.lists.history) c.make_room.ensures.lists.grants refl is
+
+pub returns-in_err-reserve-clause-books : goal.returns-in_err-reserve-clause-books
+returns-in_err-reserve-clause-books g c = λ judged is. moved_to _ _ judged refl (passed_session _ _ c.reserve.ensures.passes) (passed_next c.args.unit.now.waiting c.args.unit.now.waiting _ _ refl c.reserve.ensures.passes) refl refl refl refl refl refl (ap keys_of c.make_room.ensures.lists.history) c.make_room.ensures.lists.grants refl is
+
+pub returns-in-Dropped-clause-books : goal.returns-in-Dropped-clause-books
+returns-in-Dropped-clause-books g c = λ judged is. moved_to _ _ judged refl (passed_session _ _ (c.send.ensures.passes ∙ c.reserve.ensures.passes)) (passed_next c.args.unit.now.waiting c.args.unit.now.waiting _ _ refl (c.send.ensures.passes ∙ c.reserve.ensures.passes)) refl refl refl refl refl refl (ap keys_of c.make_room.ensures.lists.history) c.make_room.ensures.lists.grants refl is
+
+pub returns-in-Answer-clause-books : goal.returns-in-Answer-clause-books
+returns-in-Answer-clause-books g c = λ judged is.
+    let stage = kept_stage c.args.unit.now.service.stage c.args.unit.now.line.kept c.in-Answer.entry c.in-Answer.outcome (c.in-Some.is ∙ ap Some c.in-Answer.is) is.kept in
+    let before = moved_to _ _ judged refl (c.session.ensures ∙ passed_session _ _ (c.send.ensures.passes ∙ c.reserve.ensures.passes)) refl refl refl refl refl refl refl (ap keys_of c.make_room.ensures.lists.history) c.make_room.ensures.lists.grants refl (keeps_kept _ None judged tt is) in
+    moved_to _ _ judged refl (sym c.session.ensures) (passed_next c.args.unit.now.waiting c.settle.new.unit.waiting _ _ (waiting_stands _ _ c.settle.ensures.stands) (c.send.ensures.passes ∙ c.reserve.ensures.passes)) refl refl refl refl refl refl refl refl refl
+    (c.settle.ensures.books (next_of c.args.unit.now.waiting (g.S.Site.state c.args.site.now).queue) stage refl judged before)
+
+pub returns-in_default-kept-clause-books : goal.returns-in_default-kept-clause-books
+returns-in_default-kept-clause-books g c = λ judged is. moved_to _ _ judged refl (passed_session _ _ (c.send.ensures.passes ∙ c.reserve.ensures.passes)) (passed_next c.args.unit.now.waiting c.args.unit.now.waiting _ _ refl (c.send.ensures.passes ∙ c.reserve.ensures.passes)) refl refl refl refl refl refl (ap keys_of c.make_room.ensures.lists.history) c.make_room.ensures.lists.grants refl (keeps_kept _ None judged tt is)
+
+pub returns-in_default-kept-2-clause-books : goal.returns-in_default-kept-2-clause-books
+returns-in_default-kept-2-clause-books g c = λ judged is. moved_to _ _ judged refl (passed_session _ _ (c.send.ensures.passes ∙ c.reserve.ensures.passes)) (passed_next c.args.unit.now.waiting c.args.unit.now.waiting _ _ refl (c.send.ensures.passes ∙ c.reserve.ensures.passes)) refl refl refl refl refl refl (ap keys_of c.make_room.ensures.lists.history) c.make_room.ensures.lists.grants refl (keeps_kept _ None judged tt is)
+
+pub returns-in-Answer-kept-clause-books : goal.returns-in-Answer-kept-clause-books
+returns-in-Answer-kept-clause-books g c = λ judged is.
+    let stage = kept_stage c.args.unit.now.service.stage c.args.unit.now.line.kept c.in-Answer-kept.entry c.in-Answer-kept.outcome (c.in-Some.is ∙ ap Some c.in-Answer-kept.is) is.kept in
+    moved_to _ _ judged c.finish.ensures.id (passed_session _ _ (c.send.ensures.passes ∙ c.reserve.ensures.passes)) (passed_next c.args.unit.now.waiting c.finish.new.unit.waiting _ _ (waiting_stands _ _ c.finish.ensures.stands) (c.send.ensures.passes ∙ c.reserve.ensures.passes)) (ap (λ (l : Logins). l.current) c.finish.ensures.logins) (ap (λ (l : Logins). l.last) c.finish.ensures.logins) (ap (λ (l : Logins). l.taking) c.finish.ensures.logins) c.finish.ensures.stage c.finish.ensures.kept c.finish.ensures.pending (ap keys_of c.make_room.ensures.lists.history) c.make_room.ensures.lists.grants (ap is_ended c.finish.ensures.line)
+    (keeps_finished _ c.in-Answer-kept.outcome judged stage is)

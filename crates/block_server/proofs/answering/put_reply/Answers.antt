@@ -3,6 +3,11 @@ use Rattle.block_server.specs.Answering.{responses}
 use Rattle.block_server.proofs.Agreeing.{agrees_same}
 use Rattle.block_server.proofs.Onces.{once_reply_kept, once_same, responses_plain}
 use Rattle.block_server.proofs.Serves.{none_sent}
+use Rattle.block_server.proofs.Keeping.{keeps_kept, moved_to}
+use Rattle.block_server.proofs.Booking.{passed_next}
+use Rattle.block_server.proofs.Taking.{passed_session}
+use Rattle.std.proofs.Common.{Some, refl}
+use Rattle.block_server.specs.declared.line.Kept.TheVariants as keeps
 use Rattle.block_server.proofs.answering.put_reply.Goals as goal
 
 pub returns-in-Dropped-clause-once : goal.returns-in-Dropped-clause-once
@@ -25,3 +30,12 @@ returns-in-Success-clause-agrees g c = agrees_same _ _ _ _ refl c.send.ensures.r
 
 pub returns-in_default-clause-agrees : goal.returns-in_default-clause-agrees
 returns-in_default-clause-agrees g c = agrees_same _ _ _ _ refl c.send.ensures.rest.registered
+
+pub returns-in-Dropped-clause-books : goal.returns-in-Dropped-clause-books
+returns-in-Dropped-clause-books g c = λ records judged is. moved_to _ _ judged refl (passed_session _ _ c.send.ensures.passes) (passed_next c.args.unit.now.waiting c.args.unit.now.waiting _ _ refl c.send.ensures.passes) refl refl refl refl refl refl refl refl refl (keeps_kept _ (Some (keeps.Reply c.args.reply)) judged tt is)
+
+pub returns-in-Success-clause-books : goal.returns-in-Success-clause-books
+returns-in-Success-clause-books g c = λ records judged is. moved_to _ _ judged refl (passed_session _ _ c.send.ensures.passes) (passed_next c.args.unit.now.waiting c.args.unit.now.waiting _ _ refl c.send.ensures.passes) refl refl refl refl refl refl refl refl refl is
+
+pub returns-in_default-clause-books : goal.returns-in_default-clause-books
+returns-in_default-clause-books g c = λ records judged is. moved_to _ _ judged refl (passed_session _ _ c.send.ensures.passes) (passed_next c.args.unit.now.waiting c.args.unit.now.waiting _ _ refl c.send.ensures.passes) refl refl refl refl refl refl refl refl refl is

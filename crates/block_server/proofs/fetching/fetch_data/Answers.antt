@@ -24,6 +24,7 @@ loop-part-preserved g c = record {
   out = c.loop-part.invariant.out;
   inn = c.loop-part.invariant.inn;
   queue = c.fetch_data.ensures.queue ∙ c.loop-part.invariant.queue;
+  passes = c.fetch_data.ensures.passes ∙ c.loop-part.invariant.passes;
 }
 
 pub returns-in-Err-Refused-clause-refused : goal.returns-in-Err-Refused-clause-refused

@@ -1,6 +1,9 @@
 use Rattle.std.proofs.Common.{refl}
 use Rattle.block_server.proofs.Onces.{once_same}
 use Rattle.block_server.proofs.Serves.{once_pushed}
+use Rattle.block_server.proofs.Taking.{ends_line, lines_same}
+use Rattle.block_server.proofs.Verdicts.{accepted_push, ended_by, passed_by}
+use Rattle.block_server.specs.Books.{books_of}
 use Rattle.block_server.proofs.intake.judge.Goals as goal
 
 pub returns-in-Ignored-clause-once : goal.returns-in-Ignored-clause-once
@@ -11,3 +14,26 @@ returns-in-Ok-clause-once c = λ q disk serving. once_pushed _ _ _ _ _ _ refl c.
 
 pub returns-in-Fatal-clause-once : goal.returns-in-Fatal-clause-once
 returns-in-Fatal-clause-once c = λ q. c.end_counted.ensures.once q
+
+pub returns-in-Ignored-clause-lines : goal.returns-in-Ignored-clause-lines
+returns-in-Ignored-clause-lines c = lines_same _ _ _ refl
+
+pub returns-in-Ok-clause-lines : goal.returns-in-Ok-clause-lines
+returns-in-Ok-clause-lines c = lines_same _ _ _ refl
+
+pub returns-in-Fatal-clause-lines : goal.returns-in-Fatal-clause-lines
+returns-in-Fatal-clause-lines c = ends_line _ _ _ _ _ _ _ _ c.end_counted.ensures.ends
+
+pub returns-in-Ignored-clause-judged : goal.returns-in-Ignored-clause-judged
+returns-in-Ignored-clause-judged c = λ next next' receipt to.
+    passed_by _ _ _ _ _ receipt c.args.unit.now.logins c.judge_unit.new.logins c.judge_unit.result to refl refl refl c.in-Ignored.is c.judge_unit.ensures.decides
+
+pub returns-in-Ok-clause-judged : goal.returns-in-Ok-clause-judged
+returns-in-Ok-clause-judged c = λ next next' receipt to.
+    accepted_push (books_of c.args.unit.now c.args.session next c.args.records.now) _ _ _ _ receipt c.args.unit.now.logins c.judge_unit.new.logins _ _ c.judge_unit.result _ _ _
+    c.in-Ok.ensures.items to refl refl refl refl c.kept.ensures refl refl c.in-Accepted.is c.judge_unit.ensures.decides
+
+pub returns-in-Fatal-clause-judged : goal.returns-in-Fatal-clause-judged
+returns-in-Fatal-clause-judged c = λ next next' receipt to.
+    ended_by (books_of c.args.unit.now c.args.session next c.args.records.now) _ _ _ _ _ receipt c.args.unit.now.logins c.judge_unit.new.logins _ _ _ _ c.judge_unit.result _ _ _
+    to refl refl refl c.in-Fatal.is c.judge_unit.ensures.decides (c.end_counted.ensures.books c.args.session c.args.session next next') c.end_counted.ensures.ends c.end_counted.ensures.id refl

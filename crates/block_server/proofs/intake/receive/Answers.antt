@@ -1,9 +1,16 @@
-use Rattle.std.proofs.Common.{ap, refl}
+use Rattle.std.proofs.Common.{ap, refl, rules, ◌∙◌}
 use Rattle.crq_session.specs.EndState.{EndState}
 use Rattle.block_server.specs.Answering.{responses}
 use Rattle.std.specs.Result.{IsErrOf}
 use Rattle.block_server.specs.declared.site.Halt.TheVariants.{Busy}
 use Rattle.block_server.proofs.Onces.{once_on, once_same}
+use Rattle.block_server.proofs.Taking.{lines_same, takes_ended, takes_fetched, takes_none}
+use Rattle.block_server.proofs.Advancing.{advances_same}
+use Rattle.vio_num.specs.declared.history.Lapse.TheVariants.{BadIu, Early, Refused}
+use Rattle.block_server.specs.Receipts.{is_ended}
+use Rattle.block_server.specs.declared.site.Halt.TheVariants as halts
+use Rattle.block_server.proofs.GoingOn.{missed_is}
+use Rattle.block_server.proofs.Jointly.{judges_over, judges_received, works_pass}
 use Rattle.block_server.proofs.intake.receive.Goals as goal
 
 pub returns-in-Ok-clause-once : goal.returns-in-Ok-clause-once
@@ -32,3 +39,63 @@ pub returns-in-Err-Busy-clause-waits : goal.returns-in-Err-Busy-clause-waits
 returns-in-Err-Busy-clause-waits g c = λ moved.
     let busy : IsErrOf c.fetch_unit.result Busy = cc (c.in-Err-Busy.is, c.in-Err-Busy.field-0-is) in
     c.fetch_unit.ensures.busy busy
+
+pub returns-then-not-is_up-clause-intake : goal.returns-then-not-is_up-clause-intake
+returns-then-not-is_up-clause-intake g c = λ waits.
+    takes_ended _ _ _ _ _ _ _ Early 0 0 c.end_session.ensures.ends c.end_session.ensures.id c.end_session.ensures.closing refl c.session-session.ensures (advances_same _) refl
+
+pub returns-then-len-eq0-clause-intake : goal.returns-then-len-eq0-clause-intake
+returns-then-len-eq0-clause-intake g c = λ waits.
+    takes_ended _ _ _ _ _ _ _ BadIu 0 0 c.end_session-then-len-eq0.ensures.ends c.end_session-then-len-eq0.ensures.id c.end_session-then-len-eq0.ensures.closing refl c.session-session.ensures (advances_same _) refl
+
+pub returns-in-Err-Refused-clause-intake : goal.returns-in-Err-Refused-clause-intake
+returns-in-Err-Refused-clause-intake g c = λ waits.
+    let failed : IsErrOf c.fetch_unit.result halts.Refused = cc (c.in-Err-Refused.is, c.in-Err-Refused.field-0-is) in
+    takes_ended _ _ _ _ _ _ _ Refused 0 0 c.end_session-in-Err-Refused.ensures.ends c.end_session-in-Err-Refused.ensures.id c.end_session-in-Err-Refused.ensures.closing refl c.session-session.ensures c.fetch_unit.ensures.advances (missed_is c.fetch_unit.result halts.Refused _ failed c.fetch_unit.ensures.missed)
+
+pub returns-in-Err-Busy-clause-intake : goal.returns-in-Err-Busy-clause-intake
+returns-in-Err-Busy-clause-intake g c = λ waits.
+    let failed : IsErrOf c.fetch_unit.result halts.Busy = cc (c.in-Err-Busy.is, c.in-Err-Busy.field-0-is) in takes_none _ _ _ _ _ _ refl c.fetch_unit.ensures.advances (missed_is c.fetch_unit.result halts.Busy _ failed c.fetch_unit.ensures.missed) (lines_same _ _ _ refl)
+
+pub returns-in-Err-NoMemory-clause-intake : goal.returns-in-Err-NoMemory-clause-intake
+returns-in-Err-NoMemory-clause-intake g c = λ waits.
+    let failed : IsErrOf c.fetch_unit.result halts.NoMemory = cc (c.in-Err-NoMemory.is, c.in-Err-NoMemory.field-0-is) in takes_none _ _ _ _ _ _ refl c.fetch_unit.ensures.advances (missed_is c.fetch_unit.result halts.NoMemory _ failed c.fetch_unit.ensures.missed) (lines_same _ _ _ refl)
+
+pub returns-in-Ok-clause-intake : goal.returns-in-Ok-clause-intake
+returns-in-Ok-clause-intake g c = λ waits.
+    takes_fetched _ _ _ _ _ _ c.args.arrival _ _ waits (c.judge.ensures.waiting refl) c.judge.ensures.id c.iu_address.ensures c.in-Ok.ensures.fetched (search rules)
+    c.fetch_unit.ensures.queue c.fetch_unit.ensures.advances c.judge.ensures.lines
+
+pub returns-in-Ok-clause-goes_on : goal.returns-in-Ok-clause-goes_on
+returns-in-Ok-clause-goes_on g c = λ on same. record { none = c.judge.ensures.waiting refl; goes_on = ap is_ended (c.judge.ensures.goes_on same) ∙ on }
+
+pub returns-then-not-is_up-clause-judges : goal.returns-then-not-is_up-clause-judges
+returns-then-not-is_up-clause-judges g c = λ waits.
+    judges_over _ _ _ _ _ _ _ Early 0 0 c.end_session.ensures.ends c.end_session.ensures.id c.end_session.ensures.closing refl c.session-session.ensures (advances_same _) refl
+    (c.end_session.ensures.books _ _ _ _ refl)
+
+pub returns-then-len-eq0-clause-judges : goal.returns-then-len-eq0-clause-judges
+returns-then-len-eq0-clause-judges g c = λ waits.
+    judges_over _ _ _ _ _ _ _ BadIu 0 0 c.end_session-then-len-eq0.ensures.ends c.end_session-then-len-eq0.ensures.id c.end_session-then-len-eq0.ensures.closing refl c.session-session.ensures
+    (advances_same _) refl (c.end_session-then-len-eq0.ensures.books _ _ _ _ refl)
+
+pub returns-in-Err-Refused-clause-judges : goal.returns-in-Err-Refused-clause-judges
+returns-in-Err-Refused-clause-judges g c = λ waits.
+    let failed : IsErrOf c.fetch_unit.result halts.Refused = cc (c.in-Err-Refused.is, c.in-Err-Refused.field-0-is) in
+    judges_over _ _ _ _ _ _ _ Refused 0 0 c.end_session-in-Err-Refused.ensures.ends c.end_session-in-Err-Refused.ensures.id c.end_session-in-Err-Refused.ensures.closing refl c.session-session.ensures
+    c.fetch_unit.ensures.advances (missed_is c.fetch_unit.result halts.Refused _ failed c.fetch_unit.ensures.missed) (c.end_session-in-Err-Refused.ensures.books _ _ _ _ refl)
+
+pub returns-in-Err-Busy-clause-judges : goal.returns-in-Err-Busy-clause-judges
+returns-in-Err-Busy-clause-judges g c = λ waits.
+    let failed : IsErrOf c.fetch_unit.result halts.Busy = cc (c.in-Err-Busy.is, c.in-Err-Busy.field-0-is) in
+    (works_pass c.args.unit.now c.args.records.now _ _ c.fetch_unit.ensures.advances (missed_is c.fetch_unit.result halts.Busy _ failed c.fetch_unit.ensures.missed)).judges
+
+pub returns-in-Err-NoMemory-clause-judges : goal.returns-in-Err-NoMemory-clause-judges
+returns-in-Err-NoMemory-clause-judges g c = λ waits.
+    let failed : IsErrOf c.fetch_unit.result halts.NoMemory = cc (c.in-Err-NoMemory.is, c.in-Err-NoMemory.field-0-is) in
+    (works_pass c.args.unit.now c.args.records.now _ _ c.fetch_unit.ensures.advances (missed_is c.fetch_unit.result halts.NoMemory _ failed c.fetch_unit.ensures.missed)).judges
+
+pub returns-in-Ok-clause-judges : goal.returns-in-Ok-clause-judges
+returns-in-Ok-clause-judges g c = λ waits.
+    judges_received c.args.unit.now c.judge.new.unit c.args.records.now c.judge.new.records _ _ c.args.arrival _ _ _ waits (c.judge.ensures.waiting refl) c.judge.ensures.id c.iu_address.ensures
+    c.in-Ok.ensures.fetched (search rules) c.fetch_unit.ensures.queue c.fetch_unit.ensures.advances c.judge.ensures.lines c.session-session.ensures c.judge.ensures.judged

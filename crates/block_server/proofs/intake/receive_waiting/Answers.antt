@@ -1,8 +1,11 @@
-use Rattle.std.proofs.Common.{ap, refl, ◌∙◌}
+use Rattle.std.proofs.Common.{ap, refl, ◌∙◌, rules}
 use Rattle.block_server.specs.declared.line.Line.{Line}
 use Rattle.block_server.proofs.Quieting.{on_ok}
 use Rattle.block_server.proofs.Readying.{if_service}
 use Rattle.block_server.proofs.Onces.{once_on, once_same}
+use Rattle.block_server.proofs.Taking.{ended_stands, lines_same, takes_none, takes_on, waiting_stands}
+use Rattle.block_server.proofs.Advancing.{advances_same}
+use Rattle.block_server.proofs.Jointly.{works, works_none, works_on, works_pass}
 use Rattle.block_server.proofs.intake.receive_waiting.Goals as goal
 
 pub returns-in_default-clause-once : goal.returns-in_default-clause-once
@@ -23,3 +26,33 @@ returns-clause-handshake g c = c.receive.ensures.handshake ∙ ap (λ (line : Li
 
 pub returns-clause-waits : goal.returns-clause-waits
 returns-clause-waits g c = if_service c.receive.result _ _ _ c.receive.ensures.waits
+
+pub returns-in_default-clause-intake : goal.returns-in_default-clause-intake
+returns-in_default-clause-intake g c = takes_none _ _ _ _ _ _ refl (advances_same _) refl (lines_same _ _ _ refl)
+
+pub returns-in_default-clause-goes_on : goal.returns-in_default-clause-goes_on
+returns-in_default-clause-goes_on g c = λ on same. record { none = search rules; goes_on = on }
+
+pub returns-in_err-make_room-clause-intake : goal.returns-in_err-make_room-clause-intake
+returns-in_err-make_room-clause-intake g c = takes_none _ _ _ _ _ _ c.make_room.ensures.stands (advances_same _) refl (lines_same _ _ _ c.make_room.ensures.grants)
+
+pub returns-clause-intake : goal.returns-clause-intake
+returns-clause-intake g c = takes_on _ _ _ _ _ _ _ _ _ (takes_none _ _ _ _ _ _ c.make_room.ensures.stands (advances_same _) refl (lines_same _ _ _ c.make_room.ensures.grants))
+    (c.receive.ensures.intake (waiting_stands _ _ c.make_room.ensures.stands ∙ search rules))
+
+pub returns-clause-goes_on : goal.returns-clause-goes_on
+returns-clause-goes_on g c = λ on. c.receive.ensures.goes_on (ended_stands _ _ c.make_room.ensures.stands ∙ on)
+
+pub returns-in_default-clause-judges : goal.returns-in_default-clause-judges
+returns-in_default-clause-judges g c = (works_pass c.args.unit.now c.args.records.now _ _ (advances_same _) refl).judges
+
+pub returns-in_err-make_room-clause-judges : goal.returns-in_err-make_room-clause-judges
+returns-in_err-make_room-clause-judges g c =
+    (works_none _ _ _ _ _ _ c.make_room.ensures.stands refl refl (advances_same _) refl (lines_same _ _ _ c.make_room.ensures.grants) (c.make_room.ensures.books (g.S.Site.state c.args.site.now))).judges
+
+pub returns-clause-judges : goal.returns-clause-judges
+returns-clause-judges g c =
+    let waits = waiting_stands _ _ c.make_room.ensures.stands ∙ search rules in
+    (works_on _ _ _ _ _ _ _ _ _
+    (works_none _ _ _ _ _ _ c.make_room.ensures.stands refl refl (advances_same _) refl (lines_same _ _ _ c.make_room.ensures.grants) (c.make_room.ensures.books (g.S.Site.state c.args.site.now)))
+    (works _ _ _ _ _ _ refl refl (c.receive.ensures.intake waits) (c.receive.ensures.judges waits))).judges

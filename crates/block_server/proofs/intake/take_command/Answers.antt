@@ -1,8 +1,13 @@
-use Rattle.std.proofs.Common.{ap, refl}
+use Rattle.std.proofs.Common.{ap, refl, rules}
 use Rattle.crq_session.specs.EndState.{EndState}
 use Rattle.block_server.proofs.Agreeing.{agrees_same}
 use Rattle.block_server.proofs.Onces.{once_same}
 use Rattle.block_server.proofs.Serves.{as_none_next}
+use Rattle.block_server.proofs.Taking.{lines_same, may_stands, takes_entry, takes_none, takes_on, takes_other}
+use Rattle.block_server.proofs.GoingOn.{not_format, srp_command}
+use Rattle.block_server.proofs.Jointly.{works, works_entry, works_none, works_on, works_other}
+use Rattle.block_server.specs.Books.{books_at, next_of}
+use Rattle.std.proofs.Common.{None}
 use Rattle.block_server.proofs.intake.take_command.Goals as goal
 
 pub returns-in-2-clause-once : goal.returns-in-2-clause-once
@@ -25,3 +30,49 @@ returns-in-2-clause-agrees g c = c.put_reply.ensures.agrees
 
 pub returns-in_default-clause-agrees : goal.returns-in_default-clause-agrees
 returns-in_default-clause-agrees g c = λ is. is
+
+pub returns-in-1-clause-intake : goal.returns-in-1-clause-intake
+returns-in-1-clause-intake g c = λ before may first taken.
+    takes_on _ _ _ _ _ _ _ _ _ (takes_entry _ _ _ _ _ _ c.args.arrival.number c.args.arrival.entry c.args.arrival may taken
+    (srp_command c.args.arrival.entry first (search rules)) refl refl taken.advances refl refl refl refl) (c.receive.ensures.intake refl)
+
+pub returns-in-1-clause-goes_on : goal.returns-in-1-clause-goes_on
+returns-in-1-clause-goes_on g c = λ may. c.receive.ensures.goes_on may.goes_on
+
+pub returns-in-2-clause-intake : goal.returns-in-2-clause-intake
+returns-in-2-clause-intake g c = λ before may first taken.
+    takes_on _ _ _ _ _ _ _ _ _ (takes_other _ _ _ _ _ _ c.args.arrival.number c.args.arrival.entry may taken
+    (not_format c.args.arrival.entry (λ one. search rules)) taken.advances refl may.none refl)
+    (takes_none _ _ _ _ _ _ c.put_reply.ensures.stands c.put_reply.ensures.advances c.put_reply.ensures.passes (lines_same _ _ _ refl))
+
+pub returns-in-2-clause-goes_on : goal.returns-in-2-clause-goes_on
+returns-in-2-clause-goes_on g c = λ may same. may_stands _ _ c.put_reply.ensures.stands may
+
+pub returns-in_default-clause-intake : goal.returns-in_default-clause-intake
+returns-in_default-clause-intake g c = λ before may first taken.
+    takes_other _ _ _ _ _ _ c.args.arrival.number c.args.arrival.entry may taken
+    (not_format c.args.arrival.entry (λ one. search rules)) taken.advances refl may.none refl
+
+pub returns-in-1-clause-judges : goal.returns-in-1-clause-judges
+returns-in-1-clause-judges g c = λ before may first taken.
+    let next = ap (λ w. next_of w before.queue) may.none in
+    (works_on _ _ _ _ _ _ _ _ _
+    (works_entry _ _ _ _ (books_at c.args.unit.now before c.args.records.now) _ c.args.arrival.number c.args.arrival.entry c.args.arrival may taken
+    (srp_command c.args.arrival.entry first (search rules)) refl refl refl refl refl refl refl next refl refl refl refl refl refl refl refl refl refl refl refl)
+    (works _ _ _ _ _ _ refl refl (c.receive.ensures.intake refl) (c.receive.ensures.judges refl))).judges
+
+pub returns-in-2-clause-judges : goal.returns-in-2-clause-judges
+returns-in-2-clause-judges g c = λ before may first taken.
+    let next = ap (λ w. next_of w before.queue) may.none in
+    let next' = ap (λ w. next_of w (g.S.Site.state c.args.site.now).queue) may.none in
+    (works_on _ _ _ _ _ _ _ _ _
+    (works_other _ _ _ _ (books_at c.args.unit.now before c.args.records.now) (books_at c.args.unit.now (g.S.Site.state c.args.site.now) c.args.records.now) c.args.arrival.number c.args.arrival.entry may taken
+    (not_format c.args.arrival.entry (λ one. search rules)) refl refl may.none refl next refl next' refl refl refl refl refl refl refl refl refl refl)
+    (works_none _ _ _ _ _ _ c.put_reply.ensures.stands refl refl c.put_reply.ensures.advances c.put_reply.ensures.passes (lines_same _ _ _ refl) (c.put_reply.ensures.books c.args.records.now))).judges
+
+pub returns-in_default-clause-judges : goal.returns-in_default-clause-judges
+returns-in_default-clause-judges g c = λ before may first taken.
+    let next = ap (λ w. next_of w before.queue) may.none in
+    let next' = ap (λ w. next_of w (g.S.Site.state c.args.site.now).queue) may.none in
+    (works_other _ _ _ _ (books_at c.args.unit.now before c.args.records.now) (books_at c.args.unit.now (g.S.Site.state c.args.site.now) c.args.records.now) c.args.arrival.number c.args.arrival.entry may taken
+    (not_format c.args.arrival.entry (λ one. search rules)) refl refl may.none refl next refl next' refl refl refl refl refl refl refl refl refl refl).judges

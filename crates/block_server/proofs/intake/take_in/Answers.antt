@@ -4,10 +4,12 @@ use Rattle.block_server.specs.Turns.{UnderWay}
 use Rattle.block_server.specs.declared.line.Line.{Line}
 use Rattle.block_server.proofs.Agreeing.{agrees_on, agrees_same}
 use Rattle.block_server.proofs.Readying.{intake_finds, intake_full, intake_waits, next_apart, next_entry, next_found}
-use Rattle.block_server.proofs.Advancing.{advances_on}
+use Rattle.block_server.proofs.Advancing.{advances_on, advances_same}
 use Rattle.block_server.proofs.Onces.{once_on, once_same}
 use Rattle.block_server.proofs.Quieting.{quiet_on, quiet_way}
 use Rattle.block_server.proofs.Serves.{entry_none}
+use Rattle.block_server.proofs.Taking.{lines_same, may_stands, takes_none, takes_on}
+use Rattle.block_server.proofs.Jointly.{works, works_none, works_on}
 use Rattle.block_server.proofs.intake.take_in.Goals as goal
 
 pub returns-in_err-next-clause-once : goal.returns-in_err-next-clause-once
@@ -29,6 +31,9 @@ loop-taken-init g c = record {
     line = c.in_ok-next.ensures.line moved;
     waiting = next_entry c.in_ok-next.next _ _ (search rules) (c.in_ok-next.ensures.waits moved);
   };
+  intake = λ on. c.receive_waiting.ensures.intake;
+  judges = λ on. c.receive_waiting.ensures.judges;
+  may = λ on. c.in_ok-next.ensures.goes_on on (search rules);
 }
 
 pub returns-in_err-make_room-clause-once : goal.returns-in_err-make_room-clause-once
@@ -69,6 +74,12 @@ loop-taken-preserved g c = record {
       c.take_one.ensures.once;
   agrees = agrees_on _ _ _ (agrees_on _ _ _ c.loop-taken.invariant.agrees (agrees_same _ _ _ _ (ap (λ (line : Line). line.handshake) c.make_room.ensures.line) refl)) c.take_one.ensures.agrees;
   waits = λ moved. absurd (next_entry c.in_ok-next-2.next _ _ (search rules) (c.in_ok-next-2.ensures.waits moved));
+  intake = λ on. takes_on _ _ _ _ _ _ _ _ _ (takes_on _ _ _ _ _ _ _ _ _ (c.loop-taken.invariant.intake on) (takes_none _ _ _ _ _ _ c.make_room.ensures.stands (advances_same _) refl (lines_same _ _ _ c.make_room.ensures.grants)))
+      (c.take_one.ensures.intake (may_stands _ _ c.make_room.ensures.stands (c.loop-taken.invariant.may on)));
+  judges = λ on. (works_on _ _ _ _ _ _ _ _ _ (works_on _ _ _ _ _ _ _ _ _ (works _ _ _ _ _ _ refl refl (c.loop-taken.invariant.intake on) (c.loop-taken.invariant.judges on)) (works_none _ _ _ _ _ _ c.make_room.ensures.stands refl refl (advances_same _) refl (lines_same _ _ _ c.make_room.ensures.grants) (c.make_room.ensures.books (g.S.Site.state c.loop-taken.site))))
+      (works _ _ _ _ _ _ refl refl (c.take_one.ensures.intake (may_stands _ _ c.make_room.ensures.stands (c.loop-taken.invariant.may on)))
+      (c.take_one.ensures.judges (may_stands _ _ c.make_room.ensures.stands (c.loop-taken.invariant.may on))))).judges;
+  may = λ on. c.in_ok-next-2.ensures.goes_on (may_stands _ _ c.make_room.ensures.stands (c.loop-taken.invariant.may on)) (search rules);
 }
 
 pub returns-after-loop-taken-clause-once : goal.returns-after-loop-taken-clause-once
@@ -112,3 +123,45 @@ pub returns-after-loop-taken-clause-waits : goal.returns-after-loop-taken-clause
 returns-after-loop-taken-clause-waits g c = λ moved.
     let none = c.loop-taken.invariant.waits moved in
     intake_full _ _ _ _ (g.S.Site.state c.args.site.now) (g.S.Site.state c.loop-taken.site) none (λ empty. search rules)
+
+pub returns-in_err-next-clause-intake : goal.returns-in_err-next-clause-intake
+returns-in_err-next-clause-intake g c = λ on. c.receive_waiting.ensures.intake
+
+pub returns-then-ne-clause-intake : goal.returns-then-ne-clause-intake
+returns-then-ne-clause-intake g c = λ on. c.receive_waiting.ensures.intake
+
+pub returns-in_err-make_room-clause-intake : goal.returns-in_err-make_room-clause-intake
+returns-in_err-make_room-clause-intake g c = λ on. takes_on _ _ _ _ _ _ _ _ _ (c.loop-taken.invariant.intake on) (takes_none _ _ _ _ _ _ c.make_room.ensures.stands (advances_same _) refl (lines_same _ _ _ c.make_room.ensures.grants))
+
+pub returns-in_err-next-2-clause-intake : goal.returns-in_err-next-2-clause-intake
+returns-in_err-next-2-clause-intake g c = λ on. takes_on _ _ _ _ _ _ _ _ _ (takes_on _ _ _ _ _ _ _ _ _ (c.loop-taken.invariant.intake on) (takes_none _ _ _ _ _ _ c.make_room.ensures.stands (advances_same _) refl (lines_same _ _ _ c.make_room.ensures.grants)))
+    (c.take_one.ensures.intake (may_stands _ _ c.make_room.ensures.stands (c.loop-taken.invariant.may on)))
+
+pub returns-then-ne-2-clause-intake : goal.returns-then-ne-2-clause-intake
+returns-then-ne-2-clause-intake g c = λ on. takes_on _ _ _ _ _ _ _ _ _ (takes_on _ _ _ _ _ _ _ _ _ (c.loop-taken.invariant.intake on) (takes_none _ _ _ _ _ _ c.make_room.ensures.stands (advances_same _) refl (lines_same _ _ _ c.make_room.ensures.grants)))
+    (c.take_one.ensures.intake (may_stands _ _ c.make_room.ensures.stands (c.loop-taken.invariant.may on)))
+
+pub returns-after-loop-taken-clause-intake : goal.returns-after-loop-taken-clause-intake
+returns-after-loop-taken-clause-intake g c = λ on. c.loop-taken.invariant.intake on
+
+pub returns-in_err-next-clause-judges : goal.returns-in_err-next-clause-judges
+returns-in_err-next-clause-judges g c = λ on. c.receive_waiting.ensures.judges
+
+pub returns-then-ne-clause-judges : goal.returns-then-ne-clause-judges
+returns-then-ne-clause-judges g c = λ on. c.receive_waiting.ensures.judges
+
+pub returns-in_err-make_room-clause-judges : goal.returns-in_err-make_room-clause-judges
+returns-in_err-make_room-clause-judges g c = λ on. (works_on _ _ _ _ _ _ _ _ _ (works _ _ _ _ _ _ refl refl (c.loop-taken.invariant.intake on) (c.loop-taken.invariant.judges on)) (works_none _ _ _ _ _ _ c.make_room.ensures.stands refl refl (advances_same _) refl (lines_same _ _ _ c.make_room.ensures.grants) (c.make_room.ensures.books (g.S.Site.state c.loop-taken.site)))).judges
+
+pub returns-in_err-next-2-clause-judges : goal.returns-in_err-next-2-clause-judges
+returns-in_err-next-2-clause-judges g c = λ on. (works_on _ _ _ _ _ _ _ _ _ (works_on _ _ _ _ _ _ _ _ _ (works _ _ _ _ _ _ refl refl (c.loop-taken.invariant.intake on) (c.loop-taken.invariant.judges on)) (works_none _ _ _ _ _ _ c.make_room.ensures.stands refl refl (advances_same _) refl (lines_same _ _ _ c.make_room.ensures.grants) (c.make_room.ensures.books (g.S.Site.state c.loop-taken.site))))
+    (works _ _ _ _ _ _ refl refl (c.take_one.ensures.intake (may_stands _ _ c.make_room.ensures.stands (c.loop-taken.invariant.may on)))
+    (c.take_one.ensures.judges (may_stands _ _ c.make_room.ensures.stands (c.loop-taken.invariant.may on))))).judges
+
+pub returns-then-ne-2-clause-judges : goal.returns-then-ne-2-clause-judges
+returns-then-ne-2-clause-judges g c = λ on. (works_on _ _ _ _ _ _ _ _ _ (works_on _ _ _ _ _ _ _ _ _ (works _ _ _ _ _ _ refl refl (c.loop-taken.invariant.intake on) (c.loop-taken.invariant.judges on)) (works_none _ _ _ _ _ _ c.make_room.ensures.stands refl refl (advances_same _) refl (lines_same _ _ _ c.make_room.ensures.grants) (c.make_room.ensures.books (g.S.Site.state c.loop-taken.site))))
+    (works _ _ _ _ _ _ refl refl (c.take_one.ensures.intake (may_stands _ _ c.make_room.ensures.stands (c.loop-taken.invariant.may on)))
+    (c.take_one.ensures.judges (may_stands _ _ c.make_room.ensures.stands (c.loop-taken.invariant.may on))))).judges
+
+pub returns-after-loop-taken-clause-judges : goal.returns-after-loop-taken-clause-judges
+returns-after-loop-taken-clause-judges g c = λ on. c.loop-taken.invariant.judges on

@@ -1,11 +1,16 @@
-use Rattle.std.proofs.Common.{ap, refl, ◌∙◌}
+use Rattle.std.proofs.Common.{ap, refl, ◌∙◌, rules}
 use Rattle.block_server.specs.Answering.{responses}
 use Rattle.block_server.proofs.Agreeing.{agrees_got, agrees_on, agrees_same}
 use Rattle.block_server.proofs.Quieting.{on_ok, stays_moved}
 use Rattle.block_server.proofs.Readying.{idles_on, idles_reserves, if_moved, not_moved, nothing_later, on_moved, poll_idles, poll_nothing}
-use Rattle.block_server.proofs.Advancing.{advances_on}
+use Rattle.block_server.proofs.Advancing.{advances_on, advances_same}
 use Rattle.block_server.proofs.Onces.{once_on, once_same}
 use Rattle.block_server.proofs.Serves.{as_none_next}
+use Rattle.block_server.proofs.Taking.{ended_stands, ends_line, lines_same, passes_windows, takes_none, takes_on, takes_other, waiting_stands}
+use Rattle.block_server.proofs.GoingOn.{command_first, got_ended, not_command, poll_taken}
+use Rattle.block_server.proofs.Jointly.{works, works_none, works_on, works_other, works_pass}
+use Rattle.block_server.specs.Books.{books_at, next_of}
+use Rattle.block_server.specs.Receipts.{standing_of}
 use Rattle.block_server.proofs.intake.take_one.Goals as goal
 
 pub returns-in_err-reserve-clause-once : goal.returns-in_err-reserve-clause-once
@@ -98,3 +103,213 @@ returns-in-Some-clause-idles g c = λ moved. not_moved _ _ (stays_moved _ _ _ _ 
 
 pub returns-in-Some-clause-line : goal.returns-in-Some-clause-line
 returns-in-Some-clause-line g c = λ moved. not_moved _ _ (stays_moved _ _ _ _ c.put_reply.ensures.quiet refl) moved
+
+pub returns-in_err-reserve-clause-intake : goal.returns-in_err-reserve-clause-intake
+returns-in_err-reserve-clause-intake g c = λ may. takes_none _ _ _ _ _ _ refl c.reserve.ensures.advances c.reserve.ensures.passes (lines_same _ _ _ refl)
+
+pub returns-in_default-clause-intake : goal.returns-in_default-clause-intake
+returns-in_default-clause-intake g c = λ may.
+    let taken = poll_taken _ _ _ c.poll.result (λ number entry is. c.in_default.not-Got number entry is) c.poll.ensures.empty c.poll.ensures.refused in
+    takes_none _ _ _ _ _ _ refl (advances_on _ _ _ c.reserve.ensures.advances c.poll.ensures.advances)
+    (passes_windows _ _ c.poll.ensures.rest.last_session taken c.poll.ensures.windows ∙ c.reserve.ensures.passes) (lines_same _ _ _ refl)
+
+pub returns-in-Command-clause-intake : goal.returns-in-Command-clause-intake
+returns-in-Command-clause-intake g c = λ may.
+    takes_on _ _ _ _ _ _ _ _ _ (takes_none _ _ _ _ _ _ refl c.reserve.ensures.advances c.reserve.ensures.passes (lines_same _ _ _ refl))
+    (c.take_command.ensures.intake (g.S.Site.state c.reserve.new.self) may (command_first c.in-Got.entry (search rules)) (record {
+      number_is = c.in-Got.ensures.got.number_is;
+      taken = c.in-Got.ensures.got.taken;
+      session = c.poll.ensures.rest.last_session;
+      windows = c.poll.ensures.windows;
+      advances = c.poll.ensures.advances;
+    }))
+
+pub returns-in-Command-clause-goes_on : goal.returns-in-Command-clause-goes_on
+returns-in-Command-clause-goes_on g c = λ may. c.take_command.ensures.goes_on may
+
+pub returns-in-Some-clause-intake : goal.returns-in-Some-clause-intake
+returns-in-Some-clause-intake g c = λ may.
+    takes_on _ _ _ _ _ _ _ _ _ (takes_on _ _ _ _ _ _ _ _ _ (takes_none _ _ _ _ _ _ refl c.reserve.ensures.advances c.reserve.ensures.passes (lines_same _ _ _ refl))
+    (takes_other _ _ _ _ _ _ c.in-Got.number c.in-Got.entry may (record {
+      number_is = c.in-Got.ensures.got.number_is;
+      taken = c.in-Got.ensures.got.taken;
+      session = c.poll.ensures.rest.last_session;
+      windows = c.poll.ensures.windows;
+      advances = c.poll.ensures.advances;
+    })
+    (not_command c.in-Got.entry (λ is. search rules)) c.poll.ensures.advances refl may.none refl))
+    (takes_none _ _ _ _ _ _ c.put_reply.ensures.stands c.put_reply.ensures.advances c.put_reply.ensures.passes (lines_same _ _ _ refl))
+
+pub returns-in-Some-clause-goes_on : goal.returns-in-Some-clause-goes_on
+returns-in-Some-clause-goes_on g c = λ may same. record {
+  none = waiting_stands _ _ c.put_reply.ensures.stands ∙ may.none;
+  goes_on = ended_stands _ _ c.put_reply.ensures.stands ∙ got_ended _ _ _ c.in-Got.entry c.got-step.ensures.state ∙ may.goes_on;
+}
+
+pub returns-in-None-clause-intake : goal.returns-in-None-clause-intake
+returns-in-None-clause-intake g c = λ may.
+    takes_on _ _ _ _ _ _ _ _ _ (takes_none _ _ _ _ _ _ refl c.reserve.ensures.advances c.reserve.ensures.passes (lines_same _ _ _ refl))
+    (takes_other _ _ _ _ _ _ c.in-Got.number c.in-Got.entry may (record {
+      number_is = c.in-Got.ensures.got.number_is;
+      taken = c.in-Got.ensures.got.taken;
+      session = c.poll.ensures.rest.last_session;
+      windows = c.poll.ensures.windows;
+      advances = c.poll.ensures.advances;
+    })
+    (not_command c.in-Got.entry (λ is. search rules)) c.poll.ensures.advances refl may.none refl)
+
+pub returns-in-None-clause-goes_on : goal.returns-in-None-clause-goes_on
+returns-in-None-clause-goes_on g c = λ may same. record { none = may.none; goes_on = got_ended _ _ _ c.in-Got.entry c.got-step.ensures.state ∙ may.goes_on }
+
+pub returns-in-Event-clause-intake : goal.returns-in-Event-clause-intake
+returns-in-Event-clause-intake g c = λ may.
+    takes_on _ _ _ _ _ _ _ _ _ (takes_on _ _ _ _ _ _ _ _ _ (takes_none _ _ _ _ _ _ refl c.reserve.ensures.advances c.reserve.ensures.passes (lines_same _ _ _ refl))
+    (takes_other _ _ _ _ _ _ c.in-Got.number c.in-Got.entry may (record {
+      number_is = c.in-Got.ensures.got.number_is;
+      taken = c.in-Got.ensures.got.taken;
+      session = c.poll.ensures.rest.last_session;
+      windows = c.poll.ensures.windows;
+      advances = c.poll.ensures.advances;
+    })
+    (not_command c.in-Got.entry (λ is. search rules)) c.poll.ensures.advances refl may.none refl))
+    (takes_none _ _ _ _ _ _ (c.lose_partner.ensures.stands may.none) (advances_same _) refl (ends_line _ _ _ _ _ _ _ _ c.lose_partner.ensures.ends))
+
+pub returns-in-Event-clause-goes_on : goal.returns-in-Event-clause-goes_on
+returns-in-Event-clause-goes_on g c = λ may same. record {
+  none = waiting_stands _ _ (c.lose_partner.ensures.stands may.none) ∙ may.none;
+  goes_on = ended_stands _ _ (c.lose_partner.ensures.stands may.none) ∙ got_ended _ _ _ c.in-Got.entry c.got-step-in-Event.ensures.state ∙ may.goes_on;
+}
+
+pub returns-in-Unused-clause-intake : goal.returns-in-Unused-clause-intake
+returns-in-Unused-clause-intake g c = λ may.
+    takes_on _ _ _ _ _ _ _ _ _ (takes_none _ _ _ _ _ _ refl c.reserve.ensures.advances c.reserve.ensures.passes (lines_same _ _ _ refl))
+    (takes_other _ _ _ _ _ _ c.in-Got.number c.in-Got.entry may (record {
+      number_is = c.in-Got.ensures.got.number_is;
+      taken = c.in-Got.ensures.got.taken;
+      session = c.poll.ensures.rest.last_session;
+      windows = c.poll.ensures.windows;
+      advances = c.poll.ensures.advances;
+    })
+    (not_command c.in-Got.entry (λ is. search rules)) c.poll.ensures.advances refl may.none refl)
+
+pub returns-in-Reserved-clause-intake : goal.returns-in-Reserved-clause-intake
+returns-in-Reserved-clause-intake g c = λ may.
+    takes_on _ _ _ _ _ _ _ _ _ (takes_none _ _ _ _ _ _ refl c.reserve.ensures.advances c.reserve.ensures.passes (lines_same _ _ _ refl))
+    (takes_other _ _ _ _ _ _ c.in-Got.number c.in-Got.entry may (record {
+      number_is = c.in-Got.ensures.got.number_is;
+      taken = c.in-Got.ensures.got.taken;
+      session = c.poll.ensures.rest.last_session;
+      windows = c.poll.ensures.windows;
+      advances = c.poll.ensures.advances;
+    })
+    (not_command c.in-Got.entry (λ is. search rules)) c.poll.ensures.advances refl may.none refl)
+
+pub returns-in_err-reserve-clause-judges : goal.returns-in_err-reserve-clause-judges
+returns-in_err-reserve-clause-judges g c = λ may. (works_pass c.args.unit.now c.args.records.now _ _ c.reserve.ensures.advances c.reserve.ensures.passes).judges
+
+pub returns-in_default-clause-judges : goal.returns-in_default-clause-judges
+returns-in_default-clause-judges g c = λ may.
+    let taken = poll_taken _ _ _ c.poll.result (λ number entry is. c.in_default.not-Got number entry is) c.poll.ensures.empty c.poll.ensures.refused in
+    (works_pass c.args.unit.now c.args.records.now _ _ (advances_on _ _ _ c.reserve.ensures.advances c.poll.ensures.advances)
+    (passes_windows _ _ c.poll.ensures.rest.last_session taken c.poll.ensures.windows ∙ c.reserve.ensures.passes)).judges
+
+pub returns-in-Command-clause-judges : goal.returns-in-Command-clause-judges
+returns-in-Command-clause-judges g c = λ may.
+    let first = command_first c.in-Got.entry (search rules) in
+    (works_on _ _ _ _ _ _ _ _ _ (works_pass c.args.unit.now c.args.records.now _ _ c.reserve.ensures.advances c.reserve.ensures.passes)
+    (works _ _ _ _ _ _ refl refl (c.take_command.ensures.intake (g.S.Site.state c.reserve.new.self) may first (record {
+      number_is = c.in-Got.ensures.got.number_is;
+      taken = c.in-Got.ensures.got.taken;
+      session = c.poll.ensures.rest.last_session;
+      windows = c.poll.ensures.windows;
+      advances = c.poll.ensures.advances;
+    }))
+    (c.take_command.ensures.judges (g.S.Site.state c.reserve.new.self) may first (record {
+      number_is = c.in-Got.ensures.got.number_is;
+      taken = c.in-Got.ensures.got.taken;
+      session = c.poll.ensures.rest.last_session;
+      windows = c.poll.ensures.windows;
+      advances = c.poll.ensures.advances;
+    })))).judges
+
+pub returns-in-Some-clause-judges : goal.returns-in-Some-clause-judges
+returns-in-Some-clause-judges g c = λ may.
+    let next = ap (λ w. next_of w (g.S.Site.state c.reserve.new.self).queue) may.none in
+    let next' = ap (λ w. next_of w (g.S.Site.state c.poll.new.self).queue) may.none in
+    (works_on _ _ _ _ _ _ _ _ _ (works_on _ _ _ _ _ _ _ _ _ (works_pass c.args.unit.now c.args.records.now _ _ c.reserve.ensures.advances c.reserve.ensures.passes)
+    (works_other (standing_of c.args.unit.now) (standing_of (record c.args.unit.now { line = record c.args.unit.now.line { handshake = c.got-step.new.self } })) (g.S.Site.state c.reserve.new.self) (g.S.Site.state c.poll.new.self)
+    (books_at c.args.unit.now (g.S.Site.state c.reserve.new.self) c.args.records.now) (books_at (record c.args.unit.now { line = record c.args.unit.now.line { handshake = c.got-step.new.self } }) (g.S.Site.state c.poll.new.self) c.args.records.now)
+    c.in-Got.number c.in-Got.entry may (record {
+      number_is = c.in-Got.ensures.got.number_is;
+      taken = c.in-Got.ensures.got.taken;
+      session = c.poll.ensures.rest.last_session;
+      windows = c.poll.ensures.windows;
+      advances = c.poll.ensures.advances;
+    })
+    (not_command c.in-Got.entry (λ is. search rules)) refl refl may.none refl next refl next' (got_ended _ _ _ c.in-Got.entry c.got-step.ensures.state) refl refl refl refl refl refl refl refl refl))
+    (works_none _ _ _ _ _ _ c.put_reply.ensures.stands refl refl c.put_reply.ensures.advances c.put_reply.ensures.passes (lines_same _ _ _ refl) (c.put_reply.ensures.books c.args.records.now))).judges
+
+pub returns-in-None-clause-judges : goal.returns-in-None-clause-judges
+returns-in-None-clause-judges g c = λ may.
+    let next = ap (λ w. next_of w (g.S.Site.state c.reserve.new.self).queue) may.none in
+    let next' = ap (λ w. next_of w (g.S.Site.state c.poll.new.self).queue) may.none in
+    (works_on _ _ _ _ _ _ _ _ _ (works_pass c.args.unit.now c.args.records.now _ _ c.reserve.ensures.advances c.reserve.ensures.passes)
+    (works_other (standing_of c.args.unit.now) (standing_of (record c.args.unit.now { line = record c.args.unit.now.line { handshake = c.got-step.new.self } })) (g.S.Site.state c.reserve.new.self) (g.S.Site.state c.poll.new.self)
+    (books_at c.args.unit.now (g.S.Site.state c.reserve.new.self) c.args.records.now) (books_at (record c.args.unit.now { line = record c.args.unit.now.line { handshake = c.got-step.new.self } }) (g.S.Site.state c.poll.new.self) c.args.records.now)
+    c.in-Got.number c.in-Got.entry may (record {
+      number_is = c.in-Got.ensures.got.number_is;
+      taken = c.in-Got.ensures.got.taken;
+      session = c.poll.ensures.rest.last_session;
+      windows = c.poll.ensures.windows;
+      advances = c.poll.ensures.advances;
+    })
+    (not_command c.in-Got.entry (λ is. search rules)) refl refl may.none refl next refl next' (got_ended _ _ _ c.in-Got.entry c.got-step.ensures.state) refl refl refl refl refl refl refl refl refl)).judges
+
+pub returns-in-Event-clause-judges : goal.returns-in-Event-clause-judges
+returns-in-Event-clause-judges g c = λ may.
+    let next = ap (λ w. next_of w (g.S.Site.state c.reserve.new.self).queue) may.none in
+    let next' = ap (λ w. next_of w (g.S.Site.state c.poll.new.self).queue) may.none in
+    (works_on _ _ _ _ _ _ _ _ _ (works_on _ _ _ _ _ _ _ _ _ (works_pass c.args.unit.now c.args.records.now _ _ c.reserve.ensures.advances c.reserve.ensures.passes)
+    (works_other (standing_of c.args.unit.now) (standing_of (record c.args.unit.now { line = record c.args.unit.now.line { handshake = c.got-step-in-Event.new.self } })) (g.S.Site.state c.reserve.new.self) (g.S.Site.state c.poll.new.self)
+    (books_at c.args.unit.now (g.S.Site.state c.reserve.new.self) c.args.records.now) (books_at (record c.args.unit.now { line = record c.args.unit.now.line { handshake = c.got-step-in-Event.new.self } }) (g.S.Site.state c.poll.new.self) c.args.records.now)
+    c.in-Got.number c.in-Got.entry may (record {
+      number_is = c.in-Got.ensures.got.number_is;
+      taken = c.in-Got.ensures.got.taken;
+      session = c.poll.ensures.rest.last_session;
+      windows = c.poll.ensures.windows;
+      advances = c.poll.ensures.advances;
+    })
+    (not_command c.in-Got.entry (λ is. search rules)) refl refl may.none refl next refl next' (got_ended _ _ _ c.in-Got.entry c.got-step-in-Event.ensures.state) refl refl refl refl refl refl refl refl refl))
+    (works_none _ _ _ _ _ _ (c.lose_partner.ensures.stands may.none) refl refl (advances_same _) refl (ends_line _ _ _ _ _ _ _ _ c.lose_partner.ensures.ends) (c.lose_partner.ensures.books _ _ _ _))).judges
+
+pub returns-in-Unused-clause-judges : goal.returns-in-Unused-clause-judges
+returns-in-Unused-clause-judges g c = λ may.
+    let next = ap (λ w. next_of w (g.S.Site.state c.reserve.new.self).queue) may.none in
+    let next' = ap (λ w. next_of w (g.S.Site.state c.poll.new.self).queue) may.none in
+    (works_on _ _ _ _ _ _ _ _ _ (works_pass c.args.unit.now c.args.records.now _ _ c.reserve.ensures.advances c.reserve.ensures.passes)
+    (works_other (standing_of c.args.unit.now) (standing_of c.args.unit.now) (g.S.Site.state c.reserve.new.self) (g.S.Site.state c.poll.new.self)
+    (books_at c.args.unit.now (g.S.Site.state c.reserve.new.self) c.args.records.now) (books_at c.args.unit.now (g.S.Site.state c.poll.new.self) c.args.records.now)
+    c.in-Got.number c.in-Got.entry may (record {
+      number_is = c.in-Got.ensures.got.number_is;
+      taken = c.in-Got.ensures.got.taken;
+      session = c.poll.ensures.rest.last_session;
+      windows = c.poll.ensures.windows;
+      advances = c.poll.ensures.advances;
+    })
+    (not_command c.in-Got.entry (λ is. search rules)) refl refl may.none refl next refl next' refl refl refl refl refl refl refl refl refl refl)).judges
+
+pub returns-in-Reserved-clause-judges : goal.returns-in-Reserved-clause-judges
+returns-in-Reserved-clause-judges g c = λ may.
+    let next = ap (λ w. next_of w (g.S.Site.state c.reserve.new.self).queue) may.none in
+    let next' = ap (λ w. next_of w (g.S.Site.state c.poll.new.self).queue) may.none in
+    (works_on _ _ _ _ _ _ _ _ _ (works_pass c.args.unit.now c.args.records.now _ _ c.reserve.ensures.advances c.reserve.ensures.passes)
+    (works_other (standing_of c.args.unit.now) (standing_of c.args.unit.now) (g.S.Site.state c.reserve.new.self) (g.S.Site.state c.poll.new.self)
+    (books_at c.args.unit.now (g.S.Site.state c.reserve.new.self) c.args.records.now) (books_at c.args.unit.now (g.S.Site.state c.poll.new.self) c.args.records.now)
+    c.in-Got.number c.in-Got.entry may (record {
+      number_is = c.in-Got.ensures.got.number_is;
+      taken = c.in-Got.ensures.got.taken;
+      session = c.poll.ensures.rest.last_session;
+      windows = c.poll.ensures.windows;
+      advances = c.poll.ensures.advances;
+    })
+    (not_command c.in-Got.entry (λ is. search rules)) refl refl may.none refl next refl next' refl refl refl refl refl refl refl refl refl refl)).judges

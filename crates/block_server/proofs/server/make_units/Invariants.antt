@@ -2,6 +2,8 @@ use Rattle.std.proofs.Common.{◌≡◌, List}
 use Rattle.vio_num.specs.declared.history.Served.{Served}
 use Rattle.std.specs.Vec.{vec_len}
 use Rattle.block_server.specs.Ready.{AreDown}
+use Rattle.block_server.specs.Judges.{AreUnused}
+use Rattle.block_server.specs.Receipts.{AwaitNone}
 use Rattle.block_server.specs.Serving.{Terms}
 use Rattle.block_server.specs.Units.{AreServing}
 use Rattle.block_server.proofs.server.make_units.Given as goal
@@ -10,5 +12,7 @@ abbrev pub invariant-loop-unit : goal.invariant-loop-unit
 invariant-loop-unit l = record {
   count : vec_len l.units ≡ l.unit;
   down : AreDown l.units.items;
+  none : AwaitNone l.units.items;
+  unused : AreUnused l.units.items;
   serving : (terms : Terms) → (rows : List Served) → AreServing terms l.partition l.units.items rows;
 }

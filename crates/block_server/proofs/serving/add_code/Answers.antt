@@ -10,6 +10,9 @@ use Rattle.block_server.specs.declared.service.Stage.TheVariants.{Answer}
 use Rattle.block_server.proofs.DiskRows.{code_row, may_code}
 use Rattle.block_server.proofs.Onces.{once_same, once_still, tells_same}
 use Rattle.block_server.proofs.Serves.{once_added, says_none, stays_pushed}
+use Rattle.block_server.proofs.Working.{one_row, one_same}
+use Rattle.block_server.specs.Judged.{IsAtStage, has_row, keys_of}
+use Rattle.block_server.proofs.Booking.{code_gets}
 use Rattle.block_server.proofs.serving.add_code.Goals as goal
 
 pub returns-in_err-blank-clause-once : goal.returns-in_err-blank-clause-once
@@ -43,3 +46,19 @@ returns-clause-once c = λ rest q disk cause serving.
     (may_code order code blank disk.terms bytes spelled c.requires.code cause' row.out row.inn row.fault says)
     (stays_pushed disk _ _ blank added (λ b. code_row disk.terms order code blank b spelled c.requires.code cause' row.out row.inn row.fault (says_none blank.answer (HasCode (field 8 8 blank.iu) code) row.answer)))
     (tells_same disk.now)
+
+pub returns-in_err-blank-clause-books : goal.returns-in_err-blank-clause-books
+returns-in_err-blank-clause-books c = λ before. one_same _ _ _ _ _ _ _ refl (ap keys_of c.new_row.ensures.lists.history)
+
+pub returns-in_err-set_answer-clause-books : goal.returns-in_err-set_answer-clause-books
+returns-in_err-set_answer-clause-books c = λ before. one_same _ _ _ _ _ _ _ c.in_err-set_answer.ensures.err (ap keys_of c.new_row.ensures.lists.history)
+
+pub returns-clause-books : goal.returns-clause-books
+returns-clause-books c = λ before.
+    let row = c.in_ok-blank.ensures.row in
+    let blank = c.in_ok-blank.blank in
+    one_row _ _ _ _ _ _ _ blank before (ap has_row c.in_ok-set_answer.ensures.stage)
+    (λ current pending rest parts. subst (IsAtStage current pending) (sym c.in_ok-set_answer.ensures.stage) (record { front = c.args.request.now; rest = rest; parts = parts }))
+    (code_gets c.args.request.now.order c.args.code c.requires.code)
+    (c.add_row.ensures.history ∙ ap (λ (list : List ServedRow). list ++ blank ∷ []) c.new_row.ensures.lists.history)
+    row.unit_is row.session_is row.login row.number row.iu

@@ -26,6 +26,7 @@ loop-part-preserved g c = record {
   inn = c.loop-part.invariant.inn;
   given = c.loop-part.invariant.given;
   queue = c.deliver_data.ensures.queue ∙ c.loop-part.invariant.queue;
+  passes = c.deliver_data.ensures.passes ∙ c.loop-part.invariant.passes;
 }
 
 pub returns-in-Err-Refused-clause-refused : goal.returns-in-Err-Refused-clause-refused

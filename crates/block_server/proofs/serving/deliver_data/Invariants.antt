@@ -1,5 +1,6 @@
 use Rattle.std.proofs.Common.{◌≡◌, ◌-◌}
 use Rattle.block_server.specs.Advances.{Advances}
+use Rattle.block_server.specs.Moves.{Passes}
 use Rattle.block_server.specs.declared.service.Stage.TheVariants.{DataIn}
 use Rattle.block_server.proofs.serving.deliver_data.Given as goal
 
@@ -12,6 +13,7 @@ invariant-loop-part g l = record {
   inn : l.service.inn ≡ l.fn.service.inn;
   given : l.service.given.items ≡ l.fn.service.given.items;
   queue : (g.S.Site.state l.site).queue ≡ (g.S.Site.state l.fn.site).queue;
+  passes : Passes (g.S.Site.state l.fn.site) (g.S.Site.state l.site);
 }
 
 abbrev pub decreases-loop-part : goal.decreases-loop-part

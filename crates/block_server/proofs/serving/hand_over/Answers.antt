@@ -8,6 +8,8 @@ use Rattle.block_server.proofs.Staging.{at_answer, ended}
 use Rattle.block_server.proofs.Denying.{handed_cause}
 use Rattle.block_server.proofs.Onces.{once_same, once_then}
 use Rattle.block_server.proofs.Serves.{gathers_of, once_moved}
+use Rattle.block_server.proofs.Working.{one_given, one_on, one_same}
+use Rattle.block_server.specs.declared.service.Stage.TheVariants.{DataIn}
 use Rattle.block_server.proofs.serving.hand_over.Goals as goal
 
 pub returns-in_default-clause-once : goal.returns-in_default-clause-once
@@ -38,3 +40,17 @@ returns-clause-went g c =
     on_ok c.end_command.result _ _ (λ is before given. is)
     (ended c.end_command.result c.in_ok-progress.progress _ _ c.in_ok-progress.ensures.busy
     (on_ok c.end_command.result _ _ (λ went. went (ap is_data_in c.deliver_data.ensures.stage.1)) c.end_command.ensures.went))
+
+pub returns-in_default-clause-books : goal.returns-in_default-clause-books
+returns-in_default-clause-books g c = λ id session. one_same _ _ _ _ _ _ _ refl refl
+
+pub returns-in_err-progress-clause-books : goal.returns-in_err-progress-clause-books
+returns-in_err-progress-clause-books g c = λ id session.
+    one_given _ _ _ _ _ _ (DataIn c.in-DataIn.row c.in-DataIn.reply c.in-DataIn.cursor) (DataIn c.in-DataIn.row c.in-DataIn.reply c.deliver_data.ensures.stage.0)
+    c.in-DataIn.is c.deliver_data.ensures.stage.1 refl (λ current pending at. at)
+
+pub returns-clause-books : goal.returns-clause-books
+returns-clause-books g c = λ id session.
+    one_on _ _ _ _ _ _ _ _ _ _ refl
+    (one_given _ _ _ _ _ _ (DataIn c.in-DataIn.row c.in-DataIn.reply c.in-DataIn.cursor) (DataIn c.in-DataIn.row c.in-DataIn.reply c.deliver_data.ensures.stage.0)
+    c.in-DataIn.is c.deliver_data.ensures.stage.1 refl (λ current pending at. at)) (c.end_command.ensures.books id session)

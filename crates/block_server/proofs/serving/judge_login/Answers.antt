@@ -1,6 +1,8 @@
 use Rattle.std.proofs.Common.{refl}
 use Rattle.block_server.specs.declared.service.Outcome.TheVariants.{Granted, Rejected}
 use Rattle.block_server.proofs.Serves.{once_judged}
+use Rattle.block_server.proofs.Booking.{login_set}
+use Rattle.std.proofs.Common.{sym, ◌∙◌}
 use Rattle.block_server.proofs.serving.judge_login.Goals as goal
 
 pub returns-in-Some-clause-once : goal.returns-in-Some-clause-once
@@ -11,3 +13,13 @@ pub returns-in-None-clause-once : goal.returns-in-None-clause-once
 returns-in-None-clause-once c = λ id pending q records disk serving.
     once_judged _ _ _ _ (Granted c.args.number) c.set_answer-in-None.result refl refl refl (λ P. tt)
     c.set_answer-in-None.ensures.stage c.set_answer-in-None.ensures.err c.set_answer-in-None.ensures.same (λ i. record { outs = (c.set_answer-in-None.ensures.out i).list.items; inns = (c.set_answer-in-None.ensures.inn i).list.items; given = (c.set_answer-in-None.ensures.given i).items }) disk serving
+
+pub returns-in-Some-clause-books : goal.returns-in-Some-clause-books
+returns-in-Some-clause-books c = λ books front rest rows parts asks number current none before.
+    login_set books _ _ rows front rest Rejected c.set_answer.result parts asks before none c.set_answer.ensures.stage c.set_answer.ensures.err refl
+    (record { front = front; rest = rest; parts = parts; asks = asks })
+
+pub returns-in-None-clause-books : goal.returns-in-None-clause-books
+returns-in-None-clause-books c = λ books front rest rows parts asks number current none before.
+    login_set books _ _ rows front rest (Granted c.args.number) c.set_answer-in-None.result parts asks before none c.set_answer-in-None.ensures.stage c.set_answer-in-None.ensures.err refl
+    (record { front = front; rest = rest; parts = parts; asks = asks; number_is = number; none_on = current ∙ sym c.current.ensures ∙ (c.login_refusal.ensures.none c.in-None.is).none_on })

@@ -14,6 +14,8 @@ use Rattle.block_server.proofs.Staging.{not_data_out}
 use Rattle.block_server.proofs.Stepping.{IsNewRow, has_reply, new_row_serves, stays_stepped, tells_map}
 use Rattle.block_server.proofs.Onces.{once_same}
 use Rattle.block_server.proofs.Serves.{gathers_of, once_added, once_before, pieces_of}
+use Rattle.block_server.proofs.Working.{command_row, one_row, one_same}
+use Rattle.block_server.specs.Judged.{has_row, is_command, keys_of}
 use Rattle.block_server.proofs.serving.make_step.Goals as goal
 
 pub returns-in_default-clause-once : goal.returns-in_default-clause-once
@@ -84,3 +86,28 @@ returns-clause-once g c = λ told rest serving.
 
 pub returns-in_default-clause-went : goal.returns-in_default-clause-went
 returns-in_default-clause-went g c = λ out. not_data_out _ _ (λ cursor is. c.in_default.not-DataOut cursor is) out
+
+pub returns-in_default-clause-books : goal.returns-in_default-clause-books
+returns-in_default-clause-books g c = one_same _ _ _ _ _ _ _ refl refl
+
+pub returns-in_err-row-clause-books : goal.returns-in_err-row-clause-books
+returns-in_err-row-clause-books g c = one_same _ _ _ _ _ _ _ refl (ap keys_of c.new_row.ensures.lists.history)
+
+pub returns-in_err-out-clause-books : goal.returns-in_err-out-clause-books
+returns-in_err-out-clause-books g c = one_same _ _ _ _ _ _ _ refl (ap keys_of c.new_row.ensures.lists.history)
+
+pub returns-in_err-room-clause-books : goal.returns-in_err-room-clause-books
+returns-in_err-room-clause-books g c = one_same _ _ _ _ _ _ _ refl (ap keys_of c.new_row.ensures.lists.history)
+
+pub returns-in_err-make_room-clause-books : goal.returns-in_err-make_room-clause-books
+returns-in_err-make_room-clause-books g c = one_same _ _ _ _ _ _ _ c.make_room.ensures.stage (ap keys_of c.new_row.ensures.lists.history)
+
+pub returns-clause-books : goal.returns-clause-books
+returns-clause-books g c =
+    let blank = c.in_ok-row.ensures.row in
+    let row : ServedRow = record c.in_ok-row.row { out = c.from.result; inn = c.filled.result; fault = c.execute-reply.result.fault } in
+    one_row _ _ _ _ _ _ _ row (ap has_row c.in-DataOut.is) refl
+    (λ current pending rest parts. record { front = c.args.request.now; rest = rest; parts = parts; asks = ap is_command c.requires.asked })
+    (command_row c.args.request.now.order (ap is_command c.requires.asked))
+    (c.add_row-row.ensures.history ∙ ap (λ (list : List ServedRow). list ++ row ∷ []) c.new_row.ensures.lists.history)
+    blank.unit_is (blank.session_is ∙ c.session.ensures) blank.login blank.number blank.iu

@@ -2,6 +2,10 @@ use Rattle.std.proofs.Common.{refl, rules, ◌∷◌}
 use Rattle.block_server.specs.Causes.{told_to}
 use Rattle.block_server.specs.Orders.{IsCauseOf}
 use Rattle.block_server.proofs.Onces.{once_same}
+use Rattle.block_server.proofs.Working.{no_row_at}
+use Rattle.block_server.specs.Judged.{IsFor, is_command, is_login}
+use Rattle.block_server.specs.Stage.{is_answered}
+use Rattle.std.proofs.Common.{◌≡◌, ◌∙◌, sym, true, false}
 use Rattle.block_server.proofs.serving.prepare.Goals as goal
 
 pub returns-in-Command-clause-once : goal.returns-in-Command-clause-once
@@ -25,3 +29,32 @@ returns-in-Logout-clause-once g c = λ told all rest serving. once_same _ _ _ _ 
 
 pub returns-in_default-clause-once : goal.returns-in_default-clause-once
 returns-in_default-clause-once g c = λ told all rest serving. once_same _ _ _ _ _ _ refl refl refl _ serving
+
+pub returns-in-Command-clause-books : goal.returns-in-Command-clause-books
+returns-in-Command-clause-books g c = λ books for current. c.serve_command.ensures.books books for
+
+pub returns-in-Login-clause-books : goal.returns-in-Login-clause-books
+returns-in-Login-clause-books g c = λ books for current.
+    let asks : is_login c.args.request.now.order ≡ true = search rules in
+    let before : is_answered c.args.service.now.stage ≡ false = cc in
+    c.judge_login.ensures.books books c.args.request.now for.rest c.args.records.now.history.items for.front asks refl current for.none before
+
+pub returns-in-Task-clause-books : goal.returns-in-Task-clause-books
+returns-in-Task-clause-books g c = λ books for current judged is.
+    let none : is_command c.args.request.now.order ≡ false = search rules in
+    let before : is_answered c.args.service.now.stage ≡ false = cc in
+    c.add_code.ensures.books (no_row_at books.current books.pending c.args.service.now.stage c.args.request.now for.rest for.front none before is.stage) books
+    (record { id_is = for.id_is; session_is = for.session_is ∙ sym c.session.ensures; rest = for.rest; front = for.front; none = for.none }) judged is
+
+pub returns-in-Unreadable-clause-books : goal.returns-in-Unreadable-clause-books
+returns-in-Unreadable-clause-books g c = λ books for current judged is.
+    let none : is_command c.args.request.now.order ≡ false = search rules in
+    let before : is_answered c.args.service.now.stage ≡ false = cc in
+    c.add_code-in-Unreadable.ensures.books (no_row_at books.current books.pending c.args.service.now.stage c.args.request.now for.rest for.front none before is.stage) books
+    (record { id_is = for.id_is; session_is = for.session_is ∙ sym c.session-in-Unreadable.ensures; rest = for.rest; front = for.front; none = for.none }) judged is
+
+pub returns-in-Logout-clause-books : goal.returns-in-Logout-clause-books
+returns-in-Logout-clause-books g c = λ books for current judged is. is
+
+pub returns-in_default-clause-books : goal.returns-in_default-clause-books
+returns-in_default-clause-books g c = λ books for current judged is. is

@@ -6,13 +6,18 @@ use Rattle.block_server.specs.Stage.{is_answered}
 use Rattle.block_server.proofs.Onces.{once_same, once_still}
 use Rattle.block_server.proofs.Serves.{once_cut}
 use Rattle.block_server.proofs.Staging.{not_data_in}
+use Rattle.block_server.specs.declared.service.Outcome.TheVariants.{Served}
+use Rattle.block_server.specs.declared.service.Stage.TheVariants.{Answer, DataIn}
+use Rattle.block_server.proofs.Working.{front_answered, one_given, one_on, one_same}
 use Rattle.block_server.proofs.serving.refuse_data.Goals as goal
 
 pub returns-in_default : goal.returns-in_default
-returns-in_default c = record { once = λ id rest q disk cause serving. once_same _ _ _ _ _ _ refl refl refl disk serving; went = λ inn. not_data_in _ _ (λ row reply cursor is. c.in_default.not-DataIn row reply cursor is) inn }
+returns-in_default c = record { grants = refl; books = λ id session. one_same _ _ _ _ _ _ _ refl refl; once = λ id rest q disk cause serving. once_same _ _ _ _ _ _ refl refl refl disk serving; went = λ inn. not_data_in _ _ (λ row reply cursor is. c.in_default.not-DataIn row reply cursor is) inn }
 
 pub returns-in_err-set_answer : goal.returns-in_err-set_answer
 returns-in_err-set_answer c = record {
+  grants = refl;
+  books = λ id session. one_same _ _ _ _ _ _ _ c.in_err-set_answer.ensures.err refl;
   once = λ id rest q disk cause serving.
       once_still _ _ _ _ _ _ refl c.in_err-set_answer.ensures.err c.in_err-set_answer.ensures.same
       (λ i. record { outs = (c.set_answer.ensures.out i).list.items; inns = (c.set_answer.ensures.inn i).list.items; given = (c.set_answer.ensures.given i).items })
@@ -22,6 +27,11 @@ returns-in_err-set_answer c = record {
 
 pub returns : goal.returns
 returns c = record {
+  grants = λ i. (c.fill.ensures.grants i).items;
+  books = λ id session. one_on _ _ _ _ _ _ _ _ _ _ refl
+      (one_given _ _ _ _ _ c.args.records.now.history.items (DataIn c.in-DataIn.row c.in-DataIn.reply c.in-DataIn.cursor) (Answer (Served c.in-DataIn.row))
+      c.in-DataIn.is (c.take_given-inn.ensures.stage ∙ c.in_ok-set_answer.ensures.stage) refl (λ current pending at. front_answered current 0 pending at))
+      (one_same _ _ _ _ _ _ _ refl c.fill.ensures.keys);
   once = λ id rest q disk cause serving.
       let same : c.deref.result.now ≡ c.with_code.result.items = search (rules, c.deref.ensures) in
       once_cut c.bytes_spell_one.ensures _ _ _ _ _ c.in-DataIn.row c.done.result c.in-DataIn.reply c.in-DataIn.cursor c.args.request.now rest c.args.command.now refl refl c.in-DataIn.is

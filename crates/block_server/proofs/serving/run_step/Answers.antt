@@ -11,6 +11,8 @@ use Rattle.block_server.proofs.Denying.{down_map}
 use Rattle.block_server.proofs.Gathering.{where_refused}
 use Rattle.block_server.proofs.Onces.{once_same, once_then}
 use Rattle.block_server.proofs.Serves.{gathers_of, once_before, pieces_of}
+use Rattle.block_server.proofs.Working.{before_no_row, one_before, one_on, one_same}
+use Rattle.std.proofs.Common.{◌∙◌}
 use Rattle.block_server.proofs.serving.run_step.Goals as goal
 
 pub returns-then-not-is_before_step-clause-once : goal.returns-then-not-is_before_step-clause-once
@@ -73,3 +75,28 @@ pub returns-in-Done-clause-went : goal.returns-in-Done-clause-went
 returns-in-Done-clause-went g c =
     let before : is_before_step c.args.service.now.stage ≡ true = cc in
     on_ok c.make_step.result _ _ (λ went. inl (went (c.in_ok-fetch.ensures.went c.in-Done.is before))) c.make_step.ensures.went
+
+pub returns-then-not-is_before_step-clause-books : goal.returns-then-not-is_before_step-clause-books
+returns-then-not-is_before_step-clause-books g c = one_same _ _ _ _ _ _ _ refl refl
+
+pub returns-in_err-fetch-clause-books : goal.returns-in_err-fetch-clause-books
+returns-in_err-fetch-clause-books g c =
+    let before : is_before_step c.args.service.now.stage ≡ true = cc in
+    one_before _ _ _ _ _ _ before (c.fetch.ensures.before before)
+
+pub returns-in-Busy-clause-books : goal.returns-in-Busy-clause-books
+returns-in-Busy-clause-books g c =
+    let before : is_before_step c.args.service.now.stage ≡ true = cc in
+    one_before _ _ _ _ _ _ before (c.fetch.ensures.before before)
+
+pub returns-in-Refused-clause-books : goal.returns-in-Refused-clause-books
+returns-in-Refused-clause-books g c =
+    let before : is_before_step c.args.service.now.stage ≡ true = cc in
+    one_on _ _ _ _ _ _ _ _ _ _ (c.session.ensures ∙ ap (λ (q : EndState). q.last_session) c.fetch.ensures.queue)
+    (one_before _ _ _ _ _ _ before (c.fetch.ensures.before before)) (c.add_code.ensures.books (before_no_row _ (c.fetch.ensures.before before)))
+
+pub returns-in-Done-clause-books : goal.returns-in-Done-clause-books
+returns-in-Done-clause-books g c =
+    let before : is_before_step c.args.service.now.stage ≡ true = cc in
+    one_on _ _ _ _ _ _ _ _ _ _ (ap (λ (q : EndState). q.last_session) c.fetch.ensures.queue)
+    (one_before _ _ _ _ _ _ before (c.fetch.ensures.before before)) c.make_step.ensures.books

@@ -4,13 +4,19 @@ use Rattle.block_server.specs.Turns.{UnderWay}
 use Rattle.block_server.specs.declared.line.Line.{Line}
 use Rattle.block_server.proofs.Agreeing.{agrees_on, agrees_same}
 use Rattle.block_server.proofs.Staging.{serve_held, some_front}
-use Rattle.block_server.proofs.Advancing.{advances_on}
+use Rattle.block_server.proofs.Advancing.{advances_on, advances_same}
 use Rattle.block_server.proofs.Quieting.{on_ok, quiet_on, quiet_stage}
 use Rattle.std.proofs.Common.{◌∙◌, None, ap, refl, rules, sym}
 use Rattle.block_server.specs.Serving.{Desk, desk_of}
 use Rattle.block_server.proofs.Denying.{tells_first}
 use Rattle.block_server.proofs.Onces.{once_on, once_same, once_then}
 use Rattle.block_server.proofs.Serves.{desk_is, front_is, once_between}
+use Rattle.block_server.proofs.Taking.{lines_on, lines_same, takes_none, takes_on}
+use Rattle.block_server.proofs.Keeping.{moved_to}
+use Rattle.block_server.specs.Judged.{AreKept, Books, IsFor, gets_row, is_login, keys_of}
+use Rattle.block_server.specs.Books.{books_at, next_of}
+use Rattle.block_server.proofs.Taking.{waiting_stands}
+use Rattle.std.proofs.Common.{◌≡◌, false, subst}
 use Rattle.block_server.proofs.serving.serve.Goals as goal
 
 pub returns-clause-advances : goal.returns-clause-advances
@@ -102,3 +108,71 @@ returns-clause-waits g c =
     (λ answered. waits moved (λ empty. pending (sym (ap (λ (way : UnderWay). way.pending) c.note_stage.ensures.way) ∙ empty))
     (ap is_answered (ap (λ (desk : Desk). desk.stage) c.note_stage.ensures.desk) ∙ answered)))
     c.answer.ensures.waits
+
+pub returns-in_default-clause-intake : goal.returns-in_default-clause-intake
+returns-in_default-clause-intake g c = takes_none _ _ _ _ _ _ refl (advances_same _) refl (lines_same _ _ _ refl)
+
+pub returns-in_err-make_room-clause-intake : goal.returns-in_err-make_room-clause-intake
+returns-in_err-make_room-clause-intake g c = takes_none _ _ _ _ _ _ refl (advances_same _) refl (lines_same _ _ _ c.make_room.ensures.lists.grants)
+
+pub returns-in-Logout-clause-intake : goal.returns-in-Logout-clause-intake
+returns-in-Logout-clause-intake g c = takes_none _ _ _ _ _ _ c.log_out.ensures.stands (advances_same _) refl
+    (lines_on _ _ _ _ _ refl (lines_same _ _ _ c.make_room.ensures.lists.grants) c.log_out.ensures.lines)
+
+pub returns-in_err-prepare-clause-intake : goal.returns-in_err-prepare-clause-intake
+returns-in_err-prepare-clause-intake g c = takes_none _ _ _ _ _ _ refl c.prepare.ensures.advances c.prepare.ensures.passes (lines_same _ _ _ c.prepare.ensures.grants)
+
+pub returns-clause-intake : goal.returns-clause-intake
+returns-clause-intake g c = takes_on _ _ _ _ _ _ _ _ _ (takes_none _ _ _ _ _ _ c.note_stage.ensures.stands c.prepare.ensures.advances c.prepare.ensures.passes (lines_same _ _ _ c.prepare.ensures.grants))
+    c.answer.ensures.intake
+
+pub returns-in_default-clause-books : goal.returns-in_default-clause-books
+returns-in_default-clause-books g c = λ judged is. is
+
+pub returns-in_err-make_room-clause-books : goal.returns-in_err-make_room-clause-books
+returns-in_err-make_room-clause-books g c = λ judged is. moved_to _ _ judged refl refl refl refl refl refl refl refl refl (ap keys_of c.make_room.ensures.lists.history) c.make_room.ensures.lists.grants refl is
+
+pub returns-in-Logout-clause-books : goal.returns-in-Logout-clause-books
+returns-in-Logout-clause-books g c = λ judged is.
+    let front = front_is _ _ c.in-Some.ensures.item.3 in
+    let other : is_login c.in-Some.request.now.order ≡ false = search rules in
+    let none : gets_row c.in-Some.request.now.order ≡ false = search rules in
+    moved_to _ _ judged refl refl (ap (λ w. next_of w (g.S.Site.state c.args.site.now).queue) (waiting_stands _ _ c.log_out.ensures.stands)) refl refl refl refl refl refl refl refl refl
+    (c.log_out.ensures.books (g.S.Site.state c.args.site.now).queue.last_session (next_of c.args.unit.now.waiting (g.S.Site.state c.args.site.now).queue) c.in-Some.request.now front.0 front.1 other none judged
+    (moved_to _ _ judged refl refl refl refl refl refl refl refl refl (ap keys_of c.make_room.ensures.lists.history) c.make_room.ensures.lists.grants refl is))
+
+pub returns-in_err-prepare-clause-books : goal.returns-in_err-prepare-clause-books
+returns-in_err-prepare-clause-books g c = λ judged is.
+    let front = front_is _ _ c.in-Some.ensures.item.3 in
+    let books = books_at c.args.unit.now (g.S.Site.state c.args.site.now) c.args.records.now in
+    let for : IsFor books c.args.unit.now.id (g.S.Site.state c.args.site.now).queue.last_session c.in-Some.request.now =
+    record { id_is = refl; session_is = refl; rest = front.0; front = front.1; none = c.requires.none } in
+    let served = c.prepare.ensures.books books for refl judged is in
+    moved_to _ _ judged refl (ap (λ (q : EndState). q.last_session) c.prepare.ensures.queue) (ap (next_of c.args.unit.now.waiting) c.prepare.ensures.queue) refl refl refl refl refl refl refl c.prepare.ensures.grants refl served
+
+pub returns-clause-books : goal.returns-clause-books
+returns-clause-books g c = λ judged is.
+    let front = front_is _ _ c.in-Some.ensures.item.3 in
+    let books = books_at c.args.unit.now (g.S.Site.state c.args.site.now) c.args.records.now in
+    let for : IsFor books c.args.unit.now.id (g.S.Site.state c.args.site.now).queue.last_session c.in-Some.request.now =
+    record { id_is = refl; session_is = refl; rest = front.0; front = front.1; none = c.requires.none } in
+    let served = c.prepare.ensures.books books for refl judged is in
+    let queue = (g.S.Site.state c.prepare.new.site).queue in
+    c.answer.ensures.books judged
+    (subst (λ (b : Books). AreKept b judged) (sym (c.note_stage.ensures.books queue.last_session (next_of c.note_stage.new.unit.waiting queue) c.prepare.new.records))
+    (moved_to _ _ judged refl (ap (λ (q : EndState). q.last_session) c.prepare.ensures.queue) (ap (λ w. next_of w queue) (waiting_stands _ _ c.note_stage.ensures.stands) ∙ ap (next_of c.args.unit.now.waiting) c.prepare.ensures.queue) refl refl refl refl refl refl refl c.prepare.ensures.grants refl served))
+
+pub returns-in_default-clause-passes : goal.returns-in_default-clause-passes
+returns-in_default-clause-passes g c = refl
+
+pub returns-in_err-make_room-clause-passes : goal.returns-in_err-make_room-clause-passes
+returns-in_err-make_room-clause-passes g c = refl
+
+pub returns-in-Logout-clause-passes : goal.returns-in-Logout-clause-passes
+returns-in-Logout-clause-passes g c = refl
+
+pub returns-in_err-prepare-clause-passes : goal.returns-in_err-prepare-clause-passes
+returns-in_err-prepare-clause-passes g c = c.prepare.ensures.passes
+
+pub returns-clause-passes : goal.returns-clause-passes
+returns-clause-passes g c = c.answer.ensures.passes ∙ c.prepare.ensures.passes

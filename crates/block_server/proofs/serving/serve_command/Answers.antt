@@ -5,6 +5,8 @@ use Rattle.block_server.proofs.Staging.{came_on}
 use Rattle.block_server.proofs.Advancing.{advances_on}
 use Rattle.block_server.proofs.Denying.{tells_first, tells_next}
 use Rattle.block_server.proofs.Onces.{once_then}
+use Rattle.block_server.proofs.Working.{one_on}
+use Rattle.std.proofs.Common.{refl}
 use Rattle.block_server.proofs.serving.serve_command.Goals as goal
 
 pub returns-in_err-run_step-clause-once : goal.returns-in_err-run_step-clause-once
@@ -42,3 +44,13 @@ returns-clause-went g c =
     came_on c.hand_over.result _ _ _ _ (λ met. uses_sooner old (g.S.Site.state c.run_step.new.site) new met rest) c.in_ok-run_step.ensures.went
     (λ before. let stage = c.in_ok-store.ensures.went before in
     went_on c.hand_over.result _ _ _ (uses_later old stored new first) (on_ok c.hand_over.result _ _ (λ went. went stage.0 stage.1) c.hand_over.ensures.went))
+
+pub returns-in_err-run_step-clause-books : goal.returns-in_err-run_step-clause-books
+returns-in_err-run_step-clause-books g c = c.run_step.ensures.books
+
+pub returns-in_err-store-clause-books : goal.returns-in_err-store-clause-books
+returns-in_err-store-clause-books g c = one_on _ _ _ _ _ _ _ _ _ _ refl c.run_step.ensures.books (c.store.ensures.books _ _ _)
+
+pub returns-clause-books : goal.returns-clause-books
+returns-clause-books g c =
+    one_on _ _ _ _ _ _ _ _ _ _ refl (one_on _ _ _ _ _ _ _ _ _ _ refl c.run_step.ensures.books (c.store.ensures.books _ _ _)) (c.hand_over.ensures.books _ _)

@@ -4,6 +4,8 @@ use Rattle.block_server.specs.Answering.{responses}
 use Rattle.block_server.proofs.Staging.{not_given}
 use Rattle.block_server.proofs.Onces.{once_same}
 use Rattle.block_server.proofs.Serves.{once_stored}
+use Rattle.block_server.proofs.Working.{one_given, one_same}
+use Rattle.block_server.specs.declared.service.Stage.TheVariants.{DataIn, Given}
 use Rattle.block_server.proofs.serving.store.Goals as goal
 
 pub returns-in_err-write_data-clause-once : goal.returns-in_err-write_data-clause-once
@@ -20,3 +22,13 @@ returns-in_default-clause-once g c = λ id rest records disk serving. once_same 
 
 pub returns-in_default-clause-went : goal.returns-in_default-clause-went
 returns-in_default-clause-went g c = λ before. (before, not_given _ (λ row reply is. c.in_default.not-Given row reply is))
+
+pub returns-in_err-write_data-clause-books : goal.returns-in_err-write_data-clause-books
+returns-in_err-write_data-clause-books g c = λ id session rows. one_same _ _ _ _ _ _ _ refl refl
+
+pub returns-in_ok-write_data-clause-books : goal.returns-in_ok-write_data-clause-books
+returns-in_ok-write_data-clause-books g c = λ id session rows.
+    one_given _ _ _ _ _ _ (Given c.in-Given.row c.in-Given.reply) (DataIn c.in-Given.row c.in-Given.reply c.start.result) c.in-Given.is refl refl (λ current pending at. at)
+
+pub returns-in_default-clause-books : goal.returns-in_default-clause-books
+returns-in_default-clause-books g c = λ id session rows. one_same _ _ _ _ _ _ _ refl refl

@@ -2,6 +2,9 @@ use Rattle.std.proofs.Common.{refl}
 use Rattle.block_server.proofs.Agreeing.{is_waiting}
 use Rattle.block_server.proofs.Onces.{once_same}
 use Rattle.block_server.proofs.Quieting.{stays_moved}
+use Rattle.block_server.proofs.Taking.{id_stands, waiting_stands}
+use Rattle.block_server.proofs.Jointly.{keeps_opened}
+use Rattle.block_server.specs.Books.{books_at}
 use Rattle.block_server.proofs.turning.begin.Goals as goal
 
 pub returns-in-Some-clause-once : goal.returns-in-Some-clause-once
@@ -18,3 +21,17 @@ returns-in_default-clause-once g c = λ records disk serving. once_same _ _ _ _ 
 
 pub returns-in_default-clause-agrees : goal.returns-in_default-clause-agrees
 returns-in_default-clause-agrees g c = is_waiting _ _ c.registered.ensures.state c.requires.on
+
+pub returns-in-Some-clause-id : goal.returns-in-Some-clause-id
+returns-in-Some-clause-id g c = id_stands _ _ c.put_reply-next.ensures.stands
+
+pub returns-in-Some-clause-waiting : goal.returns-in-Some-clause-waiting
+returns-in-Some-clause-waiting g c = waiting_stands _ _ c.put_reply-next.ensures.stands
+
+pub returns-in-Some-clause-books : goal.returns-in-Some-clause-books
+returns-in-Some-clause-books g c = λ records none off judged is.
+    c.put_reply-next.ensures.books records judged (keeps_opened (books_at c.args.unit.now (g.S.Site.state c.args.site.now) records) _ none off judged is)
+
+pub returns-in_default-clause-books : goal.returns-in_default-clause-books
+returns-in_default-clause-books g c = λ records none off judged is.
+    keeps_opened (books_at c.args.unit.now (g.S.Site.state c.args.site.now) records) _ none off judged is

@@ -3,6 +3,9 @@ use Rattle.block_server.proofs.Agreeing.{agrees_same, is_down}
 use Rattle.block_server.proofs.Readying.{idles_reserves, sender_now}
 use Rattle.block_server.proofs.Onces.{once_same}
 use Rattle.block_server.proofs.Serves.{desk_is}
+use Rattle.block_server.proofs.Taking.{stands}
+use Rattle.block_server.proofs.GoingOn.{freed_ended}
+use Rattle.block_server.proofs.Jointly.{keeps_line, keeps_pass}
 use Rattle.block_server.proofs.turning.free.Goals as goal
 
 pub returns-in-Busy-clause-once : goal.returns-in-Busy-clause-once
@@ -35,3 +38,23 @@ returns-in-Success-clause-agrees g c = λ is. is_down _ _ c.freed.ensures.handsh
 pub returns-in-Parameter-clause-agrees : goal.returns-in-Parameter-clause-agrees
 returns-in-Parameter-clause-agrees g c = λ is.
     is_down _ _ c.freed-in-Parameter.ensures.handshake (c.in-Parameter.ensures.refused.registered ∙ c.free.ensures.parameter.0 c.in-Parameter.is)
+
+pub returns-in-Success-clause-stands : goal.returns-in-Success-clause-stands
+returns-in-Success-clause-stands g c = λ closing. stands _ _ refl refl (freed_ended _ _ _ _ closing c.freed.ensures.handshake)
+
+pub returns-in-Parameter-clause-stands : goal.returns-in-Parameter-clause-stands
+returns-in-Parameter-clause-stands g c = λ closing. stands _ _ refl refl (freed_ended _ _ _ _ closing c.freed-in-Parameter.ensures.handshake)
+
+pub returns-in-Busy-clause-goes_on : goal.returns-in-Busy-clause-goes_on
+returns-in-Busy-clause-goes_on g c = λ apart. absurd (apart refl)
+
+pub returns-in-Busy-clause-books : goal.returns-in-Busy-clause-books
+returns-in-Busy-clause-books g c = λ records closing. keeps_pass c.args.unit.now records _ _ c.free.ensures.passes
+
+pub returns-in-Success-clause-books : goal.returns-in-Success-clause-books
+returns-in-Success-clause-books g c = λ records closing.
+    keeps_line c.args.unit.now c.freed.new.self records _ _ c.free.ensures.passes c.freed.ensures.kept (freed_ended _ _ _ _ closing c.freed.ensures.handshake)
+
+pub returns-in-Parameter-clause-books : goal.returns-in-Parameter-clause-books
+returns-in-Parameter-clause-books g c = λ records closing.
+    keeps_line c.args.unit.now c.freed-in-Parameter.new.self records _ _ c.free.ensures.passes c.freed-in-Parameter.ensures.kept (freed_ended _ _ _ _ closing c.freed-in-Parameter.ensures.handshake)

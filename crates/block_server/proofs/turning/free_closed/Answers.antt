@@ -1,6 +1,7 @@
 use Rattle.std.proofs.Common.{refl}
 use Rattle.block_server.proofs.Readying.{idles_same}
 use Rattle.block_server.proofs.Onces.{once_same}
+use Rattle.std.proofs.Common.{rules}
 use Rattle.block_server.proofs.turning.free_closed.Goals as goal
 
 pub returns-then-not-unit-clause-once : goal.returns-then-not-unit-clause-once
@@ -11,3 +12,9 @@ returns-then-not-unit-clause-waits g c = λ moved. idles_same _ _
 
 pub returns-then-not-unit-clause-agrees : goal.returns-then-not-unit-clause-agrees
 returns-then-not-unit-clause-agrees g c = λ is. is
+
+pub returns-then-not-unit-clause-books : goal.returns-then-not-unit-clause-books
+returns-then-not-unit-clause-books g c = λ records judged is. is
+
+pub returns-clause-books : goal.returns-clause-books
+returns-clause-books g c = λ records. c.free.ensures.books records (search rules)

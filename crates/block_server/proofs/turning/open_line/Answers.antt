@@ -1,10 +1,14 @@
-use Rattle.std.proofs.Common.{ap, inl, inr, refl, rules}
+use Rattle.std.proofs.Common.{ap, inl, inr, refl, rules, ◌∙◌}
 use Rattle.block_server.specs.Answering.{responses}
 use Rattle.block_server.proofs.Agreeing.{agrees_on, agrees_same}
 use Rattle.block_server.proofs.Readying.{full_later, idles_on, idles_reserves, next_on, next_over, opening_later, sender_later}
 use Rattle.block_server.proofs.Advancing.{advances_on}
 use Rattle.block_server.proofs.Onces.{once_on, once_same}
 use Rattle.block_server.proofs.Quieting.{quiet_on, quiet_still, still_reserves}
+use Rattle.block_server.proofs.Taking.{lines_same, takes_none, takes_on}
+use Rattle.block_server.proofs.GoingOn.{open_goes_on}
+use Rattle.block_server.proofs.Jointly.{keeps_pass}
+use Rattle.block_server.proofs.Taking.{passed_copies}
 use Rattle.block_server.proofs.turning.open_line.Goals as goal
 
 pub returns-in_err-reserve-clause-once : goal.returns-in_err-reserve-clause-once
@@ -104,3 +108,68 @@ returns-clause-waits g c = λ moved.
       };
       on = λ down. search rules;
     }
+
+pub returns-in_err-reserve-clause-intake : goal.returns-in_err-reserve-clause-intake
+returns-in_err-reserve-clause-intake g c = λ records. takes_none _ _ _ _ _ _ refl c.reserve.ensures.advances c.reserve.ensures.passes (lines_same _ _ _ refl)
+
+pub returns-then-eq-clause-intake : goal.returns-then-eq-clause-intake
+returns-then-eq-clause-intake g c = λ records. takes_none _ _ _ _ _ _ c.push_event.ensures.stands (advances_on _ _ _ c.reserve.ensures.advances c.push_event.ensures.advances)
+    (c.push_event.ensures.passes ∙ c.reserve.ensures.passes) (lines_same _ _ _ refl)
+
+pub returns-then-eq-2-clause-intake : goal.returns-then-eq-2-clause-intake
+returns-then-eq-2-clause-intake g c = λ records. takes_none _ _ _ _ _ _ (c.free_closed.ensures.stands ∙ c.push_event.ensures.stands)
+    (advances_on _ _ _ (advances_on _ _ _ c.reserve.ensures.advances c.push_event.ensures.advances) c.free_closed.ensures.advances)
+    (c.free_closed.ensures.passes ∙ c.push_event.ensures.passes ∙ c.reserve.ensures.passes) (lines_same _ _ _ refl)
+
+pub returns-then-is_down-clause-intake : goal.returns-then-is_down-clause-intake
+returns-then-is_down-clause-intake g c = λ records. takes_on _ _ _ _ _ _ _ _ _ (takes_none _ _ _ _ _ _ (c.free_closed.ensures.stands ∙ c.push_event.ensures.stands)
+    (advances_on _ _ _ (advances_on _ _ _ c.reserve.ensures.advances c.push_event.ensures.advances) c.free_closed.ensures.advances)
+    (c.free_closed.ensures.passes ∙ c.push_event.ensures.passes ∙ c.reserve.ensures.passes) (lines_same _ _ _ refl))
+    (c.register.ensures.intake records)
+
+pub returns-clause-intake : goal.returns-clause-intake
+returns-clause-intake g c = λ records. takes_none _ _ _ _ _ _ (c.free_closed.ensures.stands ∙ c.push_event.ensures.stands)
+    (advances_on _ _ _ (advances_on _ _ _ c.reserve.ensures.advances c.push_event.ensures.advances) c.free_closed.ensures.advances)
+    (c.free_closed.ensures.passes ∙ c.push_event.ensures.passes ∙ c.reserve.ensures.passes) (lines_same _ _ _ refl)
+
+pub returns-clause-goes_on : goal.returns-clause-goes_on
+returns-clause-goes_on g c = λ apart. open_goes_on _ _ (c.free_closed.ensures.goes_on (search rules)) (λ down. search rules)
+
+pub returns-then-eq-clause-goes_on : goal.returns-then-eq-clause-goes_on
+returns-then-eq-clause-goes_on g c = λ apart. absurd (apart refl)
+
+pub returns-then-eq-2-clause-goes_on : goal.returns-then-eq-2-clause-goes_on
+returns-then-eq-2-clause-goes_on g c = λ apart. absurd (apart refl)
+
+pub returns-then-is_down-clause-goes_on : goal.returns-then-is_down-clause-goes_on
+returns-then-is_down-clause-goes_on g c = λ apart. absurd (apart refl)
+
+pub returns-in_err-reserve-clause-fetches : goal.returns-in_err-reserve-clause-fetches
+returns-in_err-reserve-clause-fetches g c = passed_copies _ _ c.reserve.ensures.passes
+
+pub returns-then-eq-clause-fetches : goal.returns-then-eq-clause-fetches
+returns-then-eq-clause-fetches g c = passed_copies _ _ (c.push_event.ensures.passes ∙ c.reserve.ensures.passes)
+
+pub returns-then-eq-2-clause-fetches : goal.returns-then-eq-2-clause-fetches
+returns-then-eq-2-clause-fetches g c = passed_copies _ _ (c.free_closed.ensures.passes ∙ c.push_event.ensures.passes ∙ c.reserve.ensures.passes)
+
+pub returns-then-is_down-clause-fetches : goal.returns-then-is_down-clause-fetches
+returns-then-is_down-clause-fetches g c = c.register.ensures.fetches ∙ passed_copies _ _ (c.free_closed.ensures.passes ∙ c.push_event.ensures.passes ∙ c.reserve.ensures.passes)
+
+pub returns-clause-fetches : goal.returns-clause-fetches
+returns-clause-fetches g c = passed_copies _ _ (c.free_closed.ensures.passes ∙ c.push_event.ensures.passes ∙ c.reserve.ensures.passes)
+
+pub returns-in_err-reserve-clause-books : goal.returns-in_err-reserve-clause-books
+returns-in_err-reserve-clause-books g c = λ records judged is. keeps_pass c.args.unit.now records _ _ c.reserve.ensures.passes judged is
+
+pub returns-then-eq-clause-books : goal.returns-then-eq-clause-books
+returns-then-eq-clause-books g c = λ records judged is. c.push_event.ensures.books records judged (keeps_pass c.args.unit.now records _ _ c.reserve.ensures.passes judged is)
+
+pub returns-then-eq-2-clause-books : goal.returns-then-eq-2-clause-books
+returns-then-eq-2-clause-books g c = λ records judged is. c.free_closed.ensures.books records judged (c.push_event.ensures.books records judged (keeps_pass c.args.unit.now records _ _ c.reserve.ensures.passes judged is))
+
+pub returns-then-is_down-clause-books : goal.returns-then-is_down-clause-books
+returns-then-is_down-clause-books g c = λ records judged is. c.register.ensures.books records judged (c.free_closed.ensures.books records judged (c.push_event.ensures.books records judged (keeps_pass c.args.unit.now records _ _ c.reserve.ensures.passes judged is)))
+
+pub returns-clause-books : goal.returns-clause-books
+returns-clause-books g c = λ records judged is. c.free_closed.ensures.books records judged (c.push_event.ensures.books records judged (keeps_pass c.args.unit.now records _ _ c.reserve.ensures.passes judged is))

@@ -2,6 +2,7 @@ use Rattle.std.proofs.Common.{refl}
 use Rattle.block_server.proofs.Agreeing.{agrees_same}
 use Rattle.block_server.proofs.Readying.{full_now, idles_pushes}
 use Rattle.block_server.proofs.Onces.{once_same}
+use Rattle.block_server.proofs.Jointly.{keeps_pass}
 use Rattle.block_server.proofs.turning.push_event.Goals as goal
 
 pub returns-in-Nothing-clause-once : goal.returns-in-Nothing-clause-once
@@ -30,3 +31,12 @@ returns-in-Put-clause-agrees g c = agrees_same _ _ _ _ refl c.push_event.ensures
 
 pub returns-in-Kept-clause-agrees : goal.returns-in-Kept-clause-agrees
 returns-in-Kept-clause-agrees g c = agrees_same _ _ _ _ refl c.push_event.ensures.rest.registered
+
+pub returns-in-Nothing-clause-books : goal.returns-in-Nothing-clause-books
+returns-in-Nothing-clause-books g c = λ records. keeps_pass c.args.unit.now records _ _ c.push_event.ensures.passes
+
+pub returns-in-Put-clause-books : goal.returns-in-Put-clause-books
+returns-in-Put-clause-books g c = λ records. keeps_pass c.args.unit.now records _ _ c.push_event.ensures.passes
+
+pub returns-in-Kept-clause-books : goal.returns-in-Kept-clause-books
+returns-in-Kept-clause-books g c = λ records. keeps_pass c.args.unit.now records _ _ c.push_event.ensures.passes

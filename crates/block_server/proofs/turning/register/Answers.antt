@@ -3,6 +3,11 @@ use Rattle.block_server.proofs.Advancing.{advances_on}
 use Rattle.block_server.proofs.Agreeing.{agrees_same}
 use Rattle.block_server.proofs.Onces.{once_on, once_same}
 use Rattle.block_server.proofs.Readying.{register_same, register_stops}
+use Rattle.block_server.proofs.Taking.{lines_same, passes_windows, takes_none, takes_session}
+use Rattle.block_server.proofs.GoingOn.{down_ended, register_session}
+use Rattle.block_server.proofs.Jointly.{keeps_pass, keeps_registered}
+use Rattle.std.proofs.Common.{◌∙◌}
+use Rattle.block_server.proofs.Taking.{passed_copies, window_copies}
 use Rattle.block_server.proofs.turning.register.Goals as goal
 
 pub returns-in_default-clause-once : goal.returns-in_default-clause-once
@@ -38,3 +43,41 @@ returns-in-Closed-clause-advances g c = advances_on _ _ _ c.register.ensures.adv
 
 pub returns-in-Closed-clause-agrees : goal.returns-in-Closed-clause-agrees
 returns-in-Closed-clause-agrees g c = λ is. c.begin-in-Closed.ensures.agrees
+
+pub returns-in_default-clause-intake : goal.returns-in_default-clause-intake
+returns-in_default-clause-intake g c = λ records.
+    let session = register_session _ _ _ c.register.result (λ is. c.in_default.not-Success is) (λ control is. c.in_default.not-Closed control is) c.register.ensures.busy c.register.ensures.refused in
+    takes_none _ _ _ _ _ _ refl c.register.ensures.advances (passes_windows _ _ session c.register.ensures.rest.taken c.register.ensures.windows) (lines_same _ _ _ refl)
+
+pub returns-in-Success-clause-intake : goal.returns-in-Success-clause-intake
+returns-in-Success-clause-intake g c = λ records.
+    takes_session _ _ _ _ _ _ _ (down_ended _ _ c.requires.down) c.in-Success.ensures.opened.session c.register.ensures.rest.taken c.register.ensures.windows
+    c.begin.ensures.passes (advances_on _ _ _ c.register.ensures.advances c.begin.ensures.advances) c.begin.ensures.id c.begin.ensures.waiting refl
+
+pub returns-in-Closed-clause-intake : goal.returns-in-Closed-clause-intake
+returns-in-Closed-clause-intake g c = λ records.
+    takes_session _ _ _ _ _ _ _ (down_ended _ _ c.requires.down) c.in-Closed.ensures.opened.session c.register.ensures.rest.taken c.register.ensures.windows
+    c.begin-in-Closed.ensures.passes (advances_on _ _ _ c.register.ensures.advances c.begin-in-Closed.ensures.advances) c.begin-in-Closed.ensures.id
+    c.begin-in-Closed.ensures.waiting refl
+
+pub returns-in_default-clause-fetches : goal.returns-in_default-clause-fetches
+returns-in_default-clause-fetches g c = window_copies _ _ c.register.ensures.windows
+
+pub returns-in-Success-clause-fetches : goal.returns-in-Success-clause-fetches
+returns-in-Success-clause-fetches g c = passed_copies _ _ c.begin.ensures.passes ∙ window_copies _ _ c.register.ensures.windows
+
+pub returns-in-Closed-clause-fetches : goal.returns-in-Closed-clause-fetches
+returns-in-Closed-clause-fetches g c = passed_copies _ _ c.begin-in-Closed.ensures.passes ∙ window_copies _ _ c.register.ensures.windows
+
+pub returns-in_default-clause-books : goal.returns-in_default-clause-books
+returns-in_default-clause-books g c = λ records.
+    let session = register_session _ _ _ c.register.result (λ is. c.in_default.not-Success is) (λ control is. c.in_default.not-Closed control is) c.register.ensures.busy c.register.ensures.refused in
+    keeps_pass c.args.unit.now records _ _ (passes_windows _ _ session c.register.ensures.rest.taken c.register.ensures.windows)
+
+pub returns-in-Success-clause-books : goal.returns-in-Success-clause-books
+returns-in-Success-clause-books g c = λ records.
+    keeps_registered c.args.unit.now records (g.S.Site.state c.args.site.now) (g.S.Site.state c.register.new.self) _ (down_ended _ _ c.requires.down) (c.begin.ensures.books records)
+
+pub returns-in-Closed-clause-books : goal.returns-in-Closed-clause-books
+returns-in-Closed-clause-books g c = λ records.
+    keeps_registered c.args.unit.now records (g.S.Site.state c.args.site.now) (g.S.Site.state c.register.new.self) _ (down_ended _ _ c.requires.down) (c.begin-in-Closed.ensures.books records)

@@ -1,4 +1,4 @@
-use Rattle.std.proofs.Common.{rules, subst, sym}
+use Rattle.std.proofs.Common.{refl, rules, subst, sym, ◌∙◌}
 use Rattle.vio_num.specs.declared.names.UnitId.{UnitId}
 use Rattle.block_server.specs.SiteState.{TellsAll}
 use Rattle.block_server.proofs.Agreeing.{agrees_on}
@@ -7,6 +7,12 @@ use Rattle.block_server.proofs.Denying.{tells_next}
 use Rattle.block_server.proofs.Advancing.{advances_on}
 use Rattle.block_server.proofs.Quieting.{on_ok, quiet_on}
 use Rattle.block_server.proofs.Onces.{once_on, once_then}
+use Rattle.block_server.proofs.Taking.{ended_stands, takes_none, takes_on}
+use Rattle.block_server.proofs.Jointly.{works, works_none, works_on}
+use Rattle.block_server.proofs.Deciding.{judges_unfetched}
+use Rattle.block_server.proofs.Taking.{passed_copies}
+use Rattle.block_server.specs.Books.{books_at}
+use Rattle.block_server.specs.Receipts.{standing_of}
 use Rattle.block_server.proofs.turning.steps.Goals as goal
 
 pub returns-in_err-open_line-clause-once : goal.returns-in_err-open_line-clause-once
@@ -119,3 +125,74 @@ returns-clause-waits g c =
     (next_service c.in_ok-take_in.field-0 _ (c.in_ok-take_in.ensures.waits was3))
     (waits moved) c.serve.ensures.nothing c.serve.ensures.still)
     c.serve.ensures.waits c.serve.ensures.quiet
+
+pub returns-in_err-open_line-clause-intake : goal.returns-in_err-open_line-clause-intake
+returns-in_err-open_line-clause-intake g c = c.open_line.ensures.intake c.args.records.now.grants.items
+
+pub returns-then-eq-clause-intake : goal.returns-then-eq-clause-intake
+returns-then-eq-clause-intake g c = c.open_line.ensures.intake c.args.records.now.grants.items
+
+pub returns-in_err-put_kept-clause-intake : goal.returns-in_err-put_kept-clause-intake
+returns-in_err-put_kept-clause-intake g c =
+    takes_on _ _ _ _ _ _ _ _ _ (c.open_line.ensures.intake c.args.records.now.grants.items) (takes_none _ _ _ _ _ _ c.put_kept.ensures.stands c.put_kept.ensures.advances c.put_kept.ensures.passes c.put_kept.ensures.lines)
+
+pub returns-then-eq-2-clause-intake : goal.returns-then-eq-2-clause-intake
+returns-then-eq-2-clause-intake g c =
+    takes_on _ _ _ _ _ _ _ _ _ (c.open_line.ensures.intake c.args.records.now.grants.items) (takes_none _ _ _ _ _ _ c.put_kept.ensures.stands c.put_kept.ensures.advances c.put_kept.ensures.passes c.put_kept.ensures.lines)
+
+pub returns-in_err-take_in-clause-intake : goal.returns-in_err-take_in-clause-intake
+returns-in_err-take_in-clause-intake g c =
+    takes_on _ _ _ _ _ _ _ _ _ (takes_on _ _ _ _ _ _ _ _ _ (c.open_line.ensures.intake c.args.records.now.grants.items) (takes_none _ _ _ _ _ _ c.put_kept.ensures.stands c.put_kept.ensures.advances c.put_kept.ensures.passes c.put_kept.ensures.lines))
+    (c.take_in.ensures.intake (ended_stands _ _ c.put_kept.ensures.stands ∙ c.in_ok-open_line.ensures.goes_on (search rules)))
+
+pub returns-then-eq-3-clause-intake : goal.returns-then-eq-3-clause-intake
+returns-then-eq-3-clause-intake g c =
+    takes_on _ _ _ _ _ _ _ _ _ (takes_on _ _ _ _ _ _ _ _ _ (c.open_line.ensures.intake c.args.records.now.grants.items) (takes_none _ _ _ _ _ _ c.put_kept.ensures.stands c.put_kept.ensures.advances c.put_kept.ensures.passes c.put_kept.ensures.lines))
+    (c.take_in.ensures.intake (ended_stands _ _ c.put_kept.ensures.stands ∙ c.in_ok-open_line.ensures.goes_on (search rules)))
+
+pub returns-clause-intake : goal.returns-clause-intake
+returns-clause-intake g c =
+    takes_on _ _ _ _ _ _ _ _ _
+    (takes_on _ _ _ _ _ _ _ _ _ (takes_on _ _ _ _ _ _ _ _ _ (c.open_line.ensures.intake c.args.records.now.grants.items) (takes_none _ _ _ _ _ _ c.put_kept.ensures.stands c.put_kept.ensures.advances c.put_kept.ensures.passes c.put_kept.ensures.lines))
+    (c.take_in.ensures.intake (ended_stands _ _ c.put_kept.ensures.stands ∙ c.in_ok-open_line.ensures.goes_on (search rules)))) c.serve.ensures.intake
+
+pub returns-in_err-open_line-clause-judges : goal.returns-in_err-open_line-clause-judges
+returns-in_err-open_line-clause-judges g c = (works (standing_of c.args.unit.now) (standing_of c.open_line.new.unit) (g.S.Site.state c.args.site.now) (g.S.Site.state c.open_line.new.site) (books_at c.args.unit.now (g.S.Site.state c.args.site.now) c.args.records.now) (books_at c.open_line.new.unit (g.S.Site.state c.open_line.new.site) c.args.records.now) refl refl (c.open_line.ensures.intake c.args.records.now.grants.items)
+    (judges_unfetched (standing_of c.args.unit.now) (standing_of c.open_line.new.unit) (g.S.Site.state c.args.site.now) (g.S.Site.state c.open_line.new.site) (books_at c.args.unit.now (g.S.Site.state c.args.site.now) c.args.records.now) (books_at c.open_line.new.unit (g.S.Site.state c.open_line.new.site) c.args.records.now) (c.open_line.ensures.intake c.args.records.now.grants.items).id (c.open_line.ensures.intake c.args.records.now.grants.items) c.open_line.ensures.fetches (c.open_line.ensures.books c.args.records.now))).judges
+
+pub returns-then-eq-clause-judges : goal.returns-then-eq-clause-judges
+returns-then-eq-clause-judges g c = (works (standing_of c.args.unit.now) (standing_of c.open_line.new.unit) (g.S.Site.state c.args.site.now) (g.S.Site.state c.open_line.new.site) (books_at c.args.unit.now (g.S.Site.state c.args.site.now) c.args.records.now) (books_at c.open_line.new.unit (g.S.Site.state c.open_line.new.site) c.args.records.now) refl refl (c.open_line.ensures.intake c.args.records.now.grants.items)
+    (judges_unfetched (standing_of c.args.unit.now) (standing_of c.open_line.new.unit) (g.S.Site.state c.args.site.now) (g.S.Site.state c.open_line.new.site) (books_at c.args.unit.now (g.S.Site.state c.args.site.now) c.args.records.now) (books_at c.open_line.new.unit (g.S.Site.state c.open_line.new.site) c.args.records.now) (c.open_line.ensures.intake c.args.records.now.grants.items).id (c.open_line.ensures.intake c.args.records.now.grants.items) c.open_line.ensures.fetches (c.open_line.ensures.books c.args.records.now))).judges
+
+pub returns-in_err-put_kept-clause-judges : goal.returns-in_err-put_kept-clause-judges
+returns-in_err-put_kept-clause-judges g c = (works_on _ _ _ _ _ _ _ _ _ (works (standing_of c.args.unit.now) (standing_of c.open_line.new.unit) (g.S.Site.state c.args.site.now) (g.S.Site.state c.open_line.new.site) (books_at c.args.unit.now (g.S.Site.state c.args.site.now) c.args.records.now) (books_at c.open_line.new.unit (g.S.Site.state c.open_line.new.site) c.args.records.now) refl refl (c.open_line.ensures.intake c.args.records.now.grants.items)
+    (judges_unfetched (standing_of c.args.unit.now) (standing_of c.open_line.new.unit) (g.S.Site.state c.args.site.now) (g.S.Site.state c.open_line.new.site) (books_at c.args.unit.now (g.S.Site.state c.args.site.now) c.args.records.now) (books_at c.open_line.new.unit (g.S.Site.state c.open_line.new.site) c.args.records.now) (c.open_line.ensures.intake c.args.records.now.grants.items).id (c.open_line.ensures.intake c.args.records.now.grants.items) c.open_line.ensures.fetches (c.open_line.ensures.books c.args.records.now)))
+    (works_none (standing_of c.open_line.new.unit) (standing_of c.put_kept.new.unit) (g.S.Site.state c.open_line.new.site) (g.S.Site.state c.put_kept.new.site) (books_at c.open_line.new.unit (g.S.Site.state c.open_line.new.site) c.args.records.now) (books_at c.put_kept.new.unit (g.S.Site.state c.put_kept.new.site) c.put_kept.new.records) c.put_kept.ensures.stands refl refl c.put_kept.ensures.advances c.put_kept.ensures.passes c.put_kept.ensures.lines c.put_kept.ensures.books)).judges
+
+pub returns-then-eq-2-clause-judges : goal.returns-then-eq-2-clause-judges
+returns-then-eq-2-clause-judges g c = (works_on _ _ _ _ _ _ _ _ _ (works (standing_of c.args.unit.now) (standing_of c.open_line.new.unit) (g.S.Site.state c.args.site.now) (g.S.Site.state c.open_line.new.site) (books_at c.args.unit.now (g.S.Site.state c.args.site.now) c.args.records.now) (books_at c.open_line.new.unit (g.S.Site.state c.open_line.new.site) c.args.records.now) refl refl (c.open_line.ensures.intake c.args.records.now.grants.items)
+    (judges_unfetched (standing_of c.args.unit.now) (standing_of c.open_line.new.unit) (g.S.Site.state c.args.site.now) (g.S.Site.state c.open_line.new.site) (books_at c.args.unit.now (g.S.Site.state c.args.site.now) c.args.records.now) (books_at c.open_line.new.unit (g.S.Site.state c.open_line.new.site) c.args.records.now) (c.open_line.ensures.intake c.args.records.now.grants.items).id (c.open_line.ensures.intake c.args.records.now.grants.items) c.open_line.ensures.fetches (c.open_line.ensures.books c.args.records.now)))
+    (works_none (standing_of c.open_line.new.unit) (standing_of c.put_kept.new.unit) (g.S.Site.state c.open_line.new.site) (g.S.Site.state c.put_kept.new.site) (books_at c.open_line.new.unit (g.S.Site.state c.open_line.new.site) c.args.records.now) (books_at c.put_kept.new.unit (g.S.Site.state c.put_kept.new.site) c.put_kept.new.records) c.put_kept.ensures.stands refl refl c.put_kept.ensures.advances c.put_kept.ensures.passes c.put_kept.ensures.lines c.put_kept.ensures.books)).judges
+
+pub returns-in_err-take_in-clause-judges : goal.returns-in_err-take_in-clause-judges
+returns-in_err-take_in-clause-judges g c = (works_on _ _ _ _ _ _ _ _ _ (works_on _ _ _ _ _ _ _ _ _ (works (standing_of c.args.unit.now) (standing_of c.open_line.new.unit) (g.S.Site.state c.args.site.now) (g.S.Site.state c.open_line.new.site) (books_at c.args.unit.now (g.S.Site.state c.args.site.now) c.args.records.now) (books_at c.open_line.new.unit (g.S.Site.state c.open_line.new.site) c.args.records.now) refl refl (c.open_line.ensures.intake c.args.records.now.grants.items)
+    (judges_unfetched (standing_of c.args.unit.now) (standing_of c.open_line.new.unit) (g.S.Site.state c.args.site.now) (g.S.Site.state c.open_line.new.site) (books_at c.args.unit.now (g.S.Site.state c.args.site.now) c.args.records.now) (books_at c.open_line.new.unit (g.S.Site.state c.open_line.new.site) c.args.records.now) (c.open_line.ensures.intake c.args.records.now.grants.items).id (c.open_line.ensures.intake c.args.records.now.grants.items) c.open_line.ensures.fetches (c.open_line.ensures.books c.args.records.now)))
+    (works_none (standing_of c.open_line.new.unit) (standing_of c.put_kept.new.unit) (g.S.Site.state c.open_line.new.site) (g.S.Site.state c.put_kept.new.site) (books_at c.open_line.new.unit (g.S.Site.state c.open_line.new.site) c.args.records.now) (books_at c.put_kept.new.unit (g.S.Site.state c.put_kept.new.site) c.put_kept.new.records) c.put_kept.ensures.stands refl refl c.put_kept.ensures.advances c.put_kept.ensures.passes c.put_kept.ensures.lines c.put_kept.ensures.books))
+    (works (standing_of c.put_kept.new.unit) (standing_of c.take_in.new.unit) (g.S.Site.state c.put_kept.new.site) (g.S.Site.state c.take_in.new.site) (books_at c.put_kept.new.unit (g.S.Site.state c.put_kept.new.site) c.put_kept.new.records) (books_at c.take_in.new.unit (g.S.Site.state c.take_in.new.site) c.take_in.new.records) refl refl (c.take_in.ensures.intake (ended_stands _ _ c.put_kept.ensures.stands ∙ c.in_ok-open_line.ensures.goes_on (search rules)))
+    (c.take_in.ensures.judges (ended_stands _ _ c.put_kept.ensures.stands ∙ c.in_ok-open_line.ensures.goes_on (search rules))))).judges
+
+pub returns-then-eq-3-clause-judges : goal.returns-then-eq-3-clause-judges
+returns-then-eq-3-clause-judges g c = (works_on _ _ _ _ _ _ _ _ _ (works_on _ _ _ _ _ _ _ _ _ (works (standing_of c.args.unit.now) (standing_of c.open_line.new.unit) (g.S.Site.state c.args.site.now) (g.S.Site.state c.open_line.new.site) (books_at c.args.unit.now (g.S.Site.state c.args.site.now) c.args.records.now) (books_at c.open_line.new.unit (g.S.Site.state c.open_line.new.site) c.args.records.now) refl refl (c.open_line.ensures.intake c.args.records.now.grants.items)
+    (judges_unfetched (standing_of c.args.unit.now) (standing_of c.open_line.new.unit) (g.S.Site.state c.args.site.now) (g.S.Site.state c.open_line.new.site) (books_at c.args.unit.now (g.S.Site.state c.args.site.now) c.args.records.now) (books_at c.open_line.new.unit (g.S.Site.state c.open_line.new.site) c.args.records.now) (c.open_line.ensures.intake c.args.records.now.grants.items).id (c.open_line.ensures.intake c.args.records.now.grants.items) c.open_line.ensures.fetches (c.open_line.ensures.books c.args.records.now)))
+    (works_none (standing_of c.open_line.new.unit) (standing_of c.put_kept.new.unit) (g.S.Site.state c.open_line.new.site) (g.S.Site.state c.put_kept.new.site) (books_at c.open_line.new.unit (g.S.Site.state c.open_line.new.site) c.args.records.now) (books_at c.put_kept.new.unit (g.S.Site.state c.put_kept.new.site) c.put_kept.new.records) c.put_kept.ensures.stands refl refl c.put_kept.ensures.advances c.put_kept.ensures.passes c.put_kept.ensures.lines c.put_kept.ensures.books))
+    (works (standing_of c.put_kept.new.unit) (standing_of c.take_in.new.unit) (g.S.Site.state c.put_kept.new.site) (g.S.Site.state c.take_in.new.site) (books_at c.put_kept.new.unit (g.S.Site.state c.put_kept.new.site) c.put_kept.new.records) (books_at c.take_in.new.unit (g.S.Site.state c.take_in.new.site) c.take_in.new.records) refl refl (c.take_in.ensures.intake (ended_stands _ _ c.put_kept.ensures.stands ∙ c.in_ok-open_line.ensures.goes_on (search rules)))
+    (c.take_in.ensures.judges (ended_stands _ _ c.put_kept.ensures.stands ∙ c.in_ok-open_line.ensures.goes_on (search rules))))).judges
+
+pub returns-clause-judges : goal.returns-clause-judges
+returns-clause-judges g c = (works_on _ _ _ _ _ _ _ _ _ (works_on _ _ _ _ _ _ _ _ _ (works_on _ _ _ _ _ _ _ _ _ (works (standing_of c.args.unit.now) (standing_of c.open_line.new.unit) (g.S.Site.state c.args.site.now) (g.S.Site.state c.open_line.new.site) (books_at c.args.unit.now (g.S.Site.state c.args.site.now) c.args.records.now) (books_at c.open_line.new.unit (g.S.Site.state c.open_line.new.site) c.args.records.now) refl refl (c.open_line.ensures.intake c.args.records.now.grants.items)
+    (judges_unfetched (standing_of c.args.unit.now) (standing_of c.open_line.new.unit) (g.S.Site.state c.args.site.now) (g.S.Site.state c.open_line.new.site) (books_at c.args.unit.now (g.S.Site.state c.args.site.now) c.args.records.now) (books_at c.open_line.new.unit (g.S.Site.state c.open_line.new.site) c.args.records.now) (c.open_line.ensures.intake c.args.records.now.grants.items).id (c.open_line.ensures.intake c.args.records.now.grants.items) c.open_line.ensures.fetches (c.open_line.ensures.books c.args.records.now)))
+    (works_none (standing_of c.open_line.new.unit) (standing_of c.put_kept.new.unit) (g.S.Site.state c.open_line.new.site) (g.S.Site.state c.put_kept.new.site) (books_at c.open_line.new.unit (g.S.Site.state c.open_line.new.site) c.args.records.now) (books_at c.put_kept.new.unit (g.S.Site.state c.put_kept.new.site) c.put_kept.new.records) c.put_kept.ensures.stands refl refl c.put_kept.ensures.advances c.put_kept.ensures.passes c.put_kept.ensures.lines c.put_kept.ensures.books))
+    (works (standing_of c.put_kept.new.unit) (standing_of c.take_in.new.unit) (g.S.Site.state c.put_kept.new.site) (g.S.Site.state c.take_in.new.site) (books_at c.put_kept.new.unit (g.S.Site.state c.put_kept.new.site) c.put_kept.new.records) (books_at c.take_in.new.unit (g.S.Site.state c.take_in.new.site) c.take_in.new.records) refl refl (c.take_in.ensures.intake (ended_stands _ _ c.put_kept.ensures.stands ∙ c.in_ok-open_line.ensures.goes_on (search rules)))
+    (c.take_in.ensures.judges (ended_stands _ _ c.put_kept.ensures.stands ∙ c.in_ok-open_line.ensures.goes_on (search rules)))))
+    (works (standing_of c.take_in.new.unit) (standing_of c.serve.new.unit) (g.S.Site.state c.take_in.new.site) (g.S.Site.state c.serve.new.site) (books_at c.take_in.new.unit (g.S.Site.state c.take_in.new.site) c.take_in.new.records) (books_at c.serve.new.unit (g.S.Site.state c.serve.new.site) c.serve.new.records) refl refl c.serve.ensures.intake
+    (judges_unfetched (standing_of c.take_in.new.unit) (standing_of c.serve.new.unit) (g.S.Site.state c.take_in.new.site) (g.S.Site.state c.serve.new.site) (books_at c.take_in.new.unit (g.S.Site.state c.take_in.new.site) c.take_in.new.records) (books_at c.serve.new.unit (g.S.Site.state c.serve.new.site) c.serve.new.records) c.serve.ensures.intake.id c.serve.ensures.intake (passed_copies _ _ c.serve.ensures.passes) c.serve.ensures.books))).judges

@@ -5,6 +5,7 @@ use Rattle.block_server.specs.Copied.{copies_in}
 use Rattle.block_server.proofs.Advancing.{copies_none, later_same}
 use Rattle.block_server.proofs.Windows.{fetch_busy, fetched_more, windows_move, source_grows, target_grows}
 use Rattle.block_server.proofs.NamedWindows.{same_named, source_named, target_named}
+use Rattle.block_server.proofs.FirstPages.{behind_first, fetches_same, made_in, none_in}
 use Rattle.block_server.proofs.Owning.{fetch_denied}
 use Rattle.block_server.proofs.ports.Ports.copy_in.Goals as goal
 
@@ -36,3 +37,22 @@ returns-clause-refused g c = λ refused.
 pub returns-clause-busy : goal.returns-clause-busy
 returns-clause-busy g c = λ is.
     fetch_busy _ _ _ _ _ _ _ _ _ _ _ c.copy_rdma-answer.result c.args.self.now.alone c.copy_rdma-answer.ensures.busy c.copy_rdma-answer.ensures.counts (c.note.ensures.busy is)
+
+pub returns-clause-behind : goal.returns-clause-behind
+returns-clause-behind g c = λ behind.
+    behind_first _ _ _ _ _ _ _ _ c.copy_rdma-answer.result _ _ c.args.self.now.alone c.args.self.now.ready.first c.requires.some c.requires.inside
+    c.copy_rdma-answer.ensures.target c.copy_rdma-answer.ensures.copied
+    (c.note.ensures.copies ∙ ap (λ front. front ++ copies_in c.copy_rdma-answer.result) c.reserve.ensures.items) behind
+
+pub returns-clause-made : goal.returns-clause-made
+returns-clause-made g c =
+    made_in c.note.result _ _ _ _ _ _ _ _ 0 c.copy_rdma-answer.result _ _ c.args.self.now.named c.copy_rdma-answer.ensures.target c.copy_rdma-answer.ensures.copied
+    (c.note.ensures.copies ∙ ap (λ front. front ++ copies_in c.copy_rdma-answer.result) c.reserve.ensures.items) c.note.ensures.made
+
+pub returns-clause-none : goal.returns-clause-none
+returns-clause-none g c =
+    none_in c.note.result c.copy_rdma-answer.result _ _
+    (c.note.ensures.copies ∙ ap (λ front. front ++ copies_in c.copy_rdma-answer.result) c.reserve.ensures.items) c.note.ensures.none
+
+pub returns-then-is_err-clause-behind : goal.returns-then-is_err-clause-behind
+returns-then-is_err-clause-behind g c = λ behind. fetches_same _ _ _ c.reserve.ensures.items

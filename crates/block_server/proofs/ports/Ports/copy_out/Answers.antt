@@ -5,6 +5,7 @@ use Rattle.block_server.specs.Copied.{copies_in}
 use Rattle.block_server.proofs.Advancing.{copies_none, later_same}
 use Rattle.block_server.proofs.Windows.{deliver_busy, delivered_more, windows_move, source_grows, target_grows}
 use Rattle.block_server.proofs.NamedWindows.{same_named, source_named, target_named}
+use Rattle.block_server.proofs.FirstPages.{fetches_same, to_client}
 use Rattle.block_server.proofs.Owning.{deliver_denied}
 use Rattle.block_server.proofs.ports.Ports.copy_out.Goals as goal
 
@@ -37,3 +38,11 @@ returns-clause-refused g c = λ refused.
 pub returns-clause-busy : goal.returns-clause-busy
 returns-clause-busy g c = λ is.
     deliver_busy _ _ _ _ _ _ _ _ _ _ _ c.copy_rdma-answer.result c.args.self.now.alone c.copy_rdma-answer.ensures.busy c.copy_rdma-answer.ensures.counts (c.note.ensures.busy is)
+
+pub returns-clause-behind : goal.returns-clause-behind
+returns-clause-behind g c =
+    to_client _ _ _ _ _ _ _ _ _ c.copy_rdma-answer.result _ _ c.args.self.now.ready.apart c.copy_rdma-answer.ensures.target c.copy_rdma-answer.ensures.copied
+    (c.note.ensures.copies ∙ ap (λ front. front ++ copies_in c.copy_rdma-answer.result) c.reserve.ensures.items)
+
+pub returns-then-is_err-clause-behind : goal.returns-then-is_err-clause-behind
+returns-then-is_err-clause-behind g c = fetches_same _ _ _ c.reserve.ensures.items

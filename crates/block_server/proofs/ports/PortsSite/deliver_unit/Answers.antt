@@ -1,5 +1,16 @@
+use Rattle.std.proofs.Common.{◌∙◌}
+use Rattle.block_server.proofs.FirstPages.{fetches_same, none_behind, queue_stays}
 use Rattle.block_server.proofs.Advancing.{advances_on}
 use Rattle.block_server.proofs.ports.PortsSite.deliver_unit.Goals as goal
 
 pub returns-in-Ok-clause-advances : goal.returns-in-Ok-clause-advances
 returns-in-Ok-clause-advances g c = advances_on _ _ _ c.write_own.ensures.advances c.copy_out.ensures.advances
+
+pub returns-in-Ok-clause-passes : goal.returns-in-Ok-clause-passes
+returns-in-Ok-clause-passes g c =
+    queue_stays _ _ (c.copy_out.ensures.queue ∙ c.write_own.ensures.queue) (c.copy_out.ensures.advances.own_place ∙ c.write_own.ensures.own.place)
+    (none_behind _ _ _ _ _ c.write_own.ensures.own.place (fetches_same _ _ _ c.write_own.ensures.copies) c.copy_out.ensures.behind)
+
+pub returns-in-Err-clause-passes : goal.returns-in-Err-clause-passes
+returns-in-Err-clause-passes g c =
+    queue_stays _ _ c.write_own.ensures.queue c.write_own.ensures.own.place (fetches_same _ _ _ c.write_own.ensures.copies)

@@ -1,5 +1,17 @@
+use Rattle.std.proofs.Common.{arith}
+use Rattle.block_server.proofs.FirstPages.{fetches_same, on_error, queue_stays}
+use Rattle.block_server.proofs.UnitBytes.{fetches_one}
 use Rattle.block_server.proofs.Advancing.{advances_on}
 use Rattle.block_server.proofs.ports.PortsSite.fetch_unit.Goals as goal
 
 pub returns-clause-advances : goal.returns-clause-advances
 returns-clause-advances g c = advances_on _ _ _ c.copy_in.ensures.advances c.read_own.ensures.advances
+
+pub returns-clause-fetched : goal.returns-clause-fetched
+returns-clause-fetched g c =
+    fetches_one g.O.WindowPort.is_shared _ _ _ _ _ _ _ _ c.args.self.now.alone c.args.self.now.ready.first (omega arith) (omega arith) (omega arith)
+    c.in_ok-copy_in.ensures.made c.read_own.ensures.own c.read_own.ensures.read c.read_own.ensures.client c.read_own.ensures.copies
+
+pub returns-in_err-copy_in-clause-missed : goal.returns-in_err-copy_in-clause-missed
+returns-in_err-copy_in-clause-missed g c =
+    on_error _ _ (queue_stays _ _ c.copy_in.ensures.queue c.copy_in.ensures.advances.own_place (fetches_same _ _ _ c.in_err-copy_in.ensures.none))

@@ -1,3 +1,4 @@
+use Rattle.block_server.proofs.FirstPages.{windows_stay}
 use Rattle.block_server.proofs.Sending.{free_puts, queue_call, same_session, same_taken}
 use Rattle.block_server.proofs.Plains.{free_plain}
 use Rattle.block_server.proofs.ports.PortsSite.free.Goals as goal
@@ -13,3 +14,6 @@ pub returns-clause-plain : goal.returns-clause-plain
 returns-clause-plain g c =
     free_plain g.C.CrqEnd.is_shared (g.C.CrqEnd.state c.args.self.now.queue.now) (g.C.CrqEnd.state c.free.new.self) c.free.result
     c.free.ensures.success c.free.ensures.busy c.free.ensures.refused
+
+pub returns-clause-passes : goal.returns-clause-passes
+returns-clause-passes g c = windows_stay _ _ _ _ _ _ _ c.free.ensures.rest.last_session c.free.ensures.rest.taken

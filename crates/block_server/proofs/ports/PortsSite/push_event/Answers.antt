@@ -1,3 +1,4 @@
+use Rattle.block_server.proofs.FirstPages.{windows_stay}
 use Rattle.block_server.proofs.Sending.{push_puts, queue_call, same_session, same_taken}
 use Rattle.block_server.proofs.Plains.{push_plain}
 use Rattle.block_server.proofs.ports.PortsSite.push_event.Goals as goal
@@ -13,3 +14,6 @@ pub returns-clause-plain : goal.returns-clause-plain
 returns-clause-plain g c =
     push_plain g.C.CrqEnd.is_shared (g.C.CrqEnd.state c.args.self.now.queue.now) (g.C.CrqEnd.state c.push_event.new.self) c.push_event.result
     c.args.self.now.event c.push_event.ensures.nothing c.push_event.ensures.put c.push_event.ensures.still
+
+pub returns-clause-passes : goal.returns-clause-passes
+returns-clause-passes g c = windows_stay _ _ _ _ _ _ _ c.push_event.ensures.rest.last_session c.push_event.ensures.rest.taken

@@ -13,6 +13,9 @@ use Rattle.block_server.proofs.Denying.{tells_turn}
 use Rattle.block_server.proofs.Agreeing.{agrees_turn, waits_turn}
 use Rattle.block_server.proofs.Readying.{idle_ready, if_ready}
 use Rattle.block_server.proofs.Units.{get_set_other, keeps_disk, tells_prop, units_on, way_quiet}
+use Rattle.block_server.proofs.Taking.{intake_turn}
+use Rattle.block_server.specs.Receipts.{LinesMore}
+use Rattle.block_server.proofs.Jointly.{judged_turn}
 use Rattle.block_server.proofs.server.Server.turn.Goals as goal
 
 pub returns-clause-answers : goal.returns-clause-answers
@@ -127,3 +130,40 @@ returns-clause-waits g c =
     subst (λ (z : EndState × PortState × PortState). NothingReady g.C.CrqEnd.is_shared g.R.WindowPort.is_shared (g.C.CrqEnd.state c.args.crq.now) z.0
     (g.O.WindowPort.state c.args.own.now) z.1 (g.R.WindowPort.state c.args.client.now) z.2 c.turn.new.unit) (λ i. (queue i, own i, client i))
     (idle_ready _ _ (c.turn.ensures.agrees agreed) idle)) c.turn.ensures.waits)
+
+pub returns-clause-intake : goal.returns-clause-intake
+returns-clause-intake g c = λ receipts has.
+    let server = c.args.self.now in
+    let there : slice_get server.units.items c.args.unit ≡ Some c.index_mut.result.now =
+    slice_get_read server.units.items _ c.args.unit _ server.units.ok.0 c.requires.unit c.index_mut.ensures.value in
+    let lent = c.turn.ensures.advances.reached in
+    let queue = sym (ap g.C.CrqEnd.state (c.crq-1.given.1 (sym (ap (λ (lent : Lenders). lent.queue) lent)))) in
+    let own = sym (ap g.O.WindowPort.state (c.own-1.given.1 (sym (ap (λ (lent : Lenders). lent.own) lent)))) in
+    let client = sym (ap g.R.WindowPort.state (c.client-1.given.1 (sym (ap (λ (lent : Lenders). lent.client) lent)))) in
+    ∥∥₁_map server.serving (λ (all : AreServing (terms_of anything server.disk.count) server.partition server.units.items server.records.history.items).
+    let is = all c.args.unit c.index_mut.result.now there in
+    intake_turn server.units.items c.args.unit c.index_mut.result.now c.turn.new.unit _ _ _ _ _ _ _ _ _ _ _ _ there (is.id ∙ sym c.requires.named)
+    c.turn.ensures.intake refl refl refl refl own client queue refl receipts has)
+
+pub returns-clause-lines : goal.returns-clause-lines
+returns-clause-lines g c =
+    let server = c.args.self.now in
+    let there : slice_get server.units.items c.args.unit ≡ Some c.index_mut.result.now =
+    slice_get_read server.units.items _ c.args.unit _ server.units.ok.0 c.requires.unit c.index_mut.ensures.value in
+    ∥∥₁_map server.serving (λ (all : AreServing (terms_of anything server.disk.count) server.partition server.units.items server.records.history.items).
+    let is = all c.args.unit c.index_mut.result.now there in
+    subst (λ (id : UnitId). LinesMore id server.records.grants.items c.turn.new.records.grants.items) (is.id ∙ sym c.requires.named) c.turn.ensures.intake.lines)
+
+pub returns-clause-judged : goal.returns-clause-judged
+returns-clause-judged g c = λ judged has.
+    let server = c.args.self.now in
+    let there : slice_get server.units.items c.args.unit ≡ Some c.index_mut.result.now =
+    slice_get_read server.units.items _ c.args.unit _ server.units.ok.0 c.requires.unit c.index_mut.ensures.value in
+    let lent = c.turn.ensures.advances.reached in
+    let queue = sym (ap g.C.CrqEnd.state (c.crq-1.given.1 (sym (ap (λ (lent : Lenders). lent.queue) lent)))) in
+    let own = sym (ap g.O.WindowPort.state (c.own-1.given.1 (sym (ap (λ (lent : Lenders). lent.own) lent)))) in
+    let client = sym (ap g.R.WindowPort.state (c.client-1.given.1 (sym (ap (λ (lent : Lenders). lent.client) lent)))) in
+    ∥∥₁_map server.serving (λ (all : AreServing (terms_of anything server.disk.count) server.partition server.units.items server.records.history.items).
+    let is = all c.args.unit c.index_mut.result.now there in
+    judged_turn server.units.items c.args.unit c.index_mut.result.now c.turn.new.unit _ _ server.records c.turn.new.records _ _ _ _ _ _ _ _ there (is.id ∙ sym c.requires.named)
+    c.turn.ensures.intake c.turn.ensures.judges refl refl refl refl own client queue refl judged has)

@@ -1,0 +1,148 @@
+-- What an entry that is judged leaves of a unit's books.
+use Rattle.std.proofs.Common.{◌≡◌, ◌⊎◌, inl, inr, ◌==◌, ◌&&◌, ◌++◌, ◌<◌, ◌≤◌, ℕ, Bool, true, false, Contains, List, [], ◌∷◌, Option, Some, None, IsSome, refl, sym, ◌∙◌, ap, subst, arith}
+use Rattle.std.proofs.lemmas.List.Elements.{All-push}
+use Rattle.vio_num.specs.declared.history.Grant.{Grant}
+use Rattle.vio_num.specs.declared.history.Grant.TheVariants.{Granted}
+use Rattle.vio_num.specs.declared.names.UnitId.{UnitId}
+use Rattle.block_server.specs.Receipts.{Receipt}
+use Rattle.block_server.specs.Judged.{AreKept, AreLogins, ArePending, Asks, Books, Fate, HasFate, HasFront, HasGrant, IsAtStage, Judged, KeepsLogins, due_under, gets_row, has_row, is_login, login_of, receipt_key, request_key}
+use Rattle.block_server.specs.Judged.Fate.{asked, asks_logout}
+use Rattle.block_server.specs.declared.request.Request.{Request}
+use Rattle.block_server.specs.declared.service.Outcome.TheVariants as outcomes
+use Rattle.block_server.specs.declared.service.Stage.{Stage}
+use Rattle.block_server.specs.declared.service.Stage.TheVariants as stages
+use Rattle.block_server.proofs.Judging.{due_pass, served_due, served_more, served_other}
+use Rattle.block_server.proofs.Keeping.{front_of, later_logins, later_pending}
+
+logins_push : (pending : List Request) (request : Request) → is_login request.order ≡ true → AreLogins pending → AreLogins (pending ++ request ∷ [])
+logins_push [] request is are = (is, tt)
+logins_push (first ∷ pending) request is are = (are.0, logins_push pending request is are.1)
+
+-- A request that asks for a login came behind the others, or one under the login that takes requests.
+pub pending_push : (current next next' : ℕ) (taking taking' : Bool) (pending : List Request) (request : Request) → next ≤ next' → request.number < next'
+    → (is_login request.order ≡ true) ⊎ ((request.login ≡ current) × ((1 ≤ current) × (taking ≡ true))) → (is_login request.order ≡ false → gets_row request.order ≡ false → taking' ≡ false)
+    → (taking' ≡ true → taking ≡ true) → ArePending current next taking pending → ArePending current next' taking' (pending ++ request ∷ [])
+pending_push current next next' taking taking' [] request most number (inl login) off stays are =
+    (record { under = λ other. absurd (cc (other, login)); number = number; last = λ other none. absurd (cc (other, login)) }, tt)
+pending_push current next next' taking taking' [] request most number (inr under) off stays are =
+    (record { under = λ other. (under.0, under.1.0); number = number; last = λ other none. (off other none, tt) }, tt)
+pending_push current next next' taking taking' (first ∷ pending) request most number how off stays are = (
+  record {
+    under = are.0.under;
+    number = below first.number next next' are.0.number most;
+    last = λ other none. behind how (are.0.last other none);
+  },
+  pending_push current next next' taking taking' pending request most number how off stays are.1,
+)
+  where
+    below : (a b c : ℕ) → a < b → b ≤ c → a < c
+    below a b c low high = omega (arith, low, high)
+
+    still_off : (t : Bool) → (t ≡ true → taking ≡ true) → taking ≡ false → t ≡ false
+    still_off true stays off = absurd (cc (stays refl, off))
+    still_off false stays off = refl
+
+    behind : (is_login request.order ≡ true) ⊎ ((request.login ≡ current) × ((1 ≤ current) × (taking ≡ true))) → (taking ≡ false) × AreLogins pending
+        → (taking' ≡ false) × AreLogins (pending ++ request ∷ [])
+    behind (inl login) was = (still_off taking' stays was.0, logins_push pending request login was.1)
+    behind (inr under) was = absurd (cc (under.1.1, was.0))
+
+front_push : (pending : List Request) (request : Request) → HasFront pending → HasFront (pending ++ request ∷ [])
+front_push pending request is = record { front = is.front; rest = is.rest ++ request ∷ []; parts = ap (λ xs. xs ++ request ∷ []) is.parts }
+
+-- the stage of the oldest request
+pub stage_push : (current : ℕ) (pending : List Request) (request : Request) (stage : Stage) → IsAtStage current pending stage → IsAtStage current (pending ++ request ∷ []) stage
+stage_push current pending request stages.Start is = tt
+stage_push current pending request stages.OutTable is = tt
+stage_push current pending request stages.InTable is = tt
+stage_push current pending request (stages.DataOut cursor) is = tt
+stage_push current pending request (stages.Given row reply) is = record { front = is.front; rest = is.rest ++ request ∷ []; parts = ap (λ xs. xs ++ request ∷ []) is.parts; asks = is.asks }
+stage_push current pending request (stages.DataIn row reply cursor) is =
+    record { front = is.front; rest = is.rest ++ request ∷ []; parts = ap (λ xs. xs ++ request ∷ []) is.parts; asks = is.asks }
+stage_push current pending request (stages.Answer (outcomes.Granted number)) is =
+    record { front = is.front; rest = is.rest ++ request ∷ []; parts = ap (λ xs. xs ++ request ∷ []) is.parts; asks = is.asks; number_is = is.number_is; none_on = is.none_on }
+stage_push current pending request (stages.Answer outcomes.Rejected) is =
+    record { front = is.front; rest = is.rest ++ request ∷ []; parts = ap (λ xs. xs ++ request ∷ []) is.parts; asks = is.asks }
+stage_push current pending request (stages.Answer (outcomes.Served row)) is = front_push pending request is
+stage_push current pending request (stages.Entry (outcomes.Granted number)) is =
+    record { front = is.front; rest = is.rest ++ request ∷ []; parts = ap (λ xs. xs ++ request ∷ []) is.parts; asks = is.asks; number_is = is.number_is; none_on = is.none_on }
+stage_push current pending request (stages.Entry outcomes.Rejected) is =
+    record { front = is.front; rest = is.rest ++ request ∷ []; parts = ap (λ xs. xs ++ request ∷ []) is.parts; asks = is.asks }
+stage_push current pending request (stages.Entry (outcomes.Served row)) is = front_push pending request is
+
+-- the grant of the login that takes requests
+pub grant_of : (books : Books) (receipt : Receipt) (judged : List Judged) → books.taking ≡ true → receipt.session ≡ books.session → books.next ≤ receipt.number → AreKept books judged
+    → HasGrant books.id books.grants receipt.session books.current receipt.number
+grant_of books receipt judged taking session most is =
+    let grant = is.logins.granted (is.logins.takes taking) in
+    record {
+      at = grant.at;
+      credits = grant.credits;
+      listed = subst (λ (n : ℕ). Contains books.grants (Granted books.id n books.current grant.at grant.credits)) (sym session) grant.listed;
+      earlier = below grant.at books.next receipt.number grant.earlier most;
+    }
+  where
+    below : (a b c : ℕ) → a < b → b ≤ c → a < c
+    below a b c low high = omega (arith, low, high)
+
+-- A command or a task was accepted.
+pub keeps_asked : (books : Books) (next' : ℕ) (request : Request) (receipt : Receipt) (judged : List Judged) → receipt_key receipt ≡ request_key books.session request
+    → gets_row request.order ≡ true → is_login request.order ≡ false → request.login ≡ books.current → books.taking ≡ true → books.next ≤ receipt.number → receipt.number < next'
+    → IsSome receipt.copy → Asks receipt.bytes → books.ended ≡ false
+    → AreKept books judged → AreKept (record books { next = next'; pending = books.pending ++ request ∷ [] }) (judged ++ record { receipt = receipt; fate = asked books.current } ∷ [])
+keeps_asked books next' request receipt judged key row other under taking low high copy asks going is =
+    let most = between books.next receipt.number next' low high in
+    let some = is.logins.takes taking in
+    record {
+      fates = All-push (λ j. HasFate books.id books.grants j.receipt j.fate) judged (record { receipt = receipt; fate = asked books.current }) is.fates
+          (copy, (asks, grant_of books receipt judged taking (ap (λ k. k.session) key) low is));
+      served = λ login one. served_more books.id books.session judged books.rows books.grants books.stage books.pending request receipt books.current login key row under
+          (front_of books.current books.pending books.stage is.stage) (is.logins.on some) (is.served login one);
+      logins = later_logins books.id books.session books.next next' books.current books.last books.taking books.grants most is.logins;
+      pending = pending_push books.current books.next next' books.taking books.taking books.pending request most (subst (λ (n : ℕ). n < next') (ap (λ k. k.number) key) high)
+          (inr (under, (some, taking))) (λ no_login none. absurd (cc (row, none))) (λ on. on) is.pending;
+      stage = stage_push books.current books.pending request books.stage is.stage;
+      kept = is.kept;
+      under = is.under;
+      idle = λ over. absurd (cc (over, going));
+    }
+  where
+    between : (a b c : ℕ) → a ≤ b → b < c → a ≤ c
+    between a b c low high = omega (arith, low, high)
+
+-- A login request or a logout was accepted.
+pub keeps_unasked : (books : Books) (next' : ℕ) (taking' : Bool) (request : Request) (receipt : Receipt) (fate : Fate) (judged : List Judged) → login_of fate ≡ 0
+    → HasFate books.id books.grants receipt fate → books.next ≤ next' → request.number < next' → gets_row request.order ≡ false
+    → (is_login request.order ≡ true) ⊎ ((request.login ≡ books.current) × ((1 ≤ books.current) × (books.taking ≡ true))) → (is_login request.order ≡ false → taking' ≡ false)
+    → (taking' ≡ true → books.taking ≡ true) → books.ended ≡ false
+    → AreKept books judged → AreKept (record books { next = next'; taking = taking'; pending = books.pending ++ request ∷ [] }) (judged ++ record { receipt = receipt; fate = fate } ∷ [])
+keeps_unasked books next' taking' request receipt fate judged none has most number row how off stays going is = record {
+  fates = All-push (λ j. HasFate books.id books.grants j.receipt j.fate) judged (record { receipt = receipt; fate = fate }) is.fates has;
+  served = λ login one. served_due books.id books.session (judged ++ record { receipt = receipt; fate = fate } ∷ []) books.rows books.grants books.stage books.stage books.pending (books.pending ++ request ∷ []) login
+      (sym (due_pass books.session login (has_row books.stage) books.pending request (front_of books.current books.pending books.stage is.stage) (and_first (gets_row request.order) (request.login == login) row)))
+      (served_other books.id books.session judged books.rows books.grants books.stage books.pending receipt fate login none one (is.served login one));
+  logins = let later = later_logins books.id books.session books.next next' books.current books.last books.taking books.grants most is.logins in
+      record { most = later.most; on = later.on; none_later = later.none_later; granted = later.granted; takes = λ on. later.takes (stays on) };
+  pending = pending_push books.current books.next next' books.taking taking' books.pending request most number how (λ other no_row. off other) stays is.pending;
+  stage = stage_push books.current books.pending request books.stage is.stage;
+  kept = is.kept;
+  under = is.under;
+  idle = λ over. absurd (cc (over, going));
+}
+  where
+    and_first : (a b : Bool) → a ≡ false → a && b ≡ false
+    and_first a b e = cc (e)
+
+-- An entry was judged that is no request.
+pub keeps_judged : (books : Books) (next' : ℕ) (receipt : Receipt) (fate : Fate) (judged : List Judged) → login_of fate ≡ 0 → HasFate books.id books.grants receipt fate → books.next ≤ next'
+    → AreKept books judged → AreKept (record books { next = next' }) (judged ++ record { receipt = receipt; fate = fate } ∷ [])
+keeps_judged books next' receipt fate judged none has most is = record {
+  fates = All-push (λ j. HasFate books.id books.grants j.receipt j.fate) judged (record { receipt = receipt; fate = fate }) is.fates has;
+  served = λ login one. served_other books.id books.session judged books.rows books.grants books.stage books.pending receipt fate login none one (is.served login one);
+  logins = later_logins books.id books.session books.next next' books.current books.last books.taking books.grants most is.logins;
+  pending = later_pending books.current books.next next' books.taking books.pending most is.pending;
+  stage = is.stage;
+  kept = is.kept;
+  under = is.under;
+  idle = is.idle;
+}

@@ -1,0 +1,176 @@
+-- Laws of a unit's books for the crates above: they stay over turns of other units, and where nothing is pending all is served.
+use Rattle.std.proofs.Common.{◌≡◌, ◌≢◌, ◌⊎◌, inl, inr, ◌++◌, ◌==◌, ◌&&◌, ◌≤◌, ℕ, zero, suc, Bool, true, false, cond, All, List, [], ◌∷◌, Option, Some, None, IfSome, filter, length, map, refl, sym, ◌∙◌, ap, subst, arith}
+use Rattle.std.specs.List.{slice_get}
+use Rattle.std.proofs.lemmas.Bool.{eqb-true}
+use Rattle.std.proofs.lemmas.Option.{IfSome_then}
+use Rattle.std.proofs.lemmas.List.Elements.{All-append, All-cons, All-head, All-nil, All-tail, All-weaker}
+use Rattle.crq_ring.specs.Sessions.{of_session}
+use Rattle.crq_session.specs.EndState.{EndState}
+use Rattle.vio_num.specs.declared.history.Grant.{Grant}
+use Rattle.vio_num.specs.declared.history.Served.{Served}
+use Rattle.vio_num.specs.declared.names.UnitId.{UnitId}
+use Rattle.block_server.specs.Answering.{OnlyRowsOf, StaysRow}
+use Rattle.block_server.specs.Books.{books_seen, next_of}
+use Rattle.block_server.specs.Judged.{AreKept, Books, IsAllServed, IsOn, IsServedUnder, IsWorkDone, Judged, Key, RowKey, due_under, has_row, is_under, keys_of, row_key}
+use Rattle.block_server.specs.Judges.{AreUnused, HasKept}
+use Rattle.block_server.specs.Makers.{same_unit}
+use Rattle.block_server.specs.Receipts.{LinesMore, is_ended, unit_of}
+use Rattle.block_server.specs.declared.request.Arrival.{Arrival}
+use Rattle.block_server.specs.declared.request.Request.{Request}
+use Rattle.block_server.specs.declared.service.Stage.{Stage}
+use Rattle.block_server.specs.declared.service.Stage.TheVariants.{Start}
+use Rattle.block_server.specs.declared.unit.Unit.{Unit}
+use Rattle.block_server.proofs.Bystanding.{fresh_books, keeps_lines, kept_new}
+use Rattle.block_server.proofs.Judging.{filter_first, filter_pass}
+use Rattle.block_server.proofs.Keeping.{moved_to}
+
+-- names that are apart
+apart_is : (a b : UnitId) → a ≢ b → same_unit a b ≡ false
+apart_is a b apart = at (a.partition == b.partition) refl (a.unit == b.unit) refl
+  where
+    at : (p : Bool) → (a.partition == b.partition) ≡ p → (u : Bool) → (a.unit == b.unit) ≡ u → (p && u) ≡ false
+    at true p_is true u_is = absurd (apart (λ i. record { partition = eqb-true a.partition b.partition p_is i; unit = eqb-true a.unit b.unit u_is i }))
+    at true p_is false u_is = refl
+    at false p_is u u_is = refl
+
+-- the same unit, seen later, or by another of its queue's ends
+pub kept_seen : (units units' : List Unit) (unit : ℕ) (id : UnitId) (queue queue' : EndState) (history : List Served) (grants : List Grant) (judged : List Judged)
+    → slice_get units' unit ≡ slice_get units unit → queue'.last_session ≡ queue.last_session → queue'.taken ≡ queue.taken
+    → HasKept units unit id queue history grants judged → HasKept units' unit id queue' history grants judged
+kept_seen units units' unit id queue queue' history grants judged same session taken has =
+    subst (λ (o : Option Unit). IfSome o (λ u. AreKept (books_seen u id queue' history grants) judged)) (sym same)
+    (IfSome_then (slice_get units unit) has
+    (λ u is. moved_to (books_seen u id queue history grants) (books_seen u id queue' history grants) judged refl session (next u.waiting)
+    refl refl refl refl refl refl refl refl refl is))
+  where
+    next : (waiting : Option Arrival) → next_of waiting queue' ≡ next_of waiting queue
+    next (Some arrival) = refl
+    next None = λ i. length (of_session (session i) (taken i))
+
+-- rows of other units
+no_row : (unit other : UnitId) (login : ℕ) (row : Served) → other ≢ unit → row.unit ≡ other → is_under unit login (row_key row) ≡ false
+no_row unit other login row apart is = and_false (same_unit row.unit unit) (row.login == login) (apart_is row.unit unit (λ e. apart (sym is ∙ e)))
+  where
+    and_false : (a b : Bool) → a ≡ false → (a && b) ≡ false
+    and_false a b is = cc (is)
+
+-- Of another unit's rows none is of this one, and those of this one stay.
+record Stay (unit : UnitId) (keys keys' : List RowKey) : Type 0 where
+  same : (login : ℕ) → filter (is_under unit login) keys' ≡ filter (is_under unit login) keys
+  under : All (λ (row : RowKey). same_unit row.unit unit ≡ true → 1 ≤ row.login) keys → All (λ (row : RowKey). same_unit row.unit unit ≡ true → 1 ≤ row.login) keys'
+
+apart_rows : (unit other : UnitId) (rows : List Served) → other ≢ unit → All (λ row. row.unit ≡ other) rows → Stay unit [] (keys_of rows)
+apart_rows unit other [] apart all = record { same = λ login. refl; under = λ none. none }
+apart_rows unit other (row ∷ rows) apart all =
+    let is : row.unit ≡ other = All-head (λ (r : Served). r.unit ≡ other) row rows all in
+    let rest = apart_rows unit other rows apart (All-tail (λ (r : Served). r.unit ≡ other) row rows all) in
+    record {
+      same = λ login. filter_pass (is_under unit login) (row_key row) (keys_of rows) (no_row unit other login row apart is) ∙ rest.same login;
+      under = λ none. All-cons (λ (r : RowKey). same_unit r.unit unit ≡ true → 1 ≤ r.login) (row_key row) (keys_of rows)
+          (λ own. absurd (cc (own, apart_is row.unit unit (λ e. apart (sym is ∙ e))))) (rest.under none);
+    }
+
+rows_stay : (unit other : UnitId) (rows news : List Served) → other ≢ unit → OnlyRowsOf other rows news → Stay unit (keys_of rows) (keys_of news)
+rows_stay unit other [] news apart only = apart_rows unit other news apart only
+rows_stay unit other (row ∷ rows) [] apart only = absurd only
+rows_stay unit other (row ∷ rows) (new ∷ news) apart only = by (rows_stay unit other rows news apart only.1) only.0
+  where
+    front : Stay unit (keys_of rows) (keys_of news) → (login : ℕ) → (b : Bool) → is_under unit login (row_key row) ≡ b → filter (is_under unit login) (keys_of (row ∷ news)) ≡ filter (is_under unit login) (keys_of (row ∷ rows))
+    front rest login true is = filter_first (is_under unit login) (row_key row) (keys_of news) is ∙ ap (λ xs. row_key row ∷ xs) (rest.same login)
+        ∙ sym (filter_first (is_under unit login) (row_key row) (keys_of rows) is)
+    front rest login false is = filter_pass (is_under unit login) (row_key row) (keys_of news) is ∙ rest.same login
+        ∙ sym (filter_pass (is_under unit login) (row_key row) (keys_of rows) is)
+
+    by : Stay unit (keys_of rows) (keys_of news) → StaysRow other row new → Stay unit (keys_of (row ∷ rows)) (keys_of (new ∷ news))
+    by rest (inl same) = record {
+      same = λ login. ap (λ (r : Served). filter (is_under unit login) (keys_of (r ∷ news))) same ∙ front rest login (is_under unit login (row_key row)) refl;
+      under = λ all. subst (λ (r : Served). All (λ (k : RowKey). same_unit k.unit unit ≡ true → 1 ≤ k.login) (keys_of (r ∷ news))) (sym same)
+          (All-cons (λ (k : RowKey). same_unit k.unit unit ≡ true → 1 ≤ k.login) (row_key row) (keys_of news)
+          (All-head (λ (k : RowKey). same_unit k.unit unit ≡ true → 1 ≤ k.login) (row_key row) (keys_of rows) all)
+          (rest.under (All-tail (λ (k : RowKey). same_unit k.unit unit ≡ true → 1 ≤ k.login) (row_key row) (keys_of rows) all)));
+    }
+    by rest (inr both) = record {
+      same = λ login. filter_pass (is_under unit login) (row_key new) (keys_of news) (no_row unit other login new apart both.1) ∙ rest.same login
+          ∙ sym (filter_pass (is_under unit login) (row_key row) (keys_of rows) (no_row unit other login row apart both.0));
+      under = λ all. All-cons (λ (k : RowKey). same_unit k.unit unit ≡ true → 1 ≤ k.login) (row_key new) (keys_of news)
+          (λ own. absurd (cc (own, apart_is new.unit unit (λ e. apart (sym both.1 ∙ e)))))
+          (rest.under (All-tail (λ (k : RowKey). same_unit k.unit unit ≡ true → 1 ≤ k.login) (row_key row) (keys_of rows) all));
+    }
+
+-- the books over them
+rows_kept : (books : Books) (rows : List RowKey) (judged : List Judged) → Stay books.id books.rows rows → AreKept books judged → AreKept (record books { rows = rows }) judged
+rows_kept books rows judged stay is = record {
+  fates = is.fates;
+  served = λ login some. at login (is.served login some);
+  logins = is.logins;
+  pending = is.pending;
+  stage = is.stage;
+  kept = is.kept;
+  under = stay.under is.under;
+  idle = is.idle;
+}
+  where
+    at : (login : ℕ) → IsServedUnder books.id books.session judged books.rows books.grants books.stage books.pending login
+        → IsServedUnder books.id books.session judged rows books.grants books.stage books.pending login
+    at login was = record {
+      rest = was.rest;
+      in_order = was.in_order ∙ ap (λ xs. map (λ (row : RowKey). row.key) xs ++ was.rest) (sym (stay.same login));
+      waiting = was.waiting;
+      out = was.out;
+    }
+
+-- A turn of another unit: only rows and lines of its own came, or changed.
+pub kept_elsewhere : (units units' : List Unit) (unit : ℕ) (other id : UnitId) (queue queue' : EndState) (history history' : List Served) (grants grants' : List Grant) (judged : List Judged)
+    → other ≢ id → slice_get units' unit ≡ slice_get units unit → queue'.last_session ≡ queue.last_session → queue'.taken ≡ queue.taken
+    → OnlyRowsOf other history history' → LinesMore other grants grants'
+    → HasKept units unit id queue history grants judged → HasKept units' unit id queue' history' grants' judged
+kept_elsewhere units units' unit other id queue queue' history history' grants grants' judged apart same session taken rows lines has =
+    kept_seen units units' unit id queue queue' history' grants' judged same session taken
+    (subst (λ (all : List Grant). IfSome (slice_get units unit) (λ u. AreKept (books_seen u id queue history' all) judged)) (sym lines.added)
+    (IfSome_then (slice_get units unit) has
+    (λ u is. rows_kept (books_seen u id queue history (grants ++ lines.more)) (keys_of history') judged (rows_stay id other history history' apart rows)
+    (keeps_lines (books_seen u id queue history grants) lines.more judged
+    (All-weaker (λ line. unit_of line ≡ other) (λ line. same_unit (unit_of line) id ≡ false) (λ line of. apart_is (unit_of line) id (λ e. apart (sym of ∙ e))) lines.more lines.of_unit) is))))
+
+-- Where nothing is pending all that was asked is served.
+none_due : (id : UnitId) (session : ℕ) (judged : List Judged) (rows : List RowKey) (grants : List Grant) (stage : Stage) (pending : List Request) (login : ℕ) → pending ≡ []
+    → IsServedUnder id session judged rows grants stage pending login → IsAllServed id judged rows grants login
+none_due id session judged rows grants stage pending login none is = record {
+  rest = is.rest;
+  in_order = is.in_order;
+  on = λ on. is.waiting on ∙ ap (due_under session login (has_row stage)) none ∙ none_of (has_row stage);
+  out = is.out;
+}
+  where
+    none_of : (has : Bool) → due_under session login has [] ≡ []
+    none_of true = refl
+    none_of false = refl
+
+pub served_at_rest : (units : List Unit) (unit : ℕ) (u : Unit) (id : UnitId) (queue : EndState) (history : List Served) (grants : List Grant) (judged : List Judged)
+    → slice_get units unit ≡ Some u → u.pending.items ≡ [] → HasKept units unit id queue history grants judged → IsWorkDone id history grants judged
+served_at_rest units unit u id queue history grants judged there none has =
+    let is : AreKept (books_seen u id queue history grants) judged =
+    subst (λ (o : Option Unit). IfSome o (λ u. AreKept (books_seen u id queue history grants) judged)) there has in
+    record {
+      fates = is.fates;
+      served = λ login some. none_due id queue.last_session judged (keys_of history) grants u.service.stage u.pending.items login none (is.served login some);
+    }
+
+-- Units that judged nothing.
+pub none_unused : (units : List Unit) → units ≡ [] → AreUnused units
+none_unused units none = subst AreUnused (sym none) (λ number id queue. tt)
+
+pub more_unused : (units : List Unit) (new : Unit) → AreUnused units → new.logins.current ≡ 0 → new.logins.last ≡ 0 → new.logins.taking ≡ false → new.service.stage ≡ Start
+    → new.line.kept ≡ None → new.pending.items ≡ [] → AreUnused (units ++ new ∷ [])
+more_unused units new all current last taking stage kept pending = at units all
+  where
+    unused : (id : UnitId) (queue : EndState) → AreKept (books_seen new id queue [] []) []
+    unused id queue =
+        moved_to (fresh_books id queue.last_session (next_of new.waiting queue) (is_ended new.line)) (books_seen new id queue [] []) [] refl refl refl current last taking stage kept pending refl refl refl
+        (kept_new id queue.last_session (next_of new.waiting queue) (is_ended new.line))
+
+    at : (units : List Unit) → AreUnused units → AreUnused (units ++ new ∷ [])
+    at [] all zero id queue = unused id queue
+    at [] all (suc n) id queue = tt
+    at (first ∷ units) all zero id queue = all zero id queue
+    at (first ∷ units) all (suc n) id queue = at units (λ m id queue. all (suc m) id queue) n id queue

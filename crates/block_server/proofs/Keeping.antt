@@ -1,0 +1,446 @@
+-- What the parts of a turn leave of what a unit's books say.
+use Rattle.std.proofs.Common.{◌≡◌, ◌≢◌, ◌⊎◌, inl, inr, ◌+◌, ◌==◌, ◌&&◌, ◌++◌, ◌<◌, ◌≤◌, ℕ, Bool, true, false, All, Contains, List, [], ◌∷◌, Option, Some, None, IsSome, drop, length, filter, refl, sym, ◌∙◌, ap, subst, arith}
+use Rattle.std.proofs.lemmas.Bool.{ne_eqb}
+use Rattle.std.proofs.lemmas.List.Elements.{All-push, All-weaker, Contains-append_left, Contains-push}
+use Rattle.vio_num.specs.declared.entry.Entry.{Entry}
+use Rattle.vio_num.specs.declared.history.Grant.{Grant}
+use Rattle.vio_num.specs.declared.history.Grant.TheVariants.{Granted, Lapsed}
+use Rattle.vio_num.specs.declared.history.Lapse.{Lapse}
+use Rattle.vio_num.specs.declared.names.UnitId.{UnitId}
+use Rattle.block_server.specs.Makers.{same_unit}
+use Rattle.block_server.specs.Receipts.{EndedFor, Receipt}
+use Rattle.block_server.specs.Judged.{AreKept, AreLogins, ArePending, Asks, Books, Fate, HasFate, HasFront, HasGrant, HasLoginFront, IsAtStage, IsGranting, IsKeptAt, IsOn, IsOutcome, IsPendingUnder, IsServedUnder, Judged, KeepsLogins, RowKey, due_under, ends, gets_row, has_row, is_due, is_login, is_logout, receipt_key, request_key}
+use Rattle.block_server.specs.Judged.Fate.{ends_it, ignored, asks_login, asks_logout, asked}
+use Rattle.block_server.specs.declared.line.Kept.{Kept}
+use Rattle.block_server.specs.declared.request.Order.{Order}
+use Rattle.block_server.specs.declared.request.Request.{Request}
+use Rattle.block_server.specs.declared.service.Outcome.{Outcome}
+use Rattle.block_server.specs.declared.service.Outcome.TheVariants as outcomes
+use Rattle.block_server.specs.declared.service.Stage.{Stage}
+use Rattle.block_server.specs.declared.service.Stage.TheVariants as stages
+use Rattle.block_server.proofs.Judging.{all_logins, due_pass, due_popped, filter_left, login_no_row, row_no_login, served_due, served_ended, served_granted, served_left, served_more, served_other, served_row}
+
+-- a stage whose request has its row has a request
+pub front_of : (current : ℕ) (pending : List Request) (stage : Stage) → IsAtStage current pending stage → has_row stage ≡ true → HasFront pending
+front_of current pending stages.Start is some = absurd (cc (some))
+front_of current pending stages.OutTable is some = absurd (cc (some))
+front_of current pending stages.InTable is some = absurd (cc (some))
+front_of current pending (stages.DataOut cursor) is some = absurd (cc (some))
+front_of current pending (stages.Given row reply) is some = record { front = is.front; rest = is.rest; parts = is.parts }
+front_of current pending (stages.DataIn row reply cursor) is some = record { front = is.front; rest = is.rest; parts = is.parts }
+front_of current pending (stages.Answer (outcomes.Granted number)) is some = absurd (cc (some))
+front_of current pending (stages.Answer outcomes.Rejected) is some = absurd (cc (some))
+front_of current pending (stages.Answer (outcomes.Served row)) is some = is
+front_of current pending (stages.Entry (outcomes.Granted number)) is some = absurd (cc (some))
+front_of current pending (stages.Entry outcomes.Rejected) is some = absurd (cc (some))
+front_of current pending (stages.Entry (outcomes.Served row)) is some = is
+
+no_kept : (stage : Stage) (kept : Option Kept) → kept ≡ None → IsKeptAt stage kept
+no_kept stage kept none = subst (IsKeptAt stage) (sym none) tt
+
+no_cons : (request : Request) (requests pending : List Request) → pending ≡ request ∷ requests → pending ≡ [] → ⊥
+no_cons request requests pending some none = absurd (cc (some, none))
+
+none_one : (n : ℕ) → n ≡ 0 → 1 ≤ n → ⊥
+none_one n none some = absurd (omega (arith, none, some))
+
+zero_one : 1 ≤ 0 → ⊥
+zero_one some = absurd (omega (arith, some))
+
+-- lines more leave each entry its fate
+pub fate_grows : (unit : UnitId) (grants more : List Grant) (judged : List Judged) → All (λ j. HasFate unit grants j.receipt j.fate) judged
+    → All (λ j. HasFate unit (grants ++ more) j.receipt j.fate) judged
+fate_grows unit grants more judged all =
+    All-weaker (λ j. HasFate unit grants j.receipt j.fate) (λ j. HasFate unit (grants ++ more) j.receipt j.fate) (λ j. grows j.receipt j.fate) judged all
+  where
+    grant_grows : (session login number : ℕ) → HasGrant unit grants session login number → HasGrant unit (grants ++ more) session login number
+    grant_grows session login number is =
+        record { at = is.at; credits = is.credits; listed = Contains-append_left grants more (Granted unit session login is.at is.credits) is.listed; earlier = is.earlier }
+
+    grows : (receipt : Receipt) (fate : Fate) → HasFate unit grants receipt fate → HasFate unit (grants ++ more) receipt fate
+    grows receipt ends_it is = record {
+      login = is.login;
+      cause = is.cause;
+      outstanding = is.outstanding;
+      granted = is.granted;
+      listed = Contains-append_left grants more (Lapsed unit receipt.session is.login is.cause is.outstanding is.granted) is.listed;
+      fatal = is.fatal;
+    }
+    grows receipt ignored is = is
+    grows receipt asks_login is = is
+    grows receipt (asks_logout n) is = (is.0, (is.1.0, (is.1.1.0, grant_grows receipt.session n receipt.number is.1.1.1)))
+    grows receipt (asked n) is = (is.0, (is.1.0, grant_grows receipt.session n receipt.number is.1.1))
+
+-- The service comes to another stage, without a row more.
+pub keeps_stage : (books : Books) (stage' : Stage) (judged : List Judged) → has_row stage' ≡ has_row books.stage → IsAtStage books.current books.pending stage' → books.kept ≡ None
+    → AreKept books judged → AreKept (record books { stage = stage' }) judged
+keeps_stage books stage' judged same at none is = record {
+  fates = is.fates;
+  served = λ login some. served_due books.id books.session judged books.rows books.grants books.stage stage' books.pending books.pending login
+      (ap (λ has. due_under books.session login has books.pending) (sym same)) (is.served login some);
+  logins = is.logins;
+  pending = is.pending;
+  stage = at;
+  kept = no_kept stage' books.kept none;
+  under = is.under;
+  idle = is.idle;
+}
+
+-- the row that a request gets
+abbrev pub row_of_request : Books → Request → RowKey
+row_of_request books request = record { unit = books.id; login = request.login; key = request_key books.session request }
+
+-- The request in service gets its row.
+pub keeps_row : (books : Books) (stage' : Stage) (front : Request) (rest : List Request) (judged : List Judged) → books.pending ≡ front ∷ rest
+    → has_row books.stage ≡ false → has_row stage' ≡ true → gets_row front.order ≡ true → IsAtStage books.current books.pending stage' → books.kept ≡ None
+    → AreKept books judged → AreKept (record books { stage = stage'; rows = books.rows ++ row_of_request books front ∷ [] }) judged
+keeps_row books stage' front rest judged parts before after asks at none is =
+    let under = (subst (ArePending books.current books.next books.taking) parts is.pending).0.under (row_no_login front.order asks) in
+    record {
+      fates = is.fates;
+      served = λ login some. subst (λ pending. IsServedUnder books.id books.session judged (books.rows ++ row_of_request books front ∷ []) books.grants stage' pending login) (sym parts)
+          (served_row books.id books.session judged books.rows books.grants books.stage stage' front rest books.current login before after asks under.0 (is.logins.on under.1)
+          (subst (λ pending. IsServedUnder books.id books.session judged books.rows books.grants books.stage pending login) parts (is.served login some)));
+      logins = is.logins;
+      pending = is.pending;
+      stage = at;
+      kept = no_kept stage' books.kept none;
+      under = All-push (λ (row : RowKey). same_unit row.unit books.id ≡ true → 1 ≤ row.login) books.rows (row_of_request books front) is.under
+          (λ own. subst (λ (n : ℕ). 1 ≤ n) (sym under.0) under.1);
+      idle = is.idle;
+    }
+
+-- The oldest request is dropped, which has its row or gets none.
+pub keeps_popped : (books : Books) (front : Request) (rest : List Request) (judged : List Judged) → books.pending ≡ front ∷ rest
+    → (has_row books.stage ≡ true) ⊎ (gets_row front.order ≡ false)
+    → AreKept books judged → AreKept (record books { stage = stages.Start; kept = None; pending = rest }) judged
+keeps_popped books front rest judged parts gone is = record {
+  fates = is.fates;
+  served = λ login some. served_due books.id books.session judged books.rows books.grants books.stage stages.Start books.pending rest login
+      (ap (due_under books.session login (has_row books.stage)) parts ∙ due_popped books.session login (has_row books.stage) front rest gone) (is.served login some);
+  logins = is.logins;
+  pending = (subst (ArePending books.current books.next books.taking) parts is.pending).1;
+  stage = tt;
+  kept = tt;
+  under = is.under;
+  idle = λ over. absurd (no_cons front rest books.pending parts (is.idle over).0);
+}
+
+-- None is there to drop.
+pub keeps_idle : (books : Books) (judged : List Judged) → books.pending ≡ [] → AreKept books judged → AreKept (record books { stage = stages.Start; kept = None; pending = [] }) judged
+keeps_idle books judged none is = record {
+  fates = is.fates;
+  served = λ login some. served_due books.id books.session judged books.rows books.grants books.stage stages.Start books.pending [] login
+      (ap (due_under books.session login (has_row books.stage)) none ∙ none_due_of books.session login (has_row books.stage)) (is.served login some);
+  logins = is.logins;
+  pending = tt;
+  stage = tt;
+  kept = tt;
+  under = is.under;
+  idle = λ over. (refl, (is.idle over).1);
+}
+  where
+    none_due_of : (session login : ℕ) (has : Bool) → due_under session login has [] ≡ []
+    none_due_of session login true = refl
+    none_due_of session login false = refl
+
+-- the requests that are pending, whatever login is on, where each asks for one
+logins_pending : (current next current' next' : ℕ) (taking taking' : Bool) (pending : List Request) → next ≤ next' → AreLogins pending → ArePending current next taking pending
+    → ArePending current' next' taking' pending
+logins_pending current next current' next' taking taking' [] most logins are = tt
+logins_pending current next current' next' taking taking' (request ∷ requests) most logins are = (
+  record {
+    under = λ other. absurd (cc (other, logins.0));
+    number = below request.number next next' are.0.number most;
+    last = λ other none. absurd (cc (other, logins.0));
+  },
+  logins_pending current next current' next' taking taking' requests most logins.1 are.1,
+)
+  where
+    below : (a b c : ℕ) → a < b → b ≤ c → a < c
+    below a b c low high = omega (arith, low, high)
+
+same_most : (n : ℕ) → n ≤ n
+same_most n = omega arith
+
+apart_later : (a b n : ℕ) → a ≤ b → b < n → (a == n) ≡ false
+apart_later a b n low high = ne_eqb a n (λ same. none a b n low high same)
+  where
+    none : (a b n : ℕ) → a ≤ b → b < n → a ≡ n → ⊥
+    none a b n low high same = absurd (omega (arith, low, high, same))
+
+-- no later login is ended by a line on this one
+later_on : (unit : UnitId) (current last session : ℕ) (cause : Lapse) (outstanding granted : ℕ) (grants : List Grant) → current ≤ last → ((n : ℕ) → last < n → IsOn unit n grants)
+    → (n : ℕ) → last < n → IsOn unit n (grants ++ Lapsed unit session current cause outstanding granted ∷ [])
+later_on unit current last session cause outstanding granted grants most none n high =
+    filter_left (ends unit n) grants (Lapsed unit session current cause outstanding granted) (second (same_unit unit unit) (current == n) (apart_later current last n most high)) ∙ none n high
+  where
+    second : (a b : Bool) → b ≡ false → a && b ≡ false
+    second true b is = is
+    second false b is = refl
+
+off_logins : (unit : UnitId) (session next current last of : ℕ) (session' next' : ℕ) (taking : Bool) (cause : Lapse) (outstanding granted : ℕ) (grants : List Grant)
+    → KeepsLogins unit session next current last taking grants
+    → KeepsLogins unit session' next' 0 last false (grants ++ Lapsed unit of current cause outstanding granted ∷ [])
+off_logins unit session next current last of session' next' taking cause outstanding granted grants is = record {
+  most = omega arith;
+  on = λ some. absurd (zero_one some);
+  none_later = later_on unit current last of cause outstanding granted grants is.most is.none_later;
+  granted = λ some. absurd (zero_one some);
+  takes = λ some. absurd (cc (some));
+}
+
+-- The login that is on ended for another cause than its logout, and nothing is pending. The session may be another behind it.
+pub keeps_ended : (books : Books) (session' next' of : ℕ) (cause : Lapse) (outstanding granted : ℕ) (ended' : Bool) (judged : List Judged) → is_logout cause ≡ false
+    → AreKept books judged → AreKept (record books {
+      session = session';
+      next = next';
+      current = 0;
+      taking = false;
+      stage = stages.Start;
+      kept = None;
+      pending = [];
+      grants = books.grants ++ Lapsed books.id of books.current cause outstanding granted ∷ [];
+      ended = ended';
+    }) judged
+keeps_ended books session' next' of cause outstanding granted ended' judged other is = record {
+  fates = fate_grows books.id books.grants (Lapsed books.id of books.current cause outstanding granted ∷ []) judged is.fates;
+  served = λ login some. served_ended books.id books.session session' of judged books.rows books.grants books.stage books.pending books.current books.next login books.taking
+      cause outstanding granted other is.pending (is.served login some);
+  logins = off_logins books.id books.session books.next books.current books.last of session' next' books.taking cause outstanding granted books.grants is.logins;
+  pending = tt;
+  stage = tt;
+  kept = tt;
+  under = is.under;
+  idle = λ over. (refl, refl);
+}
+
+-- The login that is on ended by its logout, which is the oldest request.
+pub keeps_left : (books : Books) (front : Request) (rest : List Request) (of : ℕ) (cause : Lapse) (outstanding granted : ℕ) (judged : List Judged) → books.pending ≡ front ∷ rest
+    → is_login front.order ≡ false → gets_row front.order ≡ false
+    → AreKept books judged → AreKept (record books {
+      current = 0;
+      taking = false;
+      stage = stages.Start;
+      kept = None;
+      pending = rest;
+      grants = books.grants ++ Lapsed books.id of books.current cause outstanding granted ∷ [];
+    }) judged
+keeps_left books front rest of cause outstanding granted judged parts other none is =
+    let are = subst (ArePending books.current books.next books.taking) parts is.pending in
+    let behind = (are.0.last other none).1 in
+    record {
+      fates = fate_grows books.id books.grants (Lapsed books.id of books.current cause outstanding granted ∷ []) judged is.fates;
+      served = λ login some. served_left books.id books.session of judged books.rows books.grants books.stage front rest books.current login cause outstanding granted none behind is.logins.on some
+          (subst (λ pending. IsServedUnder books.id books.session judged books.rows books.grants books.stage pending login) parts (is.served login some));
+      logins = off_logins books.id books.session books.next books.current books.last of books.session books.next books.taking cause outstanding granted books.grants is.logins;
+      pending = logins_pending books.current books.next 0 books.next books.taking false rest (same_most books.next) behind are.1;
+      stage = tt;
+      kept = tt;
+      under = is.under;
+      idle = λ over. absurd (no_cons front rest books.pending parts (is.idle over).0);
+    }
+
+-- A login began, for the oldest request.
+pub keeps_granted : (books : Books) (number credits : ℕ) (front : Request) (rest : List Request) (judged : List Judged) → books.pending ≡ front ∷ rest → IsGranting books.current number books.pending
+    → AreKept books judged → AreKept (record books {
+      current = books.last + 1;
+      last = books.last + 1;
+      taking = true;
+      stage = stages.Start;
+      kept = None;
+      pending = rest;
+      grants = books.grants ++ Granted books.id books.session (books.last + 1) number credits ∷ [];
+    }) judged
+keeps_granted books number credits front rest judged parts grants is =
+    let line = Granted books.id books.session (books.last + 1) number credits in
+    let are = subst (ArePending books.current books.next books.taking) parts is.pending in
+    let logins = all_logins books.current books.next books.taking (front ∷ rest) grants.none_on are in
+    record {
+      fates = fate_grows books.id books.grants (line ∷ []) judged is.fates;
+      served = λ login some. served_granted books.id books.session books.session (books.last + 1) number credits judged books.rows books.grants books.stage front rest login logins
+          (subst (λ pending. IsServedUnder books.id books.session judged books.rows books.grants books.stage pending login) parts (is.served login some));
+      logins = record {
+        most = same_most (books.last + 1);
+        on = λ some. filter_left (ends books.id (books.last + 1)) books.grants line refl ∙ is.logins.none_later (books.last + 1) (next_one books.last);
+        none_later = λ n high. filter_left (ends books.id n) books.grants line refl ∙ is.logins.none_later n (after_one books.last n high);
+        granted = λ some. record {
+          at = number;
+          credits = credits;
+          listed = Contains-push books.grants line;
+          earlier = subst (λ (n : ℕ). n < books.next) grants.number_is
+              (subst (ArePending books.current books.next books.taking) grants.parts is.pending).0.number;
+        };
+        takes = λ some. next_one_some books.last;
+      };
+      pending = logins_pending books.current books.next (books.last + 1) books.next books.taking true rest (same_most books.next) logins.1 are.1;
+      stage = tt;
+      kept = tt;
+      under = is.under;
+      idle = λ over. absurd (no_cons front rest books.pending parts (is.idle over).0);
+    }
+  where
+    next_one : (n : ℕ) → n < n + 1
+    next_one n = omega arith
+
+    next_one_some : (n : ℕ) → 1 ≤ n + 1
+    next_one_some n = omega arith
+
+    after_one : (n m : ℕ) → n + 1 < m → n < m
+    after_one n m high = omega (arith, high)
+
+-- A session began, while nothing was pending.
+pub keeps_session : (books : Books) (session' next' : ℕ) (ended' : Bool) (judged : List Judged) → books.pending ≡ [] → books.current ≡ 0
+    → AreKept books judged → AreKept (record books { session = session'; next = next'; ended = ended' }) judged
+keeps_session books session' next' ended' judged none off is = record {
+  fates = is.fates;
+  served = λ login some. moved login (is.served login some);
+  logins = record {
+    most = is.logins.most;
+    on = is.logins.on;
+    none_later = is.logins.none_later;
+    granted = λ some. absurd (none_one books.current off some);
+    takes = is.logins.takes;
+  };
+  pending = subst (ArePending books.current next' books.taking) (sym none) tt;
+  stage = is.stage;
+  kept = is.kept;
+  under = is.under;
+  idle = λ over. (none, off);
+}
+  where
+    nothing : (session login : ℕ) (has : Bool) → due_under session login has [] ≡ []
+    nothing session login true = refl
+    nothing session login false = refl
+
+    moved : (login : ℕ) → IsServedUnder books.id books.session judged books.rows books.grants books.stage books.pending login
+        → IsServedUnder books.id session' judged books.rows books.grants books.stage books.pending login
+    moved login was = record {
+      rest = was.rest;
+      in_order = was.in_order;
+      waiting = λ on. was.waiting on ∙ ap (due_under books.session login (has_row books.stage)) none ∙ nothing books.session login (has_row books.stage)
+          ∙ sym (nothing session' login (has_row books.stage)) ∙ ap (due_under session' login (has_row books.stage)) (sym none);
+      out = was.out;
+    }
+
+-- The next entry is a later one, or its line stands otherwise.
+pub later_pending : (current next next' : ℕ) (taking : Bool) (pending : List Request) → next ≤ next' → ArePending current next taking pending → ArePending current next' taking pending
+later_pending current next next' taking [] most are = tt
+later_pending current next next' taking (request ∷ requests) most are =
+    (record { under = are.0.under; number = below request.number next next' are.0.number most; last = are.0.last }, later_pending current next next' taking requests most are.1)
+  where
+    below : (a b c : ℕ) → a < b → b ≤ c → a < c
+    below a b c low high = omega (arith, low, high)
+
+pub later_logins : (unit : UnitId) (session next next' current last : ℕ) (taking : Bool) (grants : List Grant) → next ≤ next' → KeepsLogins unit session next current last taking grants
+    → KeepsLogins unit session next' current last taking grants
+later_logins unit session next next' current last taking grants most is = record {
+  most = is.most;
+  on = is.on;
+  none_later = is.none_later;
+  granted = λ some. let grant = is.granted some in record { at = grant.at; credits = grant.credits; listed = grant.listed; earlier = below grant.at next next' grant.earlier most };
+  takes = is.takes;
+}
+  where
+    below : (a b c : ℕ) → a < b → b ≤ c → a < c
+    below a b c low high = omega (arith, low, high)
+
+pub keeps_later : (books : Books) (next' : ℕ) (ended' : Bool) (judged : List Judged) → books.next ≤ next' → (ended' ≡ true → (books.pending ≡ []) × (books.current ≡ 0))
+    → AreKept books judged → AreKept (record books { next = next'; ended = ended' }) judged
+keeps_later books next' ended' judged most idle is = record {
+  fates = is.fates;
+  served = is.served;
+  logins = later_logins books.id books.session books.next next' books.current books.last books.taking books.grants most is.logins;
+  pending = later_pending books.current books.next next' books.taking books.pending most is.pending;
+  stage = is.stage;
+  kept = is.kept;
+  under = is.under;
+  idle = idle;
+}
+
+-- Books of the same content.
+pub moved_to : (mid new : Books) (judged : List Judged) → new.id ≡ mid.id → new.session ≡ mid.session → new.next ≡ mid.next → new.current ≡ mid.current → new.last ≡ mid.last
+    → new.taking ≡ mid.taking → new.stage ≡ mid.stage → new.kept ≡ mid.kept → new.pending ≡ mid.pending → new.rows ≡ mid.rows → new.grants ≡ mid.grants → new.ended ≡ mid.ended
+    → AreKept mid judged → AreKept new judged
+moved_to mid new judged id session next current last taking stage kept pending rows grants ended is =
+    subst (λ (books : Books). AreKept books judged) (λ i. record {
+      id = (sym id) i;
+      session = (sym session) i;
+      next = (sym next) i;
+      current = (sym current) i;
+      last = (sym last) i;
+      taking = (sym taking) i;
+      stage = (sym stage) i;
+      kept = (sym kept) i;
+      pending = (sym pending) i;
+      rows = (sym rows) i;
+      grants = (sym grants) i;
+      ended = (sym ended) i;
+    }) is
+
+-- Another entry is kept, or none.
+pub keeps_kept : (books : Books) (kept' : Option Kept) (judged : List Judged) → IsKeptAt books.stage kept' → AreKept books judged → AreKept (record books { kept = kept' }) judged
+keeps_kept books kept' judged at is = record {
+  fates = is.fates;
+  served = is.served;
+  logins = is.logins;
+  pending = is.pending;
+  stage = is.stage;
+  kept = at;
+  under = is.under;
+  idle = is.idle;
+}
+
+popped_to : (books : Books) (front : Request) (rest : List Request) (judged : List Judged) → books.pending ≡ front ∷ rest
+    → AreKept (record books { stage = stages.Start; kept = None; pending = rest }) judged
+    → AreKept (record books { stage = stages.Start; kept = None; pending = drop 1 books.pending }) judged
+popped_to books front rest judged parts is =
+    subst (λ (pending : List Request). AreKept (record books { stage = stages.Start; kept = None; pending = pending }) judged) (sym (ap (drop 1) parts)) is
+
+-- The service of the oldest request ends as its answer was to be put.
+pub keeps_finished : (books : Books) (outcome : Outcome) (judged : List Judged) → books.stage ≡ stages.Entry outcome
+    → AreKept books judged → AreKept (record books { stage = stages.Start; kept = None; pending = drop 1 books.pending }) judged
+keeps_finished books outcome judged at is = by outcome at (subst (IsAtStage books.current books.pending) at is.stage)
+  where
+    by : (outcome : Outcome) → books.stage ≡ stages.Entry outcome → IsOutcome books.current books.pending outcome
+        → AreKept (record books { stage = stages.Start; kept = None; pending = drop 1 books.pending }) judged
+    by (outcomes.Granted number) at front =
+        popped_to books front.front front.rest judged front.parts (keeps_popped books front.front front.rest judged front.parts (inr (login_no_row front.front.order front.asks)) is)
+    by outcomes.Rejected at front =
+        popped_to books front.front front.rest judged front.parts (keeps_popped books front.front front.rest judged front.parts (inr (login_no_row front.front.order front.asks)) is)
+    by (outcomes.Served row) at front =
+        popped_to books front.front front.rest judged front.parts (keeps_popped books front.front front.rest judged front.parts (inl (ap has_row at)) is)
+
+-- It was granted its login.
+pub keeps_begun : (books : Books) (number credits : ℕ) (judged : List Judged) → books.stage ≡ stages.Entry (outcomes.Granted number)
+    → AreKept books judged → AreKept (record books {
+      current = books.last + 1;
+      last = books.last + 1;
+      taking = true;
+      stage = stages.Start;
+      kept = None;
+      pending = drop 1 books.pending;
+      grants = books.grants ++ Granted books.id books.session (books.last + 1) number credits ∷ [];
+    }) judged
+keeps_begun books number credits judged at is =
+    let front : IsGranting books.current number books.pending = subst (IsAtStage books.current books.pending) at is.stage in
+    subst (λ (pending : List Request). AreKept (record books {
+      current = books.last + 1;
+      last = books.last + 1;
+      taking = true;
+      stage = stages.Start;
+      kept = None;
+      pending = pending;
+      grants = books.grants ++ Granted books.id books.session (books.last + 1) number credits ∷ [];
+    }) judged) (sym (ap (drop 1) front.parts)) (keeps_granted books number credits front.front front.rest judged front.parts front is)
+
+-- Its answer was copied.
+pub keeps_delivered : (books : Books) (outcome : Outcome) (judged : List Judged) → books.stage ≡ stages.Answer outcome → books.kept ≡ None
+    → AreKept books judged → AreKept (record books { stage = stages.Entry outcome }) judged
+keeps_delivered books outcome judged at none is =
+    keeps_stage books (stages.Entry outcome) judged (same outcome ∙ sym (ap has_row at)) (subst (IsAtStage books.current books.pending) at is.stage) none is
+  where
+    same : (outcome : Outcome) → has_row (stages.Entry outcome) ≡ has_row (stages.Answer outcome)
+    same (outcomes.Granted number) = refl
+    same outcomes.Rejected = refl
+    same (outcomes.Served row) = refl

@@ -1,0 +1,5 @@
+use Rattle.std.proofs.Common.{refl}
+use Rattle.block_server.proofs.answering.lose_partner.Goals as goal
+
+pub returns-clause-books : goal.returns-clause-books
+returns-clause-books c = λ q q' next next'. c.end_login.ensures.books q q' next next' refl

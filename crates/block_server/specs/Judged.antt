@@ -1,0 +1,321 @@
+-- What became of each SRP entry that a server unit took, and that each request has one row, in order (SRP, "Flow control").
+use Rattle.std.specs.Prelude.{◌≡◌, ◌⊎◌, ◌==◌, ◌&&◌, ◌<◌, ◌≤◌, ◌++◌, ℕ, Bool, true, false, ⊤, All, List, [], ◌∷◌, Option, Some, None, IsSome, length, map, filter, slice_index}
+use Rattle.std.specs.List.{Contains}
+use Rattle.srp_iu.specs.Grammar.{Spells}
+use Rattle.srp_iu.specs.declared.login.LoginReq.{LoginReq}
+use Rattle.srp_iu.specs.declared.unit.Iu.{Iu}
+use Rattle.srp_iu.specs.declared.unit.Iu.TheVariants as units
+use Rattle.vio_num.specs.declared.history.Grant.{Grant}
+use Rattle.vio_num.specs.declared.history.Grant.TheVariants.{Granted, Lapsed}
+use Rattle.vio_num.specs.declared.history.Lapse.{Lapse}
+use Rattle.vio_num.specs.declared.history.Lapse.TheVariants as lapses
+use Rattle.vio_num.specs.declared.history.Served.{Served as ServedRow}
+use Rattle.vio_num.specs.declared.names.UnitId.{UnitId}
+use Rattle.block_server.specs.Makers.{same_unit}
+use Rattle.block_server.specs.Receipts.{EndedFor, Receipt}
+use Rattle.block_server.specs.declared.line.Kept.{Kept}
+use Rattle.block_server.specs.declared.line.Kept.TheVariants as keeps
+use Rattle.block_server.specs.declared.request.Order.{Order}
+use Rattle.block_server.specs.declared.request.Order.TheVariants as orders
+use Rattle.block_server.specs.declared.request.Request.{Request}
+use Rattle.block_server.specs.declared.service.Outcome.{Outcome}
+use Rattle.block_server.specs.declared.service.Outcome.TheVariants as outcomes
+use Rattle.block_server.specs.declared.service.Stage.{Stage}
+use Rattle.block_server.specs.declared.service.Stage.TheVariants as stages
+
+-- JUDGED -----------------------------------------------------------------------------------------
+
+-- What became of an SRP entry that was taken: it ended its session; its unit is none that asks; it asked for a login; it
+-- asked to end this login; or it is a command or a task under this login.
+pub data Fate : Type 0 where
+  ends_it : Fate
+  ignored : Fate
+  asks_login : Fate
+  asks_logout : ℕ → Fate
+  asked : ℕ → Fate
+
+pub record Judged : Type 0 where
+  pub receipt : Receipt
+  pub fate : Fate
+
+-- the login under which it is a command or a task, and 0 where it is none
+abbrev pub login_of : Fate → ℕ
+login_of (asked n) = n
+login_of fate = 0
+
+-- The login was granted in this session, to an entry before this one.
+pub record HasGrant (unit : UnitId) (grants : List Grant) (session login number : ℕ) : Type 0 where
+  pub at : ℕ
+  pub credits : ℕ
+  pub listed : Contains grants (Granted unit session login at credits)
+  pub earlier : at < number
+
+-- An information unit that is a command or a task, or bytes that have the type and the tag of one.
+pub record Asks (bytes : List ℕ) : Type 0 where
+  pub type_is : (slice_index bytes 0 ≡ 0x01) ⊎ (slice_index bytes 0 ≡ 0x02)
+  pub tagged : 16 ≤ length bytes
+
+-- An information unit that is none of those that a server acts on.
+abbrev pub IsIgnored : Iu → Type 0
+IsIgnored (units.LoginReq request) = ⊥
+IsIgnored (units.ILogout tag) = ⊥
+IsIgnored (units.TskMgmt task) = ⊥
+IsIgnored (units.Cmd command) = ⊥
+IsIgnored iu = ⊤
+
+-- What is so of a receipt of each fate. (That one without a copy is `ends_it` stands in `intake`: its session ended for a cause.)
+abbrev pub HasFate : (unit : UnitId) → List Grant → Receipt → Fate → Type 0
+HasFate unit grants receipt ends_it = EndedFor unit receipt.session grants
+HasFate unit grants receipt ignored = IsSome receipt.copy × ((iu : Iu) × Spells receipt.bytes iu × IsIgnored iu)
+HasFate unit grants receipt asks_login = IsSome receipt.copy × ((request : LoginReq) × Spells receipt.bytes (units.LoginReq request))
+HasFate unit grants receipt (asks_logout n) =
+    IsSome receipt.copy × ((tag : ℕ) × (Spells receipt.bytes (units.ILogout tag) × HasGrant unit grants receipt.session n receipt.number))
+HasFate unit grants receipt (asked n) = IsSome receipt.copy × (Asks receipt.bytes × HasGrant unit grants receipt.session n receipt.number)
+
+-- LINES ------------------------------------------------------------------------------------------
+
+-- whether a line ends this login
+abbrev pub ends : (unit : UnitId) → (login : ℕ) → Grant → Bool
+ends unit n (Granted of session login number credits) = false
+ends unit n (Lapsed of session login cause outstanding granted) = same_unit of unit && (login == n)
+
+abbrev pub is_logout : Lapse → Bool
+is_logout lapses.Logout = true
+is_logout cause = false
+
+-- whether a line ends it since its client asked for that
+abbrev pub logs_out : (unit : UnitId) → (login : ℕ) → Grant → Bool
+logs_out unit n (Granted of session login number credits) = false
+logs_out unit n (Lapsed of session login cause outstanding granted) = is_logout cause && (same_unit of unit && (login == n))
+
+-- No line ends the login.
+abbrev pub IsOn : (unit : UnitId) → (login : ℕ) → List Grant → Type 0
+IsOn unit login grants = filter (ends unit login) grants ≡ []
+
+-- A command or a task that is judged now was not asked under a login that had ended by these lines.
+abbrev pub IsInTime : (unit : UnitId) → List Grant → Judged → Type 0
+IsInTime unit grants judged = 1 ≤ login_of judged.fate → IsOn unit (login_of judged.fate) grants
+
+-- SERVED -----------------------------------------------------------------------------------------
+
+-- a request by its place and its bytes
+pub record Key : Type 0 where
+  pub session : ℕ
+  pub number : ℕ
+  pub bytes : List ℕ
+
+-- what of a row says whose it is
+pub record RowKey : Type 0 where
+  pub unit : UnitId
+  pub login : ℕ
+  pub key : Key
+
+abbrev pub receipt_key : Receipt → Key
+receipt_key r = record { session = r.session; number = r.number; bytes = r.bytes }
+
+abbrev pub request_key : (session : ℕ) → Request → Key
+request_key session r = record { session = session; number = r.number; bytes = r.unit.items }
+
+abbrev pub row_key : ServedRow → RowKey
+row_key row = record {
+  unit = row.unit;
+  login = row.login;
+  key = record { session = row.session; number = row.number; bytes = row.iu };
+}
+
+abbrev pub keys_of : List ServedRow → List RowKey
+keys_of rows = map row_key rows
+
+-- the requests that were accepted under a login, and those of them that have rows, in their order
+abbrev pub accepted : (login : ℕ) → List Judged → List Key
+accepted login judged = map (λ j. receipt_key j.receipt) (filter (λ j. login_of j.fate == login) judged)
+
+abbrev pub is_under : UnitId → (login : ℕ) → RowKey → Bool
+is_under unit login row = same_unit row.unit unit && (row.login == login)
+
+abbrev pub rows_under : UnitId → (login : ℕ) → List RowKey → List Key
+rows_under unit login rows = map (λ row. row.key) (filter (is_under unit login) rows)
+
+-- whether a request is a command or a task, which has a row; whether it is a command; and whether it asks for a login
+abbrev pub gets_row : Order → Bool
+gets_row (orders.Login request) = false
+gets_row orders.Logout = false
+gets_row order = true
+
+abbrev pub is_command : Order → Bool
+is_command (orders.Command command) = true
+is_command order = false
+
+abbrev pub is_login : Order → Bool
+is_login (orders.Login request) = true
+is_login order = false
+
+-- whether the request in service has its row
+abbrev pub has_row : Stage → Bool
+has_row (stages.Given row reply) = true
+has_row (stages.DataIn row reply cursor) = true
+has_row (stages.Answer (outcomes.Served row)) = true
+has_row (stages.Entry (outcomes.Served row)) = true
+has_row stage = false
+
+-- the requests that are due: those that are pending, but for the oldest where it has its row
+abbrev pub due : Bool → List Request → List Request
+due true (request ∷ requests) = requests
+due true [] = []
+due false requests = requests
+
+abbrev pub is_due : (login : ℕ) → Request → Bool
+is_due login request = gets_row request.order && (request.login == login)
+
+abbrev pub due_under : (session login : ℕ) → Bool → List Request → List Key
+due_under session login has pending = map (request_key session) (filter (is_due login) (due has pending))
+
+-- Of a login the rows are the first of its requests, each once and in order. Until it ends the others are due; one that is not
+-- served by then is dropped, and a line says so. The client's own logout drops none.
+pub record IsServedUnder (unit : UnitId) (session : ℕ) (judged : List Judged) (rows : List RowKey) (grants : List Grant) (stage : Stage) (pending : List Request) (login : ℕ) : Type 0 where
+  pub rest : List Key
+  pub in_order : accepted login judged ≡ rows_under unit login rows ++ rest
+  pub waiting : IsOn unit login grants → rest ≡ due_under session login (has_row stage) pending
+  pub out : (filter (logs_out unit login) grants ≡ []) ⊎ (rest ≡ [])
+
+abbrev pub AreServed : UnitId → (session : ℕ) → List Judged → List RowKey → List Grant → Stage → List Request → Type 0
+AreServed unit session judged rows grants stage pending =
+    (login : ℕ) → 1 ≤ login → IsServedUnder unit session judged rows grants stage pending login
+
+-- The same where nothing is pending: the rows of a login are all its requests while it is on, and where its client ended it.
+pub record IsAllServed (unit : UnitId) (judged : List Judged) (rows : List RowKey) (grants : List Grant) (login : ℕ) : Type 0 where
+  pub rest : List Key
+  pub in_order : accepted login judged ≡ rows_under unit login rows ++ rest
+  pub on : IsOn unit login grants → rest ≡ []
+  pub out : (filter (logs_out unit login) grants ≡ []) ⊎ (rest ≡ [])
+
+-- What a unit did with all that it took: each receipt has a fate, and each login's requests their rows.
+pub record IsWorkDone (unit : UnitId) (history : List ServedRow) (grants : List Grant) (judged : List Judged) : Type 0 where
+  pub fates : All (λ j. HasFate unit grants j.receipt j.fate) judged
+  pub served : (login : ℕ) → 1 ≤ login → IsAllServed unit judged (keys_of history) grants login
+
+-- KEPT BETWEEN TURNS -----------------------------------------------------------------------------
+
+-- what a unit's requests are judged and served by
+pub record Books : Type 0 where
+  pub id : UnitId
+  -- the present session, and the number of the entry that is judged next
+  pub session : ℕ
+  pub next : ℕ
+  -- the login that is on, or 0, the last that was granted, and whether it takes requests
+  pub current : ℕ
+  pub last : ℕ
+  pub taking : Bool
+  pub stage : Stage
+  pub kept : Option Kept
+  pub pending : List Request
+  pub rows : List RowKey
+  pub grants : List Grant
+  -- whether nothing more is taken in the session
+  pub ended : Bool
+
+-- The login that is on is the last that was granted, in the present session, and no line ends it.
+pub record KeepsLogins (unit : UnitId) (session next current last : ℕ) (taking : Bool) (grants : List Grant) : Type 0 where
+  pub most : current ≤ last
+  pub on : 1 ≤ current → IsOn unit current grants
+  pub none_later : (n : ℕ) → last < n → IsOn unit n grants
+  pub granted : 1 ≤ current → HasGrant unit grants session current next
+  pub takes : taking ≡ true → 1 ≤ current
+
+-- None of these is under a login.
+abbrev pub AreLogins : List Request → Type 0
+AreLogins [] = ⊤
+AreLogins (request ∷ requests) = (is_login request.order ≡ true) × AreLogins requests
+
+-- The request is under the login that is on, or it asks for one.
+pub record IsPendingUnder (current next : ℕ) (taking : Bool) (request : Request) (behind : List Request) : Type 0 where
+  pub under : is_login request.order ≡ false → (request.login ≡ current) × (1 ≤ current)
+  pub number : request.number < next
+  -- behind a logout nothing is under a login
+  pub last : is_login request.order ≡ false → gets_row request.order ≡ false → (taking ≡ false) × AreLogins behind
+
+abbrev pub ArePending : (current next : ℕ) → (taking : Bool) → List Request → Type 0
+ArePending current next taking [] = ⊤
+ArePending current next taking (request ∷ requests) =
+    IsPendingUnder current next taking request requests × ArePending current next taking requests
+
+-- The oldest request is in service.
+pub record HasFront (pending : List Request) : Type 0 where
+  pub front : Request
+  pub rest : List Request
+  pub parts : pending ≡ front ∷ rest
+
+-- It is a command.
+pub record HasCommandFront (pending : List Request) : Type 0 where
+  pub front : Request
+  pub rest : List Request
+  pub parts : pending ≡ front ∷ rest
+  pub asks : is_command front.order ≡ true
+
+-- It asks for a login.
+pub record HasLoginFront (pending : List Request) : Type 0 where
+  pub front : Request
+  pub rest : List Request
+  pub parts : pending ≡ front ∷ rest
+  pub asks : is_login front.order ≡ true
+
+-- The oldest asks for a login, which is to be granted to its entry.
+pub record IsGranting (current number : ℕ) (pending : List Request) : Type 0 where
+  pub front : Request
+  pub rest : List Request
+  pub parts : pending ≡ front ∷ rest
+  pub asks : is_login front.order ≡ true
+  pub number_is : front.number ≡ number
+  pub none_on : current ≡ 0
+
+-- What is so of the oldest request as its answer is copied and put.
+abbrev pub IsOutcome : (current : ℕ) → List Request → Outcome → Type 0
+IsOutcome current pending (outcomes.Granted number) = IsGranting current number pending
+IsOutcome current pending outcomes.Rejected = HasLoginFront pending
+IsOutcome current pending (outcomes.Served row) = HasFront pending
+
+-- What is so of it at each stage.
+abbrev pub IsAtStage : (current : ℕ) → List Request → Stage → Type 0
+IsAtStage current pending (stages.Given row reply) = HasCommandFront pending
+IsAtStage current pending (stages.DataIn row reply cursor) = HasCommandFront pending
+IsAtStage current pending (stages.Answer outcome) = IsOutcome current pending outcome
+IsAtStage current pending (stages.Entry outcome) = IsOutcome current pending outcome
+IsAtStage current pending stage = ⊤
+
+-- What is kept as the answer in service is of the stage's outcome.
+abbrev pub IsKeptAt : Stage → Option Kept → Type 0
+IsKeptAt stage (Some (keeps.Answer entry outcome)) = stage ≡ stages.Entry outcome
+IsKeptAt stage kept = ⊤
+
+-- What a unit's books say, with the entries that were judged.
+pub record AreKept (books : Books) (judged : List Judged) : Type 0 where
+  pub fates : All (λ j. HasFate books.id books.grants j.receipt j.fate) judged
+  pub served : AreServed books.id books.session judged books.rows books.grants books.stage books.pending
+  pub logins : KeepsLogins books.id books.session books.next books.current books.last books.taking books.grants
+  pub pending : ArePending books.current books.next books.taking books.pending
+  pub stage : IsAtStage books.current books.pending books.stage
+  pub kept : IsKeptAt books.stage books.kept
+  -- no row is of no login
+  pub under : All (λ row. same_unit row.unit books.id ≡ true → 1 ≤ row.login) books.rows
+  pub idle : books.ended ≡ true → (books.pending ≡ []) × (books.current ≡ 0)
+
+-- What a part of a turn that judges no entry leaves.
+abbrev pub Keeps : (books books' : Books) → Type 0
+Keeps books books' = (judged : List Judged) → AreKept books judged → AreKept books' judged
+
+-- The request is the oldest that is pending, and no entry is kept.
+pub record IsFor (books : Books) (id : UnitId) (session : ℕ) (request : Request) : Type 0 where
+  pub id_is : books.id ≡ id
+  pub session_is : books.session ≡ session
+  pub rest : List Request
+  pub front : books.pending ≡ request ∷ rest
+  pub none : books.kept ≡ None
+
+-- the books of a unit while its service is apart from it
+abbrev pub in_service : Books → Stage → List ServedRow → Books
+in_service books stage rows = record books { stage = stage; rows = keys_of rows }
+
+-- What a part of the service of the oldest request leaves.
+abbrev pub ServesOne : UnitId → (session : ℕ) → Request → (stage stage' : Stage) → (rows rows' : List ServedRow) → Type 0
+ServesOne id session request stage stage' rows rows' =
+    (books : Books) → IsFor books id session request → Keeps (in_service books stage rows) (in_service books stage' rows')
