@@ -50,7 +50,7 @@ before_other a b before = by_bool (same_unit a b) (same_unit a b ≡ false) (λ 
     no e (inl less) = omega (arith, less, ap (λ (u : UnitId). u.partition) e)
     no e (inr (same, less)) = omega (arith, less, ap (λ (u : UnitId). u.unit) e)
 
-turned : (a b : UnitId) → same_unit a b ≡ false → same_unit b a ≡ false
+pub turned : (a b : UnitId) → same_unit a b ≡ false → same_unit b a ≡ false
 turned a b e = by_bool (same_unit b a) (same_unit b a ≡ false)
     (λ f. absurd (no (subst (λ (u : UnitId). same_unit a u ≡ true) (sym (one_unit b a f)) (self a)))) (λ f. f)
   where
@@ -58,7 +58,7 @@ turned a b e = by_bool (same_unit b a) (same_unit b a ≡ false)
     no g = cc (e, g)
 
 -- the rows of other units pass no test for this one
-alone : {X Row : Type 0} (name : X → UnitId) (unit : Row → UnitId) (f : X → List Row) (u : UnitId) (xs : List X)
+pub alone : {X Row : Type 0} (name : X → UnitId) (unit : Row → UnitId) (f : X → List Row) (u : UnitId) (xs : List X)
     → Each (λ x. Each (λ row. unit row ≡ name x) (f x)) xs → Each (λ x. same_unit (name x) u ≡ false) xs
     → filter (λ row. same_unit (unit row) u) (flat_map f xs) ≡ []
 alone name unit f u [] named apart = refl

@@ -1,5 +1,5 @@
 -- What calls on a port keep of it, and the codes that they answer.
-use Rattle.std.proofs.Common.{◌≡◌, ℕ, Bool, true, false, List, [], ◌∷◌, Option, Some, None, IsSome, map, refl, sym, ◌∙◌, ap, Result}
+use Rattle.std.proofs.Common.{◌≡◌, ℕ, Bool, true, false, List, [], ◌∷◌, Option, Some, None, IsSome, map, refl, sym, ◌∙◌, ap, subst, Result}
 use Rattle.std.specs.List.{Contains}
 use Rattle.std.proofs.lemmas.List.Elements.{All-cons, All-contains, All-nil}
 use Rattle.vio_num.specs.declared.names.Mac.{Mac}
@@ -10,23 +10,48 @@ use Rattle.vio_num.specs.declared.hypervisor.Hrc.TheVariants.{Success, Busy, Clo
 use Rattle.hcall_table.specs.Rows.{may_answer}
 use Rattle.hcall_table.specs.declared.hcall.Hcall.{Hcall}
 use Rattle.tce_window.specs.PortState.{PortState}
+use Rattle.lan_buffers.specs.Calls.{IsOpen}
 use Rattle.lan_buffers.specs.Port.{PortValue}
+use Rattle.lan_buffers.specs.declared.settings.Settings.{Settings}
 use Rattle.lan_buffers.specs.declared.answers.Harvest.{Harvest}
 use Rattle.lan_buffers.specs.declared.answers.Harvest.TheVariants.{Frame, Blank, Nothing}
 use Rattle.lan_switch.specs.declared.answers.LanAnswer.{LanAnswer}
 use Rattle.lan_switch.specs.declared.station.Station.{Station}
 use Rattle.lan_switch.specs.Calls.{Adds, ChangesMac, Frees, Harvests, Multicasts, Registers, Reserves}
 use Rattle.lan_switch.specs.Switch.{AtPort, IsPort, MadeAt, port_of, with_port}
+use Rattle.vio_trace.specs.declared.lan_rows.FrameRow.{FrameRow}
+use Rattle.lan_script.specs.declared.seat.PortSeat.{PortSeat}
+use Rattle.lan_script.specs.Invariant.{IsBalanced}
 use Rattle.lan_script.specs.Units.{port_key}
+use Rattle.lan_script.proofs.Balance.{balance_with}
 use Rattle.lan_script.proofs.Keys.{keys_with}
+use Rattle.lan_script.proofs.Tallies.{KeepsTally, begins_tally, keeps_tally, same_tally, shut}
 
 -- a port that has the unit and the slots of before
 pub record SamePort (before after : PortValue) : Type 0 where
   pub unit : after.unit ≡ before.unit
   pub slots : after.slots ≡ before.slots
+  pub tally : KeepsTally before after
 
 same_port : (before after : PortValue) → after ≡ before → SamePort before after
-same_port before after e = record { unit = ap (λ (p : PortValue). p.unit) e; slots = ap (λ (p : PortValue). p.slots) e }
+same_port before after e = record {
+  unit = ap (λ (p : PortValue). p.unit) e;
+  slots = ap (λ (p : PortValue). p.slots) e;
+  tally = same_tally before after e;
+}
+
+-- a port whose deliveries and drops stay, and that was open if it is
+still_port : (before after : PortValue) → after.unit ≡ before.unit → after.slots ≡ before.slots → after.deliveries ≡ before.deliveries
+    → after.drop_counts ≡ before.drop_counts → (IsOpen after → IsOpen before) → SamePort before after
+still_port before after unit slots rows drops opened =
+    record { unit = unit; slots = slots; tally = keeps_tally before after rows drops opened }
+
+-- the settings of a port that has them as it had them
+settings_of : (before after : PortValue) → after.settings ≡ before.settings → IsOpen after → IsOpen before
+settings_of before after e is = subst (λ (o : Option Settings). IsSome o) e is
+
+was_open : (port : PortValue) (settings : Settings) → port.settings ≡ Some settings → IsOpen port
+was_open port settings e = subst (λ (o : Option Settings). IsSome o) (sym e) refl
 
 -- a code is Success or another
 by_code : (x : Hrc) (Q : Type 0) → (x ≡ Success → Q) → ((x ≡ Success → ⊥) → Q) → Q
@@ -45,47 +70,63 @@ pub registers_same : (list queue filters : ℕ) (mac : Mac) (answer : LanAnswer)
     → Registers list queue filters mac answer before after → SamePort before after
 registers_same list queue filters mac answer before after h =
     by_code answer.code (SamePort before after)
-    (λ e. record { unit = ap (λ (p : PortValue). p.unit) (h.success e).rest; slots = ap (λ (p : PortValue). p.slots) (h.success e).rest })
+    (λ e. record {
+      unit = ap (λ (p : PortValue). p.unit) (h.success e).rest;
+      slots = ap (λ (p : PortValue). p.slots) (h.success e).rest;
+      tally = begins_tally before after mac (h.success e);
+    })
     (λ not. same_port before after (h.refused not))
 
 pub frees_same : (answer : LanAnswer) (before after : PortValue) → Frees answer before after → SamePort before after
-frees_same answer before after h = record { unit = ap (λ (p : PortValue). p.unit) h.done; slots = ap (λ (p : PortValue). p.slots) h.done }
+frees_same answer before after h =
+    still_port before after (ap (λ (p : PortValue). p.unit) h.done) (ap (λ (p : PortValue). p.slots) h.done)
+    (ap (λ (p : PortValue). p.deliveries) h.done) (ap (λ (p : PortValue). p.drop_counts) h.done)
+    (λ is. absurd (shut after.settings (ap (λ (p : PortValue). p.settings) h.done) is))
 
 pub changes_same : (mac : Mac) (answer : LanAnswer) (before after : PortValue) → ChangesMac mac answer before after → SamePort before after
 changes_same mac answer before after h =
     by_code answer.code (SamePort before after)
-    (λ e. record { unit = ap (λ (p : PortValue). p.unit) (h.success e).sets; slots = ap (λ (p : PortValue). p.slots) (h.success e).sets })
+    (λ e.
+    let is = (h.success e).sets in
+    still_port before after (ap (λ (p : PortValue). p.unit) is) (ap (λ (p : PortValue). p.slots) is) (ap (λ (p : PortValue). p.deliveries) is)
+    (ap (λ (p : PortValue). p.drop_counts) is) (λ _. was_open before (h.success e).settings (h.success e).shown))
     (λ not. same_port before after (h.refused not))
 
 pub multicasts_same : (control : ℕ) (mac : Mac) (answer : LanAnswer) (before after : PortValue) → Multicasts control mac answer before after
     → SamePort before after
 multicasts_same control mac answer before after h =
     by_code answer.code (SamePort before after)
-    (λ e. record { unit = ap (λ (p : PortValue). p.unit) (h.success e).sets; slots = ap (λ (p : PortValue). p.slots) (h.success e).sets })
+    (λ e.
+    let is = (h.success e).sets in
+    still_port before after (ap (λ (p : PortValue). p.unit) is) (ap (λ (p : PortValue). p.slots) is) (ap (λ (p : PortValue). p.deliveries) is)
+    (ap (λ (p : PortValue). p.drop_counts) is) (λ _. was_open before (h.success e).settings (h.success e).shown))
     (λ not. same_port before after (h.refused not))
 
 pub adds_same : (descriptor : ℕ) (is_shared : Bool) (Found : ℕ → ℕ → Type 0) (window window' : PortState) (answer : LanAnswer) (before after : PortValue)
     → Adds descriptor is_shared Found window window' answer before after → SamePort before after
 adds_same descriptor is_shared Found window window' answer before after h =
     by_code answer.code (SamePort before after)
-    (λ e. record {
-      unit = ap (λ (p : PortValue). p.unit) (h.success e).posts.posted.rest;
-      slots = ap (λ (p : PortValue). p.slots) (h.success e).posts.posted.rest;
-    })
+    (λ e.
+    let is = (h.success e).posts.posted.rest in
+    still_port before after (ap (λ (p : PortValue). p.unit) is) (ap (λ (p : PortValue). p.slots) is) (ap (λ (p : PortValue). p.deliveries) is)
+    (ap (λ (p : PortValue). p.drop_counts) is) (settings_of before after (ap (λ (p : PortValue). p.settings) is)))
     (λ not. same_port before after (h.refused not))
 
 pub reserves_same : (n : ℕ) (answer : Result Unit NoMemory) (before after : PortValue) → Reserves n answer before after → SamePort before after
-reserves_same n answer before after h = record { unit = ap (λ (p : PortValue). p.unit) h.rest; slots = ap (λ (p : PortValue). p.slots) h.rest }
+reserves_same n answer before after h =
+    still_port before after (ap (λ (p : PortValue). p.unit) h.rest) (ap (λ (p : PortValue). p.slots) h.rest)
+    (ap (λ (p : PortValue). p.deliveries) h.rest) (ap (λ (p : PortValue). p.drop_counts) h.rest)
+    (settings_of before after (ap (λ (p : PortValue). p.settings) h.rest))
 
 pub harvests_same : (answer : Harvest) (before after : PortValue) → Harvests answer before after → SamePort before after
-harvests_same (Frame number len correlator) before after h = record {
-  unit = ap (λ (p : PortValue). p.unit) h.frame.reads.rest;
-  slots = ap (λ (p : PortValue). p.slots) h.frame.reads.rest;
-}
-harvests_same (Blank number correlator) before after h = record {
-  unit = ap (λ (p : PortValue). p.unit) h.blank.reads.rest;
-  slots = ap (λ (p : PortValue). p.slots) h.blank.reads.rest;
-}
+harvests_same (Frame number len correlator) before after h =
+    let is = h.frame.reads.rest in
+    still_port before after (ap (λ (p : PortValue). p.unit) is) (ap (λ (p : PortValue). p.slots) is) (ap (λ (p : PortValue). p.deliveries) is)
+    (ap (λ (p : PortValue). p.drop_counts) is) (settings_of before after (ap (λ (p : PortValue). p.settings) is))
+harvests_same (Blank number correlator) before after h =
+    let is = h.blank.reads.rest in
+    still_port before after (ap (λ (p : PortValue). p.unit) is) (ap (λ (p : PortValue). p.slots) is) (ap (λ (p : PortValue). p.deliveries) is)
+    (ap (λ (p : PortValue). p.drop_counts) is) (settings_of before after (ap (λ (p : PortValue). p.settings) is))
 harvests_same (Nothing number high) before after h = same_port before after h.rest
 
 -- a call at a port that keeps its unit and slots keeps the keys of all
@@ -95,10 +136,13 @@ at_keys old unit new P same h =
     let kept = same h.before h.after h.done in
     ap (λ l. map port_key l) h.rest ∙ keys_with unit old h.before h.after h.was kept.unit kept.slots
 
-pub made_keys : (old : List Station) (unit : UnitId) (answer : LanAnswer) (new : List Station) (P : PortValue → PortValue → Type 0)
-    → ((before after : PortValue) → P before after → SamePort before after) → IsPort old unit → MadeAt old unit answer new P
-    → map port_key new ≡ map port_key old
-made_keys old unit answer new P same is h = at_keys old unit new P same (h.made is)
+-- and the balance of frames, deliveries and drops
+pub at_balance : (seats : List PortSeat) (frames : List (List FrameRow)) (old : List Station) (unit : UnitId) (new : List Station)
+    (P : PortValue → PortValue → Type 0) → ((before after : PortValue) → P before after → SamePort before after) → AtPort old unit new P
+    → IsBalanced seats old frames → IsBalanced seats new frames
+at_balance seats frames old unit new P same h balanced =
+    let kept = same h.before h.after h.done in
+    subst (λ (l : List Station). IsBalanced seats l frames) (sym h.rest) (balance_with seats frames unit old h.before h.after h.was kept.unit kept.tally balanced)
 
 -- the codes of these are among those that a row may answer
 pub among3 : (row : Hcall) (a b c x : Hrc) → may_answer row a ≡ true → may_answer row b ≡ true

@@ -6,10 +6,12 @@ use Rattle.vio_trace.specs.declared.lan_rows.FrameRow.{FrameRow}
 use Rattle.lan_switch.specs.declared.station.Station.{Station}
 use Rattle.lan_script.specs.declared.seat.PortSeat.{PortSeat}
 use Rattle.lan_script.specs.declared.windows.Place.{Place}
-use Rattle.lan_script.specs.Frames.{Owes, count_in, frame_row_of, with_count}
+use Rattle.lan_script.specs.Frames.{count_in, frame_row_of, with_count}
+use Rattle.lan_script.specs.Invariant.{IsBalanced, IsLan, Owes, with_frame, with_sent}
 use Rattle.lan_script.specs.Seats.{seat_place}
-use Rattle.lan_script.specs.Units.{HavePorts, IsLan, IsLawfulFrame, LanValue, PortKey, port_key}
-use Rattle.lan_script.proofs.Keeping.{kept_ports, map_get, map_set}
+use Rattle.lan_script.specs.Units.{HavePorts, IsLawfulFrame, LanValue, PortKey, port_key}
+use Rattle.lan_script.proofs.Balancing.{set_frame}
+use Rattle.lan_script.proofs.Keeping.{frames_long, kept_ports, map_get, map_set}
 
 pub keep_frame : (lan now : LanValue) (unit : UnitId) (r : SendRecord) (n : ℕ) (row : FrameRow) (place : ℕ) (rows : List FrameRow) → lan ≡ now → IsLan lan
     → Owes now unit r → r.frame ≡ Some n → row ≡ frame_row_of unit n r → place ≡ seat_place unit lan.seats → slice_get lan.frames place ≡ Some rows
@@ -30,6 +32,10 @@ keep_frame lan now unit r n row place rows same is owed frame row_is at here =
           (subst (λ p. HavePorts true lan.seats (with_count unit (Some n) o.keys) (set lan.frames p (rows ++ row ∷ []))) (sym at)
           (kept_ports unit n lan.seats o.keys lan.frames rows row o.kept (ap (λ p. slice_get lan.frames p) (sym at) ∙ here) next law));
       windows = is.windows;
+      balanced = λ _. subst (λ (l : List (List FrameRow)). IsBalanced lan.seats lan.stations l)
+          (ap (λ x. with_sent unit r x lan.seats lan.frames) frame ∙ ap (λ (f : FrameRow). with_frame unit f lan.seats lan.frames) (sym row_is)
+          ∙ set_frame unit row lan.seats lan.frames rows (frames_long true lan.seats o.keys lan.frames o.kept) (ap (λ p. slice_get lan.frames p) (sym at) ∙ here)
+          ∙ ap (λ p. set lan.frames p (rows ++ row ∷ [])) (sym at)) o.balanced;
     }
 
 pub keep_none : (lan now : LanValue) (unit : UnitId) (r : SendRecord) → lan ≡ now → IsLan lan → Owes now unit r → r.frame ≡ None
@@ -43,6 +49,7 @@ keep_none lan now unit r same is owed frame =
       named = is.named;
       ports = subst (λ (keys : List PortKey). HavePorts true lan.seats keys lan.frames) (sym (o.counts ∙ ap (λ x. with_count unit x o.keys) frame)) o.kept;
       windows = is.windows;
+      balanced = λ _. subst (λ (l : List (List FrameRow)). IsBalanced lan.seats lan.stations l) (ap (λ x. with_sent unit r x lan.seats lan.frames) frame) o.balanced;
     }
 
 -- while a frame is owed nothing is said of the frames
@@ -69,6 +76,7 @@ keep_short lan now place rows same is short =
           (short_set lan.seats (map port_key lan.stations) lan.frames place rows
           (subst (λ w. HavePorts w lan.seats (map port_key lan.stations) lan.frames) whole is.ports));
       windows = is.windows;
+      balanced = λ full. absurd (cc (full, whole));
     }
 
 -- the same of frames that are seen through another list

@@ -8,8 +8,9 @@ use Rattle.lan_switch.specs.Switch.{port_of, same_unit, station_of, with_port}
 use Rattle.vio_trace.specs.declared.lan_rows.FrameRow.{FrameRow}
 use Rattle.lan_script.specs.declared.seat.PortSeat.{PortSeat}
 use Rattle.lan_script.specs.declared.windows.Place.{Place}
+use Rattle.lan_script.specs.Invariant.{IsBalanced, IsLan}
 use Rattle.lan_script.specs.Seats.{seat_at}
-use Rattle.lan_script.specs.Units.{HavePorts, IsLan, LanValue, PortKey, WindowKey, port_key, seat_key, window_key}
+use Rattle.lan_script.specs.Units.{HavePorts, LanValue, PortKey, WindowKey, port_key, seat_key, window_key}
 use Rattle.lan_script.specs.Windows.{window_in, with_window}
 use Rattle.lan_script.proofs.Placing.{by_bool, none_some, same_some, window_head, window_tail, with_head, with_tail}
 
@@ -64,10 +65,10 @@ window_of unit (p ∷ ps) (s ∷ ss) seat keys at =
     subst (λ (o : Option WindowValue). WindowOf o seat) (sym (window_tail unit p ps (same ∙ e)))
     (window_of unit ps ss seat (tails (window_key p) (seat_key s) (map window_key ps) (map seat_key ss) keys) (sym (seat_tail unit s ss e) ∙ at)))
 
-port_head : (unit : UnitId) (s : Station) (ss : List Station) → same_unit s.port.unit unit ≡ true → port_of (s ∷ ss) unit ≡ Some s.port
+pub port_head : (unit : UnitId) (s : Station) (ss : List Station) → same_unit s.port.unit unit ≡ true → port_of (s ∷ ss) unit ≡ Some s.port
 port_head unit s ss e = rw e refl
 
-port_tail : (unit : UnitId) (s : Station) (ss : List Station) → same_unit s.port.unit unit ≡ false → port_of (s ∷ ss) unit ≡ port_of ss unit
+pub port_tail : (unit : UnitId) (s : Station) (ss : List Station) → same_unit s.port.unit unit ≡ false → port_of (s ∷ ss) unit ≡ port_of ss unit
 port_tail unit s ss e = rw e refl
 
 -- each seat has its port
@@ -127,14 +128,16 @@ window_keys_with unit (p ∷ ps) w w' at pages held =
     ∙ ap (λ l. window_key p ∷ l) (window_keys_with unit ps w w' (sym (window_tail unit p ps e) ∙ at) pages held))
 
 -- other ports, or other windows, of the same keys are LAN units as well
-pub lan_ports : (lan : LanValue) (ss : List Station) → IsLan lan → map port_key ss ≡ map port_key lan.stations → IsLan (record lan { stations = ss })
-lan_ports lan ss is same = record {
+pub lan_ports : (lan : LanValue) (ss : List Station) → IsLan lan → map port_key ss ≡ map port_key lan.stations
+    → (IsBalanced lan.seats lan.stations lan.frames → IsBalanced lan.seats ss lan.frames) → IsLan (record lan { stations = ss })
+lan_ports lan ss is same balanced = record {
   few = is.few;
   ascending = is.ascending;
   sized = is.sized;
   named = is.named;
   ports = subst (λ keys. HavePorts lan.whole lan.seats keys lan.frames) (sym same) is.ports;
   windows = is.windows;
+  balanced = λ whole. balanced (is.balanced whole);
 }
 
 pub lan_windows : (lan : LanValue) (ps : List Place) → IsLan lan → map window_key ps ≡ map window_key lan.places → IsLan (record lan { places = ps })
@@ -145,4 +148,5 @@ lan_windows lan ps is same = record {
   named = is.named;
   ports = is.ports;
   windows = same ∙ is.windows;
+  balanced = is.balanced;
 }

@@ -17,11 +17,13 @@ use Rattle.lan_switch.specs.Switch.{AreAscending, AtPort, HasRoom, IsPort, MadeA
 use Rattle.vio_trace.specs.declared.lan_rows.FrameRow.{FrameRow}
 use Rattle.lan_script.specs.declared.seat.PortSeat.{PortSeat}
 use Rattle.lan_script.specs.declared.windows.Place.{Place}
-use Rattle.lan_script.specs.Frames.{Owes, with_count}
+use Rattle.lan_script.specs.Frames.{with_count}
+use Rattle.lan_script.specs.Invariant.{IsLan, Owes}
 use Rattle.lan_script.specs.Seats.{seat_at, seat_place}
-use Rattle.lan_script.specs.Units.{HavePorts, IsLan, LanValue, PortKey, WindowKey, port_key, seat_key, window_key}
+use Rattle.lan_script.specs.Units.{HavePorts, LanValue, PortKey, WindowKey, port_key, seat_key, window_key}
 use Rattle.lan_script.specs.Windows.{HasPlace, facts_in, facts_of, place_in, window_in, with_window}
-use Rattle.lan_script.proofs.Called.{SamePort, at_keys, made_keys}
+use Rattle.lan_script.proofs.Balancing.{Sends, station_units}
+use Rattle.lan_script.proofs.Called.{SamePort, at_balance, at_keys}
 use Rattle.lan_script.proofs.Keeping.{frames_long, short_ports}
 use Rattle.lan_script.proofs.Keys.{PortOf, WindowOf, lan_ports, lan_windows, port_of_seat, window_keys_with, window_of}
 use Rattle.lan_script.proofs.Lent.{all_free, away_back, keys_back, shape_units, units_of, with_keys}
@@ -74,11 +76,13 @@ pub lan_made : (lan now : LanValue) (unit : UnitId) (answer : LanAnswer) (ss : L
     → IsSome (seat_at now.seats unit) → MadeAt lan.stations unit answer ss P → ((before after : PortValue) → P before after → SamePort before after)
     → IsLan (record lan { stations = ss })
 lan_made lan now unit answer ss P same is there h kept =
-    lan_ports lan ss is (made_keys lan.stations unit answer ss P kept (port_there lan now unit same is there) h)
+    let made = h.made (port_there lan now unit same is there) in
+    lan_ports lan ss is (at_keys lan.stations unit ss P kept made) (at_balance lan.seats lan.frames lan.stations unit ss P kept made)
 
 pub lan_at : (lan : LanValue) (unit : UnitId) (ss : List Station) (P : PortValue → PortValue → Type 0) → IsLan lan → AtPort lan.stations unit ss P
     → ((before after : PortValue) → P before after → SamePort before after) → IsLan (record lan { stations = ss })
-lan_at lan unit ss P is h kept = lan_ports lan ss is (at_keys lan.stations unit ss P kept h)
+lan_at lan unit ss P is h kept =
+    lan_ports lan ss is (at_keys lan.stations unit ss P kept h) (at_balance lan.seats lan.frames lan.stations unit ss P kept h)
 
 port_head : (unit : UnitId) (s : Station) (ss : List Station) → same_unit s.port.unit unit ≡ true → port_of (s ∷ ss) unit ≡ Some s.port
 port_head unit s ss e = rw e refl
@@ -225,15 +229,15 @@ lent_keys lan unit ps₁ ps₂ ps₃ own own' is at e facts free f place held =
 -- what a send leaves of the ports, whatever it answered
 pub sent_ports : (seats : List PortSeat) (ss ss' : List Station) (frames : List (List FrameRow)) (unit : UnitId) (parts : List ℕ) (is_shared : Bool)
     (Found : ℕ → ℕ → Type 0) (window window' : PortState) (windows : LanWindows) (r : Result SendRecord NoMemory)
-    → HavePorts true seats (map port_key ss) frames
+    → Sends seats ss frames unit → windows.is_shared ≡ false
     → IfOk r (IsSent ss ss' unit parts is_shared Found window window' windows) → OnErr r (FailsToSend ss ss' unit parts window window' windows)
     → HavePorts false seats (map port_key ss') frames
-sent_ports seats ss ss' frames unit parts is_shared Found window window' windows (Ok made) have sent failed =
-    let o = owes seats ss ss' [] frames unit parts is_shared Found window window' windows made have sent in
+sent_ports seats ss ss' frames unit parts is_shared Found window window' windows (Ok made) sends plain sent failed =
+    let o = owes seats ss ss' [] frames unit parts is_shared Found window window' windows made sends plain sent in
     subst (λ keys. HavePorts false seats keys frames) (sym o.counts) (short_ports unit made.frame seats o.keys frames o.kept)
-sent_ports seats ss ss' frames unit parts is_shared Found window window' windows (Err memory) have sent failed =
+sent_ports seats ss ss' frames unit parts is_shared Found window window' windows (Err memory) sends plain sent failed =
     let k = keys_failing ss ss' unit parts window window' windows failed in
-    subst (λ keys. HavePorts false seats keys frames) (sym k.1) (short_ports unit k.0 seats (map port_key ss) frames have)
+    subst (λ keys. HavePorts false seats keys frames) (sym k.1) (short_ports unit k.0 seats (map port_key ss) frames sends.have)
 
 pub sent_untouched : (ss ss' : List Station) (unit : UnitId) (parts : List ℕ) (is_shared : Bool) (Found : ℕ → ℕ → Type 0) (window window' : PortState)
     (windows : LanWindows) (r : Result SendRecord NoMemory) → IfOk r (IsSent ss ss' unit parts is_shared Found window window' windows)
@@ -275,11 +279,11 @@ place_lent unit ps ps₁ ps₂ own at e facts =
 -- a send that was answered is owed
 pub owes_ok : (seats : List PortSeat) (ss ss' : List Station) (places : List Place) (frames : List (List FrameRow)) (unit : UnitId) (parts : List ℕ)
     (is_shared : Bool) (Found : ℕ → ℕ → Type 0) (window window' : PortState) (windows : LanWindows) (r : Result SendRecord NoMemory)
-    → HavePorts true seats (map port_key ss) frames → IfOk r (IsSent ss ss' unit parts is_shared Found window window' windows)
+    → Sends seats ss frames unit → windows.is_shared ≡ false → IfOk r (IsSent ss ss' unit parts is_shared Found window window' windows)
     → IfOk r (Owes (record { seats = seats; stations = ss'; places = places; frames = frames; whole = false }) unit)
-owes_ok seats ss ss' places frames unit parts is_shared Found window window' windows (Ok made) have sent =
-    owes seats ss ss' places frames unit parts is_shared Found window window' windows made have sent
-owes_ok seats ss ss' places frames unit parts is_shared Found window window' windows (Err memory) have sent = tt
+owes_ok seats ss ss' places frames unit parts is_shared Found window window' windows (Ok made) sends plain sent =
+    owes seats ss ss' places frames unit parts is_shared Found window window' windows made sends plain sent
+owes_ok seats ss ss' places frames unit parts is_shared Found window window' windows (Err memory) sends plain sent = tt
 
 pub may_ok : (ss ss' : List Station) (unit : UnitId) (parts : List ℕ) (is_shared : Bool) (Found : ℕ → ℕ → Type 0) (window window' : PortState)
     (windows : LanWindows) (r : Result SendRecord NoMemory) → IfOk r (IsSent ss ss' unit parts is_shared Found window window' windows)
@@ -289,9 +293,16 @@ may_ok ss ss' unit parts is_shared Found window window' windows (Ok made) sent =
 may_ok ss ss' unit parts is_shared Found window window' windows (Err memory) sent = tt
 
 -- where the frames are whole
-pub whole_have : (lan now : LanValue) → lan ≡ now → IsLan lan → now.whole ≡ true → HavePorts true lan.seats (map port_key lan.stations) lan.frames
-whole_have lan now same is whole =
-    subst (λ w. HavePorts w lan.seats (map port_key lan.stations) lan.frames) (ap (λ (l : LanValue). l.whole) same ∙ whole) is.ports
+pub whole_sends : (lan now : LanValue) (unit : UnitId) → lan ≡ now → IsLan lan → now.whole ≡ true → IsSome (seat_at now.seats unit)
+    → Sends lan.seats lan.stations lan.frames unit
+whole_sends lan now unit same is whole there =
+    let full : lan.whole ≡ true = ap (λ (l : LanValue). l.whole) same ∙ whole in
+    record {
+      have = subst (λ w. HavePorts w lan.seats (map port_key lan.stations) lan.frames) full is.ports;
+      balanced = is.balanced full;
+      ascending = subst AreAscending (sym (station_units lan.whole lan.seats lan.stations lan.frames is.ports)) is.ascending;
+      there = subst (λ (l : LanValue). IsSome (seat_at l.seats unit)) (sym same) there;
+    }
 
 -- the place of the frames of a seat
 seat_within : (unit : UnitId) (seats : List PortSeat) → IsSome (seat_at seats unit) → seat_place unit seats < length seats

@@ -1,5 +1,5 @@
 -- The rows of all units keep the law of ports, and stand in a trace's order.
-use Rattle.std.proofs.Common.{◌≡◌, ◌+◌, ◌<◌, ◌≤◌, ℕ, Bool, true, false, All, List, [], ◌∷◌, ◌++◌, inl, Option, Some, None, IsSome, filter, length, map, refl, sym, ◌∙◌, ap, subst}
+use Rattle.std.proofs.Common.{◌≡◌, ◌+◌, ◌^◌, ◌<◌, ◌≤◌, ℕ, arith, Bool, true, false, All, List, [], ◌∷◌, ◌++◌, inl, Option, Some, None, IsSome, filter, if◌then◌else◌, length, map, refl, sym, ◌∙◌, ap, subst}
 use Rattle.std.specs.List.{flat_map}
 use Rattle.std.proofs.lemmas.List.Elements.{All-weaker}
 use Rattle.vio_num.specs.declared.names.UnitId.{UnitId}
@@ -15,12 +15,15 @@ use Rattle.vio_trace.specs.declared.lan_rows.PortRow.{PortRow}
 use Rattle.vio_trace.specs.declared.lan_rows.PostRow.{PostRow}
 use Rattle.lan_script.specs.declared.rows.LanRows.{LanRows}
 use Rattle.lan_script.specs.declared.seat.PortSeat.{PortSeat}
+use Rattle.lan_script.specs.Delivered.{drops_counted, drops_to, given, taken}
+use Rattle.lan_script.specs.Invariant.{IsLan, all_of, drops_at, drops_by, rows_at, rows_in, sent_by, total}
 use Rattle.lan_script.specs.PortLaw.{AreOrdered, IsOfPort, PortsAreLawful}
 use Rattle.lan_script.specs.Rows.{HasLawfulPort, deliver_rows, harvest_rows, port_in, port_or, port_rows, post_rows}
 use Rattle.lan_script.specs.RowsOf.{IsRowsOf}
 use Rattle.lan_script.specs.Seats.{seat_at}
-use Rattle.lan_script.specs.Units.{AreFrames, HavePorts, IsLan, IsLawfulFrame, IsLawfulOffer, LanValue, PortKey, port_key}
+use Rattle.lan_script.specs.Units.{AreFrames, HavePorts, IsLawfulFrame, IsLawfulOffer, LanValue, PortKey, port_key}
 use Rattle.lan_script.proofs.Blocks.{all_from_each, before_other, both_each, each_from_all, of_seats, seats_ordered, self, sole_block}
+use Rattle.lan_script.proofs.Found.{at_unit, counted_total, filter_unit, found, no_port, pick}
 use Rattle.lan_script.proofs.Order.{Each, Ordered, ascends, each_append, each_weaker, ordered_flat}
 use Rattle.lan_script.proofs.Placing.{by_bool}
 use Rattle.lan_script.proofs.RowLaws.{IsFrom, deliveries_are, frames_named, frames_ordered, harvests_are, ports_named, ports_ordered, posts_are}
@@ -263,18 +266,69 @@ in_order lan is = seats_ordered lan.seats is.ascending (each_from_all (λ (seat 
 pub ports_there : (lan : LanValue) → IsLan lan → All (λ (seat : PortSeat). IsPort lan.stations seat.unit) lan.seats
 ports_there lan is = are_ports lan.stations lan.seats (own_ports lan.whole lan.seats lan.stations lan.frames is.ports (in_order lan is))
 
+-- a unit's name
+abbrev unit_in : PortSeat → UnitId
+unit_in seat = seat.unit
+
+-- the deliveries of a unit are its port's, if it has one
+delivers_found : (whole : Bool) (ss : List Station) (seats : List PortSeat) (frames : List (List FrameRow)) (u : UnitId)
+    → HavePorts whole seats (map port_key ss) frames → Each (HasOwn ss) seats → (o : Option PortSeat) → at_unit unit_in u seats ≡ o
+    → found (delivers_by ss) o ≡ rows_at ss u
+delivers_found whole ss seats frames u have own None at = sym (ap (λ o. rows_in u o) (no_port whole u seats ss frames have at))
+delivers_found whole ss seats frames u have own (Some seat) at =
+    let is = pick unit_in (HasOwn ss) u seat seats own at in
+    ap (λ o. deliver_rows seat.unit (port_or seat.unit o)) is.holds.is ∙ sym (ap (λ o. rows_in seat.unit o) is.holds.is)
+    ∙ ap (λ v. rows_at ss v) is.unit_is
+
+-- and so are its drops
+drops_found : (whole : Bool) (ss : List Station) (seats : List PortSeat) (frames : List (List FrameRow)) (u : UnitId)
+    → HavePorts whole seats (map port_key ss) frames → Each (HasOwn ss) seats → (o : Option PortSeat) → at_unit unit_in u seats ≡ o
+    → drops_counted (found (ports_by ss) o) ≡ drops_at ss u
+drops_found whole ss seats frames u have own None at = sym (ap (λ o. drops_by o) (no_port whole u seats ss frames have at))
+drops_found whole ss seats frames u have own (Some seat) at =
+    let is = pick unit_in (HasOwn ss) u seat seats own at in
+    counted_total seat.unit (port_in ss seat).slots 1 (port_in ss seat).drop_counts
+    ∙ ap (λ o. total (port_or seat.unit o).drop_counts) is.holds.is ∙ sym (ap (λ o. drops_by o) is.holds.is)
+    ∙ ap (λ v. drops_at ss v) is.unit_is
+
+-- its frames are those that it sent
+frames_found : (seats : List PortSeat) (frames : List (List FrameRow)) (u : UnitId)
+    → found (λ (x : PortSeat × List FrameRow). x.1) (at_unit (λ (x : PortSeat × List FrameRow). x.0.unit) u (zipped seats frames)) ≡ sent_by seats frames u
+frames_found [] frames u = refl
+frames_found (s ∷ seats) [] u = refl
+frames_found (s ∷ seats) (f ∷ frames) u = by (same_unit s.unit u) (frames_found seats frames u)
+  where
+    by : (b : Bool)
+        → found (λ (x : PortSeat × List FrameRow). x.1) (at_unit (λ (x : PortSeat × List FrameRow). x.0.unit) u (zipped seats frames)) ≡ sent_by seats frames u
+        → found (λ (x : PortSeat × List FrameRow). x.1)
+        (if b then Some (s, f) else at_unit (λ (x : PortSeat × List FrameRow). x.0.unit) u (zipped seats frames)) ≡ (if b then f else sent_by seats frames u)
+    by true rest = refl
+    by false rest = rest
+
+filter_frames : (seats : List PortSeat) (keys : List PortKey) (frames : List (List FrameRow)) (rows : List FrameRow) (u : UnitId) → HavePorts true seats keys frames
+    → rows ≡ all_of frames → Ordered (λ (a b : PortSeat). UnitBefore a.unit b.unit) seats
+    → filter (λ (row : FrameRow). same_unit row.unit u) rows ≡ sent_by seats frames u
+filter_frames seats keys frames rows u have e order =
+    ap (λ l. filter (λ (row : FrameRow). same_unit row.unit u) l) (e ∙ sym (zip_flat true seats keys frames have))
+    ∙ filter_unit (λ (x : PortSeat × List FrameRow). x.0.unit) (λ (row : FrameRow). row.unit) (λ (x : PortSeat × List FrameRow). x.1) u (zipped seats frames)
+    (zip_named seats frames (zip_frames seats keys frames have)) (zip_ordered seats frames order)
+    ∙ frames_found seats frames u
+
 -- The law of ports.
-pub law : (lan : LanValue) (rows : LanRows) → IsLan lan → lan.whole ≡ true → IsRowsOf lan rows → All (HasLawfulPort lan.stations) lan.seats
+pub law : (lan : LanValue) (rows : LanRows) → IsLan lan → lan.whole ≡ true → length rows.frames.items < 2 ^ 64 → IsRowsOf lan rows
+    → All (HasLawfulPort lan.stations) lan.seats
     → PortsAreLawful lan.seats rows.frames.items rows.ports.items rows.posts.items rows.delivers.items rows.harvests.items
-law lan rows is whole exact lawful =
+law lan rows is whole short exact lawful =
     let ss = lan.stations in
     let seats = lan.seats in
     let order = in_order lan is in
     let have = whole_ports lan is whole in
+    let own = own_ports true seats ss lan.frames have order in
+    let balanced = is.balanced whole in
     record {
       of_ports = all_from_each (λ seat. IsOfPort seat rows.ports.items rows.posts.items rows.delivers.items rows.harvests.items) seats
           (of_ports ss seats rows.ports.items rows.posts.items rows.delivers.items rows.harvests.items
-          (own_ports true seats ss lan.frames have order) (each_from_all (HasLawfulPort ss) seats lawful)
+          own (each_from_all (HasLawfulPort ss) seats lawful)
           (soles (λ (row : PortRow). row.unit) (ports_by ss) rows.ports.items seats exact.ports (ports_own ss seats) order)
           (soles (λ (row : PostRow). row.unit) (posts_by ss) rows.posts.items seats exact.posts (posts_own ss seats) order)
           (soles (λ (row : DeliverRow). row.unit) (delivers_by ss) rows.delivers.items seats exact.delivers (delivers_own ss seats) order)
@@ -287,6 +341,20 @@ law lan rows is whole exact lawful =
       own_posts = own_rows (λ (row : PostRow). row.unit) (posts_by ss) seats rows.posts.items exact.posts (posts_own ss seats);
       own_deliveries = own_rows (λ (row : DeliverRow). row.unit) (delivers_by ss) seats rows.delivers.items exact.delivers (delivers_own ss seats);
       own_harvests = own_rows (λ (row : HarvestRow). row.unit) (harvests_by ss) seats rows.harvests.items exact.harvests (harvests_own ss seats);
+      delivered = λ sender receiver.
+          ap (λ l. taken sender l)
+          (ap (λ l. filter (λ (row : DeliverRow). same_unit row.unit receiver) l) exact.delivers
+          ∙ filter_unit unit_in (λ (row : DeliverRow). row.unit) (delivers_by ss) receiver seats (delivers_own ss seats) order
+          ∙ delivers_found true ss seats lan.frames receiver have own (at_unit unit_in receiver seats) refl)
+          ∙ balanced.delivered sender receiver
+          ∙ sym (ap (λ l. given receiver l) (filter_frames seats (map port_key ss) lan.frames rows.frames.items sender have exact.frames order));
+      dropped = λ receiver.
+          ap (λ l. drops_counted l)
+          (ap (λ l. filter (λ (row : PortRow). same_unit row.unit receiver) l) exact.ports
+          ∙ filter_unit unit_in (λ (row : PortRow). row.unit) (ports_by ss) receiver seats (ports_own ss seats) order)
+          ∙ drops_found true ss seats lan.frames receiver have own (at_unit unit_in receiver seats) refl
+          ∙ balanced.dropped receiver (omega (arith, balanced.few receiver, ap (λ (l : List FrameRow). length l) exact.frames, short))
+          ∙ sym (ap (λ l. drops_to receiver l) exact.frames);
     }
 
 -- blocks in order
@@ -336,11 +404,11 @@ pub record IsTold (now : LanValue) (rows : LanRows) : Type 0 where
   pub exact : IsRowsOf now rows
 
 pub told : (lan now : LanValue) (rows : LanRows) (a b c d : List PortSeat) → lan ≡ now → IsLan lan → lan.whole ≡ true
-    → rows.frames.items ≡ flat_map (λ own. own) lan.frames → rows.ports.items ≡ flat_map (ports_by lan.stations) a
+    → length rows.frames.items < 2 ^ 64 → rows.frames.items ≡ flat_map (λ own. own) lan.frames → rows.ports.items ≡ flat_map (ports_by lan.stations) a
     → rows.posts.items ≡ flat_map (posts_by lan.stations) b → rows.delivers.items ≡ flat_map (delivers_by lan.stations) c
     → rows.harvests.items ≡ flat_map (harvests_by lan.stations) d → a ≡ lan.seats → b ≡ lan.seats → c ≡ lan.seats → d ≡ lan.seats
     → All (HasLawfulPort lan.stations) a → IsTold now rows
-told lan now rows a b c d same is whole frames ports posts delivers harvests ea eb ec ed lawful =
+told lan now rows a b c d same is whole short frames ports posts delivers harvests ea eb ec ed lawful =
     let exact : IsRowsOf lan rows = record {
       frames = frames;
       ports = ports ∙ ap (λ l. flat_map (ports_by lan.stations) l) ea;
@@ -350,7 +418,7 @@ told lan now rows a b c d same is whole frames ports posts delivers harvests ea 
     } in
     subst (λ (l : LanValue). IsTold l rows) same
     (record {
-      lawful = law lan rows is whole exact (subst (λ l. All (HasLawfulPort lan.stations) l) ea lawful);
+      lawful = law lan rows is whole short exact (subst (λ l. All (HasLawfulPort lan.stations) l) ea lawful);
       ordered = order lan rows is whole exact;
       exact = exact;
     })

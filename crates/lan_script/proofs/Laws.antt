@@ -2,8 +2,9 @@
 use Rattle.std.proofs.Common.{◌≡◌, Some}
 use Rattle.vio_num.specs.declared.names.UnitId.{UnitId}
 use Rattle.lan_script.specs.declared.seat.PortSeat.{PortSeat}
+use Rattle.lan_script.specs.Invariant.{IsLan}
 use Rattle.lan_script.specs.Seats.{seat_at}
-use Rattle.lan_script.specs.Units.{IsLan, LanValue, window_at}
+use Rattle.lan_script.specs.Units.{LanValue, window_at}
 use Rattle.lan_script.proofs.Keys.{WindowOf, window_of}
 
 -- Each seat has its window: of its pages, and with nothing held.

@@ -1,6 +1,11 @@
+pub mod Answered
+pub mod Balance
+pub mod Balancing
 pub mod Blocks
 pub mod Called
 pub mod Cuts
+pub mod Found
+pub mod Gains
 pub mod Keeping
 pub mod Kept
 pub mod Keys
@@ -15,3 +20,4 @@ pub mod Order
 pub mod Placing
 pub mod RowLaws
 pub mod Sent
+pub mod Tallies

@@ -18,8 +18,10 @@ use Rattle.lan_switch.specs.Switch.{same_unit, station_of, unit_of}
 use Rattle.vio_trace.specs.declared.lan_rows.FrameRow.{FrameRow}
 use Rattle.lan_script.specs.declared.seat.PortSeat.{PortSeat}
 use Rattle.lan_script.specs.declared.windows.Place.{Place}
-use Rattle.lan_script.specs.Frames.{Owes, count_in, frame_row_of, with_count}
+use Rattle.lan_script.specs.Frames.{count_in, frame_row_of, with_count}
+use Rattle.lan_script.specs.Invariant.{IsBalanced, Owes, with_sent}
 use Rattle.lan_script.specs.Units.{HavePorts, IsLawfulFrame, LanValue, PortKey, port_key}
+use Rattle.lan_script.proofs.Balancing.{Sends, balanced_sent}
 use Rattle.lan_script.proofs.Placing.{by_bool, flip}
 use Rattle.lan_script.proofs.Sent.{counted, none_offered, offered_keys, offered_others, row_lawful}
 
@@ -39,20 +41,23 @@ count_is unit (s ∷ ss) =
 
 -- what a record owes that has no number
 owes_none : (lan : LanValue) (unit : UnitId) (r : SendRecord) (keys : List PortKey) → HavePorts true lan.seats keys lan.frames
-    → r.frame ≡ None → map port_key lan.stations ≡ keys → Owes lan unit r
-owes_none lan unit r keys have none same = record {
+    → r.frame ≡ None → map port_key lan.stations ≡ keys → IsBalanced lan.seats lan.stations (with_sent unit r r.frame lan.seats lan.frames)
+    → Owes lan unit r
+owes_none lan unit r keys have none same balanced = record {
   keys = keys;
   kept = have;
   counts = same ∙ ap (λ o. with_count unit o keys) (sym none);
   next = subst (λ o. IfSome o (λ n. n ≡ count_in unit keys + 1)) (sym none) tt;
   lawful = subst (λ o. IfSome o (λ n. IsLawfulFrame unit n (frame_row_of unit n r))) (sym none) tt;
+  balanced = balanced;
 }
 
 owes_frame : (seats : List PortSeat) (ss ss' : List Station) (places : List Place) (frames : List (List FrameRow)) (unit : UnitId) (parts : List ℕ)
     (window window' : PortState) (windows : LanWindows) (r : SendRecord) → HavePorts true seats (map port_key ss) frames
-    → OffersFrame ss ss' unit parts window window' windows r
+    → OffersFrame ss ss' unit parts window window' windows r → windows.is_shared ≡ false
+    → IsBalanced seats ss' (with_sent unit r r.frame seats frames)
     → Owes (record { seats = seats; stations = ss'; places = places; frames = frames; whole = false }) unit r
-owes_frame seats ss ss' places frames unit parts window window' windows r have h = by (is_numbered r.code) refl
+owes_frame seats ss ss' places frames unit parts window window' windows r have h plain balanced = by (is_numbered r.code) refl
   where
     by : (b : Bool) → is_numbered r.code ≡ b
         → Owes (record { seats = seats; stations = ss'; places = places; frames = frames; whole = false }) unit r
@@ -68,25 +73,28 @@ owes_frame seats ss ss' places frames unit parts window window' windows r have h
               ∙ ap (λ o. with_count unit o (map port_key ss)) (sym says.0);
           next = subst (λ o. IfSome o (λ n. n ≡ count_in unit (map port_key ss) + 1)) (sym says.0) (ap (λ n. n + 1) (count_is unit ss));
           lawful = subst (λ o. IfSome o (λ n. IsLawfulFrame unit n (frame_row_of unit n r))) (sym says.0)
-              (row_lawful ss ss' unit (next_number ss unit) h.pieces h.frame windows r h.answered e says.2);
+              (row_lawful ss ss' unit (next_number ss unit) h.pieces h.frame windows r h.answered e says.2 plain);
+          balanced = balanced;
         }
     by false e =
         let says : SaysFrame false (next_number ss unit) h.pieces h.frame r = subst (λ b. SaysFrame b (next_number ss unit) h.pieces h.frame r) e h.answered.says in
         let rest : ss' ≡ h.answered.mid = h.answered.rest ∙ ap (λ b. if b then with_frames unit (next_number ss unit) h.answered.mid else h.answered.mid) e in
         owes_none _ unit r (map port_key ss) have says.0
-        (ap (λ l. map port_key l) rest ∙ offered_keys _ h.answered.out.all ss h.answered.mid r.offers.items h.answered.out.offered)
+        (ap (λ l. map port_key l) rest ∙ offered_keys _ h.answered.out.all ss h.answered.mid r.offers.items h.answered.out.offered) balanced
 
 -- a frame that was sent is owed
 pub owes : (seats : List PortSeat) (ss ss' : List Station) (places : List Place) (frames : List (List FrameRow)) (unit : UnitId) (parts : List ℕ) (is_shared : Bool)
-    (Found : ℕ → ℕ → Type 0) (window window' : PortState) (windows : LanWindows) (r : SendRecord) → HavePorts true seats (map port_key ss) frames
-    → IsSent ss ss' unit parts is_shared Found window window' windows r
+    (Found : ℕ → ℕ → Type 0) (window window' : PortState) (windows : LanWindows) (r : SendRecord) → Sends seats ss frames unit
+    → windows.is_shared ≡ false → IsSent ss ss' unit parts is_shared Found window window' windows r
     → Owes (record { seats = seats; stations = ss'; places = places; frames = frames; whole = false }) unit r
-owes seats ss ss' places frames unit parts is_shared Found window window' windows r have (inl (h, beside)) =
-    owes_none _ unit r (map port_key ss) have h.says.frame (ap (λ l. map port_key l) h.stays)
-owes seats ss ss' places frames unit parts is_shared Found window window' windows r have (inr (inl (h, beside))) =
-    owes_none _ unit r (map port_key ss) have h.says.frame (ap (λ l. map port_key l) h.stays)
-owes seats ss ss' places frames unit parts is_shared Found window window' windows r have (inr (inr h)) =
-    owes_frame seats ss ss' places frames unit parts window window' windows r have h
+owes seats ss ss' places frames unit parts is_shared Found window window' windows r sends plain h =
+    by h (balanced_sent seats ss ss' frames unit parts is_shared Found window window' windows r sends h)
+  where
+    by : IsSent ss ss' unit parts is_shared Found window window' windows r → IsBalanced seats ss' (with_sent unit r r.frame seats frames)
+        → Owes (record { seats = seats; stations = ss'; places = places; frames = frames; whole = false }) unit r
+    by (inl (h, beside)) balanced = owes_none _ unit r (map port_key ss) sends.have h.says.frame (ap (λ l. map port_key l) h.stays) balanced
+    by (inr (inl (h, beside))) balanced = owes_none _ unit r (map port_key ss) sends.have h.says.frame (ap (λ l. map port_key l) h.stays) balanced
+    by (inr (inr h)) balanced = owes_frame seats ss ss' places frames unit parts window window' windows r sends.have h plain balanced
 
 -- the sender's own window is not among those that a send touched
 pub untouched : (ss ss' : List Station) (unit : UnitId) (parts : List ℕ) (is_shared : Bool) (Found : ℕ → ℕ → Type 0) (window window' : PortState)

@@ -1,18 +1,24 @@
 -- Units that were opened: each seat has its port, its window and no frame.
-use Rattle.std.proofs.Common.{◌≡◌, ◌≤◌, ◌<◌, ℕ, suc, arith, Bool, true, All, List, [], ◌∷◌, Some, length, map, replicate, refl, sym, ◌∙◌, ap, subst}
+use Rattle.std.proofs.Common.{◌≡◌, ◌≤◌, ◌<◌, ℕ, suc, arith, Bool, true, false, All, List, [], ◌∷◌, Option, Some, None, IsSome, if◌then◌else◌, length, map, replicate, refl, sym, ◌∙◌, ap, subst}
 use Rattle.std.proofs.lemmas.List.{length-replicate}
 use Rattle.std.proofs.lemmas.List.Elements.{All-map, All-weaker}
 use Rattle.vio_num.specs.declared.names.UnitId.{UnitId}
 use Rattle.tce_window.specs.Window.{blank_page}
 use Rattle.lan_switch.specs.declared.switch.PortPlan.{PortPlan}
-use Rattle.lan_switch.specs.Switch.{AreAscending, opened}
+use Rattle.lan_buffers.specs.Port.{PortValue}
+use Rattle.lan_switch.specs.Switch.{AreAscending, opened, port_of, same_unit}
 use Rattle.vio_trace.specs.declared.lan_rows.FrameRow.{FrameRow}
 use Rattle.lan_script.specs.declared.seat.PortSeat.{PortSeat}
+use Rattle.lan_script.specs.Delivered.{drops_to, given, taken}
+use Rattle.lan_script.specs.Invariant.{HaveBegun, IsBalanced, IsLan, all_of, drops_by, rows_in, sent_by}
 use Rattle.lan_script.specs.Opening.{plan_of, window_of}
 use Rattle.lan_script.specs.Seats.{IsSizedSeat}
 use Rattle.lan_switch.specs.declared.station.Station.{Station}
 use Rattle.lan_script.specs.declared.windows.Place.{Place}
-use Rattle.lan_script.specs.Units.{HavePorts, IsLan, port_key, seat_key, window_key}
+use Rattle.lan_script.specs.Units.{HavePorts, port_key, seat_key, window_key}
+use Rattle.lan_script.proofs.Keys.{port_head, port_tail}
+use Rattle.lan_script.proofs.Placing.{by_bool}
+use Rattle.lan_script.proofs.Tallies.{shut}
 
 pub plan_units : (seats : List PortSeat) → map (λ (plan : PortPlan). plan.unit) (map plan_of seats) ≡ map (λ (seat : PortSeat). seat.unit) seats
 plan_units [] = refl
@@ -38,6 +44,44 @@ fresh_windows (s ∷ seats) =
     ap (λ (n : ℕ). record { unit = s.unit; pages = Some n; held = Some 0 } ∷ map window_key (map window_of seats)) (length-replicate s.pages blank_page)
     ∙ ap (λ l. seat_key s ∷ l) (fresh_windows seats)
 
+-- nothing was sent, delivered or dropped
+fresh_begun : (seats : List PortSeat) → HaveBegun (map opened (map plan_of seats))
+fresh_begun [] = tt
+fresh_begun (s ∷ seats) = ((λ is. absurd (shut None refl is)), fresh_begun seats)
+
+fresh_sent : (seats : List PortSeat) (unit : UnitId) → sent_by seats (map (λ _. []) seats) unit ≡ []
+fresh_sent [] unit = refl
+fresh_sent (s ∷ seats) unit = at (same_unit s.unit unit) (fresh_sent seats unit)
+  where
+    at : (b : Bool) → sent_by seats (map (λ _. []) seats) unit ≡ [] → (if b then [] else sent_by seats (map (λ _. []) seats) unit) ≡ []
+    at true rest = refl
+    at false rest = rest
+
+fresh_all : (seats : List PortSeat) → all_of (map (λ _. []) seats) ≡ []
+fresh_all [] = refl
+fresh_all (s ∷ seats) = fresh_all seats
+
+-- the port of a unit has nothing
+record HasNothing (unit : UnitId) (port : Option PortValue) : Type 0 where
+  pub rows : rows_in unit port ≡ []
+  pub drops : drops_by port ≡ 0
+
+fresh_nothing : (seats : List PortSeat) (unit : UnitId) → HasNothing unit (port_of (map opened (map plan_of seats)) unit)
+fresh_nothing [] unit = record { rows = refl; drops = refl }
+fresh_nothing (s ∷ seats) unit =
+    by_bool (same_unit s.unit unit) (HasNothing unit (port_of (map opened (map plan_of (s ∷ seats))) unit))
+    (λ e. subst (λ o. HasNothing unit o) (sym (port_head unit (opened (plan_of s)) (map opened (map plan_of seats)) e)) (record { rows = refl; drops = refl }))
+    (λ e. subst (λ o. HasNothing unit o) (sym (port_tail unit (opened (plan_of s)) (map opened (map plan_of seats)) e)) (fresh_nothing seats unit))
+
+fresh_balance : (seats : List PortSeat) → IsBalanced seats (map opened (map plan_of seats)) (map (λ _. []) seats)
+fresh_balance seats = record {
+  begun = fresh_begun seats;
+  delivered = λ sender receiver.
+      ap (λ l. taken sender l) (fresh_nothing seats receiver).rows ∙ sym (ap (λ l. given receiver l) (fresh_sent seats sender));
+  few = λ receiver. omega (arith, ap (λ l. drops_to receiver l) (fresh_all seats));
+  dropped = λ receiver less. (fresh_nothing seats receiver).drops ∙ sym (ap (λ l. drops_to receiver l) (fresh_all seats));
+}
+
 -- Units that were opened are LAN units.
 pub open_lan : (seats own : List PortSeat) (ss : List Station) (ps : List Place) (frames : List (List FrameRow)) → own ≡ seats
     → ss ≡ map opened (map plan_of seats) → ps ≡ map window_of seats → frames ≡ map (λ _. []) seats → length seats ≤ 16
@@ -48,4 +92,12 @@ open_lan seats own ss ps frames e f g h few ascending sized named =
     (subst (λ (l : List Station). IsLan (record { seats = seats; stations = l; places = ps; frames = frames; whole = true })) (sym f)
     (subst (λ (l : List Place). IsLan (record { seats = seats; stations = map opened (map plan_of seats); places = l; frames = frames; whole = true })) (sym g)
     (subst (λ (l : List (List FrameRow)). IsLan (record { seats = seats; stations = map opened (map plan_of seats); places = map window_of seats; frames = l; whole = true })) (sym h)
-    (record { few = few; ascending = ascending; sized = sized; named = named; ports = fresh_ports seats; windows = fresh_windows seats }))))
+    (record {
+      few = few;
+      ascending = ascending;
+      sized = sized;
+      named = named;
+      ports = fresh_ports seats;
+      windows = fresh_windows seats;
+      balanced = λ _. fresh_balance seats;
+    }))))

@@ -1,5 +1,5 @@
 -- What a send leaves of the ports, and the row that it makes.
-use Rattle.std.proofs.Common.{◌≡◌, ◌≤◌, ◌+◌, ◌⊎◌, inl, inr, ℕ, suc, arith, Bool, true, false, IsTrue, List, [], ◌∷◌, Option, Some, None, IfSome, All, length, map, option_map, if◌then◌else◌, refl, sym, ◌∙◌, ap, subst}
+use Rattle.std.proofs.Common.{◌≡◌, ◌≤◌, ◌+◌, ◌⊎◌, inl, inr, ℕ, suc, arith, Bool, true, false, true≢false, IsTrue, IsSome, List, [], ◌∷◌, Option, Some, None, IfSome, All, length, map, option_map, if◌then◌else◌, refl, sym, ◌∙◌, ap, subst}
 use Rattle.std.proofs.lemmas.List.Elements.{All-cons, All-nil}
 use Rattle.vio_num.specs.declared.names.UnitId.{UnitId}
 use Rattle.vio_num.specs.declared.hypervisor.Hrc.{Hrc}
@@ -8,7 +8,9 @@ use Rattle.tce_window.specs.declared.piece.Piece.{Piece}
 use Rattle.tce_window.specs.declared.answers.HoldFault.{HoldFault}
 use Rattle.tce_window.specs.declared.answers.HoldFault.TheVariants.{InUse as HeldInUse}
 use Rattle.lan_frame.specs.Station.{IsGroup}
+use Rattle.lan_buffers.specs.Calls.{IsOpen}
 use Rattle.lan_buffers.specs.Port.{PortValue}
+use Rattle.lan_buffers.specs.declared.settings.Settings.{Settings}
 use Rattle.lan_buffers.specs.declared.answers.Deliver.{Deliver}
 use Rattle.lan_buffers.specs.declared.answers.Deliver.TheVariants as sent
 use Rattle.lan_switch.specs.declared.answers.Offer.{Offer}
@@ -20,8 +22,9 @@ use Rattle.vio_trace.specs.declared.lan_rows.FrameRow.{FrameRow}
 use Rattle.vio_trace.specs.declared.lan_rows.OfferRow.{OfferRow}
 use Rattle.vio_trace.specs.declared.lan_rows.Offered.{Offered}
 use Rattle.lan_script.specs.Frames.{frame_row_of, offer_row_of, offered_as, with_count}
-use Rattle.lan_script.specs.Units.{IsLawfulFrame, IsLawfulOffer, IsSingle, PortKey, is_done, one_code, port_key, to_of}
+use Rattle.lan_script.specs.Units.{IsLawfulFrame, IsLawfulOffer, IsSingle, PortKey, is_decided, is_done, one_code, port_key, to_of}
 use Rattle.lan_script.proofs.Placing.{by_bool, flip}
+use Rattle.lan_script.proofs.Tallies.{shut}
 
 -- what a port made of a frame keeps its slots
 offered_slots : (o : Offering) (unit : UnitId) (old new : PortValue) (answer : Deliver) → IsOfferedAt o unit old new answer
@@ -75,6 +78,44 @@ offered_others o false (s ∷ olds) (n ∷ news) offers (inl (answer, later, is,
     (All-cons (IsBeside o.name.who) _ later takes.target.other
     (subst (λ l. All (IsBeside o.name.who) l) (sym rest.0) (All-nil (IsBeside o.name.who))))
 offered_others o all (s ∷ olds) (n ∷ news) offers (inr (passed, rest)) = offered_others o all olds news offers rest
+
+-- an open port without another's hand in its window takes the frame or drops it
+decided_at : (o : Offering) (unit : UnitId) (old new : PortValue) (answer : Deliver) → o.windows.is_shared ≡ false → IsOfferedAt o unit old new answer
+    → (answer ≡ sent.NoMemory → ⊥) → IsOpen old → is_decided (offered_as answer) ≡ true
+decided_at o unit old new (sent.Done post) plain h not opened = refl
+decided_at o unit old new (sent.Ungranted post fault) plain h not opened = refl
+decided_at o unit old new sent.NoSize plain h not opened = refl
+decided_at o unit old new sent.NoBuffer plain h not opened = refl
+decided_at o unit old new (sent.Turn word) plain h not opened = absurd h.plain
+decided_at o unit old new (sent.InUse page word) plain h not opened = absurd (true≢false (sym h.in_use.in_use.shared ∙ plain))
+decided_at o unit old new (sent.Closed control) plain h not opened =
+    absurd (shut old.settings (h.closed.0 (ap (λ (n : ℕ). sent.Closed n) h.plain)) opened)
+decided_at o unit old new sent.NoMemory plain h not opened = absurd (not refl)
+
+-- an offer that was decided
+abbrev pub IsDecided : Offer → Type 0
+IsDecided offer = is_decided (offered_as offer.answer) ≡ true
+
+takes_decided : (o : Offering) (old new : Station) (answer : Deliver) → o.windows.is_shared ≡ false → Takes o old new answer
+    → is_decided (offered_as answer) ≡ true
+takes_decided o old new answer plain h =
+    decided_at o (unit_of old) old.port new.port answer plain h.offered h.memory
+    (subst (λ (s : Option Settings). IsSome s) (sym h.target.accepts.shown) refl)
+
+-- each offer was decided
+pub offered_decided : (o : Offering) (all : Bool) (old new : List Station) (offers : List Offer) → o.windows.is_shared ≡ false
+    → AreOffered o all old new offers → All IsDecided offers
+offered_decided o all [] [] offers plain h = subst (λ l. All IsDecided l) (sym h) (All-nil IsDecided)
+offered_decided o all [] (n ∷ news) offers plain h = absurd h
+offered_decided o all (s ∷ olds) [] offers plain h = absurd h
+offered_decided o true (s ∷ olds) (n ∷ news) offers plain (inl (answer, later, is, takes, rest)) =
+    subst (λ l. All IsDecided l) (sym is)
+    (All-cons IsDecided _ later (takes_decided o s n answer plain takes) (offered_decided o true olds news later plain rest))
+offered_decided o false (s ∷ olds) (n ∷ news) offers plain (inl (answer, later, is, takes, rest)) =
+    subst (λ l. All IsDecided l) (sym is)
+    (All-cons IsDecided _ later (takes_decided o s n answer plain takes)
+    (subst (λ l. All IsDecided l) (sym rest.0) (All-nil IsDecided)))
+offered_decided o all (s ∷ olds) (n ∷ news) offers plain (inr (passed, rest)) = offered_decided o all olds news offers plain rest
 
 -- a frame to one station has at most one offer
 pub offered_few : (o : Offering) (old new : List Station) (offers : List Offer) → AreOffered o false old new offers → length offers ≤ 1
@@ -130,19 +171,21 @@ rows_few unit number [] = refl
 rows_few unit number (offer ∷ offers) = ap suc (rows_few unit number offers)
 
 rows_others : (unit : UnitId) (number : ℕ) (frame : FrameRow) (offers : List Offer) → frame.unit ≡ unit → frame.number ≡ number
-    → All (IsBeside unit) offers → All (IsLawfulOffer frame) (map (offer_row_of unit number) offers)
-rows_others unit number frame [] e f h = All-nil (IsLawfulOffer frame)
-rows_others unit number frame (offer ∷ offers) e f h =
+    → All (IsBeside unit) offers → All IsDecided offers → All (IsLawfulOffer frame) (map (offer_row_of unit number) offers)
+rows_others unit number frame [] e f h d = All-nil (IsLawfulOffer frame)
+rows_others unit number frame (offer ∷ offers) e f h d =
     All-cons (IsLawfulOffer frame) (offer_row_of unit number offer) (map (offer_row_of unit number) offers) (record {
       named = record { unit = sym e; number = sym f };
       other = subst (λ (u : UnitId). same_unit offer.unit u ≡ false) (sym e) (h 0 offer (omega arith));
-    }) (rows_others unit number frame offers e f (λ k d less. h (suc k) d (omega (arith, less))))
+      decided = d 0 offer (omega arith);
+    })
+    (rows_others unit number frame offers e f (λ k x less. h (suc k) x (omega (arith, less))) (λ k x less. d (suc k) x (omega (arith, less))))
 
 -- The row of a frame that was answered is lawful.
 pub row_lawful : (old new : List Station) (unit : UnitId) (number : ℕ) (pieces : List Piece) (frame : List ℕ) (windows : LanWindows) (r : SendRecord)
     → (h : AnswersFrame old new (record { who = unit; mark = number }) pieces frame windows r) → is_numbered r.code ≡ true
-    → r.bytes ≡ frame → IsLawfulFrame unit number (frame_row_of unit number r)
-row_lawful old new unit number pieces frame windows r h numbered bytes =
+    → r.bytes ≡ frame → windows.is_shared ≡ false → IsLawfulFrame unit number (frame_row_of unit number r)
+row_lawful old new unit number pieces frame windows r h numbered bytes plain =
     let row = frame_row_of unit number r in
     let to_is : to_of row ≡ sent_to frame = ap (λ b. sent_to b) bytes in
     record {
@@ -152,7 +195,8 @@ row_lawful old new unit number pieces frame windows r h numbered bytes =
           h.code
           ∙ all_code h.out.all (h.out.group.1 (subst IsGroup to_is group));
       one = λ single. one_of h.out.all refl (λ e. single (subst IsGroup (sym to_is) (h.out.group.0 e)));
-      offers = rows_others unit number row r.offers.items refl refl (offered_others _ h.out.all old h.mid r.offers.items h.out.offered);
+      offers = rows_others unit number row r.offers.items refl refl (offered_others _ h.out.all old h.mid r.offers.items h.out.offered)
+          (offered_decided _ h.out.all old h.mid r.offers.items plain h.out.offered);
     }
   where
     all_code : (all : Bool) → IsTrue all → (if all then Success else sent_code r.offers.items) ≡ Success

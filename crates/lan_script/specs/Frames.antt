@@ -66,11 +66,3 @@ with_count unit (Some n) (key ∷ keys) =
 abbrev pub count_in : UnitId → List PortKey → ℕ
 count_in unit [] = 0
 count_in unit (key ∷ keys) = if same_unit key.unit unit then key.frames else count_in unit keys
-
--- The frame of this record is the unit's next, and all frames before it are kept.
-pub record Owes (lan : LanValue) (unit : UnitId) (r : SendRecord) : Type 0 where
-  pub keys : List PortKey
-  pub kept : HavePorts true lan.seats keys lan.frames
-  pub counts : map port_key lan.stations ≡ with_count unit r.frame keys
-  pub next : IfSome r.frame (λ n. n ≡ count_in unit keys + 1)
-  pub lawful : IfSome r.frame (λ n. IsLawfulFrame unit n (frame_row_of unit n r))

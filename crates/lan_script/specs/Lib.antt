@@ -1,4 +1,6 @@
+pub mod Delivered
 pub mod Frames
+pub mod Invariant
 pub mod LineFrame
 pub mod Opening
 pub mod PortLaw

@@ -1,5 +1,5 @@
 -- The law of the rows that a trace has of LAN units: of each unit they are those of a lawful port, in whose sessions no posted
--- buffer took two frames; and its frames are numbered without a gap.
+-- buffer took two frames; its frames are numbered without a gap; and its deliveries and drops are those that the offers say.
 use Rattle.std.specs.Prelude.{◌≡◌, ◌+◌, ◌==◌, ◌≤◌, ◌<◌, ℕ, true, All, List, IsSome, filter, length, map}
 use Rattle.vio_num.specs.declared.names.UnitId.{UnitId}
 use Rattle.lan_buffers.specs.Port.{IsLawfulPort, PortValue}
@@ -12,6 +12,7 @@ use Rattle.vio_trace.specs.declared.lan_rows.PortRow.{PortRow}
 use Rattle.vio_trace.specs.declared.lan_rows.PostRow.{PostRow}
 use Rattle.lan_script.specs.declared.rows.LanRows.{LanRows}
 use Rattle.lan_script.specs.declared.seat.PortSeat.{PortSeat}
+use Rattle.lan_script.specs.Delivered.{drops_counted, drops_to, given, taken}
 use Rattle.lan_script.specs.Rows.{deliver_rows, harvest_rows, port_rows, post_rows}
 use Rattle.lan_script.specs.Seats.{seat_at}
 use Rattle.lan_script.specs.Units.{AreFrames}
@@ -39,6 +40,9 @@ pub record PortsAreLawful (seats : List PortSeat) (frames : List FrameRow) (port
   pub own_posts : AreOfSeats seats (λ row. row.unit) posts
   pub own_deliveries : AreOfSeats seats (λ row. row.unit) delivers
   pub own_harvests : AreOfSeats seats (λ row. row.unit) harvests
+  pub delivered : (sender receiver : UnitId) → taken sender (filter (λ row. same_unit row.unit receiver) delivers)
+      ≡ given receiver (filter (λ row. same_unit row.unit sender) frames)
+  pub dropped : (receiver : UnitId) → drops_counted (filter (λ row. same_unit row.unit receiver) ports) ≡ drops_to receiver frames
 
 -- The rows stand in the order of a trace.
 pub record AreOrdered (rows : LanRows) : Type 0 where

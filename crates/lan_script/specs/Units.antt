@@ -79,10 +79,19 @@ pub record IsSingle (frame : FrameRow) : Type 0 where
   pub few : length frame.offers ≤ 1
   pub code_is : frame.code ≡ one_code frame.offers
 
--- An offer names its frame, and another unit than the sender.
+-- whether a port took the frame or dropped it
+abbrev pub is_decided : Offered → Bool
+is_decided offers.Done = true
+is_decided offers.Ungranted = true
+is_decided offers.NoSize = true
+is_decided offers.NoBuffer = true
+is_decided _ = false
+
+-- An offer names its frame, and another unit than the sender, whose port took the frame or dropped it.
 pub record IsLawfulOffer (frame : FrameRow) (offer : OfferRow) : Type 0 where
   pub named : IsOfferOf frame offer
   pub other : same_unit offer.port frame.unit ≡ false
+  pub decided : is_decided offer.offered ≡ true
 
 -- whom a frame is for
 abbrev pub to_of : FrameRow → Mac
@@ -117,12 +126,3 @@ HavePorts whole [] [] [] = Unit {0}
 HavePorts whole (seat ∷ seats) (key ∷ keys) (own ∷ frames) =
     (HasPort seat key × (whole ≡ true → HasFrames key own)) × HavePorts whole seats keys frames
 HavePorts whole _ _ _ = ⊥
-
--- What LAN units are at any time.
-pub record IsLan (lan : LanValue) : Type 0 where
-  pub few : length lan.seats ≤ 16
-  pub ascending : AreAscending (map (λ seat. seat.unit) lan.seats)
-  pub sized : All IsSizedSeat lan.seats
-  pub named : All (λ seat. seat.unit.unit < 256) lan.seats
-  pub ports : HavePorts lan.whole lan.seats (map port_key lan.stations) lan.frames
-  pub windows : map window_key lan.places ≡ map seat_key lan.seats

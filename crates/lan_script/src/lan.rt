@@ -30,7 +30,8 @@ pub struct Lan {
 
 impl Model for Lan {
     ghost use Rattle.std.specs.Prelude.{map};
-    ghost use Rattle.lan_script.specs.Units.{IsLan, LanValue};
+    ghost use Rattle.lan_script.specs.Invariant.{IsLan};
+    ghost use Rattle.lan_script.specs.Units.{LanValue};
 
     ghost Value = { LanValue };
 

@@ -18,6 +18,3 @@ pub use lan::Lan;
 pub use lines::PortStep;
 pub use rows::LanRows;
 pub use seat::PortSeat;
-
-#[cfg(test)]
-mod tests;

@@ -3,8 +3,8 @@ ghost use Rattle.std.specs.Prelude.{◌≡◌, ◌≤◌, ◌-◌, IfOk, IsSome,
 ghost use Rattle.boot_text.specs.declared.port_script.TheConstants.{LEAST_FRAME, MOST_FRAME};
 ghost use Rattle.hcall_table.specs.Rows.{may_answer};
 ghost use Rattle.hcall_table.specs.declared.hcall.Hcall.TheVariants as rows;
+ghost use Rattle.lan_script.specs.Invariant.{Owes};
 ghost use Rattle.lan_script.specs.Seats.{TellsOfPort, seat_at};
-ghost use Rattle.lan_script.specs.Frames.{Owes};
 ghost use Rattle.lan_script.specs.LineFrame.{line_frame};
 
 use crate::frames::frame_row;

@@ -1,4 +1,4 @@
-use Rattle.std.proofs.Common.{◌≡◌, ◌∙◌, All, List, sym, subst}
+use Rattle.std.proofs.Common.{◌≡◌, ◌∙◌, All, List, arith, sym, subst}
 use Rattle.lan_switch.specs.Switch.{IsPort}
 use Rattle.lan_script.specs.declared.seat.PortSeat.{PortSeat}
 use Rattle.lan_script.proofs.Lawful.{flat_mapped, ports_there, told}
@@ -30,7 +30,7 @@ returns-clause-law c =
       delivers = c.in_ok-delivered_rows.field-0;
       harvests = c.in_ok-harvested_rows.field-0;
     }) c.deref.result.now c.deref-2.result.now c.deref-3.result.now c.deref-4.result.now c.self.view_is c.self.invariant
-    c.if-not-whole.false
+    c.if-not-whole.false (omega (arith, c.in_ok-all_frames.field-0.ok.0))
     (c.in_ok-all_frames.ensures ∙ flat_mapped (λ rows. rows.items) c.self.inside.frames.items) c.in_ok-session_rows.ensures.rows
     c.in_ok-posted_rows.ensures c.in_ok-delivered_rows.ensures c.in_ok-harvested_rows.ensures c.deref.ensures.value c.deref-2.ensures.value
     c.deref-3.ensures.value c.deref-4.ensures.value c.in_ok-session_rows.ensures.lawful).lawful
@@ -45,7 +45,7 @@ returns-clause-order c =
       delivers = c.in_ok-delivered_rows.field-0;
       harvests = c.in_ok-harvested_rows.field-0;
     }) c.deref.result.now c.deref-2.result.now c.deref-3.result.now c.deref-4.result.now c.self.view_is c.self.invariant
-    c.if-not-whole.false
+    c.if-not-whole.false (omega (arith, c.in_ok-all_frames.field-0.ok.0))
     (c.in_ok-all_frames.ensures ∙ flat_mapped (λ rows. rows.items) c.self.inside.frames.items) c.in_ok-session_rows.ensures.rows
     c.in_ok-posted_rows.ensures c.in_ok-delivered_rows.ensures c.in_ok-harvested_rows.ensures c.deref.ensures.value c.deref-2.ensures.value
     c.deref-3.ensures.value c.deref-4.ensures.value c.in_ok-session_rows.ensures.lawful).ordered
@@ -60,7 +60,7 @@ returns-clause-exact c =
       delivers = c.in_ok-delivered_rows.field-0;
       harvests = c.in_ok-harvested_rows.field-0;
     }) c.deref.result.now c.deref-2.result.now c.deref-3.result.now c.deref-4.result.now c.self.view_is c.self.invariant
-    c.if-not-whole.false
+    c.if-not-whole.false (omega (arith, c.in_ok-all_frames.field-0.ok.0))
     (c.in_ok-all_frames.ensures ∙ flat_mapped (λ rows. rows.items) c.self.inside.frames.items) c.in_ok-session_rows.ensures.rows
     c.in_ok-posted_rows.ensures c.in_ok-delivered_rows.ensures c.in_ok-harvested_rows.ensures c.deref.ensures.value c.deref-2.ensures.value
     c.deref-3.ensures.value c.deref-4.ensures.value c.in_ok-session_rows.ensures.lawful).exact

@@ -1,8 +1,8 @@
-use Rattle.std.proofs.Common.{◌≡◌, ◌∙◌, ℕ, true, false, map, sym}
+use Rattle.std.proofs.Common.{◌≡◌, ◌∙◌, ℕ, true, false, map, refl, sym}
 use Rattle.tce_window.specs.PlainPort.{known_of}
 use Rattle.lan_switch.specs.Sending.{LanWindows, windows_of}
 use Rattle.lan_script.specs.Windows.{FoundIn, facts_in}
-use Rattle.lan_script.proofs.Lans.{lent_keys, may_ok, others_free, owes_ok, place_lent, sent_ports, sent_untouched, whole_have, window_free, window_there}
+use Rattle.lan_script.proofs.Lans.{lent_keys, may_ok, others_free, owes_ok, place_lent, sent_ports, sent_untouched, whole_sends, window_free, window_there}
 use Rattle.lan_script.proofs.lan.Lan.offer.Goals as goal
 
 abbrev none_found : ℕ → ℕ → Type 0
@@ -30,7 +30,7 @@ put-requires-clause-place c =
 pub invariant_of-self : goal.invariant_of-self
 invariant_of-self c =
     let windows : LanWindows = windows_of false facts_in FoundIn c.take-own.new.self c.send-answer.new.others in
-    let have = whole_have _ c.args.self.now c.self.view_is c.self.invariant c.requires.whole in
+    let sends = whole_sends _ c.args.self.now c.args.unit c.self.view_is c.self.invariant c.requires.whole c.requires.there in
     let free = window_free _ c.args.self.now c.args.unit c.take-own.result c.self.view_is c.self.invariant c.requires.there c.take-own.ensures.window in
     record {
       few = c.self.invariant.few;
@@ -38,7 +38,7 @@ invariant_of-self c =
       sized = c.self.invariant.sized;
       named = c.self.invariant.named;
       ports = sent_ports c.self.inside.seats.items c.self.inside.switch c.send-answer.new.self (map (λ rows. rows.items) c.self.inside.frames.items) c.args.unit
-          c.args.parts.now false none_found (known_of c.take-own.result) (known_of c.send-answer.new.window) windows c.send-answer.result have
+          c.args.parts.now false none_found (known_of c.take-own.result) (known_of c.send-answer.new.window) windows c.send-answer.result sends refl
           c.send-answer.ensures.sent c.send-answer.ensures.failed;
       windows = lent_keys _ c.args.unit c.take-own.new.self c.send-answer.new.others c.put.new.self c.take-own.result c.send-answer.new.window
           c.self.invariant c.take-own.ensures.window c.take-own.ensures.rest
@@ -46,6 +46,7 @@ invariant_of-self c =
           (known_of c.send-answer.new.window) windows c.send-answer.result c.send-answer.ensures.sent c.send-answer.ensures.failed)
           c.send-answer.ensures.others c.put.ensures c.send-answer.ensures.window.rest.place (c.send-answer.ensures.window.free ∙ sym free)
           ∙ c.self.invariant.windows;
+      balanced = λ whole. absurd (cc (whole));
     }
 
 pub returns-clause-owes : goal.returns-clause-owes
@@ -53,4 +54,4 @@ returns-clause-owes c =
     owes_ok c.self.inside.seats.items c.self.inside.switch c.send-answer.new.self c.put.new.self (map (λ rows. rows.items) c.self.inside.frames.items)
     c.args.unit c.args.parts.now false none_found (known_of c.take-own.result) (known_of c.send-answer.new.window)
     (windows_of false facts_in FoundIn c.take-own.new.self c.send-answer.new.others) c.send-answer.result
-    (whole_have _ c.args.self.now c.self.view_is c.self.invariant c.requires.whole) c.send-answer.ensures.sent
+    (whole_sends _ c.args.self.now c.args.unit c.self.view_is c.self.invariant c.requires.whole c.requires.there) refl c.send-answer.ensures.sent
