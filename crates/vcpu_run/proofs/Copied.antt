@@ -38,7 +38,7 @@ use Rattle.vcpu_run.specs.RunLaw.{ArePlaced, AreVersions, CopiesAreLawful, IsBet
 use Rattle.vcpu_run.specs.Units.{seats_of, unit_seat}
 use Rattle.vcpu_run.specs.Shown.{pages_at, puts_into, strokes_on, window_shown}
 use Rattle.vcpu_run.specs.Windows.{rows_from, rows_of_entry, rows_on, stroke_row, strokes_in_rows, values_from, values_in_rows}
-use Rattle.vcpu_run.proofs.Blocks.{entry_named, first_versions, pages_named, strokes_placed, values_named, IsOfEntry, IsOfWindow, IsOnPage}
+use Rattle.vcpu_run.proofs.Blocks.{entry_named, first_versions, strokes_placed, IsOfEntry}
 use Rattle.vcpu_run.proofs.Following.{each_from_all}
 use Rattle.vcpu_run.proofs.Marked.{strokes_made}
 use Rattle.vcpu_run.proofs.Order.{Each, Ordered, each_append, each_flat, each_weaker}
@@ -222,6 +222,15 @@ seat_shown partitions pairs scripts lan rows history grants copies order seated 
     (λ entry. filter_both put (λ row. row.entry == entry) trace.tces ∙ ap (filter (λ row. row.entry == entry)) own_values ∙ entry_shown seat.unit window entry law.numbered)
     (λ page. filter_both laid (λ row. row.page == page) trace.strokes ∙ ap (filter (λ row. row.page == page)) own_marks ∙ page_shown seat.unit window page)
 
+pub windows_shown : (pairs : List Pair) (scripts : List Script) (lan : LanValue) (rows : LanRows) (history : List Served) (grants : List Grant) (copies : List CopyRecord) (partitions : List Partition)
+    → AreOfOneHome copies pairs → AreScripts pairs lan.seats scripts → All (HasLawfulWindow pairs lan) (seats_of scripts) → IsOfPlan partitions pairs scripts lan.seats
+    → (seat : UnitSeat) (window : WindowValue) → IsIn seat (seats_of scripts) → window_at pairs lan seat ≡ Some window
+    → SideGrows (side_of (known_of window)) (window_shown partitions (trace_of pairs scripts lan rows history grants copies) seat.unit)
+windows_shown pairs scripts lan rows history grants copies partitions are are' windows plan =
+    let seats = seats_of scripts in
+    let lawful = each_from_all (HasLawfulWindow pairs lan) seats windows in
+    seat_shown partitions pairs scripts lan rows history grants copies (seats_ordered pairs lan.seats scripts are') (all_seated partitions pairs scripts lan copies are are' plan lawful) lawful
+
 -- each copy is lawful
 
 still_lawful : (copy : CopyRecord) (client client' own own' : Side) (from to : ℕ) → SideGrows client client' → SideGrows own own'
@@ -229,7 +238,7 @@ still_lawful : (copy : CopyRecord) (client client' own own' : Side) (from to : �
 still_lawful copy client client' own own' from to client_grows own_grows (inl h) = inl (lawful_stays copy client client' from own own' to client_grows own_grows h)
 still_lawful copy client client' own own' from to client_grows own_grows (inr h) = inr (lawful_stays copy own own' from client client' to own_grows client_grows h)
 
-copies_each : (P : CopyRow → Type 0) (Q : CopyRecord → Type 0) (unit : UnitId) → ((copy : CopyRecord) → Q copy → copy.name.who ≡ unit → P (copy_row copy))
+pub copies_each : (P : CopyRow → Type 0) (Q : CopyRecord → Type 0) (unit : UnitId) → ((copy : CopyRecord) → Q copy → copy.name.who ≡ unit → P (copy_row copy))
     → (copies : List CopyRecord) → Each Q copies → Each P (copies_by unit copies)
 copies_each P Q unit step [] all = tt
 copies_each P Q unit step (copy ∷ copies) all = at (same_unit copy.name.who unit) refl (copies_each P Q unit step copies all.1)
@@ -294,7 +303,7 @@ copies_are pairs scripts lan rows history grants copies partitions are are' wind
     let seated = all_seated partitions pairs scripts lan copies are are' plan lawful in
     record {
       each = all_from_each (IsLawfulCopy partitions trace) trace.copies
-          (all_copies partitions pairs scripts lan rows history grants copies are are' plan (seat_shown partitions pairs scripts lan rows history grants copies order seated lawful));
+          (all_copies partitions pairs scripts lan rows history grants copies are are' plan (windows_shown pairs scripts lan rows history grants copies partitions are are' windows plan));
       strokes = all_from_each (LiesInRegion partitions) trace.strokes
           (each_flat (LiesInRegion partitions) (marks_at pairs lan) seats
           (each_two (IsSeated partitions pairs lan) (HasLawfulWindow pairs lan) (λ seat. Each (LiesInRegion partitions) (marks_at pairs lan seat))

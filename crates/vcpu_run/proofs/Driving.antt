@@ -84,6 +84,8 @@ drives_same pair = record {
   driver = goes_same pair.window pair.driver;
   laid = λ p. own_same pair.window.unit (strokes_at pair.window.pages p);
   server_registered = refl;
+  server_session = refl;
+  server_taken = refl;
   alone = alone_same pair.driver (link_side pair.link false).registered;
 }
 
@@ -103,6 +105,8 @@ drives_on a b c first next = record {
   laid = λ p. own_then a.window.unit (strokes_at a.window.pages p) (strokes_at b.window.pages p) (strokes_at c.window.pages p) (first.laid p)
       (subst (λ unit. LaysOwnOn unit (strokes_at b.window.pages p) (strokes_at c.window.pages p)) first.unit (next.laid p));
   server_registered = next.server_registered ∙ first.server_registered;
+  server_session = next.server_session ∙ first.server_session;
+  server_taken = next.server_taken ∙ first.server_taken;
   alone = alone_on _ _ _ a.window b.window a.driver b.driver first.driver first.alone next.alone;
 }
 

@@ -1,7 +1,8 @@
 -- How the units of scripts come to wait, script by script and server unit by server unit.
-use Rattle.std.proofs.Common.{◌≡◌, ◌≢◌, ◌∙◌, ◌⊎◌, inl, inr, ℕ, ◌+◌, ◌<◌, ◌≤◌, zero, suc, Bool, true, false, All, List, [], ◌∷◌, Option, Some, None, IsSomeAnd, length, map, slice_get, slice_set, refl, sym, ap, subst, arith}
+use Rattle.std.proofs.Common.{◌≡◌, ◌≢◌, ◌∙◌, ◌⊎◌, inl, inr, ℕ, ◌+◌, ◌<◌, ◌≤◌, suc, Bool, true, false, All, List, [], ◌∷◌, Option, Some, IsSomeAnd, length, slice_get, slice_set, refl, sym, ap, subst, arith}
 use Rattle.std.specs.Option.{option_map}
 use Rattle.std.proofs.lemmas.Option.{slice_get-map, slice_get_within}
+use Rattle.block_server.specs.declared.unit.Unit.{Unit}
 use Rattle.vcpu_run.specs.declared.pair.Pair.{Pair}
 use Rattle.vcpu_run.specs.declared.script.Script.{Script}
 use Rattle.vcpu_run.specs.declared.unit_seat.Seat.{Seat}
@@ -21,23 +22,28 @@ links_elsewhere : (pairs pairs' : List Pair) (k : ℕ) → slice_get pairs' k �
 links_elsewhere pairs pairs' k same =
     slice_get-map (λ (q : Pair). link_state q.link) pairs' k ∙ (ap (option_map (λ (q : Pair). link_state q.link)) same ∙ sym (slice_get-map (λ (q : Pair). link_state q.link) pairs k))
 
-pub serves_next : (pairs pairs' : List Pair) (n : ℕ) → ((k : ℕ) → k ≢ n → slice_get pairs' k ≡ slice_get pairs k)
-    → IsSomeAnd (slice_get (links_of pairs') n) ServerWaits
-    → ((k : ℕ) (link : LinkState) → k < n → slice_get (links_of pairs) k ≡ Some link → ServerWaits link)
-    → (k : ℕ) (link : LinkState) → k < n + 1 → slice_get (links_of pairs') k ≡ Some link → ServerWaits link
-serves_next pairs pairs' n else here before k link less found = at (same_or k n)
+pub serves_next : (pairs pairs' : List Pair) (units units' : List Unit) (n : ℕ) → ((k : ℕ) → k ≢ n → slice_get pairs' k ≡ slice_get pairs k)
+    → ((k : ℕ) → k ≢ n → slice_get units' k ≡ slice_get units k)
+    → IsSomeAnd (slice_get (links_of pairs') n) (ServerWaits (slice_get units' n))
+    → ((k : ℕ) (link : LinkState) → k < n → slice_get (links_of pairs) k ≡ Some link → ServerWaits (slice_get units k) link)
+    → (k : ℕ) (link : LinkState) → k < n + 1 → slice_get (links_of pairs') k ≡ Some link → ServerWaits (slice_get units' k) link
+serves_next pairs pairs' units units' n else others here before k link less found = at (same_or k n)
   where
-    at : (k ≡ n) ⊎ (k ≢ n) → ServerWaits link
-    at (inl e) = held_is ServerWaits (slice_get (links_of pairs') k) link found (subst (λ m. IsSomeAnd (slice_get (links_of pairs') m) ServerWaits) (sym e) here)
-    at (inr apart) = before k link (omega (arith, less, apart)) (sym (links_elsewhere pairs pairs' k (else k apart)) ∙ found)
+    at : (k ≡ n) ⊎ (k ≢ n) → ServerWaits (slice_get units' k) link
+    at (inl e) =
+        held_is (ServerWaits (slice_get units' k)) (slice_get (links_of pairs') k) link found
+        (subst (λ m. IsSomeAnd (slice_get (links_of pairs') m) (ServerWaits (slice_get units' m))) (sym e) here)
+    at (inr apart) =
+        subst (λ (o : Option Unit). ServerWaits o link) (sym (others k apart))
+        (before k link (omega (arith, less, apart)) (sym (links_elsewhere pairs pairs' k (else k apart)) ∙ found))
 
 links_length : (pairs : List Pair) → length (links_of pairs) ≡ length pairs
 links_length [] = refl
 links_length (p ∷ ps) = ap suc (links_length ps)
 
-pub serves_all : (pairs : List Pair) (n : ℕ) → length pairs ≤ n
-    → ((k : ℕ) (link : LinkState) → k < n → slice_get (links_of pairs) k ≡ Some link → ServerWaits link) → ServersWait (links_of pairs)
-serves_all pairs n all wait k link found =
+pub serves_all : (pairs : List Pair) (units : List Unit) (n : ℕ) → length pairs ≤ n
+    → ((k : ℕ) (link : LinkState) → k < n → slice_get (links_of pairs) k ≡ Some link → ServerWaits (slice_get units k) link) → ServersWait units (links_of pairs)
+serves_all pairs units n all wait k link found =
     let less = slice_get_within (links_of pairs) k link found in
     let size = links_length pairs in
     wait k link (omega (arith, less, size, all)) found
@@ -58,10 +64,11 @@ seats_run scripts scripts' n old script run before after =
     let runs : OnlyRuns old script = held_is (OnlyRuns old) (slice_get scripts' n) script after (run.each n old before) in
     rw runs.seats refl
 
-pub rests_servers : (scripts : List Script) (n : ℕ) (here : Script) (old new : List Pair) → slice_get scripts n ≡ Some here → are_servers here.seats.items ≡ true
-    → ServersWait (links_of new) → RestsAt n scripts old new
-rests_servers scripts n here old new there is wait = record {
+pub rests_servers : (scripts : List Script) (n : ℕ) (here : Script) (units units' : List Unit) (old new : List Pair) → slice_get scripts n ≡ Some here → are_servers here.seats.items ≡ true
+    → ServersWait units' (links_of new) → RestsAt n scripts units units' old new
+rests_servers scripts n here units units' old new there is wait = record {
   servers = λ script found of. wait;
+  same = λ script found other. absurd (both_bools (are_servers script.seats.items) (of_here script found) other);
   clients = λ script found other. absurd (both_bools (are_servers script.seats.items) (of_here script found) other);
 }
   where
@@ -69,24 +76,25 @@ rests_servers scripts n here old new there is wait = record {
     of_here script found = held_is (λ (s : Script). are_servers s.seats.items ≡ true) (slice_get scripts n) script found
         (is_held (λ (s : Script). are_servers s.seats.items ≡ true) (slice_get scripts n) here there is)
 
-pub rests_clients : (scripts scripts' : List Script) (n : ℕ) (here : Script) (old new : List Pair) → AllRun scripts scripts' → slice_get scripts n ≡ Some here
-    → are_servers here.seats.items ≡ false → IsSomeAnd (slice_get scripts' n) (λ script. SeatsRest script.seats.items old new) → RestsAt n scripts' old new
-rests_clients scripts scripts' n here old new run there other rests = record {
+pub rests_clients : (scripts scripts' : List Script) (n : ℕ) (here : Script) (units : List Unit) (old new : List Pair) → AllRun scripts scripts' → slice_get scripts n ≡ Some here
+    → are_servers here.seats.items ≡ false → IsSomeAnd (slice_get scripts' n) (λ script. SeatsRest script.seats.items old new) → RestsAt n scripts' units units old new
+rests_clients scripts scripts' n here units old new run there other rests = record {
+  same = λ script found other. refl;
   servers = λ script found of.
       absurd (both_bools (are_servers script.seats.items) of (ap are_servers (seats_run scripts scripts' n here script run there found) ∙ other));
   clients = λ script found is. held_is (λ (s : Script). SeatsRest s.seats.items old new) (slice_get scripts' n) script found rests;
 }
 
 -- one script more
-pub idle_next : (n : ℕ) (pairs pairs' : List Pair) (scripts scripts' : List Script) → n < length scripts'
+pub idle_next : (n : ℕ) (units units' : List Unit) (pairs pairs' : List Pair) (scripts scripts' : List Script) → n < length scripts'
     → ((i : ℕ) → i ≢ n → slice_get scripts' i ≡ slice_get scripts i)
-    → (IsSomeAnd (slice_get scripts' n) IsOver → RestsAt n scripts' pairs pairs')
-    → (AreOverTo n scripts → AreIdleTo n pairs scripts)
-    → AreOverTo (n + 1) scripts' → AreIdleTo (n + 1) pairs' scripts'
-idle_next n pairs pairs' scripts scripts' less else turn before over =
+    → (IsSomeAnd (slice_get scripts' n) IsOver → RestsAt n scripts' units units' pairs pairs')
+    → (AreOverTo n scripts → AreIdleTo n units pairs scripts)
+    → AreOverTo (n + 1) scripts' → AreIdleTo (n + 1) units' pairs' scripts'
+idle_next n units units' pairs pairs' scripts scripts' less else turn before over =
     let this = there_is scripts' n less in
-    let rests : RestsAt n scripts' pairs pairs' = turn (is_held IsOver (slice_get scripts' n) this.0 this.1 (over n this.0 (omega arith) this.1)) in
-    let was : AreIdleTo n pairs scripts = before (λ i script below found. over i script (omega (arith, below)) (else i (below_apart i below) ∙ found)) in
+    let rests : RestsAt n scripts' units units' pairs pairs' = turn (is_held IsOver (slice_get scripts' n) this.0 this.1 (over n this.0 (omega arith) this.1)) in
+    let was : AreIdleTo n units pairs scripts = before (λ i script below found. over i script (omega (arith, below)) (else i (below_apart i below) ∙ found)) in
     record {
       servers = λ i script below found of. servers rests was this.0 this.1 i script found of (same_or i n) below (are_servers this.0.seats.items) refl;
       clients = λ i script below found other none. clients rests was this.0 this.1 i script found other none (same_or i n) below;
@@ -95,17 +103,18 @@ idle_next n pairs pairs' scripts scripts' less else turn before over =
     below_apart : (i : ℕ) → i < n → i ≢ n
     below_apart i below e = omega (arith, below, e)
 
-    servers : RestsAt n scripts' pairs pairs' → AreIdleTo n pairs scripts → (this : Script) → slice_get scripts' n ≡ Some this
+    servers : RestsAt n scripts' units units' pairs pairs' → AreIdleTo n units pairs scripts → (this : Script) → slice_get scripts' n ≡ Some this
         → (i : ℕ) (script : Script) → slice_get scripts' i ≡ Some script → are_servers script.seats.items ≡ true → (i ≡ n) ⊎ (i ≢ n) → i < n + 1
-        → (b : Bool) → are_servers this.seats.items ≡ b → ServersWait (links_of pairs')
+        → (b : Bool) → are_servers this.seats.items ≡ b → ServersWait units' (links_of pairs')
     servers rests was this there i script found of (inl e) below b is =
         rests.servers script (ap (slice_get scripts') (sym e) ∙ found) of
     servers rests was this there i script found of (inr apart) below true is = rests.servers this there is
     servers rests was this there i script found of (inr apart) below false is =
-        subst ServersWait (sym (rests.clients this there is).still)
-        (was.servers i script (omega (arith, below, apart)) (sym (else i apart) ∙ found) of)
+        subst (λ (us : List Unit). ServersWait us (links_of pairs')) (sym (rests.same this there is))
+        (subst (ServersWait units) (sym (rests.clients this there is).still)
+        (was.servers i script (omega (arith, below, apart)) (sym (else i apart) ∙ found) of))
 
-    clients : RestsAt n scripts' pairs pairs' → AreIdleTo n pairs scripts → (this : Script) → slice_get scripts' n ≡ Some this
+    clients : RestsAt n scripts' units units' pairs pairs' → AreIdleTo n units pairs scripts → (this : Script) → slice_get scripts' n ≡ Some this
         → (i : ℕ) (script : Script) → slice_get scripts' i ≡ Some script → are_servers script.seats.items ≡ false → NoneBehind i (n + 1) scripts'
         → (i ≡ n) ⊎ (i ≢ n) → i < n + 1 → ClientsWait script.seats.items (links_of pairs')
     clients rests was this there i script found other none (inl e) below =
@@ -117,10 +126,10 @@ idle_next n pairs pairs' scripts scripts' less else turn before over =
         (was.clients i script less (sym (else i apart) ∙ found) other
         (λ j later behind within at. none j later behind (omega (arith, within)) (else j (below_apart j within) ∙ at)))
 
-pub idle_all : (n : ℕ) (pairs : List Pair) (scripts : List Script) → length scripts ≤ n → (AreOverTo n scripts → AreIdleTo n pairs scripts)
-    → AreOverTo (length scripts) scripts → AreIdleTo (length scripts) pairs scripts
-idle_all n pairs scripts all idle over =
-    let is : AreIdleTo n pairs scripts = idle (λ i script below found. over i script (slice_get_within scripts i script found) found) in
+pub idle_all : (n : ℕ) (units : List Unit) (pairs : List Pair) (scripts : List Script) → length scripts ≤ n → (AreOverTo n scripts → AreIdleTo n units pairs scripts)
+    → AreOverTo (length scripts) scripts → AreIdleTo (length scripts) units pairs scripts
+idle_all n units pairs scripts all idle over =
+    let is : AreIdleTo n units pairs scripts = idle (λ i script below found. over i script (slice_get_within scripts i script found) found) in
     record {
       servers = λ i script below found of. is.servers i script (omega (arith, below, all)) found of;
       clients = λ i script below found other none.
@@ -128,8 +137,8 @@ idle_all n pairs scripts all idle over =
           (λ j later behind within at. none j later behind (slice_get_within scripts j later at) at);
     }
 
-pub idle_none : (pairs : List Pair) (scripts : List Script) → AreIdleTo 0 pairs scripts
-idle_none pairs scripts = record {
+pub idle_none : (units : List Unit) (pairs : List Pair) (scripts : List Script) → AreIdleTo 0 units pairs scripts
+idle_none units pairs scripts = record {
   servers = λ i script below found of. absurd (omega (arith, below));
   clients = λ i script below found other none. absurd (omega (arith, below));
 }

@@ -96,7 +96,7 @@ goes_on before after None (Some driver) goes is = cc
 goes_on before after (Some driver) None goes is = absurd goes
 goes_on before after (Some driver) (Some later) goes is = goes.1 is
 
-own_stays : (old new : Pair) → new.own ≡ old.own → SideGrows (side_at (known_of old.own)) (side_at (known_of new.own))
+pub own_stays : (old new : Pair) → new.own ≡ old.own → SideGrows (side_at (known_of old.own)) (side_at (known_of new.own))
 own_stays old new same =
     subst (λ (window : WindowValue). SideGrows (side_at (known_of old.own)) (side_at (known_of window))) (sym same) (side_same (side_at (known_of old.own)))
 

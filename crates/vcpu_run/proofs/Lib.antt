@@ -11,10 +11,12 @@ pub mod Cuts
 pub mod Disks
 pub mod Driving
 pub mod Elsewhere
+pub mod Fetching
 pub mod Following
 pub mod Freed
 pub mod Homes
 pub mod Idling
+pub mod InSessions
 pub mod Keeping
 pub mod Lasting
 pub mod Lined
@@ -34,6 +36,7 @@ pub mod PortsFound
 pub mod QueueLaws
 pub mod RawCalling
 pub mod RawSaid
+pub mod Receiving
 pub mod RecordLaws
 pub mod Resting
 pub mod Scripted

@@ -93,7 +93,7 @@ pub each_there : {X : Type 0} (P : X → Type 0) (xs : List X) → ((k : ℕ) (x
 each_there P [] h = tt
 each_there P (x ∷ xs) h = (h 0 x refl, each_there P xs (λ k y e. h (suc k) y e))
 
-ordered_there : {X : Type 0} (R : X → X → Type 0) (xs : List X) → ((j k : ℕ) (a b : X) → j < k → slice_get xs j ≡ Some a → slice_get xs k ≡ Some b → R a b) → Ordered R xs
+pub ordered_there : {X : Type 0} (R : X → X → Type 0) (xs : List X) → ((j k : ℕ) (a b : X) → j < k → slice_get xs j ≡ Some a → slice_get xs k ≡ Some b → R a b) → Ordered R xs
 ordered_there R [] h = tt
 ordered_there R (x ∷ xs) h = (
   each_there (R x) xs (λ k b at. h 0 (suc k) x b (omega arith) refl at),

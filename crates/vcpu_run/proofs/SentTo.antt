@@ -1,12 +1,11 @@
 -- What a gathered trace shows as sent to a client's queue is all that was put there; so its responses are those of its pair.
-use Rattle.std.proofs.Common.{◌≡◌, ◌≢◌, ◌∙◌, ℕ, ◌+◌, ◌==◌, ◌<◌, ◌≤◌, Bool, true, false, cond, List, [], ◌∷◌, ◌++◌, All, Option, Some, IfSome, filter, length, map, option_map, slice_get, refl, sym, ap, ap₂, subst, arith, zero, suc}
+use Rattle.std.proofs.Common.{◌≡◌, ◌∙◌, ℕ, ◌+◌, ◌≤◌, false, List, ◌++◌, All, Some, IfSome, filter, map, option_map, slice_get, refl, sym, ap, ap₂, subst, zero, suc}
 use Rattle.std.specs.List.{flat_map}
 use Rattle.std.proofs.Math.Logic.{∥∥₁_elim}
 use mathlib.Core.HLevel.{Discrete, hedberg}
 use mathlib.Core.List.{List-discrete}
 use native.Mathlib.Decide.{ℕ_discrete}
-use Rattle.std.proofs.lemmas.Bool.Decides.{nat_tests}
-use Rattle.std.proofs.lemmas.Bool.{eq-eqb, ne_eqb}
+use Rattle.std.proofs.lemmas.List.{map-append}
 use Rattle.vio_num.specs.declared.entry.Entry.{Entry}
 use Rattle.vio_num.specs.declared.history.Grant.{Grant}
 use Rattle.vio_num.specs.declared.history.Served.{Served}
@@ -36,7 +35,7 @@ use Rattle.vcpu_run.specs.Shown.{sessions_of}
 use Rattle.vcpu_run.specs.Units.{seats_of, unit_seat}
 use Rattle.vcpu_run.proofs.Copied.{names_apart}
 use Rattle.vcpu_run.proofs.Following.{each_from_all, ordered_from}
-use Rattle.vcpu_run.proofs.Order.{Each, Ordered, each_weaker}
+use Rattle.vcpu_run.proofs.InSessions.{all_flat, flat, in_session}
 use Rattle.vcpu_run.proofs.Listed.{held}
 use Rattle.vcpu_run.proofs.Parts.{IsIn, each_in, found}
 use Rattle.vcpu_run.proofs.Placing.{seats_ordered}
@@ -62,74 +61,18 @@ entry_discrete a b = at (ℕ_discrete a.high b.high) (ℕ_discrete a.low b.low)
 entries_set : IsSet (List Entry)
 entries_set = hedberg (List-discrete entry_discrete)
 
--- the entries of so many sessions from session q on
-abbrev flat : (q n : ℕ) → List PipeRow → List Entry
-flat q zero rows = []
-flat q (suc n) rows = entries_of q rows ++ flat (q + 1) n rows
-
-flat_is : (unit : UnitId) (pipe : PipeValue) (q n : ℕ) → flat_map (λ (row : QueueRow). row.sent) (sessions_from unit pipe q n) ≡ flat q n pipe.sent
+flat_is : (unit : UnitId) (pipe : PipeValue) (q n : ℕ) → flat_map (λ (row : QueueRow). row.sent) (sessions_from unit pipe q n) ≡ map (λ row. row.entry) (flat q n pipe.sent)
 flat_is unit pipe q zero = refl
-flat_is unit pipe q (suc n) = ap (λ (rest : List Entry). entries_of q pipe.sent ++ rest) (flat_is unit pipe (q + 1) n)
-
-flat_none : (q n : ℕ) → flat q n [] ≡ []
-flat_none q zero = refl
-flat_none q (suc n) = flat_none (q + 1) n
-
--- a row of another session
-other_session : (q : ℕ) (row : PipeRow) (rows : List PipeRow) → row.session ≢ q → entries_of q (row ∷ rows) ≡ entries_of q rows
-other_session q row rows apart =
-    ap (λ b. map (λ (r : PipeRow). r.entry) (cond b (row ∷ filter (λ (r : PipeRow). r.session == q) rows) (filter (λ (r : PipeRow). r.session == q) rows))) (ne_eqb row.session q apart)
-
-this_session : (q : ℕ) (row : PipeRow) (rows : List PipeRow) → row.session ≡ q → entries_of q (row ∷ rows) ≡ row.entry ∷ entries_of q rows
-this_session q row rows same =
-    ap (λ b. map (λ (r : PipeRow). r.entry) (cond b (row ∷ filter (λ (r : PipeRow). r.session == q) rows) (filter (λ (r : PipeRow). r.session == q) rows))) (eq-eqb row.session q same)
-
-none_before : (q : ℕ) (rows : List PipeRow) → Each (λ row. q < row.session) rows → entries_of q rows ≡ []
-none_before q [] all = refl
-none_before q (row ∷ rows) all = let less = all.0 in other_session q row rows (λ e. omega (arith, e, less)) ∙ none_before q rows all.1
-
-passed : (q n : ℕ) (row : PipeRow) (rows : List PipeRow) → row.session < q → flat q n (row ∷ rows) ≡ flat q n rows
-passed q zero row rows less = refl
-passed q (suc n) row rows less =
-    ap₂ (λ (a b : List Entry). a ++ b) (other_session q row rows (λ e. omega (arith, e, less))) (passed (q + 1) n row rows (omega (arith, less)))
-
--- the first of rows in the order of their sessions
-first_of : (q n : ℕ) (row : PipeRow) (rows : List PipeRow) → q ≤ row.session → row.session < q + n → Each (λ later. row.session ≤ later.session) rows
-    → flat q n (row ∷ rows) ≡ row.entry ∷ flat q n rows
-first_of q zero row rows from within all = absurd (omega (arith, from, within))
-first_of q (suc n) row rows from within all = at (q == row.session) refl (λ less. first_of (q + 1) n row rows (omega (arith, less)) (omega (arith, within)) all)
-  where
-    here : (b : Bool) → (q == row.session) ≡ b → b ≡ true → row.session ≡ q
-    here b e t = grind (arith, nat_tests, e, t)
-
-    past : (b : Bool) → (q == row.session) ≡ b → b ≡ false → q < row.session
-    past b e f = grind (arith, nat_tests, e, f, from)
-
-    at : (b : Bool) → (q == row.session) ≡ b → (q < row.session → flat (q + 1) n (row ∷ rows) ≡ row.entry ∷ flat (q + 1) n rows)
-        → flat q (suc n) (row ∷ rows) ≡ row.entry ∷ flat q (suc n) rows
-    at true e rest =
-        let same = here true e refl in
-        ap₂ (λ (a b : List Entry). a ++ b) (this_session q row rows same) (passed (q + 1) n row rows (omega (arith, same)))
-    at false e rest =
-        let less = past false e refl in
-        let none : entries_of q rows ≡ [] = none_before q rows (each_weaker (λ (r : PipeRow). row.session ≤ r.session) (λ (r : PipeRow). q < r.session) (λ r h. omega (arith, h, less)) rows all) in
-        ap₂ (λ (a b : List Entry). a ++ b) (other_session q row rows (λ e'. omega (arith, e', less)) ∙ none)
-        (rest less)
-        ∙ sym (ap (λ (a : List Entry). row.entry ∷ (a ++ flat (q + 1) n rows)) none)
-
-all_flat : (last : ℕ) (rows : List PipeRow) → Ordered (λ a b. a.session ≤ b.session) rows → Each (λ row. 1 ≤ row.session) rows → Each (λ row. row.session ≤ last) rows
-    → flat 1 last rows ≡ map (λ row. row.entry) rows
-all_flat last [] order begun few = flat_none 1 last
-all_flat last (row ∷ rows) order begun few =
-    let most = few.0 in
-    first_of 1 last row rows begun.0 (omega (arith, most)) order.0 ∙ ap (λ (rest : List Entry). row.entry ∷ rest) (all_flat last rows order.1 begun.1 few.1)
+flat_is unit pipe q (suc n) =
+    ap (λ (rest : List Entry). entries_of q pipe.sent ++ rest) (flat_is unit pipe (q + 1) n)
+    ∙ sym (map-append (λ (row : PipeRow). row.entry) (in_session q pipe.sent) (flat (q + 1) n pipe.sent))
 
 -- the sessions of a lawful pipe have all that was put
 all_sent : (unit : UnitId) (pipe : PipeValue) → IsLawfulPipe pipe → AreBegun pipe.sent → flat_map (λ (row : QueueRow). row.sent) (session_rows unit pipe) ≡ map (λ row. row.entry) pipe.sent
 all_sent unit pipe laws begun =
     flat_is unit pipe 1 pipe.session
-    ∙ all_flat pipe.session pipe.sent (ordered_from (λ (a b : PipeRow). a.session ≤ b.session) pipe.sent laws.sent.in_order)
-    (each_from_all (λ (row : PipeRow). 1 ≤ row.session) pipe.sent begun) (each_from_all (λ (row : PipeRow). row.session ≤ pipe.session) pipe.sent laws.sent.none_later)
+    ∙ ap (map (λ (row : PipeRow). row.entry)) (all_flat pipe.session pipe.sent (ordered_from (λ (a b : PipeRow). a.session ≤ b.session) pipe.sent laws.sent.in_order)
+    (each_from_all (λ (row : PipeRow). 1 ≤ row.session) pipe.sent begun) (each_from_all (λ (row : PipeRow). row.session ≤ pipe.session) pipe.sent laws.sent.none_later))
 
 pub answers_are : (pairs : List Pair) (scripts : List Script) (lan : LanValue) (rows : LanRows) (history : List Served) (grants : List Grant) (copies : List CopyRecord) (partitions : List Partition)
     → AreScripts pairs lan.seats scripts → All (HasLawfulQueue pairs) (seats_of scripts) → IsOfPlan partitions pairs scripts lan.seats → AreAnswered history pairs

@@ -1,14 +1,14 @@
 -- A gathered trace of idle units is settled: all entries of each server unit's last session were taken.
-use Rattle.std.proofs.Common.{◌≡◌, ◌≢◌, ◌∙◌, ◌⊎◌, inl, inr, ℕ, ◌+◌, ◌<◌, ◌≤◌, zero, suc, Bool, true, false, List, [], ◌∷◌, All, Option, Some, None, IfNone, IfSome, IsSomeAnd, MatchOption, length, map, slice_get, option_map, refl, sym, ap, subst, arith}
+use Rattle.std.proofs.Common.{◌≡◌, ◌∙◌, inl, inr, ℕ, ◌+◌, ◌<◌, ◌≤◌, zero, suc, Bool, true, false, List, [], ◌∷◌, All, Option, Some, None, IfNone, IfSome, MatchOption, length, map, slice_get, option_map, refl, sym, ap, subst, arith}
 use Rattle.std.proofs.lemmas.Option.{slice_get-map, slice_get_within}
 use Rattle.vio_num.specs.declared.history.Grant.{Grant}
 use Rattle.vio_num.specs.declared.history.Served.{Served}
 use Rattle.vio_num.specs.declared.names.UnitId.{UnitId}
 use Rattle.crq_ring.specs.Pipe.{PipeValue, IsLawfulPipe}
-use Rattle.crq_ring.specs.Sessions.{of_session}
 use Rattle.crq_session.specs.PlainState.{side_of}
 use Rattle.rdma_copy.specs.declared.copy.CopyRecord.{CopyRecord}
-use Rattle.boot_text.specs.Sound.{unit_at, unit_in, AreSound, IsServer}
+use Rattle.block_server.specs.declared.unit.Unit.{Unit}
+use Rattle.boot_text.specs.Sound.{unit_at, unit_in, IsServer}
 use Rattle.boot_text.specs.declared.plan.Partition.{Partition}
 use Rattle.boot_text.specs.declared.plan.UnitPlan.{UnitPlan}
 use Rattle.boot_text.specs.declared.plan.UnitPlan.TheVariants as units
@@ -24,10 +24,10 @@ use Rattle.vcpu_run.specs.declared.unit_seat.Seat.TheVariants as sits
 use Rattle.vcpu_run.specs.declared.unit_seat.UnitSeat.{UnitSeat}
 use Rattle.vcpu_run.specs.CopyRows.{same_unit}
 use Rattle.vcpu_run.specs.Gathered.{HasLawfulQueue, queue_at, rows_if, sessions_at, trace_of}
-use Rattle.vcpu_run.specs.Links.{AreIdle, ClientWaits, IsAllTaken, IsEmptied, IsFull, IsShutAlone, LinkState, ServerWaits, link_state, links_of}
+use Rattle.vcpu_run.specs.Links.{AreIdle, AwaitsNone, ClientWaits, IsEmptied, IsFull, LinkState, link_state, links_of}
 use Rattle.vcpu_run.specs.Machines.{seat_of, AreScripts, HasNoClient, IsOfPlan, IsPlanned, IsPlannedClient, IsScriptFor}
 use Rattle.vcpu_run.specs.Scripts.{are_servers}
-use Rattle.vcpu_run.specs.Sessions.{entries_of, session_row, session_rows, sessions_from}
+use Rattle.vcpu_run.specs.Sessions.{entries_of, session_rows, sessions_from}
 use Rattle.vcpu_run.specs.Settled.{LastIsTaken, ServersAreSettled}
 use Rattle.vcpu_run.specs.Shown.{sessions_of}
 use Rattle.vcpu_run.specs.Units.{seats_of, unit_seat}
@@ -131,11 +131,11 @@ not_full pipe link laws slots full waits = elim waits as (λ _. ⊥) [
 ]
 
 -- where the server unit has a client, its queue is not full
-full_served : (pairs : List Pair) (scripts : List Script) (ports : List PortSeat) (partitions : List Partition) (server : UnitId) (pair : Pair) (driver : Driver)
-    → AreScripts pairs ports scripts → All (HasLawfulQueue pairs) (seats_of scripts) → IsOfPlan partitions pairs scripts ports → AreIdle pairs scripts
+full_served : (servers : List Unit) (pairs : List Pair) (scripts : List Script) (ports : List PortSeat) (partitions : List Partition) (server : UnitId) (pair : Pair) (driver : Driver)
+    → AreScripts pairs ports scripts → All (HasLawfulQueue pairs) (seats_of scripts) → IsOfPlan partitions pairs scripts ports → AreIdle servers pairs scripts
     → IsServer partitions server → slice_get pairs server.unit ≡ Some pair → pair.server ≡ server
     → IsPlannedClient partitions pair driver → IsFull (link_state pair.link).client → ⊥
-full_served pairs scripts ports partitions server pair driver are lawful plan idle serves there is planned full =
+full_served servers pairs scripts ports partitions server pair driver are lawful plan idle serves there is planned full =
     let id = driver.unit in
     let named : unit_at partitions id ≡ Some (units.Client pair.server planned.pages planned.queue) = planned.planned in
     let at = script_at partitions pairs scripts ports id (units.Client pair.server planned.pages planned.queue) plan named in
@@ -159,34 +159,35 @@ full_served pairs scripts ports partitions server pair driver are lawful plan id
     subst (λ slot. IfSome slot IsLawfulPipe) queue (each_in (HasLawfulQueue pairs) seat (seats_of scripts) inside (each_from_all (HasLawfulQueue pairs) (seats_of scripts) lawful)) in
     not_full (side_of pair.link false).queue (link_state pair.link) laws refl full waits
 
-never_full : (pairs : List Pair) (scripts : List Script) (ports : List PortSeat) (partitions : List Partition) (server : UnitId) (pair : Pair)
-    → AreScripts pairs ports scripts → All (HasLawfulQueue pairs) (seats_of scripts) → IsOfPlan partitions pairs scripts ports → AreIdle pairs scripts
+never_full : (servers : List Unit) (pairs : List Pair) (scripts : List Script) (ports : List PortSeat) (partitions : List Partition) (server : UnitId) (pair : Pair)
+    → AreScripts pairs ports scripts → All (HasLawfulQueue pairs) (seats_of scripts) → IsOfPlan partitions pairs scripts ports → AreIdle servers pairs scripts
     → IsServer partitions server → slice_get pairs server.unit ≡ Some pair → pair.server ≡ server → IsFull (link_state pair.link).client → ⊥
-never_full pairs scripts ports partitions server pair are lawful plan idle serves there is full =
+never_full servers pairs scripts ports partitions server pair are lawful plan idle serves there is full =
     at pair.driver (plan.pairs_are.each server.unit pair there).client (idle.shut server.unit pair there)
   where
     at : (o : Option Driver) → MatchOption o (HasNoClient partitions pair.server) (IsPlannedClient partitions pair)
         → IfNone o ((side_of pair.link false).registered ≡ false) → ⊥
     at None none shut = both_bools (side_of pair.link false).registered full.registered shut
-    at (Some driver) planned shut = full_served pairs scripts ports partitions server pair driver are lawful plan idle serves there is planned full
+    at (Some driver) planned shut = full_served servers pairs scripts ports partitions server pair driver are lawful plan idle serves there is planned full
 
-emptied : (pairs : List Pair) (scripts : List Script) (ports : List PortSeat) (partitions : List Partition) (server : UnitId) (pair : Pair)
-    → AreScripts pairs ports scripts → All (HasLawfulQueue pairs) (seats_of scripts) → IsOfPlan partitions pairs scripts ports → AreIdle pairs scripts
-    → IsServer partitions server → slice_get pairs server.unit ≡ Some pair → pair.server ≡ server → IsEmptied (link_state pair.link).server
-emptied pairs scripts ports partitions server pair are lawful plan idle serves there is =
+-- the server unit's queue is empty, and none of its entries waits to be fetched
+pub emptied : (servers : List Unit) (pairs : List Pair) (scripts : List Script) (ports : List PortSeat) (partitions : List Partition) (server : UnitId) (pair : Pair)
+    → AreScripts pairs ports scripts → All (HasLawfulQueue pairs) (seats_of scripts) → IsOfPlan partitions pairs scripts ports → AreIdle servers pairs scripts
+    → IsServer partitions server → slice_get pairs server.unit ≡ Some pair → pair.server ≡ server → IsEmptied (link_state pair.link).server × AwaitsNone (slice_get servers server.unit)
+emptied servers pairs scripts ports partitions server pair are lawful plan idle serves there is =
     let at = script_at partitions pairs scripts ports server (units.Server serves.0) plan serves.1 in
     let of = home_serves partitions pairs scripts ports server pair at.0 plan serves there at.1 in
     let waits = idle.wait.servers server.partition at.0 (slice_get_within scripts server.partition at.0 at.1) at.1 of server.unit (link_state pair.link)
     (link_at pairs server.unit pair there) in
-    elim waits as (λ _. IsEmptied (link_state pair.link).server) [
-      | inl full ↦ absurd (never_full pairs scripts ports partitions server pair are lawful plan idle serves there is full)
+    elim waits as (λ _. IsEmptied (link_state pair.link).server × AwaitsNone (slice_get servers server.unit)) [
+      | inl full ↦ absurd (never_full servers pairs scripts ports partitions server pair are lawful plan idle serves there is full)
       | inr empty ↦ empty
     ]
 
-pub settled_are : (pairs : List Pair) (scripts : List Script) (lan : LanValue) (rows : LanRows) (history : List Served) (grants : List Grant) (copies : List CopyRecord) (partitions : List Partition)
-    → AreScripts pairs lan.seats scripts → All (HasLawfulQueue pairs) (seats_of scripts) → IsOfPlan partitions pairs scripts lan.seats → AreIdle pairs scripts
+pub settled_are : (pairs : List Pair) (scripts : List Script) (lan : LanValue) (rows : LanRows) (history : List Served) (grants : List Grant) (copies : List CopyRecord) (partitions : List Partition) (servers : List Unit)
+    → AreScripts pairs lan.seats scripts → All (HasLawfulQueue pairs) (seats_of scripts) → IsOfPlan partitions pairs scripts lan.seats → AreIdle servers pairs scripts
     → ServersAreSettled partitions (trace_of pairs scripts lan rows history grants copies)
-settled_are pairs scripts lan rows history grants copies partitions are lawful plan idle server serves =
+settled_are pairs scripts lan rows history grants copies partitions servers are lawful plan idle server serves =
     let there = held (λ (pair : Pair). pair.server ≡ server) (slice_get pairs server.unit) (plan.pairs_are.servers server serves) in
     let pair : Pair = there.0 in
     let pipe : PipeValue = (side_of pair.link true).queue in
@@ -199,7 +200,7 @@ settled_are pairs scripts lan rows history grants copies partitions are lawful p
     found (λ (row : QueueRow). same_unit row.unit server) (λ (other : UnitSeat). same_unit other.unit server) (sessions_at pairs) seat (same_refl server) seats inside
     (sessions_told pairs server seats) (names_apart server seats (seats_ordered pairs lan.seats scripts are))
     ∙ ap (rows_if (session_rows server)) queue in
-    let empty : IsEmptied (link_state pair.link).server = emptied pairs scripts lan.seats partitions server pair are lawful plan idle serves there.1 there.2 in
+    let empty : IsEmptied (link_state pair.link).server = (emptied servers pairs scripts lan.seats partitions server pair are lawful plan idle serves there.1 there.2).0 in
     let some : 1 ≤ pipe.session = (side_of pair.link true).begun empty.registered in
     let all : entries_of pipe.session pipe.taken ≡ entries_of pipe.session pipe.sent =
     sym (entries_are pipe.session pipe.taken) ∙ (sym empty.taken ∙ entries_are pipe.session pipe.sent) in

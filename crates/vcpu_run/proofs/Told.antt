@@ -1,5 +1,5 @@
 -- The trace of a run, where there is one, keeps the law of the plan's runs.
-use Rattle.std.proofs.Common.{◌≡◌, All, List, Option, Result, Ok, Err, IfOk, IfSome, sym, subst, ap, ◌∙◌}
+use Rattle.std.proofs.Common.{◌≡◌, All, List, Option, Result, Ok, Err, IfOk, IfSome, sym, subst}
 use Rattle.std.specs.Result.{result_ok}
 use Rattle.boot_text.specs.declared.plan.Partition.{Partition}
 use Rattle.lan_script.specs.declared.seat.PortSeat.{PortSeat}
@@ -7,13 +7,17 @@ use Rattle.vio_trace.specs.Form.{IsInOrder}
 use Rattle.vio_trace.specs.declared.rows.Trace.{Trace}
 use Rattle.vcpu_run.specs.declared.pair.Pair.{Pair}
 use Rattle.vcpu_run.specs.declared.script.Script.{Script}
+use Rattle.rdma_copy.specs.declared.copy.CopyRecord.{CopyRecord}
+use Rattle.vio_num.specs.declared.history.Grant.{Grant}
 use Rattle.vio_num.specs.declared.history.Served.{Served}
 use Rattle.vcpu_run.specs.Answered.{AreAnswered}
 use Rattle.vcpu_run.specs.AnswersSent.{AnswersAreSent}
 use Rattle.vcpu_run.specs.Agreed.{AreCredited}
 use Rattle.vcpu_run.specs.Lines.{IsOver}
-use Rattle.vcpu_run.specs.Links.{AreIdle}
+use Rattle.vcpu_run.specs.Intake.{EntriesAreFetched}
 use Rattle.vcpu_run.specs.Machines.{IsOfPlan}
+use Rattle.vcpu_run.specs.Received.{AreAtRest}
+use Rattle.vcpu_run.specs.Requests.{RequestsAreServed}
 use Rattle.vcpu_run.specs.Settled.{ServersAreSettled}
 use Rattle.vcpu_run.specs.RunLaw.{CopiesAreLawful, CreditsAreKept, KeepsLawOf, PortsKeepLaw, QueuesAreLawful, RecordsAreOfLines}
 
@@ -25,15 +29,17 @@ Keeps law pairs scripts ports trace = (partitions : List Partition) → IsOfPlan
 abbrev pub KeepsOnce : Type 0 → (List Partition → Trace → Type 0) → List Pair → List Script → List PortSeat → Trace → Type 0
 KeepsOnce once law pairs scripts ports trace = (partitions : List Partition) → IsOfPlan partitions pairs scripts ports → once → law partitions trace
 
-pub law_told : {E : Type 0} (r : Result Trace E) (o : Option Trace) (pairs : List Pair) (scripts : List Script) (ports : List PortSeat) (history : List Served) → o ≡ result_ok r
+pub law_told : {E : Type 0} (r : Result Trace E) (o : Option Trace) (pairs : List Pair) (scripts : List Script) (ports : List PortSeat) (history : List Served) (copies_made : List CopyRecord) (lines : List Grant) → o ≡ result_ok r
     → IfOk r IsInOrder → IfOk r (Keeps QueuesAreLawful pairs scripts ports) → IfOk r (Keeps CopiesAreLawful pairs scripts ports)
     → IfOk r (KeepsOnce (All IsOver scripts) RecordsAreOfLines pairs scripts ports) → All IsOver scripts
     → IfOk r (KeepsOnce (AreCredited pairs scripts) CreditsAreKept pairs scripts ports) → AreCredited pairs scripts
     → IfOk r (KeepsOnce (AreAnswered history pairs) AnswersAreSent pairs scripts ports) → AreAnswered history pairs
     → IfOk r (Keeps PortsKeepLaw pairs scripts ports)
-    → IfOk r (KeepsOnce (AreIdle pairs scripts) ServersAreSettled pairs scripts ports) → AreIdle pairs scripts
+    → IfOk r (KeepsOnce (AreAtRest copies_made lines history pairs scripts) ServersAreSettled pairs scripts ports)
+    → IfOk r (KeepsOnce (AreAtRest copies_made lines history pairs scripts) EntriesAreFetched pairs scripts ports)
+    → IfOk r (KeepsOnce (AreAtRest copies_made lines history pairs scripts) RequestsAreServed pairs scripts ports) → AreAtRest copies_made lines history pairs scripts
     → IfSome o (Keeps KeepsLawOf pairs scripts ports)
-law_told (Ok trace) o pairs scripts ports history e order queues copies records over credits are answers answered keeps settled idle =
+law_told (Ok trace) o pairs scripts ports history copies_made lines e order queues copies records over credits are answers answered keeps settled intake requests rests =
     subst (λ (o : Option Trace). IfSome o (Keeps KeepsLawOf pairs scripts ports)) (sym e)
     (λ partitions of_plan. record {
       order = order;
@@ -43,9 +49,11 @@ law_told (Ok trace) o pairs scripts ports history e order queues copies records 
       credits = credits partitions of_plan are;
       answers = answers partitions of_plan answered;
       ports = keeps partitions of_plan;
-      settled = settled partitions of_plan idle;
+      settled = settled partitions of_plan rests;
+      intake = intake partitions of_plan rests;
+      requests = requests partitions of_plan rests;
     })
-law_told (Err error) o pairs scripts ports history e order queues copies records over credits are answers answered keeps settled idle =
+law_told (Err error) o pairs scripts ports history copies_made lines e order queues copies records over credits are answers answered keeps settled intake requests rests =
     subst (λ (o : Option Trace). IfSome o (Keeps KeepsLawOf pairs scripts ports)) (sym e) tt
 
 -- the rows that were served

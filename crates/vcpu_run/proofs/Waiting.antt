@@ -1,5 +1,5 @@
 -- Why a server unit did nothing, as its link shows it; and that its queue is what it takes it for.
-use Rattle.std.proofs.Common.{◌≡◌, ◌≢◌, ◌∙◌, ◌⊎◌, inl, inr, ℕ, ◌+◌, ◌<◌, zero, suc, Bool, true, false, List, [], ◌∷◌, Option, Some, None, IfNone, IfSome, IsSomeAnd, MatchOption, length, slice_get, refl, sym, ap, ap₂, subst, arith}
+use Rattle.std.proofs.Common.{◌≡◌, ◌∙◌, inl, inr, ℕ, ◌+◌, ◌<◌, zero, suc, Bool, true, false, List, [], ◌∷◌, Option, Some, None, IfNone, IfSome, length, slice_get, refl, sym, ap, ap₂, subst, arith}
 use Rattle.std.specs.Borrow.{GName}
 use Rattle.std.proofs.lemmas.Option.{IfSome_then}
 use Rattle.crq_ring.specs.Sessions.{of_session}
@@ -9,22 +9,21 @@ use Rattle.crq_session.specs.EndState.{EndPlace, EndState}
 use Rattle.crq_session.specs.declared.link.PlainLink.{PlainLink}
 use Rattle.crq_session.specs.PlainState.{end_of, side_of}
 use Rattle.tce_window.specs.PortState.{PortState}
-use Rattle.tce_window.specs.Window.{WindowValue}
-use Rattle.block_server.specs.Ready.{Agrees, AgreesAt, FindsUse, HasNothing, MeetsEmpty, MeetsFull, MeetsSender, NothingReady}
+use Rattle.block_server.specs.Ready.{Agrees, AgreesAt, HasNothing, MeetsEmpty, MeetsFull, NothingReady}
 use Rattle.block_server.specs.Turns.{IsStill}
 use Rattle.block_server.specs.declared.unit.Unit.{Unit}
 use Rattle.vcpu_run.specs.declared.driver.Driver.{Driver}
 use Rattle.vcpu_run.specs.declared.pair.Pair.{Pair}
-use Rattle.vcpu_run.specs.Links.{AreClosed, AreLinked, IsClosed, IsEmptied, IsFull, IsLinked, IsShutAlone, ServerWaits, link_state}
+use Rattle.vcpu_run.specs.Links.{AreClosed, AreLinked, IsEmptied, IsFull, IsShutAlone, ServerWaits, link_state}
 use Rattle.vcpu_run.specs.Pairs.{AreDriven, Drives, GoesOn}
-use Rattle.vcpu_run.proofs.Listed.{came_from}
+use Rattle.vcpu_run.proofs.Listed.{came_from, is_held}
 
 no_true : false ≡ true → ⊥
 no_true e = cc
 
-there_is : {X : Type 0} (xs : List X) (i : ℕ) (P : X → Type 0) → i < length xs → IfSome (slice_get xs i) P → (x : X) × P x
+there_is : {X : Type 0} (xs : List X) (i : ℕ) (P : X → Type 0) → i < length xs → IfSome (slice_get xs i) P → (x : X) × (slice_get xs i ≡ Some x) × P x
 there_is [] i P less h = absurd (omega (arith, less))
-there_is (x ∷ xs) zero P less h = (x, h)
+there_is (x ∷ xs) zero P less h = (x, refl, h)
 there_is (x ∷ xs) (suc i) P less h = there_is xs i P (omega (arith, less)) h
 
 meets_full : (a b : List GName) (old new : PlainLink) → (end_of b new true).place ≡ (end_of a old true).place
@@ -60,15 +59,15 @@ meets_empty a b old new place still meets registered =
     }
 
 server_waits : (a b : List GName) (old new : PlainLink) (own own' window window' : PortState) (unit : Unit) → (end_of b new true).place ≡ (end_of a old true).place
-    → IsStill (end_of a old true) (end_of b new true)
-    → NothingReady false false (end_of a old true) (end_of b new true) own own' window window' unit → ServerWaits (link_state new)
-server_waits a b old new own own' window window' unit place still ready = elim ready as (λ _. ServerWaits (link_state new)) [
+    → (found : Option Unit) → found ≡ Some unit → IsStill (end_of a old true) (end_of b new true)
+    → NothingReady false false (end_of a old true) (end_of b new true) own own' window window' unit → ServerWaits found (link_state new)
+server_waits a b old new own own' window window' unit place found is still ready = elim ready as (λ _. ServerWaits found (link_state new)) [
   | inl full ↦ inl (meets_full a b old new place full)
-  | inr later ↦ elim later as (λ _. ServerWaits (link_state new)) [
+  | inr later ↦ elim later as (λ _. ServerWaits found (link_state new)) [
     | inl sender ↦ absurd (no_true sender.inside.shared_end)
-    | inr rest ↦ elim rest as (λ _. ServerWaits (link_state new)) [
+    | inr rest ↦ elim rest as (λ _. ServerWaits found (link_state new)) [
       | inl used ↦ absurd (no_true used.shared_is)
-      | inr empty ↦ inr (meets_empty a b old new place still empty.0 empty.1.0)
+      | inr empty ↦ inr (meets_empty a b old new place still empty.0 empty.1.0, is_held HasNothing found unit is empty.1.1.1)
     ]
   ]
 ]
@@ -77,14 +76,15 @@ server_waits a b old new own own' window window' unit place still ready = elim r
 pub serve_waits : (f g : Bool) (a b : List GName) (old new : PlainLink) (own own' window window' : PortState) (units : List Unit) (unit : ℕ) → f ≡ true
     → (end_of b new g).place ≡ (end_of a old f).place → unit < length units
     → IsStill (end_of a old f) (end_of b new g)
-    → IfSome (slice_get units unit) (NothingReady false false (end_of a old f) (end_of b new g) own own' window window') → ServerWaits (link_state new)
+    → IfSome (slice_get units unit) (NothingReady false false (end_of a old f) (end_of b new g) own own' window window') → ServerWaits (slice_get units unit) (link_state new)
 serve_waits f g a b old new own own' window window' units unit is place less still waits =
     let side : g ≡ true = ap (λ (p : EndPlace). p.first) place ∙ is in
     let there = there_is units unit _ less waits in
     server_waits a b old new own own' window window' there.0
     (at2 (λ d d'. (end_of b new d').place ≡ (end_of a old d).place) is side place)
+    (slice_get units unit) there.1
     (at2 (λ d d'. IsStill (end_of a old d) (end_of b new d')) is side still)
-    (at2 (λ d d'. NothingReady false false (end_of a old d) (end_of b new d') own own' window window' there.0) is side there.1)
+    (at2 (λ d d'. NothingReady false false (end_of a old d) (end_of b new d') own own' window window' there.0) is side there.2)
   where
     at2 : (P : Bool → Bool → Type 0) → f ≡ true → g ≡ true → P f g → P true true
     at2 P e e' p = subst (λ d. P true d) e' (subst (λ d. P d g) e p)

@@ -11,9 +11,11 @@ use Rattle.vcpu_run.specs.declared.pair.Pair.{Pair}
 abbrev pub AreBegun : List PipeRow → Type 0
 AreBegun rows = All (λ row. 1 ≤ row.session) rows
 
--- Rows were put into the partner's queue in sessions alone; and it is in one where it is registered.
+-- Rows were put into the partner's queue in sessions alone, and taken from the own; and the partner's is in one where it is
+-- registered.
 pub record PutsInSessions (end : EndState) : Type 0 where
   pub begun : AreBegun end.sent
+  pub took : AreBegun end.taken
   pub registered : end.place.partner_registered ≡ true → 1 ≤ end.counts.partner_session
 
 -- The responses that were put into the client's queue are those of the unit's answered rows, one each, in their order; and all

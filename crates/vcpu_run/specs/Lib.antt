@@ -5,6 +5,7 @@ pub mod CallRows
 pub mod CopyRows
 pub mod Credited
 pub mod Gathered
+pub mod Intake
 pub mod Lines
 pub mod Links
 pub mod Machines
@@ -16,6 +17,8 @@ pub mod Pairs
 pub mod Ports
 pub mod Quietly
 pub mod RawCalls
+pub mod Received
+pub mod Requests
 pub mod RunLaw
 pub mod Scripts
 pub mod Sendings

@@ -1,6 +1,6 @@
 -- What is so of the two queues of a pair's link where nothing is done at them.
-use Rattle.std.specs.Prelude.{◌≡◌, ◌⊎◌, ℕ, ◌+◌, ◌<◌, Bool, true, false, List, [], Some, IfNone, IsSomeAnd, length, map, slice_get}
-use Rattle.block_server.specs.Ready.{AgreesAt}
+use Rattle.std.specs.Prelude.{◌≡◌, ◌⊎◌, ℕ, ◌+◌, ◌<◌, Bool, true, false, List, [], Option, Some, IfNone, IsSomeAnd, length, map, slice_get}
+use Rattle.block_server.specs.Ready.{AgreesAt, HasNothing}
 use Rattle.block_server.specs.declared.unit.Unit.{Unit}
 use Rattle.crq_ring.specs.Sessions.{of_session}
 use Rattle.crq_ring.specs.declared.rows.PipeRow.{PipeRow}
@@ -59,9 +59,13 @@ pub record IsEmptied (queue : QueueState) : Type 0 where
   pub registered : queue.registered ≡ true
   pub taken : IsAllTaken queue
 
--- why a server unit did nothing: its client's queue is full, or its own is empty
-abbrev pub ServerWaits : LinkState → Type 0
-ServerWaits link = IsFull link.client ⊎ IsEmptied link.server
+-- a server unit has nothing to do: no information unit is to be fetched, and no request is pending
+abbrev pub AwaitsNone : Option Unit → Type 0
+AwaitsNone unit = IsSomeAnd unit HasNothing
+
+-- why a server unit did nothing: its client's queue is full; or its own is empty, and it has nothing to do
+abbrev pub ServerWaits : Option Unit → LinkState → Type 0
+ServerWaits unit link = IsFull link.client ⊎ (IsEmptied link.server × AwaitsNone unit)
 
 -- why a client without a line did nothing: its queue is not registered, or it is empty
 abbrev pub ClientWaits : LinkState → Type 0
@@ -72,17 +76,18 @@ abbrev pub ClientsWait : List Seat → List LinkState → Type 0
 ClientsWait seats links = (u k : ℕ) → slice_get seats u ≡ Some (sits.Client k) → IsSomeAnd (slice_get links k) ClientWaits
 
 -- each server unit did nothing
-abbrev pub ServersWait : List LinkState → Type 0
-ServersWait links = (k : ℕ) (link : LinkState) → slice_get links k ≡ Some link → ServerWaits link
+abbrev pub ServersWait : List Unit → List LinkState → Type 0
+ServersWait units links = (k : ℕ) (link : LinkState) → slice_get links k ≡ Some link → ServerWaits (slice_get units k) link
 
 -- Nothing was done at any link, and the clients of these seats did nothing.
 pub record SeatsRest (seats : List Seat) (old new : List Pair) : Type 0 where
   pub still : links_of new ≡ links_of old
   pub wait : ClientsWait seats (links_of new)
 
--- Script i, which is over, found nothing to do: each server unit waits, or each of its clients does.
-pub record RestsAt (i : ℕ) (scripts : List Script) (old new : List Pair) : Type 0 where
-  pub servers : (script : Script) → slice_get scripts i ≡ Some script → are_servers script.seats.items ≡ true → ServersWait (links_of new)
+-- Script i, which is over, found nothing to do: each server unit waits, or each of its clients does, and no server unit had a turn.
+pub record RestsAt (i : ℕ) (scripts : List Script) (units units' : List Unit) (old new : List Pair) : Type 0 where
+  pub servers : (script : Script) → slice_get scripts i ≡ Some script → are_servers script.seats.items ≡ true → ServersWait units' (links_of new)
+  pub same : (script : Script) → slice_get scripts i ≡ Some script → are_servers script.seats.items ≡ false → units' ≡ units
   pub clients : (script : Script) → slice_get scripts i ≡ Some script → are_servers script.seats.items ≡ false → SeatsRest script.seats.items old new
 
 -- the first scripts are over
@@ -95,8 +100,8 @@ NoneBehind i count scripts =
     (j : ℕ) (script : Script) → i < j → j < count → slice_get scripts j ≡ Some script → are_servers script.seats.items ≡ false
 
 -- The units of the first scripts wait: the server units, and the clients of each script behind which none of server units comes.
-pub record AreIdleTo (count : ℕ) (pairs : List Pair) (scripts : List Script) : Type 0 where
-  pub servers : (i : ℕ) (script : Script) → i < count → slice_get scripts i ≡ Some script → are_servers script.seats.items ≡ true → ServersWait (links_of pairs)
+pub record AreIdleTo (count : ℕ) (units : List Unit) (pairs : List Pair) (scripts : List Script) : Type 0 where
+  pub servers : (i : ℕ) (script : Script) → i < count → slice_get scripts i ≡ Some script → are_servers script.seats.items ≡ true → ServersWait units (links_of pairs)
   pub clients : (i : ℕ) (script : Script) → i < count → slice_get scripts i ≡ Some script → are_servers script.seats.items ≡ false
       → NoneBehind i count scripts → ClientsWait script.seats.items (links_of pairs)
 
@@ -124,8 +129,8 @@ abbrev pub AreShutAlone : List Pair → Type 0
 AreShutAlone pairs = (k : ℕ) (pair : Pair) → slice_get pairs k ≡ Some pair → IsShutAlone pair
 
 -- The units of all scripts wait, and the queue in place of a client's is shut.
-pub record AreIdle (pairs : List Pair) (scripts : List Script) : Type 0 where
-  pub wait : AreIdleTo (length scripts) pairs scripts
+pub record AreIdle (units : List Unit) (pairs : List Pair) (scripts : List Script) : Type 0 where
+  pub wait : AreIdleTo (length scripts) units pairs scripts
   pub shut : AreShutAlone pairs
 
 -- Nothing was done at an end of a link.

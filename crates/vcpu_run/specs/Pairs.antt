@@ -55,8 +55,9 @@ abbrev pub GoesOn : (before after : WindowValue) → Option Driver → Option Dr
 GoesOn before after old new = MatchOption old (new ≡ None)
     (λ driver. IsSomeAnd new (λ driver'. (driver'.unit ≡ driver.unit) × (IsDriver before driver → IsDriver after driver')))
 
--- What a client's part of a turn leaves of its pair: the server unit and its window are as before, nothing was put into the
--- client's own queue, the client's window has no stroke and no value less, and none more that another unit laid, and a queue in
+-- What a client's part of a turn leaves of its pair: the server unit and its window are as before, nothing was taken from its
+-- queue, which is in the same session, nothing was put into the client's own queue, the client's window has no stroke and no
+-- value less, and none more that another unit laid, and a queue in
 -- place of a client's is registered as before.
 pub record Drives (old new : Pair) : Type 0 where
   pub server : new.server ≡ old.server
@@ -72,6 +73,8 @@ pub record Drives (old new : Pair) : Type 0 where
   pub driver : GoesOn old.window new.window old.driver new.driver
   pub laid : LaysOwnAll old.window.unit (strokes_at old.window.pages) (strokes_at new.window.pages)
   pub server_registered : (side_of new.link true).registered ≡ (side_of old.link true).registered
+  pub server_session : (side_of new.link true).queue.session ≡ (side_of old.link true).queue.session
+  pub server_taken : (side_of new.link true).queue.taken ≡ (side_of old.link true).queue.taken
   pub alone : IfNone old.driver ((side_of new.link false).registered ≡ (side_of old.link false).registered)
 
 -- each of the pairs was left so

@@ -1,5 +1,6 @@
 -- The law of a run, so far as it is proved: what its trace says of its queues, its copies and windows, its
--- records, the credits that they tell of, the answers that were sent, its LAN ports, and how it ends.
+-- records, the credits that they tell of, the answers that were sent, its LAN ports, how it ends, what its server units took in,
+-- and which of it they served.
 use Rattle.std.specs.Prelude.{◌≡◌, ◌⊎◌, ℕ, ◌+◌, ◌*◌, ◌<◌, ◌≤◌, List, [], ◌∷◌, All, Option, Some, None, length, map, slice_get}
 use Rattle.std.specs.List.{AllPairs}
 use Rattle.vio_num.specs.Queue.{Handed, LawfulDrop}
@@ -22,9 +23,11 @@ use Rattle.lan_script.specs.PortLaw.{PortsAreLawful}
 use Rattle.vcpu_run.specs.AnswersSent.{AnswersAreSent}
 use Rattle.vcpu_run.specs.CopyRows.{copy_row}
 use Rattle.vcpu_run.specs.Credited.{KeepsCredit, ended_by}
+use Rattle.vcpu_run.specs.Intake.{EntriesAreFetched}
 use Rattle.vcpu_run.specs.Lines.{numbers_to_fail}
 use Rattle.vcpu_run.specs.Ports.{ports_of}
 use Rattle.vcpu_run.specs.StrokeMakers.{StrokesAreMade}
+use Rattle.vcpu_run.specs.Requests.{RequestsAreServed}
 use Rattle.vcpu_run.specs.Settled.{ServersAreSettled}
 use Rattle.vcpu_run.specs.Shown.{pages_at, puts_into, records_of, sessions_of, strokes_on, window_shown}
 
@@ -121,6 +124,8 @@ pub record KeepsLawOf (partitions : List Partition) (trace : Trace) : Type 0 whe
   pub answers : AnswersAreSent partitions trace
   pub ports : PortsKeepLaw partitions trace
   pub settled : ServersAreSettled partitions trace
+  pub intake : EntriesAreFetched partitions trace
+  pub requests : RequestsAreServed partitions trace
 
 abbrev pub KeepsLaw : Plan → Trace → Type 0
 KeepsLaw plan trace = KeepsLawOf plan.partitions trace

@@ -7,8 +7,6 @@ use Rattle.boot_text.specs.declared.verb.Verb.{Verb}
 use Rattle.boot_text.specs.declared.verb.Verb.TheVariants as verbs
 use Rattle.crq_session.specs.EndState.{EndState}
 use Rattle.tce_window.specs.PortState.{PortState}
-use Rattle.rdma_copy.specs.Copy.{SideGrows}
-use Rattle.rdma_copy.specs.Copies.{side_of as side_at}
 use Rattle.vscsi_client.specs.Transferred.{FitRows}
 use Rattle.vcpu_run.specs.declared.driver.Driver.{Driver}
 use Rattle.vcpu_run.specs.declared.pair.Pair.{Pair}
@@ -18,9 +16,11 @@ use Rattle.vcpu_run.specs.Suited.{is_call}
 use Rattle.vcpu_run.specs.declared.unit_seat.Seat.{Seat}
 use Rattle.vcpu_run.specs.declared.unit_seat.Seat.TheVariants as sits
 
--- The end is where it was, the window was kept, and the driver is that of the same unit, whose data still lie in the region.
-pub record Works (is_shared : Bool) (end end' : EndState) (own own' : PortState) (driver driver' : Driver) : Type 0 where
+-- The end is where it was, and on a link of its own at the same session of the partner; the window was kept, and the driver is that
+-- of the same unit, whose data still lie in the region.
+pub record Works (end_shared is_shared : Bool) (end end' : EndState) (own own' : PortState) (driver driver' : Driver) : Type 0 where
   pub place : end'.place ≡ end.place
+  pub session : end_shared ≡ false → end'.counts.partner_session ≡ end.counts.partner_session
   pub window : KeepsWindow is_shared own own'
   pub unit : driver'.unit ≡ driver.unit
   pub rows : FitRows own.place.size driver.client → FitRows own.place.size driver'.client

@@ -9,9 +9,11 @@ ghost use Rattle.vcpu_run.specs.Agreed.{AreCredited};
 ghost use Rattle.vcpu_run.specs.Answered.{AreAnswered};
 ghost use Rattle.vcpu_run.specs.AnswersSent.{AnswersAreSent};
 ghost use Rattle.vcpu_run.specs.Lines.{IsOver};
-ghost use Rattle.vcpu_run.specs.Links.{AreIdle};
 ghost use Rattle.vcpu_run.specs.Machines.{AreScripts, IsOfPlan};
+ghost use Rattle.vcpu_run.specs.Intake.{EntriesAreFetched};
 ghost use Rattle.vcpu_run.specs.Pairs.{AreOfOneHome};
+ghost use Rattle.vcpu_run.specs.Received.{AreAtRest};
+ghost use Rattle.vcpu_run.specs.Requests.{RequestsAreServed};
 ghost use Rattle.vcpu_run.specs.Units.{seats_of};
 ghost use Rattle.vcpu_run.specs.Settled.{ServersAreSettled};
 ghost use Rattle.vcpu_run.specs.RunLaw.{CopiesAreLawful, CreditsAreKept, PortsKeepLaw, QueuesAreLawful, RecordsAreOfLines};
@@ -68,7 +70,16 @@ pub(crate) fn gather(
         PortsKeepLaw partitions trace) }
     ensures settled { IfOk result (λ trace. (partitions : List Partition) →
         IsOfPlan partitions pairs.items scripts.entry.items lan.seats →
-        AreIdle pairs.items scripts.entry.items → ServersAreSettled partitions trace) }
+        AreAtRest copies.items grants.items history.items pairs.items scripts.entry.items →
+        ServersAreSettled partitions trace) }
+    ensures intake { IfOk result (λ trace. (partitions : List Partition) →
+        IsOfPlan partitions pairs.items scripts.entry.items lan.seats →
+        AreAtRest copies.items grants.items history.items pairs.items scripts.entry.items →
+        EntriesAreFetched partitions trace) }
+    ensures requests { IfOk result (λ trace. (partitions : List Partition) →
+        IsOfPlan partitions pairs.items scripts.entry.items lan.seats →
+        AreAtRest copies.items grants.items history.items pairs.items scripts.entry.items →
+        RequestsAreServed partitions trace) }
 {
     rows_of(alloc, pairs, scripts, lan, history, grants, copies)
 }

@@ -27,6 +27,3 @@ mod watched;
 mod windows;
 
 pub use machine::{Machine, Settled, settle_plan};
-
-#[cfg(test)]
-mod tests;

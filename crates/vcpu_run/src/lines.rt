@@ -72,7 +72,7 @@ impl Driver {
         line: u64,
     ) -> Result<Step, NoMemory>
         requires { MIN_PAGES ≤ (O.state own.old).place.size }
-        ensures works { Works O.is_shared (C.state crq.old.end) (C.state crq.new.end)
+        ensures works { Works C.is_shared O.is_shared (C.state crq.old.end) (C.state crq.new.end)
             (O.state own.old) (O.state own.new) self.old self.new }
         ensures credit { (verb : VerbValue) →
             StepsAgreed verb 0 0 self.old.client self.new.client result }
@@ -90,7 +90,7 @@ impl Driver {
         progress: &mut Progress,
     ) -> Result<Step, NoMemory>
         requires { MIN_PAGES ≤ (O.state own.old).place.size }
-        ensures works { Works O.is_shared (C.state crq.old.end) (C.state crq.new.end)
+        ensures works { Works C.is_shared O.is_shared (C.state crq.old.end) (C.state crq.new.end)
             (O.state own.old) (O.state own.new) self.old self.new }
         ensures credit { StepsAgreed verbs.Reset (taken_in progress.old) (taken_in progress.new)
             self.old.client self.new.client result }
@@ -143,7 +143,7 @@ impl Driver {
     ) -> Result<Step, NoMemory>
         requires pages { MIN_PAGES ≤ (O.state own.old).place.size }
         requires fits { FitsOp op.now }
-        ensures works { Works O.is_shared (C.state crq.old.end) (C.state crq.new.end)
+        ensures works { Works C.is_shared O.is_shared (C.state crq.old.end) (C.state crq.new.end)
             (O.state own.old) (O.state own.new) self.old self.new }
         ensures credit { (verb : VerbValue) → uses_credit verb ≡ true →
             StepsAgreed verb 0 0 self.old.client self.new.client result }
@@ -161,7 +161,7 @@ impl Driver {
         line: u64,
     ) -> Result<Step, NoMemory>
         requires { MIN_PAGES ≤ (O.state own.old).place.size }
-        ensures works { Works O.is_shared (C.state crq.old.end) (C.state crq.new.end)
+        ensures works { Works C.is_shared O.is_shared (C.state crq.old.end) (C.state crq.new.end)
             (O.state own.old) (O.state own.new) self.old self.new }
         ensures credit { (verb : VerbValue) → uses_credit verb ≡ true →
             StepsAgreed verb 0 0 self.old.client self.new.client result }
@@ -177,7 +177,7 @@ impl Driver {
         line: u64,
     ) -> Result<Step, NoMemory>
         requires { MIN_PAGES ≤ (O.state own.old).place.size }
-        ensures works { Works O.is_shared (C.state crq.old.end) (C.state crq.new.end)
+        ensures works { Works C.is_shared O.is_shared (C.state crq.old.end) (C.state crq.new.end)
             (O.state own.old) (O.state own.new) self.old self.new }
         ensures credit { (verb : VerbValue) → uses_credit verb ≡ false →
             StepsAgreed verb 0 0 self.old.client self.new.client result }
@@ -194,7 +194,7 @@ impl Driver {
         progress: &mut Progress,
     ) -> Result<Step, NoMemory>
         requires { MIN_PAGES ≤ (O.state own.old).place.size }
-        ensures works { Works O.is_shared (C.state crq.old.end) (C.state crq.new.end)
+        ensures works { Works C.is_shared O.is_shared (C.state crq.old.end) (C.state crq.new.end)
             (O.state own.old) (O.state own.new) self.old self.new }
         ensures credit { StepsAgreed (verbs.Take count) (taken_in progress.old)
             (taken_in progress.new) self.old.client self.new.client result }
@@ -216,7 +216,7 @@ impl Driver {
         requires verb { IsUnitVerb line.now.verb }
         requires pages { MIN_PAGES ≤ (O.state own.old).place.size }
         requires rows { FitRows (O.state own.old).place.size self.old.client }
-        ensures works { Works O.is_shared (C.state crq.old.end) (C.state crq.new.end)
+        ensures works { Works C.is_shared O.is_shared (C.state crq.old.end) (C.state crq.new.end)
             (O.state own.old) (O.state own.new) self.old self.new }
         ensures credit { StepsAgreed line.now.verb (taken_in progress.old)
             (taken_in progress.new) self.old.client self.new.client result }
@@ -239,7 +239,7 @@ impl Driver {
         requires verb { IsUnitVerb line.now.verb }
         requires pages { MIN_PAGES ≤ (O.state own.old).place.size }
         requires rows { FitRows (O.state own.old).place.size self.old.client }
-        ensures works { Works O.is_shared (C.state crq.old.end) (C.state crq.new.end)
+        ensures works { Works C.is_shared O.is_shared (C.state crq.old.end) (C.state crq.new.end)
             (O.state own.old) (O.state own.new) self.old self.new }
         ensures credit { StepsAgreed line.now.verb (taken_in progress.old)
             (taken_in progress.new) self.old.client self.new.client result }

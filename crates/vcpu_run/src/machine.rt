@@ -6,11 +6,12 @@ ghost use Rattle.block_server.specs.DiskLaw.{KeepsDisk};
 ghost use Rattle.vcpu_run.specs.Agreed.{AreCredited};
 ghost use Rattle.vcpu_run.specs.Answered.{AreAnswered};
 ghost use Rattle.vcpu_run.specs.Lines.{IsOver};
-ghost use Rattle.vcpu_run.specs.Links.{AreIdle, AreLinked};
+ghost use Rattle.vcpu_run.specs.Links.{AreLinked};
 ghost use Rattle.vcpu_run.specs.Machines.{AreScripts, IsMachine, IsOfPlan};
 ghost use Rattle.vcpu_run.specs.OnDisk.{IsServed, LastsInRows, LeadsOn};
 ghost use Rattle.vcpu_run.specs.Pairs.{AreOfOneHome};
 ghost use Rattle.vcpu_run.specs.Ports.{ports_of};
+ghost use Rattle.vcpu_run.specs.Received.{AreAtRest, AreReceived};
 ghost use Rattle.vcpu_run.specs.RunLaw.{KeepsLaw, KeepsLawOf};
 
 use crate::gather::gather;
@@ -63,6 +64,9 @@ impl<'p, Di: Blocks> Machine<'p, Di> {
         ensures credited { IfOk result (λ machine.
             AreCredited machine.pairs.items machine.scripts.items) }
         ensures answered { IfOk result (λ machine. AreAnswered [] machine.pairs.items) }
+        ensures received { IfOk result (λ machine. AreReceived machine.server.units.items
+            machine.server.copies.items machine.server.records.grants.items
+            machine.server.records.history.items machine.pairs.items) }
         ensures none { IfOk result (λ machine. machine.server.records.history.items ≡ []) }
         ensures linked { IfOk result (λ machine.
             AreLinked machine.server.units.items machine.pairs.items) }
@@ -102,6 +106,9 @@ impl<'p, Di: Blocks> Machine<'p, Di> {
             self.server.copies.items self.pairs.items self.scripts.items self.lan.seats }
         requires credited { AreCredited self.pairs.items self.scripts.items }
         requires answered { AreAnswered self.server.records.history.items self.pairs.items }
+        requires received { AreReceived self.server.units.items self.server.copies.items
+            self.server.records.grants.items self.server.records.history.items
+            self.pairs.items }
         requires linked { AreLinked self.server.units.items self.pairs.items }
         ensures law { IfSome result.trace (λ trace. (partitions : List Partition) →
             IsOfPlan partitions self.entry.pairs.items self.entry.scripts.items
@@ -172,7 +179,8 @@ fn trace_of(
     requires credited { OnOk run (AreCredited pairs.items scripts.items) }
     requires over { OnOk run (All IsOver scripts.items) }
     requires answered { AreAnswered history.items pairs.items }
-    requires idle { OnOk run (AreIdle pairs.items scripts.items) }
+    requires rests { OnOk run (AreAtRest copies.items grants.items history.items
+        pairs.items scripts.items) }
     ensures serves { IfSome result (λ trace. trace.serves ≡ history.items) }
     ensures law { IfSome result (λ trace. (partitions : List Partition) →
         IsOfPlan partitions pairs.items scripts.entry.items lan.seats → KeepsLawOf partitions trace) }

@@ -1,5 +1,5 @@
 // A server unit and its client unit: the link between them, and both windows.
-ghost use Rattle.std.specs.Prelude.{◌≡◌, ◌≢◌, ◌*◌, ◌<◌, ℕ, [], true, None, IfOk, IfSome, OnOk, vec_len};
+ghost use Rattle.std.specs.Prelude.{◌≡◌, ◌≢◌, ◌*◌, ◌<◌, ℕ, [], true, None, IfOk, IfSome, OnOk, slice_get, vec_len};
 ghost use Rattle.boot_text.specs.Sound.{IsFrom};
 ghost use Rattle.boot_text.specs.declared.statement.TheConstants.{MOST_QUEUE};
 ghost use Rattle.crq_session.specs.PlainState.{side_of, IsNewLink};
@@ -10,6 +10,7 @@ ghost use Rattle.vcpu_run.specs.Machines.{FitsSeat, HasSeat, SitsAt, Stays, serv
 ghost use Rattle.vcpu_run.specs.Named.{HasWindow};
 ghost use Rattle.vcpu_run.specs.OnDisk.{LastsOnDisk};
 ghost use Rattle.vcpu_run.specs.Pairs.{IsPair};
+ghost use Rattle.vcpu_run.specs.Received.{IsFresh, IsReceived};
 
 use crate::driver::Driver;
 use crate::session_end::SessionEnd;
@@ -69,6 +70,7 @@ impl Pair {
         ensures out { IfOk result IsLoggedOut }
         ensures answered { IfOk result (IsAnswered []) }
         ensures closed { IfOk result IsClosed }
+        ensures fresh { IfOk result IsFresh }
     {
         match client {
             Some(seat) => Pair::with_client(alloc, server, queue, seat),
@@ -92,6 +94,7 @@ impl Pair {
         ensures out { IfOk result IsLoggedOut }
         ensures answered { IfOk result (IsAnswered []) }
         ensures closed { IfOk result IsClosed }
+        ensures fresh { IfOk result IsFresh }
     {
         Ok(Pair {
             server,
@@ -112,6 +115,7 @@ impl Pair {
         ensures client { IfOk result (λ pair. pair.driver ≡ None) }
         ensures answered { IfOk result (IsAnswered []) }
         ensures closed { IfOk result IsClosed }
+        ensures fresh { IfOk result IsFresh }
     {
         let absent = UnitId {
             partition: server.partition,
@@ -135,6 +139,8 @@ impl Pair {
         requires unit { unit < vec_len server.old.units }
         requires pair { IsPair server.old.partition server.old.copies.items unit self.old }
         requires answered { IsAnswered server.old.records.history.items self.old }
+        requires received { IsReceived server.old.units.items server.old.copies.items
+            server.old.records.grants.items server.old.records.history.items unit self.old }
         ensures pair { IsPair server.old.partition server.new.copies.items unit self.new }
         ensures others { (k : ℕ) (other : Pair) → k ≢ unit →
             ((id : UnitId) → HasWindow id self.old → HasWindow id other → ⊥) →
@@ -149,6 +155,16 @@ impl Pair {
             other.server ≡ server_id server.old.partition k →
             IsAnswered server.old.records.history.items other →
             IsAnswered server.new.records.history.items other }
+        ensures received { IsReceived server.new.units.items server.new.copies.items
+            server.new.records.grants.items server.new.records.history.items unit self.new }
+        ensures received_else { (k : ℕ) (other : Pair) → k ≢ unit →
+            other.own.unit ≡ server_id server.old.partition k →
+            IsReceived server.old.units.items server.old.copies.items
+            server.old.records.grants.items server.old.records.history.items k other →
+            IsReceived server.new.units.items server.new.copies.items
+            server.new.records.grants.items server.new.records.history.items k other }
+        ensures units_else { (k : ℕ) → k ≢ unit →
+            slice_get server.new.units.items k ≡ slice_get server.old.units.items k }
         ensures disk { LastsOnDisk server.old.records.history.items
             server.new.records.history.items (Di.state server.old.disk.image).blocks
             (Di.state server.new.disk.image).blocks }
@@ -158,7 +174,7 @@ impl Pair {
             IsLinked server.old.units.items k other → IsLinked server.new.units.items k other }
         ensures quiet { IfOk result (λ moved. moved ≡ Moved.Quiet →
             IsLinked server.old.units.items unit self.old →
-            ServerWaits (link_state self.new.link)) }
+            ServerWaits (slice_get server.new.units.items unit) (link_state self.new.link)) }
     {
         let mut end = SessionEnd {
             end: self.link.side(true),

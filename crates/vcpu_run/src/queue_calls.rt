@@ -1,5 +1,5 @@
 // Raw calls on a unit's queue and its partner's.
-ghost use Rattle.std.specs.Prelude.{◌≡◌, ◌↔◌, ◌<◌, true, IfOk};
+ghost use Rattle.std.specs.Prelude.{◌≡◌, ◌↔◌, ◌<◌, false, true, IfOk};
 ghost use Rattle.vio_num.specs.Entry.{first_byte};
 ghost use Rattle.vio_num.specs.declared.hypervisor.Hrc.TheVariants as codes;
 ghost use Rattle.hcall_table.specs.Rows.{may_answer};
@@ -13,6 +13,8 @@ use vio_num::{Entry, Hrc, NoMemory};
 // H_REG_CRQ (LoPAR, "H_REG_CRQ").
 fn register<C: CrqEnd>(end: &mut C, address: u64, length: u64) -> Result<Hrc, NoMemory>
     ensures place { (C.state end.new).place ≡ (C.state end.old).place }
+    ensures session { C.is_shared ≡ false → (C.state end.new).counts.partner_session
+        ≡ (C.state end.old).counts.partner_session }
     ensures code { IfOk result (λ code. may_answer rows.RegCrq code ≡ true) }
 {
     end.reserve(1)?;
@@ -28,6 +30,8 @@ fn register<C: CrqEnd>(end: &mut C, address: u64, length: u64) -> Result<Hrc, No
 // H_FREE_CRQ (LoPAR, "H_FREE_CRQ").
 fn free<C: CrqEnd>(end: &mut C) -> Result<Hrc, NoMemory>
     ensures place { (C.state end.new).place ≡ (C.state end.old).place }
+    ensures session { C.is_shared ≡ false → (C.state end.new).counts.partner_session
+        ≡ (C.state end.old).counts.partner_session }
     ensures code { IfOk result (λ code. may_answer rows.FreeCrq code ≡ true) }
 {
     end.reserve(1)?;
@@ -41,6 +45,8 @@ fn free<C: CrqEnd>(end: &mut C) -> Result<Hrc, NoMemory>
 // H_SEND_CRQ (LoPAR, "H_SEND_CRQ").
 fn send<C: CrqEnd>(end: &mut C, high: u64, low: u64) -> Result<Hrc, NoMemory>
     ensures place { (C.state end.new).place ≡ (C.state end.old).place }
+    ensures session { C.is_shared ≡ false → (C.state end.new).counts.partner_session
+        ≡ (C.state end.old).counts.partner_session }
     ensures parameter { IfOk result (λ code. (code ≡ codes.Parameter) ↔
         (first_byte (record { high = high; low = low }) < 0x80)) }
     ensures code { IfOk result (λ code. may_answer rows.SendCrq code ≡ true) }
@@ -62,6 +68,8 @@ pub(crate) fn make<C: CrqEnd>(
     call: QueueCall,
 ) -> Result<Hrc, NoMemory>
     ensures place { (C.state end.new).place ≡ (C.state end.old).place }
+    ensures session { C.is_shared ≡ false → (C.state end.new).counts.partner_session
+        ≡ (C.state end.old).counts.partner_session }
     ensures code { IfOk result (λ code. may_answer (queue_row call) code ≡ true) }
 {
     match call {

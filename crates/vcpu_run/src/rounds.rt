@@ -15,6 +15,8 @@ ghost use Rattle.vcpu_run.specs.Links.{AreIdle, AreIdleTo, AreLinked, AreOverTo,
 ghost use Rattle.vcpu_run.specs.Links.{SeatsRest, ServerWaits, ServersWait, links_of};
 ghost use Rattle.vcpu_run.specs.Machines.{AllRun, AllStay, AreScripts, IsMachine, IsServing};
 ghost use Rattle.vcpu_run.specs.Pairs.{ArePairs, AreDrivers};
+ghost use Rattle.vcpu_run.specs.Received.{AreReceived};
+ghost use Rattle.vio_num.specs.declared.history.Grant.{Grant};
 
 use crate::pair::Pair;
 use crate::script::Script;
@@ -35,6 +37,8 @@ pub(crate) fn run<Di: Blocks>(
     requires machine { IsMachine server.old.partition (vec_len server.old.units)
         server.old.copies.items pairs.old scripts.old lan.old.seats }
     requires answered { AreAnswered server.old.records.history.items pairs.old }
+    requires received { AreReceived server.old.units.items server.old.copies.items
+        server.old.records.grants.items server.old.records.history.items pairs.old }
     ensures machine { IsMachine server.new.partition (vec_len server.new.units)
         server.new.copies.items pairs.new scripts.new lan.new.seats }
     ensures stay { AllStay pairs.old pairs.new }
@@ -43,11 +47,13 @@ pub(crate) fn run<Di: Blocks>(
         AreCredited pairs.new scripts.new) }
     ensures over { OnOk result (All IsOver scripts.new) }
     ensures answered { AreAnswered server.new.records.history.items pairs.new }
+    ensures received { AreReceived server.new.units.items server.new.copies.items
+        server.new.records.grants.items server.new.records.history.items pairs.new }
     ensures disk { LastsOnDisk server.old.records.history.items server.new.records.history.items
         (Di.state server.old.disk.image).blocks (Di.state server.new.disk.image).blocks }
     ensures lan { lan.new.seats ≡ lan.old.seats }
     ensures idle { OnOk result (AreLinked server.old.units.items pairs.old →
-        AreIdle pairs.new scripts.new) }
+        AreIdle server.new.units.items pairs.new scripts.new) }
 {
     for _round in 0..u64::MAX {
         let moved = step(server, pairs, scripts, lan)?;
@@ -86,6 +92,8 @@ fn step<Di: Blocks>(
     requires machine { IsMachine server.old.partition (vec_len server.old.units)
         server.old.copies.items pairs.old scripts.old lan.old.seats }
     requires answered { AreAnswered server.old.records.history.items pairs.old }
+    requires received { AreReceived server.old.units.items server.old.copies.items
+        server.old.records.grants.items server.old.records.history.items pairs.old }
     ensures machine { IsMachine server.new.partition (vec_len server.new.units)
         server.new.copies.items pairs.new scripts.new lan.new.seats }
     ensures stay { AllStay pairs.old pairs.new }
@@ -93,6 +101,8 @@ fn step<Di: Blocks>(
     ensures credited { OnOk result (AreCredited pairs.old scripts.old →
         AreCredited pairs.new scripts.new) }
     ensures answered { AreAnswered server.new.records.history.items pairs.new }
+    ensures received { AreReceived server.new.units.items server.new.copies.items
+        server.new.records.grants.items server.new.records.history.items pairs.new }
     ensures disk { LastsOnDisk server.old.records.history.items server.new.records.history.items
         (Di.state server.old.disk.image).blocks (Di.state server.new.disk.image).blocks }
     ensures lan { lan.new.seats ≡ lan.old.seats }
@@ -101,7 +111,7 @@ fn step<Di: Blocks>(
     ensures idle { IfOk result (λ moved. moved ≡ Moved.Quiet →
         AreLinked server.old.units.items pairs.old →
         AreOverTo (length scripts.new) scripts.new →
-        AreIdleTo (length scripts.new) pairs.new scripts.new) }
+        AreIdleTo (length scripts.new) server.new.units.items pairs.new scripts.new) }
 {
     match round(server, pairs, scripts, lan)? {
         Moved::Moved => Ok(Moved::Moved),
@@ -119,6 +129,8 @@ fn round<Di: Blocks>(
     requires machine { IsMachine server.old.partition (vec_len server.old.units)
         server.old.copies.items pairs.old scripts.old lan.old.seats }
     requires answered { AreAnswered server.old.records.history.items pairs.old }
+    requires received { AreReceived server.old.units.items server.old.copies.items
+        server.old.records.grants.items server.old.records.history.items pairs.old }
     ensures machine { IsMachine server.new.partition (vec_len server.new.units)
         server.new.copies.items pairs.new scripts.new lan.new.seats }
     ensures stay { AllStay pairs.old pairs.new }
@@ -126,6 +138,8 @@ fn round<Di: Blocks>(
     ensures credited { OnOk result (AreCredited pairs.old scripts.old →
         AreCredited pairs.new scripts.new) }
     ensures answered { AreAnswered server.new.records.history.items pairs.new }
+    ensures received { AreReceived server.new.units.items server.new.copies.items
+        server.new.records.grants.items server.new.records.history.items pairs.new }
     ensures disk { LastsOnDisk server.old.records.history.items server.new.records.history.items
         (Di.state server.old.disk.image).blocks (Di.state server.new.disk.image).blocks }
     ensures lan { lan.new.seats ≡ lan.old.seats }
@@ -134,7 +148,7 @@ fn round<Di: Blocks>(
     ensures idle { IfOk result (λ moved. moved ≡ Moved.Quiet →
         AreLinked server.old.units.items pairs.old →
         AreOverTo (length scripts.new) scripts.new →
-        AreIdleTo (length scripts.new) pairs.new scripts.new) }
+        AreIdleTo (length scripts.new) server.new.units.items pairs.new scripts.new) }
 {
     let mut moved = Moved::Quiet;
     for number in 0..scripts.len() {
@@ -156,6 +170,8 @@ fn turn_at<Di: Blocks>(
     requires machine { IsMachine server.old.partition (vec_len server.old.units)
         server.old.copies.items pairs.old scripts.old lan.old.seats }
     requires answered { AreAnswered server.old.records.history.items pairs.old }
+    requires received { AreReceived server.old.units.items server.old.copies.items
+        server.old.records.grants.items server.old.records.history.items pairs.old }
     ensures machine { IsMachine server.new.partition (vec_len server.new.units)
         server.new.copies.items pairs.new scripts.new lan.new.seats }
     ensures stay { AllStay pairs.old pairs.new }
@@ -163,6 +179,8 @@ fn turn_at<Di: Blocks>(
     ensures credited { OnOk result (AreCredited pairs.old scripts.old →
         AreCredited pairs.new scripts.new) }
     ensures answered { AreAnswered server.new.records.history.items pairs.new }
+    ensures received { AreReceived server.new.units.items server.new.copies.items
+        server.new.records.grants.items server.new.records.history.items pairs.new }
     ensures disk { LastsOnDisk server.old.records.history.items server.new.records.history.items
         (Di.state server.old.disk.image).blocks (Di.state server.new.disk.image).blocks }
     ensures lan { lan.new.seats ≡ lan.old.seats }
@@ -171,7 +189,8 @@ fn turn_at<Di: Blocks>(
     ensures idle { IfOk result (λ moved. moved ≡ Moved.Quiet →
         AreLinked server.old.units.items pairs.old →
         IsSomeAnd (slice_get scripts.new number) IsOver →
-        RestsAt number scripts.new pairs.old pairs.new) }
+        RestsAt number scripts.new server.old.units.items server.new.units.items
+        pairs.old pairs.new) }
     ensures elsewhere { (i : ℕ) → i ≢ number →
         slice_get scripts.new i ≡ slice_get scripts.old i }
 {
@@ -187,17 +206,22 @@ fn serve<Di: Blocks>(server: &mut Server<Di>, pairs: &mut [Pair]) -> Result<Move
     requires serving { IsServing server.old.partition (vec_len server.old.units)
         server.old.copies.items pairs.old }
     requires answered { AreAnswered server.old.records.history.items pairs.old }
+    requires received { AreReceived server.old.units.items server.old.copies.items
+        server.old.records.grants.items server.old.records.history.items pairs.old }
     ensures serving { IsServing server.new.partition (vec_len server.new.units)
         server.new.copies.items pairs.new }
     ensures stay { AllStay pairs.old pairs.new }
     ensures drivers { SameDrivers pairs.old pairs.new }
     ensures answered { AreAnswered server.new.records.history.items pairs.new }
+    ensures received { AreReceived server.new.units.items server.new.copies.items
+        server.new.records.grants.items server.new.records.history.items pairs.new }
     ensures disk { LastsOnDisk server.old.records.history.items server.new.records.history.items
         (Di.state server.old.disk.image).blocks (Di.state server.new.disk.image).blocks }
     ensures linked { OnOk result (AreLinked server.old.units.items pairs.old →
         AreLinked server.new.units.items pairs.new) }
     ensures wait { IfOk result (λ moved. moved ≡ Moved.Quiet →
-        AreLinked server.old.units.items pairs.old → ServersWait (links_of pairs.new)) }
+        AreLinked server.old.units.items pairs.old →
+        ServersWait server.new.units.items (links_of pairs.new)) }
 {
     let mut moved = Moved::Quiet;
     for unit in 0..pairs.len() {
@@ -217,18 +241,25 @@ fn serve_at<Di: Blocks>(
     requires serving { IsServing server.old.partition (vec_len server.old.units)
         server.old.copies.items pairs.old }
     requires answered { AreAnswered server.old.records.history.items pairs.old }
+    requires received { AreReceived server.old.units.items server.old.copies.items
+        server.old.records.grants.items server.old.records.history.items pairs.old }
     ensures serving { IsServing server.new.partition (vec_len server.new.units)
         server.new.copies.items pairs.new }
     ensures stay { AllStay pairs.old pairs.new }
     ensures drivers { SameDrivers pairs.old pairs.new }
     ensures answered { AreAnswered server.new.records.history.items pairs.new }
+    ensures received { AreReceived server.new.units.items server.new.copies.items
+        server.new.records.grants.items server.new.records.history.items pairs.new }
     ensures disk { LastsOnDisk server.old.records.history.items server.new.records.history.items
         (Di.state server.old.disk.image).blocks (Di.state server.new.disk.image).blocks }
     ensures linked { OnOk result (AreLinked server.old.units.items pairs.old →
         AreLinked server.new.units.items pairs.new) }
     ensures waits { IfOk result (λ moved. moved ≡ Moved.Quiet →
         AreLinked server.old.units.items pairs.old →
-        IsSomeAnd (slice_get (links_of pairs.new) unit) ServerWaits) }
+        IsSomeAnd (slice_get (links_of pairs.new) unit)
+        (ServerWaits (slice_get server.new.units.items unit))) }
+    ensures units_else { (k : ℕ) → k ≢ unit →
+        slice_get server.new.units.items k ≡ slice_get server.old.units.items k }
     ensures elsewhere { (k : ℕ) → k ≢ unit → slice_get pairs.new k ≡ slice_get pairs.old k }
 {
     pairs[unit].serve(server, unit as u8)
@@ -254,6 +285,9 @@ fn run_script(
         AreCredited pairs.new scripts.new) }
     ensures answered { (history : List Served) →
         AreAnswered history pairs.old → AreAnswered history pairs.new }
+    ensures received { (units : List Unit) (copies : List CopyRecord) (grants : List Grant)
+        (history : List Served) → AreReceived units copies grants history pairs.old →
+        AreReceived units copies grants history pairs.new }
     ensures lan { lan.new.seats ≡ lan.old.seats }
     ensures linked { (units : List Unit) → AreLinked units pairs.old → AreLinked units pairs.new }
     ensures idle { IfOk result (λ moved. moved ≡ Moved.Quiet →

@@ -1,6 +1,7 @@
 -- The trace is the one of the machine's parts, which keeps the law.
 use Rattle.vio_trace.specs.Form.{IsInOrder}
 use Rattle.vcpu_run.proofs.Copied.{copies_are}
+use Rattle.vcpu_run.proofs.Fetching.{entries_are_fetched, ok_pair, requests_are_served}
 use Rattle.vcpu_run.proofs.Freed.{few_seats, free_pairs, from_rows, ports_are}
 use Rattle.vcpu_run.proofs.Ordering.{order_is}
 use Rattle.vcpu_run.proofs.QueueLaws.{queues_are}
@@ -54,7 +55,22 @@ returns-clause-ports c =
 pub returns-clause-settled : goal.returns-clause-settled
 returns-clause-settled c =
     from_rows c.args.pairs.items c.args.scripts.items c.args.lan c.args.history.items c.args.grants.items c.args.copies.items c.rows_of.result _ _ c.rows_of.ensures.trace c.rows_of.ensures.queues
-    (λ rows keeps ordered lawful partitions of_plan idle. settled_are c.args.pairs.items c.args.scripts.items c.args.lan rows c.args.history.items c.args.grants.items c.args.copies.items partitions c.requires.scripts lawful of_plan idle)
+    (λ rows keeps ordered lawful partitions of_plan rests. settled_are c.args.pairs.items c.args.scripts.items c.args.lan rows c.args.history.items c.args.grants.items c.args.copies.items partitions rests.units c.requires.scripts lawful of_plan rests.idle)
+
+pub returns-clause-intake : goal.returns-clause-intake
+returns-clause-intake c =
+    from_rows c.args.pairs.items c.args.scripts.items c.args.lan c.args.history.items c.args.grants.items c.args.copies.items c.rows_of.result _ _ c.rows_of.ensures.trace
+    (ok_pair c.rows_of.result _ _ c.rows_of.ensures.queues c.rows_of.ensures.windows)
+    (λ rows keeps ordered lawful partitions of_plan rests. entries_are_fetched partitions _
+    (requests_are_served c.args.pairs.items c.args.scripts.items c.args.lan rows c.args.history.items c.args.grants.items c.args.copies.items partitions
+    c.requires.pairs c.requires.scripts lawful.0 lawful.1 of_plan rests))
+
+pub returns-clause-requests : goal.returns-clause-requests
+returns-clause-requests c =
+    from_rows c.args.pairs.items c.args.scripts.items c.args.lan c.args.history.items c.args.grants.items c.args.copies.items c.rows_of.result _ _ c.rows_of.ensures.trace
+    (ok_pair c.rows_of.result _ _ c.rows_of.ensures.queues c.rows_of.ensures.windows)
+    (λ rows keeps ordered lawful partitions of_plan rests. requests_are_served c.args.pairs.items c.args.scripts.items c.args.lan rows c.args.history.items c.args.grants.items c.args.copies.items partitions
+    c.requires.pairs c.requires.scripts lawful.0 lawful.1 of_plan rests)
 
 pub returns-clause-serves : goal.returns-clause-serves
 returns-clause-serves c =

@@ -1,7 +1,7 @@
 use Rattle.std.proofs.Common.{All, OnOk, subst}
 use Rattle.vcpu_run.specs.Agreed.{AreCredited}
 use Rattle.vcpu_run.specs.Lines.{IsOver}
-use Rattle.vcpu_run.specs.Links.{AreIdle}
+use Rattle.vcpu_run.specs.Received.{AreAtRest}
 use Rattle.vcpu_run.proofs.Told.{law_told, served_told}
 use Rattle.vcpu_run.proofs.machine.trace_of.Goals as goal
 
@@ -10,9 +10,9 @@ returns-in-Ok-clause-law c =
     let told = c.gather.ensures in
     let credited = subst (λ r. OnOk r (AreCredited c.args.pairs.items c.args.scripts.items)) c.in-Ok.is c.requires.credited in
     let over = subst (λ r. OnOk r (All IsOver c.args.scripts.items)) c.in-Ok.is c.requires.over in
-    let idle = subst (λ r. OnOk r (AreIdle c.args.pairs.items c.args.scripts.items)) c.in-Ok.is c.requires.idle in
-    law_told c.gather.result c.ok.result c.args.pairs.items c.args.scripts.items c.args.lan.seats c.args.history.items c.ok.ensures.value
-    told.order told.queues told.copies told.records over told.credits credited told.answers c.requires.answered told.ports told.settled idle
+    let rests = subst (λ r. OnOk r (AreAtRest c.args.copies.items c.args.grants.items c.args.history.items c.args.pairs.items c.args.scripts.items)) c.in-Ok.is c.requires.rests in
+    law_told c.gather.result c.ok.result c.args.pairs.items c.args.scripts.items c.args.lan.seats c.args.history.items c.args.copies.items c.args.grants.items c.ok.ensures.value
+    told.order told.queues told.copies told.records over told.credits credited told.answers c.requires.answered told.ports told.settled told.intake told.requests rests
 
 pub returns-in-Ok-clause-serves : goal.returns-in-Ok-clause-serves
 returns-in-Ok-clause-serves c = served_told c.gather.result c.ok.result c.args.history.items c.ok.ensures.value c.gather.ensures.serves

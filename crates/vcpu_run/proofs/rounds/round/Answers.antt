@@ -6,7 +6,7 @@ use Rattle.vcpu_run.proofs.Scripted.{run_same, run_then}
 use Rattle.vcpu_run.proofs.rounds.round.Goals as goal
 
 pub loop-number-init : goal.loop-number-init
-loop-number-init g c = record { machine = c.requires.machine; stay = all_same c.args.pairs.now; run = run_same c.args.scripts.now; answered = c.requires.answered; disk = lasts_same c.args.server.now.records.history.items (g.Di.Blocks.state c.args.server.now.disk.image).blocks; credited = λ are. are; lan = refl; linked = λ are. are; idle = λ is are over. idle_none c.args.pairs.now c.args.scripts.now }
+loop-number-init g c = record { machine = c.requires.machine; stay = all_same c.args.pairs.now; run = run_same c.args.scripts.now; answered = c.requires.answered; received = c.requires.received; disk = lasts_same c.args.server.now.records.history.items (g.Di.Blocks.state c.args.server.now.disk.image).blocks; credited = λ are. are; lan = refl; linked = λ are. are; idle = λ is are over. idle_none c.args.server.now.units.items c.args.pairs.now c.args.scripts.now }
 
 pub loop-number-preserved : goal.loop-number-preserved
 loop-number-preserved g c =
@@ -17,13 +17,14 @@ loop-number-preserved g c =
       stay = all_then c.args.pairs.now c.loop-number.pairs c.turn_at.new.pairs before.stay after.stay;
       run = run_then c.args.scripts.now c.loop-number.scripts c.turn_at.new.scripts before.run after.run;
       answered = after.answered;
+      received = after.received;
       disk = lasts_then c.args.server.now.records.history.items c.loop-number.server.records.history.items c.turn_at.new.server.records.history.items
           (g.Di.Blocks.state c.args.server.now.disk.image).blocks (g.Di.Blocks.state c.loop-number.server.disk.image).blocks (g.Di.Blocks.state c.turn_at.new.server.disk.image).blocks c.loop-number.invariant.disk c.turn_at.ensures.disk;
       credited = λ are. c.in_ok-turned.ensures.credited (before.credited are);
       lan = after.lan ∙ before.lan;
       linked = λ are. c.in_ok-turned.ensures.linked (before.linked are);
       idle = λ is are.
-          idle_next c.loop-number.number c.loop-number.pairs c.turn_at.new.pairs c.loop-number.scripts c.turn_at.new.scripts
+          idle_next c.loop-number.number c.loop-number.server.units.items c.turn_at.new.server.units.items c.loop-number.pairs c.turn_at.new.pairs c.loop-number.scripts c.turn_at.new.scripts
           (omega (arith, before.run.count, after.run.count, c.loop-number-test.true)) after.elsewhere
           (c.in_ok-turned.ensures.idle (c.either-moved.ensures.other is) (before.linked are)) (before.idle (c.either-moved.ensures.one is) are);
     }
@@ -44,4 +45,4 @@ returns-in_err-turned-clause-disk g c =
 pub returns-clause-idle : goal.returns-clause-idle
 returns-clause-idle g c = λ is are.
     let count = c.loop-number.invariant.run.count in
-    idle_all c.loop-number.number c.loop-number.pairs c.loop-number.scripts (omega (arith, count, c.loop-number-test.false)) (c.loop-number.invariant.idle is are)
+    idle_all c.loop-number.number c.loop-number.server.units.items c.loop-number.pairs c.loop-number.scripts (omega (arith, count, c.loop-number-test.false)) (c.loop-number.invariant.idle is are)

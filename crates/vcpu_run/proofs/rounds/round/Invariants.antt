@@ -3,6 +3,7 @@ use Rattle.vcpu_run.specs.Agreed.{AreCredited}
 use Rattle.vcpu_run.specs.Answered.{AreAnswered}
 use Rattle.vio_num.specs.declared.hypervisor.Moved.TheVariants.{Quiet}
 use Rattle.vcpu_run.specs.Links.{AreIdleTo, AreLinked, AreOverTo}
+use Rattle.vcpu_run.specs.Received.{AreReceived}
 use Rattle.vcpu_run.specs.OnDisk.{LastsOnDisk}
 use Rattle.vcpu_run.specs.Machines.{AllRun, AllStay, IsMachine}
 use Rattle.vcpu_run.proofs.rounds.round.Given as goal
@@ -13,10 +14,11 @@ invariant-loop-number g l = record {
   stay : AllStay l.initial.pairs l.pairs;
   run : AllRun l.initial.scripts l.scripts;
   answered : AreAnswered l.server.records.history.items l.pairs;
+  received : AreReceived l.server.units.items l.server.copies.items l.server.records.grants.items l.server.records.history.items l.pairs;
   disk : LastsOnDisk l.initial.server.records.history.items l.server.records.history.items
       (g.Di.Blocks.state l.initial.server.disk.image).blocks (g.Di.Blocks.state l.server.disk.image).blocks;
   credited : AreCredited l.initial.pairs l.initial.scripts → AreCredited l.pairs l.scripts;
   lan : l.lan.seats ≡ l.initial.lan.seats;
   linked : AreLinked l.initial.server.units.items l.initial.pairs → AreLinked l.server.units.items l.pairs;
-  idle : l.moved ≡ Quiet → AreLinked l.initial.server.units.items l.initial.pairs → AreOverTo l.number l.scripts → AreIdleTo l.number l.pairs l.scripts;
+  idle : l.moved ≡ Quiet → AreLinked l.initial.server.units.items l.initial.pairs → AreOverTo l.number l.scripts → AreIdleTo l.number l.server.units.items l.pairs l.scripts;
 }

@@ -7,6 +7,7 @@ use Rattle.std.proofs.lemmas.Option.{slice_get-get_or}
 use Rattle.vcpu_run.proofs.Answering.{answered_driven}
 use Rattle.vcpu_run.proofs.Elsewhere.{credits_turned, ok_then}
 use Rattle.vcpu_run.proofs.Keeping.{driven_stay, drivers_driven, pairs_driven}
+use Rattle.vcpu_run.proofs.Receiving.{received_driven}
 use Rattle.vcpu_run.proofs.Scripted.{run_one, script_turned}
 use Rattle.vcpu_run.proofs.rounds.run_script.Goals as goal
 
@@ -60,6 +61,9 @@ returns-clause-credited c =
 
 pub returns-clause-answered : goal.returns-clause-answered
 returns-clause-answered c history = answered_driven history c.args.pairs.now c.turn.new.pairs c.turn.ensures.driven
+
+pub returns-clause-received : goal.returns-clause-received
+returns-clause-received c units copies grants history = received_driven units copies grants history c.args.pairs.now c.turn.new.pairs c.turn.ensures.driven
 
 pub returns-clause-linked : goal.returns-clause-linked
 returns-clause-linked c units = linked_driven units c.args.pairs.now c.turn.new.pairs c.turn.ensures.driven

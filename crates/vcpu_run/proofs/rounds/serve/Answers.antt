@@ -5,7 +5,7 @@ use Rattle.vcpu_run.proofs.Keeping.{all_same, all_then}
 use Rattle.vcpu_run.proofs.rounds.serve.Goals as goal
 
 pub loop-unit-init : goal.loop-unit-init
-loop-unit-init g c = record { serving = c.requires.serving; stay = all_same c.args.pairs.now; drivers = λ k. refl; answered = c.requires.answered; disk = lasts_same c.args.server.now.records.history.items (g.Di.Blocks.state c.args.server.now.disk.image).blocks; linked = λ are. are; wait = λ is are k link less found. absurd (omega (arith, less)) }
+loop-unit-init g c = record { serving = c.requires.serving; stay = all_same c.args.pairs.now; drivers = λ k. refl; answered = c.requires.answered; received = c.requires.received; disk = lasts_same c.args.server.now.records.history.items (g.Di.Blocks.state c.args.server.now.disk.image).blocks; linked = λ are. are; wait = λ is are k link less found. absurd (omega (arith, less)) }
 
 pub loop-unit-preserved : goal.loop-unit-preserved
 loop-unit-preserved g c = record {
@@ -13,11 +13,12 @@ loop-unit-preserved g c = record {
   stay = all_then c.args.pairs.now c.loop-unit.pairs c.serve_at.new.pairs c.loop-unit.invariant.stay c.serve_at.ensures.stay;
   drivers = λ k. c.serve_at.ensures.drivers k ∙ c.loop-unit.invariant.drivers k;
   answered = c.serve_at.ensures.answered;
+  received = c.serve_at.ensures.received;
   disk = lasts_then c.args.server.now.records.history.items c.loop-unit.server.records.history.items c.serve_at.new.server.records.history.items
       (g.Di.Blocks.state c.args.server.now.disk.image).blocks (g.Di.Blocks.state c.loop-unit.server.disk.image).blocks (g.Di.Blocks.state c.serve_at.new.server.disk.image).blocks c.loop-unit.invariant.disk c.serve_at.ensures.disk;
   linked = λ are. c.in_ok-turned.ensures.linked (c.loop-unit.invariant.linked are);
   wait = λ is are.
-      serves_next c.loop-unit.pairs c.serve_at.new.pairs c.loop-unit.unit c.serve_at.ensures.elsewhere
+      serves_next c.loop-unit.pairs c.serve_at.new.pairs c.loop-unit.server.units.items c.serve_at.new.server.units.items c.loop-unit.unit c.serve_at.ensures.elsewhere c.serve_at.ensures.units_else
       (c.in_ok-turned.ensures.waits (c.either-moved.ensures.other is) (c.loop-unit.invariant.linked are))
       (c.loop-unit.invariant.wait (c.either-moved.ensures.one is) are);
 }
@@ -25,7 +26,7 @@ loop-unit-preserved g c = record {
 pub returns-clause-wait : goal.returns-clause-wait
 returns-clause-wait g c = λ is are.
     let count = c.loop-unit.invariant.stay.count in
-    serves_all c.loop-unit.pairs c.loop-unit.unit (omega (arith, count, c.loop-unit-test.false)) (c.loop-unit.invariant.wait is are)
+    serves_all c.loop-unit.pairs c.loop-unit.server.units.items c.loop-unit.unit (omega (arith, count, c.loop-unit-test.false)) (c.loop-unit.invariant.wait is are)
 
 pub returns-in_err-turned-clause-stay : goal.returns-in_err-turned-clause-stay
 returns-in_err-turned-clause-stay g c =

@@ -3,6 +3,7 @@ use Rattle.vio_num.specs.declared.hypervisor.Moved.TheVariants.{Quiet}
 use Rattle.vcpu_run.specs.Links.{AreLinked, LinkState, ServerWaits, links_of}
 use Rattle.vcpu_run.specs.Agreed.{SameDrivers}
 use Rattle.vcpu_run.specs.Answered.{AreAnswered}
+use Rattle.vcpu_run.specs.Received.{AreReceived}
 use Rattle.vcpu_run.specs.OnDisk.{LastsOnDisk}
 use Rattle.vcpu_run.specs.Machines.{AllStay, IsServing}
 use Rattle.vcpu_run.proofs.rounds.serve.Given as goal
@@ -13,9 +14,10 @@ invariant-loop-unit g l = record {
   stay : AllStay l.initial.pairs l.pairs;
   drivers : SameDrivers l.initial.pairs l.pairs;
   answered : AreAnswered l.server.records.history.items l.pairs;
+  received : AreReceived l.server.units.items l.server.copies.items l.server.records.grants.items l.server.records.history.items l.pairs;
   disk : LastsOnDisk l.initial.server.records.history.items l.server.records.history.items
       (g.Di.Blocks.state l.initial.server.disk.image).blocks (g.Di.Blocks.state l.server.disk.image).blocks;
   linked : AreLinked l.initial.server.units.items l.initial.pairs → AreLinked l.server.units.items l.pairs;
   wait : l.moved ≡ Quiet → AreLinked l.initial.server.units.items l.initial.pairs
-      → (k : ℕ) (link : LinkState) → k < l.unit → slice_get (links_of l.pairs) k ≡ Some link → ServerWaits link;
+      → (k : ℕ) (link : LinkState) → k < l.unit → slice_get (links_of l.pairs) k ≡ Some link → ServerWaits (slice_get l.server.units.items k) link;
 }

@@ -2,13 +2,13 @@ use Rattle.vcpu_run.specs.Links.{IsLinked, ServerWaits}
 use Rattle.vcpu_run.proofs.Resting.{ok_more, waits_set}
 use Rattle.vcpu_run.proofs.Elsewhere.{ok_then}
 use Rattle.vcpu_run.proofs.Driving.{get_set_other}
-use Rattle.block_server.specs.declared.unit.Unit.{Unit}
 use Rattle.std.proofs.Common.{◌≡◌, ◌≤◌, ℕ, Some, length, slice_get, slice_index_or, slice_set, sym, ◌∙◌, subst, length-set}
 use Rattle.std.proofs.lemmas.Option.{slice_get-get_or}
 use Rattle.vcpu_run.specs.declared.pair.Pair.{Pair}
 use Rattle.vcpu_run.specs.Answered.{IsAnswered}
 use Rattle.vcpu_run.specs.Machines.{Stays}
 use Rattle.vcpu_run.specs.Pairs.{IsPair}
+use Rattle.vcpu_run.specs.Received.{IsReceived}
 use Rattle.vcpu_run.proofs.Agreeing.{set_same}
 use Rattle.vcpu_run.proofs.Keeping.{stays_same}
 use Rattle.vcpu_run.proofs.Listed.{each_on, each_set}
@@ -86,8 +86,22 @@ returns-clause-waits g c =
     let old = slice_index_or pairs c.args.unit c.index-pairs-unit.result in
     let found = slice_get-get_or pairs c.args.unit c.index-pairs-unit.result c.requires.there in
     ok_more c.serve.result _ _
-    (λ moved wait is are. waits_set ServerWaits pairs c.args.unit c.serve.new.self c.requires.there (wait is (are c.args.unit old found)))
+    (λ moved wait is are. waits_set (ServerWaits (slice_get c.serve.new.server.units.items c.args.unit)) pairs c.args.unit c.serve.new.self c.requires.there (wait is (are c.args.unit old found)))
     c.serve.ensures.quiet
 
 pub returns-clause-elsewhere : goal.returns-clause-elsewhere
 returns-clause-elsewhere g c = λ k apart. get_set_other c.args.pairs.now c.args.unit k c.serve.new.self apart
+
+pub serve-requires-clause-received : goal.serve-requires-clause-received
+serve-requires-clause-received g c =
+    let pairs = c.args.pairs.now in
+    c.requires.received c.args.unit (slice_index_or pairs c.args.unit c.index-pairs-unit.result) (slice_get-get_or pairs c.args.unit c.index-pairs-unit.result c.requires.there)
+
+pub returns-clause-received : goal.returns-clause-received
+returns-clause-received g c =
+    let server = c.serve.new.server in
+    each_set (IsReceived server.units.items server.copies.items server.records.grants.items server.records.history.items) c.args.pairs.now c.args.unit c.serve.new.self
+    (λ k other there apart.
+    let is = c.requires.serving.pairs_are k other there in
+    c.serve.ensures.received_else k other apart (is.own_unit ∙ is.server) (c.requires.received k other there))
+    c.serve.ensures.received

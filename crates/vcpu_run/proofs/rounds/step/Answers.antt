@@ -30,6 +30,6 @@ pub returns-in-Quiet-clause-idle : goal.returns-in-Quiet-clause-idle
 returns-in-Quiet-clause-idle g c =
     ok_more c.end_lines.result _ _
     (λ moved same is are.
-    subst (λ (scripts : List Script). AreOverTo (length scripts) scripts → AreIdleTo (length scripts) c.round.new.pairs scripts) (sym (same is))
+    subst (λ (scripts : List Script). AreOverTo (length scripts) scripts → AreIdleTo (length scripts) c.round.new.server.units.items c.round.new.pairs scripts) (sym (same is))
     (c.in_ok-round.ensures.idle c.in-Quiet.is are))
     c.end_lines.ensures.quiet

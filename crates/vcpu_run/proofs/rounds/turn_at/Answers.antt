@@ -37,12 +37,17 @@ returns-else-is_of_servers-clause-machine g c =
 pub returns-else-is_of_servers-clause-answered : goal.returns-else-is_of_servers-clause-answered
 returns-else-is_of_servers-clause-answered g c = c.run_script.ensures.answered c.args.server.now.records.history.items c.requires.answered
 
+pub returns-else-is_of_servers-clause-received : goal.returns-else-is_of_servers-clause-received
+returns-else-is_of_servers-clause-received g c =
+    let server = c.args.server.now in
+    c.run_script.ensures.received server.units.items server.copies.items server.records.grants.items server.records.history.items c.requires.received
+
 pub returns-then-is_of_servers-clause-idle : goal.returns-then-is_of_servers-clause-idle
 returns-then-is_of_servers-clause-idle g c =
     let scripts = c.args.scripts.now in
     let d = c.index-scripts-number.result in
     ok_more c.serve.result _ _
-    (λ moved wait is are over. rests_servers scripts c.args.number (slice_index_or scripts c.args.number d) c.args.pairs.now c.serve.new.pairs
+    (λ moved wait is are over. rests_servers scripts c.args.number (slice_index_or scripts c.args.number d) c.args.server.now.units.items c.serve.new.server.units.items c.args.pairs.now c.serve.new.pairs
     (slice_get-get_or scripts c.args.number d c.requires.there) (sym c.is_of_servers.ensures ∙ c.if-is_of_servers.true) (wait is are))
     c.serve.ensures.wait
 
@@ -54,6 +59,6 @@ returns-else-is_of_servers-clause-idle g c =
     let scripts = c.args.scripts.now in
     let d = c.index-scripts-number.result in
     ok_more c.run_script.result _ _
-    (λ moved rests is are over. rests_clients scripts c.run_script.new.scripts c.args.number (slice_index_or scripts c.args.number d) c.args.pairs.now c.run_script.new.pairs
+    (λ moved rests is are over. rests_clients scripts c.run_script.new.scripts c.args.number (slice_index_or scripts c.args.number d) c.args.server.now.units.items c.args.pairs.now c.run_script.new.pairs
     c.run_script.ensures.run (slice_get-get_or scripts c.args.number d c.requires.there) (sym c.is_of_servers.ensures ∙ c.if-is_of_servers.false) (rests is over))
     c.run_script.ensures.idle

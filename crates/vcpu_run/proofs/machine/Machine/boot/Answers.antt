@@ -11,6 +11,7 @@ use Rattle.vcpu_run.proofs.Apart.{pairs_apart}
 use Rattle.vcpu_run.proofs.Booted.{few_pairs, scripts_made, scripts_of_plan}
 use Rattle.vcpu_run.proofs.Elsewhere.{credits_made}
 use Rattle.vcpu_run.proofs.Homes.{home_within}
+use Rattle.vcpu_run.proofs.Receiving.{received_fresh}
 use Rattle.vcpu_run.proofs.machine.Machine.boot.Goals as goal
 
 pub overflow_cast-home : goal.overflow_cast-home
@@ -85,3 +86,9 @@ returns-clause-none g c = c.in_ok-server.ensures.history
 
 pub returns-clause-linked : goal.returns-clause-linked
 returns-clause-linked g c = linked_closed c.in_ok-server.server.units.items c.in-Ok.pairs.items c.in_ok-server.ensures.down c.in-Ok.ensures.closed
+
+pub returns-clause-received : goal.returns-clause-received
+returns-clause-received g c =
+    let server = c.in_ok-server in
+    received_fresh server.server.units.items server.server.copies.items server.server.records.grants.items server.server.records.history.items c.in-Ok.pairs.items
+    server.ensures.copies server.ensures.lines server.ensures.history server.ensures.none server.ensures.unused c.in-Ok.ensures.fresh

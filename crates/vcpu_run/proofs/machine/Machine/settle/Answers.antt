@@ -4,11 +4,11 @@ use Rattle.std.proofs.lemmas.Option.{IfSome_then}
 use Rattle.vcpu_run.specs.declared.pair.Pair.{Pair}
 use Rattle.vcpu_run.specs.declared.script.Script.{Script}
 use Rattle.vcpu_run.specs.Agreed.{AreCredited}
-use Rattle.vio_num.specs.declared.history.Served.{Served}
 use Rattle.vcpu_run.specs.Answered.{AreAnswered}
 use Rattle.vcpu_run.specs.Lines.{IsOver}
 use Rattle.vcpu_run.specs.Machines.{AllRun, AllStay, AreScripts}
 use Rattle.vcpu_run.specs.Pairs.{AreOfOneHome}
+use Rattle.vcpu_run.specs.Received.{AreAtRest, AreReceived}
 use Rattle.vcpu_run.proofs.Disks.{disk_told, lasts_somehow, tells_told}
 use Rattle.vcpu_run.proofs.Elsewhere.{ok_then}
 use Rattle.vcpu_run.proofs.Lasting.{lent, plan_lasts}
@@ -119,8 +119,8 @@ returns-clause-law g c =
     (λ trace keeps partitions of_plan.
     keeps partitions (rw (pairs, scripts) (plan_lasts partitions old.items new old_scripts.items new_scripts c.args.self.lan.seats c.run-run.new.lan.seats stay run c.run-run.ensures.lan of_plan)))
 
-pub trace_of-trace-requires-clause-idle : goal.trace_of-trace-requires-clause-idle
-trace_of-trace-requires-clause-idle g c =
+pub trace_of-trace-requires-clause-rests : goal.trace_of-trace-requires-clause-rests
+trace_of-trace-requires-clause-rests g c =
     let old = c.args.self.pairs in
     let new = c.run-run.new.pairs in
     let old_scripts = c.args.self.scripts in
@@ -132,9 +132,16 @@ trace_of-trace-requires-clause-idle g c =
     let scripts : take old_scripts.len (new_scripts ++ drop (length new_scripts) old_scripts.items) ≡ new_scripts =
     lent old_scripts.len old_scripts.items new_scripts size_scripts (c.run-run.ensures.run.count ∙ ap length c.deref_mut-2.ensures.value) in
     let units = c.args.self.server.units.items in
+    let units' = c.run-run.new.server.units.items in
     let before : AreLinked units c.deref_mut.result.now = subst (AreLinked units) (sym c.deref_mut.ensures.value) c.requires.linked in
-    ok_then c.run-run.result (AreLinked units c.deref_mut.result.now → AreIdle new new_scripts) _
+    let received : AreReceived units' c.finish-image.result.copies.items c.finish-image.result.grants.items c.finish-image.result.history.items new =
+    rw (c.finish-image.ensures.copies, c.finish-image.ensures.grants, c.finish-image.ensures.history) c.run-run.ensures.received in
+    ok_then c.run-run.result (AreLinked units c.deref_mut.result.now → AreIdle units' new new_scripts) _
     (λ idle.
-    subst (λ (list : List Pair). AreIdle list (take old_scripts.len (new_scripts ++ drop (length new_scripts) old_scripts.items))) (sym pairs)
-    (subst (λ (list : List Script). AreIdle new list) (sym scripts) (idle before)))
+    subst (λ (list : List Pair). AreAtRest c.finish-image.result.copies.items c.finish-image.result.grants.items c.finish-image.result.history.items list (take old_scripts.len (new_scripts ++ drop (length new_scripts) old_scripts.items))) (sym pairs)
+    (subst (λ (list : List Script). AreAtRest c.finish-image.result.copies.items c.finish-image.result.grants.items c.finish-image.result.history.items new list) (sym scripts)
+    (record { units = units'; idle = idle before; received = received })))
     c.run-run.ensures.idle
+
+pub run-run-requires-clause-received : goal.run-run-requires-clause-received
+run-run-requires-clause-received g c = rw c.deref_mut.ensures.value c.requires.received

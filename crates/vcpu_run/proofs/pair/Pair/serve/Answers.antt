@@ -1,22 +1,26 @@
 use Rattle.vio_num.specs.declared.hypervisor.Moved.TheVariants.{Quiet}
 use Rattle.vcpu_run.specs.Links.{IsLinked, ServerWaits, link_state}
 use Rattle.vcpu_run.proofs.Waiting.{agrees_like, agrees_other, serve_waits}
-use Rattle.vcpu_run.proofs.Resting.{ok_more, ok_both}
+use Rattle.vcpu_run.proofs.Resting.{ok_both}
 use Rattle.vcpu_run.proofs.Crediting.{on_ok}
-use Rattle.std.proofs.Common.{rules, ◌≡◌, Bool, List, false, true, refl, sym, ◌∙◌, ap, subst, IfNone, ◌<◌, IfOk, OnOk, arith, length}
+use Rattle.std.proofs.Common.{rules, ◌≡◌, Bool, List, false, true, refl, sym, ◌∙◌, ap, subst, IfNone, ◌<◌, IfOk, OnOk, arith, length, slice_get}
 use Rattle.vio_num.specs.declared.names.UnitId.{UnitId}
 use Rattle.crq_session.specs.EndState.{EndPlace}
 use Rattle.crq_session.specs.declared.link.PlainLink.{PlainLink}
-use Rattle.crq_session.specs.PlainState.{partner_of, side_of, end_of}
+use Rattle.crq_session.specs.PlainState.{partner_of, side_of, state_of}
+use Rattle.crq_session.specs.declared.side.PlainSide.{PlainSide}
 use Rattle.crq_ring.specs.declared.rows.PipeRow.{PipeRow}
 use Rattle.block_server.specs.Answering.{AnswersMore, OnlyRowsOf}
 use Rattle.vcpu_run.specs.declared.pair.Pair.{Pair}
 use Rattle.vcpu_run.specs.Answered.{AreBegun, IsAnswered}
+use Rattle.tce_window.specs.PlainPort.{known_of}
 use Rattle.tce_window.specs.PortState.{PortPlace}
 use Rattle.vcpu_run.specs.Named.{HasWindow}
 use Rattle.vcpu_run.specs.Pairs.{IsPair}
 use Rattle.vcpu_run.proofs.PairNames.{copies_beside, has_stays, names_beside}
 use Rattle.vcpu_run.proofs.Answering.{answered_elsewhere, answered_served}
+use Rattle.vcpu_run.specs.Received.{IsReceived}
+use Rattle.vcpu_run.proofs.Receiving.{received_elsewhere, received_served}
 use Rattle.vcpu_run.proofs.Keeping.{served}
 use Rattle.vcpu_run.proofs.pair.Pair.serve.Goals as goal
 
@@ -117,9 +121,39 @@ returns-clause-quiet g c =
     ap (λ (b : Bool). (side_of c.side.result.link.now b).registered) c.side.ensures.first ∙ ap (λ (l : PlainLink). (side_of l true).registered) c.side.ensures.link in
     let link_is : link ≡ c.self-1.given.0 = search rules in
     let less : unit < length units = omega (arith, c.requires.unit, c.turn.ensures.units) in
-    subst (λ (l : PlainLink). IfOk c.turn.result (λ moved. moved ≡ Quiet → IsLinked c.args.server.now.units.items unit old → ServerWaits (link_state l))) link_is
+    subst (λ (l : PlainLink). IfOk c.turn.result (λ moved. moved ≡ Quiet → IsLinked c.args.server.now.units.items unit old → ServerWaits (slice_get units unit) (link_state l))) link_is
     (ok_both c.turn.result _ _ _
     (λ moved still waits is linked.
     serve_waits c.side.result.first c.turn.new.crq.end.first _ _ c.side.result.link.now link _ _ _ _ units unit c.side.ensures.first c.turn.ensures.goes.queue_place less (still is)
     (waits is (agrees_like c.args.server.now.units.items unit _ _ before linked.agrees)))
     c.turn.ensures.quiet c.turn.ensures.waits)
+
+pub returns-clause-received : goal.returns-clause-received
+returns-clause-received g c =
+    let old = c.args.self.now in
+    let server = c.args.server.now in
+    let server' = c.turn.new.self in
+    let link = c.turn.new.crq.end.link.now in
+    let new : Pair = record { server = old.server; link = link; own = c.turn.new.own; window = c.turn.new.client; driver = old.driver } in
+    let first : c.turn.new.crq.end.first ≡ true = ap (λ (place : EndPlace). place.first) c.turn.ensures.goes.queue_place ∙ c.side.ensures.first in
+    let before : side_of c.side.result.link.now c.side.result.first ≡ side_of old.link true =
+    ap (λ (b : Bool). side_of c.side.result.link.now b) c.side.ensures.first ∙ ap (λ (l : PlainLink). side_of l true) c.side.ensures.link in
+    let after : side_of link c.turn.new.crq.end.first ≡ side_of link true = ap (λ (b : Bool). side_of link b) first in
+    let link_is : link ≡ c.self-1.given.0 = search rules in
+    subst (λ (l : PlainLink). IsReceived server'.units.items server'.copies.items server'.records.grants.items server'.records.history.items c.args.unit
+    (record { server = old.server; link = l; own = c.turn.new.own; window = c.turn.new.client; driver = old.driver })) link_is
+    (received_served server.units.items server'.units.items c.args.unit old new (state_of c.side.result) (state_of c.turn.new.crq.end) server.copies.items server'.copies.items
+    server.records.grants.items server'.records.grants.items server.records.history.items server'.records.history.items
+    (ap (λ (side : PlainSide). side.queue.session) before) (ap (λ (side : PlainSide). side.queue.taken) before)
+    (ap (λ (side : PlainSide). side.queue.session) after) (ap (λ (side : PlainSide). side.queue.taken) after)
+    c.turn.ensures.judged (subst AreBegun (ap (λ (side : PlainSide). side.queue.taken) after) c.turn.new.crq.puts.took) c.requires.received)
+
+pub returns-clause-received_else : goal.returns-clause-received_else
+returns-clause-received_else g c = λ k other apart own.
+    let server = c.args.server.now in
+    let server' = c.turn.new.self in
+    received_elsewhere server.units.items server'.units.items k c.args.self.now.own.unit other (known_of c.turn.new.own) (known_of c.turn.new.client) server.copies.items server'.copies.items
+    server.records.grants.items server'.records.grants.items server.records.history.items server'.records.history.items
+    (λ e. apart (sym (ap (λ (u : UnitId). u.unit) (sym (c.requires.pair.own_unit ∙ c.requires.pair.server) ∙ (e ∙ own)))))
+    (c.turn.ensures.others_stay k apart) (ap (λ (place : PortPlace). place.unit) c.turn.ensures.goes.own_place) c.turn.ensures.copies
+    c.turn.ensures.lines c.turn.ensures.others

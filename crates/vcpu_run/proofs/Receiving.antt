@@ -1,0 +1,187 @@
+-- What each server unit took and what became of it, over a turn of its own, of another server unit, and of a client's partition.
+use Rattle.std.proofs.Common.{◌≡◌, ◌≢◌, ◌∙◌, ◌≤◌, ℕ, ◌++◌, true, List, [], Option, IfSome, slice_get, filter, map, refl, sym, ap, subst, append-nil}
+use Rattle.std.proofs.Math.Logic.{∥∥₁_elim, ∥∥₁_map, ∥∥₁_map₂, ∥∥₁_prop}
+use Rattle.std.proofs.lemmas.List.Elements.{All-nil, All-weaker}
+use Rattle.std.proofs.lemmas.Option.{IfSome_then}
+use Rattle.vio_num.specs.Words.{Begins}
+use Rattle.vio_num.specs.declared.history.Grant.{Grant}
+use Rattle.vio_num.specs.declared.history.Served.{Served}
+use Rattle.vio_num.specs.declared.names.UnitId.{UnitId}
+use Rattle.crq_ring.specs.declared.rows.PipeRow.{PipeRow}
+use Rattle.crq_session.specs.EndState.{EndState}
+use Rattle.crq_session.specs.PlainState.{end_of, side_of}
+use Rattle.tce_window.specs.PlainPort.{known_of}
+use Rattle.tce_window.specs.PortState.{PortState}
+use Rattle.tce_window.specs.Window.{WindowValue}
+use Rattle.rdma_copy.specs.Copy.{SideGrows}
+use Rattle.rdma_copy.specs.Copies.{side_of as side_at}
+use Rattle.rdma_copy.proofs.Laws.{side_same}
+use Rattle.rdma_copy.specs.declared.copy.CopyRecord.{CopyRecord}
+use Rattle.block_server.specs.Advances.{CopiesMore, IsOwnCopy}
+use Rattle.block_server.specs.Answering.{OnlyRowsOf}
+use Rattle.block_server.specs.Judged.{Judged}
+use Rattle.block_server.specs.Judges.{AreInTime, AreUnused, HasJudged, HasKept}
+use Rattle.block_server.specs.Moves.{is_intake}
+use Rattle.block_server.specs.Receipts.{AwaitNone, HasIntake, Intake, IsIntake, LinesMore, Receipt, is_ended}
+use Rattle.block_server.specs.declared.unit.Unit.{Unit}
+use Rattle.block_server.proofs.BookLaws.{kept_elsewhere, kept_seen}
+use Rattle.block_server.proofs.IntakeLaws.{intake_none, intake_stays, others_pass}
+use Rattle.vcpu_run.specs.declared.pair.Pair.{Pair}
+use Rattle.vcpu_run.specs.Answered.{AreBegun}
+use Rattle.vcpu_run.specs.Pairs.{AreDriven, Drives}
+use Rattle.vcpu_run.specs.Received.{AreFresh, AreReceived, IsReceived}
+use Rattle.vcpu_run.proofs.Keeping.{own_stays}
+use Rattle.vcpu_run.proofs.Listed.{came_from}
+
+-- what a unit's intake is judged by
+abbrev pub intake_at : Unit → (own client : PortState) → EndState → List CopyRecord → List Grant → Intake
+intake_at u own client queue copies grants = record {
+  own = own;
+  client = client;
+  queue = queue;
+  copies = copies;
+  grants = grants;
+  waiting = u.waiting;
+  ended = is_ended u.line;
+}
+
+-- The same unit, seen later, or by another of its queue's ends.
+pub record SeesOn (own own' client client' : PortState) (queue queue' : EndState) (copies copies' : List CopyRecord) (grants grants' : List Grant) : Type 0 where
+  pub own_grows : SideGrows (side_at own) (side_at own')
+  pub client_grows : SideGrows (side_at client) (side_at client')
+  pub session : queue'.last_session ≡ queue.last_session
+  pub taken : queue'.taken ≡ queue.taken
+  pub fetched : filter (is_intake own.place.unit) copies' ≡ filter (is_intake own.place.unit) copies
+  pub lines : Begins grants grants'
+
+pub intake_seen : (units units' : List Unit) (unit : ℕ) (own own' client client' : PortState) (queue queue' : EndState) (copies copies' : List CopyRecord) (grants grants' : List Grant) (receipts : List Receipt)
+    → slice_get units' unit ≡ slice_get units unit → SeesOn own own' client client' queue queue' copies copies' grants grants'
+    → HasIntake units unit own client queue copies grants receipts → HasIntake units' unit own' client' queue' copies' grants' receipts
+intake_seen units units' unit own own' client client' queue queue' copies copies' grants grants' receipts same sees has =
+    subst (λ (o : Option Unit). IfSome o (λ u. IsIntake (intake_at u own' client' queue' copies' grants') receipts)) (sym same)
+    (IfSome_then (slice_get units unit) has
+    (λ u is. intake_stays (intake_at u own client queue copies grants) (intake_at u own' client' queue' copies' grants') receipts
+    (record {
+      own = sees.own_grows;
+      client = sees.client_grows;
+      session = sees.session;
+      taken = sees.taken;
+      copies = sees.fetched;
+      grants = sees.lines;
+      waiting = refl;
+      ended = refl;
+    }) is))
+
+-- nothing is other than it was
+begins_same : {X : Type 0} (xs : List X) → Begins xs xs
+begins_same xs = ([], sym (append-nil xs))
+
+same_seen : (own client : PortState) (queue queue' : EndState) (copies : List CopyRecord) (grants : List Grant) → queue'.last_session ≡ queue.last_session → queue'.taken ≡ queue.taken
+    → SeesOn own own client client queue queue' copies copies grants grants
+same_seen own client queue queue' copies grants session taken = record {
+  own_grows = side_same (side_at own);
+  client_grows = side_same (side_at client);
+  session = session;
+  taken = taken;
+  fetched = refl;
+  lines = begins_same grants;
+}
+
+-- the entries that were judged, seen later, or by another of the queue's ends, in the same lines and rows
+pub judged_seen : (units units' : List Unit) (unit : ℕ) (own own' client client' : PortState) (queue queue' : EndState) (copies copies' : List CopyRecord) (history : List Served) (grants : List Grant) (judged : List Judged)
+    → slice_get units' unit ≡ slice_get units unit → own'.place.unit ≡ own.place.unit → SeesOn own own' client client' queue queue' copies copies' grants grants
+    → HasJudged units unit own client queue copies history grants judged → HasJudged units' unit own' client' queue' copies' history grants judged
+judged_seen units units' unit own own' client client' queue queue' copies copies' history grants judged same name sees has = record {
+  received = intake_seen units units' unit own own' client client' queue queue' copies copies' grants grants (map (λ (j : Judged). j.receipt) judged) same sees has.received;
+  kept = subst (λ (id : UnitId). HasKept units' unit id queue' history grants judged) (sym name)
+      (kept_seen units units' unit own.place.unit queue queue' history grants judged same sees.session sees.taken has.kept);
+}
+
+-- A turn of the server unit, over an end of its link that sees the queue as the pair does.
+pub received_served : (units units' : List Unit) (unit : ℕ) (old new : Pair) (queue queue' : EndState) (copies copies' : List CopyRecord) (grants grants' : List Grant) (history history' : List Served)
+    → queue.last_session ≡ (side_of old.link true).queue.session → queue.taken ≡ (side_of old.link true).queue.taken
+    → queue'.last_session ≡ (side_of new.link true).queue.session → queue'.taken ≡ (side_of new.link true).queue.taken
+    → ((judged : List Judged) → HasJudged units unit (known_of old.own) (known_of old.window) queue copies history grants judged
+    → ∥ ((more : List Judged) × (HasJudged units' unit (known_of new.own) (known_of new.window) queue' copies' history' grants' (judged ++ more) × AreInTime old.own.unit grants more)) ∥₁)
+    → AreBegun (side_of new.link true).queue.taken → IsReceived units copies grants history unit old → IsReceived units' copies' grants' history' unit new
+received_served units units' unit old new queue queue' copies copies' grants grants' history history' session taken session' taken' turn begun is = record {
+  judged = ∥∥₁_elim is.judged ∥∥₁_prop
+      (λ before. ∥∥₁_map
+      (turn before.0 (judged_seen units units unit (known_of old.own) (known_of old.own) (known_of old.window) (known_of old.window) (end_of [] old.link true) queue copies copies history grants before.0 refl refl
+      (same_seen (known_of old.own) (known_of old.window) (end_of [] old.link true) queue copies grants session taken) before.1))
+      (λ after. (
+        before.0 ++ after.0,
+        judged_seen units' units' unit (known_of new.own) (known_of new.own) (known_of new.window) (known_of new.window) queue' (end_of [] new.link true) copies' copies' history' grants' (before.0 ++ after.0) refl refl
+            (same_seen (known_of new.own) (known_of new.window) queue' (end_of [] new.link true) copies' grants' (sym session') (sym taken')) after.1.0,
+      )));
+  begun = begun;
+}
+
+-- A turn of another server unit.
+pub received_elsewhere : (units units' : List Unit) (k : ℕ) (unit : UnitId) (other : Pair) (own client : PortState) (copies copies' : List CopyRecord) (grants grants' : List Grant) (history history' : List Served)
+    → unit ≢ other.own.unit → slice_get units' k ≡ slice_get units k → own.place.unit ≡ unit → CopiesMore own client copies copies' → ∥ LinesMore unit grants grants' ∥₁ → ∥ OnlyRowsOf unit history history' ∥₁
+    → IsReceived units copies grants history k other → IsReceived units' copies' grants' history' k other
+received_elsewhere units units' k unit other own client copies copies' grants grants' history history' apart same own_is more lines rows is = record {
+  judged = ∥∥₁_elim rows ∥∥₁_prop
+      (λ only. ∥∥₁_map₂ lines is.judged
+      (λ lines has. (
+        has.0,
+        record {
+          received = intake_seen units units' k (known_of other.own) (known_of other.own) (known_of other.window) (known_of other.window) (end_of [] other.link true) (end_of [] other.link true) copies copies' grants grants'
+              (map (λ (j : Judged). j.receipt) has.0) same
+              (record {
+                own_grows = side_same (side_at (known_of other.own));
+                client_grows = side_same (side_at (known_of other.window));
+                session = refl;
+                taken = refl;
+                fetched = ap (filter (is_intake other.own.unit)) more.made
+                    ∙ others_pass other.own.unit copies more.more
+                    (All-weaker (IsOwnCopy own client) (λ copy. copy.name.who ≢ other.own.unit) (λ copy is e. apart (sym (is.who ∙ own_is) ∙ e)) more.more more.lawful);
+                lines = (lines.more, lines.added);
+              }) has.1.received;
+          kept = kept_elsewhere units units' k unit other.own.unit (end_of [] other.link true) (end_of [] other.link true) history history' grants grants' has.0 apart same refl refl only lines has.1.kept;
+        },
+      )));
+  begun = is.begun;
+}
+
+-- A turn of the clients.
+pub received_driven : (units : List Unit) (copies : List CopyRecord) (grants : List Grant) (history : List Served) (old new : List Pair) → AreDriven old new → AreReceived units copies grants history old
+    → AreReceived units copies grants history new
+received_driven units copies grants history old new driven are k pair found =
+    let from = came_from Drives old new driven.count driven.each k pair found in
+    let d = from.2 in
+    let is = are k from.0 from.1 in
+    record {
+      judged = ∥∥₁_map is.judged
+          (λ has. (
+            has.0,
+            judged_seen units units k (known_of from.0.own) (known_of pair.own) (known_of from.0.window) (known_of pair.window) (end_of [] from.0.link true) (end_of [] pair.link true) copies copies history grants has.0 refl
+                (ap (λ (own : WindowValue). own.unit) d.own)
+                (record {
+                  own_grows = own_stays from.0 pair d.own;
+                  client_grows = d.grows;
+                  session = d.server_session;
+                  taken = d.server_taken;
+                  fetched = refl;
+                  lines = begins_same grants;
+                }) has.1,
+          ));
+      begun = subst AreBegun (sym d.server_taken) is.begun;
+    }
+
+-- Before the first turn.
+pub received_fresh : (units : List Unit) (copies : List CopyRecord) (grants : List Grant) (history : List Served) (pairs : List Pair) → copies ≡ [] → grants ≡ [] → history ≡ [] → AwaitNone units → AreUnused units → AreFresh pairs
+    → AreReceived units copies grants history pairs
+received_fresh units copies grants history pairs none no_lines no_rows waits unused fresh k pair found = record {
+  judged = ∣ (
+    [],
+    record {
+      received = IfSome_then (slice_get units k) (waits k)
+          (λ u is. intake_none (intake_at u (known_of pair.own) (known_of pair.window) (end_of [] pair.link true) copies grants) (fresh k pair found) none is);
+      kept = subst (λ (lines : List Grant). HasKept units k pair.own.unit (end_of [] pair.link true) history lines []) (sym no_lines)
+          (subst (λ (rows : List Served). HasKept units k pair.own.unit (end_of [] pair.link true) rows [] []) (sym no_rows) (unused k pair.own.unit (end_of [] pair.link true)));
+    },
+  ) ∣₁;
+  begun = subst AreBegun (sym (fresh k pair found)) (All-nil (λ (row : PipeRow). 1 ≤ row.session));
+}

@@ -1,0 +1,41 @@
+-- What each server unit took in between turns: its receipts, over its pair's windows and its own queue, and what became of each.
+use Rattle.std.specs.Prelude.{◌≡◌, ℕ, true, List, [], Some, slice_get}
+use Rattle.vio_num.specs.declared.history.Grant.{Grant}
+use Rattle.vio_num.specs.declared.history.Served.{Served}
+use Rattle.crq_session.specs.PlainState.{end_of, side_of}
+use Rattle.tce_window.specs.PlainPort.{known_of}
+use Rattle.rdma_copy.specs.declared.copy.CopyRecord.{CopyRecord}
+use Rattle.block_server.specs.Judged.{Judged}
+use Rattle.block_server.specs.Judges.{HasJudged}
+use Rattle.block_server.specs.declared.unit.Unit.{Unit}
+use Rattle.vcpu_run.specs.declared.pair.Pair.{Pair}
+use Rattle.vcpu_run.specs.declared.script.Script.{Script}
+use Rattle.vcpu_run.specs.Answered.{AreBegun}
+use Rattle.vcpu_run.specs.Links.{AreIdle}
+
+-- these are the entries that server unit k took, each with its receipt and its fate
+abbrev pub HasEntries : List Unit → List CopyRecord → List Grant → List Served → (k : ℕ) → Pair → List Judged → Type 0
+HasEntries units copies grants history k pair judged =
+    HasJudged units k (known_of pair.own) (known_of pair.window) (end_of [] pair.link true) copies history grants judged
+
+-- Server unit k has a receipt and a fate for each entry that it took, its rows are those of its requests, and it took all in
+-- sessions.
+pub record IsReceived (units : List Unit) (copies : List CopyRecord) (grants : List Grant) (history : List Served) (k : ℕ) (pair : Pair) : Type 0 where
+  pub judged : ∥ ((judged : List Judged) × HasEntries units copies grants history k pair judged) ∥₁
+  pub begun : AreBegun (side_of pair.link true).queue.taken
+
+abbrev pub AreReceived : List Unit → List CopyRecord → List Grant → List Served → List Pair → Type 0
+AreReceived units copies grants history pairs = (k : ℕ) (pair : Pair) → slice_get pairs k ≡ Some pair → IsReceived units copies grants history k pair
+
+-- nothing was taken from the server unit's queue
+abbrev pub IsFresh : Pair → Type 0
+IsFresh pair = (side_of pair.link true).queue.taken ≡ []
+
+abbrev pub AreFresh : List Pair → Type 0
+AreFresh pairs = (k : ℕ) (pair : Pair) → slice_get pairs k ≡ Some pair → IsFresh pair
+
+-- A machine whose run ended: its units wait, and each server unit has its receipts.
+pub record AreAtRest (copies : List CopyRecord) (grants : List Grant) (history : List Served) (pairs : List Pair) (scripts : List Script) : Type 0 where
+  pub units : List Unit
+  pub idle : AreIdle units pairs scripts
+  pub received : AreReceived units copies grants history pairs
