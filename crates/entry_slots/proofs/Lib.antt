@@ -1,0 +1,5 @@
+pub mod EntryAllows
+pub mod EntryKeeps
+pub mod EntryPins
+pub mod EntrySeats
+pub mod EntryWords
