@@ -11,6 +11,3 @@ mod transfer;
 pub use command::{DiskOp, read_cdb};
 pub use disk::execute;
 pub use reply::ScsiReply;
-
-#[cfg(test)]
-mod tests;

@@ -16,8 +16,6 @@ mod read;
 mod said;
 mod script;
 mod statement;
-#[cfg(test)]
-mod tests;
 mod transfer;
 mod verb;
 mod words;

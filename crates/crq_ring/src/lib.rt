@@ -20,10 +20,3 @@ pub use port::{CrqPort, Poll, Put};
 pub use ring::{OpenedRing, Ring};
 pub use rows::{DropRow, PipeRow};
 pub use shared::SharedPipe;
-
-#[cfg(test)]
-mod control_tests;
-#[cfg(test)]
-mod ring_tests;
-#[cfg(test)]
-mod tests;

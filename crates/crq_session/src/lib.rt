@@ -27,6 +27,3 @@ pub use plain_end::PlainEnd;
 pub use seat::LinkSeat;
 pub use shared_end::SharedEnd;
 pub use shared_link::{Link, OpenedLink};
-
-#[cfg(test)]
-mod tests;

@@ -7,8 +7,6 @@ mod kind;
 mod named;
 mod returned;
 mod table;
-#[cfg(test)]
-mod tests;
 mod units;
 
 pub use hcall::Hcall;

@@ -18,6 +18,3 @@ pub use buffer::{FRAME_OFFSET, buffer_address, buffer_len, is_buffer, is_valid};
 pub use port::PlainPort;
 pub use rows::{DeliverRow, HarvestRow, PostRow};
 pub use settings::Settings;
-
-#[cfg(test)]
-mod tests;

@@ -6,8 +6,6 @@ mod control;
 mod filter;
 mod filters;
 mod station;
-#[cfg(test)]
-mod tests;
 
 pub use control::{Control, FilterAction, read_control};
 pub use filter::accepts;

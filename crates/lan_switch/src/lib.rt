@@ -16,6 +16,3 @@ pub use switch::{PlainSwitch, PortPlan};
 
 /// The switch in use; until there is a shared form it is the plain one.
 pub type Switch = PlainSwitch;
-
-#[cfg(test)]
-mod tests;

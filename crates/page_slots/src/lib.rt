@@ -4,13 +4,9 @@
 
 mod page;
 mod pages;
-#[cfg(test)]
-mod pages_tests;
 mod seat;
 mod steps;
 mod stroke;
-#[cfg(test)]
-mod tests;
 mod view;
 
 pub use page::Page;

@@ -4,6 +4,3 @@
 mod copy;
 
 pub use copy::{CopyAnswer, CopyRecord, copied_pieces, copy_rdma};
-
-#[cfg(test)]
-mod tests;

@@ -6,8 +6,6 @@ mod fault;
 mod initiator;
 mod tags;
 mod target;
-#[cfg(test)]
-mod tests;
 
 pub use fault::CreditFault;
 pub use initiator::Initiator;

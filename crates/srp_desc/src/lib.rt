@@ -7,8 +7,6 @@ mod laws;
 mod pieces;
 mod table;
 mod tables;
-#[cfg(test)]
-mod tests;
 
 pub use laws::{fetched_table_is_read, named_pieces_sum_up};
 pub use pieces::{DescFault, MAX_DATA_LEN, MAX_TABLE_LEN, Pieces, pieces_of};

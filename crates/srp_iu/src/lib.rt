@@ -33,6 +33,3 @@ pub use response_code::ResponseCode;
 pub use task::TskMgmt;
 pub use unit::{Iu, IuFault, MAX_IU_LEN};
 pub use writing::write_iu;
-
-#[cfg(test)]
-mod tests;

@@ -21,6 +21,3 @@ pub use held_pages::HeldPage;
 pub use piece::Piece;
 pub use port::{GuestPort, OwnerPort, WindowPort};
 pub use window::PlainWindow;
-
-#[cfg(test)]
-mod tests;

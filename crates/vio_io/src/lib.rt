@@ -32,6 +32,3 @@ pub use std_source::StdSource;
 pub use sure_blocks::SureBlocks;
 pub use sure_sink::SureSink;
 pub use sure_source::SureSource;
-
-#[cfg(test)]
-mod tests;

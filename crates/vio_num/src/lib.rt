@@ -8,8 +8,6 @@ mod hypervisor;
 mod memory;
 mod names;
 mod sequence;
-#[cfg(test)]
-mod tests;
 
 /// The bytes of a page, which are as many as the addresses of a translation entry (LoPAR, "TCE").
 pub const PAGE_BYTES: u64 = 4096;

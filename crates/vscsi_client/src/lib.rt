@@ -44,6 +44,3 @@ pub use reading::Slot;
 pub use row::{DataIn, Row};
 pub use stage::{Due, Stage};
 pub use table::Table;
-
-#[cfg(test)]
-mod tests;

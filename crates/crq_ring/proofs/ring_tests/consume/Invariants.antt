@@ -1,5 +1,0 @@
-use Rattle.std.proofs.Common.{◌≡◌, ◌≤◌, true}
-use Rattle.crq_ring.proofs.ring_tests.consume.Given as goal
-
-abbrev pub invariant-loop : goal.invariant-loop
-invariant-loop l = (l.recv.ring ≡ l.fn.recv.ring) × (l.recv.is_open ≡ true) × (l.k ≤ l.n)

@@ -1,5 +1,0 @@
-use Rattle.std.proofs.Common.{◌≡◌, ◌≤◌, true}
-use Rattle.crq_ring.proofs.ring_tests.produce.Given as goal
-
-abbrev pub invariant-loop : goal.invariant-loop
-invariant-loop l = (l.send.ring ≡ l.fn.send.ring) × (l.send.inside ≡ true) × (l.k ≤ l.n)

@@ -1,6 +1,0 @@
-use Rattle.std.proofs.Common.{◌≤◌}
-use Rattle.page_slots.specs.Turns.{IsIdle}
-use Rattle.page_slots.proofs.pages_tests.work.Given as goal
-
-abbrev pub invariant-loop : goal.invariant-loop
-invariant-loop l = record { idle : IsIdle l.pages l.seat; within : l.k ≤ l.n }

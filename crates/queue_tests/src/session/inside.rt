@@ -1,0 +1,36 @@
+// A sender that stands inside its partner's queue, which cannot be freed until it left.
+use super::calls::{Answer, COMMAND, Call, FREE_DONE, REGISTER, REGISTERED};
+use super::sides::{SharedSides, Sides};
+use crq_session::{FreeAnswer, RegAnswer, SendAnswer};
+use std::test::Fail;
+
+/// A call of one side, or a free of the first side's queue while the second stands inside; and its answer.
+static INSIDE: [(Option<(bool, Call)>, Answer); 8] = [
+    (
+        Some((true, REGISTER)),
+        Answer::Reg(RegAnswer::Closed { control: 0 }),
+    ),
+    (Some((false, REGISTER)), REGISTERED),
+    (None, Answer::Free(FreeAnswer::Busy { control: 11 })),
+    (Some((true, Call::Free)), FREE_DONE),
+    (
+        Some((false, Call::Send(COMMAND))),
+        Answer::Send(SendAnswer::Closed { control: 8 }),
+    ),
+    (None, Answer::Send(SendAnswer::Closed { control: 8 })),
+    (Some((true, REGISTER)), REGISTERED),
+    (None, Answer::Free(FreeAnswer::Busy { control: 19 })),
+];
+
+#[test]
+fn a_sender_inside_keeps_a_queue_from_being_freed(rt: HostRuntime) -> Result<(), Fail> {
+    let mut sides = SharedSides::open(rt.alloc(), 256, 256)?;
+    for (made, want) in INSIDE.iter() {
+        let answer = match made {
+            Some((first, call)) => sides.call(*first, *call)?,
+            None => sides.free_around()?,
+        };
+        assert_eq!(rt; answer, *want);
+    }
+    Ok(())
+}
