@@ -1,3 +1,4 @@
+// Sources, sinks and images that fail, end and come in pieces, those of std and of files among them.
 ghost use Rattle.std.specs.Prelude.{◌≡◌, ◌<◌};
 
 use std::alloc::{Allocator, Global};
