@@ -1,4 +1,5 @@
 pub mod Agreeing
+pub mod Announcing
 pub mod Answering
 pub mod Apart
 pub mod Blocks
@@ -14,6 +15,7 @@ pub mod Elsewhere
 pub mod Fetching
 pub mod Following
 pub mod Freed
+pub mod GivenAnswers
 pub mod Homes
 pub mod Idling
 pub mod InSessions
@@ -22,6 +24,7 @@ pub mod Lasting
 pub mod Lined
 pub mod Listed
 pub mod Logging
+pub mod Losing
 pub mod Makers
 pub mod Marked
 pub mod Naming
@@ -38,6 +41,7 @@ pub mod RawCalling
 pub mod RawSaid
 pub mod Receiving
 pub mod RecordLaws
+pub mod Requesting
 pub mod Resting
 pub mod Scripted
 pub mod Seated
@@ -46,5 +50,6 @@ pub mod Settling
 pub mod Showing
 pub mod Sole
 pub mod Told
+pub mod Unfreed
 pub mod Waiting
 pub mod Working

@@ -1,3 +1,5 @@
+use Rattle.std.proofs.Common.{refl}
+use Rattle.vcpu_run.proofs.Unfreed.{frees_set}
 use Rattle.std.proofs.lemmas.Option.{slice_get-get_or}
 use Rattle.vcpu_run.proofs.Agreeing.{set_all}
 use Rattle.vcpu_run.proofs.Driving.{driven_set, some_there}
@@ -11,3 +13,7 @@ returns-clause-driven c = driven_set c.args.pairs.now c.args.pair _ c.fail.new.p
 
 pub returns-clause-credit : goal.returns-clause-credit
 returns-clause-credit c = set_all c.args.pairs.now c.args.pair _ c.fail.new.pair (slice_get-get_or c.args.pairs.now c.args.pair _ c.requires.there) c.fail.ensures.credit
+
+pub returns-clause-stays : goal.returns-clause-stays
+returns-clause-stays c =
+    frees_set _ c.args.pairs.now c.args.pair _ c.fail.new.pair (slice_get-get_or c.args.pairs.now c.args.pair _ c.requires.there) (λ other. absurd (other refl))
