@@ -3,7 +3,7 @@ use Rattle.crq_session.specs.EndState.{EndPlace}
 use Rattle.vscsi_client.specs.Ports.{ports}
 use Rattle.vscsi_client.specs.Turned.{site, RanOut, Registered}
 use Rattle.vscsi_client.proofs.Same.{lays_none}
-use Rattle.vscsi_client.proofs.Frames.{turns_after}
+use Rattle.vscsi_client.proofs.Frames.{opened_by, opened_none, turns_after, turns_opened}
 use Rattle.vscsi_client.proofs.Runs.{hands}
 use Rattle.vscsi_client.proofs.Parts.{turned_after, not_busy, none_busy, now_registered}
 use Rattle.vscsi_client.proofs.client.Client.login_turn.Goals as goal
@@ -23,6 +23,13 @@ returns-in-Err-clause-turned g c = record {
   );
   ends = record { rest = []; is = refl; going = refl };
 }
+
+pub returns-in-Err-clause-crq_rest : goal.returns-in-Err-clause-crq_rest
+returns-in-Err-clause-crq_rest g c = turns_opened _ _ _ (opened_none _ _ _ c.in-Err.ensures.none c.register.ensures.rest)
+
+pub returns-in-Busy-clause-crq_rest : goal.returns-in-Busy-clause-crq_rest
+returns-in-Busy-clause-crq_rest g c =
+    turns_opened _ _ _ (opened_by _ _ _ _ _ c.in-Ok.answer c.in-Ok.ensures.registers c.register.ensures.rest)
 
 pub returns-in-Busy-clause-turned : goal.returns-in-Busy-clause-turned
 returns-in-Busy-clause-turned g c = record {
@@ -54,6 +61,6 @@ returns-in_default g c =
           c.turn_registered.result c.in-Ok.answer
           (a, refl, (c.in-Ok.ensures.registers, refl), hands _ _ _ _ _ _ _ _) none
           (ap (λ (p : EndPlace). p.own_slots) c.register.ensures.rest.place) c.turn_registered.ensures.turned;
-      crq_rest = turns_after _ _ _ _ c.register.ensures.rest c.turn_registered.ensures.crq_rest;
+      crq_rest = turns_after _ _ _ _ (opened_by _ _ _ _ _ c.in-Ok.answer c.in-Ok.ensures.registers c.register.ensures.rest) c.turn_registered.ensures.crq_rest;
       own_rest = c.turn_registered.ensures.own_rest;
     }
