@@ -1,7 +1,7 @@
 // What a buffer names by itself, before its table is fetched.
-ghost use Rattle.std.specs.Prelude.{◌≡◌, ◌≤◌, ◌==◌, ◌||◌, ◌%◌, ℕ, [], List, None, Some, IfOk, OnOk, IfErr, nat_lt};
+ghost use Rattle.std.specs.Prelude.{◌≡◌, ◌≤◌, ◌==◌, ◌||◌, ◌%◌, ℕ, [], List, None, Some, IfOk, OnOk, IfErr, length, nat_lt};
 ghost use Rattle.srp_iu.specs.declared.buffer.Buffer.TheVariants.{Direct, Indirect};
-ghost use Rattle.srp_desc.specs.Pieces.{IsGiven, pieces, refusal, refused, tables_in, total_of};
+ghost use Rattle.srp_desc.specs.Pieces.{IsGiven, given_in, pieces, refusal, refused, tables_in, total_of};
 ghost use Rattle.srp_desc.specs.Tables.{tables_of};
 
 use crate::sums::check_sum;
@@ -58,6 +58,7 @@ pub enum Pieces<'a> {
 pub fn pieces_of(buffer: &Buffer) -> Result<Pieces<'_>, DescFault>
     ensures ok { IfOk result (λ given. IsGiven buffer.now given) }
     ensures tables { IfOk result (λ given. tables_in given ≡ tables_of buffer.now) }
+    ensures few { IfOk result (λ given. length (given_in given) ≤ 11) }
     ensures unrefused { OnOk result (refusal buffer.now ≡ None) }
     ensures small { OnOk result (total_of buffer.now ≤ MAX_DATA_LEN) }
     ensures refusal { IfErr result (λ fault. refusal buffer.now ≡ Some fault) }
@@ -75,6 +76,7 @@ pub fn pieces_of(buffer: &Buffer) -> Result<Pieces<'_>, DescFault>
 fn direct(desc: &Desc) -> Result<Pieces<'_>, DescFault>
     ensures ok { IfOk result (λ given. IsGiven (Direct desc.now) given) }
     ensures tables { IfOk result (λ given. tables_in given ≡ []) }
+    ensures few { IfOk result (λ given. length (given_in given) ≤ 11) }
     ensures unrefused { OnOk result (refusal (Direct desc.now) ≡ None) }
     ensures small { OnOk result (desc.now.len ≤ MAX_DATA_LEN) }
     ensures refusal { IfErr result (λ fault. refusal (Direct desc.now) ≡ Some fault) }
@@ -96,6 +98,7 @@ fn indirect<'a>(
     ensures ok { IfOk result (λ given. IsGiven (Indirect table.now total list.now) given) }
     ensures tables { IfOk result (λ given.
         tables_in given ≡ tables_of (Indirect table.now total list.now)) }
+    ensures few { IfOk result (λ given. length (given_in given) ≤ 11) }
     ensures unrefused { OnOk result (refusal (Indirect table.now total list.now) ≡ None) }
     ensures small { OnOk result (total ≤ MAX_DATA_LEN) }
     ensures refusal { IfErr result (λ fault.
