@@ -40,7 +40,7 @@ sessions_in_order {Row} unit session before apart u f named own q (suc count) =
     )
 
 -- what a filter by session leaves is of that session
-filtered : {X : Type 0} (session : X → ℕ) (q : ℕ) (xs : List X) → Each (λ x. session x ≡ q) (filter (λ x. session x == q) xs)
+pub filtered : {X : Type 0} (session : X → ℕ) (q : ℕ) (xs : List X) → Each (λ x. session x ≡ q) (filter (λ x. session x == q) xs)
 filtered session q [] = tt
 filtered session q (x ∷ xs) = at (session x == q) refl (filtered session q xs)
   where
