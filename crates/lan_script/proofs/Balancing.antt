@@ -38,11 +38,11 @@ drops_append v [] ys = omega arith
 drops_append v (f ∷ xs) ys = omega (arith, drops_append v xs ys)
 
 -- the frames of a sender with one more
-with_head : (unit : UnitId) (f : FrameRow) (s : PortSeat) (seats : List PortSeat) (own : List FrameRow) (frames : List (List FrameRow))
+pub with_head : (unit : UnitId) (f : FrameRow) (s : PortSeat) (seats : List PortSeat) (own : List FrameRow) (frames : List (List FrameRow))
     → same_unit s.unit unit ≡ true → with_frame unit f (s ∷ seats) (own ∷ frames) ≡ (own ++ f ∷ []) ∷ frames
 with_head unit f s seats own frames e = rw e refl
 
-with_tail : (unit : UnitId) (f : FrameRow) (s : PortSeat) (seats : List PortSeat) (own : List FrameRow) (frames : List (List FrameRow))
+pub with_tail : (unit : UnitId) (f : FrameRow) (s : PortSeat) (seats : List PortSeat) (own : List FrameRow) (frames : List (List FrameRow))
     → same_unit s.unit unit ≡ false → with_frame unit f (s ∷ seats) (own ∷ frames) ≡ own ∷ with_frame unit f seats frames
 with_tail unit f s seats own frames e = rw e refl
 
@@ -64,7 +64,7 @@ one_own unit sender f e = rw e refl
 one_other : (unit sender : UnitId) (f : FrameRow) → same_unit unit sender ≡ false → one_of unit sender f ≡ []
 one_other unit sender f e = rw e refl
 
-there_later : (unit : UnitId) (s : PortSeat) (seats : List PortSeat) → same_unit s.unit unit ≡ false → IsSome (seat_at (s ∷ seats) unit)
+pub there_later : (unit : UnitId) (s : PortSeat) (seats : List PortSeat) → same_unit s.unit unit ≡ false → IsSome (seat_at (s ∷ seats) unit)
     → IsSome (seat_at seats unit)
 there_later unit s seats e there = subst (λ (o : Option PortSeat). IsSome o) (tail e) there
   where
@@ -183,7 +183,7 @@ station_units whole (s ∷ seats) (t ∷ ss) (f ∷ frames) have =
     ap (λ (u : UnitId). u ∷ map unit_of ss) have.0.0.unit_is ∙ ap (λ l. s.unit ∷ l) (station_units whole seats ss frames have.1)
 
 -- a number of frames changes no port
-numbered_port : (unit v : UnitId) (n : ℕ) (ss : List Station) → port_of (with_frames unit n ss) v ≡ port_of ss v
+pub numbered_port : (unit v : UnitId) (n : ℕ) (ss : List Station) → port_of (with_frames unit n ss) v ≡ port_of ss v
 numbered_port unit v n [] = refl
 numbered_port unit v n (s ∷ ss) =
     by_bool (same_unit (unit_of s) unit) (port_of (with_frames unit n (s ∷ ss)) v ≡ port_of (s ∷ ss) v)
