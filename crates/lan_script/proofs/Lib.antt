@@ -5,6 +5,7 @@ pub mod Blocks
 pub mod Bringing
 pub mod Called
 pub mod CarriedOn
+pub mod CarriedRows
 pub mod CarriedSent
 pub mod Carrying
 pub mod Cuts
