@@ -1,10 +1,9 @@
 -- The balance of frames, deliveries and drops, where a frame is sent and its row is kept.
-use Rattle.std.proofs.Common.{◌≡◌, ◌+◌, ◌^◌, ◌<◌, ◌≤◌, inl, inr, ℕ, zero, suc, arith, Bool, true, false, true≢false, List, [], ◌∷◌, ◌++◌, append-nil, Option, Some, None, IsSome, length, length-append, map, set, slice_get, if◌then◌else◌, refl, sym, ◌∙◌, ap, subst}
+use Rattle.std.proofs.Common.{◌≡◌, ◌+◌, ◌≤◌, inl, inr, ℕ, suc, arith, Bool, true, false, true≢false, List, [], ◌∷◌, ◌++◌, append-nil, Option, Some, None, IsSome, length, length-append, map, set, slice_get, if◌then◌else◌, refl, sym, ◌∙◌, ap, subst}
 use Rattle.std.proofs.lemmas.List.{append_assoc}
 use Rattle.vio_num.specs.declared.names.UnitId.{UnitId}
 use Rattle.vio_num.specs.declared.hypervisor.Hrc.TheVariants.{Success}
 use Rattle.tce_window.specs.PortState.{PortState}
-use Rattle.lan_buffers.specs.Calls.{IsOpen}
 use Rattle.lan_buffers.specs.declared.answers.Deliver.{Deliver}
 use Rattle.lan_buffers.specs.declared.answers.Deliver.TheVariants as sent
 use Rattle.lan_switch.specs.declared.answers.Offer.{Offer}
@@ -14,12 +13,12 @@ use Rattle.lan_switch.specs.Sending.{AreOffered, IsSent, LanWindows, OffersFrame
 use Rattle.lan_switch.specs.Switch.{AreAscending, port_of, same_unit, unit_of}
 use Rattle.vio_trace.specs.declared.lan_rows.FrameRow.{FrameRow}
 use Rattle.lan_script.specs.declared.seat.PortSeat.{PortSeat}
-use Rattle.lan_script.specs.Delivered.{Delivered, drops_in, drops_of, drops_to, given, given_in, offer_says, taken}
+use Rattle.lan_script.specs.Delivered.{drops_in, drops_of, drops_to, given, given_in, offer_says, taken}
 use Rattle.lan_script.specs.Frames.{frame_row_of, offered_as}
-use Rattle.lan_script.specs.Invariant.{HaveBegun, IsBalanced, all_of, drops_at, rows_at, sent_by, with_frame, with_sent}
+use Rattle.lan_script.specs.Invariant.{HaveBegun, IsBalanced, all_of, rows_at, sent_by, with_frame, with_sent}
 use Rattle.lan_script.specs.Seats.{seat_at, seat_place}
 use Rattle.lan_script.specs.Units.{HavePorts, port_key}
-use Rattle.lan_script.proofs.Balance.{SeesSame, balance_seen, by_same}
+use Rattle.lan_script.proofs.Balance.{balance_seen, by_same}
 use Rattle.lan_script.proofs.Blocks.{self}
 use Rattle.lan_script.proofs.Gains.{AreSilent, Gains, begun_offered, gained, gained_none, gains, rows_of, told_to}
 use Rattle.lan_script.proofs.Keeping.{frames_long}

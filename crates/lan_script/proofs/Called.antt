@@ -1,5 +1,5 @@
 -- What calls on a port keep of it, and the codes that they answer.
-use Rattle.std.proofs.Common.{◌≡◌, ℕ, Bool, true, false, List, [], ◌∷◌, Option, Some, None, IsSome, arith, length, length-append, map, refl, sym, ◌∙◌, ap, subst, Result}
+use Rattle.std.proofs.Common.{◌≡◌, ℕ, Bool, true, List, [], ◌∷◌, Option, Some, IsSome, arith, length, length-append, map, refl, sym, ◌∙◌, ap, subst, Result}
 use Rattle.std.specs.List.{Contains}
 use Rattle.std.proofs.lemmas.List.Elements.{All-cons, All-contains, All-nil}
 use Rattle.vio_num.specs.declared.names.Mac.{Mac}
@@ -18,7 +18,7 @@ use Rattle.lan_buffers.specs.declared.answers.Harvest.TheVariants.{Frame, Blank,
 use Rattle.lan_switch.specs.declared.answers.LanAnswer.{LanAnswer}
 use Rattle.lan_switch.specs.declared.station.Station.{Station}
 use Rattle.lan_switch.specs.Calls.{Adds, ChangesMac, Frees, Harvests, Multicasts, Registers, Reserves}
-use Rattle.lan_switch.specs.Switch.{AtPort, IsPort, MadeAt, port_of, with_port}
+use Rattle.lan_switch.specs.Switch.{AtPort}
 use Rattle.vio_trace.specs.declared.lan_rows.FrameRow.{FrameRow}
 use Rattle.lan_script.specs.declared.seat.PortSeat.{PortSeat}
 use Rattle.lan_script.specs.declared.windows.Place.{Place}

@@ -1,5 +1,5 @@
 -- What calls on a unit's port or window leave of what frames and deliveries carry.
-use Rattle.std.proofs.Common.{◌≡◌, ◌⊎◌, inl, inr, ◌<◌, ℕ, Bool, true, false, List, [], ◌∷◌, Option, Some, None, refl, sym, ◌∙◌, ap, subst}
+use Rattle.std.proofs.Common.{◌≡◌, ◌⊎◌, inl, inr, true, false, List, [], ◌∷◌, Option, Some, None, refl, sym, ◌∙◌, ap, subst}
 use Rattle.std.specs.List.{Contains}
 use Rattle.vio_num.specs.declared.names.UnitId.{UnitId}
 use Rattle.tce_window.specs.PlainPort.{known_of}
@@ -11,7 +11,7 @@ use Rattle.unit_region.proofs.Growing.{own_same}
 use Rattle.unit_region.specs.Kept.{KeepsWindow, LaysOwnAll, LaysOwnOn}
 use Rattle.lan_buffers.specs.Port.{PortValue}
 use Rattle.lan_switch.specs.Source.{OnlyReadThrough}
-use Rattle.lan_switch.specs.Switch.{AtPort, port_of, same_unit, with_port}
+use Rattle.lan_switch.specs.Switch.{port_of, same_unit, with_port}
 use Rattle.lan_switch.specs.declared.station.Station.{Station}
 use Rattle.vio_trace.specs.declared.lan_rows.FrameRow.{FrameRow}
 use Rattle.vio_trace.specs.declared.lan_rows.PostRow.{PostRow}
@@ -22,7 +22,7 @@ use Rattle.lan_script.proofs.Balance.{sees_with}
 use Rattle.lan_script.proofs.Carrying.{Gathers, all_read, gathered, gathers_own}
 use Rattle.lan_script.proofs.Keys.{port_head, port_tail}
 use Rattle.lan_script.proofs.Named.{same_strokes}
-use Rattle.lan_script.proofs.Placing.{by_bool, has_place, none_some, one_unit, same_some, window_beside, window_with, with_twice}
+use Rattle.lan_script.proofs.Placing.{by_bool, has_place, none_some, one_unit, same_some, window_beside, window_with}
 use Rattle.lan_script.proofs.Posted.{KeepsPosts}
 use Rattle.lan_script.proofs.Tallies.{KeepsTally}
 
@@ -54,8 +54,8 @@ changed unit v (s ∷ ss) before after at same =
           ap (λ l. port_of l v) (here e) ∙ port_head v (record s { port = after }) ss (ap (λ (u : UnitId). same_unit u v) name ∙ f),
         ))
         (λ f. inl (
-          ap (λ l. port_of l v) (here e) ∙ port_tail v (record s { port = after }) ss (ap (λ (u : UnitId). same_unit u v) name ∙ f)
-          ∙ sym (port_tail v s ss f)))
+        ap (λ l. port_of l v) (here e) ∙ port_tail v (record s { port = after }) ss (ap (λ (u : UnitId). same_unit u v) name ∙ f)
+        ∙ sym (port_tail v s ss f)))
 
     other : same_unit s.port.unit unit ≡ false → Changed unit v ss before after → Changed unit v (s ∷ ss) before after
     other e rest =

@@ -1,5 +1,5 @@
 -- The rows of LAN units carry what they say.
-use Rattle.std.proofs.Common.{◌≡◌, ℕ, true, All, List, [], ◌∷◌, ◌++◌, Option, Some, filter, map, refl, sym, ◌∙◌, ap, subst}
+use Rattle.std.proofs.Common.{◌≡◌, true, All, List, [], ◌∷◌, ◌++◌, filter, sym, ◌∙◌, ap, subst}
 use Rattle.std.specs.List.{Contains, flat_map}
 use Rattle.std.proofs.lemmas.List.Elements.{Contains-append_left, Contains-append_right}
 use Rattle.vio_num.specs.declared.names.UnitId.{UnitId}
@@ -13,7 +13,7 @@ use Rattle.vio_trace.specs.declared.lan_rows.PostRow.{PostRow}
 use Rattle.lan_script.specs.declared.rows.LanRows.{LanRows}
 use Rattle.lan_script.specs.declared.seat.PortSeat.{PortSeat}
 use Rattle.lan_script.specs.Carried.{AreNamed, FramesAreCarried, IsCarried, IsRead}
-use Rattle.lan_script.specs.Invariant.{AreCarried, CarryAll, IsLan, all_of, posted_at, posted_in, rows_at, rows_in, side_in}
+use Rattle.lan_script.specs.Invariant.{IsLan, all_of, posted_at, posted_in, rows_at, rows_in, side_in}
 use Rattle.lan_script.specs.Rows.{deliver_rows, port_or, post_rows}
 use Rattle.lan_script.specs.RowsOf.{IsRowsOf}
 use Rattle.lan_script.specs.Units.{LanValue}

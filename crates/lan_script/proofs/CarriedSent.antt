@@ -1,17 +1,15 @@
 -- What a send leaves of what frames and deliveries carry.
-use Rattle.std.proofs.Common.{◌≡◌, ◌+◌, ◌<◌, ◌≤◌, ◌⊎◌, inl, inr, ℕ, suc, arith, Bool, true, false, true≢false, All, List, [], ◌∷◌, ◌++◌, Option, Some, None, IsSome, Result, Ok, Err, IfOk, length, map, if◌then◌else◌, refl, sym, ◌∙◌, ap, subst}
-use Rattle.std.specs.List.{Contains, flat_map}
+use Rattle.std.proofs.Common.{◌≡◌, ◌≤◌, ◌⊎◌, inl, inr, ℕ, suc, arith, Bool, true, false, true≢false, All, List, [], ◌∷◌, ◌++◌, Option, Some, None, IsSome, length, map, if◌then◌else◌, refl, sym, ◌∙◌, ap, subst}
+use Rattle.std.specs.List.{Contains}
 use Rattle.std.proofs.lemmas.List.Elements.{All-append, All-cons, All-nil, All-head, All-tail, Contains-append_cases, Contains-append_left, Contains-append_right}
 use Rattle.vio_num.specs.declared.names.UnitId.{UnitId}
-use Rattle.vio_num.specs.declared.memory.NoMemory.{NoMemory}
 use Rattle.vio_num.specs.declared.hypervisor.Hrc.TheVariants.{Success}
 use Rattle.tce_window.specs.Moved.{IsReadFrom}
 use Rattle.tce_window.specs.PlainPort.{known_of}
 use Rattle.tce_window.specs.PortState.{PortState}
 use Rattle.tce_window.specs.Window.{WindowValue}
 use Rattle.tce_window.specs.declared.piece.Piece.{Piece}
-use Rattle.rdma_copy.proofs.Laws.{side_same}
-use Rattle.rdma_copy.specs.Copy.{Side, SideGrows, side}
+use Rattle.rdma_copy.specs.Copy.{Side, side}
 use Rattle.unit_region.specs.Kept.{KeepsWindow, LaysOwnAll}
 use Rattle.lan_buffers.specs.Buffer.{buffer_address, is_valid}
 use Rattle.lan_buffers.specs.declared.answers.Deliver.{Deliver}
@@ -21,7 +19,7 @@ use Rattle.lan_switch.specs.declared.answers.SendRecord.{SendRecord}
 use Rattle.lan_switch.specs.declared.source.TheConstants.{MOST_PARTS}
 use Rattle.lan_switch.specs.declared.station.Station.{Station}
 use Rattle.lan_switch.specs.Sending.{IsSent, LanWindows, OffersFrame, Offering, SaysFrame, code_after, is_numbered, next_name, next_number, offering, one_code as sent_code, windows_of, with_frames}
-use Rattle.lan_switch.specs.Source.{AreRead, OnlyReadThrough, parts_of}
+use Rattle.lan_switch.specs.Source.{AreRead, parts_of}
 use Rattle.lan_switch.specs.Switch.{port_of, same_unit}
 use Rattle.vio_trace.specs.declared.lan_rows.FrameRow.{FrameRow}
 use Rattle.lan_script.specs.Carried.{AreReadFrom, IsRead}
@@ -34,12 +32,12 @@ use Rattle.lan_script.specs.declared.seat.PortSeat.{PortSeat}
 use Rattle.lan_script.specs.declared.windows.Place.{Place}
 use Rattle.lan_script.proofs.Balancing.{Sends, numbered_port, there_later, with_head, with_tail}
 use Rattle.lan_script.proofs.Blocks.{self}
-use Rattle.lan_script.proofs.Bringing.{Brings, IsOffer, brings, brought, left_alone}
-use Rattle.lan_script.proofs.CarriedOn.{keeps_through, named_as, side_beside, side_kept, side_there}
+use Rattle.lan_script.proofs.Bringing.{Brings, brings, brought, left_alone}
+use Rattle.lan_script.proofs.CarriedOn.{named_as, side_beside, side_kept, side_there}
 use Rattle.lan_script.proofs.Carrying.{Gathers, all_read, gathered, gathers_own}
-use Rattle.lan_script.proofs.Filling.{HasFrame, side_after, side_before}
+use Rattle.lan_script.proofs.Filling.{HasFrame}
 use Rattle.lan_script.proofs.Keeping.{frames_long}
-use Rattle.lan_script.proofs.Placing.{by_bool, has_place, one_unit, window_beside, window_with}
+use Rattle.lan_script.proofs.Placing.{by_bool, window_beside, window_with}
 use Rattle.lan_script.proofs.Sent.{IsDecided, offered_decided}
 
 -- frames with one more

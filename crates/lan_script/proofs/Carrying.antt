@@ -1,5 +1,5 @@
 -- What frames and deliveries carry, as windows, posts, deliveries and frames grow.
-use Rattle.std.proofs.Common.{◌≡◌, ◌+◌, ◌≤◌, ℕ, List, [], ◌∷◌, ◌++◌, All, map, refl, sym, ◌∙◌, ap, subst, append-nil}
+use Rattle.std.proofs.Common.{◌≡◌, ◌+◌, ℕ, List, [], ◌∷◌, ◌++◌, All, sym, ◌∙◌, ap, subst, append-nil}
 use Rattle.std.specs.List.{Contains}
 use Rattle.std.proofs.lemmas.List.Elements.{All-append, All-nil, All-weaker}
 use Rattle.vio_num.specs.declared.names.UnitId.{UnitId}
@@ -13,7 +13,7 @@ use Rattle.unit_region.specs.Kept.{LaysOwnAll}
 use Rattle.vio_trace.specs.declared.lan_rows.DeliverRow.{DeliverRow}
 use Rattle.vio_trace.specs.declared.lan_rows.FrameRow.{FrameRow}
 use Rattle.vio_trace.specs.declared.lan_rows.PostRow.{PostRow}
-use Rattle.lan_script.specs.Carried.{AreNamed, AreReadFrom, IsCarried, IsFilled, IsNamedPage, IsRead, named_on}
+use Rattle.lan_script.specs.Carried.{AreReadFrom, IsCarried, IsFilled, IsNamedPage, IsRead, named_on}
 use Rattle.lan_script.specs.Invariant.{AreCarried}
 use Rattle.lan_script.proofs.Named.{named_more, own_page}
 

@@ -1,11 +1,11 @@
 -- What a frame that was offered to a port leaves of its window, its posts and its deliveries.
-use Rattle.std.proofs.Common.{◌≡◌, ◌+◌, ◌<◌, ◌≤◌, ℕ, arith, Bool, true, false, All, List, [], ◌∷◌, ◌++◌, append-nil, Option, Some, None, length, map, slice_get, refl, sym, ◌∙◌, ap, subst}
+use Rattle.std.proofs.Common.{◌≡◌, ◌+◌, ◌≤◌, ℕ, arith, true, false, List, [], ◌∷◌, ◌++◌, append-nil, Option, Some, None, length, map, slice_get, refl, sym, ◌∙◌, ap, subst}
 use Rattle.std.specs.List.{Contains, flat_map}
 use Rattle.std.proofs.lemmas.List.Elements.{All-cons, All-nil}
 use Rattle.vio_num.specs.declared.names.UnitId.{UnitId}
 use Rattle.page_slots.specs.Stroke.{StrokeValue}
 use Rattle.page_slots.specs.declared.stroke.StrokeName.{StrokeName}
-use Rattle.tce_window.specs.Moved.{IsLaid, IsWrittenTo, piece_strokes, places_on}
+use Rattle.tce_window.specs.Moved.{IsLaid, IsWrittenTo, piece_strokes}
 use Rattle.tce_window.specs.Port.{Grows, Later}
 use Rattle.tce_window.specs.PortState.{LaysNone}
 use Rattle.tce_window.specs.Strokes.{with_strokes}
@@ -22,18 +22,16 @@ use Rattle.lan_buffers.specs.declared.answers.Deliver.TheVariants as sent
 use Rattle.lan_buffers.specs.declared.rows.DeliverRow.{DeliverRow as Delivery}
 use Rattle.lan_buffers.specs.declared.rows.PostRow.{PostRow as Post}
 use Rattle.lan_switch.specs.Sending.{IsOfferedAt, Offering, after, before}
-use Rattle.vio_trace.specs.declared.lan_rows.DeliverRow.{DeliverRow}
 use Rattle.vio_trace.specs.declared.lan_rows.Filled.{Filled}
 use Rattle.vio_trace.specs.declared.lan_rows.Filled.TheVariants.{Frame, Blank}
 use Rattle.vio_trace.specs.declared.lan_rows.FrameRow.{FrameRow}
-use Rattle.vio_trace.specs.declared.lan_rows.PostRow.{PostRow}
 use Rattle.vio_trace.specs.declared.window_rows.PieceRow.{PieceRow}
-use Rattle.lan_script.specs.Carried.{IsCarried, IsFilled, IsNamedPage, NamesFrame, NamesPost, named_on, places_shown}
+use Rattle.lan_script.specs.Carried.{IsCarried, IsNamedPage, named_on, places_shown}
 use Rattle.lan_script.specs.Frames.{piece_row_of}
 use Rattle.lan_script.specs.Rows.{deliver_row_of, deliver_rows, deliveries_in, filled_of, post_row_of, post_rows, sessions_from}
 use Rattle.lan_script.proofs.Carrying.{Gathers, gathers_own}
 use Rattle.lan_script.proofs.Named.{filled_page, places_rows, same_strokes}
-use Rattle.lan_script.proofs.Posted.{KeepsPosts, post_chosen, post_row_there, post_session, posts_stay}
+use Rattle.lan_script.proofs.Posted.{post_chosen, post_row_there, post_session, posts_stay}
 use Rattle.lan_script.proofs.RowLaws.{filtered}
 use Rattle.lan_script.proofs.Tallies.{one_more_long, one_row}
 

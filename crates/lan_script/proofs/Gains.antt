@@ -1,5 +1,5 @@
 -- What the offers of a frame add to the deliveries and drops of each port.
-use Rattle.std.proofs.Common.{◌≡◌, ◌+◌, ◌^◌, ◌<◌, ◌≤◌, inl, inr, ℕ, arith, Bool, true, false, All, List, [], ◌∷◌, ◌++◌, append-nil, Option, Some, None, IsSome, length, map, if◌then◌else◌, refl, sym, ◌∙◌, ap, subst}
+use Rattle.std.proofs.Common.{◌≡◌, ◌+◌, ◌^◌, ◌<◌, ◌≤◌, inl, inr, arith, Bool, true, false, All, List, [], ◌∷◌, ◌++◌, append-nil, Option, Some, IsSome, length, map, if◌then◌else◌, refl, sym, ◌∙◌, ap, subst}
 use Rattle.std.proofs.lemmas.List.Elements.{All-head, All-tail}
 use Rattle.vio_num.specs.declared.names.UnitId.{UnitId}
 use Rattle.lan_buffers.specs.Calls.{IsOpen}

@@ -1,5 +1,5 @@
 -- A frame that was owed is kept.
-use Rattle.std.proofs.Common.{◌≡◌, ◌+◌, ◌<◌, ℕ, zero, suc, Bool, true, false, List, [], ◌∷◌, ◌++◌, Option, Some, None, IfSome, length, map, set, get_or, slice_get, refl, sym, ◌∙◌, ap, subst}
+use Rattle.std.proofs.Common.{◌≡◌, ◌+◌, ◌<◌, ℕ, zero, suc, Bool, true, false, List, [], ◌∷◌, ◌++◌, Option, Some, None, IfSome, length, map, set, get_or, slice_get, sym, ◌∙◌, ap, subst}
 use Rattle.vio_num.specs.declared.names.UnitId.{UnitId}
 use Rattle.lan_switch.specs.declared.answers.SendRecord.{SendRecord}
 use Rattle.vio_trace.specs.declared.lan_rows.FrameRow.{FrameRow}

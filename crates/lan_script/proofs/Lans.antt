@@ -20,10 +20,9 @@ use Rattle.lan_switch.specs.Switch.{AreAscending, AtPort, HasRoom, IsPort, MadeA
 use Rattle.vio_trace.specs.declared.lan_rows.FrameRow.{FrameRow}
 use Rattle.lan_script.specs.declared.seat.PortSeat.{PortSeat}
 use Rattle.lan_script.specs.declared.windows.Place.{Place}
-use Rattle.lan_script.specs.Frames.{with_count}
 use Rattle.lan_script.specs.Invariant.{CarryAll, IsLan, Owes}
 use Rattle.lan_script.specs.Seats.{seat_at, seat_place}
-use Rattle.lan_script.specs.Units.{HavePorts, LanValue, PortKey, WindowKey, port_key, seat_key, window_key}
+use Rattle.lan_script.specs.Units.{HavePorts, LanValue, WindowKey, port_key, seat_key, window_key}
 use Rattle.lan_script.specs.Windows.{FoundIn, HasPlace, facts_in, facts_of, place_in, window_in, with_window}
 use Rattle.lan_script.proofs.Balancing.{Sends, station_units}
 use Rattle.lan_script.proofs.Called.{SamePort, at_balance, at_carried, at_keys}

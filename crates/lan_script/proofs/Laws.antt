@@ -1,5 +1,5 @@
 -- What is so of the LAN units of a run at any time, and of what their frames and deliveries carry.
-use Rattle.std.proofs.Common.{◌≡◌, Bool, true, false, All, List, [], ◌∷◌, Some, IsSome, ℕ, filter, get_or, if◌then◌else◌, refl, sym, ap, subst}
+use Rattle.std.proofs.Common.{◌≡◌, true, List, [], ◌∷◌, Some, IsSome, ℕ, filter, get_or, refl, sym, subst}
 use Rattle.vio_num.specs.declared.names.UnitId.{UnitId}
 use Rattle.tce_window.specs.PlainPort.{known_of}
 use Rattle.tce_window.specs.Window.{WindowValue}
@@ -8,7 +8,7 @@ use Rattle.lan_switch.specs.Switch.{same_unit}
 use Rattle.vio_trace.specs.declared.lan_rows.DeliverRow.{DeliverRow}
 use Rattle.vio_trace.specs.declared.lan_rows.FrameRow.{FrameRow}
 use Rattle.vio_trace.specs.declared.lan_rows.PostRow.{PostRow}
-use Rattle.lan_script.specs.Carried.{AreNamed, FramesAreCarried, IsNamedPage, named_on}
+use Rattle.lan_script.specs.Carried.{FramesAreCarried, IsNamedPage, named_on}
 use Rattle.lan_script.specs.declared.seat.PortSeat.{PortSeat}
 use Rattle.lan_script.specs.Invariant.{IsLan, side_in}
 use Rattle.lan_script.specs.PortLaw.{AreOfSeats}

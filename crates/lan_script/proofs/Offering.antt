@@ -1,8 +1,8 @@
 -- What a switch makes of a frame, told of the units of a run.
-use Rattle.std.proofs.Common.{◌≡◌, ◌≤◌, ◌+◌, ◌⊎◌, inl, inr, ℕ, zero, suc, arith, Bool, true, false, IsTrue, List, [], ◌∷◌, ◌++◌, Option, Some, None, IfSome, take, drop, length, map, if◌then◌else◌, refl, sym, ◌∙◌, ap, subst}
+use Rattle.std.proofs.Common.{◌≡◌, ◌+◌, inl, inr, ℕ, zero, suc, Bool, true, false, List, [], ◌∷◌, Option, Some, None, IfSome, take, drop, map, if◌then◌else◌, refl, sym, ◌∙◌, ap, subst}
 use Rattle.vio_num.specs.declared.names.UnitId.{UnitId}
 use Rattle.vio_num.specs.declared.hypervisor.Hrc.{Hrc}
-use Rattle.vio_num.specs.declared.hypervisor.Hrc.TheVariants.{Success, Busy, Closed, Function, Parameter, NotFound, Dropped, SourceParm, DestParm, Resource}
+use Rattle.vio_num.specs.declared.hypervisor.Hrc.TheVariants.{Success, Parameter}
 use Rattle.hcall_table.specs.Rows.{may_answer}
 use Rattle.hcall_table.specs.declared.hcall.Hcall.TheVariants as rows
 use Rattle.tce_window.specs.declared.answers.HoldFault.{HoldFault}
@@ -13,7 +13,7 @@ use Rattle.lan_buffers.specs.declared.answers.Deliver.TheVariants as sent
 use Rattle.lan_switch.specs.declared.answers.Offer.{Offer}
 use Rattle.lan_switch.specs.declared.answers.SendRecord.{SendRecord}
 use Rattle.lan_switch.specs.declared.station.Station.{Station}
-use Rattle.lan_switch.specs.Sending.{FailsToSend, IsSent, LanWindows, OffersFrame, SaysFrame, code_after, frames_of, is_numbered, next_name, next_number, one_code as sent_code, source_code, with_frames}
+use Rattle.lan_switch.specs.Sending.{FailsToSend, IsSent, LanWindows, OffersFrame, SaysFrame, code_after, frames_of, is_numbered, next_number, one_code as sent_code, source_code, with_frames}
 use Rattle.lan_switch.specs.Switch.{same_unit, station_of, unit_of}
 use Rattle.vio_trace.specs.declared.lan_rows.FrameRow.{FrameRow}
 use Rattle.lan_script.specs.declared.seat.PortSeat.{PortSeat}

@@ -1,5 +1,5 @@
 -- Units that were opened: each seat has its port, its window and no frame.
-use Rattle.std.proofs.Common.{◌≡◌, ◌≤◌, ◌<◌, ℕ, zero, suc, arith, Bool, true, false, All, List, [], ◌∷◌, Option, Some, None, IsSome, if◌then◌else◌, length, map, replicate, refl, sym, ◌∙◌, ap, subst}
+use Rattle.std.proofs.Common.{◌≡◌, ◌≤◌, ◌<◌, ℕ, zero, suc, arith, Bool, true, false, All, List, [], ◌∷◌, Option, Some, None, if◌then◌else◌, length, map, replicate, refl, sym, ◌∙◌, ap, subst}
 use Rattle.std.proofs.lemmas.List.{length-replicate}
 use Rattle.std.proofs.lemmas.List.Elements.{All-map, All-nil, All-weaker}
 use Rattle.vio_num.specs.declared.names.UnitId.{UnitId}

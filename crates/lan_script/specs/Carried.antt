@@ -1,6 +1,6 @@
 -- What frames and deliveries carry: a frame's bytes were read of its sender's region, a delivery wrote them into the buffer
 -- of its post, both through pieces that were granted; and which strokes of a port's region the deliveries made.
-use Rattle.std.specs.Prelude.{◌≡◌, ◌≢◌, ℕ, ◌+◌, ◌<◌, ◌≤◌, ◌==◌, ◌++◌, All, List, [], ◌∷◌, Option, Some, None, filter, length, map, slice_get, if◌then◌else◌}
+use Rattle.std.specs.Prelude.{◌≡◌, ◌≢◌, ℕ, ◌+◌, ◌<◌, ◌≤◌, ◌==◌, ◌++◌, All, List, [], ◌∷◌, Option, Some, filter, length, map, slice_get, if◌then◌else◌}
 use Rattle.std.specs.List.{Contains, flat_map}
 use Rattle.std.specs.Option.{option_and_then}
 use Rattle.vio_num.specs.declared.names.UnitId.{UnitId}
@@ -12,7 +12,6 @@ use Rattle.lan_buffers.specs.Buffer.{buffer_address, frame_offset}
 use Rattle.lan_switch.specs.Switch.{same_unit}
 use Rattle.lan_switch.specs.declared.source.TheConstants.{MOST_PARTS}
 use Rattle.vio_trace.specs.declared.lan_rows.DeliverRow.{DeliverRow}
-use Rattle.vio_trace.specs.declared.lan_rows.Filled.{Filled}
 use Rattle.vio_trace.specs.declared.lan_rows.Filled.TheVariants.{Frame, Blank}
 use Rattle.vio_trace.specs.declared.lan_rows.FrameRow.{FrameRow}
 use Rattle.vio_trace.specs.declared.lan_rows.PostRow.{PostRow}

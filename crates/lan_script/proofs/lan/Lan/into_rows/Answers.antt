@@ -1,4 +1,4 @@
-use Rattle.std.proofs.Common.{◌≡◌, ◌∙◌, All, List, arith, sym, subst}
+use Rattle.std.proofs.Common.{◌∙◌, All, List, arith, sym, subst}
 use Rattle.lan_switch.specs.Switch.{IsPort}
 use Rattle.lan_script.specs.declared.seat.PortSeat.{PortSeat}
 use Rattle.lan_script.proofs.CarriedRows.{carried_told}

@@ -1,8 +1,8 @@
-use Rattle.std.proofs.Common.{◌≡◌, ◌∙◌, arith, ℕ, true, false, map, refl, sym}
+use Rattle.std.proofs.Common.{◌∙◌, arith, ℕ, false, map, refl, sym}
 use Rattle.tce_window.specs.PlainPort.{known_of}
 use Rattle.lan_switch.specs.Sending.{LanWindows, windows_of}
 use Rattle.lan_script.specs.Windows.{FoundIn, facts_in}
-use Rattle.lan_script.proofs.Lans.{lending, lent_keys, may_ok, others_free, owes_ok, place_lent, sent_ports, sent_untouched, whole_carried, whole_sends, window_free, window_there}
+use Rattle.lan_script.proofs.Lans.{lending, lent_keys, others_free, owes_ok, place_lent, sent_ports, sent_untouched, whole_carried, whole_sends, window_free, window_there}
 use Rattle.lan_script.proofs.lan.Lan.offer.Goals as goal
 
 abbrev none_found : ℕ → ℕ → Type 0

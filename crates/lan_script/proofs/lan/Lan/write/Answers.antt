@@ -1,4 +1,4 @@
-use Rattle.std.proofs.Common.{◌≡◌, false}
+use Rattle.std.proofs.Common.{false}
 use Rattle.tce_window.specs.PlainPort.{known_of}
 use Rattle.unit_region.proofs.Growing.{keeps_write}
 use Rattle.lan_script.proofs.Lans.{lan_back, place_after, window_there}
