@@ -13,6 +13,7 @@ pub mod Driving
 pub mod Elsewhere
 pub mod Fetching
 pub mod Following
+pub mod FramesCarried
 pub mod Freed
 pub mod Homes
 pub mod Idling
