@@ -39,3 +39,5 @@ pub mod Verdicts
 pub mod Bystanding
 pub mod BookLaws
 pub mod Jointly
+pub mod Owing
+pub mod OwingRows
