@@ -41,3 +41,5 @@ pub mod BookLaws
 pub mod Jointly
 pub mod Owing
 pub mod OwingRows
+pub mod Reaching
+pub mod OwingCalls

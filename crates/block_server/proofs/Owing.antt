@@ -252,8 +252,9 @@ pub seen_same : (old new : EndState) → new ≡ old → SeesAnswers old new
 seen_same old new same = seen_call old new (λ i. (same i).place) (λ i. (same i).last_session) (λ i. (same i).registered) (λ i. (same i).taken)
 
 -- An entry was taken that is no event.
-pub seen_taken : (old new : EndState) (number : ℕ) (entry : QueueEntry) → Takes false old new number entry → OnlyTakes false old new → (first_byte entry ≡ 0xFF → ⊥) → SeesAnswers old new
-seen_taken old new number entry takes only plain = record {
+pub seen_taken : (shared : Bool) (old new : EndState) (number : ℕ) (entry : QueueEntry) → shared ≡ false → Takes shared old new number entry → OnlyTakes shared old new
+    → (first_byte entry ≡ 0xFF → ⊥) → SeesAnswers old new
+seen_taken shared old new number entry alone takes only plain = record {
   session = only.last_session;
   registered = only.registered;
   ahead = λ loss. record { registered = only.registered ∙ loss.registered; comes = comes loss.comes };
@@ -272,7 +273,7 @@ seen_taken old new number entry takes only plain = record {
       number = is.number;
       event = is.event;
       there = (λ i. slice_get (of_session (only.last_session i) (only.place i).received) is.number) ∙ is.there;
-      ahead = later is.number is.ahead (λ same. plain (ap first_byte (some_same entry is.event (sym (takes.there refl) ∙ ap (slice_get (received_now old)) same ∙ is.there)) ∙ is.says));
+      ahead = later is.number is.ahead (λ same. plain (ap first_byte (some_same entry is.event (sym (takes.there alone) ∙ ap (slice_get (received_now old)) same ∙ is.there)) ∙ is.says));
       says = is.says;
     })
     comes (inr is) = inr (record { event = is.event; kept = (λ i. (only.place i).partner_kept) ∙ is.kept; says = is.says })

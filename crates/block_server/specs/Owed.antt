@@ -13,7 +13,8 @@ use Rattle.crq_session.specs.Answered.{received_now, taken_now}
 use Rattle.block_server.specs.Answering.{has_bytes}
 use Rattle.block_server.specs.Judged.{AreKept, Books, Judged, gets_row, is_logout}
 use Rattle.block_server.specs.Makers.{same_unit}
-use Rattle.block_server.specs.Receipts.{is_ended}
+use Rattle.block_server.specs.Books.{books_at}
+use Rattle.block_server.specs.Receipts.{IsIntake, Receipt, intake_of, is_ended, standing_of}
 use Rattle.block_server.specs.SiteState.{SiteState}
 use Rattle.block_server.specs.declared.records.Records.{Records}
 use Rattle.block_server.specs.declared.request.Request.{Request}
@@ -149,6 +150,17 @@ KeepsAnswers shared unit unit' old new records records' =
 abbrev pub KeepsAnswersBy : Books → (shared : Bool) → (unit unit' : Unit) → (old new : SiteState) → (records records' : Records) → Type 0
 KeepsAnswersBy books shared unit unit' old new records records' =
     (judged : List Judged) → AreKept books judged → KeepsAnswers shared unit unit' old new records records'
+
+-- and of a turn as a whole, of a unit whose intake and books are in order
+abbrev pub KeepsAnswersAll : (shared : Bool) → (unit unit' : Unit) → (old new : SiteState) → (records records' : Records) → Type 0
+KeepsAnswersAll shared unit unit' old new records records' =
+    unit.id ≡ old.own.place.unit → (receipts : List Receipt) → IsIntake (intake_of (standing_of unit) old records.grants.items) receipts
+    → KeepsAnswersBy (books_at unit old records) shared unit unit' old new records records'
+
+-- The own queue and the partner's are registered.
+pub record IsUp (queue : EndState) : Type 0 where
+  pub own : queue.registered ≡ true
+  pub partner : queue.place.partner_registered ≡ true
 
 -- What a part of the service of the oldest request does to the rows: nothing that is seen here, or its row comes.
 pub record BeginsRow (id : UnitId) (session : ℕ) (request : Request) (stage stage' : Stage) (rows rows' : List ServedRow) : Type 0 where
