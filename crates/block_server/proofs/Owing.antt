@@ -140,7 +140,7 @@ cut_all owing session of cause outstanding limit rows grants now other same adde
         (cut_now owing.id owing.grants session of row.login is.number is.credits cause outstanding limit other
         (subst (λ (q : ℕ). Contains owing.grants (Granted owing.id q row.login is.number is.credits)) (is.session ∙ sym now) is.granted))
 
-no_login : (n : ℕ) → n ≡ 0 → 1 ≤ n → ⊥
+pub no_login : (n : ℕ) → n ≡ 0 → 1 ≤ n → ⊥
 no_login n none some = absurd (omega (arith, none, some))
 
 -- Where all are cut off no answer is owed, whatever the queue is.

@@ -14,7 +14,7 @@ use Rattle.crq_session.specs.declared.answers.SendAnswer.TheVariants as sending
 use Rattle.block_server.specs.Answering.{has_bytes}
 use Rattle.block_server.specs.Decided.{Decides}
 use Rattle.block_server.specs.Entries.{is_response_len}
-use Rattle.block_server.specs.Judged.{AreKept, Books, Judged, gets_row, has_row, is_logout}
+use Rattle.block_server.specs.Judged.{AreKept, Books, IsAtStage, IsOutcome, Judged, gets_row, has_row, is_logout}
 use Rattle.block_server.specs.Owed.{HasAnswers, IsAwaited, IsCutOff, IsLossAhead, Owing, RowMark, SeesAnswers, row_in}
 use Rattle.block_server.specs.Receipts.{is_fatal}
 use Rattle.block_server.specs.Stage.{has_answer}
@@ -227,3 +227,12 @@ fatal_other old new bytes verdict cause outstanding granted same is = by cause (
     by lapses.Logout fatal = absurd (cc (fatal))
     by lapses.Lost fatal = refl
     by other fatal = refl
+
+-- the session of an answer that is to be put goes on
+pub entry_going : (books : Books) (judged : List Judged) (outcome : Outcome) → AreKept books judged → books.stage ≡ stages.Entry outcome → books.ended ≡ false
+entry_going books judged outcome is at = by outcome (subst (IsAtStage books.current books.pending) at is.stage)
+  where
+    by : (outcome : Outcome) → IsOutcome books.current books.pending outcome → books.ended ≡ false
+    by (outcomes.Granted number) front = pending_going books judged front.front front.rest is front.parts
+    by outcomes.Rejected front = pending_going books judged front.front front.rest is front.parts
+    by (outcomes.Served row) front = pending_going books judged front.front front.rest is front.parts
