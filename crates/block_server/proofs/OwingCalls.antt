@@ -1,5 +1,5 @@
 -- What the calls of a turn leave of the answers that a unit owes.
-use Rattle.std.proofs.Common.{◌≡◌, ◌≢◌, ◌⊎◌, inl, inr, ◌++◌, ◌==◌, ◌||◌, ◌≤◌, ℕ, Bool, true, false, List, [], ◌∷◌, Option, Some, None, length, map, slice_get, refl, sym, ◌∙◌, ap, subst}
+use Rattle.std.proofs.Common.{◌≡◌, ◌≢◌, ◌⊎◌, inl, inr, ◌++◌, ◌==◌, ◌||◌, ◌≤◌, ℕ, Bool, true, false, List, [], ◌∷◌, Option, Some, None, Result, Ok, Err, OnOk, OnErr, length, map, slice_get, refl, sym, ◌∙◌, ap, subst}
 use Rattle.std.proofs.lemmas.List.{append_assoc, append-nil}
 use Rattle.vio_num.specs.declared.entry.Entry.{Entry as QueueEntry}
 use Rattle.vio_num.specs.declared.entry.Kind.TheVariants.{Event}
@@ -18,6 +18,9 @@ use Rattle.block_server.specs.Judged.{AreKept, Books, IsAtStage, IsOutcome, Judg
 use Rattle.block_server.specs.Owed.{HasAnswers, IsAwaited, IsCutOff, IsLossAhead, Owing, RowMark, SeesAnswers, row_in}
 use Rattle.block_server.specs.Receipts.{is_fatal}
 use Rattle.block_server.specs.Stage.{has_answer}
+use Rattle.block_disk.specs.declared.reply.ScsiReply.{ScsiReply}
+use Rattle.vio_num.specs.declared.memory.NoMemory.{NoMemory}
+use Rattle.block_server.specs.declared.cursor.Cursor.{Cursor}
 use Rattle.block_server.specs.declared.intake.Verdict.{Verdict}
 use Rattle.block_server.specs.declared.intake.Verdict.TheVariants as verdicts
 use Rattle.block_server.specs.declared.logins.Logins.{Logins}
@@ -236,3 +239,9 @@ entry_going books judged outcome is at = by outcome (subst (IsAtStage books.curr
     by (outcomes.Granted number) front = pending_going books judged front.front front.rest is front.parts
     by outcomes.Rejected front = pending_going books judged front.front front.rest is front.parts
     by (outcomes.Served row) front = pending_going books judged front.front front.rest is front.parts
+
+-- the answer to a command whose data-in were copied, or refused
+pub set_row : (stage stage' : Stage) (row : ℕ) (reply : ScsiReply) (cursor : Cursor) (result : Result (Unit {0}) NoMemory) → stage ≡ stages.DataIn row reply cursor
+    → OnOk result (stage' ≡ stages.Answer (outcomes.Served row)) → OnErr result (stage' ≡ stage) → row_in stage' ≡ row_in stage
+set_row stage stage' row reply cursor (Ok done) was ok err = ap row_in ok ∙ sym (ap row_in was)
+set_row stage stage' row reply cursor (Err memory) was ok err = ap row_in err
