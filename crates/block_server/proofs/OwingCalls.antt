@@ -16,13 +16,14 @@ use Rattle.block_server.specs.Decided.{Decides}
 use Rattle.block_server.specs.Entries.{is_response_len}
 use Rattle.block_server.specs.Judged.{AreKept, Books, IsAtStage, IsOutcome, Judged, gets_row, has_row, is_logout}
 use Rattle.block_server.specs.Owed.{HasAnswers, IsAwaited, IsCutOff, IsLossAhead, Owing, RowMark, SeesAnswers, row_in}
-use Rattle.block_server.specs.Receipts.{is_fatal}
+use Rattle.block_server.specs.Receipts.{is_down, is_ended, is_fatal}
 use Rattle.block_server.specs.Stage.{has_answer}
 use Rattle.block_disk.specs.declared.reply.ScsiReply.{ScsiReply}
 use Rattle.vio_num.specs.declared.memory.NoMemory.{NoMemory}
 use Rattle.block_server.specs.declared.cursor.Cursor.{Cursor}
 use Rattle.block_server.specs.declared.intake.Verdict.{Verdict}
 use Rattle.block_server.specs.declared.intake.Verdict.TheVariants as verdicts
+use Rattle.block_server.specs.declared.line.Line.{Line}
 use Rattle.block_server.specs.declared.logins.Logins.{Logins}
 use Rattle.block_server.specs.declared.request.Order.{Order}
 use Rattle.block_server.specs.declared.request.Order.TheVariants as orders
@@ -245,3 +246,7 @@ pub set_row : (stage stage' : Stage) (row : ℕ) (reply : ScsiReply) (cursor : C
     → OnOk result (stage' ≡ stages.Answer (outcomes.Served row)) → OnErr result (stage' ≡ stage) → row_in stage' ≡ row_in stage
 set_row stage stage' row reply cursor (Ok done) was ok err = ap row_in ok ∙ sym (ap row_in was)
 set_row stage stage' row reply cursor (Err memory) was ok err = ap row_in err
+
+-- a session that is to be freed is over
+pub closing_ended : (line : Line) → line.closing ≡ true → is_ended line ≡ true
+closing_ended line closing = ap (λ (over : Bool). over || is_down line.handshake) closing
