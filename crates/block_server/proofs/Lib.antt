@@ -43,3 +43,5 @@ pub mod Owing
 pub mod OwingRows
 pub mod Reaching
 pub mod OwingCalls
+pub mod OwedLaws
+pub mod OwingTurn
