@@ -10,13 +10,13 @@ use Rattle.vio_num.specs.declared.history.Served.{Served}
 use Rattle.vio_num.specs.declared.names.UnitId.{UnitId}
 use Rattle.block_server.specs.Answering.{OnlyRowsOf, StaysRow, has_bytes}
 use Rattle.block_server.specs.Makers.{same_unit}
-use Rattle.block_server.specs.Owed.{HasAnswers, HaveAnswers, IsAwaited, IsCutOff, IsGiven, IsLossAhead, OweNone, Owing, RowMark, SeesAnswers, mark_of, marks_of, owing_seen, row_in}
+use Rattle.block_server.specs.Owed.{HasAnswers, HaveAnswers, IsAwaited, IsCutOff, IsGiven, IsLossAhead, OweNone, Owing, RowState, SeesAnswers, row_state, row_states, owing_seen, row_in}
 use Rattle.block_server.specs.Receipts.{LinesMore}
 use Rattle.block_server.specs.declared.request.Request.{Request}
 use Rattle.block_server.specs.declared.service.Stage.TheVariants.{Start}
 use Rattle.block_server.specs.declared.unit.Unit.{Unit}
 use Rattle.block_server.proofs.BookLaws.{apart_is}
-use Rattle.block_server.proofs.Owing.{cut_more, has_cut, mark_there, none_some, owes_seen}
+use Rattle.block_server.proofs.Owing.{cut_more, has_cut, state_there, none_some, owes_seen}
 
 -- The client did something at its end of the link.
 pub answers_seen : (units units' : List Unit) (unit : ℕ) (id : UnitId) (queue queue' : EndState) (history : List Served) (grants : List Grant) → slice_get units' unit ≡ slice_get units unit
@@ -29,41 +29,41 @@ answers_seen units units' unit id queue queue' history grants same sees has =
 -- ROWS AND LINES OF OTHERS
 
 -- the rows of a unit stay where they are as others' change
-record Stay (id : UnitId) (marks marks' : List RowMark) : Type 0 where
-  back : (at : ℕ) (row : RowMark) → slice_get marks' at ≡ Some row → same_unit row.unit id ≡ true → slice_get marks at ≡ Some row
-  there : (at : ℕ) (row : RowMark) → slice_get marks at ≡ Some row → (new : RowMark) × (slice_get marks' at ≡ Some new)
+record Stay (id : UnitId) (states states' : List RowState) : Type 0 where
+  back : (at : ℕ) (row : RowState) → slice_get states' at ≡ Some row → same_unit row.unit id ≡ true → slice_get states at ≡ Some row
+  there : (at : ℕ) (row : RowState) → slice_get states at ≡ Some row → (new : RowState) × (slice_get states' at ≡ Some new)
 
-came : (id other : UnitId) (rows : List Served) (at : ℕ) (row : RowMark) → other ≢ id → All (λ (r : Served). r.unit ≡ other) rows → slice_get (marks_of rows) at ≡ Some row
+came : (id other : UnitId) (rows : List Served) (at : ℕ) (row : RowState) → other ≢ id → All (λ (r : Served). r.unit ≡ other) rows → slice_get (row_states rows) at ≡ Some row
     → same_unit row.unit id ≡ true → ⊥
 came id other [] at row apart all there own = none_some row there
 came id other (first ∷ rows) zero row apart all there own =
     let is : first.unit ≡ other = All-head (λ (r : Served). r.unit ≡ other) first rows all in
-    let same : mark_of first ≡ row = cc (there) in
-    absurd (cc (own, apart_is row.unit id (λ e. apart (sym is ∙ ap (λ (m : RowMark). m.unit) same ∙ e))))
+    let same : row_state first ≡ row = cc (there) in
+    absurd (cc (own, apart_is row.unit id (λ e. apart (sym is ∙ ap (λ (m : RowState). m.unit) same ∙ e))))
 came id other (first ∷ rows) (suc at) row apart all there own = came id other rows at row apart (All-tail (λ (r : Served). r.unit ≡ other) first rows all) there own
 
-row_stays : (id other : UnitId) (row new : Served) (rows news : List Served) → other ≢ id → StaysRow other row new → Stay id (marks_of rows) (marks_of news)
-    → Stay id (marks_of (row ∷ rows)) (marks_of (new ∷ news))
+row_stays : (id other : UnitId) (row new : Served) (rows news : List Served) → other ≢ id → StaysRow other row new → Stay id (row_states rows) (row_states news)
+    → Stay id (row_states (row ∷ rows)) (row_states (new ∷ news))
 row_stays id other row new rows news apart only rest = record {
-  back = λ at mark there own. back at mark there own;
-  there = λ at mark there. found at mark there;
+  back = λ at state there own. back at state there own;
+  there = λ at state there. found at state there;
 }
   where
-    front : (mark : RowMark) → StaysRow other row new → Some (mark_of new) ≡ Some mark → same_unit mark.unit id ≡ true → Some (mark_of row) ≡ Some mark
-    front mark (inl same) there own = ap (λ (r : Served). Some (mark_of r)) (sym same) ∙ there
-    front mark (inr both) there own =
-        let same : mark_of new ≡ mark = cc (there) in
-        absurd (cc (own, apart_is mark.unit id (λ e. apart (sym both.1 ∙ ap (λ (m : RowMark). m.unit) same ∙ e))))
+    front : (state : RowState) → StaysRow other row new → Some (row_state new) ≡ Some state → same_unit state.unit id ≡ true → Some (row_state row) ≡ Some state
+    front state (inl same) there own = ap (λ (r : Served). Some (row_state r)) (sym same) ∙ there
+    front state (inr both) there own =
+        let same : row_state new ≡ state = cc (there) in
+        absurd (cc (own, apart_is state.unit id (λ e. apart (sym both.1 ∙ ap (λ (m : RowState). m.unit) same ∙ e))))
 
-    back : (at : ℕ) (mark : RowMark) → slice_get (marks_of (new ∷ news)) at ≡ Some mark → same_unit mark.unit id ≡ true → slice_get (marks_of (row ∷ rows)) at ≡ Some mark
-    back zero mark there own = front mark only there own
-    back (suc at) mark there own = rest.back at mark there own
+    back : (at : ℕ) (state : RowState) → slice_get (row_states (new ∷ news)) at ≡ Some state → same_unit state.unit id ≡ true → slice_get (row_states (row ∷ rows)) at ≡ Some state
+    back zero state there own = front state only there own
+    back (suc at) state there own = rest.back at state there own
 
-    found : (at : ℕ) (mark : RowMark) → slice_get (marks_of (row ∷ rows)) at ≡ Some mark → (m : RowMark) × (slice_get (marks_of (new ∷ news)) at ≡ Some m)
-    found zero mark there = (mark_of new, refl)
-    found (suc at) mark there = rest.there at mark there
+    found : (at : ℕ) (state : RowState) → slice_get (row_states (row ∷ rows)) at ≡ Some state → (m : RowState) × (slice_get (row_states (new ∷ news)) at ≡ Some m)
+    found zero state there = (row_state new, refl)
+    found (suc at) state there = rest.there at state there
 
-rows_stay : (id other : UnitId) (rows news : List Served) → other ≢ id → OnlyRowsOf other rows news → Stay id (marks_of rows) (marks_of news)
+rows_stay : (id other : UnitId) (rows news : List Served) → other ≢ id → OnlyRowsOf other rows news → Stay id (row_states rows) (row_states news)
 rows_stay id other [] news apart only = record {
   back = λ at row there own. absurd (came id other news at row apart only there own);
   there = λ at row there. absurd (none_some row there);
@@ -72,7 +72,7 @@ rows_stay id other (row ∷ rows) [] apart only = absurd only
 rows_stay id other (row ∷ rows) (new ∷ news) apart only = row_stays id other row new rows news apart only.0 (rows_stay id other rows news apart only.1)
 
 -- A unit's answers stay over them.
-stays : (owing : Owing) (rows : List RowMark) (more : List Grant) → Stay owing.id owing.rows rows → HasAnswers owing → HasAnswers (record owing { rows = rows; grants = owing.grants ++ more })
+stays : (owing : Owing) (rows : List RowState) (more : List Grant) → Stay owing.id owing.rows rows → HasAnswers owing → HasAnswers (record owing { rows = rows; grants = owing.grants ++ more })
 stays owing rows more stay has = record {
   each = λ at row there own none. by at row (has.each at row (stay.back at row there own) own none);
   serving = λ at is.
@@ -83,7 +83,7 @@ stays owing rows more stay has = record {
   goes_on = has.goes_on;
 }
   where
-    by : (at : ℕ) (row : RowMark) → IsCutOff owing.id owing.grants row.session row.login ⊎ IsAwaited owing at row
+    by : (at : ℕ) (row : RowState) → IsCutOff owing.id owing.grants row.session row.login ⊎ IsAwaited owing at row
         → IsCutOff owing.id (owing.grants ++ more) row.session row.login ⊎ IsAwaited (record owing { rows = rows; grants = owing.grants ++ more }) at row
     by at row (inl cut) = inl (cut_more owing.id owing.grants more row.session row.login cut)
     by at row (inr is) = inr (record {
@@ -103,7 +103,7 @@ answers_elsewhere units units' unit other id queue queue' history history' grant
     answers_seen units units' unit id queue queue' history' grants' same sees
     (subst (λ (all : List Grant). HaveAnswers units unit id queue history' all) (sym lines.added)
     (IfSome_then (slice_get units unit) has
-    (λ u is. stays (owing_seen u id queue history grants) (marks_of history') lines.more (rows_stay id other history history' apart rows) is)))
+    (λ u is. stays (owing_seen u id queue history grants) (row_states history') lines.more (rows_stay id other history history' apart rows) is)))
 
 -- AT REST
 
@@ -121,7 +121,7 @@ answers_at_rest units unit u id queue history grants there none quiet has = ever
         some_pending : (front : Request) (rest : List Request) → u.pending.items ≡ front ∷ rest → ⊥
         some_pending front rest parts = absurd (cc (parts, none))
 
-    cut : (at : ℕ) (row : RowMark) → IsCutOff id grants row.session row.login ⊎ IsAwaited (owing_seen u id queue history grants) at row → IsCutOff id grants row.session row.login
+    cut : (at : ℕ) (row : RowState) → IsCutOff id grants row.session row.login ⊎ IsAwaited (owing_seen u id queue history grants) at row → IsCutOff id grants row.session row.login
     cut at row (inl is) = is
     cut at row (inr awaited) = why awaited.why
       where
@@ -134,7 +134,7 @@ answers_at_rest units unit u id queue history grants there none quiet has = ever
       where
         by : (b : Bool) → has_bytes row.answer ≡ b → (has_bytes row.answer ≡ true) ⊎ IsCutOff id grants row.session row.login
         by true some = inl some
-        by false lacks = inr (cut at (mark_of row) (is.each at (mark_of row) (mark_there history at row in_place) own lacks))
+        by false lacks = inr (cut at (row_state row) (is.each at (row_state row) (state_there history at row in_place) own lacks))
 
     every : (rows : List Served) → ((at : ℕ) (row : Served) → slice_get rows at ≡ Some row → IsGiven id grants row) → All (IsGiven id grants) rows
     every [] each = All-nil (IsGiven id grants)

@@ -16,7 +16,7 @@ use Rattle.crq_session.specs.EndState.{EndPlace, EndState, OnlyTakes}
 use Rattle.crq_session.specs.Answered.{Takes, received_now, taken_now}
 use Rattle.block_server.specs.Judged.{gets_row, is_logout}
 use Rattle.block_server.specs.Makers.{same_unit}
-use Rattle.block_server.specs.Owed.{AreCutOff, BeginsRow, HasAnswers, IsAwaited, IsCutOff, IsEventAhead, IsEventKept, IsInHand, IsLossAhead, MovesRow, Owing, RowMark, SeesAnswers, mark_of, marks_of, row_in}
+use Rattle.block_server.specs.Owed.{AreCutOff, BeginsRow, HasAnswers, IsAwaited, IsCutOff, IsEventAhead, IsEventKept, IsInHand, IsLossAhead, MovesRow, Owing, RowState, SeesAnswers, row_state, row_states, row_in}
 use Rattle.block_server.specs.declared.request.Request.{Request}
 use Rattle.block_server.specs.declared.service.Stage.{Stage}
 
@@ -28,23 +28,23 @@ some_same x y same = cc (same)
 pub none_some : {X : Type 0} → (x : X) → None ≡ Some x → ⊥
 none_some x same = absurd (cc (same))
 
--- the row of a mark
-pub got_row : (rows : List Served) (at : ℕ) (mark : RowMark) → slice_get (marks_of rows) at ≡ Some mark → (row : Served) × ((slice_get rows at ≡ Some row) × (mark_of row ≡ mark))
-got_row [] at mark there = absurd (none_some mark there)
-got_row (row ∷ rows) zero mark there = (row, (refl, some_same (mark_of row) mark there))
-got_row (row ∷ rows) (suc at) mark there = got_row rows at mark there
+-- the row of a state
+pub got_row : (rows : List Served) (at : ℕ) (state : RowState) → slice_get (row_states rows) at ≡ Some state → (row : Served) × ((slice_get rows at ≡ Some row) × (row_state row ≡ state))
+got_row [] at state there = absurd (none_some state there)
+got_row (row ∷ rows) zero state there = (row, (refl, some_same (row_state row) state there))
+got_row (row ∷ rows) (suc at) state there = got_row rows at state there
 
-pub mark_there : (rows : List Served) (at : ℕ) (row : Served) → slice_get rows at ≡ Some row → slice_get (marks_of rows) at ≡ Some (mark_of row)
-mark_there [] at row there = absurd (none_some row there)
-mark_there (first ∷ rows) zero row there = ap (λ (r : Served). Some (mark_of r)) (some_same first row there)
-mark_there (first ∷ rows) (suc at) row there = mark_there rows at row there
+pub state_there : (rows : List Served) (at : ℕ) (row : Served) → slice_get rows at ≡ Some row → slice_get (row_states rows) at ≡ Some (row_state row)
+state_there [] at row there = absurd (none_some row there)
+state_there (first ∷ rows) zero row there = ap (λ (r : Served). Some (row_state r)) (some_same first row there)
+state_there (first ∷ rows) (suc at) row there = state_there rows at row there
 
--- A row in the place of one of the same mark.
-pub marks_set : (rows : List Served) (i : ℕ) (row row' : Served) → slice_get rows i ≡ Some row → mark_of row' ≡ mark_of row → marks_of (slice_set rows i row') ≡ marks_of rows
-marks_set [] i row row' there same = refl
-marks_set (first ∷ rows) zero row row' there same =
-    ap (λ k. k ∷ marks_of rows) (same ∙ ap (λ (r : Served). mark_of r) (sym (some_same first row there)))
-marks_set (first ∷ rows) (suc i) row row' there same = ap (λ marks. mark_of first ∷ marks) (marks_set rows i row row' there same)
+-- A row in the place of one of the same state.
+pub states_set : (rows : List Served) (i : ℕ) (row row' : Served) → slice_get rows i ≡ Some row → row_state row' ≡ row_state row → row_states (slice_set rows i row') ≡ row_states rows
+states_set [] i row row' there same = refl
+states_set (first ∷ rows) zero row row' there same =
+    ap (λ k. k ∷ row_states rows) (same ∙ ap (λ (r : Served). row_state r) (sym (some_same first row there)))
+states_set (first ∷ rows) (suc i) row row' there same = ap (λ states. row_state first ∷ states) (states_set rows i row row' there same)
 
 -- what stands in a list in which one row was put in the place of another
 pub set_cases : (rows : List Served) (i at : ℕ) (new row : Served) → slice_get (slice_set rows i new) at ≡ Some row → (row ≡ new) ⊎ ((at ≢ i) × (slice_get rows at ≡ Some row))
@@ -58,20 +58,20 @@ set_cases (first ∷ rows) (suc i) (suc at) new row there = by (set_cases rows i
     by (inl is) = inl is
     by (inr other) = inr (λ same. other.0 (omega (arith, same)), other.1)
 
--- what stands in a list with one mark more
-pub push_cases : (marks : List RowMark) (new : RowMark) (at : ℕ) (row : RowMark) → slice_get (marks ++ new ∷ []) at ≡ Some row → (slice_get marks at ≡ Some row) ⊎ ((at ≡ length marks) × (row ≡ new))
+-- what stands in a list with one state more
+pub push_cases : (states : List RowState) (new : RowState) (at : ℕ) (row : RowState) → slice_get (states ++ new ∷ []) at ≡ Some row → (slice_get states at ≡ Some row) ⊎ ((at ≡ length states) × (row ≡ new))
 push_cases [] new zero row there = inr (refl, sym (some_same new row there))
 push_cases [] new (suc at) row there = absurd (none_some row there)
-push_cases (first ∷ marks) new zero row there = inl there
-push_cases (first ∷ marks) new (suc at) row there = by (push_cases marks new at row there)
+push_cases (first ∷ states) new zero row there = inl there
+push_cases (first ∷ states) new (suc at) row there = by (push_cases states new at row there)
   where
-    by : (slice_get marks at ≡ Some row) ⊎ ((at ≡ length marks) × (row ≡ new)) → (slice_get marks at ≡ Some row) ⊎ ((suc at ≡ suc (length marks)) × (row ≡ new))
+    by : (slice_get states at ≡ Some row) ⊎ ((at ≡ length states) × (row ≡ new)) → (slice_get states at ≡ Some row) ⊎ ((suc at ≡ suc (length states)) × (row ≡ new))
     by (inl is) = inl is
     by (inr last) = inr (ap suc last.0, last.1)
 
-pub push_last : (marks : List RowMark) (new : RowMark) → slice_get (marks ++ new ∷ []) (length marks) ≡ Some new
+pub push_last : (states : List RowState) (new : RowState) → slice_get (states ++ new ∷ []) (length states) ≡ Some new
 push_last [] new = refl
-push_last (first ∷ marks) new = push_last marks new
+push_last (first ∷ states) new = push_last states new
 
 -- LINES
 
@@ -114,7 +114,7 @@ length_push xs x = length-append xs (x ∷ [])
 
 -- STEPS
 
-awaited_more : (mid new : Owing) (at : ℕ) (row : RowMark) (more : List Grant) → new.id ≡ mid.id → new.queue.last_session ≡ mid.queue.last_session → new.ended ≡ mid.ended
+awaited_more : (mid new : Owing) (at : ℕ) (row : RowState) (more : List Grant) → new.id ≡ mid.id → new.queue.last_session ≡ mid.queue.last_session → new.ended ≡ mid.ended
     → new.grants ≡ mid.grants ++ more → (is : IsAwaited mid at row) → (row_in new.stage ≡ Some at) ⊎ IsLossAhead new.queue → IsAwaited new at row
 awaited_more mid new at row more id session ended grants is why = record {
   number = is.number;
@@ -127,12 +127,12 @@ awaited_more mid new at row more id session ended grants is why = record {
 }
 
 -- A line says that the session lost its partner, or ended for a cause.
-pub cut_all : (owing : Owing) (session of : ℕ) (cause : Lapse) (outstanding limit : ℕ) (rows : List RowMark) (grants : List Grant) → session ≡ owing.queue.last_session → is_logout cause ≡ false
+pub cut_all : (owing : Owing) (session of : ℕ) (cause : Lapse) (outstanding limit : ℕ) (rows : List RowState) (grants : List Grant) → session ≡ owing.queue.last_session → is_logout cause ≡ false
     → rows ≡ owing.rows → grants ≡ owing.grants ++ Lapsed owing.id session of cause outstanding limit ∷ [] → HasAnswers owing → AreCutOff owing.id rows grants
 cut_all owing session of cause outstanding limit rows grants now other same added has = λ at row there own none.
-    subst (λ (all : List Grant). IsCutOff owing.id all row.session row.login) (sym added) (by row (has.each at row (ap (λ (xs : List RowMark). slice_get xs at) (sym same) ∙ there) own none))
+    subst (λ (all : List Grant). IsCutOff owing.id all row.session row.login) (sym added) (by row (has.each at row (ap (λ (xs : List RowState). slice_get xs at) (sym same) ∙ there) own none))
   where
-    by : {at : ℕ} → (row : RowMark) → IsCutOff owing.id owing.grants row.session row.login ⊎ IsAwaited owing at row
+    by : {at : ℕ} → (row : RowState) → IsCutOff owing.id owing.grants row.session row.login ⊎ IsAwaited owing at row
         → IsCutOff owing.id (owing.grants ++ Lapsed owing.id session of cause outstanding limit ∷ []) row.session row.login
     by row (inl cut) = cut_more owing.id owing.grants (Lapsed owing.id session of cause outstanding limit ∷ []) row.session row.login cut
     by row (inr is) =
@@ -153,10 +153,10 @@ has_cut owing off none cut = record {
 }
 
 -- the same of a unit of another place
-pub has_cut_of : (id : UnitId) (rows : List RowMark) (grants : List Grant) (owing : Owing) → owing.id ≡ id → owing.rows ≡ rows → owing.grants ≡ grants → owing.current ≡ 0 → row_in owing.stage ≡ None
+pub has_cut_of : (id : UnitId) (rows : List RowState) (grants : List Grant) (owing : Owing) → owing.id ≡ id → owing.rows ≡ rows → owing.grants ≡ grants → owing.current ≡ 0 → row_in owing.stage ≡ None
     → AreCutOff id rows grants → HasAnswers owing
 has_cut_of id rows grants owing same same_rows same_grants off none cut =
-    has_cut owing off none (subst (λ (z : UnitId × (List RowMark × List Grant)). AreCutOff z.0 z.1.0 z.1.1) (λ i. (sym same i, (sym same_rows i, sym same_grants i))) cut)
+    has_cut owing off none (subst (λ (z : UnitId × (List RowState × List Grant)). AreCutOff z.0 z.1.0 z.1.1) (λ i. (sym same i, (sym same_rows i, sym same_grants i))) cut)
 
 -- Nothing is awaited in a session that is over.
 ended_cut : (owing : Owing) → owing.ended ≡ true → HasAnswers owing → AreCutOff owing.id owing.rows owing.grants
@@ -217,7 +217,7 @@ owes_seen mid new sees id current stage pending ended rows grants has =
     still at (inl is) = inl is
     still at (inr ahead) = inr (sees.ahead ahead)
 
-    by : (at : ℕ) (row : RowMark) → IsCutOff mid.id mid.grants row.session row.login ⊎ IsAwaited mid at row
+    by : (at : ℕ) (row : RowState) → IsCutOff mid.id mid.grants row.session row.login ⊎ IsAwaited mid at row
         → IsCutOff mid.id mid.grants row.session row.login ⊎ IsAwaited (record mid { queue = new.queue }) at row
     by at row (inl cut) = inl cut
     by at row (inr is) = inr (record {
@@ -280,7 +280,7 @@ seen_taken shared old new number entry alone takes only plain = record {
 
 -- The service of the oldest request is over: its row has its answer, or the client is gone.
 pub owes_on : (mid new : Owing) (more : List Grant) → new.id ≡ mid.id → new.queue ≡ mid.queue → new.ended ≡ mid.ended → new.grants ≡ mid.grants ++ more
-    → ((at : ℕ) (row : RowMark) → slice_get new.rows at ≡ Some row → row.answered ≡ false → (slice_get mid.rows at ≡ Some row) × (row_in mid.stage ≡ Some at → IsLossAhead mid.queue))
+    → ((at : ℕ) (row : RowState) → slice_get new.rows at ≡ Some row → row.answered ≡ false → (slice_get mid.rows at ≡ Some row) × (row_in mid.stage ≡ Some at → IsLossAhead mid.queue))
     → row_in new.stage ≡ None
     → (1 ≤ new.current → (1 ≤ mid.current) ⊎ ((mid.queue.registered ≡ true) × ((mid.ended ≡ false) × (mid.queue.place.partner_registered ≡ true))))
     → HasAnswers mid → HasAnswers new
@@ -305,7 +305,7 @@ owes_on mid new more id queue ended grants was none on has = record {
     still at gone (inl is) = gone is
     still at gone (inr ahead) = ahead
 
-    by : (at : ℕ) (row : RowMark) → (row_in mid.stage ≡ Some at → IsLossAhead mid.queue) → IsCutOff mid.id mid.grants row.session row.login ⊎ IsAwaited mid at row
+    by : (at : ℕ) (row : RowState) → (row_in mid.stage ≡ Some at → IsLossAhead mid.queue) → IsCutOff mid.id mid.grants row.session row.login ⊎ IsAwaited mid at row
         → IsCutOff new.id new.grants row.session row.login ⊎ IsAwaited new at row
     by at row gone (inl cut) = inl (subst (λ (z : UnitId × List Grant). IsCutOff z.0 z.1 row.session row.login) (λ i. (sym id i, sym grants i)) (cut_more mid.id mid.grants more row.session row.login cut))
     by at row gone (inr is) = inr (awaited_more mid new at row more id (λ i. (queue i).last_session) ended grants is (inr (subst IsLossAhead (sym queue) (still at gone is.why))))

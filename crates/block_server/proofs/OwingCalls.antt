@@ -15,7 +15,7 @@ use Rattle.block_server.specs.Answering.{has_bytes}
 use Rattle.block_server.specs.Decided.{Decides}
 use Rattle.block_server.specs.Entries.{is_response_len}
 use Rattle.block_server.specs.Judged.{AreKept, Books, IsAtStage, IsOutcome, Judged, gets_row, has_row, is_logout}
-use Rattle.block_server.specs.Owed.{HasAnswers, IsAwaited, IsCutOff, IsLossAhead, Owing, RowMark, SeesAnswers, row_in}
+use Rattle.block_server.specs.Owed.{HasAnswers, IsAwaited, IsCutOff, IsLossAhead, Owing, RowState, SeesAnswers, row_in}
 use Rattle.block_server.specs.Receipts.{is_down, is_ended, is_fatal}
 use Rattle.block_server.specs.Stage.{has_answer}
 use Rattle.block_disk.specs.declared.reply.ScsiReply.{ScsiReply}
@@ -136,7 +136,7 @@ owes_stage mid new same sees id current pending ended rows grants has =
     still at (inl is) = inl (same ∙ is)
     still at (inr ahead) = inr ahead
 
-    by : (at : ℕ) (row : RowMark) → IsCutOff mid.id mid.grants row.session row.login ⊎ IsAwaited mid at row
+    by : (at : ℕ) (row : RowState) → IsCutOff mid.id mid.grants row.session row.login ⊎ IsAwaited mid at row
         → IsCutOff mid.id mid.grants row.session row.login ⊎ IsAwaited (record mid { stage = new.stage }) at row
     by at row (inl cut) = inl cut
     by at row (inr is) = inr (record {
@@ -198,7 +198,7 @@ owes_pushed mid new request more id current stage ended queue rows grants has =
       goes_on = has.goes_on;
     })
   where
-    by : (at : ℕ) (row : RowMark) → IsCutOff mid.id mid.grants row.session row.login ⊎ IsAwaited mid at row
+    by : (at : ℕ) (row : RowState) → IsCutOff mid.id mid.grants row.session row.login ⊎ IsAwaited mid at row
         → IsCutOff mid.id mid.grants row.session row.login ⊎ IsAwaited (record mid { pending = new.pending }) at row
     by at row (inl cut) = inl cut
     by at row (inr is) = inr (record {

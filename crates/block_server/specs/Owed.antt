@@ -62,17 +62,17 @@ pub record IsCutOff (unit : UnitId) (grants : List Grant) (session login : ℕ) 
 -- WHAT A UNIT OWES --------------------------------------------------------------------------------
 
 -- what of a row says whose it is, and whether it has its answer
-pub record RowMark : Type 0 where
+pub record RowState : Type 0 where
   pub unit : UnitId
   pub session : ℕ
   pub login : ℕ
   pub answered : Bool
 
-abbrev pub mark_of : ServedRow → RowMark
-mark_of row = record { unit = row.unit; session = row.session; login = row.login; answered = has_bytes row.answer }
+abbrev pub row_state : ServedRow → RowState
+row_state row = record { unit = row.unit; session = row.session; login = row.login; answered = has_bytes row.answer }
 
-abbrev pub marks_of : List ServedRow → List RowMark
-marks_of rows = map mark_of rows
+abbrev pub row_states : List ServedRow → List RowState
+row_states rows = map row_state rows
 
 -- the place of the row in service, if the request in service has one
 abbrev pub row_in : Stage → Option ℕ
@@ -92,12 +92,12 @@ pub record Owing : Type 0 where
   -- whether nothing more is taken in the session
   pub ended : Bool
   pub queue : EndState
-  pub rows : List RowMark
+  pub rows : List RowState
   pub grants : List Grant
 
 -- The row is of a login that was granted in the present session, which goes on: its answer is still to be put, or the client
 -- is gone.
-pub record IsAwaited (owing : Owing) (at : ℕ) (row : RowMark) : Type 0 where
+pub record IsAwaited (owing : Owing) (at : ℕ) (row : RowState) : Type 0 where
   pub number : ℕ
   pub credits : ℕ
   pub granted : Contains owing.grants (Granted owing.id row.session row.login number credits)
@@ -107,7 +107,7 @@ pub record IsAwaited (owing : Owing) (at : ℕ) (row : RowMark) : Type 0 where
 
 -- The row in service is there, and the oldest request is a command or a task.
 pub record IsInHand (owing : Owing) (at : ℕ) : Type 0 where
-  pub row : RowMark
+  pub row : RowState
   pub there : slice_get owing.rows at ≡ Some row
   pub front : Request
   pub rest : List Request
@@ -116,15 +116,15 @@ pub record IsInHand (owing : Owing) (at : ℕ) : Type 0 where
 
 -- Each row of the unit has its answer, is cut off, or is awaited; and under a login whose client is gone an event says so.
 pub record HasAnswers (owing : Owing) : Type 0 where
-  pub each : (at : ℕ) (row : RowMark) → slice_get owing.rows at ≡ Some row → same_unit row.unit owing.id ≡ true → row.answered ≡ false
+  pub each : (at : ℕ) (row : RowState) → slice_get owing.rows at ≡ Some row → same_unit row.unit owing.id ≡ true → row.answered ≡ false
       → IsCutOff owing.id owing.grants row.session row.login ⊎ IsAwaited owing at row
   pub serving : (at : ℕ) → row_in owing.stage ≡ Some at → IsInHand owing at
   pub owed : 1 ≤ owing.current → owing.queue.place.partner_registered ≡ false → IsLossAhead owing.queue
   pub goes_on : 1 ≤ owing.current → (owing.queue.registered ≡ true) × (owing.ended ≡ false)
 
 -- Each row of the unit has its answer, or is cut off.
-abbrev pub AreCutOff : UnitId → List RowMark → List Grant → Type 0
-AreCutOff id rows grants = (at : ℕ) (row : RowMark) → slice_get rows at ≡ Some row → same_unit row.unit id ≡ true → row.answered ≡ false
+abbrev pub AreCutOff : UnitId → List RowState → List Grant → Type 0
+AreCutOff id rows grants = (at : ℕ) (row : RowState) → slice_get rows at ≡ Some row → same_unit row.unit id ≡ true → row.answered ≡ false
     → IsCutOff id grants row.session row.login
 
 -- THE STEPS OF A TURN -----------------------------------------------------------------------------
@@ -137,7 +137,7 @@ owing_of unit queue records = record {
   pending = unit.pending.items;
   ended = is_ended unit.line;
   queue = queue;
-  rows = marks_of records.history.items;
+  rows = row_states records.history.items;
   grants = records.grants.items;
 }
 
@@ -167,11 +167,11 @@ pub record BeginsRow (id : UnitId) (session : ℕ) (request : Request) (stage st
   pub none : row_in stage ≡ None
   pub at : row_in stage' ≡ Some (length rows)
   pub gets : gets_row request.order ≡ true
-  pub adds : marks_of rows' ≡ marks_of rows ++ record { unit = id; session = session; login = request.login; answered = false } ∷ []
+  pub adds : row_states rows' ≡ row_states rows ++ record { unit = id; session = session; login = request.login; answered = false } ∷ []
 
 abbrev pub MovesRow : UnitId → (session : ℕ) → Request → (stage stage' : Stage) → (rows rows' : List ServedRow) → Type 0
 MovesRow id session request stage stage' rows rows' =
-    ((row_in stage' ≡ row_in stage) × (marks_of rows' ≡ marks_of rows)) ⊎ BeginsRow id session request stage stage' rows rows'
+    ((row_in stage' ≡ row_in stage) × (row_states rows' ≡ row_states rows)) ⊎ BeginsRow id session request stage stage' rows rows'
 
 -- BETWEEN TURNS -----------------------------------------------------------------------------------
 
@@ -184,7 +184,7 @@ owing_seen unit id queue history grants = record {
   pending = unit.pending.items;
   ended = is_ended unit.line;
   queue = queue;
-  rows = marks_of history;
+  rows = row_states history;
   grants = grants;
 }
 

@@ -8,7 +8,7 @@ ghost use Rattle.block_server.specs.Serving.{AnswersOnce, AsNone, LeavesRow, Set
 ghost use Rattle.crq_session.specs.EndState.{EndState};
 ghost use Rattle.block_server.specs.Judged.{Keeps, gets_row, is_login, is_logout, keys_of};
 ghost use Rattle.block_server.specs.Moves.{Passes};
-ghost use Rattle.block_server.specs.Owed.{AreCutOff, HasAnswers, IsUp, KeepsAnswers, KeepsAnswersBy, marks_of, owing_of};
+ghost use Rattle.block_server.specs.Owed.{AreCutOff, HasAnswers, IsUp, KeepsAnswers, KeepsAnswersBy, row_states, owing_of};
 ghost use Rattle.block_server.specs.Receipts.{LinesMore, TakesIn, is_ended, standing_of};
 ghost use Rattle.block_server.specs.Ready.{MeetsFull};
 ghost use Rattle.block_server.specs.Stage.{is_answered};
@@ -87,7 +87,7 @@ pub(crate) fn end_session(
         (books_of unit.old q next records.old) (books_of unit.new q' next' records.new) }
     ensures cuts { (q : EndState) → session ≡ q.last_session → is_logout cause ≡ false →
         HasAnswers (owing_of unit.old q records.old) → AreCutOff unit.old.id
-        (marks_of records.new.history.items) records.new.grants.items }
+        (row_states records.new.history.items) records.new.grants.items }
 {
     end_counted(unit, session, records, cause, 0, 0)
 }
@@ -117,7 +117,7 @@ pub(crate) fn end_counted(
         (books_of unit.old q next records.old) (books_of unit.new q' next' records.new) }
     ensures cuts { (q : EndState) → session ≡ q.last_session → is_logout cause ≡ false →
         HasAnswers (owing_of unit.old q records.old) → AreCutOff unit.old.id
-        (marks_of records.new.history.items) records.new.grants.items }
+        (row_states records.new.history.items) records.new.grants.items }
 {
     end_login(unit, session, records, cause, outstanding, granted);
     unit.line.closing = true;
@@ -141,7 +141,7 @@ pub(crate) fn lose_partner(unit: &mut Unit, session: u64, records: &mut Records)
     ensures stage { unit.new.service.stage ≡ Stage.Start }
     ensures cuts { (q : EndState) → session ≡ q.last_session →
         HasAnswers (owing_of unit.old q records.old) → AreCutOff unit.old.id
-        (marks_of records.new.history.items) records.new.grants.items }
+        (row_states records.new.history.items) records.new.grants.items }
 {
     end_login(unit, session, records, Lapse::Lost, 0, 0);
 }
@@ -170,7 +170,7 @@ fn end_login(
         (books_of unit.old q next records.old) (books_of unit.new q' next' records.new) }
     ensures cuts { (q : EndState) → session ≡ q.last_session → is_logout cause ≡ false →
         HasAnswers (owing_of unit.old q records.old) → AreCutOff unit.old.id
-        (marks_of records.new.history.items) records.new.grants.items }
+        (row_states records.new.history.items) records.new.grants.items }
 {
     bytes_spell_one();
     leave_row(unit, records);
@@ -200,7 +200,7 @@ fn leave_row(unit: &mut Unit, records: &mut Records)
     ensures moved { unit.new.moved ≡ unit.old.moved }
     ensures waiting { unit.new.waiting ≡ unit.old.waiting }
     ensures keys { keys_of records.new.history.items ≡ keys_of records.old.history.items }
-    ensures marks { marks_of records.new.history.items ≡ marks_of records.old.history.items }
+    ensures states { row_states records.new.history.items ≡ row_states records.old.history.items }
 {
     cut_data(&mut unit.service, records);
     unit.service.reset();
@@ -212,7 +212,7 @@ fn cut_data(service: &mut Service, records: &mut Records)
         records.old.history.items records.new.history.items }
     ensures grants { records.new.grants ≡ records.old.grants }
     ensures keys { keys_of records.new.history.items ≡ keys_of records.old.history.items }
-    ensures marks { marks_of records.new.history.items ≡ marks_of records.old.history.items }
+    ensures states { row_states records.new.history.items ≡ row_states records.old.history.items }
 {
     match service.stage {
         Stage::Given { row, .. } => records.fill(row, service.take_given(0)),

@@ -176,7 +176,8 @@ fn make_room(unit: &mut Unit, records: &mut Records) -> Result<(), NoMemory>
     ensures grants { records.new.grants.items ≡ records.old.grants.items }
     ensures books { (site : SiteState) → Keeps (books_at unit.old site records.old)
         (books_at unit.new site records.new) }
-    ensures owing { (q : EndState) → owing_of unit.new q records.new ≡ owing_of unit.old q records.old }
+    ensures owing { (q : EndState) →
+        owing_of unit.new q records.new ≡ owing_of unit.old q records.old }
 {
     unit.pending.reserve(1)?;
     records.make_room()

@@ -7,7 +7,7 @@ ghost use Rattle.block_server.specs.Ends.{IsGrantable};
 ghost use Rattle.block_server.specs.Fetched.{IfRefused};
 ghost use Rattle.block_server.specs.Judged.{Books, IsAtStage, IsFor, Keeps, ServesOne, has_row, in_service, is_login};
 ghost use Rattle.block_server.specs.Moves.{Passes};
-ghost use Rattle.block_server.specs.Owed.{KeepsAnswersBy, MovesRow, marks_of, owing_of, row_in};
+ghost use Rattle.block_server.specs.Owed.{KeepsAnswersBy, MovesRow, row_states, owing_of, row_in};
 ghost use Rattle.block_server.specs.Receipts.{TakesIn, standing_of};
 ghost use Rattle.block_server.specs.Orders.{IsCauseOf, IsCodeOf};
 ghost use Rattle.block_server.specs.Records.{AddsRow};
@@ -387,7 +387,7 @@ fn hand_over<S: Site>(
         service.old.stage service.new.stage
         records.old.history.items records.new.history.items }
     ensures row { row_in service.new.stage ≡ row_in service.old.stage }
-    ensures marks { marks_of records.new.history.items ≡ marks_of records.old.history.items }
+    ensures states { row_states records.new.history.items ≡ row_states records.old.history.items }
 {
     let Stage::DataIn { row, reply, cursor } = service.stage else {
         return Ok(());
@@ -523,7 +523,7 @@ fn end_command(
         service.old.stage service.new.stage
         records.old.history.items records.new.history.items }
     ensures row { row_in service.new.stage ≡ row_in service.old.stage }
-    ensures marks { marks_of records.new.history.items ≡ marks_of records.old.history.items }
+    ensures states { row_states records.new.history.items ≡ row_states records.old.history.items }
 {
     let Stage::DataIn { row, reply, .. } = service.stage else {
         return Ok(());
@@ -562,7 +562,7 @@ fn refuse_data(
         service.old.stage service.new.stage
         records.old.history.items records.new.history.items }
     ensures row { row_in service.new.stage ≡ row_in service.old.stage }
-    ensures marks { marks_of records.new.history.items ≡ marks_of records.old.history.items }
+    ensures states { row_states records.new.history.items ≡ row_states records.old.history.items }
 {
     let Stage::DataIn { row, cursor, .. } = service.stage else {
         return Ok(());

@@ -22,6 +22,6 @@ returns-clause-books c = λ q q' next next' other judged is.
 
 pub returns-clause-cuts : goal.returns-clause-cuts
 returns-clause-cuts c = λ q now other has.
-    cut_all _ c.args.session _ c.args.cause c.args.outstanding c.args.granted _ _ now other c.leave_row.ensures.marks
+    cut_all _ c.args.session _ c.args.cause c.args.outstanding c.args.granted _ _ now other c.leave_row.ensures.states
     (line_same _ _ _ _ _ _ _ _ _ _ _ c.push_reserved.ensures.items (ap (λ (v : Vec Grant Global). v.items) c.leave_row.ensures.grants) c.leave_row.ensures.id
     (c.end-login.ensures.ended ∙ ap (λ (logins : Logins). logins.current) c.leave_row.ensures.logins)) has

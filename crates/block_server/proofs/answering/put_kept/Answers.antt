@@ -22,7 +22,7 @@ use Rattle.std.proofs.Common.{None, sym}
 use Rattle.block_server.proofs.Booking.{kept_stage}
 use Rattle.block_server.specs.Judged.{keys_of}
 use Rattle.crq_session.specs.EndState.{EndPlace}
-use Rattle.block_server.specs.Owed.{marks_of, owing_of, row_in}
+use Rattle.block_server.specs.Owed.{row_states, owing_of, row_in}
 use Rattle.block_server.proofs.Owing.{owes_seen, seen_same}
 use Rattle.block_server.proofs.OwingCalls.{entry_going, owes_discarded, seen_on, seen_reserves, seen_sends}
 use Rattle.block_server.proofs.answering.put_kept.Goals as goal
@@ -155,25 +155,25 @@ pub returns-in_default-clause-answers : goal.returns-in_default-clause-answers
 returns-in_default-clause-answers g c = λ judged is alone has. has
 
 pub returns-in_err-make_room-clause-answers : goal.returns-in_err-make_room-clause-answers
-returns-in_err-make_room-clause-answers g c = λ judged is alone has. owes_seen _ _ (seen_same _ _ refl) refl refl refl refl refl (ap marks_of c.make_room.ensures.lists.history) c.make_room.ensures.lists.grants has
+returns-in_err-make_room-clause-answers g c = λ judged is alone has. owes_seen _ _ (seen_same _ _ refl) refl refl refl refl refl (ap row_states c.make_room.ensures.lists.history) c.make_room.ensures.lists.grants has
 
 pub returns-in_err-make_room-2-clause-answers : goal.returns-in_err-make_room-2-clause-answers
-returns-in_err-make_room-2-clause-answers g c = λ judged is alone has. owes_seen _ _ (seen_same _ _ refl) refl refl refl refl refl (ap marks_of c.make_room.ensures.lists.history) c.make_room.ensures.lists.grants has
+returns-in_err-make_room-2-clause-answers g c = λ judged is alone has. owes_seen _ _ (seen_same _ _ refl) refl refl refl refl refl (ap row_states c.make_room.ensures.lists.history) c.make_room.ensures.lists.grants has
 
 pub returns-in_err-reserve-clause-answers : goal.returns-in_err-reserve-clause-answers
-returns-in_err-reserve-clause-answers g c = λ judged is alone has. owes_seen _ _ (seen_reserves _ _ c.reserve.ensures.rest) refl refl refl refl refl (ap marks_of c.make_room.ensures.lists.history) c.make_room.ensures.lists.grants has
+returns-in_err-reserve-clause-answers g c = λ judged is alone has. owes_seen _ _ (seen_reserves _ _ c.reserve.ensures.rest) refl refl refl refl refl (ap row_states c.make_room.ensures.lists.history) c.make_room.ensures.lists.grants has
 
 pub returns-in-Dropped-clause-answers : goal.returns-in-Dropped-clause-answers
 returns-in-Dropped-clause-answers g c = λ judged is alone has.
-    owes_seen _ _ (seen_on _ _ _ (seen_reserves _ _ c.reserve.ensures.rest) (seen_sends _ _ _ c.send.ensures.rest)) refl refl refl refl refl (ap marks_of c.make_room.ensures.lists.history) c.make_room.ensures.lists.grants has
+    owes_seen _ _ (seen_on _ _ _ (seen_reserves _ _ c.reserve.ensures.rest) (seen_sends _ _ _ c.send.ensures.rest)) refl refl refl refl refl (ap row_states c.make_room.ensures.lists.history) c.make_room.ensures.lists.grants has
 
 pub returns-in_default-kept-clause-answers : goal.returns-in_default-kept-clause-answers
 returns-in_default-kept-clause-answers g c = λ judged is alone has.
-    owes_seen _ _ (seen_on _ _ _ (seen_reserves _ _ c.reserve.ensures.rest) (seen_sends _ _ _ c.send.ensures.rest)) refl refl refl refl refl (ap marks_of c.make_room.ensures.lists.history) c.make_room.ensures.lists.grants has
+    owes_seen _ _ (seen_on _ _ _ (seen_reserves _ _ c.reserve.ensures.rest) (seen_sends _ _ _ c.send.ensures.rest)) refl refl refl refl refl (ap row_states c.make_room.ensures.lists.history) c.make_room.ensures.lists.grants has
 
 pub returns-in_default-kept-2-clause-answers : goal.returns-in_default-kept-2-clause-answers
 returns-in_default-kept-2-clause-answers g c = λ judged is alone has.
-    owes_seen _ _ (seen_on _ _ _ (seen_reserves _ _ c.reserve.ensures.rest) (seen_sends _ _ _ c.send.ensures.rest)) refl refl refl refl refl (ap marks_of c.make_room.ensures.lists.history) c.make_room.ensures.lists.grants has
+    owes_seen _ _ (seen_on _ _ _ (seen_reserves _ _ c.reserve.ensures.rest) (seen_sends _ _ _ c.send.ensures.rest)) refl refl refl refl refl (ap row_states c.make_room.ensures.lists.history) c.make_room.ensures.lists.grants has
 
 pub returns-in-Answer-clause-answers : goal.returns-in-Answer-clause-answers
 returns-in-Answer-clause-answers g c = λ judged is alone has.
@@ -182,7 +182,7 @@ returns-in-Answer-clause-answers g c = λ judged is alone has.
       own = c.send.ensures.rest.registered ∙ c.in-Success.ensures.told;
       partner = ap (λ (p : EndPlace). p.partner_registered) c.send.ensures.rest.place ∙ c.in-Success.ensures.success.puts.partner alone;
     })
-    (owes_seen _ _ (seen_on _ _ _ (seen_reserves _ _ c.reserve.ensures.rest) (seen_sends _ _ _ c.send.ensures.rest)) refl refl refl refl refl (ap marks_of c.make_room.ensures.lists.history) c.make_room.ensures.lists.grants has)
+    (owes_seen _ _ (seen_on _ _ _ (seen_reserves _ _ c.reserve.ensures.rest) (seen_sends _ _ _ c.send.ensures.rest)) refl refl refl refl refl (ap row_states c.make_room.ensures.lists.history) c.make_room.ensures.lists.grants has)
 
 pub returns-in-Answer-kept-clause-answers : goal.returns-in-Answer-kept-clause-answers
 returns-in-Answer-kept-clause-answers g c = λ judged is alone has.
@@ -190,4 +190,4 @@ returns-in-Answer-kept-clause-answers g c = λ judged is alone has.
     (λ number is. c.in_default-send.not-Success number is) (λ number held is. c.in_default-send.not-Dropped number held is)
     c.send.ensures.closed c.send.ensures.unregistered c.send.ensures.rest is refl refl c.finish.ensures.id (ap (λ (l : Logins). l.current) c.finish.ensures.logins)
     (ap row_in c.finish.ensures.stage) (ap is_ended c.finish.ensures.line) refl refl
-    (owes_seen _ _ (seen_reserves _ _ c.reserve.ensures.rest) refl refl refl refl refl (ap marks_of c.make_room.ensures.lists.history) c.make_room.ensures.lists.grants has)
+    (owes_seen _ _ (seen_reserves _ _ c.reserve.ensures.rest) refl refl refl refl refl (ap row_states c.make_room.ensures.lists.history) c.make_room.ensures.lists.grants has)

@@ -21,7 +21,7 @@ use Rattle.std.proofs.Common.{List}
 use Rattle.block_server.proofs.Owing.{owes_seen, seen_same}
 use Rattle.block_server.proofs.OwingRows.{front_under, owes_moved}
 use Rattle.block_server.specs.Judged.{IsAtStage}
-use Rattle.block_server.specs.Owed.{HasAnswers, Owing, marks_of}
+use Rattle.block_server.specs.Owed.{HasAnswers, Owing, row_states}
 use Rattle.block_server.specs.declared.request.Request.{Request}
 use Rattle.block_server.proofs.serving.serve.Goals as goal
 
@@ -187,14 +187,14 @@ pub returns-in_default-clause-answers : goal.returns-in_default-clause-answers
 returns-in_default-clause-answers g c = λ judged is alone has. has
 
 pub returns-in_err-make_room-clause-answers : goal.returns-in_err-make_room-clause-answers
-returns-in_err-make_room-clause-answers g c = λ judged is alone has. owes_seen _ _ (seen_same _ _ refl) refl refl refl refl refl (ap marks_of c.make_room.ensures.lists.history) c.make_room.ensures.lists.grants has
+returns-in_err-make_room-clause-answers g c = λ judged is alone has. owes_seen _ _ (seen_same _ _ refl) refl refl refl refl refl (ap row_states c.make_room.ensures.lists.history) c.make_room.ensures.lists.grants has
 
 pub returns-in-Logout-clause-answers : goal.returns-in-Logout-clause-answers
 returns-in-Logout-clause-answers g c = λ judged is alone has.
     let front = front_is _ _ c.in-Some.ensures.item.3 in
     let none : gets_row c.in-Some.request.now.order ≡ false = search rules in
     c.log_out.ensures.answers (g.S.Site.state c.args.site.now).queue c.in-Some.request.now front.0 front.1 none
-    (owes_seen _ _ (seen_same _ _ refl) refl refl refl refl refl (ap marks_of c.make_room.ensures.lists.history) c.make_room.ensures.lists.grants has)
+    (owes_seen _ _ (seen_same _ _ refl) refl refl refl refl refl (ap row_states c.make_room.ensures.lists.history) c.make_room.ensures.lists.grants has)
 
 pub returns-in_err-prepare-clause-answers : goal.returns-in_err-prepare-clause-answers
 returns-in_err-prepare-clause-answers g c = λ judged is alone has.

@@ -63,6 +63,6 @@ pub returns-in_err-store-clause-moves : goal.returns-in_err-store-clause-moves
 returns-in_err-store-clause-moves g c = moves_on _ _ _ _ _ _ _ _ _ _ refl c.run_step.ensures.moves (moves_same _ _ _ _ _ _ _ c.store.ensures.row refl)
 
 pub returns-clause-moves : goal.returns-clause-moves
-returns-clause-moves g c = 
+returns-clause-moves g c =
     moves_on _ _ _ _ _ _ _ _ _ _ refl (moves_on _ _ _ _ _ _ _ _ _ _ refl c.run_step.ensures.moves (moves_same _ _ _ _ _ _ _ c.store.ensures.row refl))
-    (moves_same _ _ _ _ _ _ _ c.hand_over.ensures.row c.hand_over.ensures.marks)
+    (moves_same _ _ _ _ _ _ _ c.hand_over.ensures.row c.hand_over.ensures.states)
