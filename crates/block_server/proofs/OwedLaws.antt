@@ -1,6 +1,6 @@
 -- Laws of the answers that a unit owes, for the crates above: they stay over turns of other units and over what the client does,
 -- and where nothing is pending and no event is on its way each row has its answer, or is cut off.
-use Rattle.std.proofs.Common.{◌≡◌, ◌≢◌, ◌⊎◌, inl, inr, ◌++◌, ◌≤◌, ℕ, zero, suc, Bool, true, false, All, List, [], ◌∷◌, Option, Some, None, IfSome, map, slice_get, slice_set, refl, sym, ◌∙◌, ap, subst, arith}
+use Rattle.std.proofs.Common.{◌≡◌, ◌≢◌, ◌⊎◌, inl, inr, ◌++◌, ℕ, zero, suc, Bool, true, false, All, List, [], ◌∷◌, Option, Some, IfSome, slice_get, refl, sym, ◌∙◌, ap, subst}
 use Rattle.std.proofs.lemmas.Option.{IfSome_then}
 use Rattle.std.proofs.lemmas.List.Elements.{All-cons, All-head, All-nil, All-tail, Contains-append_left}
 use Rattle.vio_num.specs.declared.history.Grant.TheVariants.{Granted}

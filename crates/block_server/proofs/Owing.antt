@@ -1,8 +1,7 @@
 -- What the parts of a turn leave of the answers that a unit owes.
-use Rattle.std.proofs.Common.{◌≡◌, ◌≢◌, ◌⊎◌, inl, inr, ◌+◌, ◌++◌, ◌<◌, ◌≤◌, ℕ, zero, suc, Bool, true, false, Contains, List, [], ◌∷◌, Option, Some, None, length, map, slice_get, slice_set, refl, sym, ◌∙◌, ap, subst, arith}
-use Rattle.std.proofs.lemmas.List.{append_assoc, length-append, length-map}
+use Rattle.std.proofs.Common.{◌≡◌, ◌≢◌, ◌⊎◌, inl, inr, ◌+◌, ◌++◌, ◌≤◌, ℕ, zero, suc, Bool, true, false, Contains, List, [], ◌∷◌, Some, None, length, slice_get, slice_set, refl, sym, ◌∙◌, ap, subst, arith}
+use Rattle.std.proofs.lemmas.List.{append_assoc, length-append}
 use Rattle.std.proofs.lemmas.List.Elements.{Contains-append_left, Contains-push}
-use Rattle.std.proofs.lemmas.Option.{slice_get-map, slice_get_within}
 use Rattle.vio_num.specs.declared.history.Grant.{Grant}
 use Rattle.vio_num.specs.declared.history.Grant.TheVariants.{Granted, Lapsed}
 use Rattle.vio_num.specs.declared.history.Lapse.{Lapse}
@@ -14,11 +13,9 @@ use Rattle.crq_ring.specs.Sessions.{of_session}
 use Rattle.crq_ring.proofs.Sessions.{of_session-push}
 use Rattle.crq_session.specs.EndState.{EndPlace, EndState, OnlyTakes}
 use Rattle.crq_session.specs.Answered.{Takes, received_now, taken_now}
-use Rattle.block_server.specs.Judged.{gets_row, is_logout}
+use Rattle.block_server.specs.Judged.{is_logout}
 use Rattle.block_server.specs.Makers.{same_unit}
-use Rattle.block_server.specs.Owed.{AreCutOff, BeginsRow, HasAnswers, IsAwaited, IsCutOff, IsEventAhead, IsEventKept, IsInHand, IsLossAhead, MovesRow, Owing, RowState, SeesAnswers, row_state, row_states, row_in}
-use Rattle.block_server.specs.declared.request.Request.{Request}
-use Rattle.block_server.specs.declared.service.Stage.{Stage}
+use Rattle.block_server.specs.Owed.{AreCutOff, HasAnswers, IsAwaited, IsCutOff, IsEventAhead, IsEventKept, IsLossAhead, Owing, RowState, SeesAnswers, row_state, row_states, row_in}
 
 -- ROWS
 

@@ -1,6 +1,5 @@
 -- What the calls of a turn leave of the answers that a unit owes.
-use Rattle.std.proofs.Common.{◌≡◌, ◌≢◌, ◌⊎◌, inl, inr, ◌++◌, ◌==◌, ◌||◌, ◌≤◌, ℕ, Bool, true, false, List, [], ◌∷◌, Option, Some, None, Result, Ok, Err, OnOk, OnErr, length, map, slice_get, refl, sym, ◌∙◌, ap, subst}
-use Rattle.std.proofs.lemmas.List.{append_assoc, append-nil}
+use Rattle.std.proofs.Common.{◌≡◌, ◌⊎◌, inl, inr, ◌++◌, ◌||◌, ◌≤◌, ℕ, Bool, true, false, List, [], ◌∷◌, Some, None, Result, Ok, Err, OnOk, OnErr, length, refl, sym, ◌∙◌, ap, subst}
 use Rattle.vio_num.specs.declared.entry.Entry.{Entry as QueueEntry}
 use Rattle.vio_num.specs.declared.entry.Kind.TheVariants.{Event}
 use Rattle.vio_num.specs.declared.history.Lapse.{Lapse}
@@ -32,7 +31,7 @@ use Rattle.block_server.specs.declared.service.Outcome.{Outcome}
 use Rattle.block_server.specs.declared.service.Outcome.TheVariants as outcomes
 use Rattle.block_server.specs.declared.service.Stage.{Stage}
 use Rattle.block_server.specs.declared.service.Stage.TheVariants as stages
-use Rattle.block_server.proofs.Owing.{none_some, owes_seen, seen_call, seen_same, some_same}
+use Rattle.block_server.proofs.Owing.{owes_seen, seen_call, seen_same}
 use Rattle.block_server.proofs.OwingRows.{front_under, owes_dropped}
 
 -- THE QUEUE

@@ -1,14 +1,12 @@
 -- What the service of the oldest request, and its end, leave of the answers that a unit owes.
-use Rattle.std.proofs.Common.{◌≡◌, ◌≢◌, ◌⊎◌, inl, inr, ◌++◌, ◌≤◌, ℕ, Bool, true, false, Contains, List, [], ◌∷◌, Option, Some, None, length, slice_get, refl, sym, ◌∙◌, ap, subst, arith}
+use Rattle.std.proofs.Common.{◌≡◌, ◌≢◌, ◌⊎◌, inl, inr, ◌++◌, ◌≤◌, ℕ, true, false, Contains, List, [], ◌∷◌, Some, None, length, slice_get, sym, ◌∙◌, ap, subst}
 use Rattle.std.proofs.lemmas.List.{append-nil, length-map}
-use Rattle.vio_num.specs.declared.history.Grant.{Grant}
 use Rattle.vio_num.specs.declared.history.Grant.TheVariants.{Granted}
 use Rattle.vio_num.specs.declared.history.Served.{Served}
 use Rattle.vio_num.specs.declared.names.UnitId.{UnitId}
-use Rattle.crq_session.specs.EndState.{EndState}
 use Rattle.block_server.specs.Answering.{has_bytes}
 use Rattle.block_server.specs.Judged.{AreKept, ArePending, Books, HasGrant, Judged, gets_row}
-use Rattle.block_server.specs.Owed.{BeginsRow, HasAnswers, IsAwaited, IsCutOff, IsInHand, IsLossAhead, MovesRow, Owing, RowState, SeesAnswers, row_state, row_states, row_in}
+use Rattle.block_server.specs.Owed.{BeginsRow, HasAnswers, IsAwaited, IsCutOff, IsInHand, IsLossAhead, MovesRow, Owing, RowState, row_state, row_states, row_in}
 use Rattle.block_server.specs.Makers.{same_unit}
 use Rattle.block_server.specs.Records.{AnswersRow}
 use Rattle.block_server.specs.declared.request.Request.{Request}

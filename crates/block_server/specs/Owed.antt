@@ -1,5 +1,5 @@
 -- Each row of a unit has its answer at last, or a line says why not: which answers a unit still owes between the steps of a turn.
-use Rattle.std.specs.Prelude.{◌≡◌, ◌⊎◌, ◌++◌, ◌≤◌, ℕ, Bool, true, false, All, List, [], ◌∷◌, Option, Some, None, IfSome, length, map, slice_get}
+use Rattle.std.specs.Prelude.{◌≡◌, ◌⊎◌, ◌++◌, ◌≤◌, ℕ, Bool, true, false, List, [], ◌∷◌, Option, Some, None, IfSome, length, map, slice_get}
 use Rattle.std.specs.List.{Contains}
 use Rattle.vio_num.specs.declared.entry.Entry.{Entry as QueueEntry}
 use Rattle.vio_num.specs.declared.history.Grant.{Grant}

@@ -6,7 +6,7 @@ use Rattle.block_server.proofs.Booking.{line_same}
 use Rattle.block_server.proofs.Keeping.{keeps_left, moved_to}
 use Rattle.block_server.proofs.Onces.{once_cleared}
 use Rattle.block_server.proofs.Taking.{lines_pushed}
-use Rattle.std.proofs.Common.{Some, None, sym, subst, ◌≤◌, ◌≡◌, ℕ, ◌∷◌, [], refl, inl}
+use Rattle.std.proofs.Common.{◌∷◌, [], refl}
 use Rattle.block_server.proofs.Owing.{no_login, owes_on}
 use Rattle.block_server.proofs.OwingCalls.{logout_front}
 use Rattle.block_server.specs.Owed.{row_in}

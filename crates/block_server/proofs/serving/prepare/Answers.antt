@@ -3,7 +3,7 @@ use Rattle.block_server.specs.Causes.{told_to}
 use Rattle.block_server.specs.Orders.{IsCauseOf}
 use Rattle.block_server.proofs.Onces.{once_same}
 use Rattle.block_server.proofs.Working.{no_row_at}
-use Rattle.block_server.specs.Judged.{IsFor, is_command, is_login}
+use Rattle.block_server.specs.Judged.{is_command, is_login}
 use Rattle.block_server.specs.Stage.{is_answered}
 use Rattle.std.proofs.Common.{◌≡◌, ◌∙◌, sym, true, false}
 use Rattle.std.proofs.Common.{subst, ℕ}

@@ -1,7 +1,6 @@
 use Rattle.std.proofs.Common.{refl}
 use Rattle.block_server.proofs.Booking.{keys_set, row_there}
 use Rattle.block_server.proofs.Owing.{states_set}
-use Rattle.block_server.proofs.OwingCalls.{seen_on}
 use Rattle.block_server.proofs.records.Records.fill.Goals as goal
 
 pub returns-in-Some-clause-keys : goal.returns-in-Some-clause-keys
