@@ -25,7 +25,7 @@ use Rattle.block_server.proofs.Judging.{filter_first, filter_pass}
 use Rattle.block_server.proofs.Keeping.{moved_to}
 
 -- names that are apart
-apart_is : (a b : UnitId) → a ≢ b → same_unit a b ≡ false
+pub apart_is : (a b : UnitId) → a ≢ b → same_unit a b ≡ false
 apart_is a b apart = at (a.partition == b.partition) refl (a.unit == b.unit) refl
   where
     at : (p : Bool) → (a.partition == b.partition) ≡ p → (u : Bool) → (a.unit == b.unit) ≡ u → (p && u) ≡ false

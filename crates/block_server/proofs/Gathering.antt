@@ -1,5 +1,5 @@
 -- What is known of a command's pieces, while its tables and its data-out are fetched.
-use Rattle.std.proofs.Common.{◌≡◌, ◌⊎◌, inl, inr, Option, Some, None, Result, Ok, Err, ℕ, List, [], ◌∷◌, replicate, refl, sym, ◌∙◌, ap, subst, arith}
+use Rattle.std.proofs.Common.{Bor, ◌≡◌, ◌⊎◌, inl, inr, Option, Some, None, Result, Ok, Err, ℕ, List, [], ◌∷◌, replicate, refl, sym, ◌∙◌, ap, subst, arith}
 use Rattle.std.proofs.lemmas.List.{length-replicate}
 use Rattle.arrayvec.specs.ArrayVec.{ArrayVec}
 use Rattle.srp_iu.specs.declared.buffer.Buffer.{Buffer}
@@ -28,7 +28,7 @@ gathers_moved command stage stage' o o' i i' from was is outs inns known =
     (subst (λ (st : Stage). Gathers command st o.list.items i.list.items) was known)
 
 -- a buffer whose pieces are all there
-pub named_whole : (buffer : Buffer) (given : Pieces) (list : ArrayVec Desc) → IsGiven buffer given → given ≡ Whole list → IsNamed buffer list.items
+pub named_whole : (buffer : Buffer) (given : Pieces) (list : Bor (List Desc)) → IsGiven buffer given → given ≡ Whole list → IsNamed buffer list.now
 named_whole buffer given list is_given is = record {
   table = replicate (table_len buffer) 0;
   full = length-replicate (table_len buffer) 0;

@@ -39,3 +39,9 @@ pub mod Verdicts
 pub mod Bystanding
 pub mod BookLaws
 pub mod Jointly
+pub mod Owing
+pub mod OwingRows
+pub mod Reaching
+pub mod OwingCalls
+pub mod OwedLaws
+pub mod OwingTurn

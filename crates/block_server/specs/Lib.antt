@@ -14,6 +14,7 @@ pub mod Kept
 pub mod Makers
 pub mod Moves
 pub mod Orders
+pub mod Owed
 pub mod Parts
 pub mod Ready
 pub mod Receipts

@@ -8,7 +8,8 @@ ghost use Rattle.block_server.specs.Serving.{AnswersOnce, AsNone, LeavesRow, Set
 ghost use Rattle.crq_session.specs.EndState.{EndState};
 ghost use Rattle.block_server.specs.Judged.{Keeps, gets_row, is_login, is_logout, keys_of};
 ghost use Rattle.block_server.specs.Moves.{Passes};
-ghost use Rattle.block_server.specs.Receipts.{LinesMore, TakesIn, standing_of};
+ghost use Rattle.block_server.specs.Owed.{AreCutOff, HasAnswers, IsUp, KeepsAnswers, KeepsAnswersBy, row_states, owing_of};
+ghost use Rattle.block_server.specs.Receipts.{LinesMore, TakesIn, is_ended, standing_of};
 ghost use Rattle.block_server.specs.Ready.{MeetsFull};
 ghost use Rattle.block_server.specs.Stage.{is_answered};
 ghost use Rattle.block_server.specs.Turns.{IfQuiet};
@@ -48,6 +49,8 @@ pub(crate) fn put_reply<S: Site>(unit: &mut Unit, site: &mut S, reply: Entry) ->
     ensures passes { Passes (S.state site.old) (S.state site.new) }
     ensures books { (records : Records) → Keeps (books_at unit.old (S.state site.old) records)
         (books_at unit.new (S.state site.new) records) }
+    ensures answers { (records : Records) → KeepsAnswers S.link_shared unit.old unit.new
+        (S.state site.old) (S.state site.new) records records }
 {
     match site.send(reply) {
         SendAnswer::Dropped { .. } => {
@@ -82,6 +85,9 @@ pub(crate) fn end_session(
     ensures id { unit.new.id ≡ unit.old.id }
     ensures books { (q q' next next' : ℕ) → is_logout cause ≡ false → Keeps
         (books_of unit.old q next records.old) (books_of unit.new q' next' records.new) }
+    ensures cuts { (q : EndState) → session ≡ q.last_session → is_logout cause ≡ false →
+        HasAnswers (owing_of unit.old q records.old) → AreCutOff unit.old.id
+        (row_states records.new.history.items) records.new.grants.items }
 {
     end_counted(unit, session, records, cause, 0, 0)
 }
@@ -109,6 +115,9 @@ pub(crate) fn end_counted(
     ensures id { unit.new.id ≡ unit.old.id }
     ensures books { (q q' next next' : ℕ) → is_logout cause ≡ false → Keeps
         (books_of unit.old q next records.old) (books_of unit.new q' next' records.new) }
+    ensures cuts { (q : EndState) → session ≡ q.last_session → is_logout cause ≡ false →
+        HasAnswers (owing_of unit.old q records.old) → AreCutOff unit.old.id
+        (row_states records.new.history.items) records.new.grants.items }
 {
     end_login(unit, session, records, cause, outstanding, granted);
     unit.line.closing = true;
@@ -128,6 +137,11 @@ pub(crate) fn lose_partner(unit: &mut Unit, session: u64, records: &mut Records)
         standing_of unit.new ≡ standing_of unit.old }
     ensures books { (q q' next next' : ℕ) → Keeps
         (books_of unit.old q next records.old) (books_of unit.new q' next' records.new) }
+    ensures id { unit.new.id ≡ unit.old.id }
+    ensures stage { unit.new.service.stage ≡ Stage.Start }
+    ensures cuts { (q : EndState) → session ≡ q.last_session →
+        HasAnswers (owing_of unit.old q records.old) → AreCutOff unit.old.id
+        (row_states records.new.history.items) records.new.grants.items }
 {
     end_login(unit, session, records, Lapse::Lost, 0, 0);
 }
@@ -154,6 +168,9 @@ fn end_login(
     ensures closing { unit.new.line.closing ≡ unit.old.line.closing }
     ensures books { (q q' next next' : ℕ) → is_logout cause ≡ false → Keeps
         (books_of unit.old q next records.old) (books_of unit.new q' next' records.new) }
+    ensures cuts { (q : EndState) → session ≡ q.last_session → is_logout cause ≡ false →
+        HasAnswers (owing_of unit.old q records.old) → AreCutOff unit.old.id
+        (row_states records.new.history.items) records.new.grants.items }
 {
     bytes_spell_one();
     leave_row(unit, records);
@@ -183,6 +200,7 @@ fn leave_row(unit: &mut Unit, records: &mut Records)
     ensures moved { unit.new.moved ≡ unit.old.moved }
     ensures waiting { unit.new.waiting ≡ unit.old.waiting }
     ensures keys { keys_of records.new.history.items ≡ keys_of records.old.history.items }
+    ensures states { row_states records.new.history.items ≡ row_states records.old.history.items }
 {
     cut_data(&mut unit.service, records);
     unit.service.reset();
@@ -194,6 +212,7 @@ fn cut_data(service: &mut Service, records: &mut Records)
         records.old.history.items records.new.history.items }
     ensures grants { records.new.grants ≡ records.old.grants }
     ensures keys { keys_of records.new.history.items ≡ keys_of records.old.history.items }
+    ensures states { row_states records.new.history.items ≡ row_states records.old.history.items }
 {
     match service.stage {
         Stage::Given { row, .. } => records.fill(row, service.take_given(0)),
@@ -219,6 +238,10 @@ pub(crate) fn log_out(unit: &mut Unit, session: u64, records: &mut Records)
         unit.old.pending.items ≡ front ∷ rest → is_login front.order ≡ false →
         gets_row front.order ≡ false → Keeps
         (books_of unit.old q next records.old) (books_of unit.new q next records.new) }
+    ensures answers { (q : EndState) → (front : Request) → (rest : List Request) →
+        unit.old.pending.items ≡ front ∷ rest → gets_row front.order ≡ false →
+        HasAnswers (owing_of unit.old q records.old) →
+        HasAnswers (owing_of unit.new q records.new) }
 {
     let login = unit.logins.end();
     records.grants.push_reserved(Grant::Lapsed {
@@ -256,6 +279,9 @@ pub(crate) fn answer<S: Site>(
     ensures books { Keeps (books_at unit.old (S.state site.old) records.old)
         (books_at unit.new (S.state site.new) records.new) }
     ensures passes { Passes (S.state site.old) (S.state site.new) }
+    ensures answers { KeepsAnswersBy (books_at unit.old (S.state site.old) records.old)
+        S.link_shared unit.old unit.new (S.state site.old) (S.state site.new)
+        records.old records.new }
 {
     records.make_room()?;
     unit.logins.make_room()?;
@@ -294,6 +320,8 @@ fn copy_answer<S: Site>(
     ensures books { Keeps (books_at unit.old (S.state site.old) records.old)
         (books_at unit.new (S.state site.new) records.new) }
     ensures passes { Passes (S.state site.old) (S.state site.new) }
+    ensures answers { KeepsAnswers S.link_shared unit.old unit.new
+        (S.state site.old) (S.state site.new) records.old records.new }
 {
     let Stage::Answer(outcome) = unit.service.stage else {
         return Ok(());
@@ -327,6 +355,8 @@ fn deliver<S: Site>(unit: &mut Unit, site: &mut S, outcome: Outcome) -> Result<P
     ensures passes { Passes (S.state site.old) (S.state site.new) }
     ensures books { (records : Records) → Keeps (books_at unit.old (S.state site.old) records)
         (books_at unit.new (S.state site.new) records) }
+    ensures answers { (records : Records) → KeepsAnswers S.link_shared unit.old unit.new
+        (S.state site.old) (S.state site.new) records records }
 {
     let Some(request) = unit.pending.front() else {
         return Ok(Progress::Busy);
@@ -364,6 +394,9 @@ fn put_answer<S: Site>(unit: &mut Unit, site: &mut S, records: &mut Records, out
         records.old.grants.items records.new.grants.items }
     ensures books { Keeps (books_at unit.old (S.state site.old) records.old)
         (books_at unit.new (S.state site.new) records.new) }
+    ensures answers { KeepsAnswersBy (books_at unit.old (S.state site.old) records.old)
+        S.link_shared unit.old unit.new (S.state site.old) (S.state site.new)
+        records.old records.new }
 {
     let Some(request) = unit.pending.front() else {
         return;
@@ -408,6 +441,9 @@ pub(crate) fn put_kept<S: Site>(
         records.old.grants.items records.new.grants.items }
     ensures books { Keeps (books_at unit.old (S.state site.old) records.old)
         (books_at unit.new (S.state site.new) records.new) }
+    ensures answers { KeepsAnswersBy (books_at unit.old (S.state site.old) records.old)
+        S.link_shared unit.old unit.new (S.state site.old) (S.state site.new)
+        records.old records.new }
 {
     let Some(kept) = unit.line.kept else {
         return Ok(Next::Entry);
@@ -452,6 +488,9 @@ fn settle(unit: &mut Unit, session: u64, records: &mut Records, outcome: Outcome
     ensures books { (next : ℕ) → unit.old.service.stage ≡ Stage.Entry outcome →
         unit.old.line.kept ≡ None → Keeps (books_of unit.old session next records.old)
         (books_of unit.new session next records.new) }
+    ensures answers { (q : EndState) → unit.old.service.stage ≡ Stage.Entry outcome →
+        is_ended unit.old.line ≡ false → IsUp q → HasAnswers (owing_of unit.old q records.old) →
+        HasAnswers (owing_of unit.new q records.new) }
 {
     match outcome {
         Outcome::Granted { number } => {

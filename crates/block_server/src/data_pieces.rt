@@ -1,5 +1,5 @@
 // The pieces of the data of one direction.
-ghost use Rattle.std.specs.Prelude.{◌≡◌, ◌≤◌, []};
+ghost use Rattle.std.specs.Prelude.{◌≡◌, ◌≤◌, [], length};
 ghost use Rattle.srp_desc.specs.Pieces.{sum_of};
 
 use arrayvec::ArrayVec;
@@ -26,14 +26,28 @@ impl DataPieces {
         }
     }
 
-    /// These pieces.
-    pub(crate) fn new(list: ArrayVec<Desc, 256>, total: u32) -> DataPieces
-        requires summed { sum_of list.items ≡ total }
-        requires small { total ≤ 131072 }
-        ensures list { result.list.items ≡ list.items }
-        ensures total { result.total ≡ total }
+    /// Holds no piece any more.
+    pub(crate) fn clear(&mut self)
+        ensures list { self.new.list.items ≡ [] }
+        ensures total { self.new.total ≡ 0 }
     {
-        DataPieces { list, total }
+        self.list.clear();
+        self.total = 0;
+    }
+
+    /// Holds these pieces in place of those of before.
+    pub(crate) fn set(&mut self, list: &[Desc], total: u32)
+        requires few { length list.now ≤ 256 }
+        requires summed { sum_of list.now ≡ total }
+        requires small { total ≤ 131072 }
+        ensures list { self.new.list.items ≡ list.now }
+        ensures total { self.new.total ≡ total }
+    {
+        self.list.clear();
+        match self.list.try_extend_from_slice(list) {
+            Ok(()) => self.total = total,
+            Err(_) => unreachable!(),
+        }
     }
 
     /// The pieces, lent.

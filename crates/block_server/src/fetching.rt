@@ -200,7 +200,7 @@ fn fetch_pieces<S: Site>(
     match pieces_of(buffer) {
         Ok(Pieces::Whole(list)) => {
             named_pieces_sum_up();
-            *pieces = DataPieces::new(list, total_len(buffer));
+            pieces.set(list, total_len(buffer));
             Ok(Progress::Done)
         }
         Ok(Pieces::Fetch { table, total }) => {
@@ -241,7 +241,7 @@ fn fetch_table<S: Site>(
     }
     match read_table(bytes, total) {
         Ok(list) => {
-            *pieces = DataPieces::new(list, total);
+            pieces.set(&list, total);
             Ok(Progress::Done)
         }
         Err(_) => Ok(Progress::Refused),

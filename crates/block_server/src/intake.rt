@@ -12,6 +12,7 @@ ghost use Rattle.block_server.specs.SiteState.{SiteState};
 ghost use Rattle.block_server.specs.Books.{books_at, books_of};
 ghost use Rattle.block_server.specs.Decided.{Decides, IsToJudge, JudgesOne, StaysOn};
 ghost use Rattle.block_server.specs.Judges.{Judges};
+ghost use Rattle.block_server.specs.Owed.{HasAnswers, KeepsAnswers, owing_of};
 ghost use Rattle.block_server.specs.Judged.{Asks, Keeps, gets_row};
 ghost use Rattle.block_server.specs.Verdicts.{IsTagged};
 ghost use Rattle.crq_session.specs.EndState.{EndState};
@@ -104,6 +105,8 @@ pub(crate) fn take_in<S: Site>(
         (standing_of unit.old) (standing_of unit.new) (S.state site.old) (S.state site.new)
         (books_at unit.old (S.state site.old) records.old)
         (books_at unit.new (S.state site.new) records.new) }
+    ensures answers { KeepsAnswers S.link_shared unit.old unit.new
+        (S.state site.old) (S.state site.new) records.old records.new }
 {
     let next = receive_waiting(unit, site, records)?;
     if next != Next::Entry {
@@ -149,6 +152,8 @@ fn receive_waiting<S: Site>(
         (standing_of unit.old) (standing_of unit.new) (S.state site.old) (S.state site.new)
         (books_at unit.old (S.state site.old) records.old)
         (books_at unit.new (S.state site.new) records.new) }
+    ensures answers { KeepsAnswers S.link_shared unit.old unit.new
+        (S.state site.old) (S.state site.new) records.old records.new }
 {
     let Some(arrival) = unit.waiting else {
         return Ok(Next::Entry);
@@ -171,6 +176,8 @@ fn make_room(unit: &mut Unit, records: &mut Records) -> Result<(), NoMemory>
     ensures grants { records.new.grants.items ≡ records.old.grants.items }
     ensures books { (site : SiteState) → Keeps (books_at unit.old site records.old)
         (books_at unit.new site records.new) }
+    ensures owing { (q : EndState) →
+        owing_of unit.new q records.new ≡ owing_of unit.old q records.old }
 {
     unit.pending.reserve(1)?;
     records.make_room()
@@ -204,6 +211,8 @@ fn take_one<S: Site>(unit: &mut Unit, site: &mut S, records: &mut Records) -> Re
         (standing_of unit.old) (standing_of unit.new) (S.state site.old) (S.state site.new)
         (books_at unit.old (S.state site.old) records.old)
         (books_at unit.new (S.state site.new) records.new) }
+    ensures answers { KeepsAnswers S.link_shared unit.old unit.new
+        (S.state site.old) (S.state site.new) records.old records.new }
 {
     site.reserve(2)?;
     let PollAnswer::Got { number, entry } = site.poll() else {
@@ -260,6 +269,8 @@ fn take_command<S: Site>(
         Judges (standing_of unit.old) (standing_of unit.new) before (S.state site.new)
         (books_at unit.old before records.old)
         (books_at unit.new (S.state site.new) records.new) }
+    ensures answers { KeepsAnswers S.link_shared unit.old unit.new
+        (S.state site.old) (S.state site.new) records.old records.new }
 {
     match arrival.entry.format() {
         SRP => {
@@ -302,6 +313,8 @@ fn receive<S: Site>(
         (standing_of unit.old) (standing_of unit.new) (S.state site.old) (S.state site.new)
         (books_at unit.old (S.state site.old) records.old)
         (books_at unit.new (S.state site.new) records.new) }
+    ensures answers { KeepsAnswers S.link_shared unit.old unit.new
+        (S.state site.old) (S.state site.new) records.old records.new }
 {
     let session = site.session();
     if !unit.line.is_up() {
@@ -351,6 +364,9 @@ fn judge(
         (books_of unit.old session next records.old) session next' arrival.number bytes.now receipt →
         JudgesOne (books_of unit.old session next records.old)
         (books_of unit.new session next' records.new) receipt }
+    ensures answers { (q : EndState) → session ≡ q.last_session →
+        HasAnswers (owing_of unit.old q records.old) →
+        HasAnswers (owing_of unit.new q records.new) }
 {
     match judge_unit(&mut unit.logins, bytes) {
         Verdict::Ignored => Next::Entry,

@@ -2,6 +2,7 @@
 // ended, each in the order of time.
 ghost use Rattle.std.specs.Prelude.{◌≡◌, ◌+◌, ◌<◌, ◌≤◌, [], ◌∷◌, ◌++◌, None, IfOk, OnOk, length, replicate, vec_len, vec_capacity};
 ghost use Rattle.block_server.specs.Judged.{keys_of};
+ghost use Rattle.block_server.specs.Owed.{row_states};
 ghost use Rattle.block_server.specs.Records.{HasLineRoom, KeepsLists, IsBlankRow, AnswersRow, FillsRow};
 
 use crate::request::Request;
@@ -99,6 +100,7 @@ impl Records {
         ensures row { FillsRow self.old.history.items self.new.history.items row inn }
         ensures grants { self.new.grants ≡ self.old.grants }
         ensures keys { keys_of self.new.history.items ≡ keys_of self.old.history.items }
+        ensures states { row_states self.new.history.items ≡ row_states self.old.history.items }
     {
         if let Some(row) = self.history.get_mut(row) {
             row.inn = inn;

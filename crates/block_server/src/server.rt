@@ -7,6 +7,7 @@ ghost use Rattle.block_server.specs.DiskLaw.{KeepsDisk, KeepsDiskBy};
 ghost use Rattle.block_server.specs.Judged.{Judged};
 ghost use Rattle.block_server.specs.Judges.{AreInTime, AreUnused, HasJudged};
 ghost use Rattle.block_server.specs.Makers.{AreNamed};
+ghost use Rattle.block_server.specs.Owed.{HaveAnswers, OweNone};
 ghost use Rattle.block_server.specs.Receipts.{AwaitNone, HasIntake, LinesMore, Receipt};
 ghost use Rattle.block_server.specs.Ready.{AgreesAt, AreDown, UnitWaits};
 ghost use Rattle.block_server.specs.Turns.{IsStill, way_of};
@@ -77,6 +78,7 @@ impl<B: Blocks> Server<B> {
         ensures down { IfOk result (λ server. AreDown server.units.items) }
         ensures none { IfOk result (λ server. AwaitNone server.units.items) }
         ensures unused { IfOk result (λ server. AreUnused server.units.items) }
+        ensures unanswered { IfOk result (λ server. OweNone server.units.items) }
     {
         let Ok(units) = make_units(alloc, partition, grant, units) else {
             return Err(image);
@@ -163,6 +165,13 @@ impl<B: Blocks> Server<B> {
             (O.state own.new) (R.state client.new) (C.state crq.new) self.new.copies.items
             self.new.records.history.items self.new.records.grants.items (judged ++ more) ×
             AreInTime (O.state own.old).place.unit self.old.records.grants.items more)) ∥₁ }
+        ensures answered { C.is_shared ≡ false → (judged : List Judged) → HasJudged
+            self.old.units.items unit (O.state own.old) (R.state client.old) (C.state crq.old)
+            self.old.copies.items self.old.records.history.items self.old.records.grants.items judged →
+            HaveAnswers self.old.units.items unit (O.state own.old).place.unit (C.state crq.old)
+            self.old.records.history.items self.old.records.grants.items →
+            ∥ HaveAnswers self.new.units.items unit (O.state own.old).place.unit
+            (C.state crq.new) self.new.records.history.items self.new.records.grants.items ∥₁ }
     {
         let id = UnitId {
             partition: self.partition,
@@ -226,6 +235,7 @@ fn make_units(alloc: Global, partition: u8, grant: u8, count: u8) -> Result<Vec<
         (rows : List Served) → AreServing terms partition units.items rows) }
     ensures none { IfOk result (λ units. AwaitNone units.items) }
     ensures unused { IfOk result (λ units. AreUnused units.items) }
+    ensures unanswered { IfOk result (λ units. OweNone units.items) }
 {
     let mut units = Vec::new(alloc);
     for unit in 0..count {

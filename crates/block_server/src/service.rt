@@ -128,8 +128,8 @@ impl Service {
         ensures { IsReset self.new }
     {
         self.stage = Stage::Start;
-        self.out = DataPieces::none();
-        self.inn = DataPieces::none();
+        self.out.clear();
+        self.inn.clear();
         self.given.clear();
         self.answer.clear();
     }

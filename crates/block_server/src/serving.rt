@@ -5,8 +5,9 @@ ghost use Rattle.block_server.specs.Causes.{RefusesData, RefusesIn, Told};
 ghost use Rattle.block_server.specs.Books.{books_at, books_of};
 ghost use Rattle.block_server.specs.Ends.{IsGrantable};
 ghost use Rattle.block_server.specs.Fetched.{IfRefused};
-ghost use Rattle.block_server.specs.Judged.{Books, IsFor, Keeps, ServesOne, has_row, in_service, is_login};
+ghost use Rattle.block_server.specs.Judged.{Books, IsAtStage, IsFor, Keeps, ServesOne, has_row, in_service, is_login};
 ghost use Rattle.block_server.specs.Moves.{Passes};
+ghost use Rattle.block_server.specs.Owed.{KeepsAnswersBy, MovesRow, row_states, owing_of, row_in};
 ghost use Rattle.block_server.specs.Receipts.{TakesIn, standing_of};
 ghost use Rattle.block_server.specs.Orders.{IsCauseOf, IsCodeOf};
 ghost use Rattle.block_server.specs.Records.{AddsRow};
@@ -68,6 +69,9 @@ pub(crate) fn serve<S: Site, B: Blocks>(
     ensures books { Keeps (books_at unit.old (S.state site.old) records.old)
         (books_at unit.new (S.state site.new) records.new) }
     ensures passes { Passes (S.state site.old) (S.state site.new) }
+    ensures answers { KeepsAnswersBy (books_at unit.old (S.state site.old) records.old)
+        S.link_shared unit.old unit.new (S.state site.old) (S.state site.new)
+        records.old records.new }
 {
     let Some(request) = unit.pending.front() else {
         return Ok(());
@@ -101,6 +105,8 @@ fn note_stage(unit: &mut Unit, before: (u8, u32))
     ensures stands { standing_of unit.new ≡ standing_of unit.old }
     ensures books { (session next : ℕ) → (records : Records) →
         books_of unit.new session next records ≡ books_of unit.old session next records }
+    ensures owing { (q : EndState) → (records : Records) →
+        owing_of unit.new q records ≡ owing_of unit.old q records }
 {
     let (stage, done) = unit.service.stage.how_far();
     if stage != before.0 || done != before.1 {
@@ -136,6 +142,11 @@ fn prepare<S: Site, B: Blocks>(
         books.current ≡ logins.now.current → Keeps
         (in_service books service.old.stage records.old.history.items)
         (in_service books service.new.stage records.new.history.items) }
+    ensures moves { (current : ℕ) → (rest : List Request) →
+        IsAtStage current (request.now ∷ rest) service.old.stage →
+        MovesRow id (S.state site.old).queue.last_session request.now
+        service.old.stage service.new.stage
+        records.old.history.items records.new.history.items }
 {
     match &request.order {
         Order::Command(command) => {
@@ -183,6 +194,7 @@ fn judge_login(
         front.number ≡ number → books.current ≡ logins.now.current → books.kept ≡ None →
         is_answered service.old.stage ≡ false → Keeps
         (in_service books service.old.stage rows) (in_service books service.new.stage rows) }
+    ensures row { row_in service.old.stage ≡ None → row_in service.new.stage ≡ None }
 {
     match login_refusal(logins.current(), login) {
         Some(reason) => service.set_answer(&login_rejected(login, reason), Outcome::Rejected),
@@ -227,6 +239,9 @@ fn add_code(
     ensures books { has_row service.old.stage ≡ false → ServesOne id session request.now
         service.old.stage service.new.stage
         records.old.history.items records.new.history.items }
+    ensures moves { row_in service.old.stage ≡ None → MovesRow id session request.now
+        service.old.stage service.new.stage
+        records.old.history.items records.new.history.items }
 {
     let blank = records.new_row(id, session, request)?;
     let row = records.history.len();
@@ -262,6 +277,9 @@ fn serve_command<S: Site, B: Blocks>(
     ensures books { ServesOne id (S.state site.old).queue.last_session request.now
         service.old.stage service.new.stage
         records.old.history.items records.new.history.items }
+    ensures moves { MovesRow id (S.state site.old).queue.last_session request.now
+        service.old.stage service.new.stage
+        records.old.history.items records.new.history.items }
 {
     run_step(service, id, request, command, site, records, disk)?;
     store(service, request, site)?;
@@ -295,6 +313,9 @@ fn run_step<S: Site, B: Blocks>(
     ensures books { ServesOne id (S.state site.old).queue.last_session request.now
         service.old.stage service.new.stage
         records.old.history.items records.new.history.items }
+    ensures moves { MovesRow id (S.state site.old).queue.last_session request.now
+        service.old.stage service.new.stage
+        records.old.history.items records.new.history.items }
 {
     if !service.stage.is_before_step() {
         return Ok(());
@@ -326,6 +347,7 @@ fn store<S: Site>(service: &mut Service, request: &Request, site: &mut S) -> Res
     ensures passes { Passes (S.state site.old) (S.state site.new) }
     ensures books { (id : UnitId) → (session : ℕ) → (rows : List Served) → ServesOne
         id session request.now service.old.stage service.new.stage rows rows }
+    ensures row { row_in service.new.stage ≡ row_in service.old.stage }
 {
     if let Stage::Given { row, reply } = service.stage {
         site.write_data(&service.given, request.tag)?;
@@ -364,6 +386,8 @@ fn hand_over<S: Site>(
     ensures books { (id : UnitId) → (session : ℕ) → ServesOne id session request.now
         service.old.stage service.new.stage
         records.old.history.items records.new.history.items }
+    ensures row { row_in service.new.stage ≡ row_in service.old.stage }
+    ensures states { row_states records.new.history.items ≡ row_states records.old.history.items }
 {
     let Stage::DataIn { row, reply, cursor } = service.stage else {
         return Ok(());
@@ -396,6 +420,9 @@ fn make_step<S: Site, B: Blocks>(
     ensures passes { Passes (S.state site.old) (S.state site.new) }
     ensures grants { records.new.grants.items ≡ records.old.grants.items }
     ensures books { ServesOne id (S.state site.old).queue.last_session request.now
+        service.old.stage service.new.stage
+        records.old.history.items records.new.history.items }
+    ensures moves { MovesRow id (S.state site.old).queue.last_session request.now
         service.old.stage service.new.stage
         records.old.history.items records.new.history.items }
 {
@@ -495,6 +522,8 @@ fn end_command(
     ensures books { (id : UnitId) → (session : ℕ) → ServesOne id session request.now
         service.old.stage service.new.stage
         records.old.history.items records.new.history.items }
+    ensures row { row_in service.new.stage ≡ row_in service.old.stage }
+    ensures states { row_states records.new.history.items ≡ row_states records.old.history.items }
 {
     let Stage::DataIn { row, reply, .. } = service.stage else {
         return Ok(());
@@ -532,6 +561,8 @@ fn refuse_data(
     ensures books { (id : UnitId) → (session : ℕ) → ServesOne id session request.now
         service.old.stage service.new.stage
         records.old.history.items records.new.history.items }
+    ensures row { row_in service.new.stage ≡ row_in service.old.stage }
+    ensures states { row_states records.new.history.items ≡ row_states records.old.history.items }
 {
     let Stage::DataIn { row, cursor, .. } = service.stage else {
         return Ok(());

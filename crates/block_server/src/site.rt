@@ -1,9 +1,9 @@
 // What a server unit does with its queue and with the two windows.
-ghost use Rattle.std.specs.Prelude.{◌≡◌, ◌↔◌, ◌+◌, ◌<◌, ◌≤◌, Bool, IsErrOf, OnErr, OnOk, length, true};
+ghost use Rattle.std.specs.Prelude.{◌≡◌, ◌↔◌, ◌+◌, ◌<◌, ◌≤◌, Bool, IsErrOf, OnErr, OnOk, false, length, true};
 ghost use Rattle.tce_window.specs.declared.answers.Right.TheVariants.{Read, Write};
 ghost use Rattle.crq_session.specs.declared.answers.FreeAnswer.TheVariants as freeing;
 ghost use Rattle.crq_session.specs.declared.answers.PollAnswer.TheVariants as polling;
-ghost use Rattle.crq_session.specs.Answers.{OnOpened, OnNotRegistered, IfHeldUp, OnFreed, OnNotFreed, IfInUse, IfSent, OnNotSent, IfClosed, IfDropped, IfGot, IfEmpty, OnNotPolled, OnNothing, OnPut, IfKept};
+ghost use Rattle.crq_session.specs.Answers.{OnOpened, OnNotRegistered, IfHeldUp, OnFreed, OnNotFreed, IfInUse, IfSent, OnNotSent, OnReached, IfClosed, IfDropped, IfGot, IfEmpty, OnNotPolled, OnNothing, OnPut, IfKept};
 ghost use Rattle.crq_session.specs.Answered.{Opens, HoldsUp, TellsFreed, FindsInUse, Sends, TurnsBack, FindsFull, Takes, FindsNone, PutsNone, Pushes, StillKept, IsUnregistered};
 ghost use Rattle.crq_session.specs.EndState.{OnlyReserves, OnlyRegisters, OnlyFrees, OnlySends, OnlyTakes, OnlyPushes};
 ghost use Rattle.block_server.specs.Advances.{Advances};
@@ -90,6 +90,8 @@ pub(crate) trait Site {
     fn send(&mut self, entry: Entry) -> SendAnswer
         requires room { 0 < (state self.old).queue.spare }
         requires may { MayPut entry }
+        ensures told { OnReached result ((state self.old).queue.registered ≡ true) }
+        ensures unregistered { OnNotSent result ((state self.old).queue.registered ≡ false) }
         ensures success { IfSent result
             (Sends link_shared (state self.old).queue entry (state self.new).queue) }
         ensures closed { IfClosed result

@@ -7,6 +7,7 @@ ghost use Rattle.block_server.specs.Judged.{Keeps};
 ghost use Rattle.block_server.specs.Judges.{Judges};
 ghost use Rattle.block_server.specs.Serving.{AnswersOnce, AnswersOnceOn, desk_of, held};
 ghost use Rattle.block_server.specs.Moves.{FetchesNone, Passes};
+ghost use Rattle.block_server.specs.Owed.{KeepsAnswers, KeepsAnswersAll};
 ghost use Rattle.block_server.specs.Receipts.{TakesIn, is_ended, standing_of};
 ghost use Rattle.block_server.specs.SiteState.{TellsAll};
 ghost use Rattle.block_server.specs.Ready.{Agrees, Idles, MeetsFull, MeetsSender};
@@ -55,6 +56,8 @@ pub(crate) fn turn<S: Site, B: Blocks>(
         (standing_of unit.old) (standing_of unit.new) (S.state site.old) (S.state site.new)
         (books_at unit.old (S.state site.old) records.old)
         (books_at unit.new (S.state site.new) records.new) }
+    ensures answers { KeepsAnswersAll S.link_shared unit.old unit.new
+        (S.state site.old) (S.state site.new) records.old records.new }
 {
     unit.moved = false;
     steps(unit, site, records, disk)?;
@@ -92,6 +95,8 @@ fn steps<S: Site, B: Blocks>(
         (standing_of unit.old) (standing_of unit.new) (S.state site.old) (S.state site.new)
         (books_at unit.old (S.state site.old) records.old)
         (books_at unit.new (S.state site.new) records.new) }
+    ensures answers { KeepsAnswersAll S.link_shared unit.old unit.new
+        (S.state site.old) (S.state site.new) records.old records.new }
 {
     if open_line(unit, site)? == Next::End {
         return Ok(());
@@ -125,6 +130,8 @@ fn open_line<S: Site>(unit: &mut Unit, site: &mut S) -> Result<Next, NoMemory>
     ensures fetches { FetchesNone (S.state site.old) (S.state site.new) }
     ensures books { (records : Records) → Keeps (books_at unit.old (S.state site.old) records)
         (books_at unit.new (S.state site.new) records) }
+    ensures answers { (records : Records) → KeepsAnswers S.link_shared unit.old unit.new
+        (S.state site.old) (S.state site.new) records records }
 {
     site.reserve(FIRST_CALLS)?;
     if push_event(unit, site) == Next::End {
@@ -158,6 +165,8 @@ fn push_event<S: Site>(unit: &mut Unit, site: &mut S) -> Next
     ensures passes { Passes (S.state site.old) (S.state site.new) }
     ensures books { (records : Records) → Keeps (books_at unit.old (S.state site.old) records)
         (books_at unit.new (S.state site.new) records) }
+    ensures answers { (records : Records) → KeepsAnswers S.link_shared unit.old unit.new
+        (S.state site.old) (S.state site.new) records records }
 {
     match site.push_event() {
         EventAnswer::Nothing => Next::Entry,
@@ -187,6 +196,8 @@ fn free_closed<S: Site>(unit: &mut Unit, site: &mut S) -> Next
     ensures goes_on { result ≢ Next.End → unit.new.line.closing ≡ false }
     ensures books { (records : Records) → Keeps (books_at unit.old (S.state site.old) records)
         (books_at unit.new (S.state site.new) records) }
+    ensures answers { (records : Records) → KeepsAnswers S.link_shared unit.old unit.new
+        (S.state site.old) (S.state site.new) records records }
 {
     if !unit.line.closing {
         return Next::Entry;
@@ -214,6 +225,9 @@ fn free<S: Site>(unit: &mut Unit, site: &mut S) -> Next
     ensures books { (records : Records) → unit.old.line.closing ≡ true →
         Keeps (books_at unit.old (S.state site.old) records)
         (books_at unit.new (S.state site.new) records) }
+    ensures answers { (records : Records) → unit.old.line.closing ≡ true →
+        KeepsAnswers S.link_shared unit.old unit.new
+        (S.state site.old) (S.state site.new) records records }
 {
     match site.free() {
         FreeAnswer::Busy { .. } => Next::End,
@@ -247,6 +261,8 @@ fn register<S: Site>(unit: &mut Unit, site: &mut S)
     ensures fetches { FetchesNone (S.state site.old) (S.state site.new) }
     ensures books { (records : Records) → Keeps (books_at unit.old (S.state site.old) records)
         (books_at unit.new (S.state site.new) records) }
+    ensures answers { (records : Records) → KeepsAnswers S.link_shared unit.old unit.new
+        (S.state site.old) (S.state site.new) records records }
 {
     match site.register() {
         RegAnswer::Success => begin(unit, site),
@@ -270,6 +286,9 @@ fn begin<S: Site>(unit: &mut Unit, site: &mut S)
     ensures books { (records : Records) → unit.old.pending.items ≡ [] →
         unit.old.logins.current ≡ 0 → Keeps (books_at unit.old (S.state site.old) records)
         (books_at unit.new (S.state site.new) records) }
+    ensures answers { (records : Records) → is_ended unit.old.line ≡ true →
+        KeepsAnswers S.link_shared unit.old unit.new
+        (S.state site.old) (S.state site.new) records records }
 {
     unit.moved = true;
     if let Some(initialize) = reply_of(unit.line.handshake.registered()) {

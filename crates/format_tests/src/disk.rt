@@ -147,16 +147,9 @@ fn ten(code: u8, lba: u32, blocks: u16) -> [u8; 16] {
 }
 
 fn sixteen(code: u8, lba: u64, blocks: u32) -> [u8; 16] {
-    let mut cdb = cdb(&[code]);
-    let fields = lba.to_be_bytes();
-    for (to, from) in cdb[2..].iter_mut().zip(&fields) {
-        *to = *from;
-    }
-    let fields = blocks.to_be_bytes();
-    for (to, from) in cdb[10..].iter_mut().zip(&fields) {
-        *to = *from;
-    }
-    cdb
+    let [a, b, c, d, e, f, g, h] = lba.to_be_bytes();
+    let [i, j, k, l] = blocks.to_be_bytes();
+    [code, 0, a, b, c, d, e, f, g, h, i, j, k, l, 0, 0]
 }
 
 /// A command of six, ten or sixteen bytes: its operation code, first block and number of blocks.
@@ -208,13 +201,20 @@ static RANGES: [(Asks, u32, Want); 28] = [
     (Asks::Ten(0x35, 0, 0xFFFF), 0, Want::Past),
 ];
 
+// The number of the first row of the ranges that is answered otherwise.
+fn first_other_range<B: Blocks>(disk: &mut B) -> Result<Option<usize>, Failed> {
+    for (row, (asks, blocks, want)) in RANGES.iter().enumerate() {
+        if run(disk, 0, &cdb_of(*asks), &[])?.reply != read_reply(*want, *blocks) {
+            return Ok(Some(row));
+        }
+    }
+    Ok(None)
+}
+
 #[test]
 fn reads_and_flushes_end_by_their_ranges(rt: HostRuntime) -> Result<(), Fail> {
     let mut disk = image(rt.alloc(), 2048, Vec::new(rt.alloc()))?;
-    for (row, (asks, blocks, want)) in RANGES.iter().enumerate() {
-        let ran = run(&mut disk, 0, &cdb_of(*asks), &[])?;
-        assert_eq!(rt; ran.reply, read_reply(*want, *blocks), "of row {row}");
-    }
+    assert_eq!(rt; first_other_range(&mut disk)?, None);
     Ok(())
 }
 
@@ -229,42 +229,73 @@ static WRITES: [(u32, u16, usize, Want); 8] = [
     (0, 257, 0, Want::Long),
 ];
 
+// The number of the first row of the writes that is answered otherwise.
+fn first_other_write<B: Blocks>(disk: &mut B, data_out: &[u8]) -> Result<Option<usize>, Failed> {
+    for (row, (lba, blocks, sent, want)) in WRITES.iter().enumerate() {
+        let data_out = &data_out[..data_out.len().min(*sent)];
+        let ran = run(disk, 0, &ten(0x2A, *lba, *blocks), data_out)?;
+        if ran.reply != write_reply(*want, *blocks as u32) {
+            return Ok(Some(row));
+        }
+    }
+    Ok(None)
+}
+
+// Whether the blocks that the writes name end with 9, and the others with 1.
+fn is_new_by_rows(disk: &MemBlocks) -> bool {
+    let mut blocks = disk.blocks().iter().enumerate();
+    blocks.all(|(at, block)| {
+        let is_new = at < 2 || at == 4 || at == 5;
+        block[511] == if is_new { 9 } else { 1 }
+    })
+}
+
+// The number of the first row of the writes that is answered otherwise, and whether they leave the image so.
+fn written(alloc: Global) -> Result<(Option<usize>, bool), Fail> {
+    let data_out = vec![in alloc; 9; 1100]?;
+    let mut disk = image(alloc, 2048, Vec::new(alloc))?;
+    let other = first_other_write(&mut disk, &data_out)?;
+    Ok((other, is_new_by_rows(&disk)))
+}
+
 #[test]
 fn writes_by_their_data_out(rt: HostRuntime) -> Result<(), Fail> {
-    let mut disk = image(rt.alloc(), 2048, Vec::new(rt.alloc()))?;
-    let data_out = vec![in rt.alloc(); 9; 1100]?;
-    for (lba, blocks, sent, want) in WRITES.iter() {
-        let data_out = &data_out[..data_out.len().min(*sent)];
-        let ran = run(&mut disk, 0, &ten(0x2A, *lba, *blocks), data_out)?;
-        assert_eq!(rt;
-            ran.reply,
-            write_reply(*want, *blocks as u32),
-            "{lba} {blocks}"
-        );
-    }
-    for (at, block) in disk.blocks().iter().enumerate() {
-        let new = at < 2 || at == 4 || at == 5;
-        assert_eq!(rt; block[511], if new { 9 } else { 1 }, "{at}");
-    }
+    assert_eq!(rt; written(rt.alloc())?, (None, true));
     Ok(())
+}
+
+// Whether blocks 5 and 9 are written with these data.
+fn writes_two<B: Blocks>(disk: &mut B, data_out: &[u8]) -> Result<bool, Failed> {
+    let five = run(disk, 0, &six(0x0A, 5, 1), data_out)?;
+    let nine = run(disk, 0, &sixteen(0x8A, 9, 1), data_out)?;
+    Ok(five.reply == good(0, 512) && nine.reply == good(0, 512))
+}
+
+// Blocks, and the byte that each is full of then.
+static NEIGHBOURS: [(u32, u8); 6] = [(4, 1), (5, 9), (6, 1), (8, 1), (9, 9), (10, 1)];
+
+// The first of these blocks that is not read so.
+fn first_other_block<B: Blocks>(disk: &mut B) -> Result<Option<u32>, Failed> {
+    for (at, byte) in NEIGHBOURS.iter() {
+        let front = run(disk, 0, &ten(0x28, *at, 1), &[])?.front;
+        if front[0] != *byte || front[39] != *byte {
+            return Ok(Some(*at));
+        }
+    }
+    Ok(None)
+}
+
+// Whether two blocks of an image of 16 are written, and the first block that is not read so then.
+fn written_and_read(alloc: Global) -> Result<(bool, Option<u32>), Fail> {
+    let data_out = vec![in alloc; 9; 512]?;
+    let mut disk = image(alloc, 16, Vec::new(alloc))?;
+    let is_written = writes_two(&mut disk, &data_out)?;
+    Ok((is_written, first_other_block(&mut disk)?))
 }
 
 #[test]
 fn what_is_written_is_read(rt: HostRuntime) -> Result<(), Fail> {
-    let mut disk = image(rt.alloc(), 16, Vec::new(rt.alloc()))?;
-    let data_out = vec![in rt.alloc(); 9; 512]?;
-    assert_eq!(rt;
-        run(&mut disk, 0, &six(0x0A, 5, 1), &data_out)?.reply,
-        good(0, 512)
-    );
-    assert_eq!(rt;
-        run(&mut disk, 0, &sixteen(0x8A, 9, 1), &data_out)?.reply,
-        good(0, 512)
-    );
-    for (at, byte) in [(4, 1), (5, 9), (6, 1), (8, 1), (9, 9), (10, 1)] {
-        let read = run(&mut disk, 0, &ten(0x28, at, 1), &[])?;
-        assert_eq!(rt; (read.front[0], read.front[39]), (byte, byte), "{at}");
-    }
+    assert_eq!(rt; written_and_read(rt.alloc())?, (true, None));
     Ok(())
 }
 
@@ -281,47 +312,78 @@ fn is_cut<B: Blocks>(
     Ok(ran.reply == good(wanted as u32, 0) && ran.front[..wanted] == data[..wanted])
 }
 
+// A CDB that begins with these bytes, and has this one behind them.
+fn cdb_with(bytes: &[u8], last: u8) -> [u8; 16] {
+    let mut cdb = cdb(bytes);
+    if bytes.len() < 16 {
+        cdb[bytes.len()] = last;
+    }
+    cdb
+}
+
+// The first maximum up to 40, which stands behind these bytes of a command, that does not cut its data so. The image
+// has 2,048 blocks.
+fn first_uncut(alloc: Global, lun: u64, bytes: &[u8], data: &[u8]) -> Result<Option<u8>, Fail> {
+    let mut disk = image(alloc, 2048, Vec::new(alloc))?;
+    for max in 0..=40 {
+        if !is_cut(&mut disk, lun, &cdb_with(bytes, max), max, data)? {
+            return Ok(Some(max));
+        }
+    }
+    Ok(None)
+}
+
+// Whether a field of a command that begins with these bytes is refused.
+fn is_field_refused(alloc: Global, lun: u64, bytes: &[u8]) -> Result<bool, Fail> {
+    let mut disk = image(alloc, 2048, Vec::new(alloc))?;
+    Ok(run(&mut disk, lun, &cdb(bytes), &[])?.reply == refused(5, 0x24, 0))
+}
+
+static INQUIRY_HERE: &[u8] = b"\x00\x00\x04\x02\x1F\x00\x00\x00PAPRVIO VIRTUAL DISK    0001";
+
+static INQUIRY_NOWHERE: &[u8] = b"\x7F\x00\x04\x02\x1F\x00\x00\x00PAPRVIO VIRTUAL DISK    0001";
+
 #[test]
 fn inquiry_data_is_cut(rt: HostRuntime) -> Result<(), Fail> {
-    let mut disk = image(rt.alloc(), 2048, Vec::new(rt.alloc()))?;
-    let here = b"\x00\x00\x04\x02\x1F\x00\x00\x00PAPRVIO VIRTUAL DISK    0001";
-    let nowhere = b"\x7F\x00\x04\x02\x1F\x00\x00\x00PAPRVIO VIRTUAL DISK    0001";
-    for max in 0..=40 {
-        let cdb = cdb(&[0x12, 0, 0, 0, max]);
-        assert!(rt; is_cut(&mut disk, 0, &cdb, max, here)?, "{max}");
-        assert!(rt; is_cut(&mut disk, 1, &cdb, max, nowhere)?, "{max}");
+    for (lun, data) in [(0, INQUIRY_HERE), (1, INQUIRY_NOWHERE)] {
+        let uncut = first_uncut(rt.alloc(), lun, &[0x12, 0, 0, 0], data)?;
+        assert_eq!(rt; uncut, None, "{lun}");
     }
     for bytes in [[0x12, 1, 0], [0x12, 0, 0x80]] {
-        assert_eq!(rt;
-            run(&mut disk, 1, &cdb(&bytes), &[])?.reply,
-            refused(5, 0x24, 0)
-        );
+        assert!(rt; is_field_refused(rt.alloc(), 1, &bytes)?, "{bytes:?}");
     }
     Ok(())
 }
 
+// What is told of the capacity of 2,048 blocks, and of the logical units of the disk.
+static CAPACITY: &[u8] = b"\0\0\0\0\0\0\x07\xFF\0\0\x02\0\0\0\0\0\0\0\0\0\0\0\0\0\0\0\0\0\0\0\0\0";
+
+static LUNS: &[u8] = b"\0\0\0\x08\0\0\0\0\0\0\0\0\0\0\0\0";
+
+// The commands that ask for them, up to their maximum.
+static READ_CAPACITY: &[u8] = b"\x9E\xF0\0\0\0\0\0\0\0\0\0\0\0";
+
+static REPORT_LUNS: &[u8] = b"\xA0\0\0\0\0\0\0\0\0";
+
+// Whether a READ CAPACITY(10) gives these eight bytes.
+fn is_capacity(alloc: Global, data: &[u8]) -> Result<bool, Fail> {
+    let mut disk = image(alloc, 2048, Vec::new(alloc))?;
+    Ok(is_cut(&mut disk, 0, &cdb(&[0x25]), 8, data)?)
+}
+
 #[test]
 fn capacities_and_units_are_cut(rt: HostRuntime) -> Result<(), Fail> {
-    let mut disk = image(rt.alloc(), 2048, Vec::new(rt.alloc()))?;
-    let mut capacity = [0; 32];
-    capacity[6] = 0x07;
-    capacity[7] = 0xFF;
-    capacity[10] = 0x02;
-    let mut luns = [0; 16];
-    luns[3] = 8;
-    for max in 0..=40 {
-        let read_capacity = cdb(&[0x9E, 0xF0, 0, 0, 0, 0, 0, 0, 0, 0, 0, 0, 0, max]);
-        assert!(rt;
-            is_cut(&mut disk, 0, &read_capacity, max, &capacity)?,
-            "{max}"
-        );
-        let report_luns = cdb(&[0xA0, 0, 0, 0, 0, 0, 0, 0, 0, max]);
-        assert!(rt; is_cut(&mut disk, 7, &report_luns, max, &luns)?, "{max}");
+    let rows = [(0, READ_CAPACITY, CAPACITY), (7, REPORT_LUNS, LUNS)];
+    for (lun, command, data) in rows {
+        let uncut = first_uncut(rt.alloc(), lun, command, data)?;
+        assert_eq!(rt; uncut, None, "{lun}");
     }
-    assert!(rt; is_cut(&mut disk, 0, &cdb(&[0x25]), 8, &capacity[4..12])?);
+    assert!(rt; is_capacity(rt.alloc(), b"\0\0\x07\xFF\0\0\x02\0")?);
     for service in [0x00, 0x11, 0x1F] {
-        let ran = run(&mut disk, 0, &cdb(&[0x9E, service]), &[])?;
-        assert_eq!(rt; ran.reply, refused(5, 0x24, 0), "{service}");
+        assert!(rt;
+            is_field_refused(rt.alloc(), 0, &[0x9E, service])?,
+            "{service}"
+        );
     }
     Ok(())
 }
@@ -358,20 +420,30 @@ impl Blocks for Large {
     ghost told = { λ _. tt };
 }
 
+// Whether both commands tell the capacity of a large image.
+fn tells_capacity(large: &mut Large) -> Result<(bool, bool), Failed> {
+    let data = b"\xFF\xFF\xFF\xFF\0\0\x02\0";
+    let is_ten = is_cut(large, 0, &cdb(&[0x25]), 8, data)?;
+    let data = b"\0\0\0\xFF\xFF\xFF\xFF\xFF\0\0\x02\0";
+    let command = cdb_with(b"\x9E\x10\0\0\0\0\0\0\0\0\0\0\0", 12);
+    Ok((is_ten, is_cut(large, 0, &command, 12, data)?))
+}
+
+// Whether a read of the last block of a large image ends so, and one of two blocks from there on.
+fn reads_the_last(large: &mut Large) -> Result<(bool, bool), Failed> {
+    let one = run(large, 0, &sixteen(0x88, 0xFF_FFFF_FFFF, 1), &[])?;
+    let two = run(large, 0, &sixteen(0x88, 0xFF_FFFF_FFFF, 2), &[])?;
+    let is_good = one.reply == read_reply(Want::Good, 1);
+    Ok((is_good, two.reply == read_reply(Want::Past, 2)))
+}
+
 #[test]
 fn a_large_image_has_its_capacity(rt: HostRuntime) -> Result<(), Fail> {
     let mut large = Large {
         calls: DeviceCalls::none(),
     };
-    let ten_bytes = [0xFF, 0xFF, 0xFF, 0xFF, 0, 0, 2, 0];
-    assert!(rt; is_cut(&mut large, 0, &cdb(&[0x25]), 8, &ten_bytes)?);
-    let sixteen_bytes = [0, 0, 0, 0xFF, 0xFF, 0xFF, 0xFF, 0xFF, 0, 0, 2, 0];
-    let cdb = cdb(&[0x9E, 0x10, 0, 0, 0, 0, 0, 0, 0, 0, 0, 0, 0, 12]);
-    assert!(rt; is_cut(&mut large, 0, &cdb, 12, &sixteen_bytes)?);
-    for (blocks, want) in [(1, Want::Good), (2, Want::Past)] {
-        let ran = run(&mut large, 0, &sixteen(0x88, 0xFF_FFFF_FFFF, blocks), &[])?;
-        assert_eq!(rt; ran.reply, read_reply(want, blocks), "{blocks}");
-    }
+    assert_eq!(rt; tells_capacity(&mut large)?, (true, true));
+    assert_eq!(rt; reads_the_last(&mut large)?, (true, true));
     Ok(())
 }
 
@@ -390,7 +462,9 @@ fn fails_at(alloc: Global, call: u64) -> Result<MemBlocks, Fail> {
 
 /// A command, the number of bytes that are sent with it, which of its device calls fails, its sense code, how many
 /// of the bytes were used, and how many blocks from the tenth on are new then.
-static FAULTS: [(Asks, usize, u64, u8, u32, usize); 10] = [
+type Fault = (Asks, usize, u32, u8, u32, usize);
+
+static FAULTS: [Fault; 10] = [
     (Asks::Ten(0x28, 10, 4), 0, 0, 0x11, 0, 0),
     (Asks::Ten(0x28, 10, 4), 0, 1, 0x11, 0, 0),
     (Asks::Ten(0x28, 10, 4), 0, 2, 0x11, 0, 0),
@@ -403,17 +477,14 @@ static FAULTS: [(Asks, usize, u64, u8, u32, usize); 10] = [
     (Asks::Ten(0x35, 10, 1), 0, 0, 0x0C, 0, 0),
 ];
 
-// The answer of a command one of whose device calls fails, and what is left of the image.
-fn fault_of(
-    alloc: Global,
-    asks: Asks,
-    sent: usize,
-    call: u64,
-) -> Result<(ScsiReply, MemBlocks), Fail> {
+// Whether a command one of whose device calls fails is answered as its row says, and leaves the image so.
+fn fails_as_told(alloc: Global, fault: &Fault) -> Result<(bool, bool), Fail> {
+    let (asks, sent, call, code, used, new) = *fault;
     let data_out = vec![in alloc; 9; sent]?;
-    let mut disk = fails_at(alloc, call)?;
+    let mut disk = fails_at(alloc, u64::from(call))?;
     let ran = run(&mut disk, 0, &cdb_of(asks), &data_out)?;
-    Ok((ran.reply, disk))
+    let is_told = ran.reply == failed(code, used, call);
+    Ok((is_told, is_new_from_ten(&disk, new)))
 }
 
 // Whether as many blocks from the tenth on begin with 9, and the others with 1.
@@ -427,10 +498,9 @@ fn is_new_from_ten(disk: &MemBlocks, new: usize) -> bool {
 
 #[test]
 fn each_device_call_fails(rt: HostRuntime) -> Result<(), Fail> {
-    for (row, (asks, sent, call, code, used, new)) in FAULTS.iter().enumerate() {
-        let (reply, disk) = fault_of(rt.alloc(), *asks, *sent, *call)?;
-        assert_eq!(rt; reply, failed(*code, *used, *call as u32), "of row {row}");
-        assert!(rt; is_new_from_ten(&disk, *new), "of row {row}");
+    for (row, fault) in FAULTS.iter().enumerate() {
+        let seen = fails_as_told(rt.alloc(), fault)?;
+        assert_eq!(rt; seen, (true, true), "of row {row}");
     }
     Ok(())
 }

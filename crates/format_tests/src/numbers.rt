@@ -1,22 +1,32 @@
 // Entries against their bytes, codes against the table, and lists that are kept.
+use std::alloc::Global;
 use std::test::Fail;
 use vio_num::*;
 
+static BYTES: [u8; 16] = [
+    0x80, 0x01, 0, 0x99, 0, 0x1E, 0x01, 0x40, 0x0E, 0x66, 0xDE, 0xA8, 0x01, 0x02, 0x03, 0x04,
+];
+
+// The halves of an entry, its format, status, length of a unit and address.
+fn fields_of(entry: Entry) -> [u64; 6] {
+    [
+        entry.high,
+        entry.low,
+        u64::from(entry.format()),
+        u64::from(entry.status()),
+        u64::from(entry.iu_len()),
+        entry.iu_address(),
+    ]
+}
+
 #[test]
 fn entries_are_their_bytes(rt: HostRuntime) {
-    let bytes = [
-        0x80, 0x01, 0, 0x99, 0, 0x1E, 0x01, 0x40, 0x0E, 0x66, 0xDE, 0xA8, 0x01, 0x02, 0x03, 0x04,
-    ];
-    let entry = Entry::from_bytes(&bytes);
-    assert_eq!(rt; entry.high, 0x8001_0099_001E_0140);
-    assert_eq!(rt; entry.low, 0x0E66_DEA8_0102_0304);
-    assert_eq!(rt; entry.kind(), Kind::Command);
-    assert_eq!(rt; entry.format(), 1);
-    assert_eq!(rt; entry.status(), 0x99);
-    assert_eq!(rt; entry.iu_len(), 0x0140);
-    assert_eq!(rt; entry.to_bytes(), bytes);
-    assert!(rt; entry.is_srp());
-    assert_eq!(rt; entry.iu_address(), 0x0E66_DEA8_0102_0304);
+    let entry = Entry::from_bytes(&BYTES);
+    let halves = (0x8001_0099_001E_0140, 0x0E66_DEA8_0102_0304);
+    let fields = [halves.0, halves.1, 1, 0x99, 0x0140, 0x0E66_DEA8_0102_0304];
+    assert_eq!(rt; fields_of(entry), fields);
+    assert!(rt; entry.kind() == Kind::Command && entry.is_srp());
+    assert!(rt; entry.to_bytes() == BYTES);
 }
 
 #[test]
@@ -85,18 +95,41 @@ fn groups_have_an_odd_first_byte(rt: HostRuntime) {
     }
 }
 
-#[test]
-fn sequences_keep_their_items(rt: HostRuntime) -> Result<(), Fail> {
-    let mut bytes = Bytes::new(rt.alloc());
-    assert!(rt; bytes.is_empty());
+// Pushes two bytes to an empty list.
+fn pushed(alloc: Global) -> Result<Bytes, NoMemory> {
+    let mut bytes = Bytes::new(alloc);
     bytes.push(7)?;
     bytes.push(9)?;
-    assert_eq!(rt; bytes.as_slice(), [7, 9].as_slice());
-    assert_eq!(rt; bytes.len(), 2);
-    assert!(rt; !bytes.is_empty());
-    let copy = Bytes::from_slice(rt.alloc(), bytes.as_slice())?;
-    assert_eq!(rt; copy.as_slice(), bytes.as_slice());
-    let names = Sequence::from([1u64, 2, 3].to_vec(rt.alloc())?);
-    assert_eq!(rt; names.as_slice(), [1, 2, 3].as_slice());
+    Ok(bytes)
+}
+
+// Whether a list has the two bytes.
+fn has_both(bytes: &Bytes) -> bool {
+    bytes.as_slice() == [7, 9].as_slice() && bytes.len() == 2 && !bytes.is_empty()
+}
+
+// Whether a copy of a list has its bytes.
+fn is_copied(alloc: Global, bytes: &Bytes) -> Result<bool, NoMemory> {
+    let copy = Bytes::from_slice(alloc, bytes.as_slice())?;
+    Ok(copy.as_slice() == bytes.as_slice())
+}
+
+// Whether a list with the two bytes keeps them, and its copy does.
+fn keeps_both(alloc: Global) -> Result<(bool, bool), NoMemory> {
+    let bytes = pushed(alloc)?;
+    Ok((has_both(&bytes), is_copied(alloc, &bytes)?))
+}
+
+// Whether a list made of a vector has its items.
+fn keeps_a_vector(alloc: Global) -> Result<bool, NoMemory> {
+    let names = Sequence::from([1u64, 2, 3].to_vec(alloc)?);
+    Ok(names.as_slice() == [1, 2, 3].as_slice())
+}
+
+#[test]
+fn sequences_keep_their_items(rt: HostRuntime) -> Result<(), Fail> {
+    assert!(rt; Bytes::new(rt.alloc()).is_empty());
+    assert_eq!(rt; keeps_both(rt.alloc())?, (true, true));
+    assert!(rt; keeps_a_vector(rt.alloc())?);
     Ok(())
 }

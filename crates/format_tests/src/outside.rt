@@ -43,37 +43,72 @@ fn write_all<S: Sink>(sink: &mut S, len: usize) -> Result<usize, Fail> {
     Ok(failed)
 }
 
+// Bytes of a piece, and the most that one call moves.
+static PIECES: [(usize, usize); 12] = [
+    (1, 1),
+    (1, 3),
+    (1, 10),
+    (3, 1),
+    (3, 3),
+    (3, 10),
+    (10, 1),
+    (10, 3),
+    (10, 10),
+    (16, 1),
+    (16, 3),
+    (16, 10),
+];
+
+// How many calls failed where a source is read in pieces to its end, and whether TEXT was read.
+fn read_from<S: Source>(alloc: Global, source: &mut S, len: usize) -> Result<(usize, bool), Fail> {
+    let mut read = Vec::new(alloc);
+    let failed = read_all(source, len, &mut read)?;
+    Ok((failed, read.as_slice() == TEXT.as_slice()))
+}
+
+fn read_sure(alloc: Global, len: usize, most: usize) -> Result<(usize, bool), Fail> {
+    let mut sure = SureSource::new(TEXT.to_vec(alloc)?, most.max(1));
+    read_from(alloc, &mut sure, len)
+}
+
+// Reads a source of which the calls 0 and 2 fail.
+fn read_failing(alloc: Global, len: usize, most: usize) -> Result<(usize, bool), Fail> {
+    let failing = vec![in alloc; 0, 2]?;
+    let mut mem = MemSource::new(TEXT.to_vec(alloc)?, most.max(1), failing);
+    read_from(alloc, &mut mem, len)
+}
+
 #[test]
 fn sources_give_their_bytes(rt: HostRuntime) -> Result<(), Fail> {
-    for len in [1, 3, 10, 16] {
-        for most in [1, 3, 10] {
-            let mut read = Vec::new(rt.alloc());
-            let mut sure = SureSource::new(TEXT.to_vec(rt.alloc())?, most);
-            assert_eq!(rt; read_all(&mut sure, len, &mut read)?, 0);
-            assert_eq!(rt; read.as_slice(), TEXT.as_slice(), "{len} {most}");
-
-            read.clear();
-            let failing = vec![in rt.alloc(); 0, 2]?;
-            let mut mem = MemSource::new(TEXT.to_vec(rt.alloc())?, most, failing);
-            assert_eq!(rt; read_all(&mut mem, len, &mut read)?, 2);
-            assert_eq!(rt; read.as_slice(), TEXT.as_slice(), "{len} {most}");
-        }
+    for (len, most) in PIECES.iter() {
+        let sure = read_sure(rt.alloc(), *len, *most)?;
+        let failing = read_failing(rt.alloc(), *len, *most)?;
+        assert_eq!(rt; (sure, failing), ((0, true), (2, true)), "{len} {most}");
     }
     Ok(())
 }
 
+// How many calls failed where TEXT is written in pieces, and whether it was taken.
+fn write_sure(alloc: Global, len: usize, most: usize) -> Result<(usize, bool), Fail> {
+    let mut sure = SureSink::new(alloc, most.max(1));
+    let failed = write_all(&mut sure, len)?;
+    Ok((failed, sure.bytes() == TEXT.as_slice()))
+}
+
+// Writes to a sink of which the calls 0 and 1 fail.
+fn write_failing(alloc: Global, len: usize, most: usize) -> Result<(usize, bool), Fail> {
+    let failing = vec![in alloc; 0, 1]?;
+    let mut mem = MemSink::new(alloc, most.max(1), failing);
+    let failed = write_all(&mut mem, len)?;
+    Ok((failed, mem.bytes() == TEXT.as_slice()))
+}
+
 #[test]
 fn sinks_take_what_is_written(rt: HostRuntime) -> Result<(), Fail> {
-    for len in [1, 3, 10, 16] {
-        for most in [1, 3, 10] {
-            let mut sure = SureSink::new(rt.alloc(), most);
-            assert_eq!(rt; write_all(&mut sure, len)?, 0);
-            assert_eq!(rt; sure.bytes(), TEXT.as_slice(), "{len} {most}");
-
-            let mut mem = MemSink::new(rt.alloc(), most, vec![in rt.alloc(); 0, 1]?);
-            assert_eq!(rt; write_all(&mut mem, len)?, 2);
-            assert_eq!(rt; mem.bytes(), TEXT.as_slice(), "{len} {most}");
-        }
+    for (len, most) in PIECES.iter() {
+        let sure = write_sure(rt.alloc(), *len, *most)?;
+        let failing = write_failing(rt.alloc(), *len, *most)?;
+        assert_eq!(rt; (sure, failing), ((0, true), (2, true)), "{len} {most}");
     }
     Ok(())
 }
@@ -147,47 +182,70 @@ impl Write for Faulty {
     }
 }
 
+// The call that fails, how, and how many calls of the source then fail.
+static READERS: [(u64, ErrorKind, usize); 5] = [
+    (0, ErrorKind::BrokenPipe, 1),
+    (1, ErrorKind::UnexpectedEof, 1),
+    (2, ErrorKind::WouldBlock, 1),
+    (1, ErrorKind::Interrupted, 0),
+    (9, ErrorKind::BrokenPipe, 0),
+];
+
+// Reads a source over a reader of which this call fails so.
+fn read_faulty(alloc: Global, fault: u64, kind: ErrorKind) -> Result<(usize, bool), Fail> {
+    let reader = Faulty::new(TEXT.to_vec(alloc)?, fault, Some(kind));
+    let mut source = StdSource::new(reader);
+    read_from(alloc, &mut source, 3)
+}
+
 #[test]
 fn a_reader_that_fails_is_no_end(rt: HostRuntime) -> Result<(), Fail> {
-    let rows = [
-        (0, ErrorKind::BrokenPipe, 1),
-        (1, ErrorKind::UnexpectedEof, 1),
-        (2, ErrorKind::WouldBlock, 1),
-        (1, ErrorKind::Interrupted, 0),
-        (9, ErrorKind::BrokenPipe, 0),
-    ];
-    for (fault, kind, failed) in rows {
-        let mut read = Vec::new(rt.alloc());
-        let reader = Faulty::new(TEXT.to_vec(rt.alloc())?, fault, Some(kind));
-        let mut source = StdSource::new(reader);
-        assert_eq!(rt; read_all(&mut source, 3, &mut read)?, failed, "{fault}");
-        assert_eq!(rt; read.as_slice(), TEXT.as_slice(), "{fault}");
+    for (fault, kind, failed) in READERS.iter() {
+        let seen = read_faulty(rt.alloc(), *fault, *kind)?;
+        assert_eq!(rt; seen, (*failed, true), "{fault}");
     }
     Ok(())
 }
 
+// The call that fails, how, how many calls of the sink then fail, and how often it flushes. Each write is followed by a
+// flush, so that calls 1, 3, 5 are flushes.
+static WRITERS: [(u64, Option<ErrorKind>, usize, usize); 5] = [
+    (0, Some(ErrorKind::BrokenPipe), 1, 4),
+    (0, Some(ErrorKind::Interrupted), 0, 4),
+    (2, None, 1, 4),
+    (4, Some(ErrorKind::StorageFull), 1, 4),
+    (99, None, 0, 4),
+];
+
+// How many calls failed where TEXT is written to a sink over a writer of which this call fails so, whether it was
+// written, and how often it was flushed.
+fn write_faulty(
+    alloc: Global,
+    fault: u64,
+    kind: Option<ErrorKind>,
+) -> Result<(usize, bool, usize), Fail> {
+    let mut writer = Faulty::new(Vec::new(alloc), fault, kind);
+    let failed = write_all(&mut StdSink::new(&mut writer), 16)?;
+    Ok((
+        failed,
+        writer.bytes.as_slice() == TEXT.as_slice(),
+        writer.flushes,
+    ))
+}
+
+// Writes TEXT to a sink whose writer takes it and fails to flush.
+fn write_unflushed(alloc: Global) -> Result<usize, WriteFault> {
+    let mut writer = Faulty::new(Vec::new(alloc), 1, None);
+    StdSink::new(&mut writer).write(TEXT)
+}
+
 #[test]
 fn a_writer_that_fails_is_counted(rt: HostRuntime) -> Result<(), Fail> {
-    // Each write is followed by a flush, so that calls 1, 3, 5 are flushes.
-    let rows = [
-        (0, Some(ErrorKind::BrokenPipe), 1, 4),
-        (0, Some(ErrorKind::Interrupted), 0, 4),
-        (2, None, 1, 4),
-        (4, Some(ErrorKind::StorageFull), 1, 4),
-        (99, None, 0, 4),
-    ];
-    for (fault, kind, failed, flushes) in rows {
-        let mut writer = Faulty::new(Vec::new(rt.alloc()), fault, kind);
-        let mut sink = StdSink::new(&mut writer);
-        assert_eq!(rt; write_all(&mut sink, 16)?, failed, "{fault}");
-        assert_eq!(rt; writer.bytes.as_slice(), TEXT.as_slice(), "{fault}");
-        assert_eq!(rt; writer.flushes, flushes, "{fault}");
+    for (fault, kind, failed, flushes) in WRITERS.iter() {
+        let seen = write_faulty(rt.alloc(), *fault, *kind)?;
+        assert_eq!(rt; seen, (*failed, true, *flushes), "{fault}");
     }
-    let mut writer = Faulty::new(Vec::new(rt.alloc()), 1, None);
-    assert_eq!(rt;
-        StdSink::new(&mut writer).write(TEXT),
-        Err(WriteFault::Failed)
-    );
+    assert_eq!(rt; write_unflushed(rt.alloc()), Err(WriteFault::Failed));
     Ok(())
 }
 
@@ -270,18 +328,28 @@ fn file_count(rt: &HostRuntime, name: &str) -> Result<u64, Fail> {
     Ok(image.count().unwrap_or(0))
 }
 
+// Makes a file of as many bytes, each of them 5.
+fn make_file(rt: &HostRuntime, name: &str, len: usize) -> Result<(), Fail> {
+    let bytes = vec![in rt.alloc(); 5; len]?;
+    fs::write(rt, name, bytes.as_slice())?;
+    Ok(())
+}
+
+// The number of bytes of a file, and whether those of the second block are 7 and the others 5.
+fn held_by(rt: &HostRuntime, name: &str) -> Result<(usize, bool), Fail> {
+    let held = fs::read(rt, name)?;
+    let mut bytes = held.iter().enumerate();
+    let is_written = bytes.all(|(at, byte)| *byte == if at / 512 == 1 { 7 } else { 5 });
+    Ok((held.len(), is_written))
+}
+
 #[test]
 fn a_file_holds_an_image(rt: HostRuntime) -> Result<(), Fail> {
     let name = "vio_io-image.test";
-    let bytes = vec![in rt.alloc(); 5; 1636]?;
-    fs::write(&rt, name, bytes.as_slice())?;
+    make_file(&rt, name, 1636)?;
     for _ in 0..2 {
-        assert_eq!(rt; write_file(&rt, name)?, (5, 7, 5));
-        let held = fs::read(&rt, name)?;
-        for (at, byte) in held.iter().enumerate() {
-            assert_eq!(rt; *byte, if at / 512 == 1 { 7 } else { 5 }, "{at}");
-        }
-        assert_eq!(rt; held.len(), 1636);
+        let seen = (write_file(&rt, name)?, held_by(&rt, name)?);
+        assert_eq!(rt; seen, ((5, 7, 5), (1636, true)));
     }
     fs::remove_file(&rt, name)?;
     Ok(())
@@ -290,9 +358,8 @@ fn a_file_holds_an_image(rt: HostRuntime) -> Result<(), Fail> {
 #[test]
 fn an_image_has_one_block_at_least(rt: HostRuntime) -> Result<(), Fail> {
     let name = "vio_io-short.test";
-    let bytes = vec![in rt.alloc(); 5; 1024]?;
     for (len, count) in [(0, 0), (511, 0), (512, 1), (1023, 1), (1024, 2)] {
-        fs::write(&rt, name, &bytes[..bytes.len().min(len)])?;
+        make_file(&rt, name, len)?;
         assert_eq!(rt; file_count(&rt, name)?, count, "{len}");
     }
     fs::remove_file(&rt, name)?;
@@ -350,19 +417,24 @@ impl Files for NoFiles {
     }
 }
 
+// What an image answers to a count where its file does not open; none where it is refused for want of memory.
+fn count_unopened(alloc: Global, kind: ErrorKind) -> Option<Result<u64, Failed>> {
+    match FileBlocks::open(&NoFiles(kind), alloc, "image") {
+        Ok(mut image) => Some(image.count()),
+        Err(NoMemory) => None,
+    }
+}
+
 #[test]
-fn only_want_of_memory_is_no_memory(rt: HostRuntime) -> Result<(), Fail> {
-    let opened = FileBlocks::open(&NoFiles(ErrorKind::OutOfMemory), rt.alloc(), "image");
-    assert!(rt; matches!(opened, Err(NoMemory)));
+fn only_want_of_memory_is_no_memory(rt: HostRuntime) {
+    assert_eq!(rt; count_unopened(rt.alloc(), ErrorKind::OutOfMemory), None);
     for kind in [
         ErrorKind::PermissionDenied,
         ErrorKind::IsADirectory,
         ErrorKind::StorageFull,
     ] {
-        let mut image = FileBlocks::open(&NoFiles(kind), rt.alloc(), "image")?;
-        assert_eq!(rt; image.count(), Err(Failed));
+        assert_eq!(rt; count_unopened(rt.alloc(), kind), Some(Err(Failed)));
     }
-    Ok(())
 }
 
 // Passes a gate before each of three turns, and answers how many it passed.

@@ -1,10 +1,10 @@
 -- What a port made of a frame, as its deliveries and drops say it.
-use Rattle.std.proofs.Common.{◌≡◌, ◌+◌, ◌^◌, ◌<◌, ◌≤◌, ℕ, arith, Bool, true, false, List, [], ◌∷◌, ◌++◌, append-nil, IsSome, length, map, if◌then◌else◌, refl, sym, ◌∙◌, ap, subst}
+use Rattle.std.proofs.Common.{◌≡◌, ◌+◌, ◌≤◌, ℕ, arith, Bool, true, false, List, [], ◌∷◌, ◌++◌, append-nil, length, map, if◌then◌else◌, refl, sym, ◌∙◌, ap}
 use Rattle.std.specs.List.{flat_map}
 use Rattle.vio_num.specs.declared.names.UnitId.{UnitId}
 use Rattle.page_slots.specs.declared.stroke.StrokeName.{StrokeName}
 use Rattle.tce_window.specs.declared.piece.Piece.{Piece}
-use Rattle.lan_buffers.specs.Calls.{IsOpen, one_more}
+use Rattle.lan_buffers.specs.Calls.{one_more}
 use Rattle.lan_buffers.specs.Port.{PortValue}
 use Rattle.lan_buffers.specs.declared.answers.Deliver.{Deliver}
 use Rattle.lan_buffers.specs.declared.answers.Deliver.TheVariants as sent
@@ -12,7 +12,7 @@ use Rattle.lan_buffers.specs.declared.rows.DeliverRow.{DeliverRow as Delivery}
 use Rattle.lan_switch.specs.Sending.{IsOfferedAt, Offering}
 use Rattle.vio_trace.specs.declared.lan_rows.Offered.{Offered}
 use Rattle.lan_switch.specs.Switch.{same_unit}
-use Rattle.lan_script.specs.Delivered.{Delivered, bytes_in, drops_of, offer_says, taken}
+use Rattle.lan_script.specs.Delivered.{bytes_in, drops_of, offer_says, taken}
 use Rattle.lan_script.specs.Frames.{offered_as, piece_row_of}
 use Rattle.lan_script.specs.Invariant.{total}
 use Rattle.lan_script.specs.Rows.{deliver_row_of, deliver_rows, deliveries_in, sessions_from}

@@ -1,5 +1,5 @@
 -- The balance of frames, deliveries and drops, where a call at one port keeps what that port has of it.
-use Rattle.std.proofs.Common.{◌≡◌, ◌≤◌, ◌<◌, ◌^◌, ℕ, Bool, true, false, List, [], ◌∷◌, Option, Some, None, length, refl, sym, ◌∙◌, ap, subst}
+use Rattle.std.proofs.Common.{◌≡◌, ◌≤◌, true, false, List, [], ◌∷◌, Some, length, refl, sym, ◌∙◌, ap, subst}
 use Rattle.vio_num.specs.declared.names.UnitId.{UnitId}
 use Rattle.lan_buffers.specs.Calls.{IsOpen}
 use Rattle.lan_buffers.specs.Port.{PortValue}
@@ -38,7 +38,7 @@ by_ports old new v before after e f keeps = record {
 pub by_same : (old new : List Station) (v : UnitId) → port_of new v ≡ port_of old v → SeesSame old new v
 by_same old new v e = record { rows = ap (λ o. rows_in v o) e; drops = ap (λ o. drops_by o) e }
 
-sees_with : (unit v : UnitId) (ss : List Station) (before after : PortValue) → port_of ss unit ≡ Some before → after.unit ≡ before.unit
+pub sees_with : (unit v : UnitId) (ss : List Station) (before after : PortValue) → port_of ss unit ≡ Some before → after.unit ≡ before.unit
     → KeepsTally before after → SeesSame ss (with_port unit after ss) v
 sees_with unit v [] before after at same keeps = absurd (none_some before at)
 sees_with unit v (s ∷ ss) before after at same keeps =

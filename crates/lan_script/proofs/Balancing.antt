@@ -1,10 +1,9 @@
 -- The balance of frames, deliveries and drops, where a frame is sent and its row is kept.
-use Rattle.std.proofs.Common.{◌≡◌, ◌+◌, ◌^◌, ◌<◌, ◌≤◌, inl, inr, ℕ, zero, suc, arith, Bool, true, false, true≢false, List, [], ◌∷◌, ◌++◌, append-nil, Option, Some, None, IsSome, length, length-append, map, set, slice_get, if◌then◌else◌, refl, sym, ◌∙◌, ap, subst}
+use Rattle.std.proofs.Common.{◌≡◌, ◌+◌, ◌≤◌, inl, inr, ℕ, suc, arith, Bool, true, false, true≢false, List, [], ◌∷◌, ◌++◌, append-nil, Option, Some, None, IsSome, length, length-append, map, set, slice_get, if◌then◌else◌, refl, sym, ◌∙◌, ap, subst}
 use Rattle.std.proofs.lemmas.List.{append_assoc}
 use Rattle.vio_num.specs.declared.names.UnitId.{UnitId}
 use Rattle.vio_num.specs.declared.hypervisor.Hrc.TheVariants.{Success}
 use Rattle.tce_window.specs.PortState.{PortState}
-use Rattle.lan_buffers.specs.Calls.{IsOpen}
 use Rattle.lan_buffers.specs.declared.answers.Deliver.{Deliver}
 use Rattle.lan_buffers.specs.declared.answers.Deliver.TheVariants as sent
 use Rattle.lan_switch.specs.declared.answers.Offer.{Offer}
@@ -14,12 +13,12 @@ use Rattle.lan_switch.specs.Sending.{AreOffered, IsSent, LanWindows, OffersFrame
 use Rattle.lan_switch.specs.Switch.{AreAscending, port_of, same_unit, unit_of}
 use Rattle.vio_trace.specs.declared.lan_rows.FrameRow.{FrameRow}
 use Rattle.lan_script.specs.declared.seat.PortSeat.{PortSeat}
-use Rattle.lan_script.specs.Delivered.{Delivered, drops_in, drops_of, drops_to, given, given_in, offer_says, taken}
+use Rattle.lan_script.specs.Delivered.{drops_in, drops_of, drops_to, given, given_in, offer_says, taken}
 use Rattle.lan_script.specs.Frames.{frame_row_of, offered_as}
-use Rattle.lan_script.specs.Invariant.{HaveBegun, IsBalanced, all_of, drops_at, rows_at, sent_by, with_frame, with_sent}
+use Rattle.lan_script.specs.Invariant.{HaveBegun, IsBalanced, all_of, rows_at, sent_by, with_frame, with_sent}
 use Rattle.lan_script.specs.Seats.{seat_at, seat_place}
 use Rattle.lan_script.specs.Units.{HavePorts, port_key}
-use Rattle.lan_script.proofs.Balance.{SeesSame, balance_seen, by_same}
+use Rattle.lan_script.proofs.Balance.{balance_seen, by_same}
 use Rattle.lan_script.proofs.Blocks.{self}
 use Rattle.lan_script.proofs.Gains.{AreSilent, Gains, begun_offered, gained, gained_none, gains, rows_of, told_to}
 use Rattle.lan_script.proofs.Keeping.{frames_long}
@@ -38,11 +37,11 @@ drops_append v [] ys = omega arith
 drops_append v (f ∷ xs) ys = omega (arith, drops_append v xs ys)
 
 -- the frames of a sender with one more
-with_head : (unit : UnitId) (f : FrameRow) (s : PortSeat) (seats : List PortSeat) (own : List FrameRow) (frames : List (List FrameRow))
+pub with_head : (unit : UnitId) (f : FrameRow) (s : PortSeat) (seats : List PortSeat) (own : List FrameRow) (frames : List (List FrameRow))
     → same_unit s.unit unit ≡ true → with_frame unit f (s ∷ seats) (own ∷ frames) ≡ (own ++ f ∷ []) ∷ frames
 with_head unit f s seats own frames e = rw e refl
 
-with_tail : (unit : UnitId) (f : FrameRow) (s : PortSeat) (seats : List PortSeat) (own : List FrameRow) (frames : List (List FrameRow))
+pub with_tail : (unit : UnitId) (f : FrameRow) (s : PortSeat) (seats : List PortSeat) (own : List FrameRow) (frames : List (List FrameRow))
     → same_unit s.unit unit ≡ false → with_frame unit f (s ∷ seats) (own ∷ frames) ≡ own ∷ with_frame unit f seats frames
 with_tail unit f s seats own frames e = rw e refl
 
@@ -64,7 +63,7 @@ one_own unit sender f e = rw e refl
 one_other : (unit sender : UnitId) (f : FrameRow) → same_unit unit sender ≡ false → one_of unit sender f ≡ []
 one_other unit sender f e = rw e refl
 
-there_later : (unit : UnitId) (s : PortSeat) (seats : List PortSeat) → same_unit s.unit unit ≡ false → IsSome (seat_at (s ∷ seats) unit)
+pub there_later : (unit : UnitId) (s : PortSeat) (seats : List PortSeat) → same_unit s.unit unit ≡ false → IsSome (seat_at (s ∷ seats) unit)
     → IsSome (seat_at seats unit)
 there_later unit s seats e there = subst (λ (o : Option PortSeat). IsSome o) (tail e) there
   where
@@ -183,7 +182,7 @@ station_units whole (s ∷ seats) (t ∷ ss) (f ∷ frames) have =
     ap (λ (u : UnitId). u ∷ map unit_of ss) have.0.0.unit_is ∙ ap (λ l. s.unit ∷ l) (station_units whole seats ss frames have.1)
 
 -- a number of frames changes no port
-numbered_port : (unit v : UnitId) (n : ℕ) (ss : List Station) → port_of (with_frames unit n ss) v ≡ port_of ss v
+pub numbered_port : (unit v : UnitId) (n : ℕ) (ss : List Station) → port_of (with_frames unit n ss) v ≡ port_of ss v
 numbered_port unit v n [] = refl
 numbered_port unit v n (s ∷ ss) =
     by_bool (same_unit (unit_of s) unit) (port_of (with_frames unit n (s ∷ ss)) v ≡ port_of (s ∷ ss) v)

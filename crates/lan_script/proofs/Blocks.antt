@@ -1,5 +1,5 @@
 -- Rows that stand in blocks, one block a unit: what each block has, and what a filter leaves of all.
-use Rattle.std.proofs.Common.{◌≡◌, ◌+◌, ◌<◌, ◌≤◌, ◌*◌, ◌==◌, ◌&&◌, ◌⊎◌, inl, inr, ℕ, zero, suc, arith, Bool, true, false, cond, All, List, [], ◌∷◌, ◌++◌, append-nil, IsSome, filter, length, map, refl, sym, ◌∙◌, ap, subst}
+use Rattle.std.proofs.Common.{◌≡◌, ◌<◌, ◌==◌, ◌&&◌, ◌⊎◌, inl, inr, arith, Bool, true, false, cond, All, List, [], ◌∷◌, ◌++◌, append-nil, IsSome, filter, map, refl, sym, ◌∙◌, ap, subst}
 use Rattle.std.specs.List.{flat_map}
 use Rattle.std.proofs.lemmas.Bool.{cases_order, eq-eqb}
 use Rattle.std.proofs.lemmas.List.Elements.{filter-append, All-cons, All-head, All-nil, All-tail}
@@ -8,7 +8,7 @@ use Rattle.vio_trace.specs.Form.{UnitBefore}
 use Rattle.lan_switch.specs.Switch.{AreAscending, order_of, same_unit}
 use Rattle.lan_script.specs.declared.seat.PortSeat.{PortSeat}
 use Rattle.lan_script.specs.Seats.{seat_at}
-use Rattle.lan_script.proofs.Order.{Each, Ordered, each_append, each_flat, each_weaker}
+use Rattle.lan_script.proofs.Order.{Each, Ordered, each_append, each_weaker}
 use Rattle.lan_script.proofs.Placing.{by_bool, one_unit}
 
 pub all_from_each : {X : Type 0} (P : X → Type 0) (xs : List X) → Each P xs → All P xs

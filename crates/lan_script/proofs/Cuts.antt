@@ -1,5 +1,5 @@
 -- A list that is gone through: what a step adds.
-use Rattle.std.proofs.Common.{◌≡◌, ◌+◌, ◌<◌, ◌==◌, ℕ, zero, suc, arith, All, Option, Some, get_or, List, [], ◌∷◌, ◌++◌, append-nil, append_assoc, filter, take, length, map, refl, sym, ◌∙◌, ap, subst}
+use Rattle.std.proofs.Common.{◌≡◌, ◌+◌, ◌<◌, ℕ, zero, suc, arith, All, Some, get_or, List, [], ◌∷◌, ◌++◌, append-nil, append_assoc, take, length, map, refl, sym, ◌∙◌, ap, subst}
 use Rattle.std.specs.List.{flat_map}
 use Rattle.std.proofs.Math.Seq.{take-suc}
 use Rattle.std.proofs.lemmas.List.{length-take}

@@ -3,14 +3,13 @@ use Rattle.std.proofs.Common.{◌≡◌, ◌+◌, ℕ, Bool, true, false, List, 
 use Rattle.std.specs.List.{flat_map}
 use Rattle.std.proofs.lemmas.List.Elements.{filter-append}
 use Rattle.vio_num.specs.declared.names.UnitId.{UnitId}
-use Rattle.lan_buffers.specs.Port.{PortValue}
 use Rattle.lan_switch.specs.declared.station.Station.{Station}
 use Rattle.lan_switch.specs.Switch.{port_of, same_unit}
 use Rattle.vio_trace.specs.Form.{UnitBefore}
 use Rattle.vio_trace.specs.declared.lan_rows.FrameRow.{FrameRow}
 use Rattle.lan_script.specs.declared.seat.PortSeat.{PortSeat}
 use Rattle.lan_script.specs.Delivered.{drops_counted}
-use Rattle.lan_script.specs.Invariant.{sent_by, total}
+use Rattle.lan_script.specs.Invariant.{total}
 use Rattle.lan_script.specs.Rows.{numbered, port_row_of}
 use Rattle.lan_script.specs.Units.{HavePorts, port_key}
 use Rattle.lan_script.proofs.Blocks.{all_pass, alone, before_other, none_passes, turned}

@@ -1,5 +1,5 @@
 -- What the offers of a frame add to the deliveries and drops of each port.
-use Rattle.std.proofs.Common.{◌≡◌, ◌+◌, ◌^◌, ◌<◌, ◌≤◌, inl, inr, ℕ, arith, Bool, true, false, All, List, [], ◌∷◌, ◌++◌, append-nil, Option, Some, None, IsSome, length, map, if◌then◌else◌, refl, sym, ◌∙◌, ap, subst}
+use Rattle.std.proofs.Common.{◌≡◌, ◌+◌, ◌^◌, ◌<◌, ◌≤◌, inl, inr, arith, Bool, true, false, All, List, [], ◌∷◌, ◌++◌, append-nil, Option, Some, IsSome, length, map, if◌then◌else◌, refl, sym, ◌∙◌, ap, subst}
 use Rattle.std.proofs.lemmas.List.Elements.{All-head, All-tail}
 use Rattle.vio_num.specs.declared.names.UnitId.{UnitId}
 use Rattle.lan_buffers.specs.Calls.{IsOpen}
@@ -80,7 +80,7 @@ silent o false (s ∷ olds) (n ∷ news) offers v (inl (answer, later, is, takes
 silent o all (s ∷ olds) (n ∷ news) offers v (inr (passed, rest)) apart = silent o all olds news offers v rest apart.1
 
 -- the stations behind one in ascending order are of other units
-apart_from : (s : Station) (ss : List Station) (v : UnitId) → same_unit (unit_of s) v ≡ true → AreAscending (map unit_of (s ∷ ss))
+pub apart_from : (s : Station) (ss : List Station) (v : UnitId) → same_unit (unit_of s) v ≡ true → AreAscending (map unit_of (s ∷ ss))
     → Each (λ (t : Station). same_unit (unit_of t) v ≡ false) ss
 apart_from s ss v e ascending = behind ss ascending.0
   where

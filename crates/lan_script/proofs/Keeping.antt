@@ -1,5 +1,5 @@
 -- The ports of seats while a frame is owed, and when it is kept.
-use Rattle.std.proofs.Common.{◌≡◌, ◌+◌, ◌<◌, ◌≤◌, ℕ, zero, suc, arith, get_or, set, Bool, true, false, List, [], ◌∷◌, ◌++◌, Option, Some, None, length, length-append, map, slice_get, if◌then◌else◌, refl, sym, ◌∙◌, ap, subst}
+use Rattle.std.proofs.Common.{◌≡◌, ◌+◌, ◌<◌, ℕ, zero, suc, arith, get_or, set, Bool, true, false, List, [], ◌∷◌, ◌++◌, Option, Some, None, length, length-append, map, slice_get, refl, sym, ◌∙◌, ap, subst}
 use Rattle.vio_num.specs.declared.names.UnitId.{UnitId}
 use Rattle.lan_switch.specs.Switch.{same_unit}
 use Rattle.vio_trace.specs.declared.lan_rows.FrameRow.{FrameRow}

@@ -1,14 +1,14 @@
 -- What the seats say of ports and of windows, and what calls keep of it.
-use Rattle.std.proofs.Common.{◌≡◌, ◌≤◌, ℕ, Bool, true, false, List, [], ◌∷◌, Option, Some, None, IsSome, length, map, option_map, if◌then◌else◌, refl, sym, ◌∙◌, ap, subst}
+use Rattle.std.proofs.Common.{◌≡◌, ℕ, Bool, true, false, List, [], ◌∷◌, Option, Some, None, length, map, option_map, refl, sym, ◌∙◌, ap, subst}
 use Rattle.vio_num.specs.declared.names.UnitId.{UnitId}
 use Rattle.tce_window.specs.Window.{WindowValue}
 use Rattle.lan_buffers.specs.Port.{PortValue}
 use Rattle.lan_switch.specs.declared.station.Station.{Station}
-use Rattle.lan_switch.specs.Switch.{port_of, same_unit, station_of, with_port}
+use Rattle.lan_switch.specs.Switch.{port_of, same_unit, with_port}
 use Rattle.vio_trace.specs.declared.lan_rows.FrameRow.{FrameRow}
 use Rattle.lan_script.specs.declared.seat.PortSeat.{PortSeat}
 use Rattle.lan_script.specs.declared.windows.Place.{Place}
-use Rattle.lan_script.specs.Invariant.{IsBalanced, IsLan}
+use Rattle.lan_script.specs.Invariant.{CarryAll, IsBalanced, IsLan}
 use Rattle.lan_script.specs.Seats.{seat_at}
 use Rattle.lan_script.specs.Units.{HavePorts, LanValue, PortKey, WindowKey, port_key, seat_key, window_key}
 use Rattle.lan_script.specs.Windows.{window_in, with_window}
@@ -129,8 +129,9 @@ window_keys_with unit (p ∷ ps) w w' at pages held =
 
 -- other ports, or other windows, of the same keys are LAN units as well
 pub lan_ports : (lan : LanValue) (ss : List Station) → IsLan lan → map port_key ss ≡ map port_key lan.stations
-    → (IsBalanced lan.seats lan.stations lan.frames → IsBalanced lan.seats ss lan.frames) → IsLan (record lan { stations = ss })
-lan_ports lan ss is same balanced = record {
+    → (IsBalanced lan.seats lan.stations lan.frames → IsBalanced lan.seats ss lan.frames)
+    → (CarryAll lan.stations lan.places lan.frames → CarryAll ss lan.places lan.frames) → IsLan (record lan { stations = ss })
+lan_ports lan ss is same balanced carried = record {
   few = is.few;
   ascending = is.ascending;
   sized = is.sized;
@@ -138,10 +139,12 @@ lan_ports lan ss is same balanced = record {
   ports = subst (λ keys. HavePorts lan.whole lan.seats keys lan.frames) (sym same) is.ports;
   windows = is.windows;
   balanced = λ whole. balanced (is.balanced whole);
+  carried = λ whole. carried (is.carried whole);
 }
 
-pub lan_windows : (lan : LanValue) (ps : List Place) → IsLan lan → map window_key ps ≡ map window_key lan.places → IsLan (record lan { places = ps })
-lan_windows lan ps is same = record {
+pub lan_windows : (lan : LanValue) (ps : List Place) → IsLan lan → map window_key ps ≡ map window_key lan.places
+    → (CarryAll lan.stations lan.places lan.frames → CarryAll lan.stations ps lan.frames) → IsLan (record lan { places = ps })
+lan_windows lan ps is same carried = record {
   few = is.few;
   ascending = is.ascending;
   sized = is.sized;
@@ -149,4 +152,5 @@ lan_windows lan ps is same = record {
   ports = is.ports;
   windows = same ∙ is.windows;
   balanced = is.balanced;
+  carried = λ whole. carried (is.carried whole);
 }

@@ -7,23 +7,27 @@ use Rattle.hcall_table.specs.declared.hcall.Hcall.TheVariants as rows
 use Rattle.tce_window.specs.PlainPort.{known_of}
 use Rattle.tce_window.specs.PortState.{PortPlace, PortState}
 use Rattle.tce_window.specs.Window.{WindowValue}
+use Rattle.unit_region.specs.Kept.{KeepsWindow}
 use Rattle.lan_buffers.specs.Port.{PortValue}
 use Rattle.lan_switch.specs.declared.answers.LanAnswer.{LanAnswer}
 use Rattle.lan_switch.specs.declared.answers.SendRecord.{SendRecord}
 use Rattle.lan_switch.specs.declared.station.Station.{Station}
 use Rattle.lan_switch.specs.Calls.{Reserves}
-use Rattle.lan_switch.specs.Sending.{FailsToSend, IsSent, LanWindows}
+use Rattle.lan_switch.specs.Sending.{FailsToSend, IsSent, LanWindows, windows_of}
+use Rattle.lan_switch.specs.Source.{OnlyReadThrough}
+use Rattle.lan_switch.specs.declared.source.TheConstants.{MOST_PARTS}
 use Rattle.lan_switch.specs.Switch.{AreAscending, AtPort, HasRoom, IsPort, MadeAt, port_of, same_unit, with_port}
 use Rattle.vio_trace.specs.declared.lan_rows.FrameRow.{FrameRow}
 use Rattle.lan_script.specs.declared.seat.PortSeat.{PortSeat}
 use Rattle.lan_script.specs.declared.windows.Place.{Place}
-use Rattle.lan_script.specs.Frames.{with_count}
-use Rattle.lan_script.specs.Invariant.{IsLan, Owes}
+use Rattle.lan_script.specs.Invariant.{CarryAll, IsLan, Owes}
 use Rattle.lan_script.specs.Seats.{seat_at, seat_place}
-use Rattle.lan_script.specs.Units.{HavePorts, LanValue, PortKey, WindowKey, port_key, seat_key, window_key}
-use Rattle.lan_script.specs.Windows.{HasPlace, facts_in, facts_of, place_in, window_in, with_window}
+use Rattle.lan_script.specs.Units.{HavePorts, LanValue, WindowKey, port_key, seat_key, window_key}
+use Rattle.lan_script.specs.Windows.{FoundIn, HasPlace, facts_in, facts_of, place_in, window_in, with_window}
 use Rattle.lan_script.proofs.Balancing.{Sends, station_units}
-use Rattle.lan_script.proofs.Called.{SamePort, at_balance, at_keys}
+use Rattle.lan_script.proofs.Called.{SamePort, at_balance, at_carried, at_keys}
+use Rattle.lan_script.proofs.CarriedOn.{carried_own, keeps_through}
+use Rattle.lan_script.proofs.CarriedSent.{IsLending, carried_sent, parts_few}
 use Rattle.lan_script.proofs.Keeping.{frames_long, short_ports}
 use Rattle.lan_script.proofs.Keys.{PortOf, WindowOf, lan_ports, lan_windows, port_of_seat, window_keys_with, window_of}
 use Rattle.lan_script.proofs.Lent.{all_free, away_back, keys_back, shape_units, units_of, with_keys}
@@ -78,11 +82,13 @@ pub lan_made : (lan now : LanValue) (unit : UnitId) (answer : LanAnswer) (ss : L
 lan_made lan now unit answer ss P same is there h kept =
     let made = h.made (port_there lan now unit same is there) in
     lan_ports lan ss is (at_keys lan.stations unit ss P kept made) (at_balance lan.seats lan.frames lan.stations unit ss P kept made)
+    (at_carried lan.places lan.frames lan.stations unit ss P kept made)
 
 pub lan_at : (lan : LanValue) (unit : UnitId) (ss : List Station) (P : PortValue → PortValue → Type 0) → IsLan lan → AtPort lan.stations unit ss P
     → ((before after : PortValue) → P before after → SamePort before after) → IsLan (record lan { stations = ss })
 lan_at lan unit ss P is h kept =
     lan_ports lan ss is (at_keys lan.stations unit ss P kept h) (at_balance lan.seats lan.frames lan.stations unit ss P kept h)
+    (at_carried lan.places lan.frames lan.stations unit ss P kept h)
 
 port_head : (unit : UnitId) (s : Station) (ss : List Station) → same_unit s.port.unit unit ≡ true → port_of (s ∷ ss) unit ≡ Some s.port
 port_head unit s ss e = rw e refl
@@ -135,12 +141,15 @@ back_keys unit ps ps₁ ps₂ own own' at e f place held =
     ap (λ l. map window_key l) (f ∙ ap (λ l. with_window unit (Some own') l) e ∙ with_twice unit None (Some own') ps)
     ∙ window_keys_with unit ps own own' at (ap (λ (p : PortPlace). p.size) place) held
 
--- a window that was taken and put back
+-- a window that was taken and put back, and in which its unit alone laid strokes
 pub lan_back : (lan : LanValue) (unit : UnitId) (ps₁ ps₂ : List Place) (own own' : WindowValue) → IsLan lan → window_in unit lan.places ≡ Some own
-    → ps₁ ≡ with_window unit None lan.places → ps₂ ≡ with_window unit (Some own') ps₁ → (known_of own').place ≡ (known_of own).place
-    → own'.held_count ≡ own.held_count → IsLan (record lan { places = ps₂ })
-lan_back lan unit ps₁ ps₂ own own' is at e f place held =
-    lan_windows lan ps₂ is (back_keys unit lan.places ps₁ ps₂ own own' at e f place held)
+    → own.unit ≡ unit → ps₁ ≡ with_window unit None lan.places → ps₂ ≡ with_window unit (Some own') ps₁ → KeepsWindow false (known_of own) (known_of own')
+    → IsLan (record lan { places = ps₂ })
+lan_back lan unit ps₁ ps₂ own own' is at named e f keeps =
+    lan_windows lan ps₂ is (back_keys unit lan.places ps₁ ps₂ own own' at e f keeps.place keeps.held)
+    (λ carried. subst (λ (l : List Place). CarryAll lan.stations l lan.frames)
+    (sym (f ∙ ap (λ l. with_window unit (Some own') l) e ∙ with_twice unit None (Some own') lan.places))
+    (carried_own lan.stations lan.places lan.frames unit own own' at named keeps carried))
 
 -- no window of the units holds anything
 held_none : (ps : List Place) (seats : List PortSeat) → map window_key ps ≡ map seat_key seats → (u : UnitId) (qs : List Place)
@@ -233,7 +242,7 @@ pub sent_ports : (seats : List PortSeat) (ss ss' : List Station) (frames : List 
     → IfOk r (IsSent ss ss' unit parts is_shared Found window window' windows) → OnErr r (FailsToSend ss ss' unit parts window window' windows)
     → HavePorts false seats (map port_key ss') frames
 sent_ports seats ss ss' frames unit parts is_shared Found window window' windows (Ok made) sends plain sent failed =
-    let o = owes seats ss ss' [] frames unit parts is_shared Found window window' windows made sends plain sent in
+    let o = owes seats ss ss' frames unit parts is_shared Found window window' windows made sends plain sent in
     subst (λ keys. HavePorts false seats keys frames) (sym o.counts) (short_ports unit made.frame seats o.keys frames o.kept)
 sent_ports seats ss ss' frames unit parts is_shared Found window window' windows (Err memory) sends plain sent failed =
     let k = keys_failing ss ss' unit parts window window' windows failed in
@@ -276,14 +285,37 @@ place_lent unit ps ps₁ ps₂ own at e facts =
     let same = place_units unit ps₁ ps₂ (shape_units ps₁ ps₂ back.1) in
     omega (arith, same.0, same.1, place_after unit ps ps₁ own at e)
 
+-- the windows of a send
+pub lending : (ps : List Place) (unit : UnitId) (ps₁ ps₂ ps₃ : List Place) (own own' : WindowValue) → window_in unit ps ≡ Some own → own.unit ≡ unit
+    → ps₁ ≡ with_window unit None ps → ps₃ ≡ with_window unit (Some own') ps₂ → HasPlace unit ps₂ → own.held_count ≡ 0
+    → OnlyReadThrough false (known_of own) (known_of own') → IsLending unit ps ps₁ ps₂ ps₃ own own'
+lending ps unit ps₁ ps₂ ps₃ own own' at named away back place free read = record {
+  at = at;
+  named = named;
+  away = away;
+  back = back;
+  place = place;
+  keeps = keeps_through (known_of own) (known_of own') read free;
+}
+
 -- a send that was answered is owed
-pub owes_ok : (seats : List PortSeat) (ss ss' : List Station) (places : List Place) (frames : List (List FrameRow)) (unit : UnitId) (parts : List ℕ)
-    (is_shared : Bool) (Found : ℕ → ℕ → Type 0) (window window' : PortState) (windows : LanWindows) (r : Result SendRecord NoMemory)
-    → Sends seats ss frames unit → windows.is_shared ≡ false → IfOk r (IsSent ss ss' unit parts is_shared Found window window' windows)
-    → IfOk r (Owes (record { seats = seats; stations = ss'; places = places; frames = frames; whole = false }) unit)
-owes_ok seats ss ss' places frames unit parts is_shared Found window window' windows (Ok made) sends plain sent =
-    owes seats ss ss' places frames unit parts is_shared Found window window' windows made sends plain sent
-owes_ok seats ss ss' places frames unit parts is_shared Found window window' windows (Err memory) sends plain sent = tt
+pub owes_ok : (seats : List PortSeat) (ss ss' : List Station) (ps ps₁ ps₂ ps₃ : List Place) (own own' : WindowValue) (frames : List (List FrameRow)) (unit : UnitId)
+    (parts : List ℕ) (Found : ℕ → ℕ → Type 0) (r : Result SendRecord NoMemory) → Sends seats ss frames unit → CarryAll ss ps frames
+    → IsLending unit ps ps₁ ps₂ ps₃ own own' → length parts ≤ MOST_PARTS
+    → IfOk r (IsSent ss ss' unit parts false Found (known_of own) (known_of own') (windows_of false facts_in FoundIn ps₁ ps₂))
+    → IfOk r (Owes (record { seats = seats; stations = ss'; places = ps₃; frames = frames; whole = false }) unit)
+owes_ok seats ss ss' ps ps₁ ps₂ ps₃ own own' frames unit parts Found (Ok made) sends carried lends few sent =
+    let o = owes seats ss ss' frames unit parts false Found (known_of own) (known_of own') (windows_of false facts_in FoundIn ps₁ ps₂) made sends refl sent in
+    record {
+      keys = o.keys;
+      kept = o.kept;
+      counts = o.counts;
+      next = o.next;
+      lawful = o.lawful;
+      balanced = o.balanced;
+      carried = carried_sent seats unit parts ps ps₁ ps₂ ps₃ own own' ss ss' frames Found made lends sends (omega (arith, few, parts_few parts)) sent carried;
+    }
+owes_ok seats ss ss' ps ps₁ ps₂ ps₃ own own' frames unit parts Found (Err memory) sends carried lends few sent = tt
 
 pub may_ok : (ss ss' : List Station) (unit : UnitId) (parts : List ℕ) (is_shared : Bool) (Found : ℕ → ℕ → Type 0) (window window' : PortState)
     (windows : LanWindows) (r : Result SendRecord NoMemory) → IfOk r (IsSent ss ss' unit parts is_shared Found window window' windows)
@@ -293,6 +325,9 @@ may_ok ss ss' unit parts is_shared Found window window' windows (Ok made) sent =
 may_ok ss ss' unit parts is_shared Found window window' windows (Err memory) sent = tt
 
 -- where the frames are whole
+pub whole_carried : (lan now : LanValue) → lan ≡ now → IsLan lan → now.whole ≡ true → CarryAll lan.stations lan.places lan.frames
+whole_carried lan now same is whole = is.carried (ap (λ (l : LanValue). l.whole) same ∙ whole)
+
 pub whole_sends : (lan now : LanValue) (unit : UnitId) → lan ≡ now → IsLan lan → now.whole ≡ true → IsSome (seat_at now.seats unit)
     → Sends lan.seats lan.stations lan.frames unit
 whole_sends lan now unit same is whole there =

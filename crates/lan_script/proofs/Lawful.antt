@@ -1,16 +1,15 @@
 -- The rows of all units keep the law of ports, and stand in a trace's order.
-use Rattle.std.proofs.Common.{◌≡◌, ◌+◌, ◌^◌, ◌<◌, ◌≤◌, ℕ, arith, Bool, true, false, All, List, [], ◌∷◌, ◌++◌, inl, Option, Some, None, IsSome, filter, if◌then◌else◌, length, map, refl, sym, ◌∙◌, ap, subst}
+use Rattle.std.proofs.Common.{◌≡◌, ◌+◌, ◌^◌, ◌<◌, ℕ, arith, Bool, true, false, All, List, [], ◌∷◌, ◌++◌, inl, Option, Some, None, IsSome, filter, if◌then◌else◌, length, map, refl, sym, ◌∙◌, ap, subst}
 use Rattle.std.specs.List.{flat_map}
 use Rattle.std.proofs.lemmas.List.Elements.{All-weaker}
 use Rattle.vio_num.specs.declared.names.UnitId.{UnitId}
-use Rattle.lan_buffers.specs.Port.{IsLawfulPort, PortValue}
+use Rattle.lan_buffers.specs.Port.{PortValue}
 use Rattle.lan_switch.specs.declared.station.Station.{Station}
 use Rattle.lan_switch.specs.Switch.{IsPort, port_of, same_unit}
 use Rattle.vio_trace.specs.Form.{Ascend, DeliverBefore, FrameBefore, HarvestBefore, IsOfferOf, PortBefore, PostBefore, UnitBefore}
 use Rattle.vio_trace.specs.declared.lan_rows.DeliverRow.{DeliverRow}
 use Rattle.vio_trace.specs.declared.lan_rows.FrameRow.{FrameRow}
 use Rattle.vio_trace.specs.declared.lan_rows.HarvestRow.{HarvestRow}
-use Rattle.vio_trace.specs.declared.lan_rows.OfferRow.{OfferRow}
 use Rattle.vio_trace.specs.declared.lan_rows.PortRow.{PortRow}
 use Rattle.vio_trace.specs.declared.lan_rows.PostRow.{PostRow}
 use Rattle.lan_script.specs.declared.rows.LanRows.{LanRows}
@@ -21,7 +20,7 @@ use Rattle.lan_script.specs.PortLaw.{AreOrdered, IsOfPort, PortsAreLawful}
 use Rattle.lan_script.specs.Rows.{HasLawfulPort, deliver_rows, harvest_rows, port_in, port_or, port_rows, post_rows}
 use Rattle.lan_script.specs.RowsOf.{IsRowsOf}
 use Rattle.lan_script.specs.Seats.{seat_at}
-use Rattle.lan_script.specs.Units.{AreFrames, HavePorts, IsLawfulFrame, IsLawfulOffer, LanValue, PortKey, port_key}
+use Rattle.lan_script.specs.Units.{AreFrames, HavePorts, IsLawfulOffer, LanValue, PortKey, port_key}
 use Rattle.lan_script.proofs.Blocks.{all_from_each, before_other, both_each, each_from_all, of_seats, seats_ordered, self, sole_block}
 use Rattle.lan_script.proofs.Found.{at_unit, counted_total, filter_unit, found, no_port, pick}
 use Rattle.lan_script.proofs.Order.{Each, Ordered, ascends, each_append, each_weaker, ordered_flat}
@@ -180,10 +179,10 @@ offers_named (s ∷ seats) (k ∷ keys) (f ∷ frames) have =
 abbrev ports_by : List Station → PortSeat → List PortRow
 ports_by ss seat = port_rows seat.unit (port_in ss seat)
 
-abbrev posts_by : List Station → PortSeat → List PostRow
+abbrev pub posts_by : List Station → PortSeat → List PostRow
 posts_by ss seat = post_rows seat.unit (port_in ss seat)
 
-abbrev delivers_by : List Station → PortSeat → List DeliverRow
+abbrev pub delivers_by : List Station → PortSeat → List DeliverRow
 delivers_by ss seat = deliver_rows seat.unit (port_in ss seat)
 
 abbrev harvests_by : List Station → PortSeat → List HarvestRow
@@ -199,7 +198,7 @@ posts_own ss seats =
     named_by (λ (row : PostRow). row.unit) (λ row. row.session) (posts_by ss)
     (λ seat. (posts_are seat.unit (port_in ss seat).posts 1 (length (port_in ss seat).drop_counts)).1) seats
 
-delivers_own : (ss : List Station) (seats : List PortSeat) → Each (λ (seat : PortSeat). Each (λ (row : DeliverRow). row.unit ≡ seat.unit) (delivers_by ss seat)) seats
+pub delivers_own : (ss : List Station) (seats : List PortSeat) → Each (λ (seat : PortSeat). Each (λ (row : DeliverRow). row.unit ≡ seat.unit) (delivers_by ss seat)) seats
 delivers_own ss seats =
     named_by (λ (row : DeliverRow). row.unit) (λ row. row.session) (delivers_by ss)
     (λ seat. (deliveries_are seat.unit (port_in ss seat).deliveries 1 (length (port_in ss seat).drop_counts)).1) seats
@@ -210,10 +209,10 @@ harvests_own ss seats =
     (λ seat. (harvests_are seat.unit (port_in ss seat).harvests 1 (length (port_in ss seat).drop_counts)).1) seats
 
 -- what a filter by a seat's unit leaves of these rows is the seat's own block
-abbrev IsSole : {Row : Type 0} → (Row → UnitId) → (PortSeat → List Row) → List Row → PortSeat → Type 0
+abbrev pub IsSole : {Row : Type 0} → (Row → UnitId) → (PortSeat → List Row) → List Row → PortSeat → Type 0
 IsSole unit f rows seat = filter (λ row. same_unit (unit row) seat.unit) rows ≡ f seat
 
-soles : {Row : Type 0} (unit : Row → UnitId) (f : PortSeat → List Row) (rows : List Row) (seats : List PortSeat) → rows ≡ flat_map f seats
+pub soles : {Row : Type 0} (unit : Row → UnitId) (f : PortSeat → List Row) (rows : List Row) (seats : List PortSeat) → rows ≡ flat_map f seats
     → Each (λ seat. Each (λ row. unit row ≡ seat.unit) (f seat)) seats → Ordered (λ (a b : PortSeat). UnitBefore a.unit b.unit) seats
     → Each (IsSole unit f rows) seats
 soles unit f rows seats e named order =
@@ -257,10 +256,10 @@ own_rows unit f seats rows e named =
     all_from_each (λ row. IsSome (seat_at seats (unit row))) rows
     (subst (λ l. Each (λ row. IsSome (seat_at seats (unit row))) l) (sym e) (of_seats unit f seats named))
 
-whole_ports : (lan : LanValue) → IsLan lan → lan.whole ≡ true → HavePorts true lan.seats (map port_key lan.stations) lan.frames
+pub whole_ports : (lan : LanValue) → IsLan lan → lan.whole ≡ true → HavePorts true lan.seats (map port_key lan.stations) lan.frames
 whole_ports lan is whole = subst (λ w. HavePorts w lan.seats (map port_key lan.stations) lan.frames) whole is.ports
 
-in_order : (lan : LanValue) → IsLan lan → Ordered (λ (a b : PortSeat). UnitBefore a.unit b.unit) lan.seats
+pub in_order : (lan : LanValue) → IsLan lan → Ordered (λ (a b : PortSeat). UnitBefore a.unit b.unit) lan.seats
 in_order lan is = seats_ordered lan.seats is.ascending (each_from_all (λ (seat : PortSeat). seat.unit.unit < 256) lan.seats is.named)
 
 pub ports_there : (lan : LanValue) → IsLan lan → All (λ (seat : PortSeat). IsPort lan.stations seat.unit) lan.seats

@@ -1,5 +1,5 @@
 -- The map of windows that was lent to a switch comes back with the windows that it had.
-use Rattle.std.proofs.Common.{◌≡◌, ◌==◌, ◌&&◌, ◌<◌, ◌*◌, ◌+◌, ℕ, suc, arith, Bool, true, false, List, [], ◌∷◌, Option, Some, None, All, length, map, option_map, get_or, zero, if◌then◌else◌, refl, sym, ◌∙◌, ap, subst}
+use Rattle.std.proofs.Common.{◌≡◌, ◌==◌, ◌&&◌, ◌<◌, ℕ, suc, arith, true, false, List, [], ◌∷◌, Option, Some, None, All, length, map, option_map, refl, sym, ◌∙◌, ap, subst}
 use Rattle.std.proofs.lemmas.List.Elements.{All-head, All-tail}
 use Rattle.std.proofs.lemmas.Bool.{eq-eqb}
 use Rattle.vio_num.specs.declared.names.UnitId.{UnitId}

@@ -2,8 +2,14 @@ pub mod Answered
 pub mod Balance
 pub mod Balancing
 pub mod Blocks
+pub mod Bringing
 pub mod Called
+pub mod CarriedOn
+pub mod CarriedRows
+pub mod CarriedSent
+pub mod Carrying
 pub mod Cuts
+pub mod Filling
 pub mod Found
 pub mod Gains
 pub mod Keeping
@@ -14,10 +20,12 @@ pub mod Lawful
 pub mod Laws
 pub mod Lent
 pub mod Mapped
+pub mod Named
 pub mod Offering
 pub mod Opened
 pub mod Order
 pub mod Placing
+pub mod Posted
 pub mod RowLaws
 pub mod Sent
 pub mod Tallies

@@ -1,15 +1,14 @@
 -- What a call on a unit's window leaves of the map of windows.
-use Rattle.std.proofs.Common.{◌≡◌, ℕ, ◌<◌, ◌≤◌, zero, suc, get_or, Bool, true, false, List, [], ◌∷◌, Option, Some, None, IsSome, IsSomeAnd, All, length, slice_get, set, refl, sym, ◌∙◌, ap, subst, arith}
+use Rattle.std.proofs.Common.{◌≡◌, ℕ, ◌<◌, zero, suc, get_or, List, [], ◌∷◌, Option, Some, None, IsSome, IsSomeAnd, All, length, slice_get, set, refl, sym, ◌∙◌, ap, subst, arith}
 use Rattle.std.proofs.lemmas.List.Elements.{All-get_or, All-set}
 use Rattle.vio_num.specs.declared.names.UnitId.{UnitId}
 use Rattle.tce_window.specs.PlainPort.{known_of}
 use Rattle.tce_window.specs.PortState.{PortPlace, PortState, port_at}
 use Rattle.tce_window.specs.Window.{WindowValue}
 use Rattle.lan_switch.specs.Map.{KeepsOthers}
-use Rattle.lan_switch.specs.Switch.{same_unit}
 use Rattle.lan_script.specs.declared.windows.Place.{Place}
-use Rattle.lan_script.specs.Windows.{HasWindow, IsOwn, TurnsAt, Turns, facts_in, place_in, window_in, with_window}
-use Rattle.lan_script.proofs.Placing.{facts_beside, found, has_place, known_there, one_unit, own_place, placed, same_some, window_with}
+use Rattle.lan_script.specs.Windows.{IsOwn, TurnsAt, Turns, facts_in, place_in, window_in, with_window}
+use Rattle.lan_script.proofs.Placing.{facts_beside, found, has_place, known_there, one_unit, own_place, placed, window_with}
 
 -- the window keeps its unit and its size
 same_place : (before after : WindowValue) → (known_of after).place ≡ (known_of before).place

@@ -1,8 +1,8 @@
 -- What a switch makes of a frame, told of the units of a run.
-use Rattle.std.proofs.Common.{◌≡◌, ◌≤◌, ◌+◌, ◌⊎◌, inl, inr, ℕ, zero, suc, arith, Bool, true, false, IsTrue, List, [], ◌∷◌, ◌++◌, Option, Some, None, IfSome, take, drop, length, map, if◌then◌else◌, refl, sym, ◌∙◌, ap, subst}
+use Rattle.std.proofs.Common.{◌≡◌, ◌+◌, inl, inr, ℕ, zero, suc, Bool, true, false, List, [], ◌∷◌, Option, Some, None, IfSome, take, drop, map, if◌then◌else◌, refl, sym, ◌∙◌, ap, subst}
 use Rattle.vio_num.specs.declared.names.UnitId.{UnitId}
 use Rattle.vio_num.specs.declared.hypervisor.Hrc.{Hrc}
-use Rattle.vio_num.specs.declared.hypervisor.Hrc.TheVariants.{Success, Busy, Closed, Function, Parameter, NotFound, Dropped, SourceParm, DestParm, Resource}
+use Rattle.vio_num.specs.declared.hypervisor.Hrc.TheVariants.{Success, Parameter}
 use Rattle.hcall_table.specs.Rows.{may_answer}
 use Rattle.hcall_table.specs.declared.hcall.Hcall.TheVariants as rows
 use Rattle.tce_window.specs.declared.answers.HoldFault.{HoldFault}
@@ -13,14 +13,13 @@ use Rattle.lan_buffers.specs.declared.answers.Deliver.TheVariants as sent
 use Rattle.lan_switch.specs.declared.answers.Offer.{Offer}
 use Rattle.lan_switch.specs.declared.answers.SendRecord.{SendRecord}
 use Rattle.lan_switch.specs.declared.station.Station.{Station}
-use Rattle.lan_switch.specs.Sending.{FailsToSend, IsSent, LanWindows, OffersFrame, SaysFrame, code_after, frames_of, is_numbered, next_name, next_number, one_code as sent_code, source_code, with_frames}
+use Rattle.lan_switch.specs.Sending.{FailsToSend, IsSent, LanWindows, OffersFrame, SaysFrame, code_after, frames_of, is_numbered, next_number, one_code as sent_code, source_code, with_frames}
 use Rattle.lan_switch.specs.Switch.{same_unit, station_of, unit_of}
 use Rattle.vio_trace.specs.declared.lan_rows.FrameRow.{FrameRow}
 use Rattle.lan_script.specs.declared.seat.PortSeat.{PortSeat}
-use Rattle.lan_script.specs.declared.windows.Place.{Place}
 use Rattle.lan_script.specs.Frames.{count_in, frame_row_of, with_count}
-use Rattle.lan_script.specs.Invariant.{IsBalanced, Owes, with_sent}
-use Rattle.lan_script.specs.Units.{HavePorts, IsLawfulFrame, LanValue, PortKey, port_key}
+use Rattle.lan_script.specs.Invariant.{IsBalanced, with_sent}
+use Rattle.lan_script.specs.Units.{HavePorts, IsLawfulFrame, PortKey, port_key}
 use Rattle.lan_script.proofs.Balancing.{Sends, balanced_sent}
 use Rattle.lan_script.proofs.Placing.{by_bool, flip}
 use Rattle.lan_script.proofs.Sent.{counted, none_offered, offered_keys, offered_others, row_lawful}
@@ -39,11 +38,20 @@ count_is unit (s ∷ ss) =
         → frames_of (station_of (s ∷ ss) unit) ≡ count_in unit (map port_key (s ∷ ss))
     at_tail e rest = rw e rest
 
+-- What is owed of a record, but for what frames and deliveries carry.
+pub record OwesRow (seats : List PortSeat) (stations : List Station) (frames : List (List FrameRow)) (unit : UnitId) (r : SendRecord) : Type 0 where
+  pub keys : List PortKey
+  pub kept : HavePorts true seats keys frames
+  pub counts : map port_key stations ≡ with_count unit r.frame keys
+  pub next : IfSome r.frame (λ n. n ≡ count_in unit keys + 1)
+  pub lawful : IfSome r.frame (λ n. IsLawfulFrame unit n (frame_row_of unit n r))
+  pub balanced : IsBalanced seats stations (with_sent unit r r.frame seats frames)
+
 -- what a record owes that has no number
-owes_none : (lan : LanValue) (unit : UnitId) (r : SendRecord) (keys : List PortKey) → HavePorts true lan.seats keys lan.frames
-    → r.frame ≡ None → map port_key lan.stations ≡ keys → IsBalanced lan.seats lan.stations (with_sent unit r r.frame lan.seats lan.frames)
-    → Owes lan unit r
-owes_none lan unit r keys have none same balanced = record {
+owes_none : (seats : List PortSeat) (ss : List Station) (frames : List (List FrameRow)) (unit : UnitId) (r : SendRecord) (keys : List PortKey)
+    → HavePorts true seats keys frames → r.frame ≡ None → map port_key ss ≡ keys → IsBalanced seats ss (with_sent unit r r.frame seats frames)
+    → OwesRow seats ss frames unit r
+owes_none seats ss frames unit r keys have none same balanced = record {
   keys = keys;
   kept = have;
   counts = same ∙ ap (λ o. with_count unit o keys) (sym none);
@@ -52,15 +60,14 @@ owes_none lan unit r keys have none same balanced = record {
   balanced = balanced;
 }
 
-owes_frame : (seats : List PortSeat) (ss ss' : List Station) (places : List Place) (frames : List (List FrameRow)) (unit : UnitId) (parts : List ℕ)
+owes_frame : (seats : List PortSeat) (ss ss' : List Station) (frames : List (List FrameRow)) (unit : UnitId) (parts : List ℕ)
     (window window' : PortState) (windows : LanWindows) (r : SendRecord) → HavePorts true seats (map port_key ss) frames
     → OffersFrame ss ss' unit parts window window' windows r → windows.is_shared ≡ false
     → IsBalanced seats ss' (with_sent unit r r.frame seats frames)
-    → Owes (record { seats = seats; stations = ss'; places = places; frames = frames; whole = false }) unit r
-owes_frame seats ss ss' places frames unit parts window window' windows r have h plain balanced = by (is_numbered r.code) refl
+    → OwesRow seats ss' frames unit r
+owes_frame seats ss ss' frames unit parts window window' windows r have h plain balanced = by (is_numbered r.code) refl
   where
-    by : (b : Bool) → is_numbered r.code ≡ b
-        → Owes (record { seats = seats; stations = ss'; places = places; frames = frames; whole = false }) unit r
+    by : (b : Bool) → is_numbered r.code ≡ b → OwesRow seats ss' frames unit r
     by true e =
         let says : SaysFrame true (next_number ss unit) h.pieces h.frame r = subst (λ b. SaysFrame b (next_number ss unit) h.pieces h.frame r) e h.answered.says in
         let rest : ss' ≡ with_frames unit (next_number ss unit) h.answered.mid =
@@ -79,22 +86,21 @@ owes_frame seats ss ss' places frames unit parts window window' windows r have h
     by false e =
         let says : SaysFrame false (next_number ss unit) h.pieces h.frame r = subst (λ b. SaysFrame b (next_number ss unit) h.pieces h.frame r) e h.answered.says in
         let rest : ss' ≡ h.answered.mid = h.answered.rest ∙ ap (λ b. if b then with_frames unit (next_number ss unit) h.answered.mid else h.answered.mid) e in
-        owes_none _ unit r (map port_key ss) have says.0
+        owes_none seats ss' frames unit r (map port_key ss) have says.0
         (ap (λ l. map port_key l) rest ∙ offered_keys _ h.answered.out.all ss h.answered.mid r.offers.items h.answered.out.offered) balanced
 
 -- a frame that was sent is owed
-pub owes : (seats : List PortSeat) (ss ss' : List Station) (places : List Place) (frames : List (List FrameRow)) (unit : UnitId) (parts : List ℕ) (is_shared : Bool)
+pub owes : (seats : List PortSeat) (ss ss' : List Station) (frames : List (List FrameRow)) (unit : UnitId) (parts : List ℕ) (is_shared : Bool)
     (Found : ℕ → ℕ → Type 0) (window window' : PortState) (windows : LanWindows) (r : SendRecord) → Sends seats ss frames unit
     → windows.is_shared ≡ false → IsSent ss ss' unit parts is_shared Found window window' windows r
-    → Owes (record { seats = seats; stations = ss'; places = places; frames = frames; whole = false }) unit r
-owes seats ss ss' places frames unit parts is_shared Found window window' windows r sends plain h =
+    → OwesRow seats ss' frames unit r
+owes seats ss ss' frames unit parts is_shared Found window window' windows r sends plain h =
     by h (balanced_sent seats ss ss' frames unit parts is_shared Found window window' windows r sends h)
   where
-    by : IsSent ss ss' unit parts is_shared Found window window' windows r → IsBalanced seats ss' (with_sent unit r r.frame seats frames)
-        → Owes (record { seats = seats; stations = ss'; places = places; frames = frames; whole = false }) unit r
-    by (inl (h, beside)) balanced = owes_none _ unit r (map port_key ss) sends.have h.says.frame (ap (λ l. map port_key l) h.stays) balanced
-    by (inr (inl (h, beside))) balanced = owes_none _ unit r (map port_key ss) sends.have h.says.frame (ap (λ l. map port_key l) h.stays) balanced
-    by (inr (inr h)) balanced = owes_frame seats ss ss' places frames unit parts window window' windows r sends.have h plain balanced
+    by : IsSent ss ss' unit parts is_shared Found window window' windows r → IsBalanced seats ss' (with_sent unit r r.frame seats frames) → OwesRow seats ss' frames unit r
+    by (inl (h, beside)) balanced = owes_none seats ss' frames unit r (map port_key ss) sends.have h.says.frame (ap (λ l. map port_key l) h.stays) balanced
+    by (inr (inl (h, beside))) balanced = owes_none seats ss' frames unit r (map port_key ss) sends.have h.says.frame (ap (λ l. map port_key l) h.stays) balanced
+    by (inr (inr h)) balanced = owes_frame seats ss ss' frames unit parts window window' windows r sends.have h plain balanced
 
 -- the sender's own window is not among those that a send touched
 pub untouched : (ss ss' : List Station) (unit : UnitId) (parts : List ℕ) (is_shared : Bool) (Found : ℕ → ℕ → Type 0) (window window' : PortState)

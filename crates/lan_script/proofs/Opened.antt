@@ -1,23 +1,28 @@
 -- Units that were opened: each seat has its port, its window and no frame.
-use Rattle.std.proofs.Common.{◌≡◌, ◌≤◌, ◌<◌, ℕ, suc, arith, Bool, true, false, All, List, [], ◌∷◌, Option, Some, None, IsSome, if◌then◌else◌, length, map, replicate, refl, sym, ◌∙◌, ap, subst}
+use Rattle.std.proofs.Common.{◌≡◌, ◌≤◌, ◌<◌, ℕ, zero, suc, arith, Bool, true, false, All, List, [], ◌∷◌, Option, Some, None, if◌then◌else◌, length, map, replicate, refl, sym, ◌∙◌, ap, subst}
 use Rattle.std.proofs.lemmas.List.{length-replicate}
-use Rattle.std.proofs.lemmas.List.Elements.{All-map, All-weaker}
+use Rattle.std.proofs.lemmas.List.Elements.{All-map, All-nil, All-weaker}
 use Rattle.vio_num.specs.declared.names.UnitId.{UnitId}
-use Rattle.tce_window.specs.Window.{blank_page}
+use Rattle.page_slots.specs.Stroke.{StrokeValue}
+use Rattle.tce_window.specs.Moved.{stroke_count}
+use Rattle.tce_window.specs.Window.{blank_page, strokes_at}
 use Rattle.lan_switch.specs.declared.switch.PortPlan.{PortPlan}
 use Rattle.lan_buffers.specs.Port.{PortValue}
 use Rattle.lan_switch.specs.Switch.{AreAscending, opened, port_of, same_unit}
+use Rattle.vio_trace.specs.declared.lan_rows.DeliverRow.{DeliverRow}
 use Rattle.vio_trace.specs.declared.lan_rows.FrameRow.{FrameRow}
 use Rattle.lan_script.specs.declared.seat.PortSeat.{PortSeat}
+use Rattle.lan_script.specs.Carried.{IsCarried, IsNamedPage, IsRead, named_on, stroke_in}
 use Rattle.lan_script.specs.Delivered.{drops_to, given, taken}
-use Rattle.lan_script.specs.Invariant.{HaveBegun, IsBalanced, IsLan, all_of, drops_by, rows_in, sent_by}
+use Rattle.lan_script.specs.Invariant.{CarryAll, HaveBegun, IsBalanced, IsLan, all_of, drops_by, posted_at, rows_in, sent_by, side_in}
 use Rattle.lan_script.specs.Opening.{plan_of, window_of}
 use Rattle.lan_script.specs.Seats.{IsSizedSeat}
 use Rattle.lan_switch.specs.declared.station.Station.{Station}
 use Rattle.lan_script.specs.declared.windows.Place.{Place}
 use Rattle.lan_script.specs.Units.{HavePorts, port_key, seat_key, window_key}
 use Rattle.lan_script.proofs.Keys.{port_head, port_tail}
-use Rattle.lan_script.proofs.Placing.{by_bool}
+use Rattle.lan_script.specs.Windows.{facts_of, window_in}
+use Rattle.lan_script.proofs.Placing.{by_bool, none_some, window_head, window_tail}
 use Rattle.lan_script.proofs.Tallies.{shut}
 
 pub plan_units : (seats : List PortSeat) → map (λ (plan : PortPlan). plan.unit) (map plan_of seats) ≡ map (λ (seat : PortSeat). seat.unit) seats
@@ -82,6 +87,42 @@ fresh_balance seats = record {
   dropped = λ receiver less. (fresh_nothing seats receiver).drops ∙ sym (ap (λ l. drops_to receiver l) (fresh_all seats));
 }
 
+-- no stroke lies on a page of a window that was opened
+blank_strokes : (n p place : ℕ) → stroke_in (strokes_at (replicate n blank_page) p) place ≡ None
+blank_strokes zero p place = refl
+blank_strokes (suc n) zero place = refl
+blank_strokes (suc n) (suc p) place = blank_strokes n p place
+
+seat_strokes : (unit : UnitId) (whole : List Place) (seats : List PortSeat) (page place : ℕ)
+    → stroke_in ((facts_of unit whole (window_in unit (map window_of seats))).strokes page) place ≡ None
+seat_strokes unit whole [] page place = refl
+seat_strokes unit whole (s ∷ seats) page place =
+    by_bool (same_unit s.unit unit) (stroke_in ((facts_of unit whole (window_in unit (map window_of (s ∷ seats)))).strokes page) place ≡ None)
+    (λ e. ap (λ o. stroke_in ((facts_of unit whole o).strokes page) place) (window_head unit (window_of s) (map window_of seats) e) ∙ blank_strokes s.pages page place)
+    (λ e. ap (λ o. stroke_in ((facts_of unit whole o).strokes page) place) (window_tail unit (window_of s) (map window_of seats) e)
+    ∙ seat_strokes unit whole seats page place)
+
+none_named : (unit : UnitId) (strokes : Option (List StrokeValue)) → ((place : ℕ) → stroke_in strokes place ≡ None) → IsNamedPage unit strokes []
+none_named unit strokes none = record {
+  rising = tt;
+  there = All-nil (λ place. place < stroke_count strokes);
+  others = λ place stroke is other. absurd (none_some stroke (sym (none place) ∙ is));
+}
+
+fresh_carried : (seats : List PortSeat) → CarryAll (map opened (map plan_of seats)) (map window_of seats) (map (λ _. []) seats)
+fresh_carried seats =
+    let ss = map opened (map plan_of seats) in
+    let ps = map window_of seats in
+    record {
+      read = subst (λ (l : List FrameRow). All (λ frame. IsRead (side_in ps frame.unit) frame) l) (sym (fresh_all seats)) (All-nil (λ (frame : FrameRow). IsRead (side_in ps frame.unit) frame));
+      written = λ unit.
+          subst (λ (l : List DeliverRow). All (IsCarried (side_in ps unit) (posted_at ss unit) (all_of (map (λ _. []) seats))) l) (sym (fresh_nothing seats unit).rows)
+          (All-nil (IsCarried (side_in ps unit) (posted_at ss unit) (all_of (map (λ _. []) seats))));
+      named = λ unit page.
+          subst (λ (l : List DeliverRow). IsNamedPage unit ((side_in ps unit).strokes page) (named_on page l)) (sym (fresh_nothing seats unit).rows)
+          (none_named unit ((side_in ps unit).strokes page) (seat_strokes unit ps seats page));
+    }
+
 -- Units that were opened are LAN units.
 pub open_lan : (seats own : List PortSeat) (ss : List Station) (ps : List Place) (frames : List (List FrameRow)) → own ≡ seats
     → ss ≡ map opened (map plan_of seats) → ps ≡ map window_of seats → frames ≡ map (λ _. []) seats → length seats ≤ 16
@@ -100,4 +141,5 @@ open_lan seats own ss ps frames e f g h few ascending sized named =
       ports = fresh_ports seats;
       windows = fresh_windows seats;
       balanced = λ _. fresh_balance seats;
+      carried = λ _. fresh_carried seats;
     }))))

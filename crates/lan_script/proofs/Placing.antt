@@ -1,9 +1,9 @@
 -- A unit's window among those of others, and a change of it.
-use Rattle.std.proofs.Common.{◌≡◌, ℕ, ◌+◌, ◌<◌, ◌≤◌, ◌∷◌, ◌==◌, ◌&&◌, suc, arith, Bool, true, false, List, [], Option, Some, None, IsSome, length, set, slice_get, if◌then◌else◌, refl, sym, ◌∙◌, ap, subst}
+use Rattle.std.proofs.Common.{◌≡◌, ℕ, ◌<◌, ◌≤◌, ◌∷◌, ◌==◌, ◌&&◌, suc, arith, Bool, true, false, List, [], Option, Some, None, length, set, slice_get, refl, sym, ◌∙◌, ap, subst}
 use Rattle.std.proofs.lemmas.Bool.{eqb-true}
 use Rattle.vio_num.specs.declared.names.UnitId.{UnitId}
 use Rattle.tce_window.specs.PlainPort.{known_of}
-use Rattle.tce_window.specs.PortState.{PortState, WindowFacts, port_at}
+use Rattle.tce_window.specs.PortState.{port_at}
 use Rattle.tce_window.specs.Window.{WindowValue}
 use Rattle.lan_switch.specs.Switch.{same_unit}
 use Rattle.lan_script.specs.declared.windows.Place.{Place}

@@ -1,9 +1,8 @@
 -- The rows of a port: whose they are, and in which order they stand.
-use Rattle.std.proofs.Common.{◌≡◌, ◌+◌, ◌<◌, ◌≤◌, ◌==◌, inl, inr, ℕ, zero, suc, arith, Bool, true, false, cond, List, [], ◌∷◌, ◌++◌, filter, length, map, refl, sym, ◌∙◌, ap, subst}
+use Rattle.std.proofs.Common.{◌≡◌, ◌+◌, ◌<◌, ◌≤◌, ◌==◌, inl, inr, ℕ, zero, suc, arith, Bool, true, false, cond, List, [], ◌∷◌, filter, map, refl, sym, ◌∙◌}
 use Rattle.std.specs.List.{flat_map}
 use Rattle.std.proofs.lemmas.Bool.{eqb-true}
 use Rattle.vio_num.specs.declared.names.UnitId.{UnitId}
-use Rattle.lan_buffers.specs.Port.{PortValue}
 use Rattle.lan_buffers.specs.declared.rows.PostRow.{PostRow as Post}
 use Rattle.lan_buffers.specs.declared.rows.DeliverRow.{DeliverRow as Delivery}
 use Rattle.lan_buffers.specs.declared.rows.HarvestRow.{HarvestRow as Harvest}
@@ -14,8 +13,8 @@ use Rattle.vio_trace.specs.declared.lan_rows.HarvestRow.{HarvestRow}
 use Rattle.vio_trace.specs.declared.lan_rows.PortRow.{PortRow}
 use Rattle.vio_trace.specs.declared.lan_rows.PostRow.{PostRow}
 use Rattle.lan_script.specs.Rows.{deliver_row_of, deliveries_in, harvest_row_of, harvests_in, numbered, port_row_of, post_row_of, posts_in, sessions_from}
-use Rattle.lan_script.specs.Units.{AreFrames, IsLawfulFrame}
-use Rattle.lan_script.proofs.Order.{Each, Ordered, each_append, each_flat, each_weaker, ordered_append}
+use Rattle.lan_script.specs.Units.{AreFrames}
+use Rattle.lan_script.proofs.Order.{Each, Ordered, each_append, each_weaker, ordered_append}
 
 -- a row of a unit's session from q on
 abbrev pub IsFrom : {Row : Type 0} → (Row → UnitId) → (Row → ℕ) → UnitId → ℕ → Row → Type 0
@@ -40,7 +39,7 @@ sessions_in_order {Row} unit session before apart u f named own q (suc count) =
     )
 
 -- what a filter by session leaves is of that session
-filtered : {X : Type 0} (session : X → ℕ) (q : ℕ) (xs : List X) → Each (λ x. session x ≡ q) (filter (λ x. session x == q) xs)
+pub filtered : {X : Type 0} (session : X → ℕ) (q : ℕ) (xs : List X) → Each (λ x. session x ≡ q) (filter (λ x. session x == q) xs)
 filtered session q [] = tt
 filtered session q (x ∷ xs) = at (session x == q) refl (filtered session q xs)
   where

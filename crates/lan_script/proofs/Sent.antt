@@ -1,12 +1,9 @@
 -- What a send leaves of the ports, and the row that it makes.
-use Rattle.std.proofs.Common.{◌≡◌, ◌≤◌, ◌+◌, ◌⊎◌, inl, inr, ℕ, suc, arith, Bool, true, false, true≢false, IsTrue, IsSome, List, [], ◌∷◌, Option, Some, None, IfSome, All, length, map, option_map, if◌then◌else◌, refl, sym, ◌∙◌, ap, subst}
+use Rattle.std.proofs.Common.{◌≡◌, ◌≤◌, inl, inr, ℕ, suc, arith, Bool, true, false, true≢false, IsTrue, IsSome, List, [], ◌∷◌, Option, Some, All, length, map, if◌then◌else◌, refl, sym, ◌∙◌, ap, subst}
 use Rattle.std.proofs.lemmas.List.Elements.{All-cons, All-nil}
 use Rattle.vio_num.specs.declared.names.UnitId.{UnitId}
-use Rattle.vio_num.specs.declared.hypervisor.Hrc.{Hrc}
-use Rattle.vio_num.specs.declared.hypervisor.Hrc.TheVariants.{Success, Busy, Closed, Function, Parameter, NotFound, Dropped, SourceParm, DestParm, Resource}
+use Rattle.vio_num.specs.declared.hypervisor.Hrc.TheVariants.{Success, Dropped}
 use Rattle.tce_window.specs.declared.piece.Piece.{Piece}
-use Rattle.tce_window.specs.declared.answers.HoldFault.{HoldFault}
-use Rattle.tce_window.specs.declared.answers.HoldFault.TheVariants.{InUse as HeldInUse}
 use Rattle.lan_frame.specs.Station.{IsGroup}
 use Rattle.lan_buffers.specs.Calls.{IsOpen}
 use Rattle.lan_buffers.specs.Port.{PortValue}
@@ -16,11 +13,9 @@ use Rattle.lan_buffers.specs.declared.answers.Deliver.TheVariants as sent
 use Rattle.lan_switch.specs.declared.answers.Offer.{Offer}
 use Rattle.lan_switch.specs.declared.answers.SendRecord.{SendRecord}
 use Rattle.lan_switch.specs.declared.station.Station.{Station}
-use Rattle.lan_switch.specs.Sending.{AnswersFrame, AreOffered, Either, GoesOut, IsOffered, IsOfferedAt, LanWindows, Offering, SaysFrame, Takes, code_after, has_offer, is_numbered, offering, one_code as sent_code, to_of as sent_to, with_frames}
+use Rattle.lan_switch.specs.Sending.{AnswersFrame, AreOffered, IsOfferedAt, LanWindows, Offering, Takes, code_after, has_offer, is_numbered, offering, one_code as sent_code, to_of as sent_to, with_frames}
 use Rattle.lan_switch.specs.Switch.{same_unit, unit_of}
 use Rattle.vio_trace.specs.declared.lan_rows.FrameRow.{FrameRow}
-use Rattle.vio_trace.specs.declared.lan_rows.OfferRow.{OfferRow}
-use Rattle.vio_trace.specs.declared.lan_rows.Offered.{Offered}
 use Rattle.lan_script.specs.Frames.{frame_row_of, offer_row_of, offered_as, with_count}
 use Rattle.lan_script.specs.Units.{IsLawfulFrame, IsLawfulOffer, IsSingle, PortKey, is_decided, is_done, one_code, port_key, to_of}
 use Rattle.lan_script.proofs.Placing.{by_bool, flip}

@@ -1,5 +1,5 @@
 -- What the offers of frames say of deliveries and drops, and what the rows of the ports say of them.
-use Rattle.std.specs.Prelude.{ℕ, ◌+◌, Bool, true, false, List, [], ◌∷◌, ◌++◌, length, if◌then◌else◌}
+use Rattle.std.specs.Prelude.{ℕ, ◌+◌, List, [], ◌∷◌, ◌++◌, length, if◌then◌else◌}
 use Rattle.vio_num.specs.declared.names.UnitId.{UnitId}
 use Rattle.lan_switch.specs.Switch.{same_unit}
 use Rattle.vio_trace.specs.declared.lan_rows.DeliverRow.{DeliverRow}

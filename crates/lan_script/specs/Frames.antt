@@ -1,5 +1,5 @@
 -- The row that a trace has of a frame, and the numbers of frames.
-use Rattle.std.specs.Prelude.{◌≡◌, ◌+◌, ℕ, true, List, [], ◌∷◌, Option, Some, None, IfSome, map, if◌then◌else◌}
+use Rattle.std.specs.Prelude.{ℕ, List, [], ◌∷◌, Option, Some, None, map, if◌then◌else◌}
 use Rattle.vio_num.specs.declared.names.UnitId.{UnitId}
 use Rattle.tce_window.specs.declared.piece.Piece.{Piece}
 use Rattle.lan_buffers.specs.declared.answers.Deliver.{Deliver}
@@ -12,7 +12,7 @@ use Rattle.vio_trace.specs.declared.lan_rows.OfferRow.{OfferRow}
 use Rattle.vio_trace.specs.declared.lan_rows.Offered.{Offered}
 use Rattle.vio_trace.specs.declared.lan_rows.Offered.TheVariants as rows
 use Rattle.vio_trace.specs.declared.window_rows.PieceRow.{PieceRow}
-use Rattle.lan_script.specs.Units.{HavePorts, IsLawfulFrame, LanValue, PortKey, port_key}
+use Rattle.lan_script.specs.Units.{PortKey}
 
 -- what became of a frame, as a trace says it
 abbrev pub offered_as : Deliver → Offered

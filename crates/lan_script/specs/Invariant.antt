@@ -4,17 +4,22 @@ use Rattle.std.specs.List.{flat_map}
 use Rattle.vio_num.specs.declared.names.UnitId.{UnitId}
 use Rattle.lan_buffers.specs.Calls.{IsOpen}
 use Rattle.lan_buffers.specs.Port.{PortValue}
+use Rattle.rdma_copy.specs.Copy.{Side, side}
 use Rattle.lan_switch.specs.declared.answers.SendRecord.{SendRecord}
 use Rattle.lan_switch.specs.declared.station.Station.{Station}
 use Rattle.lan_switch.specs.Switch.{AreAscending, port_of, same_unit}
 use Rattle.vio_trace.specs.declared.lan_rows.DeliverRow.{DeliverRow}
 use Rattle.vio_trace.specs.declared.lan_rows.FrameRow.{FrameRow}
+use Rattle.vio_trace.specs.declared.lan_rows.PostRow.{PostRow}
 use Rattle.lan_script.specs.declared.seat.PortSeat.{PortSeat}
+use Rattle.lan_script.specs.declared.windows.Place.{Place}
+use Rattle.lan_script.specs.Carried.{AreNamed, IsCarried, IsRead}
 use Rattle.lan_script.specs.Delivered.{drops_to, given, taken}
 use Rattle.lan_script.specs.Frames.{count_in, frame_row_of, with_count}
-use Rattle.lan_script.specs.Rows.{deliver_rows}
+use Rattle.lan_script.specs.Rows.{deliver_rows, post_rows}
 use Rattle.lan_script.specs.Seats.{IsSizedSeat}
 use Rattle.lan_script.specs.Units.{HavePorts, IsLawfulFrame, LanValue, PortKey, port_key, seat_key, window_key}
+use Rattle.lan_script.specs.Windows.{facts_in}
 
 -- the rows of the deliveries of a unit's port
 abbrev pub rows_in : UnitId → Option PortValue → List DeliverRow
@@ -68,6 +73,29 @@ pub record IsBalanced (seats : List PortSeat) (stations : List Station) (frames 
   pub dropped : (receiver : UnitId) → drops_to receiver (all_of frames) < 2 ^ 64
       → drops_at stations receiver ≡ drops_to receiver (all_of frames)
 
+-- the rows of the posts of a unit's port
+abbrev pub posted_in : UnitId → Option PortValue → List PostRow
+posted_in unit None = []
+posted_in unit (Some port) = post_rows unit port
+
+abbrev pub posted_at : List Station → UnitId → List PostRow
+posted_at stations unit = posted_in unit (port_of stations unit)
+
+-- a unit's window as a side of a copy
+abbrev pub side_in : List Place → UnitId → Side
+side_in places unit = side unit (facts_in places unit).values (facts_in places unit).strokes
+
+-- The frames were read of the windows of their senders, and the deliveries of each port were written to its unit's, and name
+-- the strokes there.
+pub record AreCarried (windows : UnitId → Side) (posts : UnitId → List PostRow) (rows : UnitId → List DeliverRow) (frames : List FrameRow) : Type 0 where
+  pub read : All (λ frame. IsRead (windows frame.unit) frame) frames
+  pub written : (unit : UnitId) → All (IsCarried (windows unit) (posts unit) frames) (rows unit)
+  pub named : (unit : UnitId) → AreNamed (windows unit) (rows unit)
+
+-- the same of the units of a run
+abbrev pub CarryAll : List Station → List Place → List (List FrameRow) → Type 0
+CarryAll stations places frames = AreCarried (side_in places) (posted_at stations) (rows_at stations) (all_of frames)
+
 -- What LAN units are at any time.
 pub record IsLan (lan : LanValue) : Type 0 where
   pub few : length lan.seats ≤ 16
@@ -77,6 +105,7 @@ pub record IsLan (lan : LanValue) : Type 0 where
   pub ports : HavePorts lan.whole lan.seats (map port_key lan.stations) lan.frames
   pub windows : map window_key lan.places ≡ map seat_key lan.seats
   pub balanced : lan.whole ≡ true → IsBalanced lan.seats lan.stations lan.frames
+  pub carried : lan.whole ≡ true → CarryAll lan.stations lan.places lan.frames
 
 -- the frames with that of a record, if it has a number
 abbrev pub with_sent : UnitId → SendRecord → Option ℕ → List PortSeat → List (List FrameRow) → List (List FrameRow)
@@ -91,3 +120,4 @@ pub record Owes (lan : LanValue) (unit : UnitId) (r : SendRecord) : Type 0 where
   pub next : IfSome r.frame (λ n. n ≡ count_in unit keys + 1)
   pub lawful : IfSome r.frame (λ n. IsLawfulFrame unit n (frame_row_of unit n r))
   pub balanced : IsBalanced lan.seats lan.stations (with_sent unit r r.frame lan.seats lan.frames)
+  pub carried : CarryAll lan.stations lan.places (with_sent unit r r.frame lan.seats lan.frames)

@@ -1,3 +1,4 @@
+pub mod Carried
 pub mod Delivered
 pub mod Frames
 pub mod Invariant

@@ -1,6 +1,6 @@
 -- The law of the rows that a trace has of LAN units: of each unit they are those of a lawful port, in whose sessions no posted
 -- buffer took two frames; its frames are numbered without a gap; and its deliveries and drops are those that the offers say.
-use Rattle.std.specs.Prelude.{◌≡◌, ◌+◌, ◌==◌, ◌≤◌, ◌<◌, ℕ, true, All, List, IsSome, filter, length, map}
+use Rattle.std.specs.Prelude.{◌≡◌, All, List, IsSome, filter}
 use Rattle.vio_num.specs.declared.names.UnitId.{UnitId}
 use Rattle.lan_buffers.specs.Port.{IsLawfulPort, PortValue}
 use Rattle.lan_switch.specs.Switch.{same_unit}

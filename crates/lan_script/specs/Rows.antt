@@ -1,5 +1,5 @@
 -- The rows of a port, as a trace has them.
-use Rattle.std.specs.Prelude.{◌≡◌, ◌+◌, ◌==◌, ℕ, zero, suc, Bool, true, false, List, [], ◌∷◌, Option, Some, None, filter, length, map, if◌then◌else◌}
+use Rattle.std.specs.Prelude.{◌+◌, ◌==◌, ℕ, zero, suc, Bool, true, false, List, [], ◌∷◌, Option, Some, None, filter, length, map}
 use Rattle.std.specs.List.{flat_map}
 use Rattle.vio_num.specs.declared.names.UnitId.{UnitId}
 use Rattle.lan_buffers.specs.Calls.{closed_port}

@@ -1,5 +1,5 @@
 -- The rows that a trace has of LAN units, exactly.
-use Rattle.std.specs.Prelude.{◌≡◌, List}
+use Rattle.std.specs.Prelude.{◌≡◌}
 use Rattle.std.specs.List.{flat_map}
 use Rattle.lan_script.specs.declared.rows.LanRows.{LanRows}
 use Rattle.lan_script.specs.Rows.{deliver_rows, harvest_rows, port_in, port_rows, post_rows}

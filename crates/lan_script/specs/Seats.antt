@@ -1,5 +1,5 @@
 -- The seats of LAN units, and what their lines may be.
-use Rattle.std.specs.Prelude.{◌≡◌, ◌≤◌, ℕ, Bool, true, false, List, [], ◌∷◌, Option, Some, None, IsSome, suc, if◌then◌else◌}
+use Rattle.std.specs.Prelude.{◌≡◌, ℕ, Bool, true, false, List, [], ◌∷◌, Option, Some, None, suc, if◌then◌else◌}
 use Rattle.vio_num.specs.declared.names.UnitId.{UnitId}
 use Rattle.boot_text.specs.Sound.{IsFrom}
 use Rattle.boot_text.specs.declared.statement.TheConstants.{MOST_SLOTS, MOST_UNIT_PAGES}

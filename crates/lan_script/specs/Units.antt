@@ -1,5 +1,5 @@
 -- The LAN units of a run: each has a seat, a port on the switch, a window and the frames that it sent.
-use Rattle.std.specs.Prelude.{◌≡◌, ◌↔◌, ◌≤◌, ◌<◌, ◌+◌, ℕ, Bool, true, false, All, List, [], ◌∷◌, Option, Some, None, IfSome, length, map, if◌then◌else◌}
+use Rattle.std.specs.Prelude.{◌≡◌, ◌≤◌, ◌+◌, ℕ, Bool, true, false, All, List, [], ◌∷◌, Option, Some, IfSome, length, if◌then◌else◌}
 use Rattle.std.specs.Option.{option_map}
 use Rattle.vio_num.specs.declared.names.UnitId.{UnitId}
 use Rattle.vio_num.specs.declared.names.Mac.{Mac}
@@ -14,10 +14,9 @@ use Rattle.vio_trace.specs.declared.lan_rows.Offered.TheVariants as offers
 use Rattle.vio_trace.specs.Form.{IsOfferOf}
 use Rattle.lan_switch.specs.declared.station.Station.{Station}
 use Rattle.lan_buffers.specs.Calls.{IsOpen}
-use Rattle.lan_switch.specs.Switch.{AreAscending, port_of, same_unit}
+use Rattle.lan_switch.specs.Switch.{port_of, same_unit}
 use Rattle.lan_script.specs.declared.seat.PortSeat.{PortSeat}
 use Rattle.lan_script.specs.declared.windows.Place.{Place}
-use Rattle.lan_script.specs.Seats.{IsSizedSeat}
 use Rattle.lan_script.specs.Windows.{window_in}
 
 pub record LanValue : Type 0 where

@@ -1,5 +1,5 @@
 -- The windows of LAN units as a map: each unit's own, but that of a unit that sends.
-use Rattle.std.specs.Prelude.{◌≡◌, ℕ, ◌+◌, ◌*◌, ◌∷◌, [], List, Option, Some, None, IfSome, IsSomeAnd, IfOk, IfErr, OnErr, Result, IsSome, All, false, suc, length, slice_get, replicate, set, ◌<◌, if◌then◌else◌}
+use Rattle.std.specs.Prelude.{◌≡◌, ℕ, ◌+◌, ◌*◌, ◌∷◌, [], List, Option, Some, None, IfSome, IsSomeAnd, IfOk, IfErr, OnErr, Result, IsSome, false, suc, length, slice_get, replicate, ◌<◌, if◌then◌else◌}
 use Rattle.std.proofs.Common.{refl}
 use Rattle.vio_num.specs.declared.names.UnitId.{UnitId}
 use Rattle.tce_window.specs.Held.{HeldValue, either, held_strokes}

@@ -1,6 +1,8 @@
 // The rows that a trace has of LAN units.
 ghost use Rattle.std.specs.Prelude.{◌≡◌, ◌++◌, All, IfOk, OnOk, map};
 ghost use Rattle.std.specs.List.{flat_map};
+ghost use Rattle.lan_script.specs.Carried.{FramesAreCarried};
+ghost use Rattle.lan_script.specs.Invariant.{side_in};
 ghost use Rattle.lan_script.specs.PortLaw.{AreOrdered, PortsAreLawful};
 ghost use Rattle.lan_script.specs.Rows.{HasLawfulPort, deliver_rows, deliveries_in, harvest_rows, deliver_row_of, harvests_in, numbered, port_in, port_row_of, port_rows, post_rows, posts_in};
 ghost use Rattle.lan_script.specs.RowsOf.{IsRowsOf};
@@ -36,6 +38,8 @@ impl Lan {
     pub fn into_rows(self, alloc: Global) -> Result<LanRows, NoMemory>
         ensures law { IfOk result (λ rows. PortsAreLawful self.seats rows.frames.items
             rows.ports.items rows.posts.items rows.delivers.items rows.harvests.items) }
+        ensures carried { IfOk result (λ rows. FramesAreCarried self.seats (side_in self.places)
+            rows.frames.items rows.posts.items rows.delivers.items) }
         ensures order { IfOk result AreOrdered }
         ensures exact { IfOk result (IsRowsOf self) }
     {

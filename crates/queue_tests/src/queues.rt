@@ -50,7 +50,7 @@ pub enum Does {
 }
 
 /// What is seen of a step.
-#[derive(Clone, Copy, Debug, PartialEq, Eq)]
+#[derive(Clone, Copy, PartialEq, Eq)]
 pub enum Seen {
     /// An entry was put in this place.
     Put(u64),
@@ -110,19 +110,15 @@ pub fn seen_of_poll(answer: Poll) -> Seen {
     }
 }
 
-/// Does the steps of the rows, and gives the first of which something else is seen than its row says: its
-/// number, and what is seen.
-pub fn first_other<S: Steps>(
-    queue: &mut S,
-    rows: &[Row],
-) -> Result<Option<(usize, Seen)>, NoMemory> {
+/// Does the steps of the rows, and gives the number of the first of which something else is seen than its row says.
+pub fn first_other<S: Steps>(queue: &mut S, rows: &[Row]) -> Result<Option<usize>, NoMemory> {
     for (number, (step, want)) in rows.iter().enumerate() {
         let seen = match step {
             Step::Each(does, from, to) => each(queue, *does, *from, *to)?,
             step => queue.step(*step)?,
         };
         if seen != *want {
-            return Ok(Some((number, seen)));
+            return Ok(Some(number));
         }
     }
     Ok(None)

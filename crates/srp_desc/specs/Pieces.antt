@@ -88,8 +88,13 @@ pub record IsToFetch (buffer : Buffer) (table : Desc) (total : ℕ) : Type 0 whe
 
 -- what is given of a buffer before its table is fetched
 abbrev pub IsGiven : Buffer → Pieces → Type 0
-IsGiven buffer (Whole list) = (bytes : List ℕ) → pieces buffer bytes ≡ named list.items
+IsGiven buffer (Whole list) = (bytes : List ℕ) → pieces buffer bytes ≡ named list.now
 IsGiven buffer (Fetch table total) = IsToFetch buffer table total
+
+-- the pieces that are given; none where their table is to be fetched
+abbrev pub given_in : Pieces → List Desc
+given_in (Whole list) = list.now
+given_in (Fetch table total) = []
 
 -- the table that is to be fetched; none where the pieces are given
 abbrev pub tables_in : Pieces → List Desc

@@ -2,9 +2,9 @@
 // descriptor formats"). `pieces` in specs/Pieces.antt is what a buffer names.
 #![tactic(auto)]
 
-mod gathered;
 mod laws;
 mod pieces;
+mod sums;
 mod table;
 mod tables;
 

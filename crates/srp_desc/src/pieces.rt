@@ -1,12 +1,13 @@
 // What a buffer names by itself, before its table is fetched.
-ghost use Rattle.std.specs.Prelude.{◌≡◌, ◌≤◌, ◌==◌, ◌||◌, ◌%◌, ℕ, [], List, None, Some, IfOk, OnOk, IfErr, nat_lt};
+ghost use Rattle.std.specs.Prelude.{◌≡◌, ◌≤◌, ◌==◌, ◌||◌, ◌%◌, ℕ, [], List, None, Some, IfOk, OnOk, IfErr, length, nat_lt};
 ghost use Rattle.srp_iu.specs.declared.buffer.Buffer.TheVariants.{Direct, Indirect};
-ghost use Rattle.srp_desc.specs.Pieces.{IsGiven, pieces, refusal, refused, tables_in, total_of};
+ghost use Rattle.srp_desc.specs.Pieces.{IsGiven, given_in, pieces, refusal, refused, tables_in, total_of};
 ghost use Rattle.srp_desc.specs.Tables.{tables_of};
 
-use crate::gathered::Gathered;
+use crate::sums::check_sum;
 use arrayvec::ArrayVec;
 use srp_iu::{Buffer, Desc};
+use std::slice;
 
 /// The bytes of a descriptor.
 pub(crate) const DESC_LEN: usize = 16;
@@ -36,10 +37,10 @@ pub enum DescFault {
 }
 
 /// What a buffer names by itself.
-#[derive(Clone, Debug, PartialEq, Eq, Drop)]
-pub enum Pieces {
-    /// All pieces, in order.
-    Whole(ArrayVec<Desc, 256>),
+#[derive(Clone, Copy, Debug, PartialEq, Eq)]
+pub enum Pieces<'a> {
+    /// All pieces, in order, lent by the buffer.
+    Whole(&'a [Desc]),
     /// The table has to be fetched: the buffer has only the front of it.
     Fetch {
         /// Where the table lies, and its length in bytes: a multiple of 16 from 16 to 4,096.
@@ -54,9 +55,10 @@ pub enum Pieces {
 /// A buffer is refused for the first of these reasons: the length of its table; a total length, or
 /// the length of a direct descriptor, above 131,072 bytes; a list that is the whole table and whose
 /// pieces are not as long in all as the buffer says.
-pub fn pieces_of(buffer: &Buffer) -> Result<Pieces, DescFault>
+pub fn pieces_of(buffer: &Buffer) -> Result<Pieces<'_>, DescFault>
     ensures ok { IfOk result (λ given. IsGiven buffer.now given) }
     ensures tables { IfOk result (λ given. tables_in given ≡ tables_of buffer.now) }
+    ensures few { IfOk result (λ given. length (given_in given) ≤ 11) }
     ensures unrefused { OnOk result (refusal buffer.now ≡ None) }
     ensures small { OnOk result (total_of buffer.now ≤ MAX_DATA_LEN) }
     ensures refusal { IfErr result (λ fault. refusal buffer.now ≡ Some fault) }
@@ -64,16 +66,17 @@ pub fn pieces_of(buffer: &Buffer) -> Result<Pieces, DescFault>
         pieces buffer.now bytes ≡ refused fault) }
 {
     match buffer {
-        Buffer::Absent => Ok(Pieces::Whole(ArrayVec::new())),
+        Buffer::Absent => Ok(Pieces::Whole(&[])),
         Buffer::Direct(desc) => direct(desc),
         Buffer::Indirect { table, total, list } => indirect(table, *total, list),
     }
 }
 
 // Gives what a direct buffer names.
-fn direct(desc: &Desc) -> Result<Pieces, DescFault>
+fn direct(desc: &Desc) -> Result<Pieces<'_>, DescFault>
     ensures ok { IfOk result (λ given. IsGiven (Direct desc.now) given) }
     ensures tables { IfOk result (λ given. tables_in given ≡ []) }
+    ensures few { IfOk result (λ given. length (given_in given) ≤ 11) }
     ensures unrefused { OnOk result (refusal (Direct desc.now) ≡ None) }
     ensures small { OnOk result (desc.now.len ≤ MAX_DATA_LEN) }
     ensures refusal { IfErr result (λ fault. refusal (Direct desc.now) ≡ Some fault) }
@@ -83,16 +86,19 @@ fn direct(desc: &Desc) -> Result<Pieces, DescFault>
     if desc.len > MAX_DATA_LEN {
         return Err(DescFault::Large { total: desc.len });
     }
-    let mut list = ArrayVec::new();
-    list.push(*desc);
-    Ok(Pieces::Whole(list))
+    Ok(Pieces::Whole(slice::from_ref(desc)))
 }
 
 // Gives what an indirect buffer names.
-fn indirect(table: &Desc, total: u32, list: &ArrayVec<Desc, 11>) -> Result<Pieces, DescFault>
+fn indirect<'a>(
+    table: &Desc,
+    total: u32,
+    list: &'a ArrayVec<Desc, 11>,
+) -> Result<Pieces<'a>, DescFault>
     ensures ok { IfOk result (λ given. IsGiven (Indirect table.now total list.now) given) }
     ensures tables { IfOk result (λ given.
         tables_in given ≡ tables_of (Indirect table.now total list.now)) }
+    ensures few { IfOk result (λ given. length (given_in given) ≤ 11) }
     ensures unrefused { OnOk result (refusal (Indirect table.now total list.now) ≡ None) }
     ensures small { OnOk result (total ≤ MAX_DATA_LEN) }
     ensures refusal { IfErr result (λ fault.
@@ -114,9 +120,8 @@ fn indirect(table: &Desc, total: u32, list: &ArrayVec<Desc, 11>) -> Result<Piece
             total,
         });
     }
-    let mut gathered = Gathered::new();
-    gathered.add_all(list);
-    Ok(Pieces::Whole(gathered.finish(total)?))
+    check_sum(list, total)?;
+    Ok(Pieces::Whole(list))
 }
 
 // Tests whether a table of this length in bytes has not 1 to 256 descriptors, or fewer than are listed.

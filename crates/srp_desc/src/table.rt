@@ -3,8 +3,8 @@ ghost use Rattle.std.specs.Prelude.{◌≡◌, ◌≤◌, ◌+◌, ◌%◌, IfOk
 ghost use Rattle.srp_iu.specs.Buffer.{desc_of};
 ghost use Rattle.srp_desc.specs.Pieces.{descs_in, named, refused, sum_of, summing_to};
 
-use crate::gathered::Gathered;
 use crate::pieces::{DESC_LEN, DescFault};
+use crate::sums::check_sum;
 use arrayvec::ArrayVec;
 use srp_iu::Desc;
 
@@ -19,11 +19,12 @@ pub fn read_table(bytes: &[u8], total: u32) -> Result<ArrayVec<Desc, 256>, DescF
     ensures sum { IfOk result (λ list. sum_of list.items ≡ total) }
     ensures err { IfErr result (λ fault. summing_to total (descs_in bytes.now) ≡ refused fault) }
 {
-    let mut gathered = Gathered::new();
+    let mut list = ArrayVec::new();
     for n in 0..bytes.len() / DESC_LEN {
-        gathered.add(desc_at(bytes, DESC_LEN * n));
+        list.push(desc_at(bytes, DESC_LEN * n));
     }
-    gathered.finish(total)
+    check_sum(&list, total)?;
+    Ok(list)
 }
 
 // Reads the descriptor that stands at a place.

@@ -7,6 +7,8 @@ use Rattle.vio_num.specs.declared.memory.NoMemory.{NoMemory}
 use Rattle.vio_num.specs.declared.history.Grant.{Grant}
 use Rattle.vio_num.specs.declared.history.Served.{Served}
 use Rattle.boot_text.specs.declared.plan.Partition.{Partition}
+use Rattle.lan_script.specs.Carried.{FramesAreCarried}
+use Rattle.lan_script.specs.Invariant.{side_in}
 use Rattle.lan_script.specs.PortLaw.{AreOrdered, PortsAreLawful}
 use Rattle.lan_script.specs.Units.{LanValue}
 use Rattle.lan_script.specs.declared.rows.LanRows.{LanRows}
@@ -40,21 +42,23 @@ pub few_seats : (pairs : List Pair) (ports : List PortSeat) (scripts : List Scri
 few_seats pairs ports scripts are k d less =
     let few = (are k (get_or scripts k d) (slice_get-get_or scripts k d less)).few in omega (arith, few)
 
--- the port law, over rows as they are in a trace
+-- the port law, over rows as they are in a trace, and what the frames and deliveries carry
 abbrev pub LawfulRows : LanValue → LanRows → Type 0
-LawfulRows lan rows = PortsAreLawful lan.seats rows.frames.items rows.ports.items rows.posts.items rows.delivers.items rows.harvests.items
+LawfulRows lan rows =
+    PortsAreLawful lan.seats rows.frames.items rows.ports.items rows.posts.items rows.delivers.items rows.harvests.items
+    × FramesAreCarried lan.seats (side_in lan.places) rows.frames.items rows.posts.items rows.delivers.items
 
 -- and over the ports of a plan
 pub ports_are : (lan : LanValue) (rows : LanRows) (partitions : List Partition) → LawfulRows lan rows → lan.seats ≡ ports_of partitions
     → PortsAreLawful (ports_of partitions) rows.frames.items rows.ports.items rows.posts.items rows.delivers.items rows.harvests.items
 ports_are lan rows partitions keeps same =
-    subst (λ seats. PortsAreLawful seats rows.frames.items rows.ports.items rows.posts.items rows.delivers.items rows.harvests.items) same keeps
+    subst (λ seats. PortsAreLawful seats rows.frames.items rows.ports.items rows.posts.items rows.delivers.items rows.harvests.items) same keeps.0
 
 -- what is so of the trace that was gathered
 pub from_rows : (pairs : List Pair) (scripts : List Script) (lan : LanValue) (history : List Served) (grants : List Grant) (copies : List CopyRecord) (r : Result Trace NoMemory)
     (A : Type 0) (P : Trace → Type 0) → IfOk r (IsGathered pairs scripts lan history grants copies) → OnOk r A
     → ((rows : LanRows) → LawfulRows lan rows → AreOrdered rows → A → P (trace_of pairs scripts lan rows history grants copies)) → IfOk r P
-from_rows pairs scripts lan history grants copies (Ok t) A P is a step = subst P (sym is.trace_is) (step is.rows is.lawful is.ordered a)
+from_rows pairs scripts lan history grants copies (Ok t) A P is a step = subst P (sym is.trace_is) (step is.rows (is.lawful, is.carried) is.ordered a)
 from_rows pairs scripts lan history grants copies (Err none) A P is a step = tt
 
 abbrev pub made_of : List LogRow → List QueueRow → List Grant → List Served → List AnswerRow → List FrameRow → List PortRow → List PostRow → List DeliverRow → List HarvestRow → List TceValueRow → List CopyRow → List StrokeRow → Trace

@@ -14,6 +14,7 @@ pub mod Driving
 pub mod Elsewhere
 pub mod Fetching
 pub mod Following
+pub mod FramesCarried
 pub mod Freed
 pub mod GivenAnswers
 pub mod Homes

@@ -5,6 +5,8 @@ use Rattle.vio_num.specs.declared.history.Grant.{Grant}
 use Rattle.vio_num.specs.declared.history.Served.{Served}
 use Rattle.std.specs.Option.{option_map}
 use Rattle.crq_ring.specs.Pipe.{IsLawfulPipe, PipeValue}
+use Rattle.lan_script.specs.Carried.{FramesAreCarried}
+use Rattle.lan_script.specs.Invariant.{side_in}
 use Rattle.lan_script.specs.PortLaw.{AreOrdered, PortsAreLawful}
 use Rattle.lan_script.specs.Seats.{seat_at}
 use Rattle.lan_script.specs.Units.{LanValue, window_at as port_window_at}
@@ -118,10 +120,11 @@ trace_of pairs scripts lan rows history grants copies = record {
   strokes = flat_map (marks_at pairs lan) (seats_of scripts);
 }
 
--- The trace is that of a machine's parts, and the rows of its ports are lawful and in order.
+-- The trace is that of a machine's parts; the rows of its ports are lawful and in order, and carry what they say.
 pub record IsGathered (pairs : List Pair) (scripts : List Script) (lan : LanValue) (history : List Served) (grants : List Grant) (copies : List CopyRecord) (trace : Trace) : Type 0 where
   pub rows : LanRows
   pub lawful : PortsAreLawful lan.seats rows.frames.items rows.ports.items rows.posts.items rows.delivers.items rows.harvests.items
+  pub carried : FramesAreCarried lan.seats (side_in lan.places) rows.frames.items rows.posts.items rows.delivers.items
   pub ordered : AreOrdered rows
   pub trace_is : trace ≡ trace_of pairs scripts lan rows history grants copies
 

@@ -19,6 +19,7 @@ use Rattle.vio_trace.specs.declared.rows.QueueRow.{QueueRow}
 use Rattle.vio_trace.specs.declared.window_rows.CopyRow.{CopyRow}
 use Rattle.vio_trace.specs.declared.window_rows.StrokeRow.{StrokeRow}
 use Rattle.vio_trace.specs.declared.window_rows.TceValueRow.{TceValueRow}
+use Rattle.lan_script.specs.Carried.{FramesAreCarried}
 use Rattle.lan_script.specs.PortLaw.{PortsAreLawful}
 use Rattle.vcpu_run.specs.AnswersSent.{AnswersAreGiven, AnswersAreSent}
 use Rattle.vcpu_run.specs.CopyRows.{copy_row}
@@ -102,10 +103,11 @@ RecordsAreOfLines partitions trace = (p : ℕ) → map (λ row. row.line) (recor
 abbrev pub CreditsAreKept : List Partition → Trace → Type 0
 CreditsAreKept partitions trace = (p unit : ℕ) → KeepsCredit None (ended_by unit (script_of partitions p) (records_of trace p))
 
--- The port law of a run: over the plan's ports.
-abbrev pub PortsKeepLaw : List Partition → Trace → Type 0
-PortsKeepLaw partitions trace =
-    PortsAreLawful (ports_of partitions) trace.frames trace.ports trace.posts trace.delivers trace.harvests
+-- The port law of a run, over the plan's ports: their rows are lawful, and their frames and deliveries carry what they say, in
+-- the windows as the trace shows them.
+pub record PortsKeepLaw (partitions : List Partition) (trace : Trace) : Type 0 where
+  pub lawful : PortsAreLawful (ports_of partitions) trace.frames trace.ports trace.posts trace.delivers trace.harvests
+  pub carried : FramesAreCarried (ports_of partitions) (window_shown partitions trace) trace.frames trace.posts trace.delivers
 
 pub record KeepsLawOf (partitions : List Partition) (trace : Trace) : Type 0 where
   pub order : IsInOrder trace

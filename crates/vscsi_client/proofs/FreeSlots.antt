@@ -4,7 +4,7 @@ use Rattle.std.proofs.lemmas.Bool.Decides.{nat_tests}
 use Rattle.vscsi_client.specs.declared.outgoing.Outgoing.{Outgoing}
 use Rattle.vscsi_client.specs.declared.stage.Stage.{Stage}
 use Rattle.vscsi_client.specs.declared.stage.Stage.TheVariants.{Idle}
-use Rattle.vscsi_client.specs.State.{ClientState, is_asked, is_used, stage_uses, logout_uses, IsFull, IsTheLogins}
+use Rattle.vscsi_client.specs.State.{ClientState, is_asked, is_used, stage_uses, is_slot, IsFull, IsTheLogins}
 
 -- the requests that do not have this slot
 abbrev others : ℕ → List Outgoing → List Outgoing
@@ -53,8 +53,8 @@ free_of_requests (suc n) os few = at (is_asked os n) refl (λ less. free_of_requ
         (found.0, omega (arith, found.1), sym (asked_others os n found.0 found.1) ∙ found.2)
 
 used_by : (asked stage : Bool) (logout : Option ℕ) (j : ℕ) → logout ≡ None → asked ≡ false
-    → (asked || (stage || logout_uses logout j)) ≡ true → stage ≡ true
-used_by asked stage logout j none free used = at stage (subst (λ o. (false || (stage || logout_uses o j)) ≡ true) none (subst (λ a. (a || (stage || logout_uses logout j)) ≡ true) free used))
+    → (asked || (stage || is_slot logout j)) ≡ true → stage ≡ true
+used_by asked stage logout j none free used = at stage (subst (λ o. (false || (stage || is_slot o j)) ≡ true) none (subst (λ a. (a || (stage || is_slot logout j)) ≡ true) free used))
   where
     at : (b : Bool) → (b || false) ≡ true → b ≡ true
     at true e = refl

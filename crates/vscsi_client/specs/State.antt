@@ -57,14 +57,14 @@ stage_uses (Written tag own) slot = own == slot
 stage_uses (Sent tag own) slot = own == slot
 stage_uses Idle slot = false
 
--- whether a logout has it
-abbrev pub logout_uses : Option ℕ → ℕ → Bool
-logout_uses None slot = false
-logout_uses (Some own) slot = own == slot
+-- whether this is the slot, where there is one
+abbrev pub is_slot : Option ℕ → ℕ → Bool
+is_slot None slot = false
+is_slot (Some own) slot = own == slot
 
 -- whether the unit in this slot may be unread, or its answer is awaited
 abbrev pub is_used : ClientState → ℕ → Bool
-is_used s slot = is_asked s.outgoing slot || (stage_uses s.login slot || logout_uses s.logout slot)
+is_used s slot = is_asked s.outgoing slot || (stage_uses s.login slot || is_slot s.logout slot)
 
 -- each of the slots is used
 abbrev pub IsFull : (used : ℕ → Bool) → Type 0

@@ -1,7 +1,6 @@
 // The requests that are outstanding, and the pages that they have.
 ghost use Rattle.std.specs.Prelude.{◌≡◌};
 ghost use Rattle.vscsi_client.specs.Spans.{meets, has_page_of, shares, first_sharing};
-ghost use Rattle.vscsi_client.specs.State.{is_asked};
 ghost use Rattle.vscsi_client.specs.Sending.{request_of, task_of};
 ghost use Rattle.vscsi_client.specs.Taking.{slot_of};
 
@@ -84,13 +83,6 @@ pub(crate) fn first_sharing(outgoing: &[Outgoing], op: &Op) -> Option<u64>
         .iter()
         .find(|request| request.shares(pages, table))
         .map(|request| request.tag)
-}
-
-/// Whether one of these requests has this slot.
-pub(crate) fn is_asked(outgoing: &[Outgoing], slot: u64) -> bool
-    ensures { result ≡ is_asked outgoing.now slot }
-{
-    outgoing.iter().any(|request| request.slot == slot)
 }
 
 /// The slot of the request with this tag.

@@ -1,28 +1,46 @@
 // Which slot the next unit has.
-ghost use Rattle.std.specs.Prelude.{◌≡◌, ◌<◌, MatchOption, None, length};
-ghost use Rattle.vscsi_client.specs.State.{is_used, logout_uses, IsFull, IsLeastFree, IsLoginSlot, IsNextSlot, IsTheLogins};
+ghost use Rattle.std.specs.Prelude.{◌≡◌, ◌<◌, ◌||◌, ℕ, Bool, MatchOption, None, Some, length, slice_get};
+ghost use Rattle.vscsi_client.specs.State.{is_asked, is_slot, is_used, IsFull, IsLeastFree, IsLoginSlot, IsNextSlot, IsTheLogins};
 
 use crate::SLOTS;
 use crate::client::Client;
-use crate::outgoing::is_asked;
+use crate::outgoing::Outgoing;
 use crate::stage::Stage;
 
-// Tells whether a logout has this slot.
-fn logout_uses(logout: Option<u64>, slot: u64) -> bool
-    ensures { result ≡ logout_uses logout slot }
+// Marks this slot, where there is one, and it is one of those that there are.
+fn mark(used: &mut [bool; 200], slot: Option<u64>)
+    ensures { (place : ℕ) (was : Bool) → slice_get used.old place ≡ Some was →
+        slice_get used.new place ≡ Some (was || is_slot slot place) }
 {
-    match logout {
-        None => false,
-        Some(own) => own == slot,
+    if let Some(slot) = slot {
+        if slot < SLOTS {
+            used[slot as usize] = true;
+        }
     }
 }
 
+// Marks each slot that one of these requests has.
+fn asked_slots(outgoing: &[Outgoing]) -> [bool; 200]
+    ensures { (place : ℕ) → place < SLOTS →
+        slice_get result place ≡ Some (is_asked outgoing.now place) }
+{
+    let mut used = [false; 200];
+    for request in outgoing {
+        mark(&mut used, Some(request.slot));
+    }
+    used
+}
+
 impl Client {
-    // Tells whether the unit in this slot may be unread, or its answer is awaited.
-    fn is_used(&self, slot: u64) -> bool
-        ensures { result ≡ is_used self.now slot }
+    // Marks each slot whose unit may be unread, or whose answer is awaited.
+    fn used_slots(&self) -> [bool; 200]
+        ensures { (place : ℕ) → place < SLOTS →
+            slice_get result place ≡ Some (is_used self.now place) }
     {
-        is_asked(&self.outgoing, slot) || self.login.uses(slot) || logout_uses(self.logout, slot)
+        let mut used = asked_slots(&self.outgoing);
+        mark(&mut used, self.login.slot());
+        mark(&mut used, self.logout);
+        used
     }
 
     // Finds the least slot that is not used.
@@ -30,12 +48,9 @@ impl Client {
         ensures { MatchOption result (IsFull (is_used self.now))
             (λ slot. IsLeastFree (is_used self.now) slot) }
     {
-        for slot in 0..SLOTS {
-            if !self.is_used(slot) {
-                return Some(slot);
-            }
-        }
-        None
+        let used = self.used_slots();
+        let place = used.iter().position(|used| !*used)?;
+        Some(place as u64)
     }
 
     /// The slot of a login: the place behind all slots where none is free.

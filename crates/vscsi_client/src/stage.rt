@@ -1,6 +1,6 @@
 // How far a login has come, and what is to be put.
-ghost use Rattle.std.specs.Prelude.{◌≡◌, filter};
-ghost use Rattle.vscsi_client.specs.State.{stage_uses};
+ghost use Rattle.std.specs.Prelude.{◌≡◌, ℕ, filter};
+ghost use Rattle.vscsi_client.specs.State.{is_slot, stage_uses};
 ghost use Rattle.vscsi_client.specs.Taking.{is_step};
 ghost use Rattle.vscsi_client.specs.Login.{login_slot};
 ghost use Rattle.vscsi_client.specs.Turned.{is_login, is_idle, sent_stage};
@@ -28,13 +28,13 @@ pub enum Due {
 }
 
 impl Stage {
-    /// Whether a login that is under way has this slot.
-    pub(crate) fn uses(self, slot: u64) -> bool
-        ensures { result ≡ stage_uses self slot }
+    /// The slot of the login that is under way.
+    pub(crate) fn slot(self) -> Option<u64>
+        ensures { (place : ℕ) → is_slot result place ≡ stage_uses self place }
     {
         match self {
-            Stage::Idle => false,
-            Stage::Written { tag: _, slot: own } | Stage::Sent { tag: _, slot: own } => own == slot,
+            Stage::Idle => None,
+            Stage::Written { tag: _, slot } | Stage::Sent { tag: _, slot } => Some(slot),
         }
     }
 

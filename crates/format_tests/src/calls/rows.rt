@@ -21,7 +21,7 @@ fn asked(number: u64, args: [u64; 9]) -> Result<(Option<Note>, Returned), NoMemo
 }
 
 // The number and first argument of a call of each row, and what is asked then.
-const ROWS: [(u64, u64, Hcall, u8, [u64; 6]); 14] = [
+static ROWS: [(u64, u64, Hcall, u8, [u64; 6]); 14] = [
     (0x1C, 0x1000_0501, Hcall::GetTce, 1, [11, 0, 0, 0, 0, 0]),
     (0x20, 0x1000_0502, Hcall::PutTce, 2, [11, 12, 0, 0, 0, 0]),
     (
@@ -80,19 +80,20 @@ const ROWS: [(u64, u64, Hcall, u8, [u64; 6]); 14] = [
     ),
 ];
 
+// Tells whether a call with these arguments is answered with this word, and its unit asked so.
+fn is_asked(number: u64, args: [u64; 9], note: Note, r4: u64) -> bool {
+    let code = Hrc::Success;
+    asked(number, args) == Ok((Some(note), Returned { code, r4 }))
+}
+
 #[test]
 fn each_row_has_its_method(rt: HostRuntime) {
-    for (number, first, row, unit, arguments) in ROWS {
-        let r4 = if number == 0x1C { VALUE } else { 0 };
-        let want = (
-            Some((row, unit, arguments)),
-            Returned {
-                code: Hrc::Success,
-                r4,
-            },
-        );
-        assert_eq!(rt; Hcall::read(number), Some(row), "{number}");
-        assert_eq!(rt; asked(number, behind(first)), Ok(want), "{number}");
+    for (number, first, row, unit, arguments) in ROWS.iter() {
+        let r4 = if *number == 0x1C { VALUE } else { 0 };
+        let note = (*row, *unit, *arguments);
+        let is_read = Hcall::read(*number) == Some(*row);
+        let is_made = is_asked(*number, behind(*first), note, r4);
+        assert!(rt; is_read && is_made, "{number}");
     }
 }
 
@@ -110,29 +111,31 @@ fn a_copy_names_two_windows_of_one_server(rt: HostRuntime) {
     }
 }
 
+// Tells whether a number is read as this name and written for it.
+fn is_named(number: u64, name: Named) -> bool {
+    Named::read(number) == Some(name) && name.number() == number
+}
+
+static NO_NAMES: [u64; 7] = [
+    0,
+    0x0FFF_FFFF,
+    0x1001_0000,
+    0x3001_0000,
+    0x4000_0000,
+    0x1_3000_0501,
+    u64::MAX,
+];
+
 #[test]
 fn names_are_read_and_written(rt: HostRuntime) {
     let unit = UnitId {
         partition: 5,
         unit: 255,
     };
-    for (number, name) in [
-        (0x3000_05FF, Named::Unit(unit)),
-        (0x1000_05FF, Named::OwnWindow(unit)),
-        (0x2000_05FF, Named::ClientWindow(unit)),
-    ] {
-        assert_eq!(rt; Named::read(number), Some(name));
-        assert_eq!(rt; name.number(), number);
-    }
-    for number in [
-        0,
-        0x0FFF_FFFF,
-        0x1001_0000,
-        0x3001_0000,
-        0x4000_0000,
-        0x1_3000_0501,
-        u64::MAX,
-    ] {
-        assert_eq!(rt; Named::read(number), None, "{number}");
+    assert!(rt; is_named(0x3000_05FF, Named::Unit(unit)));
+    assert!(rt; is_named(0x1000_05FF, Named::OwnWindow(unit)));
+    assert!(rt; is_named(0x2000_05FF, Named::ClientWindow(unit)));
+    for number in NO_NAMES.iter() {
+        assert!(rt; Named::read(*number).is_none(), "{number}");
     }
 }

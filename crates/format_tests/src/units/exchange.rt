@@ -6,7 +6,6 @@ use srp_iu::{
     Buffer, Cmd, Desc, Iu, LoginReq, LoginRsp, Rsp, TskMgmt, read_iu, spelled_units_are_writable,
     write_iu,
 };
-use std::process::Abort;
 
 /// An exchange. Bytes are hexadecimal text.
 pub(super) struct Exchange {
@@ -123,47 +122,54 @@ fn digit(character: u8) -> u8
     }
 }
 
-/// The request and the answer are read to their fields, and written back but for what spells nothing.
-pub(super) fn check_exchange(rt: &impl Abort, exchange: &Exchange) {
-    let name = exchange.name;
+/// Tells whether the request and the answer are read to their fields, and written back but for what spells nothing.
+pub(super) fn is_kept(exchange: &Exchange) -> bool {
     let mut request = bytes_of(exchange.request);
     let full = request.len();
     for _ in full..exchange.sent {
         let _ = request.try_push(0);
     }
-    assert_eq!(rt; request.len(), exchange.sent, "{name}");
-    match read_iu(&request) {
-        Ok(iu) => {
-            assert!(rt; is_request(&iu, &exchange.wanted), "{name}");
-        }
-        Err(fault) => assert!(rt; false, "{name}: {fault:?}"),
-    }
-    let written = written_again(&request);
-    assert_eq!(rt; written.len(), full, "{name}");
-    for (place, (byte, given)) in written.iter().zip(request.iter()).enumerate() {
-        if exchange.counts.contains(&place) {
-            assert_ne!(rt; *given, 0, "{name}");
-            assert_eq!(rt; *byte, 0, "{name}");
-        } else {
-            assert_eq!(rt; byte, given, "{name}");
-        }
-    }
-    check_answer(rt, exchange);
+    request.len() == exchange.sent
+        && is_read(&request, &exchange.wanted)
+        && is_written(&request, full, exchange.counts)
+        && is_answer_kept(exchange.answer, &exchange.answered)
 }
 
-/// An answer is canonical: it is written back byte for byte.
-fn check_answer(rt: &impl Abort, exchange: &Exchange) {
-    let name = exchange.name;
-    let answer = bytes_of(exchange.answer);
-    match read_iu(&answer) {
-        Ok(iu) => assert!(rt; is_answer(&iu, &exchange.answered), "{name}"),
-        Err(_) => assert!(rt; matches!(exchange.answered, Answer::None), "{name}"),
+fn is_read(request: &[u8], wanted: &Request) -> bool {
+    match read_iu(request) {
+        Ok(iu) => is_request(&iu, wanted),
+        Err(_) => false,
     }
-    assert_eq!(rt;
-        written_again(&answer).as_slice(),
-        answer.as_slice(),
-        "{name}"
-    );
+}
+
+// Tells whether so many bytes are written of a request, which are those that were given, but 0 where a count spells
+// nothing.
+fn is_written(request: &[u8], full: usize, counts: &[usize]) -> bool {
+    let written = written_again(request);
+    if written.len() != full {
+        return false;
+    }
+    for (place, (byte, given)) in written.iter().zip(request.iter()).enumerate() {
+        let is_so = if counts.contains(&place) {
+            *given != 0 && *byte == 0
+        } else {
+            byte == given
+        };
+        if !is_so {
+            return false;
+        }
+    }
+    true
+}
+
+// Tells whether an answer is read to its fields, and canonical: it is written back byte for byte.
+fn is_answer_kept(answer: &str, answered: &Answer) -> bool {
+    let answer = bytes_of(answer);
+    let is_read = match read_iu(&answer) {
+        Ok(iu) => is_answer(&iu, answered),
+        Err(_) => matches!(answered, Answer::None),
+    };
+    is_read && written_again(&answer).as_slice() == answer.as_slice()
 }
 
 /// What is written of the unit that these bytes are; nothing where they are none.

@@ -118,20 +118,29 @@ fn read_again(iu: &Iu) -> Result<Iu, IuFault>
     read_iu(&write_iu(iu))
 }
 
+// Tells whether this unit was read.
+fn is_read(read: Result<Iu, IuFault>, iu: &Iu) -> bool {
+    match read {
+        Ok(read) => read == *iu,
+        Err(_) => false,
+    }
+}
+
+// Tells whether the unit is written as this text, and the text is read as the unit.
+fn is_spelled(iu: &Iu, text: &str) -> bool
+    requires { IsWritable iu.now }
+{
+    let bytes = bytes_of(text);
+    write_iu(iu).as_slice() == bytes.as_slice()
+        && is_read(read_iu(&bytes), iu)
+        && is_read(read_again(iu), iu)
+}
+
 /// The unit is written as this text, and the text is read as the unit.
 fn check_unit(rt: &impl Abort, iu: &Iu, text: &str)
     requires { IsWritable iu.now }
 {
-    let bytes = bytes_of(text);
-    assert_eq!(rt; write_iu(iu).as_slice(), bytes.as_slice(), "{text}");
-    match read_iu(&bytes) {
-        Ok(read) => assert!(rt; read == *iu, "{text}"),
-        Err(fault) => assert!(rt; false, "{text}: {fault:?}"),
-    }
-    match read_again(iu) {
-        Ok(read) => assert!(rt; read == *iu, "{text}"),
-        Err(fault) => assert!(rt; false, "{text}: {fault:?}"),
-    }
+    assert!(rt; is_spelled(iu, text), "{text}");
 }
 
 /// A list of one descriptor, or of two.

@@ -143,8 +143,9 @@ impl Ends {
     }
 }
 
-/// What the steps of the rows leave of a ring of this many slots; the first row of which something else is seen.
-type Played = Result<(Option<(usize, Seen)>, PlainPipe), NoMemory>;
+/// What the steps of the rows leave of a ring of this many slots; the number of the first row of which something else
+/// is seen.
+type Played = Result<(Option<usize>, PlainPipe), NoMemory>;
 
 /// Does the steps of the rows at an open ring of this many slots, and ends it.
 pub fn played_open(alloc: Global, slots: u32, rows: &[Row]) -> Played

@@ -3,7 +3,9 @@
 use super::ends::{played_closed, played_open};
 use super::{Does, Row, Seen, Step, entry, first_other};
 use crq_ring::{DropRow, PlainPipe};
+use std::alloc::Global;
 use std::test::Fail;
+use vio_num::NoMemory;
 
 static INSIDE: [Row; 15] = [
     (Step::Control, Seen::Number(0)),
@@ -47,20 +49,33 @@ static ENDED: [Row; 14] = [
     (Step::Poll, Seen::Got(0)),
 ];
 
+// What was dropped in both sessions.
+static DROPPED: [DropRow; 2] = [
+    DropRow {
+        session: 1,
+        number: 2,
+        held: 0x8001_0000_0000_0000,
+    },
+    DropRow {
+        session: 2,
+        number: 2,
+        held: 0x8001_0000_0000_0000,
+    },
+];
+
+// Whether session 2 is the last of a pipe, four entries were put and one taken, and these were dropped.
+fn is_ended_once(pipe: &PlainPipe) -> bool {
+    pipe.session() == 2
+        && pipe.sent().len() == 4
+        && pipe.taken().len() == 1
+        && pipe.drops() == DROPPED.as_slice()
+}
+
 #[test]
 fn a_session_that_ends_leaves_empty_slots(rt: HostRuntime) -> Result<(), Fail> {
     let (other, pipe) = played_closed(rt.alloc(), 2, &ENDED)?;
-    assert_eq!(rt; other, None);
-    assert_eq!(rt;
-        (pipe.session(), pipe.sent().len(), pipe.taken().len()),
-        (2, 4, 1)
-    );
-    let drops = [1, 2].map(|session| DropRow {
-        session,
-        number: 2,
-        held: 0x8001_0000_0000_0000,
-    });
-    assert_eq!(rt; pipe.drops(), drops.as_slice());
+    let is_ended = is_ended_once(&pipe);
+    assert_eq!(rt; (other, is_ended), (None, true));
     Ok(())
 }
 
@@ -88,17 +103,38 @@ static BEGUN: [Row; 3] = [
     (Step::Put(1), Seen::Full(1)),
 ];
 
-#[test]
-fn a_pipe_begins_anew(rt: HostRuntime) -> Result<(), Fail> {
-    let mut pipe = PlainPipe::closed(rt.alloc(), 1)?;
-    assert_eq!(rt; pipe.session(), 0);
+// Begins three sessions, and gives the first of which something else is seen.
+fn first_other_begun(pipe: &mut PlainPipe) -> Result<Option<u64>, NoMemory> {
     for session in 1..4 {
         let begun = [(Step::Begin, Seen::Number(session))];
-        assert_eq!(rt; first_other(&mut pipe, &begun)?, None);
-        assert_eq!(rt; first_other(&mut pipe, &BEGUN)?, None);
+        if first_other(pipe, &begun)?.is_some() || first_other(pipe, &BEGUN)?.is_some() {
+            return Ok(Some(session));
+        }
     }
-    assert!(rt; pipe.sent().iter().all(|row| row.entry == entry(0)));
-    assert!(rt; pipe.sent().iter().map(|row| row.session).eq([1, 2, 3]));
-    assert_eq!(rt; (pipe.taken().len(), pipe.drops().len()), (0, 3));
+    Ok(None)
+}
+
+// Whether entry 0 was put in each of the sessions 1 to 3 and never taken, and three entries were dropped.
+fn is_begun_thrice(pipe: &PlainPipe) -> bool {
+    for (row, session) in pipe.sent().iter().zip(1u64..4) {
+        if row.session != session || row.entry != entry(0) {
+            return false;
+        }
+    }
+    pipe.sent().len() == 3 && pipe.taken().is_empty() && pipe.drops().len() == 3
+}
+
+// The session of a new pipe, the first of three sessions of which something else is seen, and whether they leave the
+// pipe so.
+fn begun_anew(alloc: Global) -> Result<(u64, Option<u64>, bool), NoMemory> {
+    let mut pipe = PlainPipe::closed(alloc, 1)?;
+    let session = pipe.session();
+    let other = first_other_begun(&mut pipe)?;
+    Ok((session, other, is_begun_thrice(&pipe)))
+}
+
+#[test]
+fn a_pipe_begins_anew(rt: HostRuntime) -> Result<(), Fail> {
+    assert_eq!(rt; begun_anew(rt.alloc())?, (0, None, true));
     Ok(())
 }

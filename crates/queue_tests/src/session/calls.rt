@@ -18,7 +18,7 @@ pub enum Call {
     Push,
 }
 
-#[derive(Clone, Copy, Debug, PartialEq, Eq)]
+#[derive(Clone, Copy, PartialEq, Eq)]
 pub enum Answer {
     Reg(RegAnswer),
     Free(FreeAnswer),
@@ -103,13 +103,9 @@ fn told(link: &mut PlainLink, first: bool) -> Told {
     (session, slots, queue.sent().len(), queue.taken().len())
 }
 
-// Makes the calls of the rows on a link whose second side has this many slots: the first other answer, and what
-// is told of both sides then.
-fn played(
-    alloc: Global,
-    slots: u32,
-    rows: &[Row],
-) -> Result<(Option<(usize, Answer)>, Told, Told), Fail>
+// Makes the calls of the rows on a link whose second side has this many slots: the number of the first other answer,
+// and what is told of both sides then.
+fn played(alloc: Global, slots: u32, rows: &[Row]) -> Result<(Option<usize>, Told, Told), Fail>
     requires { IsQueueSize slots }
 {
     let mut link = PlainLink::open(alloc, 256, slots)?;
@@ -392,20 +388,42 @@ static FIRST_BYTES: [Row; 2] = [
     ),
 ];
 
-#[test]
-fn each_first_byte_is_sent_or_refused(rt: HostRuntime) -> Result<(), Fail> {
-    let mut link = PlainLink::open(rt.alloc(), 256, 256)?;
-    assert_eq!(rt; first_other(&mut link, &BOTH)?, None);
+// Sends an entry of each first byte, and gives the first byte that has another answer.
+fn first_other_byte(link: &mut PlainLink) -> Result<Option<u64>, Fail> {
     for first in 0..256u64 {
         let want = if first < 128 {
             Answer::Send(SendAnswer::Parameter)
         } else {
             sent(first - 128)
         };
-        assert_eq!(rt; answer_of(&mut link, true, Call::Send(first << 56))?, want);
+        if answer_of(link, true, Call::Send(first << 56))? != want {
+            return Ok(Some(first));
+        }
     }
-    let kind = link.queue(false).sent().get(1).map(|row| row.entry.kind());
-    assert_eq!(rt; kind, Some(Kind::Reserved));
-    assert_eq!(rt; first_other(&mut link, &FIRST_BYTES)?, None);
+    Ok(None)
+}
+
+// What the second entry in the queue of the second side is.
+fn second_kind(link: &PlainLink) -> Option<Kind> {
+    Some(link.queue(false).sent().get(1)?.entry.kind())
+}
+
+// The first byte that has another answer, what the second entry is, and the first row that is answered otherwise before
+// and after.
+fn first_bytes(
+    alloc: Global,
+) -> Result<(Option<u64>, Option<Kind>, Option<usize>, Option<usize>), Fail> {
+    let mut link = PlainLink::open(alloc, 256, 256)?;
+    let before = first_other(&mut link, &BOTH)?;
+    let byte = first_other_byte(&mut link)?;
+    let kind = second_kind(&link);
+    let after = first_other(&mut link, &FIRST_BYTES)?;
+    Ok((byte, kind, before, after))
+}
+
+#[test]
+fn each_first_byte_is_sent_or_refused(rt: HostRuntime) -> Result<(), Fail> {
+    let want = (None, Some(Kind::Reserved), None, None);
+    assert_eq!(rt; first_bytes(rt.alloc())?, want);
     Ok(())
 }

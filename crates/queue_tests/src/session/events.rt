@@ -48,12 +48,8 @@ pub fn is_drained<S: Sides>(sides: &mut S) -> Result<bool, Fail> {
 }
 
 // A link whose first side filled its partner's queue and made this call, and then those of the rows; with the
-// first other answer.
-fn full_link(
-    alloc: Global,
-    made: Call,
-    rows: &[Row],
-) -> Result<(PlainLink, Option<(usize, Answer)>), Fail> {
+// number of the first other answer.
+fn full_link(alloc: Global, made: Call, rows: &[Row]) -> Result<(PlainLink, Option<usize>), Fail> {
     let mut link = PlainLink::open(alloc, 256, 256)?;
     if !is_filled(&mut link, made)? {
         return Err(Fail::from("the queue is not full"));
@@ -86,18 +82,25 @@ static WAITS: [Row; 7] = [
     (true, Call::Push, NOTHING),
 ];
 
+// What was dropped at the full queue.
+static DROPPED: [DropRow; 1] = [DropRow {
+    session: 1,
+    number: 256,
+    held: COMMAND,
+}];
+
+// The number of the first other answer at a link that waits, whether its queue is drained and then empty, and whether
+// this was dropped there.
+fn waited(alloc: Global) -> Result<(Option<usize>, bool, bool), Fail> {
+    let (mut link, other) = full_link(alloc, Call::Free, &WAITS)?;
+    let is_empty = is_drained(&mut link)? && answer_of(&mut link, false, Call::Poll)? == empty(257);
+    let is_dropped = link.queue(false).drops() == DROPPED.as_slice();
+    Ok((other, is_empty, is_dropped))
+}
+
 #[test]
 fn a_registration_waits_for_the_kept_event(rt: HostRuntime) -> Result<(), Fail> {
-    let (mut link, other) = full_link(rt.alloc(), Call::Free, &WAITS)?;
-    assert_eq!(rt; other, None);
-    assert!(rt; is_drained(&mut link)?);
-    assert_eq!(rt; answer_of(&mut link, false, Call::Poll)?, empty(257));
-    let record = DropRow {
-        session: 1,
-        number: 256,
-        held: COMMAND,
-    };
-    assert_eq!(rt; link.queue(false).drops(), [record].as_slice());
+    assert_eq!(rt; waited(rt.alloc())?, (None, true, true));
     Ok(())
 }
 
@@ -119,13 +122,24 @@ static PUSHED: [Row; 5] = [
     (true, REGISTER, REGISTERED),
 ];
 
+// Whether 257 entries were put in the queue of the second side, the last of them the event.
+fn has_the_event(link: &PlainLink) -> bool {
+    let sent = link.queue(false).sent();
+    match sent.last() {
+        Some(row) => row.entry.high == FAILED && sent.len() == 257,
+        None => false,
+    }
+}
+
+// The number of the first other answer where the event is pushed, and whether it was put.
+fn pushed(alloc: Global) -> Result<(Option<usize>, bool), Fail> {
+    let (link, other) = full_link(alloc, Call::Fail, &PUSHED)?;
+    Ok((other, has_the_event(&link)))
+}
+
 #[test]
 fn a_kept_event_is_pushed(rt: HostRuntime) -> Result<(), Fail> {
-    let (link, other) = full_link(rt.alloc(), Call::Fail, &PUSHED)?;
-    assert_eq!(rt; other, None);
-    let sent = link.queue(false).sent();
-    let last = sent.last().map(|row| row.entry.high);
-    assert_eq!(rt; (last, sent.len()), (Some(FAILED), 257));
+    assert_eq!(rt; pushed(rt.alloc())?, (None, true));
     Ok(())
 }
 
@@ -161,17 +175,15 @@ static LOST_BY_REGISTRATION: [Row; 5] = [
     ),
 ];
 
+// The number of the first other answer at a link whose first side freed its queue.
+fn first_other_freed(alloc: Global, rows: &[Row]) -> Result<Option<usize>, Fail> {
+    Ok(full_link(alloc, Call::Free, rows)?.1)
+}
+
 #[test]
 fn a_kept_event_is_lost_with_the_partners_queue(rt: HostRuntime) -> Result<(), Fail> {
-    for by_push in [true, false] {
-        let rows = if by_push {
-            &LOST_BY_PUSH
-        } else {
-            &LOST_BY_REGISTRATION
-        };
-        let (_link, other) = full_link(rt.alloc(), Call::Free, rows)?;
-        assert_eq!(rt; other, None);
-    }
+    assert_eq!(rt; first_other_freed(rt.alloc(), &LOST_BY_PUSH)?, None);
+    assert_eq!(rt; first_other_freed(rt.alloc(), &LOST_BY_REGISTRATION)?, None);
     Ok(())
 }
 
@@ -203,7 +215,6 @@ static PRESENT: [Row; 5] = [
 
 #[test]
 fn a_kept_event_goes_to_the_present_session(rt: HostRuntime) -> Result<(), Fail> {
-    let (_link, other) = full_link(rt.alloc(), Call::Free, &PRESENT)?;
-    assert_eq!(rt; other, None);
+    assert_eq!(rt; first_other_freed(rt.alloc(), &PRESENT)?, None);
     Ok(())
 }

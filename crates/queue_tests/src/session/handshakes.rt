@@ -1,53 +1,87 @@
 // The table of the handshake, by state and entry.
 use crq_session::{Handshake, Step};
-use std::test::Fail;
 use vio_num::Entry;
 
-#[test]
-fn each_state_takes_each_entry(rt: HostRuntime) -> Result<(), Fail> {
-    let (down, waiting, up) = (Handshake::Down, Handshake::Waiting, Handshake::Up);
-    for (state, high, after, step) in [
-        (down, 0xC001, down, Step::Nothing),
-        (down, 0xC002, down, Step::Nothing),
-        (down, 0xFF02, down, Step::Nothing),
-        (down, 0x8001, down, Step::Nothing),
-        (waiting, 0xC001, up, Step::SendComplete),
-        (waiting, 0xC002, up, Step::Nothing),
-        (waiting, 0xC003, waiting, Step::Nothing),
-        (waiting, 0xFF02, waiting, Step::Nothing),
-        (waiting, 0x8001, waiting, Step::Nothing),
-        (up, 0xC001, up, Step::SendComplete),
-        (up, 0xC002, up, Step::Nothing),
-        (up, 0xFF01, waiting, Step::Nothing),
-        (up, 0xFF02, waiting, Step::Nothing),
-        (up, 0x8002, up, Step::Nothing),
-        (up, 0x0001, up, Step::Nothing),
-    ] {
-        let mut handshake = state;
-        let entry = Entry {
-            high: high << 48,
-            low: 0,
-        };
-        assert_eq!(rt; handshake.got(entry), step);
-        assert_eq!(rt; handshake, after);
+// A state, the first half-word of an entry that comes, the state then, and what is to be done.
+static TABLE: [(Handshake, u64, Handshake, Step); 15] = [
+    (Handshake::Down, 0xC001, Handshake::Down, Step::Nothing),
+    (Handshake::Down, 0xC002, Handshake::Down, Step::Nothing),
+    (Handshake::Down, 0xFF02, Handshake::Down, Step::Nothing),
+    (Handshake::Down, 0x8001, Handshake::Down, Step::Nothing),
+    (
+        Handshake::Waiting,
+        0xC001,
+        Handshake::Up,
+        Step::SendComplete,
+    ),
+    (Handshake::Waiting, 0xC002, Handshake::Up, Step::Nothing),
+    (
+        Handshake::Waiting,
+        0xC003,
+        Handshake::Waiting,
+        Step::Nothing,
+    ),
+    (
+        Handshake::Waiting,
+        0xFF02,
+        Handshake::Waiting,
+        Step::Nothing,
+    ),
+    (
+        Handshake::Waiting,
+        0x8001,
+        Handshake::Waiting,
+        Step::Nothing,
+    ),
+    (Handshake::Up, 0xC001, Handshake::Up, Step::SendComplete),
+    (Handshake::Up, 0xC002, Handshake::Up, Step::Nothing),
+    (Handshake::Up, 0xFF01, Handshake::Waiting, Step::Nothing),
+    (Handshake::Up, 0xFF02, Handshake::Waiting, Step::Nothing),
+    (Handshake::Up, 0x8002, Handshake::Up, Step::Nothing),
+    (Handshake::Up, 0x0001, Handshake::Up, Step::Nothing),
+];
+
+// The entry whose first half-word is this.
+fn entry(first: u64) -> Entry {
+    Entry {
+        high: first << 48,
+        low: 0,
     }
-    Ok(())
+}
+
+// What is to be done where an entry comes, and the state then.
+fn taken(mut state: Handshake, first: u64) -> (Step, Handshake) {
+    let step = state.got(entry(first));
+    (step, state)
 }
 
 #[test]
-fn a_queue_that_is_registered_and_freed(rt: HostRuntime) -> Result<(), Fail> {
+fn each_state_takes_each_entry(rt: HostRuntime) {
+    for (state, first, after, step) in TABLE.iter() {
+        assert_eq!(rt; taken(*state, *first), (*step, *after));
+    }
+}
+
+// The high half of the entry that is to be sent, if one is.
+fn high_of(step: Step) -> Option<u64> {
+    Some(step.entry()?.high)
+}
+
+// What is sent where a queue is registered and where the partner's entry comes, and the states after the registration
+// and after the queue is freed.
+fn begun_and_freed() -> ([Option<u64>; 2], Handshake, Handshake) {
     let mut handshake = Handshake::Down;
-    let step = handshake.registered();
-    assert_eq!(rt; step.entry().map(|entry| entry.high), Some(0xC001 << 48));
-    assert_eq!(rt; handshake, Handshake::Waiting);
-    let entry = Entry {
-        high: 0xC001 << 48,
-        low: 0,
-    };
-    let step = handshake.got(entry);
-    assert_eq!(rt; step.entry().map(|entry| entry.high), Some(0xC002 << 48));
+    let first = high_of(handshake.registered());
+    let waiting = handshake;
+    let second = high_of(handshake.got(entry(0xC001)));
     handshake.freed();
-    assert_eq!(rt; handshake, Handshake::Down);
+    ([first, second], waiting, handshake)
+}
+
+#[test]
+fn a_queue_that_is_registered_and_freed(rt: HostRuntime) {
+    let highs = [Some(0xC001 << 48), Some(0xC002 << 48)];
+    let want = (highs, Handshake::Waiting, Handshake::Down);
+    assert_eq!(rt; begun_and_freed(), want);
     assert_eq!(rt; Step::Nothing.entry(), None);
-    Ok(())
 }

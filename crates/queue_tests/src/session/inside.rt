@@ -22,15 +22,27 @@ static INSIDE: [(Option<(bool, Call)>, Answer); 8] = [
     (None, Answer::Free(FreeAnswer::Busy { control: 19 })),
 ];
 
+// Makes a call of the table.
+fn answer_of(sides: &mut SharedSides, made: Option<(bool, Call)>) -> Result<Answer, Fail> {
+    match made {
+        Some((first, call)) => sides.call(first, call),
+        None => Ok(sides.free_around()?),
+    }
+}
+
+// Makes the calls, and gives the number of the first that has another answer.
+fn first_other(sides: &mut SharedSides) -> Result<Option<usize>, Fail> {
+    for (number, (made, want)) in INSIDE.iter().enumerate() {
+        if answer_of(sides, *made)? != *want {
+            return Ok(Some(number));
+        }
+    }
+    Ok(None)
+}
+
 #[test]
 fn a_sender_inside_keeps_a_queue_from_being_freed(rt: HostRuntime) -> Result<(), Fail> {
     let mut sides = SharedSides::open(rt.alloc(), 256, 256)?;
-    for (made, want) in INSIDE.iter() {
-        let answer = match made {
-            Some((first, call)) => sides.call(*first, *call)?,
-            None => sides.free_around()?,
-        };
-        assert_eq!(rt; answer, *want);
-    }
+    assert_eq!(rt; first_other(&mut sides)?, None);
     Ok(())
 }

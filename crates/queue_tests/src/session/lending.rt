@@ -29,15 +29,22 @@ fn poll_end<E: CrqEnd>(end: &mut E) -> Result<PollAnswer, NoMemory>
     Ok(end.poll())
 }
 
+// What an end finds before it is registered, and then.
+fn polled(link: &mut PlainLink) -> Result<(PollAnswer, PollAnswer), NoMemory> {
+    let mut end = link.side(true);
+    let before = poll_end(&mut end)?;
+    end.reserve(3)?;
+    end.register(0, 4096);
+    Ok((before, end.poll()))
+}
+
 #[test]
 fn a_side_is_polled_through_its_end(rt: HostRuntime) -> Result<(), Fail> {
     let mut link = PlainLink::open(rt.alloc(), 256, 256)?;
-    let mut end = link.side(true);
-    assert_eq!(rt; poll_end(&mut end)?, PollAnswer::NotRegistered);
-    end.reserve(3)?;
-    end.register(0, 4096);
-    assert_eq!(rt; end.poll(), PollAnswer::Empty { number: 0 });
+    let empty = PollAnswer::Empty { number: 0 };
+    let found = polled(&mut link)?;
     link.side(true).reserve(1)?;
-    assert_eq!(rt; poll_side(&mut link, true), PollAnswer::Empty { number: 0 });
+    let last = poll_side(&mut link, true);
+    assert_eq!(rt; (found, last), ((PollAnswer::NotRegistered, empty), empty));
     Ok(())
 }

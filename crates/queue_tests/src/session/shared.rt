@@ -2,7 +2,9 @@
 use super::calls::{Answer, COMMAND, Call, FREE_DONE, FREED, REGISTER, REGISTERED, Row};
 use super::events::{BUSY, KEPT, is_drained, is_filled};
 use super::sides::{SharedSides, Sides, first_other};
+use crq_ring::PlainPipe;
 use crq_session::{PlainLink, PollAnswer, RegAnswer, SendAnswer};
+use std::alloc::Global;
 use std::test::Fail;
 use vio_num::{Entry, Kind};
 
@@ -110,31 +112,75 @@ fn an_event_is_kept<S: Sides>(sides: &mut S) -> Result<bool, Fail> {
     )
 }
 
+// The number of the first of the rows that a plain link answers otherwise, and the link.
+fn plain_by_rows(alloc: Global) -> Result<(Option<usize>, PlainLink), Fail> {
+    let mut plain = PlainLink::open(alloc, 256, 256)?;
+    let other = first_other(&mut plain, &SIDES)?;
+    Ok((other, plain))
+}
+
+// The same of a shared link, and what it leaves.
+fn shared_by_rows(alloc: Global) -> Result<(Option<usize>, PlainLink), Fail> {
+    let mut shared = SharedSides::open(alloc, 256, 256)?;
+    let other = first_other(&mut shared, &SIDES)?;
+    Ok((other, shared.close()))
+}
+
+// Whether the same was put and taken in two queues, in as many sessions.
+fn are_alike(one: &PlainPipe, other: &PlainPipe) -> bool {
+    one.sent() == other.sent() && one.taken() == other.taken() && one.session() == other.session()
+}
+
+// What the first entry in the queue of the first side is.
+fn first_kind(link: &PlainLink) -> Option<Kind> {
+    Some(link.queue(true).sent().first()?.entry.kind())
+}
+
+// Whether both queues of two links are alike.
+fn are_both_alike(one: &PlainLink, other: &PlainLink) -> bool {
+    are_alike(one.queue(true), other.queue(true)) && are_alike(one.queue(false), other.queue(false))
+}
+
+// The first row that each form answers otherwise, whether the queues are alike, and what the first entry is.
+fn both_by_rows(alloc: Global) -> Result<([Option<usize>; 2], bool, Option<Kind>), Fail> {
+    let (of_plain, plain) = plain_by_rows(alloc)?;
+    let (of_shared, shared) = shared_by_rows(alloc)?;
+    let others = [of_plain, of_shared];
+    Ok((others, are_both_alike(&shared, &plain), first_kind(&shared)))
+}
+
 #[test]
 fn both_forms_of_a_link_pass_the_same_rows(rt: HostRuntime) -> Result<(), Fail> {
-    let mut plain = PlainLink::open(rt.alloc(), 256, 256)?;
-    assert_eq!(rt; first_other(&mut plain, &SIDES)?, None);
-    let mut shared = SharedSides::open(rt.alloc(), 256, 256)?;
-    assert_eq!(rt; first_other(&mut shared, &SIDES)?, None);
-    let ended = shared.close();
-    for first in [true, false] {
-        assert_eq!(rt; ended.queue(first).sent(), plain.queue(first).sent());
-        assert_eq!(rt; ended.queue(first).taken(), plain.queue(first).taken());
-        assert_eq!(rt; ended.queue(first).session(), plain.queue(first).session());
-    }
-    let kind = ended.queue(true).sent().first().map(|row| row.entry.kind());
-    assert_eq!(rt; kind, Some(Kind::Reserved));
+    let want = ([None, None], true, Some(Kind::Reserved));
+    assert_eq!(rt; both_by_rows(rt.alloc())?, want);
     Ok(())
+}
+
+// Whether a plain link keeps an event, and the link.
+fn plain_with_an_event(alloc: Global) -> Result<(bool, PlainLink), Fail> {
+    let mut plain = PlainLink::open(alloc, 256, 256)?;
+    let is_kept = an_event_is_kept(&mut plain)?;
+    Ok((is_kept, plain))
+}
+
+// The same of a shared link, and what it leaves.
+fn shared_with_an_event(alloc: Global) -> Result<(bool, PlainLink), Fail> {
+    let mut shared = SharedSides::open(alloc, 256, 256)?;
+    let is_kept = an_event_is_kept(&mut shared)?;
+    Ok((is_kept, shared.close()))
+}
+
+// Whether each form keeps an event, and the queues of the second side have the same entries and drops.
+fn both_keep(alloc: Global) -> Result<(bool, bool, bool), Fail> {
+    let (by_plain, plain) = plain_with_an_event(alloc)?;
+    let (by_shared, shared) = shared_with_an_event(alloc)?;
+    let (one, other) = (shared.queue(false), plain.queue(false));
+    let is_same = one.drops() == other.drops() && one.sent() == other.sent();
+    Ok((by_plain, by_shared, is_same))
 }
 
 #[test]
 fn both_forms_of_a_link_keep_an_event(rt: HostRuntime) -> Result<(), Fail> {
-    let mut plain = PlainLink::open(rt.alloc(), 256, 256)?;
-    assert!(rt; an_event_is_kept(&mut plain)?);
-    let mut shared = SharedSides::open(rt.alloc(), 256, 256)?;
-    assert!(rt; an_event_is_kept(&mut shared)?);
-    let ended = shared.close();
-    assert_eq!(rt; ended.queue(false).drops(), plain.queue(false).drops());
-    assert_eq!(rt; ended.queue(false).sent(), plain.queue(false).sent());
+    assert_eq!(rt; both_keep(rt.alloc())?, (true, true, true));
     Ok(())
 }

@@ -15,13 +15,11 @@ pub trait Sides {
     fn call(&mut self, first: bool, made: Call) -> Result<Answer, Fail>;
 }
 
-/// Makes the calls of the rows, and gives the first that has another answer than its row says: its number, and
-/// the answer.
-pub fn first_other<S: Sides>(sides: &mut S, rows: &[Row]) -> Result<Option<(usize, Answer)>, Fail> {
+/// Makes the calls of the rows, and gives the number of the first that has another answer than its row says.
+pub fn first_other<S: Sides>(sides: &mut S, rows: &[Row]) -> Result<Option<usize>, Fail> {
     for (number, (first, made, want)) in rows.iter().enumerate() {
-        let answer = sides.call(*first, *made)?;
-        if answer != *want {
-            return Ok(Some((number, answer)));
+        if sides.call(*first, *made)? != *want {
+            return Ok(Some(number));
         }
     }
     Ok(None)

@@ -5,7 +5,7 @@ ghost use Rattle.crq_session.specs.LinkSeats.{IsSeatOf};
 use super::calls::{Answer, COMMAND, Call, REGISTER};
 use super::sides::call_seat;
 use crq_ring::{PipeRow, PlainPipe};
-use crq_session::{FreeAnswer, Link, LinkSeat, OpenedLink, PollAnswer, SendAnswer};
+use crq_session::{FreeAnswer, Link, LinkSeat, OpenedLink, PlainLink, PollAnswer, SendAnswer};
 use std::test::Fail;
 use std::thread;
 
@@ -120,6 +120,13 @@ fn is_handed(queue: &PlainPipe) -> bool {
     first_of(sent, at, u64::MAX, queue.slots()).is_some()
 }
 
+// The sessions of both queues of a link, and whether both handed over what was put.
+fn seen_of(ended: PlainLink) -> (u64, u64, bool) {
+    let (first, second) = (ended.queue(true), ended.queue(false));
+    let are_handed = is_handed(first) && is_handed(second);
+    (first.session(), second.session(), are_handed)
+}
+
 #[test]
 fn two_threads_come_and_go(rt: HostRuntime) -> Result<(), Fail> {
     let n = 10_000;
@@ -130,13 +137,9 @@ fn two_threads_come_and_go(rt: HostRuntime) -> Result<(), Fail> {
         move || come_and_go(shared, a, n),
         move || come_and_go(shared, b, n),
     );
+    let seen = seen_of(link.close(a, b));
     assert!(rt; met_a && met_b);
     assert_eq!(rt; (freed_a, freed_b), (n, n));
-    let ended = link.close(a, b);
-    for first in [true, false] {
-        let queue = ended.queue(first);
-        assert_eq!(rt; queue.session(), u64::from(n));
-        assert!(rt; is_handed(queue));
-    }
+    assert_eq!(rt; seen, (u64::from(n), u64::from(n), true));
     Ok(())
 }

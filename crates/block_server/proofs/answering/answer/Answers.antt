@@ -12,6 +12,9 @@ use Rattle.block_server.proofs.Keeping.{moved_to}
 use Rattle.block_server.proofs.Booking.{passed_next}
 use Rattle.block_server.proofs.Taking.{passed_session}
 use Rattle.block_server.specs.Judged.{keys_of}
+use Rattle.block_server.specs.Owed.{row_states}
+use Rattle.block_server.proofs.Owing.{owes_seen, seen_same}
+use Rattle.block_server.proofs.OwingCalls.{seen_reserves}
 use Rattle.block_server.proofs.answering.answer.Goals as goal
 
 pub returns-in_err-make_room-clause-once : goal.returns-in_err-make_room-clause-once
@@ -122,3 +125,26 @@ returns-in_default-clause-passes g c = c.copy_answer.ensures.passes ∙ c.reserv
 
 pub returns-in-Entry-clause-passes : goal.returns-in-Entry-clause-passes
 returns-in-Entry-clause-passes g c = c.put_answer.ensures.passes ∙ c.copy_answer.ensures.passes ∙ c.reserve.ensures.passes
+
+pub returns-in_err-make_room-clause-answers : goal.returns-in_err-make_room-clause-answers
+returns-in_err-make_room-clause-answers g c = λ judged is alone has. owes_seen _ _ (seen_same _ _ refl) refl refl refl refl refl (ap row_states c.make_room.ensures.lists.history) c.make_room.ensures.lists.grants has
+
+pub returns-in_err-make_room-2-clause-answers : goal.returns-in_err-make_room-2-clause-answers
+returns-in_err-make_room-2-clause-answers g c = λ judged is alone has. owes_seen _ _ (seen_same _ _ refl) refl refl refl refl refl (ap row_states c.make_room.ensures.lists.history) c.make_room.ensures.lists.grants has
+
+pub returns-in_err-reserve-clause-answers : goal.returns-in_err-reserve-clause-answers
+returns-in_err-reserve-clause-answers g c = λ judged is alone has. owes_seen _ _ (seen_reserves _ _ c.reserve.ensures.rest) refl refl refl refl refl (ap row_states c.make_room.ensures.lists.history) c.make_room.ensures.lists.grants has
+
+pub returns-in_err-copy_answer-clause-answers : goal.returns-in_err-copy_answer-clause-answers
+returns-in_err-copy_answer-clause-answers g c = λ judged is alone has. c.copy_answer.ensures.answers alone
+    (owes_seen _ _ (seen_reserves _ _ c.reserve.ensures.rest) refl refl refl refl refl (ap row_states c.make_room.ensures.lists.history) c.make_room.ensures.lists.grants has)
+
+pub returns-in_default-clause-answers : goal.returns-in_default-clause-answers
+returns-in_default-clause-answers g c = λ judged is alone has. c.copy_answer.ensures.answers alone
+    (owes_seen _ _ (seen_reserves _ _ c.reserve.ensures.rest) refl refl refl refl refl (ap row_states c.make_room.ensures.lists.history) c.make_room.ensures.lists.grants has)
+
+pub returns-in-Entry-clause-answers : goal.returns-in-Entry-clause-answers
+returns-in-Entry-clause-answers g c = λ judged is alone has.
+    c.put_answer.ensures.answers judged (c.copy_answer.ensures.books judged
+    (moved_to _ _ judged refl (passed_session _ _ c.reserve.ensures.passes) (passed_next c.args.unit.now.waiting c.args.unit.now.waiting _ _ refl c.reserve.ensures.passes) refl refl refl refl refl refl (ap keys_of c.make_room.ensures.lists.history) c.make_room.ensures.lists.grants refl is)) alone
+    (c.copy_answer.ensures.answers alone (owes_seen _ _ (seen_reserves _ _ c.reserve.ensures.rest) refl refl refl refl refl (ap row_states c.make_room.ensures.lists.history) c.make_room.ensures.lists.grants has))

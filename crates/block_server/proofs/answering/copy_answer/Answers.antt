@@ -4,6 +4,9 @@ use Rattle.block_server.proofs.Onces.{once_on, once_same}
 use Rattle.block_server.proofs.Taking.{lines_same, takes_ended, takes_none, takes_on}
 use Rattle.block_server.proofs.Advancing.{advances_same}
 use Rattle.vio_num.specs.declared.history.Lapse.TheVariants.{Refused}
+use Rattle.std.proofs.Common.{ap}
+use Rattle.block_server.proofs.Owing.{has_cut_of}
+use Rattle.block_server.specs.Owed.{row_in}
 use Rattle.block_server.proofs.answering.copy_answer.Goals as goal
 
 pub returns-in_default-clause-once : goal.returns-in_default-clause-once
@@ -65,3 +68,20 @@ returns-in-Busy-clause-passes g c = c.deliver.ensures.passes
 
 pub returns-in-Refused-clause-passes : goal.returns-in-Refused-clause-passes
 returns-in-Refused-clause-passes g c = c.deliver.ensures.passes
+
+pub returns-in_default-clause-answers : goal.returns-in_default-clause-answers
+returns-in_default-clause-answers g c = λ alone has. has
+
+pub returns-in_err-deliver-clause-answers : goal.returns-in_err-deliver-clause-answers
+returns-in_err-deliver-clause-answers g c = c.deliver.ensures.answers c.args.records.now
+
+pub returns-in-Done-clause-answers : goal.returns-in-Done-clause-answers
+returns-in-Done-clause-answers g c = c.deliver.ensures.answers c.args.records.now
+
+pub returns-in-Busy-clause-answers : goal.returns-in-Busy-clause-answers
+returns-in-Busy-clause-answers g c = c.deliver.ensures.answers c.args.records.now
+
+pub returns-in-Refused-clause-answers : goal.returns-in-Refused-clause-answers
+returns-in-Refused-clause-answers g c = λ alone has.
+    has_cut_of _ _ _ _ c.end_session.ensures.id refl refl c.end_session.ensures.ends.off (ap row_in c.end_session.ensures.stage)
+    (c.end_session.ensures.cuts (g.S.Site.state c.deliver.new.site).queue c.session.ensures refl (c.deliver.ensures.answers c.args.records.now alone has))

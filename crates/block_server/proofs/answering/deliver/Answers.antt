@@ -7,6 +7,10 @@ use Rattle.block_server.proofs.Onces.{once_same}
 use Rattle.block_server.proofs.Serves.{once_copied}
 use Rattle.block_server.proofs.Keeping.{keeps_delivered, moved_to}
 use Rattle.block_server.specs.Books.{next_of}
+use Rattle.std.proofs.Common.{ap, sym, ◌∙◌, refl}
+use Rattle.block_server.proofs.Owing.{owes_seen, seen_same}
+use Rattle.block_server.proofs.OwingCalls.{entry_row, owes_stage}
+use Rattle.block_server.specs.Owed.{row_in}
 use Rattle.block_server.proofs.answering.deliver.Goals as goal
 
 pub returns-in_default-clause-once : goal.returns-in_default-clause-once
@@ -46,3 +50,19 @@ returns-in-Err-Busy-clause-books g c = λ records judged is. moved_to _ _ judged
 
 pub returns-in-Err-NoMemory-clause-books : goal.returns-in-Err-NoMemory-clause-books
 returns-in-Err-NoMemory-clause-books g c = λ records judged is. moved_to _ _ judged refl (ap (λ (q : EndState). q.last_session) c.deliver_unit.ensures.queue) (ap (next_of c.args.unit.now.waiting) c.deliver_unit.ensures.queue) refl refl refl refl refl refl refl refl refl is
+
+pub returns-in_default-clause-answers : goal.returns-in_default-clause-answers
+returns-in_default-clause-answers g c = λ records alone has. has
+
+pub returns-in-Ok-clause-answers : goal.returns-in-Ok-clause-answers
+returns-in-Ok-clause-answers g c = λ records alone has.
+    owes_stage _ _ (entry_row c.args.outcome ∙ sym (ap row_in c.requires.stage)) (seen_same _ _ c.deliver_unit.ensures.queue) refl refl refl refl refl refl has
+
+pub returns-in-Err-Refused-clause-answers : goal.returns-in-Err-Refused-clause-answers
+returns-in-Err-Refused-clause-answers g c = λ records alone has. owes_seen _ _ (seen_same _ _ c.deliver_unit.ensures.queue) refl refl refl refl refl refl refl has
+
+pub returns-in-Err-Busy-clause-answers : goal.returns-in-Err-Busy-clause-answers
+returns-in-Err-Busy-clause-answers g c = λ records alone has. owes_seen _ _ (seen_same _ _ c.deliver_unit.ensures.queue) refl refl refl refl refl refl refl has
+
+pub returns-in-Err-NoMemory-clause-answers : goal.returns-in-Err-NoMemory-clause-answers
+returns-in-Err-NoMemory-clause-answers g c = λ records alone has. owes_seen _ _ (seen_same _ _ c.deliver_unit.ensures.queue) refl refl refl refl refl refl refl has

@@ -5,6 +5,7 @@ use Rattle.block_server.specs.Receipts.{is_ended}
 use Rattle.block_server.proofs.Booking.{line_same}
 use Rattle.block_server.proofs.Keeping.{keeps_ended, moved_to}
 use Rattle.block_server.proofs.Onces.{once_broken}
+use Rattle.block_server.proofs.Owing.{cut_all}
 use Rattle.block_server.proofs.answering.end_login.Goals as goal
 
 pub returns-clause-once : goal.returns-clause-once
@@ -18,3 +19,9 @@ returns-clause-books c = λ q q' next next' other judged is.
     (line_same _ _ _ _ _ _ _ _ _ _ _ c.push_reserved.ensures.items (ap (λ (v : Vec Grant Global). v.items) c.leave_row.ensures.grants) c.leave_row.ensures.id
     (c.end-login.ensures.ended ∙ ap (λ (logins : Logins). logins.current) c.leave_row.ensures.logins)) refl
     (keeps_ended _ q' next' c.args.session c.args.cause c.args.outstanding c.args.granted (is_ended c.leave_row.new.unit.line) judged other is)
+
+pub returns-clause-cuts : goal.returns-clause-cuts
+returns-clause-cuts c = λ q now other has.
+    cut_all _ c.args.session _ c.args.cause c.args.outstanding c.args.granted _ _ now other c.leave_row.ensures.states
+    (line_same _ _ _ _ _ _ _ _ _ _ _ c.push_reserved.ensures.items (ap (λ (v : Vec Grant Global). v.items) c.leave_row.ensures.grants) c.leave_row.ensures.id
+    (c.end-login.ensures.ended ∙ ap (λ (logins : Logins). logins.current) c.leave_row.ensures.logins)) has

@@ -6,6 +6,11 @@ use Rattle.block_server.proofs.Booking.{line_same}
 use Rattle.block_server.proofs.Keeping.{keeps_left, moved_to}
 use Rattle.block_server.proofs.Onces.{once_cleared}
 use Rattle.block_server.proofs.Taking.{lines_pushed}
+use Rattle.std.proofs.Common.{◌∷◌, [], refl}
+use Rattle.block_server.proofs.Owing.{no_login, owes_on}
+use Rattle.block_server.proofs.OwingCalls.{logout_front}
+use Rattle.block_server.specs.Owed.{row_in}
+use Rattle.vio_num.specs.declared.history.Grant.TheVariants.{Lapsed}
 use Rattle.block_server.proofs.answering.log_out.Goals as goal
 
 pub returns-clause-once : goal.returns-clause-once
@@ -22,3 +27,10 @@ returns-clause-books c = λ q next front rest parts other none judged is.
     c.finish.ensures.stage (c.finish.ensures.kept ∙ c.requires.none) (c.finish.ensures.pending ∙ ap (drop 1) parts) refl
     (line_same _ _ _ _ _ _ _ _ _ _ _ c.push_reserved.ensures.items refl refl c.end-login.ensures.ended) (ap is_ended c.finish.ensures.line)
     (keeps_left _ front rest c.args.session Logout 0 0 judged parts other none is)
+
+pub returns-clause-answers : goal.returns-clause-answers
+returns-clause-answers c = λ q front rest parts none has.
+    owes_on _ _ (Lapsed c.args.unit.now.id c.args.session c.end-login.result Logout 0 0 ∷ []) c.finish.ensures.id refl (ap is_ended c.finish.ensures.line) c.push_reserved.ensures.items
+    (λ at row there lacks. (there, λ in_service. absurd (logout_front _ front rest at parts none has in_service)))
+    (ap row_in c.finish.ensures.stage)
+    (λ some. absurd (no_login _ (ap (λ (logins : Logins). logins.current) c.finish.ensures.logins ∙ c.end-login.ensures.current) some)) has

@@ -3,3 +3,6 @@ use Rattle.block_server.proofs.answering.lose_partner.Goals as goal
 
 pub returns-clause-books : goal.returns-clause-books
 returns-clause-books c = λ q q' next next'. c.end_login.ensures.books q q' next next' refl
+
+pub returns-clause-cuts : goal.returns-clause-cuts
+returns-clause-cuts c = λ q now. c.end_login.ensures.cuts q now refl

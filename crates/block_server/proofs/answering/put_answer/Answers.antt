@@ -15,6 +15,10 @@ use Rattle.block_server.specs.Receipts.{is_ended}
 use Rattle.block_server.specs.declared.logins.Logins.{Logins}
 use Rattle.std.proofs.Common.{Some, sym}
 use Rattle.block_server.specs.declared.line.Kept.TheVariants as keeps
+use Rattle.crq_session.specs.EndState.{EndPlace}
+use Rattle.block_server.specs.Owed.{row_in}
+use Rattle.block_server.proofs.Owing.{owes_seen}
+use Rattle.block_server.proofs.OwingCalls.{owes_discarded, pending_going, seen_sends}
 use Rattle.block_server.proofs.answering.put_answer.Goals as goal
 
 pub returns-in_default-clause-once : goal.returns-in_default-clause-once
@@ -77,3 +81,24 @@ returns-in-Dropped-clause-books g c = λ judged is. moved_to _ _ judged refl (pa
 pub returns-in_default-send-clause-books : goal.returns-in_default-send-clause-books
 returns-in_default-send-clause-books g c = λ judged is. moved_to _ _ judged c.finish.ensures.id (passed_session _ _ c.send.ensures.passes) (passed_next c.args.unit.now.waiting c.finish.new.unit.waiting _ _ (waiting_stands _ _ c.finish.ensures.stands) c.send.ensures.passes) (ap (λ (l : Logins). l.current) c.finish.ensures.logins) (ap (λ (l : Logins). l.last) c.finish.ensures.logins) (ap (λ (l : Logins). l.taking) c.finish.ensures.logins) c.finish.ensures.stage (c.finish.ensures.kept ∙ c.requires.none) c.finish.ensures.pending refl refl (ap is_ended c.finish.ensures.line)
     (keeps_finished _ c.args.outcome judged c.requires.stage is)
+
+pub returns-in_default-clause-answers : goal.returns-in_default-clause-answers
+returns-in_default-clause-answers g c = λ judged is alone has. has
+
+pub returns-in-Success-clause-answers : goal.returns-in-Success-clause-answers
+returns-in-Success-clause-answers g c = λ judged is alone has.
+    let front = front_is _ _ c.in-Some.ensures.item.3 in
+    c.settle.ensures.answers (g.S.Site.state c.send.new.self).queue c.requires.stage (pending_going _ judged c.in-Some.request.now front.0 is front.1) (record {
+      own = c.send.ensures.rest.registered ∙ c.in-Success.ensures.told;
+      partner = ap (λ (p : EndPlace). p.partner_registered) c.send.ensures.rest.place ∙ c.in-Success.ensures.success.puts.partner alone;
+    })
+    (owes_seen _ _ (seen_sends _ _ _ c.send.ensures.rest) refl refl refl refl refl refl refl has)
+
+pub returns-in-Dropped-clause-answers : goal.returns-in-Dropped-clause-answers
+returns-in-Dropped-clause-answers g c = λ judged is alone has. owes_seen _ _ (seen_sends _ _ _ c.send.ensures.rest) refl refl refl refl refl refl refl has
+
+pub returns-in_default-send-clause-answers : goal.returns-in_default-send-clause-answers
+returns-in_default-send-clause-answers g c = λ judged is alone has.
+    owes_discarded g.S.Site.link_shared c.send.result _ judged _ _ alone (λ number is. c.in_default-send.not-Success number is) (λ number held is. c.in_default-send.not-Dropped number held is)
+    c.send.ensures.closed c.send.ensures.unregistered c.send.ensures.rest is refl refl c.finish.ensures.id (ap (λ (l : Logins). l.current) c.finish.ensures.logins)
+    (ap row_in c.finish.ensures.stage) (ap is_ended c.finish.ensures.line) refl refl has

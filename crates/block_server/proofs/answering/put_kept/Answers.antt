@@ -21,6 +21,10 @@ use Rattle.block_server.specs.declared.logins.Logins.{Logins}
 use Rattle.std.proofs.Common.{None, sym}
 use Rattle.block_server.proofs.Booking.{kept_stage}
 use Rattle.block_server.specs.Judged.{keys_of}
+use Rattle.crq_session.specs.EndState.{EndPlace}
+use Rattle.block_server.specs.Owed.{row_states, owing_of, row_in}
+use Rattle.block_server.proofs.Owing.{owes_seen, seen_same}
+use Rattle.block_server.proofs.OwingCalls.{entry_going, owes_discarded, seen_on, seen_reserves, seen_sends}
 use Rattle.block_server.proofs.answering.put_kept.Goals as goal
 
 pub returns-in_default-clause-once : goal.returns-in_default-clause-once
@@ -146,3 +150,44 @@ returns-in-Answer-kept-clause-books g c = λ judged is.
     let stage = kept_stage c.args.unit.now.service.stage c.args.unit.now.line.kept c.in-Answer-kept.entry c.in-Answer-kept.outcome (c.in-Some.is ∙ ap Some c.in-Answer-kept.is) is.kept in
     moved_to _ _ judged c.finish.ensures.id (passed_session _ _ (c.send.ensures.passes ∙ c.reserve.ensures.passes)) (passed_next c.args.unit.now.waiting c.finish.new.unit.waiting _ _ (waiting_stands _ _ c.finish.ensures.stands) (c.send.ensures.passes ∙ c.reserve.ensures.passes)) (ap (λ (l : Logins). l.current) c.finish.ensures.logins) (ap (λ (l : Logins). l.last) c.finish.ensures.logins) (ap (λ (l : Logins). l.taking) c.finish.ensures.logins) c.finish.ensures.stage c.finish.ensures.kept c.finish.ensures.pending (ap keys_of c.make_room.ensures.lists.history) c.make_room.ensures.lists.grants (ap is_ended c.finish.ensures.line)
     (keeps_finished _ c.in-Answer-kept.outcome judged stage is)
+
+pub returns-in_default-clause-answers : goal.returns-in_default-clause-answers
+returns-in_default-clause-answers g c = λ judged is alone has. has
+
+pub returns-in_err-make_room-clause-answers : goal.returns-in_err-make_room-clause-answers
+returns-in_err-make_room-clause-answers g c = λ judged is alone has. owes_seen _ _ (seen_same _ _ refl) refl refl refl refl refl (ap row_states c.make_room.ensures.lists.history) c.make_room.ensures.lists.grants has
+
+pub returns-in_err-make_room-2-clause-answers : goal.returns-in_err-make_room-2-clause-answers
+returns-in_err-make_room-2-clause-answers g c = λ judged is alone has. owes_seen _ _ (seen_same _ _ refl) refl refl refl refl refl (ap row_states c.make_room.ensures.lists.history) c.make_room.ensures.lists.grants has
+
+pub returns-in_err-reserve-clause-answers : goal.returns-in_err-reserve-clause-answers
+returns-in_err-reserve-clause-answers g c = λ judged is alone has. owes_seen _ _ (seen_reserves _ _ c.reserve.ensures.rest) refl refl refl refl refl (ap row_states c.make_room.ensures.lists.history) c.make_room.ensures.lists.grants has
+
+pub returns-in-Dropped-clause-answers : goal.returns-in-Dropped-clause-answers
+returns-in-Dropped-clause-answers g c = λ judged is alone has.
+    owes_seen _ _ (seen_on _ _ _ (seen_reserves _ _ c.reserve.ensures.rest) (seen_sends _ _ _ c.send.ensures.rest)) refl refl refl refl refl (ap row_states c.make_room.ensures.lists.history) c.make_room.ensures.lists.grants has
+
+pub returns-in_default-kept-clause-answers : goal.returns-in_default-kept-clause-answers
+returns-in_default-kept-clause-answers g c = λ judged is alone has.
+    owes_seen _ _ (seen_on _ _ _ (seen_reserves _ _ c.reserve.ensures.rest) (seen_sends _ _ _ c.send.ensures.rest)) refl refl refl refl refl (ap row_states c.make_room.ensures.lists.history) c.make_room.ensures.lists.grants has
+
+pub returns-in_default-kept-2-clause-answers : goal.returns-in_default-kept-2-clause-answers
+returns-in_default-kept-2-clause-answers g c = λ judged is alone has.
+    owes_seen _ _ (seen_on _ _ _ (seen_reserves _ _ c.reserve.ensures.rest) (seen_sends _ _ _ c.send.ensures.rest)) refl refl refl refl refl (ap row_states c.make_room.ensures.lists.history) c.make_room.ensures.lists.grants has
+
+pub returns-in-Answer-clause-answers : goal.returns-in-Answer-clause-answers
+returns-in-Answer-clause-answers g c = λ judged is alone has.
+    let stage = kept_stage c.args.unit.now.service.stage c.args.unit.now.line.kept c.in-Answer.entry c.in-Answer.outcome (c.in-Some.is ∙ ap Some c.in-Answer.is) is.kept in
+    c.settle.ensures.answers (g.S.Site.state c.send.new.self).queue stage (entry_going _ judged c.in-Answer.outcome is stage) (record {
+      own = c.send.ensures.rest.registered ∙ c.in-Success.ensures.told;
+      partner = ap (λ (p : EndPlace). p.partner_registered) c.send.ensures.rest.place ∙ c.in-Success.ensures.success.puts.partner alone;
+    })
+    (owes_seen _ _ (seen_on _ _ _ (seen_reserves _ _ c.reserve.ensures.rest) (seen_sends _ _ _ c.send.ensures.rest)) refl refl refl refl refl (ap row_states c.make_room.ensures.lists.history) c.make_room.ensures.lists.grants has)
+
+pub returns-in-Answer-kept-clause-answers : goal.returns-in-Answer-kept-clause-answers
+returns-in-Answer-kept-clause-answers g c = λ judged is alone has.
+    owes_discarded g.S.Site.link_shared c.send.result _ judged (owing_of c.args.unit.now (g.S.Site.state c.reserve.new.self).queue c.make_room.new.self) _ alone
+    (λ number is. c.in_default-send.not-Success number is) (λ number held is. c.in_default-send.not-Dropped number held is)
+    c.send.ensures.closed c.send.ensures.unregistered c.send.ensures.rest is refl refl c.finish.ensures.id (ap (λ (l : Logins). l.current) c.finish.ensures.logins)
+    (ap row_in c.finish.ensures.stage) (ap is_ended c.finish.ensures.line) refl refl
+    (owes_seen _ _ (seen_reserves _ _ c.reserve.ensures.rest) refl refl refl refl refl (ap row_states c.make_room.ensures.lists.history) c.make_room.ensures.lists.grants has)

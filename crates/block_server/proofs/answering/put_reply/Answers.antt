@@ -8,6 +8,8 @@ use Rattle.block_server.proofs.Booking.{passed_next}
 use Rattle.block_server.proofs.Taking.{passed_session}
 use Rattle.std.proofs.Common.{Some, refl}
 use Rattle.block_server.specs.declared.line.Kept.TheVariants as keeps
+use Rattle.block_server.proofs.Owing.{owes_seen}
+use Rattle.block_server.proofs.OwingCalls.{seen_sends}
 use Rattle.block_server.proofs.answering.put_reply.Goals as goal
 
 pub returns-in-Dropped-clause-once : goal.returns-in-Dropped-clause-once
@@ -39,3 +41,12 @@ returns-in-Success-clause-books g c = λ records judged is. moved_to _ _ judged 
 
 pub returns-in_default-clause-books : goal.returns-in_default-clause-books
 returns-in_default-clause-books g c = λ records judged is. moved_to _ _ judged refl (passed_session _ _ c.send.ensures.passes) (passed_next c.args.unit.now.waiting c.args.unit.now.waiting _ _ refl c.send.ensures.passes) refl refl refl refl refl refl refl refl refl is
+
+pub returns-in-Dropped-clause-answers : goal.returns-in-Dropped-clause-answers
+returns-in-Dropped-clause-answers g c = λ records alone has. owes_seen _ _ (seen_sends _ _ _ c.send.ensures.rest) refl refl refl refl refl refl refl has
+
+pub returns-in-Success-clause-answers : goal.returns-in-Success-clause-answers
+returns-in-Success-clause-answers g c = λ records alone has. owes_seen _ _ (seen_sends _ _ _ c.send.ensures.rest) refl refl refl refl refl refl refl has
+
+pub returns-in_default-clause-answers : goal.returns-in_default-clause-answers
+returns-in_default-clause-answers g c = λ records alone has. owes_seen _ _ (seen_sends _ _ _ c.send.ensures.rest) refl refl refl refl refl refl refl has

@@ -8,6 +8,13 @@ use Rattle.block_server.specs.declared.service.Stage.TheVariants.{Entry}
 use Rattle.block_server.specs.declared.unit.Unit.{Unit as ServerUnit}
 use Rattle.block_server.proofs.Booking.{granted_same}
 use Rattle.block_server.proofs.Keeping.{keeps_begun, keeps_finished, moved_to}
+use Rattle.std.proofs.Common.{sym, slice_get, ◌∷◌, [], inr}
+use Rattle.block_server.proofs.Owing.{none_some, owes_on}
+use Rattle.block_server.proofs.OwingRows.{owes_answered, owes_dropped}
+use Rattle.block_server.proofs.OwingCalls.{served_bytes}
+use Rattle.block_server.specs.Answering.{has_bytes}
+use Rattle.block_server.specs.Owed.{row_states, row_in}
+use Rattle.vio_num.specs.declared.history.Grant.TheVariants.{Granted}
 use Rattle.block_server.proofs.answering.settle.Goals as goal
 use Rattle.block_server.proofs.answering.settle.Goals.{in-Granted, in-Rejected, in-Served}
 
@@ -20,4 +27,20 @@ returns-clause-books c = λ next stage kept judged is.
           (keeps_finished _ c.args.outcome judged stage is)
       | in-Served w ↦ moved_to _ _ judged (c.finish.ensures.id ∙ ap (λ (u : ServerUnit). u.id) w.unit-is) refl refl (ap (λ (l : Logins). l.current) c.finish.ensures.logins ∙ ap (λ (u : ServerUnit). u.logins.current) w.unit-is ∙ w.answer.ensures.current) (ap (λ (l : Logins). l.last) c.finish.ensures.logins ∙ ap (λ (u : ServerUnit). u.logins.last) w.unit-is ∙ w.answer.ensures.last) (ap (λ (l : Logins). l.taking) c.finish.ensures.logins ∙ ap (λ (u : ServerUnit). u.logins.taking) w.unit-is ∙ w.answer.ensures.taking) c.finish.ensures.stage (c.finish.ensures.kept ∙ ap (λ (u : ServerUnit). u.line.kept) w.unit-is ∙ kept) (c.finish.ensures.pending ∙ ap (λ (u : ServerUnit). drop 1 u.pending.items) w.unit-is) (ap (λ (r : Records). keys_of r.history.items) w.records-is ∙ w.answer-in-Served.ensures.keys) (ap (λ (r : Records). r.grants.items) w.records-is ∙ ap (λ (v : Vec Grant Global). v.items) w.answer-in-Served.ensures.grants) (ap is_ended c.finish.ensures.line ∙ ap (λ (u : ServerUnit). is_ended u.line) w.unit-is)
           (keeps_finished _ c.args.outcome judged stage is)
+    ]
+
+pub returns-clause-answers : goal.returns-clause-answers
+returns-clause-answers c = λ q stage going up has.
+    elim c.match-outcome.branch [
+      | in-Granted w ↦ owes_on _ _ (Granted c.args.unit.now.id c.args.session w.begin-login.result w.in-Granted.number w.credits-credits.result ∷ []) (c.finish.ensures.id ∙ ap (λ (u : ServerUnit). u.id) w.unit-is) refl
+          (ap is_ended c.finish.ensures.line ∙ ap (λ (u : ServerUnit). is_ended u.line) w.unit-is) (ap (λ (r : Records). r.grants.items) w.records-is ∙ w.push_reserved.ensures.items)
+          (λ at row there lacks. (ap (λ (r : Records). slice_get (row_states r.history.items) at) (sym w.records-is) ∙ there, λ in_service. absurd (none_some at (sym (ap row_in (stage ∙ ap Entry w.in-Granted.is)) ∙ in_service))))
+          (ap row_in c.finish.ensures.stage) (λ some. inr (up.own, (going, up.partner))) has
+      | in-Rejected w ↦ owes_dropped _ _ (λ at in_service. absurd (none_some at (sym (ap row_in (stage ∙ ap Entry w.in-Rejected.is)) ∙ in_service))) (c.finish.ensures.id ∙ ap (λ (u : ServerUnit). u.id) w.unit-is)
+          (ap (λ (l : Logins). l.current) c.finish.ensures.logins ∙ ap (λ (u : ServerUnit). u.logins.current) w.unit-is) (ap row_in c.finish.ensures.stage) (ap is_ended c.finish.ensures.line ∙ ap (λ (u : ServerUnit). is_ended u.line) w.unit-is) refl (ap (λ (r : Records). row_states r.history.items) w.records-is) (ap (λ (r : Records). r.grants.items) w.records-is) has
+      | in-Served w ↦ owes_answered _ _ w.in-Served.row w.take_answer-answer.result c.args.records.now.history.items w.answer-in-Served.new.self.history.items refl (ap (λ (r : Records). row_states r.history.items) w.records-is)
+          (ap row_in (stage ∙ ap Entry w.in-Served.is))
+          (ap has_bytes w.take_answer-answer.ensures.answer ∙ served_bytes c.args.unit.now.service.stage w.in-Served.row c.args.unit.now.service.answer.items (stage ∙ ap Entry w.in-Served.is) c.args.unit.now.service.answered)
+          w.answer-in-Served.ensures.row (c.finish.ensures.id ∙ ap (λ (u : ServerUnit). u.id) w.unit-is) (ap (λ (l : Logins). l.current) c.finish.ensures.logins ∙ ap (λ (u : ServerUnit). u.logins.current) w.unit-is ∙ w.answer.ensures.current) (ap row_in c.finish.ensures.stage) (ap is_ended c.finish.ensures.line ∙ ap (λ (u : ServerUnit). is_ended u.line) w.unit-is) refl
+          (ap (λ (r : Records). r.grants.items) w.records-is ∙ ap (λ (v : Vec Grant Global). v.items) w.answer-in-Served.ensures.grants) has
     ]

@@ -4,6 +4,10 @@ use Rattle.block_server.proofs.Serves.{once_pushed}
 use Rattle.block_server.proofs.Taking.{ends_line, lines_same}
 use Rattle.block_server.proofs.Verdicts.{accepted_push, ended_by, passed_by}
 use Rattle.block_server.specs.Books.{books_of}
+use Rattle.std.proofs.Common.{ap}
+use Rattle.block_server.proofs.Owing.{has_cut_of, owes_seen, seen_same}
+use Rattle.block_server.proofs.OwingCalls.{decides_current, fatal_other, owes_pushed}
+use Rattle.block_server.specs.Owed.{row_in}
 use Rattle.block_server.proofs.intake.judge.Goals as goal
 
 pub returns-in-Ignored-clause-once : goal.returns-in-Ignored-clause-once
@@ -37,3 +41,18 @@ pub returns-in-Fatal-clause-judged : goal.returns-in-Fatal-clause-judged
 returns-in-Fatal-clause-judged c = λ next next' receipt to.
     ended_by (books_of c.args.unit.now c.args.session next c.args.records.now) _ _ _ _ _ receipt c.args.unit.now.logins c.judge_unit.new.logins _ _ _ _ c.judge_unit.result _ _ _
     to refl refl refl c.in-Fatal.is c.judge_unit.ensures.decides (c.end_counted.ensures.books c.args.session c.args.session next next') c.end_counted.ensures.ends c.end_counted.ensures.id refl
+
+pub returns-in-Ignored-clause-answers : goal.returns-in-Ignored-clause-answers
+returns-in-Ignored-clause-answers c = λ q now has.
+    owes_seen _ _ (seen_same _ _ refl) refl (decides_current c.args.unit.now.logins c.judge_unit.new.logins _ c.judge_unit.result c.judge_unit.ensures.decides) refl refl refl refl refl has
+
+pub returns-in-Ok-clause-answers : goal.returns-in-Ok-clause-answers
+returns-in-Ok-clause-answers c = λ q now has.
+    owes_pushed _ _ _ c.in-Ok.ensures.items refl (decides_current c.args.unit.now.logins c.judge_unit.new.logins _ c.judge_unit.result c.judge_unit.ensures.decides) refl refl refl refl refl has
+
+pub returns-in-Fatal-clause-answers : goal.returns-in-Fatal-clause-answers
+returns-in-Fatal-clause-answers c = λ q now has.
+    has_cut_of _ _ _ _ c.end_counted.ensures.id refl refl c.end_counted.ensures.ends.off (ap row_in c.end_counted.ensures.stage)
+    (c.end_counted.ensures.cuts q now
+    (fatal_other c.args.unit.now.logins c.judge_unit.new.logins _ c.judge_unit.result _ _ _ c.in-Fatal.is c.judge_unit.ensures.decides)
+    (owes_seen _ _ (seen_same _ _ refl) refl (decides_current c.args.unit.now.logins c.judge_unit.new.logins _ c.judge_unit.result c.judge_unit.ensures.decides) refl refl refl refl refl has))

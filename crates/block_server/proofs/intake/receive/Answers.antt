@@ -11,6 +11,9 @@ use Rattle.block_server.specs.Receipts.{is_ended}
 use Rattle.block_server.specs.declared.site.Halt.TheVariants as halts
 use Rattle.block_server.proofs.GoingOn.{missed_is}
 use Rattle.block_server.proofs.Jointly.{judges_over, judges_received, works_pass}
+use Rattle.std.proofs.Common.{sym}
+use Rattle.block_server.proofs.Owing.{has_cut_of, owes_seen, seen_same}
+use Rattle.block_server.specs.Owed.{row_in}
 use Rattle.block_server.proofs.intake.receive.Goals as goal
 
 pub returns-in-Ok-clause-once : goal.returns-in-Ok-clause-once
@@ -99,3 +102,28 @@ pub returns-in-Ok-clause-judges : goal.returns-in-Ok-clause-judges
 returns-in-Ok-clause-judges g c = λ waits.
     judges_received c.args.unit.now c.judge.new.unit c.args.records.now c.judge.new.records _ _ c.args.arrival _ _ _ waits (c.judge.ensures.waiting refl) c.judge.ensures.id c.iu_address.ensures
     c.in-Ok.ensures.fetched (search rules) c.fetch_unit.ensures.queue c.fetch_unit.ensures.advances c.judge.ensures.lines c.session-session.ensures c.judge.ensures.judged
+
+pub returns-then-not-is_up-clause-answers : goal.returns-then-not-is_up-clause-answers
+returns-then-not-is_up-clause-answers g c = λ alone has.
+    has_cut_of _ _ _ _ c.end_session.ensures.id refl refl c.end_session.ensures.ends.off (ap row_in c.end_session.ensures.stage)
+    (c.end_session.ensures.cuts (g.S.Site.state c.args.site.now).queue c.session-session.ensures refl has)
+
+pub returns-then-len-eq0-clause-answers : goal.returns-then-len-eq0-clause-answers
+returns-then-len-eq0-clause-answers g c = λ alone has.
+    has_cut_of _ _ _ _ c.end_session-then-len-eq0.ensures.id refl refl c.end_session-then-len-eq0.ensures.ends.off (ap row_in c.end_session-then-len-eq0.ensures.stage)
+    (c.end_session-then-len-eq0.ensures.cuts (g.S.Site.state c.args.site.now).queue c.session-session.ensures refl has)
+
+pub returns-in-Err-Refused-clause-answers : goal.returns-in-Err-Refused-clause-answers
+returns-in-Err-Refused-clause-answers g c = λ alone has.
+    has_cut_of _ _ _ _ c.end_session-in-Err-Refused.ensures.id refl refl c.end_session-in-Err-Refused.ensures.ends.off (ap row_in c.end_session-in-Err-Refused.ensures.stage)
+    (c.end_session-in-Err-Refused.ensures.cuts (g.S.Site.state c.fetch_unit.new.self).queue (c.session-session.ensures ∙ sym (ap (λ (q : EndState). q.last_session) c.fetch_unit.ensures.queue)) refl (owes_seen _ _ (seen_same _ _ c.fetch_unit.ensures.queue) refl refl refl refl refl refl refl has))
+
+pub returns-in-Err-Busy-clause-answers : goal.returns-in-Err-Busy-clause-answers
+returns-in-Err-Busy-clause-answers g c = λ alone has. owes_seen _ _ (seen_same _ _ c.fetch_unit.ensures.queue) refl refl refl refl refl refl refl has
+
+pub returns-in-Err-NoMemory-clause-answers : goal.returns-in-Err-NoMemory-clause-answers
+returns-in-Err-NoMemory-clause-answers g c = λ alone has. owes_seen _ _ (seen_same _ _ c.fetch_unit.ensures.queue) refl refl refl refl refl refl refl has
+
+pub returns-in-Ok-clause-answers : goal.returns-in-Ok-clause-answers
+returns-in-Ok-clause-answers g c = λ alone has. c.judge.ensures.answers (g.S.Site.state c.fetch_unit.new.self).queue (c.session-session.ensures ∙ sym (ap (λ (q : EndState). q.last_session) c.fetch_unit.ensures.queue))
+    (owes_seen _ _ (seen_same _ _ c.fetch_unit.ensures.queue) refl refl refl refl refl refl refl has)

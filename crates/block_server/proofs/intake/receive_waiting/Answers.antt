@@ -6,6 +6,8 @@ use Rattle.block_server.proofs.Onces.{once_on, once_same}
 use Rattle.block_server.proofs.Taking.{ended_stands, lines_same, takes_none, takes_on, waiting_stands}
 use Rattle.block_server.proofs.Advancing.{advances_same}
 use Rattle.block_server.proofs.Jointly.{works, works_none, works_on, works_pass}
+use Rattle.std.proofs.Common.{subst, sym}
+use Rattle.block_server.specs.Owed.{HasAnswers, Owing}
 use Rattle.block_server.proofs.intake.receive_waiting.Goals as goal
 
 pub returns-in_default-clause-once : goal.returns-in_default-clause-once
@@ -56,3 +58,13 @@ returns-clause-judges g c =
     (works_on _ _ _ _ _ _ _ _ _
     (works_none _ _ _ _ _ _ c.make_room.ensures.stands refl refl (advances_same _) refl (lines_same _ _ _ c.make_room.ensures.grants) (c.make_room.ensures.books (g.S.Site.state c.args.site.now)))
     (works _ _ _ _ _ _ refl refl (c.receive.ensures.intake waits) (c.receive.ensures.judges waits))).judges
+
+pub returns-in_default-clause-answers : goal.returns-in_default-clause-answers
+returns-in_default-clause-answers g c = λ alone has. has
+
+pub returns-in_err-make_room-clause-answers : goal.returns-in_err-make_room-clause-answers
+returns-in_err-make_room-clause-answers g c = λ alone has. subst (λ (o : Owing). HasAnswers o) (sym (c.make_room.ensures.owing (g.S.Site.state c.args.site.now).queue)) has
+
+pub returns-clause-answers : goal.returns-clause-answers
+returns-clause-answers g c = λ alone has.
+    c.receive.ensures.answers alone (subst (λ (o : Owing). HasAnswers o) (sym (c.make_room.ensures.owing (g.S.Site.state c.args.site.now).queue)) has)

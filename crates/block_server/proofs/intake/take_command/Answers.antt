@@ -76,3 +76,12 @@ returns-in_default-clause-judges g c = λ before may first taken.
     let next' = ap (λ w. next_of w (g.S.Site.state c.args.site.now).queue) may.none in
     (works_other _ _ _ _ (books_at c.args.unit.now before c.args.records.now) (books_at c.args.unit.now (g.S.Site.state c.args.site.now) c.args.records.now) c.args.arrival.number c.args.arrival.entry may taken
     (not_format c.args.arrival.entry (λ one. search rules)) refl refl may.none refl next refl next' refl refl refl refl refl refl refl refl refl refl).judges
+
+pub returns-in-1-clause-answers : goal.returns-in-1-clause-answers
+returns-in-1-clause-answers g c = λ alone has. c.receive.ensures.answers alone has
+
+pub returns-in-2-clause-answers : goal.returns-in-2-clause-answers
+returns-in-2-clause-answers g c = λ alone has. c.put_reply.ensures.answers c.args.records.now alone has
+
+pub returns-in_default-clause-answers : goal.returns-in_default-clause-answers
+returns-in_default-clause-answers g c = λ alone has. has

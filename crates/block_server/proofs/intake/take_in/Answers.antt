@@ -10,6 +10,8 @@ use Rattle.block_server.proofs.Quieting.{quiet_on, quiet_way}
 use Rattle.block_server.proofs.Serves.{entry_none}
 use Rattle.block_server.proofs.Taking.{lines_same, may_stands, takes_none, takes_on}
 use Rattle.block_server.proofs.Jointly.{works, works_none, works_on}
+use Rattle.std.proofs.Common.{subst}
+use Rattle.block_server.specs.Owed.{HasAnswers, Owing}
 use Rattle.block_server.proofs.intake.take_in.Goals as goal
 
 pub returns-in_err-next-clause-once : goal.returns-in_err-next-clause-once
@@ -33,6 +35,7 @@ loop-taken-init g c = record {
   };
   intake = λ on. c.receive_waiting.ensures.intake;
   judges = λ on. c.receive_waiting.ensures.judges;
+  answers = c.receive_waiting.ensures.answers;
   may = λ on. c.in_ok-next.ensures.goes_on on (search rules);
 }
 
@@ -79,6 +82,7 @@ loop-taken-preserved g c = record {
   judges = λ on. (works_on _ _ _ _ _ _ _ _ _ (works_on _ _ _ _ _ _ _ _ _ (works _ _ _ _ _ _ refl refl (c.loop-taken.invariant.intake on) (c.loop-taken.invariant.judges on)) (works_none _ _ _ _ _ _ c.make_room.ensures.stands refl refl (advances_same _) refl (lines_same _ _ _ c.make_room.ensures.grants) (c.make_room.ensures.books (g.S.Site.state c.loop-taken.site))))
       (works _ _ _ _ _ _ refl refl (c.take_one.ensures.intake (may_stands _ _ c.make_room.ensures.stands (c.loop-taken.invariant.may on)))
       (c.take_one.ensures.judges (may_stands _ _ c.make_room.ensures.stands (c.loop-taken.invariant.may on))))).judges;
+  answers = λ alone has. c.take_one.ensures.answers alone (subst (λ (o : Owing). HasAnswers o) (sym (c.make_room.ensures.owing (g.S.Site.state c.loop-taken.site).queue)) (c.loop-taken.invariant.answers alone has));
   may = λ on. c.in_ok-next-2.ensures.goes_on (may_stands _ _ c.make_room.ensures.stands (c.loop-taken.invariant.may on)) (search rules);
 }
 
@@ -165,3 +169,24 @@ returns-then-ne-2-clause-judges g c = λ on. (works_on _ _ _ _ _ _ _ _ _ (works_
 
 pub returns-after-loop-taken-clause-judges : goal.returns-after-loop-taken-clause-judges
 returns-after-loop-taken-clause-judges g c = λ on. c.loop-taken.invariant.judges on
+
+pub returns-in_err-next-clause-answers : goal.returns-in_err-next-clause-answers
+returns-in_err-next-clause-answers g c = c.receive_waiting.ensures.answers
+
+pub returns-then-ne-clause-answers : goal.returns-then-ne-clause-answers
+returns-then-ne-clause-answers g c = c.receive_waiting.ensures.answers
+
+pub returns-in_err-make_room-clause-answers : goal.returns-in_err-make_room-clause-answers
+returns-in_err-make_room-clause-answers g c = λ alone has.
+    (subst (λ (o : Owing). HasAnswers o) (sym (c.make_room.ensures.owing (g.S.Site.state c.loop-taken.site).queue)) (c.loop-taken.invariant.answers alone has))
+
+pub returns-in_err-next-2-clause-answers : goal.returns-in_err-next-2-clause-answers
+returns-in_err-next-2-clause-answers g c = λ alone has. c.take_one.ensures.answers alone
+    (subst (λ (o : Owing). HasAnswers o) (sym (c.make_room.ensures.owing (g.S.Site.state c.loop-taken.site).queue)) (c.loop-taken.invariant.answers alone has))
+
+pub returns-then-ne-2-clause-answers : goal.returns-then-ne-2-clause-answers
+returns-then-ne-2-clause-answers g c = λ alone has. c.take_one.ensures.answers alone
+    (subst (λ (o : Owing). HasAnswers o) (sym (c.make_room.ensures.owing (g.S.Site.state c.loop-taken.site).queue)) (c.loop-taken.invariant.answers alone has))
+
+pub returns-after-loop-taken-clause-answers : goal.returns-after-loop-taken-clause-answers
+returns-after-loop-taken-clause-answers g c = c.loop-taken.invariant.answers

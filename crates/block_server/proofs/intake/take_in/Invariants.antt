@@ -2,6 +2,7 @@ use Rattle.std.proofs.Common.{◌≡◌, ◌-◌, None, false}
 use Rattle.block_server.specs.Advances.{Advances}
 use Rattle.block_server.specs.Books.{books_at}
 use Rattle.block_server.specs.Judges.{Judges}
+use Rattle.block_server.specs.Owed.{KeepsAnswers}
 use Rattle.block_server.specs.Receipts.{MayTake, TakesIn, is_ended, standing_of}
 use Rattle.block_server.specs.Serving.{AnswersOnce, desk_of}
 use Rattle.block_server.specs.Turns.{IfQuiet}
@@ -19,6 +20,7 @@ invariant-loop-taken g l = record {
   once : AnswersOnce (desk_of l.fn.unit) (desk_of l.unit) (g.S.Site.state l.fn.site).queue (g.S.Site.state l.site).queue l.fn.records l.records;
   intake : is_ended l.fn.unit.line ≡ false → TakesIn (standing_of l.fn.unit) (standing_of l.unit) (g.S.Site.state l.fn.site) (g.S.Site.state l.site) l.fn.records.grants.items l.records.grants.items;
   judges : is_ended l.fn.unit.line ≡ false → Judges (standing_of l.fn.unit) (standing_of l.unit) (g.S.Site.state l.fn.site) (g.S.Site.state l.site) (books_at l.fn.unit (g.S.Site.state l.fn.site) l.fn.records) (books_at l.unit (g.S.Site.state l.site) l.records);
+  answers : KeepsAnswers g.S.Site.link_shared l.fn.unit l.unit (g.S.Site.state l.fn.site) (g.S.Site.state l.site) l.fn.records l.records;
   may : is_ended l.fn.unit.line ≡ false → MayTake (standing_of l.unit);
 }
 

@@ -11,6 +11,9 @@ use Rattle.block_server.proofs.GoingOn.{command_first, got_ended, not_command, p
 use Rattle.block_server.proofs.Jointly.{works, works_none, works_on, works_other, works_pass}
 use Rattle.block_server.specs.Books.{books_at, next_of}
 use Rattle.block_server.specs.Receipts.{standing_of}
+use Rattle.block_server.proofs.Owing.{has_cut_of, owes_seen, seen_call, seen_taken}
+use Rattle.block_server.proofs.OwingCalls.{event_kind, seen_on, seen_reserves}
+use Rattle.block_server.specs.Owed.{row_in}
 use Rattle.block_server.proofs.intake.take_one.Goals as goal
 
 pub returns-in_err-reserve-clause-once : goal.returns-in_err-reserve-clause-once
@@ -313,3 +316,45 @@ returns-in-Reserved-clause-judges g c = λ may.
       advances = c.poll.ensures.advances;
     })
     (not_command c.in-Got.entry (λ is. search rules)) refl refl may.none refl next refl next' refl refl refl refl refl refl refl refl refl refl)).judges
+
+pub returns-in_err-reserve-clause-answers : goal.returns-in_err-reserve-clause-answers
+returns-in_err-reserve-clause-answers g c = λ alone has. owes_seen _ _ (seen_reserves _ _ c.reserve.ensures.rest) refl refl refl refl refl refl refl has
+
+pub returns-in_default-clause-answers : goal.returns-in_default-clause-answers
+returns-in_default-clause-answers g c = λ alone has.
+    let taken = poll_taken _ _ _ c.poll.result (λ number entry is. c.in_default.not-Got number entry is) c.poll.ensures.empty c.poll.ensures.refused in
+    owes_seen _ _ (seen_on _ _ _ (seen_reserves _ _ c.reserve.ensures.rest) (seen_call _ _ c.poll.ensures.rest.place c.poll.ensures.rest.last_session c.poll.ensures.rest.registered taken))
+    refl refl refl refl refl refl refl has
+
+pub returns-in-Command-clause-answers : goal.returns-in-Command-clause-answers
+returns-in-Command-clause-answers g c = λ alone has.
+    c.take_command.ensures.answers alone (owes_seen _ _ (seen_on _ _ _ (seen_reserves _ _ c.reserve.ensures.rest) (seen_taken g.S.Site.link_shared _ _ c.in-Got.number c.in-Got.entry alone c.in-Got.ensures.got c.poll.ensures.rest
+    (event_kind c.in-Got.entry (λ is. search rules)))) refl refl refl refl refl refl refl has)
+
+pub returns-in-Some-clause-answers : goal.returns-in-Some-clause-answers
+returns-in-Some-clause-answers g c = λ alone has.
+    c.put_reply.ensures.answers c.args.records.now alone (owes_seen _ _ (seen_on _ _ _ (seen_reserves _ _ c.reserve.ensures.rest) (seen_taken g.S.Site.link_shared _ _ c.in-Got.number c.in-Got.entry alone c.in-Got.ensures.got c.poll.ensures.rest
+    (event_kind c.in-Got.entry (λ is. search rules)))) refl refl refl refl
+    (got_ended _ _ _ c.in-Got.entry c.got-step.ensures.state) refl refl has)
+
+pub returns-in-None-clause-answers : goal.returns-in-None-clause-answers
+returns-in-None-clause-answers g c = λ alone has.
+    owes_seen _ _ (seen_on _ _ _ (seen_reserves _ _ c.reserve.ensures.rest) (seen_taken g.S.Site.link_shared _ _ c.in-Got.number c.in-Got.entry alone c.in-Got.ensures.got c.poll.ensures.rest
+    (event_kind c.in-Got.entry (λ is. search rules)))) refl refl refl refl
+    (got_ended _ _ _ c.in-Got.entry c.got-step.ensures.state) refl refl has
+
+pub returns-in-Event-clause-answers : goal.returns-in-Event-clause-answers
+returns-in-Event-clause-answers g c = λ alone has.
+    has_cut_of _ _ _ _ c.lose_partner.ensures.id refl refl c.lose_partner.ensures.ends.off (ap row_in c.lose_partner.ensures.stage)
+    (c.lose_partner.ensures.cuts (g.S.Site.state c.reserve.new.self).queue (c.session.ensures ∙ c.poll.ensures.rest.last_session)
+    (owes_seen _ _ (seen_reserves _ _ c.reserve.ensures.rest) refl refl refl refl (got_ended _ _ _ c.in-Got.entry c.got-step-in-Event.ensures.state) refl refl has))
+
+pub returns-in-Unused-clause-answers : goal.returns-in-Unused-clause-answers
+returns-in-Unused-clause-answers g c = λ alone has.
+    owes_seen _ _ (seen_on _ _ _ (seen_reserves _ _ c.reserve.ensures.rest) (seen_taken g.S.Site.link_shared _ _ c.in-Got.number c.in-Got.entry alone c.in-Got.ensures.got c.poll.ensures.rest
+    (event_kind c.in-Got.entry (λ is. search rules)))) refl refl refl refl refl refl refl has
+
+pub returns-in-Reserved-clause-answers : goal.returns-in-Reserved-clause-answers
+returns-in-Reserved-clause-answers g c = λ alone has.
+    owes_seen _ _ (seen_on _ _ _ (seen_reserves _ _ c.reserve.ensures.rest) (seen_taken g.S.Site.link_shared _ _ c.in-Got.number c.in-Got.entry alone c.in-Got.ensures.got c.poll.ensures.rest
+    (event_kind c.in-Got.entry (λ is. search rules)))) refl refl refl refl refl refl refl has

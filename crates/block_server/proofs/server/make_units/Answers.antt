@@ -7,11 +7,13 @@ use Rattle.block_server.proofs.Units.{units_more, units_none}
 use Rattle.block_server.proofs.Taking.{more_wait, none_wait}
 use Rattle.block_server.specs.Receipts.{AwaitNone}
 use Rattle.block_server.proofs.BookLaws.{more_unused, none_unused}
+use Rattle.block_server.proofs.OwedLaws.{more_owe, none_owe}
 use Rattle.block_server.specs.Judges.{AreUnused}
+use Rattle.block_server.specs.Owed.{OweNone}
 use Rattle.block_server.proofs.server.make_units.Goals as goal
 
 pub loop-unit-init : goal.loop-unit-init
-loop-unit-init c = record { count = c.new-units.ensures.len; down = none_down _ c.new-units.ensures.items; none = none_wait _ c.new-units.ensures.items; unused = none_unused _ c.new-units.ensures.items; serving = λ terms rows. units_none terms _ _ rows c.new-units.ensures.items }
+loop-unit-init c = record { count = c.new-units.ensures.len; down = none_down _ c.new-units.ensures.items; none = none_wait _ c.new-units.ensures.items; unused = none_unused _ c.new-units.ensures.items; unanswered = none_owe _ c.new-units.ensures.items; serving = λ terms rows. units_none terms _ _ rows c.new-units.ensures.items }
 
 pub loop-unit-preserved : goal.loop-unit-preserved
 loop-unit-preserved c = record {
@@ -20,6 +22,7 @@ loop-unit-preserved c = record {
   none = subst AwaitNone (sym c.in_ok-push.ensures.items) (more_wait c.loop-unit.units.items c.new.result c.loop-unit.invariant.none c.new.ensures.waiting);
   unused = subst AreUnused (sym c.in_ok-push.ensures.items) (more_unused c.loop-unit.units.items c.new.result c.loop-unit.invariant.unused c.new.ensures.current c.new.ensures.last c.new.ensures.taking
       c.new.ensures.stage c.new.ensures.kept c.new.ensures.pending);
+  unanswered = subst OweNone (sym c.in_ok-push.ensures.items) (more_owe c.loop-unit.units.items c.new.result c.loop-unit.invariant.unanswered c.new.ensures.current c.new.ensures.stage);
   serving = λ terms rows. subst (λ (units : List Unit). AreServing terms c.args.partition units rows) (sym c.in_ok-push.ensures.items)
       (units_more terms c.args.partition c.loop-unit.unit c.loop-unit.units.items c.new.result rows (sym c.loop-unit.invariant.count ∙ c.loop-unit.units.ok.0)
       c.new.ensures.id c.new.ensures.stage c.new.ensures.kept (c.loop-unit.invariant.serving terms rows));

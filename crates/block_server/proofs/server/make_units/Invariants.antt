@@ -3,6 +3,7 @@ use Rattle.vio_num.specs.declared.history.Served.{Served}
 use Rattle.std.specs.Vec.{vec_len}
 use Rattle.block_server.specs.Ready.{AreDown}
 use Rattle.block_server.specs.Judges.{AreUnused}
+use Rattle.block_server.specs.Owed.{OweNone}
 use Rattle.block_server.specs.Receipts.{AwaitNone}
 use Rattle.block_server.specs.Serving.{Terms}
 use Rattle.block_server.specs.Units.{AreServing}
@@ -14,5 +15,6 @@ invariant-loop-unit l = record {
   down : AreDown l.units.items;
   none : AwaitNone l.units.items;
   unused : AreUnused l.units.items;
+  unanswered : OweNone l.units.items;
   serving : (terms : Terms) → (rows : List Served) → AreServing terms l.partition l.units.items rows;
 }

@@ -3,9 +3,13 @@ use Rattle.block_server.specs.Causes.{told_to}
 use Rattle.block_server.specs.Orders.{IsCauseOf}
 use Rattle.block_server.proofs.Onces.{once_same}
 use Rattle.block_server.proofs.Working.{no_row_at}
-use Rattle.block_server.specs.Judged.{IsFor, is_command, is_login}
+use Rattle.block_server.specs.Judged.{is_command, is_login}
 use Rattle.block_server.specs.Stage.{is_answered}
 use Rattle.std.proofs.Common.{◌≡◌, ◌∙◌, sym, true, false}
+use Rattle.std.proofs.Common.{subst, ℕ}
+use Rattle.block_server.proofs.OwingCalls.{no_row_in}
+use Rattle.block_server.proofs.OwingRows.{moves_same}
+use Rattle.block_server.specs.Owed.{MovesRow}
 use Rattle.block_server.proofs.serving.prepare.Goals as goal
 
 pub returns-in-Command-clause-once : goal.returns-in-Command-clause-once
@@ -58,3 +62,33 @@ returns-in-Logout-clause-books g c = λ books for current judged is. is
 
 pub returns-in_default-clause-books : goal.returns-in_default-clause-books
 returns-in_default-clause-books g c = λ books for current judged is. is
+
+pub returns-in-Command-clause-moves : goal.returns-in-Command-clause-moves
+returns-in-Command-clause-moves g c = λ current rest at. c.serve_command.ensures.moves
+
+pub returns-in-Login-clause-moves : goal.returns-in-Login-clause-moves
+returns-in-Login-clause-moves g c = λ current rest at.
+    let other : is_command c.args.request.now.order ≡ false = search rules in
+    let before : is_answered c.args.service.now.stage ≡ false = cc in
+    let none = no_row_in _ (no_row_at current (c.args.request.now ∷ rest) c.args.service.now.stage c.args.request.now rest refl other before at) in
+    moves_same _ _ _ _ _ _ _ (c.judge_login.ensures.row none ∙ sym none) refl
+
+pub returns-in-Task-clause-moves : goal.returns-in-Task-clause-moves
+returns-in-Task-clause-moves g c = λ current rest at.
+    let other : is_command c.args.request.now.order ≡ false = search rules in
+    let before : is_answered c.args.service.now.stage ≡ false = cc in
+    subst (λ (q : ℕ). MovesRow c.args.id q c.args.request.now c.args.service.now.stage c.add_code.new.service.stage c.args.records.now.history.items c.add_code.new.records.history.items)
+    c.session.ensures (c.add_code.ensures.moves (no_row_in _ (no_row_at current (c.args.request.now ∷ rest) c.args.service.now.stage c.args.request.now rest refl other before at)))
+
+pub returns-in-Unreadable-clause-moves : goal.returns-in-Unreadable-clause-moves
+returns-in-Unreadable-clause-moves g c = λ current rest at.
+    let other : is_command c.args.request.now.order ≡ false = search rules in
+    let before : is_answered c.args.service.now.stage ≡ false = cc in
+    subst (λ (q : ℕ). MovesRow c.args.id q c.args.request.now c.args.service.now.stage c.add_code-in-Unreadable.new.service.stage c.args.records.now.history.items c.add_code-in-Unreadable.new.records.history.items)
+    c.session-in-Unreadable.ensures (c.add_code-in-Unreadable.ensures.moves (no_row_in _ (no_row_at current (c.args.request.now ∷ rest) c.args.service.now.stage c.args.request.now rest refl other before at)))
+
+pub returns-in-Logout-clause-moves : goal.returns-in-Logout-clause-moves
+returns-in-Logout-clause-moves g c = λ current rest at. moves_same _ _ _ _ _ _ _ refl refl
+
+pub returns-in_default-clause-moves : goal.returns-in_default-clause-moves
+returns-in_default-clause-moves g c = λ current rest at. moves_same _ _ _ _ _ _ _ refl refl

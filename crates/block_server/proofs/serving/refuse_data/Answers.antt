@@ -9,13 +9,16 @@ use Rattle.block_server.proofs.Staging.{not_data_in}
 use Rattle.block_server.specs.declared.service.Outcome.TheVariants.{Served}
 use Rattle.block_server.specs.declared.service.Stage.TheVariants.{Answer, DataIn}
 use Rattle.block_server.proofs.Working.{front_answered, one_given, one_on, one_same}
+use Rattle.block_server.specs.Owed.{row_in}
 use Rattle.block_server.proofs.serving.refuse_data.Goals as goal
 
 pub returns-in_default : goal.returns-in_default
-returns-in_default c = record { grants = refl; books = λ id session. one_same _ _ _ _ _ _ _ refl refl; once = λ id rest q disk cause serving. once_same _ _ _ _ _ _ refl refl refl disk serving; went = λ inn. not_data_in _ _ (λ row reply cursor is. c.in_default.not-DataIn row reply cursor is) inn }
+returns-in_default c = record { row = refl; states = refl; grants = refl; books = λ id session. one_same _ _ _ _ _ _ _ refl refl; once = λ id rest q disk cause serving. once_same _ _ _ _ _ _ refl refl refl disk serving; went = λ inn. not_data_in _ _ (λ row reply cursor is. c.in_default.not-DataIn row reply cursor is) inn }
 
 pub returns-in_err-set_answer : goal.returns-in_err-set_answer
 returns-in_err-set_answer c = record {
+  row = ap row_in c.in_err-set_answer.ensures.err;
+  states = refl;
   grants = refl;
   books = λ id session. one_same _ _ _ _ _ _ _ c.in_err-set_answer.ensures.err refl;
   once = λ id rest q disk cause serving.
@@ -27,6 +30,8 @@ returns-in_err-set_answer c = record {
 
 pub returns : goal.returns
 returns c = record {
+  row = ap row_in (c.take_given-inn.ensures.stage ∙ c.in_ok-set_answer.ensures.stage) ∙ sym (ap row_in c.in-DataIn.is);
+  states = c.fill.ensures.states;
   grants = λ i. (c.fill.ensures.grants i).items;
   books = λ id session. one_on _ _ _ _ _ _ _ _ _ _ refl
       (one_given _ _ _ _ _ c.args.records.now.history.items (DataIn c.in-DataIn.row c.in-DataIn.reply c.in-DataIn.cursor) (Answer (Served c.in-DataIn.row))

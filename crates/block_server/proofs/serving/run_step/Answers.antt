@@ -13,6 +13,8 @@ use Rattle.block_server.proofs.Onces.{once_same, once_then}
 use Rattle.block_server.proofs.Serves.{gathers_of, once_before, pieces_of}
 use Rattle.block_server.proofs.Working.{before_no_row, one_before, one_on, one_same}
 use Rattle.std.proofs.Common.{◌∙◌}
+use Rattle.block_server.proofs.OwingCalls.{no_row_in}
+use Rattle.block_server.proofs.OwingRows.{moves_on, moves_same}
 use Rattle.block_server.proofs.serving.run_step.Goals as goal
 
 pub returns-then-not-is_before_step-clause-once : goal.returns-then-not-is_before_step-clause-once
@@ -100,3 +102,34 @@ returns-in-Done-clause-books g c =
     let before : is_before_step c.args.service.now.stage ≡ true = cc in
     one_on _ _ _ _ _ _ _ _ _ _ (ap (λ (q : EndState). q.last_session) c.fetch.ensures.queue)
     (one_before _ _ _ _ _ _ before (c.fetch.ensures.before before)) c.make_step.ensures.books
+
+pub returns-then-not-is_before_step-clause-moves : goal.returns-then-not-is_before_step-clause-moves
+returns-then-not-is_before_step-clause-moves g c = moves_same _ _ _ _ _ _ _ refl refl
+
+pub returns-in_err-fetch-clause-moves : goal.returns-in_err-fetch-clause-moves
+returns-in_err-fetch-clause-moves g c =
+    let before : is_before_step c.args.service.now.stage ≡ true = cc in
+    let none = no_row_in _ (before_no_row _ (c.fetch.ensures.before before)) in
+    let first = moves_same c.args.id (g.S.Site.state c.args.site.now).queue.last_session c.args.request.now c.args.service.now.stage c.fetch.new.service.stage _ _ (none ∙ sym (no_row_in _ (before_no_row _ before))) refl in
+    first
+
+pub returns-in-Busy-clause-moves : goal.returns-in-Busy-clause-moves
+returns-in-Busy-clause-moves g c =
+    let before : is_before_step c.args.service.now.stage ≡ true = cc in
+    let none = no_row_in _ (before_no_row _ (c.fetch.ensures.before before)) in
+    let first = moves_same c.args.id (g.S.Site.state c.args.site.now).queue.last_session c.args.request.now c.args.service.now.stage c.fetch.new.service.stage _ _ (none ∙ sym (no_row_in _ (before_no_row _ before))) refl in
+    first
+
+pub returns-in-Refused-clause-moves : goal.returns-in-Refused-clause-moves
+returns-in-Refused-clause-moves g c =
+    let before : is_before_step c.args.service.now.stage ≡ true = cc in
+    let none = no_row_in _ (before_no_row _ (c.fetch.ensures.before before)) in
+    let first = moves_same c.args.id (g.S.Site.state c.args.site.now).queue.last_session c.args.request.now c.args.service.now.stage c.fetch.new.service.stage _ _ (none ∙ sym (no_row_in _ (before_no_row _ before))) refl in
+    moves_on _ _ _ _ _ _ _ _ _ _ (c.session.ensures ∙ ap (λ (q : EndState). q.last_session) c.fetch.ensures.queue) first (c.add_code.ensures.moves none)
+
+pub returns-in-Done-clause-moves : goal.returns-in-Done-clause-moves
+returns-in-Done-clause-moves g c =
+    let before : is_before_step c.args.service.now.stage ≡ true = cc in
+    let none = no_row_in _ (before_no_row _ (c.fetch.ensures.before before)) in
+    let first = moves_same c.args.id (g.S.Site.state c.args.site.now).queue.last_session c.args.request.now c.args.service.now.stage c.fetch.new.service.stage _ _ (none ∙ sym (no_row_in _ (before_no_row _ before))) refl in
+    moves_on _ _ _ _ _ _ _ _ _ _ (ap (λ (q : EndState). q.last_session) c.fetch.ensures.queue) first c.make_step.ensures.moves

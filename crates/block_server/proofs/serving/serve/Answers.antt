@@ -17,6 +17,12 @@ use Rattle.block_server.specs.Judged.{AreKept, Books, IsFor, gets_row, is_login,
 use Rattle.block_server.specs.Books.{books_at, next_of}
 use Rattle.block_server.proofs.Taking.{waiting_stands}
 use Rattle.std.proofs.Common.{◌≡◌, false, subst}
+use Rattle.std.proofs.Common.{List}
+use Rattle.block_server.proofs.Owing.{owes_seen, seen_same}
+use Rattle.block_server.proofs.OwingRows.{front_under, owes_moved}
+use Rattle.block_server.specs.Judged.{IsAtStage}
+use Rattle.block_server.specs.Owed.{HasAnswers, Owing, row_states}
+use Rattle.block_server.specs.declared.request.Request.{Request}
 use Rattle.block_server.proofs.serving.serve.Goals as goal
 
 pub returns-clause-advances : goal.returns-clause-advances
@@ -176,3 +182,41 @@ returns-in_err-prepare-clause-passes g c = c.prepare.ensures.passes
 
 pub returns-clause-passes : goal.returns-clause-passes
 returns-clause-passes g c = c.answer.ensures.passes ∙ c.prepare.ensures.passes
+
+pub returns-in_default-clause-answers : goal.returns-in_default-clause-answers
+returns-in_default-clause-answers g c = λ judged is alone has. has
+
+pub returns-in_err-make_room-clause-answers : goal.returns-in_err-make_room-clause-answers
+returns-in_err-make_room-clause-answers g c = λ judged is alone has. owes_seen _ _ (seen_same _ _ refl) refl refl refl refl refl (ap row_states c.make_room.ensures.lists.history) c.make_room.ensures.lists.grants has
+
+pub returns-in-Logout-clause-answers : goal.returns-in-Logout-clause-answers
+returns-in-Logout-clause-answers g c = λ judged is alone has.
+    let front = front_is _ _ c.in-Some.ensures.item.3 in
+    let none : gets_row c.in-Some.request.now.order ≡ false = search rules in
+    c.log_out.ensures.answers (g.S.Site.state c.args.site.now).queue c.in-Some.request.now front.0 front.1 none
+    (owes_seen _ _ (seen_same _ _ refl) refl refl refl refl refl (ap row_states c.make_room.ensures.lists.history) c.make_room.ensures.lists.grants has)
+
+pub returns-in_err-prepare-clause-answers : goal.returns-in_err-prepare-clause-answers
+returns-in_err-prepare-clause-answers g c = λ judged is alone has.
+    let front = front_is _ _ c.in-Some.ensures.item.3 in
+    owes_moved _ _ (g.S.Site.state c.args.site.now).queue.last_session _ c.in-Some.request.now front.0 c.args.records.now.history.items c.prepare.new.records.history.items refl refl front.1 refl
+    (λ gets. front_under _ judged _ front.0 is front.1 gets) (λ some. is.logins.granted some)
+    (c.prepare.ensures.moves _ front.0 (subst (λ (pending : List Request). IsAtStage c.args.unit.now.logins.current pending c.args.unit.now.service.stage) front.1 is.stage))
+    refl refl refl refl c.prepare.ensures.queue c.prepare.ensures.grants has
+
+pub returns-clause-answers : goal.returns-clause-answers
+returns-clause-answers g c = λ judged is alone has.
+    let front = front_is _ _ c.in-Some.ensures.item.3 in
+    let books = books_at c.args.unit.now (g.S.Site.state c.args.site.now) c.args.records.now in
+    let for : IsFor books c.args.unit.now.id (g.S.Site.state c.args.site.now).queue.last_session c.in-Some.request.now =
+    record { id_is = refl; session_is = refl; rest = front.0; front = front.1; none = c.requires.none } in
+    let served = c.prepare.ensures.books books for refl judged is in
+    let queue = (g.S.Site.state c.prepare.new.site).queue in
+    c.answer.ensures.answers judged
+    (subst (λ (b : Books). AreKept b judged) (sym (c.note_stage.ensures.books queue.last_session (next_of c.note_stage.new.unit.waiting queue) c.prepare.new.records))
+    (moved_to _ _ judged refl (ap (λ (q : EndState). q.last_session) c.prepare.ensures.queue) (ap (λ w. next_of w queue) (waiting_stands _ _ c.note_stage.ensures.stands) ∙ ap (next_of c.args.unit.now.waiting) c.prepare.ensures.queue) refl refl refl refl refl refl refl c.prepare.ensures.grants refl served)) alone
+    (subst (λ (o : Owing). HasAnswers o) (sym (c.note_stage.ensures.owing queue c.prepare.new.records))
+    (owes_moved _ _ (g.S.Site.state c.args.site.now).queue.last_session _ c.in-Some.request.now front.0 c.args.records.now.history.items c.prepare.new.records.history.items refl refl front.1 refl
+    (λ gets. front_under _ judged _ front.0 is front.1 gets) (λ some. is.logins.granted some)
+    (c.prepare.ensures.moves _ front.0 (subst (λ (pending : List Request). IsAtStage c.args.unit.now.logins.current pending c.args.unit.now.service.stage) front.1 is.stage))
+    refl refl refl refl c.prepare.ensures.queue c.prepare.ensures.grants has))

@@ -7,6 +7,7 @@ use Rattle.block_server.proofs.Denying.{tells_first, tells_next}
 use Rattle.block_server.proofs.Onces.{once_then}
 use Rattle.block_server.proofs.Working.{one_on}
 use Rattle.std.proofs.Common.{refl}
+use Rattle.block_server.proofs.OwingRows.{moves_on, moves_same}
 use Rattle.block_server.proofs.serving.serve_command.Goals as goal
 
 pub returns-in_err-run_step-clause-once : goal.returns-in_err-run_step-clause-once
@@ -54,3 +55,14 @@ returns-in_err-store-clause-books g c = one_on _ _ _ _ _ _ _ _ _ _ refl c.run_st
 pub returns-clause-books : goal.returns-clause-books
 returns-clause-books g c =
     one_on _ _ _ _ _ _ _ _ _ _ refl (one_on _ _ _ _ _ _ _ _ _ _ refl c.run_step.ensures.books (c.store.ensures.books _ _ _)) (c.hand_over.ensures.books _ _)
+
+pub returns-in_err-run_step-clause-moves : goal.returns-in_err-run_step-clause-moves
+returns-in_err-run_step-clause-moves g c = c.run_step.ensures.moves
+
+pub returns-in_err-store-clause-moves : goal.returns-in_err-store-clause-moves
+returns-in_err-store-clause-moves g c = moves_on _ _ _ _ _ _ _ _ _ _ refl c.run_step.ensures.moves (moves_same _ _ _ _ _ _ _ c.store.ensures.row refl)
+
+pub returns-clause-moves : goal.returns-clause-moves
+returns-clause-moves g c =
+    moves_on _ _ _ _ _ _ _ _ _ _ refl (moves_on _ _ _ _ _ _ _ _ _ _ refl c.run_step.ensures.moves (moves_same _ _ _ _ _ _ _ c.store.ensures.row refl))
+    (moves_same _ _ _ _ _ _ _ c.hand_over.ensures.row c.hand_over.ensures.states)

@@ -5,6 +5,7 @@ use Rattle.block_server.proofs.Quieting.{stays_moved}
 use Rattle.block_server.proofs.Taking.{id_stands, waiting_stands}
 use Rattle.block_server.proofs.Jointly.{keeps_opened}
 use Rattle.block_server.specs.Books.{books_at}
+use Rattle.block_server.proofs.Owing.{owes_ended}
 use Rattle.block_server.proofs.turning.begin.Goals as goal
 
 pub returns-in-Some-clause-once : goal.returns-in-Some-clause-once
@@ -35,3 +36,10 @@ returns-in-Some-clause-books g c = λ records none off judged is.
 pub returns-in_default-clause-books : goal.returns-in_default-clause-books
 returns-in_default-clause-books g c = λ records none off judged is.
     keeps_opened (books_at c.args.unit.now (g.S.Site.state c.args.site.now) records) _ none off judged is
+
+pub returns-in-Some-clause-answers : goal.returns-in-Some-clause-answers
+returns-in-Some-clause-answers g c = λ records over alone has.
+    c.put_reply-next.ensures.answers records alone (owes_ended _ _ over refl refl refl refl refl refl has)
+
+pub returns-in_default-clause-answers : goal.returns-in_default-clause-answers
+returns-in_default-clause-answers g c = λ records over alone has. owes_ended _ _ over refl refl refl refl refl refl has

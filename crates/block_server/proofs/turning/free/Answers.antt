@@ -6,6 +6,8 @@ use Rattle.block_server.proofs.Serves.{desk_is}
 use Rattle.block_server.proofs.Taking.{stands}
 use Rattle.block_server.proofs.GoingOn.{freed_ended}
 use Rattle.block_server.proofs.Jointly.{keeps_line, keeps_pass}
+use Rattle.block_server.proofs.Owing.{owes_ended}
+use Rattle.block_server.proofs.OwingCalls.{closing_ended}
 use Rattle.block_server.proofs.turning.free.Goals as goal
 
 pub returns-in-Busy-clause-once : goal.returns-in-Busy-clause-once
@@ -58,3 +60,15 @@ returns-in-Success-clause-books g c = λ records closing.
 pub returns-in-Parameter-clause-books : goal.returns-in-Parameter-clause-books
 returns-in-Parameter-clause-books g c = λ records closing.
     keeps_line c.args.unit.now c.freed-in-Parameter.new.self records _ _ c.free.ensures.passes c.freed-in-Parameter.ensures.kept (freed_ended _ _ _ _ closing c.freed-in-Parameter.ensures.handshake)
+
+pub returns-in-Busy-clause-answers : goal.returns-in-Busy-clause-answers
+returns-in-Busy-clause-answers g c = λ records closing alone has.
+    owes_ended _ _ (closing_ended c.args.unit.now.line closing) refl refl refl refl refl refl has
+
+pub returns-in-Success-clause-answers : goal.returns-in-Success-clause-answers
+returns-in-Success-clause-answers g c = λ records closing alone has.
+    owes_ended _ _ (closing_ended c.args.unit.now.line closing) refl refl refl refl refl refl has
+
+pub returns-in-Parameter-clause-answers : goal.returns-in-Parameter-clause-answers
+returns-in-Parameter-clause-answers g c = λ records closing alone has.
+    owes_ended _ _ (closing_ended c.args.unit.now.line closing) refl refl refl refl refl refl has

@@ -18,3 +18,9 @@ returns-then-not-unit-clause-books g c = λ records judged is. is
 
 pub returns-clause-books : goal.returns-clause-books
 returns-clause-books g c = λ records. c.free.ensures.books records (search rules)
+
+pub returns-then-not-unit-clause-answers : goal.returns-then-not-unit-clause-answers
+returns-then-not-unit-clause-answers g c = λ records alone has. has
+
+pub returns-clause-answers : goal.returns-clause-answers
+returns-clause-answers g c = λ records. c.free.ensures.answers records (search rules)

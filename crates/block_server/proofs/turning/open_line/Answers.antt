@@ -9,6 +9,8 @@ use Rattle.block_server.proofs.Taking.{lines_same, takes_none, takes_on}
 use Rattle.block_server.proofs.GoingOn.{open_goes_on}
 use Rattle.block_server.proofs.Jointly.{keeps_pass}
 use Rattle.block_server.proofs.Taking.{passed_copies}
+use Rattle.block_server.proofs.Owing.{owes_seen}
+use Rattle.block_server.proofs.OwingCalls.{seen_reserves}
 use Rattle.block_server.proofs.turning.open_line.Goals as goal
 
 pub returns-in_err-reserve-clause-once : goal.returns-in_err-reserve-clause-once
@@ -173,3 +175,22 @@ returns-then-is_down-clause-books g c = λ records judged is. c.register.ensures
 
 pub returns-clause-books : goal.returns-clause-books
 returns-clause-books g c = λ records judged is. c.free_closed.ensures.books records judged (c.push_event.ensures.books records judged (keeps_pass c.args.unit.now records _ _ c.reserve.ensures.passes judged is))
+
+pub returns-in_err-reserve-clause-answers : goal.returns-in_err-reserve-clause-answers
+returns-in_err-reserve-clause-answers g c = λ records alone has. owes_seen _ _ (seen_reserves _ _ c.reserve.ensures.rest) refl refl refl refl refl refl refl has
+
+pub returns-then-eq-clause-answers : goal.returns-then-eq-clause-answers
+returns-then-eq-clause-answers g c = λ records alone has.
+    c.push_event.ensures.answers records alone (owes_seen _ _ (seen_reserves _ _ c.reserve.ensures.rest) refl refl refl refl refl refl refl has)
+
+pub returns-then-eq-2-clause-answers : goal.returns-then-eq-2-clause-answers
+returns-then-eq-2-clause-answers g c = λ records alone has.
+    c.free_closed.ensures.answers records alone (c.push_event.ensures.answers records alone (owes_seen _ _ (seen_reserves _ _ c.reserve.ensures.rest) refl refl refl refl refl refl refl has))
+
+pub returns-clause-answers : goal.returns-clause-answers
+returns-clause-answers g c = λ records alone has.
+    c.free_closed.ensures.answers records alone (c.push_event.ensures.answers records alone (owes_seen _ _ (seen_reserves _ _ c.reserve.ensures.rest) refl refl refl refl refl refl refl has))
+
+pub returns-then-is_down-clause-answers : goal.returns-then-is_down-clause-answers
+returns-then-is_down-clause-answers g c = λ records alone has.
+    c.register.ensures.answers records alone (c.free_closed.ensures.answers records alone (c.push_event.ensures.answers records alone (owes_seen _ _ (seen_reserves _ _ c.reserve.ensures.rest) refl refl refl refl refl refl refl has)))

@@ -3,6 +3,8 @@ use Rattle.block_server.proofs.Agreeing.{agrees_same}
 use Rattle.block_server.proofs.Readying.{full_now, idles_pushes}
 use Rattle.block_server.proofs.Onces.{once_same}
 use Rattle.block_server.proofs.Jointly.{keeps_pass}
+use Rattle.block_server.proofs.Owing.{owes_seen}
+use Rattle.block_server.proofs.OwingCalls.{seen_pushes}
 use Rattle.block_server.proofs.turning.push_event.Goals as goal
 
 pub returns-in-Nothing-clause-once : goal.returns-in-Nothing-clause-once
@@ -40,3 +42,12 @@ returns-in-Put-clause-books g c = λ records. keeps_pass c.args.unit.now records
 
 pub returns-in-Kept-clause-books : goal.returns-in-Kept-clause-books
 returns-in-Kept-clause-books g c = λ records. keeps_pass c.args.unit.now records _ _ c.push_event.ensures.passes
+
+pub returns-in-Nothing-clause-answers : goal.returns-in-Nothing-clause-answers
+returns-in-Nothing-clause-answers g c = λ records alone has. owes_seen _ _ (seen_pushes _ _ _ c.push_event.ensures.rest) refl refl refl refl refl refl refl has
+
+pub returns-in-Put-clause-answers : goal.returns-in-Put-clause-answers
+returns-in-Put-clause-answers g c = λ records alone has. owes_seen _ _ (seen_pushes _ _ _ c.push_event.ensures.rest) refl refl refl refl refl refl refl has
+
+pub returns-in-Kept-clause-answers : goal.returns-in-Kept-clause-answers
+returns-in-Kept-clause-answers g c = λ records alone has. owes_seen _ _ (seen_pushes _ _ _ c.push_event.ensures.rest) refl refl refl refl refl refl refl has

@@ -8,6 +8,7 @@ use Rattle.block_server.proofs.GoingOn.{down_ended, register_session}
 use Rattle.block_server.proofs.Jointly.{keeps_pass, keeps_registered}
 use Rattle.std.proofs.Common.{◌∙◌}
 use Rattle.block_server.proofs.Taking.{passed_copies, window_copies}
+use Rattle.block_server.proofs.Owing.{owes_ended}
 use Rattle.block_server.proofs.turning.register.Goals as goal
 
 pub returns-in_default-clause-once : goal.returns-in_default-clause-once
@@ -81,3 +82,14 @@ returns-in-Success-clause-books g c = λ records.
 pub returns-in-Closed-clause-books : goal.returns-in-Closed-clause-books
 returns-in-Closed-clause-books g c = λ records.
     keeps_registered c.args.unit.now records (g.S.Site.state c.args.site.now) (g.S.Site.state c.register.new.self) _ (down_ended _ _ c.requires.down) (c.begin-in-Closed.ensures.books records)
+
+pub returns-in_default-clause-answers : goal.returns-in_default-clause-answers
+returns-in_default-clause-answers g c = λ records alone has. owes_ended _ _ (down_ended _ _ c.requires.down) refl refl refl refl refl refl has
+
+pub returns-in-Success-clause-answers : goal.returns-in-Success-clause-answers
+returns-in-Success-clause-answers g c = λ records alone has.
+    c.begin.ensures.answers records (down_ended _ _ c.requires.down) alone (owes_ended _ _ (down_ended _ _ c.requires.down) refl refl refl refl refl refl has)
+
+pub returns-in-Closed-clause-answers : goal.returns-in-Closed-clause-answers
+returns-in-Closed-clause-answers g c = λ records alone has.
+    c.begin-in-Closed.ensures.answers records (down_ended _ _ c.requires.down) alone (owes_ended _ _ (down_ended _ _ c.requires.down) refl refl refl refl refl refl has)

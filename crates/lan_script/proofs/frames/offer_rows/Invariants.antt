@@ -1,4 +1,4 @@
-use Rattle.std.proofs.Common.{◌≡◌, ◌≤◌, ◌+◌, ℕ, List, [], drop, take, map, length, replicate, vec_len, vec_capacity}
+use Rattle.std.proofs.Common.{◌≡◌, take, map}
 use Rattle.lan_script.specs.Frames.{offer_row_of}
 use Rattle.lan_script.proofs.frames.offer_rows.Given as goal
 

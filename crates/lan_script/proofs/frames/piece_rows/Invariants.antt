@@ -1,4 +1,4 @@
-use Rattle.std.proofs.Common.{◌≡◌, ◌≤◌, ◌+◌, ℕ, List, [], drop, take, map, length, replicate, vec_len, vec_capacity}
+use Rattle.std.proofs.Common.{◌≡◌, take, map}
 use Rattle.lan_script.specs.Frames.{piece_row_of}
 use Rattle.lan_script.proofs.frames.piece_rows.Given as goal
 

@@ -1,4 +1,4 @@
-use Rattle.std.proofs.Common.{◌≡◌, ◌∙◌, ◌++◌, ◌∷◌, [], arith, map, ap}
+use Rattle.std.proofs.Common.{◌∙◌, ◌++◌, ◌∷◌, [], arith, map, ap}
 use Rattle.lan_script.proofs.Cuts.{equal_step, map_behind}
 use Rattle.lan_script.proofs.lan.no_frames.Goals as goal
 

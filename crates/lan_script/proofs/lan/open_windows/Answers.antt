@@ -1,4 +1,4 @@
-use Rattle.std.proofs.Common.{◌≡◌, All, List, take, map, refl, sym, subst}
+use Rattle.std.proofs.Common.{All, List, take, refl, sym, subst}
 use Rattle.std.proofs.lemmas.List.Elements.{All-map}
 use Rattle.lan_script.specs.declared.windows.Place.{Place}
 use Rattle.lan_script.specs.Opening.{window_of}

@@ -1,4 +1,4 @@
-use Rattle.std.proofs.Common.{◌≡◌, ◌≤◌, ◌+◌, ℕ, List, [], drop, take, map, length, replicate, vec_len, vec_capacity}
+use Rattle.std.proofs.Common.{◌≡◌, ◌≤◌, take, map, length, vec_capacity}
 use Rattle.lan_script.specs.Opening.{plan_of}
 use Rattle.std.proofs.Common.{All, ◌<◌}
 use Rattle.lan_script.specs.declared.seat.PortSeat.{PortSeat}

@@ -1,4 +1,4 @@
-use Rattle.std.proofs.Common.{◌≡◌, ◌++◌, ◌+◌, ◌∙◌, List, sym, ap}
+use Rattle.std.proofs.Common.{◌++◌, ◌+◌, ◌∙◌, sym, ap}
 use Rattle.std.specs.List.{flat_map}
 use Rattle.lan_script.specs.Rows.{deliveries_in, sessions_from}
 use Rattle.lan_script.proofs.Cuts.{behind, sessions_step}

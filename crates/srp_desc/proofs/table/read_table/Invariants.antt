@@ -4,6 +4,6 @@ use Rattle.srp_desc.proofs.table.read_table.Given as goal
 
 abbrev pub invariant-loop-n : goal.invariant-loop-n
 invariant-loop-n l = record {
-  listed : l.gathered.pieces.items ≡ descs_of l.n l.bytes;
-  counted : length l.gathered.pieces.items ≡ l.n;
+  listed : l.list.items ≡ descs_of l.n l.bytes;
+  counted : length l.list.items ≡ l.n;
 }

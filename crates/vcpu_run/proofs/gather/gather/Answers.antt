@@ -2,7 +2,8 @@
 use Rattle.vio_trace.specs.Form.{IsInOrder}
 use Rattle.vcpu_run.proofs.Copied.{copies_are}
 use Rattle.vcpu_run.proofs.Fetching.{entries_are_fetched, ok_pair, requests_are_served}
-use Rattle.vcpu_run.proofs.Freed.{few_seats, free_pairs, from_rows, ports_are}
+use Rattle.vcpu_run.proofs.FramesCarried.{ports_keep}
+use Rattle.vcpu_run.proofs.Freed.{few_seats, free_pairs, from_rows}
 use Rattle.vcpu_run.proofs.GivenAnswers.{answers_are_given}
 use Rattle.vcpu_run.proofs.Ordering.{order_is}
 use Rattle.vcpu_run.proofs.QueueLaws.{queues_are}
@@ -50,8 +51,8 @@ returns-clause-answers c =
 
 pub returns-clause-ports : goal.returns-clause-ports
 returns-clause-ports c =
-    from_rows c.args.pairs.items c.args.scripts.items c.args.lan c.args.history.items c.args.grants.items c.args.copies.items c.rows_of.result _ _ c.rows_of.ensures.trace c.rows_of.ensures.queues
-    (λ rows keeps ordered lawful partitions of_plan. ports_are c.args.lan rows partitions keeps of_plan.ports_are)
+    from_rows c.args.pairs.items c.args.scripts.items c.args.lan c.args.history.items c.args.grants.items c.args.copies.items c.rows_of.result _ _ c.rows_of.ensures.trace c.rows_of.ensures.windows
+    (λ rows keeps ordered lawful partitions of_plan. ports_keep c.args.pairs.items c.args.scripts.items c.args.lan rows c.args.history.items c.args.grants.items c.args.copies.items partitions c.requires.pairs c.requires.scripts lawful of_plan keeps)
 
 pub returns-clause-settled : goal.returns-clause-settled
 returns-clause-settled c =

@@ -1,4 +1,5 @@
 use Rattle.block_server.proofs.FirstPages.{windows_stay}
+use Rattle.block_server.proofs.Reaching.{send_reached, send_refused}
 use Rattle.block_server.proofs.Sending.{queue_call, same_session, same_taken, send_puts}
 use Rattle.block_server.proofs.ports.PortsSite.send.Goals as goal
 
@@ -11,3 +12,10 @@ returns-clause-advances g c =
 
 pub returns-clause-passes : goal.returns-clause-passes
 returns-clause-passes g c = windows_stay _ _ _ _ _ _ _ c.send.ensures.rest.last_session c.send.ensures.rest.taken
+
+pub returns-clause-told : goal.returns-clause-told
+returns-clause-told g c = send_reached c.send.result (g.C.CrqEnd.state c.args.self.now.queue.now) c.args.entry c.send.ensures.may
+
+pub returns-clause-unregistered : goal.returns-clause-unregistered
+returns-clause-unregistered g c =
+    send_refused c.send.result (g.C.CrqEnd.state c.args.self.now.queue.now) c.args.entry c.requires.may c.send.ensures.parameter c.send.ensures.unregistered

@@ -16,6 +16,7 @@ use Rattle.block_server.proofs.Units.{get_set_other, keeps_disk, tells_prop, uni
 use Rattle.block_server.proofs.Taking.{intake_turn}
 use Rattle.block_server.specs.Receipts.{LinesMore}
 use Rattle.block_server.proofs.Jointly.{judged_turn}
+use Rattle.block_server.proofs.OwingTurn.{answered_turn}
 use Rattle.block_server.proofs.server.Server.turn.Goals as goal
 
 pub returns-clause-answers : goal.returns-clause-answers
@@ -167,3 +168,15 @@ returns-clause-judged g c = λ judged has.
     let is = all c.args.unit c.index_mut.result.now there in
     judged_turn server.units.items c.args.unit c.index_mut.result.now c.turn.new.unit _ _ server.records c.turn.new.records _ _ _ _ _ _ _ _ there (is.id ∙ sym c.requires.named)
     c.turn.ensures.intake c.turn.ensures.judges refl refl refl refl own client queue refl judged has)
+
+pub returns-clause-answered : goal.returns-clause-answered
+returns-clause-answered g c = λ alone judged has owes.
+    let server = c.args.self.now in
+    let there : slice_get server.units.items c.args.unit ≡ Some c.index_mut.result.now =
+    slice_get_read server.units.items _ c.args.unit _ server.units.ok.0 c.requires.unit c.index_mut.ensures.value in
+    let lent = c.turn.ensures.advances.reached in
+    let queue = sym (ap g.C.CrqEnd.state (c.crq-1.given.1 (sym (ap (λ (lent : Lenders). lent.queue) lent)))) in
+    ∥∥₁_map server.serving (λ (all : AreServing (terms_of anything server.disk.count) server.partition server.units.items server.records.history.items).
+    let is = all c.args.unit c.index_mut.result.now there in
+    answered_turn g.C.CrqEnd.is_shared server.units.items c.args.unit c.index_mut.result.now c.turn.new.unit _ _ server.records c.turn.new.records _ _ _ _ _ there (is.id ∙ sym c.requires.named)
+    c.turn.ensures.intake c.turn.ensures.answers refl refl refl refl queue alone judged has owes)

@@ -1,9 +1,10 @@
-use Rattle.std.proofs.Common.{◌≡◌, ◌∙◌, ℕ, false, List, IsSome, sym, subst}
+use Rattle.std.proofs.Common.{ℕ, false, List, IsSome, sym, subst}
 use Rattle.tce_window.specs.PlainPort.{known_of}
 use Rattle.lan_switch.specs.Calls.{Adds}
 use Rattle.lan_script.specs.declared.seat.PortSeat.{PortSeat}
 use Rattle.lan_script.specs.Seats.{seat_at}
 use Rattle.lan_script.proofs.Called.{adds_same}
+use Rattle.lan_script.proofs.CarriedOn.{keeps_through}
 use Rattle.lan_script.proofs.Lans.{lan_back, lan_made, place_after, window_free, window_there}
 use Rattle.lan_script.proofs.lan.Lan.add.Goals as goal
 
@@ -33,4 +34,5 @@ invariant_of-self c =
     (Adds c.args.descriptor false none_found (known_of c.take-own.result) (known_of c.add-answer.new.window) c.add-answer.result) c.self.view_is
     c.self.invariant there c.add-answer.ensures.made
     (λ before after h. adds_same c.args.descriptor false none_found (known_of c.take-own.result) (known_of c.add-answer.new.window) c.add-answer.result before after h))
-    c.take-own.ensures.window c.take-own.ensures.rest c.put.ensures c.add-answer.ensures.window.rest.place (c.add-answer.ensures.window.free ∙ sym free)
+    c.take-own.ensures.window c.take-own.ensures.unit c.take-own.ensures.rest c.put.ensures
+    (keeps_through (known_of c.take-own.result) (known_of c.add-answer.new.window) c.add-answer.ensures.window free)

@@ -1,4 +1,3 @@
-use Rattle.std.proofs.Common.{◌≡◌}
 use Rattle.lan_script.proofs.Lans.{lan_back, place_after, window_there}
 use Rattle.lan_script.proofs.lan.Lan.entry_call.Goals as goal
 
@@ -12,4 +11,4 @@ put-requires-clause-place c =
 pub invariant_of-self : goal.invariant_of-self
 invariant_of-self c =
     lan_back _ c.args.unit c.take-own.new.self c.put.new.self c.take-own.result c.make-returned.new.own c.self.invariant c.take-own.ensures.window
-    c.take-own.ensures.rest c.put.ensures c.make-returned.ensures.window.place c.make-returned.ensures.window.held
+    c.take-own.ensures.unit c.take-own.ensures.rest c.put.ensures c.make-returned.ensures.window

@@ -1,4 +1,3 @@
-use Rattle.std.proofs.Common.{◌≡◌}
 use Rattle.lan_switch.specs.Calls.{Frees}
 use Rattle.lan_script.proofs.Called.{frees_same}
 use Rattle.lan_script.proofs.Lans.{lan_made}

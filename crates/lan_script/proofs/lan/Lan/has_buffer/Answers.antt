@@ -1,4 +1,3 @@
-use Rattle.std.proofs.Common.{◌≡◌}
 use Rattle.lan_script.proofs.Lans.{window_there}
 use Rattle.lan_script.proofs.lan.Lan.has_buffer.Goals as goal
 

@@ -1,4 +1,3 @@
-use Rattle.std.proofs.Common.{◌≡◌}
 use Rattle.lan_script.proofs.Lans.{port_there}
 use Rattle.lan_script.proofs.lan.Lan.is_open.Goals as goal
 

@@ -1,4 +1,4 @@
-use Rattle.std.proofs.Common.{◌≡◌, ◌<◌, ◌∙◌, List, arith, ap}
+use Rattle.std.proofs.Common.{◌∙◌, List, arith, ap}
 use Rattle.lan_script.specs.declared.seat.PortSeat.{PortSeat}
 use Rattle.lan_script.specs.Seats.{seat_place}
 use Rattle.lan_script.proofs.Keeping.{map_long}

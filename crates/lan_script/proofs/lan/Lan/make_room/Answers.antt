@@ -1,4 +1,3 @@
-use Rattle.std.proofs.Common.{◌≡◌}
 use Rattle.lan_switch.specs.Calls.{Reserves}
 use Rattle.lan_script.proofs.Called.{reserves_same}
 use Rattle.lan_script.proofs.Lans.{lan_at, port_there, room_made}

@@ -1,4 +1,3 @@
-use Rattle.std.proofs.Common.{◌≡◌}
 use Rattle.lan_switch.specs.Calls.{Multicasts}
 use Rattle.lan_script.proofs.Called.{multicasts_same}
 use Rattle.lan_script.proofs.Lans.{lan_made}

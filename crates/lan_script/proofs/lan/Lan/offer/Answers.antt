@@ -1,8 +1,8 @@
-use Rattle.std.proofs.Common.{◌≡◌, ◌∙◌, ℕ, true, false, map, refl, sym}
+use Rattle.std.proofs.Common.{◌∙◌, arith, ℕ, false, map, refl, sym}
 use Rattle.tce_window.specs.PlainPort.{known_of}
 use Rattle.lan_switch.specs.Sending.{LanWindows, windows_of}
 use Rattle.lan_script.specs.Windows.{FoundIn, facts_in}
-use Rattle.lan_script.proofs.Lans.{lent_keys, may_ok, others_free, owes_ok, place_lent, sent_ports, sent_untouched, whole_sends, window_free, window_there}
+use Rattle.lan_script.proofs.Lans.{lending, lent_keys, others_free, owes_ok, place_lent, sent_ports, sent_untouched, whole_carried, whole_sends, window_free, window_there}
 use Rattle.lan_script.proofs.lan.Lan.offer.Goals as goal
 
 abbrev none_found : ℕ → ℕ → Type 0
@@ -47,11 +47,21 @@ invariant_of-self c =
           c.send-answer.ensures.others c.put.ensures c.send-answer.ensures.window.rest.place (c.send-answer.ensures.window.free ∙ sym free)
           ∙ c.self.invariant.windows;
       balanced = λ whole. absurd (cc (whole));
+      carried = λ whole. absurd (cc (whole));
     }
 
 pub returns-clause-owes : goal.returns-clause-owes
 returns-clause-owes c =
-    owes_ok c.self.inside.seats.items c.self.inside.switch c.send-answer.new.self c.put.new.self (map (λ rows. rows.items) c.self.inside.frames.items)
-    c.args.unit c.args.parts.now false none_found (known_of c.take-own.result) (known_of c.send-answer.new.window)
-    (windows_of false facts_in FoundIn c.take-own.new.self c.send-answer.new.others) c.send-answer.result
-    (whole_sends _ c.args.self.now c.args.unit c.self.view_is c.self.invariant c.requires.whole c.requires.there) refl c.send-answer.ensures.sent
+    owes_ok c.self.inside.seats.items c.self.inside.switch c.send-answer.new.self c.self.inside.windows c.take-own.new.self c.send-answer.new.others c.put.new.self
+    c.take-own.result c.send-answer.new.window (map (λ rows. rows.items) c.self.inside.frames.items) c.args.unit c.args.parts.now none_found c.send-answer.result
+    (whole_sends _ c.args.self.now c.args.unit c.self.view_is c.self.invariant c.requires.whole c.requires.there)
+    (whole_carried _ c.args.self.now c.self.view_is c.self.invariant c.requires.whole)
+    (lending c.self.inside.windows c.args.unit c.take-own.new.self c.send-answer.new.others c.put.new.self c.take-own.result c.send-answer.new.window c.take-own.ensures.window
+    c.take-own.ensures.unit c.take-own.ensures.rest c.put.ensures
+    (place_lent c.args.unit c.self.inside.windows c.take-own.new.self c.send-answer.new.others c.take-own.result c.take-own.ensures.window
+    c.take-own.ensures.rest
+    (sent_untouched c.self.inside.switch c.send-answer.new.self c.args.unit c.args.parts.now false none_found (known_of c.take-own.result)
+    (known_of c.send-answer.new.window) (windows_of false facts_in FoundIn c.take-own.new.self c.send-answer.new.others) c.send-answer.result
+    c.send-answer.ensures.sent c.send-answer.ensures.failed))
+    (window_free _ c.args.self.now c.args.unit c.take-own.result c.self.view_is c.self.invariant c.requires.there c.take-own.ensures.window)
+    c.send-answer.ensures.window) (omega arith) c.send-answer.ensures.sent

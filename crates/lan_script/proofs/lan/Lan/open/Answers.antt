@@ -1,4 +1,4 @@
-use Rattle.std.proofs.Common.{◌≡◌, ◌≤◌, ◌∙◌, All, List, map, sym, ap, subst}
+use Rattle.std.proofs.Common.{◌≤◌, ◌∙◌, All, List, map, sym, ap, subst}
 use Rattle.vio_num.specs.declared.names.UnitId.{UnitId}
 use Rattle.lan_switch.specs.declared.switch.PortPlan.{PortPlan}
 use Rattle.lan_switch.specs.Switch.{AreAscending, opened}

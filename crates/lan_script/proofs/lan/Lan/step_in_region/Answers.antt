@@ -1,4 +1,3 @@
-use Rattle.std.proofs.Common.{◌≡◌}
 use Rattle.lan_script.proofs.Lans.{lan_back, place_after, window_there}
 use Rattle.lan_script.proofs.lan.Lan.step_in_region.Goals as goal
 
@@ -12,9 +11,9 @@ put-requires-clause-place c =
 pub invariant_of-self : goal.invariant_of-self
 invariant_of-self c =
     lan_back _ c.args.unit c.take-own.new.self c.put.new.self c.take-own.result c.step_in-step.new.own c.self.invariant c.take-own.ensures.window
-    c.take-own.ensures.rest c.put.ensures c.step_in-step.ensures.window.place c.step_in-step.ensures.window.held
+    c.take-own.ensures.unit c.take-own.ensures.rest c.put.ensures c.step_in-step.ensures.window
 
 pub invariant_of-self-2 : goal.invariant_of-self-2
 invariant_of-self-2 c =
     lan_back _ c.args.unit c.take-own.new.self c.put.new.self c.take-own.result c.step_in-step.new.own c.self.invariant c.take-own.ensures.window
-    c.take-own.ensures.rest c.put.ensures c.step_in-step.ensures.window.place c.step_in-step.ensures.window.held
+    c.take-own.ensures.unit c.take-own.ensures.rest c.put.ensures c.step_in-step.ensures.window

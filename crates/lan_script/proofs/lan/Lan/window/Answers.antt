@@ -1,4 +1,3 @@
-use Rattle.std.proofs.Common.{◌≡◌}
 use Rattle.lan_script.proofs.Lans.{window_free, window_pages, window_there}
 use Rattle.lan_script.proofs.lan.Lan.window.Goals as goal
 

@@ -1,4 +1,6 @@
-use Rattle.std.proofs.Common.{◌≡◌}
+use Rattle.std.proofs.Common.{false}
+use Rattle.tce_window.specs.PlainPort.{known_of}
+use Rattle.unit_region.proofs.Growing.{keeps_write}
 use Rattle.lan_script.proofs.Lans.{lan_back, place_after, window_there}
 use Rattle.lan_script.proofs.lan.Lan.write.Goals as goal
 
@@ -12,4 +14,6 @@ put-requires-clause-place c =
 pub invariant_of-self : goal.invariant_of-self
 invariant_of-self c =
     lan_back _ c.args.unit c.take-own.new.self c.put.new.self c.take-own.result c.write-answer.new.self c.self.invariant c.take-own.ensures.window
-    c.take-own.ensures.rest c.put.ensures c.write-answer.ensures.rest.place c.write-answer.ensures.rest.held_count
+    c.take-own.ensures.unit c.take-own.ensures.rest c.put.ensures
+    (keeps_write false (known_of c.take-own.result) (known_of c.write-answer.new.self) c.args.at c.args.bytes.now c.args.mark c.write-answer.result
+    c.write-answer.ensures.ok c.write-answer.ensures.err c.write-answer.ensures.rest)

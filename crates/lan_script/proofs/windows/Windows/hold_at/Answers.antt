@@ -1,4 +1,4 @@
-use Rattle.std.proofs.Common.{◌≡◌, Option, IsSomeAnd, subst}
+use Rattle.std.proofs.Common.{Option, IsSomeAnd, subst}
 use Rattle.tce_window.specs.Window.{WindowValue}
 use Rattle.lan_script.proofs.Mapped.{own_there, turns_there, window_there}
 use Rattle.lan_script.proofs.windows.Windows.hold_at.Goals as goal

@@ -1,4 +1,4 @@
-use Rattle.std.proofs.Common.{◌≡◌, ℕ, ◌<◌, ◌≤◌, List, length, arith, ap, ◌∙◌}
+use Rattle.std.proofs.Common.{◌≡◌, ◌<◌, List, length, arith, ap, ◌∙◌}
 use Rattle.lan_script.specs.declared.windows.Place.{Place}
 use Rattle.lan_script.specs.Windows.{place_in, window_in}
 use Rattle.lan_script.proofs.Mapped.{some_there, window_there}

@@ -1,4 +1,4 @@
-use Rattle.std.proofs.Common.{◌≡◌, ℕ, ◌<◌, List, Option, Some, None, length, sym, ap, ◌∙◌, subst}
+use Rattle.std.proofs.Common.{◌≡◌, ◌<◌, List, Some, length, sym, ap, ◌∙◌, subst}
 use Rattle.lan_script.specs.declared.windows.Place.{Place}
 use Rattle.lan_script.specs.Windows.{place_in}
 use Rattle.std.proofs.Common.{refl}

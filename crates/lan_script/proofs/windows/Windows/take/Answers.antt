@@ -1,4 +1,4 @@
-use Rattle.std.proofs.Common.{◌≡◌, ℕ, ◌<◌, List, Option, Some, None, length, arith, sym, ap, ◌∙◌, subst}
+use Rattle.std.proofs.Common.{◌≡◌, ◌<◌, List, None, length, arith, sym, ap, ◌∙◌}
 use Rattle.lan_script.specs.declared.windows.Place.{Place}
 use Rattle.lan_script.specs.Windows.{place_in}
 use Rattle.lan_script.proofs.Mapped.{changed_there, none_there, window_own, window_there, within_some}

@@ -1,6 +1,6 @@
-use Rattle.std.proofs.Common.{◌≡◌, ℕ, List}
+use Rattle.std.proofs.Common.{◌≡◌, ℕ}
 use Rattle.tce_window.specs.Held.{either, held_strokes}
-use Rattle.tce_window.specs.PortState.{PortState, OnlyGivesBack}
+use Rattle.tce_window.specs.PortState.{OnlyGivesBack}
 use Rattle.lan_script.proofs.Mapped.{keeps_others, told}
 use Rattle.lan_script.proofs.windows.WindowsPortMap.give_back.Goals as goal
 

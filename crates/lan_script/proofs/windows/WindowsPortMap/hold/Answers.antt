@@ -1,13 +1,10 @@
-use Rattle.std.proofs.Common.{◌≡◌, ℕ, List, Option, Some, IfOk, IfErr, OnErr, Result, Ok, Err, false, IsSomeAnd, sym, ap, subst}
-use Rattle.vio_num.specs.declared.names.UnitId.{UnitId}
-use Rattle.tce_window.specs.Held.{HeldValue}
-use Rattle.tce_window.specs.declared.answers.HoldFault.{HoldFault}
+use Rattle.std.proofs.Common.{Option, IfOk, IfErr, OnErr, Result, Ok, Err, false, IsSomeAnd, sym, subst}
 use Rattle.tce_window.specs.Lent.{IsLentBy}
 use Rattle.tce_window.specs.Pieces.{IsRefused}
 use Rattle.tce_window.specs.Port.{CountsHold}
-use Rattle.tce_window.specs.PortState.{PortState, Holds, HoldsNone, OnlyHolds}
+use Rattle.tce_window.specs.PortState.{Holds, HoldsNone, OnlyHolds}
 use Rattle.tce_window.specs.Window.{WindowValue}
-use Rattle.lan_script.specs.Windows.{FitsIn, window_in}
+use Rattle.lan_script.specs.Windows.{FitsIn}
 use Rattle.lan_script.proofs.Mapped.{keeps_others, told, window_after}
 use Rattle.lan_script.proofs.windows.WindowsPortMap.hold.Goals as goal
 
