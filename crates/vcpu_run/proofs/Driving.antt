@@ -95,7 +95,7 @@ drives_same pair = record {
   alone = alone_same pair.driver (link_side pair.link false).registered;
 }
 
-drives_on : (a b c : Pair) → Drives a b → Drives b c → Drives a c
+pub drives_on : (a b c : Pair) → Drives a b → Drives b c → Drives a c
 drives_on a b c first next = record {
   server = next.server ∙ first.server;
   own = next.own ∙ first.own;
@@ -164,6 +164,10 @@ drives_link f g a b old lent link same is place session puts alone =
 pub if_none : (o : Option Driver) (P : Type 0) → P → IfNone o P
 if_none None P is = is
 if_none (Some driver) P is = tt
+
+pub some_none : {P : Driver → Type 0} (o : Option Driver) (Q : Type 0) → IsSomeAnd o P → IfNone o Q
+some_none None Q is = absurd is
+some_none (Some driver) Q is = tt
 
 -- all pairs
 pub driven_same : (pairs : List Pair) → AreDriven pairs pairs

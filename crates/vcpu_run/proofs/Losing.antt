@@ -7,8 +7,11 @@ use Rattle.vio_num.specs.Entry.{first_byte}
 use Rattle.vio_num.specs.declared.entry.Entry.{Entry}
 use Rattle.crq_ring.specs.Sessions.{of_session}
 use Rattle.crq_ring.specs.declared.rows.PipeRow.{PipeRow}
-use Rattle.crq_session.specs.Answered.{Opens, Takes, received_now, taken_now}
-use Rattle.crq_session.specs.EndState.{EndPlace, EndState}
+use Rattle.crq_session.specs.Answered.{FindsNone, Opens, Takes, received_now, taken_now}
+use Rattle.crq_session.specs.Answers.{IfEmpty, IfGot, OnNotPolled}
+use Rattle.crq_session.specs.declared.answers.PollAnswer.{PollAnswer}
+use Rattle.crq_session.specs.declared.answers.PollAnswer.TheVariants as poll
+use Rattle.crq_session.specs.EndState.{EndPlace, EndState, OnlyReserves, OnlyTakes}
 use Rattle.crq_session.specs.PlainState.{end_of, side_of}
 use Rattle.crq_session.specs.declared.link.PlainLink.{PlainLink}
 use Rattle.block_server.specs.Owed.{IsEventAhead, IsEventKept, IsLossAhead, SeesAnswers}
@@ -23,14 +26,15 @@ use Rattle.vcpu_run.proofs.QueueLaws.{entries_are}
 -- the entries of a session among rows
 entries_append : (q : ℕ) (xs ys : List PipeRow) → entries_of q (xs ++ ys) ≡ entries_of q xs ++ entries_of q ys
 entries_append q [] ys = refl
-entries_append q (x ∷ xs) ys = at (x.session == q)
+entries_append q (x ∷ xs) ys = at (x.session == q) (entries_append q xs ys)
   where
     in_q : List PipeRow → List PipeRow
     in_q rows = filter (λ row. row.session == q) rows
 
-    at : (b : Bool) → map (λ (row : PipeRow). row.entry) (cond b (x ∷ in_q (xs ++ ys)) (in_q (xs ++ ys))) ≡ map (λ (row : PipeRow). row.entry) (cond b (x ∷ in_q xs) (in_q xs)) ++ entries_of q ys
-    at true = ap (λ (es : List Entry). x.entry ∷ es) (entries_append q xs ys)
-    at false = entries_append q xs ys
+    at : (b : Bool) → entries_of q (xs ++ ys) ≡ entries_of q xs ++ entries_of q ys
+        → map (λ (row : PipeRow). row.entry) (cond b (x ∷ in_q (xs ++ ys)) (in_q (xs ++ ys))) ≡ map (λ (row : PipeRow). row.entry) (cond b (x ∷ in_q xs) (in_q xs)) ++ entries_of q ys
+    at true rest = ap (λ (es : List Entry). x.entry ∷ es) rest
+    at false rest = rest
 
 row_is : (a b : PipeRow) → Some a ≡ Some b → a ≡ b
 row_is a b e = cc
@@ -233,3 +237,9 @@ behind_none q taken received none = let long = ap length (ap (of_session q) none
 
 pub behind_back : (f : Bool) (a b : List GName) (link : PlainLink) → f ≡ true → IsBehind (end_of b link f) → IsBehind (end_of a link true)
 behind_back f a b link is behind = subst (λ d. IsBehind (end_of b link d)) is behind
+
+pub behind_polls : (a b : EndState) (answer : PollAnswer) → OnlyTakes false a b → IfGot answer (Takes false a b) → IfEmpty answer (FindsNone false a b)
+    → OnNotPolled answer (OnlyReserves a b) → IsBehind a → IsBehind b
+behind_polls a b (poll.Got number entry) rest got empty none is = behind_takes a b number entry rest.last_session rest.place got
+behind_polls a b (poll.Empty number) rest got empty none is = behind_same a b rest.last_session empty.taken rest.place is
+behind_polls a b poll.NotRegistered rest got empty none is = behind_same a b none.last_session none.taken none.place is

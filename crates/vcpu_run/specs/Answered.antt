@@ -20,13 +20,12 @@ IsBegun begun session = min session 1 ≡ begun
 abbrev pub IsBehind : EndState → Type 0
 IsBehind end = length (taken_now end) ≤ length (received_now end)
 
--- Rows were put into the partner's queue in sessions alone, and taken from the own, no more than were received there; and the
--- partner's is in one where it is registered.
+-- Rows were put into the partner's queue in sessions alone, and taken from the own; and the partner's is in one where it is
+-- registered.
 pub record PutsInSessions (end : EndState) : Type 0 where
   pub begun : AreBegun end.sent
   pub took : AreBegun end.taken
   pub registered : end.place.partner_registered ≡ true → 1 ≤ end.counts.partner_session
-  pub behind : IsBehind end
 
 -- The responses that were put into the client's queue are those of the unit's answered rows, one each, in their order; and all
 -- entries were put there in sessions.

@@ -1,6 +1,6 @@
 // An end of a plain link that puts entries in sessions alone.
 ghost use Rattle.crq_session.specs.PlainState.{state_of};
-ghost use Rattle.vcpu_run.specs.Answered.{IsBegun, PutsInSessions};
+ghost use Rattle.vcpu_run.specs.Answered.{IsBegun, IsBehind, PutsInSessions};
 
 use crq_session::{CrqEnd, EventAnswer, FreeAnswer, PlainEnd, PollAnswer, RegAnswer, SendAnswer};
 use vio_num::{Entry, NoMemory};
@@ -11,6 +11,7 @@ use vio_num::{Entry, NoMemory};
 pub(crate) struct SessionEnd<'a, const BEGUN: usize> {
     pub(crate) end: PlainEnd<'a>,
     ghost puts: { PutsInSessions (state_of end) },
+    ghost behind: { IsBehind (state_of end) },
     ghost begun: { IsBegun BEGUN (state_of end).counts.partner_session },
 }
 

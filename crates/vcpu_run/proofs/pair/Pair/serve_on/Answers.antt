@@ -149,7 +149,7 @@ returns-clause-received g c =
     (ap (λ (side : PlainSide). side.queue.session) before) (ap (λ (side : PlainSide). side.queue.taken) before)
     (ap (λ (side : PlainSide). side.queue.session) after) (ap (λ (side : PlainSide). side.queue.taken) after)
     c.turn.ensures.judged (subst AreBegun (ap (λ (side : PlainSide). side.queue.taken) after) c.turn.new.crq.puts.took)
-    (behind_back c.turn.new.crq.end.first [] _ link first c.turn.new.crq.puts.behind)
+    (behind_back c.turn.new.crq.end.first [] _ link first c.turn.new.crq.behind)
     (sees_lent c.side.result.first [] _ old.link c.side.result.link.now c.side.ensures.first c.side.ensures.link)
     (sees_back c.turn.new.crq.end.first [] _ link first) (ap (λ (place : PortPlace). place.unit) c.turn.ensures.goes.own_place) (c.turn.ensures.answered refl) c.requires.received)
 
