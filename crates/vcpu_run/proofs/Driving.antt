@@ -165,9 +165,9 @@ pub if_none : (o : Option Driver) (P : Type 0) → P → IfNone o P
 if_none None P is = is
 if_none (Some driver) P is = tt
 
-pub some_none : {P : Driver → Type 0} (o : Option Driver) (Q : Type 0) → IsSomeAnd o P → IfNone o Q
-some_none None Q is = absurd is
-some_none (Some driver) Q is = tt
+pub some_none : (P : Driver → Type 0) (o : Option Driver) (Q : Type 0) → IsSomeAnd o P → IfNone o Q
+some_none P None Q is = absurd is
+some_none P (Some driver) Q is = tt
 
 -- all pairs
 pub driven_same : (pairs : List Pair) → AreDriven pairs pairs

@@ -51,8 +51,8 @@ frees_set P pairs i old new there turn k p kept = at (same_or k i)
         if_some IsNotFreed (slice_get (slice_set pairs i new) k) new now (turn (subst P e p) (some_if IsNotFreed (slice_get pairs k) old here kept))
     at (inr apart) = subst (λ o. IfSome o IsNotFreed) (sym (get_set_other pairs i k new apart)) kept
 
-pub frees_other : (pairs : List Pair) (i : ℕ) (old new : Pair) → slice_get pairs i ≡ Some old → FreesNoneIf (λ k. k ≢ i) pairs (slice_set pairs i new)
-frees_other pairs i old new there = frees_set (λ k. k ≢ i) pairs i old new there (λ other. absurd (other refl))
+pub frees_other : (pairs : List Pair) (i : ℕ) (new : Pair) → FreesNoneIf (λ k. k ≢ i) pairs (slice_set pairs i new)
+frees_other pairs i new k apart kept = subst (λ o. IfSome o IsNotFreed) (sym (get_set_other pairs i k new apart)) kept
 
 -- a turn that may free the queue of one pair, which has a client of these seats
 pub frees_but : (seats : List Seat) (unit i : ℕ) (old new : List Pair) → slice_get seats unit ≡ Some (sits.Client i) → FreesNoneIf (λ k. k ≢ i) old new

@@ -11,4 +11,4 @@ pub returns-clause-told : goal.returns-clause-told
 returns-clause-told c = set_same c.args.pairs.now c.args.pair _ c.call.new.pair (slice_get-get_or c.args.pairs.now c.args.pair _ c.requires) c.call.ensures.driver
 
 pub returns-clause-stays : goal.returns-clause-stays
-returns-clause-stays c = frees_other c.args.pairs.now c.args.pair _ c.call.new.pair (slice_get-get_or c.args.pairs.now c.args.pair _ c.requires)
+returns-clause-stays c = frees_other c.args.pairs.now c.args.pair c.call.new.pair

@@ -14,4 +14,4 @@ pub returns-clause-credit : goal.returns-clause-credit
 returns-clause-credit c = set_all c.args.pairs.now c.args.pair _ c.fail.new.pair (slice_get-get_or c.args.pairs.now c.args.pair _ c.requires.there) c.fail.ensures.credit
 
 pub returns-clause-stays : goal.returns-clause-stays
-returns-clause-stays c = frees_other c.args.pairs.now c.args.pair _ c.fail.new.pair (slice_get-get_or c.args.pairs.now c.args.pair _ c.requires.there)
+returns-clause-stays c = frees_other c.args.pairs.now c.args.pair c.fail.new.pair

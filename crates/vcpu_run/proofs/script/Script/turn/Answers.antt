@@ -1,4 +1,5 @@
 use Rattle.std.proofs.Common.{◌∙◌}
+use Rattle.vcpu_run.proofs.Crediting.{credited_same}
 use Rattle.vcpu_run.proofs.Driving.{clients_of, driven_on, still_drivers}
 use Rattle.vcpu_run.proofs.Elsewhere.{else_drivers, else_on}
 use Rattle.vcpu_run.proofs.Logging.{script_stays}
@@ -63,3 +64,7 @@ returns-clause-quiet c = λ is over.
       };
       events = events_rest c.args.self.now.seats.items c.push_events.new.pairs c.go_on.new.pairs rest.rest wait;
     }
+
+pub returns-clause-credited : goal.returns-clause-credited
+returns-clause-credited c = λ is.
+    c.in_ok-moved.ensures.credited (credited_same c.args.pairs.now c.push_events.new.pairs c.args.self.now c.push_events.ensures.drivers is)
