@@ -1,9 +1,13 @@
 -- What turns of clients leave of all pairs, one behind the other.
-use Rattle.std.proofs.Common.{◌≡◌, ◌≢◌, ◌∙◌, ◌⊎◌, inl, inr, ℕ, zero, suc, ◌<◌, Bool, false, List, [], ◌∷◌, Option, Some, None, IfNone, IfSome, IsSomeAnd, length, slice_get, slice_index_or, slice_set, refl, sym, ap, subst, arith}
+use Rattle.std.proofs.Common.{◌≡◌, ◌≢◌, ◌∙◌, ◌⊎◌, inl, inr, ℕ, zero, suc, ◌<◌, Bool, true, false, List, [], ◌∷◌, Option, Some, None, IfNone, IfSome, IsSomeAnd, length, slice_get, slice_index_or, slice_set, refl, sym, ap, subst, arith}
 use Rattle.std.proofs.lemmas.Option.{slice_get_within, slice_get-get_or}
 use Rattle.tce_window.specs.Window.{WindowValue, strokes_at}
 use Rattle.tce_window.specs.PlainPort.{known_of}
-use Rattle.crq_session.specs.PlainState.{side_of as link_side}
+use Rattle.std.specs.Borrow.{GName}
+use Rattle.crq_session.specs.EndState.{EndPlace}
+use Rattle.crq_session.specs.declared.link.PlainLink.{PlainLink}
+use Rattle.vcpu_run.specs.Announces.{Announces}
+use Rattle.crq_session.specs.PlainState.{end_of, side_of as link_side}
 use Rattle.rdma_copy.specs.Copies.{side_of}
 use Rattle.rdma_copy.proofs.Laws.{side_same, side_on}
 use Rattle.unit_region.specs.Kept.{LaysOwnOn}
@@ -15,6 +19,7 @@ use Rattle.vcpu_run.specs.declared.unit_seat.Seat.TheVariants as places
 use Rattle.vcpu_run.specs.Pairs.{AreDriven, AreDrivers, Drives, GoesOn, IsDriver}
 use Rattle.vcpu_run.specs.Scripts.{AreSeats}
 use Rattle.vcpu_run.specs.Works.{HaveClients}
+use Rattle.vcpu_run.proofs.Announcing.{both_bools, puts_at, puts_on, puts_same}
 
 pub some_is : {X : Type 0} (x y : X) → Some x ≡ Some y → x ≡ y
 some_is x y h = cc
@@ -86,10 +91,11 @@ drives_same pair = record {
   server_registered = refl;
   server_session = refl;
   server_taken = refl;
+  puts = puts_same (end_of [] pair.link false);
   alone = alone_same pair.driver (link_side pair.link false).registered;
 }
 
-drives_on : (a b c : Pair) → Drives a b → Drives b c → Drives a c
+pub drives_on : (a b c : Pair) → Drives a b → Drives b c → Drives a c
 drives_on a b c first next = record {
   server = next.server ∙ first.server;
   own = next.own ∙ first.own;
@@ -107,8 +113,61 @@ drives_on a b c first next = record {
   server_registered = next.server_registered ∙ first.server_registered;
   server_session = next.server_session ∙ first.server_session;
   server_taken = next.server_taken ∙ first.server_taken;
+  puts = puts_on (end_of [] a.link false) (end_of [] b.link false) (end_of [] c.link false) first.server_registered next.server_session first.puts next.puts;
   alone = alone_on _ _ _ a.window b.window a.driver b.driver first.driver first.alone next.alone;
 }
+
+-- at the client's end of the link alone
+drives_here : (a b : List GName) (old : Pair) (link : PlainLink) → (end_of b link false).place ≡ (end_of a old.link false).place
+    → (end_of b link false).counts.partner_session ≡ (end_of a old.link false).counts.partner_session → Announces (end_of [] old.link false) (end_of [] link false)
+    → IfNone old.driver ((end_of b link false).registered ≡ (end_of a old.link false).registered)
+    → Drives old (record { server = old.server; link = link; own = old.own; window = old.window; driver = old.driver })
+drives_here a b old link place session puts alone = record {
+  server = refl;
+  own = refl;
+  event = ap (λ (p : EndPlace). p.partner_kept) place;
+  server_slots = ap (λ (p : EndPlace). p.partner_slots) place;
+  client_slots = ap (λ (p : EndPlace). p.own_slots) place;
+  got = ap (λ (p : EndPlace). p.received) place;
+  unit = refl;
+  pages = refl;
+  held = refl;
+  grows = side_same (side_of (known_of old.window));
+  driver = goes_same old.window old.driver;
+  laid = λ p. own_same old.window.unit (strokes_at old.window.pages p);
+  server_registered = ap (λ (p : EndPlace). p.partner_registered) place;
+  server_session = session;
+  server_taken = ap (λ (p : EndPlace). p.partner_taken) place;
+  puts = puts;
+  alone = alone;
+}
+
+pub drives_link : (f g : Bool) (a b : List GName) (old : Pair) (lent link : PlainLink) → lent ≡ old.link → f ≡ false
+    → (end_of b link g).place ≡ (end_of a lent f).place → (end_of b link g).counts.partner_session ≡ (end_of a lent f).counts.partner_session
+    → Announces (end_of a lent f) (end_of b link g) → IfNone old.driver ((end_of b link g).registered ≡ (end_of a lent f).registered)
+    → Drives old (record { server = old.server; link = link; own = old.own; window = old.window; driver = old.driver })
+drives_link f g a b old lent link same is place session puts alone =
+    at lent same f g is (ap (λ (p : EndPlace). p.first) place ∙ is) place session (puts_at f g a b lent link is place puts) alone
+  where
+    at : (l : PlainLink) → l ≡ old.link → (d d' : Bool) → d ≡ false → d' ≡ false → (end_of b link d').place ≡ (end_of a l d).place
+        → (end_of b link d').counts.partner_session ≡ (end_of a l d).counts.partner_session → Announces (end_of [] l false) (end_of [] link false)
+        → IfNone old.driver ((end_of b link d').registered ≡ (end_of a l d).registered)
+        → Drives old (record { server = old.server; link = link; own = old.own; window = old.window; driver = old.driver })
+    at l same false false e e' p s q r =
+        drives_here a b old link (subst (λ (m : PlainLink). (end_of b link false).place ≡ (end_of a m false).place) same p)
+        (subst (λ (m : PlainLink). (end_of b link false).counts.partner_session ≡ (end_of a m false).counts.partner_session) same s)
+        (subst (λ (m : PlainLink). Announces (end_of [] m false) (end_of [] link false)) same q)
+        (subst (λ (m : PlainLink). IfNone old.driver ((end_of b link false).registered ≡ (end_of a m false).registered)) same r)
+    at l same true d' e e' p s q r = absurd (both_bools true refl e)
+    at l same false true e e' p s q r = absurd (both_bools true refl e')
+
+pub if_none : (o : Option Driver) (P : Type 0) → P → IfNone o P
+if_none None P is = is
+if_none (Some driver) P is = tt
+
+pub some_none : (P : Driver → Type 0) (o : Option Driver) (Q : Type 0) → IsSomeAnd o P → IfNone o Q
+some_none P None Q is = absurd is
+some_none P (Some driver) Q is = tt
 
 -- all pairs
 pub driven_same : (pairs : List Pair) → AreDriven pairs pairs

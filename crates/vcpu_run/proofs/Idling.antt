@@ -7,15 +7,14 @@ use Rattle.vcpu_run.specs.declared.pair.Pair.{Pair}
 use Rattle.vcpu_run.specs.declared.script.Script.{Script}
 use Rattle.vcpu_run.specs.declared.unit_seat.Seat.{Seat}
 use Rattle.vcpu_run.specs.Lines.{IsOver}
-use Rattle.vcpu_run.specs.Links.{AreIdleTo, AreOverTo, ClientsWait, LinkState, NoneBehind, RestsAt, SeatsRest, ServerWaits, ServersWait, links_of, link_state}
+use Rattle.vcpu_run.specs.Links.{AreIdleTo, AreOverTo, ClientsWait, SeatsWait, LinkState, NoneBehind, RestsAt, SeatsRestWhole, ServerWaits, ServersWait, links_of, link_state}
 use Rattle.vcpu_run.specs.Machines.{AllRun}
 use Rattle.vcpu_run.specs.Scripts.{OnlyRuns, are_servers}
+use Rattle.vcpu_run.proofs.Announcing.{both_bools}
 use Rattle.vcpu_run.proofs.Driving.{get_set_same, same_or}
 use Rattle.vcpu_run.proofs.Homes.{all_at}
+use Rattle.vcpu_run.proofs.Resting.{events_rest}
 use Rattle.vcpu_run.proofs.Listed.{held_is, is_held, there_is}
-
-pub both_bools : (b : Bool) → b ≡ true → b ≡ false → ⊥
-both_bools b t f = cc
 
 -- one server unit more
 links_elsewhere : (pairs pairs' : List Pair) (k : ℕ) → slice_get pairs' k ≡ slice_get pairs k → slice_get (links_of pairs') k ≡ slice_get (links_of pairs) k
@@ -50,12 +49,12 @@ serves_all pairs units n all wait k link found =
 
 -- the script that made a turn
 pub set_rests : (scripts : List Script) (i : ℕ) (old new : Script) (seats : List Seat) (before after : List Pair) → i < length scripts → new.seats.items ≡ seats
-    → (IsOver new → SeatsRest seats before after) → IsSomeAnd (slice_get (slice_set scripts i new) i) IsOver
-    → IsSomeAnd (slice_get (slice_set scripts i new) i) (λ script. SeatsRest script.seats.items before after)
+    → (IsOver new → SeatsRestWhole seats before after) → IsSomeAnd (slice_get (slice_set scripts i new) i) IsOver
+    → IsSomeAnd (slice_get (slice_set scripts i new) i) (λ script. SeatsRestWhole script.seats.items before after)
 set_rests scripts i old new seats before after less same rests over =
     let there = get_set_same scripts i new less in
-    is_held (λ (script : Script). SeatsRest script.seats.items before after) (slice_get (slice_set scripts i new) i) new there
-    (subst (λ (list : List Seat). SeatsRest list before after) (sym same) (rests (held_is IsOver (slice_get (slice_set scripts i new) i) new there over)))
+    is_held (λ (script : Script). SeatsRestWhole script.seats.items before after) (slice_get (slice_set scripts i new) i) new there
+    (subst (λ (list : List Seat). SeatsRestWhole list before after) (sym same) (rests (held_is IsOver (slice_get (slice_set scripts i new) i) new there over)))
 
 -- the script that made a turn has the seats of before
 seats_run : (scripts scripts' : List Script) (n : ℕ) (old script : Script) → AllRun scripts scripts' → slice_get scripts n ≡ Some old → slice_get scripts' n ≡ Some script
@@ -77,12 +76,12 @@ rests_servers scripts n here units units' old new there is wait = record {
         (is_held (λ (s : Script). are_servers s.seats.items ≡ true) (slice_get scripts n) here there is)
 
 pub rests_clients : (scripts scripts' : List Script) (n : ℕ) (here : Script) (units : List Unit) (old new : List Pair) → AllRun scripts scripts' → slice_get scripts n ≡ Some here
-    → are_servers here.seats.items ≡ false → IsSomeAnd (slice_get scripts' n) (λ script. SeatsRest script.seats.items old new) → RestsAt n scripts' units units old new
+    → are_servers here.seats.items ≡ false → IsSomeAnd (slice_get scripts' n) (λ script. SeatsRestWhole script.seats.items old new) → RestsAt n scripts' units units old new
 rests_clients scripts scripts' n here units old new run there other rests = record {
   same = λ script found other. refl;
   servers = λ script found of.
       absurd (both_bools (are_servers script.seats.items) of (ap are_servers (seats_run scripts scripts' n here script run there found) ∙ other));
-  clients = λ script found is. held_is (λ (s : Script). SeatsRest s.seats.items old new) (slice_get scripts' n) script found rests;
+  clients = λ script found is. held_is (λ (s : Script). SeatsRestWhole s.seats.items old new) (slice_get scripts' n) script found rests;
 }
 
 -- one script more
@@ -111,20 +110,25 @@ idle_next n units units' pairs pairs' scripts scripts' less else turn before ove
     servers rests was this there i script found of (inr apart) below true is = rests.servers this there is
     servers rests was this there i script found of (inr apart) below false is =
         subst (λ (us : List Unit). ServersWait us (links_of pairs')) (sym (rests.same this there is))
-        (subst (ServersWait units) (sym (rests.clients this there is).still)
+        (subst (ServersWait units) (sym (rests.clients this there is).seats_rest.rest.still)
         (was.servers i script (omega (arith, below, apart)) (sym (else i apart) ∙ found) of))
 
     clients : RestsAt n scripts' units units' pairs pairs' → AreIdleTo n units pairs scripts → (this : Script) → slice_get scripts' n ≡ Some this
         → (i : ℕ) (script : Script) → slice_get scripts' i ≡ Some script → are_servers script.seats.items ≡ false → NoneBehind i (n + 1) scripts'
-        → (i ≡ n) ⊎ (i ≢ n) → i < n + 1 → ClientsWait script.seats.items (links_of pairs')
+        → (i ≡ n) ⊎ (i ≢ n) → i < n + 1 → SeatsWait script.seats.items pairs'
     clients rests was this there i script found other none (inl e) below =
-        (rests.clients script (ap (slice_get scripts') (sym e) ∙ found) other).wait
+        let rest = rests.clients script (ap (slice_get scripts') (sym e) ∙ found) other in
+        record { clients = rest.seats_rest.wait; events = rest.events }
     clients rests was this there i script found other none (inr apart) below =
         let less : i < n = omega (arith, below, apart) in
         let last = none n this less (omega arith) there in
-        subst (ClientsWait script.seats.items) (sym (rests.clients this there last).still)
-        (was.clients i script less (sym (else i apart) ∙ found) other
-        (λ j later behind within at. none j later behind (omega (arith, within)) (else j (below_apart j within) ∙ at)))
+        let rest = (rests.clients this there last).seats_rest.rest in
+        let wait = was.clients i script less (sym (else i apart) ∙ found) other
+        (λ j later behind within at. none j later behind (omega (arith, within)) (else j (below_apart j within) ∙ at)) in
+        record {
+          clients = subst (ClientsWait script.seats.items) (sym rest.still) wait.clients;
+          events = events_rest script.seats.items pairs pairs' rest wait.events;
+        }
 
 pub idle_all : (n : ℕ) (units : List Unit) (pairs : List Pair) (scripts : List Script) → length scripts ≤ n → (AreOverTo n scripts → AreIdleTo n units pairs scripts)
     → AreOverTo (length scripts) scripts → AreIdleTo (length scripts) units pairs scripts

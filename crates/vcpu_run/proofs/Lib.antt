@@ -1,4 +1,5 @@
 pub mod Agreeing
+pub mod Announcing
 pub mod Answering
 pub mod Apart
 pub mod Blocks
@@ -15,6 +16,7 @@ pub mod Fetching
 pub mod Following
 pub mod FramesCarried
 pub mod Freed
+pub mod GivenAnswers
 pub mod Homes
 pub mod Idling
 pub mod InSessions
@@ -23,6 +25,7 @@ pub mod Lasting
 pub mod Lined
 pub mod Listed
 pub mod Logging
+pub mod Losing
 pub mod Makers
 pub mod Marked
 pub mod Naming
@@ -39,6 +42,7 @@ pub mod RawCalling
 pub mod RawSaid
 pub mod Receiving
 pub mod RecordLaws
+pub mod Requesting
 pub mod Resting
 pub mod Scripted
 pub mod Seated
@@ -47,5 +51,6 @@ pub mod Settling
 pub mod Showing
 pub mod Sole
 pub mod Told
+pub mod Unfreed
 pub mod Waiting
 pub mod Working

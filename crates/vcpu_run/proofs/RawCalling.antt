@@ -20,10 +20,12 @@ use Rattle.vcpu_run.specs.Credited.{StepsAgreed, StepsPort, grants, is_take}
 use Rattle.unit_region.specs.Steps.{IsPlain, is_plain}
 use Rattle.vcpu_run.specs.RawCalls.{CallsUnits, place_of}
 use Rattle.vcpu_run.proofs.Credits.{plain_fresh}
+use Rattle.vcpu_run.specs.Freeing.{NoneSits}
 use Rattle.vcpu_run.proofs.Driving.{driven_same}
+use Rattle.vcpu_run.proofs.Unfreed.{frees_same}
 
 units_same : (old new : PartitionUnits) → new ≡ old → CallsUnits old new
-units_same old new same = subst (CallsUnits old) (sym same) (record { lender = refl; lan_lender = refl; driven = driven_same old.pairs.now; told = λ k. refl; ports = refl })
+units_same old new same = subst (CallsUnits old) (sym same) (record { lender = refl; lan_lender = refl; driven = driven_same old.pairs.now; told = λ k. refl; ports = refl; stays = frees_same (NoneSits old.seats.now) old.pairs.now })
 
 -- a row that has a unit, or none of this partition
 called_on : (old new : PartitionUnits) (unit : Option ℕ) (result : Result Returned NoMemory)

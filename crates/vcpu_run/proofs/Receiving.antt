@@ -25,13 +25,16 @@ use Rattle.block_server.specs.Moves.{is_intake}
 use Rattle.block_server.specs.Receipts.{AwaitNone, HasIntake, Intake, IsIntake, LinesMore, Receipt, is_ended}
 use Rattle.block_server.specs.declared.unit.Unit.{Unit}
 use Rattle.block_server.proofs.BookLaws.{kept_elsewhere, kept_seen}
+use Rattle.block_server.specs.Owed.{HaveAnswers, OweNone, SeesAnswers}
+use Rattle.block_server.proofs.OwedLaws.{answers_elsewhere, answers_seen}
 use Rattle.block_server.proofs.IntakeLaws.{intake_none, intake_stays, others_pass}
 use Rattle.vcpu_run.specs.declared.pair.Pair.{Pair}
-use Rattle.vcpu_run.specs.Answered.{AreBegun}
+use Rattle.vcpu_run.specs.Answered.{AreBegun, IsBehind}
 use Rattle.vcpu_run.specs.Pairs.{AreDriven, Drives}
 use Rattle.vcpu_run.specs.Received.{AreFresh, AreReceived, IsReceived}
 use Rattle.vcpu_run.proofs.Keeping.{own_stays}
 use Rattle.vcpu_run.proofs.Listed.{came_from}
+use Rattle.vcpu_run.proofs.Losing.{behind_driven, behind_none, sees_driven, sees_same}
 
 -- what a unit's intake is judged by
 abbrev pub intake_at : Unit → (own client : PortState) → EndState → List CopyRecord → List Grant → Intake
@@ -103,8 +106,12 @@ pub received_served : (units units' : List Unit) (unit : ℕ) (old new : Pair) (
     → queue'.last_session ≡ (side_of new.link true).queue.session → queue'.taken ≡ (side_of new.link true).queue.taken
     → ((judged : List Judged) → HasJudged units unit (known_of old.own) (known_of old.window) queue copies history grants judged
     → ∥ ((more : List Judged) × (HasJudged units' unit (known_of new.own) (known_of new.window) queue' copies' history' grants' (judged ++ more) × AreInTime old.own.unit grants more)) ∥₁)
-    → AreBegun (side_of new.link true).queue.taken → IsReceived units copies grants history unit old → IsReceived units' copies' grants' history' unit new
-received_served units units' unit old new queue queue' copies copies' grants grants' history history' session taken session' taken' turn begun is = record {
+    → AreBegun (side_of new.link true).queue.taken → IsBehind (end_of [] new.link true)
+    → SeesAnswers (end_of [] old.link true) queue → SeesAnswers queue' (end_of [] new.link true) → new.own.unit ≡ old.own.unit
+    → ((judged : List Judged) → HasJudged units unit (known_of old.own) (known_of old.window) queue copies history grants judged
+    → HaveAnswers units unit old.own.unit queue history grants → ∥ HaveAnswers units' unit old.own.unit queue' history' grants' ∥₁)
+    → IsReceived units copies grants history unit old → IsReceived units' copies' grants' history' unit new
+received_served units units' unit old new queue queue' copies copies' grants grants' history history' session taken session' taken' turn begun behind sees seen name answers is = record {
   judged = ∥∥₁_elim is.judged ∥∥₁_prop
       (λ before. ∥∥₁_map
       (turn before.0 (judged_seen units units unit (known_of old.own) (known_of old.own) (known_of old.window) (known_of old.window) (end_of [] old.link true) queue copies copies history grants before.0 refl refl
@@ -115,6 +122,16 @@ received_served units units' unit old new queue queue' copies copies' grants gra
             (same_seen (known_of new.own) (known_of new.window) queue' (end_of [] new.link true) copies' grants' (sym session') (sym taken')) after.1.0,
       )));
   begun = begun;
+  behind = behind;
+  answers = ∥∥₁_elim is.judged ∥∥₁_prop
+      (λ before. ∥∥₁_elim is.answers ∥∥₁_prop
+      (λ owed. ∥∥₁_map
+      (answers before.0 (judged_seen units units unit (known_of old.own) (known_of old.own) (known_of old.window) (known_of old.window) (end_of [] old.link true) queue copies copies history grants before.0 refl refl
+      (same_seen (known_of old.own) (known_of old.window) (end_of [] old.link true) queue copies grants session taken) before.1)
+      (answers_seen units units unit old.own.unit (end_of [] old.link true) queue history grants refl sees owed))
+      (λ after.
+      subst (λ (id : UnitId). HaveAnswers units' unit id (end_of [] new.link true) history' grants') (sym name)
+      (answers_seen units' units' unit old.own.unit queue' (end_of [] new.link true) history' grants' refl seen after))));
 }
 
 -- A turn of another server unit.
@@ -143,6 +160,10 @@ received_elsewhere units units' k unit other own client copies copies' grants gr
         },
       )));
   begun = is.begun;
+  behind = is.behind;
+  answers = ∥∥₁_elim rows ∥∥₁_prop
+      (λ only. ∥∥₁_map₂ lines is.answers
+      (λ lines owed. answers_elsewhere units units' k unit other.own.unit (end_of [] other.link true) (end_of [] other.link true) history history' grants grants' apart same (sees_same (end_of [] other.link true)) only lines owed));
 }
 
 -- A turn of the clients.
@@ -168,12 +189,17 @@ received_driven units copies grants history old new driven are k pair found =
                 }) has.1,
           ));
       begun = subst AreBegun (sym d.server_taken) is.begun;
+      behind = behind_driven from.0 pair d is.behind;
+      answers = ∥∥₁_map is.answers
+          (λ owed.
+          subst (λ (id : UnitId). HaveAnswers units k id (end_of [] pair.link true) history grants) (sym (ap (λ (own : WindowValue). own.unit) d.own))
+          (answers_seen units units k from.0.own.unit (end_of [] from.0.link true) (end_of [] pair.link true) history grants refl (sees_driven from.0 pair d is.behind) owed));
     }
 
 -- Before the first turn.
-pub received_fresh : (units : List Unit) (copies : List CopyRecord) (grants : List Grant) (history : List Served) (pairs : List Pair) → copies ≡ [] → grants ≡ [] → history ≡ [] → AwaitNone units → AreUnused units → AreFresh pairs
+pub received_fresh : (units : List Unit) (copies : List CopyRecord) (grants : List Grant) (history : List Served) (pairs : List Pair) → copies ≡ [] → grants ≡ [] → history ≡ [] → AwaitNone units → AreUnused units → OweNone units → AreFresh pairs
     → AreReceived units copies grants history pairs
-received_fresh units copies grants history pairs none no_lines no_rows waits unused fresh k pair found = record {
+received_fresh units copies grants history pairs none no_lines no_rows waits unused unowed fresh k pair found = record {
   judged = ∣ (
     [],
     record {
@@ -184,4 +210,7 @@ received_fresh units copies grants history pairs none no_lines no_rows waits unu
     },
   ) ∣₁;
   begun = subst AreBegun (sym (fresh k pair found)) (All-nil (λ (row : PipeRow). 1 ≤ row.session));
+  behind = behind_none (side_of pair.link true).queue.session (side_of pair.link true).queue.taken (side_of pair.link true).queue.sent (fresh k pair found);
+  answers = ∣ subst (λ (lines : List Grant). HaveAnswers units k pair.own.unit (end_of [] pair.link true) history lines) (sym no_lines)
+      (subst (λ (rows : List Served). HaveAnswers units k pair.own.unit (end_of [] pair.link true) rows []) (sym no_rows) (unowed k pair.own.unit (end_of [] pair.link true))) ∣₁;
 }

@@ -21,7 +21,8 @@ use Rattle.vcpu_run.specs.Credited.{KeepsCredit, ended_by}
 use Rattle.vcpu_run.specs.Gathered.{logs_of, trace_of}
 use Rattle.vcpu_run.specs.Lines.{IsOver, numbers_to_fail}
 use Rattle.vcpu_run.specs.Machines.{AreScripts, AreScriptsOf, IsOfPlan, IsScriptFor}
-use Rattle.vcpu_run.specs.RunLaw.{CreditsAreKept, RecordsAreOfLines, script_in, script_of}
+use Rattle.vcpu_run.specs.RunLaw.{CreditsAreKept, RecordsAreOfLines}
+use Rattle.vcpu_run.specs.Settled.{script_in, script_of}
 use Rattle.vcpu_run.proofs.Following.{each_from_all}
 use Rattle.vcpu_run.proofs.Homes.{all_at}
 use Rattle.vcpu_run.proofs.Order.{Each, Ordered, each_weaker}

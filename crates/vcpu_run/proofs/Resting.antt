@@ -1,5 +1,5 @@
 -- What is so of the links of pairs where nothing was done at an end.
-use Rattle.std.proofs.Common.{◌≡◌, ◌≢◌, ◌∙◌, ◌⊎◌, inl, inr, ℕ, ◌+◌, ◌<◌, zero, suc, Bool, true, false, List, [], ◌∷◌, Option, Some, None, Result, Ok, Err, IfOk, IsSomeAnd, length, map, slice_get, slice_set, refl, sym, ap, ap₂, subst, arith}
+use Rattle.std.proofs.Common.{◌≡◌, ◌≢◌, ◌∙◌, ◌⊎◌, inl, inr, ℕ, ◌+◌, ◌<◌, zero, suc, Bool, true, false, List, [], ◌∷◌, Option, Some, None, Result, Ok, Err, IfOk, IfSome, IsSomeAnd, length, map, slice_get, slice_set, refl, sym, ap, ap₂, subst, arith}
 use Rattle.std.specs.Borrow.{GName}
 use Rattle.std.specs.Option.{option_map}
 use Rattle.std.proofs.lemmas.Option.{slice_get-map, slice_get_within}
@@ -9,8 +9,8 @@ use Rattle.vio_num.specs.declared.hypervisor.Moved.TheVariants as moves
 use Rattle.vio_num.specs.declared.memory.NoMemory.{NoMemory}
 use Rattle.crq_ring.specs.Sessions.{of_session}
 use Rattle.crq_ring.specs.declared.rows.PipeRow.{PipeRow}
-use Rattle.crq_session.specs.Answered.{received_now, taken_now}
-use Rattle.crq_session.specs.EndState.{EndPlace, EndState, OnlyTakes}
+use Rattle.crq_session.specs.Answered.{FindsFull, LosesKept, PutsNone, StillKept, received_now, taken_now}
+use Rattle.crq_session.specs.EndState.{EndPlace, EndState, OnlyPushes, OnlyTakes}
 use Rattle.crq_session.specs.declared.link.PlainLink.{PlainLink}
 use Rattle.crq_session.specs.PlainState.{end_of, side_of}
 use Rattle.tce_window.specs.PortState.{PortState}
@@ -20,7 +20,7 @@ use Rattle.vscsi_client.specs.Taking.{TakesNone}
 use Rattle.vcpu_run.specs.declared.pair.Pair.{Pair}
 use Rattle.vcpu_run.specs.declared.unit_seat.Seat.{Seat}
 use Rattle.vcpu_run.specs.declared.unit_seat.Seat.TheVariants as sits
-use Rattle.vcpu_run.specs.Links.{ClientWaits, EndRests, EndStays, IsAllTaken, LinkState, PairRests, link_state, links_of, queue_state}
+use Rattle.vcpu_run.specs.Links.{ClientWaits, EndRests, EndStays, EventStays, EventWaits, EventsWait, IsAllTaken, IsFull, LinkState, LinksRest, PairRests, link_state, links_of, queue_state}
 use Rattle.vcpu_run.specs.Quietly.{OnQuiet}
 use Rattle.vcpu_run.proofs.Driving.{get_set_other, get_set_same, same_or, some_is}
 
@@ -57,6 +57,17 @@ link_still f g a b old new is stays =
     (subst (λ (d : Bool). EndStays (end_of a old false) (end_of b new d)) (first ∙ is)
     (subst (λ (d : Bool). EndStays (end_of a old d) (end_of b new g)) is stays))
 
+side_is : (f g : Bool) (a b : List GName) (old new : PlainLink) → f ≡ false → (end_of b new g).place ≡ (end_of a old f).place → g ≡ false
+side_is f g a b old new is place = ap (λ (p : EndPlace). p.first) place ∙ is
+
+both_sides : (P : Bool → Bool → Type 0) (f g : Bool) → f ≡ false → g ≡ false → P f g → P false false
+both_sides P f g e e' p = subst (λ d. P false d) e' (subst (λ d. P d g) e p)
+
+kept_still : (f g : Bool) (a b : List GName) (old new : PlainLink) → f ≡ false → (end_of b new g).place ≡ (end_of a old f).place
+    → (end_of b new g).kept ≡ (end_of a old f).kept → (side_of new false).kept ≡ (side_of old false).kept
+kept_still f g a b old new is place kept =
+    both_sides (λ d d'. (side_of new d').kept ≡ (side_of old d).kept) f g is (side_is f g a b old new is place) kept
+
 -- a client's end at which nothing was found
 client_waits : (a : List GName) (link : PlainLink) → ((end_of a link false).registered ≡ false) ⊎ (received_now (end_of a link false) ≡ taken_now (end_of a link false)) → ClientWaits (link_state link)
 client_waits a link none = none
@@ -64,8 +75,12 @@ client_waits a link none = none
 pub pair_rests : (f g : Bool) (a b : List GName) (old new : Pair) → f ≡ false → EndRests (end_of a old.link f) (end_of b new.link g) → PairRests old new
 pair_rests f g a b old new is rests =
     let still : link_state new.link ≡ link_state old.link = link_still f g a b old.link new.link is rests.stays in
-    let none = subst (λ (d : Bool). ((end_of a old.link d).registered ≡ false) ⊎ (received_now (end_of a old.link d) ≡ taken_now (end_of a old.link d))) is rests.none in
-    record { still = still; wait = subst ClientWaits (sym still) (client_waits a old.link none) }
+    record { still = still; event = inl (kept_still f g a b old.link new.link is rests.stays.place rests.kept) }
+
+pub pair_waits : (f g : Bool) (a b : List GName) (old new : PlainLink) → f ≡ false → EndRests (end_of a old f) (end_of b new g) → ClientWaits (link_state new)
+pair_waits f g a b old new is rests =
+    let none = subst (λ (d : Bool). ((end_of a old d).registered ≡ false) ⊎ (received_now (end_of a old d) ≡ taken_now (end_of a old d))) is rests.none in
+    subst ClientWaits (sym (link_still f g a b old new is rests.stays)) (client_waits a old none)
 
 -- a client that found nothing
 pub none_taken : (shared os : Bool) (e e' : EndState) (o o' : PortState) (s s' : ClientState) (number : ℕ) → TakesNone s s' (ports shared e os o) (ports shared e' os o') number
@@ -85,10 +100,12 @@ none_taken shared os e e' o o' s s' number takes rest alone =
     elim polls.none as (λ _. EndRests e e') [
       | inl none ↦ record {
         stays = stays none.taken;
+        kept = rest.kept;
         none = inr (none_left room e ready.last_session ready.place ready.taken (none.all_taken alone));
       }
       | inr closed ↦ record {
         stays = stays closed.2.taken;
+        kept = rest.kept;
         none = inl (sym ready.registered ∙ closed.0);
       }
     ]
@@ -145,3 +162,152 @@ rests_next seats n seat old new there same before here u k less found = at (same
     at : (u ≡ n) ⊎ (u ≢ n) → IsSomeAnd (slice_get new k) ClientWaits
     at (inl e) = here k (some_is seat (sits.Client k) (sym there ∙ (ap (λ m. slice_get seats m) (sym e) ∙ found)))
     at (inr apart) = subst (λ (links : List LinkState). IsSomeAnd (slice_get links k) ClientWaits) (sym same) (before u k (omega (arith, less, apart)) found)
+
+-- a client that has put the event that it kept, or lost it, or found its slot full
+pushes_still : (f g : Bool) (a b : List GName) (old new : PlainLink) → f ≡ false → OnlyPushes false (end_of a old f) (end_of b new g)
+    → (end_of b new g).sent ≡ (end_of a old f).sent → link_state new ≡ link_state old
+pushes_still f g a b old new is rest sent =
+    link_still f g a b old new is
+    (record { place = rest.place; session = rest.last_session; registered = rest.registered; sent = sent; taken = rest.taken; partner = rest.counts.same_session refl })
+
+loses_none : (old new : EndState) (kept : Option Entry) → LosesKept false kept old new → new.sent ≡ old.sent
+loses_none old new None none = none.sent
+loses_none old new (Some event) loses = loses.none.sent
+
+none_kept : (f g : Bool) (a b : List GName) (old new : PlainLink) → f ≡ false → (end_of b new g).place ≡ (end_of a old f).place → (end_of b new g).kept ≡ None
+    → (side_of new false).kept ≡ None
+none_kept f g a b old new is place kept = both_sides (λ d d'. (side_of new d').kept ≡ None) f g is (side_is f g a b old new is place) kept
+
+pub nothing_rests : (f g : Bool) (a b : List GName) (old new : Pair) → f ≡ false → OnlyPushes false (end_of a old.link f) (end_of b new.link g)
+    → PutsNone false (end_of a old.link f) (end_of b new.link g) → PairRests old new
+nothing_rests f g a b old new is rest none = record {
+  still = pushes_still f g a b old.link new.link is rest (loses_none (end_of a old.link f) (end_of b new.link g) (end_of a old.link f).kept none.loses);
+  event = inr (none_kept f g a b old.link new.link is rest.place none.kept);
+}
+
+pub nothing_waits : (f g : Bool) (a b : List GName) (old new : Pair) → f ≡ false → OnlyPushes false (end_of a old.link f) (end_of b new.link g)
+    → PutsNone false (end_of a old.link f) (end_of b new.link g) → EventWaits new
+nothing_waits f g a b old new is rest none = inl (none_kept f g a b old.link new.link is rest.place none.kept)
+
+pub kept_rests : (f g : Bool) (a b : List GName) (old new : Pair) (number held : ℕ) → f ≡ false → OnlyPushes false (end_of a old.link f) (end_of b new.link g)
+    → StillKept false (end_of a old.link f) (end_of b new.link g) number held → PairRests old new
+kept_rests f g a b old new number held is rest kept = record {
+  still = pushes_still f g a b old.link new.link is rest kept.full.sent;
+  event = inl (kept_still f g a b old.link new.link is rest.place kept.kept);
+}
+
+full_there : (a b : List GName) (old new : PlainLink) (number held : ℕ) → new.first.queue.session ≡ old.first.queue.session
+    → FindsFull false (end_of a old false) (end_of b new false) number held → IsFull (link_state old).server
+full_there a b old new number held session full = record {
+  registered = full.partner refl;
+  full = subst (λ q. length (of_session q old.first.queue.sent) ≡ length (of_session q old.first.queue.taken) + old.first.queue.slots) session (full.full_slot refl);
+}
+
+pub kept_waits : (f g : Bool) (a b : List GName) (old new : Pair) (number held : ℕ) → f ≡ false → OnlyPushes false (end_of a old.link f) (end_of b new.link g)
+    → StillKept false (end_of a old.link f) (end_of b new.link g) number held → EventWaits new
+kept_waits f g a b old new number held is rest kept =
+    let side = side_is f g a b old.link new.link is rest.place in
+    let session = both_sides (λ d d'. (end_of b new.link d').counts.partner_session ≡ (end_of a old.link d).counts.partner_session) f g is side (rest.counts.same_session refl) in
+    let full = both_sides (λ d d'. FindsFull false (end_of a old.link d) (end_of b new.link d') number held) f g is side kept.full in
+    inr (subst (λ (l : LinkState). IsFull l.server) (sym (pushes_still f g a b old.link new.link is rest kept.full.sent))
+    (full_there a b old.link new.link number held session full))
+
+-- pairs that rest
+event_on : (a b c : Pair) → EventStays a b → EventStays b c → EventStays a c
+event_on a b c first next = elim next as (λ _. EventStays a c) [
+  | inl same ↦ elim first as (λ _. EventStays a c) [ inl was ↦ inl (same ∙ was) | inr none ↦ inr (same ∙ none) ]
+  | inr none ↦ inr none
+]
+
+pub rests_same : (pairs : List Pair) → LinksRest pairs pairs
+rests_same pairs = record { still = refl; events = λ k pair found. subst (λ (o : Option Pair). IfSome o (λ before. EventStays before pair)) (sym found) (inl refl) }
+
+pub rests_on : (a b c : List Pair) → LinksRest a b → LinksRest b c → LinksRest a c
+rests_on a b c first next = record { still = next.still ∙ first.still; events = λ k pair found. at k pair (slice_get b k) refl (next.events k pair found) }
+  where
+    behind : (k : ℕ) (pair middle : Pair) (o : Option Pair) → EventStays middle pair → IfSome o (λ before. EventStays before middle) → IfSome o (λ before. EventStays before pair)
+    behind k pair middle None later was = tt
+    behind k pair middle (Some before) later was = event_on before middle pair was later
+
+    no_link : (link : LinkState) → None ≡ Some link → ⊥
+    no_link link e = cc
+
+    gone : (k : ℕ) (before : Pair) → slice_get a k ≡ Some before → slice_get b k ≡ None → ⊥
+    gone k before there none =
+        let was : slice_get (links_of a) k ≡ Some (link_state before.link) = link_at a k before there in
+        let now : slice_get (links_of b) k ≡ None = slice_get-map (λ (q : Pair). link_state q.link) b k ∙ ap (option_map (λ (q : Pair). link_state q.link)) none in
+        no_link (link_state before.link) (sym now ∙ (ap (λ links. slice_get links k) first.still ∙ was))
+
+    none_before : (k : ℕ) (pair : Pair) (o : Option Pair) → slice_get a k ≡ o → slice_get b k ≡ None → IfSome o (λ before. EventStays before pair)
+    none_before k pair None e none = tt
+    none_before k pair (Some before) there none = absurd (gone k before there none)
+
+    at : (k : ℕ) (pair : Pair) (o : Option Pair) → slice_get b k ≡ o → IfSome o (λ middle. EventStays middle pair) → IfSome (slice_get a k) (λ before. EventStays before pair)
+    at k pair None e later = none_before k pair (slice_get a k) refl e
+    at k pair (Some middle) e later = behind k pair middle (slice_get a k) later (first.events k middle e)
+
+-- a turn at one of them
+pub rests_set : (pairs : List Pair) (i : ℕ) (old new : Pair) → slice_get pairs i ≡ Some old → PairRests old new → LinksRest pairs (slice_set pairs i new)
+rests_set pairs i old new there rests = record {
+  still = links_set pairs i old new there rests.still;
+  events = λ k pair found. at k pair found (same_or k i);
+}
+  where
+    at : (k : ℕ) (pair : Pair) → slice_get (slice_set pairs i new) k ≡ Some pair → (k ≡ i) ⊎ (k ≢ i) → IfSome (slice_get pairs k) (λ before. EventStays before pair)
+    at k pair found (inl e) =
+        let is : new ≡ pair =
+        some_is new pair (sym (get_set_same pairs i new (slice_get_within pairs i old there)) ∙ (ap (λ n. slice_get (slice_set pairs i new) n) (sym e) ∙ found)) in
+        subst (λ (o : Option Pair). IfSome o (λ before. EventStays before pair)) (sym (ap (λ n. slice_get pairs n) e ∙ there))
+        (subst (λ (p : Pair). EventStays old p) is rests.event)
+    at k pair found (inr apart) =
+        subst (λ (o : Option Pair). IfSome o (λ before. EventStays before pair)) (sym (sym (get_set_other pairs i k new apart) ∙ found)) (inl refl)
+
+pub events_set : (P : Pair → Type 0) (pairs : List Pair) (i : ℕ) (new : Pair) → i < length pairs → P new → IfSome (slice_get (slice_set pairs i new) i) P
+events_set P pairs i new less is = subst (λ o. IfSome o P) (sym (get_set_same pairs i new less)) is
+
+-- an event that waits still does once its pair rested
+event_waits : (old new : Pair) → link_state new.link ≡ link_state old.link → EventStays old new → EventWaits old → EventWaits new
+event_waits old new same stays waits = elim stays as (λ _. EventWaits new) [
+  | inl kept ↦ elim waits as (λ _. EventWaits new) [
+    | inl none ↦ inl (kept ∙ none)
+    | inr full ↦ inr (subst (λ (l : LinkState). IsFull l.server) (sym same) full)
+  ]
+  | inr none ↦ inl none
+]
+
+event_rests : (k : ℕ) (old new : List Pair) → LinksRest old new → IfSome (slice_get old k) EventWaits → IfSome (slice_get new k) EventWaits
+event_rests k old new rests wait = at (slice_get new k) refl
+  where
+    same_links : (before pair : Pair) → slice_get old k ≡ Some before → slice_get new k ≡ Some pair → link_state pair.link ≡ link_state before.link
+    same_links before pair was now =
+        link_is (link_state pair.link) (link_state before.link) (sym (link_at new k pair now) ∙ (ap (λ links. slice_get links k) rests.still ∙ link_at old k before was))
+      where
+        link_is : (x y : LinkState) → Some x ≡ Some y → x ≡ y
+        link_is x y e = cc
+
+    before : (pair : Pair) (o : Option Pair) → slice_get old k ≡ o → slice_get new k ≡ Some pair → IfSome o (λ before. EventStays before pair) → IfSome o EventWaits → EventWaits pair
+    before pair None was now stays waits = absurd (none_there (link_state pair.link) (sym gone ∙ (sym (ap (λ links. slice_get links k) rests.still) ∙ link_at new k pair now)))
+      where
+        gone : slice_get (links_of old) k ≡ None
+        gone = slice_get-map (λ (q : Pair). link_state q.link) old k ∙ ap (option_map (λ (q : Pair). link_state q.link)) was
+
+        none_there : (link : LinkState) → None ≡ Some link → ⊥
+        none_there link e = cc
+    before pair (Some was) e now stays waits = event_waits was pair (same_links was pair e now) stays waits
+
+    at : (o : Option Pair) → slice_get new k ≡ o → IfSome o EventWaits
+    at None e = tt
+    at (Some pair) e = before pair (slice_get old k) refl e (rests.events k pair e) wait
+
+pub events_rest : (seats : List Seat) (old new : List Pair) → LinksRest old new → EventsWait seats old → EventsWait seats new
+events_rest seats old new rests wait u k here = event_rests k old new rests (wait u k here)
+
+pub events_next : (seats : List Seat) (n : ℕ) (seat : Seat) (old new : List Pair) → slice_get seats n ≡ Some seat → LinksRest old new
+    → ((u k : ℕ) → u < n → slice_get seats u ≡ Some (sits.Client k) → IfSome (slice_get old k) EventWaits)
+    → ((k : ℕ) → seat ≡ sits.Client k → IfSome (slice_get new k) EventWaits)
+    → (u k : ℕ) → u < n + 1 → slice_get seats u ≡ Some (sits.Client k) → IfSome (slice_get new k) EventWaits
+events_next seats n seat old new there rests before here u k less found = at (same_or u n)
+  where
+    at : (u ≡ n) ⊎ (u ≢ n) → IfSome (slice_get new k) EventWaits
+    at (inl e) = here k (some_is seat (sits.Client k) (sym there ∙ (ap (λ m. slice_get seats m) (sym e) ∙ found)))
+    at (inr apart) = event_rests k old new rests (before u k (omega (arith, less, apart)) found)

@@ -1,5 +1,5 @@
 -- A gathered trace of idle units is settled: all entries of each server unit's last session were taken.
-use Rattle.std.proofs.Common.{◌≡◌, ◌∙◌, inl, inr, ℕ, ◌+◌, ◌<◌, ◌≤◌, zero, suc, Bool, true, false, List, [], ◌∷◌, All, Option, Some, None, IfNone, IfSome, MatchOption, length, map, slice_get, option_map, refl, sym, ap, subst, arith}
+use Rattle.std.proofs.Common.{◌≡◌, ◌∙◌, inl, inr, ℕ, ◌+◌, ◌<◌, ◌≤◌, zero, suc, Bool, true, false, List, [], ◌∷◌, All, Option, Some, None, IfNone, IfSome, IsSomeAnd, MatchOption, length, map, slice_get, option_map, refl, sym, ap, subst, arith}
 use Rattle.std.proofs.lemmas.Option.{slice_get-map, slice_get_within}
 use Rattle.vio_num.specs.declared.history.Grant.{Grant}
 use Rattle.vio_num.specs.declared.history.Served.{Served}
@@ -8,7 +8,7 @@ use Rattle.crq_ring.specs.Pipe.{PipeValue, IsLawfulPipe}
 use Rattle.crq_session.specs.PlainState.{side_of}
 use Rattle.rdma_copy.specs.declared.copy.CopyRecord.{CopyRecord}
 use Rattle.block_server.specs.declared.unit.Unit.{Unit}
-use Rattle.boot_text.specs.Sound.{unit_at, unit_in, IsServer}
+use Rattle.boot_text.specs.Sound.{unit_at, unit_in, IsClientOf, IsServer}
 use Rattle.boot_text.specs.declared.plan.Partition.{Partition}
 use Rattle.boot_text.specs.declared.plan.UnitPlan.{UnitPlan}
 use Rattle.boot_text.specs.declared.plan.UnitPlan.TheVariants as units
@@ -24,17 +24,19 @@ use Rattle.vcpu_run.specs.declared.unit_seat.Seat.TheVariants as sits
 use Rattle.vcpu_run.specs.declared.unit_seat.UnitSeat.{UnitSeat}
 use Rattle.vcpu_run.specs.CopyRows.{same_unit}
 use Rattle.vcpu_run.specs.Gathered.{HasLawfulQueue, queue_at, rows_if, sessions_at, trace_of}
-use Rattle.vcpu_run.specs.Links.{AreIdle, AwaitsNone, ClientWaits, IsEmptied, IsFull, LinkState, link_state, links_of}
+use Rattle.vcpu_run.specs.Freed.{IsNotFreed}
+use Rattle.vcpu_run.specs.Freeing.{KeepQueues, NoneFrees}
+use Rattle.vcpu_run.specs.Links.{AreIdle, AwaitsNone, ClientWaits, EventWaits, IsEmptied, IsFull, LinkState, link_state, links_of}
 use Rattle.vcpu_run.specs.Machines.{seat_of, AreScripts, HasNoClient, IsOfPlan, IsPlanned, IsPlannedClient, IsScriptFor}
 use Rattle.vcpu_run.specs.Scripts.{are_servers}
 use Rattle.vcpu_run.specs.Sessions.{entries_of, session_rows, sessions_from}
-use Rattle.vcpu_run.specs.Settled.{LastIsTaken, ServersAreSettled}
+use Rattle.vcpu_run.specs.Settled.{ClientsAreSettled, LastIsTaken, LastIsTakenIf, ServersAreSettled, script_in, script_of}
 use Rattle.vcpu_run.specs.Shown.{sessions_of}
 use Rattle.vcpu_run.specs.Units.{seats_of, unit_seat}
 use Rattle.vcpu_run.proofs.Copied.{names_apart}
 use Rattle.vcpu_run.proofs.Following.{each_from_all}
 use Rattle.vcpu_run.proofs.Homes.{unit_found}
-use Rattle.vcpu_run.proofs.Idling.{both_bools}
+use Rattle.vcpu_run.proofs.Announcing.{both_bools}
 use Rattle.vcpu_run.proofs.Listed.{held, held_is, there_is}
 use Rattle.vcpu_run.proofs.Parts.{IsIn, each_in, found}
 use Rattle.vcpu_run.proofs.Placing.{seats_ordered}
@@ -145,8 +147,8 @@ full_served servers pairs scripts ports partitions server pair driver are lawful
     let other = no_servers partitions pairs scripts ports server id.partition script plan serves at.1 behind in
     let place : slice_get script.seats.items id.unit ≡ Some (sits.Client server.unit) =
     at.2 ∙ ap (λ (s : UnitId). Some (sits.Client s.unit)) is in
-    let wait = idle.wait.clients id.partition script (slice_get_within scripts id.partition script at.1) at.1 other
-    (λ j later past within found. no_servers partitions pairs scripts ports server j later plan serves found (omega (arith, past, behind)))
+    let wait = (idle.wait.clients id.partition script (slice_get_within scripts id.partition script at.1) at.1 other
+    (λ j later past within found. no_servers partitions pairs scripts ports server j later plan serves found (omega (arith, past, behind)))).clients
     id.unit server.unit place in
     let waits : ClientWaits (link_state pair.link) =
     held_is ClientWaits (slice_get (links_of pairs) server.unit) (link_state pair.link) (link_at pairs server.unit pair there) wait in
@@ -205,3 +207,74 @@ settled_are pairs scripts lan rows history grants copies partitions servers are 
     let all : entries_of pipe.session pipe.taken ≡ entries_of pipe.session pipe.sent =
     sym (entries_are pipe.session pipe.taken) ∙ (sym empty.taken ∙ entries_are pipe.session pipe.sent) in
     subst LastIsTaken (sym sessions) (rows_taken server pipe pipe.session refl some all)
+
+-- the seat of a client unit, at the pair of its server unit
+client_seat : (partitions : List Partition) (pairs : List Pair) (scripts : List Script) (ports : List PortSeat) (client server : UnitId) → IsOfPlan partitions pairs scripts ports
+    → IsClientOf partitions client server
+    → (script : Script) × (slice_get scripts client.partition ≡ Some script) × (slice_get script.seats.items client.unit ≡ Some (sits.Client server.unit))
+client_seat partitions pairs scripts ports client server plan is = script_at partitions pairs scripts ports client (units.Client server is.0 is.1) plan is.2
+
+-- its client waits, and so does the event that it keeps
+pub client_waits : (servers : List Unit) (pairs : List Pair) (scripts : List Script) (ports : List PortSeat) (partitions : List Partition) (client server : UnitId)
+    → IsOfPlan partitions pairs scripts ports → AreIdle servers pairs scripts → IsServer partitions server → IsClientOf partitions client server
+    → IsSomeAnd (slice_get (links_of pairs) server.unit) ClientWaits × IfSome (slice_get pairs server.unit) EventWaits
+client_waits servers pairs scripts ports partitions client server plan idle serves is =
+    let at = client_seat partitions pairs scripts ports client server plan is in
+    let behind : server.partition < client.partition = plan.sound.earlier client server is in
+    let other = no_servers partitions pairs scripts ports server client.partition at.0 plan serves at.1 behind in
+    let wait = idle.wait.clients client.partition at.0 (slice_get_within scripts client.partition at.0 at.1) at.1 other
+    (λ j later past within found. no_servers partitions pairs scripts ports server j later plan serves found (omega (arith, past, behind))) in
+    (wait.clients client.unit server.unit at.2, wait.events client.unit server.unit at.2)
+
+last_if : (rows : List QueueRow) → LastIsTaken rows → LastIsTakenIf rows
+last_if [] last = absurd last
+last_if (row ∷ rows) last = last
+
+-- a client's queue that was not freed
+unfreed_taken : (unit : UnitId) (pair : Pair) → IsNotFreed pair → ClientWaits (link_state pair.link) → LastIsTakenIf (session_rows unit (side_of pair.link false).queue)
+unfreed_taken unit pair kept waits = at (side_of pair.link false).queue.session refl
+  where
+    pipe : PipeValue
+    pipe = (side_of pair.link false).queue
+
+    all : 1 ≤ pipe.session → entries_of pipe.session pipe.taken ≡ entries_of pipe.session pipe.sent
+    all some = elim waits as (λ _. entries_of pipe.session pipe.taken ≡ entries_of pipe.session pipe.sent) [
+      | inl closed ↦ absurd (both_bools (side_of pair.link false).registered (kept some) closed)
+      | inr taken ↦ sym (entries_are pipe.session pipe.taken) ∙ (sym taken ∙ entries_are pipe.session pipe.sent)
+    ]
+
+    at : (n : ℕ) → pipe.session ≡ n → LastIsTakenIf (sessions_from unit pipe 1 pipe.session)
+    at zero is = subst (λ n. LastIsTakenIf (sessions_from unit pipe 1 n)) (sym is) tt
+    at (suc n) is =
+        let some : 1 ≤ pipe.session = omega (arith, is) in
+        last_if (sessions_from unit pipe 1 pipe.session) (rows_taken unit pipe pipe.session refl some (all some))
+
+pub handed_are : (pairs : List Pair) (scripts : List Script) (lan : LanValue) (rows : LanRows) (history : List Served) (grants : List Grant) (copies : List CopyRecord) (partitions : List Partition) (servers : List Unit)
+    → AreScripts pairs lan.seats scripts → IsOfPlan partitions pairs scripts lan.seats → AreIdle servers pairs scripts → KeepQueues pairs scripts
+    → ClientsAreSettled partitions (trace_of pairs scripts lan rows history grants copies)
+handed_are pairs scripts lan rows history grants copies partitions servers are plan idle keep client server is none =
+    let serves = plan.sound.served client server is in
+    let there = held (λ (pair : Pair). pair.server ≡ server) (slice_get pairs server.unit) (plan.pairs_are.servers server serves) in
+    let pair : Pair = there.0 in
+    let pipe : PipeValue = (side_of pair.link false).queue in
+    let at = client_seat partitions pairs scripts lan.seats client server plan is in
+    let own = script_for partitions pairs scripts lan.seats client.partition at.0 plan at.1 in
+    let lines : script_of partitions client.partition ≡ at.0.lines.now = ap script_in own.1 ∙ sym own.2.lines in
+    let kept : IsNotFreed pair =
+    some_is_so IsNotFreed (slice_get pairs server.unit) pair there.1 (keep client.partition at.0 at.1 client.unit server.unit at.2 (subst (NoneFrees client.unit) lines none)) in
+    let waits : ClientWaits (link_state pair.link) =
+    held_is ClientWaits (slice_get (links_of pairs) server.unit) (link_state pair.link) (link_at pairs server.unit pair there.1)
+    (client_waits servers pairs scripts lan.seats partitions client server plan idle serves is).0 in
+    let seats = seats_of scripts in
+    let seat : UnitSeat = unit_seat client.partition client.unit (sits.Client server.unit) in
+    let inside : IsIn seat seats = planned_in partitions pairs scripts lan.seats client (units.Client server is.0 is.1) are plan is.2 in
+    let queue : queue_at pairs seat ≡ Some pipe = ap (option_map (λ (pair : Pair). (side_of pair.link false).queue)) there.1 in
+    let trace = trace_of pairs scripts lan rows history grants copies in
+    let sessions : sessions_of trace client ≡ session_rows client pipe =
+    found (λ (row : QueueRow). same_unit row.unit client) (λ (other : UnitSeat). same_unit other.unit client) (sessions_at pairs) seat (same_refl client) seats inside
+    (sessions_told pairs client seats) (names_apart client seats (seats_ordered pairs lan.seats scripts are))
+    ∙ ap (rows_if (session_rows client)) queue in
+    subst LastIsTakenIf (sym sessions) (unfreed_taken client pair kept waits)
+  where
+    some_is_so : {X : Type 0} (P : X → Type 0) (o : Option X) (x : X) → o ≡ Some x → IfSome o P → P x
+    some_is_so P o x is h = subst (λ o. IfSome o P) is h

@@ -11,14 +11,14 @@ use Rattle.rdma_copy.specs.declared.copy.CopyRecord.{CopyRecord}
 use Rattle.vio_num.specs.declared.history.Grant.{Grant}
 use Rattle.vio_num.specs.declared.history.Served.{Served}
 use Rattle.vcpu_run.specs.Answered.{AreAnswered}
-use Rattle.vcpu_run.specs.AnswersSent.{AnswersAreSent}
+use Rattle.vcpu_run.specs.AnswersSent.{AnswersAreGiven, AnswersAreSent}
 use Rattle.vcpu_run.specs.Agreed.{AreCredited}
 use Rattle.vcpu_run.specs.Lines.{IsOver}
 use Rattle.vcpu_run.specs.Intake.{EntriesAreFetched}
 use Rattle.vcpu_run.specs.Machines.{IsOfPlan}
 use Rattle.vcpu_run.specs.Received.{AreAtRest}
 use Rattle.vcpu_run.specs.Requests.{RequestsAreServed}
-use Rattle.vcpu_run.specs.Settled.{ServersAreSettled}
+use Rattle.vcpu_run.specs.Settled.{ClientsAreSettled, ServersAreSettled}
 use Rattle.vcpu_run.specs.RunLaw.{CopiesAreLawful, CreditsAreKept, KeepsLawOf, PortsKeepLaw, QueuesAreLawful, RecordsAreOfLines}
 
 -- a law of traces is kept over each plan that this is the machine of
@@ -36,10 +36,12 @@ pub law_told : {E : Type 0} (r : Result Trace E) (o : Option Trace) (pairs : Lis
     → IfOk r (KeepsOnce (AreAnswered history pairs) AnswersAreSent pairs scripts ports) → AreAnswered history pairs
     → IfOk r (Keeps PortsKeepLaw pairs scripts ports)
     → IfOk r (KeepsOnce (AreAtRest copies_made lines history pairs scripts) ServersAreSettled pairs scripts ports)
+    → IfOk r (KeepsOnce (AreAtRest copies_made lines history pairs scripts) ClientsAreSettled pairs scripts ports)
     → IfOk r (KeepsOnce (AreAtRest copies_made lines history pairs scripts) EntriesAreFetched pairs scripts ports)
-    → IfOk r (KeepsOnce (AreAtRest copies_made lines history pairs scripts) RequestsAreServed pairs scripts ports) → AreAtRest copies_made lines history pairs scripts
+    → IfOk r (KeepsOnce (AreAtRest copies_made lines history pairs scripts) RequestsAreServed pairs scripts ports)
+    → IfOk r (KeepsOnce (AreAtRest copies_made lines history pairs scripts) AnswersAreGiven pairs scripts ports) → AreAtRest copies_made lines history pairs scripts
     → IfSome o (Keeps KeepsLawOf pairs scripts ports)
-law_told (Ok trace) o pairs scripts ports history copies_made lines e order queues copies records over credits are answers answered keeps settled intake requests rests =
+law_told (Ok trace) o pairs scripts ports history copies_made lines e order queues copies records over credits are answers answered keeps settled handed intake requests given rests =
     subst (λ (o : Option Trace). IfSome o (Keeps KeepsLawOf pairs scripts ports)) (sym e)
     (λ partitions of_plan. record {
       order = order;
@@ -50,10 +52,12 @@ law_told (Ok trace) o pairs scripts ports history copies_made lines e order queu
       answers = answers partitions of_plan answered;
       ports = keeps partitions of_plan;
       settled = settled partitions of_plan rests;
+      handed = handed partitions of_plan rests;
       intake = intake partitions of_plan rests;
       requests = requests partitions of_plan rests;
+      given = given partitions of_plan rests;
     })
-law_told (Err error) o pairs scripts ports history copies_made lines e order queues copies records over credits are answers answered keeps settled intake requests rests =
+law_told (Err error) o pairs scripts ports history copies_made lines e order queues copies records over credits are answers answered keeps settled handed intake requests given rests =
     subst (λ (o : Option Trace). IfSome o (Keeps KeepsLawOf pairs scripts ports)) (sym e) tt
 
 -- the rows that were served

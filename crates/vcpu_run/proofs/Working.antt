@@ -1,7 +1,9 @@
 -- What a client's calls leave of its end, its window and its driver, and steps one behind the other.
-use Rattle.std.proofs.Common.{◌≡◌, ◌∙◌, ℕ, Bool, None, Result, Err, IfSome, IfOk, IfErr, OnErr, refl, sym, ap, subst}
+use Rattle.std.proofs.Common.{◌≡◌, ◌∙◌, ℕ, Bool, true, false, None, Result, Err, IfSome, IfOk, IfErr, OnErr, refl, sym, ap, subst}
 use Rattle.vio_num.specs.declared.memory.NoMemory.{NoMemory}
-use Rattle.crq_session.specs.EndState.{EndState, OnlySends, OnlyTakes}
+use Rattle.vio_num.specs.Entry.{partner_freed}
+use Rattle.crq_session.specs.Answered.{TellsFreed}
+use Rattle.crq_session.specs.EndState.{EndPlace, EndState, OnlyFrees, OnlyReserves, OnlySends, OnlyTakes}
 use Rattle.tce_window.specs.PortState.{PortState, OnlyReads, OnlyWrites}
 use Rattle.vscsi_client.specs.declared.answers.LoginTurn.{LoginTurn}
 use Rattle.vscsi_client.specs.declared.answers.Refused.{Refused}
@@ -13,20 +15,27 @@ use Rattle.vscsi_client.specs.Ports.{ports}
 use Rattle.vscsi_client.specs.Sending.{Submitted, WhyNotSubmitted, Tasked, LoggedOut, WhyNotSent, command_refusal, task_refusal, logout_refusal, task_unit, logout_unit}
 use Rattle.vscsi_client.specs.Taking.{TakesEntry, TakesLater}
 use Rattle.vscsi_client.specs.Transferred.{FitRows}
-use Rattle.vscsi_client.specs.Turned.{site, Turned}
+use Rattle.vscsi_client.specs.Turned.{site, unlinked, Turned}
 use Rattle.vscsi_client.specs.Units.{FitsOp}
 use Rattle.vcpu_run.specs.declared.driver.Driver.{Driver}
+use Rattle.vcpu_run.specs.Freed.{FreesNone}
+use Rattle.vcpu_run.specs.Announces.{Announces}
 use Rattle.vcpu_run.specs.Works.{Works}
+use Rattle.vcpu_run.proofs.Announcing.{frees_none, puts_freed, puts_none, puts_on, puts_reserves, puts_same, turn_frees, turn_puts}
 use Rattle.vcpu_run.proofs.Calls.{submit_grows, submit_fits, task_grows, task_fits, logout_grows, logout_fits, turn_grows, turn_fits, take_fits}
+use Rattle.vcpu_run.proofs.Announcing.{both_bools}
+use Rattle.vcpu_run.proofs.Requesting.{logout_more, puts_sends, submit_more, task_more}
 use Rattle.unit_region.proofs.Growing.{keeps_on, keeps_reads, keeps_same, keeps_writes}
 
-pub works_same : (cs shared : Bool) (end : EndState) (own : PortState) (driver : Driver) → Works cs shared end end own own driver driver
-works_same cs shared end own driver = record { place = refl; session = λ alone. refl; window = keeps_same shared own; unit = refl; rows = λ fit. fit }
+pub works_same : (mf cs shared : Bool) (end : EndState) (own : PortState) (driver : Driver) → Works mf cs shared end end own own driver driver
+works_same mf cs shared end own driver = record { place = refl; session = λ alone. refl; stays = λ none kept. kept; puts = λ alone. puts_same end; window = keeps_same shared own; unit = refl; rows = λ fit. fit }
 
-pub works_on : (cs shared : Bool) (e f g : EndState) (o p q : PortState) (a b c : Driver) → Works cs shared e f o p a b → Works cs shared f g p q b c → Works cs shared e g o q a c
-works_on cs shared e f g o p q a b c first next = record {
+pub works_on : (mf cs shared : Bool) (e f g : EndState) (o p q : PortState) (a b c : Driver) → Works mf cs shared e f o p a b → Works mf cs shared f g p q b c → Works mf cs shared e g o q a c
+works_on mf cs shared e f g o p q a b c first next = record {
   place = next.place ∙ first.place;
   session = λ alone. next.session alone ∙ first.session alone;
+  stays = λ none kept. next.stays none (first.stays none kept);
+  puts = λ alone. puts_on e f g (ap (λ (p : EndPlace). p.partner_registered) first.place) (next.session alone) (first.puts alone) (next.puts alone);
   window = keeps_on shared o p q first.window next.window;
   unit = next.unit ∙ first.unit;
   rows = λ fit. subst (λ n. FitRows n c.client) size (next.rows (subst (λ n. FitRows n b.client) (sym size) (first.rows fit)));
@@ -42,10 +51,12 @@ pub submit_works : (cs os : Bool) (end end' : EndState) (own own' : PortState) (
     → IfOk result (Submitted line op driver.client driver'.client (ports cs end os own) (ports cs end' os own'))
     → (command_refusal own.place.size driver.client op ≡ None
     → IfErr result (WhyNotSubmitted line op driver.client driver'.client (ports cs end os own) (ports cs end' os own')))
-    → OnlySends cs end end' → OnlyWrites own own' → Works cs os end end' own own' driver driver'
+    → OnlySends cs end end' → OnlyWrites own own' → Works false cs os end end' own own' driver driver'
 submit_works cs os end end' own own' driver driver' line op result unit fits refused sent why crq rest = record {
   place = crq.place;
   session = crq.counts.same_session;
+  stays = λ none. frees_none end end' crq.last_session crq.registered;
+  puts = λ alone. puts_sends cs end end' crq (submit_more line op driver.client driver'.client (ports cs end os own) (ports cs end' os own') result refused sent why);
   window = keeps_writes os own own' rest (submit_grows line op driver.client driver'.client (ports cs end os own) (ports cs end' os own') result refused sent why);
   unit = unit;
   rows = submit_fits line op driver.client driver'.client (ports cs end os own) (ports cs end' os own') result fits refused sent why;
@@ -58,10 +69,12 @@ pub task_works : (cs os : Bool) (end end' : EndState) (own own' : PortState) (dr
     → (task_refusal driver.client ≡ None
     → IfErr result (WhyNotSent line driver.client (task_unit function task driver.client) (ports cs end os own) (ports cs end' os own')))
     → OnErr result (driver'.client ≡ driver.client)
-    → OnlySends cs end end' → OnlyWrites own own' → Works cs os end end' own own' driver driver'
+    → OnlySends cs end end' → OnlyWrites own own' → Works false cs os end end' own own' driver driver'
 task_works cs os end end' own own' driver driver' line function task result unit refused sent why same crq rest = record {
   place = crq.place;
   session = crq.counts.same_session;
+  stays = λ none. frees_none end end' crq.last_session crq.registered;
+  puts = λ alone. puts_sends cs end end' crq (task_more line function task driver.client driver'.client (ports cs end os own) (ports cs end' os own') result refused sent why);
   window = keeps_writes os own own' rest (task_grows line function task driver.client driver'.client (ports cs end os own) (ports cs end' os own') result refused sent why);
   unit = unit;
   rows = task_fits own.place.size line function task driver.client driver'.client (ports cs end os own) (ports cs end' os own') result sent same;
@@ -74,10 +87,12 @@ pub logout_works : (cs os : Bool) (end end' : EndState) (own own' : PortState) (
     → (logout_refusal driver.client ≡ None
     → IfErr result (WhyNotSent line driver.client (logout_unit driver.client) (ports cs end os own) (ports cs end' os own')))
     → OnErr result (driver'.client ≡ driver.client)
-    → OnlySends cs end end' → OnlyWrites own own' → Works cs os end end' own own' driver driver'
+    → OnlySends cs end end' → OnlyWrites own own' → Works false cs os end end' own own' driver driver'
 logout_works cs os end end' own own' driver driver' line result unit refused sent why same crq rest = record {
   place = crq.place;
   session = crq.counts.same_session;
+  stays = λ none. frees_none end end' crq.last_session crq.registered;
+  puts = λ alone. puts_sends cs end end' crq (logout_more line driver.client driver'.client (ports cs end os own) (ports cs end' os own') result refused sent why);
   window = keeps_writes os own own' rest (logout_grows line driver.client driver'.client (ports cs end os own) (ports cs end' os own') result refused sent why);
   unit = unit;
   rows = logout_fits own.place.size line driver.client driver'.client (ports cs end os own) (ports cs end' os own') result sent same;
@@ -86,10 +101,12 @@ logout_works cs os end end' own own' driver driver' line result unit refused sen
 pub turn_works : (cs os : Bool) (end end' : EndState) (own own' : PortState) (driver driver' : Driver) (line : ℕ) (result : Result LoginTurn NoMemory)
     → driver'.unit ≡ driver.unit
     → Turned line (site driver.client (ports cs end os own)) (site driver'.client (ports cs end' os own')) result
-    → OnlyTurns cs end end' → OnlyWrites own own' → Works cs os end end' own own' driver driver'
+    → OnlyTurns cs end end' → OnlyWrites own own' → Works false cs os end end' own own' driver driver'
 turn_works cs os end end' own own' driver driver' line result unit turned crq rest = record {
   place = crq.place;
   session = crq.counts.same_session;
+  stays = λ none. turn_frees cs end end' crq;
+  puts = λ alone. turn_puts cs end end' alone crq;
   window = keeps_writes os own own' rest (turn_grows line (site driver.client (ports cs end os own)) (site driver'.client (ports cs end' os own')) result turned);
   unit = unit;
   rows = turn_fits own.place.size line (site driver.client (ports cs end os own)) (site driver'.client (ports cs end' os own')) result turned;
@@ -99,11 +116,52 @@ pub take_works : (cs os : Bool) (end end' : EndState) (own own' : PortState) (dr
     → driver'.unit ≡ driver.unit → driver'.client ≡ client
     → IfOk result (TakesEntry driver.client client (ports cs end os own) (ports cs end' os own'))
     → OnErr result (TakesLater cs driver.client client end end')
-    → OnlyTakes cs end end' → OnlyReads os own own' → Works cs os end end' own own' driver driver'
+    → OnlyTakes cs end end' → OnlyReads os own own' → Works false cs os end end' own own' driver driver'
 take_works cs os end end' own own' driver driver' client result unit is taken later crq rest = record {
   place = crq.place;
   session = crq.counts.same_session;
+  stays = λ none. frees_none end end' crq.last_session crq.registered;
+  puts = λ alone. puts_none end end' crq.sent crq.kept crq.registered;
   window = keeps_reads os own own' rest;
   unit = unit;
   rows = λ fit. subst (FitRows own.place.size) (sym is) (take_fits own.place.size driver.client client (ports cs end os own) (ports cs end' os own') result taken later fit);
 }
+
+-- the same where the queue may be freed, too
+pub works_any : (mf cs shared : Bool) (e f : EndState) (o p : PortState) (a b : Driver) → Works false cs shared e f o p a b → Works mf cs shared e f o p a b
+works_any mf cs shared e f o p a b works = record {
+  place = works.place;
+  session = works.session;
+  stays = λ none. works.stays refl;
+  puts = works.puts;
+  window = works.window;
+  unit = works.unit;
+  rows = works.rows;
+}
+
+-- at the end alone
+pub works_end : (mf cs shared : Bool) (e f : EndState) (own : PortState) (a b : Driver) → f.place ≡ e.place
+    → (cs ≡ false → f.counts.partner_session ≡ e.counts.partner_session) → (mf ≡ false → FreesNone e f) → (cs ≡ false → Announces e f)
+    → b.unit ≡ a.unit → (FitRows own.place.size a.client → FitRows own.place.size b.client) → Works mf cs shared e f own own a b
+works_end mf cs shared e f own a b place session stays puts unit rows = record {
+  place = place;
+  session = session;
+  stays = stays;
+  puts = puts;
+  window = keeps_same shared own;
+  unit = unit;
+  rows = rows;
+}
+
+-- room was made
+pub works_ready : (mf cs shared : Bool) (e f : EndState) (own : PortState) (a : Driver) → OnlyReserves e f → Works mf cs shared e f own own a a
+works_ready mf cs shared e f own a ready =
+    works_end mf cs shared e f own a a ready.place (λ alone. ap (λ counts. counts.partner_session) ready.counts)
+    (λ none. frees_none e f ready.last_session ready.registered) (λ alone. puts_reserves e f ready) refl (λ fit. fit)
+
+-- the queue was freed, and the client was told
+pub works_freed : (cs shared : Bool) (e f : EndState) (own : PortState) (a b : Driver) → TellsFreed cs e f → OnlyFrees cs e f → b.unit ≡ a.unit
+    → b.client ≡ unlinked a.client → Works true cs shared e f own own a b
+works_freed cs shared e f own a b tells rest unit client =
+    works_end true cs shared e f own a b rest.place rest.counts.same_session (λ none. absurd (both_bools true refl none))
+    (λ alone. puts_freed cs e f partner_freed alone refl tells) unit (λ fit. subst (λ s. FitRows own.place.size s) (sym client) fit)

@@ -1,7 +1,8 @@
 -- Which responses the queue of a pair's client got between turns, by the rows of its server unit (SRP, "SRP_RSP response").
-use Rattle.std.specs.Prelude.{◌≡◌, ◌≤◌, ℕ, false, true, All, List, Some, slice_get}
+use Rattle.std.specs.Prelude.{◌≡◌, ◌≤◌, ℕ, false, true, All, List, Some, length, min, slice_get}
 use Rattle.vio_num.specs.declared.history.Served.{Served}
 use Rattle.crq_ring.specs.declared.rows.PipeRow.{PipeRow}
+use Rattle.crq_session.specs.Answered.{received_now, taken_now}
 use Rattle.crq_session.specs.EndState.{EndState}
 use Rattle.crq_session.specs.PlainState.{side_of}
 use Rattle.block_server.specs.Answering.{answers_of, responses}
@@ -10,6 +11,14 @@ use Rattle.vcpu_run.specs.declared.pair.Pair.{Pair}
 -- each row is of a session, which count from 1
 abbrev pub AreBegun : List PipeRow → Type 0
 AreBegun rows = All (λ row. 1 ≤ row.session) rows
+
+-- a queue has begun a session where this number is 1, and none where it is 0
+abbrev pub IsBegun : ℕ → (session : ℕ) → Type 0
+IsBegun begun session = min session 1 ≡ begun
+
+-- of what was received in the session no more was taken
+abbrev pub IsBehind : EndState → Type 0
+IsBehind end = length (taken_now end) ≤ length (received_now end)
 
 -- Rows were put into the partner's queue in sessions alone, and taken from the own; and the partner's is in one where it is
 -- registered.

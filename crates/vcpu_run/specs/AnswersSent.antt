@@ -1,10 +1,12 @@
--- The answers of a run: which responses a client's queue got, by the rows of its server unit (SRP, "SRP_RSP response").
-use Rattle.std.specs.Prelude.{◌≡◌, List, filter}
+-- The answers of a run: which responses a client's queue got, by the rows of its server unit, and that each row has its answer or is
+-- cut off (SRP, "SRP_RSP response").
+use Rattle.std.specs.Prelude.{◌≡◌, All, List, filter}
 use Rattle.std.specs.List.{flat_map}
 use Rattle.vio_num.specs.declared.entry.Entry.{Entry}
 use Rattle.vio_num.specs.declared.names.UnitId.{UnitId}
 use Rattle.block_server.specs.Answering.{answers_of}
 use Rattle.block_server.specs.Entries.{is_response}
+use Rattle.block_server.specs.Owed.{IsGiven}
 use Rattle.boot_text.specs.Sound.{IsClientOf, IsServer}
 use Rattle.boot_text.specs.declared.plan.Partition.{Partition}
 use Rattle.vio_trace.specs.declared.rows.Trace.{Trace}
@@ -22,3 +24,9 @@ responses_to trace unit = filter is_response (sent_to trace unit)
 abbrev pub AnswersAreSent : List Partition → Trace → Type 0
 AnswersAreSent partitions trace =
     (server client : UnitId) → IsServer partitions server → IsClientOf partitions client server → responses_to trace client ≡ answers_of server trace.serves
+
+-- Each row of a server unit that has a client has its answer; or a line behind the grant of its login says that its session was lost, or
+-- ended for a cause other than a logout.
+abbrev pub AnswersAreGiven : List Partition → Trace → Type 0
+AnswersAreGiven partitions trace =
+    (server client : UnitId) → IsServer partitions server → IsClientOf partitions client server → ∥ All (IsGiven server trace.grants) trace.serves ∥₁

@@ -1,9 +1,12 @@
 pub mod Agreed
+pub mod Announces
 pub mod Answered
 pub mod AnswersSent
 pub mod CallRows
 pub mod CopyRows
 pub mod Credited
+pub mod Freed
+pub mod Freeing
 pub mod Gathered
 pub mod Intake
 pub mod Lines

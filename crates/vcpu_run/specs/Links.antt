@@ -1,5 +1,5 @@
 -- What is so of the two queues of a pair's link where nothing is done at them.
-use Rattle.std.specs.Prelude.{◌≡◌, ◌⊎◌, ℕ, ◌+◌, ◌<◌, Bool, true, false, List, [], Option, Some, IfNone, IsSomeAnd, length, map, slice_get}
+use Rattle.std.specs.Prelude.{◌≡◌, ◌⊎◌, ℕ, ◌+◌, ◌<◌, Bool, true, false, List, [], Option, Some, None, IfNone, IfSome, IsSomeAnd, length, map, slice_get}
 use Rattle.block_server.specs.Ready.{AgreesAt, HasNothing}
 use Rattle.block_server.specs.declared.unit.Unit.{Unit}
 use Rattle.crq_ring.specs.Sessions.{of_session}
@@ -79,16 +79,38 @@ ClientsWait seats links = (u k : ℕ) → slice_get seats u ≡ Some (sits.Clien
 abbrev pub ServersWait : List Unit → List LinkState → Type 0
 ServersWait units links = (k : ℕ) (link : LinkState) → slice_get links k ≡ Some link → ServerWaits (slice_get units k) link
 
+-- the event that a client keeps is the one of before, or it keeps none any more
+abbrev pub EventStays : Pair → Pair → Type 0
+EventStays old new = ((side_of new.link false).kept ≡ (side_of old.link false).kept) ⊎ ((side_of new.link false).kept ≡ None)
+
+-- the client keeps no event, or the server unit's queue is full
+abbrev pub EventWaits : Pair → Type 0
+EventWaits pair = ((side_of pair.link false).kept ≡ None) ⊎ IsFull (link_state pair.link).server
+
+-- the same of each client of these seats
+abbrev pub EventsWait : List Seat → List Pair → Type 0
+EventsWait seats pairs = (u k : ℕ) → slice_get seats u ≡ Some (sits.Client k) → IfSome (slice_get pairs k) EventWaits
+
+-- Nothing was done at any link, and no client keeps an event anew.
+pub record LinksRest (old new : List Pair) : Type 0 where
+  pub still : links_of new ≡ links_of old
+  pub events : (k : ℕ) (pair : Pair) → slice_get new k ≡ Some pair → IfSome (slice_get old k) (λ before. EventStays before pair)
+
 -- Nothing was done at any link, and the clients of these seats did nothing.
 pub record SeatsRest (seats : List Seat) (old new : List Pair) : Type 0 where
-  pub still : links_of new ≡ links_of old
+  pub rest : LinksRest old new
   pub wait : ClientsWait seats (links_of new)
+
+-- The same, and their events wait.
+pub record SeatsRestWhole (seats : List Seat) (old new : List Pair) : Type 0 where
+  pub seats_rest : SeatsRest seats old new
+  pub events : EventsWait seats new
 
 -- Script i, which is over, found nothing to do: each server unit waits, or each of its clients does, and no server unit had a turn.
 pub record RestsAt (i : ℕ) (scripts : List Script) (units units' : List Unit) (old new : List Pair) : Type 0 where
   pub servers : (script : Script) → slice_get scripts i ≡ Some script → are_servers script.seats.items ≡ true → ServersWait units' (links_of new)
   pub same : (script : Script) → slice_get scripts i ≡ Some script → are_servers script.seats.items ≡ false → units' ≡ units
-  pub clients : (script : Script) → slice_get scripts i ≡ Some script → are_servers script.seats.items ≡ false → SeatsRest script.seats.items old new
+  pub clients : (script : Script) → slice_get scripts i ≡ Some script → are_servers script.seats.items ≡ false → SeatsRestWhole script.seats.items old new
 
 -- the first scripts are over
 abbrev pub AreOverTo : (count : ℕ) → List Script → Type 0
@@ -99,20 +121,26 @@ abbrev pub NoneBehind : (i count : ℕ) → List Script → Type 0
 NoneBehind i count scripts =
     (j : ℕ) (script : Script) → i < j → j < count → slice_get scripts j ≡ Some script → are_servers script.seats.items ≡ false
 
+-- The clients of these seats wait, and so do their events.
+pub record SeatsWait (seats : List Seat) (pairs : List Pair) : Type 0 where
+  pub clients : ClientsWait seats (links_of pairs)
+  pub events : EventsWait seats pairs
+
 -- The units of the first scripts wait: the server units, and the clients of each script behind which none of server units comes.
 pub record AreIdleTo (count : ℕ) (units : List Unit) (pairs : List Pair) (scripts : List Script) : Type 0 where
   pub servers : (i : ℕ) (script : Script) → i < count → slice_get scripts i ≡ Some script → are_servers script.seats.items ≡ true → ServersWait units (links_of pairs)
   pub clients : (i : ℕ) (script : Script) → i < count → slice_get scripts i ≡ Some script → are_servers script.seats.items ≡ false
-      → NoneBehind i count scripts → ClientsWait script.seats.items (links_of pairs)
+      → NoneBehind i count scripts → SeatsWait script.seats.items pairs
 
 -- where the server unit of a pair has no client, the queue in place of that client's is not registered
 abbrev pub IsShutAlone : Pair → Type 0
 IsShutAlone pair = IfNone pair.driver ((side_of pair.link false).registered ≡ false)
 
--- Neither queue of a pair is registered.
+-- Neither queue of a pair is registered, and the client's never was.
 pub record IsClosed (pair : Pair) : Type 0 where
   pub server : (side_of pair.link true).registered ≡ false
   pub client : (side_of pair.link false).registered ≡ false
+  pub never : (side_of pair.link false).queue.session ≡ 0
 
 abbrev pub AreClosed : List Pair → Type 0
 AreClosed pairs = (k : ℕ) (pair : Pair) → slice_get pairs k ≡ Some pair → IsClosed pair
@@ -142,12 +170,13 @@ pub record EndStays (old new : EndState) : Type 0 where
   pub taken : new.taken ≡ old.taken
   pub partner : new.counts.partner_session ≡ old.counts.partner_session
 
--- The same, and its queue was not registered, or all that it had received was taken.
+-- The same, and it keeps the event of before; and its queue was not registered, or all that it had received was taken.
 pub record EndRests (old new : EndState) : Type 0 where
   pub stays : EndStays old new
+  pub kept : new.kept ≡ old.kept
   pub none : (old.registered ≡ false) ⊎ (received_now old ≡ taken_now old)
 
--- Nothing was done at the link of a pair, and its client waits.
+-- Nothing was done at the link of a pair, and its client keeps no event anew.
 pub record PairRests (old new : Pair) : Type 0 where
   pub still : link_state new.link ≡ link_state old.link
-  pub wait : ClientWaits (link_state new.link)
+  pub event : EventStays old new

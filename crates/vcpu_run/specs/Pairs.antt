@@ -1,10 +1,10 @@
 -- What is so of a server unit, its client and what lies between them, at each moment of a run; and what a turn of the
 -- client's partition leaves of them.
-use Rattle.std.specs.Prelude.{◌≡◌, ℕ, ◌≤◌, true, false, All, List, Option, Some, None, IfNone, IfSome, IsSomeAnd, MatchOption, length}
+use Rattle.std.specs.Prelude.{◌≡◌, ℕ, ◌≤◌, true, false, All, List, [], Option, Some, None, IfNone, IfSome, IsSomeAnd, MatchOption, length}
 use Rattle.std.specs.List.{slice_get}
 use Rattle.vio_num.specs.declared.entry.Entry.{Entry}
 use Rattle.vio_num.specs.Entry.{partner_freed}
-use Rattle.crq_session.specs.PlainState.{side_of}
+use Rattle.crq_session.specs.PlainState.{end_of, side_of}
 use Rattle.tce_window.specs.Window.{WindowValue, strokes_at}
 use Rattle.tce_window.specs.PlainPort.{known_of}
 use Rattle.rdma_copy.specs.Copy.{SideGrows}
@@ -17,6 +17,7 @@ use Rattle.vscsi_client.specs.declared.TheConstants.{MIN_PAGES}
 use Rattle.unit_region.specs.Kept.{LaysOwnAll}
 use Rattle.vcpu_run.specs.declared.driver.Driver.{Driver}
 use Rattle.vcpu_run.specs.declared.pair.Pair.{Pair}
+use Rattle.vcpu_run.specs.Announces.{Announces}
 use Rattle.vcpu_run.specs.Named.{HasNames, WindowsAreApart, absent_unit}
 
 -- A client's driver is that of its window's unit, and the data of its commands lie in the window.
@@ -57,8 +58,8 @@ GoesOn before after old new = MatchOption old (new ≡ None)
 
 -- What a client's part of a turn leaves of its pair: the server unit and its window are as before, nothing was taken from its
 -- queue, which is in the same session, nothing was put into the client's own queue, the client's window has no stroke and no
--- value less, and none more that another unit laid, and a queue in
--- place of a client's is registered as before.
+-- value less, and none more that another unit laid; what the client put into the server unit's queue stands behind what was there, and
+-- tells of what was freed; and a queue in place of a client's is registered as before.
 pub record Drives (old new : Pair) : Type 0 where
   pub server : new.server ≡ old.server
   pub own : new.own ≡ old.own
@@ -75,6 +76,7 @@ pub record Drives (old new : Pair) : Type 0 where
   pub server_registered : (side_of new.link true).registered ≡ (side_of old.link true).registered
   pub server_session : (side_of new.link true).queue.session ≡ (side_of old.link true).queue.session
   pub server_taken : (side_of new.link true).queue.taken ≡ (side_of old.link true).queue.taken
+  pub puts : Announces (end_of [] old.link false) (end_of [] new.link false)
   pub alone : IfNone old.driver ((side_of new.link false).registered ≡ (side_of old.link false).registered)
 
 -- each of the pairs was left so

@@ -10,6 +10,8 @@ use Rattle.vcpu_run.specs.declared.partition_units.PartitionUnits.{PartitionUnit
 use Rattle.vcpu_run.specs.declared.unit_seat.Seat.{Seat}
 use Rattle.vcpu_run.specs.declared.unit_seat.Seat.TheVariants as sits
 use Rattle.vcpu_run.specs.Agreed.{SameDrivers}
+use Rattle.vcpu_run.specs.Freed.{FreesNoneIf}
+use Rattle.vcpu_run.specs.Freeing.{NoneSits}
 use Rattle.vcpu_run.specs.Pairs.{AreDriven}
 use Rattle.vcpu_run.specs.Ports.{IsPortOf, unit_of}
 
@@ -50,10 +52,12 @@ IsThere units unit sits.Server = ⊤
 IsThere units unit (sits.Client k) = nat_lt k (length units.pairs.now) ≡ true
 IsThere units unit sits.Port = IsPortOf units.lan.now.seats (unit_of units.partition unit)
 
--- Each pair is left as its client's part of a turn leaves it, no driver is told, and the ports are the same.
+-- Each pair is left as its client's part of a turn leaves it, no driver is told, the ports are the same, and no other partition's
+-- client has its queue freed.
 pub record CallsUnits (old new : PartitionUnits) : Type 0 where
   pub lender : new.pairs.ghost_name ≡ old.pairs.ghost_name
   pub lan_lender : new.lan.ghost_name ≡ old.lan.ghost_name
   pub driven : AreDriven old.pairs.now new.pairs.now
   pub told : SameDrivers old.pairs.now new.pairs.now
   pub ports : new.lan.now.seats ≡ old.lan.now.seats
+  pub stays : FreesNoneIf (NoneSits old.seats.now) old.pairs.now new.pairs.now

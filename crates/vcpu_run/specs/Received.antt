@@ -7,10 +7,12 @@ use Rattle.tce_window.specs.PlainPort.{known_of}
 use Rattle.rdma_copy.specs.declared.copy.CopyRecord.{CopyRecord}
 use Rattle.block_server.specs.Judged.{Judged}
 use Rattle.block_server.specs.Judges.{HasJudged}
+use Rattle.block_server.specs.Owed.{HaveAnswers}
 use Rattle.block_server.specs.declared.unit.Unit.{Unit}
 use Rattle.vcpu_run.specs.declared.pair.Pair.{Pair}
 use Rattle.vcpu_run.specs.declared.script.Script.{Script}
-use Rattle.vcpu_run.specs.Answered.{AreBegun}
+use Rattle.vcpu_run.specs.Answered.{AreBegun, IsBehind}
+use Rattle.vcpu_run.specs.Freeing.{KeepQueues}
 use Rattle.vcpu_run.specs.Links.{AreIdle}
 
 -- these are the entries that server unit k took, each with its receipt and its fate
@@ -18,11 +20,13 @@ abbrev pub HasEntries : List Unit → List CopyRecord → List Grant → List Se
 HasEntries units copies grants history k pair judged =
     HasJudged units k (known_of pair.own) (known_of pair.window) (end_of [] pair.link true) copies history grants judged
 
--- Server unit k has a receipt and a fate for each entry that it took, its rows are those of its requests, and it took all in
--- sessions.
+-- Server unit k has a receipt and a fate for each entry that it took, its rows are those of its requests, it took all in sessions, and
+-- each of its rows has its answer, is to have it, or is cut off.
 pub record IsReceived (units : List Unit) (copies : List CopyRecord) (grants : List Grant) (history : List Served) (k : ℕ) (pair : Pair) : Type 0 where
   pub judged : ∥ ((judged : List Judged) × HasEntries units copies grants history k pair judged) ∥₁
   pub begun : AreBegun (side_of pair.link true).queue.taken
+  pub behind : IsBehind (end_of [] pair.link true)
+  pub answers : ∥ HaveAnswers units k pair.own.unit (end_of [] pair.link true) history grants ∥₁
 
 abbrev pub AreReceived : List Unit → List CopyRecord → List Grant → List Served → List Pair → Type 0
 AreReceived units copies grants history pairs = (k : ℕ) (pair : Pair) → slice_get pairs k ≡ Some pair → IsReceived units copies grants history k pair
@@ -38,4 +42,5 @@ AreFresh pairs = (k : ℕ) (pair : Pair) → slice_get pairs k ≡ Some pair →
 pub record AreAtRest (copies : List CopyRecord) (grants : List Grant) (history : List Served) (pairs : List Pair) (scripts : List Script) : Type 0 where
   pub units : List Unit
   pub idle : AreIdle units pairs scripts
+  pub unfreed : KeepQueues pairs scripts
   pub received : AreReceived units copies grants history pairs

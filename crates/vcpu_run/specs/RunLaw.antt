@@ -1,6 +1,6 @@
 -- The law of a run, so far as it is proved: what its trace says of its queues, its copies and windows, its
 -- records, the credits that they tell of, the answers that were sent, its LAN ports, how it ends, what its server units took in,
--- and which of it they served.
+-- which of it they served, and that each of that has its answer.
 use Rattle.std.specs.Prelude.{◌≡◌, ◌⊎◌, ℕ, ◌+◌, ◌*◌, ◌<◌, ◌≤◌, List, [], ◌∷◌, All, Option, Some, None, length, map, slice_get}
 use Rattle.std.specs.List.{AllPairs}
 use Rattle.vio_num.specs.Queue.{Handed, LawfulDrop}
@@ -21,7 +21,7 @@ use Rattle.vio_trace.specs.declared.window_rows.StrokeRow.{StrokeRow}
 use Rattle.vio_trace.specs.declared.window_rows.TceValueRow.{TceValueRow}
 use Rattle.lan_script.specs.Carried.{FramesAreCarried}
 use Rattle.lan_script.specs.PortLaw.{PortsAreLawful}
-use Rattle.vcpu_run.specs.AnswersSent.{AnswersAreSent}
+use Rattle.vcpu_run.specs.AnswersSent.{AnswersAreGiven, AnswersAreSent}
 use Rattle.vcpu_run.specs.CopyRows.{copy_row}
 use Rattle.vcpu_run.specs.Credited.{KeepsCredit, ended_by}
 use Rattle.vcpu_run.specs.Intake.{EntriesAreFetched}
@@ -29,7 +29,7 @@ use Rattle.vcpu_run.specs.Lines.{numbers_to_fail}
 use Rattle.vcpu_run.specs.Ports.{ports_of}
 use Rattle.vcpu_run.specs.StrokeMakers.{StrokesAreMade}
 use Rattle.vcpu_run.specs.Requests.{RequestsAreServed}
-use Rattle.vcpu_run.specs.Settled.{ServersAreSettled}
+use Rattle.vcpu_run.specs.Settled.{ClientsAreSettled, ServersAreSettled, script_of}
 use Rattle.vcpu_run.specs.Shown.{pages_at, puts_into, records_of, sessions_of, strokes_on, window_shown}
 
 -- so many slots, 256 for each page of a unit's queue
@@ -95,14 +95,6 @@ pub record CopiesAreLawful (partitions : List Partition) (trace : Trace) : Type 
   pub no_server : (unit : UnitId) (e : ℕ) → IsServer partitions unit → puts_into trace unit e ≡ []
   pub made : StrokesAreMade partitions trace
 
--- the script of a partition
-abbrev pub script_in : Option Partition → List Line
-script_in None = []
-script_in (Some partition) = partition.lines
-
-abbrev pub script_of : List Partition → ℕ → List Line
-script_of partitions p = script_in (slice_get partitions p)
-
 -- the records of each partition are of exactly its lines up to the first that fails it, one a line, in their order
 abbrev pub RecordsAreOfLines : List Partition → Trace → Type 0
 RecordsAreOfLines partitions trace = (p : ℕ) → map (λ row. row.line) (records_of trace p) ≡ numbers_to_fail (script_of partitions p)
@@ -126,8 +118,10 @@ pub record KeepsLawOf (partitions : List Partition) (trace : Trace) : Type 0 whe
   pub answers : AnswersAreSent partitions trace
   pub ports : PortsKeepLaw partitions trace
   pub settled : ServersAreSettled partitions trace
+  pub handed : ClientsAreSettled partitions trace
   pub intake : EntriesAreFetched partitions trace
   pub requests : RequestsAreServed partitions trace
+  pub given : AnswersAreGiven partitions trace
 
 abbrev pub KeepsLaw : Plan → Trace → Type 0
 KeepsLaw plan trace = KeepsLawOf plan.partitions trace

@@ -7,7 +7,7 @@ ghost use Rattle.boot_text.specs.declared.plan.Partition.{Partition};
 ghost use Rattle.vio_trace.specs.Form.{IsInOrder};
 ghost use Rattle.vcpu_run.specs.Agreed.{AreCredited};
 ghost use Rattle.vcpu_run.specs.Answered.{AreAnswered};
-ghost use Rattle.vcpu_run.specs.AnswersSent.{AnswersAreSent};
+ghost use Rattle.vcpu_run.specs.AnswersSent.{AnswersAreGiven, AnswersAreSent};
 ghost use Rattle.vcpu_run.specs.Lines.{IsOver};
 ghost use Rattle.vcpu_run.specs.Machines.{AreScripts, IsOfPlan};
 ghost use Rattle.vcpu_run.specs.Intake.{EntriesAreFetched};
@@ -15,7 +15,7 @@ ghost use Rattle.vcpu_run.specs.Pairs.{AreOfOneHome};
 ghost use Rattle.vcpu_run.specs.Received.{AreAtRest};
 ghost use Rattle.vcpu_run.specs.Requests.{RequestsAreServed};
 ghost use Rattle.vcpu_run.specs.Units.{seats_of};
-ghost use Rattle.vcpu_run.specs.Settled.{ServersAreSettled};
+ghost use Rattle.vcpu_run.specs.Settled.{ClientsAreSettled, ServersAreSettled};
 ghost use Rattle.vcpu_run.specs.RunLaw.{CopiesAreLawful, CreditsAreKept, PortsKeepLaw, QueuesAreLawful, RecordsAreOfLines};
 
 use crate::copying::put_copies;
@@ -72,6 +72,10 @@ pub(crate) fn gather(
         IsOfPlan partitions pairs.items scripts.entry.items lan.seats →
         AreAtRest copies.items grants.items history.items pairs.items scripts.entry.items →
         ServersAreSettled partitions trace) }
+    ensures handed { IfOk result (λ trace. (partitions : List Partition) →
+        IsOfPlan partitions pairs.items scripts.entry.items lan.seats →
+        AreAtRest copies.items grants.items history.items pairs.items scripts.entry.items →
+        ClientsAreSettled partitions trace) }
     ensures intake { IfOk result (λ trace. (partitions : List Partition) →
         IsOfPlan partitions pairs.items scripts.entry.items lan.seats →
         AreAtRest copies.items grants.items history.items pairs.items scripts.entry.items →
@@ -80,6 +84,10 @@ pub(crate) fn gather(
         IsOfPlan partitions pairs.items scripts.entry.items lan.seats →
         AreAtRest copies.items grants.items history.items pairs.items scripts.entry.items →
         RequestsAreServed partitions trace) }
+    ensures given { IfOk result (λ trace. (partitions : List Partition) →
+        IsOfPlan partitions pairs.items scripts.entry.items lan.seats →
+        AreAtRest copies.items grants.items history.items pairs.items scripts.entry.items →
+        AnswersAreGiven partitions trace) }
 {
     rows_of(alloc, pairs, scripts, lan, history, grants, copies)
 }

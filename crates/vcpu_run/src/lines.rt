@@ -7,6 +7,7 @@ ghost use Rattle.boot_text.specs.declared.verb.Verb.{Verb as VerbValue};
 ghost use Rattle.boot_text.specs.declared.verb.Verb.TheVariants as verbs;
 ghost use Rattle.vcpu_run.specs.Credited.{StepsAgreed, taken_in, uses_credit};
 ghost use Rattle.unit_region.specs.Steps.{IsPlain};
+ghost use Rattle.vcpu_run.specs.Freeing.{is_reset};
 ghost use Rattle.vcpu_run.specs.Sendings.{SaysSent, SaysTurned};
 ghost use Rattle.vcpu_run.specs.Works.{IsUnitVerb, Works, sends};
 ghost use Rattle.unit_region.specs.Kept.{KeepsWindow};
@@ -72,7 +73,8 @@ impl Driver {
         line: u64,
     ) -> Result<Step, NoMemory>
         requires { MIN_PAGES ≤ (O.state own.old).place.size }
-        ensures works { Works C.is_shared O.is_shared (C.state crq.old.end) (C.state crq.new.end)
+        ensures works { Works false C.is_shared O.is_shared
+            (C.state crq.old.end) (C.state crq.new.end)
             (O.state own.old) (O.state own.new) self.old self.new }
         ensures credit { (verb : VerbValue) →
             StepsAgreed verb 0 0 self.old.client self.new.client result }
@@ -90,7 +92,8 @@ impl Driver {
         progress: &mut Progress,
     ) -> Result<Step, NoMemory>
         requires { MIN_PAGES ≤ (O.state own.old).place.size }
-        ensures works { Works C.is_shared O.is_shared (C.state crq.old.end) (C.state crq.new.end)
+        ensures works { Works true C.is_shared O.is_shared
+            (C.state crq.old.end) (C.state crq.new.end)
             (O.state own.old) (O.state own.new) self.old self.new }
         ensures credit { StepsAgreed verbs.Reset (taken_in progress.old) (taken_in progress.new)
             self.old.client self.new.client result }
@@ -143,7 +146,8 @@ impl Driver {
     ) -> Result<Step, NoMemory>
         requires pages { MIN_PAGES ≤ (O.state own.old).place.size }
         requires fits { FitsOp op.now }
-        ensures works { Works C.is_shared O.is_shared (C.state crq.old.end) (C.state crq.new.end)
+        ensures works { Works false C.is_shared O.is_shared
+            (C.state crq.old.end) (C.state crq.new.end)
             (O.state own.old) (O.state own.new) self.old self.new }
         ensures credit { (verb : VerbValue) → uses_credit verb ≡ true →
             StepsAgreed verb 0 0 self.old.client self.new.client result }
@@ -161,7 +165,8 @@ impl Driver {
         line: u64,
     ) -> Result<Step, NoMemory>
         requires { MIN_PAGES ≤ (O.state own.old).place.size }
-        ensures works { Works C.is_shared O.is_shared (C.state crq.old.end) (C.state crq.new.end)
+        ensures works { Works false C.is_shared O.is_shared
+            (C.state crq.old.end) (C.state crq.new.end)
             (O.state own.old) (O.state own.new) self.old self.new }
         ensures credit { (verb : VerbValue) → uses_credit verb ≡ true →
             StepsAgreed verb 0 0 self.old.client self.new.client result }
@@ -177,7 +182,8 @@ impl Driver {
         line: u64,
     ) -> Result<Step, NoMemory>
         requires { MIN_PAGES ≤ (O.state own.old).place.size }
-        ensures works { Works C.is_shared O.is_shared (C.state crq.old.end) (C.state crq.new.end)
+        ensures works { Works false C.is_shared O.is_shared
+            (C.state crq.old.end) (C.state crq.new.end)
             (O.state own.old) (O.state own.new) self.old self.new }
         ensures credit { (verb : VerbValue) → uses_credit verb ≡ false →
             StepsAgreed verb 0 0 self.old.client self.new.client result }
@@ -194,7 +200,8 @@ impl Driver {
         progress: &mut Progress,
     ) -> Result<Step, NoMemory>
         requires { MIN_PAGES ≤ (O.state own.old).place.size }
-        ensures works { Works C.is_shared O.is_shared (C.state crq.old.end) (C.state crq.new.end)
+        ensures works { Works false C.is_shared O.is_shared
+            (C.state crq.old.end) (C.state crq.new.end)
             (O.state own.old) (O.state own.new) self.old self.new }
         ensures credit { StepsAgreed (verbs.Take count) (taken_in progress.old)
             (taken_in progress.new) self.old.client self.new.client result }
@@ -216,7 +223,8 @@ impl Driver {
         requires verb { IsUnitVerb line.now.verb }
         requires pages { MIN_PAGES ≤ (O.state own.old).place.size }
         requires rows { FitRows (O.state own.old).place.size self.old.client }
-        ensures works { Works C.is_shared O.is_shared (C.state crq.old.end) (C.state crq.new.end)
+        ensures works { Works (is_reset line.now.verb) C.is_shared O.is_shared
+            (C.state crq.old.end) (C.state crq.new.end)
             (O.state own.old) (O.state own.new) self.old self.new }
         ensures credit { StepsAgreed line.now.verb (taken_in progress.old)
             (taken_in progress.new) self.old.client self.new.client result }
@@ -239,7 +247,8 @@ impl Driver {
         requires verb { IsUnitVerb line.now.verb }
         requires pages { MIN_PAGES ≤ (O.state own.old).place.size }
         requires rows { FitRows (O.state own.old).place.size self.old.client }
-        ensures works { Works C.is_shared O.is_shared (C.state crq.old.end) (C.state crq.new.end)
+        ensures works { Works (is_reset line.now.verb) C.is_shared O.is_shared
+            (C.state crq.old.end) (C.state crq.new.end)
             (O.state own.old) (O.state own.new) self.old self.new }
         ensures credit { StepsAgreed line.now.verb (taken_in progress.old)
             (taken_in progress.new) self.old.client self.new.client result }

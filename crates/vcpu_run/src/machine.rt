@@ -6,6 +6,7 @@ ghost use Rattle.block_server.specs.DiskLaw.{KeepsDisk};
 ghost use Rattle.vcpu_run.specs.Agreed.{AreCredited};
 ghost use Rattle.vcpu_run.specs.Answered.{AreAnswered};
 ghost use Rattle.vcpu_run.specs.Lines.{IsOver};
+ghost use Rattle.vcpu_run.specs.Freeing.{KeepQueues};
 ghost use Rattle.vcpu_run.specs.Links.{AreLinked};
 ghost use Rattle.vcpu_run.specs.Machines.{AreScripts, IsMachine, IsOfPlan};
 ghost use Rattle.vcpu_run.specs.OnDisk.{IsServed, LastsInRows, LeadsOn};
@@ -70,6 +71,8 @@ impl<'p, Di: Blocks> Machine<'p, Di> {
         ensures none { IfOk result (λ machine. machine.server.records.history.items ≡ []) }
         ensures linked { IfOk result (λ machine.
             AreLinked machine.server.units.items machine.pairs.items) }
+        ensures unfreed { IfOk result (λ machine.
+            KeepQueues machine.pairs.items machine.scripts.items) }
     {
         let partitions = plan.partitions.as_slice();
         let home = home_of(partitions);
@@ -110,6 +113,7 @@ impl<'p, Di: Blocks> Machine<'p, Di> {
             self.server.records.grants.items self.server.records.history.items
             self.pairs.items }
         requires linked { AreLinked self.server.units.items self.pairs.items }
+        requires unfreed { KeepQueues self.pairs.items self.scripts.items }
         ensures law { IfSome result.trace (λ trace. (partitions : List Partition) →
             IsOfPlan partitions self.entry.pairs.items self.entry.scripts.items
             self.entry.lan.seats → KeepsLawOf partitions trace) }

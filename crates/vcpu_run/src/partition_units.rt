@@ -1,5 +1,5 @@
 // The units of a partition, as raw hypervisor calls reach them.
-ghost use Rattle.std.specs.Prelude.{◌≡◌, ◌<◌, true, IfOk, IfSome, Some, length};
+ghost use Rattle.std.specs.Prelude.{◌≡◌, ◌≢◌, ◌<◌, true, IfOk, IfSome, Some, length};
 ghost use Rattle.hcall_table.specs.Asked.{bare};
 ghost use Rattle.hcall_table.specs.Rows.{IsAnswer};
 ghost use Rattle.lan_script.specs.PortRows.{port_row};
@@ -7,6 +7,7 @@ ghost use Rattle.unit_region.specs.EntryRows.{entry_row};
 ghost use Rattle.vio_num.specs.declared.hypervisor.Hrc.TheVariants as codes;
 ghost use Rattle.vcpu_run.specs.Agreed.{SameDrivers};
 ghost use Rattle.vcpu_run.specs.CallRows.{queue_row, row_for};
+ghost use Rattle.vcpu_run.specs.Freed.{FreesNoneIf};
 ghost use Rattle.vcpu_run.specs.Pairs.{AreDriven};
 
 use crate::client_call::{ClientCall, QueueCall};
@@ -112,6 +113,7 @@ fn call_at(
     requires { pair < length pairs.old }
     ensures driven { AreDriven pairs.old pairs.new }
     ensures told { SameDrivers pairs.old pairs.new }
+    ensures stays { FreesNoneIf (λ k. k ≢ pair) pairs.old pairs.new }
     ensures answer { IfOk result (IsAnswer (row_for call)) }
 {
     seat::call(alloc, &mut pairs[pair], call)

@@ -4,6 +4,7 @@ ghost use Rattle.vio_num.specs.Entry.{first_byte};
 ghost use Rattle.vio_num.specs.declared.hypervisor.Hrc.TheVariants as codes;
 ghost use Rattle.hcall_table.specs.Rows.{may_answer};
 ghost use Rattle.hcall_table.specs.declared.hcall.Hcall.TheVariants as rows;
+ghost use Rattle.vcpu_run.specs.Announces.{Announces};
 ghost use Rattle.vcpu_run.specs.CallRows.{queue_row};
 
 use crate::client_call::QueueCall;
@@ -15,6 +16,7 @@ fn register<C: CrqEnd>(end: &mut C, address: u64, length: u64) -> Result<Hrc, No
     ensures place { (C.state end.new).place ≡ (C.state end.old).place }
     ensures session { C.is_shared ≡ false → (C.state end.new).counts.partner_session
         ≡ (C.state end.old).counts.partner_session }
+    ensures puts { C.is_shared ≡ false → Announces (C.state end.old) (C.state end.new) }
     ensures code { IfOk result (λ code. may_answer rows.RegCrq code ≡ true) }
 {
     end.reserve(1)?;
@@ -32,6 +34,7 @@ fn free<C: CrqEnd>(end: &mut C) -> Result<Hrc, NoMemory>
     ensures place { (C.state end.new).place ≡ (C.state end.old).place }
     ensures session { C.is_shared ≡ false → (C.state end.new).counts.partner_session
         ≡ (C.state end.old).counts.partner_session }
+    ensures puts { C.is_shared ≡ false → Announces (C.state end.old) (C.state end.new) }
     ensures code { IfOk result (λ code. may_answer rows.FreeCrq code ≡ true) }
 {
     end.reserve(1)?;
@@ -47,6 +50,7 @@ fn send<C: CrqEnd>(end: &mut C, high: u64, low: u64) -> Result<Hrc, NoMemory>
     ensures place { (C.state end.new).place ≡ (C.state end.old).place }
     ensures session { C.is_shared ≡ false → (C.state end.new).counts.partner_session
         ≡ (C.state end.old).counts.partner_session }
+    ensures puts { C.is_shared ≡ false → Announces (C.state end.old) (C.state end.new) }
     ensures parameter { IfOk result (λ code. (code ≡ codes.Parameter) ↔
         (first_byte (record { high = high; low = low }) < 0x80)) }
     ensures code { IfOk result (λ code. may_answer rows.SendCrq code ≡ true) }
@@ -70,6 +74,7 @@ pub(crate) fn make<C: CrqEnd>(
     ensures place { (C.state end.new).place ≡ (C.state end.old).place }
     ensures session { C.is_shared ≡ false → (C.state end.new).counts.partner_session
         ≡ (C.state end.old).counts.partner_session }
+    ensures puts { C.is_shared ≡ false → Announces (C.state end.old) (C.state end.new) }
     ensures code { IfOk result (λ code. may_answer (queue_row call) code ≡ true) }
 {
     match call {

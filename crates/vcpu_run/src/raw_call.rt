@@ -6,6 +6,8 @@ ghost use Rattle.vcpu_run.specs.Agreed.{SameDrivers};
 ghost use Rattle.vcpu_run.specs.CallRows.{EndsCall, gives, says};
 ghost use Rattle.vcpu_run.specs.Credited.{is_take};
 ghost use Rattle.unit_region.specs.Steps.{IsPlain, is_plain};
+ghost use Rattle.vcpu_run.specs.Freed.{FreesNoneIf};
+ghost use Rattle.vcpu_run.specs.Freeing.{NoneSits};
 ghost use Rattle.vcpu_run.specs.Pairs.{AreDriven};
 ghost use Rattle.vcpu_run.specs.RawCalls.{CallsUnits};
 ghost use Rattle.vcpu_run.specs.Suited.{is_call};
@@ -32,6 +34,7 @@ impl RawCall {
     /// The call that a line makes, if it makes one.
     pub(crate) fn of(verb: &Verb) -> Option<RawCall>
         ensures some { IfSome result (λ _. is_take verb.now ≡ false) }
+        ensures call { IfSome result (λ _. is_call verb.now ≡ true) }
         ensures none { IfNone result (is_call verb.now ≡ false) }
     {
         match verb {
@@ -56,6 +59,7 @@ pub(crate) fn make_call(
 ) -> Result<Step, NoMemory>
     ensures driven { AreDriven pairs.old pairs.new }
     ensures told { SameDrivers pairs.old pairs.new }
+    ensures stays { FreesNoneIf (NoneSits seats.now) pairs.old pairs.new }
     ensures lan { lan.new.seats ≡ lan.old.seats }
     ensures plain { IsPlain result }
     ensures said { IfOk result (EndsCall raw.now.number) }

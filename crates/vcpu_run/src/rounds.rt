@@ -1,5 +1,5 @@
 // The turns of a round: one of each partition, in their order.
-ghost use Rattle.std.specs.Prelude.{◌≡◌, ◌≢◌, ◌<◌, ℕ, All, IfOk, IsSomeAnd, IsTrue, List, OnOk};
+ghost use Rattle.std.specs.Prelude.{◌≡◌, ◌≢◌, ◌<◌, ⊤, ℕ, All, IfOk, IsSomeAnd, IsTrue, List, OnOk};
 ghost use Rattle.std.specs.Prelude.{length, slice_get, vec_len};
 ghost use Rattle.block_server.specs.declared.unit.Unit.{Unit};
 ghost use Rattle.std.specs.List.{list_all};
@@ -12,7 +12,9 @@ ghost use Rattle.vcpu_run.specs.Answered.{AreAnswered};
 ghost use Rattle.vcpu_run.specs.OnDisk.{LastsOnDisk};
 ghost use Rattle.vcpu_run.specs.Lines.{IsOver, is_over};
 ghost use Rattle.vcpu_run.specs.Links.{AreIdle, AreIdleTo, AreLinked, AreOverTo, RestsAt};
-ghost use Rattle.vcpu_run.specs.Links.{SeatsRest, ServerWaits, ServersWait, links_of};
+ghost use Rattle.vcpu_run.specs.Links.{SeatsRestWhole, ServerWaits, ServersWait, links_of};
+ghost use Rattle.vcpu_run.specs.Freed.{FreesNoneIf};
+ghost use Rattle.vcpu_run.specs.Freeing.{KeepQueues};
 ghost use Rattle.vcpu_run.specs.Machines.{AllRun, AllStay, AreScripts, IsMachine, IsServing};
 ghost use Rattle.vcpu_run.specs.Pairs.{ArePairs, AreDrivers};
 ghost use Rattle.vcpu_run.specs.Received.{AreReceived};
@@ -45,6 +47,7 @@ pub(crate) fn run<Di: Blocks>(
     ensures run { AllRun scripts.old scripts.new }
     ensures credited { OnOk result (AreCredited pairs.old scripts.old →
         AreCredited pairs.new scripts.new) }
+    ensures unfreed { KeepQueues pairs.old scripts.old → KeepQueues pairs.new scripts.new }
     ensures over { OnOk result (All IsOver scripts.new) }
     ensures answered { AreAnswered server.new.records.history.items pairs.new }
     ensures received { AreReceived server.new.units.items server.new.copies.items
@@ -100,6 +103,7 @@ fn step<Di: Blocks>(
     ensures run { AllRun scripts.old scripts.new }
     ensures credited { OnOk result (AreCredited pairs.old scripts.old →
         AreCredited pairs.new scripts.new) }
+    ensures unfreed { KeepQueues pairs.old scripts.old → KeepQueues pairs.new scripts.new }
     ensures answered { AreAnswered server.new.records.history.items pairs.new }
     ensures received { AreReceived server.new.units.items server.new.copies.items
         server.new.records.grants.items server.new.records.history.items pairs.new }
@@ -137,6 +141,7 @@ fn round<Di: Blocks>(
     ensures run { AllRun scripts.old scripts.new }
     ensures credited { OnOk result (AreCredited pairs.old scripts.old →
         AreCredited pairs.new scripts.new) }
+    ensures unfreed { KeepQueues pairs.old scripts.old → KeepQueues pairs.new scripts.new }
     ensures answered { AreAnswered server.new.records.history.items pairs.new }
     ensures received { AreReceived server.new.units.items server.new.copies.items
         server.new.records.grants.items server.new.records.history.items pairs.new }
@@ -178,6 +183,7 @@ fn turn_at<Di: Blocks>(
     ensures run { AllRun scripts.old scripts.new }
     ensures credited { OnOk result (AreCredited pairs.old scripts.old →
         AreCredited pairs.new scripts.new) }
+    ensures unfreed { KeepQueues pairs.old scripts.old → KeepQueues pairs.new scripts.new }
     ensures answered { AreAnswered server.new.records.history.items pairs.new }
     ensures received { AreReceived server.new.units.items server.new.copies.items
         server.new.records.grants.items server.new.records.history.items pairs.new }
@@ -212,6 +218,7 @@ fn serve<Di: Blocks>(server: &mut Server<Di>, pairs: &mut [Pair]) -> Result<Move
         server.new.copies.items pairs.new }
     ensures stay { AllStay pairs.old pairs.new }
     ensures drivers { SameDrivers pairs.old pairs.new }
+    ensures stays { FreesNoneIf (λ _. ⊤) pairs.old pairs.new }
     ensures answered { AreAnswered server.new.records.history.items pairs.new }
     ensures received { AreReceived server.new.units.items server.new.copies.items
         server.new.records.grants.items server.new.records.history.items pairs.new }
@@ -247,6 +254,7 @@ fn serve_at<Di: Blocks>(
         server.new.copies.items pairs.new }
     ensures stay { AllStay pairs.old pairs.new }
     ensures drivers { SameDrivers pairs.old pairs.new }
+    ensures stays { FreesNoneIf (λ _. ⊤) pairs.old pairs.new }
     ensures answered { AreAnswered server.new.records.history.items pairs.new }
     ensures received { AreReceived server.new.units.items server.new.copies.items
         server.new.records.grants.items server.new.records.history.items pairs.new }
@@ -283,6 +291,7 @@ fn run_script(
     ensures run { AllRun scripts.old scripts.new }
     ensures credited { OnOk result (AreCredited pairs.old scripts.old →
         AreCredited pairs.new scripts.new) }
+    ensures unfreed { KeepQueues pairs.old scripts.old → KeepQueues pairs.new scripts.new }
     ensures answered { (history : List Served) →
         AreAnswered history pairs.old → AreAnswered history pairs.new }
     ensures received { (units : List Unit) (copies : List CopyRecord) (grants : List Grant)
@@ -293,7 +302,7 @@ fn run_script(
     ensures idle { IfOk result (λ moved. moved ≡ Moved.Quiet →
         IsSomeAnd (slice_get scripts.new number) IsOver →
         IsSomeAnd (slice_get scripts.new number)
-        (λ script. SeatsRest script.seats.items pairs.old pairs.new)) }
+        (λ script. SeatsRestWhole script.seats.items pairs.old pairs.new)) }
     ensures elsewhere { (i : ℕ) → i ≢ number →
         slice_get scripts.new i ≡ slice_get scripts.old i }
 {

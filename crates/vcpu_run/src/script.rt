@@ -5,7 +5,9 @@ ghost use Rattle.vcpu_run.specs.declared.pair.Pair.{Pair as PairValue};
 ghost use Rattle.vcpu_run.specs.Agreed.{AreLoggedOut, IsCredited, IsEnded, SameElse};
 ghost use Rattle.vcpu_run.specs.Credited.{taken_in};
 ghost use Rattle.vcpu_run.specs.Lines.{IsOver, is_over, place_behind};
-ghost use Rattle.vcpu_run.specs.Links.{SeatsRest};
+ghost use Rattle.vcpu_run.specs.Freed.{FreesNoneIf};
+ghost use Rattle.vcpu_run.specs.Freeing.{IsSparedBy};
+ghost use Rattle.vcpu_run.specs.Links.{SeatsRest, SeatsRestWhole};
 ghost use Rattle.vcpu_run.specs.Pairs.{AreDriven, AreDrivers};
 ghost use Rattle.vcpu_run.specs.Quietly.{OnQuiet};
 ghost use Rattle.vcpu_run.specs.Ports.{HasPorts};
@@ -109,11 +111,12 @@ impl<'p> Script<'p> {
         ensures script { IsScript pairs.new self.new }
         ensures rest { OnlyRuns self.old self.new }
         ensures others { SameElse self.old.seats.items pairs.old pairs.new }
+        ensures stays { FreesNoneIf (IsSparedBy self.old) pairs.old pairs.new }
         ensures lan { lan.new.seats ≡ lan.old.seats }
         ensures credited { OnOk result (IsCredited pairs.old self.old →
             IsCredited pairs.new self.new) }
         ensures quiet { IfOk result (λ moved. moved ≡ Moved.Quiet → IsOver self.new →
-            SeatsRest self.old.seats.items pairs.old pairs.new) }
+            SeatsRestWhole self.old.seats.items pairs.old pairs.new) }
     {
         let pushed = push_events(&self.seats, pairs)?;
         let moved = self.go_on(pairs, lan)?;
@@ -129,6 +132,7 @@ impl<'p> Script<'p> {
         ensures script { IsScript pairs.new self.new }
         ensures rest { OnlyRuns self.old self.new }
         ensures others { SameElse self.old.seats.items pairs.old pairs.new }
+        ensures stays { FreesNoneIf (IsSparedBy self.old) pairs.old pairs.new }
         ensures lan { lan.new.seats ≡ lan.old.seats }
         ensures credited { OnOk result (IsCredited pairs.old self.old →
             IsCredited pairs.new self.new) }
@@ -152,6 +156,7 @@ impl<'p> Script<'p> {
         ensures script { IsScript pairs.new self.new }
         ensures rest { OnlyRuns self.old self.new }
         ensures others { SameElse self.old.seats.items pairs.old pairs.new }
+        ensures stays { FreesNoneIf (IsSparedBy self.old) pairs.old pairs.new }
         ensures lan { lan.new.seats ≡ lan.old.seats }
         ensures credited { OnOk result (IsCredited pairs.old self.old →
             IsCredited pairs.new self.new) }
@@ -194,6 +199,7 @@ impl<'p> Script<'p> {
         ensures script { IsScript pairs.new self.new }
         ensures rest { OnlyRuns self.old self.new }
         ensures others { SameElse self.old.seats.items pairs.old pairs.new }
+        ensures stays { FreesNoneIf (IsSparedBy self.old) pairs.old pairs.new }
         ensures lan { lan.new.seats ≡ lan.old.seats }
         ensures credited { OnOk result (IsCredited pairs.old self.old →
             IsCredited pairs.new self.new) }

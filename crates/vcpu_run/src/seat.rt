@@ -1,8 +1,10 @@
 // What a client partition does at one of its pairs.
-ghost use Rattle.std.specs.Prelude.{◌≡◌, true, IfOk, IsSomeAnd};
+ghost use Rattle.std.specs.Prelude.{◌≡◌, true, false, IfOk, IsSomeAnd};
 ghost use Rattle.vcpu_run.specs.Pairs.{Drives, IsDriver};
 ghost use Rattle.vcpu_run.specs.Credited.{StepsAgreed, taken_in};
-ghost use Rattle.vcpu_run.specs.Links.{PairRests, link_state};
+ghost use Rattle.vcpu_run.specs.Freed.{FreesNoneAt};
+ghost use Rattle.vcpu_run.specs.Freeing.{is_reset};
+ghost use Rattle.vcpu_run.specs.Links.{ClientWaits, EventWaits, PairRests, link_state};
 ghost use Rattle.vcpu_run.specs.Agreed.{OnDrivers};
 ghost use Rattle.hcall_table.specs.Rows.{IsAnswer, may_answer};
 ghost use Rattle.vcpu_run.specs.CallRows.{queue_row, row_for};
@@ -25,8 +27,9 @@ use vio_num::{Hrc, Moved, NoMemory};
 pub(crate) fn push_event(pair: &mut Pair) -> Result<Moved, NoMemory>
     ensures drives { Drives pair.old pair.new }
     ensures driver { pair.new.driver ≡ pair.old.driver }
-    ensures quiet { IfOk result (λ moved. moved ≡ Moved.Quiet →
-        link_state pair.new.link ≡ link_state pair.old.link) }
+    ensures stays { FreesNoneAt pair.old pair.new }
+    ensures quiet { IfOk result (λ moved. moved ≡ Moved.Quiet → PairRests pair.old pair.new) }
+    ensures waits { IfOk result (λ moved. moved ≡ Moved.Quiet → EventWaits pair.new) }
 {
     let mut end = pair.link.side(false);
     end.reserve(1)?;
@@ -45,6 +48,7 @@ pub(crate) fn step(pair: &mut Pair, line: &Line, progress: &mut Progress) -> Res
     ensures credit { OnDrivers pair.old.driver pair.new.driver (λ a b.
         StepsAgreed line.now.verb (taken_in progress.old) (taken_in progress.new)
         a.client b.client result) }
+    ensures stays { is_reset line.now.verb ≡ false → FreesNoneAt pair.old pair.new }
 {
     let Some(driver) = &mut pair.driver else {
         unreachable!()
@@ -60,7 +64,10 @@ pub(crate) fn step(pair: &mut Pair, line: &Line, progress: &mut Progress) -> Res
 pub(crate) fn take_rest(pair: &mut Pair) -> Result<Moved, NoMemory>
     requires { IsSomeAnd pair.old.driver (IsDriver pair.old.window) }
     ensures drives { Drives pair.old pair.new }
+    ensures stays { FreesNoneAt pair.old pair.new }
     ensures quiet { IfOk result (λ moved. moved ≡ Moved.Quiet → PairRests pair.old pair.new) }
+    ensures waits { IfOk result (λ moved. moved ≡ Moved.Quiet →
+        ClientWaits (link_state pair.new.link)) }
 {
     let Some(driver) = &mut pair.driver else {
         unreachable!()

@@ -1,8 +1,10 @@
 // What a partition does at its units, one after the other or at one of them.
-ghost use Rattle.std.specs.Prelude.{◌≡◌, ◌<◌, ◌≤◌, ◌∷◌, [], ℕ, false, IfOk, Some, IsSomeAnd, length, slice_get};
+ghost use Rattle.std.specs.Prelude.{◌≡◌, ◌≢◌, ◌<◌, ◌≤◌, ◌∷◌, [], ⊤, ℕ, false, IfOk, IfSome, Some, IsSomeAnd, length, slice_get};
 ghost use Rattle.vcpu_run.specs.Agreed.{AllSame, SameDrivers, SameElse, SameOthers, StepsLine, StepsSeat};
 ghost use Rattle.vcpu_run.specs.Credited.{taken_in};
-ghost use Rattle.vcpu_run.specs.Links.{ClientWaits, SeatsRest, links_of};
+ghost use Rattle.vcpu_run.specs.Freed.{FreesNoneIf};
+ghost use Rattle.vcpu_run.specs.Freeing.{IsSpared, NoneSits, is_reset};
+ghost use Rattle.vcpu_run.specs.Links.{ClientWaits, EventWaits, EventsWait, LinksRest, SeatsRest, links_of};
 ghost use Rattle.vcpu_run.specs.Pairs.{AreDriven, IsDriver};
 ghost use Rattle.vcpu_run.specs.Ports.{HavePorts, IsPortOf};
 ghost use Rattle.vcpu_run.specs.Suited.{is_call, suits};
@@ -36,8 +38,10 @@ fn push_event_of(pairs: &mut [Pair], pair: usize) -> Result<Moved, NoMemory>
     requires { pair < length pairs.old }
     ensures driven { AreDriven pairs.old pairs.new }
     ensures drivers { SameDrivers pairs.old pairs.new }
-    ensures quiet { IfOk result (λ moved. moved ≡ Moved.Quiet →
-        links_of pairs.new ≡ links_of pairs.old) }
+    ensures stays { FreesNoneIf (λ _. ⊤) pairs.old pairs.new }
+    ensures quiet { IfOk result (λ moved. moved ≡ Moved.Quiet → LinksRest pairs.old pairs.new) }
+    ensures waits { IfOk result (λ moved. moved ≡ Moved.Quiet →
+        IfSome (slice_get pairs.new pair) EventWaits) }
 {
     seat::push_event(&mut pairs[pair])
 }
@@ -47,8 +51,10 @@ fn push_event_at(pairs: &mut [Pair], seat: Seat) -> Result<Moved, NoMemory>
     requires { (k : ℕ) → seat ≡ sits.Client k → k < length pairs.old }
     ensures driven { AreDriven pairs.old pairs.new }
     ensures drivers { SameDrivers pairs.old pairs.new }
-    ensures quiet { IfOk result (λ moved. moved ≡ Moved.Quiet →
-        links_of pairs.new ≡ links_of pairs.old) }
+    ensures stays { FreesNoneIf (λ _. ⊤) pairs.old pairs.new }
+    ensures quiet { IfOk result (λ moved. moved ≡ Moved.Quiet → LinksRest pairs.old pairs.new) }
+    ensures waits { IfOk result (λ moved. moved ≡ Moved.Quiet → (k : ℕ) → seat ≡ sits.Client k →
+        IfSome (slice_get pairs.new k) EventWaits) }
 {
     match seat {
         Seat::Client(pair) => push_event_of(pairs, pair),
@@ -61,8 +67,9 @@ pub(crate) fn push_events(seats: &[Seat], pairs: &mut [Pair]) -> Result<Moved, N
     requires { HaveClients seats.now pairs.old }
     ensures driven { AreDriven pairs.old pairs.new }
     ensures drivers { SameDrivers pairs.old pairs.new }
-    ensures quiet { IfOk result (λ moved. moved ≡ Moved.Quiet →
-        links_of pairs.new ≡ links_of pairs.old) }
+    ensures stays { FreesNoneIf (λ _. ⊤) pairs.old pairs.new }
+    ensures quiet { IfOk result (λ moved. moved ≡ Moved.Quiet → LinksRest pairs.old pairs.new) }
+    ensures waits { IfOk result (λ moved. moved ≡ Moved.Quiet → EventsWait seats.now pairs.new) }
 {
     let mut moved = Moved::Quiet;
     for k in 0..seats.len() {
@@ -86,6 +93,8 @@ pub(crate) fn step_at(
     ensures driven { AreDriven pairs.old pairs.new }
     ensures credit { StepsSeat pair line.now.verb (taken_in progress.old)
         (taken_in progress.new) pairs.old pairs.new result }
+    ensures stays { FreesNoneIf (λ k. k ≡ pair → is_reset line.now.verb ≡ false)
+        pairs.old pairs.new }
 {
     seat::step(&mut pairs[pair], line, progress)
 }
@@ -115,6 +124,7 @@ fn step_own(
     ensures driven { AreDriven pairs.old pairs.new }
     ensures credit { StepsLine seats.now line.now (taken_in progress.old)
         (taken_in progress.new) pairs.old pairs.new result }
+    ensures stays { FreesNoneIf (IsSpared seats.now line.now) pairs.old pairs.new }
     ensures lan { lan.new.seats ≡ lan.old.seats }
 {
     match seat_at(seats, line.unit) {
@@ -141,6 +151,7 @@ pub(crate) fn step_unit(
     ensures driven { AreDriven pairs.old pairs.new }
     ensures credit { StepsLine seats.now line.now (taken_in progress.old)
         (taken_in progress.new) pairs.old pairs.new result }
+    ensures stays { FreesNoneIf (IsSpared seats.now line.now) pairs.old pairs.new }
     ensures lan { lan.new.seats ≡ lan.old.seats }
 {
     match RawCall::of(&line.verb) {
@@ -156,8 +167,8 @@ fn take_rest_of(pairs: &mut [Pair], pair: usize) -> Result<Moved, NoMemory>
         (λ pair. IsSomeAnd pair.driver (IsDriver pair.window)) }
     ensures driven { AreDriven pairs.old pairs.new }
     ensures others { SameOthers pair pairs.old pairs.new }
-    ensures still { IfOk result (λ moved. moved ≡ Moved.Quiet →
-        links_of pairs.new ≡ links_of pairs.old) }
+    ensures stays { FreesNoneIf (λ _. ⊤) pairs.old pairs.new }
+    ensures still { IfOk result (λ moved. moved ≡ Moved.Quiet → LinksRest pairs.old pairs.new) }
     ensures waits { IfOk result (λ moved. moved ≡ Moved.Quiet →
         IsSomeAnd (slice_get (links_of pairs.new) pair) ClientWaits) }
 {
@@ -177,8 +188,8 @@ fn take_rest_at(
     ensures driven { AreDriven pairs.old pairs.new }
     ensures others { SameElse (seat ∷ []) pairs.old pairs.new }
     ensures lan { lan.new.seats ≡ lan.old.seats }
-    ensures still { IfOk result (λ moved. moved ≡ Moved.Quiet →
-        links_of pairs.new ≡ links_of pairs.old) }
+    ensures stays { FreesNoneIf (λ _. ⊤) pairs.old pairs.new }
+    ensures still { IfOk result (λ moved. moved ≡ Moved.Quiet → LinksRest pairs.old pairs.new) }
     ensures waits { IfOk result (λ moved. moved ≡ Moved.Quiet → (k : ℕ) → seat ≡ sits.Client k →
         IsSomeAnd (slice_get (links_of pairs.new) k) ClientWaits) }
 {
@@ -202,6 +213,7 @@ pub(crate) fn take_rest(
     ensures driven { AreDriven pairs.old pairs.new }
     ensures others { SameElse seats.now pairs.old pairs.new }
     ensures lan { lan.new.seats ≡ lan.old.seats }
+    ensures stays { FreesNoneIf (λ _. ⊤) pairs.old pairs.new }
     ensures quiet { IfOk result (λ moved. moved ≡ Moved.Quiet →
         SeatsRest seats.now pairs.old pairs.new) }
 {
@@ -224,6 +236,7 @@ fn fail_of(pairs: &mut [Pair], pair: usize) -> Result<bool, NoMemory>
         (λ pair. IsSomeAnd pair.driver (IsDriver pair.window)) }
     ensures driven { AreDriven pairs.old pairs.new }
     ensures credit { AllSame pairs.old pairs.new }
+    ensures stays { FreesNoneIf (λ k. k ≢ pair) pairs.old pairs.new }
 {
     seat::fail(&mut pairs[pair])
 }
@@ -235,6 +248,7 @@ fn fail_at(unit: UnitId, seat: Seat, pairs: &mut [Pair], lan: &mut Lan) -> Resul
     requires port { seat ≡ sits.Port → IsPortOf lan.old.seats unit }
     ensures driven { AreDriven pairs.old pairs.new }
     ensures credit { AllSame pairs.old pairs.new }
+    ensures stays { FreesNoneIf (NoneSits (seat ∷ [])) pairs.old pairs.new }
     ensures lan { lan.new.seats ≡ lan.old.seats }
 {
     match seat {
@@ -256,6 +270,7 @@ pub(crate) fn fail(
     requires few { length seats.now ≤ 8 }
     ensures driven { AreDriven pairs.old pairs.new }
     ensures credit { AllSame pairs.old pairs.new }
+    ensures stays { FreesNoneIf (NoneSits seats.now) pairs.old pairs.new }
     ensures lan { lan.new.seats ≡ lan.old.seats }
 {
     for k in 0..seats.len() {

@@ -34,7 +34,8 @@ impl Driver {
         own: &mut O,
     ) -> Result<Took, NoMemory>
         requires { MIN_PAGES ≤ (O.state own.old).place.size }
-        ensures works { Works C.is_shared O.is_shared (C.state crq.old.end) (C.state crq.new.end)
+        ensures works { Works false C.is_shared O.is_shared
+            (C.state crq.old.end) (C.state crq.new.end)
             (O.state own.old) (O.state own.new) self.old self.new }
         ensures took { IfOk result (λ took. TookOf took self.old.client self.new.client) }
         ensures none { IfOk result (λ took. C.is_shared ≡ false → took ≡ Took.Nothing →
@@ -60,7 +61,8 @@ impl Driver {
         own: &mut O,
     ) -> Result<Moved, NoMemory>
         requires { MIN_PAGES ≤ (O.state own.old).place.size }
-        ensures works { Works C.is_shared O.is_shared (C.state crq.old.end) (C.state crq.new.end)
+        ensures works { Works false C.is_shared O.is_shared
+            (C.state crq.old.end) (C.state crq.new.end)
             (O.state own.old) (O.state own.new) self.old self.new }
         ensures quiet { IfOk result (λ moved. C.is_shared ≡ false → moved ≡ Moved.Quiet →
             EndRests (C.state crq.old.end) (C.state crq.new.end)) }
@@ -86,7 +88,8 @@ impl Driver {
         taken: &mut u64,
     ) -> Result<Step, NoMemory>
         requires { MIN_PAGES ≤ (O.state own.old).place.size }
-        ensures works { Works C.is_shared O.is_shared (C.state crq.old.end) (C.state crq.new.end)
+        ensures works { Works false C.is_shared O.is_shared
+            (C.state crq.old.end) (C.state crq.new.end)
             (O.state own.old) (O.state own.new) self.old self.new }
         ensures credit { StepsAgreed (verbs.Take count) taken.old taken.new
             self.old.client self.new.client result }

@@ -4,11 +4,12 @@ use Rattle.vcpu_run.proofs.Copied.{copies_are}
 use Rattle.vcpu_run.proofs.Fetching.{entries_are_fetched, ok_pair, requests_are_served}
 use Rattle.vcpu_run.proofs.FramesCarried.{ports_keep}
 use Rattle.vcpu_run.proofs.Freed.{few_seats, free_pairs, from_rows}
+use Rattle.vcpu_run.proofs.GivenAnswers.{answers_are_given}
 use Rattle.vcpu_run.proofs.Ordering.{order_is}
 use Rattle.vcpu_run.proofs.QueueLaws.{queues_are}
 use Rattle.vcpu_run.proofs.RecordLaws.{credits_are, records_are}
 use Rattle.vcpu_run.proofs.SentTo.{answers_are}
-use Rattle.vcpu_run.proofs.Settling.{settled_are}
+use Rattle.vcpu_run.proofs.Settling.{handed_are, settled_are}
 use Rattle.std.proofs.Common.{refl}
 use Rattle.vcpu_run.proofs.gather.gather.Goals as goal
 
@@ -58,6 +59,11 @@ returns-clause-settled c =
     from_rows c.args.pairs.items c.args.scripts.items c.args.lan c.args.history.items c.args.grants.items c.args.copies.items c.rows_of.result _ _ c.rows_of.ensures.trace c.rows_of.ensures.queues
     (λ rows keeps ordered lawful partitions of_plan rests. settled_are c.args.pairs.items c.args.scripts.items c.args.lan rows c.args.history.items c.args.grants.items c.args.copies.items partitions rests.units c.requires.scripts lawful of_plan rests.idle)
 
+pub returns-clause-handed : goal.returns-clause-handed
+returns-clause-handed c =
+    from_rows c.args.pairs.items c.args.scripts.items c.args.lan c.args.history.items c.args.grants.items c.args.copies.items c.rows_of.result _ _ c.rows_of.ensures.trace c.rows_of.ensures.queues
+    (λ rows keeps ordered lawful partitions of_plan rests. handed_are c.args.pairs.items c.args.scripts.items c.args.lan rows c.args.history.items c.args.grants.items c.args.copies.items partitions rests.units c.requires.scripts of_plan rests.idle rests.unfreed)
+
 pub returns-clause-intake : goal.returns-clause-intake
 returns-clause-intake c =
     from_rows c.args.pairs.items c.args.scripts.items c.args.lan c.args.history.items c.args.grants.items c.args.copies.items c.rows_of.result _ _ c.rows_of.ensures.trace
@@ -72,6 +78,12 @@ returns-clause-requests c =
     (ok_pair c.rows_of.result _ _ c.rows_of.ensures.queues c.rows_of.ensures.windows)
     (λ rows keeps ordered lawful partitions of_plan rests. requests_are_served c.args.pairs.items c.args.scripts.items c.args.lan rows c.args.history.items c.args.grants.items c.args.copies.items partitions
     c.requires.pairs c.requires.scripts lawful.0 lawful.1 of_plan rests)
+
+pub returns-clause-given : goal.returns-clause-given
+returns-clause-given c =
+    from_rows c.args.pairs.items c.args.scripts.items c.args.lan c.args.history.items c.args.grants.items c.args.copies.items c.rows_of.result _ _ c.rows_of.ensures.trace c.rows_of.ensures.queues
+    (λ rows keeps ordered lawful partitions of_plan rests. answers_are_given c.args.pairs.items c.args.scripts.items c.args.lan rows c.args.history.items c.args.grants.items c.args.copies.items partitions
+    c.requires.pairs c.requires.scripts lawful of_plan rests)
 
 pub returns-clause-serves : goal.returns-clause-serves
 returns-clause-serves c =

@@ -1,6 +1,7 @@
 use Rattle.std.proofs.lemmas.Option.{slice_get-get_or}
 use Rattle.vcpu_run.proofs.Agreeing.{set_same}
 use Rattle.vcpu_run.proofs.Driving.{driven_set}
+use Rattle.vcpu_run.proofs.Unfreed.{frees_other}
 use Rattle.vcpu_run.proofs.partition_units.call_at.Goals as goal
 
 pub returns-clause-driven : goal.returns-clause-driven
@@ -8,3 +9,6 @@ returns-clause-driven c = driven_set c.args.pairs.now c.args.pair _ c.call.new.p
 
 pub returns-clause-told : goal.returns-clause-told
 returns-clause-told c = set_same c.args.pairs.now c.args.pair _ c.call.new.pair (slice_get-get_or c.args.pairs.now c.args.pair _ c.requires) c.call.ensures.driver
+
+pub returns-clause-stays : goal.returns-clause-stays
+returns-clause-stays c = frees_other c.args.pairs.now c.args.pair c.call.new.pair

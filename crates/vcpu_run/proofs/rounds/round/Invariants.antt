@@ -2,6 +2,7 @@ use Rattle.std.proofs.Common.{◌≡◌, vec_len}
 use Rattle.vcpu_run.specs.Agreed.{AreCredited}
 use Rattle.vcpu_run.specs.Answered.{AreAnswered}
 use Rattle.vio_num.specs.declared.hypervisor.Moved.TheVariants.{Quiet}
+use Rattle.vcpu_run.specs.Freeing.{KeepQueues}
 use Rattle.vcpu_run.specs.Links.{AreIdleTo, AreLinked, AreOverTo}
 use Rattle.vcpu_run.specs.Received.{AreReceived}
 use Rattle.vcpu_run.specs.OnDisk.{LastsOnDisk}
@@ -19,6 +20,7 @@ invariant-loop-number g l = record {
       (g.Di.Blocks.state l.initial.server.disk.image).blocks (g.Di.Blocks.state l.server.disk.image).blocks;
   credited : AreCredited l.initial.pairs l.initial.scripts → AreCredited l.pairs l.scripts;
   lan : l.lan.seats ≡ l.initial.lan.seats;
+  unfreed : KeepQueues l.initial.pairs l.initial.scripts → KeepQueues l.pairs l.scripts;
   linked : AreLinked l.initial.server.units.items l.initial.pairs → AreLinked l.server.units.items l.pairs;
   idle : l.moved ≡ Quiet → AreLinked l.initial.server.units.items l.initial.pairs → AreOverTo l.number l.scripts → AreIdleTo l.number l.server.units.items l.pairs l.scripts;
 }

@@ -6,7 +6,7 @@ use Rattle.vcpu_run.proofs.Scripted.{run_same, run_then}
 use Rattle.vcpu_run.proofs.rounds.run.Goals as goal
 
 pub loop-round-init : goal.loop-round-init
-loop-round-init g c = record { machine = c.requires.machine; stay = all_same c.args.pairs.now; run = run_same c.args.scripts.now; answered = c.requires.answered; received = c.requires.received; disk = lasts_same c.args.server.now.records.history.items (g.Di.Blocks.state c.args.server.now.disk.image).blocks; credited = λ are. are; lan = refl; linked = λ are. are }
+loop-round-init g c = record { machine = c.requires.machine; stay = all_same c.args.pairs.now; run = run_same c.args.scripts.now; answered = c.requires.answered; received = c.requires.received; disk = lasts_same c.args.server.now.records.history.items (g.Di.Blocks.state c.args.server.now.disk.image).blocks; credited = λ are. are; lan = refl; unfreed = λ keep. keep; linked = λ are. are }
 
 pub loop-round-preserved : goal.loop-round-preserved
 loop-round-preserved g c =
@@ -22,6 +22,7 @@ loop-round-preserved g c =
           (g.Di.Blocks.state c.args.server.now.disk.image).blocks (g.Di.Blocks.state c.loop-round.server.disk.image).blocks (g.Di.Blocks.state c.step.new.server.disk.image).blocks c.loop-round.invariant.disk c.step.ensures.disk;
       credited = λ are. c.in_ok-moved.ensures.credited (before.credited are);
       lan = after.lan ∙ before.lan;
+      unfreed = λ keep. after.unfreed (before.unfreed keep);
       linked = λ are. c.in_ok-moved.ensures.linked (before.linked are);
     }
 

@@ -1,6 +1,7 @@
 use Rattle.std.proofs.Common.{◌≡◌, vec_len}
 use Rattle.vcpu_run.specs.Agreed.{AreCredited}
 use Rattle.vcpu_run.specs.Answered.{AreAnswered}
+use Rattle.vcpu_run.specs.Freeing.{KeepQueues}
 use Rattle.vcpu_run.specs.Links.{AreLinked}
 use Rattle.vcpu_run.specs.Received.{AreReceived}
 use Rattle.vcpu_run.specs.OnDisk.{LastsOnDisk}
@@ -18,5 +19,6 @@ invariant-loop-round g l = record {
       (g.Di.Blocks.state l.initial.server.disk.image).blocks (g.Di.Blocks.state l.server.disk.image).blocks;
   credited : AreCredited l.initial.pairs l.initial.scripts → AreCredited l.pairs l.scripts;
   lan : l.lan.seats ≡ l.initial.lan.seats;
+  unfreed : KeepQueues l.initial.pairs l.initial.scripts → KeepQueues l.pairs l.scripts;
   linked : AreLinked l.initial.server.units.items l.initial.pairs → AreLinked l.server.units.items l.pairs;
 }

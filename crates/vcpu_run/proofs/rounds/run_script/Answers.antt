@@ -9,6 +9,7 @@ use Rattle.vcpu_run.proofs.Elsewhere.{credits_turned, ok_then}
 use Rattle.vcpu_run.proofs.Keeping.{driven_stay, drivers_driven, pairs_driven}
 use Rattle.vcpu_run.proofs.Receiving.{received_driven}
 use Rattle.vcpu_run.proofs.Scripted.{run_one, script_turned}
+use Rattle.vcpu_run.proofs.Unfreed.{queues_turned}
 use Rattle.vcpu_run.proofs.rounds.run_script.Goals as goal
 
 pub turn-requires-clause-script : goal.turn-requires-clause-script
@@ -79,3 +80,10 @@ returns-clause-idle c =
 
 pub returns-clause-elsewhere : goal.returns-clause-elsewhere
 returns-clause-elsewhere c = λ i apart. get_set_other c.args.scripts.now c.args.number i c.turn.new.self apart
+
+pub returns-clause-unfreed : goal.returns-clause-unfreed
+returns-clause-unfreed c =
+    let scripts = c.args.scripts.now in
+    let d = c.index-scripts-number.result in
+    queues_turned c.args.pairs.now c.turn.new.pairs c.args.lan.now.seats scripts c.args.number (slice_index_or scripts c.args.number d) c.turn.new.self
+    (slice_get-get_or scripts c.args.number d c.requires.there) c.requires.scripts c.turn.ensures.rest c.turn.ensures.stays

@@ -2,10 +2,11 @@ use Rattle.vcpu_run.proofs.Idling.{serves_all, serves_next}
 use Rattle.std.proofs.Common.{◌∙◌, refl, arith}
 use Rattle.vcpu_run.proofs.Disks.{lasts_same, lasts_then}
 use Rattle.vcpu_run.proofs.Keeping.{all_same, all_then}
+use Rattle.vcpu_run.proofs.Unfreed.{frees_on, frees_same}
 use Rattle.vcpu_run.proofs.rounds.serve.Goals as goal
 
 pub loop-unit-init : goal.loop-unit-init
-loop-unit-init g c = record { serving = c.requires.serving; stay = all_same c.args.pairs.now; drivers = λ k. refl; answered = c.requires.answered; received = c.requires.received; disk = lasts_same c.args.server.now.records.history.items (g.Di.Blocks.state c.args.server.now.disk.image).blocks; linked = λ are. are; wait = λ is are k link less found. absurd (omega (arith, less)) }
+loop-unit-init g c = record { serving = c.requires.serving; stay = all_same c.args.pairs.now; drivers = λ k. refl; answered = c.requires.answered; received = c.requires.received; disk = lasts_same c.args.server.now.records.history.items (g.Di.Blocks.state c.args.server.now.disk.image).blocks; linked = λ are. are; stays = frees_same _ c.args.pairs.now; wait = λ is are k link less found. absurd (omega (arith, less)) }
 
 pub loop-unit-preserved : goal.loop-unit-preserved
 loop-unit-preserved g c = record {
@@ -17,6 +18,7 @@ loop-unit-preserved g c = record {
   disk = lasts_then c.args.server.now.records.history.items c.loop-unit.server.records.history.items c.serve_at.new.server.records.history.items
       (g.Di.Blocks.state c.args.server.now.disk.image).blocks (g.Di.Blocks.state c.loop-unit.server.disk.image).blocks (g.Di.Blocks.state c.serve_at.new.server.disk.image).blocks c.loop-unit.invariant.disk c.serve_at.ensures.disk;
   linked = λ are. c.in_ok-turned.ensures.linked (c.loop-unit.invariant.linked are);
+  stays = frees_on _ c.args.pairs.now c.loop-unit.pairs c.serve_at.new.pairs c.loop-unit.invariant.stays c.serve_at.ensures.stays;
   wait = λ is are.
       serves_next c.loop-unit.pairs c.serve_at.new.pairs c.loop-unit.server.units.items c.serve_at.new.server.units.items c.loop-unit.unit c.serve_at.ensures.elsewhere c.serve_at.ensures.units_else
       (c.in_ok-turned.ensures.waits (c.either-moved.ensures.other is) (c.loop-unit.invariant.linked are))
@@ -39,3 +41,6 @@ pub returns-in_err-turned-clause-disk : goal.returns-in_err-turned-clause-disk
 returns-in_err-turned-clause-disk g c =
     lasts_then c.args.server.now.records.history.items c.loop-unit.server.records.history.items c.serve_at.new.server.records.history.items
     (g.Di.Blocks.state c.args.server.now.disk.image).blocks (g.Di.Blocks.state c.loop-unit.server.disk.image).blocks (g.Di.Blocks.state c.serve_at.new.server.disk.image).blocks c.loop-unit.invariant.disk c.serve_at.ensures.disk
+
+pub returns-in_err-turned-clause-stays : goal.returns-in_err-turned-clause-stays
+returns-in_err-turned-clause-stays g c = frees_on _ c.args.pairs.now c.loop-unit.pairs c.serve_at.new.pairs c.loop-unit.invariant.stays c.serve_at.ensures.stays

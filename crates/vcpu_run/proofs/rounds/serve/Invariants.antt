@@ -1,5 +1,7 @@
+use Rattle.std.specs.Prelude.{⊤}
 use Rattle.std.proofs.Common.{◌≡◌, ◌<◌, ℕ, Some, slice_get, vec_len}
 use Rattle.vio_num.specs.declared.hypervisor.Moved.TheVariants.{Quiet}
+use Rattle.vcpu_run.specs.Freed.{FreesNoneIf}
 use Rattle.vcpu_run.specs.Links.{AreLinked, LinkState, ServerWaits, links_of}
 use Rattle.vcpu_run.specs.Agreed.{SameDrivers}
 use Rattle.vcpu_run.specs.Answered.{AreAnswered}
@@ -17,6 +19,7 @@ invariant-loop-unit g l = record {
   received : AreReceived l.server.units.items l.server.copies.items l.server.records.grants.items l.server.records.history.items l.pairs;
   disk : LastsOnDisk l.initial.server.records.history.items l.server.records.history.items
       (g.Di.Blocks.state l.initial.server.disk.image).blocks (g.Di.Blocks.state l.server.disk.image).blocks;
+  stays : FreesNoneIf (λ _. ⊤) l.initial.pairs l.pairs;
   linked : AreLinked l.initial.server.units.items l.initial.pairs → AreLinked l.server.units.items l.pairs;
   wait : l.moved ≡ Quiet → AreLinked l.initial.server.units.items l.initial.pairs
       → (k : ℕ) (link : LinkState) → k < l.unit → slice_get (links_of l.pairs) k ≡ Some link → ServerWaits (slice_get l.server.units.items k) link;

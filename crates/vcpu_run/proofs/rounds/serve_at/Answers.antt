@@ -13,6 +13,7 @@ use Rattle.vcpu_run.proofs.Agreeing.{set_same}
 use Rattle.vcpu_run.proofs.Keeping.{stays_same}
 use Rattle.vcpu_run.proofs.Listed.{each_on, each_set}
 use Rattle.vcpu_run.proofs.PairNames.{apart_stays}
+use Rattle.vcpu_run.proofs.Unfreed.{frees_set}
 use Rattle.vcpu_run.proofs.rounds.serve_at.Goals as goal
 
 pub serve-requires-clause-pair : goal.serve-requires-clause-pair
@@ -105,3 +106,9 @@ returns-clause-received g c =
     let is = c.requires.serving.pairs_are k other there in
     c.serve.ensures.received_else k other apart (is.own_unit ∙ is.server) (c.requires.received k other there))
     c.serve.ensures.received
+
+pub returns-clause-stays : goal.returns-clause-stays
+returns-clause-stays g c =
+    let pairs = c.args.pairs.now in
+    frees_set _ pairs c.args.unit (slice_index_or pairs c.args.unit c.index-pairs-unit.result) c.serve.new.self (slice_get-get_or pairs c.args.unit c.index-pairs-unit.result c.requires.there)
+    (λ always. c.serve.ensures.unfreed)

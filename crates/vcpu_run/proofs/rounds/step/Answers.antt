@@ -5,6 +5,7 @@ use Rattle.vcpu_run.proofs.Crediting.{on_ok}
 use Rattle.std.proofs.Common.{List, length, subst, sym}
 use Rattle.vcpu_run.proofs.Elsewhere.{ok_then}
 use Rattle.vcpu_run.proofs.Scripted.{run_then}
+use Rattle.vcpu_run.proofs.Unfreed.{queues_run}
 use Rattle.vcpu_run.proofs.rounds.step.Goals as goal
 
 pub returns-in-Quiet-clause-machine : goal.returns-in-Quiet-clause-machine
@@ -33,3 +34,6 @@ returns-in-Quiet-clause-idle g c =
     subst (λ (scripts : List Script). AreOverTo (length scripts) scripts → AreIdleTo (length scripts) c.round.new.server.units.items c.round.new.pairs scripts) (sym (same is))
     (c.in_ok-round.ensures.idle c.in-Quiet.is are))
     c.end_lines.ensures.quiet
+
+pub returns-in-Quiet-clause-unfreed : goal.returns-in-Quiet-clause-unfreed
+returns-in-Quiet-clause-unfreed g c = λ keep. queues_run c.round.new.pairs c.round.new.scripts c.end_lines.new.scripts c.end_lines.ensures.run (c.round.ensures.unfreed keep)

@@ -7,6 +7,7 @@ use Rattle.vcpu_run.proofs.Elsewhere.{credits_served}
 use Rattle.vcpu_run.proofs.Keeping.{drivers_of}
 use Rattle.vcpu_run.proofs.Lasting.{serving_stays}
 use Rattle.vcpu_run.proofs.Scripted.{run_same, scripts_stay}
+use Rattle.vcpu_run.proofs.Unfreed.{queues_served}
 use Rattle.vcpu_run.proofs.rounds.turn_at.Goals as goal
 
 pub run_script-requires-clause-drivers : goal.run_script-requires-clause-drivers
@@ -62,3 +63,6 @@ returns-else-is_of_servers-clause-idle g c =
     (λ moved rests is are over. rests_clients scripts c.run_script.new.scripts c.args.number (slice_index_or scripts c.args.number d) c.args.server.now.units.items c.args.pairs.now c.run_script.new.pairs
     c.run_script.ensures.run (slice_get-get_or scripts c.args.number d c.requires.there) (sym c.is_of_servers.ensures ∙ c.if-is_of_servers.false) (rests is over))
     c.run_script.ensures.idle
+
+pub returns-then-is_of_servers-clause-unfreed : goal.returns-then-is_of_servers-clause-unfreed
+returns-then-is_of_servers-clause-unfreed g c = queues_served c.args.pairs.now c.serve.new.pairs c.args.scripts.now c.serve.ensures.stays

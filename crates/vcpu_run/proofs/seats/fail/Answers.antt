@@ -1,6 +1,7 @@
 use Rattle.std.proofs.Common.{◌∙◌, Some, ap}
 use Rattle.vcpu_run.proofs.Agreeing.{all_on}
 use Rattle.vcpu_run.proofs.Driving.{driven_on, seat_of, still_clients}
+use Rattle.vcpu_run.proofs.Unfreed.{frees_on, frees_seat}
 use Rattle.vcpu_run.proofs.seats.fail.Goals as goal
 
 pub fail_at-requires-clause-client : goal.fail_at-requires-clause-client
@@ -21,6 +22,8 @@ pub loop-k-preserved : goal.loop-k-preserved
 loop-k-preserved c = record {
   driven = driven_on c.args.pairs.now c.loop-k.pairs c.fail_at.new.pairs c.loop-k.invariant.driven c.fail_at.ensures.driven;
   credit = (all_on c.args.pairs.now c.loop-k.pairs c.fail_at.new.pairs c.loop-k.invariant.credit c.fail_at.ensures.credit);
+  stays = frees_on _ c.args.pairs.now c.loop-k.pairs c.fail_at.new.pairs c.loop-k.invariant.stays
+      (frees_seat c.args.seats.now c.loop-k.k _ c.loop-k.pairs c.fail_at.new.pairs (seat_of c.args.seats.now c.loop-k.k c.loop-k-test.true) c.fail_at.ensures.stays);
   clients = still_clients c.args.seats.now c.loop-k.pairs c.fail_at.new.pairs c.fail_at.ensures.driven c.loop-k.invariant.clients;
   ports = rw c.fail_at.ensures.lan c.loop-k.invariant.ports;
   lan = c.fail_at.ensures.lan ∙ c.loop-k.invariant.lan;
@@ -31,3 +34,13 @@ returns-in_err-fail_at-clause-credit c = (all_on c.args.pairs.now c.loop-k.pairs
 
 pub returns-then-not-branch-clause-credit : goal.returns-then-not-branch-clause-credit
 returns-then-not-branch-clause-credit c = (all_on c.args.pairs.now c.loop-k.pairs c.fail_at.new.pairs c.loop-k.invariant.credit c.fail_at.ensures.credit)
+
+pub returns-in_err-fail_at-clause-stays : goal.returns-in_err-fail_at-clause-stays
+returns-in_err-fail_at-clause-stays c =
+    frees_on _ c.args.pairs.now c.loop-k.pairs c.fail_at.new.pairs c.loop-k.invariant.stays
+    (frees_seat c.args.seats.now c.loop-k.k _ c.loop-k.pairs c.fail_at.new.pairs (seat_of c.args.seats.now c.loop-k.k c.loop-k-test.true) c.fail_at.ensures.stays)
+
+pub returns-then-not-branch-clause-stays : goal.returns-then-not-branch-clause-stays
+returns-then-not-branch-clause-stays c =
+    frees_on _ c.args.pairs.now c.loop-k.pairs c.fail_at.new.pairs c.loop-k.invariant.stays
+    (frees_seat c.args.seats.now c.loop-k.k _ c.loop-k.pairs c.fail_at.new.pairs (seat_of c.args.seats.now c.loop-k.k c.loop-k-test.true) c.fail_at.ensures.stays)

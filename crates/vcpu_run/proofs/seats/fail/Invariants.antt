@@ -1,5 +1,7 @@
 use Rattle.std.proofs.Common.{◌≡◌}
 use Rattle.vcpu_run.specs.Agreed.{AllSame}
+use Rattle.vcpu_run.specs.Freed.{FreesNoneIf}
+use Rattle.vcpu_run.specs.Freeing.{NoneSits}
 use Rattle.vcpu_run.specs.Pairs.{AreDriven}
 use Rattle.vcpu_run.specs.Ports.{HavePorts}
 use Rattle.vcpu_run.specs.Works.{HaveClients}
@@ -9,6 +11,7 @@ abbrev pub invariant-loop-k : goal.invariant-loop-k
 invariant-loop-k l = record {
   driven : AreDriven l.initial.pairs l.pairs;
   credit : AllSame l.initial.pairs l.pairs;
+  stays : FreesNoneIf (NoneSits l.seats) l.initial.pairs l.pairs;
   clients : HaveClients l.seats l.pairs;
   ports : HavePorts l.partition l.seats l.lan.seats;
   lan : l.lan.seats ≡ l.initial.lan.seats;

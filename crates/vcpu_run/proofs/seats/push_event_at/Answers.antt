@@ -1,4 +1,7 @@
-use Rattle.std.proofs.Common.{refl}
+use Rattle.std.proofs.Common.{◌≡◌, ◌∙◌, ℕ, IfSome, refl, slice_get, subst, sym}
+use Rattle.vcpu_run.specs.declared.unit_seat.Seat.TheVariants as sits
+use Rattle.vcpu_run.specs.Links.{EventWaits}
+use Rattle.vcpu_run.proofs.Resting.{ok_more}
 use Rattle.vcpu_run.proofs.Driving.{driven_same}
 use Rattle.vcpu_run.proofs.seats.push_event_at.Goals as goal
 
@@ -7,3 +10,12 @@ push_event_of-requires c = c.requires c.in-Client.pair c.in-Client.is
 
 pub returns-in-Server-clause-driven : goal.returns-in-Server-clause-driven
 returns-in-Server-clause-driven c = driven_same c.args.pairs.now
+
+pub returns-in-Client-clause-waits : goal.returns-in-Client-clause-waits
+returns-in-Client-clause-waits c =
+    ok_more c.push_event_of.result _ _
+    (λ moved wait is k at. subst (λ (n : ℕ). IfSome (slice_get c.push_event_of.new.pairs n) EventWaits) (client_here c.in-Client.pair k (sym c.in-Client.is ∙ at)) (wait is))
+    c.push_event_of.ensures.waits
+  where
+    client_here : (j k : ℕ) → sits.Client j ≡ sits.Client k → j ≡ k
+    client_here j k e = cc

@@ -1,4 +1,6 @@
-use Rattle.vcpu_run.proofs.Resting.{links_set, ok_more}
+use Rattle.vcpu_run.specs.Links.{EventWaits}
+use Rattle.vcpu_run.proofs.Resting.{events_set, ok_more, rests_set}
+use Rattle.vcpu_run.proofs.Unfreed.{frees_set}
 use Rattle.std.proofs.lemmas.Option.{slice_get-get_or}
 use Rattle.vcpu_run.proofs.Agreeing.{set_same}
 use Rattle.vcpu_run.proofs.Driving.{driven_set}
@@ -10,8 +12,16 @@ returns-clause-driven c = driven_set c.args.pairs.now c.args.pair _ c.push_event
 pub returns-clause-drivers : goal.returns-clause-drivers
 returns-clause-drivers c = set_same c.args.pairs.now c.args.pair _ c.push_event.new.pair (slice_get-get_or c.args.pairs.now c.args.pair _ c.requires) c.push_event.ensures.driver
 
+pub returns-clause-stays : goal.returns-clause-stays
+returns-clause-stays c = frees_set _ c.args.pairs.now c.args.pair _ c.push_event.new.pair (slice_get-get_or c.args.pairs.now c.args.pair _ c.requires) (λ always. c.push_event.ensures.stays)
+
 pub returns-clause-quiet : goal.returns-clause-quiet
 returns-clause-quiet c =
     ok_more c.push_event.result _ _
-    (λ moved same is. links_set c.args.pairs.now c.args.pair _ c.push_event.new.pair (slice_get-get_or c.args.pairs.now c.args.pair _ c.requires) (same is))
+    (λ moved rests is. rests_set c.args.pairs.now c.args.pair _ c.push_event.new.pair (slice_get-get_or c.args.pairs.now c.args.pair _ c.requires) (rests is))
     c.push_event.ensures.quiet
+
+pub returns-clause-waits : goal.returns-clause-waits
+returns-clause-waits c =
+    ok_more c.push_event.result _ _ (λ moved wait is. events_set EventWaits c.args.pairs.now c.args.pair c.push_event.new.pair c.requires (wait is))
+    c.push_event.ensures.waits

@@ -1,5 +1,9 @@
-use Rattle.std.proofs.Common.{◌∙◌, Some, ap}
-use Rattle.vcpu_run.proofs.Driving.{driven_on, seat_of, seat_within, still_clients}
+use Rattle.std.proofs.Common.{◌∙◌, Some, ap, arith, refl}
+use Rattle.std.proofs.lemmas.Option.{slice_get_within}
+use Rattle.vcpu_run.specs.declared.unit_seat.Seat.TheVariants as sits
+use Rattle.vcpu_run.proofs.Resting.{events_next, rests_on, rests_same}
+use Rattle.vcpu_run.proofs.Unfreed.{frees_on, frees_same}
+use Rattle.vcpu_run.proofs.Driving.{driven_on, driven_same, seat_of, seat_within, still_clients}
 use Rattle.vcpu_run.proofs.seats.push_events.Goals as goal
 
 pub push_event_at-requires : goal.push_event_at-requires
@@ -15,8 +19,31 @@ loop-k-preserved c = record {
   driven = driven_on c.args.pairs.now c.loop-k.pairs c.push_event_at.new.pairs c.loop-k.invariant.driven c.push_event_at.ensures.driven;
   drivers = (λ k. c.push_event_at.ensures.drivers k ∙ c.loop-k.invariant.drivers k);
   clients = still_clients c.args.seats.now c.loop-k.pairs c.push_event_at.new.pairs c.push_event_at.ensures.driven c.loop-k.invariant.clients;
-  still = λ is. c.in_ok-here.ensures.quiet (c.either-moved.ensures.other is) ∙ c.loop-k.invariant.still (c.either-moved.ensures.one is);
+  stays = frees_on _ c.args.pairs.now c.loop-k.pairs c.push_event_at.new.pairs c.loop-k.invariant.stays c.push_event_at.ensures.stays;
+  rest = λ is.
+      rests_on c.args.pairs.now c.loop-k.pairs c.push_event_at.new.pairs (c.loop-k.invariant.rest (c.either-moved.ensures.one is)) (c.in_ok-here.ensures.quiet (c.either-moved.ensures.other is));
+  wait = λ is.
+      events_next c.args.seats.now c.loop-k.k _ c.loop-k.pairs c.push_event_at.new.pairs (seat_of c.args.seats.now c.loop-k.k c.loop-k-test.true)
+      (c.in_ok-here.ensures.quiet (c.either-moved.ensures.other is)) (c.loop-k.invariant.wait (c.either-moved.ensures.one is)) (c.in_ok-here.ensures.waits (c.either-moved.ensures.other is));
 }
 
 pub returns-in_err-here-clause-drivers : goal.returns-in_err-here-clause-drivers
 returns-in_err-here-clause-drivers c = (λ k. c.push_event_at.ensures.drivers k ∙ c.loop-k.invariant.drivers k)
+
+pub loop-k-init : goal.loop-k-init
+loop-k-init c = record {
+  driven = driven_same c.args.pairs.now;
+  drivers = λ k. refl;
+  clients = c.requires;
+  stays = frees_same _ c.args.pairs.now;
+  rest = λ is. rests_same c.args.pairs.now;
+  wait = λ is u k less found. absurd (omega (arith, less));
+}
+
+pub returns-in_err-here-clause-stays : goal.returns-in_err-here-clause-stays
+returns-in_err-here-clause-stays c = frees_on _ c.args.pairs.now c.loop-k.pairs c.push_event_at.new.pairs c.loop-k.invariant.stays c.push_event_at.ensures.stays
+
+pub returns-clause-waits : goal.returns-clause-waits
+returns-clause-waits c = λ is u k found.
+    let less = slice_get_within c.args.seats.now u (sits.Client k) found in
+    c.loop-k.invariant.wait is u k (omega (arith, less, c.loop-k-test.false)) found

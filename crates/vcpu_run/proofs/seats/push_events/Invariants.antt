@@ -1,6 +1,9 @@
-use Rattle.std.proofs.Common.{◌≡◌}
+use Rattle.std.specs.Prelude.{⊤}
+use Rattle.std.proofs.Common.{◌≡◌, ◌<◌, ℕ, Some, IfSome, slice_get}
+use Rattle.vcpu_run.specs.declared.unit_seat.Seat.TheVariants as sits
 use Rattle.vio_num.specs.declared.hypervisor.Moved.TheVariants.{Quiet}
-use Rattle.vcpu_run.specs.Links.{links_of}
+use Rattle.vcpu_run.specs.Freed.{FreesNoneIf}
+use Rattle.vcpu_run.specs.Links.{EventWaits, LinksRest}
 use Rattle.vcpu_run.specs.Agreed.{SameDrivers}
 use Rattle.vcpu_run.specs.Pairs.{AreDriven}
 use Rattle.vcpu_run.specs.Works.{HaveClients}
@@ -11,5 +14,7 @@ invariant-loop-k l = record {
   driven : AreDriven l.initial.pairs l.pairs;
   drivers : SameDrivers l.initial.pairs l.pairs;
   clients : HaveClients l.seats l.pairs;
-  still : l.moved ≡ Quiet → links_of l.pairs ≡ links_of l.initial.pairs;
+  stays : FreesNoneIf (λ _. ⊤) l.initial.pairs l.pairs;
+  rest : l.moved ≡ Quiet → LinksRest l.initial.pairs l.pairs;
+  wait : l.moved ≡ Quiet → (u k : ℕ) → u < l.k → slice_get l.seats u ≡ Some (sits.Client k) → IfSome (slice_get l.pairs k) EventWaits;
 }

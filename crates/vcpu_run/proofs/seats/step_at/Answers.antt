@@ -1,3 +1,5 @@
+use Rattle.std.proofs.Common.{refl}
+use Rattle.vcpu_run.proofs.Unfreed.{frees_set}
 use Rattle.std.proofs.lemmas.Option.{slice_get-get_or}
 use Rattle.vcpu_run.proofs.Agreeing.{set_credit, set_others}
 use Rattle.vcpu_run.proofs.Driving.{driven_set, some_there}
@@ -14,3 +16,7 @@ returns-clause-credit c = record {
   others = set_others c.args.pairs.now c.args.pair c.step.new.pair;
   credit = set_credit _ c.args.pairs.now c.args.pair _ c.step.new.pair (slice_get-get_or c.args.pairs.now c.args.pair _ c.requires.there) c.step.ensures.credit;
 }
+
+pub returns-clause-stays : goal.returns-clause-stays
+returns-clause-stays c =
+    frees_set _ c.args.pairs.now c.args.pair _ c.step.new.pair (slice_get-get_or c.args.pairs.now c.args.pair _ c.requires.there) (λ here. c.step.ensures.stays (here refl))

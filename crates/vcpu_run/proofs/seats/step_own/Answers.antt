@@ -4,6 +4,7 @@ use Rattle.vcpu_run.specs.Agreed.{StepsSeat}
 use Rattle.vcpu_run.specs.Credited.{taken_in}
 use Rattle.vcpu_run.specs.Suited.{suits}
 use Rattle.vcpu_run.proofs.Driving.{client_is, driven_same, no_port, seat_within, some_there}
+use Rattle.vcpu_run.proofs.Unfreed.{frees_line, frees_same}
 use Rattle.vcpu_run.proofs.seats.step_own.Goals as goal
 
 pub seat_at-requires : goal.seat_at-requires
@@ -66,3 +67,10 @@ returns-in-Port-clause-credit c =
       client = λ k at. absurd (no_port k (sym at ∙ here));
       port = λ at. (λ k. refl, c.step.ensures.credit);
     }
+
+pub returns-in-Client-clause-stays : goal.returns-in-Client-clause-stays
+returns-in-Client-clause-stays c =
+    frees_line c.args.seats.now c.args.line.now c.in-Client.pair c.args.pairs.now c.step_at.new.pairs (c.seat_at.ensures ∙ ap Some c.in-Client.is) c.step_at.ensures.stays
+
+pub returns-in-Port-clause-stays : goal.returns-in-Port-clause-stays
+returns-in-Port-clause-stays c = frees_same _ c.args.pairs.now

@@ -1,7 +1,8 @@
-use Rattle.std.proofs.Common.{rules, ◌≡◌, false}
+use Rattle.std.proofs.Common.{rules, ◌≡◌, false, true}
 use Rattle.vcpu_run.specs.Credited.{is_take, taken_in}
 use Rattle.vcpu_run.specs.Suited.{is_call}
 use Rattle.vcpu_run.proofs.RawCalling.{plain_port, told_steps}
+use Rattle.vcpu_run.proofs.Unfreed.{frees_call}
 use Rattle.vcpu_run.proofs.seats.step_unit.Goals as goal
 
 pub step_own-requires-clause-no_call : goal.step_own-requires-clause-no_call
@@ -16,3 +17,8 @@ returns-in-Some-clause-credit c =
           c.make_call.ensures.told c.make_call.ensures.plain;
       port = λ at. (c.make_call.ensures.told, plain_port c.args.line.now.verb (taken_in c.args.progress.now) c.make_call.result c.make_call.ensures.plain);
     }
+
+pub returns-in-Some-clause-stays : goal.returns-in-Some-clause-stays
+returns-in-Some-clause-stays c =
+    let calls : is_call c.args.line.now.verb ≡ true = search rules in
+    frees_call c.args.seats.now c.args.line.now c.args.pairs.now c.make_call.new.pairs calls c.make_call.ensures.stays

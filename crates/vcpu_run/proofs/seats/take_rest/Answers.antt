@@ -1,9 +1,10 @@
 use Rattle.std.proofs.lemmas.Option.{slice_get_within}
 use Rattle.vcpu_run.specs.Links.{links_of}
-use Rattle.vcpu_run.proofs.Resting.{rests_next}
-use Rattle.std.proofs.Common.{arith, ◌∙◌, Some, ap, slice_index_or}
-use Rattle.vcpu_run.proofs.Driving.{driven_on, seat_of, still_clients}
-use Rattle.vcpu_run.proofs.Elsewhere.{else_on, else_within}
+use Rattle.vcpu_run.proofs.Resting.{rests_next, rests_on, rests_same}
+use Rattle.vcpu_run.proofs.Unfreed.{frees_on, frees_same}
+use Rattle.std.proofs.Common.{arith, ◌∙◌, Some, ap, refl, slice_index_or}
+use Rattle.vcpu_run.proofs.Driving.{driven_on, driven_same, seat_of, still_clients}
+use Rattle.vcpu_run.proofs.Elsewhere.{else_none, else_on, else_within}
 use Rattle.vcpu_run.specs.declared.unit_seat.Seat.TheVariants as places
 use Rattle.vcpu_run.proofs.seats.take_rest.Goals as goal
 
@@ -33,16 +34,33 @@ loop-k-preserved c = record {
   clients = still_clients c.args.seats.now c.loop-k.pairs c.take_rest_at.new.pairs c.take_rest_at.ensures.driven c.loop-k.invariant.clients;
   ports = rw c.take_rest_at.ensures.lan c.loop-k.invariant.ports;
   lan = c.take_rest_at.ensures.lan ∙ c.loop-k.invariant.lan;
-  still = λ is. c.in_ok-here.ensures.still (c.either-moved.ensures.other is) ∙ c.loop-k.invariant.still (c.either-moved.ensures.one is);
+  stays = frees_on _ c.args.pairs.now c.loop-k.pairs c.take_rest_at.new.pairs c.loop-k.invariant.stays c.take_rest_at.ensures.stays;
+  rest = λ is.
+      rests_on c.args.pairs.now c.loop-k.pairs c.take_rest_at.new.pairs (c.loop-k.invariant.rest (c.either-moved.ensures.one is)) (c.in_ok-here.ensures.still (c.either-moved.ensures.other is));
   wait = λ is.
       rests_next c.args.seats.now c.loop-k.k _ (links_of c.loop-k.pairs) (links_of c.take_rest_at.new.pairs) (seat_of c.args.seats.now c.loop-k.k c.loop-k-test.true)
-      (c.in_ok-here.ensures.still (c.either-moved.ensures.other is)) (c.loop-k.invariant.wait (c.either-moved.ensures.one is)) (c.in_ok-here.ensures.waits (c.either-moved.ensures.other is));
+      (c.in_ok-here.ensures.still (c.either-moved.ensures.other is)).still (c.loop-k.invariant.wait (c.either-moved.ensures.one is)) (c.in_ok-here.ensures.waits (c.either-moved.ensures.other is));
 }
 
 pub returns-clause-quiet : goal.returns-clause-quiet
 returns-clause-quiet c = λ is. record {
-  still = c.loop-k.invariant.still is;
+  rest = c.loop-k.invariant.rest is;
   wait = λ u k found.
       let less = slice_get_within c.args.seats.now u (places.Client k) found in
       c.loop-k.invariant.wait is u k (omega (arith, less, c.loop-k-test.false)) found;
 }
+
+pub loop-k-init : goal.loop-k-init
+loop-k-init c = record {
+  driven = driven_same c.args.pairs.now;
+  others = else_none c.args.seats.now c.args.pairs.now;
+  clients = c.requires.clients;
+  ports = c.requires.ports;
+  lan = refl;
+  stays = frees_same _ c.args.pairs.now;
+  rest = λ is. rests_same c.args.pairs.now;
+  wait = λ is u k less found. absurd (omega (arith, less));
+}
+
+pub returns-in_err-here-clause-stays : goal.returns-in_err-here-clause-stays
+returns-in_err-here-clause-stays c = frees_on _ c.args.pairs.now c.loop-k.pairs c.take_rest_at.new.pairs c.loop-k.invariant.stays c.take_rest_at.ensures.stays

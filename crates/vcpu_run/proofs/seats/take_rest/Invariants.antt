@@ -1,7 +1,9 @@
+use Rattle.std.specs.Prelude.{⊤}
 use Rattle.std.proofs.Common.{◌≡◌, ◌<◌, ℕ, Some, IsSomeAnd, slice_get}
 use Rattle.vio_num.specs.declared.hypervisor.Moved.TheVariants.{Quiet}
 use Rattle.vcpu_run.specs.declared.unit_seat.Seat.TheVariants as sits
-use Rattle.vcpu_run.specs.Links.{ClientWaits, links_of}
+use Rattle.vcpu_run.specs.Freed.{FreesNoneIf}
+use Rattle.vcpu_run.specs.Links.{ClientWaits, LinksRest, links_of}
 use Rattle.vcpu_run.specs.Agreed.{SameElse}
 use Rattle.vcpu_run.specs.Pairs.{AreDriven}
 use Rattle.vcpu_run.specs.Ports.{HavePorts}
@@ -15,6 +17,7 @@ invariant-loop-k l = record {
   clients : HaveClients l.seats l.pairs;
   ports : HavePorts l.partition l.seats l.lan.seats;
   lan : l.lan.seats ≡ l.initial.lan.seats;
-  still : l.moved ≡ Quiet → links_of l.pairs ≡ links_of l.initial.pairs;
+  stays : FreesNoneIf (λ _. ⊤) l.initial.pairs l.pairs;
+  rest : l.moved ≡ Quiet → LinksRest l.initial.pairs l.pairs;
   wait : l.moved ≡ Quiet → (u k : ℕ) → u < l.k → slice_get l.seats u ≡ Some (sits.Client k) → IsSomeAnd (slice_get (links_of l.pairs) k) ClientWaits;
 }

@@ -1,5 +1,6 @@
 use Rattle.vcpu_run.specs.Links.{ClientWaits}
-use Rattle.vcpu_run.proofs.Resting.{links_set, ok_more, waits_set}
+use Rattle.vcpu_run.proofs.Resting.{ok_more, rests_set, waits_set}
+use Rattle.vcpu_run.proofs.Unfreed.{frees_set}
 use Rattle.std.proofs.lemmas.Option.{slice_get-get_or}
 use Rattle.vcpu_run.proofs.Agreeing.{set_others}
 use Rattle.vcpu_run.proofs.Driving.{driven_set, some_there}
@@ -17,11 +18,15 @@ returns-clause-others c = set_others c.args.pairs.now c.args.pair c.take_rest.ne
 pub returns-clause-still : goal.returns-clause-still
 returns-clause-still c =
     ok_more c.take_rest.result _ _
-    (λ moved rests is. links_set c.args.pairs.now c.args.pair _ c.take_rest.new.pair (slice_get-get_or c.args.pairs.now c.args.pair _ c.requires.there) (rests is).still)
+    (λ moved rests is. rests_set c.args.pairs.now c.args.pair _ c.take_rest.new.pair (slice_get-get_or c.args.pairs.now c.args.pair _ c.requires.there) (rests is))
     c.take_rest.ensures.quiet
 
 pub returns-clause-waits : goal.returns-clause-waits
 returns-clause-waits c =
     ok_more c.take_rest.result _ _
-    (λ moved rests is. waits_set ClientWaits c.args.pairs.now c.args.pair c.take_rest.new.pair c.requires.there (rests is).wait)
-    c.take_rest.ensures.quiet
+    (λ moved wait is. waits_set ClientWaits c.args.pairs.now c.args.pair c.take_rest.new.pair c.requires.there (wait is))
+    c.take_rest.ensures.waits
+
+pub returns-clause-stays : goal.returns-clause-stays
+returns-clause-stays c =
+    frees_set _ c.args.pairs.now c.args.pair _ c.take_rest.new.pair (slice_get-get_or c.args.pairs.now c.args.pair _ c.requires.there) (λ always. c.take_rest.ensures.stays)

@@ -11,22 +11,22 @@ use Rattle.vcpu_run.proofs.driver.Driver.take.Goals.{in-Answer+else-taken-count-
 use Rattle.vcpu_run.proofs.driver.Driver.take.Goals as goal
 
 pub returns-in_err-take_one-clause-works : goal.returns-in_err-take_one-clause-works
-returns-in_err-take_one-clause-works g c = works_on _ _ _ _ _ _ _ _ _ _ _ c.loop-entry.invariant.works c.take_one.ensures.works
+returns-in_err-take_one-clause-works g c = works_on _ _ _ _ _ _ _ _ _ _ _ _ c.loop-entry.invariant.works c.take_one.ensures.works
 
 pub returns-then-taken-count-2-clause-works : goal.returns-then-taken-count-2-clause-works
-returns-then-taken-count-2-clause-works g c = works_on _ _ _ _ _ _ _ _ _ _ _ c.loop-entry.invariant.works c.take_one.ensures.works
+returns-then-taken-count-2-clause-works g c = works_on _ _ _ _ _ _ _ _ _ _ _ _ c.loop-entry.invariant.works c.take_one.ensures.works
 
 pub returns-in-Lost-clause-works : goal.returns-in-Lost-clause-works
-returns-in-Lost-clause-works g c = works_on _ _ _ _ _ _ _ _ _ _ _ c.loop-entry.invariant.works c.take_one.ensures.works
+returns-in-Lost-clause-works g c = works_on _ _ _ _ _ _ _ _ _ _ _ _ c.loop-entry.invariant.works c.take_one.ensures.works
 
 pub returns-in-InUse-clause-works : goal.returns-in-InUse-clause-works
-returns-in-InUse-clause-works g c = works_on _ _ _ _ _ _ _ _ _ _ _ c.loop-entry.invariant.works c.take_one.ensures.works
+returns-in-InUse-clause-works g c = works_on _ _ _ _ _ _ _ _ _ _ _ _ c.loop-entry.invariant.works c.take_one.ensures.works
 
 pub returns-then-is_empty-clause-works : goal.returns-then-is_empty-clause-works
-returns-then-is_empty-clause-works g c = works_on _ _ _ _ _ _ _ _ _ _ _ c.loop-entry.invariant.works c.take_one.ensures.works
+returns-then-is_empty-clause-works g c = works_on _ _ _ _ _ _ _ _ _ _ _ _ c.loop-entry.invariant.works c.take_one.ensures.works
 
 pub returns-in-Nothing-clause-works : goal.returns-in-Nothing-clause-works
-returns-in-Nothing-clause-works g c = works_on _ _ _ _ _ _ _ _ _ _ _ c.loop-entry.invariant.works c.take_one.ensures.works
+returns-in-Nothing-clause-works g c = works_on _ _ _ _ _ _ _ _ _ _ _ _ c.loop-entry.invariant.works c.take_one.ensures.works
 
 pub returns-then-taken-count-2-clause-credit : goal.returns-then-taken-count-2-clause-credit
 returns-then-taken-count-2-clause-credit g c =
@@ -73,7 +73,7 @@ loop-entry-preserved g c =
       )
     ] in
     record {
-      works = works_on _ _ _ _ _ _ _ _ _ _ _ c.loop-entry.invariant.works c.take_one.ensures.works;
+      works = works_on _ _ _ _ _ _ _ _ _ _ _ _ c.loop-entry.invariant.works c.take_one.ensures.works;
       pages = subst (λ (place : PortPlace). MIN_PAGES ≤ place.size) (sym c.take_one.ensures.works.window.place) c.loop-entry.invariant.pages;
       takes = next.0;
       less = next.1;

@@ -8,20 +8,20 @@ use Rattle.vcpu_run.proofs.Working.{works_on}
 use Rattle.vcpu_run.proofs.driver.Driver.take_rest.Goals as goal
 
 pub returns-in_err-take_one-clause-works : goal.returns-in_err-take_one-clause-works
-returns-in_err-take_one-clause-works g c = works_on _ _ _ _ _ _ _ _ _ _ _ c.loop-taken.invariant.works c.take_one.ensures.works
+returns-in_err-take_one-clause-works g c = works_on _ _ _ _ _ _ _ _ _ _ _ _ c.loop-taken.invariant.works c.take_one.ensures.works
 
 pub returns-in-Nothing-clause-works : goal.returns-in-Nothing-clause-works
-returns-in-Nothing-clause-works g c = works_on _ _ _ _ _ _ _ _ _ _ _ c.loop-taken.invariant.works c.take_one.ensures.works
+returns-in-Nothing-clause-works g c = works_on _ _ _ _ _ _ _ _ _ _ _ _ c.loop-taken.invariant.works c.take_one.ensures.works
 
 pub loop-taken-preserved : goal.loop-taken-preserved
 loop-taken-preserved g c = record {
-  works = works_on _ _ _ _ _ _ _ _ _ _ _ c.loop-taken.invariant.works c.take_one.ensures.works;
+  works = works_on _ _ _ _ _ _ _ _ _ _ _ _ c.loop-taken.invariant.works c.take_one.ensures.works;
   pages = subst (λ (place : PortPlace). MIN_PAGES ≤ place.size) (sym c.take_one.ensures.works.window.place) c.loop-taken.invariant.pages;
   fresh = λ is. absurd (not_quiet is);
 }
 
 pub returns-in-InUse-clause-works : goal.returns-in-InUse-clause-works
-returns-in-InUse-clause-works g c = works_on _ _ _ _ _ _ _ _ _ _ _ c.loop-taken.invariant.works c.take_one.ensures.works
+returns-in-InUse-clause-works g c = works_on _ _ _ _ _ _ _ _ _ _ _ _ c.loop-taken.invariant.works c.take_one.ensures.works
 
 pub returns-in-InUse-clause-quiet : goal.returns-in-InUse-clause-quiet
 returns-in-InUse-clause-quiet g c = λ alone is. absurd (not_quiet is)

@@ -12,6 +12,7 @@ use Rattle.vcpu_run.proofs.Booted.{few_pairs, scripts_made, scripts_of_plan}
 use Rattle.vcpu_run.proofs.Elsewhere.{credits_made}
 use Rattle.vcpu_run.proofs.Homes.{home_within}
 use Rattle.vcpu_run.proofs.Receiving.{received_fresh}
+use Rattle.vcpu_run.proofs.Unfreed.{queues_fresh}
 use Rattle.vcpu_run.proofs.machine.Machine.boot.Goals as goal
 
 pub overflow_cast-home : goal.overflow_cast-home
@@ -91,4 +92,7 @@ pub returns-clause-received : goal.returns-clause-received
 returns-clause-received g c =
     let server = c.in_ok-server in
     received_fresh server.server.units.items server.server.copies.items server.server.records.grants.items server.server.records.history.items c.in-Ok.pairs.items
-    server.ensures.copies server.ensures.lines server.ensures.history server.ensures.none server.ensures.unused c.in-Ok.ensures.fresh
+    server.ensures.copies server.ensures.lines server.ensures.history server.ensures.none server.ensures.unused server.ensures.unanswered c.in-Ok.ensures.fresh
+
+pub returns-clause-unfreed : goal.returns-clause-unfreed
+returns-clause-unfreed g c = queues_fresh c.in-Ok.pairs.items c.in-Ok-make_scripts.scripts.items c.in-Ok.ensures.closed

@@ -5,6 +5,7 @@ use Rattle.vcpu_run.specs.declared.pair.Pair.{Pair}
 use Rattle.vcpu_run.specs.declared.script.Script.{Script}
 use Rattle.vcpu_run.specs.Agreed.{AreCredited}
 use Rattle.vcpu_run.specs.Answered.{AreAnswered}
+use Rattle.vcpu_run.specs.Freeing.{KeepQueues}
 use Rattle.vcpu_run.specs.Lines.{IsOver}
 use Rattle.vcpu_run.specs.Machines.{AllRun, AllStay, AreScripts}
 use Rattle.vcpu_run.specs.Pairs.{AreOfOneHome}
@@ -134,13 +135,17 @@ trace_of-trace-requires-clause-rests g c =
     let units = c.args.self.server.units.items in
     let units' = c.run-run.new.server.units.items in
     let before : AreLinked units c.deref_mut.result.now = subst (AreLinked units) (sym c.deref_mut.ensures.value) c.requires.linked in
+    let whole : KeepQueues c.deref_mut.result.now c.deref_mut-2.result.now =
+    subst (λ (list : List Pair). KeepQueues list c.deref_mut-2.result.now) (sym c.deref_mut.ensures.value)
+    (subst (λ (list : List Script). KeepQueues old.items list) (sym c.deref_mut-2.ensures.value) c.requires.unfreed) in
+    let unfreed : KeepQueues new new_scripts = c.run-run.ensures.unfreed whole in
     let received : AreReceived units' c.finish-image.result.copies.items c.finish-image.result.grants.items c.finish-image.result.history.items new =
     rw (c.finish-image.ensures.copies, c.finish-image.ensures.grants, c.finish-image.ensures.history) c.run-run.ensures.received in
     ok_then c.run-run.result (AreLinked units c.deref_mut.result.now → AreIdle units' new new_scripts) _
     (λ idle.
     subst (λ (list : List Pair). AreAtRest c.finish-image.result.copies.items c.finish-image.result.grants.items c.finish-image.result.history.items list (take old_scripts.len (new_scripts ++ drop (length new_scripts) old_scripts.items))) (sym pairs)
     (subst (λ (list : List Script). AreAtRest c.finish-image.result.copies.items c.finish-image.result.grants.items c.finish-image.result.history.items new list) (sym scripts)
-    (record { units = units'; idle = idle before; received = received })))
+    (record { units = units'; idle = idle before; received = received; unfreed = unfreed })))
     c.run-run.ensures.idle
 
 pub run-run-requires-clause-received : goal.run-run-requires-clause-received

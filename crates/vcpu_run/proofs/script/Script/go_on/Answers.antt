@@ -6,6 +6,8 @@ use Rattle.vcpu_run.specs.Agreed.{SameElse}
 use Rattle.vcpu_run.proofs.Crediting.{credited_rest, on_ok, over_by}
 use Rattle.vcpu_run.proofs.Driving.{clients_of}
 use Rattle.vcpu_run.proofs.Logging.{script_stays}
+use Rattle.vcpu_run.specs.Freeing.{IsSparedBy}
+use Rattle.vcpu_run.proofs.Unfreed.{frees_always}
 use Rattle.vcpu_run.proofs.script.Script.go_on.Goals as goal
 
 pub take_rest-requires-clause-few : goal.take_rest-requires-clause-few
@@ -36,3 +38,6 @@ returns-in-None-clause-quiet c =
 
 pub returns-in-Some-clause-quiet : goal.returns-in-Some-clause-quiet
 returns-in-Some-clause-quiet c = ok_more c.step.result _ _ (λ moved left is over. absurd (left is over)) c.step.ensures.quiet
+
+pub returns-in-None-clause-stays : goal.returns-in-None-clause-stays
+returns-in-None-clause-stays c = frees_always (IsSparedBy c.args.self.now) c.args.pairs.now c.take_rest.new.pairs c.take_rest.ensures.stays

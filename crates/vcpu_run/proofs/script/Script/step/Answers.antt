@@ -1,5 +1,9 @@
 use Rattle.vcpu_run.proofs.Resting.{not_quiet}
-use Rattle.std.proofs.Common.{rules, ◌≡◌, ◌∙◌, Ok, length, refl, slice_get, subst, arith}
+use Rattle.vcpu_run.specs.declared.unit_seat.Seat.{Seat}
+use Rattle.vcpu_run.specs.Freed.{FreesNoneIf}
+use Rattle.vcpu_run.specs.Freeing.{IsSpared}
+use Rattle.vcpu_run.proofs.Unfreed.{frees_by}
+use Rattle.std.proofs.Common.{rules, ◌≡◌, ◌∙◌, List, Ok, length, refl, slice_get, subst, arith}
 use Rattle.std.proofs.lemmas.Option.{slice_get_within}
 use Rattle.unit_region.specs.declared.step.Step.{Step}
 use Rattle.vcpu_run.specs.Agreed.{StepsLine}
@@ -35,6 +39,8 @@ returns-in_err-step c =
       rest = record { partition = refl; lines = refl; seats = refl };
       others = else_line c.args.self.now.seats.items c.args.line.now (taken_in c.args.self.now.progress) (taken_in c.step_unit.new.progress) c.args.pairs.now c.step_unit.new.pairs c.step_unit.result line.suited
           (rw (← c.deref.ensures.value) c.step_unit.ensures.credit);
+      stays = frees_by c.args.self.now c.args.self.now.at c.args.line.now c.args.pairs.now c.step_unit.new.pairs c.requires.line
+          (subst (λ (seats : List Seat). FreesNoneIf (IsSpared seats c.args.line.now) c.args.pairs.now c.step_unit.new.pairs) c.deref.ensures.value c.step_unit.ensures.stays);
       lan = c.step_unit.ensures.lan;
       credited = search rules;
       quiet = search rules;
@@ -50,6 +56,8 @@ returns-in_err-end-in-Ends c =
       rest = record { partition = c.end.ensures.rest.partition; lines = c.end.ensures.rest.lines; seats = c.end.ensures.rest.seats };
       others = else_line c.args.self.now.seats.items c.args.line.now (taken_in c.args.self.now.progress) (taken_in c.step_unit.new.progress) c.args.pairs.now c.step_unit.new.pairs c.step_unit.result line.suited
           (rw (← c.deref.ensures.value) c.step_unit.ensures.credit);
+      stays = frees_by c.args.self.now c.args.self.now.at c.args.line.now c.args.pairs.now c.step_unit.new.pairs c.requires.line
+          (subst (λ (seats : List Seat). FreesNoneIf (IsSpared seats c.args.line.now) c.args.pairs.now c.step_unit.new.pairs) c.deref.ensures.value c.step_unit.ensures.stays);
       lan = c.step_unit.ensures.lan;
       credited = search rules;
       quiet = search rules;
@@ -65,6 +73,8 @@ returns-in_ok-end-in-Ends c =
       rest = record { partition = c.end.ensures.rest.partition; lines = c.end.ensures.rest.lines; seats = c.end.ensures.rest.seats };
       others = else_line c.args.self.now.seats.items c.args.line.now (taken_in c.args.self.now.progress) (taken_in c.step_unit.new.progress) c.args.pairs.now c.step_unit.new.pairs c.step_unit.result line.suited
           (rw (← c.deref.ensures.value) c.step_unit.ensures.credit);
+      stays = frees_by c.args.self.now c.args.self.now.at c.args.line.now c.args.pairs.now c.step_unit.new.pairs c.requires.line
+          (subst (λ (seats : List Seat). FreesNoneIf (IsSpared seats c.args.line.now) c.args.pairs.now c.step_unit.new.pairs) c.deref.ensures.value c.step_unit.ensures.stays);
       lan = c.step_unit.ensures.lan;
       credited = λ is.
           line_ends c.args.pairs.now c.step_unit.new.pairs c.args.self.now c.end.new.self c.args.line.now
@@ -87,6 +97,8 @@ returns-in-Waits c =
       rest = record { partition = refl; lines = refl; seats = refl };
       others = else_line c.args.self.now.seats.items c.args.line.now (taken_in c.args.self.now.progress) (taken_in c.step_unit.new.progress) c.args.pairs.now c.step_unit.new.pairs c.step_unit.result line.suited
           (rw (← c.deref.ensures.value) c.step_unit.ensures.credit);
+      stays = frees_by c.args.self.now c.args.self.now.at c.args.line.now c.args.pairs.now c.step_unit.new.pairs c.requires.line
+          (subst (λ (seats : List Seat). FreesNoneIf (IsSpared seats c.args.line.now) c.args.pairs.now c.step_unit.new.pairs) c.deref.ensures.value c.step_unit.ensures.stays);
       lan = c.step_unit.ensures.lan;
       credited = λ is.
           line_waits c.args.pairs.now c.step_unit.new.pairs c.args.self.now c.step_unit.new.progress c.args.line.now c.in-Waits.moved

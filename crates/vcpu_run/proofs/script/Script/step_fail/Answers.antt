@@ -1,10 +1,14 @@
 use Rattle.vcpu_run.proofs.Resting.{not_quiet}
-use Rattle.std.proofs.Common.{◌≡◌, ◌+◌, ◌∙◌, ap, cond, length, refl, sym, arith}
+use Rattle.std.proofs.Common.{◌≡◌, ◌+◌, ◌∙◌, List, ap, cond, length, refl, subst, sym, arith}
 use Rattle.std.proofs.lemmas.Option.{slice_get_within}
 use Rattle.vcpu_run.proofs.Crediting.{credited_all, credited_fails}
 use Rattle.vcpu_run.proofs.Driving.{clients_of}
 use Rattle.vcpu_run.proofs.Elsewhere.{else_all}
 use Rattle.vcpu_run.proofs.Logging.{script_stays}
+use Rattle.vcpu_run.specs.declared.unit_seat.Seat.{Seat}
+use Rattle.vcpu_run.specs.Freed.{FreesNoneIf}
+use Rattle.vcpu_run.specs.Freeing.{NoneSits}
+use Rattle.vcpu_run.proofs.Unfreed.{frees_by, frees_fail}
 use Rattle.vcpu_run.proofs.script.Script.step_fail.Goals as goal
 
 pub fail-requires-clause-few : goal.fail-requires-clause-few
@@ -61,3 +65,27 @@ pub returns-clause-quiet : goal.returns-clause-quiet
 returns-clause-quiet c = λ is over.
     let less = slice_get_within c.args.self.now.lines.now c.args.self.now.at c.args.line.now c.requires.line in
     omega (arith, less, over)
+
+pub returns-in_err-fail-clause-stays : goal.returns-in_err-fail-clause-stays
+returns-in_err-fail-clause-stays c =
+    frees_by c.args.self.now c.args.self.now.at c.args.line.now c.args.pairs.now c.fail.new.pairs c.requires.line
+    (frees_fail c.args.self.now.seats.items c.args.line.now c.args.pairs.now c.fail.new.pairs c.requires.fails
+    (subst (λ (seats : List Seat). FreesNoneIf (NoneSits seats) c.args.pairs.now c.fail.new.pairs) c.deref.ensures.value c.fail.ensures.stays))
+
+pub returns-in_err-end-clause-stays : goal.returns-in_err-end-clause-stays
+returns-in_err-end-clause-stays c =
+    frees_by c.args.self.now c.args.self.now.at c.args.line.now c.args.pairs.now c.fail.new.pairs c.requires.line
+    (frees_fail c.args.self.now.seats.items c.args.line.now c.args.pairs.now c.fail.new.pairs c.requires.fails
+    (subst (λ (seats : List Seat). FreesNoneIf (NoneSits seats) c.args.pairs.now c.fail.new.pairs) c.deref.ensures.value c.fail.ensures.stays))
+
+pub returns-then-branch-clause-stays : goal.returns-then-branch-clause-stays
+returns-then-branch-clause-stays c =
+    frees_by c.args.self.now c.args.self.now.at c.args.line.now c.args.pairs.now c.fail.new.pairs c.requires.line
+    (frees_fail c.args.self.now.seats.items c.args.line.now c.args.pairs.now c.fail.new.pairs c.requires.fails
+    (subst (λ (seats : List Seat). FreesNoneIf (NoneSits seats) c.args.pairs.now c.fail.new.pairs) c.deref.ensures.value c.fail.ensures.stays))
+
+pub returns-clause-stays : goal.returns-clause-stays
+returns-clause-stays c =
+    frees_by c.args.self.now c.args.self.now.at c.args.line.now c.args.pairs.now c.fail.new.pairs c.requires.line
+    (frees_fail c.args.self.now.seats.items c.args.line.now c.args.pairs.now c.fail.new.pairs c.requires.fails
+    (subst (λ (seats : List Seat). FreesNoneIf (NoneSits seats) c.args.pairs.now c.fail.new.pairs) c.deref.ensures.value c.fail.ensures.stays))

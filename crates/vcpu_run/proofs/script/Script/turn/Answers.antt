@@ -1,7 +1,12 @@
 use Rattle.std.proofs.Common.{◌∙◌}
+use Rattle.vcpu_run.proofs.Crediting.{credited_same}
 use Rattle.vcpu_run.proofs.Driving.{clients_of, driven_on, still_drivers}
 use Rattle.vcpu_run.proofs.Elsewhere.{else_drivers, else_on}
 use Rattle.vcpu_run.proofs.Logging.{script_stays}
+use Rattle.vcpu_run.specs.Freeing.{IsSparedBy}
+use Rattle.vcpu_run.specs.Links.{EventsWait}
+use Rattle.vcpu_run.proofs.Resting.{events_rest, rests_on}
+use Rattle.vcpu_run.proofs.Unfreed.{frees_always, frees_on}
 use Rattle.vcpu_run.proofs.script.Script.turn.Goals as goal
 
 pub push_events-requires : goal.push_events-requires
@@ -35,7 +40,31 @@ returns-clause-others c =
     else_on c.args.self.now.seats.items c.args.pairs.now c.push_events.new.pairs c.go_on.new.pairs
     (else_drivers c.args.self.now.seats.items c.args.pairs.now c.push_events.new.pairs c.push_events.ensures.drivers) c.go_on.ensures.others
 
+pub returns-in_err-pushed-clause-stays : goal.returns-in_err-pushed-clause-stays
+returns-in_err-pushed-clause-stays c = frees_always (IsSparedBy c.args.self.now) c.args.pairs.now c.push_events.new.pairs c.push_events.ensures.stays
+
+pub returns-in_err-moved-clause-stays : goal.returns-in_err-moved-clause-stays
+returns-in_err-moved-clause-stays c =
+    frees_on (IsSparedBy c.args.self.now) c.args.pairs.now c.push_events.new.pairs c.go_on.new.pairs
+    (frees_always (IsSparedBy c.args.self.now) c.args.pairs.now c.push_events.new.pairs c.push_events.ensures.stays) c.go_on.ensures.stays
+
+pub returns-clause-stays : goal.returns-clause-stays
+returns-clause-stays c =
+    frees_on (IsSparedBy c.args.self.now) c.args.pairs.now c.push_events.new.pairs c.go_on.new.pairs
+    (frees_always (IsSparedBy c.args.self.now) c.args.pairs.now c.push_events.new.pairs c.push_events.ensures.stays) c.go_on.ensures.stays
+
 pub returns-clause-quiet : goal.returns-clause-quiet
 returns-clause-quiet c = λ is over.
     let rest = c.in_ok-moved.ensures.quiet (c.either.ensures.other is) over in
-    record { still = rest.still ∙ c.in_ok-pushed.ensures.quiet (c.either.ensures.one is); wait = rest.wait }
+    let wait : EventsWait c.args.self.now.seats.items c.push_events.new.pairs = rw (← c.deref.ensures.value) (c.in_ok-pushed.ensures.waits (c.either.ensures.one is)) in
+    record {
+      seats_rest = record {
+        rest = rests_on c.args.pairs.now c.push_events.new.pairs c.go_on.new.pairs (c.in_ok-pushed.ensures.quiet (c.either.ensures.one is)) rest.rest;
+        wait = rest.wait;
+      };
+      events = events_rest c.args.self.now.seats.items c.push_events.new.pairs c.go_on.new.pairs rest.rest wait;
+    }
+
+pub returns-clause-credited : goal.returns-clause-credited
+returns-clause-credited c = λ is.
+    c.in_ok-moved.ensures.credited (credited_same c.args.pairs.now c.push_events.new.pairs c.args.self.now c.push_events.ensures.drivers is)

@@ -1,9 +1,10 @@
 use Rattle.vio_num.specs.declared.hypervisor.Moved.TheVariants.{Quiet}
 use Rattle.vcpu_run.specs.Links.{IsLinked, ServerWaits, link_state}
-use Rattle.vcpu_run.proofs.Waiting.{agrees_like, agrees_other, serve_waits}
+use Rattle.vcpu_run.specs.Freed.{FreesNoneAt, IsNotFreed, NotFreed}
+use Rattle.vcpu_run.proofs.Waiting.{agrees_like, agrees_other, serve_frees, serve_waits}
 use Rattle.vcpu_run.proofs.Resting.{ok_both}
 use Rattle.vcpu_run.proofs.Crediting.{on_ok}
-use Rattle.std.proofs.Common.{rules, ◌≡◌, Bool, List, false, true, refl, sym, ◌∙◌, ap, subst, IfNone, ◌<◌, IfOk, OnOk, arith, length, slice_get}
+use Rattle.std.proofs.Common.{rules, ◌≡◌, Bool, List, [], ◌∷◌, false, true, refl, sym, ◌∙◌, ap, subst, IfNone, ◌<◌, IfOk, OnOk, arith, length, slice_get}
 use Rattle.vio_num.specs.declared.names.UnitId.{UnitId}
 use Rattle.crq_session.specs.EndState.{EndPlace}
 use Rattle.crq_session.specs.declared.link.PlainLink.{PlainLink}
@@ -12,7 +13,7 @@ use Rattle.crq_session.specs.declared.side.PlainSide.{PlainSide}
 use Rattle.crq_ring.specs.declared.rows.PipeRow.{PipeRow}
 use Rattle.block_server.specs.Answering.{AnswersMore, OnlyRowsOf}
 use Rattle.vcpu_run.specs.declared.pair.Pair.{Pair}
-use Rattle.vcpu_run.specs.Answered.{AreBegun, IsAnswered}
+use Rattle.vcpu_run.specs.Answered.{AreBegun, IsAnswered, IsBegun}
 use Rattle.tce_window.specs.PlainPort.{known_of}
 use Rattle.tce_window.specs.PortState.{PortPlace}
 use Rattle.vcpu_run.specs.Named.{HasWindow}
@@ -20,9 +21,10 @@ use Rattle.vcpu_run.specs.Pairs.{IsPair}
 use Rattle.vcpu_run.proofs.PairNames.{copies_beside, has_stays, names_beside}
 use Rattle.vcpu_run.proofs.Answering.{answered_elsewhere, answered_served}
 use Rattle.vcpu_run.specs.Received.{IsReceived}
+use Rattle.vcpu_run.proofs.Losing.{behind_back, sees_back, sees_lent}
 use Rattle.vcpu_run.proofs.Receiving.{received_elsewhere, received_served}
 use Rattle.vcpu_run.proofs.Keeping.{served}
-use Rattle.vcpu_run.proofs.pair.Pair.serve.Goals as goal
+use Rattle.vcpu_run.proofs.pair.Pair.serve_on.Goals as goal
 
 pub returns-clause-pair : goal.returns-clause-pair
 returns-clause-pair g c =
@@ -146,7 +148,10 @@ returns-clause-received g c =
     server.records.grants.items server'.records.grants.items server.records.history.items server'.records.history.items
     (ap (λ (side : PlainSide). side.queue.session) before) (ap (λ (side : PlainSide). side.queue.taken) before)
     (ap (λ (side : PlainSide). side.queue.session) after) (ap (λ (side : PlainSide). side.queue.taken) after)
-    c.turn.ensures.judged (subst AreBegun (ap (λ (side : PlainSide). side.queue.taken) after) c.turn.new.crq.puts.took) c.requires.received)
+    c.turn.ensures.judged (subst AreBegun (ap (λ (side : PlainSide). side.queue.taken) after) c.turn.new.crq.puts.took)
+    (behind_back c.turn.new.crq.end.first [] (c.turn.new.crq.end.link.ghost_name ∷ []) link first c.turn.new.crq.behind)
+    (sees_lent c.side.result.first [] _ old.link c.side.result.link.now c.side.ensures.first c.side.ensures.link)
+    (sees_back c.turn.new.crq.end.first [] _ link first) (ap (λ (place : PortPlace). place.unit) c.turn.ensures.goes.own_place) (c.turn.ensures.answered refl) c.requires.received)
 
 pub returns-clause-received_else : goal.returns-clause-received_else
 returns-clause-received_else g c = λ k other apart own.
@@ -157,3 +162,21 @@ returns-clause-received_else g c = λ k other apart own.
     (λ e. apart (sym (ap (λ (u : UnitId). u.unit) (sym (c.requires.pair.own_unit ∙ c.requires.pair.server) ∙ (e ∙ own)))))
     (c.turn.ensures.others_stay k apart) (ap (λ (place : PortPlace). place.unit) c.turn.ensures.goes.own_place) c.turn.ensures.copies
     c.turn.ensures.lines c.turn.ensures.others
+
+pub returns-clause-unfreed : goal.returns-clause-unfreed
+returns-clause-unfreed g c =
+    let old = c.args.self.now in
+    let link = c.turn.new.crq.end.link.now in
+    let lent = c.side.result.link.now in
+    let link_is : link ≡ c.self-1.given.0 = search rules in
+    let was : IsBegun g.row.BEGUN (side_of lent false).queue.session =
+    subst (λ (l : PlainLink). IsBegun g.row.BEGUN (side_of l false).queue.session) (sym c.side.ensures.link) c.requires.begun in
+    let before : (side_of lent false) ≡ (side_of old.link false) = ap (λ (l : PlainLink). side_of l false) c.side.ensures.link in
+    let was_kept : IsNotFreed old → IsNotFreed (record { server = old.server; link = lent; own = old.own; window = old.window; driver = old.driver }) =
+    subst (λ (side : PlainSide). NotFreed side.queue.session side.registered → NotFreed (side_of lent false).queue.session (side_of lent false).registered) before (λ kept. kept) in
+    subst (λ (l : PlainLink). FreesNoneAt old (record { server = old.server; link = l; own = c.turn.new.own; window = c.turn.new.client; driver = old.driver })) link_is
+    (λ kept.
+    serve_frees g.row.BEGUN c.side.result.first c.turn.new.crq.end.first (c.side.result.link.ghost_name ∷ []) (c.turn.new.crq.end.link.ghost_name ∷ [])
+    (record { server = old.server; link = lent; own = old.own; window = old.window; driver = old.driver })
+    (record { server = old.server; link = link; own = c.turn.new.own; window = c.turn.new.client; driver = old.driver }) c.side.ensures.first c.turn.ensures.goes.queue_place
+    was c.turn.new.crq.begun (was_kept kept))

@@ -1,0 +1,303 @@
+-- What the calls of an end put into the partner's queue, one behind the other.
+use Rattle.std.proofs.Common.{◌≡◌, ◌∙◌, ◌⊎◌, inl, inr, ℕ, ◌+◌, ◌≤◌, zero, suc, Bool, true, false, List, [], ◌∷◌, ◌++◌, Option, Some, None, IfSome, IsSome, length, slice_get, refl, sym, ap, subst, arith, append-nil, append_assoc}
+use Rattle.vio_num.specs.Entry.{first_byte}
+use Rattle.vio_num.specs.declared.entry.Entry.{Entry}
+use Rattle.crq_ring.specs.declared.rows.PipeRow.{PipeRow}
+use Rattle.std.specs.Borrow.{GName}
+use Rattle.crq_session.specs.Answered.{FindsFull, FindsInUse, Frees, HoldsUp, LosesKept, Opens, Pushes, Puts, PutsNone, Sends, Settles, StillKept, TurnsBack}
+use Rattle.crq_session.specs.Answers.{IfClosed, IfDropped, IfHeldUp, IfInUse, IfSent, OnFreed, OnNotFreed, OnNotRegistered, OnNotSent, OnOpened}
+use Rattle.crq_session.specs.declared.answers.FreeAnswer.{FreeAnswer}
+use Rattle.crq_session.specs.declared.answers.FreeAnswer.TheVariants as free
+use Rattle.crq_session.specs.declared.answers.RegAnswer.{RegAnswer}
+use Rattle.crq_session.specs.declared.answers.RegAnswer.TheVariants as reg
+use Rattle.crq_session.specs.declared.answers.SendAnswer.{SendAnswer}
+use Rattle.crq_session.specs.declared.answers.SendAnswer.TheVariants as send
+use Rattle.crq_session.specs.PlainState.{end_of}
+use Rattle.crq_session.specs.declared.link.PlainLink.{PlainLink}
+use Rattle.crq_session.specs.EndState.{EndPlace, EndState, OnlyPushes, OnlyReserves, OnlySends}
+use Rattle.vscsi_client.specs.Frames.{HasMore, IsOpened, KeepsEnd, MeetsEvent, OnlyTurns, Renews}
+use Rattle.vcpu_run.specs.Freed.{FreesNone}
+use Rattle.vcpu_run.specs.Announces.{IsAmong, IsKept, IsOnItsWay, IsTold, Announces}
+
+pub both_bools : (b : Bool) → b ≡ true → b ≡ false → ⊥
+both_bools b t f = cc
+
+no_some : (event : Entry) → None ≡ Some event → ⊥
+no_some event e = cc
+
+entry_is : (a b : Entry) → Some a ≡ Some b → a ≡ b
+entry_is a b e = cc
+
+-- rows in front of others, and behind them
+front_there : (xs ys : List PipeRow) (n : ℕ) (row : PipeRow) → slice_get xs n ≡ Some row → slice_get (xs ++ ys) n ≡ Some row
+front_there [] ys n row there = cc
+front_there (x ∷ xs) ys zero row there = there
+front_there (x ∷ xs) ys (suc n) row there = front_there xs ys n row there
+
+behind_there : (xs ys : List PipeRow) (n : ℕ) → slice_get (xs ++ ys) (length xs + n) ≡ slice_get ys n
+behind_there [] ys n = let e : length {A = PipeRow} [] + n ≡ n = omega arith in ap (slice_get ys) e
+behind_there (x ∷ xs) ys n =
+    let e : length (x ∷ xs) + n ≡ suc (length xs + n) = omega arith in
+    ap (slice_get (x ∷ (xs ++ ys))) e ∙ behind_there xs ys n
+
+-- nothing was put, and the registration and the kept event are as before
+pub puts_none : (a b : EndState) → b.sent ≡ a.sent → b.kept ≡ a.kept → b.registered ≡ a.registered → Announces a b
+puts_none a b sent kept registered = record {
+  rows = [];
+  sent = sent ∙ sym (append-nil a.sent);
+  kept = λ event is on. inl (record { freed = registered ∙ is.freed; there = kept ∙ is.there });
+  freed = λ was off on. absurd (both_bools a.registered was (sym registered ∙ off));
+}
+
+pub puts_same : (a : EndState) → Announces a a
+puts_same a = puts_none a a refl refl refl
+
+pub puts_reserves : (a b : EndState) → OnlyReserves a b → Announces a b
+puts_reserves a b r = puts_none a b r.sent r.kept r.registered
+
+-- more was put, and they are as before
+pub puts_more : (a b : EndState) → HasMore a.sent b.sent → b.kept ≡ a.kept → b.registered ≡ a.registered → Announces a b
+puts_more a b more kept registered = record {
+  rows = more.rows;
+  sent = more.is;
+  kept = λ event is on. inl (record { freed = registered ∙ is.freed; there = kept ∙ is.there });
+  freed = λ was off on. absurd (both_bools a.registered was (sym registered ∙ off));
+}
+
+pub puts_keeps : (shared : Bool) (a b : EndState) → KeepsEnd shared a b → Announces a b
+puts_keeps shared a b k = puts_more a b k.sent k.kept k.registered
+
+-- one call behind another, with the partner in the same session
+among_front : (event : Entry) (q q' : ℕ) (rows more : List PipeRow) → q' ≡ q → IsAmong event q rows → IsAmong event q' (rows ++ more)
+among_front event q q' rows more same is = record {
+  number = is.number;
+  row = is.row;
+  there = front_there rows more is.number is.row is.there;
+  session_is = is.session_is ∙ sym same;
+  entry_is = is.entry_is;
+}
+
+among_behind : (event : Entry) (q : ℕ) (rows more : List PipeRow) → IsAmong event q more → IsAmong event q (rows ++ more)
+among_behind event q rows more is = record {
+  number = length rows + is.number;
+  row = is.row;
+  there = behind_there rows more is.number ∙ is.there;
+  session_is = is.session_is;
+  entry_is = is.entry_is;
+}
+
+pub puts_on : (a b c : EndState) → b.place.partner_registered ≡ a.place.partner_registered → c.counts.partner_session ≡ b.counts.partner_session
+    → Announces a b → Announces b c → Announces a c
+puts_on a b c place session first next = record {
+  rows = first.rows ++ next.rows;
+  sent = next.sent ∙ (ap (λ (rows : List PipeRow). rows ++ next.rows) first.sent ∙ append_assoc a.sent first.rows next.rows);
+  kept = λ event is on. way_on event on (first.kept event is on);
+  freed = λ was off on. freed was off on b.registered refl;
+}
+  where
+    way_behind : (event : Entry) → IsOnItsWay event next.rows c → IsOnItsWay event (first.rows ++ next.rows) c
+    way_behind event (inl is) = inl is
+    way_behind event (inr is) = inr (among_behind event c.counts.partner_session first.rows next.rows is)
+
+    way_on : (event : Entry) → a.place.partner_registered ≡ true → IsOnItsWay event first.rows b → IsOnItsWay event (first.rows ++ next.rows) c
+    way_on event on (inl is) = way_behind event (next.kept event is (place ∙ on))
+    way_on event on (inr is) = inr (among_front event b.counts.partner_session c.counts.partner_session first.rows next.rows session is)
+
+    freed : a.registered ≡ true → c.registered ≡ false → a.place.partner_registered ≡ true → (r : Bool) → b.registered ≡ r → IsTold (first.rows ++ next.rows) c
+    freed was off on true e =
+        let told = next.freed e off (place ∙ on) in
+        (told.0, told.1, way_behind told.0 told.2)
+    freed was off on false e =
+        let told = first.freed was e on in
+        (told.0, told.1, way_on told.0 on told.2)
+
+-- the first of these rows
+first_among : (entry : Entry) (session q : ℕ) → session ≡ q → IsAmong entry q (record { session = session; entry = entry } ∷ [])
+first_among entry session q same = record { number = 0; row = record { session = session; entry = entry }; there = refl; session_is = same; entry_is = refl }
+
+-- the own queue was registered
+opens_settled : (shared : Bool) (a b : EndState) (kept : Option Entry) → shared ≡ false → a.kept ≡ kept → Settles shared kept a b → b.registered ≡ true → Announces a b
+opens_settled shared a b None alone was none on = record {
+  rows = [];
+  sent = none.sent ∙ sym (append-nil a.sent);
+  kept = λ event is partner. absurd (no_some event (sym was ∙ is.there));
+  freed = λ before off partner. absurd (both_bools b.registered on off);
+}
+opens_settled shared a b (Some entry) alone was settles on = elim settles as (λ _. Announces a b) [
+  | inl puts ↦ record {
+    rows = record { session = b.counts.partner_session; entry = entry } ∷ [];
+    sent = puts.sent;
+    kept = λ event is partner.
+        inr (subst (λ (e : Entry). IsAmong e b.counts.partner_session (record { session = b.counts.partner_session; entry = entry } ∷ [])) (entry_is entry event (sym was ∙ is.there))
+        (first_among entry b.counts.partner_session b.counts.partner_session refl));
+    freed = λ before off partner. absurd (both_bools b.registered on off);
+  }
+  | inr loses ↦ record {
+    rows = [];
+    sent = loses.none.sent ∙ sym (append-nil a.sent);
+    kept = λ event is partner. absurd (both_bools a.place.partner_registered partner (loses.meets.partner alone));
+    freed = λ before off partner. absurd (both_bools b.registered on off);
+  }
+]
+
+pub puts_opens : (shared : Bool) (a b : EndState) → shared ≡ false → Opens shared a b → Announces a b
+puts_opens shared a b alone opens = opens_settled shared a b a.kept alone refl opens.settles opens.registered
+
+pub puts_held : (shared : Bool) (a b : EndState) (number held : ℕ) → HoldsUp shared a b number held → Announces a b
+puts_held shared a b number held up = puts_none a b up.kept.full.sent up.kept.kept (up.still ∙ sym up.unregistered)
+
+-- behind room that was made
+pub puts_ready : (a room b : EndState) → OnlyReserves a room → b.counts.partner_session ≡ room.counts.partner_session → Announces room b → Announces a b
+puts_ready a room b ready session more =
+    puts_on a room b (ap (λ (p : EndPlace). p.partner_registered) ready.place) session (puts_reserves a room ready) more
+
+-- the own queue was freed, and this event tells of it
+pub puts_freed : (shared : Bool) (a b : EndState) (event : Entry) → shared ≡ false → first_byte event ≡ 0xFF → Frees shared a event b → Announces a b
+puts_freed shared a b event alone says frees = elim frees.tells as (λ _. Announces a b) [
+  | inl put ↦ record {
+    rows = record { session = b.counts.partner_session; entry = event } ∷ [];
+    sent = put.0.sent;
+    kept = λ other is on. absurd (both_bools a.registered frees.registered is.freed);
+    freed = λ was off on. (event, says, inr (first_among event b.counts.partner_session b.counts.partner_session refl));
+  }
+  | inr later ↦ elim later as (λ _. Announces a b) [
+    | inl keeps ↦ record {
+      rows = [];
+      sent = keeps.full.sent ∙ sym (append-nil a.sent);
+      kept = λ other is on. absurd (both_bools a.registered frees.registered is.freed);
+      freed = λ was off on. (event, says, inl (record { freed = frees.freed; there = keeps.kept }));
+    }
+    | inr lost ↦ record {
+      rows = [];
+      sent = lost.0.none.sent ∙ sym (append-nil a.sent);
+      kept = λ other is on. absurd (both_bools a.registered frees.registered is.freed);
+      freed = λ was off on. absurd (both_bools a.place.partner_registered on (lost.0.meets.partner alone));
+    }
+  ]
+]
+
+-- a turn of a login: its queue was registered, or found registered, and then more was put
+opened_puts : (shared : Bool) (a b : EndState) → shared ≡ false → IsOpened shared a b → Announces a b
+opened_puts shared a b alone opened = elim opened.opens as (λ _. Announces a b) [
+  | inl none ↦ puts_reserves a b none
+  | inr renews ↦
+      let session : b.counts.partner_session ≡ renews.room.counts.partner_session =
+      opened.rest.counts.same_session alone ∙ sym (ap (λ counts. counts.partner_session) renews.ready.counts) in
+      puts_ready a renews.room b renews.ready session (at renews)
+]
+  where
+    at : (renews : Renews shared a b) → Announces renews.room b
+    at renews = elim renews.opens as (λ _. Announces renews.room b) [
+      | inl opens ↦ puts_opens shared renews.room b alone opens
+      | inr meets ↦ puts_held shared renews.room b meets.number meets.held meets.still
+    ]
+
+pub turn_puts : (shared : Bool) (a c : EndState) → shared ≡ false → OnlyTurns shared a c → Announces a c
+turn_puts shared a c alone turns =
+    puts_on a turns.opened c (ap (λ (p : EndPlace). p.partner_registered) turns.opens.rest.place) (turns.later.counts.same_session alone)
+    (opened_puts shared a turns.opened alone turns.opens) (puts_keeps shared turns.opened c turns.later)
+
+-- and it frees no queue
+pub frees_none : (a b : EndState) → b.last_session ≡ a.last_session → b.registered ≡ a.registered → FreesNone a b
+frees_none a b session registered kept some = registered ∙ kept (subst (λ n. 1 ≤ n) session some)
+
+pub turn_frees : (shared : Bool) (a c : EndState) → OnlyTurns shared a c → FreesNone a c
+turn_frees shared a c turns kept = frees_none turns.opened c turns.later.last_session turns.later.registered (opened turns.opens)
+  where
+    renewed : (renews : Renews shared a turns.opened) → 1 ≤ turns.opened.last_session → turns.opened.registered ≡ true
+    renewed renews some = elim renews.opens as (λ _. turns.opened.registered ≡ true) [
+      | inl opens ↦ opens.registered
+      | inr meets ↦
+          frees_none a turns.opened (meets.still.session ∙ renews.ready.last_session) (meets.still.still ∙ (sym meets.still.unregistered ∙ renews.ready.registered)) kept some
+    ]
+
+    opened : IsOpened shared a turns.opened → 1 ≤ turns.opened.last_session → turns.opened.registered ≡ true
+    opened is some = elim is.opens as (λ _. turns.opened.registered ≡ true) [
+      | inl none ↦ frees_none a turns.opened none.last_session none.registered kept some
+      | inr renews ↦ renewed renews some
+    ]
+
+-- seen from the pair, by whatever borrows the end is reached
+pub puts_at : (f g : Bool) (a b : List GName) (old new : PlainLink) → f ≡ false → (end_of b new g).place ≡ (end_of a old f).place
+    → Announces (end_of a old f) (end_of b new g) → Announces (end_of [] old false) (end_of [] new false)
+puts_at f g a b old new is place puts = at f g is (ap (λ (p : EndPlace). p.first) place ∙ is) puts
+  where
+    here : Announces (end_of a old false) (end_of b new false) → Announces (end_of [] old false) (end_of [] new false)
+    here p = record { rows = p.rows; sent = p.sent; kept = p.kept; freed = p.freed }
+
+    at : (d d' : Bool) → d ≡ false → d' ≡ false → Announces (end_of a old d) (end_of b new d') → Announces (end_of [] old false) (end_of [] new false)
+    at false false e e' p = here p
+    at true d' e e' p = absurd (both_bools true refl e)
+    at false true e e' p = absurd (both_bools true refl e')
+
+-- a call that puts the kept event
+pub puts_pushes : (a b : EndState) → OnlyPushes false a b → Pushes false a b → Announces a b
+puts_pushes a b rest pushes = at a.kept refl pushes.puts
+  where
+    at : (kept : Option Entry) → a.kept ≡ kept → IfSome kept (λ event. Puts false a event b) → Announces a b
+    at None e puts = absurd (some_not_none a.kept pushes.some e)
+      where
+        some_not_none : (o : Option Entry) → IsSome o → o ≡ None → ⊥
+        some_not_none None some e = cc
+        some_not_none (Some x) some e = cc
+    at (Some entry) e puts = record {
+      rows = record { session = b.counts.partner_session; entry = entry } ∷ [];
+      sent = puts.sent;
+      kept = λ event is partner.
+          inr (subst (λ (t : Entry). IsAmong t b.counts.partner_session (record { session = b.counts.partner_session; entry = entry } ∷ [])) (entry_is entry event (sym e ∙ is.there))
+          (first_among entry b.counts.partner_session b.counts.partner_session refl));
+      freed = λ was off partner. absurd (both_bools a.registered was (sym rest.registered ∙ off));
+    }
+
+pub puts_nothing : (a b : EndState) → OnlyPushes false a b → PutsNone false a b → Announces a b
+puts_nothing a b rest none = at a.kept refl none.loses
+  where
+    freed : a.registered ≡ true → b.registered ≡ false → ⊥
+    freed was off = both_bools a.registered was (sym rest.registered ∙ off)
+
+    at : (kept : Option Entry) → a.kept ≡ kept → LosesKept false kept a b → Announces a b
+    at None e sends = record {
+      rows = [];
+      sent = sends.sent ∙ sym (append-nil a.sent);
+      kept = λ event is partner. absurd (no_some event (sym e ∙ is.there));
+      freed = λ was off partner. absurd (freed was off);
+    }
+    at (Some entry) e loses = record {
+      rows = [];
+      sent = loses.none.sent ∙ sym (append-nil a.sent);
+      kept = λ event is partner. absurd (both_bools a.place.partner_registered partner (loses.meets.partner refl));
+      freed = λ was off partner. absurd (freed was off);
+    }
+
+pub puts_kept : (a b : EndState) (number held : ℕ) → OnlyPushes false a b → StillKept false a b number held → Announces a b
+puts_kept a b number held rest kept = puts_none a b kept.full.sent kept.kept rest.registered
+
+-- the own queue is to be registered, freed, or sent from, by the answer
+pub puts_registers : (shared : Bool) (a b : EndState) (answer : RegAnswer) → shared ≡ false → OnOpened answer (Opens shared a b) → IfHeldUp answer (HoldsUp shared a b)
+    → OnNotRegistered answer (OnlyReserves a b) → Announces a b
+puts_registers shared a b reg.Success alone opens up none = puts_opens shared a b alone opens
+puts_registers shared a b (reg.Closed control) alone opens up none = puts_opens shared a b alone opens
+puts_registers shared a b (reg.Busy number held) alone opens up none = puts_held shared a b number held up
+puts_registers shared a b reg.Parameter alone opens up none = puts_reserves a b none
+puts_registers shared a b reg.Resource alone opens up none = puts_reserves a b none
+
+pub puts_frees : (shared : Bool) (a b : EndState) (event : Entry) (answer : FreeAnswer) → shared ≡ false → first_byte event ≡ 0xFF → OnFreed answer (Frees shared a event b)
+    → IfInUse answer (FindsInUse shared a b) → OnNotFreed answer (OnlyReserves a b) → Announces a b
+puts_frees shared a b event free.Success alone says frees busy none = puts_freed shared a b event alone says frees
+puts_frees shared a b event (free.Busy control) alone says frees busy none = absurd (both_bools shared busy.shared_end alone)
+puts_frees shared a b event free.Parameter alone says frees busy none = puts_reserves a b none
+
+pub puts_entry : (shared : Bool) (a b : EndState) (entry : Entry) (answer : SendAnswer) → OnlySends shared a b → IfSent answer (Sends shared a entry b)
+    → IfClosed answer (TurnsBack shared a b) → IfDropped answer (FindsFull shared a b) → OnNotSent answer (OnlyReserves a b) → Announces a b
+puts_entry shared a b entry answer rest sent closed dropped none = puts_more a b (at answer sent closed dropped none) rest.kept rest.registered
+  where
+    same : b.sent ≡ a.sent → HasMore a.sent b.sent
+    same is = record { rows = []; is = is ∙ sym (append-nil a.sent) }
+
+    at : (answer : SendAnswer) → IfSent answer (Sends shared a entry b) → IfClosed answer (TurnsBack shared a b) → IfDropped answer (FindsFull shared a b)
+        → OnNotSent answer (OnlyReserves a b) → HasMore a.sent b.sent
+    at (send.Success number) sent closed dropped none = record { rows = record { session = b.counts.partner_session; entry = entry } ∷ []; is = sent.puts.sent }
+    at (send.Closed control) sent closed dropped none = same closed.none.sent
+    at (send.Dropped number held) sent closed dropped none = same dropped.sent
+    at send.NotRegistered sent closed dropped none = same none.sent
+    at send.Parameter sent closed dropped none = same none.sent

@@ -1,0 +1,35 @@
+use Rattle.std.proofs.Common.{◌∙◌, refl, ap}
+use Rattle.crq_session.specs.EndState.{EndCounts}
+use Rattle.vcpu_run.proofs.Announcing.{puts_kept, puts_nothing, puts_pushes, puts_ready, puts_reserves}
+use Rattle.vcpu_run.proofs.Driving.{drives_link, if_none}
+use Rattle.vcpu_run.proofs.seat.push_event.Goals as goal
+
+pub returns-in_err-reserve-clause-drives : goal.returns-in_err-reserve-clause-drives
+returns-in_err-reserve-clause-drives c =
+    let room = c.in_err-reserve.ensures.rest in
+    drives_link c.side-end.result.first c.reserve.new.self.first _ _ c.args.pair.now c.side-end.result.link.now c.reserve.new.self.link.now c.side-end.ensures.link c.side-end.ensures.first
+    room.place (ap (λ (counts : EndCounts). counts.partner_session) room.counts) (puts_reserves _ _ room) (if_none c.args.pair.now.driver _ room.registered)
+
+pub returns-in-Nothing-clause-drives : goal.returns-in-Nothing-clause-drives
+returns-in-Nothing-clause-drives c =
+    let room = c.in_ok-reserve.ensures.rest in
+    let rest = c.push_event.ensures.rest in
+    drives_link c.side-end.result.first c.push_event.new.self.first _ _ c.args.pair.now c.side-end.result.link.now c.push_event.new.self.link.now c.side-end.ensures.link c.side-end.ensures.first
+    (rest.place ∙ room.place) (rest.counts.same_session refl ∙ ap (λ (counts : EndCounts). counts.partner_session) room.counts)
+    (puts_ready _ _ _ room (rest.counts.same_session refl) (puts_nothing _ _ c.push_event.ensures.rest c.in-Nothing.ensures.nothing)) (if_none c.args.pair.now.driver _ (rest.registered ∙ room.registered))
+
+pub returns-in-Put-clause-drives : goal.returns-in-Put-clause-drives
+returns-in-Put-clause-drives c =
+    let room = c.in_ok-reserve.ensures.rest in
+    let rest = c.push_event.ensures.rest in
+    drives_link c.side-end.result.first c.push_event.new.self.first _ _ c.args.pair.now c.side-end.result.link.now c.push_event.new.self.link.now c.side-end.ensures.link c.side-end.ensures.first
+    (rest.place ∙ room.place) (rest.counts.same_session refl ∙ ap (λ (counts : EndCounts). counts.partner_session) room.counts)
+    (puts_ready _ _ _ room (rest.counts.same_session refl) (puts_pushes _ _ c.push_event.ensures.rest c.in-Put.ensures.put)) (if_none c.args.pair.now.driver _ (rest.registered ∙ room.registered))
+
+pub returns-in-Kept-clause-drives : goal.returns-in-Kept-clause-drives
+returns-in-Kept-clause-drives c =
+    let room = c.in_ok-reserve.ensures.rest in
+    let rest = c.push_event.ensures.rest in
+    drives_link c.side-end.result.first c.push_event.new.self.first _ _ c.args.pair.now c.side-end.result.link.now c.push_event.new.self.link.now c.side-end.ensures.link c.side-end.ensures.first
+    (rest.place ∙ room.place) (rest.counts.same_session refl ∙ ap (λ (counts : EndCounts). counts.partner_session) room.counts)
+    (puts_ready _ _ _ room (rest.counts.same_session refl) (puts_kept _ _ c.in-Kept.number c.in-Kept.held c.push_event.ensures.rest c.in-Kept.ensures.still)) (if_none c.args.pair.now.driver _ (rest.registered ∙ room.registered))

@@ -1,0 +1,35 @@
+-- What a client's calls put into its server unit's queue, and that they tell of their own queue's freeing.
+use Rattle.std.specs.Prelude.{◌≡◌, ◌⊎◌, ℕ, ◌++◌, Bool, true, false, List, Option, Some, slice_get}
+use Rattle.vio_num.specs.Entry.{first_byte}
+use Rattle.vio_num.specs.declared.entry.Entry.{Entry}
+use Rattle.crq_ring.specs.declared.rows.PipeRow.{PipeRow}
+use Rattle.crq_session.specs.EndState.{EndState}
+
+-- An end whose own queue is not registered keeps this event.
+pub record IsKept (event : Entry) (registered : Bool) (kept : Option Entry) : Type 0 where
+  pub freed : registered ≡ false
+  pub there : kept ≡ Some event
+
+-- An entry stands among these rows, as one of this session.
+pub record IsAmong (entry : Entry) (session : ℕ) (rows : List PipeRow) : Type 0 where
+  pub number : ℕ
+  pub row : PipeRow
+  pub there : slice_get rows number ≡ Some row
+  pub session_is : row.session ≡ session
+  pub entry_is : row.entry ≡ entry
+
+-- an event is kept, or was put with these rows, in the partner's session
+abbrev pub IsOnItsWay : Entry → List PipeRow → EndState → Type 0
+IsOnItsWay event rows end = IsKept event end.registered end.kept ⊎ IsAmong event end.counts.partner_session rows
+
+-- an event tells that the own queue is gone
+abbrev pub IsTold : List PipeRow → EndState → Type 0
+IsTold rows end = (event : Entry) × (first_byte event ≡ 0xFF) × IsOnItsWay event rows end
+
+-- More was put behind what was put before. While the partner's queue is registered an event that was kept is kept or was put,
+-- and where the own queue was freed an event tells of it.
+pub record Announces (old new : EndState) : Type 0 where
+  pub rows : List PipeRow
+  pub sent : new.sent ≡ old.sent ++ rows
+  pub kept : (event : Entry) → IsKept event old.registered old.kept → old.place.partner_registered ≡ true → IsOnItsWay event rows new
+  pub freed : old.registered ≡ true → new.registered ≡ false → old.place.partner_registered ≡ true → IsTold rows new
