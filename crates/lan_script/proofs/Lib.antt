@@ -29,3 +29,4 @@ pub mod Posted
 pub mod RowLaws
 pub mod Sent
 pub mod Tallies
+pub mod Telling

@@ -3,6 +3,7 @@ pub mod Delivered
 pub mod Frames
 pub mod Invariant
 pub mod LineFrame
+pub mod LineSays
 pub mod Opening
 pub mod PortLaw
 pub mod PortRows

@@ -62,12 +62,20 @@ is_of_port outcomes.Done = true
 is_of_port (outcomes.Bytes shown) = true
 is_of_port _ = false
 
+-- how a line in a region ends
+abbrev pub is_of_region : Outcome → Bool
+is_of_region (outcomes.Code code) = true
+is_of_region outcomes.Range = true
+is_of_region outcomes.Done = true
+is_of_region (outcomes.Bytes shown) = true
+is_of_region _ = false
+
 -- a step that ends its line ends it so
 abbrev pub TellsOfPort : PortStep → Type 0
 TellsOfPort (steps.Ends outcome) = is_of_port outcome ≡ true
 TellsOfPort (steps.Waits did done) = Unit {0}
 
--- a step in a region that ends its line ends it as one of a LAN unit ends
+-- a step in a region that ends its line ends it as such a line ends
 abbrev pub TellsOfRegion : Step → Type 0
-TellsOfRegion (region.Ends outcome) = is_of_port outcome ≡ true
+TellsOfRegion (region.Ends outcome) = is_of_region outcome ≡ true
 TellsOfRegion (region.Waits did) = Unit {0}

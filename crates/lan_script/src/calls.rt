@@ -80,6 +80,7 @@ impl Lan {
     fn entry_call(&mut self, unit: UnitId, call: EntryCall) -> Result<Returned, NoMemory>
         requires there { IsSome (seat_at self.old.seats unit) }
         ensures seats { self.new.seats ≡ self.old.seats }
+        ensures frames { self.new.frames ≡ self.old.frames }
         ensures answer { IfOk result (IsAnswer (port_row (PortCall.Entry call))) }
     {
         let mut own = self.windows.take(unit);
@@ -99,6 +100,7 @@ impl Lan {
     ) -> Result<Hrc, NoMemory>
         requires there { IsSome (seat_at self.old.seats unit) }
         ensures seats { self.new.seats ≡ self.old.seats }
+        ensures frames { self.new.frames ≡ self.old.frames }
         ensures code { IfOk result (λ code. may_answer rows.RegisterLogicalLan code ≡ true) }
     {
         self.make_room(unit)?;
@@ -109,6 +111,7 @@ impl Lan {
     pub(crate) fn make_room(&mut self, unit: UnitId) -> Result<(), NoMemory>
         requires there { IsSome (seat_at self.old.seats unit) }
         ensures seats { self.new.seats ≡ self.old.seats }
+        ensures frames { self.new.frames ≡ self.old.frames }
         ensures room { OnOk result (HasRoom self.new.stations unit) }
     {
         self.switch.reserve(unit, 1)
@@ -118,6 +121,7 @@ impl Lan {
     pub(crate) fn free(&mut self, unit: UnitId) -> Hrc
         requires there { IsSome (seat_at self.old.seats unit) }
         ensures seats { self.new.seats ≡ self.old.seats }
+        ensures frames { self.new.frames ≡ self.old.frames }
         ensures code { may_answer rows.FreeLogicalLan result ≡ true }
     {
         self.switch.free(unit).code
@@ -127,6 +131,7 @@ impl Lan {
     pub(crate) fn multicast(&mut self, unit: UnitId, control: u64, mac: Mac) -> Hrc
         requires there { IsSome (seat_at self.old.seats unit) }
         ensures seats { self.new.seats ≡ self.old.seats }
+        ensures frames { self.new.frames ≡ self.old.frames }
         ensures code { may_answer rows.MulticastCtrl result ≡ true }
     {
         self.switch.multicast(unit, control, mac).code
@@ -136,6 +141,7 @@ impl Lan {
     pub(crate) fn change_mac(&mut self, unit: UnitId, mac: Mac) -> Hrc
         requires there { IsSome (seat_at self.old.seats unit) }
         ensures seats { self.new.seats ≡ self.old.seats }
+        ensures frames { self.new.frames ≡ self.old.frames }
         ensures code { may_answer rows.ChangeLogicalLanMac result ≡ true }
     {
         self.switch.change_mac(unit, mac).code
@@ -145,6 +151,7 @@ impl Lan {
     pub fn fail(&mut self, unit: UnitId) -> Result<bool, NoMemory>
         requires there { IsSome (seat_at self.old.seats unit) }
         ensures seats { self.new.seats ≡ self.old.seats }
+        ensures frames { self.new.frames ≡ self.old.frames }
         ensures closed { IfOk result (λ closed. IsTrue closed ↔ (¬ IsOpenAt self.new unit)) }
     {
         if !self.is_open(unit) {

@@ -1,6 +1,7 @@
 // What a script line does at a LAN unit.
 ghost use Rattle.std.specs.Prelude.{◌≡◌, IfOk, IsSome, true};
 ghost use Rattle.boot_text.specs.Sound.{IsInRange};
+ghost use Rattle.lan_script.specs.LineSays.{SendsAs, TellsNoFrame};
 ghost use Rattle.lan_script.specs.Seats.{TellsOfPort, TellsOfRegion, is_for_port, is_in_region, seat_at};
 ghost use Rattle.unit_region.specs.Kept.{KeepsWindow};
 
@@ -29,7 +30,8 @@ pub enum PortStep {
 impl PortStep {
     // A line that waits, and did nothing in this step.
     pub(crate) fn waits(done: u64) -> PortStep
-        ensures { TellsOfPort result }
+        ensures told { TellsOfPort result }
+        ensures none { TellsNoFrame result }
     {
         PortStep::Waits {
             moved: Moved::Quiet,
@@ -39,7 +41,8 @@ impl PortStep {
 
     // A line that ends with this code, or waits where another was at work.
     pub(crate) fn coded(code: Hrc) -> PortStep
-        ensures { TellsOfPort result }
+        ensures told { TellsOfPort result }
+        ensures none { TellsNoFrame result }
     {
         match code {
             Hrc::Busy => PortStep::waits(0),
@@ -50,7 +53,8 @@ impl PortStep {
     // The same of a line in the unit's region.
     fn of(step: Step) -> PortStep
         requires { TellsOfRegion step }
-        ensures { TellsOfPort result }
+        ensures told { TellsOfPort result }
+        ensures none { TellsNoFrame result }
     {
         match step {
             Step::Ends(outcome) => PortStep::Ends(outcome),
@@ -66,6 +70,7 @@ impl Lan {
         requires port { is_for_port line.now.verb ≡ true }
         requires ranged { IsInRange line.now.verb }
         ensures seats { self.new.seats ≡ self.old.seats }
+        ensures sends { IfOk result (λ step. SendsAs unit step self.old self.new) }
         ensures told { IfOk result TellsOfPort }
     {
         let mark = u64::from(line.number);
@@ -87,6 +92,8 @@ impl Lan {
     fn open_line(&mut self, unit: UnitId) -> Result<PortStep, NoMemory>
         requires there { IsSome (seat_at self.old.seats unit) }
         ensures seats { self.new.seats ≡ self.old.seats }
+        ensures frames { self.new.frames ≡ self.old.frames }
+        ensures none { IfOk result TellsNoFrame }
         ensures told { IfOk result TellsOfPort }
     {
         let seat = self.seat(unit);
@@ -100,6 +107,8 @@ impl Lan {
         requires region { is_in_region line.now.verb ≡ true }
         requires ranged { IsInRange line.now.verb }
         ensures seats { self.new.seats ≡ self.old.seats }
+        ensures frames { self.new.frames ≡ self.old.frames }
+        ensures none { IfOk result TellsNoFrame }
         ensures told { IfOk result TellsOfPort }
     {
         let mut own = self.windows.take(unit);

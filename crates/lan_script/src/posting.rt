@@ -3,6 +3,7 @@ ghost use Rattle.std.specs.Prelude.{◌≡◌, ◌≤◌, ◌^◌, IfOk, IsSome,
 ghost use Rattle.boot_text.specs.declared.port_script.TheConstants.{MOST_BUFFERS};
 ghost use Rattle.hcall_table.specs.Rows.{may_answer};
 ghost use Rattle.hcall_table.specs.declared.hcall.Hcall.TheVariants as rows;
+ghost use Rattle.lan_script.specs.LineSays.{TellsNoFrame};
 ghost use Rattle.lan_script.specs.Seats.{TellsOfPort, seat_at};
 
 use crate::lan::Lan;
@@ -31,6 +32,8 @@ impl Lan {
         requires there { IsSome (seat_at self.old.seats unit) }
         requires few { count ≤ MOST_BUFFERS }
         ensures seats { self.new.seats ≡ self.old.seats }
+        ensures none { IfOk result TellsNoFrame }
+        ensures frames { self.new.frames ≡ self.old.frames }
         ensures told { IfOk result TellsOfPort }
     {
         for posted in done..count {
@@ -58,6 +61,7 @@ impl Lan {
     ) -> Result<Hrc, NoMemory>
         requires there { IsSome (seat_at self.old.seats unit) }
         ensures seats { self.new.seats ≡ self.old.seats }
+        ensures frames { self.new.frames ≡ self.old.frames }
     {
         let Some(address) = address else {
             return Ok(Hrc::Parameter);
@@ -89,6 +93,7 @@ impl Lan {
     pub(crate) fn add(&mut self, unit: UnitId, descriptor: u64) -> Result<Hrc, NoMemory>
         requires there { IsSome (seat_at self.old.seats unit) }
         ensures seats { self.new.seats ≡ self.old.seats }
+        ensures frames { self.new.frames ≡ self.old.frames }
         ensures code { IfOk result (λ code. may_answer rows.AddLogicalLanBuffer code ≡ true) }
     {
         self.make_room(unit)?;
@@ -107,7 +112,8 @@ fn buffer_at(at: u64, len: u64, number: u64) -> Option<u64> {
 // Says how many buffers were posted, and the code of the last call.
 fn ended(posted: u64, code: Hrc) -> PortStep
     requires { posted ≤ MOST_BUFFERS }
-    ensures { TellsOfPort result }
+    ensures told { TellsOfPort result }
+    ensures none { TellsNoFrame result }
 {
     PortStep::Ends(Outcome::Posted {
         buffers: posted as u32,

@@ -6,6 +6,7 @@ ghost use Rattle.hcall_table.specs.declared.hcall.Hcall.TheVariants as rows;
 ghost use Rattle.lan_script.specs.Invariant.{Owes};
 ghost use Rattle.lan_script.specs.Seats.{TellsOfPort, seat_at};
 ghost use Rattle.lan_script.specs.LineFrame.{line_frame};
+ghost use Rattle.lan_script.specs.LineSays.{SaysSent, SendsAs, SentAs};
 
 use crate::frames::frame_row;
 use crate::lan::{Lan, place_of};
@@ -43,6 +44,7 @@ impl Lan {
         requires least { LEAST_FRAME ≤ len }
         requires most { len ≤ MOST_FRAME }
         ensures seats { self.new.seats ≡ self.old.seats }
+        ensures sends { IfOk result (λ step. SendsAs unit step self.old self.new) }
         ensures told { IfOk result TellsOfPort }
     {
         let from = self.present(unit);
@@ -77,6 +79,7 @@ impl Lan {
     ) -> Result<(), OwnFault>
         requires there { IsSome (seat_at self.old.seats unit) }
         ensures seats { self.new.seats ≡ self.old.seats }
+        ensures frames { self.new.frames ≡ self.old.frames }
         ensures inside { OnOk result (at ≤ 2 ^ 20) }
     {
         let mut own = self.windows.take(unit);
@@ -89,6 +92,8 @@ impl Lan {
     pub(crate) fn send(&mut self, unit: UnitId, parts: &[u64; 6]) -> Result<Sent, NoMemory>
         requires there { IsSome (seat_at self.old.seats unit) }
         ensures seats { self.new.seats ≡ self.old.seats }
+        ensures sends { IfOk result (λ sent.
+            SentAs unit sent.code sent.number self.old self.new) }
         ensures code { IfOk result (λ sent. may_answer rows.SendLogicalLan sent.code ≡ true) }
     {
         if !self.whole {
@@ -103,6 +108,7 @@ impl Lan {
         requires there { IsSome (seat_at self.old.seats unit) }
         requires whole { self.old.whole ≡ true }
         ensures seats { self.new.seats ≡ self.old.seats }
+        ensures frames { self.new.frames ≡ self.old.frames }
         ensures short { self.new.whole ≡ false }
         ensures code { IfOk result (λ made. may_answer rows.SendLogicalLan made.code ≡ true) }
         ensures owes { IfOk result (Owes self.new unit) }
@@ -120,6 +126,8 @@ impl Lan {
         requires short { self.old.whole ≡ false }
         requires owes { Owes self.old unit made }
         ensures seats { self.new.seats ≡ self.old.seats }
+        ensures sends { IfOk result (λ sent.
+            SentAs unit sent.code sent.number self.old self.new) }
         ensures code { IfOk result (λ sent. sent.code ≡ made.code) }
     {
         let sent = Sent {
@@ -140,7 +148,8 @@ impl Lan {
 
 // Says how the line of a frame ends.
 fn said(sent: Sent) -> PortStep
-    ensures { TellsOfPort result }
+    ensures told { TellsOfPort result }
+    ensures says { SaysSent sent.code sent.number result }
 {
     match sent.number {
         Some(number) => PortStep::Ends(Outcome::Frame {

@@ -1,5 +1,6 @@
 // Frames that a unit takes from its receive queue.
 ghost use Rattle.std.specs.Prelude.{◌≡◌, ◌≤◌, IfOk, IsSome};
+ghost use Rattle.lan_script.specs.LineSays.{TellsNoFrame};
 ghost use Rattle.lan_script.specs.Seats.{TellsOfPort, seat_at};
 
 use crate::lan::Lan;
@@ -30,6 +31,8 @@ impl Lan {
     ) -> Result<PortStep, NoMemory>
         requires there { IsSome (seat_at self.old.seats unit) }
         ensures seats { self.new.seats ≡ self.old.seats }
+        ensures none { IfOk result TellsNoFrame }
+        ensures frames { self.new.frames ≡ self.old.frames }
         ensures told { IfOk result TellsOfPort }
     {
         let mut done = done;
@@ -57,6 +60,7 @@ impl Lan {
     pub fn take_rest(&mut self, unit: UnitId) -> Result<Moved, NoMemory>
         requires there { IsSome (seat_at self.old.seats unit) }
         ensures seats { self.new.seats ≡ self.old.seats }
+        ensures frames { self.new.frames ≡ self.old.frames }
     {
         let mut moved = Moved::Quiet;
         for _entry in 0..self.seat(unit).slots {
@@ -72,6 +76,7 @@ impl Lan {
     fn take_one(&mut self, unit: UnitId) -> Result<Taken, NoMemory>
         requires there { IsSome (seat_at self.old.seats unit) }
         ensures seats { self.new.seats ≡ self.old.seats }
+        ensures frames { self.new.frames ≡ self.old.frames }
     {
         if !self.is_open(unit) {
             return Ok(Taken::Nothing);

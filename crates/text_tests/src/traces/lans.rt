@@ -1,14 +1,13 @@
 // The lines of LAN ports: frames with their pieces and offers, sessions, buffers, receive entries.
 ghost use Rattle.std.specs.Prelude.{◌≡◌, IfOk, All};
-ghost use Rattle.vio_trace.specs.Form.{Ascend, FrameBefore, IsOfferOf, PostBefore, DeliverBefore, IsInOrder};
+ghost use Rattle.vio_trace.specs.Form.{Ascend, FrameBefore, IsOfferOf, PortBefore, PostBefore, DeliverBefore, HarvestBefore, IsInOrder};
 
-use super::{CLIENT, MOST, OTHER, SERVER, nothing, spelled};
+use super::{CLIENT, MOST, OTHER, SERVER, is_text_of, nothing, spelled};
 use std::alloc::Global;
 use std::test::Fail;
 use vio_num::{Bytes, Hrc, Sequence, UnitId};
 use vio_trace::{
     DeliverRow, Filled, FrameRow, HarvestRow, OfferRow, Offered, PieceRow, PortRow, PostRow, Trace,
-    write_trace,
 };
 
 fn piece(unit: UnitId, at: u32) -> PieceRow {
@@ -111,9 +110,8 @@ fn delivers(alloc: Global) -> Result<Sequence<DeliverRow>, Fail>
     Ok(delivers)
 }
 
-/// A trace that has these lines alone.
-fn lans(alloc: Global) -> Result<Trace, Fail>
-    ensures { IfOk result (λ trace. IsInOrder trace) }
+fn ports(alloc: Global) -> Result<Sequence<PortRow>, Fail>
+    ensures { IfOk result (λ ports. Ascend PortBefore ports) }
 {
     let port = PortRow {
         unit: SERVER,
@@ -121,27 +119,39 @@ fn lans(alloc: Global) -> Result<Trace, Fail>
         slots: 16,
         drops: MOST,
     };
+    Ok(Sequence::from_slice(alloc, &[port])?)
+}
+
+fn harvests(alloc: Global) -> Result<Sequence<HarvestRow>, Fail>
+    ensures { IfOk result (λ harvests. Ascend HarvestBefore harvests) }
+{
     let harvest = HarvestRow {
         unit: SERVER,
         session: 1,
         high: 0xc008_0000_0000_000e,
         low: 0x3000,
     };
+    Ok(Sequence::from_slice(alloc, &[harvest])?)
+}
+
+/// A trace that has these lines alone.
+fn lans(alloc: Global) -> Result<Trace, Fail>
+    ensures { IfOk result (λ trace. IsInOrder trace) }
+{
     Ok(Trace {
         frames: frames(alloc)?,
-        ports: Sequence::from_slice(alloc, &[port])?,
+        ports: ports(alloc)?,
         posts: posts(alloc)?,
         delivers: delivers(alloc)?,
-        harvests: Sequence::from_slice(alloc, &[harvest])?,
+        harvests: harvests(alloc)?,
         ..nothing(alloc)
     })
 }
 
 #[test]
 fn lines_of_lan_ports(rt: HostRuntime) -> Result<(), Fail> {
-    let alloc = rt.alloc();
-    let text = write_trace(alloc, &lans(alloc)?)?;
-    assert_eq!(rt; text.as_slice(), LANS);
+    let trace = lans(rt.alloc())?;
+    assert!(rt; is_text_of(rt.alloc(), trace, LANS)?);
     Ok(())
 }
 

@@ -2,23 +2,26 @@
 ghost use Rattle.std.specs.Prelude.{◌≡◌, IfOk};
 ghost use Rattle.vio_trace.specs.Form.{IsInOrder};
 
-use super::nothing;
+use super::{is_text_of, nothing};
 use std::alloc::Global;
 use std::test::Fail;
-use vio_num::{Bytes, Hrc};
-use vio_trace::{LogRow, Outcome, Shown, Trace, write_trace};
+use vio_num::{Bytes, Hrc, Sequence};
+use vio_trace::{LogRow, Outcome, Shown, Trace};
 
 /// A trace that has the record of one line.
 fn recorded(alloc: Global, outcome: Outcome) -> Result<Trace, Fail>
     ensures { IfOk result (λ trace. IsInOrder trace) }
 {
-    let mut trace = nothing(alloc);
-    trace.logs.push(LogRow {
+    let mut logs = Sequence::new(alloc);
+    logs.push(LogRow {
         partition: 1,
         line: 12,
         outcome,
     })?;
-    Ok(trace)
+    Ok(Trace {
+        logs,
+        ..nothing(alloc)
+    })
 }
 
 /// The k-th form of a record, and its words.
@@ -71,13 +74,19 @@ fn frame(code: Hrc, number: u64) -> Outcome {
     Outcome::Frame { code, number }
 }
 
+/// The text of the trace whose record has these words.
+fn text_with(alloc: Global, words: &[u8]) -> Result<Vec<u8>, Fail> {
+    let mut text = Vec::from_slice(alloc, b"trace 1\nlog 1 12 ")?;
+    text.extend_from_slice(words)?;
+    text.extend_from_slice(b"\nend\n")?;
+    Ok(text)
+}
+
 /// Whether a record has these words.
 fn is_written(alloc: Global, outcome: Outcome, words: &[u8]) -> Result<bool, Fail> {
-    let text = write_trace(alloc, &recorded(alloc, outcome)?)?;
-    let mut wanted = Vec::from_slice(alloc, b"trace 1\nlog 1 12 ")?;
-    wanted.extend_from_slice(words)?;
-    wanted.extend_from_slice(b"\nend\n")?;
-    Ok(text.as_slice() == wanted.as_slice())
+    let text = text_with(alloc, words)?;
+    let trace = recorded(alloc, outcome)?;
+    Ok(is_text_of(alloc, trace, &text)?)
 }
 
 #[test]

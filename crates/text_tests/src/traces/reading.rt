@@ -4,27 +4,17 @@ ghost use Rattle.vio_trace.specs.Form.{IsInOrder};
 
 use super::lans::LANS;
 use super::windows::WINDOWS;
-use super::{EACH_KIND, ONE_COMMAND};
+use super::{EACH_KIND, ONE_COMMAND, is_text_of};
 use std::alloc::Global;
 use std::test::Fail;
-use vio_trace::{TraceFault, read_trace, write_trace};
+use vio_num::NoMemory;
+use vio_trace::{TraceFault, read_trace};
 
-/// The line at which the text is bad; 0 where it is read, or memory runs out.
-fn bad_line(alloc: Global, text: &[u8]) -> u64 {
-    match read_trace(alloc, text) {
-        Err(TraceFault::Bad { line }) => line,
-        _ => 0,
-    }
-}
-
-/// Whether the text is read as a trace and written again the same.
-fn comes_back(alloc: Global, text: &[u8]) -> bool {
-    match read_trace(alloc, text) {
-        Ok(trace) => match write_trace(alloc, &trace) {
-            Ok(again) => again.as_slice() == text,
-            Err(_) => false,
-        },
-        Err(_) => false,
+/// Whether the text is read as a trace and written again the same; why it is not read, if it is not.
+fn comes_back(alloc: Global, text: &[u8]) -> Result<bool, TraceFault> {
+    match is_text_of(alloc, read_trace(alloc, text)?, text) {
+        Ok(is_same) => Ok(is_same),
+        Err(NoMemory) => Err(TraceFault::NoMemory),
     }
 }
 
@@ -39,7 +29,7 @@ fn texts_come_back(rt: HostRuntime) -> Result<(), Fail> {
         b"trace 1\nend\n",
     ];
     for text in texts {
-        assert!(rt; comes_back(rt.alloc(), text));
+        assert_eq!(rt; comes_back(rt.alloc(), text), Ok(true));
     }
     Ok(())
 }
@@ -47,7 +37,8 @@ fn texts_come_back(rt: HostRuntime) -> Result<(), Fail> {
 #[test]
 fn first_bad_line(rt: HostRuntime) -> Result<(), Fail> {
     for (text, line) in BAD.iter() {
-        assert_eq!(rt; bad_line(rt.alloc(), text), *line);
+        let line = *line;
+        assert_eq!(rt; comes_back(rt.alloc(), text), Err(TraceFault::Bad { line }));
     }
     Ok(())
 }

@@ -3,11 +3,11 @@
 ghost use Rattle.std.specs.Prelude.{◌≡◌, IfOk};
 ghost use Rattle.vio_trace.specs.Form.{Ascend, CopyBefore, StrokeBefore, TceValueBefore, IsInOrder};
 
-use super::{CLIENT, MOST, OTHER, SERVER, nothing, spelled};
+use super::{CLIENT, MOST, OTHER, SERVER, is_text_of, nothing, spelled};
 use std::alloc::Global;
 use std::test::Fail;
-use vio_num::{Bytes, Sequence, UnitId};
-use vio_trace::{CopyRow, PieceRow, StrokeRow, TceValueRow, Trace, write_trace};
+use vio_num::{Bytes, NoMemory, Sequence, UnitId};
+use vio_trace::{CopyRow, PieceRow, StrokeRow, TceValueRow, Trace};
 
 /// A piece that lies in an entry of its page's number.
 fn piece(unit: UnitId, page: u16, version: u32, offset: u16, len: u16, at: u32) -> PieceRow {
@@ -47,28 +47,55 @@ fn values(alloc: Global) -> Result<Sequence<TceValueRow>, Fail>
     Ok(tces)
 }
 
+/// A copy of the server's with this mark and length.
+fn copy(
+    alloc: Global,
+    mark: u64,
+    len: u32,
+    from: &[PieceRow],
+    to: &[PieceRow],
+) -> Result<CopyRow, NoMemory>
+    ensures unit { IfOk result (λ row. row.unit ≡ SERVER) }
+    ensures mark { IfOk result (λ row. row.mark ≡ mark) }
+{
+    Ok(CopyRow {
+        unit: SERVER,
+        mark,
+        len,
+        from: Sequence::from_slice(alloc, from)?,
+        to: Sequence::from_slice(alloc, to)?,
+    })
+}
+
+/// A copy of a unit, from one page to another.
+fn unit_copy(alloc: Global) -> Result<CopyRow, NoMemory>
+    ensures unit { IfOk result (λ row. row.unit ≡ SERVER) }
+    ensures mark { IfOk result (λ row. row.mark ≡ 0) }
+{
+    let from = [piece(CLIENT, 0, 0, 0, 64, 1)];
+    let to = [piece(SERVER, 0, 0, 0, 64, 0)];
+    copy(alloc, 0, 64, &from, &to)
+}
+
+/// A copy of data that lie on two pages.
+fn data_copy(alloc: Global) -> Result<CopyRow, NoMemory>
+    ensures unit { IfOk result (λ row. row.unit ≡ SERVER) }
+    ensures mark { IfOk result (λ row. row.mark ≡ MOST) }
+{
+    let from = [
+        piece(CLIENT, 13, 4, 1688, 2408, 4),
+        piece(CLIENT, 14, 0, 0, 1688, 0),
+    ];
+    let to = [piece(SERVER, 2, 0, 0, 4096, 15)];
+    copy(alloc, MOST, 4096, &from, &to)
+}
+
 fn copies(alloc: Global) -> Result<Sequence<CopyRow>, Fail>
     ensures { IfOk result (λ copies. Ascend CopyBefore copies) }
 {
     let mut copies = Sequence::new(alloc);
-    copies.push(CopyRow {
-        unit: SERVER,
-        mark: 0,
-        len: 64,
-        from: Sequence::from_slice(alloc, &[piece(CLIENT, 0, 0, 0, 64, 1)])?,
-        to: Sequence::from_slice(alloc, &[piece(SERVER, 0, 0, 0, 64, 0)])?,
-    })?;
-    let read = [
-        piece(CLIENT, 13, 4, 1688, 2408, 4),
-        piece(CLIENT, 14, 0, 0, 1688, 0),
-    ];
-    copies.push(CopyRow {
-        unit: SERVER,
-        mark: MOST,
-        len: 4096,
-        from: Sequence::from_slice(alloc, &read)?,
-        to: Sequence::from_slice(alloc, &[piece(SERVER, 2, 0, 0, 4096, 15)])?,
-    })?;
+    copies.push(unit_copy(alloc)?)?;
+    copies.push(data_copy(alloc)?)?;
     copies.push(CopyRow {
         unit: OTHER,
         mark: 5,
@@ -127,9 +154,8 @@ fn windows(alloc: Global) -> Result<Trace, Fail>
 
 #[test]
 fn lines_of_windows(rt: HostRuntime) -> Result<(), Fail> {
-    let alloc = rt.alloc();
-    let text = write_trace(alloc, &windows(alloc)?)?;
-    assert_eq!(rt; text.as_slice(), WINDOWS);
+    let trace = windows(rt.alloc())?;
+    assert!(rt; is_text_of(rt.alloc(), trace, WINDOWS)?);
     Ok(())
 }
 

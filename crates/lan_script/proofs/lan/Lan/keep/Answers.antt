@@ -1,9 +1,10 @@
-use Rattle.std.proofs.Common.{◌∙◌, List, arith, ap}
+use Rattle.std.proofs.Common.{◌∙◌, List, arith, refl, ap}
 use Rattle.lan_script.specs.declared.seat.PortSeat.{PortSeat}
 use Rattle.lan_script.specs.Seats.{seat_place}
 use Rattle.lan_script.proofs.Keeping.{map_long}
 use Rattle.lan_script.proofs.Kept.{kept_in, short_in}
 use Rattle.lan_script.proofs.Lans.{frames_within}
+use Rattle.lan_script.proofs.Telling.{keeps_sent}
 use Rattle.lan_script.proofs.lan.Lan.keep.Goals as goal
 
 pub index_mut-requires : goal.index_mut-requires
@@ -32,3 +33,14 @@ invariant_of-self-2 c =
       frames_within _ c.args.self.now c.args.unit c.place_of-place.result c.self.view_is c.self.invariant c.requires.there at,
       map_long (λ rows. rows.items) c.self.inside.frames.items,
     )) c.index_mut.ensures.value c.in_ok-push.ensures.items
+
+pub returns-clause-sends : goal.returns-clause-sends
+returns-clause-sends c =
+    let at = c.place_of-place.ensures.place ∙ ap (λ (l : List PortSeat). seat_place c.args.unit l) c.deref.ensures.value in
+    keeps_sent (λ rows. rows.items) _ c.args.self.now c.self.inside.frames.items c.args.unit c.args.made c.in-Some.number c.in_ok-row.row
+    c.place_of-place.result c.index_mut.result.now c.push.new.self _ c.self.view_is c.self.invariant refl c.in-Some.is c.in_ok-row.ensures at
+    (omega (
+      arith,
+      frames_within _ c.args.self.now c.args.unit c.place_of-place.result c.self.view_is c.self.invariant c.requires.there at,
+      map_long (λ rows. rows.items) c.self.inside.frames.items,
+    )) c.index_mut.ensures.value c.in_ok-push.ensures.items refl

@@ -2,4 +2,4 @@ use Rattle.std.proofs.Common.{◌≡◌}
 use Rattle.lan_script.proofs.lan.Lan.take_line.Given as goal
 
 abbrev pub invariant-loop-entry : goal.invariant-loop-entry
-invariant-loop-entry l = l.self.seats ≡ l.fn.self.seats
+invariant-loop-entry l = record { seats : l.self.seats ≡ l.fn.self.seats; frames : l.self.frames ≡ l.fn.self.frames }

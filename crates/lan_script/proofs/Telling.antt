@@ -1,0 +1,139 @@
+-- What a step of a line says of the frames that its unit sent.
+use Rattle.std.proofs.Common.{◌≡◌, ◌<◌, ℕ, true, List, [], ◌∷◌, ◌++◌, Option, Some, None, length, map, set, get_or, slice_get, refl, sym, ◌∙◌, ap, subst}
+use Rattle.vio_num.specs.declared.names.UnitId.{UnitId}
+use Rattle.vio_num.specs.declared.hypervisor.Hrc.{Hrc}
+use Rattle.lan_switch.specs.declared.answers.SendRecord.{SendRecord}
+use Rattle.vio_trace.specs.declared.lan_rows.FrameRow.{FrameRow}
+use Rattle.vio_trace.specs.declared.outcome.Outcome.{Outcome}
+use Rattle.vio_trace.specs.declared.outcome.Outcome.TheVariants as outcomes
+use Rattle.lan_script.specs.declared.lines.PortStep.{PortStep}
+use Rattle.lan_script.specs.declared.lines.PortStep.TheVariants as steps
+use Rattle.lan_script.specs.declared.seat.PortSeat.{PortSeat}
+use Rattle.lan_script.specs.Frames.{frame_row_of}
+use Rattle.lan_script.specs.Invariant.{IsLan, with_frame}
+use Rattle.lan_script.specs.LineSays.{SaysSent, SendsAs, SendsOne, SentAs, TellsNoFrame}
+use Rattle.lan_script.specs.Seats.{is_of_port, is_of_region, seat_place}
+use Rattle.lan_script.specs.Units.{LanValue, port_key}
+use Rattle.lan_script.proofs.Balancing.{set_frame}
+use Rattle.lan_script.proofs.Keeping.{frames_long, map_get, map_set}
+
+-- a step that tells of no frame, where none was sent
+pub sends_none : (unit : UnitId) (step : PortStep) (old new : LanValue) → TellsNoFrame step → new.frames ≡ old.frames → SendsAs unit step old new
+sends_none unit (steps.Waits moved done) old new none same = same
+sends_none unit (steps.Ends (outcomes.Granted credits)) old new none same = same
+sends_none unit (steps.Ends (outcomes.Rejected reason)) old new none same = same
+sends_none unit (steps.Ends outcomes.Lost) old new none same = same
+sends_none unit (steps.Ends outcomes.Unanswered) old new none same = same
+sends_none unit (steps.Ends (outcomes.Sent tag)) old new none same = same
+sends_none unit (steps.Ends outcomes.Range) old new none same = same
+sends_none unit (steps.Ends outcomes.NotLoggedIn) old new none same = same
+sends_none unit (steps.Ends (outcomes.NoCredit credits)) old new none same = same
+sends_none unit (steps.Ends (outcomes.Overlap tag)) old new none same = same
+sends_none unit (steps.Ends outcomes.Closed) old new none same = same
+sends_none unit (steps.Ends (outcomes.Dropped number held)) old new none same = same
+sends_none unit (steps.Ends (outcomes.Took count)) old new none same = same
+sends_none unit (steps.Ends (outcomes.TookThenLost count)) old new none same = same
+sends_none unit (steps.Ends (outcomes.Data len sum)) old new none same = same
+sends_none unit (steps.Ends (outcomes.Stale page)) old new none same = same
+sends_none unit (steps.Ends outcomes.Unknown) old new none same = same
+sends_none unit (steps.Ends (outcomes.Code code)) old new none same = same
+sends_none unit (steps.Ends (outcomes.Value value)) old new none same = same
+sends_none unit (steps.Ends (outcomes.Posted buffers code)) old new none same = same
+sends_none unit (steps.Ends (outcomes.Frame code number)) old new none same = absurd none
+sends_none unit (steps.Ends outcomes.Done) old new none same = same
+sends_none unit (steps.Ends (outcomes.Bytes shown)) old new none same = same
+
+-- a call that sent so, behind others that sent nothing
+pub sent_on : (unit : UnitId) (code : Hrc) (number : Option ℕ) (old mid new : LanValue) → mid.seats ≡ old.seats → mid.frames ≡ old.frames
+    → SentAs unit code number mid new → SentAs unit code number old new
+sent_on unit code None old mid new seats frames h = h ∙ frames
+sent_on unit code (Some n) old mid new seats frames h = record {
+  row = h.row;
+  code_is = h.code_is;
+  number_is = h.number_is;
+  frames = h.frames ∙ ap (λ (l : List PortSeat). with_frame unit h.row l mid.frames) seats
+      ∙ ap (λ (l : List (List FrameRow)). with_frame unit h.row old.seats l) frames;
+}
+
+-- a step that says what a call answered
+pub sends_said : (unit : UnitId) (code : Hrc) (number : Option ℕ) (step : PortStep) (old new : LanValue) → SaysSent code number step
+    → SentAs unit code number old new → SendsAs unit step old new
+sends_said unit code None step old new says h = sends_none unit step old new says h
+sends_said unit code (Some n) step old new says h = subst (λ (s : PortStep). SendsAs unit s old new) (sym says) h
+
+-- a line in a region ends as one of a LAN unit
+pub region_of_port : (outcome : Outcome) → is_of_region outcome ≡ true → is_of_port outcome ≡ true
+region_of_port (outcomes.Code code) e = refl
+region_of_port outcomes.Range e = refl
+region_of_port outcomes.Done e = refl
+region_of_port (outcomes.Bytes shown) e = refl
+region_of_port (outcomes.Granted credits) e = absurd (cc (e))
+region_of_port (outcomes.Rejected reason) e = absurd (cc (e))
+region_of_port outcomes.Lost e = absurd (cc (e))
+region_of_port outcomes.Unanswered e = absurd (cc (e))
+region_of_port (outcomes.Sent tag) e = absurd (cc (e))
+region_of_port outcomes.NotLoggedIn e = absurd (cc (e))
+region_of_port (outcomes.NoCredit credits) e = absurd (cc (e))
+region_of_port (outcomes.Overlap tag) e = absurd (cc (e))
+region_of_port outcomes.Closed e = absurd (cc (e))
+region_of_port (outcomes.Dropped number held) e = absurd (cc (e))
+region_of_port (outcomes.Took count) e = absurd (cc (e))
+region_of_port (outcomes.TookThenLost count) e = absurd (cc (e))
+region_of_port (outcomes.Data len sum) e = absurd (cc (e))
+region_of_port (outcomes.Stale page) e = absurd (cc (e))
+region_of_port outcomes.Unknown e = absurd (cc (e))
+region_of_port (outcomes.Value value) e = absurd (cc (e))
+region_of_port (outcomes.Posted buffers code) e = absurd (cc (e))
+region_of_port (outcomes.Frame code number) e = absurd (cc (e))
+
+-- it tells of no frame
+pub region_no_frame : (outcome : Outcome) → is_of_region outcome ≡ true → TellsNoFrame (steps.Ends outcome)
+region_no_frame (outcomes.Code code) e = tt
+region_no_frame outcomes.Range e = tt
+region_no_frame outcomes.Done e = tt
+region_no_frame (outcomes.Bytes shown) e = tt
+region_no_frame (outcomes.Granted credits) e = tt
+region_no_frame (outcomes.Rejected reason) e = tt
+region_no_frame outcomes.Lost e = tt
+region_no_frame outcomes.Unanswered e = tt
+region_no_frame (outcomes.Sent tag) e = tt
+region_no_frame outcomes.NotLoggedIn e = tt
+region_no_frame (outcomes.NoCredit credits) e = tt
+region_no_frame (outcomes.Overlap tag) e = tt
+region_no_frame outcomes.Closed e = tt
+region_no_frame (outcomes.Dropped number held) e = tt
+region_no_frame (outcomes.Took count) e = tt
+region_no_frame (outcomes.TookThenLost count) e = tt
+region_no_frame (outcomes.Data len sum) e = tt
+region_no_frame (outcomes.Stale page) e = tt
+region_no_frame outcomes.Unknown e = tt
+region_no_frame (outcomes.Value value) e = tt
+region_no_frame (outcomes.Posted buffers code) e = tt
+region_no_frame (outcomes.Frame code number) e = absurd (cc (e))
+
+-- the row of a frame was kept
+pub sends_kept : {V : Type 0} (f : V → List FrameRow) (lan : LanValue) (vecs : List V) (unit : UnitId) (code : Hrc) (n : ℕ) (row : FrameRow) (p : ℕ) (old new : V)
+    (after : LanValue) → IsLan lan → lan.frames ≡ map f vecs → row.code ≡ code → row.number ≡ n → p ≡ seat_place unit lan.seats → p < length vecs
+    → old ≡ get_or vecs p old → f new ≡ f old ++ row ∷ [] → after.frames ≡ map f (set vecs p new) → SendsOne unit code n lan after
+sends_kept f lan vecs unit code n row p old new after is frames code_is number_is at less here grown made = record {
+  row = row;
+  code_is = code_is;
+  number_is = number_is;
+  frames = made ∙ map_set f vecs p new ∙ ap (λ l. set (map f vecs) p l) grown
+      ∙ ap (λ k. set (map f vecs) k (f old ++ row ∷ [])) at
+      ∙ sym (set_frame unit row lan.seats (map f vecs) (f old)
+      (ap (λ (l : List (List FrameRow)). length l) (sym frames) ∙ frames_long lan.whole lan.seats (map port_key lan.stations) lan.frames is.ports)
+      (ap (λ k. slice_get (map f vecs) k) (sym at) ∙ map_get f vecs p old less here))
+      ∙ sym (ap (λ (l : List (List FrameRow)). with_frame unit row lan.seats l) frames);
+}
+
+-- the same of a call whose frame has this number
+pub keeps_sent : {V : Type 0} (f : V → List FrameRow) (lan now : LanValue) (vecs : List V) (unit : UnitId) (made : SendRecord) (n : ℕ) (row : FrameRow) (p : ℕ)
+    (old new : V) (after : LanValue) → lan ≡ now → IsLan lan → lan.frames ≡ map f vecs → made.frame ≡ Some n → row ≡ frame_row_of unit n made
+    → p ≡ seat_place unit lan.seats → p < length vecs → old ≡ get_or vecs p old → f new ≡ f old ++ row ∷ [] → after.frames ≡ map f (set vecs p new)
+    → SentAs unit made.code made.frame now after
+keeps_sent f lan now vecs unit made n row p old new after same is frames numbered row_is at less here grown kept =
+    subst (λ (o : Option ℕ). SentAs unit made.code o now after) (sym numbered)
+    (subst (λ (l : LanValue). SendsOne unit made.code n l after) same
+    (sends_kept f lan vecs unit made.code n row p old new after is frames (ap (λ (r : FrameRow). r.code) row_is) (ap (λ (r : FrameRow). r.number) row_is) at less
+    here grown kept))
