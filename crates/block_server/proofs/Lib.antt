@@ -22,6 +22,7 @@ pub mod Making
 pub mod NamedWindows
 pub mod FirstPages
 pub mod UnitBytes
+pub mod DeliveredBytes
 pub mod Agreeing
 pub mod Readying
 pub mod Staging

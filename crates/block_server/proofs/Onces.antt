@@ -28,6 +28,7 @@ use Rattle.block_server.specs.declared.request.Order.{Order}
 use Rattle.block_server.specs.Records.{FillsRow}
 use Rattle.std.proofs.lemmas.Option.{IfSome_then}
 use Rattle.std.specs.Prelude.{IsSome}
+use Rattle.block_server.specs.Causes.{told_to}
 use Rattle.block_server.specs.Fetched.{Buffers, HasPieces}
 use Rattle.block_server.specs.Serving.{Desk, HasReply, Held, MayAnswer, IfRow, IsKept, IsServed, IsServing, LeavesRow, Once, Place, ServeFrom, SettlesRow, StaysServed, Terms, place_of}
 use Rattle.block_server.proofs.AnswerLaws.{answered_there, answers_filled, answers_one, filled_there, only_there}
@@ -131,7 +132,7 @@ pub cleared : (terms : Terms) (desk : Desk) (history : List ServedRow) → desk.
 cleared terms desk history stage kept = record {
   row = subst (λ st. IfRow st (IsServed terms (place_of desk) history)) (sym stage) tt;
   kept = λ entry is. absurd (cc (kept, is));
-  fetched = subst (λ st. HasPieces st desk.buffers.outs desk.buffers.inns desk.pending) (sym stage) tt;
+  fetched = subst (λ st. HasPieces (told_to terms.told desk.id) st desk.buffers.outs desk.buffers.inns desk.pending) (sym stage) tt;
 }
 
 -- the row in service, whose disk step was made
@@ -212,7 +213,8 @@ once_cleared a b s s' h h' id stage kept rows put d = record {
 
 -- nothing is kept, no response was put, and the row in service is the same
 pub once_goes : (a b : Desk) (s s' : List PipeRow) (h h' : List ServedRow) → b.id ≡ a.id → b.kept ≡ None → h' ≡ h → responses s' ≡ responses s
-    → (d : Held) → IfRow b.stage (IsServed d.terms (place_of b) h) → HasPieces b.stage b.buffers.outs b.buffers.inns b.pending → Once d d a b s s' h h'
+    → (d : Held) → IfRow b.stage (IsServed d.terms (place_of b) h)
+    → HasPieces (told_to d.terms.told b.id) b.stage b.buffers.outs b.buffers.inns b.pending → Once d d a b s s' h h'
 once_goes a b s s' h h' id kept rows put d row fetched = record {
   id = id;
   terms = refl;
@@ -238,15 +240,16 @@ pub row_at : (terms : Terms) (a b : Desk) (h : List ServedRow) → b.id ≡ a.id
 row_at terms a b h id stage answer buffers pending =
     subst (λ (p : Place). IfRow p.stage (IsServed terms p h)) (sym (place_is a b id stage answer buffers pending))
 
-pub pieces_at : (a b : Desk) → b.stage ≡ a.stage → b.buffers ≡ a.buffers → b.pending ≡ a.pending → HasPieces a.stage a.buffers.outs a.buffers.inns a.pending
-    → HasPieces b.stage b.buffers.outs b.buffers.inns b.pending
-pieces_at a b stage buffers pending = subst (λ (z : Stage × Buffers × List Request). HasPieces z.0 z.1.outs z.1.inns z.2) (λ i. ((sym stage) i, (sym buffers) i, (sym pending) i))
+pub pieces_at : (terms : Terms) (a b : Desk) → b.id ≡ a.id → b.stage ≡ a.stage → b.buffers ≡ a.buffers → b.pending ≡ a.pending
+    → HasPieces (told_to terms.told a.id) a.stage a.buffers.outs a.buffers.inns a.pending → HasPieces (told_to terms.told b.id) b.stage b.buffers.outs b.buffers.inns b.pending
+pieces_at terms a b id stage buffers pending =
+    subst (λ (z : UnitId × Stage × Buffers × List Request). HasPieces (told_to terms.told z.0) z.1 z.2.outs z.2.inns z.3) (λ i. ((sym id) i, (sym stage) i, (sym buffers) i, (sym pending) i))
 
 -- the service is where it was; nothing is kept, and no response was put
 pub once_still : (a b : Desk) (s s' : List PipeRow) (h h' : List ServedRow) → b.id ≡ a.id → b.stage ≡ a.stage → b.answer ≡ a.answer → b.buffers ≡ a.buffers → b.pending ≡ a.pending
     → b.kept ≡ None → h' ≡ h → responses s' ≡ responses s → (d : Held) → IsServing d.terms a h → Once d d a b s s' h h'
 once_still a b s s' h h' id stage answer buffers pending kept rows put d serving =
-    once_goes a b s s' h h' id kept rows put d (row_at d.terms a b h id stage answer buffers pending serving.row) (pieces_at a b stage buffers pending serving.fetched)
+    once_goes a b s s' h h' id kept rows put d (row_at d.terms a b h id stage answer buffers pending serving.row) (pieces_at d.terms a b id stage buffers pending serving.fetched)
 
 -- an entry that answers no request is kept in the place of what was kept
 pub once_reply_kept : (a b : Desk) (s s' : List PipeRow) (h : List ServedRow) (entry : QueueEntry) → b.id ≡ a.id → b.pending ≡ a.pending → b.stage ≡ a.stage → b.answer ≡ a.answer
@@ -257,7 +260,7 @@ once_reply_kept a b s s' h entry id pending stage answer buffers kept plain put 
   serving = record {
     row = row_at d.terms a b h id stage answer buffers pending serving.row;
     kept = λ other is. subst (IsKept b) (some_is entry other (sym kept ∙ is)) plain;
-    fetched = pieces_at a b stage buffers pending serving.fetched;
+    fetched = pieces_at d.terms a b id stage buffers pending serving.fetched;
   };
   answers = more_none a.id s s' h h put refl;
   others = stays_same a.id h;

@@ -23,7 +23,7 @@ use Rattle.srp_iu.specs.declared.command.Cmd.{Cmd}
 use Rattle.block_disk.specs.Disk.{reply_to}
 use Rattle.block_disk.specs.declared.reply.ScsiReply.{ScsiReply}
 use Rattle.block_server.specs.declared.request.Order.TheVariants.{Command}
-use Rattle.block_server.specs.Causes.{Refusing, Told, told_to}
+use Rattle.block_server.specs.Causes.{Hearing, Told, told_to}
 use Rattle.block_server.specs.DiskLaw.{HasData, ServeBy, ServesRowBy, handed_over}
 use Rattle.block_server.specs.Fetched.{HasPieces, Buffers, buffers_of}
 use Rattle.block_server.specs.Answering.{AnswersMore, IsInService, OnlyRowsOf}
@@ -89,7 +89,7 @@ held told size now = record { terms = terms_of told size; now = now }
 pub record HasReply (terms : Terms) (request : Request) (given : List ℕ) (reply : ScsiReply) (served : ServedRow) : Type 0 where
   pub command : Cmd
   pub order : request.order ≡ Command command
-  pub brought : HasData command served.out
+  pub brought : HasData (told_to terms.told served.unit) command served.out
   pub fault_is : reply.fault ≡ served.fault
   pub reply_is : reply ≡ reply_to terms.size command.lun command.cdb (length served.out) served.fault
   pub given_is : served.inn ≡ given
@@ -144,7 +144,7 @@ IsKept desk (keeps.Answer entry outcome) = IsAnswerKept desk entry outcome
 pub record IsServing (terms : Terms) (desk : Desk) (history : List ServedRow) : Type 0 where
   pub row : IfRow desk.stage (IsServed terms (place_of desk) history)
   pub kept : (kept : Kept) → desk.kept ≡ Some kept → IsKept desk kept
-  pub fetched : HasPieces desk.stage desk.buffers.outs desk.buffers.inns desk.pending
+  pub fetched : HasPieces (told_to terms.told desk.id) desk.stage desk.buffers.outs desk.buffers.inns desk.pending
 
 -- The rows took these blocks, as many as the disk has, to others.
 pub record ServeFrom (terms : Terms) (before : List (List ℕ)) (history : List ServedRow) (all : List (List ℕ)) : Type 0 where
@@ -174,7 +174,7 @@ AnswersOnce desk desk' queue queue' records records' =
     → Once disk disk desk desk' queue.sent queue'.sent records.history.items records'.history.items
 
 -- of one that needs a cause, which holds of what the unit was told
-abbrev pub AnswersOnceIf : (Refusing → Type 0) → (desk desk' : Desk) (queue queue' : EndState) (records records' : Records) → Type 0
+abbrev pub AnswersOnceIf : (Hearing → Type 0) → (desk desk' : Desk) (queue queue' : EndState) (records records' : Records) → Type 0
 AnswersOnceIf Cause desk desk' queue queue' records records' =
     (disk : Held) → Cause (told_to disk.terms.told desk.id) → IsServing disk.terms desk records.history.items
     → Once disk disk desk desk' queue.sent queue'.sent records.history.items records'.history.items

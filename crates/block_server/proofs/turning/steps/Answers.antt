@@ -1,6 +1,6 @@
 use Rattle.std.proofs.Common.{refl, rules, subst, sym, ◌∙◌}
 use Rattle.vio_num.specs.declared.names.UnitId.{UnitId}
-use Rattle.block_server.specs.SiteState.{TellsAll}
+use Rattle.block_server.specs.Heard.{TellsAll}
 use Rattle.block_server.proofs.Agreeing.{agrees_on}
 use Rattle.block_server.proofs.Readying.{full_later, idle_full, idle_opening, idle_turn, next_on, next_over, next_service, on_both}
 use Rattle.block_server.proofs.Denying.{tells_next}
