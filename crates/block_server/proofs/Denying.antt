@@ -58,7 +58,7 @@ denied_before old mid new next right address len fault is = record {
 }
 
 -- a copy that was made later, or before, was made in all
-made_after : (P : CopyRecord → Type 0) (old mid new more : List CopyRecord) → mid ≡ old ++ more → IsMadeBetween P mid new → IsMadeBetween P old new
+pub made_after : (P : CopyRecord → Type 0) (old mid new more : List CopyRecord) → mid ≡ old ++ more → IsMadeBetween P mid new → IsMadeBetween P old new
 made_after P old mid new more first is = record {
   front = more ++ is.front;
   copy = is.copy;
@@ -68,7 +68,7 @@ made_after P old mid new more first is = record {
   is = is.is;
 }
 
-made_before : (P Q : CopyRecord → Type 0) (old mid new more : List CopyRecord) → new ≡ mid ++ more → ((copy : CopyRecord) → P copy → Q copy)
+pub made_before : (P Q : CopyRecord → Type 0) (old mid new more : List CopyRecord) → new ≡ mid ++ more → ((copy : CopyRecord) → P copy → Q copy)
     → IsMadeBetween P old mid → IsMadeBetween Q old new
 made_before P Q old mid new more next then is = record {
   front = is.front;
@@ -80,7 +80,7 @@ made_before P Q old mid new more next then is = record {
 }
 
 -- what a copy carried is what it carried, as more is known of the windows
-delivers_stays : (own own' client client' : PortState) → SideGrows (side_of own) (side_of own') → SideGrows (side_of client) (side_of client')
+pub delivers_stays : (own own' client client' : PortState) → SideGrows (side_of own) (side_of own') → SideGrows (side_of client) (side_of client')
     → (at address len mark : ℕ) (bytes : List ℕ) (copy : CopyRecord) → Delivers own client at address len mark bytes copy → Delivers own' client' at address len mark bytes copy
 delivers_stays own own' client client' own_grows client_grows at address len mark bytes copy is = record {
   name_is = is.name_is ∙ ap (λ (unit : UnitId). record { who = unit; mark = mark }) (sym own_grows.unit);

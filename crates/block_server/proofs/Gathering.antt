@@ -11,7 +11,11 @@ use Rattle.srp_desc.specs.declared.pieces.DescFault.{DescFault}
 use Rattle.srp_desc.specs.declared.pieces.Pieces.{Pieces}
 use Rattle.srp_desc.specs.declared.pieces.Pieces.TheVariants.{Fetch, Whole}
 use Rattle.vio_num.specs.declared.memory.NoMemory.{NoMemory}
-use Rattle.block_server.specs.Causes.{Hearing, IsBad, IsFetched, IsNamed, RefusesBuffer, TurnsDown}
+use Rattle.block_server.specs.Causes.{Hearing, IsBad, IsFetched, IsNamed, RefusesBuffer, TurnsDown, tables_at}
+use Rattle.block_server.specs.Causes.News.{fetched}
+use Rattle.block_server.specs.Delivers.{FetchesTo}
+use Rattle.block_server.specs.Heard.{heard_between}
+use Rattle.block_server.specs.SiteState.{SiteState}
 use Rattle.block_server.specs.Fetched.{DeniesTable, Gathers, HasBadSum, IfDone, IfRefused, IsRead}
 use Rattle.block_server.specs.declared.fetching.Progress.{Progress}
 use Rattle.block_server.specs.declared.fetching.Progress.TheVariants.{Busy, Done, Refused}
@@ -61,6 +65,10 @@ read_done Hears buffer given table total list (Ok Done) is_given tables is law r
 read_done Hears buffer given table total list (Ok Refused) is_given tables is law read = tt
 read_done Hears buffer given table total list (Ok Busy) is_given tables is law read = tt
 read_done Hears buffer given table total list (Err memory) is_given tables is law read = tt
+
+-- a call told which table its copy brought
+pub heard_table : (old new : SiteState) (address : ℕ) (bytes : List ℕ) → FetchesTo old new address tables_at bytes → heard_between old new (fetched address tables_at bytes)
+heard_table old new address bytes one = record { front = []; copy = one.copy; rest = []; made = one.made; is = one.fetched }
 
 -- what is so where it was done
 pub where_done : (progress : Progress) (P : Type 0) → progress ≡ Done → IfDone (Ok progress) P → P

@@ -2,6 +2,8 @@ pub mod Advancing
 pub mod Answered
 pub mod Named
 pub mod Denying
+pub mod Hearing
+pub mod HeardLaws
 pub mod Opening
 pub mod Owning
 pub mod Putting

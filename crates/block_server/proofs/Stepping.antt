@@ -66,19 +66,22 @@ module _ (request : Request) (command : Cmd) (outs inns : List Desc) (out given 
       ∙ ap (λ (n : ℕ). take n (take reply.in_len buffer)) (sym len_given)
 
   pub new_row_serves : (b a : List (List ℕ)) → IsStep b (made_step command.lun command.cdb out reply buffer) a → ServesRowBy terms.told b row a
-  new_row_serves b a made = inl (record {
-    command = command;
-    spells = subst (λ (bytes : List ℕ). Spells bytes (units.Cmd command)) (sym new.iu)
-        (subst (λ (order : Order). IsOrder order request.unit.items) new.order request.spelled);
-    brought = brought;
-    reply = reply;
-    given = take reply.in_len buffer;
-    step = subst (λ (bytes : List ℕ). IsStep b (record { lun = command.lun; cdb = command.cdb; data_out = bytes; reply = reply; given = take reply.in_len buffer }) a) (sym new.out_is) made;
-    fault = sym new.fault_is;
-    inn = first_given;
-    few = omega (arith, len_given);
-    answer = inl new.blank;
-  })
+  new_row_serves b a made = (
+    inl new.blank,
+    inl (record {
+      command = command;
+      spells = subst (λ (bytes : List ℕ). Spells bytes (units.Cmd command)) (sym new.iu)
+          (subst (λ (order : Order). IsOrder order request.unit.items) new.order request.spelled);
+      brought = brought;
+      reply = reply;
+      given = take reply.in_len buffer;
+      step = subst (λ (bytes : List ℕ). IsStep b (record { lun = command.lun; cdb = command.cdb; data_out = bytes; reply = reply; given = take reply.in_len buffer }) a) (sym new.out_is) made;
+      fault = sym new.fault_is;
+      inn = first_given;
+      few = omega (arith, len_given);
+      answer = inl new.blank;
+    }),
+  )
 
 -- the disk law goes on over a step and its row
 stepped : (terms : Terms) (now now' : Option (List (List ℕ))) (h h' : List ServedRow) (row : ServedRow) (made : DiskStep) → StepOn now made now' → (now ≡ None → now' ≡ None)

@@ -7,7 +7,7 @@ use Rattle.block_disk.specs.Steps.{made_step}
 use Rattle.block_server.specs.Causes.{IsNamed, told_to}
 use Rattle.vio_num.specs.declared.names.UnitId.{UnitId}
 use Rattle.block_server.specs.Fetched.{Gathers, HasBoth, HasPieces}
-use Rattle.block_server.specs.Serving.{HasReply, held, terms_of}
+use Rattle.block_server.specs.Serving.{AreBrought, HasReply, Terms, held, terms_of}
 use Rattle.block_server.specs.Stage.{is_before_step}
 use Rattle.block_server.specs.declared.data_pieces.DataPieces.{DataPieces}
 use Rattle.block_server.specs.declared.service.Stage.{Stage}
@@ -37,7 +37,7 @@ returns-in_err-make_room-clause-once g c = λ told rest serving.
     once_before _ _ _ _ _ _ _ refl (ap is_before_step (made.stage ∙ c.in-DataOut.is)) refl
     (subst (λ (z : Stage × DataPieces × DataPieces). HasPieces (told_to told c.args.id) z.0 z.1.list.items z.2.list.items (c.args.request.now ∷ rest))
     (λ i. ((sym made.stage) i, (sym made.out) i, (sym made.inn) i)) serving.fetched)
-    c.new_row.ensures.lists.history refl
+    c.new_row.ensures.lists.history refl serving.brought
 
 pub returns-clause-once : goal.returns-clause-once
 returns-clause-once g c = λ told rest serving.
@@ -84,6 +84,7 @@ returns-clause-once g c = λ told rest serving.
     (stays_stepped _ _ _ _ row (made_step command.lun command.cdb out reply buffer) _ (ap (terms_of told) c.execute-reply.ensures.count) c.execute-reply.ensures.step c.execute-reply.ensures.image added
     (new_row_serves request command outs inns out given buffer (terms_of told size) reply row new))
     (tells_map _ _ _ c.execute-reply.ensures.image)
+    (subst (λ (t : Terms). AreBrought (told_to t.told c.args.id) (request ∷ rest)) (sym (ap (terms_of told) c.execute-reply.ensures.count)) serving.brought)
 
 pub returns-in_default-clause-went : goal.returns-in_default-clause-went
 returns-in_default-clause-went g c = λ out. not_data_out _ _ (λ cursor is. c.in_default.not-DataOut cursor is) out

@@ -25,7 +25,7 @@ returns-in_err-fetch-clause-once g c = λ told all rest serving.
     once_before _ _ _ _ _ _ _ refl (c.fetch.ensures.before before) refl
     (pieces_of _ _ _ _ c.args.request.now rest c.args.command.now c.requires.asked
     (c.fetch.ensures.named told c.args.id all (gathers_of _ _ _ _ c.args.request.now rest c.args.command.now c.requires.asked serving.fetched))) refl
-    (ap (λ (q : EndState). responses q.sent) c.fetch.ensures.queue)
+    (ap (λ (q : EndState). responses q.sent) c.fetch.ensures.queue) serving.brought
 
 pub returns-in-Busy-clause-once : goal.returns-in-Busy-clause-once
 returns-in-Busy-clause-once g c = λ told all rest serving.
@@ -33,7 +33,7 @@ returns-in-Busy-clause-once g c = λ told all rest serving.
     once_before _ _ _ _ _ _ _ refl (c.fetch.ensures.before before) refl
     (pieces_of _ _ _ _ c.args.request.now rest c.args.command.now c.requires.asked
     (c.fetch.ensures.named told c.args.id all (gathers_of _ _ _ _ c.args.request.now rest c.args.command.now c.requires.asked serving.fetched))) refl
-    (ap (λ (q : EndState). responses q.sent) c.fetch.ensures.queue)
+    (ap (λ (q : EndState). responses q.sent) c.fetch.ensures.queue) serving.brought
 
 pub returns-in-Refused-clause-once : goal.returns-in-Refused-clause-once
 returns-in-Refused-clause-once g c = λ told all rest serving.
@@ -43,7 +43,7 @@ returns-in-Refused-clause-once g c = λ told all rest serving.
     once_then _ _ _ _ _ _ _ _ _ _ _ _
     (λ serving. once_before _ _ _ _ _ _ _ refl (c.fetch.ensures.before before) refl
     (pieces_of _ _ _ _ c.args.request.now rest c.args.command.now c.requires.asked (c.fetch.ensures.named told c.args.id all known)) refl
-    (ap (λ (q : EndState). responses q.sent) c.fetch.ensures.queue))
+    (ap (λ (q : EndState). responses q.sent) c.fetch.ensures.queue) serving.brought)
     (c.add_code.ensures.once rest (g.S.Site.state c.fetch.new.site).queue _
     (subst (IsCauseOf (told_to told c.args.id)) (sym c.requires.asked) cause)) serving
 
@@ -54,7 +54,7 @@ returns-in-Done-clause-once g c = λ told all rest.
     (λ serving. once_before _ _ _ _ _ _ _ refl (c.fetch.ensures.before before) refl
     (pieces_of _ _ _ _ c.args.request.now rest c.args.command.now c.requires.asked
     (c.fetch.ensures.named told c.args.id (tells_first told c.args.id (g.S.Site.state c.args.site.now) (g.S.Site.state c.fetch.new.site) (g.S.Site.state c.make_step.new.site) c.make_step.ensures.advances all) (gathers_of _ _ _ _ c.args.request.now rest c.args.command.now c.requires.asked serving.fetched))) refl
-    (ap (λ (q : EndState). responses q.sent) c.fetch.ensures.queue))
+    (ap (λ (q : EndState). responses q.sent) c.fetch.ensures.queue) serving.brought)
     (c.make_step.ensures.once told rest)
 
 pub returns-in-Done-clause-advances : goal.returns-in-Done-clause-advances
