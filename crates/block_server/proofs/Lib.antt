@@ -2,6 +2,8 @@ pub mod Advancing
 pub mod Answered
 pub mod Named
 pub mod Denying
+pub mod Hearing
+pub mod HeardLaws
 pub mod Opening
 pub mod Owning
 pub mod Putting
@@ -22,6 +24,7 @@ pub mod Making
 pub mod NamedWindows
 pub mod FirstPages
 pub mod UnitBytes
+pub mod DeliveredBytes
 pub mod Agreeing
 pub mod Readying
 pub mod Staging

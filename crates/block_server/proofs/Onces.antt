@@ -1,5 +1,5 @@
 -- Each answer once, over steps one after the other.
-use Rattle.std.proofs.Common.{◌≡◌, ◌⊎◌, inl, inr, ◌++◌, ◌==◌, ℕ, length, List, [], ◌∷◌, Bool, true, false, Option, Some, None, IfSome, take, filter, map, refl, sym, ◌∙◌, ap, subst, arith, append-nil, append_assoc}
+use Rattle.std.proofs.Common.{◌≡◌, ◌⊎◌, inl, inr, ◌++◌, ◌==◌, ℕ, length, List, [], ◌∷◌, Bool, true, false, Option, Some, None, IfSome, take, filter, map, refl, sym, ◌∙◌, ap, subst, arith, append-nil, append_assoc, drop}
 use Rattle.std.proofs.lemmas.List.Elements.{filter-append}
 use Rattle.std.proofs.lemmas.List.{map-append}
 use Rattle.std.proofs.lemmas.Bool.{eqb-true}
@@ -28,8 +28,9 @@ use Rattle.block_server.specs.declared.request.Order.{Order}
 use Rattle.block_server.specs.Records.{FillsRow}
 use Rattle.std.proofs.lemmas.Option.{IfSome_then}
 use Rattle.std.specs.Prelude.{IsSome}
+use Rattle.block_server.specs.Causes.{Hearing, told_to}
 use Rattle.block_server.specs.Fetched.{Buffers, HasPieces}
-use Rattle.block_server.specs.Serving.{Desk, HasReply, Held, MayAnswer, IfRow, IsKept, IsServed, IsServing, LeavesRow, Once, Place, ServeFrom, SettlesRow, StaysServed, Terms, place_of}
+use Rattle.block_server.specs.Serving.{AreBrought, Desk, HasReply, Held, MayAnswer, IfRow, IsKept, IsServed, IsServing, LeavesRow, Once, Place, ServeFrom, SettlesRow, StaysServed, Terms, place_of}
 use Rattle.block_server.proofs.AnswerLaws.{answered_there, answers_filled, answers_one, filled_there, only_there}
 use Rattle.block_server.proofs.DiskLaws.{serve_changed}
 use Rattle.block_server.proofs.DiskRows.{IsKnown, SpellsOne, may_cut}
@@ -126,12 +127,26 @@ responses_one sent sent' row answers put = ap responses put ∙ responses_append
     one : is_response row.entry ≡ true → responses (row ∷ []) ≡ row.entry ∷ []
     one e = rw e refl
 
+-- the requests of a desk were brought, where they are these
+pub brought_at : (terms : Terms) (a b : Desk) (pending : List Request) → b.id ≡ a.id → b.pending ≡ pending → AreBrought (told_to terms.told a.id) pending
+    → AreBrought (told_to terms.told b.id) b.pending
+brought_at terms a b pending id same = subst (λ (z : UnitId × List Request). AreBrought (told_to terms.told z.0) z.1) (λ i. ((sym id) i, (sym same) i))
+
+pub brought_rest : (Hears : Hearing) (list : List Request) → AreBrought Hears list → AreBrought Hears (drop 1 list)
+brought_rest Hears [] all = tt
+brought_rest Hears (request ∷ requests) all = all.1
+
+pub brought_none : (Hears : Hearing) (list : List Request) → list ≡ [] → AreBrought Hears list
+brought_none Hears list none = subst (AreBrought Hears) (sym none) tt
+
 -- A desk without a service and without a kept entry is in order.
-pub cleared : (terms : Terms) (desk : Desk) (history : List ServedRow) → desk.stage ≡ Start → desk.kept ≡ None → IsServing terms desk history
-cleared terms desk history stage kept = record {
+pub cleared : (terms : Terms) (desk : Desk) (history : List ServedRow) → desk.stage ≡ Start → desk.kept ≡ None → AreBrought (told_to terms.told desk.id) desk.pending
+    → IsServing terms desk history
+cleared terms desk history stage kept brought = record {
   row = subst (λ st. IfRow st (IsServed terms (place_of desk) history)) (sym stage) tt;
   kept = λ entry is. absurd (cc (kept, is));
-  fetched = subst (λ st. HasPieces st desk.buffers.outs desk.buffers.inns desk.pending) (sym stage) tt;
+  fetched = subst (λ st. HasPieces (told_to terms.told desk.id) st desk.buffers.outs desk.buffers.inns desk.pending) (sym stage) tt;
+  brought = brought;
 }
 
 -- the row in service, whose disk step was made
@@ -183,14 +198,14 @@ module _ (one : SpellsOne) (d : Held) (a : Desk) (h h' : List ServedRow) (servin
   broken (Entry outcome) at row leaves = left_same leaves
 
   -- the service is broken off, and nothing is kept
-  pub once_broken : (b : Desk) (s s' : List PipeRow) → b.id ≡ a.id → b.stage ≡ Start → b.kept ≡ None → LeavesRow a.stage a.buffers.given h h' → responses s' ≡ responses s
+  pub once_broken : (b : Desk) (s s' : List PipeRow) → b.id ≡ a.id → b.stage ≡ Start → b.kept ≡ None → b.pending ≡ [] → LeavesRow a.stage a.buffers.given h h' → responses s' ≡ responses s
       → Once d d a b s s' h h'
-  once_broken b s s' id stage kept leaves put =
+  once_broken b s s' id stage kept none leaves put =
       let rest = broken a.stage refl serving.row leaves in
       record {
         id = id;
         terms = refl;
-        serving = cleared d.terms b h' stage kept;
+        serving = cleared d.terms b h' stage kept (brought_none (told_to d.terms.told b.id) b.pending none);
         answers = more_none a.id s s' h h' put rest.0;
         others = rest.1;
         stays = rest.2;
@@ -199,11 +214,12 @@ module _ (one : SpellsOne) (d : Held) (a : Desk) (h h' : List ServedRow) (servin
 
 -- the request in service is finished without a row's answer, and nothing is kept
 pub once_cleared : (a b : Desk) (s s' : List PipeRow) (h h' : List ServedRow) → b.id ≡ a.id → b.stage ≡ Start → b.kept ≡ None → h' ≡ h → responses s' ≡ responses s
-    → (d : Held) → Once d d a b s s' h h'
-once_cleared a b s s' h h' id stage kept rows put d = record {
+    → (d : Held) → b.pending ≡ drop 1 a.pending → IsServing d.terms a h → Once d d a b s s' h h'
+once_cleared a b s s' h h' id stage kept rows put d pending serving = record {
   id = id;
   terms = refl;
-  serving = cleared d.terms b h' stage kept;
+  serving = cleared d.terms b h' stage kept
+      (brought_at d.terms a b (drop 1 a.pending) id pending (brought_rest (told_to d.terms.told a.id) a.pending serving.brought));
   answers = more_none a.id s s' h h' put (ap (answers_of a.id) rows);
   others = subst (OnlyRowsOf a.id h) (sym rows) (stays_same a.id h);
   stays = stays_equal d h h' rows;
@@ -212,14 +228,16 @@ once_cleared a b s s' h h' id stage kept rows put d = record {
 
 -- nothing is kept, no response was put, and the row in service is the same
 pub once_goes : (a b : Desk) (s s' : List PipeRow) (h h' : List ServedRow) → b.id ≡ a.id → b.kept ≡ None → h' ≡ h → responses s' ≡ responses s
-    → (d : Held) → IfRow b.stage (IsServed d.terms (place_of b) h) → HasPieces b.stage b.buffers.outs b.buffers.inns b.pending → Once d d a b s s' h h'
-once_goes a b s s' h h' id kept rows put d row fetched = record {
+    → (d : Held) → IfRow b.stage (IsServed d.terms (place_of b) h)
+    → HasPieces (told_to d.terms.told b.id) b.stage b.buffers.outs b.buffers.inns b.pending → AreBrought (told_to d.terms.told b.id) b.pending → Once d d a b s s' h h'
+once_goes a b s s' h h' id kept rows put d row fetched brought = record {
   id = id;
   terms = refl;
   serving = record {
     row = subst (λ list. IfRow b.stage (IsServed d.terms (place_of b) list)) (sym rows) row;
     kept = λ entry is. absurd (cc (kept, is));
     fetched = fetched;
+    brought = brought;
   };
   answers = more_none a.id s s' h h' put (ap (answers_of a.id) rows);
   others = subst (OnlyRowsOf a.id h) (sym rows) (stays_same a.id h);
@@ -238,15 +256,17 @@ pub row_at : (terms : Terms) (a b : Desk) (h : List ServedRow) → b.id ≡ a.id
 row_at terms a b h id stage answer buffers pending =
     subst (λ (p : Place). IfRow p.stage (IsServed terms p h)) (sym (place_is a b id stage answer buffers pending))
 
-pub pieces_at : (a b : Desk) → b.stage ≡ a.stage → b.buffers ≡ a.buffers → b.pending ≡ a.pending → HasPieces a.stage a.buffers.outs a.buffers.inns a.pending
-    → HasPieces b.stage b.buffers.outs b.buffers.inns b.pending
-pieces_at a b stage buffers pending = subst (λ (z : Stage × Buffers × List Request). HasPieces z.0 z.1.outs z.1.inns z.2) (λ i. ((sym stage) i, (sym buffers) i, (sym pending) i))
+pub pieces_at : (terms : Terms) (a b : Desk) → b.id ≡ a.id → b.stage ≡ a.stage → b.buffers ≡ a.buffers → b.pending ≡ a.pending
+    → HasPieces (told_to terms.told a.id) a.stage a.buffers.outs a.buffers.inns a.pending → HasPieces (told_to terms.told b.id) b.stage b.buffers.outs b.buffers.inns b.pending
+pieces_at terms a b id stage buffers pending =
+    subst (λ (z : UnitId × Stage × Buffers × List Request). HasPieces (told_to terms.told z.0) z.1 z.2.outs z.2.inns z.3) (λ i. ((sym id) i, (sym stage) i, (sym buffers) i, (sym pending) i))
 
 -- the service is where it was; nothing is kept, and no response was put
 pub once_still : (a b : Desk) (s s' : List PipeRow) (h h' : List ServedRow) → b.id ≡ a.id → b.stage ≡ a.stage → b.answer ≡ a.answer → b.buffers ≡ a.buffers → b.pending ≡ a.pending
     → b.kept ≡ None → h' ≡ h → responses s' ≡ responses s → (d : Held) → IsServing d.terms a h → Once d d a b s s' h h'
 once_still a b s s' h h' id stage answer buffers pending kept rows put d serving =
-    once_goes a b s s' h h' id kept rows put d (row_at d.terms a b h id stage answer buffers pending serving.row) (pieces_at a b stage buffers pending serving.fetched)
+    once_goes a b s s' h h' id kept rows put d (row_at d.terms a b h id stage answer buffers pending serving.row) (pieces_at d.terms a b id stage buffers pending serving.fetched)
+    (brought_at d.terms a b a.pending id pending serving.brought)
 
 -- an entry that answers no request is kept in the place of what was kept
 pub once_reply_kept : (a b : Desk) (s s' : List PipeRow) (h : List ServedRow) (entry : QueueEntry) → b.id ≡ a.id → b.pending ≡ a.pending → b.stage ≡ a.stage → b.answer ≡ a.answer
@@ -257,7 +277,8 @@ once_reply_kept a b s s' h entry id pending stage answer buffers kept plain put 
   serving = record {
     row = row_at d.terms a b h id stage answer buffers pending serving.row;
     kept = λ other is. subst (IsKept b) (some_is entry other (sym kept ∙ is)) plain;
-    fetched = pieces_at a b stage buffers pending serving.fetched;
+    fetched = pieces_at d.terms a b id stage buffers pending serving.fetched;
+    brought = brought_at d.terms a b a.pending id pending serving.brought;
   };
   answers = more_none a.id s s' h h put refl;
   others = stays_same a.id h;
@@ -295,10 +316,11 @@ some_bytes (byte ∷ bytes) is = refl
 -- The answer in service was put: its row, if it has one, has it, and nothing is kept.
 module _ (a b : Desk) (s s' : List PipeRow) (h h' : List ServedRow) (put : PipeRow) (request : Request) (rest : List Request) (d : Held)
     (serving : IsServing d.terms a h) (id : b.id ≡ a.id) (stage : b.stage ≡ Start) (kept : b.kept ≡ None) (front : a.pending ≡ request ∷ rest)
+    (pending : b.pending ≡ drop 1 a.pending)
     (entry_is : put.entry ≡ srp_entry (length a.answer) request.tag) (sent : s' ≡ s ++ put ∷ []) where
   login : (outcome : Outcome) → is_response (srp_entry (length a.answer) request.tag) ≡ false → h' ≡ h → Once d d a b s s' h h'
   login outcome none rows =
-      once_cleared a b s s' h h' id stage kept rows (responses_plain s s' put (ap is_response entry_is ∙ none) sent) d
+      once_cleared a b s s' h h' id stage kept rows (responses_plain s s' put (ap is_response entry_is ∙ none) sent) d pending serving
 
   served : (row : ℕ) (p : Place) → p.id ≡ a.id → p.pending ≡ a.pending → (is : IsServed d.terms p h row) → MayAnswer d.terms a.answer is.in_service.served
       → (length a.answer ≡ 36) ⊎ ((length a.answer ≡ 40) ⊎ (length a.answer ≡ 54)) → AnswersRow h h' row a.answer → Once d d a b s s' h h'
@@ -311,7 +333,8 @@ module _ (a b : Desk) (s s' : List PipeRow) (h h' : List ServedRow) (put : PipeR
       record {
         id = id;
         terms = refl;
-        serving = cleared d.terms b h' stage kept;
+        serving = cleared d.terms b h' stage kept
+            (brought_at d.terms a b (drop 1 a.pending) id pending (brought_rest (told_to d.terms.told a.id) a.pending serving.brought));
         answers = record {
           more = put.entry ∷ [];
           put = responses_one s s' put (ap is_response entry_is ∙ answers_command (length a.answer) request.tag len) sent;

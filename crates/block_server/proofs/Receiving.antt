@@ -38,7 +38,7 @@ session_more q old new i entry more e =
     ∙ slice_more (of_session q old) (of_session q more.0) i entry e
 
 -- what a copy fetched is what it fetched, as more is known of the windows
-fetches_stays : (own own' client client' : PortState) → SideGrows (side_of own) (side_of own') → SideGrows (side_of client) (side_of client')
+pub fetches_stays : (own own' client client' : PortState) → SideGrows (side_of own) (side_of own') → SideGrows (side_of client) (side_of client')
     → (address at len : ℕ) (bytes : List ℕ) (copy : CopyRecord) → Fetches own client address at len bytes copy → Fetches own' client' address at len bytes copy
 fetches_stays own own' client client' own_grows client_grows address at len bytes copy is = record {
   name_is = is.name_is ∙ ap (λ (unit : UnitId). record { who = unit; mark = 0 }) (sym own_grows.unit);

@@ -3,10 +3,12 @@ pub mod Answering
 pub mod Books
 pub mod Causes
 pub mod Copied
+pub mod Delivers
 pub mod Decided
 pub mod DiskLaw
 pub mod Ends
 pub mod Entries
+pub mod Heard
 pub mod Fetched
 pub mod Judged
 pub mod Judges
