@@ -65,7 +65,7 @@ sees_with unit v (s ∷ ss) before after at same keeps =
       drops = ap (λ o. drops_by o) (port_tail v s (with_port unit after ss) f) ∙ rest.drops ∙ sym (ap (λ o. drops_by o) (port_tail v s ss f));
     })))
 
-begun_with : (unit : UnitId) (ss : List Station) (before after : PortValue) → port_of ss unit ≡ Some before → KeepsTally before after
+pub begun_with : (unit : UnitId) (ss : List Station) (before after : PortValue) → port_of ss unit ≡ Some before → KeepsTally before after
     → HaveBegun ss → HaveBegun (with_port unit after ss)
 begun_with unit [] before after at keeps begun = absurd (none_some before at)
 begun_with unit (s ∷ ss) before after at keeps begun =

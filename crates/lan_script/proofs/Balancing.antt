@@ -54,7 +54,7 @@ sent_tail : (u : UnitId) (s : PortSeat) (seats : List PortSeat) (own : List Fram
 sent_tail u s seats own frames e = rw e refl
 
 -- what a frame is among those of a sender
-abbrev one_of : UnitId → UnitId → FrameRow → List FrameRow
+abbrev pub one_of : UnitId → UnitId → FrameRow → List FrameRow
 one_of unit sender f = if same_unit unit sender then f ∷ [] else []
 
 one_own : (unit sender : UnitId) (f : FrameRow) → same_unit unit sender ≡ true → one_of unit sender f ≡ f ∷ []
@@ -70,7 +70,7 @@ there_later unit s seats e there = subst (λ (o : Option PortSeat). IsSome o) (t
     tail : same_unit s.unit unit ≡ false → seat_at (s ∷ seats) unit ≡ seat_at seats unit
     tail g = rw g refl
 
-sent_with : (unit sender : UnitId) (f : FrameRow) (seats : List PortSeat) (frames : List (List FrameRow)) → IsSome (seat_at seats unit)
+pub sent_with : (unit sender : UnitId) (f : FrameRow) (seats : List PortSeat) (frames : List (List FrameRow)) → IsSome (seat_at seats unit)
     → length frames ≡ length seats → sent_by seats (with_frame unit f seats frames) sender ≡ sent_by seats frames sender ++ one_of unit sender f
 sent_with unit sender f [] frames there long = absurd (cc (there))
 sent_with unit sender f (s ∷ seats) [] there long = absurd (omega (arith, long))
@@ -202,7 +202,7 @@ numbered_port unit v n (s ∷ ss) =
         (λ f. port_head v (record s { frames = n }) ss f ∙ sym (port_head v s ss f))
         (λ f. port_tail v (record s { frames = n }) ss f ∙ sym (port_tail v s ss f))
 
-numbered_begun : (unit : UnitId) (n : ℕ) (ss : List Station) → HaveBegun ss → HaveBegun (with_frames unit n ss)
+pub numbered_begun : (unit : UnitId) (n : ℕ) (ss : List Station) → HaveBegun ss → HaveBegun (with_frames unit n ss)
 numbered_begun unit n [] begun = tt
 numbered_begun unit n (s ∷ ss) begun =
     by_bool (same_unit (unit_of s) unit) (HaveBegun (with_frames unit n (s ∷ ss)))

@@ -130,7 +130,7 @@ brings o all (s ∷ olds) (n ∷ news) offers v (inr (passed, rest)) ascending =
     (λ e. past o s s olds news offers v e e (brings o all olds news offers v rest ascending.1)))
 
 -- an open port is in a session
-begun_at : (ss : List Station) (v : UnitId) (port : PortValue) → HaveBegun ss → port_of ss v ≡ Some port → IsOpen port → 1 ≤ length port.drop_counts
+pub begun_at : (ss : List Station) (v : UnitId) (port : PortValue) → HaveBegun ss → port_of ss v ≡ Some port → IsOpen port → 1 ≤ length port.drop_counts
 begun_at [] v port begun at opened = absurd (none_some port at)
 begun_at (s ∷ ss) v port begun at opened =
     by_bool (same_unit (unit_of s) v) (1 ≤ length port.drop_counts)

@@ -22,9 +22,9 @@ use Rattle.lan_switch.specs.Switch.{AtPort}
 use Rattle.vio_trace.specs.declared.lan_rows.FrameRow.{FrameRow}
 use Rattle.lan_script.specs.declared.seat.PortSeat.{PortSeat}
 use Rattle.lan_script.specs.declared.windows.Place.{Place}
-use Rattle.lan_script.specs.Invariant.{CarryAll, IsBalanced}
+use Rattle.lan_script.specs.Invariant.{CarryAll, HaveBegun, IsBalanced}
 use Rattle.lan_script.specs.Units.{port_key}
-use Rattle.lan_script.proofs.Balance.{balance_with}
+use Rattle.lan_script.proofs.Balance.{balance_with, begun_with}
 use Rattle.lan_script.proofs.CarriedOn.{carried_with}
 use Rattle.lan_script.proofs.Keys.{keys_with}
 use Rattle.lan_script.proofs.Posted.{KeepsPosts, posts_begin, posts_more, posts_stay}
@@ -63,7 +63,7 @@ was_open : (port : PortValue) (settings : Settings) → port.settings ≡ Some s
 was_open port settings e = subst (λ (o : Option Settings). IsSome o) (sym e) refl
 
 -- a code is Success or another
-by_code : (x : Hrc) (Q : Type 0) → (x ≡ Success → Q) → ((x ≡ Success → ⊥) → Q) → Q
+pub by_code : (x : Hrc) (Q : Type 0) → (x ≡ Success → Q) → ((x ≡ Success → ⊥) → Q) → Q
 by_code Success Q f g = f refl
 by_code Busy Q f g = g (λ e. cc (e))
 by_code Closed Q f g = g (λ e. cc (e))
@@ -147,6 +147,13 @@ pub at_keys : (old : List Station) (unit : UnitId) (new : List Station) (P : Por
 at_keys old unit new P same h =
     let kept = same h.before h.after h.done in
     ap (λ l. map port_key l) h.rest ∙ keys_with unit old h.before h.after h.was kept.unit kept.slots
+
+-- an open port is still in a session
+pub at_begun : (old : List Station) (unit : UnitId) (new : List Station) (P : PortValue → PortValue → Type 0)
+    → ((before after : PortValue) → P before after → SamePort before after) → AtPort old unit new P → HaveBegun old → HaveBegun new
+at_begun old unit new P same h begun =
+    let kept = same h.before h.after h.done in
+    subst HaveBegun (sym h.rest) (begun_with unit old h.before h.after h.was kept.tally begun)
 
 -- and the balance of frames, deliveries and drops
 pub at_balance : (seats : List PortSeat) (frames : List (List FrameRow)) (old : List Station) (unit : UnitId) (new : List Station)

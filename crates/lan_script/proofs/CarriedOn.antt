@@ -27,11 +27,11 @@ use Rattle.lan_script.proofs.Posted.{KeepsPosts}
 use Rattle.lan_script.proofs.Tallies.{KeepsTally}
 
 -- a port that was changed, or one beside it
-abbrev Changed : (unit v : UnitId) → (ss : List Station) → (before after : PortValue) → Type 0
+abbrev pub Changed : (unit v : UnitId) → (ss : List Station) → (before after : PortValue) → Type 0
 Changed unit v ss before after =
     (port_of (with_port unit after ss) v ≡ port_of ss v) ⊎ ((port_of ss v ≡ Some before) × (port_of (with_port unit after ss) v ≡ Some after))
 
-changed : (unit v : UnitId) (ss : List Station) (before after : PortValue) → port_of ss unit ≡ Some before → after.unit ≡ before.unit
+pub changed : (unit v : UnitId) (ss : List Station) (before after : PortValue) → port_of ss unit ≡ Some before → after.unit ≡ before.unit
     → Changed unit v ss before after
 changed unit v [] before after at same = absurd (none_some before at)
 changed unit v (s ∷ ss) before after at same =

@@ -32,6 +32,7 @@ keep_frame lan now unit r n row place rows same is owed frame row_is at here =
           (subst (λ p. HavePorts true lan.seats (with_count unit (Some n) o.keys) (set lan.frames p (rows ++ row ∷ []))) (sym at)
           (kept_ports unit n lan.seats o.keys lan.frames rows row o.kept (ap (λ p. slice_get lan.frames p) (sym at) ∙ here) next law));
       windows = is.windows;
+      begun = is.begun;
       balanced = λ _. subst (λ (l : List (List FrameRow)). IsBalanced lan.seats lan.stations l)
           (ap (λ x. with_sent unit r x lan.seats lan.frames) frame ∙ ap (λ (f : FrameRow). with_frame unit f lan.seats lan.frames) (sym row_is)
           ∙ set_frame unit row lan.seats lan.frames rows (frames_long true lan.seats o.keys lan.frames o.kept) (ap (λ p. slice_get lan.frames p) (sym at) ∙ here)
@@ -53,6 +54,7 @@ keep_none lan now unit r same is owed frame =
       named = is.named;
       ports = subst (λ (keys : List PortKey). HavePorts true lan.seats keys lan.frames) (sym (o.counts ∙ ap (λ x. with_count unit x o.keys) frame)) o.kept;
       windows = is.windows;
+      begun = is.begun;
       balanced = λ _. subst (λ (l : List (List FrameRow)). IsBalanced lan.seats lan.stations l) (ap (λ x. with_sent unit r x lan.seats lan.frames) frame) o.balanced;
       carried = λ _. subst (λ (l : List (List FrameRow)). CarryAll lan.stations lan.places l) (ap (λ x. with_sent unit r x lan.seats lan.frames) frame) o.carried;
     }
@@ -81,6 +83,7 @@ keep_short lan now place rows same is short =
           (short_set lan.seats (map port_key lan.stations) lan.frames place rows
           (subst (λ w. HavePorts w lan.seats (map port_key lan.stations) lan.frames) whole is.ports));
       windows = is.windows;
+      begun = is.begun;
       balanced = λ full. absurd (cc (full, whole));
       carried = λ full. absurd (cc (full, whole));
     }

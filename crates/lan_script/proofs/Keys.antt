@@ -8,7 +8,7 @@ use Rattle.lan_switch.specs.Switch.{port_of, same_unit, with_port}
 use Rattle.vio_trace.specs.declared.lan_rows.FrameRow.{FrameRow}
 use Rattle.lan_script.specs.declared.seat.PortSeat.{PortSeat}
 use Rattle.lan_script.specs.declared.windows.Place.{Place}
-use Rattle.lan_script.specs.Invariant.{CarryAll, IsBalanced, IsLan}
+use Rattle.lan_script.specs.Invariant.{CarryAll, HaveBegun, IsBalanced, IsLan}
 use Rattle.lan_script.specs.Seats.{seat_at}
 use Rattle.lan_script.specs.Units.{HavePorts, LanValue, PortKey, WindowKey, port_key, seat_key, window_key}
 use Rattle.lan_script.specs.Windows.{window_in, with_window}
@@ -129,15 +129,17 @@ window_keys_with unit (p ∷ ps) w w' at pages held =
 
 -- other ports, or other windows, of the same keys are LAN units as well
 pub lan_ports : (lan : LanValue) (ss : List Station) → IsLan lan → map port_key ss ≡ map port_key lan.stations
+    → (HaveBegun lan.stations → HaveBegun ss)
     → (IsBalanced lan.seats lan.stations lan.frames → IsBalanced lan.seats ss lan.frames)
     → (CarryAll lan.stations lan.places lan.frames → CarryAll ss lan.places lan.frames) → IsLan (record lan { stations = ss })
-lan_ports lan ss is same balanced carried = record {
+lan_ports lan ss is same begun balanced carried = record {
   few = is.few;
   ascending = is.ascending;
   sized = is.sized;
   named = is.named;
   ports = subst (λ keys. HavePorts lan.whole lan.seats keys lan.frames) (sym same) is.ports;
   windows = is.windows;
+  begun = begun is.begun;
   balanced = λ whole. balanced (is.balanced whole);
   carried = λ whole. carried (is.carried whole);
 }
@@ -151,6 +153,7 @@ lan_windows lan ps is same carried = record {
   named = is.named;
   ports = is.ports;
   windows = same ∙ is.windows;
+  begun = is.begun;
   balanced = is.balanced;
   carried = λ whole. carried (is.carried whole);
 }

@@ -8,7 +8,9 @@ use Rattle.tce_window.specs.PlainPort.{known_of}
 use Rattle.tce_window.specs.PortState.{PortPlace, PortState}
 use Rattle.tce_window.specs.Window.{WindowValue}
 use Rattle.unit_region.specs.Kept.{KeepsWindow}
+use Rattle.lan_buffers.specs.Calls.{IsOpen}
 use Rattle.lan_buffers.specs.Port.{PortValue}
+use Rattle.lan_buffers.specs.declared.settings.Settings.{Settings}
 use Rattle.lan_switch.specs.declared.answers.LanAnswer.{LanAnswer}
 use Rattle.lan_switch.specs.declared.answers.SendRecord.{SendRecord}
 use Rattle.lan_switch.specs.declared.station.Station.{Station}
@@ -25,7 +27,7 @@ use Rattle.lan_script.specs.Seats.{seat_at, seat_place}
 use Rattle.lan_script.specs.Units.{HavePorts, LanValue, WindowKey, port_key, seat_key, window_key}
 use Rattle.lan_script.specs.Windows.{FoundIn, HasPlace, facts_in, facts_of, place_in, window_in, with_window}
 use Rattle.lan_script.proofs.Balancing.{Sends, station_units}
-use Rattle.lan_script.proofs.Called.{SamePort, at_balance, at_carried, at_keys}
+use Rattle.lan_script.proofs.Called.{SamePort, at_balance, at_begun, at_carried, at_keys}
 use Rattle.lan_script.proofs.CarriedOn.{carried_own, keeps_through}
 use Rattle.lan_script.proofs.CarriedSent.{IsLending, carried_sent, parts_few}
 use Rattle.lan_script.proofs.Keeping.{frames_long, short_ports}
@@ -81,13 +83,13 @@ pub lan_made : (lan now : LanValue) (unit : UnitId) (answer : LanAnswer) (ss : L
     → IsLan (record lan { stations = ss })
 lan_made lan now unit answer ss P same is there h kept =
     let made = h.made (port_there lan now unit same is there) in
-    lan_ports lan ss is (at_keys lan.stations unit ss P kept made) (at_balance lan.seats lan.frames lan.stations unit ss P kept made)
+    lan_ports lan ss is (at_keys lan.stations unit ss P kept made) (at_begun lan.stations unit ss P kept made) (at_balance lan.seats lan.frames lan.stations unit ss P kept made)
     (at_carried lan.places lan.frames lan.stations unit ss P kept made)
 
 pub lan_at : (lan : LanValue) (unit : UnitId) (ss : List Station) (P : PortValue → PortValue → Type 0) → IsLan lan → AtPort lan.stations unit ss P
     → ((before after : PortValue) → P before after → SamePort before after) → IsLan (record lan { stations = ss })
 lan_at lan unit ss P is h kept =
-    lan_ports lan ss is (at_keys lan.stations unit ss P kept h) (at_balance lan.seats lan.frames lan.stations unit ss P kept h)
+    lan_ports lan ss is (at_keys lan.stations unit ss P kept h) (at_begun lan.stations unit ss P kept h) (at_balance lan.seats lan.frames lan.stations unit ss P kept h)
     (at_carried lan.places lan.frames lan.stations unit ss P kept h)
 
 port_head : (unit : UnitId) (s : Station) (ss : List Station) → same_unit s.port.unit unit ≡ true → port_of (s ∷ ss) unit ≡ Some s.port
@@ -96,7 +98,7 @@ port_head unit s ss e = rw e refl
 port_tail : (unit : UnitId) (s : Station) (ss : List Station) → same_unit s.port.unit unit ≡ false → port_of (s ∷ ss) unit ≡ port_of ss unit
 port_tail unit s ss e = rw e refl
 
-port_with : (unit : UnitId) (ss : List Station) (before after : PortValue) → port_of ss unit ≡ Some before → after.unit ≡ before.unit
+pub port_with : (unit : UnitId) (ss : List Station) (before after : PortValue) → port_of ss unit ≡ Some before → after.unit ≡ before.unit
     → port_of (with_port unit after ss) unit ≡ Some after
 port_with unit [] before after at same = absurd (none_some before at)
 port_with unit (s ∷ ss) before after at same =
@@ -127,6 +129,16 @@ room_made ss ss' unit answer h = by answer h.done.room
     by : (r : Result Unit NoMemory) → OnOk r (1 ≤ h.after.spare) → OnOk r (HasRoom ss' unit)
     by (Ok done) room = subst (λ o. IfSome o (λ (port : PortValue). 1 ≤ port.spare)) (sym shown) room
     by (Err memory) room = tt
+
+-- and an open one is open still
+pub room_opened : (ss ss' : List Station) (unit : UnitId) (answer : Result Unit NoMemory) → AtPort ss unit ss' (Reserves 1 answer)
+    → IfSome (port_of ss unit) IsOpen → IfSome (port_of ss' unit) IsOpen
+room_opened ss ss' unit answer h opened =
+    let shown : port_of ss' unit ≡ Some h.after =
+    ap (λ l. port_of l unit) h.rest ∙ port_with unit ss h.before h.after h.was (ap (λ (p : PortValue). p.unit) h.done.rest) in
+    let was : IsOpen h.before = subst (λ (o : Option PortValue). IfSome o IsOpen) h.was opened in
+    subst (λ (o : Option PortValue). IfSome o IsOpen) (sym shown)
+    (subst (λ (o : Option Settings). IsSome o) (sym (ap (λ (p : PortValue). p.settings) h.done.rest)) was)
 
 -- the place of a window that is away
 pub place_after : (unit : UnitId) (ps ps' : List Place) (own : WindowValue) → window_in unit ps ≡ Some own → ps' ≡ with_window unit None ps → HasPlace unit ps'

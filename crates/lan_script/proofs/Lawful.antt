@@ -18,7 +18,8 @@ use Rattle.lan_script.specs.Delivered.{drops_counted, drops_to, given, taken}
 use Rattle.lan_script.specs.Invariant.{IsLan, all_of, drops_at, drops_by, rows_at, rows_in, sent_by, total}
 use Rattle.lan_script.specs.PortLaw.{AreOrdered, IsOfPort, PortsAreLawful}
 use Rattle.lan_script.specs.Rows.{HasLawfulPort, deliver_rows, harvest_rows, port_in, port_or, port_rows, post_rows}
-use Rattle.lan_script.specs.RowsOf.{IsRowsOf}
+use Rattle.lan_script.specs.PortCounts.{counts_in, is_frame}
+use Rattle.lan_script.specs.RowsOf.{CountsRows, IsRowsOf}
 use Rattle.lan_script.specs.Seats.{seat_at}
 use Rattle.lan_script.specs.Units.{AreFrames, HavePorts, IsLawfulOffer, LanValue, PortKey, port_key}
 use Rattle.lan_script.proofs.Blocks.{all_from_each, before_other, both_each, each_from_all, of_seats, seats_ordered, self, sole_block}
@@ -396,11 +397,53 @@ pub flat_mapped : {X Row : Type 0} (f : X → List Row) (xs : List X) → flat_m
 flat_mapped f [] = refl
 flat_mapped f (x ∷ xs) = ap (λ l. f x ++ l) (flat_mapped f xs)
 
+-- the posts of a unit are counted by its rows
+posts_found : (whole : Bool) (ss : List Station) (seats : List PortSeat) (frames : List (List FrameRow)) (u : UnitId)
+    → HavePorts whole seats (map port_key ss) frames → Each (HasOwn ss) seats → (o : Option PortSeat) → at_unit unit_in u seats ≡ o
+    → length (found (posts_by ss) o) ≡ (counts_in u (port_of ss u)).posts
+posts_found whole ss seats frames u have own None at = sym (ap (λ o. (counts_in u o).posts) (no_port whole u seats ss frames have at))
+posts_found whole ss seats frames u have own (Some seat) at =
+    let is = pick unit_in (HasOwn ss) u seat seats own at in
+    ap (λ o. length (post_rows seat.unit (port_or seat.unit o))) is.holds.is ∙ sym (ap (λ o. (counts_in seat.unit o).posts) is.holds.is)
+    ∙ ap (λ v. (counts_in v (port_of ss v)).posts) is.unit_is
+
+-- and so are the frames that it took
+taken_found : (whole : Bool) (ss : List Station) (seats : List PortSeat) (frames : List (List FrameRow)) (u : UnitId)
+    → HavePorts whole seats (map port_key ss) frames → Each (HasOwn ss) seats → (o : Option PortSeat) → at_unit unit_in u seats ≡ o
+    → length (filter (λ (row : HarvestRow). is_frame row.high) (found (harvests_by ss) o)) ≡ (counts_in u (port_of ss u)).taken
+taken_found whole ss seats frames u have own None at = sym (ap (λ o. (counts_in u o).taken) (no_port whole u seats ss frames have at))
+taken_found whole ss seats frames u have own (Some seat) at =
+    let is = pick unit_in (HasOwn ss) u seat seats own at in
+    ap (λ o. length (filter (λ (row : HarvestRow). is_frame row.high) (harvest_rows seat.unit (port_or seat.unit o)))) is.holds.is
+    ∙ sym (ap (λ o. (counts_in seat.unit o).taken) is.holds.is) ∙ ap (λ v. (counts_in v (port_of ss v)).taken) is.unit_is
+
+counts_rows : (lan : LanValue) (rows : LanRows) → IsLan lan → lan.whole ≡ true → IsRowsOf lan rows → CountsRows lan rows
+counts_rows lan rows is whole exact =
+    let ss = lan.stations in
+    let seats = lan.seats in
+    let order = in_order lan is in
+    let have = whole_ports lan is whole in
+    let own = own_ports true seats ss lan.frames have order in
+    record {
+      frames = λ unit. filter_frames seats (map port_key ss) lan.frames rows.frames.items unit have exact.frames order;
+      posts = λ unit.
+          ap (λ l. length l)
+          (ap (λ l. filter (λ (row : PostRow). same_unit row.unit unit) l) exact.posts
+          ∙ filter_unit unit_in (λ (row : PostRow). row.unit) (posts_by ss) unit seats (posts_own ss seats) order)
+          ∙ posts_found true ss seats lan.frames unit have own (at_unit unit_in unit seats) refl;
+      taken = λ unit.
+          ap (λ l. length (filter (λ (row : HarvestRow). is_frame row.high) l))
+          (ap (λ l. filter (λ (row : HarvestRow). same_unit row.unit unit) l) exact.harvests
+          ∙ filter_unit unit_in (λ (row : HarvestRow). row.unit) (harvests_by ss) unit seats (harvests_own ss seats) order)
+          ∙ taken_found true ss seats lan.frames unit have own (at_unit unit_in unit seats) refl;
+    }
+
 -- What is so of rows that were gathered list by list.
 pub record IsTold (now : LanValue) (rows : LanRows) : Type 0 where
   pub lawful : PortsAreLawful now.seats rows.frames.items rows.ports.items rows.posts.items rows.delivers.items rows.harvests.items
   pub ordered : AreOrdered rows
   pub exact : IsRowsOf now rows
+  pub counted : CountsRows now rows
 
 pub told : (lan now : LanValue) (rows : LanRows) (a b c d : List PortSeat) → lan ≡ now → IsLan lan → lan.whole ≡ true
     → length rows.frames.items < 2 ^ 64 → rows.frames.items ≡ flat_map (λ own. own) lan.frames → rows.ports.items ≡ flat_map (ports_by lan.stations) a
@@ -420,4 +463,5 @@ told lan now rows a b c d same is whole short frames ports posts delivers harves
       lawful = law lan rows is whole short exact (subst (λ l. All (HasLawfulPort lan.stations) l) ea lawful);
       ordered = order lan rows is whole exact;
       exact = exact;
+      counted = counts_rows lan rows is whole exact;
     })

@@ -1,6 +1,7 @@
 pub mod Answered
 pub mod Balance
 pub mod Balancing
+pub mod Begun
 pub mod Blocks
 pub mod Bringing
 pub mod Called
@@ -8,6 +9,10 @@ pub mod CarriedOn
 pub mod CarriedRows
 pub mod CarriedSent
 pub mod Carrying
+pub mod CountedCalls
+pub mod CountedSent
+pub mod Counting
+pub mod CountsKept
 pub mod Cuts
 pub mod Filling
 pub mod Found
@@ -28,5 +33,6 @@ pub mod Placing
 pub mod Posted
 pub mod RowLaws
 pub mod Sent
+pub mod SessionCounts
 pub mod Tallies
 pub mod Telling

@@ -140,6 +140,7 @@ open_lan seats own ss ps frames e f g h few ascending sized named =
       named = named;
       ports = fresh_ports seats;
       windows = fresh_windows seats;
+      begun = (fresh_balance seats).begun;
       balanced = λ _. fresh_balance seats;
       carried = λ _. fresh_carried seats;
     }))))

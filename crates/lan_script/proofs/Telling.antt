@@ -1,5 +1,5 @@
 -- What a step of a line says of the frames that its unit sent.
-use Rattle.std.proofs.Common.{◌≡◌, ◌<◌, ℕ, true, List, [], ◌∷◌, ◌++◌, Option, Some, None, length, map, set, get_or, slice_get, refl, sym, ◌∙◌, ap, subst}
+use Rattle.std.proofs.Common.{◌≡◌, ◌<◌, ℕ, true, List, [], ◌∷◌, ◌++◌, Option, Some, None, IsSome, length, map, set, get_or, slice_get, refl, sym, ◌∙◌, ap, subst}
 use Rattle.vio_num.specs.declared.names.UnitId.{UnitId}
 use Rattle.vio_num.specs.declared.hypervisor.Hrc.{Hrc}
 use Rattle.lan_switch.specs.declared.answers.SendRecord.{SendRecord}
@@ -10,11 +10,11 @@ use Rattle.lan_script.specs.declared.lines.PortStep.{PortStep}
 use Rattle.lan_script.specs.declared.lines.PortStep.TheVariants as steps
 use Rattle.lan_script.specs.declared.seat.PortSeat.{PortSeat}
 use Rattle.lan_script.specs.Frames.{frame_row_of}
-use Rattle.lan_script.specs.Invariant.{IsLan, with_frame}
+use Rattle.lan_script.specs.Invariant.{IsLan, sent_by, with_frame}
 use Rattle.lan_script.specs.LineSays.{SaysSent, SendsAs, SendsOne, SentAs, TellsNoFrame}
-use Rattle.lan_script.specs.Seats.{is_of_port, is_of_region, seat_place}
+use Rattle.lan_script.specs.Seats.{is_of_port, is_of_region, seat_at, seat_place}
 use Rattle.lan_script.specs.Units.{LanValue, port_key}
-use Rattle.lan_script.proofs.Balancing.{set_frame}
+use Rattle.lan_script.proofs.Balancing.{one_of, sent_with, set_frame}
 use Rattle.lan_script.proofs.Keeping.{frames_long, map_get, map_set}
 
 -- a step that tells of no frame, where none was sent
@@ -53,6 +53,10 @@ sent_on unit code (Some n) old mid new seats frames h = record {
   number_is = h.number_is;
   frames = h.frames ∙ ap (λ (l : List PortSeat). with_frame unit h.row l mid.frames) seats
       ∙ ap (λ (l : List (List FrameRow)). with_frame unit h.row old.seats l) frames;
+  sent = λ sender.
+      ap (λ (l : List PortSeat). sent_by l new.frames sender) (sym seats) ∙ h.sent sender
+      ∙ ap (λ (l : List PortSeat). sent_by l mid.frames sender ++ one_of unit sender h.row) seats
+      ∙ ap (λ (l : List (List FrameRow)). sent_by old.seats l sender ++ one_of unit sender h.row) frames;
 }
 
 -- a step that says what a call answered
@@ -113,27 +117,33 @@ region_no_frame (outcomes.Frame code number) e = absurd (cc (e))
 
 -- the row of a frame was kept
 pub sends_kept : {V : Type 0} (f : V → List FrameRow) (lan : LanValue) (vecs : List V) (unit : UnitId) (code : Hrc) (n : ℕ) (row : FrameRow) (p : ℕ) (old new : V)
-    (after : LanValue) → IsLan lan → lan.frames ≡ map f vecs → row.code ≡ code → row.number ≡ n → p ≡ seat_place unit lan.seats → p < length vecs
+    (after : LanValue) → IsLan lan → IsSome (seat_at lan.seats unit) → lan.frames ≡ map f vecs → row.code ≡ code → row.number ≡ n → p ≡ seat_place unit lan.seats → p < length vecs
     → old ≡ get_or vecs p old → f new ≡ f old ++ row ∷ [] → after.frames ≡ map f (set vecs p new) → SendsOne unit code n lan after
-sends_kept f lan vecs unit code n row p old new after is frames code_is number_is at less here grown made = record {
+sends_kept f lan vecs unit code n row p old new after is there frames code_is number_is at less here grown made = record {
   row = row;
   code_is = code_is;
   number_is = number_is;
-  frames = made ∙ map_set f vecs p new ∙ ap (λ l. set (map f vecs) p l) grown
-      ∙ ap (λ k. set (map f vecs) k (f old ++ row ∷ [])) at
-      ∙ sym (set_frame unit row lan.seats (map f vecs) (f old)
-      (ap (λ (l : List (List FrameRow)). length l) (sym frames) ∙ frames_long lan.whole lan.seats (map port_key lan.stations) lan.frames is.ports)
-      (ap (λ k. slice_get (map f vecs) k) (sym at) ∙ map_get f vecs p old less here))
-      ∙ sym (ap (λ (l : List (List FrameRow)). with_frame unit row lan.seats l) frames);
+  frames = kept;
+  sent = λ sender.
+      ap (λ (l : List (List FrameRow)). sent_by lan.seats l sender) kept
+      ∙ sent_with unit sender row lan.seats lan.frames there (frames_long lan.whole lan.seats (map port_key lan.stations) lan.frames is.ports);
 }
+  where
+    kept : after.frames ≡ with_frame unit row lan.seats lan.frames
+    kept = made ∙ map_set f vecs p new ∙ ap (λ l. set (map f vecs) p l) grown
+        ∙ ap (λ k. set (map f vecs) k (f old ++ row ∷ [])) at
+        ∙ sym (set_frame unit row lan.seats (map f vecs) (f old)
+        (ap (λ (l : List (List FrameRow)). length l) (sym frames) ∙ frames_long lan.whole lan.seats (map port_key lan.stations) lan.frames is.ports)
+        (ap (λ k. slice_get (map f vecs) k) (sym at) ∙ map_get f vecs p old less here))
+        ∙ sym (ap (λ (l : List (List FrameRow)). with_frame unit row lan.seats l) frames)
 
 -- the same of a call whose frame has this number
 pub keeps_sent : {V : Type 0} (f : V → List FrameRow) (lan now : LanValue) (vecs : List V) (unit : UnitId) (made : SendRecord) (n : ℕ) (row : FrameRow) (p : ℕ)
-    (old new : V) (after : LanValue) → lan ≡ now → IsLan lan → lan.frames ≡ map f vecs → made.frame ≡ Some n → row ≡ frame_row_of unit n made
+    (old new : V) (after : LanValue) → lan ≡ now → IsLan lan → IsSome (seat_at now.seats unit) → lan.frames ≡ map f vecs → made.frame ≡ Some n → row ≡ frame_row_of unit n made
     → p ≡ seat_place unit lan.seats → p < length vecs → old ≡ get_or vecs p old → f new ≡ f old ++ row ∷ [] → after.frames ≡ map f (set vecs p new)
     → SentAs unit made.code made.frame now after
-keeps_sent f lan now vecs unit made n row p old new after same is frames numbered row_is at less here grown kept =
+keeps_sent f lan now vecs unit made n row p old new after same is there frames numbered row_is at less here grown kept =
     subst (λ (o : Option ℕ). SentAs unit made.code o now after) (sym numbered)
     (subst (λ (l : LanValue). SendsOne unit made.code n l after) same
-    (sends_kept f lan vecs unit made.code n row p old new after is frames (ap (λ (r : FrameRow). r.code) row_is) (ap (λ (r : FrameRow). r.number) row_is) at less
+    (sends_kept f lan vecs unit made.code n row p old new after is (subst (λ (l : LanValue). IsSome (seat_at l.seats unit)) (sym same) there) frames (ap (λ (r : FrameRow). r.code) row_is) (ap (λ (r : FrameRow). r.number) row_is) at less
     here grown kept))

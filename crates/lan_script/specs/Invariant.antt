@@ -104,6 +104,7 @@ pub record IsLan (lan : LanValue) : Type 0 where
   pub named : All (λ seat. seat.unit.unit < 256) lan.seats
   pub ports : HavePorts lan.whole lan.seats (map port_key lan.stations) lan.frames
   pub windows : map window_key lan.places ≡ map seat_key lan.seats
+  pub begun : HaveBegun lan.stations
   pub balanced : lan.whole ≡ true → IsBalanced lan.seats lan.stations lan.frames
   pub carried : lan.whole ≡ true → CarryAll lan.stations lan.places lan.frames
 

@@ -5,10 +5,12 @@ pub mod Invariant
 pub mod LineFrame
 pub mod LineSays
 pub mod Opening
+pub mod PortCounts
 pub mod PortLaw
 pub mod PortRows
 pub mod Rows
 pub mod RowsOf
 pub mod Seats
+pub mod Taking
 pub mod Units
 pub mod Windows

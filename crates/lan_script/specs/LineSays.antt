@@ -1,20 +1,23 @@
 -- What a step of a line says of the frames that its unit sent.
-use Rattle.std.specs.Prelude.{◌≡◌, ℕ, Option, Some, None}
+use Rattle.std.specs.Prelude.{◌≡◌, ℕ, List, [], ◌∷◌, ◌++◌, Option, Some, None, if◌then◌else◌}
 use Rattle.vio_num.specs.declared.names.UnitId.{UnitId}
 use Rattle.vio_num.specs.declared.hypervisor.Hrc.{Hrc}
 use Rattle.vio_trace.specs.declared.lan_rows.FrameRow.{FrameRow}
 use Rattle.vio_trace.specs.declared.outcome.Outcome.TheVariants as outcomes
 use Rattle.lan_script.specs.declared.lines.PortStep.{PortStep}
 use Rattle.lan_script.specs.declared.lines.PortStep.TheVariants as steps
-use Rattle.lan_script.specs.Invariant.{with_frame}
+use Rattle.lan_switch.specs.Switch.{same_unit}
+use Rattle.lan_script.specs.Invariant.{sent_by, with_frame}
 use Rattle.lan_script.specs.Units.{LanValue}
 
--- The unit sent a frame of this code and number, and no other frame was sent.
+-- The unit sent a frame of this code and number, and no other frame was sent: the frames of each unit are those of before, and
+-- the sender's one more.
 pub record SendsOne (unit : UnitId) (code : Hrc) (number : ℕ) (old new : LanValue) : Type 0 where
   pub row : FrameRow
   pub code_is : row.code ≡ code
   pub number_is : row.number ≡ number
   pub frames : new.frames ≡ with_frame unit row old.seats old.frames
+  pub sent : (sender : UnitId) → sent_by old.seats new.frames sender ≡ sent_by old.seats old.frames sender ++ (if same_unit unit sender then row ∷ [] else [])
 
 -- a call that gave a frame this number, if any, sent that frame
 abbrev pub SentAs : UnitId → Hrc → Option ℕ → (old new : LanValue) → Type 0

@@ -1,7 +1,11 @@
 -- The rows that a trace has of LAN units, exactly.
-use Rattle.std.specs.Prelude.{◌≡◌}
+use Rattle.std.specs.Prelude.{◌≡◌, filter, length}
 use Rattle.std.specs.List.{flat_map}
+use Rattle.vio_num.specs.declared.names.UnitId.{UnitId}
+use Rattle.lan_switch.specs.Switch.{same_unit}
 use Rattle.lan_script.specs.declared.rows.LanRows.{LanRows}
+use Rattle.lan_script.specs.Invariant.{sent_by}
+use Rattle.lan_script.specs.PortCounts.{counts_at, is_frame}
 use Rattle.lan_script.specs.Rows.{deliver_rows, harvest_rows, port_in, port_rows, post_rows}
 use Rattle.lan_script.specs.Units.{LanValue}
 
@@ -13,3 +17,10 @@ pub record IsRowsOf (lan : LanValue) (rows : LanRows) : Type 0 where
   pub posts : rows.posts.items ≡ flat_map (λ seat. post_rows seat.unit (port_in lan.stations seat)) lan.seats
   pub delivers : rows.delivers.items ≡ flat_map (λ seat. deliver_rows seat.unit (port_in lan.stations seat)) lan.seats
   pub harvests : rows.harvests.items ≡ flat_map (λ seat. harvest_rows seat.unit (port_in lan.stations seat)) lan.seats
+
+-- Of each unit the rows have its frames, as many posts as it made, and of its harvests as many of frames as it took.
+pub record CountsRows (lan : LanValue) (rows : LanRows) : Type 0 where
+  pub frames : (unit : UnitId) → filter (λ row. same_unit row.unit unit) rows.frames.items ≡ sent_by lan.seats lan.frames unit
+  pub posts : (unit : UnitId) → length (filter (λ row. same_unit row.unit unit) rows.posts.items) ≡ (counts_at lan unit).posts
+  pub taken : (unit : UnitId) → length (filter (λ row. is_frame row.high) (filter (λ row. same_unit row.unit unit) rows.harvests.items))
+      ≡ (counts_at lan unit).taken

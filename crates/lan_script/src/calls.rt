@@ -3,6 +3,7 @@ ghost use Rattle.std.specs.Prelude.{◌≡◌, ◌↔◌, IfOk, IsSome, IsTrue, 
 ghost use Rattle.hcall_table.specs.Rows.{IsAnswer, may_answer};
 ghost use Rattle.hcall_table.specs.declared.hcall.Hcall.TheVariants as rows;
 ghost use Rattle.lan_switch.specs.Switch.{HasRoom};
+ghost use Rattle.lan_script.specs.PortCounts.{CountsOn, SameCounts, SendsCalled, counts, counts_called};
 ghost use Rattle.lan_script.specs.PortRows.{port_row};
 ghost use Rattle.lan_script.specs.Seats.{seat_at};
 ghost use Rattle.lan_script.specs.Units.{IsOpenAt};
@@ -51,6 +52,10 @@ impl Lan {
         requires there { IsSome (seat_at self.old.seats unit) }
         ensures seats { self.new.seats ≡ self.old.seats }
         ensures answer { IfOk result (IsAnswer (port_row call)) }
+        ensures counts { IfOk result (λ returned.
+            CountsOn unit (counts 0 0) (counts_called call returned.code) self.old self.new) }
+        ensures sends { IfOk result (λ returned.
+            SendsCalled unit call returned.code self.old self.new) }
     {
         match call {
             PortCall::Entry(call) => self.entry_call(unit, call),
@@ -81,6 +86,7 @@ impl Lan {
         requires there { IsSome (seat_at self.old.seats unit) }
         ensures seats { self.new.seats ≡ self.old.seats }
         ensures frames { self.new.frames ≡ self.old.frames }
+        ensures counts { SameCounts self.old self.new }
         ensures answer { IfOk result (IsAnswer (port_row (PortCall.Entry call))) }
     {
         let mut own = self.windows.take(unit);
@@ -101,6 +107,7 @@ impl Lan {
         requires there { IsSome (seat_at self.old.seats unit) }
         ensures seats { self.new.seats ≡ self.old.seats }
         ensures frames { self.new.frames ≡ self.old.frames }
+        ensures counts { OnOk result (SameCounts self.old self.new) }
         ensures code { IfOk result (λ code. may_answer rows.RegisterLogicalLan code ≡ true) }
     {
         self.make_room(unit)?;
@@ -112,7 +119,9 @@ impl Lan {
         requires there { IsSome (seat_at self.old.seats unit) }
         ensures seats { self.new.seats ≡ self.old.seats }
         ensures frames { self.new.frames ≡ self.old.frames }
+        ensures counts { SameCounts self.old self.new }
         ensures room { OnOk result (HasRoom self.new.stations unit) }
+        ensures opened { IsOpenAt self.old unit → IsOpenAt self.new unit }
     {
         self.switch.reserve(unit, 1)
     }
@@ -122,6 +131,7 @@ impl Lan {
         requires there { IsSome (seat_at self.old.seats unit) }
         ensures seats { self.new.seats ≡ self.old.seats }
         ensures frames { self.new.frames ≡ self.old.frames }
+        ensures counts { SameCounts self.old self.new }
         ensures code { may_answer rows.FreeLogicalLan result ≡ true }
     {
         self.switch.free(unit).code
@@ -132,6 +142,7 @@ impl Lan {
         requires there { IsSome (seat_at self.old.seats unit) }
         ensures seats { self.new.seats ≡ self.old.seats }
         ensures frames { self.new.frames ≡ self.old.frames }
+        ensures counts { SameCounts self.old self.new }
         ensures code { may_answer rows.MulticastCtrl result ≡ true }
     {
         self.switch.multicast(unit, control, mac).code
@@ -142,6 +153,7 @@ impl Lan {
         requires there { IsSome (seat_at self.old.seats unit) }
         ensures seats { self.new.seats ≡ self.old.seats }
         ensures frames { self.new.frames ≡ self.old.frames }
+        ensures counts { SameCounts self.old self.new }
         ensures code { may_answer rows.ChangeLogicalLanMac result ≡ true }
     {
         self.switch.change_mac(unit, mac).code
@@ -152,6 +164,7 @@ impl Lan {
         requires there { IsSome (seat_at self.old.seats unit) }
         ensures seats { self.new.seats ≡ self.old.seats }
         ensures frames { self.new.frames ≡ self.old.frames }
+        ensures counts { SameCounts self.old self.new }
         ensures closed { IfOk result (λ closed. IsTrue closed ↔ (¬ IsOpenAt self.new unit)) }
     {
         if !self.is_open(unit) {

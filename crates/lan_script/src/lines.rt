@@ -1,7 +1,8 @@
 // What a script line does at a LAN unit.
-ghost use Rattle.std.specs.Prelude.{◌≡◌, IfOk, IsSome, true};
+ghost use Rattle.std.specs.Prelude.{◌≡◌, IfOk, IsSome, OnOk, true};
 ghost use Rattle.boot_text.specs.Sound.{IsInRange};
 ghost use Rattle.lan_script.specs.LineSays.{SendsAs, TellsNoFrame};
+ghost use Rattle.lan_script.specs.PortCounts.{CountsStep, SameCounts, TellsNoCount};
 ghost use Rattle.lan_script.specs.Seats.{TellsOfPort, TellsOfRegion, is_for_port, is_in_region, seat_at};
 ghost use Rattle.unit_region.specs.Kept.{KeepsWindow};
 
@@ -31,6 +32,7 @@ impl PortStep {
     // A line that waits, and did nothing in this step.
     pub(crate) fn waits(done: u64) -> PortStep
         ensures told { TellsOfPort result }
+        ensures still { TellsNoCount result }
         ensures none { TellsNoFrame result }
     {
         PortStep::Waits {
@@ -42,6 +44,7 @@ impl PortStep {
     // A line that ends with this code, or waits where another was at work.
     pub(crate) fn coded(code: Hrc) -> PortStep
         ensures told { TellsOfPort result }
+        ensures still { TellsNoCount result }
         ensures none { TellsNoFrame result }
     {
         match code {
@@ -54,6 +57,7 @@ impl PortStep {
     fn of(step: Step) -> PortStep
         requires { TellsOfRegion step }
         ensures told { TellsOfPort result }
+        ensures still { TellsNoCount result }
         ensures none { TellsNoFrame result }
     {
         match step {
@@ -71,6 +75,8 @@ impl Lan {
         requires ranged { IsInRange line.now.verb }
         ensures seats { self.new.seats ≡ self.old.seats }
         ensures sends { IfOk result (λ step. SendsAs unit step self.old self.new) }
+        ensures counts { IfOk result (λ step.
+            CountsStep unit line.now.verb done step self.old self.new) }
         ensures told { IfOk result TellsOfPort }
     {
         let mark = u64::from(line.number);
@@ -93,6 +99,8 @@ impl Lan {
         requires there { IsSome (seat_at self.old.seats unit) }
         ensures seats { self.new.seats ≡ self.old.seats }
         ensures frames { self.new.frames ≡ self.old.frames }
+        ensures counts { OnOk result (SameCounts self.old self.new) }
+        ensures still { IfOk result TellsNoCount }
         ensures none { IfOk result TellsNoFrame }
         ensures told { IfOk result TellsOfPort }
     {
@@ -108,6 +116,8 @@ impl Lan {
         requires ranged { IsInRange line.now.verb }
         ensures seats { self.new.seats ≡ self.old.seats }
         ensures frames { self.new.frames ≡ self.old.frames }
+        ensures counts { SameCounts self.old self.new }
+        ensures still { IfOk result TellsNoCount }
         ensures none { IfOk result TellsNoFrame }
         ensures told { IfOk result TellsOfPort }
     {

@@ -1,9 +1,13 @@
 // The line that posts receive buffers, one behind the other.
 ghost use Rattle.std.specs.Prelude.{◌≡◌, ◌≤◌, ◌^◌, IfOk, IsSome, true};
 ghost use Rattle.boot_text.specs.declared.port_script.TheConstants.{MOST_BUFFERS};
+ghost use Rattle.boot_text.specs.declared.verb.Verb.TheVariants as verbs;
 ghost use Rattle.hcall_table.specs.Rows.{may_answer};
 ghost use Rattle.hcall_table.specs.declared.hcall.Hcall.TheVariants as rows;
+ghost use Rattle.vio_trace.specs.declared.outcome.Outcome.TheVariants as outcomes;
+ghost use Rattle.lan_script.specs.declared.lines.PortStep.TheVariants as steps;
 ghost use Rattle.lan_script.specs.LineSays.{TellsNoFrame};
+ghost use Rattle.lan_script.specs.PortCounts.{CountsOn, CountsStep, counts, posted_on};
 ghost use Rattle.lan_script.specs.Seats.{TellsOfPort, seat_at};
 
 use crate::lan::Lan;
@@ -34,6 +38,8 @@ impl Lan {
         ensures seats { self.new.seats ≡ self.old.seats }
         ensures none { IfOk result TellsNoFrame }
         ensures frames { self.new.frames ≡ self.old.frames }
+        ensures counts { IfOk result (λ step.
+            CountsStep unit (verbs.Post at len count) done step self.old self.new) }
         ensures told { IfOk result TellsOfPort }
     {
         for posted in done..count {
@@ -62,6 +68,8 @@ impl Lan {
         requires there { IsSome (seat_at self.old.seats unit) }
         ensures seats { self.new.seats ≡ self.old.seats }
         ensures frames { self.new.frames ≡ self.old.frames }
+        ensures counts { IfOk result (λ code.
+            CountsOn unit (counts 0 0) (posted_on code) self.old self.new) }
     {
         let Some(address) = address else {
             return Ok(Hrc::Parameter);
@@ -94,6 +102,8 @@ impl Lan {
         requires there { IsSome (seat_at self.old.seats unit) }
         ensures seats { self.new.seats ≡ self.old.seats }
         ensures frames { self.new.frames ≡ self.old.frames }
+        ensures counts { IfOk result (λ code.
+            CountsOn unit (counts 0 0) (posted_on code) self.old self.new) }
         ensures code { IfOk result (λ code. may_answer rows.AddLogicalLanBuffer code ≡ true) }
     {
         self.make_room(unit)?;
@@ -114,6 +124,7 @@ fn ended(posted: u64, code: Hrc) -> PortStep
     requires { posted ≤ MOST_BUFFERS }
     ensures told { TellsOfPort result }
     ensures none { TellsNoFrame result }
+    ensures tells { result ≡ steps.Ends (outcomes.Posted posted code) }
 {
     PortStep::Ends(Outcome::Posted {
         buffers: posted as u32,

@@ -5,7 +5,7 @@ ghost use Rattle.lan_script.specs.Carried.{FramesAreCarried};
 ghost use Rattle.lan_script.specs.Invariant.{side_in};
 ghost use Rattle.lan_script.specs.PortLaw.{AreOrdered, PortsAreLawful};
 ghost use Rattle.lan_script.specs.Rows.{HasLawfulPort, deliver_rows, deliveries_in, harvest_rows, deliver_row_of, harvests_in, numbered, port_in, port_row_of, port_rows, post_rows, posts_in};
-ghost use Rattle.lan_script.specs.RowsOf.{IsRowsOf};
+ghost use Rattle.lan_script.specs.RowsOf.{CountsRows, IsRowsOf};
 ghost use Rattle.lan_buffers.specs.Port.{IsLawfulPort};
 ghost use Rattle.lan_switch.specs.Switch.{IsPort};
 
@@ -42,6 +42,7 @@ impl Lan {
             rows.frames.items rows.posts.items rows.delivers.items) }
         ensures order { IfOk result AreOrdered }
         ensures exact { IfOk result (IsRowsOf self) }
+        ensures counted { IfOk result (CountsRows self) }
     {
         let Lan {
             alloc: _,

@@ -7,6 +7,7 @@ ghost use Rattle.lan_script.specs.Invariant.{Owes};
 ghost use Rattle.lan_script.specs.Seats.{TellsOfPort, seat_at};
 ghost use Rattle.lan_script.specs.LineFrame.{line_frame};
 ghost use Rattle.lan_script.specs.LineSays.{SaysSent, SendsAs, SentAs};
+ghost use Rattle.lan_script.specs.PortCounts.{SameCounts, TellsNoCount};
 
 use crate::frames::frame_row;
 use crate::lan::{Lan, place_of};
@@ -45,6 +46,8 @@ impl Lan {
         requires most { len ≤ MOST_FRAME }
         ensures seats { self.new.seats ≡ self.old.seats }
         ensures sends { IfOk result (λ step. SendsAs unit step self.old self.new) }
+        ensures counts { OnOk result (SameCounts self.old self.new) }
+        ensures still { IfOk result TellsNoCount }
         ensures told { IfOk result TellsOfPort }
     {
         let from = self.present(unit);
@@ -80,6 +83,7 @@ impl Lan {
         requires there { IsSome (seat_at self.old.seats unit) }
         ensures seats { self.new.seats ≡ self.old.seats }
         ensures frames { self.new.frames ≡ self.old.frames }
+        ensures counts { SameCounts self.old self.new }
         ensures inside { OnOk result (at ≤ 2 ^ 20) }
     {
         let mut own = self.windows.take(unit);
@@ -94,6 +98,7 @@ impl Lan {
         ensures seats { self.new.seats ≡ self.old.seats }
         ensures sends { IfOk result (λ sent.
             SentAs unit sent.code sent.number self.old self.new) }
+        ensures counts { OnOk result (SameCounts self.old self.new) }
         ensures code { IfOk result (λ sent. may_answer rows.SendLogicalLan sent.code ≡ true) }
     {
         if !self.whole {
@@ -109,6 +114,7 @@ impl Lan {
         requires whole { self.old.whole ≡ true }
         ensures seats { self.new.seats ≡ self.old.seats }
         ensures frames { self.new.frames ≡ self.old.frames }
+        ensures counts { OnOk result (SameCounts self.old self.new) }
         ensures short { self.new.whole ≡ false }
         ensures code { IfOk result (λ made. may_answer rows.SendLogicalLan made.code ≡ true) }
         ensures owes { IfOk result (Owes self.new unit) }
@@ -128,6 +134,7 @@ impl Lan {
         ensures seats { self.new.seats ≡ self.old.seats }
         ensures sends { IfOk result (λ sent.
             SentAs unit sent.code sent.number self.old self.new) }
+        ensures counts { OnOk result (SameCounts self.old self.new) }
         ensures code { IfOk result (λ sent. sent.code ≡ made.code) }
     {
         let sent = Sent {
@@ -150,6 +157,7 @@ impl Lan {
 fn said(sent: Sent) -> PortStep
     ensures told { TellsOfPort result }
     ensures says { SaysSent sent.code sent.number result }
+    ensures still { TellsNoCount result }
 {
     match sent.number {
         Some(number) => PortStep::Ends(Outcome::Frame {

@@ -1,6 +1,10 @@
 // Frames that a unit takes from its receive queue.
-ghost use Rattle.std.specs.Prelude.{◌≡◌, ◌≤◌, IfOk, IsSome};
+ghost use Rattle.std.specs.Prelude.{◌≡◌, ◌<◌, ◌≤◌, ◌^◌, IfOk, IsSome, OnOk};
+ghost use Rattle.boot_text.specs.declared.verb.Verb.TheVariants as verbs;
+ghost use Rattle.lan_buffers.specs.Answers.{IfFrame};
 ghost use Rattle.lan_script.specs.LineSays.{TellsNoFrame};
+ghost use Rattle.lan_script.specs.PortCounts.{CountsOn, CountsStep, TakesSome, counts};
+ghost use Rattle.lan_script.specs.Taking.{harvested_on, taken_on};
 ghost use Rattle.lan_script.specs.Seats.{TellsOfPort, seat_at};
 
 use crate::lan::Lan;
@@ -11,7 +15,7 @@ use vio_trace::Outcome;
 
 // What a look at a receive queue found.
 #[derive(Clone, Copy, Debug, PartialEq, Eq)]
-enum Taken {
+pub(crate) enum Taken {
     // A frame, which was taken.
     Frame,
     // A buffer without a frame, which was taken.
@@ -33,6 +37,8 @@ impl Lan {
         ensures seats { self.new.seats ≡ self.old.seats }
         ensures none { IfOk result TellsNoFrame }
         ensures frames { self.new.frames ≡ self.old.frames }
+        ensures counts { IfOk result (λ step.
+            CountsStep unit (verbs.Take count) done step self.old self.new) }
         ensures told { IfOk result TellsOfPort }
     {
         let mut done = done;
@@ -61,6 +67,7 @@ impl Lan {
         requires there { IsSome (seat_at self.old.seats unit) }
         ensures seats { self.new.seats ≡ self.old.seats }
         ensures frames { self.new.frames ≡ self.old.frames }
+        ensures counts { OnOk result (TakesSome unit self.old self.new) }
     {
         let mut moved = Moved::Quiet;
         for _entry in 0..self.seat(unit).slots {
@@ -77,6 +84,8 @@ impl Lan {
         requires there { IsSome (seat_at self.old.seats unit) }
         ensures seats { self.new.seats ≡ self.old.seats }
         ensures frames { self.new.frames ≡ self.old.frames }
+        ensures counts { IfOk result (λ taken.
+            CountsOn unit (counts 0 0) (taken_on taken) self.old self.new) }
     {
         if !self.is_open(unit) {
             return Ok(Taken::Nothing);
@@ -87,7 +96,10 @@ impl Lan {
 }
 
 // Says what a harvest found.
-fn kind_of(harvest: Harvest) -> Taken {
+fn kind_of(harvest: Harvest) -> Taken
+    ensures found { taken_on result ≡ harvested_on harvest }
+    ensures short { IfFrame harvest (λ number len correlator. len < 2 ^ 32) }
+{
     match harvest {
         Harvest::Frame {
             number: _,

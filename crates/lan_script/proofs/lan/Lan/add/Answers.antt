@@ -6,6 +6,9 @@ use Rattle.lan_script.specs.Seats.{seat_at}
 use Rattle.lan_script.proofs.Called.{adds_same}
 use Rattle.lan_script.proofs.CarriedOn.{keeps_through}
 use Rattle.lan_script.proofs.Lans.{lan_back, lan_made, place_after, window_free, window_there}
+use Rattle.lan_script.specs.PortCounts.{posted_on}
+use Rattle.lan_script.proofs.CountedCalls.{adds_more}
+use Rattle.lan_script.proofs.CountsKept.{counts_behind, made_adds}
 use Rattle.lan_script.proofs.lan.Lan.add.Goals as goal
 
 abbrev none_found : ℕ → ℕ → Type 0
@@ -36,3 +39,12 @@ invariant_of-self c =
     (λ before after h. adds_same c.args.descriptor false none_found (known_of c.take-own.result) (known_of c.add-answer.new.window) c.add-answer.result before after h))
     c.take-own.ensures.window c.take-own.ensures.unit c.take-own.ensures.rest c.put.ensures
     (keeps_through (known_of c.take-own.result) (known_of c.add-answer.new.window) c.add-answer.ensures.window free)
+
+pub returns-clause-counts : goal.returns-clause-counts
+returns-clause-counts c =
+    let there = subst (λ (l : List PortSeat). IsSome (seat_at l c.args.unit)) (sym c.make_room.ensures.seats) c.requires.there in
+    counts_behind c.args.unit _ c.args.self.now c.make_room.new.self _ c.make_room.ensures.counts
+    (made_adds _ c.make_room.new.self _ c.args.unit c.add-answer.result
+    (Adds c.args.descriptor false none_found (known_of c.take-own.result) (known_of c.add-answer.new.window) c.add-answer.result) (posted_on c.add-answer.result.code)
+    c.self.view_is c.self.invariant there c.add-answer.ensures.made
+    (λ before after begun h. adds_more c.args.descriptor false none_found (known_of c.take-own.result) (known_of c.add-answer.new.window) c.add-answer.result before after begun h))

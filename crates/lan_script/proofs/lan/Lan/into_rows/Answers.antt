@@ -66,6 +66,21 @@ returns-clause-exact c =
     c.in_ok-posted_rows.ensures c.in_ok-delivered_rows.ensures c.in_ok-harvested_rows.ensures c.deref.ensures.value c.deref-2.ensures.value
     c.deref-3.ensures.value c.deref-4.ensures.value c.in_ok-session_rows.ensures.lawful).exact
 
+pub returns-clause-counted : goal.returns-clause-counted
+returns-clause-counted c =
+    (told _ c.args.self
+    (record {
+      frames = c.in_ok-all_frames.field-0;
+      ports = c.in_ok-session_rows.field-0;
+      posts = c.in_ok-posted_rows.field-0;
+      delivers = c.in_ok-delivered_rows.field-0;
+      harvests = c.in_ok-harvested_rows.field-0;
+    }) c.deref.result.now c.deref-2.result.now c.deref-3.result.now c.deref-4.result.now c.self.view_is c.self.invariant
+    c.if-not-whole.false (omega (arith, c.in_ok-all_frames.field-0.ok.0))
+    (c.in_ok-all_frames.ensures ∙ flat_mapped (λ rows. rows.items) c.self.inside.frames.items) c.in_ok-session_rows.ensures.rows
+    c.in_ok-posted_rows.ensures c.in_ok-delivered_rows.ensures c.in_ok-harvested_rows.ensures c.deref.ensures.value c.deref-2.ensures.value
+    c.deref-3.ensures.value c.deref-4.ensures.value c.in_ok-session_rows.ensures.lawful).counted
+
 pub returns-clause-carried : goal.returns-clause-carried
 returns-clause-carried c =
     carried_told _ c.args.self

@@ -38,7 +38,7 @@ pub returns-clause-sends : goal.returns-clause-sends
 returns-clause-sends c =
     let at = c.place_of-place.ensures.place ∙ ap (λ (l : List PortSeat). seat_place c.args.unit l) c.deref.ensures.value in
     keeps_sent (λ rows. rows.items) _ c.args.self.now c.self.inside.frames.items c.args.unit c.args.made c.in-Some.number c.in_ok-row.row
-    c.place_of-place.result c.index_mut.result.now c.push.new.self _ c.self.view_is c.self.invariant refl c.in-Some.is c.in_ok-row.ensures at
+    c.place_of-place.result c.index_mut.result.now c.push.new.self _ c.self.view_is c.self.invariant c.requires.there refl c.in-Some.is c.in_ok-row.ensures at
     (omega (
       arith,
       frames_within _ c.args.self.now c.args.unit c.place_of-place.result c.self.view_is c.self.invariant c.requires.there at,

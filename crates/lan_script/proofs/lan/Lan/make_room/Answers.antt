@@ -1,6 +1,12 @@
+use Rattle.std.proofs.Common.{IfSome, sym, subst}
+use Rattle.lan_buffers.specs.Calls.{IsOpen}
+use Rattle.lan_switch.specs.Switch.{port_of}
+use Rattle.lan_script.specs.Units.{LanValue}
 use Rattle.lan_switch.specs.Calls.{Reserves}
 use Rattle.lan_script.proofs.Called.{reserves_same}
-use Rattle.lan_script.proofs.Lans.{lan_at, port_there, room_made}
+use Rattle.lan_script.proofs.Lans.{lan_at, port_there, room_made, room_opened}
+use Rattle.lan_script.proofs.CountedCalls.{reserves_rows}
+use Rattle.lan_script.proofs.CountsKept.{port_counts}
 use Rattle.lan_script.proofs.lan.Lan.make_room.Goals as goal
 
 pub reserve-requires : goal.reserve-requires
@@ -13,3 +19,13 @@ invariant_of-self c =
 
 pub returns-clause-room : goal.returns-clause-room
 returns-clause-room c = room_made c.self.inside.switch c.reserve.new.self c.args.unit c.reserve.result c.reserve.ensures
+
+pub returns-clause-counts : goal.returns-clause-counts
+returns-clause-counts c =
+    port_counts _ c.args.self.now c.args.unit c.reserve.new.self (Reserves 1 c.reserve.result) c.self.view_is c.reserve.ensures
+    (λ before after h. reserves_rows 1 c.reserve.result before after h)
+
+pub returns-clause-opened : goal.returns-clause-opened
+returns-clause-opened c = λ opened.
+    room_opened c.self.inside.switch c.reserve.new.self c.args.unit c.reserve.result c.reserve.ensures
+    (subst (λ (l : LanValue). IfSome (port_of l.stations c.args.unit) IsOpen) (sym c.self.view_is) opened)

@@ -2,7 +2,9 @@ use Rattle.std.proofs.Common.{◌∙◌, arith, ℕ, false, map, refl, sym}
 use Rattle.tce_window.specs.PlainPort.{known_of}
 use Rattle.lan_switch.specs.Sending.{LanWindows, windows_of}
 use Rattle.lan_script.specs.Windows.{FoundIn, facts_in}
+use Rattle.lan_script.proofs.Begun.{begun_sent}
 use Rattle.lan_script.proofs.Lans.{lending, lent_keys, others_free, owes_ok, place_lent, sent_ports, sent_untouched, whole_carried, whole_sends, window_free, window_there}
+use Rattle.lan_script.proofs.CountedSent.{sends_same}
 use Rattle.lan_script.proofs.lan.Lan.offer.Goals as goal
 
 abbrev none_found : ℕ → ℕ → Type 0
@@ -46,6 +48,8 @@ invariant_of-self c =
           (known_of c.send-answer.new.window) windows c.send-answer.result c.send-answer.ensures.sent c.send-answer.ensures.failed)
           c.send-answer.ensures.others c.put.ensures c.send-answer.ensures.window.rest.place (c.send-answer.ensures.window.free ∙ sym free)
           ∙ c.self.invariant.windows;
+      begun = begun_sent c.self.inside.switch c.send-answer.new.self c.args.unit c.args.parts.now false none_found (known_of c.take-own.result)
+          (known_of c.send-answer.new.window) windows c.send-answer.result c.send-answer.ensures.sent c.send-answer.ensures.failed c.self.invariant.begun;
       balanced = λ whole. absurd (cc (whole));
       carried = λ whole. absurd (cc (whole));
     }
@@ -65,3 +69,8 @@ returns-clause-owes c =
     c.send-answer.ensures.sent c.send-answer.ensures.failed))
     (window_free _ c.args.self.now c.args.unit c.take-own.result c.self.view_is c.self.invariant c.requires.there c.take-own.ensures.window)
     c.send-answer.ensures.window) (omega arith) c.send-answer.ensures.sent
+
+pub returns-clause-counts : goal.returns-clause-counts
+returns-clause-counts c =
+    sends_same _ c.args.self.now c.send-answer.new.self c.args.unit c.args.parts.now false none_found (known_of c.take-own.result) (known_of c.send-answer.new.window)
+    (windows_of false facts_in FoundIn c.take-own.new.self c.send-answer.new.others) c.send-answer.result c.self.view_is c.send-answer.ensures.sent

@@ -4,6 +4,7 @@ use Rattle.lan_script.specs.declared.seat.PortSeat.{PortSeat}
 use Rattle.lan_script.specs.Seats.{seat_at}
 use Rattle.lan_script.proofs.Called.{harvests_same}
 use Rattle.lan_script.proofs.Lans.{lan_at, port_there}
+use Rattle.lan_script.proofs.CountsKept.{takes_one}
 use Rattle.lan_script.proofs.lan.Lan.take_one.Goals as goal
 
 pub harvest-requires-clause-port : goal.harvest-requires-clause-port
@@ -15,3 +16,8 @@ pub invariant_of-self : goal.invariant_of-self
 invariant_of-self c =
     lan_at _ c.args.unit c.harvest.new.self (Harvests c.harvest.result) c.self.invariant c.harvest.ensures
     (λ before after h. harvests_same c.harvest.result before after h)
+
+pub returns-clause-counts : goal.returns-clause-counts
+returns-clause-counts c =
+    takes_one _ c.make_room.new.self c.args.self.now _ c.args.unit c.harvest.result _ c.self.view_is c.self.invariant c.make_room.ensures.counts c.kind_of.ensures.found
+    c.kind_of.ensures.short (c.make_room.ensures.opened (c.is_open.ensures.0 c.if-not-is_open.false)) c.harvest.ensures
