@@ -9,14 +9,14 @@ use Rattle.block_disk.specs.declared.command.DiskOp.{DiskOp}
 use Rattle.block_disk.specs.declared.command.DiskOp.TheVariants.{Ready, Inquiry, Capacity10, Capacity16, Luns, Read, Write, Sync}
 use Rattle.block_disk.proofs.Laws.{step-size}
 use Rattle.block_server.specs.Causes.{Told}
-use Rattle.block_server.specs.DiskLaw.{SaysRowBy, ServeBy, ServesRowBy, step_of}
+use Rattle.block_server.specs.DiskLaw.{ServeBy, ServesRowBy, step_of}
 
 abbrev Blocks : Type 0
 Blocks = List (List ℕ)
 
 -- ---- rows in their order
 
-pub row_size : (told : Told → Bool) (b : Blocks) (row : Served) (a : Blocks) → SaysRowBy told b row a → length a ≡ length b
+pub row_size : (told : Told → Bool) (b : Blocks) (row : Served) (a : Blocks) → ServesRowBy told b row a → length a ≡ length b
 row_size told b row a (inl is) = step-size b a (step_of is.command row is.reply is.given) is.step
 row_size told b row a (inr (inl is)) = ap length is.none.same
 row_size told b row a (inr (inr (inl is))) = ap length is.none.same
@@ -24,7 +24,7 @@ row_size told b row a (inr (inr (inr is))) = ap length is.none.same
 
 pub serve_size : (told : Told → Bool) (b : Blocks) (rows : List Served) (a : Blocks) → ServeBy told b rows a → length a ≡ length b
 serve_size told b [] a is = ap length is
-serve_size told b (row ∷ rows) a is = serve_size told is.0 rows a is.2 ∙ row_size told b row is.0 is.1.1
+serve_size told b (row ∷ rows) a is = serve_size told is.0 rows a is.2 ∙ row_size told b row is.0 is.1
 
 pub serve_on : (told : Told → Bool) (b m a : Blocks) (first next : List Served) → ServeBy told b first m → ServeBy told m next a → ServeBy told b (first ++ next) a
 serve_on told b m a [] next is more = subst (λ (x : Blocks). ServeBy told x next a) is more
@@ -74,7 +74,7 @@ none_written None (Some (Read lba n)) b = refl
 none_written None (Some (Sync lba n)) b = refl
 
 -- a row without data-out and fault leaves the blocks
-pub row_still : (told : Told → Bool) (b : Blocks) (row : Served) (a : Blocks) → row.out ≡ [] → row.fault ≡ None → SaysRowBy told b row a → a ≡ b
+pub row_still : (told : Told → Bool) (b : Blocks) (row : Served) (a : Blocks) → row.out ≡ [] → row.fault ≡ None → ServesRowBy told b row a → a ≡ b
 row_still told b row a out fault (inl is) =
     is.step.blocks ∙ (λ i. image_after (refusal is.command.lun is.command.cdb) (command_of is.command.cdb) b (out i) ((is.fault ∙ fault) i))
     ∙ none_written (refusal is.command.lun is.command.cdb) (command_of is.command.cdb) b

@@ -18,10 +18,10 @@ use Rattle.block_disk.specs.declared.command.DiskOp.{DiskOp}
 use Rattle.block_disk.specs.declared.command.DiskOp.TheVariants.{Ready, Inquiry, Capacity10, Capacity16, Luns, Read, Write, Sync}
 use Rattle.block_disk.specs.declared.reply.ScsiReply.{ScsiReply}
 use Rattle.block_server.specs.Causes.{RefusesIn, told_to}
-use Rattle.block_server.specs.DiskLaw.{HasData, IsStepped, SaysCode, SaysRowBy, ServesRowBy, handed_over, step_of}
+use Rattle.block_server.specs.DiskLaw.{HasData, IsStepped, SaysCode, ServesRowBy, handed_over, step_of}
 use Rattle.block_server.specs.Orders.{IsCauseOf, IsCodeOf, IsOrder}
 use Rattle.block_server.specs.Responses.{Answers, HasCode, HasStatus}
-use Rattle.block_server.specs.Serving.{MaySay, Terms}
+use Rattle.block_server.specs.Serving.{MayAnswer, Terms}
 use Rattle.block_server.specs.declared.request.Order.{Order}
 use Rattle.block_server.specs.declared.request.Order.TheVariants as orders
 use Rattle.block_server.proofs.DiskLaws.{none_written, row_still}
@@ -116,7 +116,7 @@ module _ (one : SpellsOne) (terms : Terms) (command : Cmd) (reply : ScsiReply) (
         inn = subst (λ (xs : List ℕ). xs ≡ take (length xs) (step b command.lun command.cdb row.out reply.fault).given) (sym inn) refl;
       }
 
-  pub made_of : SaysRowBy terms.told b row a → Made command reply row b a
+  pub made_of : ServesRowBy terms.told b row a → Made command reply row b a
   made_of (inl is) = made_stepped is
   made_of (inr (inl is)) = made_still is.none.out is.none.inn is.none.fault is.none.same
   made_of (inr (inr (inl is))) = absurd (apart is.task command (one row.iu (units.TskMgmt is.task) (units.Cmd command) is.spells known.spells))
@@ -143,7 +143,7 @@ first_of (suc n) (x ∷ xs) (y ∷ ys) is = (λ i. (head is) i ∷ (first_of n x
 module _ (one : SpellsOne) (terms : Terms) (command : Cmd) (reply : ScsiReply) (row : Served) (known : IsKnown terms command reply row) where
   -- the answer says the status, where the row has all data-in
   pub may_status : length row.inn ≡ handed_over command reply → (bytes : List ℕ)
-      → Answers bytes (HasStatus (field 8 8 row.iu) (total_of command.out) (total_of command.inn) reply) → MaySay terms bytes row
+      → Answers bytes (HasStatus (field 8 8 row.iu) (total_of command.out) (total_of command.inn) reply) → MayAnswer terms bytes row
   may_status all_in bytes says b a size is =
       let made = made_of one terms command reply row known b a size is in
       inl (record {
@@ -160,7 +160,7 @@ module _ (one : SpellsOne) (terms : Terms) (command : Cmd) (reply : ScsiReply) (
       })
 
   -- the answer says that the data-in were refused
-  pub may_refuse : RefusesIn (told_to terms.told row.unit) command → 0 < handed_over command reply → (bytes : List ℕ) → Answers bytes (HasCode (field 8 8 row.iu) FieldsInvalid) → MaySay terms bytes row
+  pub may_refuse : RefusesIn (told_to terms.told row.unit) command → 0 < handed_over command reply → (bytes : List ℕ) → Answers bytes (HasCode (field 8 8 row.iu) FieldsInvalid) → MayAnswer terms bytes row
   may_refuse cause some bytes says b a size is =
       let made = made_of one terms command reply row known b a size is in
       let given : 0 < (reply_to terms.size command.lun command.cdb (length row.out) row.fault).in_len =
@@ -184,21 +184,19 @@ module _ (one : SpellsOne) (terms : Terms) (command : Cmd) (reply : ScsiReply) (
   -- its data-in are cut
   pub may_cut : (n : ℕ) → row.answer ≡ [] → (b a : List (List ℕ)) → length b ≡ terms.size → ServesRowBy terms.told b row a → ServesRowBy terms.told b (record row { inn = take n row.inn }) a
   may_cut n blank b a size is =
-      let made = made_of one terms command reply row known b a size is.1 in (
-        is.0,
-        inl (record {
-          command = command;
-          spells = known.spells;
-          brought = known.brought;
-          reply = reply;
-          given = made.given;
-          step = made.step;
-          fault = known.fault_is;
-          inn = first_of n row.inn made.given made.inn;
-          few = omega (arith, known.few, length-take n row.inn);
-          answer = inl blank;
-        }),
-      )
+      let made = made_of one terms command reply row known b a size is in
+      inl (record {
+        command = command;
+        spells = known.spells;
+        brought = known.brought;
+        reply = reply;
+        given = made.given;
+        step = made.step;
+        fault = known.fault_is;
+        inn = first_of n row.inn made.given made.inn;
+        few = omega (arith, known.few, length-take n row.inn);
+        answer = inl blank;
+      })
 
   pub known_cut : (n : ℕ) → IsKnown terms command reply (record row { inn = take n row.inn })
   known_cut n = record {
@@ -213,7 +211,7 @@ module _ (one : SpellsOne) (terms : Terms) (command : Cmd) (reply : ScsiReply) (
 
 -- what a row is whose request is answered with this code
 pub code_row : (terms : Terms) (order : Order) (code : ResponseCode) (row : Served) (b : List (List ℕ)) → IsOrder order row.iu → IsCodeOf order code
-    → IsCauseOf (told_to terms.told row.unit) order → row.out ≡ [] → row.inn ≡ [] → row.fault ≡ None → SaysCode code row → SaysRowBy terms.told b row b
+    → IsCauseOf (told_to terms.told row.unit) order → row.out ≡ [] → row.inn ≡ [] → row.fault ≡ None → SaysCode code row → ServesRowBy terms.told b row b
 code_row terms (orders.Task task) code row b order is cause out inn fault says =
     let says' : SaysCode _ row = subst (λ (c : ResponseCode). SaysCode c row) is says in
     inr (inr (inl (record { task = task; spells = order; none = record { same = refl; out = out; inn = inn; fault = fault; answer = says' } })))
@@ -228,7 +226,7 @@ code_row terms orders.Logout code row b order is cause out inn fault says = absu
 
 -- it may get that answer
 pub may_code : (order : Order) (code : ResponseCode) (row : Served) (terms : Terms) (bytes : List ℕ) → IsOrder order row.iu → IsCodeOf order code
-    → IsCauseOf (told_to terms.told row.unit) order → row.out ≡ [] → row.inn ≡ [] → row.fault ≡ None → Answers bytes (HasCode (field 8 8 row.iu) code) → MaySay terms bytes row
+    → IsCauseOf (told_to terms.told row.unit) order → row.out ≡ [] → row.inn ≡ [] → row.fault ≡ None → Answers bytes (HasCode (field 8 8 row.iu) code) → MayAnswer terms bytes row
 may_code order code row terms bytes spelled is cause out inn fault says b a size serves =
-    subst (λ (x : List (List ℕ)). SaysRowBy terms.told b (record row { answer = bytes }) x) (sym (row_still terms.told b row a out fault serves))
+    subst (λ (x : List (List ℕ)). ServesRowBy terms.told b (record row { answer = bytes }) x) (sym (row_still terms.told b row a out fault serves))
     (code_row terms order code (record row { answer = bytes }) b spelled is cause out inn fault says)

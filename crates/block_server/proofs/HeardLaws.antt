@@ -1,5 +1,5 @@
 -- What is told over a run of turns is told of each turn.
-use Rattle.std.proofs.Common.{◌≡◌, ◌++◌, ℕ, Bool, List, ◌∷◌, length, ap, subst, sym}
+use Rattle.std.proofs.Common.{◌≡◌, ◌++◌, ℕ, Bool, List, length, ap, subst}
 use Rattle.vio_num.specs.declared.names.UnitId.{UnitId}
 use Rattle.tce_window.specs.Pieces.{IsRefused}
 use Rattle.tce_window.specs.Port.{Later}
@@ -7,10 +7,10 @@ use Rattle.tce_window.specs.PortState.{PortState}
 use Rattle.rdma_copy.specs.Copies.{side_of}
 use Rattle.rdma_copy.specs.Copy.{SideGrows}
 use Rattle.rdma_copy.specs.declared.copy.CopyRecord.{CopyRecord}
-use Rattle.block_server.specs.Causes.{Includes, Told, told_to}
+use Rattle.block_server.specs.Causes.{Includes, Told}
 use Rattle.block_server.specs.Causes.News.{delivered, denied, fetched}
 use Rattle.block_server.specs.Delivers.{Delivers}
-use Rattle.block_server.specs.Heard.{IsMadeBetween, Tells, heard_of}
+use Rattle.block_server.specs.Heard.{Tells, heard_of}
 use Rattle.block_server.specs.Moves.{Fetches}
 use Rattle.block_server.proofs.Advancing.{begins_on, later_on}
 use Rattle.block_server.proofs.Denying.{delivers_stays, made_after, made_before}

@@ -15,6 +15,7 @@ pub mod AnswerLaws
 pub mod DiskLaws
 pub mod DiskRows
 pub mod Gathering
+pub mod Writing
 pub mod Onces
 pub mod Serves
 pub mod Plains

@@ -30,9 +30,11 @@ use Rattle.std.proofs.lemmas.Option.{IfSome_then}
 use Rattle.std.specs.Prelude.{IsSome}
 use Rattle.block_server.specs.Causes.{Hearing, told_to}
 use Rattle.block_server.specs.Fetched.{Buffers, HasPieces}
-use Rattle.block_server.specs.Serving.{AreBrought, Desk, HasReply, Held, MayAnswer, IfRow, IsKept, IsServed, IsServing, LeavesRow, Once, Place, ServeFrom, SettlesRow, StaysServed, Terms, place_of}
+use Rattle.block_server.specs.Serving.{AreBrought, Desk, HasReply, Held, IsReady, IfRow, IsKept, IsServed, IsServing, LeavesRow, Once, Place, ServeFrom, SettlesRow, StaysServed, Terms, place_of}
 use Rattle.block_server.proofs.AnswerLaws.{answered_there, answers_filled, answers_one, filled_there, only_there}
+use Rattle.block_server.specs.Written.{AreWritten}
 use Rattle.block_server.proofs.DiskLaws.{serve_changed}
+use Rattle.block_server.proofs.Writing.{written_same, written_there}
 use Rattle.block_server.proofs.DiskRows.{IsKnown, SpellsOne, may_cut}
 use Rattle.block_server.proofs.Rows.{stays_on, stays_same}
 
@@ -86,6 +88,7 @@ once_then d d' d'' a b c s s' s'' h h' h'' first next serving =
       answers = more_on a.id s s' s'' h h' h'' did.answers (subst (λ unit. AnswersMore unit s' s'' h' h'') did.id then.answers);
       others = stays_on a.id h h' h'' did.others (subst (λ unit. OnlyRowsOf unit h' h'') did.id then.others);
       stays = λ before is. then.stays before (did.stays before is);
+      written = λ is. then.written (did.written is);
       tells = tells_on d.now d'.now d''.now did.tells then.tells;
     }
 
@@ -102,6 +105,7 @@ once_same a b s s' h h' same rows put d serving = record {
   answers = more_none a.id s s' h h' put (ap (answers_of a.id) rows);
   others = subst (OnlyRowsOf a.id h) (sym rows) (stays_same a.id h);
   stays = stays_equal d h h' rows;
+  written = written_same d.terms.told h h' rows;
   tells = tells_same d.now;
 }
 
@@ -163,12 +167,16 @@ known_of terms p h row reply is made = record {
 
 -- a service that is broken off leaves the answers and the disk law as they are
 module _ (one : SpellsOne) (d : Held) (a : Desk) (h h' : List ServedRow) (serving : IsServing d.terms a h) where
-  left_same : h' ≡ h → (answers_of a.id h' ≡ answers_of a.id h) × OnlyRowsOf a.id h h' × StaysServed d d h h'
-  left_same same = (ap (answers_of a.id) same, subst (OnlyRowsOf a.id h) (sym same) (stays_same a.id h), stays_equal d h h' same)
+  -- what is so of the rows that it leaves
+  abbrev Leaves : Type 0
+  Leaves = (answers_of a.id h' ≡ answers_of a.id h) × OnlyRowsOf a.id h h' × StaysServed d d h h' × (AreWritten d.terms.told h → AreWritten d.terms.told h')
+
+  left_same : h' ≡ h → Leaves
+  left_same same = (ap (answers_of a.id) same, subst (OnlyRowsOf a.id h) (sym same) (stays_same a.id h), stays_equal d h h' same, written_same d.terms.told h h' same)
 
   left_cut : (at : ℕ) (reply : ScsiReply) (p : Place) → p.id ≡ a.id → p.given ≡ a.buffers.given → (row : IsServed d.terms p h at)
       → HasReply d.terms row.request p.given reply row.in_service.served
-      → (n : ℕ) × FillsRow h h' at (take n a.buffers.given) → (answers_of a.id h' ≡ answers_of a.id h) × OnlyRowsOf a.id h h' × StaysServed d d h h'
+      → (n : ℕ) × FillsRow h h' at (take n a.buffers.given) → Leaves
   left_cut at reply p id given row made leaves =
       let is = subst (λ (unit : UnitId). IsInService unit row.request.unit.items h at) id row.in_service in
       let iu = row.request.unit.items in
@@ -182,10 +190,11 @@ module _ (one : SpellsOne) (d : Held) (a : Desk) (h h' : List ServedRow) (servin
         only_there a.id iu h h' at is (record is.served { inn = inn }) is.unit_is there,
         stays_there d h h' row.in_service.before row.in_service.behind row.in_service.served new row.in_service.history_is there'
             (may_cut one d.terms made.command reply row.in_service.served (known_of d.terms p h at reply row made) leaves.0 row.in_service.unanswered),
+        written_there d.terms.told h h' row.in_service.before row.in_service.behind row.in_service.served new row.in_service.history_is there' (λ is. is),
       )
 
   broken : (stage : Stage) → stage ≡ a.stage → IfRow stage (IsServed d.terms (record { id = a.id; stage = stage; answer = a.answer; given = a.buffers.given; pending = a.pending }) h)
-      → LeavesRow stage a.buffers.given h h' → (answers_of a.id h' ≡ answers_of a.id h) × OnlyRowsOf a.id h h' × StaysServed d d h h'
+      → LeavesRow stage a.buffers.given h h' → Leaves
   broken Start at row leaves = left_same leaves
   broken OutTable at row leaves = left_same leaves
   broken InTable at row leaves = left_same leaves
@@ -209,6 +218,7 @@ module _ (one : SpellsOne) (d : Held) (a : Desk) (h h' : List ServedRow) (servin
         answers = more_none a.id s s' h h' put rest.0;
         others = rest.1;
         stays = rest.2;
+        written = rest.3;
         tells = tells_same d.now;
       }
 
@@ -223,6 +233,7 @@ once_cleared a b s s' h h' id stage kept rows put d pending serving = record {
   answers = more_none a.id s s' h h' put (ap (answers_of a.id) rows);
   others = subst (OnlyRowsOf a.id h) (sym rows) (stays_same a.id h);
   stays = stays_equal d h h' rows;
+  written = written_same d.terms.told h h' rows;
   tells = tells_same d.now;
 }
 
@@ -242,6 +253,7 @@ once_goes a b s s' h h' id kept rows put d row fetched brought = record {
   answers = more_none a.id s s' h h' put (ap (answers_of a.id) rows);
   others = subst (OnlyRowsOf a.id h) (sym rows) (stays_same a.id h);
   stays = stays_equal d h h' rows;
+  written = written_same d.terms.told h h' rows;
   tells = tells_same d.now;
 }
 
@@ -283,6 +295,7 @@ once_reply_kept a b s s' h entry id pending stage answer buffers kept plain put 
   answers = more_none a.id s s' h h put refl;
   others = stays_same a.id h;
   stays = stays_equal d h h refl;
+  written = λ is. is;
   tells = tells_same d.now;
 }
   where
@@ -322,7 +335,7 @@ module _ (a b : Desk) (s s' : List PipeRow) (h h' : List ServedRow) (put : PipeR
   login outcome none rows =
       once_cleared a b s s' h h' id stage kept rows (responses_plain s s' put (ap is_response entry_is ∙ none) sent) d pending serving
 
-  served : (row : ℕ) (p : Place) → p.id ≡ a.id → p.pending ≡ a.pending → (is : IsServed d.terms p h row) → MayAnswer d.terms a.answer is.in_service.served
+  served : (row : ℕ) (p : Place) → p.id ≡ a.id → p.pending ≡ a.pending → (is : IsServed d.terms p h row) → IsReady d.terms a.answer is.in_service.served
       → (length a.answer ≡ 36) ⊎ ((length a.answer ≡ 40) ⊎ (length a.answer ≡ 54)) → AnswersRow h h' row a.answer → Once d d a b s s' h h'
   served row p p_id p_pending is may len answers =
       let iu = is.request.unit.items in
@@ -343,7 +356,9 @@ module _ (a b : Desk) (s s' : List PipeRow) (h h' : List ServedRow) (put : PipeR
         };
         others = only_there a.id iu h h' row in_service (record in_service.served { answer = a.answer }) in_service.unit_is there;
         stays = stays_there d h h' is.in_service.before is.in_service.behind is.in_service.served (record is.in_service.served { answer = a.answer })
-            is.in_service.history_is (answered_there p.id iu h h' row a.answer is.in_service answers) may;
+            is.in_service.history_is (answered_there p.id iu h h' row a.answer is.in_service answers) may.may;
+        written = written_there d.terms.told h h' is.in_service.before is.in_service.behind is.in_service.served (record is.in_service.served { answer = a.answer })
+            is.in_service.history_is (answered_there p.id iu h h' row a.answer is.in_service answers) (λ was. inr may.over);
         tells = tells_same d.now;
       }
     where

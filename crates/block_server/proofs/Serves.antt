@@ -1,5 +1,5 @@
 -- Each answer once, where the service of a request goes on, and where an entry is kept or a request comes.
-use Rattle.std.proofs.Common.{inr, ◌≡◌, ◌≢◌, ◌++◌, ◌<◌, ℕ, length, List, [], ◌∷◌, Bool, true, Option, Some, None, IfSome, take, Result, Ok, Err, OnOk, OnErr, refl, sym, ◌∙◌, ap, subst, arith}
+use Rattle.std.proofs.Common.{◌≡◌, ◌≢◌, ◌++◌, ◌<◌, ℕ, length, List, [], ◌∷◌, Bool, true, Option, Some, None, IfSome, take, Result, Ok, Err, OnOk, OnErr, refl, sym, ◌∙◌, ap, subst, arith}
 use Rattle.std.specs.List.{HoldsAt}
 use Rattle.std.specs.Prelude.{IsSome}
 use Rattle.vio_num.specs.declared.entry.Entry.{Entry as QueueEntry}
@@ -26,7 +26,7 @@ use Rattle.block_server.specs.declared.service.Outcome.{Outcome}
 use Rattle.block_server.specs.declared.service.Outcome.TheVariants.{Granted, Rejected, Served}
 use Rattle.block_server.specs.declared.service.Stage.{Stage}
 use Rattle.block_server.specs.declared.service.Stage.TheVariants.{Start, OutTable, InTable, DataOut, Given, DataIn, Answer, Entry}
-use Rattle.block_server.specs.Serving.{AreBrought, AsNone, Desk, Held, HoldsAtStage, IfRow, IsAnswerKept, IsKept, IsServed, IsServing, MaySay, Once, Place, StaysServed, Terms, desk_at, place_of}
+use Rattle.block_server.specs.Serving.{AreBrought, AsNone, Desk, Held, HoldsAtStage, IfRow, IsAnswerKept, IsKept, IsServed, IsServing, MayAnswer, Once, Place, StaysServed, Terms, desk_at, place_of}
 use Rattle.srp_iu.specs.Layout.{field}
 use Rattle.srp_iu.specs.declared.buffer.Desc.{Desc}
 use Rattle.srp_iu.specs.declared.command.Cmd.{Cmd}
@@ -35,7 +35,9 @@ use Rattle.srp_iu.specs.declared.response_code.ResponseCode.TheVariants.{FieldsI
 use Rattle.srp_desc.specs.Pieces.{total_of}
 use Rattle.block_server.specs.declared.request.Order.TheVariants.{Command}
 use Rattle.block_server.specs.declared.service.Service.{Service}
-use Rattle.block_server.specs.Causes.{Hearing, IsNamed, IsWrittenOver, RefusesIn, told_to, units_at}
+use Rattle.block_server.specs.Causes.{Hearing, IsNamed, RefusesIn, told_to, units_at}
+use Rattle.block_server.specs.Written.{AreWritten, IsWrittenOver}
+use Rattle.block_server.proofs.Writing.{written_blank, written_there}
 use Rattle.block_server.specs.Causes.{News as news}
 use Rattle.block_server.specs.DiskLaw.{ServeBy, ServesRowBy, handed_over}
 use Rattle.block_server.specs.Fetched.{Buffers, Gathers, HasBoth, HasPieces, OfFirst}
@@ -62,6 +64,7 @@ once_kept a b s s' h entry outcome id pending stage answer buffers kept is put d
   answers = more_none a.id s s' h h put refl;
   others = stays_same a.id h;
   stays = stays_equal d h h refl;
+  written = λ is. is;
   tells = tells_same d.now;
 }
   where
@@ -286,7 +289,7 @@ once_copied a b s s' h h' outcome request rest id pending front was is answer ke
     row Rejected none = tt
     row (Served at) served =
         carried d.terms a h at (Answer (Served at)) (Entry (Served at)) a.answer a.buffers.given a.answer b.buffers.given
-        (λ is before after size law. (inr (over at is), is.holds before after size law.1)) served
+        (λ is. record { may = is.holds; over = over at is }) served
 
 -- the command of the row in service is that of the oldest request
 module _ (terms : Terms) (a : Desk) (h : List ServedRow) (row : ℕ) (stage : Stage) (request : Request) (rest : List Request) (command : Cmd) (front : a.pending ≡ request ∷ rest)
@@ -309,7 +312,7 @@ once_stated one a b s s' h h' row reply cursor request rest command id pending w
     once_to d a b s s' h h' (DataIn row reply cursor) (Answer (Served row)) b.answer b.buffers.given id pending was is refl refl kept rows put tt
     (carried d.terms a h row (DataIn row reply cursor) (Answer (Served row)) a.answer a.buffers.given b.answer b.buffers.given may)
   where
-    may : (is : IsServed d.terms (staged a (DataIn row reply cursor) a.answer a.buffers.given) h row) → MaySay d.terms b.answer is.in_service.served
+    may : (is : IsServed d.terms (staged a (DataIn row reply cursor) a.answer a.buffers.given) h row) → MayAnswer d.terms b.answer is.in_service.served
     may is =
         let made = is.holds in
         let same = command_same d.terms a h row (DataIn row reply cursor) request rest command front order is made.command made.order in
@@ -372,6 +375,7 @@ once_cut one a b s h h' row n reply cursor request rest command id pending was i
       others = only_there a.id iu h h' row served.in_service new served.in_service.unit_is there;
       stays = stays_there d h h' served.in_service.before served.in_service.behind old new served.in_service.history_is there
           (may_cut one d.terms made.command reply old known n served.in_service.unanswered);
+      written = written_there d.terms.told h h' served.in_service.before served.in_service.behind old new served.in_service.history_is there (λ is. is);
       tells = tells_same d.now;
     }
 
@@ -407,6 +411,7 @@ once_added d d' a b s s' h h' request rest served stage id front kept stage_is o
       answers = more_none a.id s s' h h' put (answers_blank a.id h h' served blank added);
       others = subst (OnlyRowsOf a.id h) (sym added) (stays_one a.id h served unit);
       stays = disk;
+      written = λ is. written_blank d'.terms.told h h' served blank added (subst (λ (t : Terms). AreWritten t.told h) (sym terms) is);
       tells = tells;
     }
 

@@ -1,15 +1,13 @@
 -- The disk step of a command gives a row that the disk law serves.
-use Rattle.std.proofs.Common.{◌≡◌, inl, ℕ, ◌≤◌, List, [], ◌∷◌, ◌++◌, Option, Some, None, IfSome, length, take, drop, refl, sym, ◌∙◌, ap, subst, arith, length-take}
+use Rattle.std.proofs.Common.{◌≡◌, inl, ℕ, ◌≤◌, List, [], ◌∷◌, ◌++◌, Option, Some, None, IfSome, length, take, refl, sym, ◌∙◌, ap, subst, arith, length-take}
 use Rattle.std.specs.Prelude.{IsSome, option_map}
-use Rattle.std.proofs.Math.Seq.{take-append_seam, drop-append_seam}
-use Rattle.std.proofs.lemmas.List.{take-take, take_all}
+use Rattle.std.proofs.lemmas.List.{take-take}
 use Rattle.vio_num.specs.declared.history.Served.{Served as ServedRow}
 use Rattle.srp_iu.specs.declared.buffer.Desc.{Desc}
 use Rattle.srp_iu.specs.declared.command.Cmd.{Cmd}
 use Rattle.srp_iu.specs.declared.unit.Iu.TheVariants as units
 use Rattle.srp_iu.specs.Grammar.{Spells}
-use Rattle.srp_desc.specs.Pieces.{pieces, sum_of, total_of}
-use Rattle.srp_desc.specs.Tables.{table_len}
+use Rattle.srp_desc.specs.Pieces.{sum_of, total_of}
 use Rattle.block_disk.specs.Disk.{reply_to}
 use Rattle.block_disk.specs.Steps.{DiskStep, IsStep, StepOn, blocks_after, made_step}
 use Rattle.block_disk.specs.declared.reply.ScsiReply.{ScsiReply}
@@ -66,22 +64,19 @@ module _ (request : Request) (command : Cmd) (outs inns : List Desc) (out given 
       ∙ ap (λ (n : ℕ). take n (take reply.in_len buffer)) (sym len_given)
 
   pub new_row_serves : (b a : List (List ℕ)) → IsStep b (made_step command.lun command.cdb out reply buffer) a → ServesRowBy terms.told b row a
-  new_row_serves b a made = (
-    inl new.blank,
-    inl (record {
-      command = command;
-      spells = subst (λ (bytes : List ℕ). Spells bytes (units.Cmd command)) (sym new.iu)
-          (subst (λ (order : Order). IsOrder order request.unit.items) new.order request.spelled);
-      brought = brought;
-      reply = reply;
-      given = take reply.in_len buffer;
-      step = subst (λ (bytes : List ℕ). IsStep b (record { lun = command.lun; cdb = command.cdb; data_out = bytes; reply = reply; given = take reply.in_len buffer }) a) (sym new.out_is) made;
-      fault = sym new.fault_is;
-      inn = first_given;
-      few = omega (arith, len_given);
-      answer = inl new.blank;
-    }),
-  )
+  new_row_serves b a made = inl (record {
+    command = command;
+    spells = subst (λ (bytes : List ℕ). Spells bytes (units.Cmd command)) (sym new.iu)
+        (subst (λ (order : Order). IsOrder order request.unit.items) new.order request.spelled);
+    brought = brought;
+    reply = reply;
+    given = take reply.in_len buffer;
+    step = subst (λ (bytes : List ℕ). IsStep b (record { lun = command.lun; cdb = command.cdb; data_out = bytes; reply = reply; given = take reply.in_len buffer }) a) (sym new.out_is) made;
+    fault = sym new.fault_is;
+    inn = first_given;
+    few = omega (arith, len_given);
+    answer = inl new.blank;
+  })
 
 -- the disk law goes on over a step and its row
 stepped : (terms : Terms) (now now' : Option (List (List ℕ))) (h h' : List ServedRow) (row : ServedRow) (made : DiskStep) → StepOn now made now' → (now ≡ None → now' ≡ None)

@@ -4,7 +4,6 @@ use Rattle.std.specs.Prelude.{⊤, ◌≡◌, ◌⊎◌, ◌+◌, ◌^◌, ◌<�
 use Rattle.vio_num.specs.Words.{Begins}
 use Rattle.vio_num.specs.declared.names.UnitId.{UnitId}
 use Rattle.vio_num.specs.declared.TheConstants.{PAGE_BYTES}
-use Rattle.srp_iu.specs.Layout.{field}
 use Rattle.srp_iu.specs.declared.buffer.Buffer.{Buffer}
 use Rattle.srp_iu.specs.declared.buffer.Desc.{Desc}
 use Rattle.srp_iu.specs.declared.command.Cmd.{Cmd}
@@ -68,13 +67,6 @@ units_at = 0
 -- the address of page 1, to which tables are fetched
 abbrev pub tables_at : ℕ
 tables_at = PAGE_BYTES
-
--- A copy wrote an answer over its request: from page 0, under the request's tag, to the address from which a copy had brought
--- the request's information unit.
-pub record IsWrittenOver (Hears : Hearing) (iu answer : List ℕ) : Type 0 where
-  pub address : ℕ
-  pub brought : Hears (fetched address units_at iu)
-  pub written : Hears (delivered units_at address (field 8 8 iu) answer)
 
 -- The table of a buffer, if it has to be fetched, is what a copy brought to page 1.
 abbrev pub IsFetched : Hearing → (tables : List Desc) → (bytes : List ℕ) → Type 0

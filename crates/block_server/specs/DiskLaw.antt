@@ -14,7 +14,7 @@ use Rattle.srp_iu.specs.Layout.{field}
 use Rattle.srp_desc.specs.Pieces.{sum_of, total_of}
 use Rattle.block_disk.specs.Steps.{DiskStep, IsStep}
 use Rattle.block_disk.specs.declared.reply.ScsiReply.{ScsiReply}
-use Rattle.block_server.specs.Causes.{Hearing, IsNamed, IsWrittenOver, RefusesIn, Told, TurnsDown, anything, told_to}
+use Rattle.block_server.specs.Causes.{Hearing, IsNamed, RefusesIn, Told, TurnsDown, anything, told_to}
 use Rattle.block_server.specs.Responses.{Answers, HasCode, HasStatus, task_code}
 
 -- The descriptors of a command name pieces, and the data-out are all that theirs name.
@@ -93,18 +93,10 @@ pub record IsUnread (before : List (List ℕ)) (row : Served) (after : List (Lis
   pub unread : (iu : Iu) → ¬ Spells row.iu iu
   pub none : HasNoStep FieldsInvalid before row after
 
--- What a row says belongs to what its bytes spell, to what the disk did, and to what the unit was told.
-abbrev pub SaysRowBy : (told : Told → Bool) → (before : List (List ℕ)) → Served → (after : List (List ℕ)) → Type 0
-SaysRowBy told before row after =
-    IsStepped told before row after ⊎ (IsTurnedDown told before row after ⊎ (IsOfTask before row after ⊎ IsUnread before row after))
-
--- A row has no answer, or a copy wrote it over the row's request.
-abbrev pub IsAnswerWritten : (told : Told → Bool) → Served → Type 0
-IsAnswerWritten told row = (row.answer ≡ []) ⊎ IsWrittenOver (told_to told row.unit) row.iu row.answer
-
--- The row law.
+-- The row law: what a row says belongs to what its bytes spell, to what the disk did, and to what the unit was told.
 abbrev pub ServesRowBy : (told : Told → Bool) → (before : List (List ℕ)) → Served → (after : List (List ℕ)) → Type 0
-ServesRowBy told before row after = IsAnswerWritten told row × SaysRowBy told before row after
+ServesRowBy told before row after =
+    IsStepped told before row after ⊎ (IsTurnedDown told before row after ⊎ (IsOfTask before row after ⊎ IsUnread before row after))
 
 -- The rows in their order take the blocks before to those after.
 abbrev pub ServeBy : (told : Told → Bool) → (before : List (List ℕ)) → List Served → (after : List (List ℕ)) → Type 0

@@ -1,5 +1,5 @@
 -- What a unit's windows told it between two states: what the client's denied, and the copies that were made.
-use Rattle.std.specs.Prelude.{◌≡◌, ◌++◌, ℕ, Bool, List, ◌∷◌, length}
+use Rattle.std.specs.Prelude.{◌≡◌, ◌++◌, Bool, List, ◌∷◌, length}
 use Rattle.vio_num.specs.declared.names.UnitId.{UnitId}
 use Rattle.tce_window.specs.PortState.{PortState}
 use Rattle.rdma_copy.specs.declared.copy.CopyRecord.{CopyRecord}

@@ -30,3 +30,4 @@ pub mod Turns
 pub mod Units
 pub mod Verdicts
 pub mod Waits
+pub mod Written

@@ -27,11 +27,12 @@ use Rattle.block_server.specs.Causes.{Hearing, Told, told_to, units_at}
 use Rattle.block_server.specs.Causes.News.{fetched}
 use Rattle.block_server.specs.Heard.{TellsAll}
 use Rattle.block_server.specs.SiteState.{SiteState}
-use Rattle.block_server.specs.DiskLaw.{HasData, SaysRowBy, ServeBy, ServesRowBy, handed_over}
+use Rattle.block_server.specs.DiskLaw.{HasData, ServeBy, ServesRowBy, handed_over}
 use Rattle.block_server.specs.Fetched.{HasPieces, Buffers, buffers_of}
 use Rattle.block_server.specs.Answering.{AnswersMore, IsInService, OnlyRowsOf}
 use Rattle.block_server.specs.Entries.{IsPlain}
 use Rattle.block_server.specs.Records.{AnswersRow, FillsRow}
+use Rattle.block_server.specs.Written.{AreWritten, IsWrittenOver}
 
 -- What a unit has in service: how far the oldest request's service has come, its answer and its data, the entry that found
 -- the client's queue full, and the requests that are not answered, the oldest first.
@@ -103,17 +104,17 @@ abbrev pub MayAnswer : (terms : Terms) → (answer : List ℕ) → ServedRow →
 MayAnswer terms answer served =
     (before after : List (List ℕ)) → length before ≡ terms.size → ServesRowBy terms.told before served after → ServesRowBy terms.told before (record served { answer = answer }) after
 
--- What it says stays right, whether the answer is written or not.
-abbrev pub MaySay : (terms : Terms) → (answer : List ℕ) → ServedRow → Type 0
-MaySay terms answer served =
-    (before after : List (List ℕ)) → length before ≡ terms.size → SaysRowBy terms.told before served after → SaysRowBy terms.told before (record served { answer = answer }) after
+-- The same, and a copy wrote the answer over the row's request.
+pub record IsReady (terms : Terms) (answer : List ℕ) (served : ServedRow) : Type 0 where
+  pub may : MayAnswer terms answer served
+  pub over : IsWrittenOver (told_to terms.told served.unit) served.iu answer
 
 -- what is so of the row in service at a stage
 abbrev pub HoldsAtStage : (terms : Terms) → Stage → (answer given : List ℕ) → Request → ServedRow → Type 0
 HoldsAtStage terms (Given row reply) answer given request served = HasReply terms request given reply served
 HoldsAtStage terms (DataIn row reply cursor) answer given request served = HasReply terms request given reply served
-HoldsAtStage terms (Answer outcome) answer given request served = MaySay terms answer served
-HoldsAtStage terms (Entry outcome) answer given request served = MayAnswer terms answer served
+HoldsAtStage terms (Answer outcome) answer given request served = MayAnswer terms answer served
+HoldsAtStage terms (Entry outcome) answer given request served = IsReady terms answer served
 HoldsAtStage terms _ answer given request served = ⊤
 
 -- what of a desk says which row is in service
@@ -171,8 +172,8 @@ abbrev pub StaysServed : (disk disk' : Held) → (history history' : List Served
 StaysServed disk disk' history history' =
     (before : List (List ℕ)) → IfSome disk.now (ServeFrom disk.terms before history) → IfSome disk'.now (ServeFrom disk'.terms before history')
 
--- Each answer that was put is that of one row more: the desk stays in order, no row of another unit changed, and the disk law
--- stays.
+-- Each answer that was put is that of one row more: the desk stays in order, no row of another unit changed, the disk law
+-- stays, and each row's answer is written over its request still.
 pub record Once (disk disk' : Held) (desk desk' : Desk) (sent sent' : List PipeRow) (history history' : List ServedRow) : Type 0 where
   pub id : desk'.id ≡ desk.id
   pub terms : disk'.terms ≡ disk.terms
@@ -180,6 +181,7 @@ pub record Once (disk disk' : Held) (desk desk' : Desk) (sent sent' : List PipeR
   pub answers : AnswersMore desk.id sent sent' history history'
   pub others : OnlyRowsOf desk.id history history'
   pub stays : StaysServed disk disk' history history'
+  pub written : AreWritten disk.terms.told history → AreWritten disk'.terms.told history'
   pub tells : IfSome disk.now (λ all. IsSome disk'.now)
 
 -- the same of a part of a turn that makes no disk step, whatever the disk is

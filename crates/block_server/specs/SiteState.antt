@@ -5,7 +5,6 @@ use Rattle.std.specs.Borrow.{GName}
 use Rattle.crq_session.specs.EndState.{EndState}
 use Rattle.tce_window.specs.PortState.{PortState}
 use Rattle.tce_window.specs.declared.answers.Right.{Right}
-use Rattle.vio_num.specs.declared.names.UnitId.{UnitId}
 use Rattle.rdma_copy.specs.declared.copy.CopyRecord.{CopyRecord}
 use Rattle.block_server.specs.Causes.{IsDenied}
 

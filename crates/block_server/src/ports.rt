@@ -131,7 +131,8 @@ impl<C: CrqEnd, O: OwnerPort + GuestPort, R: GuestPort> Ports<'_, '_, '_, '_, C,
             self.old.copies.now.items self.new.copies.now.items) }
         ensures none { OnErr result (self.new.copies.now.items ≡ self.old.copies.now.items) }
         ensures laid { LaysNone O.is_shared (O.state self.old.own.now) (O.state self.new.own.now) }
-        ensures rest { OnlyCopies O.is_shared (O.state self.old.own.now) (O.state self.new.own.now) }
+        ensures rest { OnlyCopies O.is_shared
+            (O.state self.old.own.now) (O.state self.new.own.now) }
     {
         let name = StrokeName {
             who: self.unit,

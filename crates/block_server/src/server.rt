@@ -15,6 +15,7 @@ ghost use Rattle.block_server.specs.Turns.{IsStill, way_of};
 ghost use Rattle.block_server.specs.SiteState.{AreReady};
 ghost use Rattle.block_server.specs.Serving.{Terms};
 ghost use Rattle.block_server.specs.Units.{AnswersItsRows, AreInOrder, AreServing, ServesItsRows};
+ghost use Rattle.block_server.specs.Written.{AreWritten};
 
 use crate::disk::Disk;
 use crate::ports::Ports;
@@ -131,6 +132,12 @@ impl<B: Blocks> Server<B> {
             self.old.disk.count self.old.partition self.old.units.items self.old.records →
             AreInOrder told
             self.new.disk.count self.new.partition self.new.units.items self.new.records }
+        ensures written { (told : Told → Bool) → Tells told (O.state own.old).place.unit
+            R.is_shared (O.state own.new) (R.state client.old) (R.state client.new)
+            self.old.copies.items self.new.copies.items → AreInOrder told
+            self.old.disk.count self.old.partition self.old.units.items self.old.records →
+            AreWritten told self.old.records.history.items →
+            AreWritten told self.new.records.history.items }
         ensures tells { IfSome (B.state self.old.disk.image).blocks
             (λ _. IsSome (B.state self.new.disk.image).blocks) }
         ensures quiet { IfOk result (λ moved. moved ≡ Moved.Quiet →

@@ -5,9 +5,6 @@ use Rattle.std.specs.Result.{IsErrOf}
 use Rattle.block_server.specs.declared.site.Halt.TheVariants.{Busy}
 use Rattle.block_server.proofs.Onces.{once_same, once_then}
 use Rattle.block_server.proofs.Hearing.{heard_fetched}
-use Rattle.block_server.specs.Causes.{told_to, units_at}
-use Rattle.block_server.specs.Causes.News.{fetched}
-use Rattle.std.proofs.Common.{ℕ, subst}
 use Rattle.block_server.proofs.Taking.{lines_same, takes_ended, takes_fetched, takes_none}
 use Rattle.block_server.proofs.Advancing.{advances_same}
 use Rattle.vio_num.specs.declared.history.Lapse.TheVariants.{BadIu, Early, Refused}

@@ -1,4 +1,4 @@
-use Rattle.std.proofs.Common.{ap, inl, refl, rules, subst, sym, ◌≡◌, ◌∙◌, ◌++◌, ◌∷◌, [], ℕ, List, length}
+use Rattle.std.proofs.Common.{ap, refl, rules, subst, sym, ◌≡◌, ◌∙◌, ◌++◌, ◌∷◌, [], ℕ, List, length}
 use Rattle.vio_num.specs.declared.history.Served.{Served as ServedRow}
 use Rattle.srp_iu.specs.Layout.{field}
 use Rattle.vio_num.specs.declared.names.UnitId.{UnitId}
@@ -44,7 +44,7 @@ returns-clause-once c = λ rest q disk cause serving.
     refl refl refl (c.in_ok-set_answer.ensures.stage ∙ ap (λ (n : ℕ). Answer (Served n)) place) (λ P is. is)
     row.unit_is row.iu row.answer added refl refl tt
     (may_code order code blank disk.terms bytes spelled c.requires.code cause' row.out row.inn row.fault says)
-    (stays_pushed disk _ _ blank added (λ b. (inl row.answer, code_row disk.terms order code blank b spelled c.requires.code cause' row.out row.inn row.fault (says_none blank.answer (HasCode (field 8 8 blank.iu) code) row.answer))))
+    (stays_pushed disk _ _ blank added (λ b. code_row disk.terms order code blank b spelled c.requires.code cause' row.out row.inn row.fault (says_none blank.answer (HasCode (field 8 8 blank.iu) code) row.answer)))
     (tells_same disk.now) serving.brought
 
 pub returns-in_err-blank-clause-books : goal.returns-in_err-blank-clause-books

@@ -66,6 +66,17 @@ returns-clause-causes g c = λ told tells all.
     keeps_disk (held told server.disk.count (g.B.Blocks.state server.disk.image).blocks) (held told c.turn.new.disk.count (g.B.Blocks.state c.turn.new.disk.image).blocks) _ _
     (g.B.Blocks.state server.disk.image).size server.disk.sized once.terms (g.met.B.Blocks.told server.disk.image) once.stays
 
+pub returns-clause-written : goal.returns-clause-written
+returns-clause-written g c = λ told tells all.
+    let server = c.args.self.now in
+    let there : slice_get server.units.items c.args.unit ≡ Some c.index_mut.result.now =
+    slice_get_read server.units.items _ c.args.unit _ server.units.ok.0 c.requires.unit c.index_mut.ensures.value in
+    let is = all c.args.unit c.index_mut.result.now there in
+    let reached = ap (λ (lent : Lenders). lent.client) c.turn.ensures.advances.reached in
+    let heard = tells_turn told _ _ _ _ _ _ _ _ _ _ (sym (is.id ∙ sym c.requires.named)) (sym (ap g.O.WindowPort.state (c.own-1.given.1 (sym (ap (λ (lent : Lenders). lent.own) c.turn.ensures.advances.reached)))))
+    (sym (ap g.R.WindowPort.state (c.client-1.given.1 (sym reached)))) tells in
+    (c.turn.ensures.once told heard is.serving).written
+
 pub returns-clause-order : goal.returns-clause-order
 returns-clause-order g c = λ told tells all.
     let server = c.args.self.now in
