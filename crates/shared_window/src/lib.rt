@@ -1,0 +1,5 @@
+// A window of translation entries that an owner and guests in several threads share without a lock: its pages
+// by turns, its entries by pins.
+#![tactic(auto)]
+
+mod hand;
