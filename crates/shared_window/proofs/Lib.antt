@@ -1,3 +1,4 @@
 pub mod Giving
 pub mod Nearest
+pub mod Pins
 pub mod Taking
