@@ -1,4 +1,7 @@
 pub mod Giving
 pub mod Nearest
 pub mod Pins
+pub mod GivingBack
+pub mod HeldRanges
+pub mod Refusals
 pub mod Taking

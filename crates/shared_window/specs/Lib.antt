@@ -1,2 +1,5 @@
+pub mod Counting
 pub mod Hand
 pub mod Pinning
+pub mod Ranges
+pub mod SharedWindow

@@ -4,3 +4,8 @@
 
 mod hand;
 mod pinning;
+mod placing;
+mod seat;
+mod window;
+
+pub use window::Window;

@@ -71,7 +71,7 @@ loop-done-preserved c =
     let entry : piece.entry ≡ (ioba + done) / 4096 = p.piece_is.entry in
     let here : (first ≤ piece.entry) × (piece.entry < first + length c.push.new.self.items) = (omega (arith, entry, at), omega (arith, entry, at, longer)) in
     let usable : 0 < done → (e : ℕ) → first ≤ e → e * 4096 < ioba + done → (e < n) × MayUse (values_of new.rows) c.args.right e
-        = λ some e low high. let u = inv.usable some e low high in (u.0, usable_still (values_of seat.rows) (values_of new.rows) first (first + length pieces) same c.args.right e low (let a = inv.aligned some less in omega (arith, high, at, a)) u.1) in
+    = λ some e low high. let u = inv.usable some e low high in (u.0, usable_still (values_of seat.rows) (values_of new.rows) first (first + length pieces) same c.args.right e low (let a = inv.aligned some less in omega (arith, high, at, a)) u.1) in
     record {
       within = omega (arith, bytes.within, size, less);
       aligned = λ some more. bytes_aligned ioba done c.args.len piece.len c.from-done.result size bytes more;
@@ -116,7 +116,7 @@ returns-in-Err-clause-err c =
     let pinned : (i : ℕ) → first ≤ i → i < first + length pieces → IsPinned seat i = λ i low high. let from_is = inv.pins.from (omega (arith, low, high)) in let count = inv.pins.count_is in (omega (arith, low, from_is), omega (arith, high, from_is, count)) in
     let same : (i : ℕ) → first ≤ i → i < first + length pieces → values_of new.rows i ≡ values_of seat.rows i = λ i low high. cause_of c.args.right n ((ioba + done) / 4096) old seat new fault r.pins i (pinned i low high) in
     let before : (entry : ℕ) → entry ≡ (ioba + done) / 4096 → AreUsable (values_of new.rows) c.args.right n first entry
-        = λ entry e q low high. let u = inv.usable (omega (arith, e, low, high)) q low (omega (arith, e, high)) in (u.0, usable_still (values_of seat.rows) (values_of new.rows) first (first + length pieces) same c.args.right q low (omega (arith, e, high, at)) u.1) in
+    = λ entry e q low high. let u = inv.usable (omega (arith, e, low, high)) q low (omega (arith, e, high)) in (u.0, usable_still (values_of seat.rows) (values_of new.rows) first (first + length pieces) same c.args.right q low (omega (arith, e, high, at)) u.1) in
     record {
       pins = record {
         known = subst (Begins old.rows) (sym rel.rows) up.known;
