@@ -56,6 +56,7 @@ module _ (w : SharedWindowValue) (old : WindowSeatValue) (held : HeldValue) (at 
         inside : p < w.pages.count → (h : Option (List StrokeValue)) → held_strokes held.pages p ≡ h → Some (given h (saw old.pages p)) ≡ either (strokes_known w.pages.count old.pages p) h
         inside less (Some s) e = sym (ap (λ x. either x (Some s)) (known_held w.pages.count old.pages p (sym (out.pages p) ∙ ap is_some e)))
         inside less None e = sym (ap (λ x. either x None) (known_free w.pages.count old.pages p less (sym (out.pages p) ∙ ap is_some e)))
+
         outside : w.pages.count ≤ p → (h : Option (List StrokeValue)) → held_strokes held.pages p ≡ h → None ≡ either (strokes_known w.pages.count old.pages p) h
         outside more (Some s) e = absurd (let less = at.inside p (sym (out.pages p) ∙ ap is_some e) in omega (arith, less, more))
         outside more None e = sym (ap (λ x. either x None) (known_past w.pages.count old.pages p more))

@@ -1,4 +1,5 @@
 pub mod Counting
+pub mod GuestState
 pub mod Hand
 pub mod Pinning
 pub mod Ranges

@@ -2,10 +2,12 @@
 // by turns, its entries by pins.
 #![tactic(auto)]
 
+mod guest;
 mod hand;
 mod pinning;
 mod placing;
 mod seat;
 mod window;
 
+pub use guest::{Guest, SharedGuest};
 pub use window::Window;

@@ -5,6 +5,7 @@ ghost use Rattle.shared_window.specs.Pinning.{Releases};
 ghost use Rattle.shared_window.specs.SharedWindow.{IsSeatAt, IsOutWith};
 ghost use Rattle.shared_window.specs.Ranges.{HoldsRange, RefusesHold, GivesRange};
 
+use crate::guest::Guest;
 use crate::hand::{FoundInUse, give_pages, take_pages};
 use crate::pinning::{pin_range, unpin_all};
 use crate::placing::{place_pieces, unplaced_pieces};
@@ -110,5 +111,36 @@ impl Window {
                 pieces.len() as u16,
             );
         }
+    }
+
+    /// Holds a range of 1 to 65,536 bytes for this right, if the guest holds nothing. Until it is given back its
+    /// entries keep their values, and its pages are in the guest's hand. Where it refuses, nothing is held.
+    pub fn hold(
+        &self,
+        guest: &mut Guest,
+        ioba: u64,
+        len: u32,
+        right: Right,
+    ) -> Result<Held, HoldFault>
+        requires at { IsSeatAt self.now guest.old }
+        requires free { guest.old.entries.held_count ≡ 0 }
+        requires len { (1 ≤ len) × (len ≤ 65536) }
+        ensures at { IsSeatAt self.now guest.new }
+        ensures ok { IfOk result (HoldsRange self.now guest.old ioba len right guest.new) }
+        ensures err { IfErr result (RefusesHold self.now guest.old ioba len right guest.new) }
+    {
+        self.hold_range(&mut guest.seat, ioba, len, right)
+    }
+
+    /// Gives the range back that the guest's last hold answered: its entries may take values again, and its pages
+    /// are in their places with all their strokes. None of its entries took a value since the hold.
+    pub fn give_back(&self, guest: &mut Guest, held: Held)
+        requires at { IsSeatAt self.now guest.old }
+        requires out { IsOutWith self.now guest.old held }
+        ensures at { IsSeatAt self.now guest.new }
+        ensures gives { GivesRange self.now guest.old held guest.new }
+        ensures kept { Releases guest.old.entries (length held.pieces) guest.new.entries }
+    {
+        self.give_range(&mut guest.seat, held);
     }
 }
