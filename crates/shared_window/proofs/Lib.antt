@@ -1,5 +1,6 @@
 pub mod Giving
 pub mod Nearest
+pub mod NewSeats
 pub mod Pins
 pub mod GivingBack
 pub mod HeldRanges

@@ -168,9 +168,9 @@ given_when : (w : Bool) (s : List StrokeValue) → given (if w then Some s else 
 given_when true s = refl
 given_when false s = refl
 
-released_when : (w : Bool) (s : List StrokeValue) (h now : Bool) → now ≡ (if w then true else h) → (w ≡ true → h ≡ false) → released (if w then Some s else None) now ≡ h
-released_when true s h now is free = sym (free refl)
-released_when false s h now is free = is
+released_when : (w : Bool) (s : List StrokeValue) (h held : Bool) → held ≡ (if w then true else h) → (w ≡ true → h ≡ false) → released (if w then Some s else None) held ≡ h
+released_when true s h held is free = sym (free refl)
+released_when false s h held is free = is
 
 -- pages that go back as they were taken leave what the seat holds and laid as before
 module _ (pages : PagesValue) (old new new' : PageSeatValue) (wanted : ℕ → Bool) (region : List (Option PageValue)) (took : TakesPages pages old wanted new region) (gives : GivesHand new (strokes_at region) new') where

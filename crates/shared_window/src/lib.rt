@@ -4,10 +4,14 @@
 
 mod guest;
 mod hand;
+mod open;
+mod owner;
 mod pinning;
 mod placing;
 mod seat;
 mod window;
 
 pub use guest::{Guest, SharedGuest};
+pub use open::Opened;
+pub use owner::Owner;
 pub use window::Window;
