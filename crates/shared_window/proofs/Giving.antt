@@ -1,17 +1,14 @@
 -- Pages of a hand that are given back, one after another.
-use Rattle.std.proofs.Common.{◌≡◌, ℕ, suc, ◌+◌, ◌-◌, ◌<◌, ◌≤◌, ◌==◌, if◌then◌else◌, Bool, true, false, true≢false, List, [], ◌++◌, Option, Some, None, IsSome, is_some, nat_le, append-nil, length, refl, sym, ap, ◌∙◌, subst, ⊎_elim, arith}
+use Rattle.std.proofs.Common.{◌≡◌, ℕ, ◌+◌, ◌-◌, ◌<◌, ◌≤◌, ◌==◌, if◌then◌else◌, Bool, true, false, true≢false, List, [], ◌++◌, Option, Some, None, is_some, nat_le, append-nil, length, refl, sym, ap, ◌∙◌, subst, ⊎_elim, arith}
 use Rattle.std.proofs.lemmas.Bool.{eq-eqb, ne_eqb}
 use Rattle.std.proofs.lemmas.Bool.Decides.{leb_tells, eqb_tells}
 use Rattle.page_slots.specs.Page.{PageValue}
 use Rattle.page_slots.specs.Stroke.{StrokeValue}
 use Rattle.page_slots.specs.Seats.{PagesValue, PageSeatValue, saw, holds, laid_on, places_from}
 use Rattle.page_slots.specs.Turns.{GivesPage}
-use Rattle.tce_window.specs.declared.piece.Piece.{Piece}
 use Rattle.tce_window.specs.Moved.{stroke_count}
-use Rattle.tce_window.specs.Pieces.{on_page}
 use Rattle.tce_window.specs.Window.{strokes_at}
-use Rattle.shared_window.specs.Hand.{is_below, IsFirstOn, GivesHand, GivesUpTo, GivesOne, HasInHand, IsEmptyFor, given, released, places_behind, BeginsIn}
-use Rattle.shared_window.proofs.Nearest.{below_not}
+use Rattle.shared_window.specs.Hand.{GivesHand, GivesUpTo, HasInHand, given, released, places_behind, BeginsIn}
 use Rattle.shared_window.proofs.Taking.{less_of}
 
 pub none_of : (x : Option (List StrokeValue)) → is_some x ≡ false → x ≡ None

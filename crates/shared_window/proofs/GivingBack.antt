@@ -1,10 +1,9 @@
 -- A range that is given back: its pages are in their places with all their strokes.
-use Rattle.std.proofs.Common.{◌≡◌, ℕ, suc, ◌+◌, ◌-◌, ◌<◌, ◌≤◌, nat_le, Bool, true, false, true≢false, All, List, [], ◌++◌, map, Option, Some, None, IsSome, is_some, length, append-nil, refl, sym, ap, ◌∙◌, subst, ⊎_elim, arith}
-use Rattle.std.specs.Borrow.{GName}
+use Rattle.std.proofs.Common.{◌≡◌, ℕ, suc, ◌-◌, ◌<◌, ◌≤◌, nat_le, Bool, true, false, true≢false, List, ◌++◌, map, Option, Some, None, is_some, length, refl, sym, ap, ◌∙◌, subst, ⊎_elim, arith}
 use Rattle.std.proofs.lemmas.Bool.Decides.{leb_tells}
 use Rattle.page_slots.specs.Page.{PageValue}
 use Rattle.page_slots.specs.Stroke.{StrokeValue}
-use Rattle.page_slots.specs.Seats.{PageSeatValue, saw, holds, laid_on, places_from}
+use Rattle.page_slots.specs.Seats.{saw, holds, laid_on, places_from}
 use Rattle.tce_window.specs.Grant.{values_of}
 use Rattle.tce_window.specs.Held.{HeldValue, held_strokes, either}
 use Rattle.tce_window.specs.Moved.{unplaced, stroke_count}
@@ -14,8 +13,8 @@ use Rattle.tce_window.specs.Window.{strokes_at}
 use Rattle.shared_window.specs.Hand.{HasInHand, GivesHand, BeginsIn, IsEmptyFor, given, released, places_behind}
 use Rattle.shared_window.specs.Pinning.{Releases}
 use Rattle.shared_window.specs.Ranges.{GivesRange}
-use Rattle.shared_window.specs.SharedWindow.{SharedWindowValue, WindowSeatValue, strokes_known, taken_with, port_of, IsSeatAt, IsOutWith}
-use Rattle.shared_window.proofs.HeldRanges.{known_free, known_held, known_past, taken_held, taken_free}
+use Rattle.shared_window.specs.SharedWindow.{SharedWindowValue, WindowSeatValue, strokes_known, taken_with, IsSeatAt, IsOutWith}
+use Rattle.shared_window.proofs.HeldRanges.{known_free, known_held, known_past, taken_held}
 
 module _ (w : SharedWindowValue) (old : WindowSeatValue) (held : HeldValue) (at : IsSeatAt w old) (out : IsOutWith w old held) (region : List (Option PageValue)) (size : length region ≡ length old.region)
     (put : (p : ℕ) → strokes_at region p ≡ either (strokes_at old.region p) (held_strokes held.pages p)) where

@@ -1,31 +1,30 @@
 -- A range that is held: what its holder knows of the window before and after.
-use Rattle.std.proofs.Common.{◌≡◌, ℕ, suc, ◌+◌, ◌-◌, ◌*◌, ◌/◌, ◌%◌, ◌<◌, ◌≤◌, ◌==◌, ◌&&◌, ◌||◌, not, nat_le, nat_lt, if◌then◌else◌, Bool, true, false, true≢false, All, List, [], ◌∷◌, ◌++◌, map, filter, Option, Some, None, IsSome, is_some, length, get_or, refl, sym, ap, ◌∙◌, subst, ⊎_elim, arith}
+use Rattle.std.proofs.Common.{◌≡◌, ℕ, suc, ◌+◌, ◌*◌, ◌/◌, ◌<◌, ◌≤◌, ◌==◌, ◌&&◌, ◌||◌, not, nat_le, nat_lt, if◌then◌else◌, Bool, true, false, true≢false, All, List, [], ◌∷◌, ◌++◌, map, filter, Option, Some, None, IsSome, is_some, length, get_or, refl, sym, ap, ◌∙◌, subst, ⊎_elim, arith}
 use Rattle.std.specs.Borrow.{GName}
-use Rattle.std.specs.List.{list_any}
-use Rattle.std.proofs.lemmas.Bool.Decides.{leb_tells, eqb_tells}
+use Rattle.std.proofs.lemmas.Bool.Decides.{leb_tells}
 use Rattle.std.proofs.lemmas.List.Elements.{All-map, filter-append}
 use Rattle.std.proofs.lemmas.List.{length-map, map-append}
 use Rattle.vio_num.specs.declared.names.UnitId.{UnitId}
 use Rattle.vio_num.specs.Words.{Begins}
 use Rattle.page_slots.specs.Page.{PageValue}
 use Rattle.page_slots.specs.Stroke.{StrokeValue}
-use Rattle.page_slots.specs.Seats.{PageSeatValue, saw, holds, laid_on}
+use Rattle.page_slots.specs.Seats.{PageSeatValue, saw, holds}
 use Rattle.tce_window.specs.declared.answers.Right.{Right}
 use Rattle.tce_window.specs.declared.answers.TceRow.{TceRow}
 use Rattle.tce_window.specs.declared.held_pages.HeldPage.{HeldPage}
 use Rattle.tce_window.specs.declared.piece.Piece.{Piece}
 use Rattle.tce_window.specs.Grant.{values_of}
-use Rattle.tce_window.specs.Held.{HeldValue, held_strokes}
+use Rattle.tce_window.specs.Held.{held_strokes}
 use Rattle.tce_window.specs.Moved.{unplaced, stroke_count}
-use Rattle.tce_window.specs.Pieces.{on_page, HasStrokes, IsPieceAt, Touches, LieFrom, IsGranted, IsLast, IsUsable}
-use Rattle.tce_window.specs.Port.{Grows, TakenOver, Later}
-use Rattle.tce_window.specs.PortState.{Holds, HoldsNone, Learns, Counts, OnlyHolds}
+use Rattle.tce_window.specs.Pieces.{on_page, HasStrokes, Touches, LieFrom, IsUsable}
+use Rattle.tce_window.specs.Port.{Grows, TakenOver}
+use Rattle.tce_window.specs.PortState.{Holds, OnlyHolds}
 use Rattle.tce_window.specs.Window.{strokes_at}
 use Rattle.tce_window.proofs.Laws.{kept_length, kept_len, kept_all, kept_touches, kept_granted, kept_last, touched_lie, touched_some}
 use Rattle.tce_window.proofs.Holding.{page_within}
 use Rattle.tce_window.proofs.Piecing.{own_page}
 use Rattle.tce_window.proofs.Reading.{touched_len}
-use Rattle.shared_window.specs.Hand.{TakesPages, BeginsIn, IsEmptyFor}
+use Rattle.shared_window.specs.Hand.{TakesPages, BeginsIn}
 use Rattle.shared_window.specs.Pinning.{PinsRange}
 use Rattle.shared_window.specs.Ranges.{HoldsRange}
 use Rattle.shared_window.specs.SharedWindow.{SharedWindowValue, WindowSeatValue, strokes_known, taken_with, port_of, IsSeatAt, AreOut, IsOutWith}

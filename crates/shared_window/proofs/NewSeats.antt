@@ -1,5 +1,5 @@
 -- Seats that made no call.
-use Rattle.std.proofs.Common.{◌≡◌, ℕ, zero, suc, ◌<◌, true, false, true≢false, All, List, [], ◌∷◌, ◌++◌, Option, None, replicate, length, length-append, ◌+◌, refl, sym, ◌∙◌, subst, arith}
+use Rattle.std.proofs.Common.{◌≡◌, ℕ, zero, suc, true≢false, All, List, [], ◌∷◌, ◌++◌, Option, None, replicate, length, length-append, refl, sym, ◌∙◌, subst, arith}
 use Rattle.std.proofs.Math.Seq.{get_or-append_seam}
 use Rattle.std.proofs.lemmas.List.{length-replicate, get_or_append_left}
 use Rattle.page_slots.specs.Page.{PageValue}

@@ -1,15 +1,13 @@
 -- What a pin shows of an entry, and what is known of those that are held.
-use Rattle.std.proofs.Common.{◌≡◌, ℕ, zero, suc, ◌+◌, ◌-◌, ◌*◌, ◌/◌, ◌%◌, ◌<◌, ◌≤◌, ◌==◌, if◌then◌else◌, not, Bool, true, false, IsTrue, true≢false, All, List, [], ◌∷◌, ◌++◌, map, length, get_or, append-nil, inl, inr, refl, sym, ap, ◌∙◌, subst, ⊎_elim, arith, slice_get, Some}
+use Rattle.std.proofs.Common.{◌≡◌, ℕ, zero, suc, ◌+◌, ◌*◌, ◌/◌, ◌%◌, ◌<◌, ◌≤◌, ◌==◌, if◌then◌else◌, not, Bool, true, false, true≢false, All, List, [], ◌∷◌, ◌++◌, length, get_or, append-nil, inl, inr, refl, sym, ap, ◌∙◌, subst, arith, slice_get}
 use Rattle.std.proofs.lemmas.Bool.{eq-eqb, ne_eqb}
-use Rattle.std.proofs.lemmas.Bool.Decides.{eqb_tells}
-use Rattle.vio_num.specs.Words.{Begins}
 use Rattle.tce_window.specs.declared.answers.Right.{Right}
 use Rattle.tce_window.specs.declared.answers.Right.TheVariants.{Read, Write}
 use Rattle.tce_window.specs.declared.answers.HoldFault.{HoldFault}
 use Rattle.tce_window.specs.declared.answers.HoldFault.TheVariants.{Past, NotGranted, InUse}
 use Rattle.tce_window.specs.declared.answers.TceRow.{TceRow}
 use Rattle.tce_window.specs.declared.piece.Piece.{Piece}
-use Rattle.tce_window.specs.Grant.{values_of, has_right, grants, told, IsCurrent}
+use Rattle.tce_window.specs.Grant.{values_of, has_right, grants, told}
 use Rattle.tce_window.specs.Pieces.{IsGranted, IsLast, MayUse, IsRefusedAt}
 use Rattle.entry_slots.specs.Entries.{EntrySeatValue, IsPinned, IsNext, PinsEntry}
 use Rattle.shared_window.specs.Pinning.{PinsOne, PinsUpTo, PinsFor, pinned_by, counts_from}

@@ -1,5 +1,5 @@
 -- What a hold leaves, by its answer, as a port through any borrows.
-use Rattle.std.proofs.Common.{◌≡◌, ℕ, true, List, Ok, Err, Result}
+use Rattle.std.proofs.Common.{ℕ, true, List, Ok, Err, Result}
 use Rattle.std.specs.Prelude.{IfOk, IfErr, OnErr}
 use Rattle.std.specs.Borrow.{GName}
 use Rattle.tce_window.specs.declared.answers.HoldFault.{HoldFault}

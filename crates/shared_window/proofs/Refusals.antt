@@ -1,6 +1,5 @@
 -- A range that is refused: what the port knows then.
-use Rattle.std.proofs.Common.{◌≡◌, ℕ, suc, ◌+◌, ◌-◌, ◌*◌, ◌/◌, ◌%◌, ◌<◌, ◌≤◌, ◌==◌, ◌||◌, Bool, true, false, true≢false, All, List, [], ◌∷◌, map, Option, length, get_or, refl, sym, ap, ◌∙◌, subst, arith}
-use Rattle.std.specs.Borrow.{GName}
+use Rattle.std.proofs.Common.{◌≡◌, ℕ, suc, ◌+◌, ◌/◌, ◌<◌, ◌≤◌, ◌==◌, ◌||◌, Bool, true, false, true≢false, All, List, [], ◌∷◌, Option, length, refl, sym, ◌∙◌, subst, arith}
 use Rattle.std.proofs.lemmas.Bool.{eqb-true}
 use Rattle.std.proofs.lemmas.List.Elements.{All-cons}
 use Rattle.vio_num.specs.declared.names.UnitId.{UnitId}
@@ -14,9 +13,8 @@ use Rattle.tce_window.specs.declared.answers.Right.{Right}
 use Rattle.tce_window.specs.declared.answers.TceRow.{TceRow}
 use Rattle.tce_window.specs.declared.piece.Piece.{Piece}
 use Rattle.tce_window.specs.Grant.{values_of}
-use Rattle.tce_window.specs.Pieces.{on_page, IsPieceAt, Touches, IsGranted, IsLast, IsRefused, IsOfRange, IsOfEntry, IsUsable, NamesPage}
+use Rattle.tce_window.specs.Pieces.{on_page, Touches, IsGranted, IsLast, IsRefused, IsOfRange, IsOfEntry, IsUsable}
 use Rattle.tce_window.specs.Port.{NamesFound}
-use Rattle.tce_window.specs.PortState.{HoldsNone, OnlyHolds}
 use Rattle.tce_window.proofs.Holding.{page_within}
 use Rattle.entry_slots.specs.Entries.{EntrySeatValue}
 use Rattle.shared_window.specs.Counting.{CountsFault}
@@ -24,7 +22,7 @@ use Rattle.shared_window.specs.Hand.{FindsOneInUse}
 use Rattle.shared_window.specs.declared.hand.FoundInUse.{FoundInUse}
 use Rattle.shared_window.specs.Pinning.{PinsRange, RefusesRange, Releases}
 use Rattle.shared_window.specs.Ranges.{RefusesHold}
-use Rattle.shared_window.specs.SharedWindow.{SharedWindowValue, WindowSeatValue, port_of, FoundBy}
+use Rattle.shared_window.specs.SharedWindow.{SharedWindowValue, WindowSeatValue, FoundBy}
 use Rattle.shared_window.proofs.Taking.{begins_self}
 use Rattle.shared_window.proofs.HeldRanges.{knows_more, values_begin}
 

@@ -1,5 +1,5 @@
 -- Pages that are taken into a hand, one after another, and what they leave where they go back as they were.
-use Rattle.std.proofs.Common.{◌≡◌, ℕ, suc, ◌+◌, ◌-◌, ◌<◌, ◌≤◌, ◌==◌, if◌then◌else◌, Bool, true, false, true≢false, List, [], ◌∷◌, ◌++◌, Option, Some, None, IsSome, is_some, nat_le, All, append-nil, length, refl, sym, ap, ◌∙◌, subst, ⊎_elim, arith}
+use Rattle.std.proofs.Common.{◌≡◌, ℕ, suc, ◌+◌, ◌-◌, ◌<◌, ◌≤◌, ◌==◌, if◌then◌else◌, Bool, true, false, true≢false, List, [], ◌++◌, Option, Some, None, is_some, nat_le, All, append-nil, length, refl, sym, ap, ◌∙◌, subst, ⊎_elim, arith}
 use Rattle.std.proofs.lemmas.Bool.{eq-eqb, ne_eqb}
 use Rattle.std.proofs.lemmas.Bool.Decides.{leb_tells, eqb_tells}
 use Rattle.std.proofs.lemmas.List.{append_assoc}
@@ -8,7 +8,6 @@ use Rattle.page_slots.specs.Page.{PageValue}
 use Rattle.page_slots.specs.Stroke.{StrokeValue}
 use Rattle.page_slots.specs.Seats.{PagesValue, PageSeatValue, saw, holds, laid_on, places_from}
 use Rattle.tce_window.specs.declared.piece.Piece.{Piece}
-use Rattle.tce_window.specs.Moved.{stroke_count}
 use Rattle.tce_window.specs.Pieces.{on_page}
 use Rattle.tce_window.specs.Window.{strokes_at}
 use Rattle.shared_window.specs.Hand.{is_below, IsFirstOn, IsEmptyFor, TakesPages, TakesOne, GivesHand, HasInHand, given, released, places_behind, BeginsIn}

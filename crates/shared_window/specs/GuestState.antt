@@ -1,12 +1,12 @@
 -- A guest of a shared window as a port.
-use Rattle.std.specs.Prelude.{◌≡◌, ℕ, ◌+◌, ◌*◌, ◌++◌, true, Bool, List, [], ◌∷◌, Option, Some, None, is_some, map, slice_get, refl}
+use Rattle.std.specs.Prelude.{◌≡◌, ℕ, ◌+◌, ◌*◌, ◌++◌, true, List, [], ◌∷◌, Option, Some, None, is_some, slice_get, refl}
 use Rattle.std.proofs.Common.{sym, ap, ◌∙◌, subst}
 use Rattle.std.proofs.lemmas.List.{append_assoc}
 use Rattle.page_slots.specs.Stroke.{StrokeValue}
 use Rattle.page_slots.specs.Seats.{saw}
 use Rattle.tce_window.specs.Grant.{values_of}
 use Rattle.tce_window.specs.Held.{HeldValue, held_strokes}
-use Rattle.tce_window.specs.Moved.{unplaced, Follows}
+use Rattle.tce_window.specs.Moved.{Follows}
 use Rattle.tce_window.specs.Port.{Grows}
 use Rattle.tce_window.specs.PortState.{PortState}
 use Rattle.shared_window.specs.declared.guest.SharedGuest.{SharedGuest}

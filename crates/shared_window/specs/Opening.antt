@@ -1,5 +1,5 @@
 -- New seats at a shared window.
-use Rattle.std.specs.Prelude.{◌≡◌, ℕ, ◌<◌, true, All, List, [], length}
+use Rattle.std.specs.Prelude.{◌≡◌, ℕ, true, All, List, [], length}
 use Rattle.vio_num.specs.declared.names.UnitId.{UnitId}
 use Rattle.page_slots.specs.Seats.{saw, laid_on}
 use Rattle.tce_window.specs.declared.answers.TceRow.{TceRow}

@@ -7,7 +7,7 @@ use Rattle.tce_window.specs.Grant.{values_of}
 use Rattle.tce_window.specs.Held.{HeldValue, held_strokes, either}
 use Rattle.tce_window.specs.Pieces.{IsRefused}
 use Rattle.tce_window.specs.Port.{NamesFound}
-use Rattle.tce_window.specs.PortState.{PortState, Holds, HoldsNone, OnlyHolds, OnlyGivesBack, LaysNothing, Lays, places_since}
+use Rattle.tce_window.specs.PortState.{Holds, HoldsNone, OnlyHolds, OnlyGivesBack, LaysNothing, Lays, places_since}
 use Rattle.shared_window.specs.Counting.{CountsFault}
 use Rattle.shared_window.specs.SharedWindow.{SharedWindowValue, WindowSeatValue, strokes_known, port_of, IsOutWith, FoundBy}
 

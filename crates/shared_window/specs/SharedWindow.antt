@@ -1,5 +1,5 @@
 -- What contracts see of a shared window and of a seat at it, and such a seat as a port.
-use Rattle.std.specs.Prelude.{◌≡◌, ℕ, ◌+◌, ◌<◌, ◌≤◌, ◌&&◌, nat_lt, not, if◌then◌else◌, Bool, true, false, All, List, [], Option, Some, None, is_some, length, map}
+use Rattle.std.specs.Prelude.{◌≡◌, ℕ, ◌+◌, ◌<◌, ◌≤◌, ◌&&◌, nat_lt, not, if◌then◌else◌, true, false, All, List, Option, Some, None, is_some, length, map}
 use Rattle.std.specs.Borrow.{GName}
 use Rattle.vio_num.specs.declared.names.UnitId.{UnitId}
 use Rattle.page_slots.specs.Page.{PageValue}

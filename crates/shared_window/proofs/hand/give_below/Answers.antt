@@ -1,4 +1,4 @@
-use Rattle.std.proofs.Common.{rules, arith, ◌≡◌, ℕ, ◌+◌, ◌<◌, ◌≤◌, Option, List, None, subst, sym, ap, ◌∙◌}
+use Rattle.std.proofs.Common.{rules, ◌≡◌, ℕ, ◌+◌, Option, List, subst, sym, ◌∙◌}
 use Rattle.page_slots.specs.Stroke.{StrokeValue}
 use Rattle.tce_window.specs.Window.{strokes_at}
 use Rattle.shared_window.specs.Hand.{IsFirstOn, GivesUpTo}

@@ -1,5 +1,5 @@
 -- The pages below the next number are in the hand, or all go back.
-use Rattle.std.proofs.Common.{rules, arith, ◌≡◌, ℕ, ◌+◌, ◌≤◌, false, subst, sym, ap, ◌∙◌}
+use Rattle.std.proofs.Common.{rules, ◌≡◌, ℕ, ◌+◌, ◌≤◌, false, subst, sym, ap, ◌∙◌}
 use Rattle.tce_window.specs.Pieces.{on_page}
 use Rattle.shared_window.specs.Hand.{is_below, IsFirstOn, TakesPages, TakesOne, FindsOne, GivesHand}
 use Rattle.tce_window.specs.Window.{strokes_at}

@@ -1,9 +1,8 @@
 -- Each release shows the version that was known as the last.
-use Rattle.std.proofs.Common.{rules, arith, ◌≡◌, ℕ, ◌+◌, ◌-◌, ◌<◌, List, [], ◌∷◌, ◌++◌, map, length, sym, ap, ◌∙◌}
+use Rattle.std.proofs.Common.{arith, ◌≡◌, ℕ, ◌+◌, ◌-◌, [], ◌∷◌, ◌++◌, length, sym, ap, ◌∙◌}
 use Rattle.std.proofs.lemmas.List.{append_assoc, map-append}
 use Rattle.tce_window.specs.Grant.{values_of}
 use Rattle.entry_slots.specs.Words.{version_in}
-use Rattle.shared_window.specs.Pinning.{counts_from}
 use Rattle.shared_window.proofs.Pins.{counts_more}
 use Rattle.shared_window.proofs.pinning.unpin_all.Goals as goal
 

@@ -1,4 +1,3 @@
-use Rattle.std.proofs.Common.{◌≡◌, ◌+◌}
 use Rattle.shared_window.specs.Pinning.{Releases}
 use Rattle.shared_window.proofs.pinning.unpin_all.Given as goal
 

@@ -1,5 +1,5 @@
 -- Each pair of seats is a new guest's.
-use Rattle.std.proofs.Common.{rules, arith, ◌≡◌, ◌+◌, List, [], ◌∷◌, ◌++◌, length, length-append, ap, ◌∙◌}
+use Rattle.std.proofs.Common.{rules, arith, ◌≡◌, List, [], ◌∷◌, ◌++◌, length, length-append, ap, ◌∙◌}
 use Rattle.std.proofs.lemmas.List.Elements.{All-push}
 use Rattle.page_slots.specs.Seats.{PageSeatValue}
 use Rattle.page_slots.specs.Turns.{IsFresh}
