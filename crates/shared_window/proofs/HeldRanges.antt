@@ -109,6 +109,27 @@ pub record Taken (w : SharedWindowValue) (old new : WindowSeatValue) (ioba len :
   pub left_size : length new.region ≡ length region
   pub in_use : new.in_use ≡ old.in_use
 
+-- the same of what calls tell of slices of these lists
+pub taken_of : (w : SharedWindowValue) (old new : WindowSeatValue) (ioba len : ℕ) (right : Right) (pieces placed front back : List Piece) (region : List (Option PageValue)) (pages : List (Option HeldPage)) (w' : SharedWindowValue) (old' : WindowSeatValue)
+    → w ≡ w' → old ≡ old' → front ≡ pieces → back ≡ placed → IsSeatAt w' old' → old'.entries.held_count ≡ 0 → w.entries.count ≡ w.pages.count
+    → PinsRange w.unit w.entries.count right ioba len old.entries pieces new.entries → TakesPages w.pages old.pages (on_page front) new.pages region
+    → All (λ piece. HasStrokes piece (strokes_at region piece.page)) placed → map unplaced placed ≡ map unplaced pieces
+    → ((p : ℕ) → held_strokes pages p ≡ (if on_page back p then strokes_at region p else None)) → ((p : ℕ) → strokes_at new.region p ≡ (if on_page back p then None else strokes_at region p))
+    → length new.region ≡ length region → new.in_use ≡ old.in_use → Taken w old new ioba len right pieces placed region pages
+taken_of w old new ioba len right pieces placed front back region pages w' old' ws olds fronts backs at free size pin take strokes same held left left_size in_use = record {
+  at = subst (λ (z : SharedWindowValue × WindowSeatValue). IsSeatAt z.0 z.1) (λ i. (sym ws i, sym olds i)) at;
+  free = subst (λ (s : WindowSeatValue). s.entries.held_count ≡ 0) (sym olds) free;
+  size = size;
+  pin = pin;
+  take = subst (λ l. TakesPages w.pages old.pages (on_page l) new.pages region) fronts take;
+  strokes = strokes;
+  same = same;
+  held = λ p. held p ∙ ap (λ l. if on_page l p then strokes_at region p else None) backs;
+  left = λ p. left p ∙ ap (λ l. if on_page l p then None else strokes_at region p) backs;
+  left_size = left_size;
+  in_use = in_use;
+}
+
 both_none : (b c : Bool) (s : List StrokeValue) (x : Option (List StrokeValue)) → c ≡ b → x ≡ (if b then Some s else None) → (if c then None else x) ≡ None
 both_none b true s x e is = refl
 both_none true false s x e is = absurd (true≢false (sym e))

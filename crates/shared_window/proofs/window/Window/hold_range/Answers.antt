@@ -12,7 +12,7 @@ use Rattle.shared_window.specs.Hand.{TakesPages, FindsOneInUse}
 use Rattle.shared_window.specs.Pinning.{Releases}
 use Rattle.shared_window.specs.Ranges.{HoldsRange, RefusesHold}
 use Rattle.shared_window.specs.SharedWindow.{SharedWindowValue, WindowSeatValue, IsSeatAt}
-use Rattle.shared_window.proofs.HeldRanges.{Taken, to_range, to_at, some_bytes, pages_below}
+use Rattle.shared_window.proofs.HeldRanges.{taken_of, to_range, to_at, some_bytes, pages_below}
 use Rattle.shared_window.proofs.Refusals.{refuses_use, refuses_entry}
 use Rattle.shared_window.proofs.window.Window.hold_range.Goals as goal
 
@@ -33,53 +33,29 @@ of_pages-requires-clause-some c =
 
 pub returns-in-Ok-clause-at : goal.returns-in-Ok-clause-at
 returns-in-Ok-clause-at c =
-    let pieces : List Piece = c.in_ok-pieces.pieces.items in
     let placed : List Piece = c.place_pieces-placed.result.items in
     let region : List (Option PageValue) = c.take_pages.new.region in
-    let pages = c.take-pages.result in
     let w : SharedWindowValue = record { unit = c.self.inside.unit; pages = c.self.inside.pages; entries = c.self.inside.entries } in
     let old : WindowSeatValue = record { pages = c.seat.inside.pages; entries = c.seat.inside.entries; region = c.seat.inside.region; in_use = c.seat.inside.in_use } in
     let new : WindowSeatValue = record { pages = c.take_pages.new.seat; entries = c.pin_range.new.seat; region = c.take-pages.new.self; in_use = c.seat.inside.in_use } in
-    let t : Taken w old new c.args.ioba c.args.len c.args.right pieces placed region pages = record {
-      at = subst (λ (z : SharedWindowValue × WindowSeatValue). IsSeatAt z.0 z.1) (λ i. (sym c.self.view_is i, sym c.seat.view_is i)) c.requires.at;
-      free = subst (λ (s : WindowSeatValue). s.entries.held_count ≡ 0) (sym c.seat.view_is) c.requires.free;
-      size = c.self.invariant.size;
-      pin = c.in_ok-pieces.ensures.ok;
-      take = subst (λ l. TakesPages w.pages old.pages (on_page l) new.pages region) c.as_slice.ensures.value c.in-Ok.ensures.ok;
-      strokes = c.place_pieces-placed.ensures.strokes;
-      same = c.place_pieces-placed.ensures.rest ∙ ap (map unplaced) c.as_slice-in-Ok.ensures.value;
-      held = λ p. c.take-pages.ensures.taken p ∙ ap (λ l. if on_page l p then strokes_at region p else None) c.as_slice-in-Ok-2.ensures.value;
-      left = λ p. c.take-pages.ensures.away p ∙ ap (λ l. if on_page l p then None else strokes_at region p) c.as_slice-in-Ok-2.ensures.value;
-      left_size = c.take-pages.ensures.size;
-      in_use = refl;
-    } in
-    subst (λ (z : SharedWindowValue). IsSeatAt z new) c.self.view_is (to_at w old new c.args.ioba c.args.len c.args.right pieces placed region pages t)
+    let t = taken_of w old new c.args.ioba c.args.len c.args.right c.in_ok-pieces.pieces.items placed c.as_slice.result.now c.as_slice-in-Ok-2.result.now region c.take-pages.result c.args.self.now c.args.seat.now c.self.view_is c.seat.view_is c.as_slice.ensures.value c.as_slice-in-Ok-2.ensures.value
+        c.requires.at c.requires.free c.self.invariant.size c.in_ok-pieces.ensures.ok c.in-Ok.ensures.ok c.place_pieces-placed.ensures.strokes (c.place_pieces-placed.ensures.rest ∙ ap (map unplaced) c.as_slice-in-Ok.ensures.value)
+        c.take-pages.ensures.taken c.take-pages.ensures.away c.take-pages.ensures.size refl in
+    subst (λ (z : SharedWindowValue). IsSeatAt z new) c.self.view_is (to_at w old new c.args.ioba c.args.len c.args.right c.in_ok-pieces.pieces.items placed region c.take-pages.result t)
 
 pub returns-in-Ok-clause-ok : goal.returns-in-Ok-clause-ok
 returns-in-Ok-clause-ok c =
-    let pieces : List Piece = c.in_ok-pieces.pieces.items in
     let placed : List Piece = c.place_pieces-placed.result.items in
     let region : List (Option PageValue) = c.take_pages.new.region in
-    let pages = c.take-pages.result in
     let w : SharedWindowValue = record { unit = c.self.inside.unit; pages = c.self.inside.pages; entries = c.self.inside.entries } in
     let old : WindowSeatValue = record { pages = c.seat.inside.pages; entries = c.seat.inside.entries; region = c.seat.inside.region; in_use = c.seat.inside.in_use } in
     let new : WindowSeatValue = record { pages = c.take_pages.new.seat; entries = c.pin_range.new.seat; region = c.take-pages.new.self; in_use = c.seat.inside.in_use } in
-    let t : Taken w old new c.args.ioba c.args.len c.args.right pieces placed region pages = record {
-      at = subst (λ (z : SharedWindowValue × WindowSeatValue). IsSeatAt z.0 z.1) (λ i. (sym c.self.view_is i, sym c.seat.view_is i)) c.requires.at;
-      free = subst (λ (s : WindowSeatValue). s.entries.held_count ≡ 0) (sym c.seat.view_is) c.requires.free;
-      size = c.self.invariant.size;
-      pin = c.in_ok-pieces.ensures.ok;
-      take = subst (λ l. TakesPages w.pages old.pages (on_page l) new.pages region) c.as_slice.ensures.value c.in-Ok.ensures.ok;
-      strokes = c.place_pieces-placed.ensures.strokes;
-      same = c.place_pieces-placed.ensures.rest ∙ ap (map unplaced) c.as_slice-in-Ok.ensures.value;
-      held = λ p. c.take-pages.ensures.taken p ∙ ap (λ l. if on_page l p then strokes_at region p else None) c.as_slice-in-Ok-2.ensures.value;
-      left = λ p. c.take-pages.ensures.away p ∙ ap (λ l. if on_page l p then None else strokes_at region p) c.as_slice-in-Ok-2.ensures.value;
-      left_size = c.take-pages.ensures.size;
-      in_use = refl;
-    } in
+    let t = taken_of w old new c.args.ioba c.args.len c.args.right c.in_ok-pieces.pieces.items placed c.as_slice.result.now c.as_slice-in-Ok-2.result.now region c.take-pages.result c.args.self.now c.args.seat.now c.self.view_is c.seat.view_is c.as_slice.ensures.value c.as_slice-in-Ok-2.ensures.value
+        c.requires.at c.requires.free c.self.invariant.size c.in_ok-pieces.ensures.ok c.in-Ok.ensures.ok c.place_pieces-placed.ensures.strokes (c.place_pieces-placed.ensures.rest ∙ ap (map unplaced) c.as_slice-in-Ok.ensures.value)
+        c.take-pages.ensures.taken c.take-pages.ensures.away c.take-pages.ensures.size refl in
     subst (λ (held : HeldValue). HoldsRange c.args.self.now c.args.seat.now c.args.ioba c.args.len c.args.right new held) (sym c.of_pages.ensures)
-    (subst (λ (z : SharedWindowValue × WindowSeatValue). HoldsRange z.0 z.1 c.args.ioba c.args.len c.args.right new (record { right = c.args.right; pieces = placed; pages = pages })) (λ i. (c.self.view_is i, c.seat.view_is i))
-    (to_range w old new c.args.ioba c.args.len c.args.right pieces placed region pages t))
+    (subst (λ (z : SharedWindowValue × WindowSeatValue). HoldsRange z.0 z.1 c.args.ioba c.args.len c.args.right new (record { right = c.args.right; pieces = placed; pages = c.take-pages.result })) (λ i. (c.self.view_is i, c.seat.view_is i))
+    (to_range w old new c.args.ioba c.args.len c.args.right c.in_ok-pieces.pieces.items placed region c.take-pages.result t))
 
 pub returns-in-Err-clause-err : goal.returns-in-Err-clause-err
 returns-in-Err-clause-err c =
