@@ -3,10 +3,10 @@ use Rattle.block_server.proofs.Verdicts.{tagged_long}
 use Rattle.block_server.proofs.intake.unreadable.Goals as goal
 
 pub returns-in_default-clause-decides : goal.returns-in_default-clause-decides
-returns-in_default-clause-decides c = c.fatal.ensures.decides _ _ c.args.bytes.now (record { current = refl; last = refl; taking = refl }) refl
+returns-in_default-clause-decides c = c.fatal.ensures.decides _ _ c.args.bytes.now (record { current = refl; last = refl; taking = refl; granted = refl; outstanding = refl }) c.requires
 
 pub returns-then-is_none-clause-decides : goal.returns-then-is_none-clause-decides
-returns-then-is_none-clause-decides c = c.fatal-then-is_none.ensures.decides _ _ c.args.bytes.now (record { current = refl; last = refl; taking = refl }) refl
+returns-then-is_none-clause-decides c = c.fatal-then-is_none.ensures.decides _ _ c.args.bytes.now (record { current = refl; last = refl; taking = refl; granted = refl; outstanding = refl }) c.requires
 
 pub returns-clause-decides : goal.returns-clause-decides
 returns-clause-decides c =
