@@ -2,6 +2,8 @@ pub mod Advancing
 pub mod Answered
 pub mod Named
 pub mod Denying
+pub mod Hearing
+pub mod HeardLaws
 pub mod Opening
 pub mod Owning
 pub mod Putting
@@ -13,6 +15,7 @@ pub mod AnswerLaws
 pub mod DiskLaws
 pub mod DiskRows
 pub mod Gathering
+pub mod Writing
 pub mod Onces
 pub mod Serves
 pub mod Plains
@@ -22,6 +25,7 @@ pub mod Making
 pub mod NamedWindows
 pub mod FirstPages
 pub mod UnitBytes
+pub mod DeliveredBytes
 pub mod Agreeing
 pub mod Readying
 pub mod Staging

@@ -34,3 +34,10 @@ limit_is result fault credits taking granted is on same over ok grants within =
 pub none_on : (on : Bool) (current : ℕ) → (if on then Some current else None) ≡ None → on ≡ false
 none_on true current is = absurd (cc (is))
 none_on false current is = refl
+
+pub none_some : (result : Option ℕ) → ((x : ℕ) → result ≡ Some x → ⊥) → result ≡ None
+none_some None apart = refl
+none_some (Some x) apart = absurd (apart x refl)
+
+pub too_short : (n : ℕ) → n < 16 → 16 ≤ n → ⊥
+too_short n low high = absurd (omega (arith, low, high))

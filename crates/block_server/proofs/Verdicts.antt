@@ -200,7 +200,11 @@ gives_cause : (books : Books) (judged : List Judged) (receipt : Receipt) (old : 
     → receipt.bytes ≡ bytes → IsSome receipt.copy → books.taking ≡ old.taking → books.credits ≡ credits_of old → IsCause old bytes cause outstanding granted
     → Gives books.id books.next.taken judged books.grants receipt cause outstanding granted
 gives_cause books judged receipt old bytes lapses.BadIu outstanding granted is now of copied taking credits cause =
-    inr (copied, subst (λ (xs : List ℕ). (iu : Iu) → ¬ Spells xs iu) (sym of) cause)
+    inr (record {
+      copied = copied;
+      spells_none = subst (λ (xs : List ℕ). (iu : Iu) → ¬ Spells xs iu) (sym of) cause.0;
+      off = λ asks. subst (λ (n : ℕ). TakesNone books.id n judged books.grants) (sym now) (is.lines.off (taking ∙ cause.1 (subst Asks of asks)));
+    })
 gives_cause books judged receipt old bytes lapses.NotLogin outstanding granted is now of copied taking credits cause = (
   copied,
   (

@@ -85,11 +85,16 @@ pub record IsEarly (taken : List PipeRow) (receipt : Receipt) : Type 0 where
   pub there : receipt.number ≤ length (of_session receipt.session taken)
   pub unheard : heard (take receipt.number (of_session receipt.session taken)) ≡ false
 
--- It names a length that no information unit has, or what was copied is none.
-abbrev pub IsBadIu : Receipt → Type 0
-IsBadIu receipt =
-    ((receipt.copy ≡ None) × ((iu_length receipt.entry ≡ 0) ⊎ (256 < iu_length receipt.entry)))
-    ⊎ (IsSome receipt.copy × ((iu : Iu) → ¬ Spells receipt.bytes iu))
+-- What was copied is no information unit, nor a command or a task by its type and tag under a login that takes requests.
+pub record IsUnreadable (unit : UnitId) (judged : List Judged) (lines : List Grant) (receipt : Receipt) : Type 0 where
+  pub copied : IsSome receipt.copy
+  pub spells_none : (iu : Iu) → ¬ Spells receipt.bytes iu
+  pub off : Asks receipt.bytes → TakesNone unit receipt.session judged lines
+
+-- The entry names a length that no information unit has, or what was copied cannot be read.
+abbrev pub IsBadIu : UnitId → List Judged → List Grant → Receipt → Type 0
+IsBadIu unit judged lines receipt =
+    ((receipt.copy ≡ None) × ((iu_length receipt.entry ≡ 0) ⊎ (256 < iu_length receipt.entry))) ⊎ IsUnreadable unit judged lines receipt
 
 -- A logout, a task or a command, or bytes that have the type and the tag of one of the last two.
 abbrev pub IsUnderLogin : List ℕ → Type 0
@@ -108,7 +113,7 @@ pub record IsOverLimit (unit : UnitId) (judged : List Judged) (lines : List Gran
 -- The cause that an entry gives, by what was taken and by what was judged, and the lines, before it.
 abbrev pub Gives : UnitId → List PipeRow → List Judged → List Grant → Receipt → Lapse → (outstanding granted : ℕ) → Type 0
 Gives unit taken judged lines receipt lapses.Early outstanding granted = IsEarly taken receipt
-Gives unit taken judged lines receipt lapses.BadIu outstanding granted = IsBadIu receipt
+Gives unit taken judged lines receipt lapses.BadIu outstanding granted = IsBadIu unit judged lines receipt
 Gives unit taken judged lines receipt lapses.NotLogin outstanding granted =
     IsSome receipt.copy × (IsUnderLogin receipt.bytes × TakesNone unit receipt.session judged lines)
 Gives unit taken judged lines receipt lapses.OverLimit outstanding granted = IsOverLimit unit judged lines receipt outstanding granted

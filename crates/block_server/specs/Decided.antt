@@ -71,7 +71,7 @@ pub record IsAtLimit (logins : Logins) (outstanding granted : ℕ) : Type 0 wher
 
 -- The bytes that were fetched end the session, for this cause.
 abbrev pub IsCause : Logins → List ℕ → Lapse → (outstanding granted : ℕ) → Type 0
-IsCause logins bytes lapses.BadIu outstanding granted = (iu : Iu) → ¬ Spells bytes iu
+IsCause logins bytes lapses.BadIu outstanding granted = ((iu : Iu) → ¬ Spells bytes iu) × (Asks bytes → logins.taking ≡ false)
 IsCause logins bytes lapses.NotLogin outstanding granted = (logins.taking ≡ false) × IsUnderLogin bytes
 IsCause logins bytes lapses.OverLimit outstanding granted = Asks bytes × IsAtLimit logins outstanding granted
 IsCause logins bytes cause outstanding granted = ⊥

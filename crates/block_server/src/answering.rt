@@ -4,7 +4,7 @@ ghost use Rattle.block_server.specs.Advances.{Advances};
 ghost use Rattle.block_server.specs.Books.{books_at, books_of};
 ghost use Rattle.block_server.specs.Ends.{EndsLogin};
 ghost use Rattle.block_server.specs.Entries.{IsPlain, MayPut, is_answer_len};
-ghost use Rattle.block_server.specs.Serving.{AnswersOnce, AsNone, LeavesRow, SettlesRow, desk_of};
+ghost use Rattle.block_server.specs.Serving.{AnswersOnce, AnswersOnceBy, AsNone, LeavesRow, SettlesRow, desk_of};
 ghost use Rattle.crq_session.specs.EndState.{EndState};
 ghost use Rattle.block_server.specs.Decided.{EndsBooks};
 ghost use Rattle.block_server.specs.Judges.{Judges};
@@ -265,8 +265,8 @@ pub(crate) fn answer<S: Site>(
     records: &mut Records,
 ) -> Result<(), NoMemory>
     requires none { unit.old.line.kept ≡ None }
-    ensures once { AnswersOnce (desk_of unit.old) (desk_of unit.new)
-        (S.state site.old).queue (S.state site.new).queue records.old records.new }
+    ensures once { AnswersOnceBy (S.state site.old) (S.state site.new)
+        (desk_of unit.old) (desk_of unit.new) records.old records.new }
     ensures quiet { OnOk result (IfQuiet unit.old unit.new
         (S.state site.old).queue (S.state site.new).queue) }
     ensures waits { OnOk result (unit.new.moved ≡ false → IsPending unit.old →
@@ -308,8 +308,8 @@ fn copy_answer<S: Site>(
     requires line { HasLineRoom records.old }
     requires none { unit.old.line.kept ≡ None }
     ensures none { unit.new.line.kept ≡ None }
-    ensures once { AnswersOnce (desk_of unit.old) (desk_of unit.new)
-        (S.state site.old).queue (S.state site.new).queue records.old records.new }
+    ensures once { AnswersOnceBy (S.state site.old) (S.state site.new)
+        (desk_of unit.old) (desk_of unit.new) records.old records.new }
     ensures queue { (S.state site.new).queue ≡ (S.state site.old).queue }
     ensures quiet { IfQuiet unit.old unit.new (S.state site.old).queue (S.state site.new).queue }
     ensures waits { OnOk result (unit.new.moved ≡ false → IsPending unit.old →
@@ -351,8 +351,8 @@ fn deliver<S: Site>(unit: &mut Unit, site: &mut S, outcome: Outcome) -> Result<P
     requires stage { unit.old.service.stage ≡ Stage.Answer outcome }
     requires none { unit.old.line.kept ≡ None }
     ensures none { unit.new.line.kept ≡ None }
-    ensures once { (records : Records) → AnswersOnce (desk_of unit.old) (desk_of unit.new)
-        (S.state site.old).queue (S.state site.new).queue records records }
+    ensures once { (records : Records) → AnswersOnceBy (S.state site.old) (S.state site.new)
+        (desk_of unit.old) (desk_of unit.new) records records }
     ensures queue { (S.state site.new).queue ≡ (S.state site.old).queue }
     ensures quiet { IfQuiet unit.old unit.new (S.state site.old).queue (S.state site.new).queue }
     ensures busy { IfOk result (λ progress. progress ≡ Progress.Busy → IsPending unit.old →
@@ -492,6 +492,7 @@ fn settle(unit: &mut Unit, session: u64, records: &mut Records, outcome: Outcome
     ensures id { unit.new.id ≡ unit.old.id }
     ensures stage { unit.new.service.stage ≡ Stage.Start }
     ensures kept { unit.new.line.kept ≡ unit.old.line.kept }
+    ensures pending { unit.new.pending.items ≡ drop 1 unit.old.pending.items }
     ensures handshake { unit.new.line.handshake ≡ unit.old.line.handshake }
     ensures moved { unit.new.moved ≡ true }
     ensures stands { standing_of unit.new ≡ standing_of unit.old }

@@ -6,7 +6,7 @@ ghost use Rattle.block_server.specs.Advances.{Advances};
 ghost use Rattle.block_server.specs.Ready.{Idles};
 ghost use Rattle.block_server.specs.Turns.{IfQuiet, StaysMoved, under_way};
 ghost use Rattle.block_server.specs.Waits.{AsNext, EndsIntake, FindsNothing, MeetsUse, StaysAgreed};
-ghost use Rattle.block_server.specs.Serving.{AnswersOnce, AsNone, desk_of};
+ghost use Rattle.block_server.specs.Serving.{AnswersOnceBy, AnswersOnceIf, AsNone, desk_of};
 ghost use Rattle.block_server.specs.Receipts.{LinesMore, MayTake, Receipt, TakesEntry, TakesIn, is_ended, standing_of};
 ghost use Rattle.block_server.specs.SiteState.{SiteState};
 ghost use Rattle.block_server.specs.Books.{books_at, books_of};
@@ -17,7 +17,9 @@ ghost use Rattle.block_server.specs.Judged.{Ahead, Asks, Keeps, gets_row};
 ghost use Rattle.block_server.specs.Verdicts.{IsTagged};
 ghost use Rattle.crq_session.specs.EndState.{EndState};
 ghost use Rattle.srp_iu.specs.Grammar.{Spells};
-ghost use Rattle.vio_num.specs.Entry.{first_byte};
+ghost use Rattle.vio_num.specs.Entry.{first_byte, iu_address};
+ghost use Rattle.block_server.specs.Causes.{units_at};
+ghost use Rattle.block_server.specs.Causes.News.{fetched};
 ghost use Rattle.srp_iu.specs.Layout.{field};
 ghost use Rattle.block_server.specs.Orders.{IsOrder};
 
@@ -88,8 +90,8 @@ pub(crate) fn take_in<S: Site>(
 ) -> Result<Next, NoMemory>
     requires none { unit.old.line.kept ≡ None }
     ensures none { AsNone result unit.new.line.kept }
-    ensures once { AnswersOnce (desk_of unit.old) (desk_of unit.new)
-        (S.state site.old).queue (S.state site.new).queue records.old records.new }
+    ensures once { AnswersOnceBy (S.state site.old) (S.state site.new)
+        (desk_of unit.old) (desk_of unit.new) records.old records.new }
     ensures quiet { OnOk result (IfQuiet unit.old unit.new
         (S.state site.old).queue (S.state site.new).queue) }
     ensures waits { IfOk result (λ next. unit.new.moved ≡ false → AsNext next ⊥
@@ -133,8 +135,8 @@ fn receive_waiting<S: Site>(
 ) -> Result<Next, NoMemory>
     requires none { unit.old.line.kept ≡ None }
     ensures none { AsNone result unit.new.line.kept }
-    ensures once { AnswersOnce (desk_of unit.old) (desk_of unit.new)
-        (S.state site.old).queue (S.state site.new).queue records.old records.new }
+    ensures once { AnswersOnceBy (S.state site.old) (S.state site.new)
+        (desk_of unit.old) (desk_of unit.new) records.old records.new }
     ensures quiet { OnOk result (IfQuiet unit.old unit.new
         (S.state site.old).queue (S.state site.new).queue) }
     ensures waits { IfOk result (λ next. unit.new.moved ≡ false → AsNext next
@@ -189,8 +191,8 @@ fn take_one<S: Site>(unit: &mut Unit, site: &mut S, records: &mut Records) -> Re
     requires pending { deque_len unit.old.pending < deque_capacity unit.old.pending }
     requires none { unit.old.line.kept ≡ None }
     ensures none { AsNone result unit.new.line.kept }
-    ensures once { AnswersOnce (desk_of unit.old) (desk_of unit.new)
-        (S.state site.old).queue (S.state site.new).queue records.old records.new }
+    ensures once { AnswersOnceBy (S.state site.old) (S.state site.new)
+        (desk_of unit.old) (desk_of unit.new) records.old records.new }
     ensures quiet { OnOk result (IfQuiet unit.old unit.new
         (S.state site.old).queue (S.state site.new).queue) }
     ensures waits { IfOk result (λ next. unit.new.moved ≡ false → AsNext next ⊥
@@ -250,8 +252,8 @@ fn take_command<S: Site>(
     requires spare { 0 < (S.state site.old).queue.spare }
     requires none { unit.old.line.kept ≡ None }
     ensures none { AsNone result unit.new.line.kept }
-    ensures once { AnswersOnce (desk_of unit.old) (desk_of unit.new)
-        (S.state site.old).queue (S.state site.new).queue records.old records.new }
+    ensures once { AnswersOnceBy (S.state site.old) (S.state site.new)
+        (desk_of unit.old) (desk_of unit.new) records.old records.new }
     ensures moved { OnOk result (StaysMoved unit.old unit.new) }
     ensures agrees { StaysAgreed unit.old unit.new
         (S.state site.old).queue (S.state site.new).queue }
@@ -293,8 +295,8 @@ fn receive<S: Site>(
     requires pending { deque_len unit.old.pending < deque_capacity unit.old.pending }
     requires none { unit.old.line.kept ≡ None }
     ensures none { AsNone result unit.new.line.kept }
-    ensures once { AnswersOnce (desk_of unit.old) (desk_of unit.new)
-        (S.state site.old).queue (S.state site.new).queue records.old records.new }
+    ensures once { AnswersOnceBy (S.state site.old) (S.state site.new)
+        (desk_of unit.old) (desk_of unit.new) records.old records.new }
     ensures quiet { OnOk result (IfQuiet unit.old unit.new
         (S.state site.old).queue (S.state site.new).queue) }
     ensures waits { IfOk result (λ next. unit.new.moved ≡ false → AsNext next ⊥
@@ -351,8 +353,9 @@ fn judge(
     requires few { length bytes.now ≤ 256 }
     requires none { unit.old.line.kept ≡ None }
     ensures none { unit.new.line.kept ≡ None }
-    ensures once { (q : EndState) → AnswersOnce (desk_of unit.old) (desk_of unit.new) q q
-        records.old records.new }
+    ensures once { (q : EndState) → AnswersOnceIf
+        (λ Hears. Hears (fetched (iu_address arrival.entry) units_at bytes.now))
+        (desk_of unit.old) (desk_of unit.new) q q records.old records.new }
     ensures handshake { unit.new.line.handshake ≡ unit.old.line.handshake }
     ensures moved { StaysMoved unit.old unit.new }
     ensures id { unit.new.id ≡ unit.old.id }

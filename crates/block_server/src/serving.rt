@@ -13,7 +13,7 @@ ghost use Rattle.block_server.specs.Receipts.{TakesIn, standing_of};
 ghost use Rattle.block_server.specs.Orders.{IsCauseOf, IsCodeOf};
 ghost use Rattle.block_server.specs.Records.{AddsRow};
 ghost use Rattle.block_server.specs.Serving.{AnswersOnce, AnswersOnceIf, AnswersOnceOn, desk_at, desk_of, held};
-ghost use Rattle.block_server.specs.SiteState.{TellsAll, denied_between};
+ghost use Rattle.block_server.specs.Heard.{TellsAll, heard_between};
 ghost use Rattle.tce_window.specs.declared.answers.Right.TheVariants.{Write};
 ghost use Rattle.block_server.specs.Entries.{is_response_len};
 ghost use Rattle.block_server.specs.Stage.{how_far, is_answered, is_before_step, is_data_in, is_data_out, is_given};
@@ -234,7 +234,7 @@ fn add_code(
 ) -> Result<(), NoMemory>
     requires code { IsCodeOf request.now.order code }
     ensures once { (rest : List Request) → (q : EndState) → AnswersOnceIf
-        (λ Refuses. IsCauseOf Refuses request.now.order)
+        (λ Hears. IsCauseOf Hears request.now.order)
         (desk_at id service.old None (request.now ∷ rest))
         (desk_at id service.new None (request.now ∷ rest)) q q records.old records.new }
     ensures row { OnOk result (AddsRow id session request.now records.old records.new) }
@@ -482,7 +482,7 @@ fn deliver_data<S: Site>(
     ensures inn { service.new.inn ≡ service.old.inn }
     ensures some { IfRefused result (0 < length service.new.given.items) }
     ensures refused { IfRefused result (RefusesData
-        (denied_between (S.state site.old) (S.state site.new)) Write service.old.inn.list.items) }
+        (heard_between (S.state site.old) (S.state site.new)) Write service.old.inn.list.items) }
     ensures busy { IfOk result (λ progress. progress ≡ Progress.Busy →
         MeetsUse (S.state site.old) (S.state site.new)) }
     ensures queue { (S.state site.new).queue ≡ (S.state site.old).queue }
@@ -518,7 +518,7 @@ fn end_command(
     requires asked { request.now.order ≡ Order.Command command.now }
     requires some { progress ≡ Progress.Refused → 0 < length service.old.given.items }
     ensures once { (id : UnitId) → (rest : List Request) → (q : EndState) → AnswersOnceIf
-        (λ Refuses. progress ≡ Progress.Refused → RefusesIn Refuses command.now)
+        (λ Hears. progress ≡ Progress.Refused → RefusesIn Hears command.now)
         (desk_at id service.old None (request.now ∷ rest))
         (desk_at id service.new None (request.now ∷ rest)) q q records.old records.new }
     ensures went { OnOk result (is_data_in service.old.stage ≡ true → progress ≢ Progress.Busy →
@@ -557,7 +557,7 @@ fn refuse_data(
     requires asked { request.now.order ≡ Order.Command command.now }
     requires some { 0 < length service.old.given.items }
     ensures once { (id : UnitId) → (rest : List Request) → (q : EndState) → AnswersOnceIf
-        (λ Refuses. RefusesIn Refuses command.now)
+        (λ Hears. RefusesIn Hears command.now)
         (desk_at id service.old None (request.now ∷ rest))
         (desk_at id service.new None (request.now ∷ rest)) q q records.old records.new }
     ensures went { OnOk result (is_data_in service.old.stage ≡ true →

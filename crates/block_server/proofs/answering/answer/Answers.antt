@@ -7,7 +7,8 @@ use Rattle.block_server.proofs.Agreeing.{agrees_on, agrees_same}
 use Rattle.block_server.proofs.Readying.{idles_equal, idles_on, idles_reserves}
 use Rattle.block_server.proofs.Staging.{answer_held, answer_stops}
 use Rattle.block_server.proofs.Advancing.{advances_on, advances_same}
-use Rattle.block_server.proofs.Onces.{once_on, once_same}
+use Rattle.block_server.proofs.Onces.{once_same, once_then}
+use Rattle.block_server.proofs.Denying.{tells_first, tells_next}
 use Rattle.block_server.proofs.Quieting.{quiet_on, quiet_still, still_reserves}
 use Rattle.block_server.proofs.Taking.{lines_same, takes_none, takes_on}
 use Rattle.block_server.proofs.Keeping.{moved_to}
@@ -20,20 +21,36 @@ use Rattle.block_server.proofs.OwingCalls.{seen_reserves}
 use Rattle.block_server.proofs.answering.answer.Goals as goal
 
 pub returns-in_err-make_room-clause-once : goal.returns-in_err-make_room-clause-once
-returns-in_err-make_room-clause-once g c = λ disk serving. once_same _ _ _ _ _ _ refl c.make_room.ensures.lists.history refl disk serving
+returns-in_err-make_room-clause-once g c = λ disk all serving. once_same _ _ _ _ _ _ refl c.make_room.ensures.lists.history refl disk serving
 
 pub returns-in_err-make_room-2-clause-once : goal.returns-in_err-make_room-2-clause-once
-returns-in_err-make_room-2-clause-once g c = λ disk serving. once_same _ _ _ _ _ _ refl c.make_room.ensures.lists.history refl disk serving
+returns-in_err-make_room-2-clause-once g c = λ disk all serving. once_same _ _ _ _ _ _ refl c.make_room.ensures.lists.history refl disk serving
 
 pub returns-in_err-reserve-clause-once : goal.returns-in_err-reserve-clause-once
-returns-in_err-reserve-clause-once g c = λ disk serving.
+returns-in_err-reserve-clause-once g c = λ disk all serving.
     once_same _ _ _ _ _ _ refl c.make_room.ensures.lists.history (ap responses c.reserve.ensures.rest.sent) disk serving
+
+pub returns-in_err-copy_answer-clause-once : goal.returns-in_err-copy_answer-clause-once
+returns-in_err-copy_answer-clause-once g c =
+    λ disk all. once_then disk disk disk _ _ _ _ _ _ _ _ _ (once_same _ _ _ _ _ _ refl c.make_room.ensures.lists.history (ap responses c.reserve.ensures.rest.sent) disk)
+    (c.copy_answer.ensures.once disk
+    (tells_next disk.terms.told c.args.unit.now.id (g.S.Site.state c.args.site.now) (g.S.Site.state c.reserve.new.self) (g.S.Site.state c.copy_answer.new.site) c.reserve.ensures.advances all))
+
+pub returns-in_default-clause-once : goal.returns-in_default-clause-once
+returns-in_default-clause-once g c =
+    λ disk all. once_then disk disk disk _ _ _ _ _ _ _ _ _ (once_same _ _ _ _ _ _ refl c.make_room.ensures.lists.history (ap responses c.reserve.ensures.rest.sent) disk)
+    (c.copy_answer.ensures.once disk
+    (tells_next disk.terms.told c.args.unit.now.id (g.S.Site.state c.args.site.now) (g.S.Site.state c.reserve.new.self) (g.S.Site.state c.copy_answer.new.site) c.reserve.ensures.advances all))
 
 pub returns-in-Entry-clause-once : goal.returns-in-Entry-clause-once
 returns-in-Entry-clause-once g c =
-    once_on _ _ _ _ _ _ _ _ _
-    (once_on _ _ _ _ _ _ _ _ _ (once_same _ _ _ _ _ _ refl c.make_room.ensures.lists.history (ap responses c.reserve.ensures.rest.sent)) c.copy_answer.ensures.once)
-    c.put_answer.ensures.once
+    λ disk all.
+    let before = tells_first disk.terms.told c.args.unit.now.id (g.S.Site.state c.args.site.now) (g.S.Site.state c.copy_answer.new.site) (g.S.Site.state c.put_answer.new.site) c.put_answer.ensures.advances all in
+    once_then disk disk disk _ _ _ _ _ _ _ _ _
+    (once_then disk disk disk _ _ _ _ _ _ _ _ _ (once_same _ _ _ _ _ _ refl c.make_room.ensures.lists.history (ap responses c.reserve.ensures.rest.sent) disk)
+    (c.copy_answer.ensures.once disk
+    (tells_next disk.terms.told c.args.unit.now.id (g.S.Site.state c.args.site.now) (g.S.Site.state c.reserve.new.self) (g.S.Site.state c.copy_answer.new.site) c.reserve.ensures.advances before)))
+    (c.put_answer.ensures.once disk)
 
 pub returns-in-Entry-clause-advances : goal.returns-in-Entry-clause-advances
 returns-in-Entry-clause-advances g c = advances_on _ _ _ (advances_on _ _ _ c.reserve.ensures.advances c.copy_answer.ensures.advances) c.put_answer.ensures.advances

@@ -2,7 +2,7 @@ use Rattle.block_server.specs.Books.{books_at}
 use Rattle.block_server.proofs.Jointly.{answer_going, judges_over, keeps_refused, works, works_none, works_on}
 use Rattle.std.proofs.Common.{inl, inr, refl}
 use Rattle.block_server.proofs.Staging.{at_entry}
-use Rattle.block_server.proofs.Onces.{once_on, once_same}
+use Rattle.block_server.proofs.Onces.{once_same, once_then}
 use Rattle.block_server.proofs.Taking.{lines_same, takes_ended, takes_none, takes_on}
 use Rattle.block_server.proofs.Advancing.{advances_same}
 use Rattle.vio_num.specs.declared.history.Lapse.TheVariants.{Refused}
@@ -12,11 +12,11 @@ use Rattle.block_server.specs.Owed.{row_in}
 use Rattle.block_server.proofs.answering.copy_answer.Goals as goal
 
 pub returns-in_default-clause-once : goal.returns-in_default-clause-once
-returns-in_default-clause-once g c = λ disk serving. once_same _ _ _ _ _ _ refl refl refl disk serving
+returns-in_default-clause-once g c = λ disk all serving. once_same _ _ _ _ _ _ refl refl refl disk serving
 
 pub returns-in-Refused-clause-once : goal.returns-in-Refused-clause-once
 returns-in-Refused-clause-once g c =
-    once_on _ _ _ _ _ _ _ _ _ (c.deliver.ensures.once c.args.records.now) (c.end_session.ensures.once (g.S.Site.state c.deliver.new.site).queue)
+    λ disk all. once_then disk disk disk _ _ _ _ _ _ _ _ _ (c.deliver.ensures.once c.args.records.now disk all) (c.end_session.ensures.once (g.S.Site.state c.deliver.new.site).queue disk)
 
 pub returns-in_default-clause-waits : goal.returns-in_default-clause-waits
 returns-in_default-clause-waits g c = λ moved pending answered.

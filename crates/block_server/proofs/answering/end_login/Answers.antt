@@ -1,4 +1,4 @@
-use Rattle.std.proofs.Common.{refl, ap, ◌∙◌, ◌++◌, Global, Vec}
+use Rattle.std.proofs.Common.{refl, rules, ap, ◌∙◌, ◌++◌, Global, Vec}
 use Rattle.vio_num.specs.declared.history.Grant.{Grant}
 use Rattle.block_server.specs.declared.logins.Logins.{Logins}
 use Rattle.block_server.proofs.Booking.{line_same}
@@ -9,7 +9,7 @@ use Rattle.block_server.proofs.answering.end_login.Goals as goal
 
 pub returns-clause-once : goal.returns-clause-once
 returns-clause-once c = λ q disk serving.
-    once_broken c.bytes_spell_one.ensures disk _ _ _ serving _ q.sent q.sent c.leave_row.ensures.id c.leave_row.ensures.stage refl c.leave_row.ensures.row refl
+    once_broken c.bytes_spell_one.ensures disk _ _ _ serving _ q.sent q.sent c.leave_row.ensures.id c.leave_row.ensures.stage refl (search rules) c.leave_row.ensures.row refl
 
 pub returns-clause-books : goal.returns-clause-books
 returns-clause-books c = λ ended up next next' judged more other end is.

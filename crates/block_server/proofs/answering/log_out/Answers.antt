@@ -17,7 +17,7 @@ use Rattle.block_server.proofs.answering.log_out.Goals as goal
 
 pub returns-clause-once : goal.returns-clause-once
 returns-clause-once c = λ q disk serving.
-    once_cleared _ _ q.sent q.sent _ _ c.finish.ensures.id c.finish.ensures.stage (c.finish.ensures.kept ∙ c.requires.none) refl refl disk
+    once_cleared _ _ q.sent q.sent _ _ c.finish.ensures.id c.finish.ensures.stage (c.finish.ensures.kept ∙ c.requires.none) refl refl disk c.finish.ensures.pending serving
 
 pub returns-clause-lines : goal.returns-clause-lines
 returns-clause-lines c = lines_pushed _ _ _ _ c.push_reserved.ensures.items refl

@@ -29,7 +29,7 @@ returns-in_default-clause-once g c = λ disk serving. once_same _ _ _ _ _ _ refl
 pub returns-in-Success-clause-once : goal.returns-in-Success-clause-once
 returns-in-Success-clause-once g c = λ disk serving.
     let front = front_is _ _ c.in-Some.ensures.item.3 in
-    once_settled _ _ _ _ _ _ _ c.in-Some.request.now front.0 disk serving c.settle.ensures.id c.settle.ensures.stage (c.settle.ensures.kept ∙ c.requires.none) front.1
+    once_settled _ _ _ _ _ _ _ c.in-Some.request.now front.0 disk serving c.settle.ensures.id c.settle.ensures.stage (c.settle.ensures.kept ∙ c.requires.none) front.1 c.settle.ensures.pending
     (c.answer_entry-entry.ensures.entry ∙ ap (λ n. srp_entry n c.in-Some.request.now.tag) (c.len.ensures ∙ c.args.unit.now.service.answer.ok.0))
     c.in-Success.ensures.success.puts.sent c.args.outcome c.requires.stage
     (subst (λ (stage : Stage). has_answer stage (length c.args.unit.now.service.answer.items) ≡ true) c.requires.stage c.args.unit.now.service.answered)
@@ -50,7 +50,7 @@ returns-in-Dropped-clause-once g c = λ disk serving.
 pub returns-in_default-send-clause-once : goal.returns-in_default-send-clause-once
 returns-in_default-send-clause-once g c = λ disk serving.
     once_cleared _ _ _ _ _ _ c.finish.ensures.id c.finish.ensures.stage (c.finish.ensures.kept ∙ c.requires.none) refl
-    (none_sent _ _ _ _ c.in_default-send.not-Success c.in_default-send.not-Dropped c.send.ensures.closed c.send.ensures.refused) disk
+    (none_sent _ _ _ _ c.in_default-send.not-Success c.in_default-send.not-Dropped c.send.ensures.closed c.send.ensures.refused) disk c.finish.ensures.pending serving
 
 pub returns-in_default-clause-agrees : goal.returns-in_default-clause-agrees
 returns-in_default-clause-agrees g c = λ is. is

@@ -51,7 +51,7 @@ returns-in-Answer-clause-once g c = λ disk serving.
     let is = serving.kept (keeps.Answer c.in-Answer.entry c.in-Answer.outcome) (c.in-Some.is ∙ ap Some c.in-Answer.is) in
     let answer = c.args.unit.now.service.answer.items in
     let put : PipeRow = record { session = (g.S.Site.state c.send.new.self).queue.counts.partner_session; entry = c.entry.result } in
-    once_settled _ _ _ _ _ _ put is.request is.rest disk serving c.settle.ensures.id c.settle.ensures.stage c.settle.ensures.kept is.front
+    once_settled _ _ _ _ _ _ put is.request is.rest disk serving c.settle.ensures.id c.settle.ensures.stage c.settle.ensures.kept is.front c.settle.ensures.pending
     (c.entry.ensures ∙ ap kept_entry c.in-Answer.is ∙ is.entry_is)
     (c.in-Success.ensures.success.puts.sent ∙ ap (λ (rows : List PipeRow). rows ++ put ∷ []) c.reserve.ensures.rest.sent)
     c.in-Answer.outcome is.stage
@@ -69,7 +69,7 @@ pub returns-in-Answer-kept-clause-once : goal.returns-in-Answer-kept-clause-once
 returns-in-Answer-kept-clause-once g c = λ disk serving.
     once_cleared _ _ _ _ _ _ c.finish.ensures.id c.finish.ensures.stage c.finish.ensures.kept c.make_room.ensures.lists.history
     (none_sent _ _ _ _ c.in_default-send.not-Success c.in_default-send.not-Dropped c.send.ensures.closed c.send.ensures.refused
-    ∙ ap responses c.reserve.ensures.rest.sent) disk
+    ∙ ap responses c.reserve.ensures.rest.sent) disk c.finish.ensures.pending serving
 
 pub returns-in_default-kept-2-clause-once : goal.returns-in_default-kept-2-clause-once
 returns-in_default-kept-2-clause-once g c = λ disk serving.

@@ -1,3 +1,6 @@
+use Rattle.std.proofs.Common.{List, ℕ, subst, sym}
+use Rattle.block_server.specs.Causes.{told_to, units_at}
+use Rattle.block_server.specs.Causes.News.{fetched}
 use Rattle.std.proofs.Common.{refl}
 use Rattle.block_server.proofs.Onces.{once_same}
 use Rattle.block_server.proofs.Serves.{once_pushed}
@@ -11,13 +14,15 @@ use Rattle.block_server.specs.Owed.{row_in}
 use Rattle.block_server.proofs.intake.judge.Goals as goal
 
 pub returns-in-Ignored-clause-once : goal.returns-in-Ignored-clause-once
-returns-in-Ignored-clause-once c = λ q disk serving. once_same _ _ _ _ _ _ refl refl refl disk serving
+returns-in-Ignored-clause-once c = λ q disk heard serving. once_same _ _ _ _ _ _ refl refl refl disk serving
 
 pub returns-in-Ok-clause-once : goal.returns-in-Ok-clause-once
-returns-in-Ok-clause-once c = λ q disk serving. once_pushed _ _ _ _ _ _ refl c.in-Ok.ensures.items refl refl refl c.requires.none refl disk serving
+returns-in-Ok-clause-once c = λ q disk heard serving.
+    once_pushed _ _ _ _ _ _ refl c.in-Ok.ensures.items refl refl refl c.requires.none refl disk
+    (subst (λ (z : ℕ × List ℕ). told_to disk.terms.told c.args.unit.now.id (fetched z.0 units_at z.1)) (λ i. ((sym c.iu_address.ensures) i, (sym c.kept.ensures) i)) heard) serving
 
 pub returns-in-Fatal-clause-once : goal.returns-in-Fatal-clause-once
-returns-in-Fatal-clause-once c = λ q. c.end_counted.ensures.once q
+returns-in-Fatal-clause-once c = λ q disk heard. c.end_counted.ensures.once q disk
 
 pub returns-in-Ignored-clause-lines : goal.returns-in-Ignored-clause-lines
 returns-in-Ignored-clause-lines c = lines_same _ _ _ refl

@@ -3,7 +3,8 @@ use Rattle.crq_session.specs.EndState.{EndState}
 use Rattle.block_server.specs.Answering.{responses}
 use Rattle.std.specs.Result.{IsErrOf}
 use Rattle.block_server.specs.declared.site.Halt.TheVariants.{Busy}
-use Rattle.block_server.proofs.Onces.{once_on, once_same}
+use Rattle.block_server.proofs.Onces.{once_same, once_then}
+use Rattle.block_server.proofs.Hearing.{heard_fetched}
 use Rattle.block_server.proofs.Taking.{lines_same, takes_ended, takes_fetched, takes_none}
 use Rattle.block_server.proofs.Advancing.{advances_same}
 use Rattle.vio_num.specs.declared.history.Lapse.TheVariants.{BadIu, Early, Refused}
@@ -21,25 +22,26 @@ use Rattle.block_server.proofs.intake.receive.Goals as goal
 
 pub returns-in-Ok-clause-once : goal.returns-in-Ok-clause-once
 returns-in-Ok-clause-once g c =
-    once_on _ _ _ _ _ _ _ _ _ (λ disk serving. once_same _ _ _ _ _ _ refl refl (ap (λ (q : EndState). responses q.sent) c.fetch_unit.ensures.queue) disk serving)
-    (c.judge.ensures.once (g.S.Site.state c.fetch_unit.new.self).queue)
+    λ disk all. once_then disk disk disk _ _ _ _ _ _ _ _ _ (once_same _ _ _ _ _ _ refl refl (ap (λ (q : EndState). responses q.sent) c.fetch_unit.ensures.queue) disk)
+    (c.judge.ensures.once (g.S.Site.state c.fetch_unit.new.self).queue disk
+    (heard_fetched disk.terms.told c.args.unit.now.id _ _ _ _ _ c.iu_address.ensures all c.in-Ok.ensures.fetched))
 
 pub returns-in-Err-Refused-clause-once : goal.returns-in-Err-Refused-clause-once
 returns-in-Err-Refused-clause-once g c =
-    once_on _ _ _ _ _ _ _ _ _ (λ disk serving. once_same _ _ _ _ _ _ refl refl (ap (λ (q : EndState). responses q.sent) c.fetch_unit.ensures.queue) disk serving)
-    (c.end_session-in-Err-Refused.ensures.once (g.S.Site.state c.fetch_unit.new.self).queue)
+    λ disk all. once_then disk disk disk _ _ _ _ _ _ _ _ _ (once_same _ _ _ _ _ _ refl refl (ap (λ (q : EndState). responses q.sent) c.fetch_unit.ensures.queue) disk)
+    (c.end_session-in-Err-Refused.ensures.once (g.S.Site.state c.fetch_unit.new.self).queue disk)
 
 pub returns-in-Err-Busy-clause-once : goal.returns-in-Err-Busy-clause-once
-returns-in-Err-Busy-clause-once g c = λ disk serving. once_same _ _ _ _ _ _ refl refl (ap (λ (q : EndState). responses q.sent) c.fetch_unit.ensures.queue) disk serving
+returns-in-Err-Busy-clause-once g c = λ disk all serving. once_same _ _ _ _ _ _ refl refl (ap (λ (q : EndState). responses q.sent) c.fetch_unit.ensures.queue) disk serving
 
 pub returns-in-Err-NoMemory-clause-once : goal.returns-in-Err-NoMemory-clause-once
-returns-in-Err-NoMemory-clause-once g c = λ disk serving. once_same _ _ _ _ _ _ refl refl (ap (λ (q : EndState). responses q.sent) c.fetch_unit.ensures.queue) disk serving
+returns-in-Err-NoMemory-clause-once g c = λ disk all serving. once_same _ _ _ _ _ _ refl refl (ap (λ (q : EndState). responses q.sent) c.fetch_unit.ensures.queue) disk serving
 
 pub returns-then-not-is_up-clause-once : goal.returns-then-not-is_up-clause-once
-returns-then-not-is_up-clause-once g c = c.end_session.ensures.once (g.S.Site.state c.args.site.now).queue
+returns-then-not-is_up-clause-once g c = λ disk all. c.end_session.ensures.once (g.S.Site.state c.args.site.now).queue disk
 
 pub returns-then-len-eq0-clause-once : goal.returns-then-len-eq0-clause-once
-returns-then-len-eq0-clause-once g c = c.end_session-then-len-eq0.ensures.once (g.S.Site.state c.args.site.now).queue
+returns-then-len-eq0-clause-once g c = λ disk all. c.end_session-then-len-eq0.ensures.once (g.S.Site.state c.args.site.now).queue disk
 
 pub returns-in-Err-Busy-clause-waits : goal.returns-in-Err-Busy-clause-waits
 returns-in-Err-Busy-clause-waits g c = λ moved.

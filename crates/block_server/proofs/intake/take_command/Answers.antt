@@ -11,13 +11,13 @@ use Rattle.std.proofs.Common.{None}
 use Rattle.block_server.proofs.intake.take_command.Goals as goal
 
 pub returns-in-2-clause-once : goal.returns-in-2-clause-once
-returns-in-2-clause-once g c = c.put_reply.ensures.once c.args.records.now
+returns-in-2-clause-once g c = λ disk all. c.put_reply.ensures.once c.args.records.now disk
 
 pub returns-in-2-clause-none : goal.returns-in-2-clause-none
 returns-in-2-clause-none g c = as_none_next c.put_reply.result _ _ c.requires.none c.put_reply.ensures.still
 
 pub returns-in_default-clause-once : goal.returns-in_default-clause-once
-returns-in_default-clause-once g c = λ disk serving. once_same _ _ _ _ _ _ refl refl refl disk serving
+returns-in_default-clause-once g c = λ disk all serving. once_same _ _ _ _ _ _ refl refl refl disk serving
 
 pub returns-in-1-clause-once : goal.returns-in-1-clause-once
 returns-in-1-clause-once g c = c.receive.ensures.once

@@ -4,7 +4,8 @@ use Rattle.block_server.proofs.Agreeing.{agrees_got, agrees_on, agrees_same}
 use Rattle.block_server.proofs.Quieting.{on_ok, stays_moved}
 use Rattle.block_server.proofs.Readying.{idles_on, idles_reserves, if_moved, not_moved, nothing_later, on_moved, poll_idles, poll_nothing}
 use Rattle.block_server.proofs.Advancing.{advances_on, advances_same}
-use Rattle.block_server.proofs.Onces.{once_on, once_same}
+use Rattle.block_server.proofs.Onces.{once_same, once_then}
+use Rattle.block_server.proofs.Denying.{tells_next}
 use Rattle.block_server.proofs.Serves.{as_none_next}
 use Rattle.block_server.proofs.Taking.{ended_stands, ends_line, lines_same, passes_windows, takes_none, takes_on, takes_other, waiting_stands}
 use Rattle.block_server.proofs.GoingOn.{event_is, no_event, no_handshake, stands_got, up_got, command_first, got_ended, not_command, poll_taken}
@@ -17,37 +18,39 @@ use Rattle.block_server.specs.Owed.{row_in}
 use Rattle.block_server.proofs.intake.take_one.Goals as goal
 
 pub returns-in_err-reserve-clause-once : goal.returns-in_err-reserve-clause-once
-returns-in_err-reserve-clause-once g c = λ disk serving. once_same _ _ _ _ _ _ refl refl (ap responses c.reserve.ensures.rest.sent) disk serving
+returns-in_err-reserve-clause-once g c = λ disk all serving. once_same _ _ _ _ _ _ refl refl (ap responses c.reserve.ensures.rest.sent) disk serving
 
 pub returns-in_default-clause-once : goal.returns-in_default-clause-once
-returns-in_default-clause-once g c = λ disk serving. once_same _ _ _ _ _ _ refl refl (ap responses (c.poll.ensures.rest.sent ∙ c.reserve.ensures.rest.sent)) disk serving
+returns-in_default-clause-once g c = λ disk all serving. once_same _ _ _ _ _ _ refl refl (ap responses (c.poll.ensures.rest.sent ∙ c.reserve.ensures.rest.sent)) disk serving
 
 pub returns-in-Command-clause-once : goal.returns-in-Command-clause-once
 returns-in-Command-clause-once g c =
-    once_on _ _ _ _ _ _ _ _ _ (λ disk serving. once_same _ _ _ _ _ _ refl refl (ap responses (c.poll.ensures.rest.sent ∙ c.reserve.ensures.rest.sent)) disk serving)
-    c.take_command.ensures.once
+    λ disk all. once_then disk disk disk _ _ _ _ _ _ _ _ _ (once_same _ _ _ _ _ _ refl refl (ap responses (c.poll.ensures.rest.sent ∙ c.reserve.ensures.rest.sent)) disk)
+    (c.take_command.ensures.once disk
+    (tells_next disk.terms.told c.args.unit.now.id (g.S.Site.state c.args.site.now) (g.S.Site.state c.poll.new.self) (g.S.Site.state c.take_command.new.site)
+    (advances_on _ _ _ c.reserve.ensures.advances c.poll.ensures.advances) all))
 
 pub returns-in-Some-clause-once : goal.returns-in-Some-clause-once
 returns-in-Some-clause-once g c =
-    once_on _ _ _ _ _ _ _ _ _ (λ disk serving. once_same _ _ _ _ _ _ refl refl (ap responses (c.poll.ensures.rest.sent ∙ c.reserve.ensures.rest.sent)) disk serving)
-    (c.put_reply.ensures.once c.args.records.now)
+    λ disk all. once_then disk disk disk _ _ _ _ _ _ _ _ _ (once_same _ _ _ _ _ _ refl refl (ap responses (c.poll.ensures.rest.sent ∙ c.reserve.ensures.rest.sent)) disk)
+    (c.put_reply.ensures.once c.args.records.now disk)
 
 pub returns-in-Some-clause-none : goal.returns-in-Some-clause-none
 returns-in-Some-clause-none g c = as_none_next c.put_reply.result _ _ c.requires.none c.put_reply.ensures.still
 
 pub returns-in-None-clause-once : goal.returns-in-None-clause-once
-returns-in-None-clause-once g c = λ disk serving. once_same _ _ _ _ _ _ refl refl (ap responses (c.poll.ensures.rest.sent ∙ c.reserve.ensures.rest.sent)) disk serving
+returns-in-None-clause-once g c = λ disk all serving. once_same _ _ _ _ _ _ refl refl (ap responses (c.poll.ensures.rest.sent ∙ c.reserve.ensures.rest.sent)) disk serving
 
 pub returns-in-Event-clause-once : goal.returns-in-Event-clause-once
 returns-in-Event-clause-once g c =
-    once_on _ _ _ _ _ _ _ _ _ (λ disk serving. once_same _ _ _ _ _ _ refl refl (ap responses (c.poll.ensures.rest.sent ∙ c.reserve.ensures.rest.sent)) disk serving)
-    (c.lose_partner.ensures.once (g.S.Site.state c.poll.new.self).queue)
+    λ disk all. once_then disk disk disk _ _ _ _ _ _ _ _ _ (once_same _ _ _ _ _ _ refl refl (ap responses (c.poll.ensures.rest.sent ∙ c.reserve.ensures.rest.sent)) disk)
+    (c.lose_partner.ensures.once (g.S.Site.state c.poll.new.self).queue disk)
 
 pub returns-in-Unused-clause-once : goal.returns-in-Unused-clause-once
-returns-in-Unused-clause-once g c = λ disk serving. once_same _ _ _ _ _ _ refl refl (ap responses (c.poll.ensures.rest.sent ∙ c.reserve.ensures.rest.sent)) disk serving
+returns-in-Unused-clause-once g c = λ disk all serving. once_same _ _ _ _ _ _ refl refl (ap responses (c.poll.ensures.rest.sent ∙ c.reserve.ensures.rest.sent)) disk serving
 
 pub returns-in-Reserved-clause-once : goal.returns-in-Reserved-clause-once
-returns-in-Reserved-clause-once g c = λ disk serving. once_same _ _ _ _ _ _ refl refl (ap responses (c.poll.ensures.rest.sent ∙ c.reserve.ensures.rest.sent)) disk serving
+returns-in-Reserved-clause-once g c = λ disk all serving. once_same _ _ _ _ _ _ refl refl (ap responses (c.poll.ensures.rest.sent ∙ c.reserve.ensures.rest.sent)) disk serving
 
 pub returns-in-Command-clause-advances : goal.returns-in-Command-clause-advances
 returns-in-Command-clause-advances g c = advances_on _ _ _ (advances_on _ _ _ c.reserve.ensures.advances c.poll.ensures.advances) c.take_command.ensures.advances

@@ -1,4 +1,8 @@
 use Rattle.block_server.proofs.Jointly.{works, works_none, works_on}
+use Rattle.std.proofs.Common.{ap, subst, sym}
+use Rattle.block_server.specs.Heard.{TellsAll}
+use Rattle.block_server.specs.Serving.{Desk}
+use Rattle.vio_num.specs.declared.names.UnitId.{UnitId}
 use Rattle.crq_session.specs.EndState.{EndState}
 use Rattle.block_server.specs.Stage.{is_answered}
 use Rattle.block_server.specs.Turns.{UnderWay}
@@ -9,7 +13,7 @@ use Rattle.block_server.proofs.Advancing.{advances_on, advances_same}
 use Rattle.block_server.proofs.Quieting.{on_ok, quiet_on, quiet_stage}
 use Rattle.std.proofs.Common.{◌∙◌, None, ap, refl, rules, sym}
 use Rattle.block_server.specs.Serving.{Desk, desk_of}
-use Rattle.block_server.proofs.Denying.{tells_first}
+use Rattle.block_server.proofs.Denying.{tells_first, tells_next}
 use Rattle.block_server.proofs.Onces.{once_on, once_same, once_then}
 use Rattle.block_server.proofs.Serves.{desk_is, front_is, once_between}
 use Rattle.block_server.proofs.Taking.{lines_on, lines_same, takes_none, takes_on}
@@ -65,7 +69,8 @@ returns-clause-once g c = λ told all.
     (desk_is unit.id unit.service None _ _ _ c.requires.none front.1)
     (c.note_stage.ensures.desk ∙ desk_is unit.id c.prepare.new.service None _ _ _ c.requires.none front.1)
     _ _ (c.prepare.ensures.once told (tells_first told unit.id (g.S.Site.state c.args.site.now) (g.S.Site.state c.prepare.new.site) (g.S.Site.state c.answer.new.site) c.answer.ensures.advances all) front.0))
-    (c.answer.ensures.once _)
+    (c.answer.ensures.once _ (subst (λ (id : UnitId). TellsAll told id (g.S.Site.state c.prepare.new.site) (g.S.Site.state c.answer.new.site)) (sym (ap (λ (desk : Desk). desk.id) c.note_stage.ensures.desk))
+    (tells_next told unit.id (g.S.Site.state c.args.site.now) (g.S.Site.state c.prepare.new.site) (g.S.Site.state c.answer.new.site) c.prepare.ensures.advances all)))
 
 pub returns-in_default-clause-agrees : goal.returns-in_default-clause-agrees
 returns-in_default-clause-agrees g c = λ is. is

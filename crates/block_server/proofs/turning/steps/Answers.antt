@@ -1,9 +1,10 @@
 use Rattle.std.proofs.Common.{refl, rules, subst, sym, ◌∙◌}
 use Rattle.vio_num.specs.declared.names.UnitId.{UnitId}
-use Rattle.block_server.specs.SiteState.{TellsAll}
+use Rattle.block_server.specs.Heard.{TellsAll}
 use Rattle.block_server.proofs.Agreeing.{agrees_on}
 use Rattle.block_server.proofs.Readying.{full_later, idle_full, idle_opening, idle_turn, next_on, next_over, next_service, on_both}
-use Rattle.block_server.proofs.Denying.{tells_next}
+use Rattle.block_server.proofs.Denying.{tells_first, tells_next}
+use Rattle.block_server.proofs.Hearing.{once_by}
 use Rattle.block_server.proofs.Advancing.{advances_on}
 use Rattle.block_server.proofs.Quieting.{on_ok, quiet_on}
 use Rattle.block_server.proofs.Onces.{once_on, once_then}
@@ -28,15 +29,23 @@ returns-then-eq-2-clause-once g c = λ told all. once_on _ _ _ _ _ _ _ _ _ (c.op
 
 pub returns-in_err-take_in-clause-once : goal.returns-in_err-take_in-clause-once
 returns-in_err-take_in-clause-once g c = λ told all.
-    once_on _ _ _ _ _ _ _ _ _ (once_on _ _ _ _ _ _ _ _ _ (c.open_line.ensures.once c.args.records.now) c.put_kept.ensures.once) c.take_in.ensures.once _
+    once_by (g.S.Site.state c.args.site.now) (g.S.Site.state c.put_kept.new.site) (g.S.Site.state c.take_in.new.site) _ _ _ c.args.records.now c.put_kept.new.records c.take_in.new.records
+    (advances_on _ _ _ c.open_line.ensures.advances c.put_kept.ensures.advances) c.take_in.ensures.advances
+    (λ disk heard. once_on _ _ _ _ _ _ _ _ _ (c.open_line.ensures.once c.args.records.now) c.put_kept.ensures.once disk) c.take_in.ensures.once _ all
 
 pub returns-then-eq-3-clause-once : goal.returns-then-eq-3-clause-once
 returns-then-eq-3-clause-once g c = λ told all.
-    once_on _ _ _ _ _ _ _ _ _ (once_on _ _ _ _ _ _ _ _ _ (c.open_line.ensures.once c.args.records.now) c.put_kept.ensures.once) c.take_in.ensures.once _
+    once_by (g.S.Site.state c.args.site.now) (g.S.Site.state c.put_kept.new.site) (g.S.Site.state c.take_in.new.site) _ _ _ c.args.records.now c.put_kept.new.records c.take_in.new.records
+    (advances_on _ _ _ c.open_line.ensures.advances c.put_kept.ensures.advances) c.take_in.ensures.advances
+    (λ disk heard. once_on _ _ _ _ _ _ _ _ _ (c.open_line.ensures.once c.args.records.now) c.put_kept.ensures.once disk) c.take_in.ensures.once _ all
 
 pub returns-clause-once : goal.returns-clause-once
 returns-clause-once g c = λ told all serving.
-    let opened = once_on _ _ _ _ _ _ _ _ _ (once_on _ _ _ _ _ _ _ _ _ (c.open_line.ensures.once c.args.records.now) c.put_kept.ensures.once) c.take_in.ensures.once _ serving in
+    let heard = tells_first told c.args.unit.now.id (g.S.Site.state c.args.site.now) (g.S.Site.state c.take_in.new.site) (g.S.Site.state c.serve.new.site) c.serve.ensures.advances all in
+    let opened =
+    once_by (g.S.Site.state c.args.site.now) (g.S.Site.state c.put_kept.new.site) (g.S.Site.state c.take_in.new.site) _ _ _ c.args.records.now c.put_kept.new.records c.take_in.new.records
+    (advances_on _ _ _ c.open_line.ensures.advances c.put_kept.ensures.advances) c.take_in.ensures.advances
+    (λ disk heard. once_on _ _ _ _ _ _ _ _ _ (c.open_line.ensures.once c.args.records.now) c.put_kept.ensures.once disk) c.take_in.ensures.once _ heard serving in
     let first = advances_on _ _ _ (advances_on _ _ _ c.open_line.ensures.advances c.put_kept.ensures.advances) c.take_in.ensures.advances in
     once_then _ _ _ _ _ _ _ _ _ _ _ _
     (λ serving. opened)
