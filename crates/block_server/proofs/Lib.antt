@@ -34,12 +34,17 @@ pub mod Receiving
 pub mod Taking
 pub mod GoingOn
 pub mod Judging
+pub mod Heard
+pub mod Closing
+pub mod Lines
+pub mod Lapsing
 pub mod Keeping
 pub mod Accepting
 pub mod Working
 pub mod Booking
 pub mod Deciding
 pub mod Verdicts
+pub mod Limits
 pub mod Bystanding
 pub mod BookLaws
 pub mod Jointly

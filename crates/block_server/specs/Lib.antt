@@ -2,12 +2,14 @@ pub mod Advances
 pub mod Answering
 pub mod Books
 pub mod Causes
+pub mod Closings
 pub mod Copied
 pub mod Delivers
 pub mod Decided
 pub mod DiskLaw
 pub mod Ends
 pub mod Entries
+pub mod Fates
 pub mod Heard
 pub mod Fetched
 pub mod Judged

@@ -7,13 +7,13 @@ ghost use Rattle.block_server.specs.Ready.{Idles};
 ghost use Rattle.block_server.specs.Turns.{IfQuiet, StaysMoved, under_way};
 ghost use Rattle.block_server.specs.Waits.{AsNext, EndsIntake, FindsNothing, MeetsUse, StaysAgreed};
 ghost use Rattle.block_server.specs.Serving.{AnswersOnceBy, AnswersOnceIf, AsNone, desk_of};
-ghost use Rattle.block_server.specs.Receipts.{LinesMore, MayTake, Receipt, TakesEntry, TakesIn, is_ended, is_fatal, standing_of};
+ghost use Rattle.block_server.specs.Receipts.{LinesMore, MayTake, Receipt, TakesEntry, TakesIn, is_ended, standing_of};
 ghost use Rattle.block_server.specs.SiteState.{SiteState};
 ghost use Rattle.block_server.specs.Books.{books_at, books_of};
-ghost use Rattle.block_server.specs.Decided.{Decides, IsToJudge, JudgesOne, StaysOn};
+ghost use Rattle.block_server.specs.Decided.{Decides, IsCause, IsToJudge, JudgesOne, StaysOn};
 ghost use Rattle.block_server.specs.Judges.{Judges};
 ghost use Rattle.block_server.specs.Owed.{HasAnswers, KeepsAnswers, owing_of};
-ghost use Rattle.block_server.specs.Judged.{Asks, Keeps, gets_row};
+ghost use Rattle.block_server.specs.Judged.{Ahead, Asks, Keeps, gets_row};
 ghost use Rattle.block_server.specs.Verdicts.{IsTagged};
 ghost use Rattle.crq_session.specs.EndState.{EndState};
 ghost use Rattle.srp_iu.specs.Grammar.{Spells};
@@ -363,7 +363,7 @@ fn judge(
         records.old.grants.items records.new.grants.items }
     ensures waiting { unit.old.waiting ≡ None → unit.new.waiting ≡ None }
     ensures goes_on { result ≡ Next.Entry → unit.new.line ≡ unit.old.line }
-    ensures judged { (next next' : ℕ) → (receipt : Receipt) → IsToJudge
+    ensures judged { (next next' : Ahead) → (receipt : Receipt) → IsToJudge
         (books_of unit.old session next records.old) session next' arrival.number bytes.now receipt →
         JudgesOne (books_of unit.old session next records.old)
         (books_of unit.new session next' records.new) receipt }
@@ -433,7 +433,7 @@ fn judge_unit(logins: &mut Logins, bytes: &[u8]) -> Verdict
 fn fatal(cause: Lapse) -> Verdict
     ensures tagged { (bytes : List ℕ) → IsTagged result bytes }
     ensures decides { (old new : Logins) → (bytes : List ℕ) → StaysOn old new →
-        is_fatal cause ≡ true → Decides old new bytes result }
+        IsCause old bytes cause 0 0 → Decides old new bytes result }
 {
     Verdict::Fatal {
         cause,
@@ -454,17 +454,27 @@ fn accept(logins: &mut Logins, tag: u64, order: Order) -> Verdict
     };
     match logins.accept() {
         Ok(()) => Verdict::Accepted { login, tag, order },
-        Err(
-            CreditFault::OverLimit {
-                outstanding,
-                granted,
-            },
-        ) => Verdict::Fatal {
+        Err(fault) => past_limit(fault),
+    }
+}
+
+// Ends the session for a request that the credits refuse.
+fn past_limit(fault: CreditFault) -> Verdict
+    ensures tagged { (bytes : List ℕ) → IsTagged result bytes }
+    ensures over { (outstanding granted : ℕ) →
+        fault ≡ CreditFault.OverLimit outstanding granted →
+        result ≡ Verdict.Fatal Lapse.OverLimit outstanding granted }
+{
+    match fault {
+        CreditFault::OverLimit {
+            outstanding,
+            granted,
+        } => Verdict::Fatal {
             cause: Lapse::OverLimit,
             outstanding,
             granted,
         },
-        Err(_) => fatal(Lapse::NotLogin),
+        _ => fatal(Lapse::NotLogin),
     }
 }
 

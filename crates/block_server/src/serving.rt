@@ -5,7 +5,8 @@ ghost use Rattle.block_server.specs.Causes.{RefusesData, RefusesIn, Told};
 ghost use Rattle.block_server.specs.Books.{books_at, books_of};
 ghost use Rattle.block_server.specs.Ends.{IsGrantable};
 ghost use Rattle.block_server.specs.Fetched.{IfRefused};
-ghost use Rattle.block_server.specs.Judged.{Books, IsAtStage, IsFor, Keeps, ServesOne, has_row, in_service, is_login};
+ghost use Rattle.block_server.specs.Judged.{Ahead, Books, IsAtStage, IsFor, Keeps, ServesOne, has_row, in_service, is_login};
+ghost use Rattle.block_server.specs.Judges.{Judges};
 ghost use Rattle.block_server.specs.Moves.{Passes};
 ghost use Rattle.block_server.specs.Owed.{KeepsAnswersBy, MovesRow, row_states, owing_of, row_in};
 ghost use Rattle.block_server.specs.Receipts.{TakesIn, standing_of};
@@ -72,6 +73,10 @@ pub(crate) fn serve<S: Site, B: Blocks>(
     ensures answers { KeepsAnswersBy (books_at unit.old (S.state site.old) records.old)
         S.link_shared unit.old unit.new (S.state site.old) (S.state site.new)
         records.old records.new }
+    ensures judges { Judges
+        (standing_of unit.old) (standing_of unit.new) (S.state site.old) (S.state site.new)
+        (books_at unit.old (S.state site.old) records.old)
+        (books_at unit.new (S.state site.new) records.new) }
 {
     let Some(request) = unit.pending.front() else {
         return Ok(());
@@ -103,7 +108,7 @@ fn note_stage(unit: &mut Unit, before: (u8, u32))
     ensures desk { desk_of unit.new ≡ desk_of unit.old }
     ensures line { unit.new.line ≡ unit.old.line }
     ensures stands { standing_of unit.new ≡ standing_of unit.old }
-    ensures books { (session next : ℕ) → (records : Records) →
+    ensures books { (session : ℕ) → (next : Ahead) → (records : Records) →
         books_of unit.new session next records ≡ books_of unit.old session next records }
     ensures owing { (q : EndState) → (records : Records) →
         owing_of unit.new q records ≡ owing_of unit.old q records }

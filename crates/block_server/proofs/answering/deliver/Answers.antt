@@ -46,17 +46,17 @@ pub returns-in_default-clause-books : goal.returns-in_default-clause-books
 returns-in_default-clause-books g c = λ records judged is. is
 
 pub returns-in-Ok-clause-books : goal.returns-in-Ok-clause-books
-returns-in-Ok-clause-books g c = λ records judged is. moved_to _ _ judged refl (ap (λ (q : EndState). q.last_session) c.deliver_unit.ensures.queue) (ap (next_of c.args.unit.now.waiting) c.deliver_unit.ensures.queue) refl refl refl refl refl refl refl refl refl
+returns-in-Ok-clause-books g c = λ records judged is. moved_to _ _ judged refl (ap (λ (q : EndState). q.last_session) c.deliver_unit.ensures.queue) (ap (next_of c.args.unit.now.waiting) c.deliver_unit.ensures.queue) refl refl refl refl refl refl refl refl refl refl refl
     (keeps_delivered _ c.args.outcome judged c.requires.stage c.requires.none is)
 
 pub returns-in-Err-Refused-clause-books : goal.returns-in-Err-Refused-clause-books
-returns-in-Err-Refused-clause-books g c = λ records judged is. moved_to _ _ judged refl (ap (λ (q : EndState). q.last_session) c.deliver_unit.ensures.queue) (ap (next_of c.args.unit.now.waiting) c.deliver_unit.ensures.queue) refl refl refl refl refl refl refl refl refl is
+returns-in-Err-Refused-clause-books g c = λ records judged is. moved_to _ _ judged refl (ap (λ (q : EndState). q.last_session) c.deliver_unit.ensures.queue) (ap (next_of c.args.unit.now.waiting) c.deliver_unit.ensures.queue) refl refl refl refl refl refl refl refl refl refl refl is
 
 pub returns-in-Err-Busy-clause-books : goal.returns-in-Err-Busy-clause-books
-returns-in-Err-Busy-clause-books g c = λ records judged is. moved_to _ _ judged refl (ap (λ (q : EndState). q.last_session) c.deliver_unit.ensures.queue) (ap (next_of c.args.unit.now.waiting) c.deliver_unit.ensures.queue) refl refl refl refl refl refl refl refl refl is
+returns-in-Err-Busy-clause-books g c = λ records judged is. moved_to _ _ judged refl (ap (λ (q : EndState). q.last_session) c.deliver_unit.ensures.queue) (ap (next_of c.args.unit.now.waiting) c.deliver_unit.ensures.queue) refl refl refl refl refl refl refl refl refl refl refl is
 
 pub returns-in-Err-NoMemory-clause-books : goal.returns-in-Err-NoMemory-clause-books
-returns-in-Err-NoMemory-clause-books g c = λ records judged is. moved_to _ _ judged refl (ap (λ (q : EndState). q.last_session) c.deliver_unit.ensures.queue) (ap (next_of c.args.unit.now.waiting) c.deliver_unit.ensures.queue) refl refl refl refl refl refl refl refl refl is
+returns-in-Err-NoMemory-clause-books g c = λ records judged is. moved_to _ _ judged refl (ap (λ (q : EndState). q.last_session) c.deliver_unit.ensures.queue) (ap (next_of c.args.unit.now.waiting) c.deliver_unit.ensures.queue) refl refl refl refl refl refl refl refl refl refl refl is
 
 pub returns-in_default-clause-answers : goal.returns-in_default-clause-answers
 returns-in_default-clause-answers g c = λ records alone has. has
