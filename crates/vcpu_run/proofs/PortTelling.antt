@@ -128,7 +128,7 @@ EndsIf false script unit line row lan lan' = IsIdle lan lan' (unit_of script.par
 pub step_ends : (lan lan' : LanValue) (script : Script) (line : Line) (row : LogRow) (done' unit : ℕ) (b : Bool)
     → RisesIf b (unit_of script.partition unit) line.verb (done_in script.progress) done' lan lan' (steps.Ends row.outcome)
     → EndsIf b script unit line row lan lan'
-step_ends lan lan' script line row done' unit true rises es is =
+step_ends lan lan' script line row done' unit true rises = λ es is.
     tells_end es (record { verb = line.verb; outcome = row.outcome }) (counts_by line.verb (done_in script.progress)) lan lan' (unit_of script.partition unit) is rises
 step_ends lan lan' script line row done' unit false idle = idle
 
@@ -214,7 +214,7 @@ took_tells lan script ended line row count taken found reached partition lines s
     told = ap counts_told out
 
     by : (unit : ℕ) (b : Bool) → EndsIf b script unit line row lan lan
-    by unit true es is = record {
+    by unit true = λ es is. record {
       frames = frames_more es _ ∙ ap (λ (o : Outcome). frames_told es ++ frame_of o) out ∙ append-nil (frames_told es) ∙ is.frames;
       posts = omega (arith, posts_more es (record { verb = line.verb; outcome = row.outcome }), is.posts, ap (λ (c : PortCounts). c.posts) done, ap (λ (c : PortCounts). c.posts) told);
       taken = omega (arith, taken_more es (record { verb = line.verb; outcome = row.outcome }), is.taken, ap (λ (c : PortCounts). c.taken) done, ap (λ (c : PortCounts). c.taken) told, few);

@@ -14,4 +14,4 @@ pub returns-in-Client-clause-stays : goal.returns-in-Client-clause-stays
 returns-in-Client-clause-stays c = frees_but (c.args.seat ∷ []) 0 c.in-Client.pair c.args.pairs.now c.fail_of.new.pairs (ap Some c.in-Client.is) c.fail_of.ensures.stays
 
 pub returns-in-Port-clause-idle : goal.returns-in-Port-clause-idle
-returns-in-Port-clause-idle c = all_idle c.args.lan.now c.fail.new.lan c.fail.ensures.seats c.fail.ensures.frames c.fail.ensures.counts
+returns-in-Port-clause-idle c = all_idle c.args.lan.now c.fail.new.self c.fail.ensures.seats c.fail.ensures.frames c.fail.ensures.counts

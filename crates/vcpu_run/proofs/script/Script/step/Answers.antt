@@ -122,7 +122,7 @@ returns-in-Waits c =
           (subst (λ (st : Step). StepsLine c.args.self.now.seats.items c.args.line.now (taken_in c.args.self.now.progress) (taken_in c.step_unit.new.progress) c.args.pairs.now c.step_unit.new.pairs (Ok st)) c.in-Waits.is
           (rw (← c.deref.ensures.value) c.in_ok-step.ensures.credit)) is;
       told = λ tells.
-          port_waits c.args.lan.now c.step_unit.new.lan c.args.self.now _ c.args.line.now c.in-Waits.moved c.requires.line refl
+          port_waits c.args.lan.now c.step_unit.new.lan c.args.self.now (record c.args.self.now { progress = c.step_unit.new.progress }) c.args.line.now c.in-Waits.moved c.requires.line refl
           (λ no.
           subst (λ (st : Step). TellsStep c.args.self.now.partition c.args.self.now.seats.items c.args.line.now (done_in c.args.self.now.progress) (done_in c.step_unit.new.progress) c.args.lan.now c.step_unit.new.lan st) c.in-Waits.is
           (rw (← c.deref.ensures.value) (c.in_ok-step.ensures.told no))) tells;
