@@ -1,16 +1,22 @@
 -- What an entry that is judged leaves of a unit's books.
-use Rattle.std.proofs.Common.{◌≡◌, ◌⊎◌, inl, inr, ◌==◌, ◌&&◌, ◌++◌, ◌<◌, ◌≤◌, ℕ, Bool, true, false, Contains, List, [], ◌∷◌, Option, Some, None, IsSome, refl, sym, ◌∙◌, ap, subst, arith}
+use Rattle.std.proofs.Common.{◌≡◌, ◌≢◌, ◌+◌, length, ◌⊎◌, inl, inr, ◌==◌, ◌&&◌, ◌++◌, ◌<◌, ◌≤◌, ℕ, Bool, true, false, Contains, List, [], ◌∷◌, Option, Some, None, IsSome, refl, sym, ◌∙◌, ap, subst, arith}
+use Rattle.std.proofs.lemmas.Bool.{eq-eqb}
 use Rattle.std.proofs.lemmas.List.Elements.{All-push}
+use Rattle.crq_ring.specs.Sessions.{of_session}
 use Rattle.vio_num.specs.declared.history.Grant.{Grant}
 use Rattle.vio_num.specs.declared.history.Grant.TheVariants.{Granted}
 use Rattle.vio_num.specs.declared.names.UnitId.{UnitId}
 use Rattle.block_server.specs.Receipts.{Receipt}
-use Rattle.block_server.specs.Judged.{AreKept, AreLogins, ArePending, Asks, Books, Fate, HasFate, HasFront, HasGrant, IsAtStage, Judged, KeepsLogins, due_under, gets_row, has_row, is_login, login_of, receipt_key, request_key}
-use Rattle.block_server.specs.Judged.Fate.{asked, asks_logout}
+use Rattle.block_server.specs.Closings.{TakesNone}
+use Rattle.block_server.specs.Judged.{Ahead, AreKept, AreLogins, ArePending, Asks, Books, Fate, HasFate, HasFront, HasGrant, IsAtStage, Judged, KeepsLogins, accepted, due_under, gets_row, has_row, is_login, login_of, receipt_key, request_key}
+use Rattle.block_server.specs.Fates.Fate.{asked, asks_logout, ends_it}
 use Rattle.block_server.specs.declared.request.Request.{Request}
 use Rattle.block_server.specs.declared.service.Outcome.TheVariants as outcomes
 use Rattle.block_server.specs.declared.service.Stage.{Stage}
 use Rattle.block_server.specs.declared.service.Stage.TheVariants as stages
+use Rattle.block_server.proofs.Closing.{none_grows}
+use Rattle.block_server.proofs.Heard.{accepted_more, accepted_one}
+use Rattle.block_server.proofs.Lines.{lines_judged}
 use Rattle.block_server.proofs.Judging.{due_pass, served_due, served_more, served_other}
 use Rattle.block_server.proofs.Keeping.{front_of, later_logins, later_pending}
 
@@ -71,7 +77,7 @@ stage_push current pending request (stages.Entry outcomes.Rejected) is =
 stage_push current pending request (stages.Entry (outcomes.Served row)) is = front_push pending request is
 
 -- the grant of the login that takes requests
-pub grant_of : (books : Books) (receipt : Receipt) (judged : List Judged) → books.taking ≡ true → receipt.session ≡ books.session → books.next ≤ receipt.number → AreKept books judged
+pub grant_of : (books : Books) (receipt : Receipt) (judged : List Judged) → books.taking ≡ true → receipt.session ≡ books.session → books.next.number ≤ receipt.number → AreKept books judged
     → HasGrant books.id books.grants receipt.session books.current receipt.number
 grant_of books receipt judged taking session most is =
     let grant = is.logins.granted (is.logins.takes taking) in
@@ -79,70 +85,119 @@ grant_of books receipt judged taking session most is =
       at = grant.at;
       credits = grant.credits;
       listed = subst (λ (n : ℕ). Contains books.grants (Granted books.id n books.current grant.at grant.credits)) (sym session) grant.listed;
-      earlier = below grant.at books.next receipt.number grant.earlier most;
+      earlier = below grant.at books.next.number receipt.number grant.earlier most;
     }
   where
     below : (a b c : ℕ) → a < b → b ≤ c → a < c
     below a b c low high = omega (arith, low, high)
 
+-- How an entry of the present session is judged behind the others: the other end was heard, and it is the last that was taken.
+pub record IsNext (books : Books) (next' : Ahead) (receipt : Receipt) : Type 0 where
+  pub session_is : receipt.session ≡ books.session
+  pub number_is : receipt.number ≡ books.next.number
+  pub below : books.next.number < next'.number
+  pub going : books.ended ≡ false
+  pub up : books.up ≡ true
+  pub taken : next'.taken ≡ books.next.taken
+  pub all : next'.number ≡ length (of_session books.session books.next.taken)
+
+one_more : (n : ℕ) (a b : ℕ) → a ≤ b → a + 1 ≤ b + 1
+one_more n a b low = omega (arith, low)
+
 -- A command or a task was accepted.
-pub keeps_asked : (books : Books) (next' : ℕ) (request : Request) (receipt : Receipt) (judged : List Judged) → receipt_key receipt ≡ request_key books.session request
-    → gets_row request.order ≡ true → is_login request.order ≡ false → request.login ≡ books.current → books.taking ≡ true → books.next ≤ receipt.number → receipt.number < next'
-    → IsSome receipt.copy → Asks receipt.bytes → books.ended ≡ false
-    → AreKept books judged → AreKept (record books { next = next'; pending = books.pending ++ request ∷ [] }) (judged ++ record { receipt = receipt; fate = asked books.current } ∷ [])
-keeps_asked books next' request receipt judged key row other under taking low high copy asks going is =
-    let most = between books.next receipt.number next' low high in
+pub keeps_asked : (books : Books) (next' : Ahead) (request : Request) (receipt : Receipt) (judged : List Judged) → receipt_key receipt ≡ request_key books.session request
+    → gets_row request.order ≡ true → is_login request.order ≡ false → request.login ≡ books.current → books.taking ≡ true → IsNext books next' receipt
+    → IsSome receipt.copy → Asks receipt.bytes
+    → AreKept books judged → AreKept (record books {
+      next = next';
+      pending = books.pending ++ request ∷ [];
+      credits = record { outstanding = books.credits.outstanding + 1; granted = books.credits.granted };
+    }) (judged ++ record { receipt = receipt; fate = asked books.current } ∷ [])
+keeps_asked books next' request receipt judged key row other under taking to copy asks is =
+    let j : Judged = record { receipt = receipt; fate = asked books.current } in
+    let low = upto _ _ (sym to.number_is) in
+    let most = below _ _ to.below in
     let some = is.logins.takes taking in
     record {
-      fates = All-push (λ j. HasFate books.id books.grants j.receipt j.fate) judged (record { receipt = receipt; fate = asked books.current }) is.fates
+      fates = All-push (λ j. HasFate books.id books.grants j.receipt j.fate) judged j is.fates
           (copy, (asks, grant_of books receipt judged taking (ap (λ k. k.session) key) low is));
       served = λ login one. served_more books.id books.session judged books.rows books.grants books.stage books.pending request receipt books.current login key row under
           (front_of books.current books.pending books.stage is.stage) (is.logins.on some) (is.served login one);
-      logins = later_logins books.id books.session books.next next' books.current books.last books.taking books.grants most is.logins;
-      pending = pending_push books.current books.next next' books.taking books.taking books.pending request most (subst (λ (n : ℕ). n < next') (ap (λ k. k.number) key) high)
+      logins = later_logins books.id books.session books.next.number next'.number books.current books.last books.taking books.grants most is.logins;
+      pending = pending_push books.current books.next.number next'.number books.taking books.taking books.pending request most
+          (subst (λ (n : ℕ). n < next'.number) (sym to.number_is ∙ ap (λ k. k.number) key) to.below)
           (inr (under, (some, taking))) (λ no_login none. absurd (cc (row, none))) (λ on. on) is.pending;
       stage = stage_push books.current books.pending request books.stage is.stage;
       kept = is.kept;
       under = is.under;
-      idle = λ over. absurd (cc (over, going));
+      lines = lines_judged books.id books.session books.next next' books.current books.taking books.taking books.up books.credits
+          (record { outstanding = books.credits.outstanding + 1; granted = books.credits.granted }) books.grants books.ended judged receipt (asked books.current)
+          to.taken to.all to.session_is to.going to.up (λ ends. absurd (cc (ends))) refl (λ off. absurd (cc (taking, off)))
+          (λ on. subst (λ (n : ℕ). books.credits.outstanding + 1 ≤ n) (sym (accepted_one books.current judged j (eq-eqb books.current books.current refl)))
+          (one_more 0 books.credits.outstanding _ (is.lines.counted on))) is.lines;
+      idle = λ over. absurd (cc (over, to.going));
     }
   where
-    between : (a b c : ℕ) → a ≤ b → b < c → a ≤ c
-    between a b c low high = omega (arith, low, high)
+    upto : (a b : ℕ) → a ≡ b → a ≤ b
+    upto a b same = omega (arith, same)
+
+    below : (a b : ℕ) → a < b → a ≤ b
+    below a b low = omega (arith, low)
+
+-- what is counted as another entry is judged
+counted_on : (books : Books) (judged : List Judged) (j : Judged) → AreKept books judged → 1 ≤ books.current → books.credits.outstanding ≤ length (accepted books.current (judged ++ j ∷ []))
+counted_on books judged j is on = below _ _ _ (is.lines.counted on) (accepted_more books.current judged j)
+  where
+    below : (a b c : ℕ) → a ≤ b → b ≤ c → a ≤ c
+    below a b c low high = omega (arith, low, high)
 
 -- A login request or a logout was accepted.
-pub keeps_unasked : (books : Books) (next' : ℕ) (taking' : Bool) (request : Request) (receipt : Receipt) (fate : Fate) (judged : List Judged) → login_of fate ≡ 0
-    → HasFate books.id books.grants receipt fate → books.next ≤ next' → request.number < next' → gets_row request.order ≡ false
+pub keeps_unasked : (books : Books) (next' : Ahead) (taking' : Bool) (request : Request) (receipt : Receipt) (fate : Fate) (judged : List Judged) → login_of fate ≡ 0
+    → HasFate books.id books.grants receipt fate → IsNext books next' receipt → request.number ≡ receipt.number → gets_row request.order ≡ false
     → (is_login request.order ≡ true) ⊎ ((request.login ≡ books.current) × ((1 ≤ books.current) × (books.taking ≡ true))) → (is_login request.order ≡ false → taking' ≡ false)
-    → (taking' ≡ true → books.taking ≡ true) → books.ended ≡ false
+    → (taking' ≡ true → books.taking ≡ true) → fate ≢ ends_it
+    → (taking' ≡ false → TakesNone books.id books.session (judged ++ record { receipt = receipt; fate = fate } ∷ []) books.grants)
     → AreKept books judged → AreKept (record books { next = next'; taking = taking'; pending = books.pending ++ request ∷ [] }) (judged ++ record { receipt = receipt; fate = fate } ∷ [])
-keeps_unasked books next' taking' request receipt fate judged none has most number row how off stays going is = record {
+keeps_unasked books next' taking' request receipt fate judged none has to number row how off stays other off_is is = record {
   fates = All-push (λ j. HasFate books.id books.grants j.receipt j.fate) judged (record { receipt = receipt; fate = fate }) is.fates has;
   served = λ login one. served_due books.id books.session (judged ++ record { receipt = receipt; fate = fate } ∷ []) books.rows books.grants books.stage books.stage books.pending (books.pending ++ request ∷ []) login
       (sym (due_pass books.session login (has_row books.stage) books.pending request (front_of books.current books.pending books.stage is.stage) (and_first (gets_row request.order) (request.login == login) row)))
       (served_other books.id books.session judged books.rows books.grants books.stage books.pending receipt fate login none one (is.served login one));
-  logins = let later = later_logins books.id books.session books.next next' books.current books.last books.taking books.grants most is.logins in
+  logins = let later = later_logins books.id books.session books.next.number next'.number books.current books.last books.taking books.grants (below _ _ to.below) is.logins in
       record { most = later.most; on = later.on; none_later = later.none_later; granted = later.granted; takes = λ on. later.takes (stays on) };
-  pending = pending_push books.current books.next next' books.taking taking' books.pending request most number how (λ other no_row. off other) stays is.pending;
+  pending = pending_push books.current books.next.number next'.number books.taking taking' books.pending request (below _ _ to.below)
+      (subst (λ (n : ℕ). n < next'.number) (sym (number ∙ to.number_is)) to.below) how (λ other no_row. off other) stays is.pending;
   stage = stage_push books.current books.pending request books.stage is.stage;
   kept = is.kept;
   under = is.under;
-  idle = λ over. absurd (cc (over, going));
+  lines = lines_judged books.id books.session books.next next' books.current books.taking taking' books.up books.credits books.credits books.grants books.ended judged receipt fate
+      to.taken to.all to.session_is to.going to.up other refl off_is (counted_on books judged (record { receipt = receipt; fate = fate }) is) is.lines;
+  idle = λ over. absurd (cc (over, to.going));
 }
   where
+    below : (a b : ℕ) → a < b → a ≤ b
+    below a b low = omega (arith, low)
+
     and_first : (a b : Bool) → a ≡ false → a && b ≡ false
     and_first a b e = cc (e)
 
 -- An entry was judged that is no request.
-pub keeps_judged : (books : Books) (next' : ℕ) (receipt : Receipt) (fate : Fate) (judged : List Judged) → login_of fate ≡ 0 → HasFate books.id books.grants receipt fate → books.next ≤ next'
-    → AreKept books judged → AreKept (record books { next = next' }) (judged ++ record { receipt = receipt; fate = fate } ∷ [])
-keeps_judged books next' receipt fate judged none has most is = record {
+pub keeps_judged : (books : Books) (next' : Ahead) (receipt : Receipt) (fate : Fate) (judged : List Judged) → login_of fate ≡ 0 → HasFate books.id books.grants receipt fate → IsNext books next' receipt
+    → fate ≢ ends_it → AreKept books judged → AreKept (record books { next = next' }) (judged ++ record { receipt = receipt; fate = fate } ∷ [])
+keeps_judged books next' receipt fate judged none has to other is = record {
   fates = All-push (λ j. HasFate books.id books.grants j.receipt j.fate) judged (record { receipt = receipt; fate = fate }) is.fates has;
   served = λ login one. served_other books.id books.session judged books.rows books.grants books.stage books.pending receipt fate login none one (is.served login one);
-  logins = later_logins books.id books.session books.next next' books.current books.last books.taking books.grants most is.logins;
-  pending = later_pending books.current books.next next' books.taking books.pending most is.pending;
+  logins = later_logins books.id books.session books.next.number next'.number books.current books.last books.taking books.grants (below _ _ to.below) is.logins;
+  pending = later_pending books.current books.next.number next'.number books.taking books.pending (below _ _ to.below) is.pending;
   stage = is.stage;
   kept = is.kept;
   under = is.under;
+  lines = lines_judged books.id books.session books.next next' books.current books.taking books.taking books.up books.credits books.credits books.grants books.ended judged receipt fate
+      to.taken to.all to.session_is to.going to.up other refl
+      (λ off. none_grows books.id books.session judged (record { receipt = receipt; fate = fate } ∷ []) books.grants (is.lines.off off))
+      (counted_on books judged (record { receipt = receipt; fate = fate }) is) is.lines;
   idle = is.idle;
 }
+  where
+    below : (a b : ℕ) → a < b → a ≤ b
+    below a b low = omega (arith, low)

@@ -5,13 +5,15 @@ use Rattle.std.proofs.lemmas.Bool.{eqb-true}
 use Rattle.std.proofs.lemmas.Option.{IfSome_then}
 use Rattle.std.proofs.lemmas.List.Elements.{All-append, All-cons, All-head, All-nil, All-tail, All-weaker}
 use Rattle.crq_ring.specs.Sessions.{of_session}
+use Rattle.crq_ring.proofs.Sessions.{of_session-nil}
 use Rattle.crq_session.specs.EndState.{EndState}
 use Rattle.vio_num.specs.declared.history.Grant.{Grant}
 use Rattle.vio_num.specs.declared.history.Served.{Served}
 use Rattle.vio_num.specs.declared.names.UnitId.{UnitId}
 use Rattle.block_server.specs.Answering.{OnlyRowsOf, StaysRow}
-use Rattle.block_server.specs.Books.{books_seen, next_of}
-use Rattle.block_server.specs.Judged.{AreKept, Books, IsAllServed, IsOn, IsServedUnder, IsWorkDone, Judged, Key, RowKey, due_under, has_row, is_under, keys_of, row_key}
+use Rattle.block_server.specs.Books.{books_seen, is_up, next_of, number_of}
+use Rattle.block_server.specs.Judged.{AreKept, Books, Credits, IsAllServed, IsOn, IsServedUnder, IsWorkDone, Judged, Key, RowKey, due_under, has_row, is_under, keys_of, row_key}
+use Rattle.block_server.specs.Closings.{HasCauses}
 use Rattle.block_server.specs.Judges.{AreUnused, HasKept}
 use Rattle.block_server.specs.Makers.{same_unit}
 use Rattle.block_server.specs.Receipts.{LinesMore, is_ended, unit_of}
@@ -41,11 +43,11 @@ kept_seen units units' unit id queue queue' history grants judged same session t
     subst (λ (o : Option Unit). IfSome o (λ u. AreKept (books_seen u id queue' history grants) judged)) (sym same)
     (IfSome_then (slice_get units unit) has
     (λ u is. moved_to (books_seen u id queue history grants) (books_seen u id queue' history grants) judged refl session (next u.waiting)
-    refl refl refl refl refl refl refl refl refl is))
+    refl refl refl refl refl refl refl refl refl refl refl is))
   where
     next : (waiting : Option Arrival) → next_of waiting queue' ≡ next_of waiting queue
-    next (Some arrival) = refl
-    next None = λ i. length (of_session (session i) (taken i))
+    next (Some arrival) = λ i. record { number = arrival.number; taken = taken i }
+    next None = λ i. record { number = length (of_session (session i) (taken i)); taken = taken i }
 
 -- rows of other units
 no_row : (unit other : UnitId) (login : ℕ) (row : Served) → other ≢ unit → row.unit ≡ other → is_under unit login (row_key row) ≡ false
@@ -107,6 +109,7 @@ rows_kept books rows judged stay is = record {
   stage = is.stage;
   kept = is.kept;
   under = stay.under is.under;
+  lines = is.lines;
   idle = is.idle;
 }
   where
@@ -156,21 +159,35 @@ served_at_rest units unit u id queue history grants judged there none has =
       served = λ login some. none_due id queue.last_session judged (keys_of history) grants u.service.stage u.pending.items login none (is.served login some);
     }
 
+-- Each line of the unit has its cause.
+pub causes_seen : (units : List Unit) (unit : ℕ) (u : Unit) (id : UnitId) (queue : EndState) (history : List Served) (grants : List Grant) (judged : List Judged)
+    → slice_get units unit ≡ Some u → HasKept units unit id queue history grants judged → HasCauses id queue.taken judged grants
+causes_seen units unit u id queue history grants judged there has =
+    let is : AreKept (books_seen u id queue history grants) judged =
+    subst (λ (o : Option Unit). IfSome o (λ u. AreKept (books_seen u id queue history grants) judged)) there has in
+    is.lines.causes
+
 -- Units that judged nothing.
 pub none_unused : (units : List Unit) → units ≡ [] → AreUnused units
-none_unused units none = subst AreUnused (sym none) (λ number id queue. tt)
+none_unused units none = subst AreUnused (sym none) (λ number id queue none. tt)
 
 pub more_unused : (units : List Unit) (new : Unit) → AreUnused units → new.logins.current ≡ 0 → new.logins.last ≡ 0 → new.logins.taking ≡ false → new.service.stage ≡ Start
-    → new.line.kept ≡ None → new.pending.items ≡ [] → AreUnused (units ++ new ∷ [])
-more_unused units new all current last taking stage kept pending = at units all
+    → new.line.kept ≡ None → new.pending.items ≡ [] → new.waiting ≡ None → AreUnused (units ++ new ∷ [])
+more_unused units new all current last taking stage kept pending waiting = at units all
   where
-    unused : (id : UnitId) (queue : EndState) → AreKept (books_seen new id queue [] []) []
-    unused id queue =
-        moved_to (fresh_books id queue.last_session (next_of new.waiting queue) (is_ended new.line)) (books_seen new id queue [] []) [] refl refl refl current last taking stage kept pending refl refl refl
-        (kept_new id queue.last_session (next_of new.waiting queue) (is_ended new.line))
+    credits : Credits
+    credits = record { outstanding = new.logins.target.outstanding; granted = new.logins.granted }
+
+    first : (queue : EndState) → queue.taken ≡ [] → number_of new.waiting queue ≡ 0
+    first queue none = ap (λ w. number_of w queue) waiting ∙ ap length (ap (of_session queue.last_session) none ∙ of_session-nil queue.last_session)
+
+    unused : (id : UnitId) (queue : EndState) → queue.taken ≡ [] → AreKept (books_seen new id queue [] []) []
+    unused id queue none =
+        moved_to (fresh_books id queue.last_session (next_of new.waiting queue) (is_ended new.line) (is_up new.line.handshake) credits) (books_seen new id queue [] []) [] refl refl refl current last taking stage kept pending refl refl refl refl refl
+        (kept_new id queue.last_session (next_of new.waiting queue) (is_ended new.line) (is_up new.line.handshake) credits none (first queue none))
 
     at : (units : List Unit) → AreUnused units → AreUnused (units ++ new ∷ [])
-    at [] all zero id queue = unused id queue
-    at [] all (suc n) id queue = tt
-    at (first ∷ units) all zero id queue = all zero id queue
-    at (first ∷ units) all (suc n) id queue = at units (λ m id queue. all (suc m) id queue) n id queue
+    at [] all zero id queue none = unused id queue none
+    at [] all (suc n) id queue none = tt
+    at (first ∷ units) all zero id queue none = all zero id queue none
+    at (first ∷ units) all (suc n) id queue none = at units (λ m id queue none. all (suc m) id queue none) n id queue none

@@ -38,17 +38,17 @@ pub passed_next : (waiting waiting' : Option Arrival) (old new : SiteState) → 
 passed_next waiting waiting' old new same passes = ap (λ w. next_of w new.queue) same ∙ by waiting
   where
     by : (waiting : Option Arrival) → next_of waiting new.queue ≡ next_of waiting old.queue
-    by (Some arrival) = refl
-    by None = λ i. length (of_session (passed_session old new passes i) (passed_taken old new passes i))
+    by (Some arrival) = λ i. record { number = arrival.number; taken = passed_taken old new passes i }
+    by None = λ i. record { number = length (of_session (passed_session old new passes i) (passed_taken old new passes i)); taken = passed_taken old new passes i }
 
 -- Such a call leaves the books.
 pub books_pass : (books new : Books) (waiting waiting' : Option Arrival) (site site' : SiteState) → waiting' ≡ waiting → Passes site site'
     → books.session ≡ site.queue.last_session → books.next ≡ next_of waiting site.queue → new.session ≡ site'.queue.last_session → new.next ≡ next_of waiting' site'.queue
     → new.id ≡ books.id → new.current ≡ books.current → new.last ≡ books.last → new.taking ≡ books.taking → new.stage ≡ books.stage → new.kept ≡ books.kept
-    → new.pending ≡ books.pending → new.rows ≡ books.rows → new.grants ≡ books.grants → new.ended ≡ books.ended → Keeps books new
-books_pass books new waiting waiting' site site' same passes session next session' next' id current last taking stage kept pending rows grants ended = λ judged is.
+    → new.pending ≡ books.pending → new.rows ≡ books.rows → new.grants ≡ books.grants → new.ended ≡ books.ended → new.up ≡ books.up → new.credits ≡ books.credits → Keeps books new
+books_pass books new waiting waiting' site site' same passes session next session' next' id current last taking stage kept pending rows grants ended up credits = λ judged is.
     moved_to books new judged id (session' ∙ passed_session site site' passes ∙ sym session) (next' ∙ passed_next waiting waiting' site site' same passes ∙ sym next)
-    current last taking stage kept pending rows grants ended is
+    current last taking stage kept pending rows grants ended up credits is
 
 -- One part of a turn behind another.
 pub keeps_on : (a b c : Books) → Keeps a b → Keeps b c → Keeps a c

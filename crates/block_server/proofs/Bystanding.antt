@@ -6,9 +6,10 @@ use Rattle.vio_num.specs.declared.history.Grant.TheVariants.{Granted, Lapsed}
 use Rattle.vio_num.specs.declared.names.UnitId.{UnitId}
 use Rattle.block_server.specs.Makers.{same_unit}
 use Rattle.block_server.specs.Receipts.{unit_of}
-use Rattle.block_server.specs.Judged.{AreKept, Books, HasFate, HasGrant, IsOn, IsServedUnder, Judged, KeepsLogins, RowKey, due_under, ends, has_row, is_logout, is_under, logs_out}
+use Rattle.block_server.specs.Judged.{Ahead, AreKept, Books, Credits, HasFate, HasGrant, IsOn, IsServedUnder, Judged, KeepsLogins, RowKey, due_under, ends, has_row, is_logout, is_under, logs_out}
 use Rattle.block_server.specs.declared.service.Stage.TheVariants as stages
 use Rattle.block_server.proofs.Judging.{filter_pass}
+use Rattle.block_server.proofs.Lapsing.{lines_new, lines_others}
 use Rattle.block_server.proofs.Keeping.{fate_grows}
 
 -- what a filter leaves of a list with others behind it, none of which it takes
@@ -50,13 +51,14 @@ keeps_lines books lines judged apart is = record {
     most = is.logins.most;
     on = λ some. same_ends books.current ∙ is.logins.on some;
     none_later = λ n high. same_ends n ∙ is.logins.none_later n high;
-    granted = λ some. grant_grows books.id books.grants lines books.session books.current books.next (is.logins.granted some);
+    granted = λ some. grant_grows books.id books.grants lines books.session books.current books.next.number (is.logins.granted some);
     takes = is.logins.takes;
   };
   pending = is.pending;
   stage = is.stage;
   kept = is.kept;
   under = is.under;
+  lines = lines_others books.id books.session books.next books.current books.taking books.up books.credits books.grants books.ended judged lines apart is.lines;
   idle = is.idle;
 }
   where
@@ -78,8 +80,8 @@ keeps_lines books lines judged apart is = record {
     }
 
 -- the books of a unit that was made
-abbrev pub fresh_books : (id : UnitId) (session next : ℕ) (ended : Bool) → Books
-fresh_books id session next ended = record {
+abbrev pub fresh_books : (id : UnitId) (session : ℕ) (next : Ahead) (ended up : Bool) (credits : Credits) → Books
+fresh_books id session next ended up credits = record {
   id = id;
   session = session;
   next = next;
@@ -92,11 +94,13 @@ fresh_books id session next ended = record {
   rows = [];
   grants = [];
   ended = ended;
+  up = up;
+  credits = credits;
 }
 
 -- A unit was made, among no rows and no lines.
-pub kept_new : (id : UnitId) (session next : ℕ) (ended : Bool) → AreKept (fresh_books id session next ended) []
-kept_new id session next ended = record {
+pub kept_new : (id : UnitId) (session : ℕ) (next : Ahead) (ended up : Bool) (credits : Credits) → next.taken ≡ [] → next.number ≡ 0 → AreKept (fresh_books id session next ended up credits) []
+kept_new id session next ended up credits none zero = record {
   fates = All-nil (λ (j : Judged). HasFate id [] j.receipt j.fate);
   served = λ login some. record { rest = []; in_order = refl; waiting = λ on. refl; out = inl refl };
   logins = record {
@@ -110,6 +114,7 @@ kept_new id session next ended = record {
   stage = tt;
   kept = tt;
   under = All-nil (λ (row : RowKey). same_unit row.unit id ≡ true → 1 ≤ row.login);
+  lines = lines_new id session next up credits ended none zero;
   idle = λ over. (refl, refl);
 }
   where

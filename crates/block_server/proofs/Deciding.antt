@@ -1,15 +1,17 @@
 -- What the parts of a turn judge, one behind the other.
-use Rattle.std.proofs.Common.{◌≡◌, ◌+◌, ◌++◌, length-append, ◌≤◌, ℕ, Bool, true, false, cond, All, List, [], ◌∷◌, Option, Some, None, IfSome, MatchOption, drop, slice_get, ◌<◌, filter, length, map, refl, sym, ◌∙◌, ap, subst, arith, le_refl, append-nil, append_assoc}
+use Rattle.std.proofs.Common.{◌≡◌, inl, inr, ◌+◌, ◌++◌, length-append, ◌≤◌, ℕ, Bool, true, false, cond, All, List, [], ◌∷◌, Option, Some, None, IfSome, MatchOption, drop, slice_get, ◌<◌, filter, length, map, refl, sym, ◌∙◌, ap, subst, arith, le_refl, append-nil, append_assoc}
 use Rattle.std.proofs.lemmas.List.{map-append}
 use Rattle.std.proofs.lemmas.List.Elements.{All-append, All-cons, All-head, All-nil, All-tail, All-weaker, filter-append, filter_map-append}
 use Rattle.vio_num.specs.declared.history.Grant.{Grant}
+use Rattle.vio_num.specs.declared.history.Lapse.{Lapse}
+use Rattle.vio_num.specs.declared.history.Lapse.TheVariants as lapses
 use Rattle.vio_num.specs.declared.names.UnitId.{UnitId}
 use Rattle.block_server.specs.Advances.{Advances}
 use Rattle.block_server.specs.Judges.{Judges, JudgesMore}
-use Rattle.block_server.specs.Judged.{AreKept, Books, Fate, IsInTime, IsOn, Judged, Keeps, ends, login_of}
-use Rattle.block_server.specs.Judged.Fate.{ends_it}
+use Rattle.block_server.specs.Judged.{Ahead, AreKept, Books, Fate, IsInTime, IsOn, Judged, Keeps, ends, login_of}
+use Rattle.block_server.specs.Fates.Fate.{ends_it}
 use Rattle.block_server.specs.Moves.{Passes}
-use Rattle.block_server.specs.Receipts.{EndedFor, Intake, IsIntake, IsReceived, LinesMore, MayTake, Receipt, Standing, TakesEntry, TakesIn, copy_of, intake_of}
+use Rattle.block_server.specs.Receipts.{EndedFor, Intake, IsIntake, IsReceived, LinesMore, MayTake, Receipt, Standing, TakesEntry, TakesIn, intake_of, is_fatal}
 use Rattle.block_server.specs.SiteState.{SameWindows, SiteState}
 use Rattle.std.specs.List.{cons_option, filter_map}
 use Rattle.std.proofs.lemmas.Option.{slice_get_within}
@@ -19,10 +21,10 @@ use Rattle.crq_ring.proofs.Sessions.{of_session-push}
 use Rattle.vio_num.specs.Entry.{is_srp_entry, iu_address, iu_length}
 use Rattle.vio_num.specs.declared.entry.Entry.{Entry}
 use Rattle.block_server.specs.Books.{next_of}
-use Rattle.block_server.specs.Decided.{IsToJudge, JudgesOne}
+use Rattle.block_server.specs.Closings.{Gives}
+use Rattle.block_server.specs.Decided.{IsEnd, IsToJudge, JudgesOne}
 use Rattle.block_server.specs.Moves.{Fetches, FetchesOne, is_intake}
 use Rattle.block_server.specs.declared.request.Arrival.{Arrival}
-use Rattle.block_server.proofs.Accepting.{keeps_judged}
 use Rattle.rdma_copy.specs.declared.copy.CopyRecord.{CopyRecord}
 use Rattle.tce_window.specs.PortState.{PortPlace}
 use Rattle.block_server.proofs.Judging.{filter_kept}
@@ -54,6 +56,19 @@ judges_still unit unit' old new books books' still keeps = record {
   };
 }
 
+-- Nothing was judged, and what is kept goes by what the intake says.
+judges_idle : (unit unit' : Standing) (old new : SiteState) (books books' : Books)
+    → ((receipts : List Receipt) → IsIntake (intake_of unit old books.grants) receipts → IsIntake (intake_of unit' new books'.grants) receipts)
+    → ((receipts : List Receipt) → IsIntake (intake_of unit old books.grants) receipts → unit.waiting ≡ None) → (unit.waiting ≡ None → Keeps books books') → Judges unit unit' old new books books'
+judges_idle unit unit' old new books books' still waits keeps = record {
+  more = λ own receipts judged intake is. record {
+    more = [];
+    received = subst (IsIntake (intake_of unit' new books'.grants)) (sym (append-nil receipts)) (still receipts intake);
+    kept = subst (AreKept books') (sym (append-nil judged)) (keeps (waits receipts intake) judged is);
+    in_time = All-nil (IsInTime books'.id books.grants);
+  };
+}
+
 -- Nothing was taken and fetched either.
 pub judges_none : (unit unit' : Standing) (old new : SiteState) (books books' : Books) → unit' ≡ unit → Advances old new → Passes old new
     → LinesMore unit.id books.grants books'.grants → Keeps books books' → Judges unit unit' old new books books'
@@ -80,39 +95,70 @@ judges_on u0 u1 u2 s0 s1 s2 b0 b1 b2 takes named same first next = record {
 }
 
 -- A part that ends the session for such a cause: the entry that waits, if one does, ended it.
-pub judges_ended : (unit unit' : Standing) (old new : SiteState) (books books' : Books) → unit'.id ≡ unit.id → unit'.waiting ≡ None → unit'.ended ≡ true → books'.id ≡ unit.id
-    → EndedFor unit.id old.queue.last_session books'.grants → Advances old new → Passes old new → LinesMore unit.id books.grants books'.grants → Keeps books books'
+pub judges_ended : (unit unit' : Standing) (old new : SiteState) (books books' : Books) (next' : Ahead) (cause : Lapse) (outstanding granted : ℕ) → unit'.id ≡ unit.id → unit'.waiting ≡ None → unit'.ended ≡ true
+    → books'.id ≡ unit.id → EndedFor unit.id old.queue.last_session books'.grants → Advances old new → Passes old new → LinesMore unit.id books.grants books'.grants
+    → books.session ≡ old.queue.last_session → next'.taken ≡ books.next.taken → next'.number ≡ length (of_session books.session next'.taken) → is_fatal cause ≡ true
+    → (unit.waiting ≡ None → cause ≡ lapses.Refused)
+    → ((receipts : List Receipt) (judged : List Judged) → IsIntake (intake_of unit old books.grants) receipts → AreKept books judged → books.ended ≡ false)
+    → ((arrival : Arrival) → unit.waiting ≡ Some arrival → (judged : List Judged) → books.ended ≡ false → AreKept books judged
+    → Gives books.id books.next.taken judged books.grants (receipt_of (intake_of unit old books.grants) arrival None []) cause outstanding granted)
+    → ((judged more : List Judged) → IsEnd books next' true cause outstanding granted judged more → AreKept books judged → AreKept books' (judged ++ more))
     → Judges unit unit' old new books books'
-judges_ended unit unit' old new books books' id none over named ended advances passes lines keeps = record {
+judges_ended unit unit' old new books books' next' cause outstanding granted id none over named ended advances passes lines session taken done fatal down going gives keeps = record {
   more = λ own receipts judged intake is.
       at (intake_of unit old books.grants) (intake_of unit' new books'.grants) receipts judged
       (grown_of unit unit' old new books.grants books'.grants unit.id advances lines) (passed_session old new passes) (passed_taken old new passes) (passed_copies old new passes)
       (subst (λ (u : UnitId). EndedFor u old.queue.last_session books'.grants) (own ∙ sym advances.own.unit) ended)
-      (subst (λ (u : UnitId). EndedFor u old.queue.last_session books'.grants) (sym named) ended) none over intake (keeps judged is) unit.waiting refl;
+      none over intake
+      (λ waits. keeps judged [] (record {
+        going = going receipts judged intake is;
+        done = done;
+        why = inr (inl (record { cause_is = down waits; none = refl; over = refl; taken = taken }));
+      }) is)
+      (λ arrival waits. keeps judged (record { receipt = receipt_of (intake_of unit old books.grants) arrival None []; fate = ends_it } ∷ []) (record {
+        going = going receipts judged intake is;
+        done = done;
+        why = inr (inr (record {
+          receipt = receipt_of (intake_of unit old books.grants) arrival None [];
+          one = refl;
+          session_is = sym session;
+          fatal = fatal;
+          gives = gives arrival waits judged (going receipts judged intake is) is;
+          over = refl;
+          taken = taken;
+        }));
+      }) is)
+      unit.waiting refl;
 }
   where
     at : (before after : Intake) (receipts : List Receipt) (judged : List Judged) → Grown before after → after.queue.last_session ≡ before.queue.last_session → after.queue.taken ≡ before.queue.taken
         → filter (is_intake after.own.place.unit) after.copies ≡ filter (is_intake before.own.place.unit) before.copies
-        → EndedFor after.own.place.unit before.queue.last_session after.grants → EndedFor books'.id before.queue.last_session books'.grants
-        → after.waiting ≡ None → after.ended ≡ true → IsIntake before receipts → AreKept books' judged
+        → EndedFor after.own.place.unit before.queue.last_session after.grants
+        → after.waiting ≡ None → after.ended ≡ true → IsIntake before receipts → (before.waiting ≡ None → AreKept books' (judged ++ []))
+        → ((arrival : Arrival) → before.waiting ≡ Some arrival → AreKept books' (judged ++ record { receipt = receipt_of before arrival None []; fate = ends_it } ∷ []))
         → (waiting : Option Arrival) → before.waiting ≡ waiting → JudgesMore after books' books.grants receipts judged
-    at before after receipts judged grown session taken copies ended has none over intake kept None waits = record {
+    at before after receipts judged grown session taken copies ended none over intake kept_none kept_one None waits = record {
       more = [];
       received = subst (IsIntake after) (sym (append-nil receipts)) (intake_closes before after receipts grown session taken copies waits none over intake);
-      kept = subst (AreKept books') (sym (append-nil judged)) kept;
+      kept = kept_none waits;
       in_time = All-nil (IsInTime books'.id books.grants);
     }
-    at before after receipts judged grown session taken copies ended has none over intake kept (Some arrival) waits =
+    at before after receipts judged grown session taken copies ended none over intake kept_none kept_one (Some arrival) waits =
         let one : Judged = record { receipt = receipt_of before arrival None []; fate = ends_it } in
         record {
           more = one ∷ [];
           received = intake_ends before after receipts arrival grown session taken copies ended waits none over intake;
-          kept = keeps_judged books' books'.next one.receipt ends_it judged refl has (le_refl books'.next) kept;
+          kept = kept_one arrival waits;
           in_time = All-cons (IsInTime books'.id books.grants) one [] (λ some. absurd (no_login some)) (All-nil (IsInTime books'.id books.grants));
         }
       where
         no_login : 1 ≤ 0 → ⊥
         no_login some = absurd (omega (arith, some))
+
+-- while an entry waits the session goes on
+pub waits_going : (intake : Intake) (receipts : List Receipt) (arrival : Arrival) (ended : Bool) → IsIntake intake receipts → intake.waiting ≡ Some arrival → ended ≡ intake.ended → ended ≡ false
+waits_going intake receipts arrival true is waits same = absurd (cc (is.idle (sym same), waits))
+waits_going intake receipts arrival false is waits same = refl
 
 -- where the entry that waits stands
 waits_there : (intake : Intake) (receipts : List Receipt) (arrival : Arrival) → IsIntake intake receipts → intake.waiting ≡ Some arrival
@@ -131,10 +177,10 @@ one_more old new copy made is place =
 pub judges_fetched : (unit unit' : Standing) (old new : SiteState) (books books' : Books) (arrival : Arrival) (address : ℕ) (bytes : List ℕ)
     → unit.waiting ≡ Some arrival → unit'.waiting ≡ None → unit'.id ≡ unit.id → address ≡ iu_address arrival.entry → FetchesOne old new address bytes → length bytes ≡ iu_length arrival.entry
     → new.queue ≡ old.queue → Advances old new → LinesMore unit.id books.grants books'.grants
-    → books.session ≡ old.queue.last_session → books.next ≡ arrival.number → books.ended ≡ unit.ended → books'.id ≡ books.id
+    → books.session ≡ old.queue.last_session → books.next ≡ next_of (Some arrival) old.queue → books.ended ≡ unit.ended → books'.id ≡ books.id → books.up ≡ true
     → ((receipt : Receipt) → IsToJudge books old.queue.last_session (next_of None old.queue) arrival.number bytes receipt → JudgesOne books books' receipt)
     → Judges unit unit' old new books books'
-judges_fetched unit unit' old new books books' arrival address bytes waits none id at one long queue advances lines session next ended named judge = record {
+judges_fetched unit unit' old new books books' arrival address bytes waits none id at one long queue advances lines session next ended named up judge = record {
   more = λ own receipts judged intake is.
       let before = intake_of unit old books.grants in
       let receipt = receipt_of before arrival (Some one.copy) bytes in
@@ -144,9 +190,12 @@ judges_fetched unit unit' old new books books' arrival address bytes waits none 
         number_is = refl;
         bytes_are = refl;
         copied = refl;
-        most = upto _ _ next;
+        most = ap (λ (n : Ahead). n.number) next;
         below = slice_get_within (of_session old.queue.last_session old.queue.taken) arrival.number arrival.entry (waits_there before receipts arrival intake waits);
-        going = going before receipts arrival intake waits books.ended ended;
+        going = waits_going before receipts arrival books.ended intake waits ended;
+        up = up;
+        taken = sym (ap (λ (n : Ahead). n.taken) next);
+        all = ap (λ rows. length (of_session old.queue.last_session rows)) (sym (ap (λ (n : Ahead). n.taken) next));
       }) in
       let done : Judged = record { receipt = receipt; fate = made.fate } in
       record {
@@ -160,13 +209,6 @@ judges_fetched unit unit' old new books books' arrival address bytes waits none 
             (subst (λ (u : UnitId). IsInTime u books.grants done) (sym named) (made.in_time judged is)) (All-nil (IsInTime books'.id books.grants));
       };
 }
-  where
-    upto : (a b : ℕ) → a ≡ b → a ≤ b
-    upto a b same = omega (arith, same)
-
-    going : (before : Intake) (receipts : List Receipt) (arrival : Arrival) → IsIntake before receipts → before.waiting ≡ Some arrival → (ended : Bool) → ended ≡ before.ended → ended ≡ false
-    going before receipts arrival is waits true same = absurd (cc (is.idle (sym same), waits))
-    going before receipts arrival is waits false same = refl
 
 -- A part that takes an SRP entry, which waits to be fetched.
 pub judges_entry : (unit unit' : Standing) (old new : SiteState) (books books' : Books) (number : ℕ) (entry : Entry) (arrival : Arrival) → MayTake unit
@@ -186,96 +228,15 @@ judges_other unit unit' old new books books' number entry may taken other advanc
     (grown_of unit unit' old new books.grants books'.grants unit.id advances (lines_same unit.id _ _ same))
     taken.session taken.taken other (window_copies old new taken.windows) may.none none may.goes_on is) keeps
 
--- the entry that is judged next is a later one then
-pub next_later : (old new : SiteState) (number : ℕ) (entry : Entry) → TakesEntry old new number entry → next_of None old.queue ≤ next_of None new.queue
-next_later old new number entry taken =
-    upto_push (of_session old.queue.last_session old.queue.taken) entry (of_session new.queue.last_session new.queue.taken)
-    (ap (λ n. of_session n new.queue.taken) taken.session ∙ ap (of_session old.queue.last_session) taken.taken ∙ of_session-push row old.queue.taken)
-  where
-    row : PipeRow
-    row = record { session = old.queue.last_session; entry = entry }
-
-    upto_push : (xs : List Entry) (x : Entry) (ys : List Entry) → ys ≡ xs ++ x ∷ [] → length xs ≤ length ys
-    upto_push xs x ys is = omega (arith, ap length is, length-append xs (x ∷ []))
-
 -- A part in which a session begins.
 pub judges_session : (unit unit' : Standing) (old mid new : SiteState) (books books' : Books) → unit.ended ≡ true
     → mid.queue.last_session ≡ old.queue.last_session + 1 → mid.queue.taken ≡ old.queue.taken → SameWindows old mid → Passes mid new → Advances old new
-    → unit'.waiting ≡ unit.waiting → books'.grants ≡ books.grants → Keeps books books' → Judges unit unit' old new books books'
-judges_session unit unit' old mid new books books' ended session taken windows passes advances waiting same keeps = judges_still unit unit' old new books books'
+    → unit'.waiting ≡ unit.waiting → books'.grants ≡ books.grants → (unit.waiting ≡ None → Keeps books books') → Judges unit unit' old new books books'
+judges_session unit unit' old mid new books books' ended session taken windows passes advances waiting same keeps = judges_idle unit unit' old new books books'
     (λ receipts is. intake_begins (intake_of unit old books.grants) (intake_of unit' new books'.grants) receipts
     (grown_of unit unit' old new books.grants books'.grants unit.id advances (lines_same unit.id _ _ same))
     (later _ _ _ session (passed_session mid new passes)) (passed_taken mid new passes ∙ taken) (passed_copies mid new passes ∙ window_copies old mid windows)
-    waiting ended is) keeps
+    waiting ended is) (λ receipts is. is.idle ended) keeps
   where
     later : (a b c : ℕ) → b ≡ a + 1 → c ≡ b → a < c
     later a b c next same = omega (arith, next, same)
-
--- Receipts without a copy ended their sessions.
-abbrev ends_of : Receipt → Judged
-ends_of receipt = record { receipt = receipt; fate = ends_it }
-
--- which of these have no copy, where none has
-all_ended : (intake : Intake) (id : UnitId) (more : List Receipt) → intake.own.place.unit ≡ id → filter_map copy_of more ≡ [] → All (IsReceived intake) more
-    → All (λ receipt. EndedFor id receipt.session intake.grants) more
-all_ended intake id [] same none all = All-nil (λ receipt. EndedFor id receipt.session intake.grants)
-all_ended intake id (receipt ∷ more) same none all =
-    at receipt.copy refl (All-head (IsReceived intake) receipt more all).fetched
-    (λ rest. all_ended intake id more same rest (All-tail (IsReceived intake) receipt more all))
-  where
-    none_by : (copy : Option CopyRecord) → receipt.copy ≡ copy → cons_option copy (filter_map copy_of more) ≡ []
-    none_by copy is = ap (λ c. cons_option c (filter_map copy_of more)) (sym is) ∙ none
-
-    at : (copy : Option CopyRecord) → receipt.copy ≡ copy
-        → MatchOption copy (EndedFor intake.own.place.unit receipt.session intake.grants) (Fetches intake.own intake.client (iu_address receipt.entry) 0 (iu_length receipt.entry) receipt.bytes)
-        → (filter_map copy_of more ≡ [] → All (λ receipt. EndedFor id receipt.session intake.grants) more)
-        → All (λ receipt. EndedFor id receipt.session intake.grants) (receipt ∷ more)
-    at None is ended rest = All-cons (λ receipt. EndedFor id receipt.session intake.grants) receipt more
-        (subst (λ (unit : UnitId). EndedFor unit receipt.session intake.grants) same ended)
-        (rest (none_by None is))
-    at (Some copy) is fetched rest = absurd (cc (none_by (Some copy) is))
-
--- The books over them.
-kept_ended : (books : Books) (judged : List Judged) (more : List Receipt) → All (λ receipt. EndedFor books.id receipt.session books.grants) more → AreKept books judged
-    → AreKept books (judged ++ map ends_of more)
-kept_ended books judged [] all is = subst (AreKept books) (sym (append-nil judged)) is
-kept_ended books judged (receipt ∷ more) all is = subst (AreKept books) (append_assoc judged (ends_of receipt ∷ []) (map ends_of more))
-    (kept_ended books (judged ++ ends_of receipt ∷ []) more (All-tail (λ receipt. EndedFor books.id receipt.session books.grants) receipt more all)
-    (keeps_judged books books.next receipt ends_it judged refl (All-head (λ receipt. EndedFor books.id receipt.session books.grants) receipt more all) (le_refl books.next) is))
-
-receipts_ended : (more : List Receipt) → map (λ j. j.receipt) (map ends_of more) ≡ more
-receipts_ended [] = refl
-receipts_ended (receipt ∷ more) = ap (λ rest. receipt ∷ rest) (receipts_ended more)
-
-in_time_ended : (id : UnitId) (lines : List Grant) (more : List Receipt) → All (IsInTime id lines) (map ends_of more)
-in_time_ended id lines [] = All-nil (IsInTime id lines)
-in_time_ended id lines (receipt ∷ more) = All-cons (IsInTime id lines) (ends_of receipt) (map ends_of more) (λ some. absurd (no_login some)) (in_time_ended id lines more)
-  where
-    no_login : 1 ≤ 0 → ⊥
-    no_login some = absurd (omega (arith, some))
-
-all_right : {X : Type 0} (P : X → Type 0) (xs ys : List X) → All P (xs ++ ys) → All P ys
-all_right P [] ys all = all
-all_right P (x ∷ xs) ys all = all_right P xs ys (All-tail P x (xs ++ ys) all)
-
-append_none : {X : Type 0} (xs ys : List X) → xs ++ ys ≡ xs → ys ≡ []
-append_none [] ys same = same
-append_none (x ∷ xs) ys same = append_none xs ys (ap (drop 1) same)
-
--- A part that fetches no information unit: what it took in ended its session.
-pub judges_unfetched : (unit unit' : Standing) (old new : SiteState) (books books' : Books) → books'.id ≡ unit.id → TakesIn unit unit' old new books.grants books'.grants
-    → filter (is_intake new.own.place.unit) new.copies ≡ filter (is_intake old.own.place.unit) old.copies → Keeps books books' → Judges unit unit' old new books books'
-judges_unfetched unit unit' old new books books' named takes copies keeps = record {
-  more = λ own receipts judged intake is.
-      let got = takes.receipts own receipts intake in
-      let none : filter_map copy_of got.more ≡ [] =
-      append_none (filter_map copy_of receipts) (filter_map copy_of got.more) (sym (filter_map-append copy_of receipts got.more) ∙ got.is.copies_are ∙ copies ∙ sym intake.copies_are) in
-      let ended = all_ended (intake_of unit' new books'.grants) books'.id got.more (takes.place ∙ sym own ∙ sym named) none
-      (all_right (IsReceived (intake_of unit' new books'.grants)) receipts got.more got.is.each) in
-      record {
-        more = map ends_of got.more;
-        received = subst (λ (xs : List Receipt). IsIntake (intake_of unit' new books'.grants) (receipts ++ xs)) (sym (receipts_ended got.more)) got.is;
-        kept = kept_ended books' judged got.more ended (keeps judged is);
-        in_time = in_time_ended books'.id books.grants got.more;
-      };
-}

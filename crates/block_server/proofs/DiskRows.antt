@@ -71,7 +71,7 @@ sound None (Some (Sync lba n)) count sent fault some = sync_sound (nat_lt count 
 -- what is known of a row whose disk step was made
 pub record IsKnown (terms : Terms) (command : Cmd) (reply : ScsiReply) (row : Served) : Type 0 where
   pub spells : Spells row.iu (units.Cmd command)
-  pub brought : HasData command row.out
+  pub brought : HasData (told_to terms.told row.unit) command row.out
   pub fault_is : reply.fault ≡ row.fault
   pub reply_is : reply ≡ reply_to terms.size command.lun command.cdb (length row.out) row.fault
   pub few : length row.inn ≤ handed_over command reply

@@ -107,12 +107,12 @@ makes_one shared src dst dst' from to len name (copies.Busy page word) old new r
 makes_one shared src dst dst' from to len name copies.NoMemory old new rest copied made is = absurd is
 
 -- of a call whose own answer is ok where one was made, and else an error
-pub made_in : {T E : Type 0} (result : Result T E) (shared : Bool) (src own own' : PortState) (from to len : ℕ) (unit : UnitId) (mark : ℕ) (answer : CopyAnswer)
-    (old new : List CopyRecord) → unit ≡ own.place.unit → OnlyCopies shared own own'
+pub made_in : {T E : Type 0} (result : Result T E) (shared : Bool) (port src own own' : PortState) (from to len : ℕ) (unit : UnitId) (mark : ℕ) (answer : CopyAnswer)
+    (old new : List CopyRecord) → unit ≡ port.place.unit → OnlyCopies shared own own'
     → IfCopied answer (Copies shared src own own' from to len (record { who = unit; mark = mark })) → new ≡ old ++ copies_in answer
-    → OnOk result (IsMade answer) → OnOk result (MakesOne shared src own own' from to len (own_name own mark) old new)
-made_in result shared src own own' from to len unit mark answer old new named rest copied made is =
-    on_ok_map result (IsMade answer) (MakesOne shared src own own' from to len (own_name own mark) old new)
+    → OnOk result (IsMade answer) → OnOk result (MakesOne shared src own own' from to len (own_name port mark) old new)
+made_in result shared port src own own' from to len unit mark answer old new named rest copied made is =
+    on_ok_map result (IsMade answer) (MakesOne shared src own own' from to len (own_name port mark) old new)
     (λ is. subst (λ u. MakesOne shared src own own' from to len (record { who = u; mark = mark }) old new) named
     (makes_one shared src own own' from to len (record { who = unit; mark = mark }) answer old new rest copied made is)) is
 

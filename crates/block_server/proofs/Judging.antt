@@ -10,7 +10,7 @@ use Rattle.vio_num.specs.declared.names.UnitId.{UnitId}
 use Rattle.block_server.specs.Makers.{same_unit}
 use Rattle.block_server.specs.Receipts.{Receipt}
 use Rattle.block_server.specs.Judged.{AreLogins, ArePending, Fate, HasFront, IsOn, IsServedUnder, Judged, Key, RowKey, accepted, due, due_under, ends, gets_row, has_row, is_due, is_login, is_logout, is_under, logs_out, login_of, receipt_key, request_key, rows_under}
-use Rattle.block_server.specs.Judged.Fate.{asked}
+use Rattle.block_server.specs.Fates.Fate.{asked}
 use Rattle.block_server.specs.declared.request.Order.{Order}
 use Rattle.block_server.specs.declared.request.Order.TheVariants as orders
 use Rattle.block_server.specs.declared.request.Request.{Request}
@@ -34,7 +34,7 @@ no_push : {X : Type 0} (xs : List X) (x : X) → xs ++ x ∷ [] ≢ []
 no_push [] x none = absurd (cc (none))
 no_push (y ∷ xs) x none = absurd (cc (none))
 
-unit_self : (unit : UnitId) → same_unit unit unit ≡ true
+pub unit_self : (unit : UnitId) → same_unit unit unit ≡ true
 unit_self unit = both (unit.partition == unit.partition) (unit.unit == unit.unit) (eq-eqb unit.partition unit.partition refl) (eq-eqb unit.unit unit.unit refl)
   where
     both : (a b : Bool) → a ≡ true → b ≡ true → a && b ≡ true

@@ -1,16 +1,18 @@
 -- What the parts of a turn leave of what a unit's books say.
-use Rattle.std.proofs.Common.{◌≡◌, ◌≢◌, ◌⊎◌, inl, inr, ◌+◌, ◌==◌, ◌&&◌, ◌++◌, ◌<◌, ◌≤◌, ℕ, Bool, true, false, All, Contains, List, [], ◌∷◌, Option, Some, None, IsSome, drop, length, filter, refl, sym, ◌∙◌, ap, subst, arith}
+use Rattle.std.proofs.Common.{◌≡◌, ◌≢◌, ◌⊎◌, inl, inr, ◌+◌, ◌==◌, ◌&&◌, ◌++◌, ◌<◌, ◌≤◌, ℕ, Bool, true, false, All, Contains, List, [], ◌∷◌, Option, Some, None, IsSome, drop, length, filter, refl, sym, ◌∙◌, ap, subst, arith, append-nil}
 use Rattle.std.proofs.lemmas.Bool.{ne_eqb}
-use Rattle.std.proofs.lemmas.List.Elements.{All-push, All-weaker, Contains-append_left, Contains-push}
+use Rattle.std.proofs.lemmas.List.Elements.{All-append, All-nil, All-push, All-weaker, Contains-append_left, Contains-push}
 use Rattle.vio_num.specs.declared.entry.Entry.{Entry}
 use Rattle.vio_num.specs.declared.history.Grant.{Grant}
 use Rattle.vio_num.specs.declared.history.Grant.TheVariants.{Granted, Lapsed}
 use Rattle.vio_num.specs.declared.history.Lapse.{Lapse}
+use Rattle.vio_num.specs.declared.history.Lapse.TheVariants as lapses
 use Rattle.vio_num.specs.declared.names.UnitId.{UnitId}
 use Rattle.block_server.specs.Makers.{same_unit}
 use Rattle.block_server.specs.Receipts.{EndedFor, Receipt}
-use Rattle.block_server.specs.Judged.{AreKept, AreLogins, ArePending, Asks, Books, Fate, HasFate, HasFront, HasGrant, HasLoginFront, IsAtStage, IsGranting, IsKeptAt, IsOn, IsOutcome, IsPendingUnder, IsServedUnder, Judged, KeepsLogins, RowKey, due_under, ends, gets_row, has_row, is_due, is_login, is_logout, receipt_key, request_key}
-use Rattle.block_server.specs.Judged.Fate.{ends_it, ignored, asks_login, asks_logout, asked}
+use Rattle.block_server.specs.Decided.{IsEnd, IsGone, IsJudgedLast, IsTurnedDown}
+use Rattle.block_server.specs.Judged.{Ahead, AreKept, AreLogins, ArePending, Asks, Books, Credits, Fate, KeepsLines, HasFate, HasFront, HasGrant, HasLoginFront, IsAtStage, IsGranting, IsKeptAt, IsOn, IsOutcome, IsPendingUnder, IsServedUnder, Judged, KeepsLogins, RowKey, due_under, ends, gets_row, has_row, is_due, is_login, is_logout, receipt_key, request_key}
+use Rattle.block_server.specs.Fates.Fate.{ends_it, ignored, asks_login, asks_logout, asked}
 use Rattle.block_server.specs.declared.line.Kept.{Kept}
 use Rattle.block_server.specs.declared.request.Order.{Order}
 use Rattle.block_server.specs.declared.request.Request.{Request}
@@ -18,6 +20,8 @@ use Rattle.block_server.specs.declared.service.Outcome.{Outcome}
 use Rattle.block_server.specs.declared.service.Outcome.TheVariants as outcomes
 use Rattle.block_server.specs.declared.service.Stage.{Stage}
 use Rattle.block_server.specs.declared.service.Stage.TheVariants as stages
+use Rattle.block_server.proofs.Lapsing.{lines_end, lines_out}
+use Rattle.block_server.proofs.Lines.{lines_granted, lines_session}
 use Rattle.block_server.proofs.Judging.{all_logins, due_pass, due_popped, filter_left, login_no_row, row_no_login, served_due, served_ended, served_granted, served_left, served_more, served_other, served_row}
 
 -- a stage whose request has its row has a request
@@ -83,6 +87,7 @@ keeps_stage books stage' judged same at none is = record {
   stage = at;
   kept = no_kept stage' books.kept none;
   under = is.under;
+  lines = is.lines;
   idle = is.idle;
 }
 
@@ -95,7 +100,7 @@ pub keeps_row : (books : Books) (stage' : Stage) (front : Request) (rest : List 
     → has_row books.stage ≡ false → has_row stage' ≡ true → gets_row front.order ≡ true → IsAtStage books.current books.pending stage' → books.kept ≡ None
     → AreKept books judged → AreKept (record books { stage = stage'; rows = books.rows ++ row_of_request books front ∷ [] }) judged
 keeps_row books stage' front rest judged parts before after asks at none is =
-    let under = (subst (ArePending books.current books.next books.taking) parts is.pending).0.under (row_no_login front.order asks) in
+    let under = (subst (ArePending books.current books.next.number books.taking) parts is.pending).0.under (row_no_login front.order asks) in
     record {
       fates = is.fates;
       served = λ login some. subst (λ pending. IsServedUnder books.id books.session judged (books.rows ++ row_of_request books front ∷ []) books.grants stage' pending login) (sym parts)
@@ -107,6 +112,7 @@ keeps_row books stage' front rest judged parts before after asks at none is =
       kept = no_kept stage' books.kept none;
       under = All-push (λ (row : RowKey). same_unit row.unit books.id ≡ true → 1 ≤ row.login) books.rows (row_of_request books front) is.under
           (λ own. subst (λ (n : ℕ). 1 ≤ n) (sym under.0) under.1);
+      lines = is.lines;
       idle = is.idle;
     }
 
@@ -119,10 +125,11 @@ keeps_popped books front rest judged parts gone is = record {
   served = λ login some. served_due books.id books.session judged books.rows books.grants books.stage stages.Start books.pending rest login
       (ap (due_under books.session login (has_row books.stage)) parts ∙ due_popped books.session login (has_row books.stage) front rest gone) (is.served login some);
   logins = is.logins;
-  pending = (subst (ArePending books.current books.next books.taking) parts is.pending).1;
+  pending = (subst (ArePending books.current books.next.number books.taking) parts is.pending).1;
   stage = tt;
   kept = tt;
   under = is.under;
+  lines = is.lines;
   idle = λ over. absurd (no_cons front rest books.pending parts (is.idle over).0);
 }
 
@@ -137,6 +144,7 @@ keeps_idle books judged none is = record {
   stage = tt;
   kept = tt;
   under = is.under;
+  lines = is.lines;
   idle = λ over. (refl, (is.idle over).1);
 }
   where
@@ -190,33 +198,83 @@ off_logins unit session next current last of session' next' taking cause outstan
   takes = λ some. absurd (cc (some));
 }
 
--- The login that is on ended for another cause than its logout, and nothing is pending. The session may be another behind it.
-pub keeps_ended : (books : Books) (session' next' of : ℕ) (cause : Lapse) (outstanding granted : ℕ) (ended' : Bool) (judged : List Judged) → is_logout cause ≡ false
-    → AreKept books judged → AreKept (record books {
-      session = session';
+-- the fate of the entry that ended its session, by the line on that
+more_fates : (books : Books) (next' : Ahead) (ended' : Bool) (cause : Lapse) (outstanding granted : ℕ) (judged more : List Judged) → IsEnd books next' ended' cause outstanding granted judged more
+    → All (λ j. HasFate books.id (books.grants ++ Lapsed books.id books.session books.current cause outstanding granted ∷ []) j.receipt j.fate) more
+more_fates books next' ended' cause outstanding granted judged more end = by end.why
+  where
+    line : Grant
+    line = Lapsed books.id books.session books.current cause outstanding granted
+
+    Has : Judged → Type 0
+    Has j = HasFate books.id (books.grants ++ line ∷ []) j.receipt j.fate
+
+    by : IsGone books next' ended' cause more ⊎ (IsTurnedDown books next' ended' cause more ⊎ IsJudgedLast books next' ended' cause outstanding granted judged more) → All Has more
+    by (inl gone) = subst (All Has) (sym gone.none) (All-nil Has)
+    by (inr (inl down)) = subst (All Has) (sym down.none) (All-nil Has)
+    by (inr (inr last)) = subst (All Has) (sym last.one) (All-push Has [] (record { receipt = last.receipt; fate = ends_it }) (All-nil Has) (record {
+      login = books.current;
+      cause = cause;
+      outstanding = outstanding;
+      granted = granted;
+      listed = subst (λ (n : ℕ). Contains (books.grants ++ line ∷ []) (Lapsed books.id n books.current cause outstanding granted)) (sym last.session_is) (Contains-push books.grants line);
+      fatal = last.fatal;
+    }))
+
+more_served : (books : Books) (next' : Ahead) (ended' : Bool) (cause : Lapse) (outstanding granted : ℕ) (judged more : List Judged) (grants : List Grant) (login : ℕ) → 1 ≤ login
+    → IsEnd books next' ended' cause outstanding granted judged more → IsServedUnder books.id books.session judged books.rows grants stages.Start [] login
+    → IsServedUnder books.id books.session (judged ++ more) books.rows grants stages.Start [] login
+more_served books next' ended' cause outstanding granted judged more grants login some end is = by end.why
+  where
+    Is : List Judged → Type 0
+    Is js = IsServedUnder books.id books.session (judged ++ js) books.rows grants stages.Start [] login
+
+    by : IsGone books next' ended' cause more ⊎ (IsTurnedDown books next' ended' cause more ⊎ IsJudgedLast books next' ended' cause outstanding granted judged more) → Is more
+    by (inl gone) = subst Is (sym gone.none) (subst (λ (js : List Judged). IsServedUnder books.id books.session js books.rows grants stages.Start [] login) (sym (append-nil judged)) is)
+    by (inr (inl down)) = subst Is (sym down.none) (subst (λ (js : List Judged). IsServedUnder books.id books.session js books.rows grants stages.Start [] login) (sym (append-nil judged)) is)
+    by (inr (inr last)) = subst Is (sym last.one) (served_other books.id books.session judged books.rows grants stages.Start [] last.receipt ends_it login refl some is)
+
+-- The login that is on ended for another cause than its logout, and nothing is pending.
+pub keeps_ended : (books : Books) (next' : Ahead) (cause : Lapse) (outstanding granted : ℕ) (ended' up' : Bool) (credits' : Credits) (judged more : List Judged) → is_logout cause ≡ false
+    → IsEnd books next' ended' cause outstanding granted judged more → AreKept books judged → AreKept (record books {
       next = next';
       current = 0;
       taking = false;
       stage = stages.Start;
       kept = None;
       pending = [];
-      grants = books.grants ++ Lapsed books.id of books.current cause outstanding granted ∷ [];
+      grants = books.grants ++ Lapsed books.id books.session books.current cause outstanding granted ∷ [];
       ended = ended';
-    }) judged
-keeps_ended books session' next' of cause outstanding granted ended' judged other is = record {
-  fates = fate_grows books.id books.grants (Lapsed books.id of books.current cause outstanding granted ∷ []) judged is.fates;
-  served = λ login some. served_ended books.id books.session session' of judged books.rows books.grants books.stage books.pending books.current books.next login books.taking
-      cause outstanding granted other is.pending (is.served login some);
-  logins = off_logins books.id books.session books.next books.current books.last of session' next' books.taking cause outstanding granted books.grants is.logins;
-  pending = tt;
-  stage = tt;
-  kept = tt;
-  under = is.under;
-  idle = λ over. (refl, refl);
-}
+      up = up';
+      credits = credits';
+    }) (judged ++ more)
+keeps_ended books next' cause outstanding granted ended' up' credits' judged more other end is =
+    let line = Lapsed books.id books.session books.current cause outstanding granted in
+    record {
+      fates = All-append (λ j. HasFate books.id (books.grants ++ line ∷ []) j.receipt j.fate) judged more (fate_grows books.id books.grants (line ∷ []) judged is.fates)
+          (more_fates books next' ended' cause outstanding granted judged more end);
+      served = λ login some. more_served books next' ended' cause outstanding granted judged more (books.grants ++ line ∷ []) login some end
+          (served_ended books.id books.session books.session books.session judged books.rows books.grants books.stage books.pending books.current books.next.number login books.taking
+          cause outstanding granted other is.pending (is.served login some));
+      logins = off_logins books.id books.session books.next.number books.current books.last books.session books.session next'.number books.taking cause outstanding granted books.grants is.logins;
+      pending = tt;
+      stage = tt;
+      kept = tt;
+      under = is.under;
+      lines = lines_end books next' up' credits' ended' cause outstanding granted judged more is.logins.on end is.lines;
+      idle = λ over. (refl, refl);
+    }
+
+-- While a request is pending the session goes on.
+pub going_on : (books : Books) (judged : List Judged) (front : Request) (rest : List Request) → books.pending ≡ front ∷ rest → AreKept books judged → books.ended ≡ false
+going_on books judged front rest parts is = at books.ended refl
+  where
+    at : (ended : Bool) → books.ended ≡ ended → books.ended ≡ false
+    at true over = absurd (no_cons front rest books.pending parts (is.idle over).0)
+    at false on = on
 
 -- The login that is on ended by its logout, which is the oldest request.
-pub keeps_left : (books : Books) (front : Request) (rest : List Request) (of : ℕ) (cause : Lapse) (outstanding granted : ℕ) (judged : List Judged) → books.pending ≡ front ∷ rest
+pub keeps_left : (books : Books) (front : Request) (rest : List Request) (outstanding granted : ℕ) (credits' : Credits) (judged : List Judged) → books.pending ≡ front ∷ rest
     → is_login front.order ≡ false → gets_row front.order ≡ false
     → AreKept books judged → AreKept (record books {
       current = 0;
@@ -224,25 +282,28 @@ pub keeps_left : (books : Books) (front : Request) (rest : List Request) (of : �
       stage = stages.Start;
       kept = None;
       pending = rest;
-      grants = books.grants ++ Lapsed books.id of books.current cause outstanding granted ∷ [];
+      grants = books.grants ++ Lapsed books.id books.session books.current lapses.Logout outstanding granted ∷ [];
+      credits = credits';
     }) judged
-keeps_left books front rest of cause outstanding granted judged parts other none is =
-    let are = subst (ArePending books.current books.next books.taking) parts is.pending in
+keeps_left books front rest outstanding granted credits' judged parts other none is =
+    let are = subst (ArePending books.current books.next.number books.taking) parts is.pending in
     let behind = (are.0.last other none).1 in
     record {
-      fates = fate_grows books.id books.grants (Lapsed books.id of books.current cause outstanding granted ∷ []) judged is.fates;
-      served = λ login some. served_left books.id books.session of judged books.rows books.grants books.stage front rest books.current login cause outstanding granted none behind is.logins.on some
+      fates = fate_grows books.id books.grants (Lapsed books.id books.session books.current lapses.Logout outstanding granted ∷ []) judged is.fates;
+      served = λ login some. served_left books.id books.session books.session judged books.rows books.grants books.stage front rest books.current login lapses.Logout outstanding granted none behind is.logins.on some
           (subst (λ pending. IsServedUnder books.id books.session judged books.rows books.grants books.stage pending login) parts (is.served login some));
-      logins = off_logins books.id books.session books.next books.current books.last of books.session books.next books.taking cause outstanding granted books.grants is.logins;
-      pending = logins_pending books.current books.next 0 books.next books.taking false rest (same_most books.next) behind are.1;
+      logins = off_logins books.id books.session books.next.number books.current books.last books.session books.session books.next.number books.taking lapses.Logout outstanding granted books.grants is.logins;
+      pending = logins_pending books.current books.next.number 0 books.next.number books.taking false rest (same_most books.next.number) behind are.1;
       stage = tt;
       kept = tt;
       under = is.under;
+      lines = lines_out books.id books.session books.next books.current books.taking books.up books.credits credits' books.grants books.ended judged outstanding granted
+          (going_on books judged front rest parts is) (are.0.last other none).0 (are.0.under other).1 is.logins.on is.lines;
       idle = λ over. absurd (no_cons front rest books.pending parts (is.idle over).0);
     }
 
 -- A login began, for the oldest request.
-pub keeps_granted : (books : Books) (number credits : ℕ) (front : Request) (rest : List Request) (judged : List Judged) → books.pending ≡ front ∷ rest → IsGranting books.current number books.pending
+pub keeps_granted : (books : Books) (number : ℕ) (front : Request) (rest : List Request) (judged : List Judged) → books.pending ≡ front ∷ rest → IsGranting books.current number books.pending
     → AreKept books judged → AreKept (record books {
       current = books.last + 1;
       last = books.last + 1;
@@ -250,15 +311,16 @@ pub keeps_granted : (books : Books) (number credits : ℕ) (front : Request) (re
       stage = stages.Start;
       kept = None;
       pending = rest;
-      grants = books.grants ++ Granted books.id books.session (books.last + 1) number credits ∷ [];
+      grants = books.grants ++ Granted books.id books.session (books.last + 1) number books.credits.granted ∷ [];
+      credits = record { outstanding = 0; granted = books.credits.granted };
     }) judged
-keeps_granted books number credits front rest judged parts grants is =
-    let line = Granted books.id books.session (books.last + 1) number credits in
-    let are = subst (ArePending books.current books.next books.taking) parts is.pending in
-    let logins = all_logins books.current books.next books.taking (front ∷ rest) grants.none_on are in
+keeps_granted books number front rest judged parts grants is =
+    let line = Granted books.id books.session (books.last + 1) number books.credits.granted in
+    let are = subst (ArePending books.current books.next.number books.taking) parts is.pending in
+    let logins = all_logins books.current books.next.number books.taking (front ∷ rest) grants.none_on are in
     record {
       fates = fate_grows books.id books.grants (line ∷ []) judged is.fates;
-      served = λ login some. served_granted books.id books.session books.session (books.last + 1) number credits judged books.rows books.grants books.stage front rest login logins
+      served = λ login some. served_granted books.id books.session books.session (books.last + 1) number books.credits.granted judged books.rows books.grants books.stage front rest login logins
           (subst (λ pending. IsServedUnder books.id books.session judged books.rows books.grants books.stage pending login) parts (is.served login some));
       logins = record {
         most = same_most (books.last + 1);
@@ -266,17 +328,19 @@ keeps_granted books number credits front rest judged parts grants is =
         none_later = λ n high. filter_left (ends books.id n) books.grants line refl ∙ is.logins.none_later n (after_one books.last n high);
         granted = λ some. record {
           at = number;
-          credits = credits;
+          credits = books.credits.granted;
           listed = Contains-push books.grants line;
-          earlier = subst (λ (n : ℕ). n < books.next) grants.number_is
-              (subst (ArePending books.current books.next books.taking) grants.parts is.pending).0.number;
+          earlier = subst (λ (n : ℕ). n < books.next.number) grants.number_is
+              (subst (ArePending books.current books.next.number books.taking) grants.parts is.pending).0.number;
         };
         takes = λ some. next_one_some books.last;
       };
-      pending = logins_pending books.current books.next (books.last + 1) books.next books.taking true rest (same_most books.next) logins.1 are.1;
+      pending = logins_pending books.current books.next.number (books.last + 1) books.next.number books.taking true rest (same_most books.next.number) logins.1 are.1;
       stage = tt;
       kept = tt;
       under = is.under;
+      lines = lines_granted books.id books.session books.next books.current (books.last + 1) number books.taking books.up books.credits books.grants books.ended judged
+          (going_on books judged front rest parts is) is.lines;
       idle = λ over. absurd (no_cons front rest books.pending parts (is.idle over).0);
     }
   where
@@ -290,9 +354,9 @@ keeps_granted books number credits front rest judged parts grants is =
     after_one n m high = omega (arith, high)
 
 -- A session began, while nothing was pending.
-pub keeps_session : (books : Books) (session' next' : ℕ) (ended' : Bool) (judged : List Judged) → books.pending ≡ [] → books.current ≡ 0
-    → AreKept books judged → AreKept (record books { session = session'; next = next'; ended = ended' }) judged
-keeps_session books session' next' ended' judged none off is = record {
+pub keeps_session : (books : Books) (session' : ℕ) (next' : Ahead) (ended' up' : Bool) (judged : List Judged) → books.session < session' → next'.taken ≡ books.next.taken → next'.number ≡ 0 → books.pending ≡ [] → books.current ≡ 0
+    → AreKept books judged → AreKept (record books { session = session'; next = next'; ended = ended'; up = up' }) judged
+keeps_session books session' next' ended' up' judged later taken first none off is = record {
   fates = is.fates;
   served = λ login some. moved login (is.served login some);
   logins = record {
@@ -302,10 +366,11 @@ keeps_session books session' next' ended' judged none off is = record {
     granted = λ some. absurd (none_one books.current off some);
     takes = is.logins.takes;
   };
-  pending = subst (ArePending books.current next' books.taking) (sym none) tt;
+  pending = subst (ArePending books.current next'.number books.taking) (sym none) tt;
   stage = is.stage;
   kept = is.kept;
   under = is.under;
+  lines = lines_session books.id books.session session' books.next next' books.current books.taking books.up up' books.credits books.grants books.ended ended' judged later taken first off is.lines;
   idle = λ over. (none, off);
 }
   where
@@ -345,24 +410,26 @@ later_logins unit session next next' current last taking grants most is = record
     below : (a b c : ℕ) → a < b → b ≤ c → a < c
     below a b c low high = omega (arith, low, high)
 
-pub keeps_later : (books : Books) (next' : ℕ) (ended' : Bool) (judged : List Judged) → books.next ≤ next' → (ended' ≡ true → (books.pending ≡ []) × (books.current ≡ 0))
-    → AreKept books judged → AreKept (record books { next = next'; ended = ended' }) judged
-keeps_later books next' ended' judged most idle is = record {
+pub keeps_later : (books : Books) (next' : Ahead) (ended' up' : Bool) (judged : List Judged) → books.next.number ≤ next'.number → (ended' ≡ true → (books.pending ≡ []) × (books.current ≡ 0))
+    → KeepsLines books.id books.session next' books.current books.taking up' books.credits books.grants ended' judged
+    → AreKept books judged → AreKept (record books { next = next'; ended = ended'; up = up' }) judged
+keeps_later books next' ended' up' judged most idle lines is = record {
   fates = is.fates;
   served = is.served;
-  logins = later_logins books.id books.session books.next next' books.current books.last books.taking books.grants most is.logins;
-  pending = later_pending books.current books.next next' books.taking books.pending most is.pending;
+  logins = later_logins books.id books.session books.next.number next'.number books.current books.last books.taking books.grants most is.logins;
+  pending = later_pending books.current books.next.number next'.number books.taking books.pending most is.pending;
   stage = is.stage;
   kept = is.kept;
   under = is.under;
+  lines = lines;
   idle = idle;
 }
 
 -- Books of the same content.
 pub moved_to : (mid new : Books) (judged : List Judged) → new.id ≡ mid.id → new.session ≡ mid.session → new.next ≡ mid.next → new.current ≡ mid.current → new.last ≡ mid.last
     → new.taking ≡ mid.taking → new.stage ≡ mid.stage → new.kept ≡ mid.kept → new.pending ≡ mid.pending → new.rows ≡ mid.rows → new.grants ≡ mid.grants → new.ended ≡ mid.ended
-    → AreKept mid judged → AreKept new judged
-moved_to mid new judged id session next current last taking stage kept pending rows grants ended is =
+    → new.up ≡ mid.up → new.credits ≡ mid.credits → AreKept mid judged → AreKept new judged
+moved_to mid new judged id session next current last taking stage kept pending rows grants ended up credits is =
     subst (λ (books : Books). AreKept books judged) (λ i. record {
       id = (sym id) i;
       session = (sym session) i;
@@ -376,6 +443,8 @@ moved_to mid new judged id session next current last taking stage kept pending r
       rows = (sym rows) i;
       grants = (sym grants) i;
       ended = (sym ended) i;
+      up = (sym up) i;
+      credits = (sym credits) i;
     }) is
 
 -- Another entry is kept, or none.
@@ -388,6 +457,7 @@ keeps_kept books kept' judged at is = record {
   stage = is.stage;
   kept = at;
   under = is.under;
+  lines = is.lines;
   idle = is.idle;
 }
 
@@ -412,7 +482,7 @@ keeps_finished books outcome judged at is = by outcome at (subst (IsAtStage book
         popped_to books front.front front.rest judged front.parts (keeps_popped books front.front front.rest judged front.parts (inl (ap has_row at)) is)
 
 -- It was granted its login.
-pub keeps_begun : (books : Books) (number credits : ℕ) (judged : List Judged) → books.stage ≡ stages.Entry (outcomes.Granted number)
+pub keeps_begun : (books : Books) (number : ℕ) (judged : List Judged) → books.stage ≡ stages.Entry (outcomes.Granted number)
     → AreKept books judged → AreKept (record books {
       current = books.last + 1;
       last = books.last + 1;
@@ -420,9 +490,10 @@ pub keeps_begun : (books : Books) (number credits : ℕ) (judged : List Judged) 
       stage = stages.Start;
       kept = None;
       pending = drop 1 books.pending;
-      grants = books.grants ++ Granted books.id books.session (books.last + 1) number credits ∷ [];
+      grants = books.grants ++ Granted books.id books.session (books.last + 1) number books.credits.granted ∷ [];
+      credits = record { outstanding = 0; granted = books.credits.granted };
     }) judged
-keeps_begun books number credits judged at is =
+keeps_begun books number judged at is =
     let front : IsGranting books.current number books.pending = subst (IsAtStage books.current books.pending) at is.stage in
     subst (λ (pending : List Request). AreKept (record books {
       current = books.last + 1;
@@ -431,8 +502,9 @@ keeps_begun books number credits judged at is =
       stage = stages.Start;
       kept = None;
       pending = pending;
-      grants = books.grants ++ Granted books.id books.session (books.last + 1) number credits ∷ [];
-    }) judged) (sym (ap (drop 1) front.parts)) (keeps_granted books number credits front.front front.rest judged front.parts front is)
+      grants = books.grants ++ Granted books.id books.session (books.last + 1) number books.credits.granted ∷ [];
+      credits = record { outstanding = 0; granted = books.credits.granted };
+    }) judged) (sym (ap (drop 1) front.parts)) (keeps_granted books number front.front front.rest judged front.parts front is)
 
 -- Its answer was copied.
 pub keeps_delivered : (books : Books) (outcome : Outcome) (judged : List Judged) → books.stage ≡ stages.Answer outcome → books.kept ≡ None
@@ -444,3 +516,34 @@ keeps_delivered books outcome judged at none is =
     same (outcomes.Granted number) = refl
     same outcomes.Rejected = refl
     same (outcomes.Served row) = refl
+
+-- A request was answered: no more is outstanding than before.
+pub keeps_credits : (books : Books) (outstanding' : ℕ) (judged : List Judged) → outstanding' ≤ books.credits.outstanding
+    → AreKept books judged → AreKept (record books { credits = record { outstanding = outstanding'; granted = books.credits.granted } }) judged
+keeps_credits books outstanding' judged less is = record {
+  fates = is.fates;
+  served = is.served;
+  logins = is.logins;
+  pending = is.pending;
+  stage = is.stage;
+  kept = is.kept;
+  under = is.under;
+  lines = record {
+    causes = is.lines.causes;
+    begun = is.lines.begun;
+    risen = is.lines.risen;
+    later = is.lines.later;
+    over = is.lines.over;
+    going = is.lines.going;
+    upto = is.lines.upto;
+    near = is.lines.near;
+    unheard = is.lines.unheard;
+    on = is.lines.on;
+    off = is.lines.off;
+    counted = λ some. below outstanding' books.credits.outstanding _ less (is.lines.counted some);
+  };
+  idle = is.idle;
+}
+  where
+    below : (a b c : ℕ) → a ≤ b → b ≤ c → a ≤ c
+    below a b c low high = omega (arith, low, high)

@@ -2,6 +2,8 @@ pub mod Advancing
 pub mod Answered
 pub mod Named
 pub mod Denying
+pub mod Hearing
+pub mod HeardLaws
 pub mod Opening
 pub mod Owning
 pub mod Putting
@@ -13,6 +15,7 @@ pub mod AnswerLaws
 pub mod DiskLaws
 pub mod DiskRows
 pub mod Gathering
+pub mod Writing
 pub mod Onces
 pub mod Serves
 pub mod Plains
@@ -22,6 +25,7 @@ pub mod Making
 pub mod NamedWindows
 pub mod FirstPages
 pub mod UnitBytes
+pub mod DeliveredBytes
 pub mod Agreeing
 pub mod Readying
 pub mod Staging
@@ -30,12 +34,17 @@ pub mod Receiving
 pub mod Taking
 pub mod GoingOn
 pub mod Judging
+pub mod Heard
+pub mod Closing
+pub mod Lines
+pub mod Lapsing
 pub mod Keeping
 pub mod Accepting
 pub mod Working
 pub mod Booking
 pub mod Deciding
 pub mod Verdicts
+pub mod Limits
 pub mod Bystanding
 pub mod BookLaws
 pub mod Jointly

@@ -1,5 +1,5 @@
 -- Each answer once, over steps one after the other.
-use Rattle.std.proofs.Common.{◌≡◌, ◌⊎◌, inl, inr, ◌++◌, ◌==◌, ℕ, length, List, [], ◌∷◌, Bool, true, false, Option, Some, None, IfSome, take, filter, map, refl, sym, ◌∙◌, ap, subst, arith, append-nil, append_assoc}
+use Rattle.std.proofs.Common.{◌≡◌, ◌⊎◌, inl, inr, ◌++◌, ◌==◌, ℕ, length, List, [], ◌∷◌, Bool, true, false, Option, Some, None, IfSome, take, filter, map, refl, sym, ◌∙◌, ap, subst, arith, append-nil, append_assoc, drop}
 use Rattle.std.proofs.lemmas.List.Elements.{filter-append}
 use Rattle.std.proofs.lemmas.List.{map-append}
 use Rattle.std.proofs.lemmas.Bool.{eqb-true}
@@ -28,10 +28,13 @@ use Rattle.block_server.specs.declared.request.Order.{Order}
 use Rattle.block_server.specs.Records.{FillsRow}
 use Rattle.std.proofs.lemmas.Option.{IfSome_then}
 use Rattle.std.specs.Prelude.{IsSome}
+use Rattle.block_server.specs.Causes.{Hearing, told_to}
 use Rattle.block_server.specs.Fetched.{Buffers, HasPieces}
-use Rattle.block_server.specs.Serving.{Desk, HasReply, Held, MayAnswer, IfRow, IsKept, IsServed, IsServing, LeavesRow, Once, Place, ServeFrom, SettlesRow, StaysServed, Terms, place_of}
+use Rattle.block_server.specs.Serving.{AreBrought, Desk, HasReply, Held, IsReady, IfRow, IsKept, IsServed, IsServing, LeavesRow, Once, Place, ServeFrom, SettlesRow, StaysServed, Terms, place_of}
 use Rattle.block_server.proofs.AnswerLaws.{answered_there, answers_filled, answers_one, filled_there, only_there}
+use Rattle.block_server.specs.Written.{AreWritten}
 use Rattle.block_server.proofs.DiskLaws.{serve_changed}
+use Rattle.block_server.proofs.Writing.{written_same, written_there}
 use Rattle.block_server.proofs.DiskRows.{IsKnown, SpellsOne, may_cut}
 use Rattle.block_server.proofs.Rows.{stays_on, stays_same}
 
@@ -85,6 +88,7 @@ once_then d d' d'' a b c s s' s'' h h' h'' first next serving =
       answers = more_on a.id s s' s'' h h' h'' did.answers (subst (λ unit. AnswersMore unit s' s'' h' h'') did.id then.answers);
       others = stays_on a.id h h' h'' did.others (subst (λ unit. OnlyRowsOf unit h' h'') did.id then.others);
       stays = λ before is. then.stays before (did.stays before is);
+      written = λ is. then.written (did.written is);
       tells = tells_on d.now d'.now d''.now did.tells then.tells;
     }
 
@@ -101,6 +105,7 @@ once_same a b s s' h h' same rows put d serving = record {
   answers = more_none a.id s s' h h' put (ap (answers_of a.id) rows);
   others = subst (OnlyRowsOf a.id h) (sym rows) (stays_same a.id h);
   stays = stays_equal d h h' rows;
+  written = written_same d.terms.told h h' rows;
   tells = tells_same d.now;
 }
 
@@ -126,12 +131,26 @@ responses_one sent sent' row answers put = ap responses put ∙ responses_append
     one : is_response row.entry ≡ true → responses (row ∷ []) ≡ row.entry ∷ []
     one e = rw e refl
 
+-- the requests of a desk were brought, where they are these
+pub brought_at : (terms : Terms) (a b : Desk) (pending : List Request) → b.id ≡ a.id → b.pending ≡ pending → AreBrought (told_to terms.told a.id) pending
+    → AreBrought (told_to terms.told b.id) b.pending
+brought_at terms a b pending id same = subst (λ (z : UnitId × List Request). AreBrought (told_to terms.told z.0) z.1) (λ i. ((sym id) i, (sym same) i))
+
+pub brought_rest : (Hears : Hearing) (list : List Request) → AreBrought Hears list → AreBrought Hears (drop 1 list)
+brought_rest Hears [] all = tt
+brought_rest Hears (request ∷ requests) all = all.1
+
+pub brought_none : (Hears : Hearing) (list : List Request) → list ≡ [] → AreBrought Hears list
+brought_none Hears list none = subst (AreBrought Hears) (sym none) tt
+
 -- A desk without a service and without a kept entry is in order.
-pub cleared : (terms : Terms) (desk : Desk) (history : List ServedRow) → desk.stage ≡ Start → desk.kept ≡ None → IsServing terms desk history
-cleared terms desk history stage kept = record {
+pub cleared : (terms : Terms) (desk : Desk) (history : List ServedRow) → desk.stage ≡ Start → desk.kept ≡ None → AreBrought (told_to terms.told desk.id) desk.pending
+    → IsServing terms desk history
+cleared terms desk history stage kept brought = record {
   row = subst (λ st. IfRow st (IsServed terms (place_of desk) history)) (sym stage) tt;
   kept = λ entry is. absurd (cc (kept, is));
-  fetched = subst (λ st. HasPieces st desk.buffers.outs desk.buffers.inns desk.pending) (sym stage) tt;
+  fetched = subst (λ st. HasPieces (told_to terms.told desk.id) st desk.buffers.outs desk.buffers.inns desk.pending) (sym stage) tt;
+  brought = brought;
 }
 
 -- the row in service, whose disk step was made
@@ -148,12 +167,16 @@ known_of terms p h row reply is made = record {
 
 -- a service that is broken off leaves the answers and the disk law as they are
 module _ (one : SpellsOne) (d : Held) (a : Desk) (h h' : List ServedRow) (serving : IsServing d.terms a h) where
-  left_same : h' ≡ h → (answers_of a.id h' ≡ answers_of a.id h) × OnlyRowsOf a.id h h' × StaysServed d d h h'
-  left_same same = (ap (answers_of a.id) same, subst (OnlyRowsOf a.id h) (sym same) (stays_same a.id h), stays_equal d h h' same)
+  -- what is so of the rows that it leaves
+  abbrev Leaves : Type 0
+  Leaves = (answers_of a.id h' ≡ answers_of a.id h) × OnlyRowsOf a.id h h' × StaysServed d d h h' × (AreWritten d.terms.told h → AreWritten d.terms.told h')
+
+  left_same : h' ≡ h → Leaves
+  left_same same = (ap (answers_of a.id) same, subst (OnlyRowsOf a.id h) (sym same) (stays_same a.id h), stays_equal d h h' same, written_same d.terms.told h h' same)
 
   left_cut : (at : ℕ) (reply : ScsiReply) (p : Place) → p.id ≡ a.id → p.given ≡ a.buffers.given → (row : IsServed d.terms p h at)
       → HasReply d.terms row.request p.given reply row.in_service.served
-      → (n : ℕ) × FillsRow h h' at (take n a.buffers.given) → (answers_of a.id h' ≡ answers_of a.id h) × OnlyRowsOf a.id h h' × StaysServed d d h h'
+      → (n : ℕ) × FillsRow h h' at (take n a.buffers.given) → Leaves
   left_cut at reply p id given row made leaves =
       let is = subst (λ (unit : UnitId). IsInService unit row.request.unit.items h at) id row.in_service in
       let iu = row.request.unit.items in
@@ -167,10 +190,11 @@ module _ (one : SpellsOne) (d : Held) (a : Desk) (h h' : List ServedRow) (servin
         only_there a.id iu h h' at is (record is.served { inn = inn }) is.unit_is there,
         stays_there d h h' row.in_service.before row.in_service.behind row.in_service.served new row.in_service.history_is there'
             (may_cut one d.terms made.command reply row.in_service.served (known_of d.terms p h at reply row made) leaves.0 row.in_service.unanswered),
+        written_there d.terms.told h h' row.in_service.before row.in_service.behind row.in_service.served new row.in_service.history_is there' (λ is. is),
       )
 
   broken : (stage : Stage) → stage ≡ a.stage → IfRow stage (IsServed d.terms (record { id = a.id; stage = stage; answer = a.answer; given = a.buffers.given; pending = a.pending }) h)
-      → LeavesRow stage a.buffers.given h h' → (answers_of a.id h' ≡ answers_of a.id h) × OnlyRowsOf a.id h h' × StaysServed d d h h'
+      → LeavesRow stage a.buffers.given h h' → Leaves
   broken Start at row leaves = left_same leaves
   broken OutTable at row leaves = left_same leaves
   broken InTable at row leaves = left_same leaves
@@ -183,47 +207,53 @@ module _ (one : SpellsOne) (d : Held) (a : Desk) (h h' : List ServedRow) (servin
   broken (Entry outcome) at row leaves = left_same leaves
 
   -- the service is broken off, and nothing is kept
-  pub once_broken : (b : Desk) (s s' : List PipeRow) → b.id ≡ a.id → b.stage ≡ Start → b.kept ≡ None → LeavesRow a.stage a.buffers.given h h' → responses s' ≡ responses s
+  pub once_broken : (b : Desk) (s s' : List PipeRow) → b.id ≡ a.id → b.stage ≡ Start → b.kept ≡ None → b.pending ≡ [] → LeavesRow a.stage a.buffers.given h h' → responses s' ≡ responses s
       → Once d d a b s s' h h'
-  once_broken b s s' id stage kept leaves put =
+  once_broken b s s' id stage kept none leaves put =
       let rest = broken a.stage refl serving.row leaves in
       record {
         id = id;
         terms = refl;
-        serving = cleared d.terms b h' stage kept;
+        serving = cleared d.terms b h' stage kept (brought_none (told_to d.terms.told b.id) b.pending none);
         answers = more_none a.id s s' h h' put rest.0;
         others = rest.1;
         stays = rest.2;
+        written = rest.3;
         tells = tells_same d.now;
       }
 
 -- the request in service is finished without a row's answer, and nothing is kept
 pub once_cleared : (a b : Desk) (s s' : List PipeRow) (h h' : List ServedRow) → b.id ≡ a.id → b.stage ≡ Start → b.kept ≡ None → h' ≡ h → responses s' ≡ responses s
-    → (d : Held) → Once d d a b s s' h h'
-once_cleared a b s s' h h' id stage kept rows put d = record {
+    → (d : Held) → b.pending ≡ drop 1 a.pending → IsServing d.terms a h → Once d d a b s s' h h'
+once_cleared a b s s' h h' id stage kept rows put d pending serving = record {
   id = id;
   terms = refl;
-  serving = cleared d.terms b h' stage kept;
+  serving = cleared d.terms b h' stage kept
+      (brought_at d.terms a b (drop 1 a.pending) id pending (brought_rest (told_to d.terms.told a.id) a.pending serving.brought));
   answers = more_none a.id s s' h h' put (ap (answers_of a.id) rows);
   others = subst (OnlyRowsOf a.id h) (sym rows) (stays_same a.id h);
   stays = stays_equal d h h' rows;
+  written = written_same d.terms.told h h' rows;
   tells = tells_same d.now;
 }
 
 -- nothing is kept, no response was put, and the row in service is the same
 pub once_goes : (a b : Desk) (s s' : List PipeRow) (h h' : List ServedRow) → b.id ≡ a.id → b.kept ≡ None → h' ≡ h → responses s' ≡ responses s
-    → (d : Held) → IfRow b.stage (IsServed d.terms (place_of b) h) → HasPieces b.stage b.buffers.outs b.buffers.inns b.pending → Once d d a b s s' h h'
-once_goes a b s s' h h' id kept rows put d row fetched = record {
+    → (d : Held) → IfRow b.stage (IsServed d.terms (place_of b) h)
+    → HasPieces (told_to d.terms.told b.id) b.stage b.buffers.outs b.buffers.inns b.pending → AreBrought (told_to d.terms.told b.id) b.pending → Once d d a b s s' h h'
+once_goes a b s s' h h' id kept rows put d row fetched brought = record {
   id = id;
   terms = refl;
   serving = record {
     row = subst (λ list. IfRow b.stage (IsServed d.terms (place_of b) list)) (sym rows) row;
     kept = λ entry is. absurd (cc (kept, is));
     fetched = fetched;
+    brought = brought;
   };
   answers = more_none a.id s s' h h' put (ap (answers_of a.id) rows);
   others = subst (OnlyRowsOf a.id h) (sym rows) (stays_same a.id h);
   stays = stays_equal d h h' rows;
+  written = written_same d.terms.told h h' rows;
   tells = tells_same d.now;
 }
 
@@ -238,15 +268,17 @@ pub row_at : (terms : Terms) (a b : Desk) (h : List ServedRow) → b.id ≡ a.id
 row_at terms a b h id stage answer buffers pending =
     subst (λ (p : Place). IfRow p.stage (IsServed terms p h)) (sym (place_is a b id stage answer buffers pending))
 
-pub pieces_at : (a b : Desk) → b.stage ≡ a.stage → b.buffers ≡ a.buffers → b.pending ≡ a.pending → HasPieces a.stage a.buffers.outs a.buffers.inns a.pending
-    → HasPieces b.stage b.buffers.outs b.buffers.inns b.pending
-pieces_at a b stage buffers pending = subst (λ (z : Stage × Buffers × List Request). HasPieces z.0 z.1.outs z.1.inns z.2) (λ i. ((sym stage) i, (sym buffers) i, (sym pending) i))
+pub pieces_at : (terms : Terms) (a b : Desk) → b.id ≡ a.id → b.stage ≡ a.stage → b.buffers ≡ a.buffers → b.pending ≡ a.pending
+    → HasPieces (told_to terms.told a.id) a.stage a.buffers.outs a.buffers.inns a.pending → HasPieces (told_to terms.told b.id) b.stage b.buffers.outs b.buffers.inns b.pending
+pieces_at terms a b id stage buffers pending =
+    subst (λ (z : UnitId × Stage × Buffers × List Request). HasPieces (told_to terms.told z.0) z.1 z.2.outs z.2.inns z.3) (λ i. ((sym id) i, (sym stage) i, (sym buffers) i, (sym pending) i))
 
 -- the service is where it was; nothing is kept, and no response was put
 pub once_still : (a b : Desk) (s s' : List PipeRow) (h h' : List ServedRow) → b.id ≡ a.id → b.stage ≡ a.stage → b.answer ≡ a.answer → b.buffers ≡ a.buffers → b.pending ≡ a.pending
     → b.kept ≡ None → h' ≡ h → responses s' ≡ responses s → (d : Held) → IsServing d.terms a h → Once d d a b s s' h h'
 once_still a b s s' h h' id stage answer buffers pending kept rows put d serving =
-    once_goes a b s s' h h' id kept rows put d (row_at d.terms a b h id stage answer buffers pending serving.row) (pieces_at a b stage buffers pending serving.fetched)
+    once_goes a b s s' h h' id kept rows put d (row_at d.terms a b h id stage answer buffers pending serving.row) (pieces_at d.terms a b id stage buffers pending serving.fetched)
+    (brought_at d.terms a b a.pending id pending serving.brought)
 
 -- an entry that answers no request is kept in the place of what was kept
 pub once_reply_kept : (a b : Desk) (s s' : List PipeRow) (h : List ServedRow) (entry : QueueEntry) → b.id ≡ a.id → b.pending ≡ a.pending → b.stage ≡ a.stage → b.answer ≡ a.answer
@@ -257,11 +289,13 @@ once_reply_kept a b s s' h entry id pending stage answer buffers kept plain put 
   serving = record {
     row = row_at d.terms a b h id stage answer buffers pending serving.row;
     kept = λ other is. subst (IsKept b) (some_is entry other (sym kept ∙ is)) plain;
-    fetched = pieces_at a b stage buffers pending serving.fetched;
+    fetched = pieces_at d.terms a b id stage buffers pending serving.fetched;
+    brought = brought_at d.terms a b a.pending id pending serving.brought;
   };
   answers = more_none a.id s s' h h put refl;
   others = stays_same a.id h;
   stays = stays_equal d h h refl;
+  written = λ is. is;
   tells = tells_same d.now;
 }
   where
@@ -295,12 +329,13 @@ some_bytes (byte ∷ bytes) is = refl
 -- The answer in service was put: its row, if it has one, has it, and nothing is kept.
 module _ (a b : Desk) (s s' : List PipeRow) (h h' : List ServedRow) (put : PipeRow) (request : Request) (rest : List Request) (d : Held)
     (serving : IsServing d.terms a h) (id : b.id ≡ a.id) (stage : b.stage ≡ Start) (kept : b.kept ≡ None) (front : a.pending ≡ request ∷ rest)
+    (pending : b.pending ≡ drop 1 a.pending)
     (entry_is : put.entry ≡ srp_entry (length a.answer) request.tag) (sent : s' ≡ s ++ put ∷ []) where
   login : (outcome : Outcome) → is_response (srp_entry (length a.answer) request.tag) ≡ false → h' ≡ h → Once d d a b s s' h h'
   login outcome none rows =
-      once_cleared a b s s' h h' id stage kept rows (responses_plain s s' put (ap is_response entry_is ∙ none) sent) d
+      once_cleared a b s s' h h' id stage kept rows (responses_plain s s' put (ap is_response entry_is ∙ none) sent) d pending serving
 
-  served : (row : ℕ) (p : Place) → p.id ≡ a.id → p.pending ≡ a.pending → (is : IsServed d.terms p h row) → MayAnswer d.terms a.answer is.in_service.served
+  served : (row : ℕ) (p : Place) → p.id ≡ a.id → p.pending ≡ a.pending → (is : IsServed d.terms p h row) → IsReady d.terms a.answer is.in_service.served
       → (length a.answer ≡ 36) ⊎ ((length a.answer ≡ 40) ⊎ (length a.answer ≡ 54)) → AnswersRow h h' row a.answer → Once d d a b s s' h h'
   served row p p_id p_pending is may len answers =
       let iu = is.request.unit.items in
@@ -311,7 +346,8 @@ module _ (a b : Desk) (s s' : List PipeRow) (h h' : List ServedRow) (put : PipeR
       record {
         id = id;
         terms = refl;
-        serving = cleared d.terms b h' stage kept;
+        serving = cleared d.terms b h' stage kept
+            (brought_at d.terms a b (drop 1 a.pending) id pending (brought_rest (told_to d.terms.told a.id) a.pending serving.brought));
         answers = record {
           more = put.entry ∷ [];
           put = responses_one s s' put (ap is_response entry_is ∙ answers_command (length a.answer) request.tag len) sent;
@@ -320,7 +356,9 @@ module _ (a b : Desk) (s s' : List PipeRow) (h h' : List ServedRow) (put : PipeR
         };
         others = only_there a.id iu h h' row in_service (record in_service.served { answer = a.answer }) in_service.unit_is there;
         stays = stays_there d h h' is.in_service.before is.in_service.behind is.in_service.served (record is.in_service.served { answer = a.answer })
-            is.in_service.history_is (answered_there p.id iu h h' row a.answer is.in_service answers) may;
+            is.in_service.history_is (answered_there p.id iu h h' row a.answer is.in_service answers) may.may;
+        written = written_there d.terms.told h h' is.in_service.before is.in_service.behind is.in_service.served (record is.in_service.served { answer = a.answer })
+            is.in_service.history_is (answered_there p.id iu h h' row a.answer is.in_service answers) (λ was. inr may.over);
         tells = tells_same d.now;
       }
     where

@@ -11,7 +11,8 @@ use Rattle.crq_session.specs.Answers.{IfClosed, OnNotSent}
 use Rattle.crq_session.specs.declared.answers.SendAnswer.{SendAnswer}
 use Rattle.crq_session.specs.declared.answers.SendAnswer.TheVariants as sending
 use Rattle.block_server.specs.Answering.{has_bytes}
-use Rattle.block_server.specs.Decided.{Decides}
+use Rattle.block_server.specs.Decided.{Decides, IsCause, StaysOn}
+use Rattle.block_server.proofs.Verdicts.{cause_fatal}
 use Rattle.block_server.specs.Entries.{is_response_len}
 use Rattle.block_server.specs.Judged.{AreKept, Books, IsAtStage, IsOutcome, Judged, gets_row, has_row, is_logout}
 use Rattle.block_server.specs.Owed.{HasAnswers, IsAwaited, IsCutOff, IsLossAhead, Owing, RowState, SeesAnswers, row_in}
@@ -224,7 +225,9 @@ decides_current old new bytes (verdicts.Fatal cause outstanding granted) is = is
 
 pub fatal_other : (old new : Logins) (bytes : List ℕ) (verdict : Verdict) (cause : Lapse) (outstanding granted : ℕ) → verdict ≡ verdicts.Fatal cause outstanding granted → Decides old new bytes verdict
     → is_logout cause ≡ false
-fatal_other old new bytes verdict cause outstanding granted same is = by cause (subst (Decides old new bytes) same is).1
+fatal_other old new bytes verdict cause outstanding granted same is =
+    let why : StaysOn old new × IsCause old bytes cause outstanding granted = subst (Decides old new bytes) same is in
+    by cause (cause_fatal old bytes cause outstanding granted why.1)
   where
     by : (cause : Lapse) → is_fatal cause ≡ true → is_logout cause ≡ false
     by lapses.Logout fatal = absurd (cc (fatal))

@@ -44,7 +44,7 @@ moves_on id session session' request a b c rows rows' rows'' same first next =
 pub front_under : (books : Books) (judged : List Judged) (request : Request) (rest : List Request) → AreKept books judged → books.pending ≡ request ∷ rest → gets_row request.order ≡ true
     → (request.login ≡ books.current) × (1 ≤ books.current)
 front_under books judged request rest is parts gets =
-    (subst (ArePending books.current books.next books.taking) parts is.pending).0.under (row_no_login request.order gets)
+    (subst (ArePending books.current books.next.number books.taking) parts is.pending).0.under (row_no_login request.order gets)
 
 pub owes_moved : (mid new : Owing) (session next : ℕ) (request : Request) (rest : List Request) (rows rows' : List Served) → mid.rows ≡ row_states rows → new.rows ≡ row_states rows'
     → mid.pending ≡ request ∷ rest → session ≡ mid.queue.last_session → (gets_row request.order ≡ true → (request.login ≡ mid.current) × (1 ≤ mid.current))

@@ -36,7 +36,7 @@ answered_turn shared units n unit unit' old new records records' own client queu
     subst (λ (u : Option Unit). IfSome u (λ u. HasAnswers (owing_seen u own.place.unit queue records.history.items grants))) there answers in
     let after = keeps named (map (λ j. j.receipt) judged) before judged
     (moved_to (books_seen unit own.place.unit queue records.history.items grants) (books_at unit old records) judged named_own
-    (ap (λ (q : EndState). q.last_session) queue_is) (ap (next_of unit.waiting) queue_is) refl refl refl refl refl refl refl refl refl kept) alone
+    (ap (λ (q : EndState). q.last_session) queue_is) (ap (next_of unit.waiting) queue_is) refl refl refl refl refl refl refl refl refl refl refl kept) alone
     (owes_seen (owing_seen unit own.place.unit queue records.history.items grants) (owing_of unit old.queue records) (seen_same queue old.queue queue_is) named_own refl refl refl refl refl refl owes) in
     subst (λ (u : Option Unit). IfSome u (λ u. HasAnswers (owing_seen u own.place.unit queue' records'.history.items records'.grants.items))) (sym (get_set_same units n unit unit' there))
     (owes_seen (owing_of unit' new.queue records') (owing_seen unit' own.place.unit queue' records'.history.items records'.grants.items) (seen_same new.queue queue' (sym queue_is'))

@@ -1,6 +1,6 @@
 -- How a unit's intake stays lawful as entries are taken, units are fetched, and sessions end and begin.
-use Rattle.std.proofs.Common.{◌≡◌, ◌++◌, ◌<◌, ◌≤◌, ℕ, Bool, true, false, List, [], ◌∷◌, Option, Some, None, IfSome, All, Contains, MatchOption, get_or, length, map, filter, slice_get, refl, sym, ◌∙◌, ap, subst, arith, append-nil, append_assoc, length-append}
-use Rattle.std.specs.List.{AllPairs, filter_map}
+use Rattle.std.proofs.Common.{◌≡◌, ◌++◌, ◌<◌, ◌≤◌, ℕ, true, false, List, [], ◌∷◌, Option, Some, None, IfSome, All, Contains, MatchOption, get_or, length, map, filter, slice_get, refl, sym, ◌∙◌, ap, subst, arith, append-nil, length-append}
+use Rattle.std.specs.List.{filter_map}
 use Rattle.std.proofs.lemmas.List.{map-append, get_or_append_left, get_or_push}
 use Rattle.std.proofs.lemmas.List.Elements.{All-push, All-weaker, Contains-append_left, filter-append, filter_map-append}
 use Rattle.std.proofs.lemmas.List.Quantifiers.{all_pairs_push}
@@ -38,7 +38,7 @@ session_more q old new i entry more e =
     ∙ slice_more (of_session q old) (of_session q more.0) i entry e
 
 -- what a copy fetched is what it fetched, as more is known of the windows
-fetches_stays : (own own' client client' : PortState) → SideGrows (side_of own) (side_of own') → SideGrows (side_of client) (side_of client')
+pub fetches_stays : (own own' client client' : PortState) → SideGrows (side_of own) (side_of own') → SideGrows (side_of client) (side_of client')
     → (address at len : ℕ) (bytes : List ℕ) (copy : CopyRecord) → Fetches own client address at len bytes copy → Fetches own' client' address at len bytes copy
 fetches_stays own own' client client' own_grows client_grows address at len bytes copy is = record {
   name_is = is.name_is ∙ ap (λ (unit : UnitId). record { who = unit; mark = 0 }) (sym own_grows.unit);

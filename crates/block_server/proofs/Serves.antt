@@ -26,7 +26,7 @@ use Rattle.block_server.specs.declared.service.Outcome.{Outcome}
 use Rattle.block_server.specs.declared.service.Outcome.TheVariants.{Granted, Rejected, Served}
 use Rattle.block_server.specs.declared.service.Stage.{Stage}
 use Rattle.block_server.specs.declared.service.Stage.TheVariants.{Start, OutTable, InTable, DataOut, Given, DataIn, Answer, Entry}
-use Rattle.block_server.specs.Serving.{AsNone, Desk, Held, HoldsAtStage, IfRow, IsAnswerKept, IsKept, IsServed, IsServing, MayAnswer, Once, Place, StaysServed, Terms, desk_at, place_of}
+use Rattle.block_server.specs.Serving.{AreBrought, AsNone, Desk, Held, HoldsAtStage, IfRow, IsAnswerKept, IsKept, IsServed, IsServing, MayAnswer, Once, Place, StaysServed, Terms, desk_at, place_of}
 use Rattle.srp_iu.specs.Layout.{field}
 use Rattle.srp_iu.specs.declared.buffer.Desc.{Desc}
 use Rattle.srp_iu.specs.declared.command.Cmd.{Cmd}
@@ -35,14 +35,17 @@ use Rattle.srp_iu.specs.declared.response_code.ResponseCode.TheVariants.{FieldsI
 use Rattle.srp_desc.specs.Pieces.{total_of}
 use Rattle.block_server.specs.declared.request.Order.TheVariants.{Command}
 use Rattle.block_server.specs.declared.service.Service.{Service}
-use Rattle.block_server.specs.Causes.{IsNamed, RefusesIn, told_to}
+use Rattle.block_server.specs.Causes.{Hearing, IsNamed, RefusesIn, told_to, units_at}
+use Rattle.block_server.specs.Written.{AreWritten, IsWrittenOver}
+use Rattle.block_server.proofs.Writing.{written_blank, written_there}
+use Rattle.block_server.specs.Causes.{News as news}
 use Rattle.block_server.specs.DiskLaw.{ServeBy, ServesRowBy, handed_over}
 use Rattle.block_server.specs.Fetched.{Buffers, Gathers, HasBoth, HasPieces, OfFirst}
 use Rattle.block_server.specs.Responses.{Answers, HasCode, HasStatus}
 use Rattle.block_server.proofs.AnswerLaws.{answers_blank, answers_filled, filled_there, in_service_filled, in_service_new, only_there}
 use Rattle.block_server.proofs.DiskLaws.{serve_push}
 use Rattle.block_server.proofs.DiskRows.{SpellsOne, known_cut, may_cut, may_refuse, may_status}
-use Rattle.block_server.proofs.Onces.{known_of, more_none, once_goes, once_still, pieces_at, row_at, stays_equal, stays_rows, stays_there, tells_same}
+use Rattle.block_server.proofs.Onces.{brought_at, known_of, more_none, once_goes, once_still, pieces_at, row_at, stays_equal, stays_rows, stays_there, tells_same}
 use Rattle.block_server.proofs.Rows.{stays_one, stays_same}
 
 -- the answer's entry is kept in the place of what was kept
@@ -55,11 +58,13 @@ once_kept a b s s' h entry outcome id pending stage answer buffers kept is put d
   serving = record {
     row = row_at d.terms a b h id stage answer buffers pending serving.row;
     kept = λ other other_is. subst (IsKept b) (some_is entry outcome other (sym kept ∙ other_is)) is;
-    fetched = pieces_at a b stage buffers pending serving.fetched;
+    fetched = pieces_at d.terms a b id stage buffers pending serving.fetched;
+    brought = brought_at d.terms a b a.pending id pending serving.brought;
   };
   answers = more_none a.id s s' h h put refl;
   others = stays_same a.id h;
   stays = stays_equal d h h refl;
+  written = λ is. is;
   tells = tells_same d.now;
 }
   where
@@ -96,26 +101,32 @@ row_map (Entry (Served row)) P Q then is = then row is
 first_pushed : (P : Cmd → Type 0) (pending : List Request) (new : Request) → OfFirst pending P → OfFirst (pending ++ new ∷ []) P
 first_pushed P pending new is = record { request = is.request; rest = is.rest ++ new ∷ []; front = ap (λ list. list ++ new ∷ []) is.front; holds = is.holds }
 
-pieces_pushed : (stage : Stage) (outs inns : List Desc) (pending : List Request) (new : Request) → HasPieces stage outs inns pending → HasPieces stage outs inns (pending ++ new ∷ [])
-pieces_pushed Start outs inns pending new is = tt
-pieces_pushed OutTable outs inns pending new is = tt
-pieces_pushed InTable outs inns pending new is = first_pushed (λ command. IsNamed command.out outs) pending new is
-pieces_pushed (DataOut cursor) outs inns pending new is = first_pushed (λ command. HasBoth command outs inns) pending new is
-pieces_pushed (Given row reply) outs inns pending new is = first_pushed (λ command. IsNamed command.inn inns) pending new is
-pieces_pushed (DataIn row reply cursor) outs inns pending new is = first_pushed (λ command. IsNamed command.inn inns) pending new is
-pieces_pushed (Answer outcome) outs inns pending new is = tt
-pieces_pushed (Entry outcome) outs inns pending new is = tt
+pieces_pushed : (Hears : Hearing) (stage : Stage) (outs inns : List Desc) (pending : List Request) (new : Request) → HasPieces Hears stage outs inns pending → HasPieces Hears stage outs inns (pending ++ new ∷ [])
+pieces_pushed Hears Start outs inns pending new is = tt
+pieces_pushed Hears OutTable outs inns pending new is = tt
+pieces_pushed Hears InTable outs inns pending new is = first_pushed (λ command. IsNamed Hears command.out outs) pending new is
+pieces_pushed Hears (DataOut cursor) outs inns pending new is = first_pushed (λ command. HasBoth Hears command outs inns) pending new is
+pieces_pushed Hears (Given row reply) outs inns pending new is = first_pushed (λ command. IsNamed Hears command.inn inns) pending new is
+pieces_pushed Hears (DataIn row reply cursor) outs inns pending new is = first_pushed (λ command. IsNamed Hears command.inn inns) pending new is
+pieces_pushed Hears (Answer outcome) outs inns pending new is = tt
+pieces_pushed Hears (Entry outcome) outs inns pending new is = tt
+
+brought_pushed : (Hears : Hearing) (list : List Request) (new : Request) → AreBrought Hears list → Hears (news.fetched new.address units_at new.unit.items) → AreBrought Hears (list ++ new ∷ [])
+brought_pushed Hears [] new all one = (one, tt)
+brought_pushed Hears (request ∷ requests) new all one = (all.0, brought_pushed Hears requests new all.1 one)
 
 -- a request came behind those that are pending
 pub once_pushed : (a b : Desk) (s s' : List PipeRow) (h : List ServedRow) (new : Request) → b.id ≡ a.id → b.pending ≡ a.pending ++ new ∷ [] → b.stage ≡ a.stage
-    → b.answer ≡ a.answer → b.buffers ≡ a.buffers → b.kept ≡ None → responses s' ≡ responses s → (d : Held) → IsServing d.terms a h → Once d d a b s s' h h
-once_pushed a b s s' h new id pending stage answer buffers kept put d serving =
+    → b.answer ≡ a.answer → b.buffers ≡ a.buffers → b.kept ≡ None → responses s' ≡ responses s
+    → (d : Held) → told_to d.terms.told a.id (news.fetched new.address units_at new.unit.items) → IsServing d.terms a h → Once d d a b s s' h h
+once_pushed a b s s' h new id pending stage answer buffers kept put d one serving =
     let q : Place = record (place_of a) { pending = a.pending ++ new ∷ [] } in
     once_goes a b s s' h h id kept refl put d
     (subst (λ (p : Place). IfRow p.stage (IsServed d.terms p h)) (λ i. record { id = (sym id) i; stage = (sym stage) i; answer = (sym answer) i; given = ((sym buffers) i).given; pending = (sym pending) i })
     (row_map a.stage (IsServed d.terms (place_of a) h) (IsServed d.terms q h) (λ row. served_pushed d.terms (place_of a) q h new row refl) serving.row))
-    (subst (λ (z : Stage × Buffers × List Request). HasPieces z.0 z.1.outs z.1.inns z.2) (λ i. ((sym stage) i, (sym buffers) i, (sym pending) i))
-    (pieces_pushed a.stage a.buffers.outs a.buffers.inns a.pending new serving.fetched))
+    (subst (λ (z : UnitId × Stage × Buffers × List Request). HasPieces (told_to d.terms.told z.0) z.1 z.2.outs z.2.inns z.3) (λ i. ((sym id) i, (sym stage) i, (sym buffers) i, (sym pending) i))
+    (pieces_pushed (told_to d.terms.told a.id) a.stage a.buffers.outs a.buffers.inns a.pending new serving.fetched))
+    (brought_at d.terms a b (a.pending ++ new ∷ []) id pending (brought_pushed (told_to d.terms.told a.id) a.pending new serving.brought one))
 
 -- a stage before the disk step has no row
 before_row : (stage : Stage) (P : ℕ → Type 0) → is_before_step stage ≡ true → IfRow stage P
@@ -129,10 +140,10 @@ before_row (Answer outcome) P is = absurd (cc (is))
 before_row (Entry outcome) P is = absurd (cc (is))
 
 -- the service is before its disk step, and nothing is kept
-pub once_before : (a b : Desk) (s s' : List PipeRow) (h h' : List ServedRow) → b.id ≡ a.id → is_before_step b.stage ≡ true → b.kept ≡ None
-    → HasPieces b.stage b.buffers.outs b.buffers.inns b.pending → h' ≡ h → responses s' ≡ responses s → (d : Held) → Once d d a b s s' h h'
-once_before a b s s' h h' id stage kept fetched rows put d =
-    once_goes a b s s' h h' id kept rows put d (before_row b.stage (IsServed d.terms (place_of b) h) stage) fetched
+pub once_before : (d : Held) (a b : Desk) (s s' : List PipeRow) (h h' : List ServedRow) → b.id ≡ a.id → is_before_step b.stage ≡ true → b.kept ≡ None
+    → HasPieces (told_to d.terms.told b.id) b.stage b.buffers.outs b.buffers.inns b.pending → h' ≡ h → responses s' ≡ responses s → AreBrought (told_to d.terms.told b.id) b.pending → Once d d a b s s' h h'
+once_before d a b s s' h h' id stage kept fetched rows put brought =
+    once_goes a b s s' h h' id kept rows put d (before_row b.stage (IsServed d.terms (place_of b) h) stage) fetched brought
 
 -- what is known of the pieces of a command that is the oldest request, and back
 first_is : (request other : Request) (rest tail : List Request) → request ∷ rest ≡ other ∷ tail → other ≡ request
@@ -141,47 +152,47 @@ first_is request other rest tail same = cc (same)
 command_is : (x y : Cmd) → Command x ≡ Command y → x ≡ y
 command_is x y same = cc (same)
 
-pub gathers_of : (stage : Stage) (outs inns : List Desc) (request : Request) (rest : List Request) (command : Cmd) → request.order ≡ Command command
-    → HasPieces stage outs inns (request ∷ rest) → Gathers command stage outs inns
-gathers_of Start outs inns request rest command order is = tt
-gathers_of OutTable outs inns request rest command order is = tt
-gathers_of InTable outs inns request rest command order is = is.holds command (ap (λ (r : Request). r.order) (first_is request is.request rest is.rest is.front) ∙ order)
-gathers_of (DataOut cursor) outs inns request rest command order is = is.holds command (ap (λ (r : Request). r.order) (first_is request is.request rest is.rest is.front) ∙ order)
-gathers_of (Given row reply) outs inns request rest command order is = is.holds command (ap (λ (r : Request). r.order) (first_is request is.request rest is.rest is.front) ∙ order)
-gathers_of (DataIn row reply cursor) outs inns request rest command order is = is.holds command (ap (λ (r : Request). r.order) (first_is request is.request rest is.rest is.front) ∙ order)
-gathers_of (Answer outcome) outs inns request rest command order is = tt
-gathers_of (Entry outcome) outs inns request rest command order is = tt
+pub gathers_of : (Hears : Hearing) (stage : Stage) (outs inns : List Desc) (request : Request) (rest : List Request) (command : Cmd) → request.order ≡ Command command
+    → HasPieces Hears stage outs inns (request ∷ rest) → Gathers Hears command stage outs inns
+gathers_of Hears Start outs inns request rest command order is = tt
+gathers_of Hears OutTable outs inns request rest command order is = tt
+gathers_of Hears InTable outs inns request rest command order is = is.holds command (ap (λ (r : Request). r.order) (first_is request is.request rest is.rest is.front) ∙ order)
+gathers_of Hears (DataOut cursor) outs inns request rest command order is = is.holds command (ap (λ (r : Request). r.order) (first_is request is.request rest is.rest is.front) ∙ order)
+gathers_of Hears (Given row reply) outs inns request rest command order is = is.holds command (ap (λ (r : Request). r.order) (first_is request is.request rest is.rest is.front) ∙ order)
+gathers_of Hears (DataIn row reply cursor) outs inns request rest command order is = is.holds command (ap (λ (r : Request). r.order) (first_is request is.request rest is.rest is.front) ∙ order)
+gathers_of Hears (Answer outcome) outs inns request rest command order is = tt
+gathers_of Hears (Entry outcome) outs inns request rest command order is = tt
 
-pub pieces_of : (stage : Stage) (outs inns : List Desc) (request : Request) (rest : List Request) (command : Cmd) → request.order ≡ Command command
-    → Gathers command stage outs inns → HasPieces stage outs inns (request ∷ rest)
-pieces_of Start outs inns request rest command order is = tt
-pieces_of OutTable outs inns request rest command order is = tt
-pieces_of InTable outs inns request rest command order is = record {
+pub pieces_of : (Hears : Hearing) (stage : Stage) (outs inns : List Desc) (request : Request) (rest : List Request) (command : Cmd) → request.order ≡ Command command
+    → Gathers Hears command stage outs inns → HasPieces Hears stage outs inns (request ∷ rest)
+pieces_of Hears Start outs inns request rest command order is = tt
+pieces_of Hears OutTable outs inns request rest command order is = tt
+pieces_of Hears InTable outs inns request rest command order is = record {
   request = request;
   rest = rest;
   front = refl;
-  holds = λ c other. subst (λ (x : Cmd). IsNamed x.out outs) (command_is command c (sym order ∙ other)) is;
+  holds = λ c other. subst (λ (x : Cmd). IsNamed Hears x.out outs) (command_is command c (sym order ∙ other)) is;
 }
-pieces_of (DataOut cursor) outs inns request rest command order is = record {
+pieces_of Hears (DataOut cursor) outs inns request rest command order is = record {
   request = request;
   rest = rest;
   front = refl;
-  holds = λ c other. subst (λ (x : Cmd). HasBoth x outs inns) (command_is command c (sym order ∙ other)) is;
+  holds = λ c other. subst (λ (x : Cmd). HasBoth Hears x outs inns) (command_is command c (sym order ∙ other)) is;
 }
-pieces_of (Given row reply) outs inns request rest command order is = record {
+pieces_of Hears (Given row reply) outs inns request rest command order is = record {
   request = request;
   rest = rest;
   front = refl;
-  holds = λ c other. subst (λ (x : Cmd). IsNamed x.inn inns) (command_is command c (sym order ∙ other)) is;
+  holds = λ c other. subst (λ (x : Cmd). IsNamed Hears x.inn inns) (command_is command c (sym order ∙ other)) is;
 }
-pieces_of (DataIn row reply cursor) outs inns request rest command order is = record {
+pieces_of Hears (DataIn row reply cursor) outs inns request rest command order is = record {
   request = request;
   rest = rest;
   front = refl;
-  holds = λ c other. subst (λ (x : Cmd). IsNamed x.inn inns) (command_is command c (sym order ∙ other)) is;
+  holds = λ c other. subst (λ (x : Cmd). IsNamed Hears x.inn inns) (command_is command c (sym order ∙ other)) is;
 }
-pieces_of (Answer outcome) outs inns request rest command order is = tt
-pieces_of (Entry outcome) outs inns request rest command order is = tt
+pieces_of Hears (Answer outcome) outs inns request rest command order is = tt
+pieces_of Hears (Entry outcome) outs inns request rest command order is = tt
 
 -- ---- from one stage to another with the same row
 
@@ -216,30 +227,31 @@ carried terms a h row old new answer given answer' given' carry is = record {
 }
 
 -- the service came from one stage to another, both with a row; nothing is kept, and no response was put
-pub once_to : (a b : Desk) (s s' : List PipeRow) (h h' : List ServedRow) (old new : Stage) (answer given : List ℕ) → b.id ≡ a.id → b.pending ≡ a.pending → a.stage ≡ old → b.stage ≡ new
-    → b.answer ≡ answer → b.buffers.given ≡ given → b.kept ≡ None → h' ≡ h → responses s' ≡ responses s → HasPieces new b.buffers.outs b.buffers.inns b.pending → (d : Held)
+pub once_to : (d : Held) (a b : Desk) (s s' : List PipeRow) (h h' : List ServedRow) (old new : Stage) (answer given : List ℕ) → b.id ≡ a.id → b.pending ≡ a.pending → a.stage ≡ old → b.stage ≡ new
+    → b.answer ≡ answer → b.buffers.given ≡ given → b.kept ≡ None → h' ≡ h → responses s' ≡ responses s → HasPieces (told_to d.terms.told b.id) new b.buffers.outs b.buffers.inns b.pending
     → (IfRow old (IsServed d.terms (staged a old a.answer a.buffers.given) h) → IfRow new (IsServed d.terms (staged a new answer given) h)) → IsServing d.terms a h → Once d d a b s s' h h'
-once_to a b s s' h h' old new answer given id pending was is answer_is given_is kept rows put fetched d row serving =
+once_to d a b s s' h h' old new answer given id pending was is answer_is given_is kept rows put fetched row serving =
     once_goes a b s s' h h' id kept rows put d
     (subst (λ (p : Place). IfRow p.stage (IsServed d.terms p h)) (λ i. record { id = (sym id) i; stage = (sym is) i; answer = (sym answer_is) i; given = (sym given_is) i; pending = (sym pending) i })
     (row (subst (λ (st : Stage). IfRow st (IsServed d.terms (staged a st a.answer a.buffers.given) h)) was serving.row)))
-    (subst (λ (st : Stage). HasPieces st b.buffers.outs b.buffers.inns b.pending) (sym is) fetched)
+    (subst (λ (st : Stage). HasPieces (told_to d.terms.told b.id) st b.buffers.outs b.buffers.inns b.pending) (sym is) fetched)
+    (brought_at d.terms a b a.pending id pending serving.brought)
 
 -- what is known of the pieces at one stage is known at another which says the same of them
-pieces_there : (a b : Desk) (old new : Stage) → a.stage ≡ old → b.buffers ≡ a.buffers → b.pending ≡ a.pending
-    → ((outs inns : List Desc) (pending : List Request) → HasPieces old outs inns pending → HasPieces new outs inns pending)
-    → HasPieces a.stage a.buffers.outs a.buffers.inns a.pending → HasPieces new b.buffers.outs b.buffers.inns b.pending
-pieces_there a b old new was buffers pending same fetched =
-    subst (λ (z : Buffers × List Request). HasPieces new z.0.outs z.0.inns z.1) (λ i. ((sym buffers) i, (sym pending) i))
-    (same a.buffers.outs a.buffers.inns a.pending (subst (λ (st : Stage). HasPieces st a.buffers.outs a.buffers.inns a.pending) was fetched))
+pieces_there : (terms : Terms) (a b : Desk) (old new : Stage) → b.id ≡ a.id → a.stage ≡ old → b.buffers ≡ a.buffers → b.pending ≡ a.pending
+    → ((outs inns : List Desc) (pending : List Request) → HasPieces (told_to terms.told a.id) old outs inns pending → HasPieces (told_to terms.told a.id) new outs inns pending)
+    → HasPieces (told_to terms.told a.id) a.stage a.buffers.outs a.buffers.inns a.pending → HasPieces (told_to terms.told b.id) new b.buffers.outs b.buffers.inns b.pending
+pieces_there terms a b old new id was buffers pending same fetched =
+    subst (λ (z : UnitId × Buffers × List Request). HasPieces (told_to terms.told z.0) new z.1.outs z.1.inns z.2) (λ i. ((sym id) i, (sym buffers) i, (sym pending) i))
+    (same a.buffers.outs a.buffers.inns a.pending (subst (λ (st : Stage). HasPieces (told_to terms.told a.id) st a.buffers.outs a.buffers.inns a.pending) was fetched))
 
 -- data-in were written to the unit's region
 pub once_stored : (a b : Desk) (s s' : List PipeRow) (h h' : List ServedRow) (row : ℕ) (reply : ScsiReply) (cursor : Cursor) → b.id ≡ a.id → b.pending ≡ a.pending
     → a.stage ≡ Given row reply → b.stage ≡ DataIn row reply cursor → b.buffers ≡ a.buffers → b.kept ≡ None → h' ≡ h → responses s' ≡ responses s
     → (d : Held) → IsServing d.terms a h → Once d d a b s s' h h'
 once_stored a b s s' h h' row reply cursor id pending was is same kept rows put d serving =
-    once_to a b s s' h h' (Given row reply) (DataIn row reply cursor) b.answer a.buffers.given id pending was is refl (ap (λ (x : Buffers). x.given) same) kept rows put
-    (pieces_there a b (Given row reply) (DataIn row reply cursor) was same pending (λ outs inns list is. is) serving.fetched) d
+    once_to d a b s s' h h' (Given row reply) (DataIn row reply cursor) b.answer a.buffers.given id pending was is refl (ap (λ (x : Buffers). x.given) same) kept rows put
+    (pieces_there d.terms a b (Given row reply) (DataIn row reply cursor) id was same pending (λ outs inns list is. is) serving.fetched)
     (carried d.terms a h row (Given row reply) (DataIn row reply cursor) a.answer a.buffers.given b.answer a.buffers.given (λ is. is.holds)) serving
 
 -- data-in were copied on, as far as it went
@@ -247,20 +259,37 @@ pub once_moved : (a b : Desk) (s s' : List PipeRow) (h : List ServedRow) (row : 
     → a.stage ≡ DataIn row reply old → (new : Cursor) × (b.stage ≡ DataIn row reply new) → b.buffers ≡ a.buffers → b.kept ≡ None → responses s' ≡ responses s
     → (d : Held) → IsServing d.terms a h → Once d d a b s s' h h
 once_moved a b s s' h row reply old id pending was is same kept put d serving =
-    once_to a b s s' h h (DataIn row reply old) (DataIn row reply is.0) b.answer a.buffers.given id pending was is.1 refl (ap (λ (x : Buffers). x.given) same) kept refl put
-    (pieces_there a b (DataIn row reply old) (DataIn row reply is.0) was same pending (λ outs inns list is. is) serving.fetched) d
+    once_to d a b s s' h h (DataIn row reply old) (DataIn row reply is.0) b.answer a.buffers.given id pending was is.1 refl (ap (λ (x : Buffers). x.given) same) kept refl put
+    (pieces_there d.terms a b (DataIn row reply old) (DataIn row reply is.0) id was same pending (λ outs inns list is. is) serving.fetched)
     (carried d.terms a h row (DataIn row reply old) (DataIn row reply is.0) a.answer a.buffers.given b.answer a.buffers.given (λ is. is.holds)) serving
 
 -- the answer was copied over the request
-pub once_copied : (a b : Desk) (s s' : List PipeRow) (h h' : List ServedRow) (outcome : Outcome) → b.id ≡ a.id → b.pending ≡ a.pending → a.stage ≡ Answer outcome → b.stage ≡ Entry outcome
-    → b.answer ≡ a.answer → b.kept ≡ None → h' ≡ h → responses s' ≡ responses s → (d : Held) → IsServing d.terms a h → Once d d a b s s' h h'
-once_copied a b s s' h h' outcome id pending was is answer kept rows put d =
-    once_to a b s s' h h' (Answer outcome) (Entry outcome) a.answer b.buffers.given id pending was is answer refl kept rows put tt d (row outcome)
+pub once_copied : (a b : Desk) (s s' : List PipeRow) (h h' : List ServedRow) (outcome : Outcome) (request : Request) (rest : List Request) → b.id ≡ a.id → b.pending ≡ a.pending
+    → a.pending ≡ request ∷ rest → a.stage ≡ Answer outcome → b.stage ≡ Entry outcome → b.answer ≡ a.answer → b.kept ≡ None → h' ≡ h → responses s' ≡ responses s
+    → (d : Held) → told_to d.terms.told a.id (news.delivered units_at request.address request.tag a.answer) → IsServing d.terms a h → Once d d a b s s' h h'
+once_copied a b s s' h h' outcome request rest id pending front was is answer kept rows put d written serving =
+    once_to d a b s s' h h' (Answer outcome) (Entry outcome) a.answer b.buffers.given id pending was is answer refl kept rows put tt (row outcome) serving
   where
+    brought : AreBrought (told_to d.terms.told a.id) (request ∷ rest)
+    brought = subst (AreBrought (told_to d.terms.told a.id)) front serving.brought
+
+    over : (at : ℕ) (is : IsServed d.terms (staged a (Answer (Served at)) a.answer a.buffers.given) h at)
+        → IsWrittenOver (told_to d.terms.told is.in_service.served.unit) is.in_service.served.iu a.answer
+    over at is =
+        let same : is.request ≡ request = first_is request is.request rest is.rest (sym front ∙ is.front) in
+        let iu : request.unit.items ≡ is.in_service.served.iu = ap (λ (r : Request). r.unit.items) (sym same) ∙ sym is.in_service.iu_is in
+        subst (λ (z : UnitId × List ℕ). IsWrittenOver (told_to d.terms.told z.0) z.1 a.answer) (λ i. ((sym is.in_service.unit_is) i, iu i)) (record {
+          address = request.address;
+          brought = brought.0;
+          written = subst (λ (tag : ℕ). told_to d.terms.told a.id (news.delivered units_at request.address tag a.answer)) request.tagged written;
+        })
+
     row : (o : Outcome) → IfRow (Answer o) (IsServed d.terms (staged a (Answer o) a.answer a.buffers.given) h) → IfRow (Entry o) (IsServed d.terms (staged a (Entry o) a.answer b.buffers.given) h)
     row (Granted number) none = tt
     row Rejected none = tt
-    row (Served at) served = carried d.terms a h at (Answer (Served at)) (Entry (Served at)) a.answer a.buffers.given a.answer b.buffers.given (λ is. is.holds) served
+    row (Served at) served =
+        carried d.terms a h at (Answer (Served at)) (Entry (Served at)) a.answer a.buffers.given a.answer b.buffers.given
+        (λ is. record { may = is.holds; over = over at is }) served
 
 -- the command of the row in service is that of the oldest request
 module _ (terms : Terms) (a : Desk) (h : List ServedRow) (row : ℕ) (stage : Stage) (request : Request) (rest : List Request) (command : Cmd) (front : a.pending ≡ request ∷ rest)
@@ -280,7 +309,7 @@ pub once_stated : SpellsOne → (a b : Desk) (s s' : List PipeRow) (h h' : List 
     → Answers b.answer (HasStatus request.tag (total_of command.out) (total_of command.inn) reply) → b.kept ≡ None → h' ≡ h → responses s' ≡ responses s
     → (d : Held) → IsServing d.terms a h → Once d d a b s s' h h'
 once_stated one a b s s' h h' row reply cursor request rest command id pending was is front order says kept rows put d =
-    once_to a b s s' h h' (DataIn row reply cursor) (Answer (Served row)) b.answer b.buffers.given id pending was is refl refl kept rows put tt d
+    once_to d a b s s' h h' (DataIn row reply cursor) (Answer (Served row)) b.answer b.buffers.given id pending was is refl refl kept rows put tt
     (carried d.terms a h row (DataIn row reply cursor) (Answer (Served row)) a.answer a.buffers.given b.answer b.buffers.given may)
   where
     may : (is : IsServed d.terms (staged a (DataIn row reply cursor) a.answer a.buffers.given) h row) → MayAnswer d.terms b.answer is.in_service.served
@@ -339,12 +368,14 @@ once_cut one a b s h h' row n reply cursor request rest command id pending was i
       serving = record {
         row = subst (λ (q : Place). IfRow q.stage (IsServed d.terms q h')) (λ i. record { id = (sym id) i; stage = (sym is) i; answer = b.answer; given = b.buffers.given; pending = (sym pending) i }) served';
         kept = λ entry some_kept. absurd (cc (kept, some_kept));
-        fetched = subst (λ (st : Stage). HasPieces st b.buffers.outs b.buffers.inns b.pending) (sym is) tt;
+        fetched = subst (λ (st : Stage). HasPieces (told_to d.terms.told b.id) st b.buffers.outs b.buffers.inns b.pending) (sym is) tt;
+        brought = brought_at d.terms a b a.pending id pending serving.brought;
       };
       answers = more_none a.id s s h h' refl (answers_filled a.id iu h h' row (take n old.inn) served.in_service there);
       others = only_there a.id iu h h' row served.in_service new served.in_service.unit_is there;
       stays = stays_there d h h' served.in_service.before served.in_service.behind old new served.in_service.history_is there
           (may_cut one d.terms made.command reply old known n served.in_service.unanswered);
+      written = written_there d.terms.told h h' served.in_service.before served.in_service.behind old new served.in_service.history_is there (λ is. is);
       tells = tells_same d.now;
     }
 
@@ -356,9 +387,9 @@ IsStageOf stage row = (P : ℕ → Type 0) → P row → IfRow stage P
 pub once_added : (d d' : Held) (a b : Desk) (s s' : List PipeRow) (h h' : List ServedRow) (request : Request) (rest : List Request) (served : ServedRow) (stage : Stage)
     → b.id ≡ a.id → b.pending ≡ request ∷ rest → b.kept ≡ None → b.stage ≡ stage → IsStageOf stage (length h)
     → served.unit ≡ a.id → served.iu ≡ request.unit.items → served.answer ≡ [] → h' ≡ h ++ served ∷ [] → responses s' ≡ responses s
-    → d'.terms ≡ d.terms → HasPieces stage b.buffers.outs b.buffers.inns b.pending → HoldsAtStage d'.terms stage b.answer b.buffers.given request served
-    → StaysServed d d' h h' → IfSome d.now (λ all. IsSome d'.now) → Once d d' a b s s' h h'
-once_added d d' a b s s' h h' request rest served stage id front kept stage_is of unit iu blank added put terms fetched holds disk tells =
+    → d'.terms ≡ d.terms → HasPieces (told_to d'.terms.told b.id) stage b.buffers.outs b.buffers.inns b.pending → HoldsAtStage d'.terms stage b.answer b.buffers.given request served
+    → StaysServed d d' h h' → IfSome d.now (λ all. IsSome d'.now) → AreBrought (told_to d'.terms.told b.id) b.pending → Once d d' a b s s' h h'
+once_added d d' a b s s' h h' request rest served stage id front kept stage_is of unit iu blank added put terms fetched holds disk tells brought =
     let q : Place = record { id = b.id; stage = stage; answer = b.answer; given = b.buffers.given; pending = b.pending } in
     let served' : IsServed d'.terms q h' (length h) = record {
       request = request;
@@ -374,11 +405,13 @@ once_added d d' a b s s' h h' request rest served stage id front kept stage_is o
         row = subst (λ (st : Stage). IfRow st (IsServed d'.terms (record { id = b.id; stage = st; answer = b.answer; given = b.buffers.given; pending = b.pending }) h')) (sym stage_is)
             (of (IsServed d'.terms q h') served');
         kept = λ entry some. absurd (cc (kept, some));
-        fetched = subst (λ (st : Stage). HasPieces st b.buffers.outs b.buffers.inns b.pending) (sym stage_is) fetched;
+        fetched = subst (λ (st : Stage). HasPieces (told_to d'.terms.told b.id) st b.buffers.outs b.buffers.inns b.pending) (sym stage_is) fetched;
+        brought = brought;
       };
       answers = more_none a.id s s' h h' put (answers_blank a.id h h' served blank added);
       others = subst (OnlyRowsOf a.id h) (sym added) (stays_one a.id h served unit);
       stays = disk;
+      written = λ is. written_blank d'.terms.told h h' served blank added (subst (λ (t : Terms). AreWritten t.told h) (sym terms) is);
       tells = tells;
     }
 
@@ -398,7 +431,8 @@ pub once_judged : (a b : Desk) (s : List PipeRow) (h : List ServedRow) (outcome 
 once_judged a b s h outcome (Ok done) id pending kept none ok err same buffers d serving =
     once_goes a b s s h h id kept refl refl d
     (subst (λ st. IfRow st (IsServed d.terms (place_of b) h)) (sym ok) (none (IsServed d.terms (place_of b) h)))
-    (subst (λ st. HasPieces st b.buffers.outs b.buffers.inns b.pending) (sym ok) tt)
+    (subst (λ st. HasPieces (told_to d.terms.told b.id) st b.buffers.outs b.buffers.inns b.pending) (sym ok) tt)
+    (brought_at d.terms a b a.pending id pending serving.brought)
 once_judged a b s h outcome (Err memory) id pending kept none ok err same buffers d serving =
     once_still a b s s h h id err same buffers pending kept refl refl d serving
 

@@ -1,18 +1,17 @@
 -- The disk step of a command gives a row that the disk law serves.
-use Rattle.std.proofs.Common.{◌≡◌, inl, ℕ, ◌≤◌, List, [], ◌∷◌, ◌++◌, Option, Some, None, IfSome, length, take, drop, refl, sym, ◌∙◌, ap, subst, arith, length-take}
+use Rattle.std.proofs.Common.{◌≡◌, inl, ℕ, ◌≤◌, List, [], ◌∷◌, ◌++◌, Option, Some, None, IfSome, length, take, refl, sym, ◌∙◌, ap, subst, arith, length-take}
 use Rattle.std.specs.Prelude.{IsSome, option_map}
-use Rattle.std.proofs.Math.Seq.{take-append_seam, drop-append_seam}
-use Rattle.std.proofs.lemmas.List.{take-take, take_all}
+use Rattle.std.proofs.lemmas.List.{take-take}
 use Rattle.vio_num.specs.declared.history.Served.{Served as ServedRow}
 use Rattle.srp_iu.specs.declared.buffer.Desc.{Desc}
 use Rattle.srp_iu.specs.declared.command.Cmd.{Cmd}
 use Rattle.srp_iu.specs.declared.unit.Iu.TheVariants as units
 use Rattle.srp_iu.specs.Grammar.{Spells}
-use Rattle.srp_desc.specs.Pieces.{pieces, sum_of, total_of}
-use Rattle.srp_desc.specs.Tables.{table_len}
+use Rattle.srp_desc.specs.Pieces.{sum_of, total_of}
 use Rattle.block_disk.specs.Disk.{reply_to}
 use Rattle.block_disk.specs.Steps.{DiskStep, IsStep, StepOn, blocks_after, made_step}
 use Rattle.block_disk.specs.declared.reply.ScsiReply.{ScsiReply}
+use Rattle.block_server.specs.Causes.{Hearing, told_to}
 use Rattle.block_server.specs.DiskLaw.{HasData, ServeBy, ServesRowBy, handed_over}
 use Rattle.block_server.specs.Fetched.{HasBoth}
 use Rattle.block_server.specs.Orders.{IsOrder}
@@ -22,33 +21,18 @@ use Rattle.block_server.specs.declared.request.Order.TheVariants.{Command}
 use Rattle.block_server.specs.declared.request.Request.{Request}
 use Rattle.block_server.proofs.DiskLaws.{serve_push}
 
--- each buffer's own table, in the bytes of both
-own_out : (n : ℕ) (first next : List ℕ) → length first ≡ n → take n (first ++ next) ≡ first
-own_out n first next full = ap (λ (k : ℕ). take k (first ++ next)) (sym full) ∙ take-append_seam first next
-
-own_in : (n m : ℕ) (first next : List ℕ) → length first ≡ n → length next ≡ m → take m (drop n (first ++ next)) ≡ next
-own_in n m first next full size =
-    ap (λ (k : ℕ). take m (drop k (first ++ next))) (sym full) ∙ ap (take m) (drop-append_seam first next) ∙ take_all m next (omega (arith, size))
-
-pub has_data : (command : Cmd) (outs inns : List Desc) (out : List ℕ) → HasBoth command outs inns → length out ≡ sum_of outs → HasData command out
-has_data command outs inns out both all = record {
-  tables = both.out_named.table ++ both.in_named.table;
-  outs = outs;
-  inns = inns;
-  out_named = ap (pieces command.out) (own_out (table_len command.out) both.out_named.table both.in_named.table both.out_named.full) ∙ both.out_named.named_is;
-  in_named = ap (pieces command.inn) (own_in (table_len command.out) (table_len command.inn) both.out_named.table both.in_named.table both.out_named.full both.in_named.full) ∙ both.in_named.named_is;
-  all_out = all;
-}
+pub has_data : (Hears : Hearing) (command : Cmd) (outs inns : List Desc) (out : List ℕ) → HasBoth Hears command outs inns → length out ≡ sum_of outs → HasData Hears command out
+has_data Hears command outs inns out both all = record { outs = outs; inns = inns; out_named = both.out_named; in_named = both.in_named; all_out = all }
 
 -- what the disk step of a command gave, and the row that it got
-pub record IsNewRow (request : Request) (command : Cmd) (outs inns : List Desc) (out given buffer : List ℕ) (count : ℕ) (reply : ScsiReply) (row : ServedRow) : Type 0 where
+pub record IsNewRow (terms : Terms) (request : Request) (command : Cmd) (outs inns : List Desc) (out given buffer : List ℕ) (reply : ScsiReply) (row : ServedRow) : Type 0 where
   pub order : request.order ≡ Command command
-  pub both : HasBoth command outs inns
+  pub both : HasBoth (told_to terms.told row.unit) command outs inns
   pub all_out : length out ≡ sum_of outs
   pub expected : sum_of inns ≡ total_of command.inn
   pub given_is : given ≡ take (handed_over command reply) buffer
   pub room : reply.in_len ≤ length buffer
-  pub reply_is : reply ≡ reply_to count command.lun command.cdb (length out) reply.fault
+  pub reply_is : reply ≡ reply_to terms.size command.lun command.cdb (length out) reply.fault
   pub iu : row.iu ≡ request.unit.items
   pub out_is : row.out ≡ out
   pub inn_is : row.inn ≡ given
@@ -56,12 +40,12 @@ pub record IsNewRow (request : Request) (command : Cmd) (outs inns : List Desc) 
   pub blank : row.answer ≡ []
 
 module _ (request : Request) (command : Cmd) (outs inns : List Desc) (out given buffer : List ℕ) (terms : Terms) (reply : ScsiReply) (row : ServedRow)
-    (new : IsNewRow request command outs inns out given buffer terms.size reply row) where
+    (new : IsNewRow terms request command outs inns out given buffer reply row) where
   len_given : length row.inn ≡ handed_over command reply
   len_given = omega (arith, ap length new.inn_is, ap length new.given_is, length-take (handed_over command reply) buffer, new.room)
 
-  brought : HasData command row.out
-  brought = subst (HasData command) (sym new.out_is) (has_data command outs inns out new.both new.all_out)
+  brought : HasData (told_to terms.told row.unit) command row.out
+  brought = subst (HasData (told_to terms.told row.unit) command) (sym new.out_is) (has_data (told_to terms.told row.unit) command outs inns out new.both new.all_out)
 
   pub has_reply : HasReply terms request given reply row
   has_reply = record {

@@ -22,7 +22,8 @@ use Rattle.block_server.specs.Units.{AreServing, IsUnitOf}
 use Rattle.block_server.specs.declared.service.Stage.TheVariants.{Start}
 use Rattle.block_server.specs.declared.unit.Unit.{Unit}
 use Rattle.block_server.proofs.AnswerLaws.{in_service_stays}
-use Rattle.block_server.proofs.Onces.{cleared}
+use Rattle.block_server.specs.Causes.{told_to}
+use Rattle.block_server.proofs.Onces.{brought_none, cleared}
 use Rattle.block_server.proofs.Serves.{row_map}
 
 -- what another unit does leaves a desk in order
@@ -40,6 +41,7 @@ serving_stays unit terms desk h h' apart only serving = record {
   row = row_map desk.stage (IsServed terms (place_of desk) h) (IsServed terms (place_of desk) h') (λ row. served_stays unit terms (place_of desk) h h' row apart only) serving.row;
   kept = serving.kept;
   fetched = serving.fetched;
+  brought = serving.brought;
 }
 
 pub get_set_same : (units : List Unit) (i : ℕ) (old new : Unit) → slice_get units i ≡ Some old → slice_get (slice_set units i new) i ≡ Some new
@@ -94,11 +96,11 @@ push_all P (first ∷ units) new all is (suc n) unit at = push_all (λ m. P (suc
 
 -- A unit that took nothing yet is in order, whatever was served.
 pub units_more : (terms : Terms) (partition number : ℕ) (units : List Unit) (new : Unit) (h : List ServedRow) → number ≡ length units
-    → new.id ≡ record { partition = partition; unit = number } → new.service.stage ≡ Start → new.line.kept ≡ None
+    → new.id ≡ record { partition = partition; unit = number } → new.service.stage ≡ Start → new.line.kept ≡ None → new.pending.items ≡ []
     → AreServing terms partition units h → AreServing terms partition (units ++ new ∷ []) h
-units_more terms partition number units new h len id stage kept all =
+units_more terms partition number units new h len id stage kept none all =
     push_all (λ n unit. IsUnitOf terms partition n unit h) units new all
-    (subst (λ (n : ℕ). IsUnitOf terms partition n new h) len (record { id = id; serving = cleared terms (desk_of new) h stage kept }))
+    (subst (λ (n : ℕ). IsUnitOf terms partition n new h) len (record { id = id; serving = cleared terms (desk_of new) h stage kept (brought_none (told_to terms.told new.id) new.pending.items none) }))
 
 pub units_none : (terms : Terms) (partition : ℕ) (units : List Unit) (h : List ServedRow) → units ≡ [] → AreServing terms partition units h
 units_none terms partition units h none = subst (λ (list : List Unit). AreServing terms partition list h) (sym none) (λ n unit at. absurd (cc (at)))

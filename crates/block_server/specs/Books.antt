@@ -1,18 +1,30 @@
 -- A unit's books, between the steps of its turn.
-use Rattle.std.specs.Prelude.{ℕ, List, Option, Some, None, length}
+use Rattle.std.specs.Prelude.{ℕ, Bool, true, false, List, Option, Some, None, length}
 use Rattle.crq_ring.specs.Sessions.{of_session}
 use Rattle.crq_session.specs.EndState.{EndState}
+use Rattle.crq_session.specs.declared.handshake.Handshake.{Handshake}
+use Rattle.crq_session.specs.declared.handshake.Handshake.TheVariants.{Up}
 use Rattle.vio_num.specs.declared.history.Grant.{Grant}
 use Rattle.vio_num.specs.declared.history.Served.{Served as ServedRow}
 use Rattle.vio_num.specs.declared.names.UnitId.{UnitId}
-use Rattle.block_server.specs.Judged.{Books, keys_of}
+use Rattle.block_server.specs.Judged.{Ahead, Books, Credits, keys_of}
 use Rattle.block_server.specs.Receipts.{is_ended}
 use Rattle.block_server.specs.SiteState.{SiteState}
+use Rattle.block_server.specs.declared.logins.Logins.{Logins}
 use Rattle.block_server.specs.declared.records.Records.{Records}
 use Rattle.block_server.specs.declared.request.Arrival.{Arrival}
 use Rattle.block_server.specs.declared.unit.Unit.{Unit}
 
-abbrev pub books_of : Unit → (session next : ℕ) → Records → Books
+-- whether both ends have heard of one another
+abbrev pub is_up : Handshake → Bool
+is_up Up = true
+is_up state = false
+
+-- what is outstanding under the login, and what it grants
+abbrev pub credits_of : Logins → Credits
+credits_of logins = record { outstanding = logins.target.outstanding; granted = logins.granted }
+
+abbrev pub books_of : Unit → (session : ℕ) → (next : Ahead) → Records → Books
 books_of unit session next records = record {
   id = unit.id;
   session = session;
@@ -26,12 +38,17 @@ books_of unit session next records = record {
   rows = keys_of records.history.items;
   grants = records.grants.items;
   ended = is_ended unit.line;
+  up = is_up unit.line.handshake;
+  credits = credits_of unit.logins;
 }
 
--- the number of the entry that is judged next: of the one that waits, or else of the one that is taken next
-abbrev pub next_of : Option Arrival → EndState → ℕ
-next_of (Some arrival) queue = arrival.number
-next_of None queue = length (of_session queue.last_session queue.taken)
+abbrev pub number_of : Option Arrival → EndState → ℕ
+number_of (Some arrival) queue = arrival.number
+number_of None queue = length (of_session queue.last_session queue.taken)
+
+-- the entry that is judged next: the one that waits, or else the one that is taken next
+abbrev pub next_of : Option Arrival → EndState → Ahead
+next_of waiting queue = record { number = number_of waiting queue; taken = queue.taken }
 
 abbrev pub books_at : Unit → SiteState → Records → Books
 books_at unit site records = books_of unit site.queue.last_session (next_of unit.waiting site.queue) records
@@ -51,4 +68,10 @@ books_seen unit id queue history grants = record {
   rows = keys_of history;
   grants = grants;
   ended = is_ended unit.line;
+  up = is_up unit.line.handshake;
+  credits = credits_of unit.logins;
 }
+
+-- the books as a session begins: it goes on, and the other end is not heard yet
+abbrev pub as_begun : Books → Books
+as_begun books = record books { ended = false; up = false }

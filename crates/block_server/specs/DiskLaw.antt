@@ -11,20 +11,18 @@ use Rattle.srp_iu.specs.declared.response_code.ResponseCode.{ResponseCode}
 use Rattle.srp_iu.specs.declared.response_code.ResponseCode.TheVariants.{FieldsInvalid}
 use Rattle.srp_iu.specs.Grammar.{Spells}
 use Rattle.srp_iu.specs.Layout.{field}
-use Rattle.srp_desc.specs.Pieces.{named, sum_of, total_of}
-use Rattle.srp_desc.specs.Tables.{in_pieces, out_pieces}
+use Rattle.srp_desc.specs.Pieces.{sum_of, total_of}
 use Rattle.block_disk.specs.Steps.{DiskStep, IsStep}
 use Rattle.block_disk.specs.declared.reply.ScsiReply.{ScsiReply}
-use Rattle.block_server.specs.Causes.{RefusesIn, Told, TurnsDown, anything, told_to}
+use Rattle.block_server.specs.Causes.{Hearing, IsNamed, RefusesIn, Told, TurnsDown, anything, told_to}
 use Rattle.block_server.specs.Responses.{Answers, HasCode, HasStatus, task_code}
 
--- The descriptors of a command name pieces, where its tables hold these bytes, and the data-out are all that theirs name.
-pub record HasData (command : Cmd) (out : List ℕ) : Type 0 where
-  pub tables : List ℕ
+-- The descriptors of a command name pieces, and the data-out are all that theirs name.
+pub record HasData (Hears : Hearing) (command : Cmd) (out : List ℕ) : Type 0 where
   pub outs : List Desc
   pub inns : List Desc
-  pub out_named : out_pieces command tables ≡ named outs
-  pub in_named : in_pieces command tables ≡ named inns
+  pub out_named : IsNamed Hears command.out outs
+  pub in_named : IsNamed Hears command.inn inns
   pub all_out : length out ≡ sum_of outs
 
 -- as many data-in as a step's answer gives and the command's buffer takes
@@ -60,7 +58,7 @@ step_of command row reply given = record { lun = command.lun; cdb = command.cdb;
 pub record IsStepped (told : Told → Bool) (before : List (List ℕ)) (row : Served) (after : List (List ℕ)) : Type 0 where
   pub command : Cmd
   pub spells : Spells row.iu (units.Cmd command)
-  pub brought : HasData command row.out
+  pub brought : HasData (told_to told row.unit) command row.out
   pub reply : ScsiReply
   pub given : List ℕ
   pub step : IsStep before (step_of command row reply given) after

@@ -7,7 +7,8 @@ use Rattle.srp_desc.specs.Pieces.{descs_in, named, refused, summing_to}
 use Rattle.srp_desc.specs.declared.pieces.DescFault.{DescFault}
 use Rattle.tce_window.specs.declared.answers.HoldFault.{HoldFault}
 use Rattle.tce_window.specs.declared.answers.Right.TheVariants.{Read}
-use Rattle.block_server.specs.Causes.{IsNamed, Refusing}
+use Rattle.block_server.specs.Causes.{Hearing, IsNamed, tables_at}
+use Rattle.block_server.specs.Causes.News.{denied, fetched}
 use Rattle.block_server.specs.declared.fetching.Progress.{Progress}
 use Rattle.block_server.specs.declared.fetching.Progress.TheVariants.{Done, Refused}
 use Rattle.block_server.specs.declared.request.Order.TheVariants.{Command}
@@ -25,36 +26,42 @@ pub record Buffers : Type 0 where
 abbrev pub buffers_of : Service → Buffers
 buffers_of service = record { outs = service.out.list.items; inns = service.inn.list.items; given = service.given.items }
 
--- The pieces are those of a table of so many bytes, which sum up.
-pub record IsRead (len total : ℕ) (list : List Desc) : Type 0 where
-  pub table : List ℕ
-  pub full : length table ≡ len
-  pub sums : summing_to total (descs_in table) ≡ named list
-
--- The pieces of a table of so many bytes do not sum up.
-pub record HasBadSum (len total : ℕ) : Type 0 where
+-- The pieces are those of the bytes that a copy of a table brought, which sum up.
+pub record IsRead (Hears : Hearing) (table : Desc) (total : ℕ) (list : List Desc) : Type 0 where
   pub bytes : List ℕ
-  pub full : length bytes ≡ len
+  pub full : length bytes ≡ table.len
+  pub brought : Hears (fetched table.address tables_at bytes)
+  pub sums : summing_to total (descs_in bytes) ≡ named list
+
+-- The pieces of the bytes that a copy of a table brought do not sum up.
+pub record HasBadSum (Hears : Hearing) (table : Desc) (total : ℕ) : Type 0 where
+  pub bytes : List ℕ
+  pub full : length bytes ≡ table.len
+  pub brought : Hears (fetched table.address tables_at bytes)
   pub fault : DescFault
   pub sums : summing_to total (descs_in bytes) ≡ refused fault
 
 -- The window refuses to have a table read.
-pub record DeniesTable (Refuses : Refusing) (table : Desc) : Type 0 where
+pub record DeniesTable (Hears : Hearing) (table : Desc) : Type 0 where
   pub fault : HoldFault
-  pub told : Refuses Read table.address table.len fault
+  pub told : Hears (denied Read table.address table.len fault)
 
 -- Both lists of pieces are those that the command names.
-pub record HasBoth (command : Cmd) (outs inns : List Desc) : Type 0 where
-  pub out_named : IsNamed command.out outs
-  pub in_named : IsNamed command.inn inns
+pub record HasBoth (Hears : Hearing) (command : Cmd) (outs inns : List Desc) : Type 0 where
+  pub out_named : IsNamed Hears command.out outs
+  pub in_named : IsNamed Hears command.inn inns
 
 -- what is known at a stage of the pieces of the command in service
-abbrev pub Gathers : Cmd → Stage → (outs inns : List Desc) → Type 0
-Gathers command InTable outs inns = IsNamed command.out outs
-Gathers command (DataOut cursor) outs inns = HasBoth command outs inns
-Gathers command (Given row reply) outs inns = IsNamed command.inn inns
-Gathers command (DataIn row reply cursor) outs inns = IsNamed command.inn inns
-Gathers command _ outs inns = ⊤
+abbrev pub Gathers : Hearing → Cmd → Stage → (outs inns : List Desc) → Type 0
+Gathers Hears command InTable outs inns = IsNamed Hears command.out outs
+Gathers Hears command (DataOut cursor) outs inns = HasBoth Hears command outs inns
+Gathers Hears command (Given row reply) outs inns = IsNamed Hears command.inn inns
+Gathers Hears command (DataIn row reply cursor) outs inns = IsNamed Hears command.inn inns
+Gathers Hears command _ outs inns = ⊤
+
+-- the same of a service
+abbrev pub KnowsPieces : Hearing → Cmd → Service → Type 0
+KnowsPieces Hears command service = Gathers Hears command service.stage service.out.list.items service.inn.list.items
 
 -- There is an oldest request, and if it is a command, P holds of that.
 pub record OfFirst (pending : List Request) (P : Cmd → Type 0) : Type 0 where
@@ -64,12 +71,12 @@ pub record OfFirst (pending : List Request) (P : Cmd → Type 0) : Type 0 where
   pub holds : (command : Cmd) → request.order ≡ Command command → P command
 
 -- where the tables of the oldest request were fetched, its pieces are known
-abbrev pub HasPieces : Stage → (outs inns : List Desc) → List Request → Type 0
-HasPieces InTable outs inns pending = OfFirst pending (λ command. IsNamed command.out outs)
-HasPieces (DataOut cursor) outs inns pending = OfFirst pending (λ command. HasBoth command outs inns)
-HasPieces (Given row reply) outs inns pending = OfFirst pending (λ command. IsNamed command.inn inns)
-HasPieces (DataIn row reply cursor) outs inns pending = OfFirst pending (λ command. IsNamed command.inn inns)
-HasPieces _ outs inns pending = ⊤
+abbrev pub HasPieces : Hearing → Stage → (outs inns : List Desc) → List Request → Type 0
+HasPieces Hears InTable outs inns pending = OfFirst pending (λ command. IsNamed Hears command.out outs)
+HasPieces Hears (DataOut cursor) outs inns pending = OfFirst pending (λ command. HasBoth Hears command outs inns)
+HasPieces Hears (Given row reply) outs inns pending = OfFirst pending (λ command. IsNamed Hears command.inn inns)
+HasPieces Hears (DataIn row reply cursor) outs inns pending = OfFirst pending (λ command. IsNamed Hears command.inn inns)
+HasPieces Hears _ outs inns pending = ⊤
 
 -- where all copies were made, P
 abbrev pub IfDone : Result Progress NoMemory → Type 0 → Type 0

@@ -1,6 +1,8 @@
 -- What became of each SRP entry that a server unit took, and that each request has one row, in order (SRP, "Flow control").
-use Rattle.std.specs.Prelude.{◌≡◌, ◌⊎◌, ◌==◌, ◌&&◌, ◌<◌, ◌≤◌, ◌++◌, ℕ, Bool, true, false, ⊤, All, List, [], ◌∷◌, Option, Some, None, IsSome, length, map, filter, slice_index}
+use Rattle.std.specs.Prelude.{◌≡◌, ◌⊎◌, ◌==◌, ◌&&◌, ◌+◌, ◌<◌, ◌≤◌, ◌++◌, ℕ, Bool, true, false, ⊤, All, List, [], ◌∷◌, Option, Some, None, IsSome, length, map, filter, take}
 use Rattle.std.specs.List.{Contains}
+use Rattle.crq_ring.specs.Sessions.{of_session}
+use Rattle.crq_ring.specs.declared.rows.PipeRow.{PipeRow}
 use Rattle.srp_iu.specs.Grammar.{Spells}
 use Rattle.srp_iu.specs.declared.login.LoginReq.{LoginReq}
 use Rattle.srp_iu.specs.declared.unit.Iu.{Iu}
@@ -11,6 +13,9 @@ use Rattle.vio_num.specs.declared.history.Lapse.{Lapse}
 use Rattle.vio_num.specs.declared.history.Lapse.TheVariants as lapses
 use Rattle.vio_num.specs.declared.history.Served.{Served as ServedRow}
 use Rattle.vio_num.specs.declared.names.UnitId.{UnitId}
+pub use Rattle.block_server.specs.Fates.{Asks, Fate, HasGrant, IsIgnored, Judged, Key, accepted, ends, login_of, receipt_key}
+use Rattle.block_server.specs.Fates.Fate.{asked, asks_login, asks_logout, ends_it, ignored}
+use Rattle.block_server.specs.Closings.{HasCauses, is_closing, heard, is_line, last_line, TakesNone}
 use Rattle.block_server.specs.Makers.{same_unit}
 use Rattle.block_server.specs.Receipts.{EndedFor, Receipt}
 use Rattle.block_server.specs.declared.line.Kept.{Kept}
@@ -25,44 +30,6 @@ use Rattle.block_server.specs.declared.service.Stage.TheVariants as stages
 
 -- JUDGED -----------------------------------------------------------------------------------------
 
--- What became of an SRP entry that was taken: it ended its session; its unit is none that asks; it asked for a login; it
--- asked to end this login; or it is a command or a task under this login.
-pub data Fate : Type 0 where
-  ends_it : Fate
-  ignored : Fate
-  asks_login : Fate
-  asks_logout : ℕ → Fate
-  asked : ℕ → Fate
-
-pub record Judged : Type 0 where
-  pub receipt : Receipt
-  pub fate : Fate
-
--- the login under which it is a command or a task, and 0 where it is none
-abbrev pub login_of : Fate → ℕ
-login_of (asked n) = n
-login_of fate = 0
-
--- The login was granted in this session, to an entry before this one.
-pub record HasGrant (unit : UnitId) (grants : List Grant) (session login number : ℕ) : Type 0 where
-  pub at : ℕ
-  pub credits : ℕ
-  pub listed : Contains grants (Granted unit session login at credits)
-  pub earlier : at < number
-
--- An information unit that is a command or a task, or bytes that have the type and the tag of one.
-pub record Asks (bytes : List ℕ) : Type 0 where
-  pub type_is : (slice_index bytes 0 ≡ 0x01) ⊎ (slice_index bytes 0 ≡ 0x02)
-  pub tagged : 16 ≤ length bytes
-
--- An information unit that is none of those that a server acts on.
-abbrev pub IsIgnored : Iu → Type 0
-IsIgnored (units.LoginReq request) = ⊥
-IsIgnored (units.ILogout tag) = ⊥
-IsIgnored (units.TskMgmt task) = ⊥
-IsIgnored (units.Cmd command) = ⊥
-IsIgnored iu = ⊤
-
 -- What is so of a receipt of each fate. (That one without a copy is `ends_it` stands in `intake`: its session ended for a cause.)
 abbrev pub HasFate : (unit : UnitId) → List Grant → Receipt → Fate → Type 0
 HasFate unit grants receipt ends_it = EndedFor unit receipt.session grants
@@ -73,11 +40,6 @@ HasFate unit grants receipt (asks_logout n) =
 HasFate unit grants receipt (asked n) = IsSome receipt.copy × (Asks receipt.bytes × HasGrant unit grants receipt.session n receipt.number)
 
 -- LINES ------------------------------------------------------------------------------------------
-
--- whether a line ends this login
-abbrev pub ends : (unit : UnitId) → (login : ℕ) → Grant → Bool
-ends unit n (Granted of session login number credits) = false
-ends unit n (Lapsed of session login cause outstanding granted) = same_unit of unit && (login == n)
 
 abbrev pub is_logout : Lapse → Bool
 is_logout lapses.Logout = true
@@ -98,20 +60,11 @@ IsInTime unit grants judged = 1 ≤ login_of judged.fate → IsOn unit (login_of
 
 -- SERVED -----------------------------------------------------------------------------------------
 
--- a request by its place and its bytes
-pub record Key : Type 0 where
-  pub session : ℕ
-  pub number : ℕ
-  pub bytes : List ℕ
-
 -- what of a row says whose it is
 pub record RowKey : Type 0 where
   pub unit : UnitId
   pub login : ℕ
   pub key : Key
-
-abbrev pub receipt_key : Receipt → Key
-receipt_key r = record { session = r.session; number = r.number; bytes = r.bytes }
 
 abbrev pub request_key : (session : ℕ) → Request → Key
 request_key session r = record { session = session; number = r.number; bytes = r.unit.items }
@@ -126,10 +79,7 @@ row_key row = record {
 abbrev pub keys_of : List ServedRow → List RowKey
 keys_of rows = map row_key rows
 
--- the requests that were accepted under a login, and those of them that have rows, in their order
-abbrev pub accepted : (login : ℕ) → List Judged → List Key
-accepted login judged = map (λ j. receipt_key j.receipt) (filter (λ j. login_of j.fate == login) judged)
-
+-- those of them that have rows, in their order
 abbrev pub is_under : UnitId → (login : ℕ) → RowKey → Bool
 is_under unit login row = same_unit row.unit unit && (row.login == login)
 
@@ -196,12 +146,22 @@ pub record IsWorkDone (unit : UnitId) (history : List ServedRow) (grants : List 
 
 -- KEPT BETWEEN TURNS -----------------------------------------------------------------------------
 
+-- the number of the entry that is judged next in its session, and what was taken
+pub record Ahead : Type 0 where
+  pub number : ℕ
+  pub taken : List PipeRow
+
+-- how many requests are accepted and not answered, and how many each login grants
+pub record Credits : Type 0 where
+  pub outstanding : ℕ
+  pub granted : ℕ
+
 -- what a unit's requests are judged and served by
 pub record Books : Type 0 where
   pub id : UnitId
-  -- the present session, and the number of the entry that is judged next
+  -- the present session, and the entry that is judged next
   pub session : ℕ
-  pub next : ℕ
+  pub next : Ahead
   -- the login that is on, or 0, the last that was granted, and whether it takes requests
   pub current : ℕ
   pub last : ℕ
@@ -213,6 +173,9 @@ pub record Books : Type 0 where
   pub grants : List Grant
   -- whether nothing more is taken in the session
   pub ended : Bool
+  -- whether both ends have heard of one another
+  pub up : Bool
+  pub credits : Credits
 
 -- The login that is on is the last that was granted, in the present session, and no line ends it.
 pub record KeepsLogins (unit : UnitId) (session next current last : ℕ) (taking : Bool) (grants : List Grant) : Type 0 where
@@ -287,16 +250,40 @@ abbrev pub IsKeptAt : Stage → Option Kept → Type 0
 IsKeptAt stage (Some (keeps.Answer entry outcome)) = stage ≡ stages.Entry outcome
 IsKeptAt stage kept = ⊤
 
+-- The last line of the present session is the grant of this login.
+pub record IsLastGrant (unit : UnitId) (session login granted : ℕ) (grants : List Grant) : Type 0 where
+  pub number : ℕ
+  pub last : last_line unit session grants ≡ Some (Granted unit session login number granted)
+
+-- Each line has its cause, and what the cause of the next goes by is known.
+pub record KeepsLines (unit : UnitId) (session : ℕ) (next : Ahead) (current : ℕ) (taking up : Bool) (credits : Credits) (grants : List Grant) (ended : Bool) (judged : List Judged) : Type 0 where
+  pub causes : HasCauses unit next.taken judged grants
+  -- nothing is of a later session
+  pub begun : All (λ j. j.receipt.session ≤ session) judged
+  pub risen : (q : ℕ) → session < q → of_session q next.taken ≡ []
+  pub later : (q : ℕ) → session < q → filter (is_line unit q) grants ≡ []
+  -- the present session ended for no cause, but where nothing more is taken in it
+  pub over : All (λ j. j.fate ≡ ends_it → j.receipt.session ≡ session → ended ≡ true) judged
+  pub going : ended ≡ false → filter (is_closing unit session) grants ≡ []
+  -- at most the entry that is judged next was taken behind those that are judged
+  pub upto : next.number ≤ length (of_session session next.taken)
+  pub near : length (of_session session next.taken) ≤ next.number + 1
+  pub unheard : ended ≡ false → up ≡ false → heard (take next.number (of_session session next.taken)) ≡ false
+  pub on : 1 ≤ current → IsLastGrant unit session current credits.granted grants
+  pub off : taking ≡ false → TakesNone unit session judged grants
+  pub counted : 1 ≤ current → credits.outstanding ≤ length (accepted current judged)
+
 -- What a unit's books say, with the entries that were judged.
 pub record AreKept (books : Books) (judged : List Judged) : Type 0 where
   pub fates : All (λ j. HasFate books.id books.grants j.receipt j.fate) judged
   pub served : AreServed books.id books.session judged books.rows books.grants books.stage books.pending
-  pub logins : KeepsLogins books.id books.session books.next books.current books.last books.taking books.grants
-  pub pending : ArePending books.current books.next books.taking books.pending
+  pub logins : KeepsLogins books.id books.session books.next.number books.current books.last books.taking books.grants
+  pub pending : ArePending books.current books.next.number books.taking books.pending
   pub stage : IsAtStage books.current books.pending books.stage
   pub kept : IsKeptAt books.stage books.kept
   -- no row is of no login
   pub under : All (λ row. same_unit row.unit books.id ≡ true → 1 ≤ row.login) books.rows
+  pub lines : KeepsLines books.id books.session books.next books.current books.taking books.up books.credits books.grants books.ended judged
   pub idle : books.ended ≡ true → (books.pending ≡ []) × (books.current ≡ 0)
 
 -- What a part of a turn that judges no entry leaves.

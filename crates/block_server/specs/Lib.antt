@@ -2,11 +2,15 @@ pub mod Advances
 pub mod Answering
 pub mod Books
 pub mod Causes
+pub mod Closings
 pub mod Copied
+pub mod Delivers
 pub mod Decided
 pub mod DiskLaw
 pub mod Ends
 pub mod Entries
+pub mod Fates
+pub mod Heard
 pub mod Fetched
 pub mod Judged
 pub mod Judges
@@ -28,3 +32,4 @@ pub mod Turns
 pub mod Units
 pub mod Verdicts
 pub mod Waits
+pub mod Written

@@ -52,7 +52,3 @@ taken_so_far site = record {
 -- Nothing was taken from the queue, no information unit was fetched, and the session is as before.
 abbrev pub Passes : (old new : SiteState) → Type 0
 Passes old new = taken_so_far new ≡ taken_so_far old
-
--- No information unit was fetched.
-abbrev pub FetchesNone : (old new : SiteState) → Type 0
-FetchesNone old new = filter (is_intake new.own.place.unit) new.copies ≡ filter (is_intake old.own.place.unit) old.copies

@@ -9,7 +9,7 @@ use Rattle.srp_iu.specs.Buffer.{SpellsBuffer}
 use Rattle.srp_iu.specs.Grammar.{Spells}
 use Rattle.srp_iu.specs.declared.response_code.ResponseCode.{ResponseCode}
 use Rattle.srp_iu.specs.declared.response_code.ResponseCode.TheVariants.{FieldsInvalid}
-use Rattle.block_server.specs.Causes.{Refusing, TurnsDown}
+use Rattle.block_server.specs.Causes.{Hearing, TurnsDown}
 use Rattle.block_server.specs.Responses.{task_code}
 use Rattle.block_server.specs.declared.request.Order.{Order}
 use Rattle.block_server.specs.declared.request.Order.TheVariants as orders
@@ -42,6 +42,6 @@ IsCodeOf orders.Unreadable code = code ≡ FieldsInvalid
 IsCodeOf _ code = ⊥
 
 -- where a command is answered without a disk step, it is refused
-abbrev pub IsCauseOf : Refusing → Order → Type 0
-IsCauseOf Refuses (orders.Command command) = TurnsDown Refuses command
-IsCauseOf Refuses _ = ⊤
+abbrev pub IsCauseOf : Hearing → Order → Type 0
+IsCauseOf Hears (orders.Command command) = TurnsDown Hears command
+IsCauseOf Hears _ = ⊤

@@ -1,5 +1,5 @@
 -- What a unit has in service, and that each answer is put once.
-use Rattle.std.specs.Prelude.{◌≡◌, ℕ, ⊤, Bool, List, ◌∷◌, Option, Some, None, IfSome, IsSome, Result, Ok, Err, length, take}
+use Rattle.std.specs.Prelude.{◌≡◌, ℕ, ⊤, Bool, List, [], ◌∷◌, Option, Some, None, IfSome, IsSome, Result, Ok, Err, length, take}
 use Rattle.vio_num.specs.declared.entry.Entry.{Entry as QueueEntry}
 use Rattle.vio_num.specs.declared.names.UnitId.{UnitId}
 use Rattle.vio_num.specs.declared.history.Served.{Served as ServedRow}
@@ -23,12 +23,16 @@ use Rattle.srp_iu.specs.declared.command.Cmd.{Cmd}
 use Rattle.block_disk.specs.Disk.{reply_to}
 use Rattle.block_disk.specs.declared.reply.ScsiReply.{ScsiReply}
 use Rattle.block_server.specs.declared.request.Order.TheVariants.{Command}
-use Rattle.block_server.specs.Causes.{Refusing, Told, told_to}
+use Rattle.block_server.specs.Causes.{Hearing, Told, told_to, units_at}
+use Rattle.block_server.specs.Causes.News.{fetched}
+use Rattle.block_server.specs.Heard.{TellsAll}
+use Rattle.block_server.specs.SiteState.{SiteState}
 use Rattle.block_server.specs.DiskLaw.{HasData, ServeBy, ServesRowBy, handed_over}
 use Rattle.block_server.specs.Fetched.{HasPieces, Buffers, buffers_of}
 use Rattle.block_server.specs.Answering.{AnswersMore, IsInService, OnlyRowsOf}
 use Rattle.block_server.specs.Entries.{IsPlain}
 use Rattle.block_server.specs.Records.{AnswersRow, FillsRow}
+use Rattle.block_server.specs.Written.{AreWritten, IsWrittenOver}
 
 -- What a unit has in service: how far the oldest request's service has come, its answer and its data, the entry that found
 -- the client's queue full, and the requests that are not answered, the oldest first.
@@ -89,7 +93,7 @@ held told size now = record { terms = terms_of told size; now = now }
 pub record HasReply (terms : Terms) (request : Request) (given : List ℕ) (reply : ScsiReply) (served : ServedRow) : Type 0 where
   pub command : Cmd
   pub order : request.order ≡ Command command
-  pub brought : HasData command served.out
+  pub brought : HasData (told_to terms.told served.unit) command served.out
   pub fault_is : reply.fault ≡ served.fault
   pub reply_is : reply ≡ reply_to terms.size command.lun command.cdb (length served.out) served.fault
   pub given_is : served.inn ≡ given
@@ -100,12 +104,17 @@ abbrev pub MayAnswer : (terms : Terms) → (answer : List ℕ) → ServedRow →
 MayAnswer terms answer served =
     (before after : List (List ℕ)) → length before ≡ terms.size → ServesRowBy terms.told before served after → ServesRowBy terms.told before (record served { answer = answer }) after
 
+-- The same, and a copy wrote the answer over the row's request.
+pub record IsReady (terms : Terms) (answer : List ℕ) (served : ServedRow) : Type 0 where
+  pub may : MayAnswer terms answer served
+  pub over : IsWrittenOver (told_to terms.told served.unit) served.iu answer
+
 -- what is so of the row in service at a stage
 abbrev pub HoldsAtStage : (terms : Terms) → Stage → (answer given : List ℕ) → Request → ServedRow → Type 0
 HoldsAtStage terms (Given row reply) answer given request served = HasReply terms request given reply served
 HoldsAtStage terms (DataIn row reply cursor) answer given request served = HasReply terms request given reply served
 HoldsAtStage terms (Answer outcome) answer given request served = MayAnswer terms answer served
-HoldsAtStage terms (Entry outcome) answer given request served = MayAnswer terms answer served
+HoldsAtStage terms (Entry outcome) answer given request served = IsReady terms answer served
 HoldsAtStage terms _ answer given request served = ⊤
 
 -- what of a desk says which row is in service
@@ -140,11 +149,18 @@ abbrev pub IsKept : Desk → Kept → Type 0
 IsKept desk (keeps.Reply entry) = IsPlain entry
 IsKept desk (keeps.Answer entry outcome) = IsAnswerKept desk entry outcome
 
--- The desk is in order: its row is in service, what it keeps may be put, and the pieces that were fetched are its request's.
+-- A copy brought the information unit of each request from its address.
+abbrev pub AreBrought : Hearing → List Request → Type 0
+AreBrought Hears [] = ⊤
+AreBrought Hears (request ∷ requests) = Hears (fetched request.address units_at request.unit.items) × AreBrought Hears requests
+
+-- The desk is in order: its row is in service, what it keeps may be put, the pieces that were fetched are its request's, and
+-- its requests were brought.
 pub record IsServing (terms : Terms) (desk : Desk) (history : List ServedRow) : Type 0 where
   pub row : IfRow desk.stage (IsServed terms (place_of desk) history)
   pub kept : (kept : Kept) → desk.kept ≡ Some kept → IsKept desk kept
-  pub fetched : HasPieces desk.stage desk.buffers.outs desk.buffers.inns desk.pending
+  pub fetched : HasPieces (told_to terms.told desk.id) desk.stage desk.buffers.outs desk.buffers.inns desk.pending
+  pub brought : AreBrought (told_to terms.told desk.id) desk.pending
 
 -- The rows took these blocks, as many as the disk has, to others.
 pub record ServeFrom (terms : Terms) (before : List (List ℕ)) (history : List ServedRow) (all : List (List ℕ)) : Type 0 where
@@ -156,8 +172,8 @@ abbrev pub StaysServed : (disk disk' : Held) → (history history' : List Served
 StaysServed disk disk' history history' =
     (before : List (List ℕ)) → IfSome disk.now (ServeFrom disk.terms before history) → IfSome disk'.now (ServeFrom disk'.terms before history')
 
--- Each answer that was put is that of one row more: the desk stays in order, no row of another unit changed, and the disk law
--- stays.
+-- Each answer that was put is that of one row more: the desk stays in order, no row of another unit changed, the disk law
+-- stays, and each row's answer is written over its request still.
 pub record Once (disk disk' : Held) (desk desk' : Desk) (sent sent' : List PipeRow) (history history' : List ServedRow) : Type 0 where
   pub id : desk'.id ≡ desk.id
   pub terms : disk'.terms ≡ disk.terms
@@ -165,6 +181,7 @@ pub record Once (disk disk' : Held) (desk desk' : Desk) (sent sent' : List PipeR
   pub answers : AnswersMore desk.id sent sent' history history'
   pub others : OnlyRowsOf desk.id history history'
   pub stays : StaysServed disk disk' history history'
+  pub written : AreWritten disk.terms.told history → AreWritten disk'.terms.told history'
   pub tells : IfSome disk.now (λ all. IsSome disk'.now)
 
 -- the same of a part of a turn that makes no disk step, whatever the disk is
@@ -173,8 +190,14 @@ AnswersOnce desk desk' queue queue' records records' =
     (disk : Held) → IsServing disk.terms desk records.history.items
     → Once disk disk desk desk' queue.sent queue'.sent records.history.items records'.history.items
 
+-- of one that makes copies, between these states of the windows
+abbrev pub AnswersOnceBy : (old new : SiteState) → (desk desk' : Desk) → (records records' : Records) → Type 0
+AnswersOnceBy old new desk desk' records records' =
+    (disk : Held) → TellsAll disk.terms.told desk.id old new → IsServing disk.terms desk records.history.items
+    → Once disk disk desk desk' old.queue.sent new.queue.sent records.history.items records'.history.items
+
 -- of one that needs a cause, which holds of what the unit was told
-abbrev pub AnswersOnceIf : (Refusing → Type 0) → (desk desk' : Desk) (queue queue' : EndState) (records records' : Records) → Type 0
+abbrev pub AnswersOnceIf : (Hearing → Type 0) → (desk desk' : Desk) (queue queue' : EndState) (records records' : Records) → Type 0
 AnswersOnceIf Cause desk desk' queue queue' records records' =
     (disk : Held) → Cause (told_to disk.terms.told desk.id) → IsServing disk.terms desk records.history.items
     → Once disk disk desk desk' queue.sent queue'.sent records.history.items records'.history.items

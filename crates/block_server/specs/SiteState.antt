@@ -5,9 +5,8 @@ use Rattle.std.specs.Borrow.{GName}
 use Rattle.crq_session.specs.EndState.{EndState}
 use Rattle.tce_window.specs.PortState.{PortState}
 use Rattle.tce_window.specs.declared.answers.Right.{Right}
-use Rattle.vio_num.specs.declared.names.UnitId.{UnitId}
 use Rattle.rdma_copy.specs.declared.copy.CopyRecord.{CopyRecord}
-use Rattle.block_server.specs.Causes.{Denies, IsDenied, Refusing, Tells, Told}
+use Rattle.block_server.specs.Causes.{IsDenied}
 
 -- the borrows through which the queue's end and the two windows are reached, by their ghost names
 pub record Lenders : Type 0 where
@@ -33,17 +32,9 @@ abbrev pub site : Lenders → EndState → PortState → PortState → (shared :
 site reached queue own client shared copies =
     record { reached = reached; queue = queue; own = own; client = client; shared = shared; copies = copies }
 
--- what the client's window refused between these two states
-abbrev pub denied_between : (old new : SiteState) → Refusing
-denied_between old new = Denies old.shared old.client new.client
-
--- A range of it was refused for a right.
+-- A range of the client's window was refused for a right between these two states.
 abbrev pub IsDeniedBetween : (old new : SiteState) → Right → (address len : ℕ) → Type 0
 IsDeniedBetween old new right address len = IsDenied old.shared old.client new.client right address len
-
--- It is told as told to this unit.
-abbrev pub TellsAll : (Told → Bool) → UnitId → (old new : SiteState) → Type 0
-TellsAll told unit old new = Tells told unit old.shared old.client new.client
 
 -- The windows of a turn: the unit's own has 34 pages and its first values, neither holds anything, and they are of two
 -- units.

@@ -1,12 +1,14 @@
 // Answering: what is put into the client's queue, and what ends a login.
-ghost use Rattle.std.specs.Prelude.{◌≡◌, ◌≢◌, ◌⊎◌, ◌+◌, ◌<◌, ◌∷◌, ℕ, List, None, Some, IfOk, OnOk, drop, false, true};
+ghost use Rattle.std.specs.Prelude.{◌≡◌, ◌≢◌, ◌⊎◌, ◌+◌, ◌<◌, ◌∷◌, ℕ, Bool, List, None, Some, IfOk, OnOk, drop, false, true};
 ghost use Rattle.block_server.specs.Advances.{Advances};
 ghost use Rattle.block_server.specs.Books.{books_at, books_of};
 ghost use Rattle.block_server.specs.Ends.{EndsLogin};
 ghost use Rattle.block_server.specs.Entries.{IsPlain, MayPut, is_answer_len};
-ghost use Rattle.block_server.specs.Serving.{AnswersOnce, AsNone, LeavesRow, SettlesRow, desk_of};
+ghost use Rattle.block_server.specs.Serving.{AnswersOnce, AnswersOnceBy, AsNone, LeavesRow, SettlesRow, desk_of};
 ghost use Rattle.crq_session.specs.EndState.{EndState};
-ghost use Rattle.block_server.specs.Judged.{Keeps, gets_row, is_login, is_logout, keys_of};
+ghost use Rattle.block_server.specs.Decided.{EndsBooks};
+ghost use Rattle.block_server.specs.Judges.{Judges};
+ghost use Rattle.block_server.specs.Judged.{Ahead, Keeps, gets_row, is_login, is_logout, keys_of};
 ghost use Rattle.block_server.specs.Moves.{Passes};
 ghost use Rattle.block_server.specs.Owed.{AreCutOff, HasAnswers, IsUp, KeepsAnswers, KeepsAnswersBy, row_states, owing_of};
 ghost use Rattle.block_server.specs.Receipts.{LinesMore, TakesIn, is_ended, standing_of};
@@ -83,8 +85,7 @@ pub(crate) fn end_session(
     ensures handshake { unit.new.line.handshake ≡ unit.old.line.handshake }
     ensures moved { unit.new.moved ≡ true }
     ensures id { unit.new.id ≡ unit.old.id }
-    ensures books { (q q' next next' : ℕ) → is_logout cause ≡ false → Keeps
-        (books_of unit.old q next records.old) (books_of unit.new q' next' records.new) }
+    ensures books { EndsBooks unit.old unit.new records.old records.new session true cause 0 0 }
     ensures cuts { (q : EndState) → session ≡ q.last_session → is_logout cause ≡ false →
         HasAnswers (owing_of unit.old q records.old) → AreCutOff unit.old.id
         (row_states records.new.history.items) records.new.grants.items }
@@ -113,8 +114,8 @@ pub(crate) fn end_counted(
     ensures handshake { unit.new.line.handshake ≡ unit.old.line.handshake }
     ensures moved { unit.new.moved ≡ true }
     ensures id { unit.new.id ≡ unit.old.id }
-    ensures books { (q q' next next' : ℕ) → is_logout cause ≡ false → Keeps
-        (books_of unit.old q next records.old) (books_of unit.new q' next' records.new) }
+    ensures books { EndsBooks unit.old unit.new records.old records.new
+        session true cause outstanding granted }
     ensures cuts { (q : EndState) → session ≡ q.last_session → is_logout cause ≡ false →
         HasAnswers (owing_of unit.old q records.old) → AreCutOff unit.old.id
         (row_states records.new.history.items) records.new.grants.items }
@@ -135,8 +136,9 @@ pub(crate) fn lose_partner(unit: &mut Unit, session: u64, records: &mut Records)
     ensures moved { unit.new.moved ≡ unit.old.moved }
     ensures stands { unit.old.waiting ≡ None →
         standing_of unit.new ≡ standing_of unit.old }
-    ensures books { (q q' next next' : ℕ) → Keeps
-        (books_of unit.old q next records.old) (books_of unit.new q' next' records.new) }
+    ensures books { EndsBooks unit.old unit.new records.old records.new
+        session false Lapse.Lost 0 0 }
+    ensures waiting { unit.new.waiting ≡ None }
     ensures id { unit.new.id ≡ unit.old.id }
     ensures stage { unit.new.service.stage ≡ Stage.Start }
     ensures cuts { (q : EndState) → session ≡ q.last_session →
@@ -166,8 +168,8 @@ fn end_login(
     ensures moved { unit.new.moved ≡ unit.old.moved }
     ensures id { unit.new.id ≡ unit.old.id }
     ensures closing { unit.new.line.closing ≡ unit.old.line.closing }
-    ensures books { (q q' next next' : ℕ) → is_logout cause ≡ false → Keeps
-        (books_of unit.old q next records.old) (books_of unit.new q' next' records.new) }
+    ensures books { (ended : Bool) → EndsBooks unit.old unit.new records.old records.new
+        session ended cause outstanding granted }
     ensures cuts { (q : EndState) → session ≡ q.last_session → is_logout cause ≡ false →
         HasAnswers (owing_of unit.old q records.old) → AreCutOff unit.old.id
         (row_states records.new.history.items) records.new.grants.items }
@@ -234,10 +236,10 @@ pub(crate) fn log_out(unit: &mut Unit, session: u64, records: &mut Records)
     ensures stands { standing_of unit.new ≡ standing_of unit.old }
     ensures lines { LinesMore unit.old.id
         records.old.grants.items records.new.grants.items }
-    ensures books { (q next : ℕ) → (front : Request) → (rest : List Request) →
+    ensures books { (next : Ahead) → (front : Request) → (rest : List Request) →
         unit.old.pending.items ≡ front ∷ rest → is_login front.order ≡ false →
-        gets_row front.order ≡ false → Keeps
-        (books_of unit.old q next records.old) (books_of unit.new q next records.new) }
+        gets_row front.order ≡ false → Keeps (books_of unit.old session next records.old)
+        (books_of unit.new session next records.new) }
     ensures answers { (q : EndState) → (front : Request) → (rest : List Request) →
         unit.old.pending.items ≡ front ∷ rest → gets_row front.order ≡ false →
         HasAnswers (owing_of unit.old q records.old) →
@@ -263,8 +265,8 @@ pub(crate) fn answer<S: Site>(
     records: &mut Records,
 ) -> Result<(), NoMemory>
     requires none { unit.old.line.kept ≡ None }
-    ensures once { AnswersOnce (desk_of unit.old) (desk_of unit.new)
-        (S.state site.old).queue (S.state site.new).queue records.old records.new }
+    ensures once { AnswersOnceBy (S.state site.old) (S.state site.new)
+        (desk_of unit.old) (desk_of unit.new) records.old records.new }
     ensures quiet { OnOk result (IfQuiet unit.old unit.new
         (S.state site.old).queue (S.state site.new).queue) }
     ensures waits { OnOk result (unit.new.moved ≡ false → IsPending unit.old →
@@ -282,6 +284,10 @@ pub(crate) fn answer<S: Site>(
     ensures answers { KeepsAnswersBy (books_at unit.old (S.state site.old) records.old)
         S.link_shared unit.old unit.new (S.state site.old) (S.state site.new)
         records.old records.new }
+    ensures judges { Judges
+        (standing_of unit.old) (standing_of unit.new) (S.state site.old) (S.state site.new)
+        (books_at unit.old (S.state site.old) records.old)
+        (books_at unit.new (S.state site.new) records.new) }
 {
     records.make_room()?;
     unit.logins.make_room()?;
@@ -302,8 +308,8 @@ fn copy_answer<S: Site>(
     requires line { HasLineRoom records.old }
     requires none { unit.old.line.kept ≡ None }
     ensures none { unit.new.line.kept ≡ None }
-    ensures once { AnswersOnce (desk_of unit.old) (desk_of unit.new)
-        (S.state site.old).queue (S.state site.new).queue records.old records.new }
+    ensures once { AnswersOnceBy (S.state site.old) (S.state site.new)
+        (desk_of unit.old) (desk_of unit.new) records.old records.new }
     ensures queue { (S.state site.new).queue ≡ (S.state site.old).queue }
     ensures quiet { IfQuiet unit.old unit.new (S.state site.old).queue (S.state site.new).queue }
     ensures waits { OnOk result (unit.new.moved ≡ false → IsPending unit.old →
@@ -322,6 +328,10 @@ fn copy_answer<S: Site>(
     ensures passes { Passes (S.state site.old) (S.state site.new) }
     ensures answers { KeepsAnswers S.link_shared unit.old unit.new
         (S.state site.old) (S.state site.new) records.old records.new }
+    ensures judges { Judges
+        (standing_of unit.old) (standing_of unit.new) (S.state site.old) (S.state site.new)
+        (books_at unit.old (S.state site.old) records.old)
+        (books_at unit.new (S.state site.new) records.new) }
 {
     let Stage::Answer(outcome) = unit.service.stage else {
         return Ok(());
@@ -341,13 +351,15 @@ fn deliver<S: Site>(unit: &mut Unit, site: &mut S, outcome: Outcome) -> Result<P
     requires stage { unit.old.service.stage ≡ Stage.Answer outcome }
     requires none { unit.old.line.kept ≡ None }
     ensures none { unit.new.line.kept ≡ None }
-    ensures once { (records : Records) → AnswersOnce (desk_of unit.old) (desk_of unit.new)
-        (S.state site.old).queue (S.state site.new).queue records records }
+    ensures once { (records : Records) → AnswersOnceBy (S.state site.old) (S.state site.new)
+        (desk_of unit.old) (desk_of unit.new) records records }
     ensures queue { (S.state site.new).queue ≡ (S.state site.old).queue }
     ensures quiet { IfQuiet unit.old unit.new (S.state site.old).queue (S.state site.new).queue }
     ensures busy { IfOk result (λ progress. progress ≡ Progress.Busy → IsPending unit.old →
         MeetsUse (S.state site.old) (S.state site.new)) }
     ensures done { IfOk result (λ progress. progress ≡ Progress.Done → unit.new.moved ≡ true) }
+    ensures stays { IfOk result (λ progress. progress ≡ Progress.Refused →
+        unit.new.service.stage ≡ Stage.Answer outcome) }
     ensures line { unit.new.line ≡ unit.old.line }
     ensures advances { Advances (S.state site.old) (S.state site.new) }
     ensures logins { unit.new.logins ≡ unit.old.logins }
@@ -480,12 +492,13 @@ fn settle(unit: &mut Unit, session: u64, records: &mut Records, outcome: Outcome
     ensures id { unit.new.id ≡ unit.old.id }
     ensures stage { unit.new.service.stage ≡ Stage.Start }
     ensures kept { unit.new.line.kept ≡ unit.old.line.kept }
+    ensures pending { unit.new.pending.items ≡ drop 1 unit.old.pending.items }
     ensures handshake { unit.new.line.handshake ≡ unit.old.line.handshake }
     ensures moved { unit.new.moved ≡ true }
     ensures stands { standing_of unit.new ≡ standing_of unit.old }
     ensures lines { LinesMore unit.old.id
         records.old.grants.items records.new.grants.items }
-    ensures books { (next : ℕ) → unit.old.service.stage ≡ Stage.Entry outcome →
+    ensures books { (next : Ahead) → unit.old.service.stage ≡ Stage.Entry outcome →
         unit.old.line.kept ≡ None → Keeps (books_of unit.old session next records.old)
         (books_of unit.new session next records.new) }
     ensures answers { (q : EndState) → unit.old.service.stage ≡ Stage.Entry outcome →

@@ -1,10 +1,11 @@
 // What a command brings: the tables of its descriptors, and its data-out.
-ghost use Rattle.std.specs.Prelude.{◌≡◌, ◌⊎◌, ◌%◌, ◌≤◌, IfOk, false, true};
+ghost use Rattle.std.specs.Prelude.{◌≡◌, ◌⊎◌, ◌%◌, ◌≤◌, Bool, IfOk, false, true};
 ghost use Rattle.block_server.specs.Advances.{Advances};
-ghost use Rattle.block_server.specs.Causes.{IsBad, IsNamed, RefusesBuffer, RefusesData, RefusesOut, TurnsDown};
-ghost use Rattle.block_server.specs.Fetched.{DeniesTable, Gathers, HasBadSum, IfDone, IfRefused, IsRead};
+ghost use Rattle.block_server.specs.Causes.{IsBad, IsNamed, RefusesBuffer, RefusesData, RefusesOut, Told, TurnsDown, told_to};
+ghost use Rattle.block_server.specs.Fetched.{DeniesTable, HasBadSum, IfDone, IfRefused, IsRead, KnowsPieces};
 ghost use Rattle.block_server.specs.Moves.{Passes};
-ghost use Rattle.block_server.specs.SiteState.{denied_between};
+ghost use Rattle.vio_num.specs.declared.names.UnitId.{UnitId};
+ghost use Rattle.block_server.specs.Heard.{TellsAll, heard_between};
 ghost use Rattle.tce_window.specs.declared.answers.Right.TheVariants.{Read};
 ghost use Rattle.block_server.specs.Stage.{has_outs, is_before_step, is_data_out, is_judged};
 ghost use Rattle.block_server.specs.Waits.{MeetsUse};
@@ -40,13 +41,14 @@ pub(crate) fn fetch<S: Site>(
 ) -> Result<Progress, NoMemory>
     ensures before { is_before_step service.old.stage ≡ true →
         is_before_step service.new.stage ≡ true }
-    ensures named { Gathers command.now service.old.stage
-        service.old.out.list.items service.old.inn.list.items →
-        Gathers command.now service.new.stage
-        service.new.out.list.items service.new.inn.list.items }
-    ensures refused { Gathers command.now service.old.stage
-        service.old.out.list.items service.old.inn.list.items → IfRefused result
-        (TurnsDown (denied_between (S.state site.old) (S.state site.new)) command.now) }
+    ensures named { (told : Told → Bool) → (id : UnitId) →
+        TellsAll told id (S.state site.old) (S.state site.new) →
+        KnowsPieces (told_to told id) command.now service.old →
+        KnowsPieces (told_to told id) command.now service.new }
+    ensures refused { (told : Told → Bool) → (id : UnitId) →
+        TellsAll told id (S.state site.old) (S.state site.new) →
+        KnowsPieces (told_to told id) command.now service.old →
+        IfRefused result (TurnsDown (told_to told id) command.now) }
     ensures busy { IfOk result (λ progress. progress ≡ Progress.Busy →
         MeetsUse (S.state site.old) (S.state site.new)) }
     ensures went { IfOk result (λ progress. progress ≡ Progress.Done →
@@ -73,10 +75,9 @@ pub(crate) fn fetch<S: Site>(
 fn is_refused(service: &mut Service, command: &Cmd) -> bool
     ensures before { is_before_step service.old.stage ≡ true →
         is_before_step service.new.stage ≡ true }
-    ensures named { Gathers command.now service.old.stage
-        service.old.out.list.items service.old.inn.list.items →
-        Gathers command.now service.new.stage
-        service.new.out.list.items service.new.inn.list.items }
+    ensures named { (told : Told → Bool) → (id : UnitId) →
+        KnowsPieces (told_to told id) command.now service.old →
+        KnowsPieces (told_to told id) command.now service.new }
     ensures went { result ≡ false → is_before_step service.old.stage ≡ true →
         is_judged service.new.stage ≡ true }
     ensures refused { result ≡ true → IsBad command.now.out ⊎ IsBad command.now.inn }
@@ -101,12 +102,12 @@ fn fetch_out_pieces<S: Site>(
 ) -> Result<Progress, NoMemory>
     ensures before { is_before_step service.old.stage ≡ true →
         is_before_step service.new.stage ≡ true }
-    ensures named { Gathers command.now service.old.stage
-        service.old.out.list.items service.old.inn.list.items →
-        Gathers command.now service.new.stage
-        service.new.out.list.items service.new.inn.list.items }
+    ensures named { (told : Told → Bool) → (id : UnitId) →
+        TellsAll told id (S.state site.old) (S.state site.new) →
+        KnowsPieces (told_to told id) command.now service.old →
+        KnowsPieces (told_to told id) command.now service.new }
     ensures refused { IfRefused result
-        (RefusesBuffer (denied_between (S.state site.old) (S.state site.new)) command.now.out) }
+        (RefusesBuffer (heard_between (S.state site.old) (S.state site.new)) command.now.out) }
     ensures busy { IfOk result (λ progress. progress ≡ Progress.Busy →
         MeetsUse (S.state site.old) (S.state site.new)) }
     ensures went { IfOk result (λ progress. progress ≡ Progress.Done →
@@ -133,12 +134,12 @@ fn fetch_in_pieces<S: Site>(
 ) -> Result<Progress, NoMemory>
     ensures before { is_before_step service.old.stage ≡ true →
         is_before_step service.new.stage ≡ true }
-    ensures named { Gathers command.now service.old.stage
-        service.old.out.list.items service.old.inn.list.items →
-        Gathers command.now service.new.stage
-        service.new.out.list.items service.new.inn.list.items }
+    ensures named { (told : Told → Bool) → (id : UnitId) →
+        TellsAll told id (S.state site.old) (S.state site.new) →
+        KnowsPieces (told_to told id) command.now service.old →
+        KnowsPieces (told_to told id) command.now service.new }
     ensures refused { IfRefused result
-        (RefusesBuffer (denied_between (S.state site.old) (S.state site.new)) command.now.inn) }
+        (RefusesBuffer (heard_between (S.state site.old) (S.state site.new)) command.now.inn) }
     ensures busy { IfOk result (λ progress. progress ≡ Progress.Busy →
         MeetsUse (S.state site.old) (S.state site.new)) }
     ensures went { IfOk result (λ progress. progress ≡ Progress.Done →
@@ -161,13 +162,13 @@ fn fetch_in_pieces<S: Site>(
 fn fetch_data_out<S: Site>(service: &mut Service, site: &mut S) -> Result<Progress, NoMemory>
     ensures before { is_before_step service.old.stage ≡ true →
         is_before_step service.new.stage ≡ true }
-    ensures named { (command : Cmd) → Gathers command service.old.stage
-        service.old.out.list.items service.old.inn.list.items →
-        Gathers command service.new.stage
-        service.new.out.list.items service.new.inn.list.items }
-    ensures refused { (command : Cmd) → Gathers command service.old.stage
-        service.old.out.list.items service.old.inn.list.items → IfRefused result
-        (RefusesOut (denied_between (S.state site.old) (S.state site.new)) command) }
+    ensures named { (command : Cmd) → (told : Told → Bool) → (id : UnitId) →
+        KnowsPieces (told_to told id) command service.old →
+        KnowsPieces (told_to told id) command service.new }
+    ensures refused { (command : Cmd) → (told : Told → Bool) → (id : UnitId) →
+        TellsAll told id (S.state site.old) (S.state site.new) →
+        KnowsPieces (told_to told id) command service.old →
+        IfRefused result (RefusesOut (told_to told id) command) }
     ensures busy { IfOk result (λ progress. progress ≡ Progress.Busy →
         MeetsUse (S.state site.old) (S.state site.new)) }
     ensures stays { is_data_out service.old.stage ≡ true →
@@ -188,9 +189,11 @@ fn fetch_pieces<S: Site>(
     site: &mut S,
     buffer: &Buffer,
 ) -> Result<Progress, NoMemory>
-    ensures named { IfDone result (IsNamed buffer.now pieces.new.list.items) }
+    ensures named { IfDone result
+        (IsNamed (heard_between (S.state site.old) (S.state site.new)) buffer.now
+        pieces.new.list.items) }
     ensures refused { IfRefused result
-        (RefusesBuffer (denied_between (S.state site.old) (S.state site.new)) buffer.now) }
+        (RefusesBuffer (heard_between (S.state site.old) (S.state site.new)) buffer.now) }
     ensures busy { IfOk result (λ progress. progress ≡ Progress.Busy →
         MeetsUse (S.state site.old) (S.state site.new)) }
     ensures queue { (S.state site.new).queue ≡ (S.state site.old).queue }
@@ -222,9 +225,12 @@ fn fetch_table<S: Site>(
     requires few { table.len ≤ MAX_TABLE_LEN }
     requires evenly { table.len % 16 ≡ 0 }
     requires small { total ≤ 131072 }
-    ensures read { IfDone result (IsRead table.len total pieces.new.list.items) }
-    ensures refused { IfRefused result (HasBadSum table.len total
-        ⊎ DeniesTable (denied_between (S.state site.old) (S.state site.new)) table) }
+    ensures read { IfDone result
+        (IsRead (heard_between (S.state site.old) (S.state site.new)) table total
+        pieces.new.list.items) }
+    ensures refused { IfRefused result
+        (HasBadSum (heard_between (S.state site.old) (S.state site.new)) table total
+        ⊎ DeniesTable (heard_between (S.state site.old) (S.state site.new)) table) }
     ensures busy { IfOk result (λ progress. progress ≡ Progress.Busy →
         MeetsUse (S.state site.old) (S.state site.new)) }
     ensures queue { (S.state site.new).queue ≡ (S.state site.old).queue }
@@ -259,7 +265,7 @@ fn fetch_data<S: Site>(
     ensures out { service.new.out ≡ service.old.out }
     ensures inn { service.new.inn ≡ service.old.inn }
     ensures refused { IfRefused result (RefusesData
-        (denied_between (S.state site.old) (S.state site.new)) Read service.old.out.list.items) }
+        (heard_between (S.state site.old) (S.state site.new)) Read service.old.out.list.items) }
     ensures busy { IfOk result (λ progress. progress ≡ Progress.Busy →
         MeetsUse (S.state site.old) (S.state site.new)) }
     ensures queue { (S.state site.new).queue ≡ (S.state site.old).queue }

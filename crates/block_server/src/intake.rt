@@ -6,18 +6,20 @@ ghost use Rattle.block_server.specs.Advances.{Advances};
 ghost use Rattle.block_server.specs.Ready.{Idles};
 ghost use Rattle.block_server.specs.Turns.{IfQuiet, StaysMoved, under_way};
 ghost use Rattle.block_server.specs.Waits.{AsNext, EndsIntake, FindsNothing, MeetsUse, StaysAgreed};
-ghost use Rattle.block_server.specs.Serving.{AnswersOnce, AsNone, desk_of};
-ghost use Rattle.block_server.specs.Receipts.{LinesMore, MayTake, Receipt, TakesEntry, TakesIn, is_ended, is_fatal, standing_of};
+ghost use Rattle.block_server.specs.Serving.{AnswersOnceBy, AnswersOnceIf, AsNone, desk_of};
+ghost use Rattle.block_server.specs.Receipts.{LinesMore, MayTake, Receipt, TakesEntry, TakesIn, is_ended, standing_of};
 ghost use Rattle.block_server.specs.SiteState.{SiteState};
 ghost use Rattle.block_server.specs.Books.{books_at, books_of};
-ghost use Rattle.block_server.specs.Decided.{Decides, IsToJudge, JudgesOne, StaysOn};
+ghost use Rattle.block_server.specs.Decided.{Decides, IsCause, IsToJudge, JudgesOne, StaysOn};
 ghost use Rattle.block_server.specs.Judges.{Judges};
 ghost use Rattle.block_server.specs.Owed.{HasAnswers, KeepsAnswers, owing_of};
-ghost use Rattle.block_server.specs.Judged.{Asks, Keeps, gets_row};
+ghost use Rattle.block_server.specs.Judged.{Ahead, Asks, Keeps, gets_row};
 ghost use Rattle.block_server.specs.Verdicts.{IsTagged};
 ghost use Rattle.crq_session.specs.EndState.{EndState};
 ghost use Rattle.srp_iu.specs.Grammar.{Spells};
-ghost use Rattle.vio_num.specs.Entry.{first_byte};
+ghost use Rattle.vio_num.specs.Entry.{first_byte, iu_address};
+ghost use Rattle.block_server.specs.Causes.{units_at};
+ghost use Rattle.block_server.specs.Causes.News.{fetched};
 ghost use Rattle.srp_iu.specs.Layout.{field};
 ghost use Rattle.block_server.specs.Orders.{IsOrder};
 
@@ -88,8 +90,8 @@ pub(crate) fn take_in<S: Site>(
 ) -> Result<Next, NoMemory>
     requires none { unit.old.line.kept ≡ None }
     ensures none { AsNone result unit.new.line.kept }
-    ensures once { AnswersOnce (desk_of unit.old) (desk_of unit.new)
-        (S.state site.old).queue (S.state site.new).queue records.old records.new }
+    ensures once { AnswersOnceBy (S.state site.old) (S.state site.new)
+        (desk_of unit.old) (desk_of unit.new) records.old records.new }
     ensures quiet { OnOk result (IfQuiet unit.old unit.new
         (S.state site.old).queue (S.state site.new).queue) }
     ensures waits { IfOk result (λ next. unit.new.moved ≡ false → AsNext next ⊥
@@ -133,8 +135,8 @@ fn receive_waiting<S: Site>(
 ) -> Result<Next, NoMemory>
     requires none { unit.old.line.kept ≡ None }
     ensures none { AsNone result unit.new.line.kept }
-    ensures once { AnswersOnce (desk_of unit.old) (desk_of unit.new)
-        (S.state site.old).queue (S.state site.new).queue records.old records.new }
+    ensures once { AnswersOnceBy (S.state site.old) (S.state site.new)
+        (desk_of unit.old) (desk_of unit.new) records.old records.new }
     ensures quiet { OnOk result (IfQuiet unit.old unit.new
         (S.state site.old).queue (S.state site.new).queue) }
     ensures waits { IfOk result (λ next. unit.new.moved ≡ false → AsNext next
@@ -189,8 +191,8 @@ fn take_one<S: Site>(unit: &mut Unit, site: &mut S, records: &mut Records) -> Re
     requires pending { deque_len unit.old.pending < deque_capacity unit.old.pending }
     requires none { unit.old.line.kept ≡ None }
     ensures none { AsNone result unit.new.line.kept }
-    ensures once { AnswersOnce (desk_of unit.old) (desk_of unit.new)
-        (S.state site.old).queue (S.state site.new).queue records.old records.new }
+    ensures once { AnswersOnceBy (S.state site.old) (S.state site.new)
+        (desk_of unit.old) (desk_of unit.new) records.old records.new }
     ensures quiet { OnOk result (IfQuiet unit.old unit.new
         (S.state site.old).queue (S.state site.new).queue) }
     ensures waits { IfOk result (λ next. unit.new.moved ≡ false → AsNext next ⊥
@@ -250,8 +252,8 @@ fn take_command<S: Site>(
     requires spare { 0 < (S.state site.old).queue.spare }
     requires none { unit.old.line.kept ≡ None }
     ensures none { AsNone result unit.new.line.kept }
-    ensures once { AnswersOnce (desk_of unit.old) (desk_of unit.new)
-        (S.state site.old).queue (S.state site.new).queue records.old records.new }
+    ensures once { AnswersOnceBy (S.state site.old) (S.state site.new)
+        (desk_of unit.old) (desk_of unit.new) records.old records.new }
     ensures moved { OnOk result (StaysMoved unit.old unit.new) }
     ensures agrees { StaysAgreed unit.old unit.new
         (S.state site.old).queue (S.state site.new).queue }
@@ -293,8 +295,8 @@ fn receive<S: Site>(
     requires pending { deque_len unit.old.pending < deque_capacity unit.old.pending }
     requires none { unit.old.line.kept ≡ None }
     ensures none { AsNone result unit.new.line.kept }
-    ensures once { AnswersOnce (desk_of unit.old) (desk_of unit.new)
-        (S.state site.old).queue (S.state site.new).queue records.old records.new }
+    ensures once { AnswersOnceBy (S.state site.old) (S.state site.new)
+        (desk_of unit.old) (desk_of unit.new) records.old records.new }
     ensures quiet { OnOk result (IfQuiet unit.old unit.new
         (S.state site.old).queue (S.state site.new).queue) }
     ensures waits { IfOk result (λ next. unit.new.moved ≡ false → AsNext next ⊥
@@ -351,8 +353,9 @@ fn judge(
     requires few { length bytes.now ≤ 256 }
     requires none { unit.old.line.kept ≡ None }
     ensures none { unit.new.line.kept ≡ None }
-    ensures once { (q : EndState) → AnswersOnce (desk_of unit.old) (desk_of unit.new) q q
-        records.old records.new }
+    ensures once { (q : EndState) → AnswersOnceIf
+        (λ Hears. Hears (fetched (iu_address arrival.entry) units_at bytes.now))
+        (desk_of unit.old) (desk_of unit.new) q q records.old records.new }
     ensures handshake { unit.new.line.handshake ≡ unit.old.line.handshake }
     ensures moved { StaysMoved unit.old unit.new }
     ensures id { unit.new.id ≡ unit.old.id }
@@ -360,7 +363,7 @@ fn judge(
         records.old.grants.items records.new.grants.items }
     ensures waiting { unit.old.waiting ≡ None → unit.new.waiting ≡ None }
     ensures goes_on { result ≡ Next.Entry → unit.new.line ≡ unit.old.line }
-    ensures judged { (next next' : ℕ) → (receipt : Receipt) → IsToJudge
+    ensures judged { (next next' : Ahead) → (receipt : Receipt) → IsToJudge
         (books_of unit.old session next records.old) session next' arrival.number bytes.now receipt →
         JudgesOne (books_of unit.old session next records.old)
         (books_of unit.new session next' records.new) receipt }
@@ -430,7 +433,7 @@ fn judge_unit(logins: &mut Logins, bytes: &[u8]) -> Verdict
 fn fatal(cause: Lapse) -> Verdict
     ensures tagged { (bytes : List ℕ) → IsTagged result bytes }
     ensures decides { (old new : Logins) → (bytes : List ℕ) → StaysOn old new →
-        is_fatal cause ≡ true → Decides old new bytes result }
+        IsCause old bytes cause 0 0 → Decides old new bytes result }
 {
     Verdict::Fatal {
         cause,
@@ -451,17 +454,27 @@ fn accept(logins: &mut Logins, tag: u64, order: Order) -> Verdict
     };
     match logins.accept() {
         Ok(()) => Verdict::Accepted { login, tag, order },
-        Err(
-            CreditFault::OverLimit {
-                outstanding,
-                granted,
-            },
-        ) => Verdict::Fatal {
+        Err(fault) => past_limit(fault),
+    }
+}
+
+// Ends the session for a request that the credits refuse.
+fn past_limit(fault: CreditFault) -> Verdict
+    ensures tagged { (bytes : List ℕ) → IsTagged result bytes }
+    ensures over { (outstanding granted : ℕ) →
+        fault ≡ CreditFault.OverLimit outstanding granted →
+        result ≡ Verdict.Fatal Lapse.OverLimit outstanding granted }
+{
+    match fault {
+        CreditFault::OverLimit {
+            outstanding,
+            granted,
+        } => Verdict::Fatal {
             cause: Lapse::OverLimit,
             outstanding,
             granted,
         },
-        Err(_) => fatal(Lapse::NotLogin),
+        _ => fatal(Lapse::NotLogin),
     }
 }
 

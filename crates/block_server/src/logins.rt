@@ -20,6 +20,7 @@ pub(crate) struct Logins {
     taking: bool,
     ghost counted: { target.logins ≡ last },
     ghost grants: { target.granted ≡ granted },
+    ghost takes: { target.on ≡ taking },
 }
 
 impl Logins {
@@ -85,6 +86,7 @@ impl Logins {
         ensures current { self.new.current ≡ result }
         ensures taking { self.new.taking ≡ true }
         ensures granted { self.new.granted ≡ self.old.granted }
+        ensures outstanding { self.new.target.outstanding ≡ 0 }
     {
         self.target.lost();
         self.last = self.target.login();
@@ -100,6 +102,10 @@ impl Logins {
         ensures ok { IsOk result ↔
             ((self.old.target.on ≡ true) × (self.old.target.outstanding + 1 ≤ self.old.granted)) }
         ensures err { OnErr result (self.new ≡ self.old) }
+        ensures off { IsErrOf result CreditFault.NotLoggedIn ↔ (self.old.taking ≡ false) }
+        ensures more { OnOk result (self.new.target.outstanding ≡
+            self.old.target.outstanding + 1) }
+        ensures within { self.new.target.outstanding ≤ self.new.granted }
         ensures last { self.new.last ≡ self.old.last }
         ensures current { self.new.current ≡ self.old.current }
         ensures taking { self.new.taking ≡ self.old.taking }
@@ -114,6 +120,7 @@ impl Logins {
         ensures current { self.new.current ≡ self.old.current }
         ensures taking { self.new.taking ≡ self.old.taking }
         ensures granted { self.new.granted ≡ self.old.granted }
+        ensures less { self.new.target.outstanding ≤ self.old.target.outstanding }
     {
         if self.target.outstanding() > 0 {
             self.target.answer();
@@ -126,6 +133,7 @@ impl Logins {
         ensures current { self.new.current ≡ self.old.current }
         ensures taking { self.new.taking ≡ false }
         ensures granted { self.new.granted ≡ self.old.granted }
+        ensures outstanding { self.new.target.outstanding ≡ self.old.target.outstanding }
     {
         self.target.logout();
         self.taking = false;

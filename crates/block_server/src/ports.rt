@@ -1,7 +1,8 @@
 // The three ports of a unit's turn as one site.
 ghost use Rattle.std.specs.Prelude.{◌≡◌, ◌+◌, ◌<◌, ◌≤◌, ◌++◌, [], false, IsErrOf, OnErr, OnOk, length, vec_len, vec_capacity};
 ghost use Rattle.tce_window.specs.declared.answers.Right.TheVariants.{Read, Write};
-ghost use Rattle.tce_window.specs.PortState.{OnlyReads, OnlyWrites, Reads};
+ghost use Rattle.tce_window.specs.PortState.{LaysNone, OnlyReads, OnlyWrites, Reads, Writes};
+ghost use Rattle.rdma_copy.specs.Copies.{OnlyCopies};
 ghost use Rattle.block_server.specs.Causes.{IsDenied};
 ghost use Rattle.block_server.specs.Copied.{FetchesNone, IsBusy, IsMade, IsRefusal, MakesOne, copies_in, own_name};
 ghost use Rattle.block_server.specs.Advances.{Advances, KeepsFreed};
@@ -124,6 +125,14 @@ impl<C: CrqEnd, O: OwnerPort + GuestPort, R: GuestPort> Ports<'_, '_, '_, '_, C,
             (R.state self.new.client.now) R.is_shared self.new.copies.now.items) }
         ensures behind { FetchesNone (O.state self.old.own.now).place.unit
             self.old.copies.now.items self.new.copies.now.items }
+        ensures made { OnOk result (MakesOne R.is_shared (O.state self.new.own.now)
+            (R.state self.old.client.now) (R.state self.new.client.now) at address len
+            (own_name (O.state self.old.own.now) mark)
+            self.old.copies.now.items self.new.copies.now.items) }
+        ensures none { OnErr result (self.new.copies.now.items ≡ self.old.copies.now.items) }
+        ensures laid { LaysNone O.is_shared (O.state self.old.own.now) (O.state self.new.own.now) }
+        ensures rest { OnlyCopies O.is_shared
+            (O.state self.old.own.now) (O.state self.new.own.now) }
     {
         let name = StrokeName {
             who: self.unit,
@@ -173,6 +182,9 @@ impl<C: CrqEnd, O: OwnerPort + GuestPort, R: GuestPort> Ports<'_, '_, '_, '_, C,
             (R.state self.new.client.now) R.is_shared self.new.copies.now.items) }
         ensures own { OnlyWrites (O.state self.old.own.now) (O.state self.new.own.now) }
         ensures copies { self.new.copies.now.items ≡ self.old.copies.now.items }
+        ensures client { R.state self.new.client.now ≡ R.state self.old.client.now }
+        ensures wrote { OnOk result (Writes O.is_shared (O.state self.old.own.now) at bytes.now
+            mark (O.state self.new.own.now)) }
     {
         match self.own.write(at, bytes, mark) {
             Ok(()) => Ok(()),

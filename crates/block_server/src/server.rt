@@ -2,8 +2,9 @@
 ghost use Rattle.std.specs.Prelude.{◌≡◌, ◌≢◌, ◌<◌, ◌≤◌, ◌++◌, ℕ, Bool, List, [], false, IfErr, IfOk, IfSome, IsSome, slice_get, vec_len};
 ghost use Rattle.rdma_copy.specs.Copies.{side_of};
 ghost use Rattle.block_server.specs.Advances.{CopiesMore, Goes, KeepsFreed, StayNamed};
-ghost use Rattle.block_server.specs.Causes.{Tells, Told, anything};
+ghost use Rattle.block_server.specs.Causes.{Told, anything};
 ghost use Rattle.block_server.specs.DiskLaw.{KeepsDisk, KeepsDiskBy};
+ghost use Rattle.block_server.specs.Heard.{Tells};
 ghost use Rattle.block_server.specs.Judged.{Judged};
 ghost use Rattle.block_server.specs.Judges.{AreInTime, AreUnused, HasJudged};
 ghost use Rattle.block_server.specs.Makers.{AreNamed};
@@ -14,6 +15,7 @@ ghost use Rattle.block_server.specs.Turns.{IsStill, way_of};
 ghost use Rattle.block_server.specs.SiteState.{AreReady};
 ghost use Rattle.block_server.specs.Serving.{Terms};
 ghost use Rattle.block_server.specs.Units.{AnswersItsRows, AreInOrder, AreServing, ServesItsRows};
+ghost use Rattle.block_server.specs.Written.{AreWritten};
 
 use crate::disk::Disk;
 use crate::ports::Ports;
@@ -119,15 +121,23 @@ impl<B: Blocks> Server<B> {
             self.old.records.history.items self.new.records.history.items
             (B.state self.old.disk.image).blocks (B.state self.new.disk.image).blocks ∥₁ }
         ensures causes { (told : Told → Bool) → Tells told (O.state own.old).place.unit
-            R.is_shared (R.state client.old) (R.state client.new) → AreInOrder told
+            R.is_shared (O.state own.new) (R.state client.old) (R.state client.new)
+            self.old.copies.items self.new.copies.items → AreInOrder told
             self.old.disk.count self.old.partition self.old.units.items self.old.records →
             KeepsDiskBy told self.old.records.history.items self.new.records.history.items
             (B.state self.old.disk.image).blocks (B.state self.new.disk.image).blocks }
         ensures order { (told : Told → Bool) → Tells told (O.state own.old).place.unit
-            R.is_shared (R.state client.old) (R.state client.new) → AreInOrder told
+            R.is_shared (O.state own.new) (R.state client.old) (R.state client.new)
+            self.old.copies.items self.new.copies.items → AreInOrder told
             self.old.disk.count self.old.partition self.old.units.items self.old.records →
             AreInOrder told
             self.new.disk.count self.new.partition self.new.units.items self.new.records }
+        ensures written { (told : Told → Bool) → Tells told (O.state own.old).place.unit
+            R.is_shared (O.state own.new) (R.state client.old) (R.state client.new)
+            self.old.copies.items self.new.copies.items → AreInOrder told
+            self.old.disk.count self.old.partition self.old.units.items self.old.records →
+            AreWritten told self.old.records.history.items →
+            AreWritten told self.new.records.history.items }
         ensures tells { IfSome (B.state self.old.disk.image).blocks
             (λ _. IsSome (B.state self.new.disk.image).blocks) }
         ensures quiet { IfOk result (λ moved. moved ≡ Moved.Quiet →

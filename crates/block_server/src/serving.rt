@@ -5,14 +5,15 @@ ghost use Rattle.block_server.specs.Causes.{RefusesData, RefusesIn, Told};
 ghost use Rattle.block_server.specs.Books.{books_at, books_of};
 ghost use Rattle.block_server.specs.Ends.{IsGrantable};
 ghost use Rattle.block_server.specs.Fetched.{IfRefused};
-ghost use Rattle.block_server.specs.Judged.{Books, IsAtStage, IsFor, Keeps, ServesOne, has_row, in_service, is_login};
+ghost use Rattle.block_server.specs.Judged.{Ahead, Books, IsAtStage, IsFor, Keeps, ServesOne, has_row, in_service, is_login};
+ghost use Rattle.block_server.specs.Judges.{Judges};
 ghost use Rattle.block_server.specs.Moves.{Passes};
 ghost use Rattle.block_server.specs.Owed.{KeepsAnswersBy, MovesRow, row_states, owing_of, row_in};
 ghost use Rattle.block_server.specs.Receipts.{TakesIn, standing_of};
 ghost use Rattle.block_server.specs.Orders.{IsCauseOf, IsCodeOf};
 ghost use Rattle.block_server.specs.Records.{AddsRow};
 ghost use Rattle.block_server.specs.Serving.{AnswersOnce, AnswersOnceIf, AnswersOnceOn, desk_at, desk_of, held};
-ghost use Rattle.block_server.specs.SiteState.{TellsAll, denied_between};
+ghost use Rattle.block_server.specs.Heard.{TellsAll, heard_between};
 ghost use Rattle.tce_window.specs.declared.answers.Right.TheVariants.{Write};
 ghost use Rattle.block_server.specs.Entries.{is_response_len};
 ghost use Rattle.block_server.specs.Stage.{how_far, is_answered, is_before_step, is_data_in, is_data_out, is_given};
@@ -72,6 +73,10 @@ pub(crate) fn serve<S: Site, B: Blocks>(
     ensures answers { KeepsAnswersBy (books_at unit.old (S.state site.old) records.old)
         S.link_shared unit.old unit.new (S.state site.old) (S.state site.new)
         records.old records.new }
+    ensures judges { Judges
+        (standing_of unit.old) (standing_of unit.new) (S.state site.old) (S.state site.new)
+        (books_at unit.old (S.state site.old) records.old)
+        (books_at unit.new (S.state site.new) records.new) }
 {
     let Some(request) = unit.pending.front() else {
         return Ok(());
@@ -103,7 +108,7 @@ fn note_stage(unit: &mut Unit, before: (u8, u32))
     ensures desk { desk_of unit.new ≡ desk_of unit.old }
     ensures line { unit.new.line ≡ unit.old.line }
     ensures stands { standing_of unit.new ≡ standing_of unit.old }
-    ensures books { (session next : ℕ) → (records : Records) →
+    ensures books { (session : ℕ) → (next : Ahead) → (records : Records) →
         books_of unit.new session next records ≡ books_of unit.old session next records }
     ensures owing { (q : EndState) → (records : Records) →
         owing_of unit.new q records ≡ owing_of unit.old q records }
@@ -229,7 +234,7 @@ fn add_code(
 ) -> Result<(), NoMemory>
     requires code { IsCodeOf request.now.order code }
     ensures once { (rest : List Request) → (q : EndState) → AnswersOnceIf
-        (λ Refuses. IsCauseOf Refuses request.now.order)
+        (λ Hears. IsCauseOf Hears request.now.order)
         (desk_at id service.old None (request.now ∷ rest))
         (desk_at id service.new None (request.now ∷ rest)) q q records.old records.new }
     ensures row { OnOk result (AddsRow id session request.now records.old records.new) }
@@ -477,7 +482,7 @@ fn deliver_data<S: Site>(
     ensures inn { service.new.inn ≡ service.old.inn }
     ensures some { IfRefused result (0 < length service.new.given.items) }
     ensures refused { IfRefused result (RefusesData
-        (denied_between (S.state site.old) (S.state site.new)) Write service.old.inn.list.items) }
+        (heard_between (S.state site.old) (S.state site.new)) Write service.old.inn.list.items) }
     ensures busy { IfOk result (λ progress. progress ≡ Progress.Busy →
         MeetsUse (S.state site.old) (S.state site.new)) }
     ensures queue { (S.state site.new).queue ≡ (S.state site.old).queue }
@@ -513,7 +518,7 @@ fn end_command(
     requires asked { request.now.order ≡ Order.Command command.now }
     requires some { progress ≡ Progress.Refused → 0 < length service.old.given.items }
     ensures once { (id : UnitId) → (rest : List Request) → (q : EndState) → AnswersOnceIf
-        (λ Refuses. progress ≡ Progress.Refused → RefusesIn Refuses command.now)
+        (λ Hears. progress ≡ Progress.Refused → RefusesIn Hears command.now)
         (desk_at id service.old None (request.now ∷ rest))
         (desk_at id service.new None (request.now ∷ rest)) q q records.old records.new }
     ensures went { OnOk result (is_data_in service.old.stage ≡ true → progress ≢ Progress.Busy →
@@ -552,7 +557,7 @@ fn refuse_data(
     requires asked { request.now.order ≡ Order.Command command.now }
     requires some { 0 < length service.old.given.items }
     ensures once { (id : UnitId) → (rest : List Request) → (q : EndState) → AnswersOnceIf
-        (λ Refuses. RefusesIn Refuses command.now)
+        (λ Hears. RefusesIn Hears command.now)
         (desk_at id service.old None (request.now ∷ rest))
         (desk_at id service.new None (request.now ∷ rest)) q q records.old records.new }
     ensures went { OnOk result (is_data_in service.old.stage ≡ true →

@@ -8,6 +8,7 @@ ghost use Rattle.crq_session.specs.Answered.{Opens, HoldsUp, TellsFreed, FindsIn
 ghost use Rattle.crq_session.specs.EndState.{OnlyReserves, OnlyRegisters, OnlyFrees, OnlySends, OnlyTakes, OnlyPushes};
 ghost use Rattle.block_server.specs.Advances.{Advances};
 ghost use Rattle.block_server.specs.Answering.{responses};
+ghost use Rattle.block_server.specs.Delivers.{DeliversOne, FetchesTo};
 ghost use Rattle.block_server.specs.Entries.{MayPut};
 ghost use Rattle.block_server.specs.Moves.{FetchesOne, Passes};
 ghost use Rattle.block_server.specs.SiteState.{IsDeniedBetween, SiteState, SameWindows};
@@ -162,7 +163,10 @@ pub(crate) trait Site {
             MeetsUse (state self.old) (state self.new) }
         ensures queue { (state self.new).queue ≡ (state self.old).queue }
         ensures advances { Advances (state self.old) (state self.new) }
-        ensures passes { Passes (state self.old) (state self.new) };
+        ensures passes { Passes (state self.old) (state self.new) }
+        ensures fetched { OnOk result
+            (FetchesTo (state self.old) (state self.new) address 4096 out.new) }
+        ensures none { OnErr result ((state self.new).copies ≡ (state self.old).copies) };
 
     /// Writes an information unit of 1 to 256 bytes to page 0, and copies it over this address of the client's
     /// window.
@@ -173,7 +177,10 @@ pub(crate) trait Site {
             MeetsUse (state self.old) (state self.new) }
         ensures queue { (state self.new).queue ≡ (state self.old).queue }
         ensures advances { Advances (state self.old) (state self.new) }
-        ensures passes { Passes (state self.old) (state self.new) };
+        ensures passes { Passes (state self.old) (state self.new) }
+        ensures delivered { OnOk result
+            (DeliversOne (state self.old) (state self.new) 0 address mark bytes.now) }
+        ensures none { OnErr result ((state self.new).copies ≡ (state self.old).copies) };
 
     /// Copies data from this address of the client's window to a place of the data's pages.
     fn fetch_data(&mut self, at: u32, address: u64, len: u32) -> Result<(), Halt>
@@ -186,21 +193,24 @@ pub(crate) trait Site {
             MeetsUse (state self.old) (state self.new) }
         ensures queue { (state self.new).queue ≡ (state self.old).queue }
         ensures advances { Advances (state self.old) (state self.new) }
-        ensures passes { Passes (state self.old) (state self.new) };
+        ensures passes { Passes (state self.old) (state self.new) }
+        ensures none { OnErr result ((state self.new).copies ≡ (state self.old).copies) };
 
     /// Reads the first bytes of the data's pages.
     fn read_data(&mut self, out: &mut [u8])
         requires { length out.old ≤ 131072 }
         ensures queue { (state self.new).queue ≡ (state self.old).queue }
         ensures advances { Advances (state self.old) (state self.new) }
-        ensures passes { Passes (state self.old) (state self.new) };
+        ensures passes { Passes (state self.old) (state self.new) }
+        ensures none { (state self.new).copies ≡ (state self.old).copies };
 
     /// Writes the first bytes of the data's pages.
     fn write_data(&mut self, bytes: &[u8], mark: u64) -> Result<(), NoMemory>
         requires { length bytes.now ≤ 131072 }
         ensures queue { (state self.new).queue ≡ (state self.old).queue }
         ensures advances { Advances (state self.old) (state self.new) }
-        ensures passes { Passes (state self.old) (state self.new) };
+        ensures passes { Passes (state self.old) (state self.new) }
+        ensures none { (state self.new).copies ≡ (state self.old).copies };
 
     /// Copies data from a place of the data's pages to this address of the client's window.
     fn deliver_data(&mut self, at: u32, address: u64, len: u32, mark: u64) -> Result<(), Halt>
@@ -213,5 +223,6 @@ pub(crate) trait Site {
             MeetsUse (state self.old) (state self.new) }
         ensures queue { (state self.new).queue ≡ (state self.old).queue }
         ensures advances { Advances (state self.old) (state self.new) }
-        ensures passes { Passes (state self.old) (state self.new) };
+        ensures passes { Passes (state self.old) (state self.new) }
+        ensures none { OnErr result ((state self.new).copies ≡ (state self.old).copies) };
 }

@@ -1,15 +1,15 @@
 // The steps of a unit's turn.
-ghost use Rattle.std.specs.Prelude.{◌≡◌, ◌≢◌, ◌+◌, ◌<◌, ◌≤◌, Bool, IfOk, List, OnOk, [], false, true};
+ghost use Rattle.std.specs.Prelude.{◌≡◌, ◌≢◌, ◌+◌, ◌<◌, ◌≤◌, None, Bool, IfOk, List, OnOk, [], false, true};
 ghost use Rattle.block_server.specs.Advances.{Advances};
-ghost use Rattle.block_server.specs.Books.{books_at};
+ghost use Rattle.block_server.specs.Books.{as_begun, books_at};
 ghost use Rattle.block_server.specs.Causes.{Told};
 ghost use Rattle.block_server.specs.Judged.{Keeps};
 ghost use Rattle.block_server.specs.Judges.{Judges};
 ghost use Rattle.block_server.specs.Serving.{AnswersOnce, AnswersOnceOn, desk_of, held};
-ghost use Rattle.block_server.specs.Moves.{FetchesNone, Passes};
+ghost use Rattle.block_server.specs.Moves.{Passes};
 ghost use Rattle.block_server.specs.Owed.{KeepsAnswers, KeepsAnswersAll};
 ghost use Rattle.block_server.specs.Receipts.{TakesIn, is_ended, standing_of};
-ghost use Rattle.block_server.specs.SiteState.{TellsAll};
+ghost use Rattle.block_server.specs.Heard.{TellsAll};
 ghost use Rattle.block_server.specs.Ready.{Agrees, Idles, MeetsFull, MeetsSender};
 ghost use Rattle.block_server.specs.Turns.{IfQuiet, IsQuietTurn};
 ghost use Rattle.block_server.specs.Waits.{AsNext, IsIdle, PassesEvent, StandsOpen, StaysAgreed, StopsOpening};
@@ -127,8 +127,12 @@ fn open_line<S: Site>(unit: &mut Unit, site: &mut S) -> Result<Next, NoMemory>
         (S.state site.old) (S.state site.new) grants grants }
     ensures goes_on { IfOk result (λ next. next ≢ Next.End →
         is_ended unit.new.line ≡ false) }
-    ensures fetches { FetchesNone (S.state site.old) (S.state site.new) }
-    ensures books { (records : Records) → Keeps (books_at unit.old (S.state site.old) records)
+    ensures judges { (records : Records) → Judges
+        (standing_of unit.old) (standing_of unit.new) (S.state site.old) (S.state site.new)
+        (books_at unit.old (S.state site.old) records)
+        (books_at unit.new (S.state site.new) records) }
+    ensures books { (records : Records) →
+        (is_ended unit.old.line ≡ true → unit.old.waiting ≡ None) → Keeps (books_at unit.old (S.state site.old) records)
         (books_at unit.new (S.state site.new) records) }
     ensures answers { (records : Records) → KeepsAnswers S.link_shared unit.old unit.new
         (S.state site.old) (S.state site.new) records records }
@@ -258,8 +262,11 @@ fn register<S: Site>(unit: &mut Unit, site: &mut S)
     ensures intake { (grants : List Grant) → TakesIn
         (standing_of unit.old) (standing_of unit.new)
         (S.state site.old) (S.state site.new) grants grants }
-    ensures fetches { FetchesNone (S.state site.old) (S.state site.new) }
-    ensures books { (records : Records) → Keeps (books_at unit.old (S.state site.old) records)
+    ensures judges { (records : Records) → Judges
+        (standing_of unit.old) (standing_of unit.new) (S.state site.old) (S.state site.new)
+        (books_at unit.old (S.state site.old) records)
+        (books_at unit.new (S.state site.new) records) }
+    ensures books { (records : Records) → unit.old.waiting ≡ None → Keeps (books_at unit.old (S.state site.old) records)
         (books_at unit.new (S.state site.new) records) }
     ensures answers { (records : Records) → KeepsAnswers S.link_shared unit.old unit.new
         (S.state site.old) (S.state site.new) records records }
@@ -284,7 +291,8 @@ fn begin<S: Site>(unit: &mut Unit, site: &mut S)
     ensures waiting { unit.new.waiting ≡ unit.old.waiting }
     ensures passes { Passes (S.state site.old) (S.state site.new) }
     ensures books { (records : Records) → unit.old.pending.items ≡ [] →
-        unit.old.logins.current ≡ 0 → Keeps (books_at unit.old (S.state site.old) records)
+        unit.old.logins.current ≡ 0 → Keeps
+        (as_begun (books_at unit.old (S.state site.old) records))
         (books_at unit.new (S.state site.new) records) }
     ensures answers { (records : Records) → is_ended unit.old.line ≡ true →
         KeepsAnswers S.link_shared unit.old unit.new

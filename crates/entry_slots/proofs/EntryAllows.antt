@@ -1,7 +1,7 @@
 -- What each kind of step on an entry's word tells the seat that makes it, from any state that meets the rule.
-use Rattle.std.proofs.Common.{◌≡◌, ◌≢◌, ℕ, ◌+◌, ◌%◌, ◌-◌, ◌<◌, ◌≤◌, true, List, [], ◌∷◌, ◌++◌, length, get_or, set, sym, refl, ap, ◌∙◌, subst, inl, inr, arith, eqb, eq-eqb, ne_eqb, append-nil, length-append, Some, slice_get}
+use Rattle.std.proofs.Common.{◌≡◌, ◌≢◌, ℕ, ◌+◌, ◌/◌, ◌%◌, ◌-◌, ◌<◌, ◌≤◌, true, IsTrue, List, [], ◌∷◌, ◌++◌, length, get_or, set, sym, refl, ap, ◌∙◌, subst, inl, inr, arith, eqb, eq-eqb, ne_eqb, append-nil, length-append, Some, slice_get}
 use Rattle.std.specs.List.{All}
-use Rattle.std.proofs.lemmas.List.Elements.{All-weaker}
+use Rattle.std.proofs.lemmas.List.Elements.{All-weaker, All-push}
 use Rattle.std.proofs.lemmas.Option.{slice_get_read}
 use Rattle.std.proofs.Math.Seq.{get_or-append_seam}
 use mathlib.Core.List.{append_assoc}
@@ -13,9 +13,9 @@ use lib.Seq.{set-get_or}
 use prog.Atomic.{either}
 use Rattle.atomic_table.specs.Table.{step, keeps, Allows}
 use Rattle.vio_num.specs.Words.{Begins}
-use Rattle.tce_window.specs.Grant.{values_of, IsCurrent}
+use Rattle.tce_window.specs.Grant.{values_of, has_right, IsCurrent}
 use Rattle.entry_slots.specs.Words.{code_of, entry_word, pins_in, code_in, version_in}
-use Rattle.entry_slots.specs.EntryRule.{pins_at, pins_on, Shows, KnowsEntries, InEntries, all_shares}
+use Rattle.entry_slots.specs.EntryRule.{pins_at, pins_on, Shows, KnowsEntries, InEntries, ArePages, all_shares}
 use Rattle.entry_slots.specs.EntrySteps.{reading, pinning, unpinning, putting, pinned, unpinned, exchanged, IsWordOf}
 use Rattle.tce_window.specs.declared.answers.TceRow.{TceRow}
 use Rattle.entry_slots.specs.declared.view.EntryView.{EntryView}
@@ -92,6 +92,8 @@ module _ (n seats id : ℕ) (v : EntryView) where
             inside = inside;
             at = at;
             share = refl;
+            size = refl;
+            pages = r.pages;
             other_pins = pinning_else v e word rows on;
             other_values = λ i o. refl;
             shows = record { version = sh.version; value = sh.value; current = sh.current; small = sh.small; few = sh.few; word_is = next };
@@ -103,6 +105,7 @@ module _ (n seats id : ℕ) (v : EntryView) where
             begins = old.known;
             same = old.kept;
             shows = word_shows rows e p word few sh;
+            pages = subst (λ k. ArePages k rows) (sym (r.sizes id v at shared)) r.pages;
             after = refl;
           },
         )
@@ -129,6 +132,8 @@ module _ (n seats id : ℕ) (v : EntryView) where
             inside = inside;
             at = at;
             share = refl;
+            size = refl;
+            pages = r.pages;
             other_pins = unpinning_else v word some_held;
             other_values = λ i o. refl;
             shows = record { version = sh.version; value = sh.value; current = sh.current; small = sh.small; few = sh.few; word_is = next };
@@ -146,7 +151,7 @@ module _ (n seats id : ℕ) (v : EntryView) where
 
   -- a value is to be put into entry e, in place of this value of this version, if it has no pins
   module _ (e version value : ℕ) (row : TceRow) (inside : e < n) (owner : v.owns ≡ true) (entry : row.entry ≡ e) (next : version + 1 ≡ row.version)
-      (fits : code_of value < 1024) (code : code_of row.value < 1024) (room : version + 1 < 2147483648) where
+      (fits : code_of value < 1024) (code : code_of row.value < 1024) (room : version + 1 < 2147483648) (page : IsTrue (has_right row.value) → row.value / 4096 < n) where
     abbrev before : ℕ
     before = entry_word 0 (code_of value) version
 
@@ -184,6 +189,8 @@ module _ (n seats id : ℕ) (v : EntryView) where
             inside = inside;
             at = at;
             share = refl;
+            size = refl;
+            pages = All-push (λ other. IsTrue (has_right other.value) → other.value / 4096 < n) r.rows row r.pages page;
             other_pins = λ i o. refl;
             other_values = other;
             shows = record {
@@ -221,6 +228,8 @@ module _ (n seats id : ℕ) (v : EntryView) where
             inside = inside;
             at = at;
             share = refl;
+            size = refl;
+            pages = r.pages;
             other_pins = λ i o. refl;
             other_values = λ i o. refl;
             shows = record { version = sh.version; value = sh.value; current = sh.current; small = sh.small; few = sh.few; word_is = sh.word_is ∙ ap (λ x. entry_word x (code_of sh.value) sh.version) (sym same) };

@@ -7,7 +7,7 @@ use lib.ListN.{get_elem?}
 use Rattle.atomic_table.specs.Table.{State}
 use Rattle.atomic_table.proofs.Lists.{at_set}
 use Rattle.tce_window.specs.Grant.{values_of}
-use Rattle.entry_slots.specs.EntryRule.{pins_at, pins_on, Shows, KnowsEntries, InEntries}
+use Rattle.entry_slots.specs.EntryRule.{pins_at, pins_on, Shows, KnowsEntries, InEntries, ArePages, HasSize}
 use Rattle.tce_window.specs.declared.answers.TceRow.{TceRow}
 use Rattle.entry_slots.specs.declared.view.EntryView.{EntryView}
 use Rattle.entry_slots.proofs.EntryPins.{pins_set, pins_few, shares_set}
@@ -42,6 +42,8 @@ module _ (n seats : ℕ) where
     pub inside : e < n
     pub at : get_elem? s.views id ≡ some v
     pub share : w.share ≡ v.share
+    pub size : w.entries ≡ v.entries
+    pub pages : ArePages n rows
     pub other_pins : (i : ℕ) → i ≢ e → pins_at w i ≡ pins_at v i
     pub other_values : (i : ℕ) → i ≢ e → values_of rows i ≡ values_of r.rows i
     pub shows : Shows rows e (pins_on e (set s.views id w)) z
@@ -65,4 +67,6 @@ module _ (n seats : ℕ) where
             (λ is. subst (λ y. Shows rows y (pins_on y vs) (get_or (set s.words e z) y 0)) (sym is) (subst (Shows rows e (pins_on e vs)) (sym (here s r e z m.inside)) m.shows))
             (λ o. subst (Shows rows i (pins_on i vs)) (sym (get_or-set_other s.words e i z 0 o)) (shows_same r.rows rows i (pins_on i s.views) (pins_on i vs) (get_or s.words i 0) (m.other_values i o) (same_sum i o) (r.each_word i l)));
         each_seat = seats_stay (KnowsEntries rows r.owner) s.views id w m.own m.others;
+        pages = m.pages;
+        sizes = seats_stay (λ _ d. HasSize n d) s.views id w (λ some_share. m.size ∙ r.sizes id v m.at (subst (λ k. 0 < k) m.share some_share)) (λ j d _ there. r.sizes j d there);
       }

@@ -11,7 +11,7 @@ use Rattle.atomic_table.specs.Table.{Splits, Joins, opening}
 use Rattle.atomic_table.proofs.Lists.{at_set, set_else}
 use Rattle.vio_num.specs.Words.{Begins}
 use Rattle.tce_window.specs.Grant.{has_right}
-use Rattle.entry_slots.specs.EntryRule.{pins_at, pins_on, KnowsEntries, InEntries, all_shares, opened}
+use Rattle.entry_slots.specs.EntryRule.{pins_at, pins_on, KnowsEntries, InEntries, HasSize, all_shares, opened}
 use Rattle.entry_slots.specs.Words.{code_of, entry_word}
 use Rattle.entry_slots.specs.EntryCuts.{remaining, another, with_seat, spent, AreFirst}
 use Rattle.entry_slots.specs.Entries.{EntrySeatValue}
@@ -86,11 +86,13 @@ module _ (n seats : ℕ) where
               kept = λ e one. absurd (one_zero (pins_at right e) one (no_pins right e refl));
             })
             (λ j d _ there. r.each_seat j d there);
+        pages = r.pages;
+        sizes = apart_from (λ _ d. HasSize n d) s.views id left right (λ _. r.sizes id v at (omega (arith, several))) (λ _. r.sizes id v at (omega (arith, several))) (λ j d _ there. r.sizes j d there);
       }
 
   -- a seat that holds nothing is joined to another
-  pub joins : (id : ℕ) (v : EntryView) (other : ℕ) (w : EntryView) → w.held_count ≡ 0 → Joins (InEntries n seats) id v other w (with_seat v w) spent
-  joins id v other w empty s r at not there_now = let both : EntryView = with_seat v w in let ws : List EntryView = set s.views id both in let vs : List EntryView = set ws other spent in
+  pub joins : (id : ℕ) (v : EntryView) (other : ℕ) (w : EntryView) → w.held_count ≡ 0 → 0 < v.share → Joins (InEntries n seats) id v other w (with_seat v w) spent
+  joins id v other w empty some_share s r at not there_now = let both : EntryView = with_seat v w in let ws : List EntryView = set s.views id both in let vs : List EntryView = set ws other spent in
       let there : get_elem? s.views other ≡ some w = was_there s.views id other both w not there_now in let old = r.each_seat id v at in let old' = r.each_seat other w there in
       let one = shares_set s.views id v both at in let two = shares_set ws other w spent there_now in let all = r.shares in record {
         rows = r.rows;
@@ -119,6 +121,8 @@ module _ (n seats : ℕ) where
               kept = λ e t. absurd (one_zero (pins_at spent e) t (no_pins spent e refl));
             })
             (λ j d _ _ was. r.each_seat j d was);
+        pages = r.pages;
+        sizes = made_one (λ _ d. HasSize n d) s.views id other both spent (λ _. r.sizes id v at some_share) (λ none. absurd (omega (arith, none))) (λ j d _ _ was. r.sizes j d was);
       }
 
   abbrev key : EntriesKey
@@ -133,6 +137,10 @@ module _ (n seats : ℕ) where
     kept = λ i one. absurd (one_zero (pins_at (opened key) i) one (no_pins (opened key) i refl));
   }
   first_seat (suc j) v e = absurd (some-ne-none v (sym e))
+
+  first_size : (j : ℕ) (v : EntryView) → get_elem? (opened key ∷ []) j ≡ some v → HasSize n v
+  first_size zero v e = subst (HasSize n) (some-injective (opened key) v e) (λ _. refl)
+  first_size (suc j) v e = absurd (some-ne-none v (sym e))
 
   right_there : (e : ℕ) → has_right (4096 * e + 3) ≡ true
   right_there e = ap not (ne_eqb ((4096 * e + 3) % 4) 0 (λ z. absurd (omega (arith, z))))
@@ -157,6 +165,8 @@ module _ (n seats : ℕ) where
       word_is = first.each e l ∙ ap (λ x. entry_word x (code_of (4096 * e + 3)) 0) (sym sum);
     };
     each_seat = first_seat;
+    pages = λ k d none. absurd (omega (arith, none));
+    sizes = first_size;
   }
 
 -- what the owner's seat knows in the end: all that any seat joined to it knew is a front of it

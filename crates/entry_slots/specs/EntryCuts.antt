@@ -21,7 +21,7 @@ abbrev pub with_seat : EntryView → EntryView → EntryView
 with_seat v w = record v { share = v.share + w.share; told = w.rows ∷ (w.told ++ v.told) }
 
 abbrev pub spent : EntryView
-spent = record { share = 0; owns = false; rows = []; told = []; held_from = 0; held_count = 0; released = []; reads = 0; word = 0 }
+spent = record { entries = 0; share = 0; owns = false; rows = []; told = []; held_from = 0; held_count = 0; released = []; reads = 0; word = 0 }
 
 -- the word of entry e at the start: the page of its own number, with both rights
 abbrev pub first_word : ℕ → ℕ

@@ -1,12 +1,12 @@
 -- The rule of a table of translation entries: what its words and what its seats know have to meet, at every
 -- moment. An entry's word has the number of its pins, its version and what a device may do.
-use Rattle.std.specs.Prelude.{◌≡◌, ℕ, ◌+◌, ◌<◌, ◌≤◌, ◌&&◌, nat_le, nat_lt, if◌then◌else◌, true, List, [], ◌∷◌, length, slice_index}
+use Rattle.std.specs.Prelude.{◌≡◌, ℕ, ◌+◌, ◌/◌, ◌<◌, ◌≤◌, ◌&&◌, IsTrue, nat_le, nat_lt, if◌then◌else◌, true, List, [], ◌∷◌, length, slice_index}
 use Rattle.std.specs.List.{All}
 use mathlib.Core.Option.{some}
 use lib.ListN.{get_elem?}
 use Rattle.atomic_table.specs.Table.{State}
 use Rattle.vio_num.specs.Words.{Begins}
-use Rattle.tce_window.specs.Grant.{values_of, IsCurrent}
+use Rattle.tce_window.specs.Grant.{values_of, has_right, IsCurrent}
 use Rattle.tce_window.specs.declared.answers.TceRow.{TceRow}
 use Rattle.entry_slots.specs.Words.{code_of, entry_word}
 use Rattle.entry_slots.specs.declared.view.EntriesKey.{EntriesKey}
@@ -42,6 +42,14 @@ abbrev pub all_shares : List EntryView → ℕ
 all_shares [] = 0
 all_shares (v ∷ vs) = v.share + all_shares vs
 
+-- of each value that was put and has a right, the page is one of n
+abbrev pub ArePages : ℕ → List TceRow → Type 0
+ArePages n rows = All (λ row. IsTrue (has_right row.value) → row.value / 4096 < n) rows
+
+-- a seat knows that there are n entries
+abbrev pub HasSize : ℕ → EntryView → Type 0
+HasSize n v = 0 < v.share → v.entries ≡ n
+
 -- Each word shows the last value of its entry and the pins that the seats have on it.
 pub record InEntries (n seats : ℕ) (s : State TceRow EntryView) : Type 0 where
   pub rows : List TceRow
@@ -51,6 +59,8 @@ pub record InEntries (n seats : ℕ) (s : State TceRow EntryView) : Type 0 where
   pub shares : all_shares s.views ≡ seats
   pub each_word : (e : ℕ) → e < n → Shows rows e (pins_on e s.views) (slice_index s.words e)
   pub each_seat : (j : ℕ) (v : EntryView) → get_elem? s.views j ≡ some v → KnowsEntries rows owner j v
+  pub pages : ArePages n rows
+  pub sizes : (j : ℕ) (v : EntryView) → get_elem? s.views j ≡ some v → HasSize n v
 
 abbrev pub holds : EntriesKey → State TceRow EntryView → Type 0
 holds key = InEntries key.entries key.seats
@@ -58,6 +68,7 @@ holds key = InEntries key.entries key.seats
 -- the first seat, which stands for all that are to be opened, and puts values
 abbrev pub opened : EntriesKey → EntryView
 opened key = record {
+  entries = key.entries;
   share = key.seats;
   owns = true;
   rows = [];

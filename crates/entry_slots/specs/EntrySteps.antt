@@ -5,7 +5,7 @@ use Rattle.atomic_table.specs.Table.{Me, Step}
 use Rattle.vio_num.specs.Words.{Begins}
 use Rattle.tce_window.specs.Grant.{values_of, IsCurrent}
 use Rattle.entry_slots.specs.Words.{code_of, code_in, version_in}
-use Rattle.entry_slots.specs.EntryRule.{pins_at}
+use Rattle.entry_slots.specs.EntryRule.{pins_at, ArePages}
 use Rattle.tce_window.specs.declared.answers.TceRow.{TceRow}
 use Rattle.entry_slots.specs.declared.view.EntryView.{EntryView}
 
@@ -53,6 +53,7 @@ pub record Pins (e : ℕ) (m : Seated) (word : ℕ) (m' : Seated) : Type 0 where
   pub begins : Begins m.0.rows rows
   pub same : (i : ℕ) → pins_at m.0 i ≡ 1 → values_of rows i ≡ values_of m.0.rows i
   pub shows : IsWordOf rows e word
+  pub pages : ArePages m.0.entries rows
   pub after : m' ≡ (pinning m.0 e word rows, m.1)
 
 -- The adding of a pin.

@@ -1,8 +1,9 @@
 // The entries of a window that several threads share, each a word: its pins, its version, and what its
 // value grants (LoPAR, "Translation Control Entry"). No call takes a lock.
-ghost use Rattle.std.specs.Prelude.{◌≡◌, ◌+◌, ◌*◌, ◌^◌, ◌<◌, ◌≤◌, true, [], All, length, vec_capacity, IfOk};
+ghost use Rattle.std.specs.Prelude.{◌≡◌, ◌+◌, ◌*◌, ◌/◌, ◌^◌, IsTrue, ◌<◌, ◌≤◌, true, [], All, length, vec_capacity, IfOk};
 ghost use Rattle.entry_slots.specs.EntryCuts.{AreFirst, IsUnopened, OpensEntries, AreGuests, StandsFor};
-ghost use Rattle.entry_slots.specs.Words.{code_of, entry_word, HasRoom};
+ghost use Rattle.entry_slots.specs.Words.{code_of, entry_word, told_in, HasRoom};
+ghost use Rattle.tce_window.specs.Grant.{has_right};
 ghost use Rattle.entry_slots.specs.Outcomes.{IfDone, IfRefused};
 ghost use Rattle.vio_num.specs.Words.{Begins};
 ghost use Rattle.entry_slots.specs.Entries.{IsFreshAt, IsNext, PinsEntry, Releases, PutsRow, RefusesRow};
@@ -155,7 +156,9 @@ impl Entries {
         requires ours { seat.old.entries ≡ self.now.id }
         requires within { entry < self.now.count }
         requires next { IsNext seat.old entry }
-        ensures { PinsEntry seat.old entry result.bits seat.new }
+        ensures pins { PinsEntry seat.old entry result.bits seat.new }
+        ensures page { IsTrue (has_right (told_in result.bits))
+            → told_in result.bits / 4096 < self.now.count }
     {
         let shared = &self.table.shared;
         let bits = shared.fetch_add::<Pin>(&mut seat.seat, entry as usize, 1);
@@ -181,15 +184,16 @@ impl Entries {
         requires owner { (seat.old.entries ≡ self.now.id) × (seat.old.owns ≡ true) }
         requires within { row.entry < self.now.count }
         requires version { (1 ≤ row.version) × (row.version < 2 ^ 31) }
-        requires pages { HasRoom last × HasRoom row.value }
+        requires last { HasRoom last }
+        requires page { IsTrue (has_right row.value) → row.value / 4096 < self.now.count }
         ensures done { IfDone result (PutsRow seat.old row seat.new) }
         ensures refused { IfRefused result (λ word.
             RefusesRow seat.old last row word.bits seat.new) }
     {
-        let before = word_of(last, row.version - 1);
-        let after = word_of(row.value, row.version);
         let shared = &self.table.shared;
         let entry = row.entry as usize;
+        let before = word_of(last, row.version - 1);
+        let after = word_of(row.value, row.version);
         let bits = shared.compare_exchange_with::<PutValue>(
             &mut seat.seat,
             entry,

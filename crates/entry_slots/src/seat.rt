@@ -31,6 +31,7 @@ impl Model for EntrySeat {
 
     ghost invariant = { λ seat. record {
       share : seat.seat.me.0.share ≡ 1;
+      size : seat.seat.me.0.entries ≡ seat.seat.table_id.words;
       told : seat.seat.me.0.told ≡ [];
       out : seat.seat.me.1 ≡ [];
     } };

@@ -12,6 +12,8 @@ pub struct EntriesKey {
 
 /// What one seat knows.
 pub struct EntryView {
+    /// How many entries there are.
+    pub entries: u64,
     /// How many of the seats that were opened it stands for: itself, and those joined to it.
     pub share: u64,
     /// Whether it puts values.

@@ -81,7 +81,7 @@ fn put(entries: &Entries, owner: &mut EntrySeat, last: u64, row: TceRow) -> Show
     ensures { (owner.new.entries ≡ entries.now.id) × (owner.new.owns ≡ true) }
 {
     let few = 1 <= row.version && row.version < 0x8000_0000;
-    let pages = last / 4096 < 256 && row.value / 4096 < 256;
+    let pages = last / 4096 < 256 && row.value / 4096 < u64::from(entries.count());
     if row.entry >= entries.count() || !few || !pages {
         return Shown::Unfit;
     }
@@ -152,7 +152,7 @@ fn pins_releases_and_puts(rt: HostRuntime) -> Result<(), Fail> {
         entries,
         mut owner,
         mut guests,
-    } = Entries::open(rt.alloc(), 3, 2)?;
+    } = Entries::open(rt.alloc(), 256, 2)?;
     let (Some(second), Some(first)) = (guests.pop(), guests.pop()) else {
         return Err(Fail::new("a seat is missing"));
     };

@@ -44,6 +44,38 @@ impl Model for Held {
 }
 
 impl Held {
+    /// A range of these pieces, which is held for this right, with the pages on which they lie.
+    pub fn of_pages(
+        alloc: Global,
+        right: Right,
+        pieces: ArrayVec<Piece, MOST_PIECES>,
+        pages: HeldPages,
+    ) -> Held
+        requires there { All (λ piece. IsSome (held_strokes pages piece.page)) pieces.items }
+        requires some { All (λ piece. 1 ≤ piece.len) pieces.items }
+        ensures { result ≡ record { right = right; pieces = pieces.items; pages = pages } }
+    {
+        Held {
+            alloc,
+            right,
+            pieces,
+            pages,
+        }
+    }
+
+    /// The pages of the range, given away.
+    pub fn into_pages(self) -> HeldPages
+        ensures { result ≡ self.pages }
+    {
+        let Held {
+            alloc: _,
+            right: _,
+            pieces: _,
+            pages,
+        } = self;
+        pages
+    }
+
     /// The pieces of the range, in the order of their addresses.
     pub fn pieces(&self) -> &[Piece]
         ensures pieces { result.now ≡ self.now.pieces }

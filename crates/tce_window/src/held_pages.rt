@@ -19,9 +19,9 @@ pub struct HeldPage {
     pub(crate) page: Page,
 }
 
-/// The pages of a held range, each once.
+/// The pages of a held range, each once. They are in the holder's hand.
 #[derive(Debug, Drop)]
-pub(crate) struct HeldPages {
+pub struct HeldPages {
     pub(crate) pages: ArrayVec<Option<HeldPage>, MOST_PIECES>,
 }
 

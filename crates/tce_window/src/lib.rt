@@ -17,7 +17,9 @@ mod window;
 
 pub use answers::{GetTce, HoldFault, NamedFault, OwnFault, Right, TceAnswer, TceRow};
 pub use held::Held;
-pub use held_pages::HeldPage;
-pub use piece::Piece;
+pub use held_pages::{HeldPage, HeldPages};
+pub use piece::{MOST_PIECES, Piece};
 pub use port::{GuestPort, OwnerPort, WindowPort};
+pub use region::{Region, pieces_over};
+pub use table::{Current, TceTable};
 pub use window::PlainWindow;

@@ -4,7 +4,7 @@ ghost use Rattle.std.specs.Prelude.{◌≡◌, ◌+◌, ◌≤◌};
 use vio_num::UnitId;
 
 /// As many entries as a range of at most 65,536 bytes touches.
-pub(crate) const MOST_PIECES: usize = 17;
+pub const MOST_PIECES: usize = 17;
 
 /// A part of a held range that lies in one entry: it ends at byte 4,096 of its page at most.
 #[derive(Clone, Copy, Debug, PartialEq, Eq)]
@@ -28,7 +28,7 @@ pub struct Piece {
 
 impl Piece {
     /// Gives the piece a place among the strokes of its page.
-    pub(crate) fn set_place(&mut self, at: u32)
+    pub fn set_place(&mut self, at: u32)
         ensures { self.new ≡ record self.old { at = at } }
     {
         self.at = at;

@@ -28,7 +28,7 @@ const MOST_BYTES: usize = 65536;
 
 /// The pages of a region, each with its number, but those that are held.
 #[derive(Debug, Drop)]
-pub(crate) struct Region {
+pub struct Region {
     pages: Vec<Option<Page>>,
 }
 
@@ -61,8 +61,42 @@ impl Region {
         Ok(Region { pages })
     }
 
+    /// A region of 1 to 256 pages, each of which is away.
+    pub fn empty(alloc: Global, count: u16) -> Result<Region, NoMemory>
+        requires { (1 ≤ count) × (count ≤ 256) }
+        ensures { IfOk result (λ region. region ≡ replicate count None) }
+    {
+        let mut pages = Vec::with_capacity(alloc, count as usize)?;
+        for _page in 0..count {
+            pages.push_reserved(None);
+        }
+        Ok(Region { pages })
+    }
+
+    /// Puts a page into its place, which is empty.
+    pub fn put_page(&mut self, number: u16, page: Page)
+        requires inside { number < length self.old }
+        requires away { strokes_at self.old number ≡ None }
+        ensures strokes { (p : ℕ) → strokes_at self.new p ≡
+            (if number == p then Some page.strokes else strokes_at self.old p) }
+        ensures size { length self.new ≡ length self.old }
+    {
+        put_page(&mut self.pages, Some(HeldPage { number, page }));
+    }
+
+    /// Takes a page out of its place.
+    pub fn take_page(&mut self, number: u16) -> Page
+        requires { IsSome (strokes_at self.old number) }
+        ensures page { strokes_at self.old number ≡ Some result.strokes }
+        ensures away { (p : ℕ) → strokes_at self.new p ≡
+            (if number == p then None else strokes_at self.old p) }
+        ensures size { length self.new ≡ length self.old }
+    {
+        take_slot(&mut self.pages, number as usize)
+    }
+
     /// The number of pages, 1 to 256.
-    pub(crate) fn size(&self) -> usize
+    pub fn size(&self) -> usize
         ensures size { result ≡ length self.now }
         ensures least { 1 ≤ result }
         ensures most { result ≤ 256 }
@@ -72,7 +106,7 @@ impl Region {
     }
 
     /// Whether the range lies inside the region.
-    pub(crate) fn contains(&self, at: u64, len: usize) -> bool
+    pub fn contains(&self, at: u64, len: usize) -> bool
         ensures inside { result ≡ in_region (length self.now) at len }
     {
         let bytes = self.size() as u64 * vio_num::PAGE_BYTES;
@@ -96,7 +130,7 @@ impl Region {
     }
 
     /// The page, which is in its place.
-    pub(crate) fn page(&self, page: usize) -> &Page
+    pub fn page(&self, page: usize) -> &Page
         requires { IsSome (strokes_at self.now page) }
         ensures { strokes_at self.now page ≡ Some result.now.strokes }
     {
@@ -125,7 +159,7 @@ impl Region {
     }
 
     /// Copies the bytes of the region from the address on.
-    pub(crate) fn read(&self, at: usize, out: &mut [u8])
+    pub fn read(&self, at: usize, out: &mut [u8])
         requires near { at + length out.old ≤ 2 ^ 20 }
         requires there { IsInPlace (strokes_at self.now) at (length out.old) }
         ensures { (k : ℕ) → k < length out.old
@@ -142,7 +176,7 @@ impl Region {
 
     /// The first page of the range on which the last strokes are not of this name or do not cover it, and
     /// the last other name there.
-    pub(crate) fn first_stale(
+    pub fn first_stale(
         &self,
         at: usize,
         len: usize,
@@ -168,7 +202,7 @@ impl Region {
 
     /// Writes the bytes from the address on: one stroke of this name on each page that they touch. Where
     /// memory runs out no page has another stroke.
-    pub(crate) fn write(
+    pub fn write(
         &mut self,
         alloc: Global,
         name: StrokeName,
@@ -190,7 +224,7 @@ impl Region {
     }
 
     /// Takes the pages of the pieces out of their places, each once.
-    pub(crate) fn take(&mut self, pieces: &[Piece]) -> HeldPages
+    pub fn take(&mut self, pieces: &[Piece]) -> HeldPages
         requires few { length pieces.now ≤ 17 }
         requires inside { All (λ piece. piece.page < length self.old) pieces.now }
         ensures away { (p : ℕ) → strokes_at self.new p ≡
@@ -205,7 +239,7 @@ impl Region {
     }
 
     /// Puts the pages back into their places.
-    pub(crate) fn put(&mut self, held: HeldPages)
+    pub fn put(&mut self, held: HeldPages)
         requires { (p : ℕ) → IsSome (held_strokes held p) → p < length self.old }
         ensures strokes { (p : ℕ) → strokes_at self.new p ≡ either
             (strokes_at self.old p) (held_strokes held p) }
@@ -216,8 +250,8 @@ impl Region {
     }
 }
 
-// The range as pieces of the unit's region, one on each page that it touches.
-fn pieces_over(unit: UnitId, at: usize, len: usize) -> ArrayVec<Piece, MOST_PIECES>
+/// A range of at most 65,536 bytes as pieces of the unit's region, one on each page that it touches.
+pub fn pieces_over(unit: UnitId, at: usize, len: usize) -> ArrayVec<Piece, MOST_PIECES>
     requires near { at + len ≤ 2 ^ 20 }
     requires few { len ≤ 65536 }
     ensures { LieOver at (at + len) result.items }
@@ -239,6 +273,20 @@ fn pieces_over(unit: UnitId, at: usize, len: usize) -> ArrayVec<Piece, MOST_PIEC
         done += left;
     }
     pieces
+}
+
+// Takes the page of this number, which is in its place, out of it.
+fn take_slot(pages: &mut Vec<Option<Page>>, number: usize) -> Page
+    requires { IsSome (strokes_at pages.old.items number) }
+    ensures page { strokes_at pages.old.items number ≡ Some result.strokes }
+    ensures away { (p : ℕ) → strokes_at pages.new.items p ≡
+        (if number == p then None else strokes_at pages.old.items p) }
+    ensures size { length pages.new.items ≡ length pages.old.items }
+{
+    match pages[number].take() {
+        Some(page) => page,
+        None => unreachable!(),
+    }
 }
 
 // Takes the page out of its place, if it is there.

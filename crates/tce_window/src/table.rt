@@ -12,15 +12,15 @@ const VALUES: usize = 1 << 31;
 
 /// The last value of an entry.
 #[derive(Clone, Copy, Debug)]
-pub(crate) struct Current {
-    pub(crate) version: u32,
-    pub(crate) value: u64,
+pub struct Current {
+    pub version: u32,
+    pub value: u64,
 }
 
 /// The values of all entries. Contracts see the number of entries, the values put, and the number of
 /// values for which there is room.
 #[derive(Debug, Drop)]
-pub(crate) struct TceTable {
+pub struct TceTable {
     current: Vec<Current>,
     rows: Vec<TceRow>,
     spare: u32,
@@ -45,7 +45,7 @@ impl Model for TceTable {
 
 impl TceTable {
     /// A table in which entry i has the value `i * 4096 + 3`.
-    pub(crate) fn open(alloc: Global, entries: u16) -> Result<TceTable, NoMemory>
+    pub fn open(alloc: Global, entries: u16) -> Result<TceTable, NoMemory>
         requires { (1 ≤ entries) × (entries ≤ 256) }
         ensures { IfOk result (λ table. table ≡ record { size = entries; rows = []; spare = 0 }) }
     {
@@ -62,7 +62,7 @@ impl TceTable {
 
     /// Makes room for at least this many values. A table has fewer than 2^31 values with those it has room
     /// for; one that would pass that is out of memory. The table is then as before.
-    pub(crate) fn reserve(&mut self, puts: u32) -> Result<(), NoMemory>
+    pub fn reserve(&mut self, puts: u32) -> Result<(), NoMemory>
         ensures rows { self.new.rows ≡ self.old.rows }
         ensures size { self.new.size ≡ self.old.size }
         ensures ok { OnOk result (self.new.spare ≡ max self.old.spare puts) }
@@ -80,7 +80,7 @@ impl TceTable {
     }
 
     /// Puts the value into the entry, as its next version.
-    pub(crate) fn put(&mut self, entry: usize, tce: u64)
+    pub fn put(&mut self, entry: usize, tce: u64)
         requires entry { entry < self.old.size }
         requires spare { 1 ≤ self.old.spare }
         requires page { IsTrue (has_right tce) → tce / 4096 < self.old.size }
@@ -103,16 +103,17 @@ impl TceTable {
     }
 
     /// The last value of the entry.
-    pub(crate) fn current(&self, entry: usize) -> Current
+    pub fn current(&self, entry: usize) -> Current
         requires { entry < self.now.size }
         ensures current { IsCurrent (values_of self.now.rows) entry result.version result.value }
         ensures page { IsTrue (has_right result.value) → result.value / 4096 < self.now.size }
+        ensures few { length self.now.rows + self.now.spare < 2 ^ 31 }
     {
         self.current[entry]
     }
 
     /// The number of entries, 1 to 256.
-    pub(crate) fn size(&self) -> usize
+    pub fn size(&self) -> usize
         ensures size { result ≡ self.now.size }
         ensures least { 1 ≤ result }
         ensures most { result ≤ 256 }
@@ -121,7 +122,7 @@ impl TceTable {
     }
 
     /// Every value that was put, in order of time.
-    pub(crate) fn rows(&self) -> &[TceRow]
+    pub fn rows(&self) -> &[TceRow]
         ensures rows { result.now ≡ self.now.rows }
         ensures numbered { AreNumbered self.now.size [] self.now.rows }
     {

@@ -93,6 +93,39 @@ impl PlainWindow {
         })
     }
 
+    /// A window over a region of which each page is in its place, with the values of a table of as many
+    /// entries. Words were read in use this often.
+    pub fn of_parts(
+        alloc: Global,
+        unit: UnitId,
+        table: TceTable,
+        region: Region,
+        in_use: u64,
+    ) -> PlainWindow
+        requires size { table.size ≡ length region }
+        requires there { AllThere region }
+        ensures { result ≡ record {
+          unit = unit;
+          pages = region;
+          rows = table.rows;
+          spare = table.spare;
+          held_from = 0;
+          held_count = 0;
+          in_use = in_use;
+        } }
+    {
+        let _size = region.size();
+        PlainWindow {
+            alloc,
+            unit,
+            table,
+            region,
+            held_from: 0,
+            held_count: 0,
+            in_use,
+        }
+    }
+
     /// The number of pages, 1 to 256.
     pub fn pages(&self) -> u16
         ensures pages { result ≡ length self.now.pages }

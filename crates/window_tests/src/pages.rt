@@ -91,26 +91,35 @@ fn byte_at(page: &Page, place: u16) -> u8 {
     byte[0]
 }
 
+// Places, and numbers of bytes there.
+static PLACES: [(u16, usize); 6] = [(0, 0), (0, 1), (0, 4096), (4095, 1), (4096, 0), (17, 300)];
+
+// Tells whether a stroke of a copy of these bytes is made of them.
+fn is_copied(alloc: Global, offset: u16, bytes: &[u8]) -> Result<bool, NoMemory> {
+    let stroke = copied(alloc, 9, offset, bytes)?;
+    Ok(is_made_of(&stroke, 9, offset, bytes))
+}
+
+// Tells whether a stroke of these bytes, which were gathered before, is made of them.
+fn is_gathered(alloc: Global, mark: u64, offset: u16, bytes: &[u8]) -> Result<bool, NoMemory> {
+    let stroke = gathered(mark, offset, Bytes::from_slice(alloc, bytes)?)?;
+    Ok(is_made_of(&stroke, mark, offset, bytes))
+}
+
+// Tells both of as many sevens.
+fn are_made_of_sevens(alloc: Global, offset: u16, len: usize) -> Result<(bool, bool), NoMemory> {
+    let sevens = vec![in alloc; 7; len]?;
+    let is_copied = is_copied(alloc, offset, &sevens)?;
+    Ok((is_copied, is_gathered(alloc, u64::MAX, offset, &sevens)?))
+}
+
 #[test]
 fn a_stroke_tells_what_it_was_made_of(rt: HostRuntime) -> Result<(), Fail> {
-    let alloc = rt.alloc();
-    for (offset, len) in [(0, 0), (0, 1), (0, 4096), (4095, 1), (4096, 0), (17, 300)] {
-        let sevens = vec![in alloc; 7; len]?;
-        let stroke = copied(alloc, 9, offset, &sevens)?;
-        assert!(rt;
-            is_made_of(&stroke, 9, offset, &sevens),
-            "{len} at {offset}"
-        );
-        let bytes = Bytes::from_slice(alloc, &sevens)?;
-        let stroke = gathered(u64::MAX, offset, bytes)?;
-        assert!(rt;
-            is_made_of(&stroke, u64::MAX, offset, &sevens),
-            "{len} at {offset}"
-        );
+    for (offset, len) in PLACES.iter() {
+        let are_made = are_made_of_sevens(rt.alloc(), *offset, *len)?;
+        assert_eq!(rt; are_made, (true, true), "{len} at {offset}");
     }
-    let letters = Bytes::from(vec![in alloc; b'o', b'n', b'e']?);
-    let stroke = gathered(0, 4093, letters)?;
-    assert!(rt; is_made_of(&stroke, 0, 4093, b"one"));
+    assert!(rt; is_gathered(rt.alloc(), 0, 4093, b"one")?);
     Ok(())
 }
 
@@ -161,59 +170,110 @@ static PAGES: [Row; 10] = [
     (&[(3, b"ab"), (0, b"c")], b"c\0\0ab", b""),
 ];
 
+static READ_AT: [u16; 10] = [0, 1, 2, 3, 4, 5, 7, 8, 4094, 4095];
+
+// Tells whether each byte of a page that begins and ends so is read alone, and none behind the page.
+fn are_read(page: &Page, front: &[u8], back: &[u8]) -> bool {
+    for place in READ_AT.iter() {
+        if byte_at(page, *place) != between(front, back, usize::from(*place)) {
+            return false;
+        }
+    }
+    byte_at(page, 4096) == 255
+}
+
+// Tells whether a page has as many strokes as the row, and its bytes.
+fn shows(page: &Page, row: &Row) -> bool {
+    let (strokes, front, back) = *row;
+    page.strokes().len() == strokes.len()
+        && lends(page, front, back)
+        && is_read_as_lent(page)
+        && are_read(page, front, back)
+}
+
+// Tells whether a page that is written so shows it.
+fn is_shown(alloc: Global, row: &Row) -> Result<bool, NoMemory> {
+    match written(alloc, row.0)? {
+        Some(page) => Ok(shows(&page, row)),
+        None => Ok(false),
+    }
+}
+
 #[test]
 fn the_last_stroke_shows(rt: HostRuntime) -> Result<(), Fail> {
-    for (row, (strokes, front, back)) in PAGES.iter().enumerate() {
-        let Some(page) = written(rt.alloc(), strokes)? else {
-            return Err(Fail::new("a stroke has another place"));
-        };
-        assert_eq!(rt; page.strokes().len(), strokes.len(), "of row {row}");
-        assert!(rt; lends(&page, front, back), "of row {row}");
-        assert!(rt; is_read_as_lent(&page), "of row {row}");
-        for place in [0, 1, 2, 3, 4, 5, 7, 8, 4094, 4095] {
-            let want = between(front, back, usize::from(place));
-            assert_eq!(rt; byte_at(&page, place), want, "at {place} of row {row}");
-        }
-        assert_eq!(rt; byte_at(&page, 4096), 255, "of row {row}");
+    for (number, row) in PAGES.iter().enumerate() {
+        assert!(rt; is_shown(rt.alloc(), row)?, "of row {number}");
     }
     Ok(())
+}
+
+// Makes room for so many strokes: tells whether there is room, and how many strokes there are.
+fn room_for(page: &mut Page, room: u32) -> (bool, usize) {
+    let is_made = page.reserve(room).is_ok();
+    (is_made, page.strokes().len())
+}
+
+// Tells both of a page for three strokes and then two.
+fn empty_room(page: &mut Page) -> ((bool, usize), (bool, usize)) {
+    let three = room_for(page, 3);
+    (three, room_for(page, 2))
+}
+
+// Tells both of a page for the most strokes and then one.
+fn full_room(page: &mut Page) -> ((bool, usize), (bool, usize)) {
+    let most = room_for(page, u32::MAX);
+    (most, room_for(page, 1))
+}
+
+// What is told of a new page, the place of a stroke that is written there, and what is told then.
+type Rooms = (
+    ((bool, usize), (bool, usize)),
+    u32,
+    ((bool, usize), (bool, usize)),
+);
+
+fn rooms(alloc: Global) -> Result<Rooms, NoMemory> {
+    let stroke = copied(alloc, 0, 0, b"a")?;
+    let mut page = Page::zero(alloc)?;
+    let empty = empty_room(&mut page);
+    let place = write(&mut page, stroke)?;
+    Ok((empty, place, full_room(&mut page)))
 }
 
 #[test]
 fn room_for_two_to_the_32nd_stroke_is_refused(rt: HostRuntime) -> Result<(), Fail> {
-    let mut page = Page::zero(rt.alloc())?;
-    for (count, room, fits) in [
-        (0, 3, true),
-        (0, 2, true),
-        (1, u32::MAX, false),
-        (1, 1, true),
-    ] {
-        if page.strokes().len() < count {
-            let stroke = copied(rt.alloc(), 0, 0, b"a")?;
-            assert_eq!(rt; write(&mut page, stroke)?, 0);
-        }
-        assert_eq!(rt; page.reserve(room).is_ok(), fits, "{room}");
-        assert_eq!(rt; page.strokes().len(), count, "{room}");
-    }
+    let want = (((true, 0), (true, 0)), 0, ((false, 1), (true, 1)));
+    assert_eq!(rt; rooms(rt.alloc())?, want);
     Ok(())
+}
+
+// Tells whether a stroke is made of these bytes, and gives them away.
+fn is_given(stroke: Stroke, mark: u64, offset: u16, bytes: &[u8]) -> bool {
+    let is_made = is_made_of(&stroke, mark, offset, bytes);
+    is_made && stroke.into_bytes().as_slice() == bytes
+}
+
+static GIVEN: [(u16, &[u8]); 2] = [(7, &[1, 2, 3]), (4096, &[])];
+
+// Counts the strokes that a page gives away; none where one is another than it was made of.
+fn given_by(page: Page) -> Option<usize> {
+    let mut strokes: usize = 0;
+    for stroke in page.into_strokes() {
+        let (offset, bytes) = *GIVEN.get(strokes)?;
+        if !is_given(stroke, strokes as u64, offset, bytes) {
+            return None;
+        }
+        strokes = strokes.saturating_add(1);
+    }
+    Some(strokes)
 }
 
 #[test]
 fn strokes_are_given_away_with_their_bytes(rt: HostRuntime) -> Result<(), Fail> {
-    let Some(page) = written(rt.alloc(), &[(7, &[1, 2, 3]), (4096, &[])])? else {
-        return Err(Fail::new("a stroke has another place"));
+    let given = match written(rt.alloc(), &GIVEN)? {
+        Some(page) => given_by(page),
+        None => None,
     };
-    let mut strokes = 0u64;
-    for stroke in page.into_strokes() {
-        let (offset, bytes): (u16, &[u8]) = if strokes == 0 {
-            (7, &[1, 2, 3])
-        } else {
-            (4096, &[])
-        };
-        assert!(rt; is_made_of(&stroke, strokes, offset, bytes));
-        assert_eq!(rt; stroke.into_bytes().as_slice(), bytes);
-        strokes = strokes.saturating_add(1);
-    }
-    assert_eq!(rt; strokes, 2);
+    assert_eq!(rt; given, Some(2));
     Ok(())
 }

@@ -54,19 +54,72 @@ fn pass(
     }
 }
 
+// The number of strokes that a page has then, or the turn word.
+type Passed = Result<u64, u64>;
+
+// Passes two pages while a seat has the first of them in hand; how many strokes that page has.
+fn pass_two_held(
+    alloc: Global,
+    pages: &Pages,
+    holder: &mut PageSeat,
+    other: &mut PageSeat,
+) -> Result<Option<(usize, Passed, Passed)>, NoMemory>
+    requires holder { IsIdle pages.now holder.old }
+    requires other { IsIdle pages.now other.old }
+    requires count { pages.now.count ≡ 3 }
+{
+    let Take::Taken(held) = pages.take(holder, 1) else {
+        return Ok(None);
+    };
+    let strokes = held.strokes().len();
+    let first = pass(alloc, pages, other, 1, 9)?;
+    let second = pass(alloc, pages, other, 2, 9)?;
+    Ok(Some((strokes, first, second)))
+}
+
+// The same of new pages; none where a seat is missing, too.
+fn passed_two(alloc: Global) -> Result<Option<(usize, Passed, Passed)>, NoMemory> {
+    let OpenedPages { pages, mut seats } = Pages::open(alloc, 3, 2)?;
+    let (Some(mut second), Some(mut first)) = (seats.pop(), seats.pop()) else {
+        return Ok(None);
+    };
+    pass_two_held(alloc, &pages, &mut first, &mut second)
+}
+
 #[test]
 fn a_page_that_is_taken_is_in_use(rt: HostRuntime) -> Result<(), Fail> {
-    let OpenedPages { pages, mut seats } = Pages::open(rt.alloc(), 3, 2)?;
-    let (Some(mut second), Some(mut first)) = (seats.pop(), seats.pop()) else {
-        return Err(Fail::new("a seat is missing"));
-    };
-    let Take::Taken(held) = pages.take(&mut first, 1) else {
-        return Err(Fail::new("a page is in use"));
-    };
-    assert_eq!(rt; held.strokes().len(), 0);
-    assert_eq!(rt; pass(rt.alloc(), &pages, &mut second, 1, 9)?, Err(1));
-    assert_eq!(rt; pass(rt.alloc(), &pages, &mut second, 2, 9)?, Ok(1));
+    let want = Some((0, Err(1), Ok(1)));
+    assert_eq!(rt; passed_two(rt.alloc())?, want);
     Ok(())
+}
+
+// Passes the second page by both seats, and the third by the first.
+fn pass_three(
+    alloc: Global,
+    pages: &Pages,
+    first: &mut PageSeat,
+    second: &mut PageSeat,
+) -> Result<(Passed, Passed, Passed), NoMemory>
+    requires first { IsIdle pages.now first.old }
+    requires second { IsIdle pages.now second.old }
+    requires count { pages.now.count ≡ 3 }
+    ensures first { IsIdle pages.now first.new }
+    ensures second { IsIdle pages.now second.new }
+{
+    let one = pass(alloc, pages, second, 1, 9)?;
+    let two = pass(alloc, pages, first, 1, 9)?;
+    let three = pass(alloc, pages, first, 2, 9)?;
+    Ok((one, two, three))
+}
+
+// Tells whether the pages have these numbers of strokes.
+fn have_strokes(list: &[Page], counts: &[usize]) -> bool {
+    for (page, count) in list.iter().zip(counts.iter()) {
+        if page.strokes().len() != *count {
+            return false;
+        }
+    }
+    list.len() == counts.len()
 }
 
 #[test]
@@ -75,16 +128,14 @@ fn a_page_given_back_is_taken_by_another_seat(rt: HostRuntime) -> Result<(), Fai
     let (Some(mut second), Some(mut first)) = (seats.pop(), seats.pop()) else {
         return Err(Fail::new("a seat is missing"));
     };
-    assert_eq!(rt; pass(rt.alloc(), &pages, &mut second, 1, 9)?, Ok(1));
-    assert_eq!(rt; pass(rt.alloc(), &pages, &mut first, 1, 9)?, Ok(2));
-    assert_eq!(rt; pass(rt.alloc(), &pages, &mut first, 2, 9)?, Ok(1));
+    let passed = pass_three(rt.alloc(), &pages, &mut first, &mut second)?;
     seats.push(first)?;
     seats.push(second)?;
     let Ok(list) = pages.close(seats) else {
         return Err(Fail::new("out of memory"));
     };
-    let strokes = list.iter().map(|page| page.strokes().len());
-    assert!(rt; strokes.eq([0, 2, 1]));
+    let are_written = have_strokes(&list, &[0, 2, 1]);
+    assert_eq!(rt; (passed, are_written), ((Ok(1), Ok(2), Ok(1)), true));
     Ok(())
 }
 
@@ -128,26 +179,51 @@ fn two_turns(
     Ok(())
 }
 
+// Does so four times, in both orders.
+fn eight_turns(alloc: Global, pages: &Pages, seat: &mut PageSeat) -> Result<(), Fail>
+    requires idle { IsIdle pages.now seat.old }
+    requires count { pages.now.count ≡ 2 }
+    ensures { OnOk result (IsIdle pages.now seat.new) }
+{
+    two_turns(alloc, pages, seat, false)?;
+    two_turns(alloc, pages, seat, true)?;
+    two_turns(alloc, pages, seat, true)?;
+    two_turns(alloc, pages, seat, false)
+}
+
+// Tells whether each stroke on a page has this mark.
+fn are_marked(page: &Page, mark: u64) -> bool {
+    for stroke in page.strokes() {
+        if stroke.name().mark != mark {
+            return false;
+        }
+    }
+    true
+}
+
+// Tells whether each stroke is marked with the number of its page.
+fn are_marked_by_page(list: &[Page]) -> bool {
+    for (k, page) in list.iter().enumerate() {
+        if !are_marked(page, k as u64) {
+            return false;
+        }
+    }
+    true
+}
+
 #[test]
 fn pages_go_back_in_either_order(rt: HostRuntime) -> Result<(), Fail> {
     let OpenedPages { pages, mut seats } = Pages::open(rt.alloc(), 2, 1)?;
     let Some(mut seat) = seats.pop() else {
         return Err(Fail::new("a seat is missing"));
     };
-    two_turns(rt.alloc(), &pages, &mut seat, false)?;
-    two_turns(rt.alloc(), &pages, &mut seat, true)?;
-    two_turns(rt.alloc(), &pages, &mut seat, true)?;
-    two_turns(rt.alloc(), &pages, &mut seat, false)?;
+    eight_turns(rt.alloc(), &pages, &mut seat)?;
     seats.push(seat)?;
     let Ok(list) = pages.close(seats) else {
         return Err(Fail::new("out of memory"));
     };
-    let strokes = list.iter().map(|page| page.strokes().len());
-    assert!(rt; strokes.eq([4, 4]));
-    for (k, page) in list.iter().enumerate() {
-        let mut marks = page.strokes().iter().map(|stroke| stroke.name().mark);
-        assert!(rt; marks.all(|mark| mark == k as u64));
-    }
+    let are_written = (have_strokes(&list, &[4, 4]), are_marked_by_page(&list));
+    assert_eq!(rt; are_written, (true, true));
     Ok(())
 }
 
@@ -185,12 +261,12 @@ fn two_threads_at_one_page(rt: HostRuntime) -> Result<(), Fail> {
         move || work(alloc, shared, first, n),
         move || work(alloc, shared, second, n),
     );
-    assert_eq!(rt; (a, b), (n, n));
     seats.push(first)?;
     seats.push(second)?;
     let Ok(list) = pages.close(seats) else {
         return Err(Fail::new("out of memory"));
     };
-    assert_eq!(rt; list[0].strokes().len() as u64, 2 * n);
+    let strokes = list[0].strokes().len() as u64;
+    assert_eq!(rt; (a, b, strokes), (n, n, 2 * n));
     Ok(())
 }

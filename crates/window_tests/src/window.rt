@@ -41,7 +41,7 @@ enum Step {
 }
 
 /// What is seen of a step.
-#[derive(Clone, Copy, Debug, PartialEq, Eq)]
+#[derive(Clone, Copy, PartialEq, Eq)]
 enum Seen {
     Answer(TceAnswer),
     Value(GetTce),
@@ -85,13 +85,11 @@ impl Free {
         }
     }
 
-    // Does the steps of the rows, and gives the first of which something else is seen than its row says: its
-    // number, and what is seen.
-    fn first_other(&mut self, rows: &[Row]) -> Result<Option<(usize, Seen)>, NoMemory> {
+    // Does the steps of the rows, and gives the number of the first of which something else is seen than its row says.
+    fn first_other(&mut self, rows: &[Row]) -> Result<Option<usize>, NoMemory> {
         for (number, (step, want)) in rows.iter().enumerate() {
-            let seen = self.step(*step)?;
-            if seen != *want {
-                return Ok(Some((number, seen)));
+            if self.step(*step)? != *want {
+                return Ok(Some(number));
             }
         }
         Ok(None)
@@ -99,7 +97,7 @@ impl Free {
 }
 
 // Does the steps of the rows at a window of this many pages.
-fn first_other(alloc: Global, pages: u16, rows: &[Row]) -> Result<Option<(usize, Seen)>, NoMemory>
+fn first_other(alloc: Global, pages: u16, rows: &[Row]) -> Result<Option<usize>, NoMemory>
     requires { (1 ≤ pages) × (pages ≤ 256) }
 {
     let mut window = Free::open(alloc, pages)?;

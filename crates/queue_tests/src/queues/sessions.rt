@@ -71,11 +71,15 @@ fn is_ended_once(pipe: &PlainPipe) -> bool {
         && pipe.drops() == DROPPED.as_slice()
 }
 
+// The first row of which something else is seen, and whether the pipe is left so.
+fn ended(alloc: Global) -> Result<(Option<usize>, bool), NoMemory> {
+    let (other, pipe) = played_closed(alloc, 2, &ENDED)?;
+    Ok((other, is_ended_once(&pipe)))
+}
+
 #[test]
 fn a_session_that_ends_leaves_empty_slots(rt: HostRuntime) -> Result<(), Fail> {
-    let (other, pipe) = played_closed(rt.alloc(), 2, &ENDED)?;
-    let is_ended = is_ended_once(&pipe);
-    assert_eq!(rt; (other, is_ended), (None, true));
+    assert_eq!(rt; ended(rt.alloc())?, (None, true));
     Ok(())
 }
 
@@ -88,12 +92,17 @@ static EARLIER: [Row; 4] = [
 
 static ANEW: [Row; 2] = [(Step::Poll, Seen::Empty(0)), (Step::Put(0), Seen::Put(0))];
 
+// The first row of which something else is seen in the earlier session, the pipe's session and the entries that were put
+// then, and the first row of which something else is seen behind it.
+fn closed_earlier(alloc: Global) -> Result<(Option<usize>, (u64, usize), Option<usize>), NoMemory> {
+    let (earlier, mut pipe) = played_open(alloc, 2, &EARLIER)?;
+    let told = (pipe.session(), pipe.sent().len());
+    Ok((earlier, told, first_other(&mut pipe, &ANEW)?))
+}
+
 #[test]
 fn a_sender_of_an_earlier_session_closes_with_its_rows(rt: HostRuntime) -> Result<(), Fail> {
-    let (other, mut pipe) = played_open(rt.alloc(), 2, &EARLIER)?;
-    assert_eq!(rt; other, None);
-    assert_eq!(rt; (pipe.session(), pipe.sent().len()), (2, 1));
-    assert_eq!(rt; first_other(&mut pipe, &ANEW)?, None);
+    assert_eq!(rt; closed_earlier(rt.alloc())?, (None, (2, 1), None));
     Ok(())
 }
 

@@ -2,6 +2,7 @@
 use super::calls::{Answer, COMMAND, Call, FREE_DONE, REGISTER, REGISTERED};
 use super::sides::{SharedSides, Sides};
 use crq_session::{FreeAnswer, RegAnswer, SendAnswer};
+use std::alloc::Global;
 use std::test::Fail;
 
 /// A call of one side, or a free of the first side's queue while the second stands inside; and its answer.
@@ -40,9 +41,14 @@ fn first_other(sides: &mut SharedSides) -> Result<Option<usize>, Fail> {
     Ok(None)
 }
 
+// The same at a new link.
+fn played(alloc: Global) -> Result<Option<usize>, Fail> {
+    let mut sides = SharedSides::open(alloc, 256, 256)?;
+    first_other(&mut sides)
+}
+
 #[test]
 fn a_sender_inside_keeps_a_queue_from_being_freed(rt: HostRuntime) -> Result<(), Fail> {
-    let mut sides = SharedSides::open(rt.alloc(), 256, 256)?;
-    assert_eq!(rt; first_other(&mut sides)?, None);
+    assert_eq!(rt; played(rt.alloc())?, None);
     Ok(())
 }

@@ -4,7 +4,8 @@ ghost use Rattle.tce_window.specs.declared.piece.Piece.{Piece};
 
 use super::{COPIER, SOURCE, TARGET, is_blank, window};
 use rdma_copy::{CopyAnswer, copy_rdma};
-use tce_window::{GuestPort, Held, HoldFault, Right, WindowPort};
+use std::alloc::Global;
+use tce_window::{GuestPort, Held, HoldFault, PlainWindow, Right, WindowPort};
 use vio_num::NoMemory;
 
 /// A port that holds no range: the first page of a range that could be held is in use by word 77.
@@ -70,24 +71,42 @@ fn first_page(held: &Held) -> u16
     held.pieces()[0].page
 }
 
-#[test]
-fn a_page_in_use_is_named_of_either_side(rt: HostRuntime) -> Result<(), NoMemory> {
-    let alloc = rt.alloc();
-    let wanted = CopyAnswer::Busy { page: 0, word: 77 };
-    let past = CopyAnswer::SourceParm(HoldFault::Past { entry: 2 });
-    let times = 0;
+// Tells whether the first page is in use.
+fn is_busy(answer: CopyAnswer) -> bool {
+    matches!(answer, CopyAnswer::Busy { page: 0, word: 77 })
+}
+
+// Tells whether copies to a port in use, from it, and from behind its end are refused so.
+fn are_refused(
+    alloc: Global,
+    plain: &mut PlainWindow,
+    busy: &mut InUse<PlainWindow>,
+) -> (bool, bool, bool)
+    requires plain { plain.old.held_count ≡ 0 }
+    requires busy { busy.old.port.held_count ≡ 0 }
+{
+    let written = copy_rdma(alloc, plain, 0, busy, 0, 4096, COPIER);
+    let read = copy_rdma(alloc, busy, 0, plain, 0, 4096, COPIER);
+    let past = copy_rdma(alloc, busy, 8192, plain, 0, 1, COPIER);
+    let is_past = matches!(past, CopyAnswer::SourceParm(HoldFault::Past { entry: 2 }));
+    (is_busy(written), is_busy(read), is_past)
+}
+
+// The same of new windows, how often a page was in use, and whether no page has a stroke then.
+fn refused_copies(alloc: Global) -> Result<((bool, bool, bool), u64, bool), NoMemory> {
     let mut plain = window(alloc, SOURCE, 2, None)?;
     let mut busy = InUse {
         port: window(alloc, TARGET, 2, None)?,
-        times,
+        times: 0,
     };
-    let written = copy_rdma(alloc, &mut plain, 0, &mut busy, 0, 4096, COPIER);
-    let read = copy_rdma(alloc, &mut busy, 0, &mut plain, 0, 4096, COPIER);
-    let refused = copy_rdma(alloc, &mut busy, 8192, &mut plain, 0, 1, COPIER);
-    assert_eq!(rt; written, wanted);
-    assert_eq!(rt; read, wanted);
-    assert_eq!(rt; refused, past);
-    assert_eq!(rt; busy.times, 2);
-    assert!(rt; is_blank(&mut plain) && is_blank(&mut busy.port));
+    let are_refused = are_refused(alloc, &mut plain, &mut busy);
+    let are_blank = is_blank(&mut plain) && is_blank(&mut busy.port);
+    Ok((are_refused, busy.times, are_blank))
+}
+
+#[test]
+fn a_page_in_use_is_named_of_either_side(rt: HostRuntime) -> Result<(), NoMemory> {
+    let want = ((true, true, true), 2, true);
+    assert_eq!(rt; refused_copies(rt.alloc())?, want);
     Ok(())
 }

@@ -1,7 +1,9 @@
 // Ranges that a guest holds, at each edge and under each right.
 use super::{Free, Row, Seen, Step, first_other};
+use std::alloc::Global;
 use std::test::Fail;
 use tce_window::{GetTce, HoldFault, Right, TceAnswer};
+use vio_num::NoMemory;
 
 const DONE: Seen = Seen::Answer(TceAnswer::Done);
 
@@ -102,24 +104,45 @@ static RIGHTS: [(u64, u64, bool, bool); 6] = [
     (0x1FFD, 0x1001, true, false),
 ];
 
+// What is seen of a hold that is granted, or refused with this value of entry 1.
+fn held_or_lacks(is_granted: bool, version: u32, tce: u64) -> Seen {
+    if is_granted {
+        HELD
+    } else {
+        lacks(version, tce)
+    }
+}
+
+// Puts a value, which is the second entry's of this version, and gives what is seen of a hold for each right.
+fn held_with(free: &mut Free, tce: u64) -> Result<(Seen, Seen, Seen), NoMemory> {
+    let put = free.step(Step::Put(4096, tce))?;
+    let read = free.step(Step::Hold(4095, 2, Right::Read))?;
+    let write = free.step(Step::Hold(4095, 2, Right::Write))?;
+    Ok((put, read, write))
+}
+
+// Gives the number of the first row of the rights whose value grants others.
+fn first_other_right(free: &mut Free) -> Result<Option<usize>, NoMemory> {
+    for (row, (tce, told, read, write)) in RIGHTS.iter().enumerate() {
+        let version = row as u32 + 1;
+        let want_read = held_or_lacks(*read, version, *told);
+        let want_write = held_or_lacks(*write, version, *told);
+        if held_with(free, *tce)? != (DONE, want_read, want_write) {
+            return Ok(Some(row));
+        }
+    }
+    Ok(None)
+}
+
+// Does so at a window of two pages.
+fn put_rights(alloc: Global) -> Result<Option<usize>, NoMemory> {
+    let mut free = Free::open(alloc, 2)?;
+    first_other_right(&mut free)
+}
+
 #[test]
 fn each_right_is_tested_alone(rt: HostRuntime) -> Result<(), Fail> {
-    let mut free = Free::open(rt.alloc(), 2)?;
-    for (row, (tce, told, read, write)) in RIGHTS.iter().enumerate() {
-        let fault = lacks(row as u32 + 1, *told);
-        let rows = [
-            (Step::Put(4096, *tce), DONE),
-            (
-                Step::Hold(4095, 2, Right::Read),
-                if *read { HELD } else { fault },
-            ),
-            (
-                Step::Hold(4095, 2, Right::Write),
-                if *write { HELD } else { fault },
-            ),
-        ];
-        assert_eq!(rt; free.first_other(&rows)?, None, "of {tce:#x}");
-    }
+    assert_eq!(rt; put_rights(rt.alloc())?, None);
     Ok(())
 }
 
@@ -144,19 +167,30 @@ static RANGES: [(u64, u32, Option<u64>); 17] = [
     (u64::MAX, 65_536, Some(u64::MAX / 4096)),
 ];
 
-#[test]
-fn a_range_past_the_window_names_its_first_entry_there(rt: HostRuntime) -> Result<(), Fail> {
-    let mut free = Free::open(rt.alloc(), 3)?;
+// Gives the number of the first row of the ranges of which something else is seen, for either right.
+fn first_other_range(free: &mut Free) -> Result<Option<usize>, NoMemory> {
     for (row, (ioba, len, entry)) in RANGES.iter().enumerate() {
-        let wanted = match entry {
+        let want = match entry {
             Some(entry) => past(*entry),
             None => HELD,
         };
-        let rows = [
-            (Step::Hold(*ioba, *len, Right::Read), wanted),
-            (Step::Hold(*ioba, *len, Right::Write), wanted),
-        ];
-        assert_eq!(rt; free.first_other(&rows)?, None, "of row {row}");
+        let read = free.step(Step::Hold(*ioba, *len, Right::Read))?;
+        let write = free.step(Step::Hold(*ioba, *len, Right::Write))?;
+        if read != want || write != want {
+            return Ok(Some(row));
+        }
     }
+    Ok(None)
+}
+
+// Does so at a window of three pages.
+fn hold_ranges(alloc: Global) -> Result<Option<usize>, NoMemory> {
+    let mut free = Free::open(alloc, 3)?;
+    first_other_range(&mut free)
+}
+
+#[test]
+fn a_range_past_the_window_names_its_first_entry_there(rt: HostRuntime) -> Result<(), Fail> {
+    assert_eq!(rt; hold_ranges(rt.alloc())?, None);
     Ok(())
 }

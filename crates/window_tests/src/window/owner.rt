@@ -1,6 +1,7 @@
 // What the owner puts into its window's entries, and reads and writes in its region.
 use super::{Free, Row, Seen, Step, UNIT, first_other, put_list, stuff};
 use page_slots::StrokeName;
+use std::alloc::Global;
 use std::test::Fail;
 use tce_window::{GetTce, NamedFault, OwnFault, OwnerPort, PlainWindow, TceAnswer};
 use vio_num::NoMemory;
@@ -46,18 +47,31 @@ static VALUES: [Row; 16] = [
     (Step::Get(u64::MAX), Seen::Value(GetTce::Parameter)),
 ];
 
+// The entries, versions and values that are put.
+static VERSIONS: [(u16, u32, u64); 4] = [(0, 1, 3), (1, 1, 0x1001), (0, 2, 0x2000), (0, 3, 0x1FFF)];
+
+// Tells whether the values of a window are these, in their order.
+fn has_values(window: &PlainWindow, versions: &[(u16, u32, u64)]) -> bool {
+    for (row, version) in window.values().iter().zip(versions.iter()) {
+        if (row.entry, row.version, row.value) != *version {
+            return false;
+        }
+    }
+    window.values().len() == versions.len()
+}
+
+// Puts the values at a window of two pages: the number of the first row of which something else is seen, the pages, and
+// whether the window has the values.
+fn put_values(alloc: Global) -> Result<(Option<usize>, u16, bool), NoMemory> {
+    let mut free = Free::open(alloc, 2)?;
+    let other = free.first_other(&VALUES)?;
+    let pages = OwnerPort::pages(&free.window);
+    Ok((other, pages, has_values(&free.window, &VERSIONS)))
+}
+
 #[test]
 fn values_are_put_at_the_entries_of_the_window(rt: HostRuntime) -> Result<(), Fail> {
-    let mut free = Free::open(rt.alloc(), 2)?;
-    assert_eq!(rt; free.first_other(&VALUES)?, None);
-    assert_eq!(rt; OwnerPort::pages(&free.window), 2);
-    let versions = [(0, 1, 3), (1, 1, 0x1001), (0, 2, 0x2000), (0, 3, 0x1FFF)];
-    let values = free.window.values().iter();
-    assert!(rt;
-        values
-            .map(|row| (row.entry, row.version, row.value))
-            .eq(versions)
-    );
+    assert_eq!(rt; put_values(rt.alloc())?, (None, 2, true));
     Ok(())
 }
 
@@ -68,31 +82,53 @@ fn put_twice(window: &mut PlainWindow, list: &[u64]) -> Result<(Seen, Seen), NoM
     Ok((listed, stuffed))
 }
 
+// How many values there are, and what is answered.
+static COUNTS: [(usize, Seen); 7] = [
+    (0, DONE),
+    (1, DONE),
+    (256, DONE),
+    (257, REFUSED),
+    (511, REFUSED),
+    (512, REFUSED),
+    (513, REFUSED),
+];
+
+// Gives the first number of values of which something else is seen; they are the first of these.
+fn first_other_count(window: &mut PlainWindow, list: &[u64]) -> Result<Option<usize>, NoMemory> {
+    for (count, answer) in COUNTS.iter() {
+        let list = &list[..list.len().min(*count)];
+        if put_twice(window, list)? != (*answer, *answer) {
+            return Ok(Some(*count));
+        }
+    }
+    Ok(None)
+}
+
+// Tells whether no value is put behind the window, and none where more are named than it has entries.
+fn are_edges_refused(window: &mut PlainWindow) -> Result<bool, NoMemory> {
+    let none = stuff(window, u64::MAX, 5, 0)?;
+    let most = stuff(window, 0, 5, u64::MAX)?;
+    Ok(none == DONE && most == REFUSED)
+}
+
+// Tells how many values a window has, and whether the last entry's is 5.
+fn last_is_five(window: &mut PlainWindow) -> (usize, bool) {
+    let count = window.values().len();
+    (count, super::get(window, 255 * 4096) == value(5))
+}
+
+// Puts lists of each length, and what lies at the edges.
+fn put_lists(alloc: Global) -> Result<(Option<usize>, bool, (usize, bool)), NoMemory> {
+    let list = vec![in alloc; 7; 513]?;
+    let mut window = PlainWindow::open(alloc, UNIT, 256)?;
+    let other = first_other_count(&mut window, &list)?;
+    let are_refused = are_edges_refused(&mut window)?;
+    Ok((other, are_refused, last_is_five(&mut window)))
+}
+
 #[test]
 fn lists_of_values_are_put_up_to_512(rt: HostRuntime) -> Result<(), Fail> {
-    let mut window = PlainWindow::open(rt.alloc(), UNIT, 256)?;
-    for (count, answer) in [
-        (0, DONE),
-        (1, DONE),
-        (256, DONE),
-        (257, REFUSED),
-        (511, REFUSED),
-        (512, REFUSED),
-        (513, REFUSED),
-    ] {
-        let list = vec![in rt.alloc(); 7; count]?;
-        let answers = put_twice(&mut window, &list)?;
-        assert_eq!(rt; answers, (answer, answer), "{count} values");
-    }
-    for (ioba, count, answer) in [(u64::MAX, 0, DONE), (0, u64::MAX, REFUSED)] {
-        assert_eq!(rt;
-            stuff(&mut window, ioba, 5, count)?,
-            answer,
-            "{count} values"
-        );
-    }
-    assert_eq!(rt; window.values().len(), 514);
-    assert_eq!(rt; super::get(&mut window, 255 * 4096), value(5));
+    assert_eq!(rt; put_lists(rt.alloc())?, (None, true, (514, true)));
     Ok(())
 }
 

@@ -1,3 +1,5 @@
+use Rattle.block_server.specs.Books.{books_at}
+use Rattle.block_server.proofs.Jointly.{works, works_none, works_on}
 use Rattle.std.proofs.Common.{ap, refl, ◌∙◌}
 use Rattle.block_server.specs.Answering.{responses}
 use Rattle.crq_session.specs.EndState.{EndState}
@@ -5,7 +7,8 @@ use Rattle.block_server.proofs.Agreeing.{agrees_on, agrees_same}
 use Rattle.block_server.proofs.Readying.{idles_equal, idles_on, idles_reserves}
 use Rattle.block_server.proofs.Staging.{answer_held, answer_stops}
 use Rattle.block_server.proofs.Advancing.{advances_on, advances_same}
-use Rattle.block_server.proofs.Onces.{once_on, once_same}
+use Rattle.block_server.proofs.Onces.{once_same, once_then}
+use Rattle.block_server.proofs.Denying.{tells_first, tells_next}
 use Rattle.block_server.proofs.Quieting.{quiet_on, quiet_still, still_reserves}
 use Rattle.block_server.proofs.Taking.{lines_same, takes_none, takes_on}
 use Rattle.block_server.proofs.Keeping.{moved_to}
@@ -18,20 +21,36 @@ use Rattle.block_server.proofs.OwingCalls.{seen_reserves}
 use Rattle.block_server.proofs.answering.answer.Goals as goal
 
 pub returns-in_err-make_room-clause-once : goal.returns-in_err-make_room-clause-once
-returns-in_err-make_room-clause-once g c = λ disk serving. once_same _ _ _ _ _ _ refl c.make_room.ensures.lists.history refl disk serving
+returns-in_err-make_room-clause-once g c = λ disk all serving. once_same _ _ _ _ _ _ refl c.make_room.ensures.lists.history refl disk serving
 
 pub returns-in_err-make_room-2-clause-once : goal.returns-in_err-make_room-2-clause-once
-returns-in_err-make_room-2-clause-once g c = λ disk serving. once_same _ _ _ _ _ _ refl c.make_room.ensures.lists.history refl disk serving
+returns-in_err-make_room-2-clause-once g c = λ disk all serving. once_same _ _ _ _ _ _ refl c.make_room.ensures.lists.history refl disk serving
 
 pub returns-in_err-reserve-clause-once : goal.returns-in_err-reserve-clause-once
-returns-in_err-reserve-clause-once g c = λ disk serving.
+returns-in_err-reserve-clause-once g c = λ disk all serving.
     once_same _ _ _ _ _ _ refl c.make_room.ensures.lists.history (ap responses c.reserve.ensures.rest.sent) disk serving
+
+pub returns-in_err-copy_answer-clause-once : goal.returns-in_err-copy_answer-clause-once
+returns-in_err-copy_answer-clause-once g c =
+    λ disk all. once_then disk disk disk _ _ _ _ _ _ _ _ _ (once_same _ _ _ _ _ _ refl c.make_room.ensures.lists.history (ap responses c.reserve.ensures.rest.sent) disk)
+    (c.copy_answer.ensures.once disk
+    (tells_next disk.terms.told c.args.unit.now.id (g.S.Site.state c.args.site.now) (g.S.Site.state c.reserve.new.self) (g.S.Site.state c.copy_answer.new.site) c.reserve.ensures.advances all))
+
+pub returns-in_default-clause-once : goal.returns-in_default-clause-once
+returns-in_default-clause-once g c =
+    λ disk all. once_then disk disk disk _ _ _ _ _ _ _ _ _ (once_same _ _ _ _ _ _ refl c.make_room.ensures.lists.history (ap responses c.reserve.ensures.rest.sent) disk)
+    (c.copy_answer.ensures.once disk
+    (tells_next disk.terms.told c.args.unit.now.id (g.S.Site.state c.args.site.now) (g.S.Site.state c.reserve.new.self) (g.S.Site.state c.copy_answer.new.site) c.reserve.ensures.advances all))
 
 pub returns-in-Entry-clause-once : goal.returns-in-Entry-clause-once
 returns-in-Entry-clause-once g c =
-    once_on _ _ _ _ _ _ _ _ _
-    (once_on _ _ _ _ _ _ _ _ _ (once_same _ _ _ _ _ _ refl c.make_room.ensures.lists.history (ap responses c.reserve.ensures.rest.sent)) c.copy_answer.ensures.once)
-    c.put_answer.ensures.once
+    λ disk all.
+    let before = tells_first disk.terms.told c.args.unit.now.id (g.S.Site.state c.args.site.now) (g.S.Site.state c.copy_answer.new.site) (g.S.Site.state c.put_answer.new.site) c.put_answer.ensures.advances all in
+    once_then disk disk disk _ _ _ _ _ _ _ _ _
+    (once_then disk disk disk _ _ _ _ _ _ _ _ _ (once_same _ _ _ _ _ _ refl c.make_room.ensures.lists.history (ap responses c.reserve.ensures.rest.sent) disk)
+    (c.copy_answer.ensures.once disk
+    (tells_next disk.terms.told c.args.unit.now.id (g.S.Site.state c.args.site.now) (g.S.Site.state c.reserve.new.self) (g.S.Site.state c.copy_answer.new.site) c.reserve.ensures.advances before)))
+    (c.put_answer.ensures.once disk)
 
 pub returns-in-Entry-clause-advances : goal.returns-in-Entry-clause-advances
 returns-in-Entry-clause-advances g c = advances_on _ _ _ (advances_on _ _ _ c.reserve.ensures.advances c.copy_answer.ensures.advances) c.put_answer.ensures.advances
@@ -91,22 +110,22 @@ returns-in-Entry-clause-intake g c = takes_on _ _ _ _ _ _ _ _ _ (takes_on _ _ _ 
     (takes_none _ _ _ _ _ _ c.put_answer.ensures.stands c.put_answer.ensures.advances c.put_answer.ensures.passes c.put_answer.ensures.lines)
 
 pub returns-in_err-make_room-clause-books : goal.returns-in_err-make_room-clause-books
-returns-in_err-make_room-clause-books g c = λ judged is. moved_to _ _ judged refl refl refl refl refl refl refl refl refl (ap keys_of c.make_room.ensures.lists.history) c.make_room.ensures.lists.grants refl is
+returns-in_err-make_room-clause-books g c = λ judged is. moved_to _ _ judged refl refl refl refl refl refl refl refl refl (ap keys_of c.make_room.ensures.lists.history) c.make_room.ensures.lists.grants refl refl refl is
 
 pub returns-in_err-make_room-2-clause-books : goal.returns-in_err-make_room-2-clause-books
-returns-in_err-make_room-2-clause-books g c = λ judged is. moved_to _ _ judged refl refl refl refl refl refl refl refl refl (ap keys_of c.make_room.ensures.lists.history) c.make_room.ensures.lists.grants refl is
+returns-in_err-make_room-2-clause-books g c = λ judged is. moved_to _ _ judged refl refl refl refl refl refl refl refl refl (ap keys_of c.make_room.ensures.lists.history) c.make_room.ensures.lists.grants refl refl refl is
 
 pub returns-in_err-reserve-clause-books : goal.returns-in_err-reserve-clause-books
-returns-in_err-reserve-clause-books g c = λ judged is. moved_to _ _ judged refl (passed_session _ _ c.reserve.ensures.passes) (passed_next c.args.unit.now.waiting c.args.unit.now.waiting _ _ refl c.reserve.ensures.passes) refl refl refl refl refl refl (ap keys_of c.make_room.ensures.lists.history) c.make_room.ensures.lists.grants refl is
+returns-in_err-reserve-clause-books g c = λ judged is. moved_to _ _ judged refl (passed_session _ _ c.reserve.ensures.passes) (passed_next c.args.unit.now.waiting c.args.unit.now.waiting _ _ refl c.reserve.ensures.passes) refl refl refl refl refl refl (ap keys_of c.make_room.ensures.lists.history) c.make_room.ensures.lists.grants refl refl refl is
 
 pub returns-in_err-copy_answer-clause-books : goal.returns-in_err-copy_answer-clause-books
-returns-in_err-copy_answer-clause-books g c = λ judged is. c.copy_answer.ensures.books judged (moved_to _ _ judged refl (passed_session _ _ c.reserve.ensures.passes) (passed_next c.args.unit.now.waiting c.args.unit.now.waiting _ _ refl c.reserve.ensures.passes) refl refl refl refl refl refl (ap keys_of c.make_room.ensures.lists.history) c.make_room.ensures.lists.grants refl is)
+returns-in_err-copy_answer-clause-books g c = λ judged is. c.copy_answer.ensures.books judged (moved_to _ _ judged refl (passed_session _ _ c.reserve.ensures.passes) (passed_next c.args.unit.now.waiting c.args.unit.now.waiting _ _ refl c.reserve.ensures.passes) refl refl refl refl refl refl (ap keys_of c.make_room.ensures.lists.history) c.make_room.ensures.lists.grants refl refl refl is)
 
 pub returns-in_default-clause-books : goal.returns-in_default-clause-books
-returns-in_default-clause-books g c = λ judged is. c.copy_answer.ensures.books judged (moved_to _ _ judged refl (passed_session _ _ c.reserve.ensures.passes) (passed_next c.args.unit.now.waiting c.args.unit.now.waiting _ _ refl c.reserve.ensures.passes) refl refl refl refl refl refl (ap keys_of c.make_room.ensures.lists.history) c.make_room.ensures.lists.grants refl is)
+returns-in_default-clause-books g c = λ judged is. c.copy_answer.ensures.books judged (moved_to _ _ judged refl (passed_session _ _ c.reserve.ensures.passes) (passed_next c.args.unit.now.waiting c.args.unit.now.waiting _ _ refl c.reserve.ensures.passes) refl refl refl refl refl refl (ap keys_of c.make_room.ensures.lists.history) c.make_room.ensures.lists.grants refl refl refl is)
 
 pub returns-in-Entry-clause-books : goal.returns-in-Entry-clause-books
-returns-in-Entry-clause-books g c = λ judged is. c.put_answer.ensures.books judged (c.copy_answer.ensures.books judged (moved_to _ _ judged refl (passed_session _ _ c.reserve.ensures.passes) (passed_next c.args.unit.now.waiting c.args.unit.now.waiting _ _ refl c.reserve.ensures.passes) refl refl refl refl refl refl (ap keys_of c.make_room.ensures.lists.history) c.make_room.ensures.lists.grants refl is))
+returns-in-Entry-clause-books g c = λ judged is. c.put_answer.ensures.books judged (c.copy_answer.ensures.books judged (moved_to _ _ judged refl (passed_session _ _ c.reserve.ensures.passes) (passed_next c.args.unit.now.waiting c.args.unit.now.waiting _ _ refl c.reserve.ensures.passes) refl refl refl refl refl refl (ap keys_of c.make_room.ensures.lists.history) c.make_room.ensures.lists.grants refl refl refl is))
 
 pub returns-in_err-make_room-clause-passes : goal.returns-in_err-make_room-clause-passes
 returns-in_err-make_room-clause-passes g c = refl
@@ -146,5 +165,33 @@ returns-in_default-clause-answers g c = λ judged is alone has. c.copy_answer.en
 pub returns-in-Entry-clause-answers : goal.returns-in-Entry-clause-answers
 returns-in-Entry-clause-answers g c = λ judged is alone has.
     c.put_answer.ensures.answers judged (c.copy_answer.ensures.books judged
-    (moved_to _ _ judged refl (passed_session _ _ c.reserve.ensures.passes) (passed_next c.args.unit.now.waiting c.args.unit.now.waiting _ _ refl c.reserve.ensures.passes) refl refl refl refl refl refl (ap keys_of c.make_room.ensures.lists.history) c.make_room.ensures.lists.grants refl is)) alone
+    (moved_to _ _ judged refl (passed_session _ _ c.reserve.ensures.passes) (passed_next c.args.unit.now.waiting c.args.unit.now.waiting _ _ refl c.reserve.ensures.passes) refl refl refl refl refl refl (ap keys_of c.make_room.ensures.lists.history) c.make_room.ensures.lists.grants refl refl refl is)) alone
     (c.copy_answer.ensures.answers alone (owes_seen _ _ (seen_reserves _ _ c.reserve.ensures.rest) refl refl refl refl refl (ap row_states c.make_room.ensures.lists.history) c.make_room.ensures.lists.grants has))
+
+pub returns-in_err-make_room-clause-judges : goal.returns-in_err-make_room-clause-judges
+returns-in_err-make_room-clause-judges g c = (works_none _ _ _ _ _ _ refl refl refl (advances_same _) refl (lines_same _ _ _ c.make_room.ensures.lists.grants) (returns-in_err-make_room-clause-books g c)).judges
+
+pub returns-in_err-make_room-2-clause-judges : goal.returns-in_err-make_room-2-clause-judges
+returns-in_err-make_room-2-clause-judges g c = (works_none _ _ _ _ _ _ refl refl refl (advances_same _) refl (lines_same _ _ _ c.make_room.ensures.lists.grants) (returns-in_err-make_room-2-clause-books g c)).judges
+
+pub returns-in_err-reserve-clause-judges : goal.returns-in_err-reserve-clause-judges
+returns-in_err-reserve-clause-judges g c = (works_none _ _ _ _ _ _ refl refl refl c.reserve.ensures.advances c.reserve.ensures.passes (lines_same _ _ _ c.make_room.ensures.lists.grants) (returns-in_err-reserve-clause-books g c)).judges
+
+pub returns-in_err-copy_answer-clause-judges : goal.returns-in_err-copy_answer-clause-judges
+returns-in_err-copy_answer-clause-judges g c = (works_on _ _ _ _ _ _ _ _ _
+    (works_none _ _ _ _ _ (books_at c.args.unit.now (g.S.Site.state c.reserve.new.self) c.make_room.new.self) refl refl refl c.reserve.ensures.advances c.reserve.ensures.passes (lines_same _ _ _ c.make_room.ensures.lists.grants)
+    (λ judged is. moved_to _ _ judged refl (passed_session _ _ c.reserve.ensures.passes) (passed_next c.args.unit.now.waiting c.args.unit.now.waiting _ _ refl c.reserve.ensures.passes) refl refl refl refl refl refl (ap keys_of c.make_room.ensures.lists.history) c.make_room.ensures.lists.grants refl refl refl is))
+    (works _ _ _ _ _ _ refl refl c.copy_answer.ensures.intake c.copy_answer.ensures.judges)).judges
+
+pub returns-in_default-clause-judges : goal.returns-in_default-clause-judges
+returns-in_default-clause-judges g c = (works_on _ _ _ _ _ _ _ _ _
+    (works_none _ _ _ _ _ (books_at c.args.unit.now (g.S.Site.state c.reserve.new.self) c.make_room.new.self) refl refl refl c.reserve.ensures.advances c.reserve.ensures.passes (lines_same _ _ _ c.make_room.ensures.lists.grants)
+    (λ judged is. moved_to _ _ judged refl (passed_session _ _ c.reserve.ensures.passes) (passed_next c.args.unit.now.waiting c.args.unit.now.waiting _ _ refl c.reserve.ensures.passes) refl refl refl refl refl refl (ap keys_of c.make_room.ensures.lists.history) c.make_room.ensures.lists.grants refl refl refl is))
+    (works _ _ _ _ _ _ refl refl c.copy_answer.ensures.intake c.copy_answer.ensures.judges)).judges
+
+pub returns-in-Entry-clause-judges : goal.returns-in-Entry-clause-judges
+returns-in-Entry-clause-judges g c = (works_on _ _ _ _ _ _ _ _ _ (works_on _ _ _ _ _ _ _ _ _
+    (works_none _ _ _ _ _ (books_at c.args.unit.now (g.S.Site.state c.reserve.new.self) c.make_room.new.self) refl refl refl c.reserve.ensures.advances c.reserve.ensures.passes (lines_same _ _ _ c.make_room.ensures.lists.grants)
+    (λ judged is. moved_to _ _ judged refl (passed_session _ _ c.reserve.ensures.passes) (passed_next c.args.unit.now.waiting c.args.unit.now.waiting _ _ refl c.reserve.ensures.passes) refl refl refl refl refl refl (ap keys_of c.make_room.ensures.lists.history) c.make_room.ensures.lists.grants refl refl refl is))
+    (works _ _ _ _ _ _ refl refl c.copy_answer.ensures.intake c.copy_answer.ensures.judges))
+    (works_none _ _ _ _ _ _ c.put_answer.ensures.stands refl refl c.put_answer.ensures.advances c.put_answer.ensures.passes c.put_answer.ensures.lines c.put_answer.ensures.books)).judges

@@ -1,6 +1,8 @@
+use Rattle.block_server.specs.Books.{books_at}
+use Rattle.block_server.proofs.Jointly.{answer_going, judges_over, keeps_refused, works, works_none, works_on}
 use Rattle.std.proofs.Common.{inl, inr, refl}
 use Rattle.block_server.proofs.Staging.{at_entry}
-use Rattle.block_server.proofs.Onces.{once_on, once_same}
+use Rattle.block_server.proofs.Onces.{once_same, once_then}
 use Rattle.block_server.proofs.Taking.{lines_same, takes_ended, takes_none, takes_on}
 use Rattle.block_server.proofs.Advancing.{advances_same}
 use Rattle.vio_num.specs.declared.history.Lapse.TheVariants.{Refused}
@@ -10,11 +12,11 @@ use Rattle.block_server.specs.Owed.{row_in}
 use Rattle.block_server.proofs.answering.copy_answer.Goals as goal
 
 pub returns-in_default-clause-once : goal.returns-in_default-clause-once
-returns-in_default-clause-once g c = λ disk serving. once_same _ _ _ _ _ _ refl refl refl disk serving
+returns-in_default-clause-once g c = λ disk all serving. once_same _ _ _ _ _ _ refl refl refl disk serving
 
 pub returns-in-Refused-clause-once : goal.returns-in-Refused-clause-once
 returns-in-Refused-clause-once g c =
-    once_on _ _ _ _ _ _ _ _ _ (c.deliver.ensures.once c.args.records.now) (c.end_session.ensures.once (g.S.Site.state c.deliver.new.site).queue)
+    λ disk all. once_then disk disk disk _ _ _ _ _ _ _ _ _ (c.deliver.ensures.once c.args.records.now disk all) (c.end_session.ensures.once (g.S.Site.state c.deliver.new.site).queue disk)
 
 pub returns-in_default-clause-waits : goal.returns-in_default-clause-waits
 returns-in_default-clause-waits g c = λ moved pending answered.
@@ -52,7 +54,28 @@ pub returns-in-Busy-clause-books : goal.returns-in-Busy-clause-books
 returns-in-Busy-clause-books g c = c.deliver.ensures.books c.args.records.now
 
 pub returns-in-Refused-clause-books : goal.returns-in-Refused-clause-books
-returns-in-Refused-clause-books g c = λ judged is. c.end_session.ensures.books _ _ _ _ refl judged (c.deliver.ensures.books c.args.records.now judged is)
+returns-in-Refused-clause-books g c = λ judged is. keeps_refused c.deliver.new.unit c.end_session.new.unit (g.S.Site.state c.deliver.new.site) c.args.records.now c.end_session.new.records _ _ c.session.ensures c.end_session.ensures.ends.waiting c.end_session.ensures.closing
+    (c.in_ok-deliver.ensures.stays c.in-Refused.is) c.end_session.ensures.books judged (c.deliver.ensures.books c.args.records.now judged is)
+
+pub returns-in_default-clause-judges : goal.returns-in_default-clause-judges
+returns-in_default-clause-judges g c = (works_none _ _ _ _ _ _ refl refl refl (advances_same _) refl (lines_same _ _ _ refl) (λ judged is. is)).judges
+
+pub returns-in_err-deliver-clause-judges : goal.returns-in_err-deliver-clause-judges
+returns-in_err-deliver-clause-judges g c = (works_none _ _ _ _ _ _ c.deliver.ensures.stands refl refl c.deliver.ensures.advances c.deliver.ensures.passes (lines_same _ _ _ refl) (c.deliver.ensures.books c.args.records.now)).judges
+
+pub returns-in-Done-clause-judges : goal.returns-in-Done-clause-judges
+returns-in-Done-clause-judges g c = (works_none _ _ _ _ _ _ c.deliver.ensures.stands refl refl c.deliver.ensures.advances c.deliver.ensures.passes (lines_same _ _ _ refl) (c.deliver.ensures.books c.args.records.now)).judges
+
+pub returns-in-Busy-clause-judges : goal.returns-in-Busy-clause-judges
+returns-in-Busy-clause-judges g c = (works_none _ _ _ _ _ _ c.deliver.ensures.stands refl refl c.deliver.ensures.advances c.deliver.ensures.passes (lines_same _ _ _ refl) (c.deliver.ensures.books c.args.records.now)).judges
+
+pub returns-in-Refused-clause-judges : goal.returns-in-Refused-clause-judges
+returns-in-Refused-clause-judges g c =
+    (works_on _ _ _ _ _ _ _ _ _
+    (works_none _ _ _ _ _ _ c.deliver.ensures.stands refl refl c.deliver.ensures.advances c.deliver.ensures.passes (lines_same _ _ _ refl) (c.deliver.ensures.books c.args.records.now))
+    (works _ _ _ _ _ _ refl refl (takes_ended _ _ _ _ _ _ _ Refused 0 0 c.end_session.ensures.ends c.end_session.ensures.id c.end_session.ensures.closing refl c.session.ensures (advances_same _) refl)
+    (judges_over c.deliver.new.unit c.end_session.new.unit (g.S.Site.state c.deliver.new.site) (g.S.Site.state c.deliver.new.site) c.args.records.now c.end_session.new.records _ Refused 0 0 c.end_session.ensures.ends c.end_session.ensures.id c.end_session.ensures.closing refl c.session.ensures (advances_same _) refl
+    c.end_session.ensures.books (λ waits. refl) (λ receipts judged intake is. answer_going (books_at c.deliver.new.unit (g.S.Site.state c.deliver.new.site) c.args.records.now) judged _ is (c.in_ok-deliver.ensures.stays c.in-Refused.is)) (λ arrival waits judged going is. refl)))).judges
 
 pub returns-in_default-clause-passes : goal.returns-in_default-clause-passes
 returns-in_default-clause-passes g c = refl

@@ -4,7 +4,10 @@ use Rattle.block_server.specs.Answering.{responses}
 use Rattle.std.specs.Result.{IsErrOf}
 use Rattle.block_server.specs.declared.site.Halt.TheVariants.{Busy}
 use Rattle.block_server.proofs.Onces.{once_same}
-use Rattle.block_server.proofs.Serves.{once_copied}
+use Rattle.block_server.proofs.Serves.{front_is, once_copied}
+use Rattle.block_server.proofs.Hearing.{heard_delivered}
+use Rattle.block_server.specs.Delivers.{DeliversOne}
+use Rattle.std.proofs.Common.{◌≡◌, List, rules, subst, ℕ}
 use Rattle.block_server.proofs.Keeping.{keeps_delivered, moved_to}
 use Rattle.block_server.specs.Books.{next_of}
 use Rattle.std.proofs.Common.{ap, sym, ◌∙◌, refl}
@@ -14,21 +17,25 @@ use Rattle.block_server.specs.Owed.{row_in}
 use Rattle.block_server.proofs.answering.deliver.Goals as goal
 
 pub returns-in_default-clause-once : goal.returns-in_default-clause-once
-returns-in_default-clause-once g c = λ records disk serving. once_same _ _ _ _ _ _ refl refl refl disk serving
+returns-in_default-clause-once g c = λ records disk all serving. once_same _ _ _ _ _ _ refl refl refl disk serving
 
 pub returns-in-Ok-clause-once : goal.returns-in-Ok-clause-once
-returns-in-Ok-clause-once g c = λ records disk serving.
-    once_copied _ _ _ _ _ _ c.args.outcome refl refl c.requires.stage refl refl c.requires.none refl
-    (ap (λ (q : EndState). responses q.sent) c.deliver_unit.ensures.queue) disk serving
+returns-in-Ok-clause-once g c = λ records disk all serving.
+    let front = front_is _ _ c.in-Some.ensures.item.3 in
+    let same : c.deref.result.now ≡ c.args.unit.now.service.answer.items = search (rules, c.deref.ensures) in
+    once_copied _ _ _ _ _ _ c.args.outcome c.in-Some.request.now front.0 refl refl front.1 c.requires.stage refl refl c.requires.none refl
+    (ap (λ (q : EndState). responses q.sent) c.deliver_unit.ensures.queue) disk
+    (heard_delivered disk.terms.told c.args.unit.now.id _ _ _ _ _ all (subst (λ (bytes : List ℕ). DeliversOne (g.S.Site.state c.args.site.now) (g.S.Site.state c.deliver_unit.new.self) 0 c.in-Some.request.now.address c.in-Some.request.now.tag bytes)
+    same c.in-Ok.ensures.delivered)) serving
 
 pub returns-in-Err-Refused-clause-once : goal.returns-in-Err-Refused-clause-once
-returns-in-Err-Refused-clause-once g c = λ records disk serving. once_same _ _ _ _ _ _ refl refl (ap (λ (q : EndState). responses q.sent) c.deliver_unit.ensures.queue) disk serving
+returns-in-Err-Refused-clause-once g c = λ records disk all serving. once_same _ _ _ _ _ _ refl refl (ap (λ (q : EndState). responses q.sent) c.deliver_unit.ensures.queue) disk serving
 
 pub returns-in-Err-Busy-clause-once : goal.returns-in-Err-Busy-clause-once
-returns-in-Err-Busy-clause-once g c = λ records disk serving. once_same _ _ _ _ _ _ refl refl (ap (λ (q : EndState). responses q.sent) c.deliver_unit.ensures.queue) disk serving
+returns-in-Err-Busy-clause-once g c = λ records disk all serving. once_same _ _ _ _ _ _ refl refl (ap (λ (q : EndState). responses q.sent) c.deliver_unit.ensures.queue) disk serving
 
 pub returns-in-Err-NoMemory-clause-once : goal.returns-in-Err-NoMemory-clause-once
-returns-in-Err-NoMemory-clause-once g c = λ records disk serving. once_same _ _ _ _ _ _ refl refl (ap (λ (q : EndState). responses q.sent) c.deliver_unit.ensures.queue) disk serving
+returns-in-Err-NoMemory-clause-once g c = λ records disk all serving. once_same _ _ _ _ _ _ refl refl (ap (λ (q : EndState). responses q.sent) c.deliver_unit.ensures.queue) disk serving
 
 pub returns-in-Err-Busy-clause-busy : goal.returns-in-Err-Busy-clause-busy
 returns-in-Err-Busy-clause-busy g c = λ is pending.
@@ -39,17 +46,17 @@ pub returns-in_default-clause-books : goal.returns-in_default-clause-books
 returns-in_default-clause-books g c = λ records judged is. is
 
 pub returns-in-Ok-clause-books : goal.returns-in-Ok-clause-books
-returns-in-Ok-clause-books g c = λ records judged is. moved_to _ _ judged refl (ap (λ (q : EndState). q.last_session) c.deliver_unit.ensures.queue) (ap (next_of c.args.unit.now.waiting) c.deliver_unit.ensures.queue) refl refl refl refl refl refl refl refl refl
+returns-in-Ok-clause-books g c = λ records judged is. moved_to _ _ judged refl (ap (λ (q : EndState). q.last_session) c.deliver_unit.ensures.queue) (ap (next_of c.args.unit.now.waiting) c.deliver_unit.ensures.queue) refl refl refl refl refl refl refl refl refl refl refl
     (keeps_delivered _ c.args.outcome judged c.requires.stage c.requires.none is)
 
 pub returns-in-Err-Refused-clause-books : goal.returns-in-Err-Refused-clause-books
-returns-in-Err-Refused-clause-books g c = λ records judged is. moved_to _ _ judged refl (ap (λ (q : EndState). q.last_session) c.deliver_unit.ensures.queue) (ap (next_of c.args.unit.now.waiting) c.deliver_unit.ensures.queue) refl refl refl refl refl refl refl refl refl is
+returns-in-Err-Refused-clause-books g c = λ records judged is. moved_to _ _ judged refl (ap (λ (q : EndState). q.last_session) c.deliver_unit.ensures.queue) (ap (next_of c.args.unit.now.waiting) c.deliver_unit.ensures.queue) refl refl refl refl refl refl refl refl refl refl refl is
 
 pub returns-in-Err-Busy-clause-books : goal.returns-in-Err-Busy-clause-books
-returns-in-Err-Busy-clause-books g c = λ records judged is. moved_to _ _ judged refl (ap (λ (q : EndState). q.last_session) c.deliver_unit.ensures.queue) (ap (next_of c.args.unit.now.waiting) c.deliver_unit.ensures.queue) refl refl refl refl refl refl refl refl refl is
+returns-in-Err-Busy-clause-books g c = λ records judged is. moved_to _ _ judged refl (ap (λ (q : EndState). q.last_session) c.deliver_unit.ensures.queue) (ap (next_of c.args.unit.now.waiting) c.deliver_unit.ensures.queue) refl refl refl refl refl refl refl refl refl refl refl is
 
 pub returns-in-Err-NoMemory-clause-books : goal.returns-in-Err-NoMemory-clause-books
-returns-in-Err-NoMemory-clause-books g c = λ records judged is. moved_to _ _ judged refl (ap (λ (q : EndState). q.last_session) c.deliver_unit.ensures.queue) (ap (next_of c.args.unit.now.waiting) c.deliver_unit.ensures.queue) refl refl refl refl refl refl refl refl refl is
+returns-in-Err-NoMemory-clause-books g c = λ records judged is. moved_to _ _ judged refl (ap (λ (q : EndState). q.last_session) c.deliver_unit.ensures.queue) (ap (next_of c.args.unit.now.waiting) c.deliver_unit.ensures.queue) refl refl refl refl refl refl refl refl refl refl refl is
 
 pub returns-in_default-clause-answers : goal.returns-in_default-clause-answers
 returns-in_default-clause-answers g c = λ records alone has. has

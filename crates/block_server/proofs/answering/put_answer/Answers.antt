@@ -1,3 +1,5 @@
+use Rattle.block_server.specs.declared.line.Line.{Line}
+use Rattle.block_server.specs.Books.{credits_of, is_up}
 use Rattle.std.proofs.Common.{ap, refl, subst, true, ◌≡◌, ◌∙◌, length}
 use Rattle.vio_num.specs.Entry.{srp_entry}
 use Rattle.block_server.specs.Answering.{responses}
@@ -27,7 +29,7 @@ returns-in_default-clause-once g c = λ disk serving. once_same _ _ _ _ _ _ refl
 pub returns-in-Success-clause-once : goal.returns-in-Success-clause-once
 returns-in-Success-clause-once g c = λ disk serving.
     let front = front_is _ _ c.in-Some.ensures.item.3 in
-    once_settled _ _ _ _ _ _ _ c.in-Some.request.now front.0 disk serving c.settle.ensures.id c.settle.ensures.stage (c.settle.ensures.kept ∙ c.requires.none) front.1
+    once_settled _ _ _ _ _ _ _ c.in-Some.request.now front.0 disk serving c.settle.ensures.id c.settle.ensures.stage (c.settle.ensures.kept ∙ c.requires.none) front.1 c.settle.ensures.pending
     (c.answer_entry-entry.ensures.entry ∙ ap (λ n. srp_entry n c.in-Some.request.now.tag) (c.len.ensures ∙ c.args.unit.now.service.answer.ok.0))
     c.in-Success.ensures.success.puts.sent c.args.outcome c.requires.stage
     (subst (λ (stage : Stage). has_answer stage (length c.args.unit.now.service.answer.items) ≡ true) c.requires.stage c.args.unit.now.service.answered)
@@ -48,7 +50,7 @@ returns-in-Dropped-clause-once g c = λ disk serving.
 pub returns-in_default-send-clause-once : goal.returns-in_default-send-clause-once
 returns-in_default-send-clause-once g c = λ disk serving.
     once_cleared _ _ _ _ _ _ c.finish.ensures.id c.finish.ensures.stage (c.finish.ensures.kept ∙ c.requires.none) refl
-    (none_sent _ _ _ _ c.in_default-send.not-Success c.in_default-send.not-Dropped c.send.ensures.closed c.send.ensures.refused) disk
+    (none_sent _ _ _ _ c.in_default-send.not-Success c.in_default-send.not-Dropped c.send.ensures.closed c.send.ensures.refused) disk c.finish.ensures.pending serving
 
 pub returns-in_default-clause-agrees : goal.returns-in_default-clause-agrees
 returns-in_default-clause-agrees g c = λ is. is
@@ -70,16 +72,16 @@ returns-in_default-clause-books g c = λ judged is. is
 
 pub returns-in-Success-clause-books : goal.returns-in-Success-clause-books
 returns-in-Success-clause-books g c = λ judged is.
-    let before = moved_to _ _ judged refl (c.session.ensures ∙ passed_session _ _ c.send.ensures.passes) refl refl refl refl refl refl refl refl refl refl is in
-    moved_to _ _ judged refl (sym c.session.ensures) (passed_next c.args.unit.now.waiting c.settle.new.unit.waiting _ _ (waiting_stands _ _ c.settle.ensures.stands) c.send.ensures.passes) refl refl refl refl refl refl refl refl refl
+    let before = moved_to _ _ judged refl (c.session.ensures ∙ passed_session _ _ c.send.ensures.passes) refl refl refl refl refl refl refl refl refl refl refl refl is in
+    moved_to _ _ judged refl (sym c.session.ensures) (passed_next c.args.unit.now.waiting c.settle.new.unit.waiting _ _ (waiting_stands _ _ c.settle.ensures.stands) c.send.ensures.passes) refl refl refl refl refl refl refl refl refl refl refl
     (c.settle.ensures.books (next_of c.args.unit.now.waiting (g.S.Site.state c.args.site.now).queue) c.requires.stage c.requires.none judged before)
 
 pub returns-in-Dropped-clause-books : goal.returns-in-Dropped-clause-books
-returns-in-Dropped-clause-books g c = λ judged is. moved_to _ _ judged refl (passed_session _ _ c.send.ensures.passes) (passed_next c.args.unit.now.waiting c.args.unit.now.waiting _ _ refl c.send.ensures.passes) refl refl refl refl refl refl refl refl refl
+returns-in-Dropped-clause-books g c = λ judged is. moved_to _ _ judged refl (passed_session _ _ c.send.ensures.passes) (passed_next c.args.unit.now.waiting c.args.unit.now.waiting _ _ refl c.send.ensures.passes) refl refl refl refl refl refl refl refl refl refl refl
     (keeps_kept _ (Some (keeps.Answer c.answer_entry-entry.result c.args.outcome)) judged c.requires.stage is)
 
 pub returns-in_default-send-clause-books : goal.returns-in_default-send-clause-books
-returns-in_default-send-clause-books g c = λ judged is. moved_to _ _ judged c.finish.ensures.id (passed_session _ _ c.send.ensures.passes) (passed_next c.args.unit.now.waiting c.finish.new.unit.waiting _ _ (waiting_stands _ _ c.finish.ensures.stands) c.send.ensures.passes) (ap (λ (l : Logins). l.current) c.finish.ensures.logins) (ap (λ (l : Logins). l.last) c.finish.ensures.logins) (ap (λ (l : Logins). l.taking) c.finish.ensures.logins) c.finish.ensures.stage (c.finish.ensures.kept ∙ c.requires.none) c.finish.ensures.pending refl refl (ap is_ended c.finish.ensures.line)
+returns-in_default-send-clause-books g c = λ judged is. moved_to _ _ judged c.finish.ensures.id (passed_session _ _ c.send.ensures.passes) (passed_next c.args.unit.now.waiting c.finish.new.unit.waiting _ _ (waiting_stands _ _ c.finish.ensures.stands) c.send.ensures.passes) (ap (λ (l : Logins). l.current) c.finish.ensures.logins) (ap (λ (l : Logins). l.last) c.finish.ensures.logins) (ap (λ (l : Logins). l.taking) c.finish.ensures.logins) c.finish.ensures.stage (c.finish.ensures.kept ∙ c.requires.none) c.finish.ensures.pending refl refl (ap is_ended c.finish.ensures.line) (ap (λ (line : Line). is_up line.handshake) c.finish.ensures.line) (ap credits_of c.finish.ensures.logins)
     (keeps_finished _ c.args.outcome judged c.requires.stage is)
 
 pub returns-in_default-clause-answers : goal.returns-in_default-clause-answers

@@ -1,3 +1,5 @@
+use Rattle.block_server.specs.declared.line.Line.{Line}
+use Rattle.block_server.specs.Books.{credits_of, is_up}
 use Rattle.std.proofs.Common.{ap, refl, rules, subst, true, ◌≡◌, ◌∙◌, ◌++◌, List, [], ◌∷◌, length, Some}
 use Rattle.crq_ring.specs.declared.rows.PipeRow.{PipeRow}
 use Rattle.vio_num.specs.declared.history.Served.{Served}
@@ -49,7 +51,7 @@ returns-in-Answer-clause-once g c = λ disk serving.
     let is = serving.kept (keeps.Answer c.in-Answer.entry c.in-Answer.outcome) (c.in-Some.is ∙ ap Some c.in-Answer.is) in
     let answer = c.args.unit.now.service.answer.items in
     let put : PipeRow = record { session = (g.S.Site.state c.send.new.self).queue.counts.partner_session; entry = c.entry.result } in
-    once_settled _ _ _ _ _ _ put is.request is.rest disk serving c.settle.ensures.id c.settle.ensures.stage c.settle.ensures.kept is.front
+    once_settled _ _ _ _ _ _ put is.request is.rest disk serving c.settle.ensures.id c.settle.ensures.stage c.settle.ensures.kept is.front c.settle.ensures.pending
     (c.entry.ensures ∙ ap kept_entry c.in-Answer.is ∙ is.entry_is)
     (c.in-Success.ensures.success.puts.sent ∙ ap (λ (rows : List PipeRow). rows ++ put ∷ []) c.reserve.ensures.rest.sent)
     c.in-Answer.outcome is.stage
@@ -67,7 +69,7 @@ pub returns-in-Answer-kept-clause-once : goal.returns-in-Answer-kept-clause-once
 returns-in-Answer-kept-clause-once g c = λ disk serving.
     once_cleared _ _ _ _ _ _ c.finish.ensures.id c.finish.ensures.stage c.finish.ensures.kept c.make_room.ensures.lists.history
     (none_sent _ _ _ _ c.in_default-send.not-Success c.in_default-send.not-Dropped c.send.ensures.closed c.send.ensures.refused
-    ∙ ap responses c.reserve.ensures.rest.sent) disk
+    ∙ ap responses c.reserve.ensures.rest.sent) disk c.finish.ensures.pending serving
 
 pub returns-in_default-kept-2-clause-once : goal.returns-in_default-kept-2-clause-once
 returns-in_default-kept-2-clause-once g c = λ disk serving.
@@ -121,34 +123,34 @@ pub returns-in_default-clause-books : goal.returns-in_default-clause-books
 returns-in_default-clause-books g c = λ judged is. is
 
 pub returns-in_err-make_room-clause-books : goal.returns-in_err-make_room-clause-books
-returns-in_err-make_room-clause-books g c = λ judged is. moved_to _ _ judged refl refl refl refl refl refl refl refl refl (ap keys_of c.make_room.ensures.lists.history) c.make_room.ensures.lists.grants refl is
+returns-in_err-make_room-clause-books g c = λ judged is. moved_to _ _ judged refl refl refl refl refl refl refl refl refl (ap keys_of c.make_room.ensures.lists.history) c.make_room.ensures.lists.grants refl refl refl is
 
 pub returns-in_err-make_room-2-clause-books : goal.returns-in_err-make_room-2-clause-books
-returns-in_err-make_room-2-clause-books g c = λ judged is. moved_to _ _ judged refl refl refl refl refl refl refl refl refl (ap keys_of c.make_room.ensures.lists.history) c.make_room.ensures.lists.grants refl is
+returns-in_err-make_room-2-clause-books g c = λ judged is. moved_to _ _ judged refl refl refl refl refl refl refl refl refl (ap keys_of c.make_room.ensures.lists.history) c.make_room.ensures.lists.grants refl refl refl is
 
 pub returns-in_err-reserve-clause-books : goal.returns-in_err-reserve-clause-books
-returns-in_err-reserve-clause-books g c = λ judged is. moved_to _ _ judged refl (passed_session _ _ c.reserve.ensures.passes) (passed_next c.args.unit.now.waiting c.args.unit.now.waiting _ _ refl c.reserve.ensures.passes) refl refl refl refl refl refl (ap keys_of c.make_room.ensures.lists.history) c.make_room.ensures.lists.grants refl is
+returns-in_err-reserve-clause-books g c = λ judged is. moved_to _ _ judged refl (passed_session _ _ c.reserve.ensures.passes) (passed_next c.args.unit.now.waiting c.args.unit.now.waiting _ _ refl c.reserve.ensures.passes) refl refl refl refl refl refl (ap keys_of c.make_room.ensures.lists.history) c.make_room.ensures.lists.grants refl refl refl is
 
 pub returns-in-Dropped-clause-books : goal.returns-in-Dropped-clause-books
-returns-in-Dropped-clause-books g c = λ judged is. moved_to _ _ judged refl (passed_session _ _ (c.send.ensures.passes ∙ c.reserve.ensures.passes)) (passed_next c.args.unit.now.waiting c.args.unit.now.waiting _ _ refl (c.send.ensures.passes ∙ c.reserve.ensures.passes)) refl refl refl refl refl refl (ap keys_of c.make_room.ensures.lists.history) c.make_room.ensures.lists.grants refl is
+returns-in-Dropped-clause-books g c = λ judged is. moved_to _ _ judged refl (passed_session _ _ (c.send.ensures.passes ∙ c.reserve.ensures.passes)) (passed_next c.args.unit.now.waiting c.args.unit.now.waiting _ _ refl (c.send.ensures.passes ∙ c.reserve.ensures.passes)) refl refl refl refl refl refl (ap keys_of c.make_room.ensures.lists.history) c.make_room.ensures.lists.grants refl refl refl is
 
 pub returns-in-Answer-clause-books : goal.returns-in-Answer-clause-books
 returns-in-Answer-clause-books g c = λ judged is.
     let stage = kept_stage c.args.unit.now.service.stage c.args.unit.now.line.kept c.in-Answer.entry c.in-Answer.outcome (c.in-Some.is ∙ ap Some c.in-Answer.is) is.kept in
-    let before = moved_to _ _ judged refl (c.session.ensures ∙ passed_session _ _ (c.send.ensures.passes ∙ c.reserve.ensures.passes)) refl refl refl refl refl refl refl (ap keys_of c.make_room.ensures.lists.history) c.make_room.ensures.lists.grants refl (keeps_kept _ None judged tt is) in
-    moved_to _ _ judged refl (sym c.session.ensures) (passed_next c.args.unit.now.waiting c.settle.new.unit.waiting _ _ (waiting_stands _ _ c.settle.ensures.stands) (c.send.ensures.passes ∙ c.reserve.ensures.passes)) refl refl refl refl refl refl refl refl refl
+    let before = moved_to _ _ judged refl (c.session.ensures ∙ passed_session _ _ (c.send.ensures.passes ∙ c.reserve.ensures.passes)) refl refl refl refl refl refl refl (ap keys_of c.make_room.ensures.lists.history) c.make_room.ensures.lists.grants refl refl refl (keeps_kept _ None judged tt is) in
+    moved_to _ _ judged refl (sym c.session.ensures) (passed_next c.args.unit.now.waiting c.settle.new.unit.waiting _ _ (waiting_stands _ _ c.settle.ensures.stands) (c.send.ensures.passes ∙ c.reserve.ensures.passes)) refl refl refl refl refl refl refl refl refl refl refl
     (c.settle.ensures.books (next_of c.args.unit.now.waiting (g.S.Site.state c.args.site.now).queue) stage refl judged before)
 
 pub returns-in_default-kept-clause-books : goal.returns-in_default-kept-clause-books
-returns-in_default-kept-clause-books g c = λ judged is. moved_to _ _ judged refl (passed_session _ _ (c.send.ensures.passes ∙ c.reserve.ensures.passes)) (passed_next c.args.unit.now.waiting c.args.unit.now.waiting _ _ refl (c.send.ensures.passes ∙ c.reserve.ensures.passes)) refl refl refl refl refl refl (ap keys_of c.make_room.ensures.lists.history) c.make_room.ensures.lists.grants refl (keeps_kept _ None judged tt is)
+returns-in_default-kept-clause-books g c = λ judged is. moved_to _ _ judged refl (passed_session _ _ (c.send.ensures.passes ∙ c.reserve.ensures.passes)) (passed_next c.args.unit.now.waiting c.args.unit.now.waiting _ _ refl (c.send.ensures.passes ∙ c.reserve.ensures.passes)) refl refl refl refl refl refl (ap keys_of c.make_room.ensures.lists.history) c.make_room.ensures.lists.grants refl refl refl (keeps_kept _ None judged tt is)
 
 pub returns-in_default-kept-2-clause-books : goal.returns-in_default-kept-2-clause-books
-returns-in_default-kept-2-clause-books g c = λ judged is. moved_to _ _ judged refl (passed_session _ _ (c.send.ensures.passes ∙ c.reserve.ensures.passes)) (passed_next c.args.unit.now.waiting c.args.unit.now.waiting _ _ refl (c.send.ensures.passes ∙ c.reserve.ensures.passes)) refl refl refl refl refl refl (ap keys_of c.make_room.ensures.lists.history) c.make_room.ensures.lists.grants refl (keeps_kept _ None judged tt is)
+returns-in_default-kept-2-clause-books g c = λ judged is. moved_to _ _ judged refl (passed_session _ _ (c.send.ensures.passes ∙ c.reserve.ensures.passes)) (passed_next c.args.unit.now.waiting c.args.unit.now.waiting _ _ refl (c.send.ensures.passes ∙ c.reserve.ensures.passes)) refl refl refl refl refl refl (ap keys_of c.make_room.ensures.lists.history) c.make_room.ensures.lists.grants refl refl refl (keeps_kept _ None judged tt is)
 
 pub returns-in-Answer-kept-clause-books : goal.returns-in-Answer-kept-clause-books
 returns-in-Answer-kept-clause-books g c = λ judged is.
     let stage = kept_stage c.args.unit.now.service.stage c.args.unit.now.line.kept c.in-Answer-kept.entry c.in-Answer-kept.outcome (c.in-Some.is ∙ ap Some c.in-Answer-kept.is) is.kept in
-    moved_to _ _ judged c.finish.ensures.id (passed_session _ _ (c.send.ensures.passes ∙ c.reserve.ensures.passes)) (passed_next c.args.unit.now.waiting c.finish.new.unit.waiting _ _ (waiting_stands _ _ c.finish.ensures.stands) (c.send.ensures.passes ∙ c.reserve.ensures.passes)) (ap (λ (l : Logins). l.current) c.finish.ensures.logins) (ap (λ (l : Logins). l.last) c.finish.ensures.logins) (ap (λ (l : Logins). l.taking) c.finish.ensures.logins) c.finish.ensures.stage c.finish.ensures.kept c.finish.ensures.pending (ap keys_of c.make_room.ensures.lists.history) c.make_room.ensures.lists.grants (ap is_ended c.finish.ensures.line)
+    moved_to _ _ judged c.finish.ensures.id (passed_session _ _ (c.send.ensures.passes ∙ c.reserve.ensures.passes)) (passed_next c.args.unit.now.waiting c.finish.new.unit.waiting _ _ (waiting_stands _ _ c.finish.ensures.stands) (c.send.ensures.passes ∙ c.reserve.ensures.passes)) (ap (λ (l : Logins). l.current) c.finish.ensures.logins) (ap (λ (l : Logins). l.last) c.finish.ensures.logins) (ap (λ (l : Logins). l.taking) c.finish.ensures.logins) c.finish.ensures.stage c.finish.ensures.kept c.finish.ensures.pending (ap keys_of c.make_room.ensures.lists.history) c.make_room.ensures.lists.grants (ap is_ended c.finish.ensures.line) (ap (λ (line : Line). is_up line.handshake) c.finish.ensures.line) (ap credits_of c.finish.ensures.logins)
     (keeps_finished _ c.in-Answer-kept.outcome judged stage is)
 
 pub returns-in_default-clause-answers : goal.returns-in_default-clause-answers

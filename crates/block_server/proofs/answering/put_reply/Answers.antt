@@ -34,13 +34,13 @@ pub returns-in_default-clause-agrees : goal.returns-in_default-clause-agrees
 returns-in_default-clause-agrees g c = agrees_same _ _ _ _ refl c.send.ensures.rest.registered
 
 pub returns-in-Dropped-clause-books : goal.returns-in-Dropped-clause-books
-returns-in-Dropped-clause-books g c = λ records judged is. moved_to _ _ judged refl (passed_session _ _ c.send.ensures.passes) (passed_next c.args.unit.now.waiting c.args.unit.now.waiting _ _ refl c.send.ensures.passes) refl refl refl refl refl refl refl refl refl (keeps_kept _ (Some (keeps.Reply c.args.reply)) judged tt is)
+returns-in-Dropped-clause-books g c = λ records judged is. moved_to _ _ judged refl (passed_session _ _ c.send.ensures.passes) (passed_next c.args.unit.now.waiting c.args.unit.now.waiting _ _ refl c.send.ensures.passes) refl refl refl refl refl refl refl refl refl refl refl (keeps_kept _ (Some (keeps.Reply c.args.reply)) judged tt is)
 
 pub returns-in-Success-clause-books : goal.returns-in-Success-clause-books
-returns-in-Success-clause-books g c = λ records judged is. moved_to _ _ judged refl (passed_session _ _ c.send.ensures.passes) (passed_next c.args.unit.now.waiting c.args.unit.now.waiting _ _ refl c.send.ensures.passes) refl refl refl refl refl refl refl refl refl is
+returns-in-Success-clause-books g c = λ records judged is. moved_to _ _ judged refl (passed_session _ _ c.send.ensures.passes) (passed_next c.args.unit.now.waiting c.args.unit.now.waiting _ _ refl c.send.ensures.passes) refl refl refl refl refl refl refl refl refl refl refl is
 
 pub returns-in_default-clause-books : goal.returns-in_default-clause-books
-returns-in_default-clause-books g c = λ records judged is. moved_to _ _ judged refl (passed_session _ _ c.send.ensures.passes) (passed_next c.args.unit.now.waiting c.args.unit.now.waiting _ _ refl c.send.ensures.passes) refl refl refl refl refl refl refl refl refl is
+returns-in_default-clause-books g c = λ records judged is. moved_to _ _ judged refl (passed_session _ _ c.send.ensures.passes) (passed_next c.args.unit.now.waiting c.args.unit.now.waiting _ _ refl c.send.ensures.passes) refl refl refl refl refl refl refl refl refl refl refl is
 
 pub returns-in-Dropped-clause-answers : goal.returns-in-Dropped-clause-answers
 returns-in-Dropped-clause-answers g c = λ records alone has. owes_seen _ _ (seen_sends _ _ _ c.send.ensures.rest) refl refl refl refl refl refl refl has

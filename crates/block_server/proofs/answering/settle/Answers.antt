@@ -1,4 +1,4 @@
-use Rattle.std.proofs.Common.{ap, drop, refl, ◌∙◌, Global, Vec}
+use Rattle.std.proofs.Common.{ap, drop, refl, ◌∙◌, ◌++◌, ◌+◌, Global, Vec}
 use Rattle.vio_num.specs.declared.history.Grant.{Grant}
 use Rattle.block_server.specs.Judged.{keys_of}
 use Rattle.block_server.specs.Receipts.{is_ended}
@@ -7,7 +7,9 @@ use Rattle.block_server.specs.declared.records.Records.{Records}
 use Rattle.block_server.specs.declared.service.Stage.TheVariants.{Entry}
 use Rattle.block_server.specs.declared.unit.Unit.{Unit as ServerUnit}
 use Rattle.block_server.proofs.Booking.{granted_same}
-use Rattle.block_server.proofs.Keeping.{keeps_begun, keeps_finished, moved_to}
+use Rattle.block_server.specs.Books.{credits_of, is_up}
+use Rattle.block_server.specs.declared.line.Line.{Line}
+use Rattle.block_server.proofs.Keeping.{keeps_begun, keeps_credits, keeps_finished, moved_to}
 use Rattle.std.proofs.Common.{sym, slice_get, ◌∷◌, [], inr}
 use Rattle.block_server.proofs.Owing.{none_some, owes_on}
 use Rattle.block_server.proofs.OwingRows.{owes_answered, owes_dropped}
@@ -21,12 +23,12 @@ use Rattle.block_server.proofs.answering.settle.Goals.{in-Granted, in-Rejected, 
 pub returns-clause-books : goal.returns-clause-books
 returns-clause-books c = λ next stage kept judged is.
     elim c.match-outcome.branch [
-      | in-Granted w ↦ moved_to _ _ judged (c.finish.ensures.id ∙ ap (λ (u : ServerUnit). u.id) w.unit-is) refl refl (ap (λ (l : Logins). l.current) c.finish.ensures.logins ∙ ap (λ (u : ServerUnit). u.logins.current) w.unit-is ∙ w.begin-login.ensures.current ∙ w.begin-login.ensures.number) (ap (λ (l : Logins). l.last) c.finish.ensures.logins ∙ ap (λ (u : ServerUnit). u.logins.last) w.unit-is ∙ w.begin-login.ensures.last ∙ w.begin-login.ensures.number) (ap (λ (l : Logins). l.taking) c.finish.ensures.logins ∙ ap (λ (u : ServerUnit). u.logins.taking) w.unit-is ∙ w.begin-login.ensures.taking) c.finish.ensures.stage (c.finish.ensures.kept ∙ ap (λ (u : ServerUnit). u.line.kept) w.unit-is ∙ kept) (c.finish.ensures.pending ∙ ap (λ (u : ServerUnit). drop 1 u.pending.items) w.unit-is) (ap (λ (r : Records). keys_of r.history.items) w.records-is) (granted_same _ _ _ _ _ _ _ _ (ap (λ (r : Records). r.grants.items) w.records-is ∙ w.push_reserved.ensures.items) w.begin-login.ensures.number) (ap is_ended c.finish.ensures.line ∙ ap (λ (u : ServerUnit). is_ended u.line) w.unit-is)
-          (keeps_begun _ w.in-Granted.number w.credits-credits.result judged (stage ∙ ap Entry w.in-Granted.is) is)
-      | in-Rejected w ↦ moved_to _ _ judged (c.finish.ensures.id ∙ ap (λ (u : ServerUnit). u.id) w.unit-is) refl refl (ap (λ (l : Logins). l.current) c.finish.ensures.logins ∙ ap (λ (u : ServerUnit). u.logins.current) w.unit-is) (ap (λ (l : Logins). l.last) c.finish.ensures.logins ∙ ap (λ (u : ServerUnit). u.logins.last) w.unit-is) (ap (λ (l : Logins). l.taking) c.finish.ensures.logins ∙ ap (λ (u : ServerUnit). u.logins.taking) w.unit-is) c.finish.ensures.stage (c.finish.ensures.kept ∙ ap (λ (u : ServerUnit). u.line.kept) w.unit-is ∙ kept) (c.finish.ensures.pending ∙ ap (λ (u : ServerUnit). drop 1 u.pending.items) w.unit-is) (ap (λ (r : Records). keys_of r.history.items) w.records-is) (ap (λ (r : Records). r.grants.items) w.records-is) (ap is_ended c.finish.ensures.line ∙ ap (λ (u : ServerUnit). is_ended u.line) w.unit-is)
+      | in-Granted w ↦ moved_to _ _ judged (c.finish.ensures.id ∙ ap (λ (u : ServerUnit). u.id) w.unit-is) refl refl (ap (λ (l : Logins). l.current) c.finish.ensures.logins ∙ ap (λ (u : ServerUnit). u.logins.current) w.unit-is ∙ w.begin-login.ensures.current ∙ w.begin-login.ensures.number) (ap (λ (l : Logins). l.last) c.finish.ensures.logins ∙ ap (λ (u : ServerUnit). u.logins.last) w.unit-is ∙ w.begin-login.ensures.last ∙ w.begin-login.ensures.number) (ap (λ (l : Logins). l.taking) c.finish.ensures.logins ∙ ap (λ (u : ServerUnit). u.logins.taking) w.unit-is ∙ w.begin-login.ensures.taking) c.finish.ensures.stage (c.finish.ensures.kept ∙ ap (λ (u : ServerUnit). u.line.kept) w.unit-is ∙ kept) (c.finish.ensures.pending ∙ ap (λ (u : ServerUnit). drop 1 u.pending.items) w.unit-is) (ap (λ (r : Records). keys_of r.history.items) w.records-is) (granted_same _ _ _ _ _ _ _ _ (ap (λ (r : Records). r.grants.items) w.records-is ∙ w.push_reserved.ensures.items) w.begin-login.ensures.number ∙ (λ i. c.args.records.now.grants.items ++ Granted c.args.unit.now.id c.args.session (c.args.unit.now.logins.last + 1) w.in-Granted.number (w.credits-credits.ensures i) ∷ [])) (ap is_ended c.finish.ensures.line ∙ ap (λ (u : ServerUnit). is_ended u.line) w.unit-is) (ap (λ (l : Line). is_up l.handshake) c.finish.ensures.line ∙ ap (λ (u : ServerUnit). is_up u.line.handshake) w.unit-is) (ap credits_of c.finish.ensures.logins ∙ ap (λ (u : ServerUnit). credits_of u.logins) w.unit-is ∙ (λ i. record { outstanding = w.begin-login.ensures.outstanding i; granted = w.begin-login.ensures.granted i }))
+          (keeps_begun _ w.in-Granted.number judged (stage ∙ ap Entry w.in-Granted.is) is)
+      | in-Rejected w ↦ moved_to _ _ judged (c.finish.ensures.id ∙ ap (λ (u : ServerUnit). u.id) w.unit-is) refl refl (ap (λ (l : Logins). l.current) c.finish.ensures.logins ∙ ap (λ (u : ServerUnit). u.logins.current) w.unit-is) (ap (λ (l : Logins). l.last) c.finish.ensures.logins ∙ ap (λ (u : ServerUnit). u.logins.last) w.unit-is) (ap (λ (l : Logins). l.taking) c.finish.ensures.logins ∙ ap (λ (u : ServerUnit). u.logins.taking) w.unit-is) c.finish.ensures.stage (c.finish.ensures.kept ∙ ap (λ (u : ServerUnit). u.line.kept) w.unit-is ∙ kept) (c.finish.ensures.pending ∙ ap (λ (u : ServerUnit). drop 1 u.pending.items) w.unit-is) (ap (λ (r : Records). keys_of r.history.items) w.records-is) (ap (λ (r : Records). r.grants.items) w.records-is) (ap is_ended c.finish.ensures.line ∙ ap (λ (u : ServerUnit). is_ended u.line) w.unit-is) (ap (λ (l : Line). is_up l.handshake) c.finish.ensures.line ∙ ap (λ (u : ServerUnit). is_up u.line.handshake) w.unit-is) (ap credits_of c.finish.ensures.logins ∙ ap (λ (u : ServerUnit). credits_of u.logins) w.unit-is)
           (keeps_finished _ c.args.outcome judged stage is)
-      | in-Served w ↦ moved_to _ _ judged (c.finish.ensures.id ∙ ap (λ (u : ServerUnit). u.id) w.unit-is) refl refl (ap (λ (l : Logins). l.current) c.finish.ensures.logins ∙ ap (λ (u : ServerUnit). u.logins.current) w.unit-is ∙ w.answer.ensures.current) (ap (λ (l : Logins). l.last) c.finish.ensures.logins ∙ ap (λ (u : ServerUnit). u.logins.last) w.unit-is ∙ w.answer.ensures.last) (ap (λ (l : Logins). l.taking) c.finish.ensures.logins ∙ ap (λ (u : ServerUnit). u.logins.taking) w.unit-is ∙ w.answer.ensures.taking) c.finish.ensures.stage (c.finish.ensures.kept ∙ ap (λ (u : ServerUnit). u.line.kept) w.unit-is ∙ kept) (c.finish.ensures.pending ∙ ap (λ (u : ServerUnit). drop 1 u.pending.items) w.unit-is) (ap (λ (r : Records). keys_of r.history.items) w.records-is ∙ w.answer-in-Served.ensures.keys) (ap (λ (r : Records). r.grants.items) w.records-is ∙ ap (λ (v : Vec Grant Global). v.items) w.answer-in-Served.ensures.grants) (ap is_ended c.finish.ensures.line ∙ ap (λ (u : ServerUnit). is_ended u.line) w.unit-is)
-          (keeps_finished _ c.args.outcome judged stage is)
+      | in-Served w ↦ moved_to _ _ judged (c.finish.ensures.id ∙ ap (λ (u : ServerUnit). u.id) w.unit-is) refl refl (ap (λ (l : Logins). l.current) c.finish.ensures.logins ∙ ap (λ (u : ServerUnit). u.logins.current) w.unit-is ∙ w.answer.ensures.current) (ap (λ (l : Logins). l.last) c.finish.ensures.logins ∙ ap (λ (u : ServerUnit). u.logins.last) w.unit-is ∙ w.answer.ensures.last) (ap (λ (l : Logins). l.taking) c.finish.ensures.logins ∙ ap (λ (u : ServerUnit). u.logins.taking) w.unit-is ∙ w.answer.ensures.taking) c.finish.ensures.stage (c.finish.ensures.kept ∙ ap (λ (u : ServerUnit). u.line.kept) w.unit-is ∙ kept) (c.finish.ensures.pending ∙ ap (λ (u : ServerUnit). drop 1 u.pending.items) w.unit-is) (ap (λ (r : Records). keys_of r.history.items) w.records-is ∙ w.answer-in-Served.ensures.keys) (ap (λ (r : Records). r.grants.items) w.records-is ∙ ap (λ (v : Vec Grant Global). v.items) w.answer-in-Served.ensures.grants) (ap is_ended c.finish.ensures.line ∙ ap (λ (u : ServerUnit). is_ended u.line) w.unit-is) (ap (λ (l : Line). is_up l.handshake) c.finish.ensures.line ∙ ap (λ (u : ServerUnit). is_up u.line.handshake) w.unit-is) (ap credits_of c.finish.ensures.logins ∙ ap (λ (u : ServerUnit). credits_of u.logins) w.unit-is ∙ (λ i. record { outstanding = w.answer.new.self.target.outstanding; granted = w.answer.ensures.granted i }))
+          (keeps_credits _ w.answer.new.self.target.outstanding judged w.answer.ensures.less (keeps_finished _ c.args.outcome judged stage is))
     ]
 
 pub returns-clause-answers : goal.returns-clause-answers

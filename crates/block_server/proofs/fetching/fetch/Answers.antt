@@ -1,8 +1,9 @@
 use Rattle.std.proofs.Common.{◌≡◌, ◌∙◌, Ok, inl, inr, rules}
 use Rattle.block_server.specs.declared.fetching.Progress.TheVariants.{Done}
 use Rattle.block_server.proofs.Advancing.{advances_on}
-use Rattle.block_server.specs.SiteState.{denied_between}
-use Rattle.block_server.proofs.Denying.{buffer_map, denied_after, out_map}
+use Rattle.block_server.specs.Causes.{told_to}
+use Rattle.block_server.specs.Heard.{heard_between}
+use Rattle.block_server.proofs.Denying.{buffer_map, tells_first, tells_next}
 use Rattle.block_server.proofs.Gathering.{bad_down, if_refused}
 use Rattle.block_server.proofs.Readying.{busy_on, if_each, uses_later}
 use Rattle.block_server.proofs.fetching.fetch.Goals as goal
@@ -20,21 +21,45 @@ pub returns-clause-queue : goal.returns-clause-queue
 returns-clause-queue g c = c.fetch_data_out.ensures.queue ∙ c.fetch_in_pieces.ensures.queue ∙ c.fetch_out_pieces.ensures.queue
 
 pub returns-then-is_refused-clause-refused : goal.returns-then-is_refused-clause-refused
-returns-then-is_refused-clause-refused g c = λ known. bad_down (denied_between (g.S.Site.state c.args.site.now) (g.S.Site.state c.args.site.now)) c.args.command.now (c.is_refused.ensures.refused c.if-is_refused.true)
+returns-then-is_refused-clause-refused g c = λ told id all known. bad_down (told_to told id) c.args.command.now (c.is_refused.ensures.refused c.if-is_refused.true)
 
 pub returns-then-ne-clause-refused : goal.returns-then-ne-clause-refused
-returns-then-ne-clause-refused g c = λ known. if_refused (Ok c.in_ok-progress.progress) _ _ (λ is. inl is) c.in_ok-progress.ensures.refused
+returns-then-ne-clause-refused g c = λ told id all known.
+    if_refused (Ok c.in_ok-progress.progress) _ _ (λ is. inl (buffer_map (heard_between (g.S.Site.state c.args.site.now) (g.S.Site.state c.fetch_out_pieces.new.site)) (told_to told id) c.args.command.now.out all is)) c.in_ok-progress.ensures.refused
 
 pub returns-then-ne-2-clause-refused : goal.returns-then-ne-2-clause-refused
-returns-then-ne-2-clause-refused g c = λ known.
+returns-then-ne-2-clause-refused g c = λ told id all known.
     if_refused (Ok c.in_ok-progress-2.progress) _ _
-    (λ is. inr (inl (buffer_map (denied_between (g.S.Site.state c.fetch_out_pieces.new.site) (g.S.Site.state c.fetch_in_pieces.new.site)) (denied_between (g.S.Site.state c.args.site.now) (g.S.Site.state c.fetch_in_pieces.new.site)) c.args.command.now.inn (denied_after (g.S.Site.state c.args.site.now) (g.S.Site.state c.fetch_out_pieces.new.site) (g.S.Site.state c.fetch_in_pieces.new.site) c.fetch_out_pieces.ensures.advances) is))) c.in_ok-progress-2.ensures.refused
+    (λ is. inr (inl (buffer_map (heard_between (g.S.Site.state c.fetch_out_pieces.new.site) (g.S.Site.state c.fetch_in_pieces.new.site)) (told_to told id) c.args.command.now.inn (tells_next told id (g.S.Site.state c.args.site.now) (g.S.Site.state c.fetch_out_pieces.new.site) (g.S.Site.state c.fetch_in_pieces.new.site) c.fetch_out_pieces.ensures.advances all) is)))
+    c.in_ok-progress-2.ensures.refused
 
 pub returns-clause-refused : goal.returns-clause-refused
-returns-clause-refused g c = λ known.
-    if_refused c.fetch_data_out.result _ _
-    (λ is. inr (inr (out_map (denied_between (g.S.Site.state c.fetch_in_pieces.new.site) (g.S.Site.state c.fetch_data_out.new.site)) (denied_between (g.S.Site.state c.args.site.now) (g.S.Site.state c.fetch_data_out.new.site)) c.args.command.now (denied_after (g.S.Site.state c.args.site.now) (g.S.Site.state c.fetch_in_pieces.new.site) (g.S.Site.state c.fetch_data_out.new.site) (advances_on _ _ _ c.fetch_out_pieces.ensures.advances c.fetch_in_pieces.ensures.advances)) is)))
-    (c.fetch_data_out.ensures.refused c.args.command.now (c.fetch_in_pieces.ensures.named (c.fetch_out_pieces.ensures.named (c.is_refused.ensures.named known))))
+returns-clause-refused g c = λ told id all known.
+    if_refused c.fetch_data_out.result _ _ (λ is. inr (inr is))
+    (c.fetch_data_out.ensures.refused c.args.command.now told id (tells_next told id (g.S.Site.state c.args.site.now) (g.S.Site.state c.fetch_in_pieces.new.site) (g.S.Site.state c.fetch_data_out.new.site) (advances_on _ _ _ c.fetch_out_pieces.ensures.advances c.fetch_in_pieces.ensures.advances) all)
+    (c.fetch_in_pieces.ensures.named told id (tells_next told id (g.S.Site.state c.args.site.now) (g.S.Site.state c.fetch_out_pieces.new.site) (g.S.Site.state c.fetch_in_pieces.new.site) c.fetch_out_pieces.ensures.advances (tells_first told id (g.S.Site.state c.args.site.now) (g.S.Site.state c.fetch_in_pieces.new.site) (g.S.Site.state c.fetch_data_out.new.site) c.fetch_data_out.ensures.advances all)) (c.fetch_out_pieces.ensures.named told id (tells_first told id (g.S.Site.state c.args.site.now) (g.S.Site.state c.fetch_out_pieces.new.site) (g.S.Site.state c.fetch_in_pieces.new.site) c.fetch_in_pieces.ensures.advances (tells_first told id (g.S.Site.state c.args.site.now) (g.S.Site.state c.fetch_in_pieces.new.site) (g.S.Site.state c.fetch_data_out.new.site) c.fetch_data_out.ensures.advances all)) (c.is_refused.ensures.named told id known))))
+
+pub returns-then-is_refused-clause-named : goal.returns-then-is_refused-clause-named
+returns-then-is_refused-clause-named g c = λ told id all known. (c.is_refused.ensures.named told id known)
+
+pub returns-in_err-progress-clause-named : goal.returns-in_err-progress-clause-named
+returns-in_err-progress-clause-named g c = λ told id all known. (c.fetch_out_pieces.ensures.named told id all (c.is_refused.ensures.named told id known))
+
+pub returns-then-ne-clause-named : goal.returns-then-ne-clause-named
+returns-then-ne-clause-named g c = λ told id all known. (c.fetch_out_pieces.ensures.named told id all (c.is_refused.ensures.named told id known))
+
+pub returns-in_err-progress-2-clause-named : goal.returns-in_err-progress-2-clause-named
+returns-in_err-progress-2-clause-named g c = λ told id all known.
+    (c.fetch_in_pieces.ensures.named told id (tells_next told id (g.S.Site.state c.args.site.now) (g.S.Site.state c.fetch_out_pieces.new.site) (g.S.Site.state c.fetch_in_pieces.new.site) c.fetch_out_pieces.ensures.advances all) (c.fetch_out_pieces.ensures.named told id (tells_first told id (g.S.Site.state c.args.site.now) (g.S.Site.state c.fetch_out_pieces.new.site) (g.S.Site.state c.fetch_in_pieces.new.site) c.fetch_in_pieces.ensures.advances all) (c.is_refused.ensures.named told id known)))
+
+pub returns-then-ne-2-clause-named : goal.returns-then-ne-2-clause-named
+returns-then-ne-2-clause-named g c = λ told id all known.
+    (c.fetch_in_pieces.ensures.named told id (tells_next told id (g.S.Site.state c.args.site.now) (g.S.Site.state c.fetch_out_pieces.new.site) (g.S.Site.state c.fetch_in_pieces.new.site) c.fetch_out_pieces.ensures.advances all) (c.fetch_out_pieces.ensures.named told id (tells_first told id (g.S.Site.state c.args.site.now) (g.S.Site.state c.fetch_out_pieces.new.site) (g.S.Site.state c.fetch_in_pieces.new.site) c.fetch_in_pieces.ensures.advances all) (c.is_refused.ensures.named told id known)))
+
+pub returns-clause-named : goal.returns-clause-named
+returns-clause-named g c = λ told id all known.
+    c.fetch_data_out.ensures.named c.args.command.now told id
+    (c.fetch_in_pieces.ensures.named told id (tells_next told id (g.S.Site.state c.args.site.now) (g.S.Site.state c.fetch_out_pieces.new.site) (g.S.Site.state c.fetch_in_pieces.new.site) c.fetch_out_pieces.ensures.advances (tells_first told id (g.S.Site.state c.args.site.now) (g.S.Site.state c.fetch_in_pieces.new.site) (g.S.Site.state c.fetch_data_out.new.site) c.fetch_data_out.ensures.advances all)) (c.fetch_out_pieces.ensures.named told id (tells_first told id (g.S.Site.state c.args.site.now) (g.S.Site.state c.fetch_out_pieces.new.site) (g.S.Site.state c.fetch_in_pieces.new.site) c.fetch_in_pieces.ensures.advances (tells_first told id (g.S.Site.state c.args.site.now) (g.S.Site.state c.fetch_in_pieces.new.site) (g.S.Site.state c.fetch_data_out.new.site) c.fetch_data_out.ensures.advances all)) (c.is_refused.ensures.named told id known)))
 
 pub returns-then-ne-2-clause-busy : goal.returns-then-ne-2-clause-busy
 returns-then-ne-2-clause-busy g c = busy_on (Ok c.in_ok-progress-2.progress) _ _ (uses_later (g.S.Site.state c.args.site.now) (g.S.Site.state c.fetch_out_pieces.new.site) (g.S.Site.state c.fetch_in_pieces.new.site) c.fetch_out_pieces.ensures.advances) c.in_ok-progress-2.ensures.busy

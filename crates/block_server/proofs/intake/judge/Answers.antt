@@ -1,3 +1,6 @@
+use Rattle.std.proofs.Common.{List, ℕ, subst, sym}
+use Rattle.block_server.specs.Causes.{told_to, units_at}
+use Rattle.block_server.specs.Causes.News.{fetched}
 use Rattle.std.proofs.Common.{refl}
 use Rattle.block_server.proofs.Onces.{once_same}
 use Rattle.block_server.proofs.Serves.{once_pushed}
@@ -6,18 +9,20 @@ use Rattle.block_server.proofs.Verdicts.{accepted_push, ended_by, passed_by}
 use Rattle.block_server.specs.Books.{books_of}
 use Rattle.std.proofs.Common.{ap}
 use Rattle.block_server.proofs.Owing.{has_cut_of, owes_seen, seen_same}
-use Rattle.block_server.proofs.OwingCalls.{decides_current, fatal_other, owes_pushed}
+use Rattle.block_server.proofs.OwingCalls.{closing_ended, decides_current, fatal_other, owes_pushed}
 use Rattle.block_server.specs.Owed.{row_in}
 use Rattle.block_server.proofs.intake.judge.Goals as goal
 
 pub returns-in-Ignored-clause-once : goal.returns-in-Ignored-clause-once
-returns-in-Ignored-clause-once c = λ q disk serving. once_same _ _ _ _ _ _ refl refl refl disk serving
+returns-in-Ignored-clause-once c = λ q disk heard serving. once_same _ _ _ _ _ _ refl refl refl disk serving
 
 pub returns-in-Ok-clause-once : goal.returns-in-Ok-clause-once
-returns-in-Ok-clause-once c = λ q disk serving. once_pushed _ _ _ _ _ _ refl c.in-Ok.ensures.items refl refl refl c.requires.none refl disk serving
+returns-in-Ok-clause-once c = λ q disk heard serving.
+    once_pushed _ _ _ _ _ _ refl c.in-Ok.ensures.items refl refl refl c.requires.none refl disk
+    (subst (λ (z : ℕ × List ℕ). told_to disk.terms.told c.args.unit.now.id (fetched z.0 units_at z.1)) (λ i. ((sym c.iu_address.ensures) i, (sym c.kept.ensures) i)) heard) serving
 
 pub returns-in-Fatal-clause-once : goal.returns-in-Fatal-clause-once
-returns-in-Fatal-clause-once c = λ q. c.end_counted.ensures.once q
+returns-in-Fatal-clause-once c = λ q disk heard. c.end_counted.ensures.once q disk
 
 pub returns-in-Ignored-clause-lines : goal.returns-in-Ignored-clause-lines
 returns-in-Ignored-clause-lines c = lines_same _ _ _ refl
@@ -30,17 +35,17 @@ returns-in-Fatal-clause-lines c = ends_line _ _ _ _ _ _ _ _ c.end_counted.ensure
 
 pub returns-in-Ignored-clause-judged : goal.returns-in-Ignored-clause-judged
 returns-in-Ignored-clause-judged c = λ next next' receipt to.
-    passed_by _ _ _ _ _ receipt c.args.unit.now.logins c.judge_unit.new.logins c.judge_unit.result to refl refl refl c.in-Ignored.is c.judge_unit.ensures.decides
+    passed_by _ _ _ _ _ receipt c.args.unit.now.logins c.judge_unit.new.logins c.judge_unit.result to refl refl refl refl c.in-Ignored.is c.judge_unit.ensures.decides
 
 pub returns-in-Ok-clause-judged : goal.returns-in-Ok-clause-judged
 returns-in-Ok-clause-judged c = λ next next' receipt to.
     accepted_push (books_of c.args.unit.now c.args.session next c.args.records.now) _ _ _ _ receipt c.args.unit.now.logins c.judge_unit.new.logins _ _ c.judge_unit.result _ _ _
-    c.in-Ok.ensures.items to refl refl refl refl c.kept.ensures refl refl c.in-Accepted.is c.judge_unit.ensures.decides
+    c.in-Ok.ensures.items to refl refl refl refl refl c.kept.ensures refl refl c.in-Accepted.is c.judge_unit.ensures.decides
 
 pub returns-in-Fatal-clause-judged : goal.returns-in-Fatal-clause-judged
 returns-in-Fatal-clause-judged c = λ next next' receipt to.
-    ended_by (books_of c.args.unit.now c.args.session next c.args.records.now) _ _ _ _ _ receipt c.args.unit.now.logins c.judge_unit.new.logins _ _ _ _ c.judge_unit.result _ _ _
-    to refl refl refl c.in-Fatal.is c.judge_unit.ensures.decides (c.end_counted.ensures.books c.args.session c.args.session next next') c.end_counted.ensures.ends c.end_counted.ensures.id refl
+    ended_by c.args.unit.now c.end_counted.new.unit c.args.unit.now.logins c.judge_unit.new.logins c.args.session next next' _ _ receipt c.args.records.now c.end_counted.new.records c.judge_unit.result _ _ _
+    refl to c.in-Fatal.is c.judge_unit.ensures.decides (closing_ended c.end_counted.new.unit.line c.end_counted.ensures.closing) c.end_counted.ensures.books
 
 pub returns-in-Ignored-clause-answers : goal.returns-in-Ignored-clause-answers
 returns-in-Ignored-clause-answers c = λ q now has.

@@ -1,10 +1,11 @@
-use Rattle.std.proofs.Common.{refl, sym, subst, ◌∙◌}
+use Rattle.std.proofs.Common.{inl, refl, sym, subst, ◌∙◌}
+use Rattle.block_server.proofs.Limits.{none_on}
 use Rattle.block_server.proofs.Verdicts.{command_asks, ignored_iu, taken_on, task_asks}
 use Rattle.srp_iu.specs.Grammar.{Spells}
 use Rattle.block_server.proofs.intake.judge_unit.Goals as goal
 
 pub returns-in-LoginReq-clause-decides : goal.returns-in-LoginReq-clause-decides
-returns-in-LoginReq-clause-decides c = (record { current = refl; last = refl; taking = refl }, subst (Spells c.args.bytes.now) c.in-LoginReq.is c.in-Ok.ensures.ok)
+returns-in-LoginReq-clause-decides c = (record { current = refl; last = refl; taking = refl; granted = refl; outstanding = refl }, subst (Spells c.args.bytes.now) c.in-LoginReq.is c.in-Ok.ensures.ok)
 
 pub returns-in-Some-clause-decides : goal.returns-in-Some-clause-decides
 returns-in-Some-clause-decides c =
@@ -15,12 +16,15 @@ returns-in-Some-clause-decides c =
       current = c.close.ensures.current;
       last = c.close.ensures.last;
       off = c.close.ensures.taking;
+      granted = c.close.ensures.granted;
+      outstanding = c.close.ensures.outstanding;
       tag = c.in-ILogout.tag;
       spelled = subst (Spells c.args.bytes.now) c.in-ILogout.is c.in-Ok.ensures.ok;
     }
 
 pub returns-in-None-clause-decides : goal.returns-in-None-clause-decides
-returns-in-None-clause-decides c = c.fatal.ensures.decides _ _ c.args.bytes.now (record { current = refl; last = refl; taking = refl }) refl
+returns-in-None-clause-decides c = c.fatal.ensures.decides _ _ c.args.bytes.now (record { current = refl; last = refl; taking = refl; granted = refl; outstanding = refl })
+    (none_on c.args.logins.now.taking c.args.logins.now.current (sym c.taking.ensures ∙ c.in-None.is), inl (c.in-ILogout.tag, subst (Spells c.args.bytes.now) c.in-ILogout.is c.in-Ok.ensures.ok))
 
 pub returns-in-TskMgmt-clause-decides : goal.returns-in-TskMgmt-clause-decides
 returns-in-TskMgmt-clause-decides c =
@@ -34,7 +38,7 @@ pub returns-in_default : goal.returns-in_default
 returns-in_default c = record {
   tagged = tt;
   decides = (
-    record { current = refl; last = refl; taking = refl },
+    record { current = refl; last = refl; taking = refl; granted = refl; outstanding = refl },
     (
       c.in-Ok.iu,
       (

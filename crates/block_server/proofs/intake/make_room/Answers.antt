@@ -4,8 +4,8 @@ use Rattle.std.proofs.Common.{ap, refl}
 use Rattle.block_server.proofs.intake.make_room.Goals as goal
 
 pub returns-in_err-reserve-clause-books : goal.returns-in_err-reserve-clause-books
-returns-in_err-reserve-clause-books c = λ site judged is. moved_to _ _ judged refl refl refl refl refl refl refl refl c.reserve.ensures.items refl refl refl is
+returns-in_err-reserve-clause-books c = λ site judged is. moved_to _ _ judged refl refl refl refl refl refl refl refl c.reserve.ensures.items refl refl refl refl refl is
 
 pub returns-clause-books : goal.returns-clause-books
 returns-clause-books c = λ site judged is.
-    moved_to _ _ judged refl refl refl refl refl refl refl refl c.reserve.ensures.items (ap keys_of c.make_room.ensures.lists.history) c.make_room.ensures.lists.grants refl is
+    moved_to _ _ judged refl refl refl refl refl refl refl refl c.reserve.ensures.items (ap keys_of c.make_room.ensures.lists.history) c.make_room.ensures.lists.grants refl refl refl is

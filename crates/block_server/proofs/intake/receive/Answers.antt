@@ -3,14 +3,18 @@ use Rattle.crq_session.specs.EndState.{EndState}
 use Rattle.block_server.specs.Answering.{responses}
 use Rattle.std.specs.Result.{IsErrOf}
 use Rattle.block_server.specs.declared.site.Halt.TheVariants.{Busy}
-use Rattle.block_server.proofs.Onces.{once_on, once_same}
+use Rattle.block_server.proofs.Onces.{once_same, once_then}
+use Rattle.block_server.proofs.Hearing.{heard_fetched}
 use Rattle.block_server.proofs.Taking.{lines_same, takes_ended, takes_fetched, takes_none}
 use Rattle.block_server.proofs.Advancing.{advances_same}
 use Rattle.vio_num.specs.declared.history.Lapse.TheVariants.{BadIu, Early, Refused}
 use Rattle.block_server.specs.Receipts.{is_ended}
 use Rattle.block_server.specs.declared.site.Halt.TheVariants as halts
 use Rattle.block_server.proofs.GoingOn.{missed_is}
+use Rattle.block_server.proofs.Deciding.{waits_going}
+use Rattle.block_server.proofs.GoingOn.{bad_len, early_entry, none_waits, up_is}
 use Rattle.block_server.proofs.Jointly.{judges_over, judges_received, works_pass}
+use Rattle.std.proofs.Common.{inl}
 use Rattle.std.proofs.Common.{sym}
 use Rattle.block_server.proofs.Owing.{has_cut_of, owes_seen, seen_same}
 use Rattle.block_server.specs.Owed.{row_in}
@@ -18,25 +22,26 @@ use Rattle.block_server.proofs.intake.receive.Goals as goal
 
 pub returns-in-Ok-clause-once : goal.returns-in-Ok-clause-once
 returns-in-Ok-clause-once g c =
-    once_on _ _ _ _ _ _ _ _ _ (λ disk serving. once_same _ _ _ _ _ _ refl refl (ap (λ (q : EndState). responses q.sent) c.fetch_unit.ensures.queue) disk serving)
-    (c.judge.ensures.once (g.S.Site.state c.fetch_unit.new.self).queue)
+    λ disk all. once_then disk disk disk _ _ _ _ _ _ _ _ _ (once_same _ _ _ _ _ _ refl refl (ap (λ (q : EndState). responses q.sent) c.fetch_unit.ensures.queue) disk)
+    (c.judge.ensures.once (g.S.Site.state c.fetch_unit.new.self).queue disk
+    (heard_fetched disk.terms.told c.args.unit.now.id _ _ _ _ _ c.iu_address.ensures all c.in-Ok.ensures.fetched))
 
 pub returns-in-Err-Refused-clause-once : goal.returns-in-Err-Refused-clause-once
 returns-in-Err-Refused-clause-once g c =
-    once_on _ _ _ _ _ _ _ _ _ (λ disk serving. once_same _ _ _ _ _ _ refl refl (ap (λ (q : EndState). responses q.sent) c.fetch_unit.ensures.queue) disk serving)
-    (c.end_session-in-Err-Refused.ensures.once (g.S.Site.state c.fetch_unit.new.self).queue)
+    λ disk all. once_then disk disk disk _ _ _ _ _ _ _ _ _ (once_same _ _ _ _ _ _ refl refl (ap (λ (q : EndState). responses q.sent) c.fetch_unit.ensures.queue) disk)
+    (c.end_session-in-Err-Refused.ensures.once (g.S.Site.state c.fetch_unit.new.self).queue disk)
 
 pub returns-in-Err-Busy-clause-once : goal.returns-in-Err-Busy-clause-once
-returns-in-Err-Busy-clause-once g c = λ disk serving. once_same _ _ _ _ _ _ refl refl (ap (λ (q : EndState). responses q.sent) c.fetch_unit.ensures.queue) disk serving
+returns-in-Err-Busy-clause-once g c = λ disk all serving. once_same _ _ _ _ _ _ refl refl (ap (λ (q : EndState). responses q.sent) c.fetch_unit.ensures.queue) disk serving
 
 pub returns-in-Err-NoMemory-clause-once : goal.returns-in-Err-NoMemory-clause-once
-returns-in-Err-NoMemory-clause-once g c = λ disk serving. once_same _ _ _ _ _ _ refl refl (ap (λ (q : EndState). responses q.sent) c.fetch_unit.ensures.queue) disk serving
+returns-in-Err-NoMemory-clause-once g c = λ disk all serving. once_same _ _ _ _ _ _ refl refl (ap (λ (q : EndState). responses q.sent) c.fetch_unit.ensures.queue) disk serving
 
 pub returns-then-not-is_up-clause-once : goal.returns-then-not-is_up-clause-once
-returns-then-not-is_up-clause-once g c = c.end_session.ensures.once (g.S.Site.state c.args.site.now).queue
+returns-then-not-is_up-clause-once g c = λ disk all. c.end_session.ensures.once (g.S.Site.state c.args.site.now).queue disk
 
 pub returns-then-len-eq0-clause-once : goal.returns-then-len-eq0-clause-once
-returns-then-len-eq0-clause-once g c = c.end_session-then-len-eq0.ensures.once (g.S.Site.state c.args.site.now).queue
+returns-then-len-eq0-clause-once g c = λ disk all. c.end_session-then-len-eq0.ensures.once (g.S.Site.state c.args.site.now).queue disk
 
 pub returns-in-Err-Busy-clause-waits : goal.returns-in-Err-Busy-clause-waits
 returns-in-Err-Busy-clause-waits g c = λ moved.
@@ -75,18 +80,21 @@ returns-in-Ok-clause-goes_on g c = λ on same. record { none = c.judge.ensures.w
 pub returns-then-not-is_up-clause-judges : goal.returns-then-not-is_up-clause-judges
 returns-then-not-is_up-clause-judges g c = λ waits.
     judges_over _ _ _ _ _ _ _ Early 0 0 c.end_session.ensures.ends c.end_session.ensures.id c.end_session.ensures.closing refl c.session-session.ensures (advances_same _) refl
-    (c.end_session.ensures.books _ _ _ _ refl)
+    c.end_session.ensures.books (λ none. absurd (none_waits _ _ waits none)) (λ receipts judged intake is. waits_going _ receipts c.args.arrival _ intake waits refl)
+    (λ arrival same judged going is. early_entry c.args.unit.now (g.S.Site.state c.args.site.now) c.args.records.now judged arrival c.args.arrival waits same is going (λ up. search rules))
 
 pub returns-then-len-eq0-clause-judges : goal.returns-then-len-eq0-clause-judges
 returns-then-len-eq0-clause-judges g c = λ waits.
-    judges_over _ _ _ _ _ _ _ BadIu 0 0 c.end_session-then-len-eq0.ensures.ends c.end_session-then-len-eq0.ensures.id c.end_session-then-len-eq0.ensures.closing refl c.session-session.ensures
-    (advances_same _) refl (c.end_session-then-len-eq0.ensures.books _ _ _ _ refl)
+    judges_over _ _ _ _ _ _ _ BadIu 0 0 c.end_session-then-len-eq0.ensures.ends c.end_session-then-len-eq0.ensures.id c.end_session-then-len-eq0.ensures.closing refl c.session-session.ensures (advances_same _) refl
+    c.end_session-then-len-eq0.ensures.books (λ none. absurd (none_waits _ _ waits none)) (λ receipts judged intake is. waits_going _ receipts c.args.arrival _ intake waits refl)
+    (λ arrival same judged going is. inl (refl, bad_len _ _ _ waits same (search rules)))
 
 pub returns-in-Err-Refused-clause-judges : goal.returns-in-Err-Refused-clause-judges
 returns-in-Err-Refused-clause-judges g c = λ waits.
     let failed : IsErrOf c.fetch_unit.result halts.Refused = cc (c.in-Err-Refused.is, c.in-Err-Refused.field-0-is) in
     judges_over _ _ _ _ _ _ _ Refused 0 0 c.end_session-in-Err-Refused.ensures.ends c.end_session-in-Err-Refused.ensures.id c.end_session-in-Err-Refused.ensures.closing refl c.session-session.ensures
-    c.fetch_unit.ensures.advances (missed_is c.fetch_unit.result halts.Refused _ failed c.fetch_unit.ensures.missed) (c.end_session-in-Err-Refused.ensures.books _ _ _ _ refl)
+    c.fetch_unit.ensures.advances (missed_is c.fetch_unit.result halts.Refused _ failed c.fetch_unit.ensures.missed) c.end_session-in-Err-Refused.ensures.books
+    (λ none. absurd (none_waits _ _ waits none)) (λ receipts judged intake is. waits_going _ receipts c.args.arrival _ intake waits refl) (λ arrival same judged going is. refl)
 
 pub returns-in-Err-Busy-clause-judges : goal.returns-in-Err-Busy-clause-judges
 returns-in-Err-Busy-clause-judges g c = λ waits.
@@ -101,7 +109,7 @@ returns-in-Err-NoMemory-clause-judges g c = λ waits.
 pub returns-in-Ok-clause-judges : goal.returns-in-Ok-clause-judges
 returns-in-Ok-clause-judges g c = λ waits.
     judges_received c.args.unit.now c.judge.new.unit c.args.records.now c.judge.new.records _ _ c.args.arrival _ _ _ waits (c.judge.ensures.waiting refl) c.judge.ensures.id c.iu_address.ensures
-    c.in-Ok.ensures.fetched (search rules) c.fetch_unit.ensures.queue c.fetch_unit.ensures.advances c.judge.ensures.lines c.session-session.ensures c.judge.ensures.judged
+    c.in-Ok.ensures.fetched (search rules) c.fetch_unit.ensures.queue c.fetch_unit.ensures.advances c.judge.ensures.lines c.session-session.ensures (up_is _ (search rules)) c.judge.ensures.judged
 
 pub returns-then-not-is_up-clause-answers : goal.returns-then-not-is_up-clause-answers
 returns-then-not-is_up-clause-answers g c = λ alone has.

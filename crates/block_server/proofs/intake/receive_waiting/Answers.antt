@@ -2,7 +2,11 @@ use Rattle.std.proofs.Common.{ap, refl, ◌∙◌, rules}
 use Rattle.block_server.specs.declared.line.Line.{Line}
 use Rattle.block_server.proofs.Quieting.{on_ok}
 use Rattle.block_server.proofs.Readying.{if_service}
-use Rattle.block_server.proofs.Onces.{once_on, once_same}
+use Rattle.block_server.proofs.Onces.{once_same, once_then}
+use Rattle.block_server.specs.Heard.{TellsAll}
+use Rattle.block_server.specs.Serving.{Desk}
+use Rattle.vio_num.specs.declared.names.UnitId.{UnitId}
+use Rattle.std.proofs.Common.{ap, subst, sym}
 use Rattle.block_server.proofs.Taking.{ended_stands, lines_same, takes_none, takes_on, waiting_stands}
 use Rattle.block_server.proofs.Advancing.{advances_same}
 use Rattle.block_server.proofs.Jointly.{works, works_none, works_on, works_pass}
@@ -11,14 +15,15 @@ use Rattle.block_server.specs.Owed.{HasAnswers, Owing}
 use Rattle.block_server.proofs.intake.receive_waiting.Goals as goal
 
 pub returns-in_default-clause-once : goal.returns-in_default-clause-once
-returns-in_default-clause-once g c = λ disk serving. once_same _ _ _ _ _ _ refl refl refl disk serving
+returns-in_default-clause-once g c = λ disk all serving. once_same _ _ _ _ _ _ refl refl refl disk serving
 
 pub returns-in_err-make_room-clause-once : goal.returns-in_err-make_room-clause-once
-returns-in_err-make_room-clause-once g c = λ disk serving. once_same _ _ _ _ _ _ c.make_room.ensures.desk c.make_room.ensures.history refl disk serving
+returns-in_err-make_room-clause-once g c = λ disk all serving. once_same _ _ _ _ _ _ c.make_room.ensures.desk c.make_room.ensures.history refl disk serving
 
 pub returns-clause-once : goal.returns-clause-once
 returns-clause-once g c =
-    once_on _ _ _ _ _ _ _ _ _ (λ disk serving. once_same _ _ _ _ _ _ c.make_room.ensures.desk c.make_room.ensures.history refl disk serving) c.receive.ensures.once
+    λ disk all. once_then disk disk disk _ _ _ _ _ _ _ _ _ (once_same _ _ _ _ _ _ c.make_room.ensures.desk c.make_room.ensures.history refl disk)
+    (c.receive.ensures.once disk (subst (λ (id : UnitId). TellsAll disk.terms.told id (g.S.Site.state c.args.site.now) (g.S.Site.state c.receive.new.site)) (sym (ap (λ (desk : Desk). desk.id) c.make_room.ensures.desk)) all))
 
 pub returns-clause-line : goal.returns-clause-line
 returns-clause-line g c = on_ok c.receive.result _ _ (λ line moved. line moved ∙ c.make_room.ensures.line) c.receive.ensures.line

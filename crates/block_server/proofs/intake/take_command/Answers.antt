@@ -4,20 +4,20 @@ use Rattle.block_server.proofs.Agreeing.{agrees_same}
 use Rattle.block_server.proofs.Onces.{once_same}
 use Rattle.block_server.proofs.Serves.{as_none_next}
 use Rattle.block_server.proofs.Taking.{lines_same, may_stands, takes_entry, takes_none, takes_on, takes_other}
-use Rattle.block_server.proofs.GoingOn.{not_format, srp_command}
+use Rattle.block_server.proofs.GoingOn.{command_no_event, command_no_handshake, not_format, srp_command}
 use Rattle.block_server.proofs.Jointly.{works, works_entry, works_none, works_on, works_other}
 use Rattle.block_server.specs.Books.{books_at, next_of}
 use Rattle.std.proofs.Common.{None}
 use Rattle.block_server.proofs.intake.take_command.Goals as goal
 
 pub returns-in-2-clause-once : goal.returns-in-2-clause-once
-returns-in-2-clause-once g c = c.put_reply.ensures.once c.args.records.now
+returns-in-2-clause-once g c = λ disk all. c.put_reply.ensures.once c.args.records.now disk
 
 pub returns-in-2-clause-none : goal.returns-in-2-clause-none
 returns-in-2-clause-none g c = as_none_next c.put_reply.result _ _ c.requires.none c.put_reply.ensures.still
 
 pub returns-in_default-clause-once : goal.returns-in_default-clause-once
-returns-in_default-clause-once g c = λ disk serving. once_same _ _ _ _ _ _ refl refl refl disk serving
+returns-in_default-clause-once g c = λ disk all serving. once_same _ _ _ _ _ _ refl refl refl disk serving
 
 pub returns-in-1-clause-once : goal.returns-in-1-clause-once
 returns-in-1-clause-once g c = c.receive.ensures.once
@@ -58,7 +58,7 @@ returns-in-1-clause-judges g c = λ before may first taken.
     let next = ap (λ w. next_of w before.queue) may.none in
     (works_on _ _ _ _ _ _ _ _ _
     (works_entry _ _ _ _ (books_at c.args.unit.now before c.args.records.now) _ c.args.arrival.number c.args.arrival.entry c.args.arrival may taken
-    (srp_command c.args.arrival.entry first (search rules)) refl refl refl refl refl refl refl next refl refl refl refl refl refl refl refl refl refl refl refl)
+    (srp_command c.args.arrival.entry first (search rules)) refl refl refl refl refl refl refl next refl refl refl refl refl refl refl refl refl refl refl refl refl refl)
     (works _ _ _ _ _ _ refl refl (c.receive.ensures.intake refl) (c.receive.ensures.judges refl))).judges
 
 pub returns-in-2-clause-judges : goal.returns-in-2-clause-judges
@@ -67,7 +67,7 @@ returns-in-2-clause-judges g c = λ before may first taken.
     let next' = ap (λ w. next_of w (g.S.Site.state c.args.site.now).queue) may.none in
     (works_on _ _ _ _ _ _ _ _ _
     (works_other _ _ _ _ (books_at c.args.unit.now before c.args.records.now) (books_at c.args.unit.now (g.S.Site.state c.args.site.now) c.args.records.now) c.args.arrival.number c.args.arrival.entry may taken
-    (not_format c.args.arrival.entry (λ one. search rules)) refl refl may.none refl next refl next' refl refl refl refl refl refl refl refl refl refl)
+    (not_format c.args.arrival.entry (λ one. search rules)) (command_no_event c.args.arrival.entry first) (λ on down. (down, command_no_handshake c.args.arrival.entry first)) refl refl may.none refl next refl next' refl refl refl refl refl refl refl refl refl refl refl)
     (works_none _ _ _ _ _ _ c.put_reply.ensures.stands refl refl c.put_reply.ensures.advances c.put_reply.ensures.passes (lines_same _ _ _ refl) (c.put_reply.ensures.books c.args.records.now))).judges
 
 pub returns-in_default-clause-judges : goal.returns-in_default-clause-judges
@@ -75,7 +75,7 @@ returns-in_default-clause-judges g c = λ before may first taken.
     let next = ap (λ w. next_of w before.queue) may.none in
     let next' = ap (λ w. next_of w (g.S.Site.state c.args.site.now).queue) may.none in
     (works_other _ _ _ _ (books_at c.args.unit.now before c.args.records.now) (books_at c.args.unit.now (g.S.Site.state c.args.site.now) c.args.records.now) c.args.arrival.number c.args.arrival.entry may taken
-    (not_format c.args.arrival.entry (λ one. search rules)) refl refl may.none refl next refl next' refl refl refl refl refl refl refl refl refl refl).judges
+    (not_format c.args.arrival.entry (λ one. search rules)) (command_no_event c.args.arrival.entry first) (λ on down. (down, command_no_handshake c.args.arrival.entry first)) refl refl may.none refl next refl next' refl refl refl refl refl refl refl refl refl refl refl).judges
 
 pub returns-in-1-clause-answers : goal.returns-in-1-clause-answers
 returns-in-1-clause-answers g c = λ alone has. c.receive.ensures.answers alone has

@@ -5,7 +5,8 @@ use Rattle.block_server.specs.declared.line.Line.{Line}
 use Rattle.block_server.proofs.Agreeing.{agrees_on, agrees_same}
 use Rattle.block_server.proofs.Readying.{intake_finds, intake_full, intake_waits, next_apart, next_entry, next_found}
 use Rattle.block_server.proofs.Advancing.{advances_on, advances_same}
-use Rattle.block_server.proofs.Onces.{once_on, once_same}
+use Rattle.block_server.proofs.Onces.{once_same, once_then}
+use Rattle.block_server.proofs.Hearing.{once_by}
 use Rattle.block_server.proofs.Quieting.{quiet_on, quiet_way}
 use Rattle.block_server.proofs.Serves.{entry_none}
 use Rattle.block_server.proofs.Taking.{lines_same, may_stands, takes_none, takes_on}
@@ -41,12 +42,12 @@ loop-taken-init g c = record {
 
 pub returns-in_err-make_room-clause-once : goal.returns-in_err-make_room-clause-once
 returns-in_err-make_room-clause-once g c =
-    once_on _ _ _ _ _ _ _ _ _ c.loop-taken.invariant.once (λ disk serving. once_same _ _ _ _ _ _ c.make_room.ensures.desk c.make_room.ensures.history refl disk serving)
+    λ disk all. once_then disk disk disk _ _ _ _ _ _ _ _ _ (c.loop-taken.invariant.once disk all) (once_same _ _ _ _ _ _ c.make_room.ensures.desk c.make_room.ensures.history refl disk)
 
 pub returns-in_err-next-2-clause-once : goal.returns-in_err-next-2-clause-once
 returns-in_err-next-2-clause-once g c =
-    once_on _ _ _ _ _ _ _ _ _
-    (once_on _ _ _ _ _ _ _ _ _ c.loop-taken.invariant.once (λ disk serving. once_same _ _ _ _ _ _ c.make_room.ensures.desk c.make_room.ensures.history refl disk serving))
+    once_by (g.S.Site.state c.args.site.now) (g.S.Site.state c.loop-taken.site) (g.S.Site.state c.take_one.new.site) _ _ _ c.args.records.now c.make_room.new.records c.take_one.new.records c.loop-taken.invariant.advances c.take_one.ensures.advances
+    (λ disk all. once_then disk disk disk _ _ _ _ _ _ _ _ _ (c.loop-taken.invariant.once disk all) (once_same _ _ _ _ _ _ c.make_room.ensures.desk c.make_room.ensures.history refl disk))
     c.take_one.ensures.once
 
 pub returns-in_err-next-2-clause-advances : goal.returns-in_err-next-2-clause-advances
@@ -54,8 +55,8 @@ returns-in_err-next-2-clause-advances g c = advances_on _ _ _ c.loop-taken.invar
 
 pub returns-then-ne-2-clause-once : goal.returns-then-ne-2-clause-once
 returns-then-ne-2-clause-once g c =
-    once_on _ _ _ _ _ _ _ _ _
-    (once_on _ _ _ _ _ _ _ _ _ c.loop-taken.invariant.once (λ disk serving. once_same _ _ _ _ _ _ c.make_room.ensures.desk c.make_room.ensures.history refl disk serving))
+    once_by (g.S.Site.state c.args.site.now) (g.S.Site.state c.loop-taken.site) (g.S.Site.state c.take_one.new.site) _ _ _ c.args.records.now c.make_room.new.records c.take_one.new.records c.loop-taken.invariant.advances c.take_one.ensures.advances
+    (λ disk all. once_then disk disk disk _ _ _ _ _ _ _ _ _ (c.loop-taken.invariant.once disk all) (once_same _ _ _ _ _ _ c.make_room.ensures.desk c.make_room.ensures.history refl disk))
     c.take_one.ensures.once
 
 pub returns-then-ne-2-clause-advances : goal.returns-then-ne-2-clause-advances
@@ -72,8 +73,8 @@ loop-taken-preserved g c = record {
   quiet = quiet_on _ _ _ _ _ _ c.loop-taken.invariant.quiet
       (quiet_on _ _ _ _ _ _ (quiet_way _ _ _ c.make_room.ensures.moved c.make_room.ensures.way) c.in_ok-next-2.ensures.quiet);
   none = entry_none c.in_ok-next-2.next _ c.in_ok-next-2.ensures.none (search rules);
-  once = once_on _ _ _ _ _ _ _ _ _
-      (once_on _ _ _ _ _ _ _ _ _ c.loop-taken.invariant.once (λ disk serving. once_same _ _ _ _ _ _ c.make_room.ensures.desk c.make_room.ensures.history refl disk serving))
+  once = once_by (g.S.Site.state c.args.site.now) (g.S.Site.state c.loop-taken.site) (g.S.Site.state c.take_one.new.site) _ _ _ c.args.records.now c.make_room.new.records c.take_one.new.records c.loop-taken.invariant.advances c.take_one.ensures.advances
+      (λ disk all. once_then disk disk disk _ _ _ _ _ _ _ _ _ (c.loop-taken.invariant.once disk all) (once_same _ _ _ _ _ _ c.make_room.ensures.desk c.make_room.ensures.history refl disk))
       c.take_one.ensures.once;
   agrees = agrees_on _ _ _ (agrees_on _ _ _ c.loop-taken.invariant.agrees (agrees_same _ _ _ _ (ap (λ (line : Line). line.handshake) c.make_room.ensures.line) refl)) c.take_one.ensures.agrees;
   waits = λ moved. absurd (next_entry c.in_ok-next-2.next _ _ (search rules) (c.in_ok-next-2.ensures.waits moved));

@@ -4,7 +4,7 @@ use Rattle.block_server.specs.Books.{books_at}
 use Rattle.block_server.specs.Judges.{Judges}
 use Rattle.block_server.specs.Owed.{KeepsAnswers}
 use Rattle.block_server.specs.Receipts.{MayTake, TakesIn, is_ended, standing_of}
-use Rattle.block_server.specs.Serving.{AnswersOnce, desk_of}
+use Rattle.block_server.specs.Serving.{AnswersOnceBy, desk_of}
 use Rattle.block_server.specs.Turns.{IfQuiet}
 use Rattle.block_server.specs.Waits.{StaysAgreed}
 use Rattle.block_server.proofs.Readying.{TookNone}
@@ -17,7 +17,7 @@ invariant-loop-taken g l = record {
   none : l.unit.line.kept ≡ None;
   agrees : StaysAgreed l.fn.unit l.unit (g.S.Site.state l.fn.site).queue (g.S.Site.state l.site).queue;
   waits : l.unit.moved ≡ false → TookNone l.taken l.fn.unit l.unit (g.S.Site.state l.fn.site).queue (g.S.Site.state l.site).queue;
-  once : AnswersOnce (desk_of l.fn.unit) (desk_of l.unit) (g.S.Site.state l.fn.site).queue (g.S.Site.state l.site).queue l.fn.records l.records;
+  once : AnswersOnceBy (g.S.Site.state l.fn.site) (g.S.Site.state l.site) (desk_of l.fn.unit) (desk_of l.unit) l.fn.records l.records;
   intake : is_ended l.fn.unit.line ≡ false → TakesIn (standing_of l.fn.unit) (standing_of l.unit) (g.S.Site.state l.fn.site) (g.S.Site.state l.site) l.fn.records.grants.items l.records.grants.items;
   judges : is_ended l.fn.unit.line ≡ false → Judges (standing_of l.fn.unit) (standing_of l.unit) (g.S.Site.state l.fn.site) (g.S.Site.state l.site) (books_at l.fn.unit (g.S.Site.state l.fn.site) l.fn.records) (books_at l.unit (g.S.Site.state l.site) l.records);
   answers : KeepsAnswers g.S.Site.link_shared l.fn.unit l.unit (g.S.Site.state l.fn.site) (g.S.Site.state l.site) l.fn.records l.records;

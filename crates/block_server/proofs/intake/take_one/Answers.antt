@@ -4,50 +4,53 @@ use Rattle.block_server.proofs.Agreeing.{agrees_got, agrees_on, agrees_same}
 use Rattle.block_server.proofs.Quieting.{on_ok, stays_moved}
 use Rattle.block_server.proofs.Readying.{idles_on, idles_reserves, if_moved, not_moved, nothing_later, on_moved, poll_idles, poll_nothing}
 use Rattle.block_server.proofs.Advancing.{advances_on, advances_same}
-use Rattle.block_server.proofs.Onces.{once_on, once_same}
+use Rattle.block_server.proofs.Onces.{once_same, once_then}
+use Rattle.block_server.proofs.Denying.{tells_next}
 use Rattle.block_server.proofs.Serves.{as_none_next}
 use Rattle.block_server.proofs.Taking.{ended_stands, ends_line, lines_same, passes_windows, takes_none, takes_on, takes_other, waiting_stands}
-use Rattle.block_server.proofs.GoingOn.{command_first, got_ended, not_command, poll_taken}
-use Rattle.block_server.proofs.Jointly.{works, works_none, works_on, works_other, works_pass}
+use Rattle.block_server.proofs.GoingOn.{event_is, no_event, no_handshake, stands_got, up_got, command_first, got_ended, not_command, poll_taken}
+use Rattle.block_server.proofs.Jointly.{judges_gone, keeps_gone, works, works_none, works_on, works_other, works_pass}
 use Rattle.block_server.specs.Books.{books_at, next_of}
-use Rattle.block_server.specs.Receipts.{standing_of}
+use Rattle.block_server.specs.Receipts.{TakesEntry, standing_of}
 use Rattle.block_server.proofs.Owing.{has_cut_of, owes_seen, seen_call, seen_taken}
 use Rattle.block_server.proofs.OwingCalls.{event_kind, seen_on, seen_reserves}
 use Rattle.block_server.specs.Owed.{row_in}
 use Rattle.block_server.proofs.intake.take_one.Goals as goal
 
 pub returns-in_err-reserve-clause-once : goal.returns-in_err-reserve-clause-once
-returns-in_err-reserve-clause-once g c = λ disk serving. once_same _ _ _ _ _ _ refl refl (ap responses c.reserve.ensures.rest.sent) disk serving
+returns-in_err-reserve-clause-once g c = λ disk all serving. once_same _ _ _ _ _ _ refl refl (ap responses c.reserve.ensures.rest.sent) disk serving
 
 pub returns-in_default-clause-once : goal.returns-in_default-clause-once
-returns-in_default-clause-once g c = λ disk serving. once_same _ _ _ _ _ _ refl refl (ap responses (c.poll.ensures.rest.sent ∙ c.reserve.ensures.rest.sent)) disk serving
+returns-in_default-clause-once g c = λ disk all serving. once_same _ _ _ _ _ _ refl refl (ap responses (c.poll.ensures.rest.sent ∙ c.reserve.ensures.rest.sent)) disk serving
 
 pub returns-in-Command-clause-once : goal.returns-in-Command-clause-once
 returns-in-Command-clause-once g c =
-    once_on _ _ _ _ _ _ _ _ _ (λ disk serving. once_same _ _ _ _ _ _ refl refl (ap responses (c.poll.ensures.rest.sent ∙ c.reserve.ensures.rest.sent)) disk serving)
-    c.take_command.ensures.once
+    λ disk all. once_then disk disk disk _ _ _ _ _ _ _ _ _ (once_same _ _ _ _ _ _ refl refl (ap responses (c.poll.ensures.rest.sent ∙ c.reserve.ensures.rest.sent)) disk)
+    (c.take_command.ensures.once disk
+    (tells_next disk.terms.told c.args.unit.now.id (g.S.Site.state c.args.site.now) (g.S.Site.state c.poll.new.self) (g.S.Site.state c.take_command.new.site)
+    (advances_on _ _ _ c.reserve.ensures.advances c.poll.ensures.advances) all))
 
 pub returns-in-Some-clause-once : goal.returns-in-Some-clause-once
 returns-in-Some-clause-once g c =
-    once_on _ _ _ _ _ _ _ _ _ (λ disk serving. once_same _ _ _ _ _ _ refl refl (ap responses (c.poll.ensures.rest.sent ∙ c.reserve.ensures.rest.sent)) disk serving)
-    (c.put_reply.ensures.once c.args.records.now)
+    λ disk all. once_then disk disk disk _ _ _ _ _ _ _ _ _ (once_same _ _ _ _ _ _ refl refl (ap responses (c.poll.ensures.rest.sent ∙ c.reserve.ensures.rest.sent)) disk)
+    (c.put_reply.ensures.once c.args.records.now disk)
 
 pub returns-in-Some-clause-none : goal.returns-in-Some-clause-none
 returns-in-Some-clause-none g c = as_none_next c.put_reply.result _ _ c.requires.none c.put_reply.ensures.still
 
 pub returns-in-None-clause-once : goal.returns-in-None-clause-once
-returns-in-None-clause-once g c = λ disk serving. once_same _ _ _ _ _ _ refl refl (ap responses (c.poll.ensures.rest.sent ∙ c.reserve.ensures.rest.sent)) disk serving
+returns-in-None-clause-once g c = λ disk all serving. once_same _ _ _ _ _ _ refl refl (ap responses (c.poll.ensures.rest.sent ∙ c.reserve.ensures.rest.sent)) disk serving
 
 pub returns-in-Event-clause-once : goal.returns-in-Event-clause-once
 returns-in-Event-clause-once g c =
-    once_on _ _ _ _ _ _ _ _ _ (λ disk serving. once_same _ _ _ _ _ _ refl refl (ap responses (c.poll.ensures.rest.sent ∙ c.reserve.ensures.rest.sent)) disk serving)
-    (c.lose_partner.ensures.once (g.S.Site.state c.poll.new.self).queue)
+    λ disk all. once_then disk disk disk _ _ _ _ _ _ _ _ _ (once_same _ _ _ _ _ _ refl refl (ap responses (c.poll.ensures.rest.sent ∙ c.reserve.ensures.rest.sent)) disk)
+    (c.lose_partner.ensures.once (g.S.Site.state c.poll.new.self).queue disk)
 
 pub returns-in-Unused-clause-once : goal.returns-in-Unused-clause-once
-returns-in-Unused-clause-once g c = λ disk serving. once_same _ _ _ _ _ _ refl refl (ap responses (c.poll.ensures.rest.sent ∙ c.reserve.ensures.rest.sent)) disk serving
+returns-in-Unused-clause-once g c = λ disk all serving. once_same _ _ _ _ _ _ refl refl (ap responses (c.poll.ensures.rest.sent ∙ c.reserve.ensures.rest.sent)) disk serving
 
 pub returns-in-Reserved-clause-once : goal.returns-in-Reserved-clause-once
-returns-in-Reserved-clause-once g c = λ disk serving. once_same _ _ _ _ _ _ refl refl (ap responses (c.poll.ensures.rest.sent ∙ c.reserve.ensures.rest.sent)) disk serving
+returns-in-Reserved-clause-once g c = λ disk all serving. once_same _ _ _ _ _ _ refl refl (ap responses (c.poll.ensures.rest.sent ∙ c.reserve.ensures.rest.sent)) disk serving
 
 pub returns-in-Command-clause-advances : goal.returns-in-Command-clause-advances
 returns-in-Command-clause-advances g c = advances_on _ _ _ (advances_on _ _ _ c.reserve.ensures.advances c.poll.ensures.advances) c.take_command.ensures.advances
@@ -249,7 +252,7 @@ returns-in-Some-clause-judges g c = λ may.
       windows = c.poll.ensures.windows;
       advances = c.poll.ensures.advances;
     })
-    (not_command c.in-Got.entry (λ is. search rules)) refl refl may.none refl next refl next' (got_ended _ _ _ c.in-Got.entry c.got-step.ensures.state) refl refl refl refl refl refl refl refl refl))
+    (not_command c.in-Got.entry (λ is. search rules)) (no_event c.in-Got.entry (λ is. search rules)) (λ on down. up_got _ _ _ c.in-Got.entry c.got-step.ensures.state (λ is. search rules) on down) refl refl may.none refl next refl next' (got_ended _ _ _ c.in-Got.entry c.got-step.ensures.state) refl refl refl refl refl refl refl refl refl refl))
     (works_none _ _ _ _ _ _ c.put_reply.ensures.stands refl refl c.put_reply.ensures.advances c.put_reply.ensures.passes (lines_same _ _ _ refl) (c.put_reply.ensures.books c.args.records.now))).judges
 
 pub returns-in-None-clause-judges : goal.returns-in-None-clause-judges
@@ -266,24 +269,30 @@ returns-in-None-clause-judges g c = λ may.
       windows = c.poll.ensures.windows;
       advances = c.poll.ensures.advances;
     })
-    (not_command c.in-Got.entry (λ is. search rules)) refl refl may.none refl next refl next' (got_ended _ _ _ c.in-Got.entry c.got-step.ensures.state) refl refl refl refl refl refl refl refl refl)).judges
+    (not_command c.in-Got.entry (λ is. search rules)) (no_event c.in-Got.entry (λ is. search rules)) (λ on down. up_got _ _ _ c.in-Got.entry c.got-step.ensures.state (λ is. search rules) on down) refl refl may.none refl next refl next' (got_ended _ _ _ c.in-Got.entry c.got-step.ensures.state) refl refl refl refl refl refl refl refl refl refl)).judges
 
 pub returns-in-Event-clause-judges : goal.returns-in-Event-clause-judges
 returns-in-Event-clause-judges g c = λ may.
-    let next = ap (λ w. next_of w (g.S.Site.state c.reserve.new.self).queue) may.none in
-    let next' = ap (λ w. next_of w (g.S.Site.state c.poll.new.self).queue) may.none in
-    (works_on _ _ _ _ _ _ _ _ _ (works_on _ _ _ _ _ _ _ _ _ (works_pass c.args.unit.now c.args.records.now _ _ c.reserve.ensures.advances c.reserve.ensures.passes)
-    (works_other (standing_of c.args.unit.now) (standing_of (record c.args.unit.now { line = record c.args.unit.now.line { handshake = c.got-step-in-Event.new.self } })) (g.S.Site.state c.reserve.new.self) (g.S.Site.state c.poll.new.self)
-    (books_at c.args.unit.now (g.S.Site.state c.reserve.new.self) c.args.records.now) (books_at (record c.args.unit.now { line = record c.args.unit.now.line { handshake = c.got-step-in-Event.new.self } }) (g.S.Site.state c.poll.new.self) c.args.records.now)
-    c.in-Got.number c.in-Got.entry may (record {
+    let ended = got_ended _ _ _ c.in-Got.entry c.got-step-in-Event.ensures.state in
+    let stands = c.lose_partner.ensures.stands may.none in
+    let taken : TakesEntry (g.S.Site.state c.reserve.new.self) (g.S.Site.state c.poll.new.self) c.in-Got.number c.in-Got.entry = record {
       number_is = c.in-Got.ensures.got.number_is;
       taken = c.in-Got.ensures.got.taken;
       session = c.poll.ensures.rest.last_session;
       windows = c.poll.ensures.windows;
       advances = c.poll.ensures.advances;
-    })
-    (not_command c.in-Got.entry (λ is. search rules)) refl refl may.none refl next refl next' (got_ended _ _ _ c.in-Got.entry c.got-step-in-Event.ensures.state) refl refl refl refl refl refl refl refl refl))
-    (works_none _ _ _ _ _ _ (c.lose_partner.ensures.stands may.none) refl refl (advances_same _) refl (ends_line _ _ _ _ _ _ _ _ c.lose_partner.ensures.ends) (c.lose_partner.ensures.books _ _ _ _))).judges
+    } in
+    (works_on _ _ _ _ _ _ _ _ _ (works_pass c.args.unit.now c.args.records.now _ _ c.reserve.ensures.advances c.reserve.ensures.passes)
+    (works (standing_of c.args.unit.now) (standing_of c.lose_partner.new.unit) (g.S.Site.state c.reserve.new.self) (g.S.Site.state c.poll.new.self)
+    (books_at c.args.unit.now (g.S.Site.state c.reserve.new.self) c.args.records.now) (books_at c.lose_partner.new.unit (g.S.Site.state c.poll.new.self) c.lose_partner.new.records) refl refl
+    (takes_on _ _ _ _ _ _ _ _ _
+    (takes_other _ _ _ _ _ _ c.in-Got.number c.in-Got.entry may taken (not_command c.in-Got.entry (λ is. search rules)) c.poll.ensures.advances refl may.none refl)
+    (takes_none _ _ _ _ _ _ stands (advances_same _) refl (ends_line _ _ _ _ _ _ _ _ c.lose_partner.ensures.ends)))
+    (judges_gone c.args.unit.now c.lose_partner.new.unit (g.S.Site.state c.reserve.new.self) (g.S.Site.state c.poll.new.self) c.args.records.now c.lose_partner.new.records c.in-Got.number c.in-Got.entry may taken
+    (not_command c.in-Got.entry (λ is. search rules)) (stands ∙ stands_got c.args.unit.now c.got-step-in-Event.new.self ended) (ends_line _ _ _ _ _ _ _ _ c.lose_partner.ensures.ends)
+    (keeps_gone c.args.unit.now c.got-step-in-Event.new.self c.lose_partner.new.unit (g.S.Site.state c.reserve.new.self) (g.S.Site.state c.poll.new.self) c.args.records.now c.lose_partner.new.records
+    _ c.in-Got.number c.in-Got.entry may taken (event_is c.in-Got.entry (search rules)) ended (ended_stands _ _ stands ∙ ended ∙ may.goes_on) c.lose_partner.ensures.waiting
+    (c.session.ensures ∙ c.poll.ensures.rest.last_session) c.lose_partner.ensures.books)))).judges
 
 pub returns-in-Unused-clause-judges : goal.returns-in-Unused-clause-judges
 returns-in-Unused-clause-judges g c = λ may.
@@ -299,7 +308,7 @@ returns-in-Unused-clause-judges g c = λ may.
       windows = c.poll.ensures.windows;
       advances = c.poll.ensures.advances;
     })
-    (not_command c.in-Got.entry (λ is. search rules)) refl refl may.none refl next refl next' refl refl refl refl refl refl refl refl refl refl)).judges
+    (not_command c.in-Got.entry (λ is. search rules)) (no_event c.in-Got.entry (λ is. search rules)) (λ on down. (down, no_handshake c.in-Got.entry (λ is. search rules))) refl refl may.none refl next refl next' refl refl refl refl refl refl refl refl refl refl refl)).judges
 
 pub returns-in-Reserved-clause-judges : goal.returns-in-Reserved-clause-judges
 returns-in-Reserved-clause-judges g c = λ may.
@@ -315,7 +324,7 @@ returns-in-Reserved-clause-judges g c = λ may.
       windows = c.poll.ensures.windows;
       advances = c.poll.ensures.advances;
     })
-    (not_command c.in-Got.entry (λ is. search rules)) refl refl may.none refl next refl next' refl refl refl refl refl refl refl refl refl refl)).judges
+    (not_command c.in-Got.entry (λ is. search rules)) (no_event c.in-Got.entry (λ is. search rules)) (λ on down. (down, no_handshake c.in-Got.entry (λ is. search rules))) refl refl may.none refl next refl next' refl refl refl refl refl refl refl refl refl refl refl)).judges
 
 pub returns-in_err-reserve-clause-answers : goal.returns-in_err-reserve-clause-answers
 returns-in_err-reserve-clause-answers g c = λ alone has. owes_seen _ _ (seen_reserves _ _ c.reserve.ensures.rest) refl refl refl refl refl refl refl has

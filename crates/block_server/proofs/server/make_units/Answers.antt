@@ -21,9 +21,9 @@ loop-unit-preserved c = record {
   down = subst AreDown (sym c.in_ok-push.ensures.items) (more_down c.loop-unit.units.items c.new.result c.loop-unit.invariant.down c.new.ensures.handshake);
   none = subst AwaitNone (sym c.in_ok-push.ensures.items) (more_wait c.loop-unit.units.items c.new.result c.loop-unit.invariant.none c.new.ensures.waiting);
   unused = subst AreUnused (sym c.in_ok-push.ensures.items) (more_unused c.loop-unit.units.items c.new.result c.loop-unit.invariant.unused c.new.ensures.current c.new.ensures.last c.new.ensures.taking
-      c.new.ensures.stage c.new.ensures.kept c.new.ensures.pending);
+      c.new.ensures.stage c.new.ensures.kept c.new.ensures.pending c.new.ensures.waiting);
   unanswered = subst OweNone (sym c.in_ok-push.ensures.items) (more_owe c.loop-unit.units.items c.new.result c.loop-unit.invariant.unanswered c.new.ensures.current c.new.ensures.stage);
   serving = λ terms rows. subst (λ (units : List Unit). AreServing terms c.args.partition units rows) (sym c.in_ok-push.ensures.items)
       (units_more terms c.args.partition c.loop-unit.unit c.loop-unit.units.items c.new.result rows (sym c.loop-unit.invariant.count ∙ c.loop-unit.units.ok.0)
-      c.new.ensures.id c.new.ensures.stage c.new.ensures.kept (c.loop-unit.invariant.serving terms rows));
+      c.new.ensures.id c.new.ensures.stage c.new.ensures.kept c.new.ensures.pending (c.loop-unit.invariant.serving terms rows));
 }

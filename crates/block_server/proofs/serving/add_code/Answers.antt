@@ -45,7 +45,7 @@ returns-clause-once c = λ rest q disk cause serving.
     row.unit_is row.iu row.answer added refl refl tt
     (may_code order code blank disk.terms bytes spelled c.requires.code cause' row.out row.inn row.fault says)
     (stays_pushed disk _ _ blank added (λ b. code_row disk.terms order code blank b spelled c.requires.code cause' row.out row.inn row.fault (says_none blank.answer (HasCode (field 8 8 blank.iu) code) row.answer)))
-    (tells_same disk.now)
+    (tells_same disk.now) serving.brought
 
 pub returns-in_err-blank-clause-books : goal.returns-in_err-blank-clause-books
 returns-in_err-blank-clause-books c = λ before. one_same _ _ _ _ _ _ _ refl (ap keys_of c.new_row.ensures.lists.history)

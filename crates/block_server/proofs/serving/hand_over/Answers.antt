@@ -29,7 +29,7 @@ returns-clause-once g c = λ id told all size now rest serving.
     (ap (λ (q : EndState). responses q.sent) c.deliver_data.ensures.queue) _)
     (c.end_command.ensures.once id rest (g.S.Site.state c.deliver_data.new.site).queue _
     (handed_cause told id (g.S.Site.state c.args.site.now) (g.S.Site.state c.deliver_data.new.site) c.args.command.now c.in-DataIn.row c.in-DataIn.reply c.in-DataIn.cursor c.args.service.now.stage c.args.service.now.out.list.items c.args.service.now.inn.list.items c.in_ok-progress.progress c.in-DataIn.is all
-    (gathers_of _ _ _ c.args.request.now rest c.args.command.now c.requires.asked serving.fetched) c.in_ok-progress.ensures.refused))
+    (gathers_of _ _ _ _ c.args.request.now rest c.args.command.now c.requires.asked serving.fetched) c.in_ok-progress.ensures.refused))
     serving
 
 pub returns-in_default-clause-went : goal.returns-in_default-clause-went

@@ -4,9 +4,10 @@ use Rattle.crq_session.specs.EndState.{EndState}
 use Rattle.block_server.specs.Answering.{responses}
 use Rattle.block_server.specs.declared.service.Stage.TheVariants.{Given}
 use Rattle.block_disk.specs.Steps.{made_step}
-use Rattle.block_server.specs.Causes.{IsNamed}
+use Rattle.block_server.specs.Causes.{IsNamed, told_to}
+use Rattle.vio_num.specs.declared.names.UnitId.{UnitId}
 use Rattle.block_server.specs.Fetched.{Gathers, HasBoth, HasPieces}
-use Rattle.block_server.specs.Serving.{HasReply, held, terms_of}
+use Rattle.block_server.specs.Serving.{AreBrought, HasReply, Terms, held, terms_of}
 use Rattle.block_server.specs.Stage.{is_before_step}
 use Rattle.block_server.specs.declared.data_pieces.DataPieces.{DataPieces}
 use Rattle.block_server.specs.declared.service.Stage.{Stage}
@@ -33,10 +34,10 @@ returns-in_err-room-clause-once g c = λ told rest serving. once_same _ _ _ _ _ 
 pub returns-in_err-make_room-clause-once : goal.returns-in_err-make_room-clause-once
 returns-in_err-make_room-clause-once g c = λ told rest serving.
     let made = c.make_room.ensures in
-    once_before _ _ _ _ _ _ refl (ap is_before_step (made.stage ∙ c.in-DataOut.is)) refl
-    (subst (λ (z : Stage × DataPieces × DataPieces). HasPieces z.0 z.1.list.items z.2.list.items (c.args.request.now ∷ rest))
+    once_before _ _ _ _ _ _ _ refl (ap is_before_step (made.stage ∙ c.in-DataOut.is)) refl
+    (subst (λ (z : Stage × DataPieces × DataPieces). HasPieces (told_to told c.args.id) z.0 z.1.list.items z.2.list.items (c.args.request.now ∷ rest))
     (λ i. ((sym made.stage) i, (sym made.out) i, (sym made.inn) i)) serving.fetched)
-    c.new_row.ensures.lists.history refl _
+    c.new_row.ensures.lists.history refl serving.brought
 
 pub returns-clause-once : goal.returns-clause-once
 returns-clause-once g c = λ told rest serving.
@@ -50,15 +51,15 @@ returns-clause-once g c = λ told rest serving.
     let buffer = c.execute-reply.new.self.given.items in
     let out = c.deref.result.now in
     let given = c.given-given.result.now in
-    let both : HasBoth command outs inns =
-    subst (λ (stage : Stage). Gathers command stage outs inns) c.in-DataOut.is (gathers_of _ _ _ request rest command c.requires.asked serving.fetched) in
+    let both : HasBoth (told_to told c.args.id) command outs inns =
+    subst (λ (stage : Stage). Gathers (told_to told c.args.id) command stage outs inns) c.in-DataOut.is (gathers_of _ _ _ _ request rest command c.requires.asked serving.fetched) in
     let size = c.args.disk.now.count in
     let row : ServedRow = record c.in_ok-row.row { out = c.from.result; inn = c.filled.result; fault = reply.fault } in
     let expected = c.named_pieces_sum_up.ensures.sum command.inn both.in_named.table inns both.in_named.named_is in
     let kept : c.keep.new.self.given.items ≡ given = c.keep.ensures.given ∙ ap (λ (xs : List ℕ). xs ++ given) c.make_room.ensures.none in
-    let new : IsNewRow request command outs inns out given buffer size reply row = record {
+    let new : IsNewRow (terms_of told size) request command outs inns out given buffer reply row = record {
       order = c.requires.asked;
-      both = both;
+      both = subst (λ (unit : UnitId). HasBoth (told_to told unit) command outs inns) (sym blank.unit_is) both;
       all_out = ap length c.deref.ensures.value ∙ c.read_out-out.ensures.len ∙ c.in_ok-out.ensures ∙ c.total.ensures.total ∙ sym service.out.summed;
       expected = expected;
       given_is = c.given-given.ensures ∙ ap (λ (n : ℕ). take n buffer) (c.min.ensures ∙ ap (min reply.in_len) (c.total-expected.ensures.total ∙ sym service.inn.summed ∙ expected));
@@ -70,19 +71,20 @@ returns-clause-once g c = λ told rest serving.
       fault_is = refl;
       blank = blank.answer;
     } in
-    let in_named : IsNamed command.inn c.keep.new.self.inn.list.items =
-    subst (λ (inn : DataPieces). IsNamed command.inn inn.list.items) (sym (c.keep.ensures.inn ∙ c.make_room.ensures.inn)) both.in_named in
+    let in_named : IsNamed (told_to told c.args.id) command.inn c.keep.new.self.inn.list.items =
+    subst (λ (inn : DataPieces). IsNamed (told_to told c.args.id) command.inn inn.list.items) (sym (c.keep.ensures.inn ∙ c.make_room.ensures.inn)) both.in_named in
     let added = c.add_row-row.ensures.history ∙ ap (λ (list : List ServedRow). list ++ row ∷ []) c.new_row.ensures.lists.history in
     once_added (held told size (g.B.Blocks.state c.args.disk.now.image).blocks) (held told c.execute-reply.new.self.count (g.B.Blocks.state c.execute-reply.new.self.image).blocks) _ _ _ _ _ _ request rest row
     (Given (length c.args.records.now.history.items) reply)
     refl refl refl (ap (λ (n : ℕ). Given n reply) (c.add_row-row.ensures.place ∙ ap length c.new_row.ensures.lists.history)) (λ P is. is)
     blank.unit_is blank.iu blank.answer added
     (ap (λ (q : EndState). responses q.sent) c.read_out-out.ensures.queue)
-    (ap (terms_of told) c.execute-reply.ensures.count) (pieces_of (Given (length c.args.records.now.history.items) reply) c.keep.new.self.out.list.items c.keep.new.self.inn.list.items request rest command c.requires.asked in_named)
+    (ap (terms_of told) c.execute-reply.ensures.count) (pieces_of (told_to told c.args.id) (Given (length c.args.records.now.history.items) reply) c.keep.new.self.out.list.items c.keep.new.self.inn.list.items request rest command c.requires.asked in_named)
     (subst (λ (z : ℕ × List ℕ). HasReply (terms_of told z.0) request z.1 reply row) (λ i. ((sym c.execute-reply.ensures.count) i, (sym kept) i)) (has_reply request command outs inns out given buffer (terms_of told size) reply row new))
     (stays_stepped _ _ _ _ row (made_step command.lun command.cdb out reply buffer) _ (ap (terms_of told) c.execute-reply.ensures.count) c.execute-reply.ensures.step c.execute-reply.ensures.image added
     (new_row_serves request command outs inns out given buffer (terms_of told size) reply row new))
     (tells_map _ _ _ c.execute-reply.ensures.image)
+    (subst (λ (t : Terms). AreBrought (told_to t.told c.args.id) (request ∷ rest)) (sym (ap (terms_of told) c.execute-reply.ensures.count)) serving.brought)
 
 pub returns-in_default-clause-went : goal.returns-in_default-clause-went
 returns-in_default-clause-went g c = λ out. not_data_out _ _ (λ cursor is. c.in_default.not-DataOut cursor is) out

@@ -2,12 +2,11 @@ use Rattle.std.proofs.Common.{ap, inl, inr, refl, subst, sym, false, true, ◌�
 use Rattle.crq_session.specs.EndState.{EndState}
 use Rattle.block_server.specs.Answering.{responses}
 use Rattle.block_server.specs.Causes.{TurnsDown, told_to}
-use Rattle.block_server.specs.SiteState.{denied_between}
 use Rattle.block_server.specs.Orders.{IsCauseOf}
 use Rattle.block_server.specs.Stage.{is_before_step}
 use Rattle.block_server.proofs.Quieting.{on_ok}
 use Rattle.block_server.proofs.Advancing.{advances_on}
-use Rattle.block_server.proofs.Denying.{down_map}
+use Rattle.block_server.proofs.Denying.{tells_first}
 use Rattle.block_server.proofs.Gathering.{where_refused}
 use Rattle.block_server.proofs.Onces.{once_same, once_then}
 use Rattle.block_server.proofs.Serves.{gathers_of, once_before, pieces_of}
@@ -23,29 +22,28 @@ returns-then-not-is_before_step-clause-once g c = λ told all rest serving. once
 pub returns-in_err-fetch-clause-once : goal.returns-in_err-fetch-clause-once
 returns-in_err-fetch-clause-once g c = λ told all rest serving.
     let before : is_before_step c.args.service.now.stage ≡ true = cc in
-    once_before _ _ _ _ _ _ refl (c.fetch.ensures.before before) refl
-    (pieces_of _ _ _ c.args.request.now rest c.args.command.now c.requires.asked
-    (c.fetch.ensures.named (gathers_of _ _ _ c.args.request.now rest c.args.command.now c.requires.asked serving.fetched))) refl
-    (ap (λ (q : EndState). responses q.sent) c.fetch.ensures.queue) _
+    once_before _ _ _ _ _ _ _ refl (c.fetch.ensures.before before) refl
+    (pieces_of _ _ _ _ c.args.request.now rest c.args.command.now c.requires.asked
+    (c.fetch.ensures.named told c.args.id all (gathers_of _ _ _ _ c.args.request.now rest c.args.command.now c.requires.asked serving.fetched))) refl
+    (ap (λ (q : EndState). responses q.sent) c.fetch.ensures.queue) serving.brought
 
 pub returns-in-Busy-clause-once : goal.returns-in-Busy-clause-once
 returns-in-Busy-clause-once g c = λ told all rest serving.
     let before : is_before_step c.args.service.now.stage ≡ true = cc in
-    once_before _ _ _ _ _ _ refl (c.fetch.ensures.before before) refl
-    (pieces_of _ _ _ c.args.request.now rest c.args.command.now c.requires.asked
-    (c.fetch.ensures.named (gathers_of _ _ _ c.args.request.now rest c.args.command.now c.requires.asked serving.fetched))) refl
-    (ap (λ (q : EndState). responses q.sent) c.fetch.ensures.queue) _
+    once_before _ _ _ _ _ _ _ refl (c.fetch.ensures.before before) refl
+    (pieces_of _ _ _ _ c.args.request.now rest c.args.command.now c.requires.asked
+    (c.fetch.ensures.named told c.args.id all (gathers_of _ _ _ _ c.args.request.now rest c.args.command.now c.requires.asked serving.fetched))) refl
+    (ap (λ (q : EndState). responses q.sent) c.fetch.ensures.queue) serving.brought
 
 pub returns-in-Refused-clause-once : goal.returns-in-Refused-clause-once
 returns-in-Refused-clause-once g c = λ told all rest serving.
     let before : is_before_step c.args.service.now.stage ≡ true = cc in
-    let known = gathers_of _ _ _ c.args.request.now rest c.args.command.now c.requires.asked serving.fetched in
-    let cause = down_map (denied_between (g.S.Site.state c.args.site.now) (g.S.Site.state c.fetch.new.site)) (told_to told c.args.id) c.args.command.now all
-    (where_refused c.in_ok-fetch.field-0 (TurnsDown (denied_between (g.S.Site.state c.args.site.now) (g.S.Site.state c.fetch.new.site)) c.args.command.now) c.in-Refused.is (c.in_ok-fetch.ensures.refused known)) in
+    let known = gathers_of _ _ _ _ c.args.request.now rest c.args.command.now c.requires.asked serving.fetched in
+    let cause = where_refused c.in_ok-fetch.field-0 (TurnsDown (told_to told c.args.id) c.args.command.now) c.in-Refused.is (c.in_ok-fetch.ensures.refused told c.args.id all known) in
     once_then _ _ _ _ _ _ _ _ _ _ _ _
-    (λ serving. once_before _ _ _ _ _ _ refl (c.fetch.ensures.before before) refl
-    (pieces_of _ _ _ c.args.request.now rest c.args.command.now c.requires.asked (c.fetch.ensures.named known)) refl
-    (ap (λ (q : EndState). responses q.sent) c.fetch.ensures.queue) _)
+    (λ serving. once_before _ _ _ _ _ _ _ refl (c.fetch.ensures.before before) refl
+    (pieces_of _ _ _ _ c.args.request.now rest c.args.command.now c.requires.asked (c.fetch.ensures.named told c.args.id all known)) refl
+    (ap (λ (q : EndState). responses q.sent) c.fetch.ensures.queue) serving.brought)
     (c.add_code.ensures.once rest (g.S.Site.state c.fetch.new.site).queue _
     (subst (IsCauseOf (told_to told c.args.id)) (sym c.requires.asked) cause)) serving
 
@@ -53,10 +51,10 @@ pub returns-in-Done-clause-once : goal.returns-in-Done-clause-once
 returns-in-Done-clause-once g c = λ told all rest.
     let before : is_before_step c.args.service.now.stage ≡ true = cc in
     once_then _ _ _ _ _ _ _ _ _ _ _ _
-    (λ serving. once_before _ _ _ _ _ _ refl (c.fetch.ensures.before before) refl
-    (pieces_of _ _ _ c.args.request.now rest c.args.command.now c.requires.asked
-    (c.fetch.ensures.named (gathers_of _ _ _ c.args.request.now rest c.args.command.now c.requires.asked serving.fetched))) refl
-    (ap (λ (q : EndState). responses q.sent) c.fetch.ensures.queue) _)
+    (λ serving. once_before _ _ _ _ _ _ _ refl (c.fetch.ensures.before before) refl
+    (pieces_of _ _ _ _ c.args.request.now rest c.args.command.now c.requires.asked
+    (c.fetch.ensures.named told c.args.id (tells_first told c.args.id (g.S.Site.state c.args.site.now) (g.S.Site.state c.fetch.new.site) (g.S.Site.state c.make_step.new.site) c.make_step.ensures.advances all) (gathers_of _ _ _ _ c.args.request.now rest c.args.command.now c.requires.asked serving.fetched))) refl
+    (ap (λ (q : EndState). responses q.sent) c.fetch.ensures.queue) serving.brought)
     (c.make_step.ensures.once told rest)
 
 pub returns-in-Done-clause-advances : goal.returns-in-Done-clause-advances

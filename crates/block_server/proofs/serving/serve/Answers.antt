@@ -1,3 +1,8 @@
+use Rattle.block_server.proofs.Jointly.{works, works_none, works_on}
+use Rattle.std.proofs.Common.{ap, subst, sym}
+use Rattle.block_server.specs.Heard.{TellsAll}
+use Rattle.block_server.specs.Serving.{Desk}
+use Rattle.vio_num.specs.declared.names.UnitId.{UnitId}
 use Rattle.crq_session.specs.EndState.{EndState}
 use Rattle.block_server.specs.Stage.{is_answered}
 use Rattle.block_server.specs.Turns.{UnderWay}
@@ -8,7 +13,7 @@ use Rattle.block_server.proofs.Advancing.{advances_on, advances_same}
 use Rattle.block_server.proofs.Quieting.{on_ok, quiet_on, quiet_stage}
 use Rattle.std.proofs.Common.{◌∙◌, None, ap, refl, rules, sym}
 use Rattle.block_server.specs.Serving.{Desk, desk_of}
-use Rattle.block_server.proofs.Denying.{tells_first}
+use Rattle.block_server.proofs.Denying.{tells_first, tells_next}
 use Rattle.block_server.proofs.Onces.{once_on, once_same, once_then}
 use Rattle.block_server.proofs.Serves.{desk_is, front_is, once_between}
 use Rattle.block_server.proofs.Taking.{lines_on, lines_same, takes_none, takes_on}
@@ -64,7 +69,8 @@ returns-clause-once g c = λ told all.
     (desk_is unit.id unit.service None _ _ _ c.requires.none front.1)
     (c.note_stage.ensures.desk ∙ desk_is unit.id c.prepare.new.service None _ _ _ c.requires.none front.1)
     _ _ (c.prepare.ensures.once told (tells_first told unit.id (g.S.Site.state c.args.site.now) (g.S.Site.state c.prepare.new.site) (g.S.Site.state c.answer.new.site) c.answer.ensures.advances all) front.0))
-    (c.answer.ensures.once _)
+    (c.answer.ensures.once _ (subst (λ (id : UnitId). TellsAll told id (g.S.Site.state c.prepare.new.site) (g.S.Site.state c.answer.new.site)) (sym (ap (λ (desk : Desk). desk.id) c.note_stage.ensures.desk))
+    (tells_next told unit.id (g.S.Site.state c.args.site.now) (g.S.Site.state c.prepare.new.site) (g.S.Site.state c.answer.new.site) c.prepare.ensures.advances all)))
 
 pub returns-in_default-clause-agrees : goal.returns-in_default-clause-agrees
 returns-in_default-clause-agrees g c = λ is. is
@@ -136,16 +142,16 @@ pub returns-in_default-clause-books : goal.returns-in_default-clause-books
 returns-in_default-clause-books g c = λ judged is. is
 
 pub returns-in_err-make_room-clause-books : goal.returns-in_err-make_room-clause-books
-returns-in_err-make_room-clause-books g c = λ judged is. moved_to _ _ judged refl refl refl refl refl refl refl refl refl (ap keys_of c.make_room.ensures.lists.history) c.make_room.ensures.lists.grants refl is
+returns-in_err-make_room-clause-books g c = λ judged is. moved_to _ _ judged refl refl refl refl refl refl refl refl refl (ap keys_of c.make_room.ensures.lists.history) c.make_room.ensures.lists.grants refl refl refl is
 
 pub returns-in-Logout-clause-books : goal.returns-in-Logout-clause-books
 returns-in-Logout-clause-books g c = λ judged is.
     let front = front_is _ _ c.in-Some.ensures.item.3 in
     let other : is_login c.in-Some.request.now.order ≡ false = search rules in
     let none : gets_row c.in-Some.request.now.order ≡ false = search rules in
-    moved_to _ _ judged refl refl (ap (λ w. next_of w (g.S.Site.state c.args.site.now).queue) (waiting_stands _ _ c.log_out.ensures.stands)) refl refl refl refl refl refl refl refl refl
-    (c.log_out.ensures.books (g.S.Site.state c.args.site.now).queue.last_session (next_of c.args.unit.now.waiting (g.S.Site.state c.args.site.now).queue) c.in-Some.request.now front.0 front.1 other none judged
-    (moved_to _ _ judged refl refl refl refl refl refl refl refl refl (ap keys_of c.make_room.ensures.lists.history) c.make_room.ensures.lists.grants refl is))
+    moved_to _ _ judged refl (sym c.session.ensures) (ap (λ w. next_of w (g.S.Site.state c.args.site.now).queue) (waiting_stands _ _ c.log_out.ensures.stands)) refl refl refl refl refl refl refl refl refl refl refl
+    (c.log_out.ensures.books (next_of c.args.unit.now.waiting (g.S.Site.state c.args.site.now).queue) c.in-Some.request.now front.0 front.1 other none judged
+    (moved_to _ _ judged refl c.session.ensures refl refl refl refl refl refl refl (ap keys_of c.make_room.ensures.lists.history) c.make_room.ensures.lists.grants refl refl refl is))
 
 pub returns-in_err-prepare-clause-books : goal.returns-in_err-prepare-clause-books
 returns-in_err-prepare-clause-books g c = λ judged is.
@@ -154,7 +160,7 @@ returns-in_err-prepare-clause-books g c = λ judged is.
     let for : IsFor books c.args.unit.now.id (g.S.Site.state c.args.site.now).queue.last_session c.in-Some.request.now =
     record { id_is = refl; session_is = refl; rest = front.0; front = front.1; none = c.requires.none } in
     let served = c.prepare.ensures.books books for refl judged is in
-    moved_to _ _ judged refl (ap (λ (q : EndState). q.last_session) c.prepare.ensures.queue) (ap (next_of c.args.unit.now.waiting) c.prepare.ensures.queue) refl refl refl refl refl refl refl c.prepare.ensures.grants refl served
+    moved_to _ _ judged refl (ap (λ (q : EndState). q.last_session) c.prepare.ensures.queue) (ap (next_of c.args.unit.now.waiting) c.prepare.ensures.queue) refl refl refl refl refl refl refl c.prepare.ensures.grants refl refl refl served
 
 pub returns-clause-books : goal.returns-clause-books
 returns-clause-books g c = λ judged is.
@@ -166,7 +172,7 @@ returns-clause-books g c = λ judged is.
     let queue = (g.S.Site.state c.prepare.new.site).queue in
     c.answer.ensures.books judged
     (subst (λ (b : Books). AreKept b judged) (sym (c.note_stage.ensures.books queue.last_session (next_of c.note_stage.new.unit.waiting queue) c.prepare.new.records))
-    (moved_to _ _ judged refl (ap (λ (q : EndState). q.last_session) c.prepare.ensures.queue) (ap (λ w. next_of w queue) (waiting_stands _ _ c.note_stage.ensures.stands) ∙ ap (next_of c.args.unit.now.waiting) c.prepare.ensures.queue) refl refl refl refl refl refl refl c.prepare.ensures.grants refl served))
+    (moved_to _ _ judged refl (ap (λ (q : EndState). q.last_session) c.prepare.ensures.queue) (ap (λ w. next_of w queue) (waiting_stands _ _ c.note_stage.ensures.stands) ∙ ap (next_of c.args.unit.now.waiting) c.prepare.ensures.queue) refl refl refl refl refl refl refl c.prepare.ensures.grants refl refl refl served))
 
 pub returns-in_default-clause-passes : goal.returns-in_default-clause-passes
 returns-in_default-clause-passes g c = refl
@@ -214,9 +220,36 @@ returns-clause-answers g c = λ judged is alone has.
     let queue = (g.S.Site.state c.prepare.new.site).queue in
     c.answer.ensures.answers judged
     (subst (λ (b : Books). AreKept b judged) (sym (c.note_stage.ensures.books queue.last_session (next_of c.note_stage.new.unit.waiting queue) c.prepare.new.records))
-    (moved_to _ _ judged refl (ap (λ (q : EndState). q.last_session) c.prepare.ensures.queue) (ap (λ w. next_of w queue) (waiting_stands _ _ c.note_stage.ensures.stands) ∙ ap (next_of c.args.unit.now.waiting) c.prepare.ensures.queue) refl refl refl refl refl refl refl c.prepare.ensures.grants refl served)) alone
+    (moved_to _ _ judged refl (ap (λ (q : EndState). q.last_session) c.prepare.ensures.queue) (ap (λ w. next_of w queue) (waiting_stands _ _ c.note_stage.ensures.stands) ∙ ap (next_of c.args.unit.now.waiting) c.prepare.ensures.queue) refl refl refl refl refl refl refl c.prepare.ensures.grants refl refl refl served)) alone
     (subst (λ (o : Owing). HasAnswers o) (sym (c.note_stage.ensures.owing queue c.prepare.new.records))
     (owes_moved _ _ (g.S.Site.state c.args.site.now).queue.last_session _ c.in-Some.request.now front.0 c.args.records.now.history.items c.prepare.new.records.history.items refl refl front.1 refl
     (λ gets. front_under _ judged _ front.0 is front.1 gets) (λ some. is.logins.granted some)
     (c.prepare.ensures.moves _ front.0 (subst (λ (pending : List Request). IsAtStage c.args.unit.now.logins.current pending c.args.unit.now.service.stage) front.1 is.stage))
     refl refl refl refl c.prepare.ensures.queue c.prepare.ensures.grants has))
+
+pub returns-in_default-clause-judges : goal.returns-in_default-clause-judges
+returns-in_default-clause-judges g c = (works_none _ _ _ _ _ _ refl refl refl (advances_same _) refl (lines_same _ _ _ refl) (λ judged is. is)).judges
+
+pub returns-in_err-make_room-clause-judges : goal.returns-in_err-make_room-clause-judges
+returns-in_err-make_room-clause-judges g c = (works_none _ _ _ _ _ _ refl refl refl (advances_same _) refl (lines_same _ _ _ c.make_room.ensures.lists.grants) (returns-in_err-make_room-clause-books g c)).judges
+
+pub returns-in-Logout-clause-judges : goal.returns-in-Logout-clause-judges
+returns-in-Logout-clause-judges g c = (works_none _ _ _ _ _ _ c.log_out.ensures.stands refl refl (advances_same _) refl
+    (lines_on _ _ _ _ _ refl (lines_same _ _ _ c.make_room.ensures.lists.grants) c.log_out.ensures.lines) (returns-in-Logout-clause-books g c)).judges
+
+pub returns-in_err-prepare-clause-judges : goal.returns-in_err-prepare-clause-judges
+returns-in_err-prepare-clause-judges g c = (works_none _ _ _ _ _ _ refl refl refl c.prepare.ensures.advances c.prepare.ensures.passes (lines_same _ _ _ c.prepare.ensures.grants) (returns-in_err-prepare-clause-books g c)).judges
+
+pub returns-clause-judges : goal.returns-clause-judges
+returns-clause-judges g c =
+    let front = front_is _ _ c.in-Some.ensures.item.3 in
+    let books = books_at c.args.unit.now (g.S.Site.state c.args.site.now) c.args.records.now in
+    let for : IsFor books c.args.unit.now.id (g.S.Site.state c.args.site.now).queue.last_session c.in-Some.request.now =
+    record { id_is = refl; session_is = refl; rest = front.0; front = front.1; none = c.requires.none } in
+    let queue = (g.S.Site.state c.prepare.new.site).queue in
+    (works_on _ _ _ _ _ _ _ _ _
+    (works_none _ _ _ _ _ (books_at c.note_stage.new.unit (g.S.Site.state c.prepare.new.site) c.prepare.new.records) c.note_stage.ensures.stands refl refl c.prepare.ensures.advances c.prepare.ensures.passes (lines_same _ _ _ c.prepare.ensures.grants)
+    (λ judged is. subst (λ (b : Books). AreKept b judged) (sym (c.note_stage.ensures.books queue.last_session (next_of c.note_stage.new.unit.waiting queue) c.prepare.new.records))
+    (moved_to _ _ judged refl (ap (λ (q : EndState). q.last_session) c.prepare.ensures.queue) (ap (λ w. next_of w queue) (waiting_stands _ _ c.note_stage.ensures.stands) ∙ ap (next_of c.args.unit.now.waiting) c.prepare.ensures.queue) refl refl refl refl refl refl refl c.prepare.ensures.grants refl refl refl
+    (c.prepare.ensures.books books for refl judged is))))
+    (works _ _ _ _ _ _ refl refl c.answer.ensures.intake c.answer.ensures.judges)).judges

@@ -4,8 +4,8 @@ use Rattle.block_server.proofs.Readying.{idles_reserves, sender_now}
 use Rattle.block_server.proofs.Onces.{once_same}
 use Rattle.block_server.proofs.Serves.{desk_is}
 use Rattle.block_server.proofs.Taking.{stands}
-use Rattle.block_server.proofs.GoingOn.{freed_ended}
-use Rattle.block_server.proofs.Jointly.{keeps_line, keeps_pass}
+use Rattle.block_server.proofs.GoingOn.{down_ended, freed_ended}
+use Rattle.block_server.proofs.Jointly.{keeps_freed, keeps_pass}
 use Rattle.block_server.proofs.Owing.{owes_ended}
 use Rattle.block_server.proofs.OwingCalls.{closing_ended}
 use Rattle.block_server.proofs.turning.free.Goals as goal
@@ -55,11 +55,11 @@ returns-in-Busy-clause-books g c = λ records closing. keeps_pass c.args.unit.no
 
 pub returns-in-Success-clause-books : goal.returns-in-Success-clause-books
 returns-in-Success-clause-books g c = λ records closing.
-    keeps_line c.args.unit.now c.freed.new.self records _ _ c.free.ensures.passes c.freed.ensures.kept (freed_ended _ _ _ _ closing c.freed.ensures.handshake)
+    keeps_freed c.args.unit.now c.freed.new.self records _ _ c.free.ensures.passes c.freed.ensures.kept (closing_ended c.args.unit.now.line closing) (down_ended _ _ c.freed.ensures.handshake)
 
 pub returns-in-Parameter-clause-books : goal.returns-in-Parameter-clause-books
 returns-in-Parameter-clause-books g c = λ records closing.
-    keeps_line c.args.unit.now c.freed-in-Parameter.new.self records _ _ c.free.ensures.passes c.freed-in-Parameter.ensures.kept (freed_ended _ _ _ _ closing c.freed-in-Parameter.ensures.handshake)
+    keeps_freed c.args.unit.now c.freed-in-Parameter.new.self records _ _ c.free.ensures.passes c.freed-in-Parameter.ensures.kept (closing_ended c.args.unit.now.line closing) (down_ended _ _ c.freed-in-Parameter.ensures.handshake)
 
 pub returns-in-Busy-clause-answers : goal.returns-in-Busy-clause-answers
 returns-in-Busy-clause-answers g c = λ records closing alone has.

@@ -1,14 +1,14 @@
-use Rattle.std.proofs.Common.{ap, inl, inr, refl, rules, ◌∙◌}
+use Rattle.std.proofs.Common.{ap, inl, inr, refl, rules, sym, ◌∙◌}
 use Rattle.block_server.specs.Answering.{responses}
 use Rattle.block_server.proofs.Agreeing.{agrees_on, agrees_same}
 use Rattle.block_server.proofs.Readying.{full_later, idles_on, idles_reserves, next_on, next_over, opening_later, sender_later}
 use Rattle.block_server.proofs.Advancing.{advances_on}
 use Rattle.block_server.proofs.Onces.{once_on, once_same}
 use Rattle.block_server.proofs.Quieting.{quiet_on, quiet_still, still_reserves}
-use Rattle.block_server.proofs.Taking.{lines_same, takes_none, takes_on}
-use Rattle.block_server.proofs.GoingOn.{open_goes_on}
-use Rattle.block_server.proofs.Jointly.{keeps_pass}
-use Rattle.block_server.proofs.Taking.{passed_copies}
+use Rattle.block_server.proofs.Taking.{ended_stands, lines_same, takes_none, takes_on, waiting_stands}
+use Rattle.block_server.proofs.GoingOn.{down_ended, open_goes_on}
+use Rattle.block_server.proofs.Jointly.{keeps_pass, works, works_none, works_on, works_pass}
+use Rattle.block_server.specs.Books.{books_at}
 use Rattle.block_server.proofs.Owing.{owes_seen}
 use Rattle.block_server.proofs.OwingCalls.{seen_reserves}
 use Rattle.block_server.proofs.turning.open_line.Goals as goal
@@ -146,35 +146,20 @@ returns-then-eq-2-clause-goes_on g c = λ apart. absurd (apart refl)
 pub returns-then-is_down-clause-goes_on : goal.returns-then-is_down-clause-goes_on
 returns-then-is_down-clause-goes_on g c = λ apart. absurd (apart refl)
 
-pub returns-in_err-reserve-clause-fetches : goal.returns-in_err-reserve-clause-fetches
-returns-in_err-reserve-clause-fetches g c = passed_copies _ _ c.reserve.ensures.passes
-
-pub returns-then-eq-clause-fetches : goal.returns-then-eq-clause-fetches
-returns-then-eq-clause-fetches g c = passed_copies _ _ (c.push_event.ensures.passes ∙ c.reserve.ensures.passes)
-
-pub returns-then-eq-2-clause-fetches : goal.returns-then-eq-2-clause-fetches
-returns-then-eq-2-clause-fetches g c = passed_copies _ _ (c.free_closed.ensures.passes ∙ c.push_event.ensures.passes ∙ c.reserve.ensures.passes)
-
-pub returns-then-is_down-clause-fetches : goal.returns-then-is_down-clause-fetches
-returns-then-is_down-clause-fetches g c = c.register.ensures.fetches ∙ passed_copies _ _ (c.free_closed.ensures.passes ∙ c.push_event.ensures.passes ∙ c.reserve.ensures.passes)
-
-pub returns-clause-fetches : goal.returns-clause-fetches
-returns-clause-fetches g c = passed_copies _ _ (c.free_closed.ensures.passes ∙ c.push_event.ensures.passes ∙ c.reserve.ensures.passes)
-
 pub returns-in_err-reserve-clause-books : goal.returns-in_err-reserve-clause-books
-returns-in_err-reserve-clause-books g c = λ records judged is. keeps_pass c.args.unit.now records _ _ c.reserve.ensures.passes judged is
+returns-in_err-reserve-clause-books g c = λ records waits judged is. keeps_pass c.args.unit.now records _ _ c.reserve.ensures.passes judged is
 
 pub returns-then-eq-clause-books : goal.returns-then-eq-clause-books
-returns-then-eq-clause-books g c = λ records judged is. c.push_event.ensures.books records judged (keeps_pass c.args.unit.now records _ _ c.reserve.ensures.passes judged is)
+returns-then-eq-clause-books g c = λ records waits judged is. c.push_event.ensures.books records judged (keeps_pass c.args.unit.now records _ _ c.reserve.ensures.passes judged is)
 
 pub returns-then-eq-2-clause-books : goal.returns-then-eq-2-clause-books
-returns-then-eq-2-clause-books g c = λ records judged is. c.free_closed.ensures.books records judged (c.push_event.ensures.books records judged (keeps_pass c.args.unit.now records _ _ c.reserve.ensures.passes judged is))
+returns-then-eq-2-clause-books g c = λ records waits judged is. c.free_closed.ensures.books records judged (c.push_event.ensures.books records judged (keeps_pass c.args.unit.now records _ _ c.reserve.ensures.passes judged is))
 
 pub returns-then-is_down-clause-books : goal.returns-then-is_down-clause-books
-returns-then-is_down-clause-books g c = λ records judged is. c.register.ensures.books records judged (c.free_closed.ensures.books records judged (c.push_event.ensures.books records judged (keeps_pass c.args.unit.now records _ _ c.reserve.ensures.passes judged is)))
+returns-then-is_down-clause-books g c = λ records waits judged is. c.register.ensures.books records (waiting_stands _ _ (c.free_closed.ensures.stands ∙ c.push_event.ensures.stands) ∙ waits (sym (ended_stands _ _ (c.free_closed.ensures.stands ∙ c.push_event.ensures.stands)) ∙ down_ended _ _ (search rules))) judged (c.free_closed.ensures.books records judged (c.push_event.ensures.books records judged (keeps_pass c.args.unit.now records _ _ c.reserve.ensures.passes judged is)))
 
 pub returns-clause-books : goal.returns-clause-books
-returns-clause-books g c = λ records judged is. c.free_closed.ensures.books records judged (c.push_event.ensures.books records judged (keeps_pass c.args.unit.now records _ _ c.reserve.ensures.passes judged is))
+returns-clause-books g c = λ records waits judged is. c.free_closed.ensures.books records judged (c.push_event.ensures.books records judged (keeps_pass c.args.unit.now records _ _ c.reserve.ensures.passes judged is))
 
 pub returns-in_err-reserve-clause-answers : goal.returns-in_err-reserve-clause-answers
 returns-in_err-reserve-clause-answers g c = λ records alone has. owes_seen _ _ (seen_reserves _ _ c.reserve.ensures.rest) refl refl refl refl refl refl refl has
@@ -194,3 +179,28 @@ returns-clause-answers g c = λ records alone has.
 pub returns-then-is_down-clause-answers : goal.returns-then-is_down-clause-answers
 returns-then-is_down-clause-answers g c = λ records alone has.
     c.register.ensures.answers records alone (c.free_closed.ensures.answers records alone (c.push_event.ensures.answers records alone (owes_seen _ _ (seen_reserves _ _ c.reserve.ensures.rest) refl refl refl refl refl refl refl has)))
+
+pub returns-in_err-reserve-clause-judges : goal.returns-in_err-reserve-clause-judges
+returns-in_err-reserve-clause-judges g c = λ records. (works_pass c.args.unit.now records _ _ c.reserve.ensures.advances c.reserve.ensures.passes).judges
+
+pub returns-then-eq-clause-judges : goal.returns-then-eq-clause-judges
+returns-then-eq-clause-judges g c = λ records. (works_none _ _ _ _ _ _ c.push_event.ensures.stands refl refl (advances_on _ _ _ c.reserve.ensures.advances c.push_event.ensures.advances)
+    (c.push_event.ensures.passes ∙ c.reserve.ensures.passes) (lines_same _ _ _ refl)
+    (λ judged is. c.push_event.ensures.books records judged (keeps_pass c.args.unit.now records _ _ c.reserve.ensures.passes judged is))).judges
+
+pub returns-then-eq-2-clause-judges : goal.returns-then-eq-2-clause-judges
+returns-then-eq-2-clause-judges g c = λ records. (works_none _ _ _ _ _ _ (c.free_closed.ensures.stands ∙ c.push_event.ensures.stands) refl refl (advances_on _ _ _ (advances_on _ _ _ c.reserve.ensures.advances c.push_event.ensures.advances) c.free_closed.ensures.advances)
+    (c.free_closed.ensures.passes ∙ c.push_event.ensures.passes ∙ c.reserve.ensures.passes) (lines_same _ _ _ refl)
+    (λ judged is. c.free_closed.ensures.books records judged (c.push_event.ensures.books records judged (keeps_pass c.args.unit.now records _ _ c.reserve.ensures.passes judged is)))).judges
+
+pub returns-clause-judges : goal.returns-clause-judges
+returns-clause-judges g c = λ records. (works_none _ _ _ _ _ _ (c.free_closed.ensures.stands ∙ c.push_event.ensures.stands) refl refl (advances_on _ _ _ (advances_on _ _ _ c.reserve.ensures.advances c.push_event.ensures.advances) c.free_closed.ensures.advances)
+    (c.free_closed.ensures.passes ∙ c.push_event.ensures.passes ∙ c.reserve.ensures.passes) (lines_same _ _ _ refl)
+    (λ judged is. c.free_closed.ensures.books records judged (c.push_event.ensures.books records judged (keeps_pass c.args.unit.now records _ _ c.reserve.ensures.passes judged is)))).judges
+
+pub returns-then-is_down-clause-judges : goal.returns-then-is_down-clause-judges
+returns-then-is_down-clause-judges g c = λ records. (works_on _ _ _ _ _ _ _ _ _
+    (works_none _ _ _ _ _ (books_at c.free_closed.new.unit (g.S.Site.state c.free_closed.new.site) records) (c.free_closed.ensures.stands ∙ c.push_event.ensures.stands) refl refl (advances_on _ _ _ (advances_on _ _ _ c.reserve.ensures.advances c.push_event.ensures.advances) c.free_closed.ensures.advances)
+    (c.free_closed.ensures.passes ∙ c.push_event.ensures.passes ∙ c.reserve.ensures.passes) (lines_same _ _ _ refl)
+    (λ judged is. c.free_closed.ensures.books records judged (c.push_event.ensures.books records judged (keeps_pass c.args.unit.now records _ _ c.reserve.ensures.passes judged is))))
+    (works _ _ _ _ _ _ refl refl (c.register.ensures.intake records.grants.items) (c.register.ensures.judges records))).judges

@@ -1,3 +1,5 @@
+use Rattle.block_server.proofs.Deciding.{judges_session}
+use Rattle.block_server.proofs.Jointly.{works_pass}
 use Rattle.std.proofs.Common.{refl}
 use Rattle.block_server.proofs.Advancing.{advances_on}
 use Rattle.block_server.proofs.Agreeing.{agrees_same}
@@ -61,27 +63,18 @@ returns-in-Closed-clause-intake g c = λ records.
     c.begin-in-Closed.ensures.passes (advances_on _ _ _ c.register.ensures.advances c.begin-in-Closed.ensures.advances) c.begin-in-Closed.ensures.id
     c.begin-in-Closed.ensures.waiting refl
 
-pub returns-in_default-clause-fetches : goal.returns-in_default-clause-fetches
-returns-in_default-clause-fetches g c = window_copies _ _ c.register.ensures.windows
-
-pub returns-in-Success-clause-fetches : goal.returns-in-Success-clause-fetches
-returns-in-Success-clause-fetches g c = passed_copies _ _ c.begin.ensures.passes ∙ window_copies _ _ c.register.ensures.windows
-
-pub returns-in-Closed-clause-fetches : goal.returns-in-Closed-clause-fetches
-returns-in-Closed-clause-fetches g c = passed_copies _ _ c.begin-in-Closed.ensures.passes ∙ window_copies _ _ c.register.ensures.windows
-
 pub returns-in_default-clause-books : goal.returns-in_default-clause-books
-returns-in_default-clause-books g c = λ records.
+returns-in_default-clause-books g c = λ records waiting.
     let session = register_session _ _ _ c.register.result (λ is. c.in_default.not-Success is) (λ control is. c.in_default.not-Closed control is) c.register.ensures.busy c.register.ensures.refused in
     keeps_pass c.args.unit.now records _ _ (passes_windows _ _ session c.register.ensures.rest.taken c.register.ensures.windows)
 
 pub returns-in-Success-clause-books : goal.returns-in-Success-clause-books
-returns-in-Success-clause-books g c = λ records.
-    keeps_registered c.args.unit.now records (g.S.Site.state c.args.site.now) (g.S.Site.state c.register.new.self) _ (down_ended _ _ c.requires.down) (c.begin.ensures.books records)
+returns-in-Success-clause-books g c = λ records waiting.
+    keeps_registered c.args.unit.now records (g.S.Site.state c.args.site.now) (g.S.Site.state c.register.new.self) _ (down_ended _ _ c.requires.down) waiting c.in-Success.ensures.opened.session c.register.ensures.rest.taken (c.begin.ensures.books records)
 
 pub returns-in-Closed-clause-books : goal.returns-in-Closed-clause-books
-returns-in-Closed-clause-books g c = λ records.
-    keeps_registered c.args.unit.now records (g.S.Site.state c.args.site.now) (g.S.Site.state c.register.new.self) _ (down_ended _ _ c.requires.down) (c.begin-in-Closed.ensures.books records)
+returns-in-Closed-clause-books g c = λ records waiting.
+    keeps_registered c.args.unit.now records (g.S.Site.state c.args.site.now) (g.S.Site.state c.register.new.self) _ (down_ended _ _ c.requires.down) waiting c.in-Closed.ensures.opened.session c.register.ensures.rest.taken (c.begin-in-Closed.ensures.books records)
 
 pub returns-in_default-clause-answers : goal.returns-in_default-clause-answers
 returns-in_default-clause-answers g c = λ records alone has. owes_ended _ _ (down_ended _ _ c.requires.down) refl refl refl refl refl refl has
@@ -93,3 +86,18 @@ returns-in-Success-clause-answers g c = λ records alone has.
 pub returns-in-Closed-clause-answers : goal.returns-in-Closed-clause-answers
 returns-in-Closed-clause-answers g c = λ records alone has.
     c.begin-in-Closed.ensures.answers records (down_ended _ _ c.requires.down) alone (owes_ended _ _ (down_ended _ _ c.requires.down) refl refl refl refl refl refl has)
+
+pub returns-in_default-clause-judges : goal.returns-in_default-clause-judges
+returns-in_default-clause-judges g c = λ records.
+    let session = register_session _ _ _ c.register.result (λ is. c.in_default.not-Success is) (λ control is. c.in_default.not-Closed control is) c.register.ensures.busy c.register.ensures.refused in
+    (works_pass c.args.unit.now records _ _ c.register.ensures.advances (passes_windows _ _ session c.register.ensures.rest.taken c.register.ensures.windows)).judges
+
+pub returns-in-Success-clause-judges : goal.returns-in-Success-clause-judges
+returns-in-Success-clause-judges g c = λ records.
+    judges_session _ _ _ _ _ _ _ (down_ended _ _ c.requires.down) c.in-Success.ensures.opened.session c.register.ensures.rest.taken c.register.ensures.windows
+    c.begin.ensures.passes (advances_on _ _ _ c.register.ensures.advances c.begin.ensures.advances) c.begin.ensures.waiting refl (returns-in-Success-clause-books g c records)
+
+pub returns-in-Closed-clause-judges : goal.returns-in-Closed-clause-judges
+returns-in-Closed-clause-judges g c = λ records.
+    judges_session _ _ _ _ _ _ _ (down_ended _ _ c.requires.down) c.in-Closed.ensures.opened.session c.register.ensures.rest.taken c.register.ensures.windows
+    c.begin-in-Closed.ensures.passes (advances_on _ _ _ c.register.ensures.advances c.begin-in-Closed.ensures.advances) c.begin-in-Closed.ensures.waiting refl (returns-in-Closed-clause-books g c records)

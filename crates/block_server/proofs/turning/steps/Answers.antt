@@ -1,16 +1,15 @@
 use Rattle.std.proofs.Common.{refl, rules, subst, sym, ◌∙◌}
 use Rattle.vio_num.specs.declared.names.UnitId.{UnitId}
-use Rattle.block_server.specs.SiteState.{TellsAll}
+use Rattle.block_server.specs.Heard.{TellsAll}
 use Rattle.block_server.proofs.Agreeing.{agrees_on}
 use Rattle.block_server.proofs.Readying.{full_later, idle_full, idle_opening, idle_turn, next_on, next_over, next_service, on_both}
-use Rattle.block_server.proofs.Denying.{tells_next}
+use Rattle.block_server.proofs.Denying.{tells_first, tells_next}
+use Rattle.block_server.proofs.Hearing.{once_by}
 use Rattle.block_server.proofs.Advancing.{advances_on}
 use Rattle.block_server.proofs.Quieting.{on_ok, quiet_on}
 use Rattle.block_server.proofs.Onces.{once_on, once_then}
 use Rattle.block_server.proofs.Taking.{ended_stands, takes_none, takes_on}
 use Rattle.block_server.proofs.Jointly.{works, works_none, works_on}
-use Rattle.block_server.proofs.Deciding.{judges_unfetched}
-use Rattle.block_server.proofs.Taking.{passed_copies}
 use Rattle.block_server.specs.Books.{books_at}
 use Rattle.block_server.specs.Receipts.{standing_of}
 use Rattle.std.proofs.Common.{◌++◌}
@@ -30,15 +29,23 @@ returns-then-eq-2-clause-once g c = λ told all. once_on _ _ _ _ _ _ _ _ _ (c.op
 
 pub returns-in_err-take_in-clause-once : goal.returns-in_err-take_in-clause-once
 returns-in_err-take_in-clause-once g c = λ told all.
-    once_on _ _ _ _ _ _ _ _ _ (once_on _ _ _ _ _ _ _ _ _ (c.open_line.ensures.once c.args.records.now) c.put_kept.ensures.once) c.take_in.ensures.once _
+    once_by (g.S.Site.state c.args.site.now) (g.S.Site.state c.put_kept.new.site) (g.S.Site.state c.take_in.new.site) _ _ _ c.args.records.now c.put_kept.new.records c.take_in.new.records
+    (advances_on _ _ _ c.open_line.ensures.advances c.put_kept.ensures.advances) c.take_in.ensures.advances
+    (λ disk heard. once_on _ _ _ _ _ _ _ _ _ (c.open_line.ensures.once c.args.records.now) c.put_kept.ensures.once disk) c.take_in.ensures.once _ all
 
 pub returns-then-eq-3-clause-once : goal.returns-then-eq-3-clause-once
 returns-then-eq-3-clause-once g c = λ told all.
-    once_on _ _ _ _ _ _ _ _ _ (once_on _ _ _ _ _ _ _ _ _ (c.open_line.ensures.once c.args.records.now) c.put_kept.ensures.once) c.take_in.ensures.once _
+    once_by (g.S.Site.state c.args.site.now) (g.S.Site.state c.put_kept.new.site) (g.S.Site.state c.take_in.new.site) _ _ _ c.args.records.now c.put_kept.new.records c.take_in.new.records
+    (advances_on _ _ _ c.open_line.ensures.advances c.put_kept.ensures.advances) c.take_in.ensures.advances
+    (λ disk heard. once_on _ _ _ _ _ _ _ _ _ (c.open_line.ensures.once c.args.records.now) c.put_kept.ensures.once disk) c.take_in.ensures.once _ all
 
 pub returns-clause-once : goal.returns-clause-once
 returns-clause-once g c = λ told all serving.
-    let opened = once_on _ _ _ _ _ _ _ _ _ (once_on _ _ _ _ _ _ _ _ _ (c.open_line.ensures.once c.args.records.now) c.put_kept.ensures.once) c.take_in.ensures.once _ serving in
+    let heard = tells_first told c.args.unit.now.id (g.S.Site.state c.args.site.now) (g.S.Site.state c.take_in.new.site) (g.S.Site.state c.serve.new.site) c.serve.ensures.advances all in
+    let opened =
+    once_by (g.S.Site.state c.args.site.now) (g.S.Site.state c.put_kept.new.site) (g.S.Site.state c.take_in.new.site) _ _ _ c.args.records.now c.put_kept.new.records c.take_in.new.records
+    (advances_on _ _ _ c.open_line.ensures.advances c.put_kept.ensures.advances) c.take_in.ensures.advances
+    (λ disk heard. once_on _ _ _ _ _ _ _ _ _ (c.open_line.ensures.once c.args.records.now) c.put_kept.ensures.once disk) c.take_in.ensures.once _ heard serving in
     let first = advances_on _ _ _ (advances_on _ _ _ c.open_line.ensures.advances c.put_kept.ensures.advances) c.take_in.ensures.advances in
     once_then _ _ _ _ _ _ _ _ _ _ _ _
     (λ serving. opened)
@@ -159,44 +166,44 @@ returns-clause-intake g c =
 
 pub returns-in_err-open_line-clause-judges : goal.returns-in_err-open_line-clause-judges
 returns-in_err-open_line-clause-judges g c = (works (standing_of c.args.unit.now) (standing_of c.open_line.new.unit) (g.S.Site.state c.args.site.now) (g.S.Site.state c.open_line.new.site) (books_at c.args.unit.now (g.S.Site.state c.args.site.now) c.args.records.now) (books_at c.open_line.new.unit (g.S.Site.state c.open_line.new.site) c.args.records.now) refl refl (c.open_line.ensures.intake c.args.records.now.grants.items)
-    (judges_unfetched (standing_of c.args.unit.now) (standing_of c.open_line.new.unit) (g.S.Site.state c.args.site.now) (g.S.Site.state c.open_line.new.site) (books_at c.args.unit.now (g.S.Site.state c.args.site.now) c.args.records.now) (books_at c.open_line.new.unit (g.S.Site.state c.open_line.new.site) c.args.records.now) (c.open_line.ensures.intake c.args.records.now.grants.items).id (c.open_line.ensures.intake c.args.records.now.grants.items) c.open_line.ensures.fetches (c.open_line.ensures.books c.args.records.now))).judges
+    (c.open_line.ensures.judges c.args.records.now)).judges
 
 pub returns-then-eq-clause-judges : goal.returns-then-eq-clause-judges
 returns-then-eq-clause-judges g c = (works (standing_of c.args.unit.now) (standing_of c.open_line.new.unit) (g.S.Site.state c.args.site.now) (g.S.Site.state c.open_line.new.site) (books_at c.args.unit.now (g.S.Site.state c.args.site.now) c.args.records.now) (books_at c.open_line.new.unit (g.S.Site.state c.open_line.new.site) c.args.records.now) refl refl (c.open_line.ensures.intake c.args.records.now.grants.items)
-    (judges_unfetched (standing_of c.args.unit.now) (standing_of c.open_line.new.unit) (g.S.Site.state c.args.site.now) (g.S.Site.state c.open_line.new.site) (books_at c.args.unit.now (g.S.Site.state c.args.site.now) c.args.records.now) (books_at c.open_line.new.unit (g.S.Site.state c.open_line.new.site) c.args.records.now) (c.open_line.ensures.intake c.args.records.now.grants.items).id (c.open_line.ensures.intake c.args.records.now.grants.items) c.open_line.ensures.fetches (c.open_line.ensures.books c.args.records.now))).judges
+    (c.open_line.ensures.judges c.args.records.now)).judges
 
 pub returns-in_err-put_kept-clause-judges : goal.returns-in_err-put_kept-clause-judges
 returns-in_err-put_kept-clause-judges g c = (works_on _ _ _ _ _ _ _ _ _ (works (standing_of c.args.unit.now) (standing_of c.open_line.new.unit) (g.S.Site.state c.args.site.now) (g.S.Site.state c.open_line.new.site) (books_at c.args.unit.now (g.S.Site.state c.args.site.now) c.args.records.now) (books_at c.open_line.new.unit (g.S.Site.state c.open_line.new.site) c.args.records.now) refl refl (c.open_line.ensures.intake c.args.records.now.grants.items)
-    (judges_unfetched (standing_of c.args.unit.now) (standing_of c.open_line.new.unit) (g.S.Site.state c.args.site.now) (g.S.Site.state c.open_line.new.site) (books_at c.args.unit.now (g.S.Site.state c.args.site.now) c.args.records.now) (books_at c.open_line.new.unit (g.S.Site.state c.open_line.new.site) c.args.records.now) (c.open_line.ensures.intake c.args.records.now.grants.items).id (c.open_line.ensures.intake c.args.records.now.grants.items) c.open_line.ensures.fetches (c.open_line.ensures.books c.args.records.now)))
+    (c.open_line.ensures.judges c.args.records.now))
     (works_none (standing_of c.open_line.new.unit) (standing_of c.put_kept.new.unit) (g.S.Site.state c.open_line.new.site) (g.S.Site.state c.put_kept.new.site) (books_at c.open_line.new.unit (g.S.Site.state c.open_line.new.site) c.args.records.now) (books_at c.put_kept.new.unit (g.S.Site.state c.put_kept.new.site) c.put_kept.new.records) c.put_kept.ensures.stands refl refl c.put_kept.ensures.advances c.put_kept.ensures.passes c.put_kept.ensures.lines c.put_kept.ensures.books)).judges
 
 pub returns-then-eq-2-clause-judges : goal.returns-then-eq-2-clause-judges
 returns-then-eq-2-clause-judges g c = (works_on _ _ _ _ _ _ _ _ _ (works (standing_of c.args.unit.now) (standing_of c.open_line.new.unit) (g.S.Site.state c.args.site.now) (g.S.Site.state c.open_line.new.site) (books_at c.args.unit.now (g.S.Site.state c.args.site.now) c.args.records.now) (books_at c.open_line.new.unit (g.S.Site.state c.open_line.new.site) c.args.records.now) refl refl (c.open_line.ensures.intake c.args.records.now.grants.items)
-    (judges_unfetched (standing_of c.args.unit.now) (standing_of c.open_line.new.unit) (g.S.Site.state c.args.site.now) (g.S.Site.state c.open_line.new.site) (books_at c.args.unit.now (g.S.Site.state c.args.site.now) c.args.records.now) (books_at c.open_line.new.unit (g.S.Site.state c.open_line.new.site) c.args.records.now) (c.open_line.ensures.intake c.args.records.now.grants.items).id (c.open_line.ensures.intake c.args.records.now.grants.items) c.open_line.ensures.fetches (c.open_line.ensures.books c.args.records.now)))
+    (c.open_line.ensures.judges c.args.records.now))
     (works_none (standing_of c.open_line.new.unit) (standing_of c.put_kept.new.unit) (g.S.Site.state c.open_line.new.site) (g.S.Site.state c.put_kept.new.site) (books_at c.open_line.new.unit (g.S.Site.state c.open_line.new.site) c.args.records.now) (books_at c.put_kept.new.unit (g.S.Site.state c.put_kept.new.site) c.put_kept.new.records) c.put_kept.ensures.stands refl refl c.put_kept.ensures.advances c.put_kept.ensures.passes c.put_kept.ensures.lines c.put_kept.ensures.books)).judges
 
 pub returns-in_err-take_in-clause-judges : goal.returns-in_err-take_in-clause-judges
 returns-in_err-take_in-clause-judges g c = (works_on _ _ _ _ _ _ _ _ _ (works_on _ _ _ _ _ _ _ _ _ (works (standing_of c.args.unit.now) (standing_of c.open_line.new.unit) (g.S.Site.state c.args.site.now) (g.S.Site.state c.open_line.new.site) (books_at c.args.unit.now (g.S.Site.state c.args.site.now) c.args.records.now) (books_at c.open_line.new.unit (g.S.Site.state c.open_line.new.site) c.args.records.now) refl refl (c.open_line.ensures.intake c.args.records.now.grants.items)
-    (judges_unfetched (standing_of c.args.unit.now) (standing_of c.open_line.new.unit) (g.S.Site.state c.args.site.now) (g.S.Site.state c.open_line.new.site) (books_at c.args.unit.now (g.S.Site.state c.args.site.now) c.args.records.now) (books_at c.open_line.new.unit (g.S.Site.state c.open_line.new.site) c.args.records.now) (c.open_line.ensures.intake c.args.records.now.grants.items).id (c.open_line.ensures.intake c.args.records.now.grants.items) c.open_line.ensures.fetches (c.open_line.ensures.books c.args.records.now)))
+    (c.open_line.ensures.judges c.args.records.now))
     (works_none (standing_of c.open_line.new.unit) (standing_of c.put_kept.new.unit) (g.S.Site.state c.open_line.new.site) (g.S.Site.state c.put_kept.new.site) (books_at c.open_line.new.unit (g.S.Site.state c.open_line.new.site) c.args.records.now) (books_at c.put_kept.new.unit (g.S.Site.state c.put_kept.new.site) c.put_kept.new.records) c.put_kept.ensures.stands refl refl c.put_kept.ensures.advances c.put_kept.ensures.passes c.put_kept.ensures.lines c.put_kept.ensures.books))
     (works (standing_of c.put_kept.new.unit) (standing_of c.take_in.new.unit) (g.S.Site.state c.put_kept.new.site) (g.S.Site.state c.take_in.new.site) (books_at c.put_kept.new.unit (g.S.Site.state c.put_kept.new.site) c.put_kept.new.records) (books_at c.take_in.new.unit (g.S.Site.state c.take_in.new.site) c.take_in.new.records) refl refl (c.take_in.ensures.intake (ended_stands _ _ c.put_kept.ensures.stands ∙ c.in_ok-open_line.ensures.goes_on (search rules)))
     (c.take_in.ensures.judges (ended_stands _ _ c.put_kept.ensures.stands ∙ c.in_ok-open_line.ensures.goes_on (search rules))))).judges
 
 pub returns-then-eq-3-clause-judges : goal.returns-then-eq-3-clause-judges
 returns-then-eq-3-clause-judges g c = (works_on _ _ _ _ _ _ _ _ _ (works_on _ _ _ _ _ _ _ _ _ (works (standing_of c.args.unit.now) (standing_of c.open_line.new.unit) (g.S.Site.state c.args.site.now) (g.S.Site.state c.open_line.new.site) (books_at c.args.unit.now (g.S.Site.state c.args.site.now) c.args.records.now) (books_at c.open_line.new.unit (g.S.Site.state c.open_line.new.site) c.args.records.now) refl refl (c.open_line.ensures.intake c.args.records.now.grants.items)
-    (judges_unfetched (standing_of c.args.unit.now) (standing_of c.open_line.new.unit) (g.S.Site.state c.args.site.now) (g.S.Site.state c.open_line.new.site) (books_at c.args.unit.now (g.S.Site.state c.args.site.now) c.args.records.now) (books_at c.open_line.new.unit (g.S.Site.state c.open_line.new.site) c.args.records.now) (c.open_line.ensures.intake c.args.records.now.grants.items).id (c.open_line.ensures.intake c.args.records.now.grants.items) c.open_line.ensures.fetches (c.open_line.ensures.books c.args.records.now)))
+    (c.open_line.ensures.judges c.args.records.now))
     (works_none (standing_of c.open_line.new.unit) (standing_of c.put_kept.new.unit) (g.S.Site.state c.open_line.new.site) (g.S.Site.state c.put_kept.new.site) (books_at c.open_line.new.unit (g.S.Site.state c.open_line.new.site) c.args.records.now) (books_at c.put_kept.new.unit (g.S.Site.state c.put_kept.new.site) c.put_kept.new.records) c.put_kept.ensures.stands refl refl c.put_kept.ensures.advances c.put_kept.ensures.passes c.put_kept.ensures.lines c.put_kept.ensures.books))
     (works (standing_of c.put_kept.new.unit) (standing_of c.take_in.new.unit) (g.S.Site.state c.put_kept.new.site) (g.S.Site.state c.take_in.new.site) (books_at c.put_kept.new.unit (g.S.Site.state c.put_kept.new.site) c.put_kept.new.records) (books_at c.take_in.new.unit (g.S.Site.state c.take_in.new.site) c.take_in.new.records) refl refl (c.take_in.ensures.intake (ended_stands _ _ c.put_kept.ensures.stands ∙ c.in_ok-open_line.ensures.goes_on (search rules)))
     (c.take_in.ensures.judges (ended_stands _ _ c.put_kept.ensures.stands ∙ c.in_ok-open_line.ensures.goes_on (search rules))))).judges
 
 pub returns-clause-judges : goal.returns-clause-judges
 returns-clause-judges g c = (works_on _ _ _ _ _ _ _ _ _ (works_on _ _ _ _ _ _ _ _ _ (works_on _ _ _ _ _ _ _ _ _ (works (standing_of c.args.unit.now) (standing_of c.open_line.new.unit) (g.S.Site.state c.args.site.now) (g.S.Site.state c.open_line.new.site) (books_at c.args.unit.now (g.S.Site.state c.args.site.now) c.args.records.now) (books_at c.open_line.new.unit (g.S.Site.state c.open_line.new.site) c.args.records.now) refl refl (c.open_line.ensures.intake c.args.records.now.grants.items)
-    (judges_unfetched (standing_of c.args.unit.now) (standing_of c.open_line.new.unit) (g.S.Site.state c.args.site.now) (g.S.Site.state c.open_line.new.site) (books_at c.args.unit.now (g.S.Site.state c.args.site.now) c.args.records.now) (books_at c.open_line.new.unit (g.S.Site.state c.open_line.new.site) c.args.records.now) (c.open_line.ensures.intake c.args.records.now.grants.items).id (c.open_line.ensures.intake c.args.records.now.grants.items) c.open_line.ensures.fetches (c.open_line.ensures.books c.args.records.now)))
+    (c.open_line.ensures.judges c.args.records.now))
     (works_none (standing_of c.open_line.new.unit) (standing_of c.put_kept.new.unit) (g.S.Site.state c.open_line.new.site) (g.S.Site.state c.put_kept.new.site) (books_at c.open_line.new.unit (g.S.Site.state c.open_line.new.site) c.args.records.now) (books_at c.put_kept.new.unit (g.S.Site.state c.put_kept.new.site) c.put_kept.new.records) c.put_kept.ensures.stands refl refl c.put_kept.ensures.advances c.put_kept.ensures.passes c.put_kept.ensures.lines c.put_kept.ensures.books))
     (works (standing_of c.put_kept.new.unit) (standing_of c.take_in.new.unit) (g.S.Site.state c.put_kept.new.site) (g.S.Site.state c.take_in.new.site) (books_at c.put_kept.new.unit (g.S.Site.state c.put_kept.new.site) c.put_kept.new.records) (books_at c.take_in.new.unit (g.S.Site.state c.take_in.new.site) c.take_in.new.records) refl refl (c.take_in.ensures.intake (ended_stands _ _ c.put_kept.ensures.stands ∙ c.in_ok-open_line.ensures.goes_on (search rules)))
     (c.take_in.ensures.judges (ended_stands _ _ c.put_kept.ensures.stands ∙ c.in_ok-open_line.ensures.goes_on (search rules)))))
     (works (standing_of c.take_in.new.unit) (standing_of c.serve.new.unit) (g.S.Site.state c.take_in.new.site) (g.S.Site.state c.serve.new.site) (books_at c.take_in.new.unit (g.S.Site.state c.take_in.new.site) c.take_in.new.records) (books_at c.serve.new.unit (g.S.Site.state c.serve.new.site) c.serve.new.records) refl refl c.serve.ensures.intake
-    (judges_unfetched (standing_of c.take_in.new.unit) (standing_of c.serve.new.unit) (g.S.Site.state c.take_in.new.site) (g.S.Site.state c.serve.new.site) (books_at c.take_in.new.unit (g.S.Site.state c.take_in.new.site) c.take_in.new.records) (books_at c.serve.new.unit (g.S.Site.state c.serve.new.site) c.serve.new.records) c.serve.ensures.intake.id c.serve.ensures.intake (passed_copies _ _ c.serve.ensures.passes) c.serve.ensures.books))).judges
+    c.serve.ensures.judges)).judges
 
 pub returns-in_err-open_line-clause-answers : goal.returns-in_err-open_line-clause-answers
 returns-in_err-open_line-clause-answers g c = λ own receipts intake judged is alone has.
@@ -208,26 +215,26 @@ returns-then-eq-clause-answers g c = λ own receipts intake judged is alone has.
 
 pub returns-in_err-put_kept-clause-answers : goal.returns-in_err-put_kept-clause-answers
 returns-in_err-put_kept-clause-answers g c = λ own receipts intake judged is alone has.
-    c.put_kept.ensures.answers judged (c.open_line.ensures.books c.args.records.now judged is) alone (c.open_line.ensures.answers c.args.records.now alone has)
+    c.put_kept.ensures.answers judged (c.open_line.ensures.books c.args.records.now intake.idle judged is) alone (c.open_line.ensures.answers c.args.records.now alone has)
 
 pub returns-then-eq-2-clause-answers : goal.returns-then-eq-2-clause-answers
 returns-then-eq-2-clause-answers g c = λ own receipts intake judged is alone has.
-    c.put_kept.ensures.answers judged (c.open_line.ensures.books c.args.records.now judged is) alone (c.open_line.ensures.answers c.args.records.now alone has)
+    c.put_kept.ensures.answers judged (c.open_line.ensures.books c.args.records.now intake.idle judged is) alone (c.open_line.ensures.answers c.args.records.now alone has)
 
 pub returns-in_err-take_in-clause-answers : goal.returns-in_err-take_in-clause-answers
 returns-in_err-take_in-clause-answers g c = λ own receipts intake judged is alone has.
-    c.take_in.ensures.answers alone (c.put_kept.ensures.answers judged (c.open_line.ensures.books c.args.records.now judged is) alone (c.open_line.ensures.answers c.args.records.now alone has))
+    c.take_in.ensures.answers alone (c.put_kept.ensures.answers judged (c.open_line.ensures.books c.args.records.now intake.idle judged is) alone (c.open_line.ensures.answers c.args.records.now alone has))
 
 pub returns-then-eq-3-clause-answers : goal.returns-then-eq-3-clause-answers
 returns-then-eq-3-clause-answers g c = λ own receipts intake judged is alone has.
-    c.take_in.ensures.answers alone (c.put_kept.ensures.answers judged (c.open_line.ensures.books c.args.records.now judged is) alone (c.open_line.ensures.answers c.args.records.now alone has))
+    c.take_in.ensures.answers alone (c.put_kept.ensures.answers judged (c.open_line.ensures.books c.args.records.now intake.idle judged is) alone (c.open_line.ensures.answers c.args.records.now alone has))
 
 pub returns-clause-answers : goal.returns-clause-answers
 returns-clause-answers g c = λ own receipts intake judged is alone has.
     let more = ((works_on _ _ _ _ _ _ _ _ _ (works_on _ _ _ _ _ _ _ _ _ (works (standing_of c.args.unit.now) (standing_of c.open_line.new.unit) (g.S.Site.state c.args.site.now) (g.S.Site.state c.open_line.new.site) (books_at c.args.unit.now (g.S.Site.state c.args.site.now) c.args.records.now) (books_at c.open_line.new.unit (g.S.Site.state c.open_line.new.site) c.args.records.now) refl refl (c.open_line.ensures.intake c.args.records.now.grants.items)
-    (judges_unfetched (standing_of c.args.unit.now) (standing_of c.open_line.new.unit) (g.S.Site.state c.args.site.now) (g.S.Site.state c.open_line.new.site) (books_at c.args.unit.now (g.S.Site.state c.args.site.now) c.args.records.now) (books_at c.open_line.new.unit (g.S.Site.state c.open_line.new.site) c.args.records.now) (c.open_line.ensures.intake c.args.records.now.grants.items).id (c.open_line.ensures.intake c.args.records.now.grants.items) c.open_line.ensures.fetches (c.open_line.ensures.books c.args.records.now)))
+    (c.open_line.ensures.judges c.args.records.now))
     (works_none (standing_of c.open_line.new.unit) (standing_of c.put_kept.new.unit) (g.S.Site.state c.open_line.new.site) (g.S.Site.state c.put_kept.new.site) (books_at c.open_line.new.unit (g.S.Site.state c.open_line.new.site) c.args.records.now) (books_at c.put_kept.new.unit (g.S.Site.state c.put_kept.new.site) c.put_kept.new.records) c.put_kept.ensures.stands refl refl c.put_kept.ensures.advances c.put_kept.ensures.passes c.put_kept.ensures.lines c.put_kept.ensures.books))
     (works (standing_of c.put_kept.new.unit) (standing_of c.take_in.new.unit) (g.S.Site.state c.put_kept.new.site) (g.S.Site.state c.take_in.new.site) (books_at c.put_kept.new.unit (g.S.Site.state c.put_kept.new.site) c.put_kept.new.records) (books_at c.take_in.new.unit (g.S.Site.state c.take_in.new.site) c.take_in.new.records) refl refl (c.take_in.ensures.intake (ended_stands _ _ c.put_kept.ensures.stands ∙ c.in_ok-open_line.ensures.goes_on (search rules)))
     (c.take_in.ensures.judges (ended_stands _ _ c.put_kept.ensures.stands ∙ c.in_ok-open_line.ensures.goes_on (search rules))))).judges).more own receipts judged intake is in
     c.serve.ensures.answers (judged ++ more.more) more.kept alone
-    (c.take_in.ensures.answers alone (c.put_kept.ensures.answers judged (c.open_line.ensures.books c.args.records.now judged is) alone (c.open_line.ensures.answers c.args.records.now alone has)))
+    (c.take_in.ensures.answers alone (c.put_kept.ensures.answers judged (c.open_line.ensures.books c.args.records.now intake.idle judged is) alone (c.open_line.ensures.answers c.args.records.now alone has)))

@@ -46,7 +46,7 @@ returns-clause-behind g c = λ behind.
 
 pub returns-clause-made : goal.returns-clause-made
 returns-clause-made g c =
-    made_in c.note.result _ _ _ _ _ _ _ _ 0 c.copy_rdma-answer.result _ _ c.args.self.now.named c.copy_rdma-answer.ensures.target c.copy_rdma-answer.ensures.copied
+    made_in c.note.result _ (g.O.WindowPort.state c.args.self.now.own.now) _ _ _ _ _ _ _ 0 c.copy_rdma-answer.result _ _ c.args.self.now.named c.copy_rdma-answer.ensures.target c.copy_rdma-answer.ensures.copied
     (c.note.ensures.copies ∙ ap (λ front. front ++ copies_in c.copy_rdma-answer.result) c.reserve.ensures.items) c.note.ensures.made
 
 pub returns-clause-none : goal.returns-clause-none

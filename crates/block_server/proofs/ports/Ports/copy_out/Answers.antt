@@ -5,8 +5,9 @@ use Rattle.block_server.specs.Copied.{copies_in}
 use Rattle.block_server.proofs.Advancing.{copies_none, later_same}
 use Rattle.block_server.proofs.Windows.{deliver_busy, delivered_more, windows_move, source_grows, target_grows}
 use Rattle.block_server.proofs.NamedWindows.{same_named, source_named, target_named}
-use Rattle.block_server.proofs.FirstPages.{fetches_same, to_client}
+use Rattle.block_server.proofs.FirstPages.{fetches_same, made_in, none_in, to_client}
 use Rattle.block_server.proofs.Owning.{deliver_denied}
+use Rattle.block_server.proofs.UnitBytes.{lays_none, only_copies}
 use Rattle.block_server.proofs.ports.Ports.copy_out.Goals as goal
 
 pub returns-clause-advances : goal.returns-clause-advances
@@ -46,3 +47,20 @@ returns-clause-behind g c =
 
 pub returns-then-is_err-clause-behind : goal.returns-then-is_err-clause-behind
 returns-then-is_err-clause-behind g c = fetches_same _ _ _ c.reserve.ensures.items
+
+pub returns-clause-made : goal.returns-clause-made
+returns-clause-made g c =
+    made_in c.note.result _ (g.O.WindowPort.state c.args.self.now.own.now) _ _ _ _ _ _ _ c.args.mark c.copy_rdma-answer.result _ _ c.args.self.now.named
+    c.copy_rdma-answer.ensures.target c.copy_rdma-answer.ensures.copied
+    (c.note.ensures.copies ∙ ap (λ front. front ++ copies_in c.copy_rdma-answer.result) c.reserve.ensures.items) c.note.ensures.made
+
+pub returns-clause-none : goal.returns-clause-none
+returns-clause-none g c =
+    none_in c.note.result c.copy_rdma-answer.result _ _
+    (c.note.ensures.copies ∙ ap (λ front. front ++ copies_in c.copy_rdma-answer.result) c.reserve.ensures.items) c.note.ensures.none
+
+pub returns-then-is_err-clause-laid : goal.returns-then-is_err-clause-laid
+returns-then-is_err-clause-laid g c = lays_none _ _
+
+pub returns-then-is_err-clause-rest : goal.returns-then-is_err-clause-rest
+returns-then-is_err-clause-rest g c = only_copies _ _ c.args.self.now.ready.own_free

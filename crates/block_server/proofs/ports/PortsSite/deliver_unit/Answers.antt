@@ -1,3 +1,6 @@
+use Rattle.std.proofs.Common.{arith}
+use Rattle.tce_window.proofs.Gathering.{on_ok_map}
+use Rattle.block_server.proofs.DeliveredBytes.{delivers_one}
 use Rattle.std.proofs.Common.{◌∙◌}
 use Rattle.block_server.proofs.FirstPages.{fetches_same, none_behind, queue_stays}
 use Rattle.block_server.proofs.Advancing.{advances_on}
@@ -14,3 +17,10 @@ returns-in-Ok-clause-passes g c =
 pub returns-in-Err-clause-passes : goal.returns-in-Err-clause-passes
 returns-in-Err-clause-passes g c =
     queue_stays _ _ c.write_own.ensures.queue c.write_own.ensures.own.place (fetches_same _ _ _ c.write_own.ensures.copies)
+
+pub returns-in-Ok-clause-delivered : goal.returns-in-Ok-clause-delivered
+returns-in-Ok-clause-delivered g c =
+    on_ok_map c.copy_out.result _ _
+    (λ made. delivers_one g.O.WindowPort.is_shared g.R.WindowPort.is_shared _ _ _ _ _ _ _ _ _ c.args.self.now.alone c.args.self.now.ready.first
+    (omega arith) (omega arith) (omega arith) c.in-Ok.ensures.wrote c.write_own.ensures.own c.write_own.ensures.client c.write_own.ensures.copies
+    c.copy_out.ensures.laid c.copy_out.ensures.rest made) c.copy_out.ensures.made

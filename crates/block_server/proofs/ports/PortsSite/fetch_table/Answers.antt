@@ -1,3 +1,5 @@
+use Rattle.block_server.proofs.UnitBytes.{fetches_to}
+use Rattle.block_server.proofs.FirstPages.{on_error}
 use Rattle.std.proofs.Common.{◌∙◌, arith}
 use Rattle.block_server.proofs.FirstPages.{fetches_same, queue_stays}
 use Rattle.block_server.proofs.Advancing.{advances_on}
@@ -14,3 +16,12 @@ returns-clause-passes g c =
 pub returns-in_err-copy_in-clause-passes : goal.returns-in_err-copy_in-clause-passes
 returns-in_err-copy_in-clause-passes g c =
     queue_stays _ _ c.copy_in.ensures.queue c.copy_in.ensures.advances.own_place (c.copy_in.ensures.behind (omega arith))
+
+pub returns-clause-fetched : goal.returns-clause-fetched
+returns-clause-fetched g c =
+    fetches_to g.O.WindowPort.is_shared _ _ _ _ 1 _ _ _ _ _ (omega arith) (omega arith) c.args.self.now.alone c.args.self.now.ready.first
+    (omega arith) (omega arith) (omega arith)
+    c.in_ok-copy_in.ensures.made c.read_own.ensures.own c.read_own.ensures.read c.read_own.ensures.client c.read_own.ensures.copies
+
+pub returns-in_err-copy_in-clause-none : goal.returns-in_err-copy_in-clause-none
+returns-in_err-copy_in-clause-none g c = on_error _ _ c.in_err-copy_in.ensures.none

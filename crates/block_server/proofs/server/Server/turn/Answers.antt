@@ -30,7 +30,7 @@ returns-clause-answers g c =
     (∥∥₁_map server.serving (λ (all : AreServing (terms_of anything server.disk.count) server.partition server.units.items server.records.history.items).
     let is = all c.args.unit c.index_mut.result.now there in
     subst (λ (id : UnitId). AnswersItsRows id (g.C.CrqEnd.state c.args.crq.now) (g.C.CrqEnd.state c.turn.new.site.queue.now) server.records c.turn.new.records)
-    (is.id ∙ sym c.requires.named) (c.turn.ensures.once anything (λ right address len fault denied. refl) is.serving).answers))
+    (is.id ∙ sym c.requires.named) (c.turn.ensures.once anything (λ news is. refl) is.serving).answers))
 
 pub returns-clause-others : goal.returns-clause-others
 returns-clause-others g c =
@@ -39,7 +39,7 @@ returns-clause-others g c =
     slice_get_read server.units.items _ c.args.unit _ server.units.ok.0 c.requires.unit c.index_mut.ensures.value in
     ∥∥₁_map server.serving (λ (all : AreServing (terms_of anything server.disk.count) server.partition server.units.items server.records.history.items).
     let is = all c.args.unit c.index_mut.result.now there in
-    subst (λ (id : UnitId). ServesItsRows id server.records c.turn.new.records) (is.id ∙ sym c.requires.named) (c.turn.ensures.once anything (λ right address len fault denied. refl) is.serving).others)
+    subst (λ (id : UnitId). ServesItsRows id server.records c.turn.new.records) (is.id ∙ sym c.requires.named) (c.turn.ensures.once anything (λ news is. refl) is.serving).others)
 
 pub returns-clause-disk : goal.returns-clause-disk
 returns-clause-disk g c =
@@ -49,9 +49,9 @@ returns-clause-disk g c =
     ∥∥₁_map server.serving (λ (all : AreServing (terms_of anything server.disk.count) server.partition server.units.items server.records.history.items).
     keeps_disk (held anything server.disk.count (g.B.Blocks.state server.disk.image).blocks) (held anything c.turn.new.disk.count (g.B.Blocks.state c.turn.new.disk.image).blocks) _ _
     (g.B.Blocks.state server.disk.image).size server.disk.sized
-    (c.turn.ensures.once anything (λ right address len fault denied. refl) (all c.args.unit c.index_mut.result.now there).serving).terms
+    (c.turn.ensures.once anything (λ news is. refl) (all c.args.unit c.index_mut.result.now there).serving).terms
     (g.met.B.Blocks.told server.disk.image)
-    (c.turn.ensures.once anything (λ right address len fault denied. refl) (all c.args.unit c.index_mut.result.now there).serving).stays)
+    (c.turn.ensures.once anything (λ news is. refl) (all c.args.unit c.index_mut.result.now there).serving).stays)
 
 pub returns-clause-causes : goal.returns-clause-causes
 returns-clause-causes g c = λ told tells all.
@@ -60,10 +60,22 @@ returns-clause-causes g c = λ told tells all.
     slice_get_read server.units.items _ c.args.unit _ server.units.ok.0 c.requires.unit c.index_mut.ensures.value in
     let is = all c.args.unit c.index_mut.result.now there in
     let reached = ap (λ (lent : Lenders). lent.client) c.turn.ensures.advances.reached in
-    let heard = tells_turn told _ _ _ _ _ _ (sym (is.id ∙ sym c.requires.named)) (sym (ap g.R.WindowPort.state (c.client-1.given.1 (sym reached)))) tells in
+    let heard = tells_turn told _ _ _ _ _ _ _ _ _ _ (sym (is.id ∙ sym c.requires.named)) (sym (ap g.O.WindowPort.state (c.own-1.given.1 (sym (ap (λ (lent : Lenders). lent.own) c.turn.ensures.advances.reached)))))
+    (sym (ap g.R.WindowPort.state (c.client-1.given.1 (sym reached)))) tells in
     let once = c.turn.ensures.once told heard is.serving in
     keeps_disk (held told server.disk.count (g.B.Blocks.state server.disk.image).blocks) (held told c.turn.new.disk.count (g.B.Blocks.state c.turn.new.disk.image).blocks) _ _
     (g.B.Blocks.state server.disk.image).size server.disk.sized once.terms (g.met.B.Blocks.told server.disk.image) once.stays
+
+pub returns-clause-written : goal.returns-clause-written
+returns-clause-written g c = λ told tells all.
+    let server = c.args.self.now in
+    let there : slice_get server.units.items c.args.unit ≡ Some c.index_mut.result.now =
+    slice_get_read server.units.items _ c.args.unit _ server.units.ok.0 c.requires.unit c.index_mut.ensures.value in
+    let is = all c.args.unit c.index_mut.result.now there in
+    let reached = ap (λ (lent : Lenders). lent.client) c.turn.ensures.advances.reached in
+    let heard = tells_turn told _ _ _ _ _ _ _ _ _ _ (sym (is.id ∙ sym c.requires.named)) (sym (ap g.O.WindowPort.state (c.own-1.given.1 (sym (ap (λ (lent : Lenders). lent.own) c.turn.ensures.advances.reached)))))
+    (sym (ap g.R.WindowPort.state (c.client-1.given.1 (sym reached)))) tells in
+    (c.turn.ensures.once told heard is.serving).written
 
 pub returns-clause-order : goal.returns-clause-order
 returns-clause-order g c = λ told tells all.
@@ -72,7 +84,8 @@ returns-clause-order g c = λ told tells all.
     slice_get_read server.units.items _ c.args.unit _ server.units.ok.0 c.requires.unit c.index_mut.ensures.value in
     let is = all c.args.unit c.index_mut.result.now there in
     let reached = ap (λ (lent : Lenders). lent.client) c.turn.ensures.advances.reached in
-    let heard = tells_turn told _ _ _ _ _ _ (sym (is.id ∙ sym c.requires.named)) (sym (ap g.R.WindowPort.state (c.client-1.given.1 (sym reached)))) tells in
+    let heard = tells_turn told _ _ _ _ _ _ _ _ _ _ (sym (is.id ∙ sym c.requires.named)) (sym (ap g.O.WindowPort.state (c.own-1.given.1 (sym (ap (λ (lent : Lenders). lent.own) c.turn.ensures.advances.reached)))))
+    (sym (ap g.R.WindowPort.state (c.client-1.given.1 (sym reached)))) tells in
     units_on (held told server.disk.count (g.B.Blocks.state server.disk.image).blocks) (held told c.turn.new.disk.count (g.B.Blocks.state c.turn.new.disk.image).blocks)
     server.partition c.args.unit server.units.items c.index_mut.result.now c.turn.new.unit _ _ _ _ there (c.turn.ensures.once told heard is.serving) all
 
@@ -83,7 +96,7 @@ returns-clause-tells g c =
     slice_get_read server.units.items _ c.args.unit _ server.units.ok.0 c.requires.unit c.index_mut.ensures.value in
     ∥∥₁_elim server.serving (tells_prop (g.B.Blocks.state server.disk.image).blocks (g.B.Blocks.state c.turn.new.disk.image).blocks)
     (λ (all : AreServing (terms_of anything server.disk.count) server.partition server.units.items server.records.history.items).
-    (c.turn.ensures.once anything (λ right address len fault denied. refl) (all c.args.unit c.index_mut.result.now there).serving).tells)
+    (c.turn.ensures.once anything (λ news is. refl) (all c.args.unit c.index_mut.result.now there).serving).tells)
 
 pub returns-clause-way : goal.returns-clause-way
 returns-clause-way g c =
@@ -101,7 +114,7 @@ invariant_of-self g c =
       serving = ∥∥₁_map server.serving (λ (all : AreServing (terms_of anything server.disk.count) server.partition server.units.items server.records.history.items).
           units_on (held anything server.disk.count (g.B.Blocks.state server.disk.image).blocks) (held anything c.turn.new.disk.count (g.B.Blocks.state c.turn.new.disk.image).blocks)
           server.partition c.args.unit server.units.items c.index_mut.result.now c.turn.new.unit _ _ _ _ there
-          (c.turn.ensures.once anything (λ right address len fault denied. refl) (all c.args.unit c.index_mut.result.now there).serving) all);
+          (c.turn.ensures.once anything (λ news is. refl) (all c.args.unit c.index_mut.result.now there).serving) all);
     }
 
 pub returns-clause-others_stay : goal.returns-clause-others_stay

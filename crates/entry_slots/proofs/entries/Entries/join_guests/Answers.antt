@@ -22,7 +22,7 @@ join_seat-requires c =
       ap (λ v. v.entries) c.other.view_is ∙ (member (λ s. s.entries ≡ c.args.self.now.id) all items rest other back inv.1 popped c.requires.guests.ours ∙ id),
       c.other.invariant.out,
       subst (λ n. 0 < n) (sym c.self.invariant.words) c.self.invariant.some,
-      joins key.entries key.seats c.loop-other.seat.id c.loop-other.seat.me.0 seat.id seat.me.0 none,
+      joins key.entries key.seats c.loop-other.seat.id c.loop-other.seat.me.0 seat.id seat.me.0 none inv.2.some_share,
     )
 
 pub loop-other-preserved : goal.loop-other-preserved

@@ -1,4 +1,4 @@
-use Rattle.std.proofs.Common.{◌≡◌, ℕ, ◌+◌, ◌-◌, ◌<◌, true, eqb, refl, sym, ap, ◌∙◌, subst, arith}
+use Rattle.std.proofs.Common.{◌≡◌, ℕ, ◌+◌, ◌-◌, ◌/◌, ◌<◌, ◌≤◌, true, eqb, refl, sym, ap, ◌∙◌, subst, arith}
 use mathlib.Core.Option.{some}
 use prog.Atomic.{either}
 use Rattle.atomic_table.specs.Table.{step, Allows}
@@ -17,6 +17,8 @@ compare_exchange_with-bits-requires c =
     let slots = entries.table.shared.table_id.slots in
     let row = c.args.row in
     let within : row.entry < entries.count = subst (λ n. row.entry < n) (sym (ap (λ v. v.count) c.self.view_is)) c.requires.within in
+    let same : c.args.self.now.count ≡ key.entries = sym (ap (λ v. v.count) c.self.view_is) ∙ sym (ap (λ z. z.entries) c.self.invariant.key) in
+    let most : c.args.self.now.count ≤ 256 = subst (λ n. n ≤ 256) (ap (λ v. v.count) c.self.view_is) c.self.invariant.few in
     let last : ℕ = row.version - 1 in
     let some_version = c.requires.version.0 in
     let few = c.requires.version.1 in
@@ -30,8 +32,14 @@ compare_exchange_with-bits-requires c =
           (subst (λ v. v.owns ≡ true) (sym c.seat.view_is) c.requires.owner.1)
           refl
           up
-          (fits c.args.last c.requires.pages.0)
-          (fits row.value c.requires.pages.1)
+          (fits c.args.last c.requires.last)
+          (fits row.value (λ right. let less = c.requires.page right in omega (arith, less, most)))
           (omega (arith, up, few))
+          (λ right. subst (λ n. row.value / 4096 < n) same (c.requires.page right))
           slots seat.me.1),
     )
+
+pub word_of-after-requires-clause-page : goal.word_of-after-requires-clause-page
+word_of-after-requires-clause-page c right =
+    let most : c.args.self.now.count ≤ 256 = subst (λ n. n ≤ 256) (ap (λ v. v.count) c.self.view_is) c.self.invariant.few in
+    let less = c.requires.page right in omega (arith, less, most)

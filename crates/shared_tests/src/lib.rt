@@ -1,0 +1,9 @@
+// Guests of shared windows: what they hold, what they are refused, and copies between two windows.
+#![tactic(auto)]
+
+#[cfg(test)]
+mod copying;
+#[cfg(test)]
+mod guests;
+#[cfg(test)]
+mod holding;

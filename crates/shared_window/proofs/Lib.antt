@@ -1,0 +1,9 @@
+pub mod Giving
+pub mod Nearest
+pub mod NewSeats
+pub mod Pins
+pub mod GivingBack
+pub mod HeldRanges
+pub mod Ports
+pub mod Refusals
+pub mod Taking

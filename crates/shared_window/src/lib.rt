@@ -1,0 +1,17 @@
+// A window of translation entries that an owner and guests in several threads share without a lock: its pages
+// by turns, its entries by pins.
+#![tactic(auto)]
+
+mod guest;
+mod hand;
+mod open;
+mod owner;
+mod pinning;
+mod placing;
+mod seat;
+mod window;
+
+pub use guest::{Guest, SharedGuest};
+pub use open::Opened;
+pub use owner::Owner;
+pub use window::Window;
