@@ -23,6 +23,7 @@ use Rattle.rdma_copy.specs.Copy.{Side, SideGrows}
 use Rattle.rdma_copy.specs.declared.copy.CopyRecord.{CopyRecord}
 use Rattle.block_server.proofs.BookLaws.{served_at_rest}
 use Rattle.block_server.specs.Books.{books_seen}
+use Rattle.block_server.specs.Closings.{HasCauses}
 use Rattle.block_server.specs.Judged.{AreKept, IsWorkDone, Judged, RowKey, keys_of}
 use Rattle.block_server.specs.Makers.{same_unit as same_name}
 use Rattle.block_server.specs.Ready.{HasNothing}
@@ -44,7 +45,7 @@ use Rattle.vcpu_run.specs.declared.unit_seat.UnitSeat.{UnitSeat}
 use Rattle.vcpu_run.specs.Answered.{AreBegun}
 use Rattle.vcpu_run.specs.CopyRows.{copies_by, copy_row, piece_row, same_unit}
 use Rattle.vcpu_run.specs.Gathered.{HasLawfulQueue, HasLawfulWindow, copies_of, queue_at, rows_if, sessions_at, trace_of}
-use Rattle.vcpu_run.specs.Intake.{EntriesAreFetched, IsFetched, IsShown, IsTakenIn, begins_on, fetches_shown, rows_taken, taken_in}
+use Rattle.vcpu_run.specs.Intake.{EntriesAreFetched, IsFetched, IsShown, IsTakenIn, begins_on, entries_taken, fetches_shown, rows_taken, taken_in}
 use Rattle.vcpu_run.specs.Machines.{ArePlanned, AreScripts, IsOfPlan}
 use Rattle.vcpu_run.specs.Pairs.{AreOfOneHome}
 use Rattle.vcpu_run.specs.Received.{AreAtRest}
@@ -244,13 +245,15 @@ taken_in_at partitions trace server client u pair copies receipts laws begun non
 -- what became of each entry, as the trace shows it
 served_in_at : (partitions : List Partition) (trace : Trace) (server client : UnitId) (id : UnitId) (judged : List Judged) (taken : IsTakenIn partitions trace server client)
     → map (λ (j : Judged). j.receipt) judged ≡ taken.receipts → id ≡ server → IsWorkDone id trace.serves trace.grants judged
-    → All (λ (row : RowKey). same_name row.unit id ≡ true → 1 ≤ row.login) (keys_of trace.serves) → IsServedIn partitions trace server client
-served_in_at partitions trace server client id judged taken receipts name done under = record {
+    → All (λ (row : RowKey). same_name row.unit id ≡ true → 1 ≤ row.login) (keys_of trace.serves)
+    → HasCauses id (entries_taken trace server) judged trace.grants → IsServedIn partitions trace server client
+served_in_at partitions trace server client id judged taken receipts name done under causes = record {
   judged = judged;
   taken = taken;
   receipts = receipts;
   done = subst (λ (name : UnitId). IsWorkDone name trace.serves trace.grants judged) name done;
   under = subst (λ (name : UnitId). All (λ (row : RowKey). same_name row.unit name ≡ true → 1 ≤ row.login) (keys_of trace.serves)) name under;
+  causes = subst (λ (name : UnitId). HasCauses name (entries_taken trace server) judged trace.grants) name causes;
 }
 
 pub requests_are_served : (pairs : List Pair) (scripts : List Script) (lan : LanValue) (rows : LanRows) (history : List Served) (grants : List Grant) (copies : List CopyRecord) (partitions : List Partition)
@@ -291,7 +294,9 @@ requests_are_served pairs scripts lan rows history grants copies partitions home
     let kept : AreKept (books_seen u.0 pair.own.unit (end_of [] pair.link true) history grants) has.0 =
     subst (λ (o : Option Unit). IfSome o (λ unit. AreKept (books_seen unit pair.own.unit (end_of [] pair.link true) history grants) has.0)) u.1 has.1.kept in
     served_in_at partitions trace server client pair.own.unit has.0 taken.0 (sym taken.1) own
-    (served_at_rest rests.units server.unit u.0 pair.own.unit (end_of [] pair.link true) history grants has.0 u.1 u.2.pending has.1.kept) kept.under)
+    (served_at_rest rests.units server.unit u.0 pair.own.unit (end_of [] pair.link true) history grants has.0 u.1 u.2.pending has.1.kept) kept.under
+    (subst (λ (rows : List PipeRow). HasCauses pair.own.unit rows has.0 trace.grants)
+    (sym (ap (flat_map rows_taken) sessions ∙ all_taken server pipe laws received.begun)) kept.lines.causes))
 
 pub entries_are_fetched : (partitions : List Partition) (trace : Trace) → RequestsAreServed partitions trace → EntriesAreFetched partitions trace
 entries_are_fetched partitions trace served server client serves drives = ∥∥₁_map (served server client serves drives) (λ is. is.taken)

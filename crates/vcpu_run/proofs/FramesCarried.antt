@@ -86,7 +86,7 @@ seat_strokes pairs scripts lan rows history grants copies partitions are are' wi
     (filter_both laid (λ row. row.page == page) trace.strokes ∙ ap (filter (λ row. row.page == page)) own_marks ∙ page_shown seat.unit window page)
 
 -- A port of the plan.
-record IsPlannedPort (partitions : List Partition) (unit : UnitId) : Type 0 where
+pub record IsPlannedPort (partitions : List Partition) (unit : UnitId) : Type 0 where
   pub mac : Mac
   pub pages : ℕ
   pub slots : ℕ
@@ -142,7 +142,7 @@ at_seat P unit (seat ∷ seats) all there = by (same_unit seat.unit unit) refl t
     by true is h rest = subst P (one_unit seat.unit unit is) all.0
     by false is h rest = rest h
 
-port_planned : (partitions : List Partition) (unit : UnitId) → IsSome (seat_at (ports_of partitions) unit) → IsPlannedPort partitions unit
+pub port_planned : (partitions : List Partition) (unit : UnitId) → IsSome (seat_at (ports_of partitions) unit) → IsPlannedPort partitions unit
 port_planned partitions unit there =
     at_seat (IsPlannedPort partitions) unit (ports_of partitions)
     (all_planned partitions 0 partitions (λ i x e. subst (λ k. slice_get partitions k ≡ Some x) (same i) e)) there

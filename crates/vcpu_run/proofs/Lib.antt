@@ -36,7 +36,12 @@ pub mod PairNames
 pub mod Parts
 pub mod Placing
 pub mod PortOrder
+pub mod PortRising
+pub mod PortTelling
+pub mod PortTurns
 pub mod PortsFound
+pub mod PortsFresh
+pub mod PortsTold
 pub mod QueueLaws
 pub mod RawCalling
 pub mod RawSaid

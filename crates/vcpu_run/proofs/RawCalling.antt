@@ -18,7 +18,10 @@ use Rattle.unit_region.specs.declared.step.Step.TheVariants as steps
 use Rattle.vcpu_run.specs.Agreed.{OnDrivers, SameDrivers, StepsSeat, driver_at}
 use Rattle.vcpu_run.specs.Credited.{StepsAgreed, StepsPort, grants, is_take}
 use Rattle.unit_region.specs.Steps.{IsPlain, is_plain}
-use Rattle.vcpu_run.specs.RawCalls.{CallsUnits, place_of}
+use Rattle.vcpu_run.specs.PortSteps.{IsApart}
+use Rattle.vcpu_run.specs.RawCalls.{CallsUnits, MakesCall, place_of}
+use Rattle.vcpu_run.proofs.Crediting.{on_ok}
+use Rattle.vcpu_run.proofs.PortTurns.{idle_same}
 use Rattle.vcpu_run.proofs.Credits.{plain_fresh}
 use Rattle.vcpu_run.specs.Freeing.{NoneSits}
 use Rattle.vcpu_run.proofs.Driving.{driven_same}
@@ -27,23 +30,30 @@ use Rattle.vcpu_run.proofs.Unfreed.{frees_same}
 units_same : (old new : PartitionUnits) → new ≡ old → CallsUnits old new
 units_same old new same = subst (CallsUnits old) (sym same) (record { lender = refl; lan_lender = refl; driven = driven_same old.pairs.now; told = λ k. refl; ports = refl; stays = frees_same (NoneSits old.seats.now) old.pairs.now })
 
+calls_same : (old new : PartitionUnits) (result : Result Returned NoMemory) → new ≡ old → MakesCall old new result
+calls_same old new result same = record {
+  units = units_same old new same;
+  apart = on_ok result (IsApart old.partition old.lan.now new.lan.now)
+      (subst (λ (u : PartitionUnits). IsApart old.partition old.lan.now u.lan.now) (sym same) (λ unit _. idle_same old.lan.now unit));
+}
+
 -- a row that has a unit, or none of this partition
 called_on : (old new : PartitionUnits) (unit : Option ℕ) (result : Result Returned NoMemory)
-    → (unit ≡ None → Refuses PartitionUnits codes.Parameter old new result) → IfSome unit (λ unit. CallsUnits old new) → CallsUnits old new
-called_on old new None result elsewhere made = units_same old new (elsewhere refl).same
+    → (unit ≡ None → Refuses PartitionUnits codes.Parameter old new result) → IfSome unit (λ unit. MakesCall old new result) → MakesCall old new result
+called_on old new None result elsewhere made = calls_same old new result (elsewhere refl).same
 called_on old new (Some unit) result elsewhere made = made
 
 pub units_called : (old new : PartitionUnits) (number : ℕ) (args : List ℕ) (result : Result Returned NoMemory)
     → (row_of number ≡ None → Refuses PartitionUnits codes.Function old new result)
     → IfSome (row_of number) (λ row. unit_of (place_of old) row args ≡ None → Refuses PartitionUnits codes.Parameter old new result)
-    → IfSome (row_of number) (λ row. IfSome (unit_of (place_of old) row args) (λ unit. CallsUnits old new))
-    → CallsUnits old new
+    → IfSome (row_of number) (λ row. IfSome (unit_of (place_of old) row args) (λ unit. MakesCall old new result))
+    → MakesCall old new result
 units_called old new number args result unknown elsewhere made = at (row_of number) refl elsewhere made
   where
     at : (row : Option Hcall) → row_of number ≡ row
         → IfSome row (λ row. unit_of (place_of old) row args ≡ None → Refuses PartitionUnits codes.Parameter old new result)
-        → IfSome row (λ row. IfSome (unit_of (place_of old) row args) (λ unit. CallsUnits old new)) → CallsUnits old new
-    at None e p m = units_same old new (unknown e).same
+        → IfSome row (λ row. IfSome (unit_of (place_of old) row args) (λ unit. MakesCall old new result)) → MakesCall old new result
+    at None e p m = calls_same old new result (unknown e).same
     at (Some row) e p m = called_on old new (unit_of (place_of old) row args) result p m
 
 -- a step that told no driver, and changed no credit

@@ -40,7 +40,7 @@ other_partition a b p less is = grind (arith, nat_tests)
 later_partitions : (n : ℕ) (scripts : List Script) → ArePartitions n scripts → Each (λ script. n ≤ script.partition) scripts
 later_partitions n scripts are = each_script scripts (λ i script e. omega (arith, are i script e))
 
-partitions_apart : (p n : ℕ) (scripts : List Script) → ArePartitions n scripts → Ordered (λ a b. (a.partition == p) ≡ true → (b.partition == p) ≡ false) scripts
+pub partitions_apart : (p n : ℕ) (scripts : List Script) → ArePartitions n scripts → Ordered (λ a b. (a.partition == p) ≡ true → (b.partition == p) ≡ false) scripts
 partitions_apart p n [] are = tt
 partitions_apart p n (script ∷ scripts) are =
     let first = first_partition n script scripts are in (
@@ -49,12 +49,12 @@ partitions_apart p n (script ∷ scripts) are =
       partitions_apart p (n + 1) scripts (partitions_behind n script scripts are),
     )
 
-lines_in : (slot : Option Partition) (script : Script) → IsSomeAnd slot (λ partition. IsScriptFor partition script) → script_in slot ≡ script.lines.now
+pub lines_in : (slot : Option Partition) (script : Script) → IsSomeAnd slot (λ partition. IsScriptFor partition script) → script_in slot ≡ script.lines.now
 lines_in None script none = absurd none
 lines_in (Some partition) script is = sym is.lines
 
 -- the rows of each script are of its partition
-rows_told : (pairs : List Pair) (ports : List PortSeat) (scripts : List Script) (p : ℕ) → AreScripts pairs ports scripts
+pub rows_told : (pairs : List Pair) (ports : List PortSeat) (scripts : List Script) (p : ℕ) → AreScripts pairs ports scripts
     → Each (λ script. Each (λ row. (row.partition == p) ≡ (script.partition == p)) (logs_of script)) scripts
 rows_told pairs ports scripts p are =
     each_script scripts (λ i script e. each_weaker (λ (row : LogRow). row.partition ≡ script.partition) (λ (row : LogRow). (row.partition == p) ≡ (script.partition == p)) (λ row h. ap (λ k. k == p) h)
@@ -72,7 +72,7 @@ no_records pairs ports scripts p are none =
 no_value : {X : Type 0} (slot : Option X) (x : X) → slot ≡ None → slot ≡ Some x → ⊥
 no_value slot x none some = cc
 
-none_past : {X : Type 0} (xs : List X) (i : ℕ) → slice_get xs i ≡ None → length xs ≤ i
+pub none_past : {X : Type 0} (xs : List X) (i : ℕ) → slice_get xs i ≡ None → length xs ≤ i
 none_past [] i e = omega arith
 none_past (x ∷ xs) zero e = cc
 none_past (x ∷ xs) (suc i) e = omega (arith, none_past xs i e)

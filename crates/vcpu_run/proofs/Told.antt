@@ -16,6 +16,8 @@ use Rattle.vcpu_run.specs.Agreed.{AreCredited}
 use Rattle.vcpu_run.specs.Lines.{IsOver}
 use Rattle.vcpu_run.specs.Intake.{EntriesAreFetched}
 use Rattle.vcpu_run.specs.Machines.{IsOfPlan}
+use Rattle.lan_script.specs.Units.{LanValue}
+use Rattle.vcpu_run.specs.PortWords.{PortsAreTold, PortsTell}
 use Rattle.vcpu_run.specs.Received.{AreAtRest}
 use Rattle.vcpu_run.specs.Requests.{RequestsAreServed}
 use Rattle.vcpu_run.specs.Settled.{ClientsAreSettled, ServersAreSettled}
@@ -34,14 +36,15 @@ pub law_told : {E : Type 0} (r : Result Trace E) (o : Option Trace) (pairs : Lis
     → IfOk r (KeepsOnce (All IsOver scripts) RecordsAreOfLines pairs scripts ports) → All IsOver scripts
     → IfOk r (KeepsOnce (AreCredited pairs scripts) CreditsAreKept pairs scripts ports) → AreCredited pairs scripts
     → IfOk r (KeepsOnce (AreAnswered history pairs) AnswersAreSent pairs scripts ports) → AreAnswered history pairs
-    → IfOk r (Keeps PortsKeepLaw pairs scripts ports)
+    → IfOk r (Keeps PortsKeepLaw pairs scripts ports) → (lan : LanValue)
+    → IfOk r (KeepsOnce (All IsOver scripts) (λ partitions trace. PortsTell lan scripts → PortsAreTold partitions trace) pairs scripts ports) → PortsTell lan scripts
     → IfOk r (KeepsOnce (AreAtRest copies_made lines history pairs scripts) ServersAreSettled pairs scripts ports)
     → IfOk r (KeepsOnce (AreAtRest copies_made lines history pairs scripts) ClientsAreSettled pairs scripts ports)
     → IfOk r (KeepsOnce (AreAtRest copies_made lines history pairs scripts) EntriesAreFetched pairs scripts ports)
     → IfOk r (KeepsOnce (AreAtRest copies_made lines history pairs scripts) RequestsAreServed pairs scripts ports)
     → IfOk r (KeepsOnce (AreAtRest copies_made lines history pairs scripts) AnswersAreGiven pairs scripts ports) → AreAtRest copies_made lines history pairs scripts
     → IfSome o (Keeps KeepsLawOf pairs scripts ports)
-law_told (Ok trace) o pairs scripts ports history copies_made lines e order queues copies records over credits are answers answered keeps settled handed intake requests given rests =
+law_told (Ok trace) o pairs scripts ports history copies_made lines e order queues copies records over credits are answers answered keeps lan words tells settled handed intake requests given rests =
     subst (λ (o : Option Trace). IfSome o (Keeps KeepsLawOf pairs scripts ports)) (sym e)
     (λ partitions of_plan. record {
       order = order;
@@ -51,13 +54,14 @@ law_told (Ok trace) o pairs scripts ports history copies_made lines e order queu
       credits = credits partitions of_plan are;
       answers = answers partitions of_plan answered;
       ports = keeps partitions of_plan;
+      told = words partitions of_plan over tells;
       settled = settled partitions of_plan rests;
       handed = handed partitions of_plan rests;
       intake = intake partitions of_plan rests;
       requests = requests partitions of_plan rests;
       given = given partitions of_plan rests;
     })
-law_told (Err error) o pairs scripts ports history copies_made lines e order queues copies records over credits are answers answered keeps settled handed intake requests given rests =
+law_told (Err error) o pairs scripts ports history copies_made lines e order queues copies records over credits are answers answered keeps lan words tells settled handed intake requests given rests =
     subst (λ (o : Option Trace). IfSome o (Keeps KeepsLawOf pairs scripts ports)) (sym e) tt
 
 -- the rows that were served

@@ -8,6 +8,7 @@ use Rattle.crq_ring.specs.Pipe.{IsLawfulPipe, PipeValue}
 use Rattle.lan_script.specs.Carried.{FramesAreCarried}
 use Rattle.lan_script.specs.Invariant.{side_in}
 use Rattle.lan_script.specs.PortLaw.{AreOrdered, PortsAreLawful}
+use Rattle.lan_script.specs.RowsOf.{CountsRows}
 use Rattle.lan_script.specs.Seats.{seat_at}
 use Rattle.lan_script.specs.Units.{LanValue, window_at as port_window_at}
 use Rattle.lan_script.specs.declared.rows.LanRows.{LanRows}
@@ -126,6 +127,7 @@ pub record IsGathered (pairs : List Pair) (scripts : List Script) (lan : LanValu
   pub lawful : PortsAreLawful lan.seats rows.frames.items rows.ports.items rows.posts.items rows.delivers.items rows.harvests.items
   pub carried : FramesAreCarried lan.seats (side_in lan.places) rows.frames.items rows.posts.items rows.delivers.items
   pub ordered : AreOrdered rows
+  pub counted : CountsRows lan rows
   pub trace_is : trace ≡ trace_of pairs scripts lan rows history grants copies
 
 -- what is so of the queue and of the window of a unit, as of each queue and each window

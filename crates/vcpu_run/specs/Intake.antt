@@ -23,9 +23,12 @@ use Rattle.vcpu_run.specs.Shown.{sessions_of, window_shown}
 abbrev pub rows_taken : QueueRow → List PipeRow
 rows_taken row = map (λ entry. record { session = row.session; entry = entry }) row.taken
 
--- the SRP entries that a unit took, over its sessions in order
+-- the entries that a unit took, over its sessions in order, and the SRP entries among them
+abbrev pub entries_taken : Trace → UnitId → List PipeRow
+entries_taken trace unit = flat_map rows_taken (sessions_of trace unit)
+
 abbrev pub srp_taken : Trace → UnitId → List PipeRow
-srp_taken trace unit = srp_rows (flat_map rows_taken (sessions_of trace unit))
+srp_taken trace unit = srp_rows (entries_taken trace unit)
 
 -- what it took in session q
 abbrev pub taken_in : Trace → UnitId → (q : ℕ) → List Entry

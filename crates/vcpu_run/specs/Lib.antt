@@ -17,6 +17,8 @@ pub mod Named
 pub mod Numbered
 pub mod OnDisk
 pub mod Pairs
+pub mod PortSteps
+pub mod PortWords
 pub mod Ports
 pub mod Quietly
 pub mod RawCalls

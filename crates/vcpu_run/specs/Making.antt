@@ -6,11 +6,14 @@ use Rattle.boot_text.specs.Sound.{unit_at}
 use Rattle.boot_text.specs.declared.plan.Partition.{Partition}
 use Rattle.boot_text.specs.declared.plan.UnitPlan.{UnitPlan}
 use Rattle.boot_text.specs.declared.plan.UnitPlan.TheVariants as kinds
+use Rattle.lan_script.specs.Units.{LanValue}
 use Rattle.vcpu_run.specs.declared.pair.ClientSeat.{ClientSeat}
 use Rattle.vcpu_run.specs.declared.pair.Pair.{Pair}
 use Rattle.vcpu_run.specs.declared.script.Script.{Script}
 use Rattle.vcpu_run.specs.Agreed.{AreLoggedOut, IsCredited}
 use Rattle.vcpu_run.specs.Machines.{IsScriptFor}
+use Rattle.vcpu_run.specs.PortSteps.{AreFresh}
+use Rattle.vcpu_run.specs.PortWords.{TellsPorts}
 use Rattle.vcpu_run.specs.Scripts.{AreSeats, IsScript}
 
 -- the seat's unit is a client of this server unit, of the seat's sizes
@@ -38,13 +41,14 @@ pub record IsSeatAt (unit : UnitPlan) (id server : UnitId) (seat : ClientSeat) :
   pub unit_is : seat.unit ≡ id
   pub client : unit ≡ kinds.Client server seat.pages seat.queue
 
--- A script was made for a partition: once its clients sit at their pairs, it is whole, and its records keep the credits of
--- clients that are not logged in.
+-- A script was made for a partition: once its clients sit at their pairs, it is whole, its records keep the credits of clients
+-- that are not logged in, and they tell what ports did that did nothing.
 pub record IsMade (partition : Partition) (number : ℕ) (script : Script) : Type 0 where
   pub number_is : script.partition ≡ number
   pub for_it : IsScriptFor partition script
   pub whole : (pairs : List Pair) → AreSeats number script.seats.items pairs → IsScript pairs script
   pub credited : (pairs : List Pair) → AreLoggedOut script.seats.items pairs → IsCredited pairs script
+  pub told : (lan : LanValue) → AreFresh lan → TellsPorts lan script
 
 -- The scripts were made for the partitions.
 pub record AreMade (partitions : List Partition) (scripts : List Script) : Type 0 where

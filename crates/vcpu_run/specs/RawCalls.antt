@@ -1,7 +1,9 @@
 -- What raw hypervisor calls leave of the units of a partition.
-use Rattle.std.specs.Prelude.{◌≡◌, ℕ, nat_lt, true, List, Option, Some, None, length, ⊤, if◌then◌else◌}
+use Rattle.std.specs.Prelude.{◌≡◌, ℕ, nat_lt, true, List, OnOk, Option, Some, None, Result, length, ⊤, if◌then◌else◌}
 use Rattle.std.specs.List.{slice_get}
+use Rattle.vio_num.specs.declared.memory.NoMemory.{NoMemory}
 use Rattle.hcall_table.specs.Named.{Place}
+use Rattle.hcall_table.specs.declared.returned.Returned.{Returned}
 use Rattle.hcall_table.specs.declared.kind.UnitKind.{UnitKind}
 use Rattle.hcall_table.specs.declared.kind.UnitKind.TheVariants as kinds
 use Rattle.lan_script.specs.Seats.{seat_at}
@@ -14,6 +16,7 @@ use Rattle.vcpu_run.specs.Freed.{FreesNoneIf}
 use Rattle.vcpu_run.specs.Freeing.{NoneSits}
 use Rattle.vcpu_run.specs.Pairs.{AreDriven}
 use Rattle.vcpu_run.specs.Ports.{IsPortOf, unit_of}
+use Rattle.vcpu_run.specs.PortSteps.{IsApart}
 
 -- where a unit sits, if its pair is one of so many, or its port one of these
 abbrev pub port_if : Option PortSeat → Option Seat
@@ -61,3 +64,8 @@ pub record CallsUnits (old new : PartitionUnits) : Type 0 where
   pub told : SameDrivers old.pairs.now new.pairs.now
   pub ports : new.lan.now.seats ≡ old.lan.now.seats
   pub stays : FreesNoneIf (NoneSits old.seats.now) old.pairs.now new.pairs.now
+
+-- And a call that was made leaves the LAN units of other partitions as they were.
+pub record MakesCall (old new : PartitionUnits) (answer : Result Returned NoMemory) : Type 0 where
+  pub units : CallsUnits old new
+  pub apart : OnOk answer (IsApart old.partition old.lan.now new.lan.now)

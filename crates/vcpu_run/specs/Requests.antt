@@ -2,23 +2,26 @@
 -- order (SRP, "Flow control").
 use Rattle.std.specs.Prelude.{◌≡◌, ◌≤◌, ℕ, true, All, List, map}
 use Rattle.vio_num.specs.declared.names.UnitId.{UnitId}
+use Rattle.block_server.specs.Closings.{HasCauses}
 use Rattle.block_server.specs.Judged.{IsWorkDone, Judged, keys_of}
 use Rattle.block_server.specs.Makers.{same_unit}
 use Rattle.boot_text.specs.Sound.{IsClientOf, IsServer}
 use Rattle.boot_text.specs.declared.plan.Partition.{Partition}
 use Rattle.vio_trace.specs.declared.rows.Trace.{Trace}
-use Rattle.vcpu_run.specs.Intake.{IsTakenIn}
+use Rattle.vcpu_run.specs.Intake.{IsTakenIn, entries_taken}
 
 -- Each SRP entry that the server unit took has a receipt, and one fate: it ended its session; its unit asks nothing; it asks for a
 -- login; it asks to end its login; or it is a command or a task under a login that was granted in its session before it. Of each
 -- login the rows are the first of its commands and tasks, each once and in order, with the bytes that were fetched: all of them,
--- unless a line ends the login for another cause than its client's logout. No row is of no login.
+-- unless a line ends the login for another cause than its client's logout. No row is of no login. And each line on its logins has
+-- the cause that it says, in what the unit took and in these fates.
 pub record IsServedIn (partitions : List Partition) (trace : Trace) (server client : UnitId) : Type 0 where
   pub judged : List Judged
   pub taken : IsTakenIn partitions trace server client
   pub receipts : map (λ j. j.receipt) judged ≡ taken.receipts
   pub done : IsWorkDone server trace.serves trace.grants judged
   pub under : All (λ row. same_unit row.unit server ≡ true → 1 ≤ row.login) (keys_of trace.serves)
+  pub causes : HasCauses server (entries_taken trace server) judged trace.grants
 
 -- of each server unit that has a client
 abbrev pub RequestsAreServed : List Partition → Trace → Type 0

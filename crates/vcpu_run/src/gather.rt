@@ -12,6 +12,7 @@ ghost use Rattle.vcpu_run.specs.Lines.{IsOver};
 ghost use Rattle.vcpu_run.specs.Machines.{AreScripts, IsOfPlan};
 ghost use Rattle.vcpu_run.specs.Intake.{EntriesAreFetched};
 ghost use Rattle.vcpu_run.specs.Pairs.{AreOfOneHome};
+ghost use Rattle.vcpu_run.specs.PortWords.{PortsAreTold, PortsTell};
 ghost use Rattle.vcpu_run.specs.Received.{AreAtRest};
 ghost use Rattle.vcpu_run.specs.Requests.{RequestsAreServed};
 ghost use Rattle.vcpu_run.specs.Units.{seats_of};
@@ -68,6 +69,10 @@ pub(crate) fn gather(
     ensures ports { IfOk result (λ trace. (partitions : List Partition) →
         IsOfPlan partitions pairs.items scripts.entry.items lan.seats →
         PortsKeepLaw partitions trace) }
+    ensures told { IfOk result (λ trace. (partitions : List Partition) →
+        IsOfPlan partitions pairs.items scripts.entry.items lan.seats →
+        All IsOver scripts.entry.items → PortsTell lan scripts.entry.items →
+        PortsAreTold partitions trace) }
     ensures settled { IfOk result (λ trace. (partitions : List Partition) →
         IsOfPlan partitions pairs.items scripts.entry.items lan.seats →
         AreAtRest copies.items grants.items history.items pairs.items scripts.entry.items →

@@ -12,6 +12,8 @@ ghost use Rattle.vcpu_run.specs.Machines.{AreScripts, IsMachine, IsOfPlan};
 ghost use Rattle.vcpu_run.specs.OnDisk.{IsServed, LastsInRows, LeadsOn};
 ghost use Rattle.vcpu_run.specs.Pairs.{AreOfOneHome};
 ghost use Rattle.vcpu_run.specs.Ports.{ports_of};
+ghost use Rattle.vcpu_run.specs.PortSteps.{AreFresh};
+ghost use Rattle.vcpu_run.specs.PortWords.{PortsTell};
 ghost use Rattle.vcpu_run.specs.Received.{AreAtRest, AreReceived};
 ghost use Rattle.vcpu_run.specs.RunLaw.{KeepsLaw, KeepsLawOf};
 
@@ -64,6 +66,7 @@ impl<'p, Di: Blocks> Machine<'p, Di> {
             machine.pairs.items machine.scripts.items machine.lan.seats) }
         ensures credited { IfOk result (λ machine.
             AreCredited machine.pairs.items machine.scripts.items) }
+        ensures told { IfOk result (λ machine. PortsTell machine.lan machine.scripts.items) }
         ensures answered { IfOk result (λ machine. AreAnswered [] machine.pairs.items) }
         ensures received { IfOk result (λ machine. AreReceived machine.server.units.items
             machine.server.copies.items machine.server.records.grants.items
@@ -108,6 +111,7 @@ impl<'p, Di: Blocks> Machine<'p, Di> {
         requires machine { IsMachine self.server.partition (vec_len self.server.units)
             self.server.copies.items self.pairs.items self.scripts.items self.lan.seats }
         requires credited { AreCredited self.pairs.items self.scripts.items }
+        requires told { PortsTell self.lan self.scripts.items }
         requires answered { AreAnswered self.server.records.history.items self.pairs.items }
         requires received { AreReceived self.server.units.items self.server.copies.items
             self.server.records.grants.items self.server.records.history.items
@@ -181,6 +185,7 @@ fn trace_of(
     requires pairs { AreOfOneHome copies.items pairs.items }
     requires scripts { AreScripts pairs.items lan.seats scripts.items }
     requires credited { OnOk run (AreCredited pairs.items scripts.items) }
+    requires told { OnOk run (PortsTell lan scripts.items) }
     requires over { OnOk run (All IsOver scripts.items) }
     requires answered { AreAnswered history.items pairs.items }
     requires rests { OnOk run (AreAtRest copies.items grants.items history.items
@@ -198,7 +203,8 @@ fn trace_of(
 // Opens the LAN ports of a plan.
 fn open_lan(alloc: Global, partitions: &[Partition]) -> Result<Lan, NoMemory>
     requires sound { AreSound partitions.now }
-    ensures { IfOk result (λ lan. lan.seats ≡ ports_of partitions.now) }
+    ensures seats { IfOk result (λ lan. lan.seats ≡ ports_of partitions.now) }
+    ensures fresh { IfOk result AreFresh }
 {
     let ports = ports_of(alloc, partitions)?;
     Lan::open(alloc, &ports)

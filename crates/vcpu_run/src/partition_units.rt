@@ -31,7 +31,7 @@ pub(crate) struct PartitionUnits<'a> {
 }
 
 impl PartitionUnits<'_> {
-    ghost use Rattle.vcpu_run.specs.RawCalls.{CallsUnits, IsThere, place_of, seat_in};
+    ghost use Rattle.vcpu_run.specs.RawCalls.{IsThere, MakesCall, place_of, seat_in};
 
     // Where the unit sits, if the partition has it.
     fn seat_of(&self, unit: u8) -> Option<Seat>
@@ -57,7 +57,7 @@ impl PartitionUnits<'_> {
 
     // Makes a call on the entries of a unit's window.
     fn make_entry(&mut self, unit: u8, call: EntryCall) -> Result<Returned, NoMemory>
-        ensures made { CallsUnits self.old self.new }
+        ensures made { MakesCall self.old self.new result }
         ensures answer { IfOk result (IsAnswer (entry_row call)) }
         ensures place { place_of self.new ≡ place_of self.old }
     {
@@ -75,7 +75,7 @@ impl PartitionUnits<'_> {
 
     // Makes a call on a client's queue. Its driver is not told.
     fn make_queue(&mut self, unit: u8, call: QueueCall) -> Result<Returned, NoMemory>
-        ensures made { CallsUnits self.old self.new }
+        ensures made { MakesCall self.old self.new result }
         ensures answer { IfOk result (IsAnswer (queue_row call)) }
         ensures place { place_of self.new ≡ place_of self.old }
     {
@@ -89,7 +89,7 @@ impl PartitionUnits<'_> {
 
     // Makes a call on a port.
     fn make_port(&mut self, unit: u8, call: PortCall) -> Result<Returned, NoMemory>
-        ensures made { CallsUnits self.old self.new }
+        ensures made { MakesCall self.old self.new result }
         ensures answer { IfOk result (IsAnswer (port_row call)) }
         ensures place { place_of self.new ≡ place_of self.old }
     {
@@ -120,11 +120,11 @@ fn call_at(
 }
 
 impl Units for PartitionUnits<'_> {
-    ghost use Rattle.vcpu_run.specs.RawCalls.{CallsUnits, place_of};
+    ghost use Rattle.vcpu_run.specs.RawCalls.{MakesCall, place_of};
 
     ghost place = { place_of };
 
-    ghost made = { λ _ old new _. CallsUnits old new };
+    ghost made = { λ _ old new answer. MakesCall old new answer };
 
     fn partition(&self) -> u8 {
         self.partition

@@ -1,7 +1,9 @@
 // One step of a script line at a LAN port.
-ghost use Rattle.std.specs.Prelude.{◌≡◌};
+ghost use Rattle.std.specs.Prelude.{◌≡◌, IfOk, OnOk};
 ghost use Rattle.vcpu_run.specs.Credited.{IsFresh, StepsPort, taken_in};
 ghost use Rattle.vcpu_run.specs.Ports.{IsPortOf, unit_of};
+ghost use Rattle.vcpu_run.specs.PortSteps.{IsBeside, StepRises};
+ghost use Rattle.vcpu_run.specs.PortWords.{done_in};
 ghost use Rattle.vcpu_run.specs.Works.{IsPortVerb};
 
 use crate::script::Progress;
@@ -20,6 +22,10 @@ pub(crate) fn step(
     requires there { IsPortOf lan.old.seats (unit_of partition line.now.unit) }
     requires verb { IsPortVerb line.now.verb }
     ensures lan { lan.new.seats ≡ lan.old.seats }
+    ensures told { IfOk result (StepRises (unit_of partition line.now.unit) line.now.verb
+        (done_in progress.old) (done_in progress.new) lan.old lan.new) }
+    ensures beside { OnOk result (IsBeside (unit_of partition line.now.unit)
+        lan.old lan.new) }
     ensures credit { StepsPort line.now.verb
         (taken_in progress.old) (taken_in progress.new) result }
 {
@@ -38,7 +44,8 @@ pub(crate) fn step(
 
 // How far a line came that took, or posted, so many.
 fn progress_at(verb: &Verb, done: u64) -> Progress
-    ensures { IsFresh verb.now (taken_in result) }
+    ensures fresh { IsFresh verb.now (taken_in result) }
+    ensures done { done_in result ≡ done }
 {
     match verb {
         Verb::Take { .. } => Progress::Took(done),

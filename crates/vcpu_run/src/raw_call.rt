@@ -1,5 +1,5 @@
 // A line that makes a raw hypervisor call.
-ghost use Rattle.std.specs.Prelude.{◌≡◌, true, false, None, IfOk, IfSome, IfNone};
+ghost use Rattle.std.specs.Prelude.{◌≡◌, true, false, None, IfOk, IfSome, IfNone, OnOk};
 ghost use Rattle.vio_num.specs.declared.hypervisor.Hrc.TheVariants as codes;
 ghost use Rattle.hcall_table.specs.Rows.{IsAnswer, row_of};
 ghost use Rattle.vcpu_run.specs.Agreed.{SameDrivers};
@@ -9,7 +9,8 @@ ghost use Rattle.unit_region.specs.Steps.{IsPlain, is_plain};
 ghost use Rattle.vcpu_run.specs.Freed.{FreesNoneIf};
 ghost use Rattle.vcpu_run.specs.Freeing.{NoneSits};
 ghost use Rattle.vcpu_run.specs.Pairs.{AreDriven};
-ghost use Rattle.vcpu_run.specs.RawCalls.{CallsUnits};
+ghost use Rattle.vcpu_run.specs.PortSteps.{IsApart};
+ghost use Rattle.vcpu_run.specs.RawCalls.{MakesCall};
 ghost use Rattle.vcpu_run.specs.Suited.{is_call};
 
 use crate::pair::Pair;
@@ -61,6 +62,7 @@ pub(crate) fn make_call(
     ensures told { SameDrivers pairs.old pairs.new }
     ensures stays { FreesNoneIf (NoneSits seats.now) pairs.old pairs.new }
     ensures lan { lan.new.seats ≡ lan.old.seats }
+    ensures apart { OnOk result (IsApart partition lan.old lan.new) }
     ensures plain { IsPlain result }
     ensures said { IfOk result (EndsCall raw.now.number) }
 {
@@ -81,7 +83,7 @@ fn call_units(
     number: u64,
     arguments: &[u64; 9],
 ) -> Result<Returned, NoMemory>
-    ensures units { CallsUnits units.old units.new }
+    ensures units { MakesCall units.old units.new result }
     ensures function { row_of number ≡ None → IfOk result (λ r. r.code ≡ codes.Function) }
     ensures answer { IfSome (row_of number) (λ row. IfOk result (IsAnswer row)) }
 {

@@ -4,6 +4,7 @@ ghost use Rattle.std.specs.Prelude.{length, slice_get, vec_len};
 ghost use Rattle.block_server.specs.declared.unit.Unit.{Unit};
 ghost use Rattle.std.specs.List.{list_all};
 ghost use Rattle.rdma_copy.specs.declared.copy.CopyRecord.{CopyRecord};
+ghost use Rattle.lan_script.specs.Units.{LanValue};
 ghost use Rattle.lan_script.specs.declared.seat.PortSeat.{PortSeat};
 ghost use Rattle.vcpu_run.specs.declared.pair.Pair.{Pair};
 ghost use Rattle.vio_num.specs.declared.history.Served.{Served};
@@ -17,6 +18,7 @@ ghost use Rattle.vcpu_run.specs.Freed.{FreesNoneIf};
 ghost use Rattle.vcpu_run.specs.Freeing.{KeepQueues};
 ghost use Rattle.vcpu_run.specs.Machines.{AllRun, AllStay, AreScripts, IsMachine, IsServing};
 ghost use Rattle.vcpu_run.specs.Pairs.{ArePairs, AreDrivers};
+ghost use Rattle.vcpu_run.specs.PortWords.{PortsTell};
 ghost use Rattle.vcpu_run.specs.Received.{AreReceived};
 ghost use Rattle.vio_num.specs.declared.history.Grant.{Grant};
 
@@ -47,6 +49,8 @@ pub(crate) fn run<Di: Blocks>(
     ensures run { AllRun scripts.old scripts.new }
     ensures credited { OnOk result (AreCredited pairs.old scripts.old →
         AreCredited pairs.new scripts.new) }
+    ensures told { OnOk result (PortsTell lan.old scripts.old →
+        PortsTell lan.new scripts.new) }
     ensures unfreed { KeepQueues pairs.old scripts.old → KeepQueues pairs.new scripts.new }
     ensures over { OnOk result (All IsOver scripts.new) }
     ensures answered { AreAnswered server.new.records.history.items pairs.new }
@@ -103,6 +107,8 @@ fn step<Di: Blocks>(
     ensures run { AllRun scripts.old scripts.new }
     ensures credited { OnOk result (AreCredited pairs.old scripts.old →
         AreCredited pairs.new scripts.new) }
+    ensures told { OnOk result (PortsTell lan.old scripts.old →
+        PortsTell lan.new scripts.new) }
     ensures unfreed { KeepQueues pairs.old scripts.old → KeepQueues pairs.new scripts.new }
     ensures answered { AreAnswered server.new.records.history.items pairs.new }
     ensures received { AreReceived server.new.units.items server.new.copies.items
@@ -141,6 +147,8 @@ fn round<Di: Blocks>(
     ensures run { AllRun scripts.old scripts.new }
     ensures credited { OnOk result (AreCredited pairs.old scripts.old →
         AreCredited pairs.new scripts.new) }
+    ensures told { OnOk result (PortsTell lan.old scripts.old →
+        PortsTell lan.new scripts.new) }
     ensures unfreed { KeepQueues pairs.old scripts.old → KeepQueues pairs.new scripts.new }
     ensures answered { AreAnswered server.new.records.history.items pairs.new }
     ensures received { AreReceived server.new.units.items server.new.copies.items
@@ -183,6 +191,8 @@ fn turn_at<Di: Blocks>(
     ensures run { AllRun scripts.old scripts.new }
     ensures credited { OnOk result (AreCredited pairs.old scripts.old →
         AreCredited pairs.new scripts.new) }
+    ensures told { OnOk result (PortsTell lan.old scripts.old →
+        PortsTell lan.new scripts.new) }
     ensures unfreed { KeepQueues pairs.old scripts.old → KeepQueues pairs.new scripts.new }
     ensures answered { AreAnswered server.new.records.history.items pairs.new }
     ensures received { AreReceived server.new.units.items server.new.copies.items
@@ -291,6 +301,8 @@ fn run_script(
     ensures run { AllRun scripts.old scripts.new }
     ensures credited { OnOk result (AreCredited pairs.old scripts.old →
         AreCredited pairs.new scripts.new) }
+    ensures told { OnOk result (PortsTell lan.old scripts.old →
+        PortsTell lan.new scripts.new) }
     ensures unfreed { KeepQueues pairs.old scripts.old → KeepQueues pairs.new scripts.new }
     ensures answered { (history : List Served) →
         AreAnswered history pairs.old → AreAnswered history pairs.new }
@@ -317,6 +329,9 @@ fn end_lines(scripts: &mut [Script<'_>]) -> Result<Moved, NoMemory>
     ensures credited { OnOk result ((pairs : List Pair) (ports : List PortSeat) →
         AreScripts pairs ports scripts.old → AreCredited pairs scripts.old →
         AreCredited pairs scripts.new) }
+    ensures told { OnOk result ((pairs : List Pair) (ports : List PortSeat) (lan : LanValue) →
+        AreScripts pairs ports scripts.old → PortsTell lan scripts.old →
+        PortsTell lan scripts.new) }
     ensures quiet { IfOk result (λ moved. moved ≡ Moved.Quiet → scripts.new ≡ scripts.old) }
 {
     let mut moved = Moved::Quiet;
@@ -336,6 +351,9 @@ fn end_line_at(scripts: &mut [Script<'_>], number: usize) -> Result<Moved, NoMem
     ensures credited { OnOk result ((pairs : List Pair) (ports : List PortSeat) →
         AreScripts pairs ports scripts.old → AreCredited pairs scripts.old →
         AreCredited pairs scripts.new) }
+    ensures told { OnOk result ((pairs : List Pair) (ports : List PortSeat) (lan : LanValue) →
+        AreScripts pairs ports scripts.old → PortsTell lan scripts.old →
+        PortsTell lan scripts.new) }
     ensures quiet { IfOk result (λ moved. moved ≡ Moved.Quiet → scripts.new ≡ scripts.old) }
 {
     scripts[number].end_waiting()

@@ -10,7 +10,10 @@ ghost use Rattle.vcpu_run.specs.Freeing.{IsSparedBy};
 ghost use Rattle.vcpu_run.specs.Links.{SeatsRest, SeatsRestWhole};
 ghost use Rattle.vcpu_run.specs.Pairs.{AreDriven, AreDrivers};
 ghost use Rattle.vcpu_run.specs.Quietly.{OnQuiet};
+ghost use Rattle.lan_script.specs.Units.{LanValue};
 ghost use Rattle.vcpu_run.specs.Ports.{HasPorts};
+ghost use Rattle.vcpu_run.specs.PortSteps.{AreFresh, IsApart};
+ghost use Rattle.vcpu_run.specs.PortWords.{TellsPorts, done_in};
 ghost use Rattle.vcpu_run.specs.Suited.{IsLineAt};
 ghost use Rattle.vcpu_run.specs.Scripts.{AreSeats, IsScript, OnlyRuns, are_servers};
 ghost use Rattle.vcpu_run.specs.Works.{fails};
@@ -50,7 +53,9 @@ impl Progress {
     }
 
     /// The answers or frames that it took, or the buffers that it posted.
-    pub(crate) fn done(self) -> u64 {
+    pub(crate) fn done(self) -> u64
+        ensures { result ≡ done_in self }
+    {
         match self {
             Progress::Took(done) | Progress::Posted(done) => done,
             Progress::Fresh | Progress::Freed => 0,
@@ -86,6 +91,7 @@ impl<'p> Script<'p> {
             AreSeats partition seats.items pairs → IsScript pairs result }
         ensures credited { (pairs : List PairValue) → AreLoggedOut seats.items pairs →
             IsCredited pairs result }
+        ensures told { (lan : LanValue) → AreFresh lan → TellsPorts lan result }
         ensures partition { result.partition ≡ partition }
         ensures lines { result.lines.now ≡ lines.now }
         ensures seats { result.seats ≡ seats }
@@ -113,6 +119,9 @@ impl<'p> Script<'p> {
         ensures others { SameElse self.old.seats.items pairs.old pairs.new }
         ensures stays { FreesNoneIf (IsSparedBy self.old) pairs.old pairs.new }
         ensures lan { lan.new.seats ≡ lan.old.seats }
+        ensures told { OnOk result (TellsPorts lan.old self.old →
+            TellsPorts lan.new self.new) }
+        ensures apart { OnOk result (IsApart self.old.partition lan.old lan.new) }
         ensures credited { OnOk result (IsCredited pairs.old self.old →
             IsCredited pairs.new self.new) }
         ensures quiet { IfOk result (λ moved. moved ≡ Moved.Quiet → IsOver self.new →
@@ -134,6 +143,9 @@ impl<'p> Script<'p> {
         ensures others { SameElse self.old.seats.items pairs.old pairs.new }
         ensures stays { FreesNoneIf (IsSparedBy self.old) pairs.old pairs.new }
         ensures lan { lan.new.seats ≡ lan.old.seats }
+        ensures told { OnOk result (TellsPorts lan.old self.old →
+            TellsPorts lan.new self.new) }
+        ensures apart { OnOk result (IsApart self.old.partition lan.old lan.new) }
         ensures credited { OnOk result (IsCredited pairs.old self.old →
             IsCredited pairs.new self.new) }
         ensures quiet { IfOk result (λ moved. moved ≡ Moved.Quiet → IsOver self.new →
@@ -158,6 +170,9 @@ impl<'p> Script<'p> {
         ensures others { SameElse self.old.seats.items pairs.old pairs.new }
         ensures stays { FreesNoneIf (IsSparedBy self.old) pairs.old pairs.new }
         ensures lan { lan.new.seats ≡ lan.old.seats }
+        ensures told { OnOk result (TellsPorts lan.old self.old →
+            TellsPorts lan.new self.new) }
+        ensures apart { OnOk result (IsApart self.old.partition lan.old lan.new) }
         ensures credited { OnOk result (IsCredited pairs.old self.old →
             IsCredited pairs.new self.new) }
         ensures quiet { IfOk result (λ moved. moved ≡ Moved.Quiet → ¬ (IsOver self.new)) }
@@ -201,6 +216,9 @@ impl<'p> Script<'p> {
         ensures others { SameElse self.old.seats.items pairs.old pairs.new }
         ensures stays { FreesNoneIf (IsSparedBy self.old) pairs.old pairs.new }
         ensures lan { lan.new.seats ≡ lan.old.seats }
+        ensures told { OnOk result (TellsPorts lan.old self.old →
+            TellsPorts lan.new self.new) }
+        ensures apart { OnOk result (IsApart self.old.partition lan.old lan.new) }
         ensures credited { OnOk result (IsCredited pairs.old self.old →
             IsCredited pairs.new self.new) }
         ensures quiet { IfOk result (λ moved. moved ≡ Moved.Quiet → ¬ (IsOver self.new)) }
@@ -221,6 +239,7 @@ impl<'p> Script<'p> {
         ensures ended { OnOk result (IsEnded line.now outcome self.old self.new) }
         ensures at { OnOk result (self.new.at ≡
             place_behind self.old.lines.now self.old.at line.now) }
+        ensures fresh { OnOk result (self.new.progress ≡ Progress.Fresh) }
     {
         self.logs.push(LogRow {
             partition: self.partition,
@@ -253,6 +272,8 @@ impl<'p> Script<'p> {
         ensures rest { OnlyRuns self.old self.new }
         ensures credited { OnOk result ((pairs : List PairValue) → IsScript pairs self.old →
             IsCredited pairs self.old → IsCredited pairs self.new) }
+        ensures told { OnOk result ((pairs : List PairValue) (lan : LanValue) →
+            IsScript pairs self.old → TellsPorts lan self.old → TellsPorts lan self.new) }
         ensures quiet { OnQuiet result (self.new ≡ self.old) }
     {
         let lines = self.lines;

@@ -1,5 +1,5 @@
 // What a partition does at its units, one after the other or at one of them.
-ghost use Rattle.std.specs.Prelude.{◌≡◌, ◌≢◌, ◌<◌, ◌≤◌, ◌∷◌, [], ⊤, ℕ, false, IfOk, IfSome, Some, IsSomeAnd, length, slice_get};
+ghost use Rattle.std.specs.Prelude.{◌≡◌, ◌≢◌, ◌<◌, ◌≤◌, ◌∷◌, [], ⊤, ℕ, false, IfOk, IfSome, OnOk, Some, IsSomeAnd, length, slice_get};
 ghost use Rattle.vcpu_run.specs.Agreed.{AllSame, SameDrivers, SameElse, SameOthers, StepsLine, StepsSeat};
 ghost use Rattle.vcpu_run.specs.Credited.{taken_in};
 ghost use Rattle.vcpu_run.specs.Freed.{FreesNoneIf};
@@ -7,6 +7,8 @@ ghost use Rattle.vcpu_run.specs.Freeing.{IsSpared, NoneSits, is_reset};
 ghost use Rattle.vcpu_run.specs.Links.{ClientWaits, EventWaits, EventsWait, LinksRest, SeatsRest, links_of};
 ghost use Rattle.vcpu_run.specs.Pairs.{AreDriven, IsDriver};
 ghost use Rattle.vcpu_run.specs.Ports.{HavePorts, IsPortOf};
+ghost use Rattle.vcpu_run.specs.PortSteps.{AllIdle, AllTake, IsApart, IsBeside, TakesOn, TellsStep};
+ghost use Rattle.vcpu_run.specs.PortWords.{done_in};
 ghost use Rattle.vcpu_run.specs.Suited.{is_call, suits};
 ghost use Rattle.vcpu_run.specs.Works.{HaveClients, IsLineVerb, IsPortVerb, IsUnitVerb};
 ghost use Rattle.vcpu_run.specs.declared.unit_seat.Seat.TheVariants as sits;
@@ -126,6 +128,9 @@ fn step_own(
         (taken_in progress.new) pairs.old pairs.new result }
     ensures stays { FreesNoneIf (IsSpared seats.now line.now) pairs.old pairs.new }
     ensures lan { lan.new.seats ≡ lan.old.seats }
+    ensures told { IfOk result (TellsStep partition seats.now line.now
+        (done_in progress.old) (done_in progress.new) lan.old lan.new) }
+    ensures apart { OnOk result (IsApart partition lan.old lan.new) }
 {
     match seat_at(seats, line.unit) {
         Seat::Client(pair) => step_at(pairs, pair, line, progress),
@@ -153,6 +158,10 @@ pub(crate) fn step_unit(
         (taken_in progress.new) pairs.old pairs.new result }
     ensures stays { FreesNoneIf (IsSpared seats.now line.now) pairs.old pairs.new }
     ensures lan { lan.new.seats ≡ lan.old.seats }
+    ensures told { IfOk result (λ step. is_call line.now.verb ≡ false →
+        TellsStep partition seats.now line.now
+        (done_in progress.old) (done_in progress.new) lan.old lan.new step) }
+    ensures apart { OnOk result (IsApart partition lan.old lan.new) }
 {
     match RawCall::of(&line.verb) {
         Some(raw) => make_call(alloc, partition, seats, pairs, lan, &raw),
@@ -188,6 +197,8 @@ fn take_rest_at(
     ensures driven { AreDriven pairs.old pairs.new }
     ensures others { SameElse (seat ∷ []) pairs.old pairs.new }
     ensures lan { lan.new.seats ≡ lan.old.seats }
+    ensures takes { OnOk result (TakesOn lan.old lan.new unit) }
+    ensures beside { OnOk result (IsBeside unit lan.old lan.new) }
     ensures stays { FreesNoneIf (λ _. ⊤) pairs.old pairs.new }
     ensures still { IfOk result (λ moved. moved ≡ Moved.Quiet → LinksRest pairs.old pairs.new) }
     ensures waits { IfOk result (λ moved. moved ≡ Moved.Quiet → (k : ℕ) → seat ≡ sits.Client k →
@@ -213,6 +224,8 @@ pub(crate) fn take_rest(
     ensures driven { AreDriven pairs.old pairs.new }
     ensures others { SameElse seats.now pairs.old pairs.new }
     ensures lan { lan.new.seats ≡ lan.old.seats }
+    ensures takes { OnOk result (AllTake partition lan.old lan.new) }
+    ensures apart { OnOk result (IsApart partition lan.old lan.new) }
     ensures stays { FreesNoneIf (λ _. ⊤) pairs.old pairs.new }
     ensures quiet { IfOk result (λ moved. moved ≡ Moved.Quiet →
         SeatsRest seats.now pairs.old pairs.new) }
@@ -250,6 +263,7 @@ fn fail_at(unit: UnitId, seat: Seat, pairs: &mut [Pair], lan: &mut Lan) -> Resul
     ensures credit { AllSame pairs.old pairs.new }
     ensures stays { FreesNoneIf (NoneSits (seat ∷ [])) pairs.old pairs.new }
     ensures lan { lan.new.seats ≡ lan.old.seats }
+    ensures idle { AllIdle lan.old lan.new }
 {
     match seat {
         Seat::Client(pair) => fail_of(pairs, pair),
@@ -272,6 +286,7 @@ pub(crate) fn fail(
     ensures credit { AllSame pairs.old pairs.new }
     ensures stays { FreesNoneIf (NoneSits seats.now) pairs.old pairs.new }
     ensures lan { lan.new.seats ≡ lan.old.seats }
+    ensures idle { AllIdle lan.old lan.new }
 {
     for k in 0..seats.len() {
         let unit = UnitId {

@@ -6,6 +6,7 @@ use Rattle.vcpu_run.proofs.FramesCarried.{ports_keep}
 use Rattle.vcpu_run.proofs.Freed.{few_seats, free_pairs, from_rows}
 use Rattle.vcpu_run.proofs.GivenAnswers.{answers_are_given}
 use Rattle.vcpu_run.proofs.Ordering.{order_is}
+use Rattle.vcpu_run.proofs.PortsTold.{from_counts, told_are}
 use Rattle.vcpu_run.proofs.QueueLaws.{queues_are}
 use Rattle.vcpu_run.proofs.RecordLaws.{credits_are, records_are}
 use Rattle.vcpu_run.proofs.SentTo.{answers_are}
@@ -89,3 +90,9 @@ pub returns-clause-serves : goal.returns-clause-serves
 returns-clause-serves c =
     from_rows c.args.pairs.items c.args.scripts.items c.args.lan c.args.history.items c.args.grants.items c.args.copies.items c.rows_of.result _ _ c.rows_of.ensures.trace c.rows_of.ensures.queues
     (λ rows keeps ordered lawful. refl)
+
+pub returns-clause-told : goal.returns-clause-told
+returns-clause-told c =
+    from_counts c.args.pairs.items c.args.scripts.items c.args.lan c.args.history.items c.args.grants.items c.args.copies.items c.rows_of.result _ c.rows_of.ensures.trace
+    (λ rows counted partitions of_plan over tells. told_are c.args.pairs.items c.args.scripts.items c.args.lan rows c.args.history.items c.args.grants.items c.args.copies.items partitions
+    c.requires.scripts of_plan over tells counted)

@@ -32,5 +32,6 @@ returns-clause-trace c =
       lawful = c.in_ok-frames.ensures.law;
       carried = c.in_ok-frames.ensures.carried;
       ordered = c.in_ok-frames.ensures.order;
+      counted = c.in_ok-frames.ensures.counted;
       trace_is = trace_is pairs scripts lan rows c.args.history.items _ c.args.grants.items _ copies _ _ _ _ _ _ _ _ _ _ _ logs queues grants history answers frames ports posts delivers harvests tces made strokes;
     }

@@ -4,6 +4,7 @@ use Rattle.std.proofs.lemmas.Option.{slice_get-get_or}
 use Rattle.vcpu_run.proofs.Elsewhere.{credits_turned, else_none, ok_then}
 use Rattle.vcpu_run.proofs.Keeping.{all_same}
 use Rattle.vcpu_run.proofs.Scripted.{run_one, script_turned}
+use Rattle.vcpu_run.proofs.PortTurns.{ports_ended}
 use Rattle.vcpu_run.proofs.rounds.end_line_at.Goals as goal
 
 pub returns-clause-scripts : goal.returns-clause-scripts
@@ -40,3 +41,14 @@ returns-clause-quiet c =
     let d = c.index-scripts-number.result in
     quiet_set scripts c.args.number (slice_index_or scripts c.args.number d) c.end_waiting.new.self c.end_waiting.result
     (slice_get-get_or scripts c.args.number d c.requires) c.end_waiting.ensures.quiet
+
+pub returns-clause-told : goal.returns-clause-told
+returns-clause-told c =
+    let scripts = c.args.scripts.now in
+    let d = c.index-scripts-number.result in
+    let old = slice_index_or scripts c.args.number d in
+    let found = slice_get-get_or scripts c.args.number d c.requires in
+    ok_then c.end_waiting.result _ _
+    (λ kept pairs ports lan scripts_are tells.
+    ports_ended lan scripts c.args.number c.end_waiting.new.self tells (kept pairs lan (scripts_are c.args.number old found).script_is (tells c.args.number old found)))
+    c.end_waiting.ensures.told

@@ -1,9 +1,11 @@
 use Rattle.std.proofs.Common.{◌≡◌, List}
 use Rattle.vio_num.specs.declared.hypervisor.Moved.TheVariants.{Quiet}
+use Rattle.lan_script.specs.Units.{LanValue}
 use Rattle.lan_script.specs.declared.seat.PortSeat.{PortSeat}
 use Rattle.vcpu_run.specs.declared.pair.Pair.{Pair}
 use Rattle.vcpu_run.specs.Agreed.{AreCredited}
 use Rattle.vcpu_run.specs.Machines.{AllRun, AreScripts}
+use Rattle.vcpu_run.specs.PortWords.{PortsTell}
 use Rattle.vcpu_run.proofs.rounds.end_lines.Given as goal
 
 abbrev pub invariant-loop-number : goal.invariant-loop-number
@@ -11,5 +13,6 @@ invariant-loop-number l = record {
   scripts : (pairs : List Pair) (ports : List PortSeat) → AreScripts pairs ports l.initial.scripts → AreScripts pairs ports l.scripts;
   run : AllRun l.initial.scripts l.scripts;
   credited : (pairs : List Pair) (ports : List PortSeat) → AreScripts pairs ports l.initial.scripts → AreCredited pairs l.initial.scripts → AreCredited pairs l.scripts;
+  told : (pairs : List Pair) (ports : List PortSeat) (lan : LanValue) → AreScripts pairs ports l.initial.scripts → PortsTell lan l.initial.scripts → PortsTell lan l.scripts;
   same : l.moved ≡ Quiet → l.scripts ≡ l.initial.scripts;
 }

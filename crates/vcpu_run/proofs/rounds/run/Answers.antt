@@ -6,7 +6,7 @@ use Rattle.vcpu_run.proofs.Scripted.{run_same, run_then}
 use Rattle.vcpu_run.proofs.rounds.run.Goals as goal
 
 pub loop-round-init : goal.loop-round-init
-loop-round-init g c = record { machine = c.requires.machine; stay = all_same c.args.pairs.now; run = run_same c.args.scripts.now; answered = c.requires.answered; received = c.requires.received; disk = lasts_same c.args.server.now.records.history.items (g.Di.Blocks.state c.args.server.now.disk.image).blocks; credited = λ are. are; lan = refl; unfreed = λ keep. keep; linked = λ are. are }
+loop-round-init g c = record { told = λ tells. tells; machine = c.requires.machine; stay = all_same c.args.pairs.now; run = run_same c.args.scripts.now; answered = c.requires.answered; received = c.requires.received; disk = lasts_same c.args.server.now.records.history.items (g.Di.Blocks.state c.args.server.now.disk.image).blocks; credited = λ are. are; lan = refl; unfreed = λ keep. keep; linked = λ are. are }
 
 pub loop-round-preserved : goal.loop-round-preserved
 loop-round-preserved g c =
@@ -21,6 +21,7 @@ loop-round-preserved g c =
       disk = lasts_then c.args.server.now.records.history.items c.loop-round.server.records.history.items c.step.new.server.records.history.items
           (g.Di.Blocks.state c.args.server.now.disk.image).blocks (g.Di.Blocks.state c.loop-round.server.disk.image).blocks (g.Di.Blocks.state c.step.new.server.disk.image).blocks c.loop-round.invariant.disk c.step.ensures.disk;
       credited = λ are. c.in_ok-moved.ensures.credited (before.credited are);
+      told = λ tells. c.in_ok-moved.ensures.told (before.told tells);
       lan = after.lan ∙ before.lan;
       unfreed = λ keep. after.unfreed (before.unfreed keep);
       linked = λ are. c.in_ok-moved.ensures.linked (before.linked are);
@@ -62,3 +63,6 @@ returns-then-is_end-clause-idle g c = λ are.
       wait = c.in_ok-moved.ensures.idle (c.is_end.ensures.quiet c.if-is_end.true) linked (over_all c.step.new.scripts (c.is_end.ensures.over c.if-is_end.true));
       shut = λ k pair found. (c.in_ok-moved.ensures.linked linked k pair found).shut;
     }
+
+pub returns-then-is_end-clause-told : goal.returns-then-is_end-clause-told
+returns-then-is_end-clause-told g c = λ tells. c.in_ok-moved.ensures.told (c.loop-round.invariant.told tells)

@@ -10,6 +10,7 @@ use Rattle.vcpu_run.proofs.Keeping.{driven_stay, drivers_driven, pairs_driven}
 use Rattle.vcpu_run.proofs.Receiving.{received_driven}
 use Rattle.vcpu_run.proofs.Scripted.{run_one, script_turned}
 use Rattle.vcpu_run.proofs.Unfreed.{queues_turned}
+use Rattle.vcpu_run.proofs.PortTurns.{ports_turned}
 use Rattle.vcpu_run.proofs.rounds.run_script.Goals as goal
 
 pub turn-requires-clause-script : goal.turn-requires-clause-script
@@ -87,3 +88,12 @@ returns-clause-unfreed c =
     let d = c.index-scripts-number.result in
     queues_turned c.args.pairs.now c.turn.new.pairs c.args.lan.now.seats scripts c.args.number (slice_index_or scripts c.args.number d) c.turn.new.self
     (slice_get-get_or scripts c.args.number d c.requires.there) c.requires.scripts c.turn.ensures.rest c.turn.ensures.stays
+
+pub returns-clause-told : goal.returns-clause-told
+returns-clause-told c =
+    let scripts = c.args.scripts.now in
+    let d = c.index-scripts-number.result in
+    let old = slice_index_or scripts c.args.number d in
+    let found = slice_get-get_or scripts c.args.number d c.requires.there in
+    ports_turned c.args.lan.now c.turn.new.lan c.args.pairs.now c.args.lan.now.seats scripts c.args.number old c.turn.new.self c.turn.result found c.requires.scripts
+    c.turn.ensures.apart c.turn.ensures.told

@@ -37,3 +37,9 @@ returns-in-Quiet-clause-idle g c =
 
 pub returns-in-Quiet-clause-unfreed : goal.returns-in-Quiet-clause-unfreed
 returns-in-Quiet-clause-unfreed g c = λ keep. queues_run c.round.new.pairs c.round.new.scripts c.end_lines.new.scripts c.end_lines.ensures.run (c.round.ensures.unfreed keep)
+
+pub returns-in-Quiet-clause-told : goal.returns-in-Quiet-clause-told
+returns-in-Quiet-clause-told g c =
+    ok_then c.end_lines.result _ _
+    (λ kept tells. kept c.round.new.pairs c.round.new.lan.seats c.round.new.lan c.round.ensures.machine.scripts_are (c.in_ok-round.ensures.told tells))
+    c.end_lines.ensures.told

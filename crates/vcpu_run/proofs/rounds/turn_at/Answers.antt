@@ -66,3 +66,6 @@ returns-else-is_of_servers-clause-idle g c =
 
 pub returns-then-is_of_servers-clause-unfreed : goal.returns-then-is_of_servers-clause-unfreed
 returns-then-is_of_servers-clause-unfreed g c = queues_served c.args.pairs.now c.serve.new.pairs c.args.scripts.now c.serve.ensures.stays
+
+pub returns-then-is_of_servers-clause-told : goal.returns-then-is_of_servers-clause-told
+returns-then-is_of_servers-clause-told g c = on_ok c.serve.result _ (λ tells. tells)

@@ -2,6 +2,7 @@ use Rattle.std.proofs.Common.{◌∙◌, Some, ap}
 use Rattle.vcpu_run.proofs.Agreeing.{all_on}
 use Rattle.vcpu_run.proofs.Driving.{driven_on, seat_of, still_clients}
 use Rattle.vcpu_run.proofs.Unfreed.{frees_on, frees_seat}
+use Rattle.vcpu_run.proofs.PortTurns.{idle_on}
 use Rattle.vcpu_run.proofs.seats.fail.Goals as goal
 
 pub fail_at-requires-clause-client : goal.fail_at-requires-clause-client
@@ -27,6 +28,7 @@ loop-k-preserved c = record {
   clients = still_clients c.args.seats.now c.loop-k.pairs c.fail_at.new.pairs c.fail_at.ensures.driven c.loop-k.invariant.clients;
   ports = rw c.fail_at.ensures.lan c.loop-k.invariant.ports;
   lan = c.fail_at.ensures.lan ∙ c.loop-k.invariant.lan;
+  idle = idle_on c.args.lan.now c.loop-k.lan c.fail_at.new.lan c.loop-k.invariant.idle c.fail_at.ensures.idle;
 }
 
 pub returns-in_err-fail_at-clause-credit : goal.returns-in_err-fail_at-clause-credit
@@ -44,3 +46,9 @@ pub returns-then-not-branch-clause-stays : goal.returns-then-not-branch-clause-s
 returns-then-not-branch-clause-stays c =
     frees_on _ c.args.pairs.now c.loop-k.pairs c.fail_at.new.pairs c.loop-k.invariant.stays
     (frees_seat c.args.seats.now c.loop-k.k _ c.loop-k.pairs c.fail_at.new.pairs (seat_of c.args.seats.now c.loop-k.k c.loop-k-test.true) c.fail_at.ensures.stays)
+
+pub returns-in_err-fail_at-clause-idle : goal.returns-in_err-fail_at-clause-idle
+returns-in_err-fail_at-clause-idle c = idle_on c.args.lan.now c.loop-k.lan c.fail_at.new.lan c.loop-k.invariant.idle c.fail_at.ensures.idle
+
+pub returns-then-not-branch-clause-idle : goal.returns-then-not-branch-clause-idle
+returns-then-not-branch-clause-idle c = idle_on c.args.lan.now c.loop-k.lan c.fail_at.new.lan c.loop-k.invariant.idle c.fail_at.ensures.idle

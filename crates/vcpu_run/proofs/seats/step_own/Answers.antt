@@ -5,6 +5,9 @@ use Rattle.vcpu_run.specs.Credited.{taken_in}
 use Rattle.vcpu_run.specs.Suited.{suits}
 use Rattle.vcpu_run.proofs.Driving.{client_is, driven_same, no_port, seat_within, some_there}
 use Rattle.vcpu_run.proofs.Unfreed.{frees_line, frees_same}
+use Rattle.vcpu_run.proofs.PortTurns.{client_told, idle_same, port_apart, port_told}
+use Rattle.vcpu_run.proofs.Crediting.{on_ok}
+use Rattle.vcpu_run.specs.PortWords.{done_in}
 use Rattle.vcpu_run.proofs.seats.step_own.Goals as goal
 
 pub seat_at-requires : goal.seat_at-requires
@@ -74,3 +77,19 @@ returns-in-Client-clause-stays c =
 
 pub returns-in-Port-clause-stays : goal.returns-in-Port-clause-stays
 returns-in-Port-clause-stays c = frees_same _ c.args.pairs.now
+
+pub returns-in-Client-clause-told : goal.returns-in-Client-clause-told
+returns-in-Client-clause-told c =
+    client_told c.args.partition c.in-Client.pair c.args.seats.now c.args.line.now (done_in c.args.progress.now) (done_in c.step_at.new.progress) c.args.lan.now c.step_at.result
+    (c.seat_at.ensures ∙ ap Some c.in-Client.is)
+
+pub returns-in-Client-clause-apart : goal.returns-in-Client-clause-apart
+returns-in-Client-clause-apart c = on_ok c.step_at.result _ (λ unit _. idle_same c.args.lan.now unit)
+
+pub returns-in-Port-clause-told : goal.returns-in-Port-clause-told
+returns-in-Port-clause-told c =
+    port_told c.args.partition c.args.seats.now c.args.line.now (done_in c.args.progress.now) (done_in c.step.new.progress) c.args.lan.now c.step.new.lan c.step.result
+    c.step.ensures.told c.step.ensures.beside
+
+pub returns-in-Port-clause-apart : goal.returns-in-Port-clause-apart
+returns-in-Port-clause-apart c = port_apart c.args.partition c.args.line.now.unit c.args.lan.now c.step.new.lan c.step.result c.step.ensures.beside

@@ -6,6 +6,8 @@ use Rattle.std.proofs.Common.{arith, ◌∙◌, Some, ap, refl, slice_index_or}
 use Rattle.vcpu_run.proofs.Driving.{driven_on, driven_same, seat_of, still_clients}
 use Rattle.vcpu_run.proofs.Elsewhere.{else_none, else_on, else_within}
 use Rattle.vcpu_run.specs.declared.unit_seat.Seat.TheVariants as places
+use Rattle.vcpu_run.proofs.PortTurns.{apart_on, beside_apart, idle_same, one_takes, takes_on}
+use Rattle.vcpu_run.proofs.PortTelling.{idle_takes}
 use Rattle.vcpu_run.proofs.seats.take_rest.Goals as goal
 
 pub take_rest_at-requires-clause-client : goal.take_rest_at-requires-clause-client
@@ -34,6 +36,10 @@ loop-k-preserved c = record {
   clients = still_clients c.args.seats.now c.loop-k.pairs c.take_rest_at.new.pairs c.take_rest_at.ensures.driven c.loop-k.invariant.clients;
   ports = rw c.take_rest_at.ensures.lan c.loop-k.invariant.ports;
   lan = c.take_rest_at.ensures.lan ∙ c.loop-k.invariant.lan;
+  takes = takes_on c.args.partition c.args.lan.now c.loop-k.lan c.take_rest_at.new.lan c.loop-k.invariant.takes
+      (one_takes c.args.partition c.loop-k.k c.loop-k.lan c.take_rest_at.new.lan c.in_ok-here.ensures.takes c.in_ok-here.ensures.beside);
+  apart = apart_on c.args.partition c.args.lan.now c.loop-k.lan c.take_rest_at.new.lan c.loop-k.invariant.apart
+      (beside_apart c.args.partition c.loop-k.k c.loop-k.lan c.take_rest_at.new.lan c.in_ok-here.ensures.beside);
   stays = frees_on _ c.args.pairs.now c.loop-k.pairs c.take_rest_at.new.pairs c.loop-k.invariant.stays c.take_rest_at.ensures.stays;
   rest = λ is.
       rests_on c.args.pairs.now c.loop-k.pairs c.take_rest_at.new.pairs (c.loop-k.invariant.rest (c.either-moved.ensures.one is)) (c.in_ok-here.ensures.still (c.either-moved.ensures.other is));
@@ -57,6 +63,8 @@ loop-k-init c = record {
   clients = c.requires.clients;
   ports = c.requires.ports;
   lan = refl;
+  takes = λ u. idle_takes c.args.lan.now c.args.lan.now _ (idle_same c.args.lan.now _);
+  apart = λ unit _. idle_same c.args.lan.now unit;
   stays = frees_same _ c.args.pairs.now;
   rest = λ is. rests_same c.args.pairs.now;
   wait = λ is u k less found. absurd (omega (arith, less));

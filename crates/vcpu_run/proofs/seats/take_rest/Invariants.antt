@@ -7,6 +7,7 @@ use Rattle.vcpu_run.specs.Links.{ClientWaits, LinksRest, links_of}
 use Rattle.vcpu_run.specs.Agreed.{SameElse}
 use Rattle.vcpu_run.specs.Pairs.{AreDriven}
 use Rattle.vcpu_run.specs.Ports.{HavePorts}
+use Rattle.vcpu_run.specs.PortSteps.{AllTake, IsApart}
 use Rattle.vcpu_run.specs.Works.{HaveClients}
 use Rattle.vcpu_run.proofs.seats.take_rest.Given as goal
 
@@ -17,6 +18,8 @@ invariant-loop-k l = record {
   clients : HaveClients l.seats l.pairs;
   ports : HavePorts l.partition l.seats l.lan.seats;
   lan : l.lan.seats ≡ l.initial.lan.seats;
+  takes : AllTake l.partition l.initial.lan l.lan;
+  apart : IsApart l.partition l.initial.lan l.lan;
   stays : FreesNoneIf (λ _. ⊤) l.initial.pairs l.pairs;
   rest : l.moved ≡ Quiet → LinksRest l.initial.pairs l.pairs;
   wait : l.moved ≡ Quiet → (u k : ℕ) → u < l.k → slice_get l.seats u ≡ Some (sits.Client k) → IsSomeAnd (slice_get (links_of l.pairs) k) ClientWaits;

@@ -4,6 +4,9 @@ use Rattle.vcpu_run.proofs.Resting.{ok_more}
 use Rattle.std.proofs.Common.{◌∷◌, [], Some, ap, subst, IsSomeAnd, slice_get, ℕ, sym, ◌∙◌, ◌≡◌}
 use Rattle.vcpu_run.proofs.Driving.{driven_same, seat_within}
 use Rattle.vcpu_run.proofs.Elsewhere.{else_none, else_one}
+use Rattle.vcpu_run.proofs.PortTurns.{port_rest, rest_beside, idle_same}
+use Rattle.vcpu_run.proofs.PortTelling.{idle_takes}
+use Rattle.vcpu_run.proofs.Crediting.{on_ok}
 use Rattle.vcpu_run.proofs.seats.take_rest_at.Goals as goal
 
 pub take_rest_of-requires-clause-there : goal.take_rest_of-requires-clause-there
@@ -24,3 +27,9 @@ returns-in-Client-clause-waits c =
   where
     client_here : (j k : ℕ) → sits.Client j ≡ sits.Client k → j ≡ k
     client_here j k e = cc
+
+pub returns-in-Port-clause-takes : goal.returns-in-Port-clause-takes
+returns-in-Port-clause-takes c = port_rest c.args.unit c.take_rest.result c.args.lan.now c.take_rest.new.self c.take_rest.ensures.seats c.take_rest.ensures.frames c.take_rest.ensures.counts
+
+pub returns-in-Port-clause-beside : goal.returns-in-Port-clause-beside
+returns-in-Port-clause-beside c = rest_beside c.args.unit c.take_rest.result c.args.lan.now c.take_rest.new.self c.take_rest.ensures.seats c.take_rest.ensures.frames c.take_rest.ensures.counts

@@ -13,6 +13,7 @@ use Rattle.vcpu_run.proofs.Elsewhere.{credits_made}
 use Rattle.vcpu_run.proofs.Homes.{home_within}
 use Rattle.vcpu_run.proofs.Receiving.{received_fresh}
 use Rattle.vcpu_run.proofs.Unfreed.{queues_fresh}
+use Rattle.vcpu_run.proofs.PortTurns.{ports_made}
 use Rattle.vcpu_run.proofs.machine.Machine.boot.Goals as goal
 
 pub overflow_cast-home : goal.overflow_cast-home
@@ -49,7 +50,7 @@ returns-clause-machine g c =
     let sound = c.requires.sound.partitions in
     let planned : ArePlanned partitions pairs.items = rw (← c.as_slice-partitions.ensures) c.in-Ok.ensures.planned in
     let made : AreMade partitions scripts.items = rw (← c.as_slice-partitions.ensures) c.in-Ok-make_scripts.ensures in
-    let ports : c.in-Ok-open_lan.lan.seats ≡ ports_of partitions = rw (← c.as_slice-partitions.ensures) c.in-Ok-open_lan.ensures in
+    let ports : c.in-Ok-open_lan.lan.seats ≡ ports_of partitions = rw (← c.as_slice-partitions.ensures) c.in-Ok-open_lan.ensures.seats in
     let same : vec_len pairs ≡ length pairs.items = search rules in
     record {
       serving = record {
@@ -70,7 +71,7 @@ returns-clause-of_plan g c =
     record {
       pairs_are = rw (← c.as_slice-partitions.ensures) c.in-Ok.ensures.planned;
       scripts_are = scripts_of_plan partitions scripts.items made;
-      ports_are = rw (← c.as_slice-partitions.ensures) c.in-Ok-open_lan.ensures;
+      ports_are = rw (← c.as_slice-partitions.ensures) c.in-Ok-open_lan.ensures.seats;
       sound = c.requires.sound.partitions;
     }
 
@@ -96,3 +97,10 @@ returns-clause-received g c =
 
 pub returns-clause-unfreed : goal.returns-clause-unfreed
 returns-clause-unfreed g c = queues_fresh c.in-Ok.pairs.items c.in-Ok-make_scripts.scripts.items c.in-Ok.ensures.closed
+
+pub returns-clause-told : goal.returns-clause-told
+returns-clause-told g c =
+    let scripts = c.in-Ok-make_scripts.scripts in
+    let partitions = c.args.plan.now.partitions in
+    let made : AreMade partitions scripts.items = rw (← c.as_slice-partitions.ensures) c.in-Ok-make_scripts.ensures in
+    ports_made c.in-Ok-open_lan.lan partitions scripts.items c.in-Ok-open_lan.ensures.fresh made

@@ -13,6 +13,7 @@ use Rattle.vcpu_run.specs.Received.{AreAtRest, AreReceived}
 use Rattle.vcpu_run.proofs.Disks.{disk_told, lasts_somehow, tells_told}
 use Rattle.vcpu_run.proofs.Elsewhere.{ok_then}
 use Rattle.vcpu_run.proofs.Lasting.{lent, plan_lasts}
+use Rattle.vcpu_run.specs.PortWords.{PortsTell}
 use Rattle.vcpu_run.proofs.machine.Machine.settle.Goals as goal
 
 pub trace_of-trace-requires-clause-pairs : goal.trace_of-trace-requires-clause-pairs
@@ -150,3 +151,16 @@ trace_of-trace-requires-clause-rests g c =
 
 pub run-run-requires-clause-received : goal.run-run-requires-clause-received
 run-run-requires-clause-received g c = rw c.deref_mut.ensures.value c.requires.received
+
+pub trace_of-trace-requires-clause-told : goal.trace_of-trace-requires-clause-told
+trace_of-trace-requires-clause-told g c =
+    let old_scripts = c.args.self.scripts in
+    let new_scripts = c.run-run.new.scripts in
+    let size_scripts : old_scripts.len ≡ length old_scripts.items = search rules in
+    let scripts : take old_scripts.len (new_scripts ++ drop (length new_scripts) old_scripts.items) ≡ new_scripts =
+    lent old_scripts.len old_scripts.items new_scripts size_scripts (c.run-run.ensures.run.count ∙ ap length c.deref_mut-2.ensures.value) in
+    let before : PortsTell c.args.self.lan c.deref_mut-2.result.now =
+    subst (λ (list : List Script). PortsTell c.args.self.lan list) (sym c.deref_mut-2.ensures.value) c.requires.told in
+    ok_then c.run-run.result (PortsTell c.args.self.lan c.deref_mut-2.result.now → PortsTell c.run-run.new.lan new_scripts) _
+    (λ kept. subst (λ (list : List Script). PortsTell c.run-run.new.lan list) (sym scripts) (kept before))
+    c.run-run.ensures.told

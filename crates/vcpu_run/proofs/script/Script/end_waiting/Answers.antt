@@ -1,4 +1,4 @@
-use Rattle.std.proofs.Common.{◌≡◌, Some, Ok, ap, false, length, refl, slice_get, subst, sym}
+use Rattle.std.proofs.Common.{◌≡◌, ◌∙◌, ℕ, Some, Ok, ap, false, length, refl, slice_get, subst, sym}
 use Rattle.std.proofs.lemmas.Option.{slice_get_read, slice_get_within}
 use Rattle.vio_trace.specs.declared.outcome.Outcome.{Outcome}
 use Rattle.vio_trace.specs.declared.outcome.Outcome.TheVariants as outcomes
@@ -10,6 +10,10 @@ use Rattle.vcpu_run.proofs.Crediting.{less_by, line_ends, lines_none}
 use Rattle.vcpu_run.proofs.Credits.{plain_fresh, takes_same, took_agreed}
 use Rattle.vcpu_run.proofs.Logging.{all_at}
 use Rattle.vcpu_run.proofs.script.Script.end_waiting.Goals.{in-Login, in-Reset, in-Take}
+use Rattle.vcpu_run.proofs.PortTelling.{quiet_tells, taken_within, took_tells}
+use Rattle.vcpu_run.specs.PortWords.{done_in, frame_of}
+use Rattle.lan_script.specs.PortCounts.{counts, counts_by, counts_told}
+use Rattle.boot_text.specs.declared.verb.Verb.{Verb}
 use Rattle.vcpu_run.proofs.script.Script.end_waiting.Goals as goal
 
 pub returns-clause-credited : goal.returns-clause-credited
@@ -42,3 +46,22 @@ returns-clause-credited c = λ pairs script is.
     (script.logs.reached (slice_get_within c.args.self.now.lines.now c.args.self.now.at c.in-Some.line.now found))
     (lines_none pairs c.args.self.now.seats.items c.in-Some.line.now taken c.match-line.outcome agreed plain)
     c.end.ensures.rest.lines c.end.ensures.rest.seats c.in_ok-end.ensures.ended.logs c.in_ok-end.ensures.ended.none is
+
+pub returns-clause-told : goal.returns-clause-told
+returns-clause-told c = λ pairs lan script tells.
+    let found : slice_get c.args.self.now.lines.now c.args.self.now.at ≡ Some c.in-Some.line.now =
+    slice_get_read c.args.self.now.lines.now (length c.args.self.now.lines.now) c.args.self.now.at c.in-Some.line.now refl
+    (less_by c.args.self.now.at (length c.args.self.now.lines.now) (sym c.in-Some.ensures.lookup.0)) c.in-Some.ensures.lookup.1 in
+    let reached = script.logs.reached (slice_get_within c.args.self.now.lines.now c.args.self.now.at c.in-Some.line.now found) in
+    let rest = c.end.ensures.rest in
+    let fresh = ap done_in c.in_ok-end.ensures.fresh in
+    elim c.match-line.branch [
+      | in-Login w ↦ quiet_tells lan lan c.args.self.now c.end.new.self c.in-Some.line.now _ found reached rest.partition rest.lines rest.seats
+          c.in_ok-end.ensures.ended.logs fresh (ap frame_of w.outcome-is) (ap counts_told w.outcome-is)
+          (subst (λ (v : Verb). (d : ℕ) → counts_by v d ≡ counts 0 0) (sym w.in-Login.is) (λ d. refl)) (λ unit. record { frames = refl; counts = refl }) tells
+      | in-Reset w ↦ quiet_tells lan lan c.args.self.now c.end.new.self c.in-Some.line.now _ found reached rest.partition rest.lines rest.seats
+          c.in_ok-end.ensures.ended.logs fresh (ap frame_of w.outcome-is) (ap counts_told w.outcome-is)
+          (subst (λ (v : Verb). (d : ℕ) → counts_by v d ≡ counts 0 0) (sym w.in-Reset.is) (λ d. refl)) (λ unit. record { frames = refl; counts = refl }) tells
+      | in-Take w ↦ took_tells lan c.args.self.now c.end.new.self c.in-Some.line.now _ _ (taken_in c.args.self.now.progress) found reached rest.partition rest.lines rest.seats
+          c.in_ok-end.ensures.ended.logs fresh (w.outcome-is ∙ ap (λ n. outcomes.Took n) w.taken.ensures) w.in-Take.is (taken_within c.args.self.now.progress) tells
+    ]

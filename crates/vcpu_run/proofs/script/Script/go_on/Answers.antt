@@ -8,6 +8,8 @@ use Rattle.vcpu_run.proofs.Driving.{clients_of}
 use Rattle.vcpu_run.proofs.Logging.{script_stays}
 use Rattle.vcpu_run.specs.Freeing.{IsSparedBy}
 use Rattle.vcpu_run.proofs.Unfreed.{frees_always}
+use Rattle.vcpu_run.proofs.PortTelling.{rest_tells}
+use Rattle.vcpu_run.proofs.Elsewhere.{ok_then}
 use Rattle.vcpu_run.proofs.script.Script.go_on.Goals as goal
 
 pub take_rest-requires-clause-few : goal.take_rest-requires-clause-few
@@ -41,3 +43,7 @@ returns-in-Some-clause-quiet c = ok_more c.step.result _ _ (λ moved left is ove
 
 pub returns-in-None-clause-stays : goal.returns-in-None-clause-stays
 returns-in-None-clause-stays c = frees_always (IsSparedBy c.args.self.now) c.args.pairs.now c.take_rest.new.pairs c.take_rest.ensures.stays
+
+pub returns-in-None-clause-told : goal.returns-in-None-clause-told
+returns-in-None-clause-told c =
+    ok_then c.take_rest.result _ _ (λ takes tells. rest_tells c.args.lan.now c.take_rest.new.lan c.args.self.now takes tells) c.take_rest.ensures.takes

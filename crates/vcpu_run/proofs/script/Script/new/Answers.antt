@@ -3,6 +3,8 @@ use Rattle.vio_trace.specs.declared.rows.LogRow.{LogRow}
 use Rattle.vcpu_run.specs.Scripts.{AreLogged}
 use Rattle.vcpu_run.proofs.Crediting.{credited_new}
 use Rattle.vcpu_run.proofs.Logging.{logged_none}
+use Rattle.vcpu_run.specs.declared.script.Progress.TheVariants as progress
+use Rattle.vcpu_run.proofs.PortTelling.{fresh_tells}
 use Rattle.vcpu_run.proofs.script.Script.new.Goals as goal
 
 pub returns-clause-script : goal.returns-clause-script
@@ -16,3 +18,15 @@ returns-clause-script c = λ pairs seats. record {
 
 pub returns-clause-credited : goal.returns-clause-credited
 returns-clause-credited c = λ pairs out. credited_new pairs _ c.new.ensures.items refl out
+
+pub returns-clause-told : goal.returns-clause-told
+returns-clause-told c = λ lan fresh. fresh_tells lan
+    (record {
+      alloc = c.args.alloc;
+      partition = c.args.partition;
+      lines = c.args.lines;
+      at = 0;
+      progress = progress.Fresh;
+      seats = c.args.seats;
+      logs = c.new.result;
+    }) c.new.ensures.items refl fresh

@@ -3,7 +3,7 @@ use Rattle.vcpu_run.specs.declared.unit_seat.Seat.{Seat}
 use Rattle.vcpu_run.specs.Freed.{FreesNoneIf}
 use Rattle.vcpu_run.specs.Freeing.{IsSpared}
 use Rattle.vcpu_run.proofs.Unfreed.{frees_by}
-use Rattle.std.proofs.Common.{rules, ◌≡◌, ◌∙◌, List, Ok, length, refl, slice_get, subst, arith}
+use Rattle.std.proofs.Common.{rules, ap, ◌≡◌, ◌∙◌, List, Ok, length, refl, slice_get, subst, arith}
 use Rattle.std.proofs.lemmas.Option.{slice_get_within}
 use Rattle.unit_region.specs.declared.step.Step.{Step}
 use Rattle.vcpu_run.specs.Agreed.{StepsLine}
@@ -13,6 +13,9 @@ use Rattle.vcpu_run.proofs.Crediting.{line_ends, line_waits}
 use Rattle.vcpu_run.proofs.Driving.{clients_of}
 use Rattle.vcpu_run.proofs.Elsewhere.{else_line}
 use Rattle.vcpu_run.proofs.Logging.{all_at, one_unit, script_steps}
+use Rattle.vcpu_run.specs.PortSteps.{TellsStep}
+use Rattle.vcpu_run.specs.PortWords.{done_in}
+use Rattle.vcpu_run.proofs.PortTelling.{port_waits, step_tells}
 use Rattle.vcpu_run.proofs.script.Script.step.Goals as goal
 
 pub step_unit-requires : goal.step_unit-requires
@@ -43,6 +46,8 @@ returns-in_err-step c =
           (subst (λ (seats : List Seat). FreesNoneIf (IsSpared seats c.args.line.now) c.args.pairs.now c.step_unit.new.pairs) c.deref.ensures.value c.step_unit.ensures.stays);
       lan = c.step_unit.ensures.lan;
       credited = search rules;
+      told = search rules;
+      apart = search rules;
       quiet = search rules;
     }
 
@@ -60,6 +65,8 @@ returns-in_err-end-in-Ends c =
           (subst (λ (seats : List Seat). FreesNoneIf (IsSpared seats c.args.line.now) c.args.pairs.now c.step_unit.new.pairs) c.deref.ensures.value c.step_unit.ensures.stays);
       lan = c.step_unit.ensures.lan;
       credited = search rules;
+      told = search rules;
+      apart = search rules;
       quiet = search rules;
     }
 
@@ -84,6 +91,15 @@ returns-in_ok-end-in-Ends c =
           (subst (λ (st : Step). StepsLine c.args.self.now.seats.items c.args.line.now (taken_in c.args.self.now.progress) (taken_in c.step_unit.new.progress) c.args.pairs.now c.step_unit.new.pairs (Ok st)) c.in-Ends.is
           (rw (← c.deref.ensures.value) c.in_ok-step.ensures.credit))
           c.end.ensures.rest.lines c.end.ensures.rest.seats c.in_ok-end-in-Ends.ensures.ended.logs c.in_ok-end-in-Ends.ensures.ended.none is;
+      told = λ tells.
+          step_tells c.args.lan.now c.step_unit.new.lan c.args.self.now c.end.new.self c.args.line.now
+          (record { partition = c.args.self.now.partition; line = c.args.line.now.number; outcome = c.in-Ends.outcome }) (done_in c.step_unit.new.progress)
+          c.requires.line (c.requires.script.logs.reached (slice_get_within c.args.self.now.lines.now c.args.self.now.at c.args.line.now c.requires.line))
+          c.end.ensures.rest.partition c.end.ensures.rest.lines c.end.ensures.rest.seats c.in_ok-end-in-Ends.ensures.ended.logs (ap done_in c.in_ok-end-in-Ends.ensures.fresh)
+          (λ no.
+          subst (λ (st : Step). TellsStep c.args.self.now.partition c.args.self.now.seats.items c.args.line.now (done_in c.args.self.now.progress) (done_in c.step_unit.new.progress) c.args.lan.now c.step_unit.new.lan st) c.in-Ends.is
+          (rw (← c.deref.ensures.value) (c.in_ok-step.ensures.told no))) tells;
+      apart = c.in_ok-step.ensures.apart;
       quiet = λ is. absurd (not_quiet is);
     }
 
@@ -105,5 +121,11 @@ returns-in-Waits c =
           c.requires.line line.suited c.requires.script.seats
           (subst (λ (st : Step). StepsLine c.args.self.now.seats.items c.args.line.now (taken_in c.args.self.now.progress) (taken_in c.step_unit.new.progress) c.args.pairs.now c.step_unit.new.pairs (Ok st)) c.in-Waits.is
           (rw (← c.deref.ensures.value) c.in_ok-step.ensures.credit)) is;
+      told = λ tells.
+          port_waits c.args.lan.now c.step_unit.new.lan c.args.self.now (record c.args.self.now { progress = c.step_unit.new.progress }) c.args.line.now c.in-Waits.moved c.requires.line refl
+          (λ no.
+          subst (λ (st : Step). TellsStep c.args.self.now.partition c.args.self.now.seats.items c.args.line.now (done_in c.args.self.now.progress) (done_in c.step_unit.new.progress) c.args.lan.now c.step_unit.new.lan st) c.in-Waits.is
+          (rw (← c.deref.ensures.value) (c.in_ok-step.ensures.told no))) tells;
+      apart = c.in_ok-step.ensures.apart;
       quiet = λ is over. let less = slice_get_within c.args.self.now.lines.now c.args.self.now.at c.args.line.now c.requires.line in omega (arith, less, over);
     }

@@ -9,6 +9,9 @@ use Rattle.vcpu_run.specs.declared.unit_seat.Seat.{Seat}
 use Rattle.vcpu_run.specs.Freed.{FreesNoneIf}
 use Rattle.vcpu_run.specs.Freeing.{NoneSits}
 use Rattle.vcpu_run.proofs.Unfreed.{frees_by, frees_fail}
+use Rattle.vcpu_run.proofs.PortTelling.{idle_takes, quiet_tells, rest_tells}
+use Rattle.vcpu_run.proofs.PortTelling.{fails_none}
+use Rattle.vcpu_run.specs.PortWords.{done_in}
 use Rattle.vcpu_run.proofs.script.Script.step_fail.Goals as goal
 
 pub fail-requires-clause-few : goal.fail-requires-clause-few
@@ -89,3 +92,20 @@ returns-clause-stays c =
     frees_by c.args.self.now c.args.self.now.at c.args.line.now c.args.pairs.now c.fail.new.pairs c.requires.line
     (frees_fail c.args.self.now.seats.items c.args.line.now c.args.pairs.now c.fail.new.pairs c.requires.fails
     (subst (λ (seats : List Seat). FreesNoneIf (NoneSits seats) c.args.pairs.now c.fail.new.pairs) c.deref.ensures.value c.fail.ensures.stays))
+
+pub returns-then-branch-clause-told : goal.returns-then-branch-clause-told
+returns-then-branch-clause-told c = λ tells.
+    quiet_tells c.args.lan.now c.fail.new.lan c.args.self.now c.end.new.self c.args.line.now _ c.requires.line
+    (c.requires.script.logs.reached (slice_get_within c.args.self.now.lines.now c.args.self.now.at c.args.line.now c.requires.line))
+    c.end.ensures.rest.partition c.end.ensures.rest.lines c.end.ensures.rest.seats c.in_ok-end.ensures.ended.logs (ap done_in c.in_ok-end.ensures.fresh)
+    refl refl (fails_none c.args.line.now.verb c.requires.fails) c.fail.ensures.idle tells
+
+pub returns-clause-told : goal.returns-clause-told
+returns-clause-told c = λ tells.
+    rest_tells c.args.lan.now c.fail.new.lan c.args.self.now (λ u. idle_takes c.args.lan.now c.fail.new.lan _ (c.fail.ensures.idle _)) tells
+
+pub returns-then-branch-clause-apart : goal.returns-then-branch-clause-apart
+returns-then-branch-clause-apart c = λ unit _. c.fail.ensures.idle unit
+
+pub returns-clause-apart : goal.returns-clause-apart
+returns-clause-apart c = λ unit _. c.fail.ensures.idle unit

@@ -1,0 +1,150 @@
+-- What the lines of LAN units tell, over the units of a partition and the turns of a round.
+use Rattle.std.proofs.Common.{◌≡◌, ◌≢◌, ℕ, ◌+◌, ◌<◌, ◌≤◌, ◌==◌, Bool, true, false, List, [], Option, Some, None, Result, Ok, Err, IfOk, OnOk, IsSomeAnd, slice_get, slice_set, refl, sym, ◌∙◌, ap, subst, arith}
+use Rattle.std.proofs.lemmas.Bool.Decides.{nat_tests}
+use Rattle.vio_num.specs.declared.hypervisor.Moved.{Moved}
+use Rattle.vio_num.specs.declared.memory.NoMemory.{NoMemory}
+use Rattle.vio_num.specs.declared.names.UnitId.{UnitId}
+use Rattle.boot_text.specs.declared.plan.Line.{Line}
+use Rattle.boot_text.specs.declared.plan.Partition.{Partition}
+use Rattle.boot_text.specs.declared.verb.Verb.{Verb}
+use Rattle.hcall_table.specs.declared.returned.Returned.{Returned}
+use Rattle.unit_region.specs.declared.step.Step.{Step}
+use Rattle.lan_script.specs.PortCounts.{CountsOn, PortCounts, SendsCalled, TakesSome, counts, counts_called}
+use Rattle.lan_script.specs.Units.{LanValue}
+use Rattle.lan_script.specs.declared.calls.PortCall.{PortCall}
+use Rattle.lan_script.specs.declared.seat.PortSeat.{PortSeat}
+use Rattle.vcpu_run.specs.declared.pair.Pair.{Pair}
+use Rattle.vcpu_run.specs.declared.script.Script.{Script}
+use Rattle.vcpu_run.specs.declared.unit_seat.Seat.{Seat}
+use Rattle.vcpu_run.specs.declared.unit_seat.Seat.TheVariants as sits
+use Rattle.vcpu_run.specs.Machines.{AreScripts}
+use Rattle.vcpu_run.specs.Making.{AreMade, IsMade}
+use Rattle.vcpu_run.specs.Ports.{unit_of}
+use Rattle.vcpu_run.specs.PortSteps.{AllIdle, AllTake, AreFresh, IsApart, IsBeside, IsIdle, RisesIf, StepRises, TakesOn, TellsStep}
+use Rattle.vcpu_run.specs.PortWords.{PortsTell, TellsPorts}
+use Rattle.vcpu_run.proofs.Listed.{each_set, held}
+use Rattle.vcpu_run.proofs.PortRising.{call_beside, takes_beside, takes_own}
+use Rattle.vcpu_run.proofs.PortTelling.{idle_takes, rest_tells}
+
+idle_then : (old mid new : LanValue) (unit : UnitId) → IsIdle old mid unit → IsIdle mid new unit → IsIdle old new unit
+idle_then old mid new unit a b = record { frames = b.frames ∙ a.frames; counts = b.counts ∙ a.counts }
+
+pub idle_same : (lan : LanValue) (unit : UnitId) → IsIdle lan lan unit
+idle_same lan unit = record { frames = refl; counts = refl }
+
+pub idle_on : (old mid new : LanValue) → AllIdle old mid → AllIdle mid new → AllIdle old new
+idle_on old mid new a b unit = idle_then old mid new unit (a unit) (b unit)
+
+pub apart_on : (partition : ℕ) (old mid new : LanValue) → IsApart partition old mid → IsApart partition mid new → IsApart partition old new
+apart_on partition old mid new a b unit other = idle_then old mid new unit (a unit other) (b unit other)
+
+pub takes_on : (partition : ℕ) (old mid new : LanValue) → AllTake partition old mid → AllTake partition mid new → AllTake partition old new
+takes_on partition old mid new a b u = record {
+  frames = (b u).frames ∙ (a u).frames;
+  posts = (b u).posts ∙ (a u).posts;
+  taken = omega (arith, (a u).taken, (b u).taken);
+}
+
+-- what is done at one port of a partition alone leaves those of others
+pub beside_apart : (partition u : ℕ) (old new : LanValue) → IsBeside (unit_of partition u) old new → IsApart partition old new
+beside_apart partition u old new beside unit other = beside unit (λ e. other (ap (λ (id : UnitId). id.partition) e))
+
+other_of : (partition u k : ℕ) → (u == k) ≡ false → unit_of partition u ≢ unit_of partition k
+other_of partition u k e same = grind (arith, nat_tests, e, ap (λ (id : UnitId). id.unit) same)
+
+same_of : (u k : ℕ) → (u == k) ≡ true → u ≡ k
+same_of u k e = grind (arith, nat_tests, e)
+
+pub one_takes : (partition k : ℕ) (old new : LanValue) → TakesOn old new (unit_of partition k) → IsBeside (unit_of partition k) old new → AllTake partition old new
+one_takes partition k old new takes beside u = by (u == k) refl
+  where
+    by : (b : Bool) → (u == k) ≡ b → TakesOn old new (unit_of partition u)
+    by true e = subst (λ n. TakesOn old new (unit_of partition n)) (sym (same_of u k e)) takes
+    by false e = idle_takes old new (unit_of partition u) (beside (unit_of partition u) (other_of partition u k e))
+
+-- a step of a line at a port is one of it alone
+pub port_steps : (partition : ℕ) (seats : List Seat) (line : Line) (done done' : ℕ) (old new : LanValue) (step : Step)
+    → StepRises (unit_of partition line.unit) line.verb done done' old new step → IsBeside (unit_of partition line.unit) old new
+    → TellsStep partition seats line done done' old new step
+port_steps partition seats line done done' old new step rises beside u sat = by (line.unit == u) refl
+  where
+    by : (b : Bool) → (line.unit == u) ≡ b → RisesIf b (unit_of partition u) line.verb done done' old new step
+    by true e = subst (λ n. StepRises (unit_of partition n) line.verb done done' old new step) (same_of line.unit u e) rises
+    by false e = beside (unit_of partition u) (λ same. other_of partition line.unit u e (sym same))
+
+-- one at a client is one of no port
+pub client_steps : (partition k : ℕ) (seats : List Seat) (line : Line) (done done' : ℕ) (lan : LanValue) (step : Step)
+    → slice_get seats line.unit ≡ Some (sits.Client k) → TellsStep partition seats line done done' lan lan step
+client_steps partition k seats line done done' lan step at u sat = by (line.unit == u) refl
+  where
+    no : Some (sits.Client k) ≡ Some sits.Port → ⊥
+    no e = cc (e)
+
+    by : (b : Bool) → (line.unit == u) ≡ b → RisesIf b (unit_of partition u) line.verb done done' lan lan step
+    by true e = absurd (no (sym at ∙ (ap (λ n. slice_get seats n) (same_of line.unit u e) ∙ sat)))
+    by false e = idle_same lan (unit_of partition u)
+
+-- a raw call at a port
+pub call_apart : (partition u : ℕ) (call : PortCall) (r : Result Returned NoMemory) (old new : LanValue) → new.seats ≡ old.seats
+    → IfOk r (λ returned. CountsOn (unit_of partition u) (counts 0 0) (counts_called call returned.code) old new)
+    → IfOk r (λ returned. SendsCalled (unit_of partition u) call returned.code old new) → OnOk r (IsApart partition old new)
+call_apart partition u call (Ok returned) old new seats counted sent =
+    beside_apart partition u old new (call_beside (unit_of partition u) call returned.code (counts 0 0) (counts_called call returned.code) old new seats sent counted)
+call_apart partition u call (Err memory) old new seats counted sent = tt
+
+-- the turn of one script
+turned : (lan lan' : LanValue) (pairs : List Pair) (ports : List PortSeat) (scripts : List Script) (i : ℕ) (script later : Script)
+    → slice_get scripts i ≡ Some script → AreScripts pairs ports scripts → IsApart script.partition lan lan' → TellsPorts lan' later
+    → PortsTell lan scripts → PortsTell lan' (slice_set scripts i later)
+turned lan lan' pairs ports scripts i script later found are apart here tells =
+    each_set (λ j other. TellsPorts lan' other) scripts i later (λ j other there beside. apart_tells other (not_it j other there beside) (tells j other there)) here
+  where
+    not_it : (j : ℕ) (other : Script) → slice_get scripts j ≡ Some other → j ≢ i → other.partition ≢ script.partition
+    not_it j other there beside e = beside (sym (are j other there).number ∙ (e ∙ (are i script found).number))
+
+    apart_tells : (other : Script) → other.partition ≢ script.partition → TellsPorts lan other → TellsPorts lan' other
+    apart_tells other distinct =
+        rest_tells lan lan' other (λ u. idle_takes lan lan' (unit_of other.partition u) (apart (unit_of other.partition u) distinct))
+
+pub ports_turned : (lan lan' : LanValue) (pairs : List Pair) (ports : List PortSeat) (scripts : List Script) (i : ℕ) (script later : Script) (r : Result Moved NoMemory)
+    → slice_get scripts i ≡ Some script → AreScripts pairs ports scripts → OnOk r (IsApart script.partition lan lan')
+    → OnOk r (TellsPorts lan script → TellsPorts lan' later) → OnOk r (PortsTell lan scripts → PortsTell lan' (slice_set scripts i later))
+ports_turned lan lan' pairs ports scripts i script later (Ok moved) found are apart kept = λ tells.
+    turned lan lan' pairs ports scripts i script later found are apart (kept (tells i script found)) tells
+ports_turned lan lan' pairs ports scripts i script later (Err memory) found are apart kept = tt
+
+-- a line that waited and was ended
+pub ports_ended : (lan : LanValue) (scripts : List Script) (i : ℕ) (later : Script) → PortsTell lan scripts → TellsPorts lan later
+    → PortsTell lan (slice_set scripts i later)
+ports_ended lan scripts i later tells here = each_set (λ j other. TellsPorts lan other) scripts i later (λ j other there beside. tells j other there) here
+
+pub ports_made : (lan : LanValue) (partitions : List Partition) (scripts : List Script) → AreFresh lan → AreMade partitions scripts → PortsTell lan scripts
+ports_made lan partitions scripts fresh made i script found =
+    (held (λ partition. IsMade partition i script) (slice_get partitions i) (made.each i script found)).2.told lan fresh
+
+-- the same of results
+pub port_told : (partition : ℕ) (seats : List Seat) (line : Line) (done done' : ℕ) (old new : LanValue) (r : Result Step NoMemory)
+    → IfOk r (StepRises (unit_of partition line.unit) line.verb done done' old new) → OnOk r (IsBeside (unit_of partition line.unit) old new)
+    → IfOk r (TellsStep partition seats line done done' old new)
+port_told partition seats line done done' old new (Ok step) rises beside = port_steps partition seats line done done' old new step rises beside
+port_told partition seats line done done' old new (Err memory) rises beside = tt
+
+pub port_apart : (partition u : ℕ) (old new : LanValue) (r : Result Step NoMemory) → OnOk r (IsBeside (unit_of partition u) old new)
+    → OnOk r (IsApart partition old new)
+port_apart partition u old new (Ok step) beside = beside_apart partition u old new beside
+port_apart partition u old new (Err memory) beside = tt
+
+pub client_told : (partition k : ℕ) (seats : List Seat) (line : Line) (done done' : ℕ) (lan : LanValue) (r : Result Step NoMemory)
+    → slice_get seats line.unit ≡ Some (sits.Client k) → IfOk r (TellsStep partition seats line done done' lan lan)
+client_told partition k seats line done done' lan (Ok step) at = client_steps partition k seats line done done' lan step at
+client_told partition k seats line done done' lan (Err memory) at = tt
+
+pub port_rest : (unit : UnitId) (r : Result Moved NoMemory) (old new : LanValue) → new.seats ≡ old.seats → new.frames ≡ old.frames
+    → OnOk r (TakesSome unit old new) → OnOk r (TakesOn old new unit)
+port_rest unit (Ok moved) old new seats frames taken = takes_own unit old new seats frames taken
+port_rest unit (Err memory) old new seats frames taken = tt
+
+pub rest_beside : (unit : UnitId) (r : Result Moved NoMemory) (old new : LanValue) → new.seats ≡ old.seats → new.frames ≡ old.frames
+    → OnOk r (TakesSome unit old new) → OnOk r (IsBeside unit old new)
+rest_beside unit (Ok moved) old new seats frames taken = takes_beside unit old new seats frames taken
+rest_beside unit (Err memory) old new seats frames taken = tt

@@ -1,0 +1,36 @@
+-- Units of the LAN that were opened did nothing yet.
+use Rattle.std.proofs.Common.{◌≡◌, Bool, true, false, List, [], ◌∷◌, map, Result, Ok, Err, IfOk, refl, sym, ◌∙◌, ap, subst}
+use Rattle.vio_num.specs.declared.names.UnitId.{UnitId}
+use Rattle.lan_switch.specs.Switch.{opened, port_of, same_unit}
+use Rattle.vio_trace.specs.declared.lan_rows.FrameRow.{FrameRow}
+use Rattle.lan_script.specs.Invariant.{sent_by}
+use Rattle.lan_script.specs.Opening.{fresh_lan, plan_of}
+use Rattle.lan_script.specs.PortCounts.{counts, counts_at, counts_in}
+use Rattle.lan_script.specs.Units.{LanValue}
+use Rattle.lan_script.specs.declared.seat.PortSeat.{PortSeat}
+use Rattle.lan_script.proofs.Keys.{port_head, port_tail}
+use Rattle.lan_script.proofs.Placing.{by_bool}
+use Rattle.vcpu_run.specs.PortSteps.{AreFresh}
+use Rattle.vcpu_run.specs.PortWords.{frame_told, frames_at}
+
+none_sent : (seats : List PortSeat) (unit : UnitId) → sent_by seats (map (λ _. []) seats) unit ≡ []
+none_sent [] unit = refl
+none_sent (s ∷ seats) unit = by (same_unit s.unit unit) refl (none_sent seats unit)
+  where
+    by : (b : Bool) → same_unit s.unit unit ≡ b → sent_by seats (map (λ _. []) seats) unit ≡ [] → sent_by (s ∷ seats) (map (λ _. []) (s ∷ seats)) unit ≡ []
+    by true e rest = rw e refl
+    by false e rest = rw e rest
+
+none_counted : (seats : List PortSeat) (unit : UnitId) → counts_in unit (port_of (map opened (map plan_of seats)) unit) ≡ counts 0 0
+none_counted [] unit = refl
+none_counted (s ∷ seats) unit =
+    by_bool (same_unit s.unit unit) (counts_in unit (port_of (map opened (map plan_of (s ∷ seats))) unit) ≡ counts 0 0)
+    (λ e. ap (λ o. counts_in unit o) (port_head unit (opened (plan_of s)) (map opened (map plan_of seats)) e))
+    (λ e. ap (λ o. counts_in unit o) (port_tail unit (opened (plan_of s)) (map opened (map plan_of seats)) e) ∙ none_counted seats unit)
+
+pub opened_fresh : (lan : LanValue) (seats : List PortSeat) → lan ≡ fresh_lan seats → AreFresh lan
+opened_fresh lan seats e = subst AreFresh (sym e) (λ unit. (ap (λ (l : List FrameRow). map frame_told l) (none_sent seats unit), none_counted seats unit))
+
+pub opened_ok : {E : Type 0} (r : Result LanValue E) (seats : List PortSeat) → IfOk r (λ lan. lan ≡ fresh_lan seats) → IfOk r AreFresh
+opened_ok (Ok lan) seats e = opened_fresh lan seats e
+opened_ok (Err none) seats e = tt

@@ -1,0 +1,117 @@
+-- What the lines of LAN units tell is what a gathered trace shows of their ports.
+use Rattle.std.proofs.Common.{◌≡◌, ◌∙◌, ℕ, ◌+◌, ◌==◌, ◌<◌, ◌≤◌, Bool, true, false, All, List, [], ◌∷◌, Option, Some, None, Result, Ok, Err, IfOk, IsSome, IsSomeAnd, filter, length, map, option_map, refl, slice_get, sym, ap, subst, arith}
+use Rattle.std.specs.List.{flat_map}
+use Rattle.std.proofs.lemmas.Option.{slice_get_past, slice_get-map}
+use Rattle.std.proofs.lemmas.Bool.Decides.{nat_tests}
+use Rattle.vio_num.specs.declared.history.Grant.{Grant}
+use Rattle.vio_num.specs.declared.history.Served.{Served}
+use Rattle.vio_num.specs.declared.memory.NoMemory.{NoMemory}
+use Rattle.vio_num.specs.declared.names.UnitId.{UnitId}
+use Rattle.rdma_copy.specs.declared.copy.CopyRecord.{CopyRecord}
+use Rattle.boot_text.specs.declared.plan.Line.{Line}
+use Rattle.boot_text.specs.declared.plan.Partition.{Partition}
+use Rattle.boot_text.specs.Sound.{unit_at, unit_in}
+use Rattle.boot_text.specs.declared.plan.UnitPlan.{UnitPlan}
+use Rattle.boot_text.specs.declared.plan.UnitPlan.TheVariants as units
+use Rattle.lan_script.specs.PortCounts.{PortCounts, counts, counts_at}
+use Rattle.lan_script.specs.RowsOf.{CountsRows}
+use Rattle.lan_script.specs.Units.{LanValue}
+use Rattle.lan_script.specs.declared.rows.LanRows.{LanRows}
+use Rattle.vio_trace.specs.declared.lan_rows.FrameRow.{FrameRow}
+use Rattle.vio_trace.specs.declared.rows.LogRow.{LogRow}
+use Rattle.vio_trace.specs.declared.rows.Trace.{Trace}
+use Rattle.vcpu_run.specs.declared.pair.Pair.{Pair}
+use Rattle.vcpu_run.specs.declared.script.Script.{Script}
+use Rattle.vcpu_run.specs.declared.unit_seat.Seat.{Seat}
+use Rattle.vcpu_run.specs.declared.unit_seat.Seat.TheVariants as sits
+use Rattle.vcpu_run.specs.Credited.{Ended, ended_by}
+use Rattle.vcpu_run.specs.Gathered.{IsGathered, logs_of, trace_of}
+use Rattle.vcpu_run.specs.Lines.{IsOver}
+use Rattle.vcpu_run.specs.Machines.{AreScripts, IsOfPlan, IsScriptFor, seat_of}
+use Rattle.vcpu_run.specs.Ports.{IsPortOf, ports_of, unit_of}
+use Rattle.vcpu_run.specs.PortWords.{HasNoCall, LinesTell, PortsAreTold, PortsTell, TellsPort, counts_now, counts_under, done_in, frame_told}
+use Rattle.vcpu_run.specs.Settled.{script_of}
+use Rattle.vcpu_run.proofs.FramesCarried.{IsPlannedPort, port_planned}
+use Rattle.vcpu_run.proofs.Homes.{all_at, unit_found}
+use Rattle.vcpu_run.proofs.Listed.{held}
+use Rattle.vcpu_run.proofs.Parts.{found, in_slice}
+use Rattle.vcpu_run.proofs.Placing.{partitions_are}
+use Rattle.vcpu_run.proofs.RecordLaws.{lines_in, none_past, partitions_apart, rows_told}
+
+-- what is so of the rows that were counted
+pub from_counts : (pairs : List Pair) (scripts : List Script) (lan : LanValue) (history : List Served) (grants : List Grant) (copies : List CopyRecord) (r : Result Trace NoMemory)
+    (P : Trace → Type 0) → IfOk r (IsGathered pairs scripts lan history grants copies)
+    → ((rows : LanRows) → CountsRows lan rows → P (trace_of pairs scripts lan rows history grants copies)) → IfOk r P
+from_counts pairs scripts lan history grants copies (Ok t) P is step = subst P (sym is.trace_is) (step is.rows is.counted)
+from_counts pairs scripts lan history grants copies (Err none) P is step = tt
+
+some_same : {X : Type 0} (x y : X) → Some x ≡ Some y → x ≡ y
+some_same x y e = cc (e)
+
+some_none : {X : Type 0} (x : X) → Some x ≡ None → ⊥
+some_none x e = cc (e)
+
+-- no line is left of a script that is over
+none_left : {X : Type 0} (xs : List X) (i : ℕ) → length xs ≤ i → slice_get xs i ≡ None
+none_left xs i past = slice_get_past xs i past
+
+told_rows : (own : List Ended) (now : PortCounts) (lan : LanValue) (unit : UnitId) (pairs : List Pair) (scripts : List Script) (rows : LanRows)
+    (history : List Served) (grants : List Grant) (copies : List CopyRecord) → now ≡ counts 0 0 → CountsRows lan rows → TellsPort own now lan unit
+    → LinesTell own (trace_of pairs scripts lan rows history grants copies) unit
+told_rows own now lan unit pairs scripts rows history grants copies none counted tells = record {
+  frames = tells.frames ∙ ap (λ (l : List FrameRow). map frame_told l) (sym (counted.frames unit));
+  posts = omega (arith, tells.posts, counted.posts unit, ap (λ (c : PortCounts). c.posts) none);
+  taken = omega (arith, tells.taken, counted.taken unit, ap (λ (c : PortCounts). c.taken) none);
+}
+
+pub told_are : (pairs : List Pair) (scripts : List Script) (lan : LanValue) (rows : LanRows) (history : List Served) (grants : List Grant) (copies : List CopyRecord)
+    (partitions : List Partition) → AreScripts pairs lan.seats scripts → IsOfPlan partitions pairs scripts lan.seats → All IsOver scripts → PortsTell lan scripts
+    → CountsRows lan rows → PortsAreTold partitions (trace_of pairs scripts lan rows history grants copies)
+told_are pairs scripts lan rows history grants copies partitions are of_plan over tells counted unit there none = at (slice_get scripts unit.partition) refl
+  where
+    p : ℕ
+    p = unit.partition
+
+    logs : List LogRow
+    logs = filter (λ (row : LogRow). row.partition == p) (flat_map logs_of scripts)
+
+    planned : IsPlannedPort partitions unit
+    planned = port_planned partitions unit there
+
+    plan : UnitPlan
+    plan = units.Lan planned.mac planned.pages planned.slots
+
+    no_value : unit_in (slice_get partitions p) unit.unit ≡ None → ⊥
+    no_value e = some_none plan (sym planned.planned ∙ e)
+
+    sits_there : (script : Script) → slice_get scripts p ≡ Some script → slice_get script.seats.items unit.unit ≡ Some sits.Port
+    sits_there script e =
+        let one = unit_found (slice_get partitions p) unit.unit plan planned.planned in
+        let it = held (λ partition. IsScriptFor partition script) (slice_get partitions p) (of_plan.scripts_are.each p script e) in
+        ap (λ ss. slice_get ss unit.unit) it.2.seats
+        ∙ (slice_get-map seat_of it.0.units unit.unit
+        ∙ ap (option_map seat_of) (subst (λ (x : Partition). slice_get x.units unit.unit ≡ Some plan) (some_same one.0 it.0 (sym one.1 ∙ it.1)) one.2))
+
+    ended : (script : Script) → slice_get scripts p ≡ Some script → counts_now unit.unit script ≡ counts 0 0
+    ended script e =
+        ap (λ o. counts_under unit.unit (done_in script.progress) o) (none_left script.lines.now script.at (all_at IsOver scripts p script over e))
+
+    at : (slot : Option Script) → slice_get scripts p ≡ slot
+        → LinesTell (ended_by unit.unit (script_of partitions p) logs) (trace_of pairs scripts lan rows history grants copies) unit
+    at None e =
+        let gone : slice_get partitions p ≡ None = slice_get_past partitions p (omega (arith, none_past scripts p e, of_plan.scripts_are.count)) in
+        absurd (no_value (ap (λ o. unit_in o unit.unit) gone))
+    at (Some script) e =
+        let own = are p script e in
+        let here : script.partition ≡ p = own.number in
+        let hit : (script.partition == p) ≡ true = grind (arith, nat_tests, here) in
+        let only : logs ≡ script.logs.items =
+        found (λ (row : LogRow). row.partition == p) (λ (script : Script). script.partition == p) logs_of script hit scripts (in_slice scripts p script e)
+        (rows_told pairs lan.seats scripts p are) (partitions_apart p 0 scripts (partitions_are pairs lan.seats scripts are)) in
+        let lines : script_of partitions p ≡ script.lines.now = lines_in (slice_get partitions p) script (of_plan.scripts_are.each p script e) in
+        let told = tells p script e (subst HasNoCall lines none) unit.unit (sits_there script e) in
+        let same : unit_of script.partition unit.unit ≡ unit = ap (λ n. unit_of n unit.unit) here in
+        subst (λ ls. LinesTell (ended_by unit.unit ls logs) (trace_of pairs scripts lan rows history grants copies) unit) (sym lines)
+        (subst (λ l. LinesTell (ended_by unit.unit script.lines.now l) (trace_of pairs scripts lan rows history grants copies) unit) (sym only)
+        (told_rows (ended_by unit.unit script.lines.now script.logs.items) (counts_now unit.unit script) lan unit pairs scripts rows history grants copies
+        (ended script e) counted (subst (λ (id : UnitId). TellsPort (ended_by unit.unit script.lines.now script.logs.items) (counts_now unit.unit script) lan id) same told)))

@@ -1,0 +1,64 @@
+-- What steps of lines make of the ports of a partition, as their lines tell of them.
+use Rattle.std.specs.Prelude.{◌≡◌, ◌≢◌, ℕ, ◌+◌, ◌≤◌, ◌==◌, Bool, true, false, List, [], ◌++◌, Some, slice_get}
+use Rattle.vio_num.specs.declared.names.UnitId.{UnitId}
+use Rattle.boot_text.specs.declared.plan.Line.{Line}
+use Rattle.boot_text.specs.declared.verb.Verb.{Verb}
+use Rattle.unit_region.specs.declared.step.Step.{Step}
+use Rattle.unit_region.specs.declared.step.Step.TheVariants as steps
+use Rattle.lan_script.specs.PortCounts.{PortCounts, counts, counts_at, counts_by, counts_told}
+use Rattle.lan_script.specs.Units.{LanValue}
+use Rattle.vcpu_run.specs.declared.unit_seat.Seat.{Seat}
+use Rattle.vcpu_run.specs.declared.unit_seat.Seat.TheVariants as sits
+use Rattle.vcpu_run.specs.Ports.{unit_of}
+use Rattle.vcpu_run.specs.PortWords.{FrameTold, frame_of, frames_at}
+
+-- A port did nothing of which lines tell.
+pub record IsIdle (old new : LanValue) (unit : UnitId) : Type 0 where
+  pub frames : frames_at new unit ≡ frames_at old unit
+  pub counts : counts_at new unit ≡ counts_at old unit
+
+-- It sent these frames more, and its counts rose by as much as from `before` to `after`.
+pub record Rises (more : List FrameTold) (before after : PortCounts) (old new : LanValue) (unit : UnitId) : Type 0 where
+  pub frames : frames_at new unit ≡ frames_at old unit ++ more
+  pub posts : (counts_at new unit).posts + before.posts ≡ (counts_at old unit).posts + after.posts
+  pub taken : (counts_at new unit).taken + before.taken ≡ (counts_at old unit).taken + after.taken
+
+-- It sent no frame and posted nothing, and took some frames or none.
+pub record TakesOn (old new : LanValue) (unit : UnitId) : Type 0 where
+  pub frames : frames_at new unit ≡ frames_at old unit
+  pub posts : (counts_at new unit).posts ≡ (counts_at old unit).posts
+  pub taken : (counts_at old unit).taken ≤ (counts_at new unit).taken
+
+-- no port of another partition did anything
+abbrev pub IsApart : (partition : ℕ) → (old new : LanValue) → Type 0
+IsApart partition old new = (unit : UnitId) → unit.partition ≢ partition → IsIdle old new unit
+
+-- no other port did
+abbrev pub IsBeside : UnitId → (old new : LanValue) → Type 0
+IsBeside unit old new = (other : UnitId) → other ≢ unit → IsIdle old new other
+
+-- what a step of a line makes of the port of its own unit
+abbrev pub StepRises : UnitId → Verb → (done done' : ℕ) → (old new : LanValue) → Step → Type 0
+StepRises unit verb done done' old new (steps.Ends outcome) = Rises (frame_of outcome) (counts_by verb done) (counts_told outcome) old new unit
+StepRises unit verb done done' old new (steps.Waits did) = Rises [] (counts_by verb done) (counts_by verb done') old new unit
+
+-- and of any port of its partition
+abbrev pub RisesIf : (own : Bool) → UnitId → Verb → (done done' : ℕ) → (old new : LanValue) → Step → Type 0
+RisesIf true unit verb done done' old new step = StepRises unit verb done done' old new step
+RisesIf false unit verb done done' old new step = IsIdle old new unit
+
+abbrev pub TellsStep : (partition : ℕ) → List Seat → Line → (done done' : ℕ) → (old new : LanValue) → Step → Type 0
+TellsStep partition seats line done done' old new step = (u : ℕ) → slice_get seats u ≡ Some sits.Port
+    → RisesIf (line.unit == u) (unit_of partition u) line.verb done done' old new step
+
+-- each port of a partition took some frames or none, and did nothing else
+abbrev pub AllTake : (partition : ℕ) → (old new : LanValue) → Type 0
+AllTake partition old new = (u : ℕ) → TakesOn old new (unit_of partition u)
+
+-- no port did anything
+abbrev pub AllIdle : (old new : LanValue) → Type 0
+AllIdle old new = (unit : UnitId) → IsIdle old new unit
+
+-- no port did anything yet
+abbrev pub AreFresh : LanValue → Type 0
+AreFresh lan = (unit : UnitId) → (frames_at lan unit ≡ []) × (counts_at lan unit ≡ counts 0 0)

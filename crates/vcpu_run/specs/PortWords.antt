@@ -1,0 +1,103 @@
+-- What the records of a LAN unit's lines say of its port: the frames that it sent, the buffers that it posted, and the frames
+-- that it took from its receive queue.
+use Rattle.std.specs.Prelude.{◌≡◌, ◌≢◌, ℕ, ◌+◌, ◌≤◌, ◌==◌, ◌&&◌, Bool, true, false, All, List, [], ◌∷◌, ◌++◌, Option, Some, None, Result, Ok, Err, ⊤, filter, length, map, slice_get, if◌then◌else◌}
+use Rattle.vio_num.specs.declared.hypervisor.Hrc.{Hrc}
+use Rattle.vio_num.specs.declared.memory.NoMemory.{NoMemory}
+use Rattle.vio_num.specs.declared.names.UnitId.{UnitId}
+use Rattle.boot_text.specs.declared.plan.Line.{Line}
+use Rattle.boot_text.specs.declared.plan.Partition.{Partition}
+use Rattle.boot_text.specs.declared.verb.Verb.{Verb}
+use Rattle.unit_region.specs.declared.step.Step.{Step}
+use Rattle.unit_region.specs.declared.step.Step.TheVariants as steps
+use Rattle.lan_switch.specs.Switch.{same_unit}
+use Rattle.vio_trace.specs.declared.lan_rows.FrameRow.{FrameRow}
+use Rattle.vio_trace.specs.declared.outcome.Outcome.{Outcome}
+use Rattle.vio_trace.specs.declared.outcome.Outcome.TheVariants as outcomes
+use Rattle.vio_trace.specs.declared.rows.Trace.{Trace}
+use Rattle.lan_script.specs.Invariant.{sent_by}
+use Rattle.lan_script.specs.PortCounts.{PortCounts, counts, counts_at, counts_by, counts_told, is_frame}
+use Rattle.lan_script.specs.Units.{LanValue}
+use Rattle.vcpu_run.specs.declared.script.Progress.{Progress}
+use Rattle.vcpu_run.specs.declared.script.Progress.TheVariants as progress
+use Rattle.vcpu_run.specs.declared.script.Script.{Script}
+use Rattle.vcpu_run.specs.declared.unit_seat.Seat.{Seat}
+use Rattle.vcpu_run.specs.declared.unit_seat.Seat.TheVariants as sits
+use Rattle.vcpu_run.specs.Credited.{Ended, ended_by}
+use Rattle.vcpu_run.specs.Ports.{IsPortOf, ports_of, unit_of}
+use Rattle.vcpu_run.specs.Settled.{script_of}
+use Rattle.vcpu_run.specs.Shown.{records_of}
+use Rattle.vcpu_run.specs.Suited.{is_call}
+
+-- a frame, by its code and its number
+pub record FrameTold : Type 0 where
+  pub code : Hrc
+  pub number : ℕ
+
+abbrev pub frame_told : FrameRow → FrameTold
+frame_told row = record { code = row.code; number = row.number }
+
+-- the frame of which the end of a line tells
+abbrev pub frame_of : Outcome → List FrameTold
+frame_of (outcomes.Frame code number) = record { code = code; number = number } ∷ []
+frame_of _ = []
+
+-- the frames of which lines tell that ended, in order; the buffers that they tell as posted, and the frames as taken
+abbrev pub frames_told : List Ended → List FrameTold
+frames_told [] = []
+frames_told (ended ∷ more) = frame_of ended.outcome ++ frames_told more
+
+abbrev pub posts_told : List Ended → ℕ
+posts_told [] = 0
+posts_told (ended ∷ more) = (counts_told ended.outcome).posts + posts_told more
+
+abbrev pub taken_told : List Ended → ℕ
+taken_told [] = 0
+taken_told (ended ∷ more) = (counts_told ended.outcome).taken + taken_told more
+
+-- no line of a script makes a raw hypervisor call
+abbrev pub HasNoCall : List Line → Type 0
+HasNoCall lines = All (λ line. is_call line.verb ≡ false) lines
+
+-- What the lines of a unit tell is what the trace shows of its port: its frames, each with its code and its number, in order;
+-- as many buffers as it posted; and as many frames, at most, as it took.
+pub record LinesTell (own : List Ended) (trace : Trace) (unit : UnitId) : Type 0 where
+  pub frames : frames_told own ≡ map frame_told (filter (λ row. same_unit row.unit unit) trace.frames)
+  pub posts : posts_told own ≡ length (filter (λ row. same_unit row.unit unit) trace.posts)
+  pub taken : taken_told own ≤ length (filter (λ row. is_frame row.high) (filter (λ row. same_unit row.unit unit) trace.harvests))
+
+-- the same of each port of a plan whose partition makes no raw call
+abbrev pub PortsAreTold : List Partition → Trace → Type 0
+PortsAreTold partitions trace = (unit : UnitId) → IsPortOf (ports_of partitions) unit → HasNoCall (script_of partitions unit.partition)
+    → LinesTell (ended_by unit.unit (script_of partitions unit.partition) (records_of trace unit.partition)) trace unit
+
+-- the frames of a unit, while a run goes on
+abbrev pub frames_at : LanValue → UnitId → List FrameTold
+frames_at lan unit = map frame_told (sent_by lan.seats lan.frames unit)
+
+-- how far a line came
+abbrev pub done_in : Progress → ℕ
+done_in (progress.Took taken) = taken
+done_in (progress.Posted posted) = posted
+done_in _ = 0
+
+-- what the current line of a script did at a unit, if it is of that unit
+abbrev pub counts_under : (unit done : ℕ) → Option Line → PortCounts
+counts_under unit done None = counts 0 0
+counts_under unit done (Some line) = if line.unit == unit then counts_by line.verb done else counts 0 0
+
+abbrev pub counts_now : (unit : ℕ) → Script → PortCounts
+counts_now unit script = counts_under unit (done_in script.progress) (slice_get script.lines.now script.at)
+
+-- What the lines of a script's unit tell, with what the current one did so far, is what its port did.
+pub record TellsPort (own : List Ended) (now : PortCounts) (lan : LanValue) (unit : UnitId) : Type 0 where
+  pub frames : frames_told own ≡ frames_at lan unit
+  pub posts : posts_told own + now.posts ≡ (counts_at lan unit).posts
+  pub taken : taken_told own + now.taken ≤ (counts_at lan unit).taken
+
+abbrev pub TellsPorts : LanValue → Script → Type 0
+TellsPorts lan script = HasNoCall script.lines.now → (unit : ℕ) → slice_get script.seats.items unit ≡ Some sits.Port
+    → TellsPort (ended_by unit script.lines.now script.logs.items) (counts_now unit script) lan (unit_of script.partition unit)
+
+-- the same of all scripts
+abbrev pub PortsTell : LanValue → List Script → Type 0
+PortsTell lan scripts = (i : ℕ) (script : Script) → slice_get scripts i ≡ Some script → TellsPorts lan script
