@@ -4,7 +4,7 @@ ghost use Rattle.std.specs.Prelude.{◌≡◌};
 use crate::guests::two;
 use page_slots::StrokeName;
 use rdma_copy::{CopyAnswer, copy_rdma};
-use shared_window::{SharedGuest, Window};
+use shared_window::{Opened, SharedGuest, Window};
 use std::alloc::Global;
 use std::test::Fail;
 use tce_window::HoldFault;
@@ -46,20 +46,28 @@ fn copy(
 
 #[test]
 fn a_range_is_copied(rt: HostRuntime) -> Result<(), Fail> {
-    let source = Window::open(rt.alloc(), FIRST, 4, 2)?;
-    let target = Window::open(rt.alloc(), SECOND, 2, 2)?;
-    let Some((mut a, _)) = two(source.guests) else {
+    let Opened {
+        window: first,
+        owner: _,
+        guests: readers,
+    } = Window::open(rt.alloc(), FIRST, 4, 2)?;
+    let Opened {
+        window: second,
+        owner: _,
+        guests: writers,
+    } = Window::open(rt.alloc(), SECOND, 2, 2)?;
+    let Some((mut a, _)) = two(&first, readers) else {
         return Err(Fail::new("a guest is missing"));
     };
-    let Some((mut b, _)) = two(target.guests) else {
+    let Some((mut b, _)) = two(&second, writers) else {
         return Err(Fail::new("a guest is missing"));
     };
     let mut from = SharedGuest {
-        window: &source.window,
+        window: &first,
         guest: &mut a,
     };
     let mut to = SharedGuest {
-        window: &target.window,
+        window: &second,
         guest: &mut b,
     };
     assert_eq!(rt;
