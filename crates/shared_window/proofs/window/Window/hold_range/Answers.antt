@@ -39,8 +39,8 @@ returns-in-Ok-clause-at c =
     let old : WindowSeatValue = record { pages = c.seat.inside.pages; entries = c.seat.inside.entries; region = c.seat.inside.region; in_use = c.seat.inside.in_use } in
     let new : WindowSeatValue = record { pages = c.take_pages.new.seat; entries = c.pin_range.new.seat; region = c.take-pages.new.self; in_use = c.seat.inside.in_use } in
     let t = taken_of w old new c.args.ioba c.args.len c.args.right c.in_ok-pieces.pieces.items placed c.as_slice.result.now c.as_slice-in-Ok-2.result.now region c.take-pages.result c.args.self.now c.args.seat.now c.self.view_is c.seat.view_is c.as_slice.ensures.value c.as_slice-in-Ok-2.ensures.value
-        c.requires.at c.requires.free c.self.invariant.size c.in_ok-pieces.ensures.ok c.in-Ok.ensures.ok c.place_pieces-placed.ensures.strokes (c.place_pieces-placed.ensures.rest ∙ ap (map unplaced) c.as_slice-in-Ok.ensures.value)
-        c.take-pages.ensures.taken c.take-pages.ensures.away c.take-pages.ensures.size refl in
+    c.requires.at c.requires.free c.self.invariant.size c.in_ok-pieces.ensures.ok c.in-Ok.ensures.ok c.place_pieces-placed.ensures.strokes (c.place_pieces-placed.ensures.rest ∙ ap (map unplaced) c.as_slice-in-Ok.ensures.value)
+    c.take-pages.ensures.taken c.take-pages.ensures.away c.take-pages.ensures.size refl in
     subst (λ (z : SharedWindowValue). IsSeatAt z new) c.self.view_is (to_at w old new c.args.ioba c.args.len c.args.right c.in_ok-pieces.pieces.items placed region c.take-pages.result t)
 
 pub returns-in-Ok-clause-ok : goal.returns-in-Ok-clause-ok
@@ -51,8 +51,8 @@ returns-in-Ok-clause-ok c =
     let old : WindowSeatValue = record { pages = c.seat.inside.pages; entries = c.seat.inside.entries; region = c.seat.inside.region; in_use = c.seat.inside.in_use } in
     let new : WindowSeatValue = record { pages = c.take_pages.new.seat; entries = c.pin_range.new.seat; region = c.take-pages.new.self; in_use = c.seat.inside.in_use } in
     let t = taken_of w old new c.args.ioba c.args.len c.args.right c.in_ok-pieces.pieces.items placed c.as_slice.result.now c.as_slice-in-Ok-2.result.now region c.take-pages.result c.args.self.now c.args.seat.now c.self.view_is c.seat.view_is c.as_slice.ensures.value c.as_slice-in-Ok-2.ensures.value
-        c.requires.at c.requires.free c.self.invariant.size c.in_ok-pieces.ensures.ok c.in-Ok.ensures.ok c.place_pieces-placed.ensures.strokes (c.place_pieces-placed.ensures.rest ∙ ap (map unplaced) c.as_slice-in-Ok.ensures.value)
-        c.take-pages.ensures.taken c.take-pages.ensures.away c.take-pages.ensures.size refl in
+    c.requires.at c.requires.free c.self.invariant.size c.in_ok-pieces.ensures.ok c.in-Ok.ensures.ok c.place_pieces-placed.ensures.strokes (c.place_pieces-placed.ensures.rest ∙ ap (map unplaced) c.as_slice-in-Ok.ensures.value)
+    c.take-pages.ensures.taken c.take-pages.ensures.away c.take-pages.ensures.size refl in
     subst (λ (held : HeldValue). HoldsRange c.args.self.now c.args.seat.now c.args.ioba c.args.len c.args.right new held) (sym c.of_pages.ensures)
     (subst (λ (z : SharedWindowValue × WindowSeatValue). HoldsRange z.0 z.1 c.args.ioba c.args.len c.args.right new (record { right = c.args.right; pieces = placed; pages = c.take-pages.result })) (λ i. (c.self.view_is i, c.seat.view_is i))
     (to_range w old new c.args.ioba c.args.len c.args.right c.in_ok-pieces.pieces.items placed region c.take-pages.result t))
