@@ -1,11 +1,16 @@
 // The values of a window's entries: every value that was put, and beside them the last of each entry.
 ghost use Rattle.std.specs.Prelude.{◌≡◌, ◌+◌, ◌*◌, ◌/◌, ◌^◌, ◌<◌, ◌≤◌, [], ◌∷◌, ◌++◌, max, length, IsOk, IsErr, IsTrue, IfOk, OnOk, OnErr};
+ghost use Rattle.tce_window.specs.Answers.{gives};
 ghost use Rattle.tce_window.specs.Grant.{values_of, has_right, IsCurrent, AreNumbered};
+ghost use Rattle.tce_window.specs.Puts.{takes, takes_each, takes_all};
 
-use crate::answers::TceRow;
+use crate::answers::{GetTce, TceRow};
 use std::alloc::Global;
 use std::marker::Model;
-use vio_num::NoMemory;
+use vio_num::{NoMemory, PAGE_BYTES};
+
+/// As many values as one call puts.
+pub(crate) const MOST_PUTS: usize = 512;
 
 /// A window takes fewer values than this.
 const VALUES: usize = 1 << 31;
@@ -110,6 +115,50 @@ impl TceTable {
         ensures few { length self.now.rows + self.now.spare < 2 ^ 31 }
     {
         self.current[entry]
+    }
+
+    /// The value of the entry of this address.
+    pub fn get(&self, ioba: u64) -> GetTce
+        ensures { gives self.now.size (values_of self.now.rows) ioba result }
+    {
+        let entry = ioba / PAGE_BYTES;
+        if ioba % PAGE_BYTES != 0 || entry >= self.size() as u64 {
+            return GetTce::Parameter;
+        }
+        GetTce::Value(self.current(entry as usize).value)
+    }
+
+    /// Whether the values may be put into consecutive entries from this address on: they are at most 512, and
+    /// each is put at the address of an entry and grants nothing or a page of the window.
+    pub fn takes_all(&self, ioba: u64, list: &[u64]) -> bool
+        ensures { result ≡ takes_all self.now.size ioba list.now }
+    {
+        list.len() <= MOST_PUTS && self.takes_each(ioba, list)
+    }
+
+    // Tells whether each of the values may be put, from this address on.
+    fn takes_each(&self, ioba: u64, list: &[u64]) -> bool
+        ensures { result ≡ takes_each self.now.size ioba list.now }
+    {
+        let mut at = ioba;
+        for tce in list {
+            if !self.takes(at, *tce) {
+                return false;
+            }
+            at += PAGE_BYTES;
+        }
+        true
+    }
+
+    // Tells whether the value may be put at this address.
+    fn takes(&self, ioba: u64, tce: u64) -> bool
+        ensures takes { result ≡ takes self.now.size ioba tce }
+        ensures near { IsTrue result → ioba < 2 ^ 20 }
+    {
+        let pages = self.size() as u64;
+        ioba % PAGE_BYTES == 0
+            && ioba / PAGE_BYTES < pages
+            && (tce % 4 == 0 || tce / PAGE_BYTES < pages)
     }
 
     /// The number of entries, 1 to 256.

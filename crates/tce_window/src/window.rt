@@ -18,15 +18,12 @@ use crate::answers::{GetTce, HoldFault, NamedFault, OwnFault, Right, TceAnswer, 
 use crate::held::Held;
 use crate::piece::{MOST_PIECES, Piece};
 use crate::region::Region;
-use crate::table::TceTable;
+use crate::table::{MOST_PUTS, TceTable};
 use arrayvec::ArrayVec;
 use page_slots::{Page, Stroke, StrokeName};
 use std::alloc::Global;
 use std::marker::Model;
 use vio_num::{NoMemory, PAGE_BYTES, UnitId};
-
-/// As many values as one call puts.
-const MOST_PUTS: usize = 512;
 
 /// The word of a page that is held.
 const TAKEN: u64 = 1;
@@ -209,7 +206,7 @@ impl PlainWindow {
         ensures others { self.new ≡ record self.old
             { rows = self.new.rows; spare = self.new.spare; in_use = self.new.in_use } }
     {
-        if list.len() > MOST_PUTS || !self.takes_each(ioba, list) {
+        if !self.table.takes_all(ioba, list) {
             return TceAnswer::Parameter;
         }
         if list.is_empty() {
@@ -222,11 +219,7 @@ impl PlainWindow {
     pub fn get_tce(&self, ioba: u64) -> GetTce
         ensures { gives (length self.now.pages) (values_of self.now.rows) ioba result }
     {
-        let entry = ioba / PAGE_BYTES;
-        if ioba % PAGE_BYTES != 0 || entry >= u64::from(self.pages()) {
-            return GetTce::Parameter;
-        }
-        GetTce::Value(self.table.current(entry as usize).value)
+        self.table.get(ioba)
     }
 
     // Tells whether the entry is held.
@@ -235,31 +228,6 @@ impl PlainWindow {
         ensures { result ≡ holds self.now entry }
     {
         self.held_from <= entry && entry < self.held_from + self.held_count
-    }
-
-    // Tells whether the value may be put at this address.
-    fn takes(&self, ioba: u64, tce: u64) -> bool
-        ensures takes { result ≡ takes (length self.now.pages) ioba tce }
-        ensures near { IsTrue result → ioba < 2 ^ 20 }
-    {
-        let pages = u64::from(self.pages());
-        ioba % PAGE_BYTES == 0
-            && ioba / PAGE_BYTES < pages
-            && (tce % 4 == 0 || tce / PAGE_BYTES < pages)
-    }
-
-    // Tells whether each of the values may be put, from this address on.
-    fn takes_each(&self, ioba: u64, list: &[u64]) -> bool
-        ensures { result ≡ takes_each (length self.now.pages) ioba list.now }
-    {
-        let mut at = ioba;
-        for tce in list {
-            if !self.takes(at, *tce) {
-                return false;
-            }
-            at += PAGE_BYTES;
-        }
-        true
     }
 
     // Puts good values into the entries from `first` on, up to the first one that is held.
