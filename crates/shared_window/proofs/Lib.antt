@@ -5,5 +5,6 @@ pub mod Pins
 pub mod GivingBack
 pub mod HeldRanges
 pub mod Ports
+pub mod PuttingValues
 pub mod Refusals
 pub mod Taking

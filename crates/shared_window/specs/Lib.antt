@@ -3,5 +3,6 @@ pub mod GuestState
 pub mod Hand
 pub mod Opening
 pub mod Pinning
+pub mod Putting
 pub mod Ranges
 pub mod SharedWindow

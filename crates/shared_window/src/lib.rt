@@ -8,6 +8,7 @@ mod open;
 mod owner;
 mod pinning;
 mod placing;
+mod putting;
 mod seat;
 mod window;
 
