@@ -6,5 +6,7 @@ pub mod GivingBack
 pub mod HeldRanges
 pub mod Ports
 pub mod PuttingValues
+pub mod ReadingHand
+pub mod ReadingOver
 pub mod Refusals
 pub mod Taking

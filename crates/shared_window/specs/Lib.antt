@@ -5,4 +5,5 @@ pub mod Opening
 pub mod Pinning
 pub mod Putting
 pub mod Ranges
+pub mod Reading
 pub mod SharedWindow

@@ -9,6 +9,7 @@ mod owner;
 mod pinning;
 mod placing;
 mod putting;
+mod reading;
 mod seat;
 mod window;
 
