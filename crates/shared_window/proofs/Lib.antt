@@ -10,3 +10,4 @@ pub mod ReadingHand
 pub mod ReadingOver
 pub mod Refusals
 pub mod Taking
+pub mod WritingHand

@@ -100,6 +100,8 @@ pub takes_range : (w : SharedWindowValue) (old new : WindowSeatValue) (at len : 
     → TakesPages w.pages old.pages (on_page pieces) new.pages new.region → new.entries ≡ old.entries → new.in_use ≡ old.in_use → TakesRange w old at len pieces new
 takes_range w old new at len pieces inside near lie took entries counts = record {
   inside = inside;
+  some = some_in w.pages.count at len inside;
+  few = few_in w.pages.count at len inside;
   near = near;
   lie = lie;
   takes = takes_same w.pages old.pages new.pages (on_page pieces) (touches at len) new.region (λ p. over_touches at len pieces p lie (some_in w.pages.count at len inside)) took;
@@ -135,17 +137,16 @@ module _ (w : SharedWindowValue) (old mid : WindowSeatValue) (at len : ℕ) (pie
         ∙ (ap Some (back_seen w.pages old.pages mid.pages new.pages (touches at len) mid.region t.takes gives p)
         ∙ sym (t.takes.here p ∙ ap (λ (b : Bool). if b then Some (saw mid.pages p) else None) on))
 
+    pub back_there : (p : ℕ) → touches at len p ≡ true → IsSome (strokes_known w.pages.count new.pages p)
+    back_there p on = subst IsSome (sym (back_known p on)) (ap is_some (t.takes.here p) ∙ (some_when (touches at len p) (saw mid.pages p) ∙ on))
+
     pub reads_own : (out : List ℕ) → length out ≡ len → ((k : ℕ) → k < length out → slice_index out k ≡ region_byte (strokes_at mid.region) (at + k)) → ReadsOwn w old at out new
     reads_own out size bytes = record {
       reads = λ ls. record {
         inside = subst (λ n. in_region w.pages.count at n ≡ true) (sym size) t.inside;
-        there = λ p low high. subst IsSome (sym (back_known p (is_touched at len p low (subst (λ n. p < end_page at n) size high))))
-            (there_of p (is_touched at len p low (subst (λ n. p < end_page at n) size high)));
+        there = λ p low high. back_there p (is_touched at len p low (subst (λ n. p < end_page at n) size high));
         bytes = λ k less. bytes k less ∙ ap (λ x. byte_in x ((at + k) % 4096)) (sym (back_known ((at + k) / 4096) (is_touched at len ((at + k) / 4096) (omega arith) (omega (arith, less, size)))));
       };
       only = back_only;
       in_use = counts ∙ t.in_use;
     }
-      where
-        there_of : (p : ℕ) → touches at len p ≡ true → IsSome (strokes_at mid.region p)
-        there_of p on = ap is_some (t.takes.here p) ∙ (some_when (touches at len p) (saw mid.pages p) ∙ on)

@@ -7,3 +7,4 @@ pub mod Putting
 pub mod Ranges
 pub mod Reading
 pub mod SharedWindow
+pub mod Writing

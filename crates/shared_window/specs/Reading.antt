@@ -64,6 +64,8 @@ RefusesNamed window old name at len new (Stale page found) = FindsStaleAt window
 -- The pages that the range touches are in the hand, each with all that the seat now knows of it.
 pub record TakesRange (window : SharedWindowValue) (old : WindowSeatValue) (at len : ℕ) (pieces : List Piece) (new : WindowSeatValue) : Type 0 where
   pub inside : IsTrue (in_region window.pages.count at len)
+  pub some : 1 ≤ len
+  pub few : len ≤ 65536
   pub near : at + len ≤ 2 ^ 20
   pub lie : LieOver at (at + len) pieces
   pub takes : TakesPages window.pages old.pages (touches at len) new.pages new.region

@@ -12,6 +12,7 @@ mod putting;
 mod reading;
 mod seat;
 mod window;
+mod writing;
 
 pub use guest::{Guest, SharedGuest};
 pub use open::Opened;
