@@ -1,4 +1,5 @@
 pub mod Giving
+pub mod NamedHand
 pub mod Nearest
 pub mod NewSeats
 pub mod Pins

@@ -3,6 +3,7 @@ use Rattle.std.specs.Prelude.{◌≡◌, ℕ, ◌+◌, ◌%◌, ◌^◌, ◌≤�
 use Rattle.std.specs.Borrow.{GName}
 use Rattle.vio_num.specs.Counts.{Rose}
 use Rattle.vio_num.specs.Words.{ReadsWord}
+use Rattle.page_slots.specs.Stroke.{StrokeValue}
 use Rattle.page_slots.specs.declared.stroke.StrokeName.{StrokeName}
 use Rattle.tce_window.specs.declared.answers.NamedFault.{NamedFault}
 use Rattle.tce_window.specs.declared.answers.NamedFault.TheVariants.{Range as NamedRange, InUse as NamedInUse, Stale}
@@ -10,7 +11,7 @@ use Rattle.tce_window.specs.declared.answers.OwnFault.{OwnFault}
 use Rattle.tce_window.specs.declared.answers.OwnFault.TheVariants.{Range, InUse, NoMemory}
 use Rattle.tce_window.specs.declared.piece.Piece.{Piece}
 use Rattle.tce_window.specs.Laying.{LieOver}
-use Rattle.tce_window.specs.Named.{AreFresh}
+use Rattle.tce_window.specs.Named.{AreFresh, IsFirstStale}
 use Rattle.tce_window.specs.PortState.{Reads, FindsInUse, FindsStale, OnlyReads}
 use Rattle.tce_window.specs.Region.{in_region, touches, first_page, end_page}
 use Rattle.shared_window.specs.Hand.{TakesPages}
@@ -48,6 +49,11 @@ RefusesRead window old at len new NoMemory = ⊥
 -- on each page of the range the last strokes that are known are of this name and cover it
 abbrev pub AreFreshAt : SharedWindowValue → StrokeName → (at len : ℕ) → WindowSeatValue → Type 0
 AreFreshAt window name at len new = AreFresh name at len (strokes_known window.pages.count new.pages) (first_page at) (end_page at len)
+
+-- such a page is the first of the range, in these strokes, and is all that is refused
+abbrev pub IsStaleIn : StrokeName → (at len : ℕ) → (ℕ → Option (List StrokeValue)) → NamedFault → Type 0
+IsStaleIn name at len strokes (Stale page found) = IsFirstStale name at len strokes (first_page at) (end_page at len) page found
+IsStaleIn name at len strokes _ = ⊥
 
 -- A page of the range is the first on which they are not, and the last stroke of another name there has this one.
 pub record FindsStaleAt (window : SharedWindowValue) (old : WindowSeatValue) (name : StrokeName) (at len : ℕ) (new : WindowSeatValue) (page : ℕ) (found : Option StrokeName) : Type 0 where

@@ -4,6 +4,7 @@
 
 mod guest;
 mod hand;
+mod named;
 mod open;
 mod owner;
 mod pinning;

@@ -41,13 +41,7 @@ impl Window {
     /// Writes the bytes over the region from the address on, 1 to 65,536 of them: one stroke on each page
     /// that they touch, named by the unit and the mark. Where it refuses, it lays no stroke. A page that the
     /// owner itself holds is in use.
-    pub fn write(
-        &self,
-        owner: &mut Owner,
-        at: u64,
-        bytes: &[u8],
-        mark: u64,
-    ) -> Result<(), OwnFault>
+    pub fn write(&self, owner: &mut Owner, at: u64, bytes: &[u8], mark: u64) -> Result<(), OwnFault>
         requires at { IsOwnerAt self.now owner.old }
         ensures at { IsOwnerAt self.now owner.new }
         ensures ok { OnOk result

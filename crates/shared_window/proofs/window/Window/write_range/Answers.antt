@@ -1,15 +1,13 @@
 -- The bytes are written on the pages in the hand, if there is memory, and the pages are given back.
-use Rattle.std.proofs.Common.{rules, ◌≡◌, ℕ, ◌<◌, All, List, is_some, length, subst, sym, ap, ◌∙◌}
-use Rattle.std.specs.Prelude.{Err, IfErr}
+use Rattle.std.proofs.Common.{rules, ◌≡◌, ℕ, ◌<◌, All, List, length, subst, sym, ap, ◌∙◌}
+use Rattle.std.specs.Prelude.{Err}
 use Rattle.tce_window.specs.declared.answers.OwnFault.TheVariants.{NoMemory}
 use Rattle.tce_window.specs.declared.piece.Piece.{Piece}
 use Rattle.tce_window.specs.Pieces.{on_page}
-use Rattle.tce_window.specs.Port.{Grows}
 use Rattle.tce_window.specs.Region.{written}
 use Rattle.tce_window.specs.Window.{strokes_at}
 use Rattle.shared_window.specs.Reading.{TakesRange}
 use Rattle.shared_window.specs.SharedWindow.{SharedWindowValue, WindowSeatValue}
-use Rattle.shared_window.specs.Writing.{RefusesWrite}
 use Rattle.shared_window.proofs.ReadingHand.{taken_within}
 use Rattle.shared_window.proofs.WritingHand.{after_write, written_in_hand, written_there, lacks_memory, writes_own}
 use Rattle.shared_window.proofs.window.Window.write_range.Goals as goal
@@ -46,7 +44,7 @@ returns-in_err-answer-clause-err c =
     let t : TakesRange c.args.self.now c.args.seat.now c.args.at (length c.args.bytes.now) pieces mid = subst (TakesRange c.args.self.now c.args.seat.now c.args.at (length c.args.bytes.now) pieces) (sym c.seat.view_is) c.in_ok-pieces.ensures.ok in
     let rest = c.give_taken.ensures.rest in
     let lacks = lacks_memory c.args.self.now c.args.seat.now mid c.give_taken.new.seat c.args.at (length c.args.bytes.now) pieces t c.requires.at c.write-answer.new.self c.in_err-answer.ensures.err
-        c.give_taken.ensures.given c.give_taken.ensures.empty (ap (λ (s : WindowSeatValue). s.entries) rest) (ap (λ (s : WindowSeatValue). s.in_use) rest) in
+    c.give_taken.ensures.given c.give_taken.ensures.empty (ap (λ (s : WindowSeatValue). s.entries) rest) (ap (λ (s : WindowSeatValue). s.in_use) rest) in
     let same : c.from_residual-in_err-answer.result ≡ Err NoMemory = search rules in
     rw same lacks
 
@@ -57,6 +55,6 @@ returns-clause-ok c =
     let t : TakesRange c.args.self.now c.args.seat.now c.args.at (length c.args.bytes.now) pieces mid = subst (TakesRange c.args.self.now c.args.seat.now c.args.at (length c.args.bytes.now) pieces) (sym c.seat.view_is) c.in_ok-pieces.ensures.ok in
     let rest = c.give_taken.ensures.rest in
     let wrote : (p : ℕ) → strokes_at c.write-answer.new.self p ≡ written (record { who = c.args.self.now.unit; mark = c.args.mark }) c.args.at c.args.bytes.now p (strokes_at mid.region p) =
-        λ p. c.in_ok-answer.ensures.strokes p ∙ ap (λ (z : SharedWindowValue). written (record { who = z.unit; mark = c.args.mark }) c.args.at c.args.bytes.now p (strokes_at mid.region p)) c.self.view_is in
+    λ p. c.in_ok-answer.ensures.strokes p ∙ ap (λ (z : SharedWindowValue). written (record { who = z.unit; mark = c.args.mark }) c.args.at c.args.bytes.now p (strokes_at mid.region p)) c.self.view_is in
     writes_own c.args.self.now c.args.seat.now mid c.give_taken.new.seat c.args.at c.args.bytes.now c.args.mark pieces t c.requires.at c.write-answer.new.self wrote
     c.give_taken.ensures.given c.give_taken.ensures.empty (ap (λ (s : WindowSeatValue). s.entries) rest) (ap (λ (s : WindowSeatValue). s.in_use) rest)
