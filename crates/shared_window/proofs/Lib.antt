@@ -5,6 +5,7 @@ pub mod NewSeats
 pub mod Pins
 pub mod GivingBack
 pub mod HeldRanges
+pub mod OwnerPorts
 pub mod Ports
 pub mod PuttingValues
 pub mod ReadingHand

@@ -1,17 +1,20 @@
 -- Values that the owner puts one after another into entries without pins.
-use Rattle.std.proofs.Common.{◌≡◌, ℕ, ◌+◌, ◌<◌, ◌≤◌, ◌==◌, not, List, [], filter, length, take, get_or, refl, sym, ap, ◌∙◌, subst, arith}
+use Rattle.std.proofs.Common.{◌≡◌, ℕ, ◌+◌, ◌/◌, ◌<◌, ◌≤◌, ◌==◌, not, List, ◌++◌, filter, length, take, get_or, refl, sym, ap, ◌∙◌, subst, arith}
+use Rattle.std.specs.Borrow.{GName}
 use Rattle.std.proofs.lemmas.List.{length-map, length-take-le}
 use Rattle.std.proofs.lemmas.List.Filters.{length-filter_both}
 use Rattle.tce_window.specs.declared.answers.TceRow.{TceRow}
 use Rattle.tce_window.specs.declared.answers.TceAnswer.{TceAnswer}
-use Rattle.tce_window.specs.declared.answers.TceAnswer.TheVariants.{Parameter, Busy}
 use Rattle.tce_window.specs.Grant.{values_of}
+use Rattle.tce_window.specs.PortState.{Puts}
+use Rattle.tce_window.specs.Puts.{put_into, put_by}
 use Rattle.tce_window.specs.Table.{TableValue}
 use Rattle.tce_window.proofs.Values.{values_of-other}
-use Rattle.tce_window.proofs.Putting.{rows_next}
-use Rattle.entry_slots.specs.Entries.{EntriesValue, EntrySeatValue, IsPinned, ShowsLast}
-use Rattle.entry_slots.specs.Words.{pins_in}
-use Rattle.shared_window.specs.Putting.{IsTableOf, PutsUpTo, PutsValue, MeetsWord, PutsEach}
+use Rattle.tce_window.proofs.Putting.{rows_next, values_told}
+use Rattle.entry_slots.specs.Entries.{EntriesValue, EntrySeatValue, IsPinned}
+use Rattle.shared_window.specs.Opening.{OwnerValue, IsOwnerAt}
+use Rattle.shared_window.specs.Putting.{IsTableOf, PutsUpTo, PutsValue, PutsList}
+use Rattle.shared_window.specs.SharedWindow.{SharedWindowValue, port_of}
 
 -- an entry has at most one value more than were put
 pub few_values : (rows : List TceRow) (e : ℕ) → length (values_of rows e) ≤ length rows + 1
@@ -28,17 +31,6 @@ table_stays entries old new before after entry value t p = record {
   owns = ap (λ s. s.owns) p.rest ∙ t.owns;
   size = p.size ∙ t.size;
   rows = sym (ap (λ s. s.rows) p.rest);
-}
-
--- nothing was put yet
-pub none_put : (old : EntrySeatValue) (before : TableValue) (first : ℕ) → before.rows ≡ old.rows → PutsUpTo old before first [] old before
-none_put old before first same = record {
-  rows = refl;
-  held = λ e h. refl;
-  spare = omega arith;
-  size = refl;
-  read = omega arith;
-  rest = ap (λ rs. record old { rows = rs }) (sym same);
 }
 
 module _ (old seat new : EntrySeatValue) (before table : TableValue) (first at : ℕ) (list : List ℕ) (less : at < length list) (up : PutsUpTo old before first (take at list) seat table) where
@@ -60,29 +52,11 @@ module _ (old seat new : EntrySeatValue) (before table : TableValue) (first at :
         rest = p.rest ∙ ap (λ (s : EntrySeatValue). record s { rows = after.rows; last = new.last }) up.rest;
       }
 
-  abbrev IsGood : TceAnswer → Type 0
-  IsGood Parameter = ⊥
-  IsGood _ = Unit {0}
-
-  -- the next entry has pins
-  pub stops : (entry pins word : ℕ) → entry ≡ first + at → pins ≡ pins_in word → MeetsWord seat entry word new → PutsEach old before first list (Busy entry pins at) new table
-  stops entry pins word place is m =
-      let pinned = m.pinned in let a = up.read in let b = m.read.read in
-      record {
-        good = λ e. subst IsGood e tt;
-        busy = record {
-          busy = record { place = place; below = less; pinned = omega (arith, pinned, is) };
-          word = word;
-          read = record { read = omega (arith, a, b); word_is = m.read.word_is };
-          pins_are = sym is;
-          shows = subst (λ rs. ShowsLast rs entry word) (sym (ap (λ s. s.rows) m.rest)) m.shows;
-        };
-        puts = record {
-          rows = up.rows;
-          held = up.held;
-          spare = up.spare;
-          size = up.size;
-          read = omega (arith, a, b);
-          rest = m.rest ∙ ap (λ (s : EntrySeatValue). record s { last = new.last }) up.rest;
-        };
-      }
+-- what the owner put, as a port through any borrows
+pub puts_port : (w : SharedWindowValue) (old new : OwnerValue) (ioba : ℕ) (list : List ℕ) (ls : List GName) (answer : TceAnswer) → IsOwnerAt w old → IsOwnerAt w new → PutsList w old ioba list answer new
+    → Puts (port_of ls w old.seat) ioba (put_by answer list) (port_of ls w new.seat)
+puts_port w old new ioba list ls answer was is p = record {
+  values = λ e. ap (λ rows. values_of rows e) (sym is.rows)
+      ∙ (values_told new.rows old.rows (ioba / 4096) (put_by answer list) e p.rows ∙ ap (λ rows. values_of rows e ++ put_into (ioba / 4096) (put_by answer list) e) was.rows);
+  held = λ e h. ap (λ rows. values_of rows e) (sym is.rows) ∙ (p.held e h ∙ ap (λ rows. values_of rows e) was.rows);
+}

@@ -2,6 +2,7 @@ pub mod Counting
 pub mod GuestState
 pub mod Hand
 pub mod Opening
+pub mod OwnerState
 pub mod Pinning
 pub mod Putting
 pub mod Ranges

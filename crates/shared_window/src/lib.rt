@@ -17,5 +17,5 @@ mod writing;
 
 pub use guest::{Guest, SharedGuest};
 pub use open::Opened;
-pub use owner::Owner;
+pub use owner::{Owner, SharedOwner};
 pub use window::Window;
