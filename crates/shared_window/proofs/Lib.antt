@@ -1,9 +1,12 @@
+pub mod Closings
 pub mod Giving
-pub mod Nearest
-pub mod NewSeats
-pub mod Pins
 pub mod GivingBack
 pub mod HeldRanges
+pub mod Homing
+pub mod Nearest
+pub mod NewSeats
+pub mod Partings
+pub mod Pins
 pub mod Ports
 pub mod Refusals
 pub mod Taking

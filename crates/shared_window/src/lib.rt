@@ -2,15 +2,18 @@
 // by turns, its entries by pins.
 #![tactic(auto)]
 
+mod close;
 mod guest;
 mod hand;
 mod open;
 mod owner;
+mod parting;
 mod pinning;
 mod placing;
 mod seat;
 mod window;
 
+pub use close::WindowBack;
 pub use guest::{Guest, SharedGuest};
 pub use open::Opened;
 pub use owner::Owner;
