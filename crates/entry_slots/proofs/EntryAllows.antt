@@ -1,5 +1,5 @@
 -- What each kind of step on an entry's word tells the seat that makes it, from any state that meets the rule.
-use Rattle.std.proofs.Common.{◌≡◌, ◌≢◌, ℕ, ◌+◌, ◌/◌, ◌%◌, ◌-◌, ◌<◌, ◌≤◌, true, IsTrue, List, [], ◌∷◌, ◌++◌, length, get_or, set, sym, refl, ap, ◌∙◌, subst, inl, inr, arith, eqb, eq-eqb, ne_eqb, append-nil, length-append, Some, slice_get}
+use Rattle.std.proofs.Common.{◌≡◌, ◌≢◌, ℕ, ◌+◌, ◌/◌, ◌%◌, ◌-◌, ◌<◌, ◌≤◌, true, IsTrue, List, [], ◌∷◌, ◌++◌, length, get_or, set, sym, refl, ap, ◌∙◌, subst, inl, inr, arith, ⊎_elim, eqb, eq-eqb, ne_eqb, append-nil, length-append, Some, slice_get}
 use Rattle.std.specs.List.{All}
 use Rattle.std.proofs.lemmas.List.Elements.{All-weaker, All-push}
 use Rattle.std.proofs.lemmas.Option.{slice_get_read}
@@ -19,7 +19,7 @@ use Rattle.entry_slots.specs.EntryRule.{pins_at, pins_on, Shows, KnowsEntries, I
 use Rattle.entry_slots.specs.EntrySteps.{reading, pinning, unpinning, putting, pinned, unpinned, exchanged, IsWordOf}
 use Rattle.tce_window.specs.declared.answers.TceRow.{TceRow}
 use Rattle.entry_slots.specs.declared.view.EntryView.{EntryView}
-use Rattle.entry_slots.proofs.EntryPins.{pins_set, pins_few, shares_set, own_pins, pins_once, Continues, pinning_here, pinning_else, unpinning_here, unpinning_else}
+use Rattle.entry_slots.proofs.EntryPins.{pins_set, pins_few, shares_set, own_pins, pins_once, pins_tell, Continues, pinning_here, pinning_else, unpinning_here, unpinning_else}
 use Rattle.entry_slots.proofs.EntryKeeps.{Table, seats_stay, all_pins, moved}
 use Rattle.tce_window.proofs.Values.{values_of-own, values_of-other}
 use Rattle.entry_slots.proofs.EntryWords.{shown_pins, shown_code, shown_version, one_more, one_less}
@@ -176,6 +176,12 @@ module _ (n seats id : ℕ) (v : EntryView) where
       none_on hit = let sh = r.each_word e inside in
           sym (shown_pins (pins_on e s.views) (code_of sh.value) sh.version pins_fit) ∙ (ap pins_in (sym sh.word_is ∙ hit) ∙ shown_pins 0 (code_of value) version (omega arith))
 
+      -- so this seat does not hold the entry
+      not_mine : get_or s.words e 0 ≡ before → ¬ ((v.held_from ≤ e) × (e < v.held_from + v.held_count))
+      not_mine hit mine = let p : ℕ = pins_on e s.views in let a : ℕ = pins_at v e in
+          let none : p ≡ 0 = none_on hit in let own : a ≤ p = own_pins e s.views id v at in
+          ⊎_elim (λ t. let one : a ≡ 1 = t.0 in omega (arith, none, own, one)) (λ t. let low = mine.0 in let high = mine.1 in ⊎_elim (λ b. omega (arith, low, b)) (λ b. omega (arith, high, b)) t.1) (pins_tell v e)
+
       -- the word has no pins: the value is put
       puts : get_or s.words e 0 ≡ before → InEntries n seats record { words = set s.words e after; homes = s.homes; views = set s.views id (putting v row) }
       puts hit = let w : EntryView = putting v row in let old = r.each_seat id v at in let known = old.owner_is owner in let rows' : List TceRow = r.rows ++ row ∷ [] in let p : ℕ = pins_on e s.views in let vs : List EntryView = set s.views id w in
@@ -244,7 +250,7 @@ module _ (n seats id : ℕ) (v : EntryView) where
           keeps,
           tt,
           subst (λ b. InEntries n seats record { words = set s.words e (either b after word); homes = s.homes; views = set s.views id (putting v row) }) (sym (eq-eqb word before hit)) (puts s r at hit),
-          inl (hit, (row, refl, record { version = sym next ∙ sym (last_is s r at hit); after = refl })),
+          inl (hit, (row, refl, record { version = sym next ∙ sym (last_is s r at hit); free = not_mine s r at hit; after = refl })),
         ))
         (λ miss. (
           reading v word,

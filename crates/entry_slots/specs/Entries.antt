@@ -69,9 +69,10 @@ pub record Releases (old : EntrySeatValue) (word : ℕ) (new : EntrySeatValue) :
   pub shows : ShowsLast old.rows old.held_from word
   pub rest : new ≡ record old { held_from = old.held_from + 1; held_count = old.held_count - 1; released = old.released ++ word ∷ [] }
 
--- The value is put, as the next of its entry.
+-- The value is put, as the next of its entry, which this seat does not hold.
 pub record PutsRow (old : EntrySeatValue) (row : TceRow) (new : EntrySeatValue) : Type 0 where
   pub version : row.version ≡ length (values_of old.rows row.entry)
+  pub free : ¬ IsPinned old row.entry
   pub read : old.last.count < new.last.count
   pub rest : new ≡ record old { rows = old.rows ++ row ∷ []; last = new.last }
 

@@ -1,5 +1,5 @@
 -- What each kind of step on an entry's word tells the seat that makes it.
-use Rattle.std.specs.Prelude.{◌≡◌, ℕ, ◌+◌, ◌-◌, ◌<◌, ◌⊎◌, ◌==◌, if◌then◌else◌, List, [], ◌∷◌, ◌++◌, length}
+use Rattle.std.specs.Prelude.{◌≡◌, ℕ, ◌+◌, ◌-◌, ◌<◌, ◌≤◌, ◌⊎◌, ◌==◌, if◌then◌else◌, List, [], ◌∷◌, ◌++◌, length}
 use mathlib.Core.Option.{some}
 use Rattle.atomic_table.specs.Table.{Me, Step}
 use Rattle.vio_num.specs.Words.{Begins}
@@ -68,9 +68,10 @@ pub record Unpins (e : ℕ) (m : Seated) (word : ℕ) (m' : Seated) : Type 0 whe
 abbrev pub unpinned : Step TceRow → Seated → ℕ → Seated → Type 0
 unpinned st m word m' = Unpins st.word m word m'
 
--- The value that was said is put, as the next of its entry.
+-- The value that was said is put, as the next of its entry, which the seat does not hold.
 pub record Puts (e : ℕ) (row : TceRow) (m m' : Seated) : Type 0 where
   pub version : row.version ≡ length (values_of m.0.rows e)
+  pub free : ¬ ((m.0.held_from ≤ e) × (e < m.0.held_from + m.0.held_count))
   pub after : m' ≡ (putting m.0 row, m.1)
 
 -- The word that was read is another than the one that was to be replaced.

@@ -1,7 +1,7 @@
 -- Pages of a shared window in the hand of a seat: they stand in a region of its own while it has them.
 use Rattle.std.specs.Prelude.{◌≡◌, ℕ, ◌-◌, ◌%◌, ◌<◌, ◌≤◌, ◌==◌, ◌&&◌, nat_lt, if◌then◌else◌, Bool, true, false, List, ◌++◌, Option, Some, None, IsSome, length}
 use Rattle.vio_num.specs.Words.{Begins}
-use Rattle.page_slots.specs.Page.{PageValue}
+use Rattle.page_slots.specs.Page.{PageValue, AreWithinPage}
 use Rattle.page_slots.specs.Stroke.{StrokeValue}
 use Rattle.page_slots.specs.Seats.{PagesValue, PageSeatValue, saw, holds, laid_on, places_from}
 use Rattle.page_slots.specs.Turns.{GivesPage}
@@ -15,6 +15,10 @@ use Rattle.shared_window.specs.declared.hand.FoundInUse.{FoundInUse}
 abbrev pub BeginsIn : List StrokeValue → Option (List StrokeValue) → Type 0
 BeginsIn front (Some strokes) = Begins front strokes
 BeginsIn front None = Unit {0}
+
+-- each stroke that the seat saw lies within its page
+abbrev pub SawWithin : PageSeatValue → Type 0
+SawWithin seat = (p : ℕ) → AreWithinPage (saw seat p)
 
 -- whether one of the pieces lies on page p, which is below this number
 abbrev pub is_below : List Piece → (to p : ℕ) → Bool

@@ -3,6 +3,7 @@ use Rattle.std.specs.Prelude.{◌≡◌, ℕ, ◌+◌, true, All, List, [], leng
 use Rattle.vio_num.specs.declared.names.UnitId.{UnitId}
 use Rattle.page_slots.specs.Seats.{saw, laid_on}
 use Rattle.tce_window.specs.declared.answers.TceRow.{TceRow}
+use Rattle.shared_window.specs.Hand.{SawWithin}
 use Rattle.shared_window.specs.SharedWindow.{SharedWindowValue, WindowSeatValue, IsSeatAt}
 
 pub record OwnerValue : Type 0 where
@@ -12,12 +13,13 @@ pub record OwnerValue : Type 0 where
   pub rows : List TceRow
   pub spare : ℕ
 
--- The owner is that of this window, and knows all values that were put.
+-- The owner is that of this window, and knows all values that were put; what it saw of each page lies within it.
 pub record IsOwnerAt (window : SharedWindowValue) (owner : OwnerValue) : Type 0 where
   pub at : IsSeatAt window owner.seat
   pub owns : owner.seat.entries.owns ≡ true
   pub size : owner.size ≡ window.pages.count
   pub rows : owner.rows ≡ owner.seat.entries.rows
+  pub within : SawWithin owner.seat.pages
 
 -- A seat that made no call: it knows no value that was put and no stroke, and holds nothing.
 pub record IsNewSeat (window : SharedWindowValue) (seat : WindowSeatValue) : Type 0 where

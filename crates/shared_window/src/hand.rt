@@ -3,7 +3,7 @@ ghost use Rattle.std.specs.Prelude.{◌≡◌, ℕ, ◌<◌, ◌≤◌, ◌&&◌
 ghost use Rattle.page_slots.specs.Seats.{holds};
 ghost use Rattle.tce_window.specs.Pieces.{on_page};
 ghost use Rattle.tce_window.specs.Window.{strokes_at};
-ghost use Rattle.shared_window.specs.Hand.{is_below, IsNextOn, IsEmptyFor, TakesPages, FindsOneInUse, HasInHand, GivesHand};
+ghost use Rattle.shared_window.specs.Hand.{is_below, IsNextOn, IsEmptyFor, TakesPages, FindsOneInUse, HasInHand, GivesHand, SawWithin};
 ghost use Rattle.shared_window.specs.Hand.{IsOnePage, TakesOne, FindsOne, GivesOne};
 
 use page_slots::{PageSeat, Pages, Take};
@@ -55,9 +55,11 @@ fn take_page(
     ensures ok { OnOk result (TakesOne seat.old region.old number seat.new region.new) }
     ensures err { IfErr result (λ found. FindsOne seat.old number found seat.new) }
     ensures same { OnErr result (region.new ≡ region.old) }
+    ensures within { SawWithin seat.old → SawWithin seat.new }
 {
     match pages.take(seat, number) {
         Take::Taken(page) => {
+            let _strokes = page.strokes();
             region.put_page(number, page);
             Ok(())
         }
@@ -79,6 +81,7 @@ pub(crate) fn take_pages(
         (TakesPages pages.now seat.old (on_page pieces.now) seat.new region.new) }
     ensures err { IfErr result (λ found.
         FindsOneInUse pages.now seat.old pieces.now found seat.new region.new) }
+    ensures within { SawWithin seat.old → SawWithin seat.new }
 {
     let to = u32::from(pages.count());
     let mut from = 0;
@@ -96,9 +99,11 @@ pub(crate) fn take_pages(
 fn give_page(pages: &Pages, seat: &mut PageSeat, region: &mut Region, number: u16)
     requires hand { HasInHand pages.now seat.old region.old }
     requires there { is_some (strokes_at region.old number) ≡ true }
-    ensures { GivesOne seat.old region.old number seat.new region.new }
+    ensures gives { GivesOne seat.old region.old number seat.new region.new }
+    ensures within { SawWithin seat.old → SawWithin seat.new }
 {
     let page = region.take_page(number);
+    let _strokes = page.strokes();
     pages.give(seat, number, page);
 }
 
@@ -109,6 +114,7 @@ fn give_below(pages: &Pages, seat: &mut PageSeat, region: &mut Region, pieces: &
     requires near { to ≤ 65536 }
     ensures given { GivesHand seat.old (strokes_at region.old) seat.new }
     ensures empty { IsEmptyFor pages.now region.new }
+    ensures within { SawWithin seat.old → SawWithin seat.new }
 {
     let mut from = 0;
     while let Some(number) = next_page(pieces, from, to) {
@@ -124,6 +130,7 @@ pub(crate) fn give_pages(pages: &Pages, seat: &mut PageSeat, region: &mut Region
     requires within { All (λ piece. piece.page < pages.now.count) pieces.now }
     ensures given { GivesHand seat.old (strokes_at region.old) seat.new }
     ensures empty { IsEmptyFor pages.now region.new }
+    ensures within { SawWithin seat.old → SawWithin seat.new }
 {
     give_below(pages, seat, region, pieces, u32::from(pages.count()));
 }

@@ -1,6 +1,7 @@
 // A window that an owner and guests in several threads share (LoPAR, "Translation Control Entry"): its pages
 // by turns, its entries by pins. No call takes a lock.
 ghost use Rattle.std.specs.Prelude.{◌≡◌, ◌≤◌, IfOk, IfErr, length};
+ghost use Rattle.shared_window.specs.Hand.{SawWithin};
 ghost use Rattle.shared_window.specs.Pinning.{Releases};
 ghost use Rattle.shared_window.specs.SharedWindow.{IsSeatAt, IsOutWith};
 ghost use Rattle.shared_window.specs.Ranges.{HoldsRange, RefusesHold, GivesRange};
@@ -57,6 +58,7 @@ impl Window {
         ensures at { IsSeatAt self.now seat.new }
         ensures ok { IfOk result (HoldsRange self.now seat.old ioba len right seat.new) }
         ensures err { IfErr result (RefusesHold self.now seat.old ioba len right seat.new) }
+        ensures within { SawWithin seat.old.pages → SawWithin seat.new.pages }
     {
         let pieces = pin_range(
             &self.entries,
@@ -94,6 +96,7 @@ impl Window {
         ensures at { IsSeatAt self.now seat.new }
         ensures gives { GivesRange self.now seat.old held seat.new }
         ensures kept { Releases seat.old.entries (length held.pieces) seat.new.entries }
+        ensures within { SawWithin seat.old.pages → SawWithin seat.new.pages }
     {
         let pieces = unplaced_pieces(held.pieces());
         seat.region.put(held.into_pages());

@@ -46,6 +46,7 @@ loop-number-preserved c =
           (takes_more c.args.pages.now c.args.seat.now c.loop-number.seat c.take_page.new.seat (is_below c.args.pieces.now c.loop-number.from) (is_below c.args.pieces.now (n + 1)) c.loop-number.region c.take_page.new.region n
           (next_below c.args.pieces.now c.loop-number.from c.from-to.result n first) c.loop-number.invariant.took one);
       near = search rules;
+      within = λ w. c.take_page.ensures.within (c.loop-number.invariant.within w);
     }
 
 pub returns-clause-ok : goal.returns-clause-ok

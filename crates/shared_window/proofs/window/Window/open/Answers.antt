@@ -1,5 +1,6 @@
 -- Each seat is new.
-use Rattle.std.proofs.Common.{rules, ◌≡◌, List, [], ◌∷◌, ◌++◌, refl, sym, ap, ◌∙◌}
+use Rattle.std.proofs.Common.{rules, ◌≡◌, List, [], ◌∷◌, ◌++◌, refl, sym, ap, subst, ◌∙◌}
+use Rattle.page_slots.specs.Page.{AreWithinPage}
 use Rattle.page_slots.specs.Seats.{PageSeatValue}
 use Rattle.page_slots.specs.Turns.{IsFresh}
 use Rattle.shared_window.specs.Opening.{IsNewSeat}
@@ -34,6 +35,7 @@ returns c =
         owns = ap (λ s. s.entries.owns) c.in_ok-new_seat.ensures ∙ e.owns;
         size = ap (λ t. t.size) table ∙ sym count;
         rows = ap (λ t. t.rows) table ∙ sym new.rows;
+        within = λ p. subst AreWithinPage (sym (new.seen p)) tt;
       };
       owner_new = new;
       none_spare = ap (λ t. t.spare) table;
