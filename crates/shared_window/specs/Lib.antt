@@ -5,4 +5,5 @@ pub mod Hand
 pub mod Opening
 pub mod Pinning
 pub mod Ranges
+pub mod SharedOwnState
 pub mod SharedWindow

@@ -11,10 +11,12 @@ mod parting;
 mod pinning;
 mod placing;
 mod seat;
+mod shared_own;
 mod window;
 
 pub use close::WindowBack;
 pub use guest::{Guest, SharedGuest};
 pub use open::Opened;
 pub use owner::Owner;
+pub use shared_own::SharedOwn;
 pub use window::Window;
