@@ -8,5 +8,8 @@ pub mod NewSeats
 pub mod Partings
 pub mod Pins
 pub mod Ports
+pub mod PuttingValues
+pub mod ReadingHand
+pub mod ReadingOver
 pub mod Refusals
 pub mod Taking

@@ -84,7 +84,7 @@ module _ (w : SharedWindowValue) (old new : WindowSeatValue) (mid : EntrySeatVal
   refuses_use rose = let left = rel.left in let held = pin.pins.count_is in record {
     cause = subst (λ (rows : List TceRow). IsRefused (values_of rows) right w.pages.count ioba len (InUse found.page found.word)) (sym rel.rows)
         (page_within w.pages.count pieces found.page (subst (λ n. All (λ piece. piece.page < n) pieces) size pin.pages) f.on, of_range, subst (λ n. IsUsable (values_of mid.rows) right n ioba len) size pin.usable);
-    found = f.word;
+    found = f.read.word_is;
     none = λ ls. record { free = omega (arith, left, held); strokes = λ p. knows_more w.pages.count old.pages new.pages p (f.held p) (f.seen p) };
     laid = λ ls _ p. f.laid p;
     rest = λ ls. record { place = refl; values = λ i. values_begin old.entries.rows new.entries.rows i (subst (Begins old.entries.rows) (sym rel.rows) pin.pins.known); in_use = rose_less old.in_use new.in_use rose };

@@ -10,7 +10,8 @@ use Rattle.page_slots.specs.Seats.{PagesValue, PageSeatValue, saw, holds, laid_o
 use Rattle.tce_window.specs.declared.piece.Piece.{Piece}
 use Rattle.tce_window.specs.Pieces.{on_page}
 use Rattle.tce_window.specs.Window.{strokes_at}
-use Rattle.shared_window.specs.Hand.{is_below, IsFirstOn, IsEmptyFor, TakesPages, TakesOne, GivesHand, HasInHand, given, released, places_behind, BeginsIn}
+use Rattle.shared_window.specs.declared.hand.FoundInUse.{FoundInUse}
+use Rattle.shared_window.specs.Hand.{is_below, IsFirstOn, IsEmptyFor, TakesPages, TakesOne, FindsOne, GivesHand, HasInHand, given, released, places_behind, BeginsIn}
 use Rattle.tce_window.proofs.Holding.{page_within}
 use Rattle.shared_window.proofs.Nearest.{below_is, below_not, below_less, below_on}
 
@@ -113,7 +114,9 @@ module _ (pages : PagesValue) (old new new' : PageSeatValue) (wanted wanted' : �
     seen = at (λ p. Begins (saw old p) (saw new' p))
         (begins_trans (saw old n) (saw new n) (saw new' n) (took.seen n) one.begins)
         (λ p o ne. subst (Begins (saw old p)) (sym (one.others p o)) (took.seen p));
+    others = at (λ p. wanted' p ≡ false → saw new' p ≡ saw old p) (λ none. absurd (true≢false (sym now ∙ none))) (λ p o ne none. one.others p o ∙ took.others p (sym (else_as p o) ∙ none));
     laid = λ p. one.laid p ∙ took.laid p;
+    count = let before = took.count in let here = one.count in omega (arith, before, here);
   }
 
 -- no page yet
@@ -125,7 +128,9 @@ takes_none pages old region pieces ours empty = let none : (p : ℕ) → is_belo
   held = λ p. sym (ap (λ (b : Bool). if b then true else holds old p) (none p));
   free = λ p w. absurd (true≢false (sym w ∙ none p));
   seen = λ p. begins_self (saw old p);
+  others = λ p w. refl;
   laid = λ p. refl;
+  count = omega arith;
 }
 
 -- the same pages by another test
@@ -137,8 +142,18 @@ takes_same pages old new wanted wanted' region same took = record {
   held = λ p. took.held p ∙ ap (λ (b : Bool). if b then true else holds old p) (same p);
   free = λ p w. took.free p (same p ∙ w);
   seen = took.seen;
+  others = λ p none. took.others p (same p ∙ none);
   laid = took.laid;
+  count = took.count;
 }
+
+-- a page that is in use changes nothing
+pub takes_still : (pages : PagesValue) (old before after : PageSeatValue) (wanted : ℕ → Bool) (region region' : List (Option PageValue)) (n : ℕ) (found : FoundInUse) → TakesPages pages old wanted before region → FindsOne before n found after → region' ≡ region → TakesPages pages old wanted after region'
+takes_still pages old before after wanted region region' n found t f same =
+    let count = t.count in let read = f.read.read in
+    let here : old.last.count ≤ after.last.count = omega (arith, count, read) in
+    subst (TakesPages pages old wanted after) (sym same) (subst (λ s. TakesPages pages old wanted s region) (sym f.rest)
+    (record { ours = t.ours; size = t.size; here = t.here; held = t.held; free = t.free; seen = t.seen; others = t.others; laid = t.laid; count = here }))
 
 -- a hand of pages that were taken
 pub in_hand : (pages : PagesValue) (old new : PageSeatValue) (wanted : ℕ → Bool) (region : List (Option PageValue)) → TakesPages pages old wanted new region → HasInHand pages new region
@@ -184,3 +199,11 @@ module _ (pages : PagesValue) (old new new' : PageSeatValue) (wanted : ℕ → B
 
   pub back_begins : (p : ℕ) → Begins (saw old p) (saw new' p)
   back_begins p = subst (Begins (saw old p)) (sym (back_seen p)) (took.seen p)
+
+  -- a page that the seat had before is none of them
+  not_wanted : (b h : Bool) → (b ≡ true → h ≡ false) → h ≡ true → b ≡ false
+  not_wanted true h free held = absurd (true≢false (sym held ∙ free refl))
+  not_wanted false h free held = refl
+
+  pub back_others : (p : ℕ) → holds old p ≡ true → saw new' p ≡ saw old p
+  back_others p held = back_seen p ∙ took.others p (not_wanted (wanted p) (holds old p) (took.free p) held)

@@ -1,6 +1,6 @@
 -- Pages of a shared window in the hand of a seat: they stand in a region of its own while it has them.
 use Rattle.std.specs.Prelude.{◌≡◌, ℕ, ◌-◌, ◌%◌, ◌<◌, ◌≤◌, ◌==◌, ◌&&◌, nat_lt, if◌then◌else◌, Bool, true, false, List, ◌++◌, Option, Some, None, IsSome, length}
-use Rattle.vio_num.specs.Words.{Begins}
+use Rattle.vio_num.specs.Words.{Begins, ReadsWord}
 use Rattle.page_slots.specs.Page.{PageValue, AreWithinPage}
 use Rattle.page_slots.specs.Stroke.{StrokeValue}
 use Rattle.page_slots.specs.Seats.{PagesValue, PageSeatValue, saw, holds, laid_on, places_from}
@@ -40,7 +40,8 @@ pub record IsEmptyFor (pages : PagesValue) (region : List (Option PageValue)) : 
   pub size : length region ≡ pages.count
   pub away : (p : ℕ) → strokes_at region p ≡ None
 
--- Of the wanted pages each is in the region, with all that the seat now knows of it. None was in its hand before.
+-- Of the wanted pages each is in the region, with all that the seat now knows of it. None was in its hand before, and of
+-- no other page anything was learnt.
 pub record TakesPages (pages : PagesValue) (old : PageSeatValue) (is_wanted : ℕ → Bool) (new : PageSeatValue) (region : List (Option PageValue)) : Type 0 where
   pub ours : new.pages ≡ pages.id
   pub size : length region ≡ pages.count
@@ -48,17 +49,21 @@ pub record TakesPages (pages : PagesValue) (old : PageSeatValue) (is_wanted : �
   pub held : (p : ℕ) → holds new p ≡ (if is_wanted p then true else holds old p)
   pub free : (p : ℕ) → is_wanted p ≡ true → holds old p ≡ false
   pub seen : (p : ℕ) → Begins (saw old p) (saw new p)
+  pub others : (p : ℕ) → is_wanted p ≡ false → saw new p ≡ saw old p
   pub laid : (p : ℕ) → laid_on new p ≡ laid_on old p
+  pub count : old.last.count ≤ new.last.count
 
--- A wanted page is in use, by this word, the last one that was read. The hand is as before.
+-- A wanted page is in use, by this word, the last one that was read. The hand is as before, and of what it has nothing
+-- was learnt.
 pub record FindsOneInUse (pages : PagesValue) (old : PageSeatValue) (pieces : List Piece) (found : FoundInUse) (new : PageSeatValue) (region : List (Option PageValue)) : Type 0 where
   pub empty : IsEmptyFor pages region
   pub ours : new.pages ≡ pages.id
   pub on : on_page pieces found.page ≡ true
   pub bit : found.word % 2 ≡ 1
-  pub word : new.last.word ≡ found.word
+  pub read : ReadsWord old.last new.last found.word
   pub held : (p : ℕ) → holds new p ≡ holds old p
   pub seen : (p : ℕ) → Begins (saw old p) (saw new p)
+  pub others : (p : ℕ) → holds old p ≡ true → saw new p ≡ saw old p
   pub laid : (p : ℕ) → laid_on new p ≡ laid_on old p
 
 -- what a seat knows of a page once it was given back, if it was in the region
@@ -92,12 +97,13 @@ pub record TakesOne (old : PageSeatValue) (before : List (Option PageValue)) (nu
   pub others : (p : ℕ) → (p == number) ≡ false → saw new p ≡ saw old p
   pub laid : (p : ℕ) → laid_on new p ≡ laid_on old p
   pub pages : new.pages ≡ old.pages
+  pub count : old.last.count ≤ new.last.count
 
 -- The page is in use, by this word, the last one that was read.
 pub record FindsOne (old : PageSeatValue) (number : ℕ) (found : FoundInUse) (new : PageSeatValue) : Type 0 where
   pub page : found.page ≡ number
   pub bit : found.word % 2 ≡ 1
-  pub word : new.last.word ≡ found.word
+  pub read : ReadsWord old.last new.last found.word
   pub rest : new ≡ record old { last = new.last }
 
 -- The page is in the hand no longer. The seat laid the strokes behind those that it had seen.

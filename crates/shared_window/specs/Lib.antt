@@ -4,6 +4,8 @@ pub mod GuestState
 pub mod Hand
 pub mod Opening
 pub mod Pinning
+pub mod Putting
 pub mod Ranges
+pub mod Reading
 pub mod SharedOwnState
 pub mod SharedWindow

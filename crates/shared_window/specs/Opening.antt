@@ -1,6 +1,9 @@
 -- New seats at a shared window.
-use Rattle.std.specs.Prelude.{◌≡◌, ℕ, ◌+◌, true, All, List, [], length}
+use Rattle.std.specs.Prelude.{◌≡◌, ℕ, ◌+◌, true, All, List, [], ◌∷◌, length}
+use Rattle.std.proofs.Props.{props}
 use Rattle.vio_num.specs.declared.names.UnitId.{UnitId}
+use Rattle.page_slots.specs.Page.{AreWithinPage}
+use Rattle.page_slots.specs.Stroke.{StrokeValue}
 use Rattle.page_slots.specs.Seats.{saw, laid_on}
 use Rattle.tce_window.specs.declared.answers.TceRow.{TceRow}
 use Rattle.shared_window.specs.Hand.{SawWithin}
@@ -20,6 +23,14 @@ pub record IsOwnerAt (window : SharedWindowValue) (owner : OwnerValue) : Type 0 
   pub size : owner.size ≡ window.pages.count
   pub rows : owner.rows ≡ owner.seat.entries.rows
   pub within : SawWithin owner.seat.pages
+
+-- That strokes lie within their page has one proof at most, and so has it whose owner it is.
+AreWithinPage-prop : (strokes : List StrokeValue) → IsProp (AreWithinPage strokes)
+AreWithinPage-prop [] = Prim.hlevel props
+AreWithinPage-prop (stroke ∷ strokes) = Prim.hlevel (props, AreWithinPage-prop strokes)
+
+pub IsOwnerAt-prop : (window : SharedWindowValue) (owner : OwnerValue) → IsProp (IsOwnerAt window owner)
+IsOwnerAt-prop window owner = Prim.hlevel (props, AreWithinPage-prop)
 
 -- A seat that made no call: it knows no value that was put and no stroke, and holds nothing.
 pub record IsNewSeat (window : SharedWindowValue) (seat : WindowSeatValue) : Type 0 where

@@ -10,6 +10,8 @@ mod owner;
 mod parting;
 mod pinning;
 mod placing;
+mod putting;
+mod reading;
 mod seat;
 mod shared_own;
 mod window;

@@ -1,7 +1,7 @@
 // A window with its owner and one guest, as a unit that serves from its own window needs it: a port of both
 // kinds.
 ghost use Rattle.std.specs.Prelude.{◌≡◌, ◌≤◌, IfOk, IfErr};
-ghost use Rattle.shared_window.specs.Opening.{IsOwnerAt};
+ghost use Rattle.shared_window.specs.Opening.{IsOwnerAt, IsOwnerAt-prop};
 ghost use Rattle.shared_window.specs.Ranges.{HoldsRange, RefusesHold, GivesRange};
 ghost use Rattle.shared_window.specs.SharedWindow.{IsIdleAt, IsOutWith};
 
@@ -17,7 +17,7 @@ pub struct SharedOwn<'a> {
     pub window: &'a Window,
     pub owner: &'a mut Owner,
     pub guest: &'a mut Guest,
-    ghost ours: { IsOwnerAt window.now owner.now },
+    ghost ours: { IsOwnerAt window.now owner.now } by { IsOwnerAt-prop window.now owner.now },
     ghost idle: { IsIdleAt window.now guest.now },
 }
 
