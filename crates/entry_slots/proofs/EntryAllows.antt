@@ -104,6 +104,7 @@ module _ (n seats id : ℕ) (v : EntryView) where
             rows = rows;
             begins = old.known;
             same = old.kept;
+            own = λ t. sym (old.owner_is t).1;
             shows = word_shows rows e p word few sh;
             pages = subst (λ k. ArePages k rows) (sym (r.sizes id v at shared)) r.pages;
             after = refl;

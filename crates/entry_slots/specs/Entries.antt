@@ -1,5 +1,5 @@
 -- What contracts see of the entries of a shared window and of a seat at them, and what their calls leave of it.
-use Rattle.std.specs.Prelude.{◌≡◌, ℕ, ◌+◌, ◌-◌, ◌<◌, ◌≤◌, ◌⊎◌, ◌==◌, if◌then◌else◌, Bool, List, [], ◌∷◌, ◌++◌, length}
+use Rattle.std.specs.Prelude.{◌≡◌, ℕ, ◌+◌, ◌-◌, ◌<◌, ◌≤◌, ◌⊎◌, ◌==◌, if◌then◌else◌, Bool, true, List, [], ◌∷◌, ◌++◌, length}
 use Rattle.atomic_table.specs.Seated.{TableId}
 use Rattle.vio_num.specs.Words.{Begins, WordRead, ReadsWord}
 use Rattle.tce_window.specs.declared.answers.TceRow.{TceRow}
@@ -53,10 +53,11 @@ pub record IsFreshAt (entries : EntriesValue) (seat : EntrySeatValue) : Type 0 w
   pub count : seat.last.count ≡ 0
 
 -- The entry is held too. The word that was read shows its last value, and no entry that was held has a later
--- value than was known.
+-- value than was known. A seat that puts values knew all of them.
 pub record PinsEntry (old : EntrySeatValue) (e word : ℕ) (new : EntrySeatValue) : Type 0 where
   pub known : Begins old.rows new.rows
   pub kept : (i : ℕ) → IsPinned old i → values_of new.rows i ≡ values_of old.rows i
+  pub own : old.owns ≡ true → new.rows ≡ old.rows
   pub shows : ShowsLast new.rows e word
   pub from : new.held_from ≡ (if old.held_count == 0 then e else old.held_from)
   pub count : new.held_count ≡ old.held_count + 1

@@ -1,5 +1,5 @@
 -- What each kind of step on an entry's word tells the seat that makes it.
-use Rattle.std.specs.Prelude.{◌≡◌, ℕ, ◌+◌, ◌-◌, ◌<◌, ◌≤◌, ◌⊎◌, ◌==◌, if◌then◌else◌, List, [], ◌∷◌, ◌++◌, length}
+use Rattle.std.specs.Prelude.{◌≡◌, ℕ, ◌+◌, ◌-◌, ◌<◌, ◌≤◌, ◌⊎◌, ◌==◌, if◌then◌else◌, true, List, [], ◌∷◌, ◌++◌, length}
 use mathlib.Core.Option.{some}
 use Rattle.atomic_table.specs.Table.{Me, Step}
 use Rattle.vio_num.specs.Words.{Begins}
@@ -47,11 +47,12 @@ pub record IsWordOf (rows : List TceRow) (e word : ℕ) : Type 0 where
   pub few : version_in word < 2147483648
 
 -- The word shows the last of the values that are now known of the entry, of which none was put while it is
--- held.
+-- held. A seat that puts values knew all of them.
 pub record Pins (e : ℕ) (m : Seated) (word : ℕ) (m' : Seated) : Type 0 where
   pub rows : List TceRow
   pub begins : Begins m.0.rows rows
   pub same : (i : ℕ) → pins_at m.0 i ≡ 1 → values_of rows i ≡ values_of m.0.rows i
+  pub own : m.0.owns ≡ true → rows ≡ m.0.rows
   pub shows : IsWordOf rows e word
   pub pages : ArePages m.0.entries rows
   pub after : m' ≡ (pinning m.0 e word rows, m.1)

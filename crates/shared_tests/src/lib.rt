@@ -2,8 +2,14 @@
 #![tactic(auto)]
 
 #[cfg(test)]
+mod closing;
+#[cfg(test)]
 mod copying;
 #[cfg(test)]
 mod guests;
 #[cfg(test)]
 mod holding;
+#[cfg(test)]
+mod meeting;
+#[cfg(test)]
+mod threads;

@@ -1,11 +1,14 @@
+pub mod Closings
 pub mod Giving
+pub mod GivingBack
+pub mod HeldRanges
+pub mod Homing
 pub mod NamedHand
 pub mod Nearest
 pub mod NewSeats
-pub mod Pins
-pub mod GivingBack
-pub mod HeldRanges
 pub mod OwnerPorts
+pub mod Partings
+pub mod Pins
 pub mod Ports
 pub mod PuttingValues
 pub mod ReadingHand

@@ -62,6 +62,7 @@ pub pins_of : (old new : EntrySeatValue) (e word : ℕ) → PinsEntry old e word
 pins_of old new e word p = record {
   known = p.known;
   kept = p.kept;
+  own = p.own;
   from = p.from;
   count = p.count;
   none_released = ap (λ z. z.released) p.rest;
@@ -76,6 +77,7 @@ from_more b e old first (suc count) is at from = ap (λ (c : Bool). if c then e 
 pub pins_more : (old seat new : EntrySeatValue) (e first count : ℕ) → PinsUpTo old first count seat → PinsOne seat e new → e ≡ first + count → PinsUpTo old first (count + 1) new
 pins_more old seat new e first count up one at = record {
   known = begins_trans old.rows seat.rows new.rows up.known one.known;
+  own = λ t. one.own (up.owns ∙ t) ∙ up.own t;
   from = λ _. one.from ∙ from_more (seat.held_count == 0) e seat.held_from first count (ap (λ c. c == 0) up.count_is) at up.from;
   count_is = one.count ∙ ap (λ c. c + 1) up.count_is;
   table = one.table ∙ up.table;
@@ -94,7 +96,7 @@ counts_more rows first (suc count) = let e : first + 1 + count ≡ first + suc c
     ap (counts_from rows first) up ∙ ap (λ l. length (values_of rows first) ∷ l) (counts_more rows (first + 1) count ∙ ap (λ f. counts_from rows (first + 1) count ++ length (values_of rows f) ∷ []) e)
 
 pub pins_none : (old : EntrySeatValue) (first : ℕ) → old.held_count ≡ 0 → PinsUpTo old first 0 old
-pins_none old first free = record { known = ([], sym (append-nil old.rows)); from = λ some. absurd (omega (arith, some)); count_is = free; table = refl; owns = refl }
+pins_none old first free = record { known = ([], sym (append-nil old.rows)); own = λ _. refl; from = λ some. absurd (omega (arith, some)); count_is = free; table = refl; owns = refl }
 
 -- the next entry, or any where none is held
 pub is_next : (old seat : EntrySeatValue) (first count e : ℕ) → PinsUpTo old first count seat → e ≡ first + count → IsNext seat e

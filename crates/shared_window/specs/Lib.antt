@@ -1,3 +1,4 @@
+pub mod Closing
 pub mod Counting
 pub mod GuestState
 pub mod Hand
@@ -7,5 +8,6 @@ pub mod Pinning
 pub mod Putting
 pub mod Ranges
 pub mod Reading
+pub mod SharedOwnState
 pub mod SharedWindow
 pub mod Writing

@@ -1,5 +1,5 @@
 -- New seats at a shared window.
-use Rattle.std.specs.Prelude.{◌≡◌, ℕ, true, All, List, [], ◌∷◌, length}
+use Rattle.std.specs.Prelude.{◌≡◌, ℕ, ◌+◌, true, All, List, [], ◌∷◌, length}
 use Rattle.std.proofs.Props.{props}
 use Rattle.vio_num.specs.declared.names.UnitId.{UnitId}
 use Rattle.page_slots.specs.Page.{AreWithinPage}
@@ -45,6 +45,7 @@ pub record IsNewSeat (window : SharedWindowValue) (seat : WindowSeatValue) : Typ
 pub record OpensWindow (unit : UnitId) (pages guests : ℕ) (window : SharedWindowValue) (owner : OwnerValue) (list : List WindowSeatValue) : Type 0 where
   pub unit_is : window.unit ≡ unit
   pub size : window.pages.count ≡ pages
+  pub all_seats : window.pages.seats ≡ guests + 1
   pub owner_is : IsOwnerAt window owner
   pub owner_new : IsNewSeat window owner.seat
   pub none_spare : owner.spare ≡ 0

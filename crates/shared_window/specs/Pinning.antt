@@ -1,5 +1,5 @@
 -- The entries of a range, pinned by a seat in rising order, and released.
-use Rattle.std.specs.Prelude.{◌≡◌, ℕ, zero, suc, ◌+◌, ◌/◌, ◌<◌, ◌≤◌, ◌==◌, if◌then◌else◌, All, List, [], ◌∷◌, ◌++◌, length, map}
+use Rattle.std.specs.Prelude.{◌≡◌, ℕ, zero, suc, ◌+◌, ◌/◌, ◌<◌, ◌≤◌, ◌==◌, if◌then◌else◌, true, All, List, [], ◌∷◌, ◌++◌, length, map}
 use Rattle.vio_num.specs.declared.names.UnitId.{UnitId}
 use Rattle.vio_num.specs.Words.{Begins}
 use Rattle.tce_window.specs.declared.answers.HoldFault.{HoldFault}
@@ -12,10 +12,11 @@ use Rattle.tce_window.specs.Pieces.{IsPieceAt, Touches, IsGranted, IsLast, MayUs
 use Rattle.entry_slots.specs.Entries.{EntrySeatValue, IsPinned}
 use Rattle.entry_slots.specs.Words.{version_in}
 
--- Entry e is held too, and no entry that was held has a later value than was known.
+-- Entry e is held too, and no entry that was held has a later value than was known; a seat that puts values knew all.
 pub record PinsOne (old : EntrySeatValue) (e : ℕ) (new : EntrySeatValue) : Type 0 where
   pub known : Begins old.rows new.rows
   pub kept : (i : ℕ) → IsPinned old i → values_of new.rows i ≡ values_of old.rows i
+  pub own : old.owns ≡ true → new.rows ≡ old.rows
   pub from : new.held_from ≡ (if old.held_count == 0 then e else old.held_from)
   pub count : new.held_count ≡ old.held_count + 1
   pub none_released : new.released ≡ []
@@ -47,9 +48,10 @@ pub record RefusesPiece (n : ℕ) (right : Right) (address : ℕ) (old : EntrySe
   pub cause : IsRefusedAt (values_of new.rows) right n (address / 4096) fault
   pub pins : PinsFor fault old (address / 4096) new
 
--- The seat held nothing, and holds so many entries, from this one on.
+-- The seat held nothing, and holds so many entries, from this one on. One that puts values knew all of them.
 pub record PinsUpTo (old : EntrySeatValue) (first count : ℕ) (new : EntrySeatValue) : Type 0 where
   pub known : Begins old.rows new.rows
+  pub own : old.owns ≡ true → new.rows ≡ old.rows
   pub from : 0 < count → new.held_from ≡ first
   pub count_is : new.held_count ≡ count
   pub table : new.entries ≡ old.entries
@@ -89,3 +91,8 @@ pub record Releases (old : EntrySeatValue) (count : ℕ) (new : EntrySeatValue) 
   pub last : new.last ≡ old.last
   pub table : new.entries ≡ old.entries
   pub owns : new.owns ≡ old.owns
+
+-- The seat puts values if it did before, and then knows the same ones.
+pub record KeepsOwn (old new : EntrySeatValue) : Type 0 where
+  pub owns : new.owns ≡ old.owns
+  pub rows : old.owns ≡ true → new.rows ≡ old.rows

@@ -58,6 +58,11 @@ pub record IsSeatAt (window : SharedWindowValue) (seat : WindowSeatValue) : Type
   pub within : 0 < seat.entries.held_count → seat.entries.held_from + seat.entries.held_count ≤ window.pages.count
   pub free : seat.entries.held_count ≡ 0 → (p : ℕ) → holds seat.pages p ≡ false
 
+-- The seat is one at this window, and holds nothing.
+pub record IsIdleAt (window : SharedWindowValue) (seat : WindowSeatValue) : Type 0 where
+  pub at : IsSeatAt window seat
+  pub free : seat.entries.held_count ≡ 0
+
 -- These pieces are in the entries that the seat holds, and on the pages that it holds.
 pub record AreOut (window : SharedWindowValue) (seat : WindowSeatValue) (pieces : List Piece) : Type 0 where
   pub lie : LieFrom seat.entries.held_from pieces

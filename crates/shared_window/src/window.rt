@@ -2,7 +2,7 @@
 // by turns, its entries by pins. No call takes a lock.
 ghost use Rattle.std.specs.Prelude.{◌≡◌, ◌≤◌, IfOk, IfErr, length};
 ghost use Rattle.shared_window.specs.Hand.{SawWithin};
-ghost use Rattle.shared_window.specs.Pinning.{Releases};
+ghost use Rattle.shared_window.specs.Pinning.{KeepsOwn, Releases};
 ghost use Rattle.shared_window.specs.SharedWindow.{IsSeatAt, IsOutWith};
 ghost use Rattle.shared_window.specs.Ranges.{HoldsRange, RefusesHold, GivesRange};
 
@@ -59,6 +59,7 @@ impl Window {
         ensures ok { IfOk result (HoldsRange self.now seat.old ioba len right seat.new) }
         ensures err { IfErr result (RefusesHold self.now seat.old ioba len right seat.new) }
         ensures within { SawWithin seat.old.pages → SawWithin seat.new.pages }
+        ensures own { KeepsOwn seat.old.entries seat.new.entries }
     {
         let pieces = pin_range(
             &self.entries,

@@ -120,6 +120,7 @@ returns-in-Err-clause-err c =
     record {
       pins = record {
         known = subst (Begins old.rows) (sym rel.rows) up.known;
+        own = λ t. rel.rows ∙ up.own t;
         from = λ some. absurd (omega (arith, some));
         count_is = omega (arith, left, held, len, pins);
         table = rel.table ∙ up.table;

@@ -29,6 +29,7 @@ returns c =
     record {
       unit_is = refl;
       size = count;
+      all_seats = search rules;
       owner_is = record {
         at = new.at;
         owns = ap (λ s. s.entries.owns) c.in_ok-new_seat.ensures ∙ e.owns;

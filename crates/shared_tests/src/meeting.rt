@@ -1,0 +1,193 @@
+// What the owner of a window and its guests are answered while one of them holds a range, and after.
+ghost use Rattle.std.specs.Prelude.{◌≡◌, OnOk};
+ghost use Rattle.shared_window.specs.Opening.{IsOwnerAt};
+ghost use Rattle.shared_window.specs.SharedWindow.{IsIdleAt};
+
+use crate::guests::two;
+use shared_window::{Guest, Opened, Owner, Window};
+use std::alloc::Global;
+use std::test::Fail;
+use tce_window::{GetTce, HoldFault, OwnFault, Right, TceAnswer};
+use vio_num::{NoMemory, UnitId};
+
+const UNIT: UnitId = UnitId {
+    partition: 1,
+    unit: 2,
+};
+
+/// What was answered; of a turn word its bit 0 is kept.
+#[derive(Clone, Copy, Debug, PartialEq, Eq)]
+enum Shown {
+    Done,
+    Busy(u16, u32, u32),
+    InUse(u16, u64),
+    NotGranted(u16, u32, u64),
+    Value(u64),
+    Other,
+}
+
+// Tells how a put was answered.
+fn put_shown(answer: TceAnswer) -> Shown {
+    match answer {
+        TceAnswer::Done => Shown::Done,
+        TceAnswer::Busy { entry, pins, done } => Shown::Busy(entry, pins, done),
+        TceAnswer::Parameter => Shown::Other,
+    }
+}
+
+// Puts a value into as many entries from this address on.
+fn stuff(
+    window: &Window,
+    owner: &mut Owner,
+    ioba: u64,
+    tce: u64,
+    count: u64,
+) -> Result<Shown, NoMemory>
+    requires { IsOwnerAt window.now owner.old }
+    ensures { IsOwnerAt window.now owner.new }
+{
+    window.reserve(owner, 512)?;
+    Ok(put_shown(window.stuff_tce(owner, ioba, tce, count)))
+}
+
+// Puts a value into the entry of this address.
+fn put(window: &Window, owner: &mut Owner, ioba: u64, tce: u64) -> Result<Shown, NoMemory>
+    requires { IsOwnerAt window.now owner.old }
+    ensures { IsOwnerAt window.now owner.new }
+{
+    window.reserve(owner, 1)?;
+    Ok(put_shown(window.put_tce(owner, ioba, tce)))
+}
+
+// Tells the value of the entry of this address.
+fn get(window: &Window, owner: &Owner, ioba: u64) -> Shown
+    requires { IsOwnerAt window.now owner.now }
+{
+    match window.get_tce(owner, ioba) {
+        GetTce::Value(value) => Shown::Value(value),
+        GetTce::Parameter => Shown::Other,
+    }
+}
+
+// Reads the first byte of the region.
+fn read(window: &Window, owner: &mut Owner) -> Shown
+    requires { IsOwnerAt window.now owner.old }
+    ensures { IsOwnerAt window.now owner.new }
+{
+    let mut out = [0];
+    match window.read(owner, 0, &mut out) {
+        Ok(()) => Shown::Done,
+        Err(OwnFault::InUse { page, word }) => Shown::InUse(page, word % 2),
+        Err(_) => Shown::Other,
+    }
+}
+
+// Holds 16 bytes from the start of the window on for reading, and gives them back.
+fn hold(window: &Window, guest: &mut Guest) -> Shown
+    requires { IsIdleAt window.now guest.old }
+    ensures { IsIdleAt window.now guest.new }
+{
+    match window.hold(guest, 0, 16, Right::Read) {
+        Ok(held) => {
+            window.give_back(guest, held);
+            Shown::Done
+        }
+        Err(HoldFault::InUse { page, word }) => Shown::InUse(page, word % 2),
+        Err(
+            HoldFault::NotGranted {
+                entry,
+                version,
+                tce,
+            },
+        ) => Shown::NotGranted(entry, version, tce),
+        Err(HoldFault::Past { .. }) => Shown::Other,
+    }
+}
+
+// A hold by the guest, a read by the owner, and a put.
+fn three(window: &Window, owner: &mut Owner, guest: &mut Guest) -> Result<[Shown; 3], NoMemory>
+    requires owner { IsOwnerAt window.now owner.old }
+    requires guest { IsIdleAt window.now guest.old }
+    ensures owner { IsOwnerAt window.now owner.new }
+    ensures guest { IsIdleAt window.now guest.new }
+{
+    let held = hold(window, guest);
+    let was_read = read(window, owner);
+    let was_put = put(window, owner, 0, 0)?;
+    Ok([held, was_read, was_put])
+}
+
+// The same three while another guest holds the entry, and after, the entry's value then, and a hold of it.
+fn meet(alloc: Global) -> Result<[[Shown; 3]; 3], Fail> {
+    let Opened {
+        window,
+        mut owner,
+        guests,
+    } = Window::open(alloc, UNIT, 4, 2)?;
+    let Some((mut a, mut b)) = two(&window, guests) else {
+        return Err(Fail::new("a guest is missing"));
+    };
+    let Ok(held) = window.hold(&mut a, 0, 16, Right::Read) else {
+        return Err(Fail::new("a range is refused"));
+    };
+    let meanwhile = three(&window, &mut owner, &mut b);
+    window.give_back(&mut a, held);
+    let after = three(&window, &mut owner, &mut b)?;
+    let left = [
+        get(&window, &owner, 0),
+        hold(&window, &mut a),
+        hold(&window, &mut b),
+    ];
+    Ok([meanwhile?, after, left])
+}
+
+#[test]
+fn an_entry_that_is_held_keeps_its_value(rt: HostRuntime) -> Result<(), Fail> {
+    let refused = Shown::NotGranted(0, 1, 0);
+    assert_eq!(rt;
+        meet(rt.alloc())?,
+        [
+            [Shown::InUse(0, 1), Shown::InUse(0, 1), Shown::Busy(0, 1, 0)],
+            [Shown::Done, Shown::Done, Shown::Done],
+            [Shown::Value(0), refused, refused]
+        ]
+    );
+    Ok(())
+}
+
+// Three values are put while entry 2 is held; what is answered, and the values then.
+fn stuff_held(alloc: Global) -> Result<[Shown; 4], Fail> {
+    let Opened {
+        window,
+        mut owner,
+        guests,
+    } = Window::open(alloc, UNIT, 4, 2)?;
+    let Some((mut a, _)) = two(&window, guests) else {
+        return Err(Fail::new("a guest is missing"));
+    };
+    let Ok(held) = window.hold(&mut a, 8192, 16, Right::Read) else {
+        return Err(Fail::new("a range is refused"));
+    };
+    let answer = stuff(&window, &mut owner, 0, 3, 3);
+    window.give_back(&mut a, held);
+    Ok([
+        answer?,
+        get(&window, &owner, 0),
+        get(&window, &owner, 4096),
+        get(&window, &owner, 8192),
+    ])
+}
+
+#[test]
+fn values_are_put_up_to_an_entry_that_is_held(rt: HostRuntime) -> Result<(), Fail> {
+    assert_eq!(rt;
+        stuff_held(rt.alloc())?,
+        [
+            Shown::Busy(2, 1, 2),
+            Shown::Value(3),
+            Shown::Value(3),
+            Shown::Value(8195)
+        ]
+    );
+    Ok(())
+}
