@@ -1,20 +1,15 @@
 // What a window that guests and an owner shared has once it is closed.
-ghost use Rattle.std.specs.Prelude.{◌≡◌, ◌≤◌, IfOk, length};
+ghost use Rattle.std.specs.Prelude.{◌≡◌, ◌≤◌, length};
 ghost use Rattle.shared_window.specs.Opening.{IsOwnerAt};
 ghost use Rattle.shared_window.specs.SharedWindow.{IsIdleAt};
 
-use crate::guests::two;
+use crate::guests::{UNIT, close_two, open_two};
 use page_slots::StrokeName;
-use shared_window::{Guest, Opened, Owner, Window};
+use shared_window::{Guest, Owner, Window};
 use std::alloc::Global;
 use std::test::Fail;
 use tce_window::{PlainWindow, Right};
-use vio_num::{NoMemory, UnitId};
-
-const UNIT: UnitId = UnitId {
-    partition: 1,
-    unit: 2,
-};
+use vio_num::NoMemory;
 
 /// Writes the bytes of this length from the address on, with this mark, by the guest. Nothing is written where
 /// the range is refused.
@@ -55,47 +50,34 @@ pub(crate) fn marks(window: &PlainWindow, page: u16) -> Option<u64>
     Some(marks)
 }
 
-/// Closes a window of two guests.
-pub(crate) fn close_two(
-    alloc: Global,
-    window: Window,
-    owner: Owner,
-    a: Guest,
-    b: Guest,
-) -> Result<PlainWindow, Fail>
-    requires owner { IsOwnerAt window owner }
-    requires free { owner.seat.entries.held_count ≡ 0 }
-    requires guests { (IsIdleAt window a) × (IsIdleAt window b) }
-    requires all { window.pages.seats ≡ 3 }
-    ensures { IfOk result (λ plain. (plain.held_count ≡ 0) × (plain.rows ≡ owner.rows)) }
+// Has two guests write and the owner put a value.
+fn work(window: &Window, owner: &mut Owner, a: &mut Guest, b: &mut Guest) -> Result<(), NoMemory>
+    requires owner { IsOwnerAt window.now owner.old }
+    requires free { owner.old.seat.entries.held_count ≡ 0 }
+    requires guests { IsIdleAt window.now a.old × IsIdleAt window.now b.old }
+    ensures owner { IsOwnerAt window.now owner.new }
+    ensures free { owner.new.seat.entries.held_count ≡ 0 }
+    ensures guests { IsIdleAt window.now a.new × IsIdleAt window.now b.new }
 {
-    let mut guests = Vec::new(alloc);
-    guests.push(a)?;
-    guests.push(b)?;
-    match window.close(owner, guests) {
-        Ok(plain) => Ok(plain),
-        Err(_) => Err(Fail::new("out of memory")),
-    }
+    write(window, a, 0, b"x", 1)?;
+    write(window, b, 0, b"y", 2)?;
+    window.reserve(owner, 1)?;
+    let _answer = window.put_tce(owner, 4096, 0x1001);
+    write(window, a, 4095, b"zz", 3)?;
+    write(window, b, 4095, b"z", 4)?;
+    Ok(())
 }
 
-// Has two guests write and the owner put a value; the marks on both pages once the window is closed, and how many
-// values it has.
+// The marks on both pages once the window is closed, and how many values it has.
 fn closed(alloc: Global) -> Result<(Option<u64>, Option<u64>, usize), Fail> {
-    let Opened {
-        window,
-        mut owner,
-        guests,
-    } = Window::open(alloc, UNIT, 2, 2)?;
-    let Some((mut a, mut b)) = two(&window, guests) else {
-        return Err(Fail::new("a guest is missing"));
-    };
-    write(&window, &mut a, 0, b"x", 1)?;
-    write(&window, &mut b, 0, b"y", 2)?;
-    window.reserve(&mut owner, 1)?;
-    let _answer = window.put_tce(&mut owner, 4096, 0x1001);
-    write(&window, &mut a, 4095, b"zz", 3)?;
-    write(&window, &mut b, 4095, b"z", 4)?;
-    let plain = close_two(alloc, window, owner, a, b)?;
+    let mut shared = open_two(alloc, 2)?;
+    work(
+        &shared.window,
+        &mut shared.owner,
+        &mut shared.a,
+        &mut shared.b,
+    )?;
+    let plain = close_two(alloc, shared)?;
     Ok((marks(&plain, 0), marks(&plain, 1), plain.values().len()))
 }
 

@@ -17,6 +17,9 @@ own_fits port = IsOutWith port.window.now port.owner.now.seat
 abbrev pub own_found : SharedOwn → ℕ → ℕ → Type 0
 own_found port = FoundBy port.owner.now.seat
 
+abbrev pub own_spare : SharedOwn → ℕ
+own_spare port = port.owner.now.spare
+
 -- version 0 of each entry
 pub own_begins : (port : SharedOwn) (e : ℕ) → slice_get ((own_state port).values e) 0 ≡ Some (4096 * e + 3)
 unfolding values_of

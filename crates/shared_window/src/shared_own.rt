@@ -8,7 +8,12 @@ ghost use Rattle.shared_window.specs.SharedWindow.{IsIdleAt, IsOutWith};
 use crate::guest::Guest;
 use crate::owner::Owner;
 use crate::window::Window;
-use tce_window::{GuestPort, Held, HoldFault, Right, WindowPort};
+use page_slots::StrokeName;
+use tce_window::{
+    GetTce, GuestPort, Held, HoldFault, NamedFault, OwnFault, OwnerPort, Right, TceAnswer,
+    WindowPort,
+};
+use vio_num::NoMemory;
 
 /// A window with its owner and a guest, as long as it borrows them. Puts, gets and holds all go through the owner's
 /// seat, so that they speak of one list of values, all that were put; the guest's seat stays idle.
@@ -64,6 +69,48 @@ impl WindowPort for SharedOwn<'_> {
     ghost state = { own_state };
 
     ghost begins = { own_begins };
+}
+
+impl OwnerPort for SharedOwn<'_> {
+    ghost use Rattle.shared_window.specs.SharedOwnState.{own_spare};
+
+    ghost spare = { own_spare };
+
+    fn pages(&self) -> u16 {
+        self.window.pages(self.owner)
+    }
+
+    fn reserve(&mut self, puts: u32) -> Result<(), NoMemory> {
+        self.window.reserve(self.owner, puts)
+    }
+
+    fn put_tce(&mut self, ioba: u64, tce: u64) -> TceAnswer {
+        self.window.put_tce(self.owner, ioba, tce)
+    }
+
+    fn stuff_tce(&mut self, ioba: u64, tce: u64, count: u64) -> TceAnswer {
+        self.window.stuff_tce(self.owner, ioba, tce, count)
+    }
+
+    fn put_tce_indirect(&mut self, ioba: u64, list: &[u64]) -> TceAnswer {
+        self.window.put_tce_indirect(self.owner, ioba, list)
+    }
+
+    fn get_tce(&mut self, ioba: u64) -> GetTce {
+        self.window.get_tce(self.owner, ioba)
+    }
+
+    fn read(&mut self, at: u64, out: &mut [u8]) -> Result<(), OwnFault> {
+        self.window.read(self.owner, at, out)
+    }
+
+    fn write(&mut self, at: u64, bytes: &[u8], mark: u64) -> Result<(), OwnFault> {
+        self.window.write(self.owner, at, bytes, mark)
+    }
+
+    fn read_named(&mut self, at: u64, out: &mut [u8], name: StrokeName) -> Result<(), NamedFault> {
+        self.window.read_named(self.owner, at, out, name)
+    }
 }
 
 impl GuestPort for SharedOwn<'_> {
