@@ -1,19 +1,13 @@
 // What the owner of a window and its guests are answered while one of them holds a range, and after.
-ghost use Rattle.std.specs.Prelude.{◌≡◌, OnOk};
 ghost use Rattle.shared_window.specs.Opening.{IsOwnerAt};
 ghost use Rattle.shared_window.specs.SharedWindow.{IsIdleAt};
 
-use crate::guests::two;
-use shared_window::{Guest, Opened, Owner, Window};
+use crate::guests::open_two;
+use shared_window::{Guest, Owner, Window};
 use std::alloc::Global;
 use std::test::Fail;
 use tce_window::{GetTce, HoldFault, OwnFault, Right, TceAnswer};
-use vio_num::{NoMemory, UnitId};
-
-const UNIT: UnitId = UnitId {
-    partition: 1,
-    unit: 2,
-};
+use vio_num::NoMemory;
 
 /// What was answered; of a turn word its bit 0 is kept.
 #[derive(Clone, Copy, Debug, PartialEq, Eq)]
@@ -82,6 +76,19 @@ fn read(window: &Window, owner: &mut Owner) -> Shown
     }
 }
 
+// Tells why a range was refused.
+fn refused(fault: HoldFault) -> Shown {
+    match fault {
+        HoldFault::InUse { page, word } => Shown::InUse(page, word % 2),
+        HoldFault::NotGranted {
+            entry,
+            version,
+            tce,
+        } => Shown::NotGranted(entry, version, tce),
+        HoldFault::Past { .. } => Shown::Other,
+    }
+}
+
 // Holds 16 bytes from the start of the window on for reading, and gives them back.
 fn hold(window: &Window, guest: &mut Guest) -> Shown
     requires { IsIdleAt window.now guest.old }
@@ -92,15 +99,7 @@ fn hold(window: &Window, guest: &mut Guest) -> Shown
             window.give_back(guest, held);
             Shown::Done
         }
-        Err(HoldFault::InUse { page, word }) => Shown::InUse(page, word % 2),
-        Err(
-            HoldFault::NotGranted {
-                entry,
-                version,
-                tce,
-            },
-        ) => Shown::NotGranted(entry, version, tce),
-        Err(HoldFault::Past { .. }) => Shown::Other,
+        Err(fault) => refused(fault),
     }
 }
 
@@ -117,77 +116,90 @@ fn three(window: &Window, owner: &mut Owner, guest: &mut Guest) -> Result<[Shown
     Ok([held, was_read, was_put])
 }
 
-// The same three while another guest holds the entry, and after, the entry's value then, and a hold of it.
-fn meet(alloc: Global) -> Result<[[Shown; 3]; 3], Fail> {
-    let Opened {
-        window,
-        mut owner,
-        guests,
-    } = Window::open(alloc, UNIT, 4, 2)?;
-    let Some((mut a, mut b)) = two(&window, guests) else {
-        return Err(Fail::new("a guest is missing"));
+// The same three while another guest holds the entry, and after, the entry's value then, and a hold of it. None where the
+// other guest is refused.
+fn meet(
+    window: &Window,
+    owner: &mut Owner,
+    a: &mut Guest,
+    b: &mut Guest,
+) -> Result<Option<[[Shown; 3]; 3]>, NoMemory>
+    requires owner { IsOwnerAt window.now owner.old }
+    requires guests { IsIdleAt window.now a.old × IsIdleAt window.now b.old }
+{
+    let Ok(held) = window.hold(a, 0, 16, Right::Read) else {
+        return Ok(None);
     };
-    let Ok(held) = window.hold(&mut a, 0, 16, Right::Read) else {
-        return Err(Fail::new("a range is refused"));
-    };
-    let meanwhile = three(&window, &mut owner, &mut b);
-    window.give_back(&mut a, held);
-    let after = three(&window, &mut owner, &mut b)?;
-    let left = [
-        get(&window, &owner, 0),
-        hold(&window, &mut a),
-        hold(&window, &mut b),
-    ];
-    Ok([meanwhile?, after, left])
+    let meanwhile = three(window, owner, b);
+    window.give_back(a, held);
+    let after = three(window, owner, b)?;
+    let left = [get(window, owner, 0), hold(window, a), hold(window, b)];
+    Ok(Some([meanwhile?, after, left]))
+}
+
+// The same at a new window.
+fn met(alloc: Global) -> Result<Option<[[Shown; 3]; 3]>, Fail> {
+    let mut shared = open_two(alloc, 4)?;
+    Ok(meet(
+        &shared.window,
+        &mut shared.owner,
+        &mut shared.a,
+        &mut shared.b,
+    )?)
 }
 
 #[test]
 fn an_entry_that_is_held_keeps_its_value(rt: HostRuntime) -> Result<(), Fail> {
     let refused = Shown::NotGranted(0, 1, 0);
     assert_eq!(rt;
-        meet(rt.alloc())?,
-        [
+        met(rt.alloc())?,
+        Some([
             [Shown::InUse(0, 1), Shown::InUse(0, 1), Shown::Busy(0, 1, 0)],
             [Shown::Done, Shown::Done, Shown::Done],
             [Shown::Value(0), refused, refused]
-        ]
+        ])
     );
     Ok(())
 }
 
 // Three values are put while entry 2 is held; what is answered, and the values then.
-fn stuff_held(alloc: Global) -> Result<[Shown; 4], Fail> {
-    let Opened {
-        window,
-        mut owner,
-        guests,
-    } = Window::open(alloc, UNIT, 4, 2)?;
-    let Some((mut a, _)) = two(&window, guests) else {
-        return Err(Fail::new("a guest is missing"));
+fn stuff_held(
+    window: &Window,
+    owner: &mut Owner,
+    guest: &mut Guest,
+) -> Result<Option<[Shown; 4]>, NoMemory>
+    requires owner { IsOwnerAt window.now owner.old }
+    requires guest { IsIdleAt window.now guest.old }
+{
+    let Ok(held) = window.hold(guest, 8192, 16, Right::Read) else {
+        return Ok(None);
     };
-    let Ok(held) = window.hold(&mut a, 8192, 16, Right::Read) else {
-        return Err(Fail::new("a range is refused"));
-    };
-    let answer = stuff(&window, &mut owner, 0, 3, 3);
-    window.give_back(&mut a, held);
-    Ok([
+    let answer = stuff(window, owner, 0, 3, 3);
+    window.give_back(guest, held);
+    Ok(Some([
         answer?,
-        get(&window, &owner, 0),
-        get(&window, &owner, 4096),
-        get(&window, &owner, 8192),
-    ])
+        get(window, owner, 0),
+        get(window, owner, 4096),
+        get(window, owner, 8192),
+    ]))
+}
+
+// The same at a new window.
+fn stuffed(alloc: Global) -> Result<Option<[Shown; 4]>, Fail> {
+    let mut shared = open_two(alloc, 4)?;
+    Ok(stuff_held(&shared.window, &mut shared.owner, &mut shared.a)?)
 }
 
 #[test]
 fn values_are_put_up_to_an_entry_that_is_held(rt: HostRuntime) -> Result<(), Fail> {
     assert_eq!(rt;
-        stuff_held(rt.alloc())?,
-        [
+        stuffed(rt.alloc())?,
+        Some([
             Shown::Busy(2, 1, 2),
             Shown::Value(3),
             Shown::Value(3),
             Shown::Value(8195)
-        ]
+        ])
     );
     Ok(())
 }

@@ -3,25 +3,19 @@ ghost use Rattle.std.specs.Prelude.{◌≡◌, ◌<◌};
 ghost use Rattle.shared_window.specs.Opening.{IsOwnerAt};
 ghost use Rattle.shared_window.specs.SharedWindow.{IsIdleAt};
 
-use crate::closing::{close_two, write};
-use crate::guests::two;
-use shared_window::{Guest, Opened, Owner, Window};
+use crate::closing::write;
+use crate::guests::{Shared, close_two, open_two};
+use shared_window::{Guest, Owner, Window};
 use std::alloc::Global;
 use std::test::Fail;
 use std::thread::{self, Threads};
 use tce_window::{PlainWindow, TceAnswer};
-use vio_num::UnitId;
 
 /// How often each tries before it gives up.
 const TRIES: u32 = 100_000_000;
 
 /// How often each works.
 const ROUNDS: u16 = 1000;
-
-const UNIT: UnitId = UnitId {
-    partition: 1,
-    unit: 2,
-};
 
 // Writes this many strokes through entry 0, each tried until it is written. Says how many it wrote.
 fn guest(alloc: Global, window: &Window, mut guest: Guest, n: u16) -> (Guest, u16)
@@ -90,28 +84,40 @@ fn counts(plain: &PlainWindow) -> (usize, usize)
     (plain.strokes(0).len(), plain.values().len())
 }
 
-#[test]
-fn two_guests_write_while_an_owner_puts(rt: HostRuntime) -> Result<(), Fail> {
-    let Opened {
+// How many each of them did, and the numbers of strokes and values once the window is closed.
+fn play<R: Threads + Sync>(
+    rt: &R,
+    alloc: Global,
+) -> Result<((u16, u16, u16), (usize, usize)), Fail> {
+    let Shared {
         window,
         owner: first,
-        guests,
-    } = Window::open(rt.alloc(), UNIT, 1, 2)?;
-    let Some((a, b)) = two(&window, guests) else {
-        return Err(Fail::new("a guest is missing"));
-    };
+        a,
+        b,
+    } = open_two(alloc, 1)?;
     let shared = &window;
-    let runtime = &rt;
-    let alloc = rt.alloc();
-    let ((first, puts), ((a, by_a), (b, by_b))) = thread::join(
-        runtime,
+    let ((owner, puts), ((a, by_a), (b, by_b))) = thread::join(
+        rt,
         move || owner(shared, first, ROUNDS),
-        move || both(runtime, alloc, shared, a, b),
+        move || both(rt, alloc, shared, a, b),
     );
-    let plain = close_two(alloc, window, first, a, b)?;
+    let plain = close_two(
+        alloc,
+        Shared {
+            window,
+            owner,
+            a,
+            b,
+        },
+    )?;
+    Ok(((puts, by_a, by_b), counts(&plain)))
+}
+
+#[test]
+fn two_guests_write_while_an_owner_puts(rt: HostRuntime) -> Result<(), Fail> {
     assert_eq!(rt;
-        (puts, by_a, by_b, counts(&plain)),
-        (ROUNDS, ROUNDS, ROUNDS, (2000, 1000))
+        play(&rt, rt.alloc())?,
+        ((ROUNDS, ROUNDS, ROUNDS), (2000, 1000))
     );
     Ok(())
 }
