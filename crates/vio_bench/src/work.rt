@@ -1,7 +1,7 @@
 // The works by their names.
 ghost use Rattle.std.specs.Prelude.{◌≡◌, ◌≤◌, IfOk, IfSome};
 
-use crate::{link, ring, serve};
+use crate::{copy, link, ring, serve};
 use std::alloc::Global;
 use std::thread::Threads;
 use vio_num::NoMemory;
@@ -26,6 +26,14 @@ pub enum Work {
     LinkOne,
     /// An entry is sent from one thread to another over a shared link.
     LinkTwo,
+    /// 4,096 bytes are copied.
+    Memcpy,
+    /// A page of each of two shared windows is taken and given back.
+    Turns,
+    /// A page is copied between plain windows.
+    CopyPlain,
+    /// A page is copied between shared windows.
+    Copy,
     /// A server unit serves a TEST UNIT READY, in a turn.
     Turn,
 }
@@ -35,6 +43,10 @@ pub enum Work {
 enum Alone {
     Ring,
     Link,
+    Memcpy,
+    Turns,
+    CopyPlain,
+    Copy,
     Turn,
 }
 
@@ -47,6 +59,10 @@ impl Work {
             Work::RingTwo64 => "ring-2-64",
             Work::LinkOne => "link-1",
             Work::LinkTwo => "link-2",
+            Work::Memcpy => "memcpy",
+            Work::Turns => "turns",
+            Work::CopyPlain => "copy-plain",
+            Work::Copy => "copy",
             Work::Turn => "turn",
         }
     }
@@ -62,6 +78,10 @@ pub fn work_of(name: &str, count: &str) -> Option<(Work, u32)>
         "ring-2-64" => Work::RingTwo64,
         "link-1" => Work::LinkOne,
         "link-2" => Work::LinkTwo,
+        "memcpy" => Work::Memcpy,
+        "turns" => Work::Turns,
+        "copy-plain" => Work::CopyPlain,
+        "copy" => Work::Copy,
         "turn" => Work::Turn,
         _ => return None,
     };
@@ -83,6 +103,10 @@ pub fn do_work<R: Threads + Sync>(rt: &R, alloc: Global, work: Work, count: u32)
         Work::RingTwo64 => ring::two_threads(rt, alloc, 64, count).ok(),
         Work::LinkOne => in_rounds(alloc, Alone::Link, count).ok(),
         Work::LinkTwo => link::two_threads(rt, alloc, count).ok(),
+        Work::Memcpy => in_rounds(alloc, Alone::Memcpy, count).ok(),
+        Work::Turns => in_rounds(alloc, Alone::Turns, count).ok(),
+        Work::CopyPlain => in_rounds(alloc, Alone::CopyPlain, count).ok(),
+        Work::Copy => in_rounds(alloc, Alone::Copy, count).ok(),
         Work::Turn => in_rounds(alloc, Alone::Turn, count).ok(),
     }
 }
@@ -111,6 +135,10 @@ fn do_round(alloc: Global, work: Alone, count: u32) -> Result<u32, NoMemory>
     match work {
         Alone::Ring => ring::pass_round(alloc, count),
         Alone::Link => link::pass_round(alloc, count),
+        Alone::Memcpy => copy::copy_memory(alloc, count),
+        Alone::Turns => copy::turn_shared(alloc, count),
+        Alone::CopyPlain => copy::copy_plain(alloc, count),
+        Alone::Copy => copy::copy_shared(alloc, count),
         Alone::Turn => serve::serve_round(alloc, count),
     }
 }
