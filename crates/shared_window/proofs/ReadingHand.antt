@@ -1,7 +1,7 @@
 -- A range of the region whose pages are taken, read and given back.
 use Rattle.std.proofs.Common.{◌≡◌, ℕ, suc, ◌+◌, ◌*◌, ◌/◌, ◌%◌, ◌^◌, ◌<◌, ◌≤◌, ◌&&◌, Bool, true, false, true≢false, All, List, Some, None, IsSome, is_some, nat_le, length, slice_index, if◌then◌else◌, refl, sym, ap, ◌∙◌, subst, ⊎_elim, arith}
 use Rattle.std.proofs.lemmas.Bool.Decides.{leb_tells, nat_tests}
-use Rattle.vio_num.specs.Counts.{Rose}
+use Rattle.vio_num.specs.Counts.{risen}
 use Rattle.vio_num.specs.Words.{Begins}
 use Rattle.page_slots.specs.Seats.{saw, holds, laid_on}
 use Rattle.tce_window.specs.declared.piece.Piece.{Piece}
@@ -83,17 +83,17 @@ still_at w old new at held ours entries empty = record {
 
 -- a page of the range is in use
 pub finds_page : (w : SharedWindowValue) (old new : WindowSeatValue) (at len : ℕ) (pieces : List Piece) (found : FoundInUse) → in_region w.pages.count at len ≡ true → LieOver at (at + len) pieces
-    → FindsOneInUse w.pages old.pages pieces found new.pages new.region → new.entries ≡ old.entries → Rose old.in_use new.in_use → FindsPage w old at len new found.page found.word
+    → FindsOneInUse w.pages old.pages pieces found new.pages new.region → new.entries ≡ old.entries → new.in_use ≡ risen old.in_use → FindsPage w old at len new found.page found.word
 finds_page w old new at len pieces found inside lie f entries rose = let on : touches at len found.page ≡ true = sym (over_touches at len pieces found.page lie (some_in w.pages.count at len inside)) ∙ f.on in record {
   finds = λ ls. record { inside = inside; from = touched_from at len found.page on; below = touched_to at len found.page on; away = λ e. absurd (true≢false e) };
   read = f.read;
   bit = f.bit;
-  only = only_reads w old new f.held f.seen f.others f.laid entries (rose_less old.in_use new.in_use rose);
+  only = only_reads w old new f.held f.seen f.others f.laid entries (risen_less old.in_use new.in_use rose);
   in_use = rose;
 }
   where
-    rose_less : (a b : ℕ) → Rose a b → a ≤ b
-    rose_less a b r = omega (arith, r)
+    risen_less : (a b : ℕ) → b ≡ risen a → a ≤ b
+    risen_less a b r = omega (arith, r)
 
 -- the pages of the range are taken
 pub takes_range : (w : SharedWindowValue) (old new : WindowSeatValue) (at len : ℕ) (pieces : List Piece) → in_region w.pages.count at len ≡ true → at + len ≤ 2 ^ 20 → LieOver at (at + len) pieces

@@ -1,7 +1,7 @@
 -- What the owner's reads of its region leave of its seat, as a port that it may be.
 use Rattle.std.specs.Prelude.{◌≡◌, ℕ, ◌+◌, ◌%◌, ◌^◌, ◌≤◌, true, false, IsTrue, List, Option}
 use Rattle.std.specs.Borrow.{GName}
-use Rattle.vio_num.specs.Counts.{Rose}
+use Rattle.vio_num.specs.Counts.{risen}
 use Rattle.vio_num.specs.Words.{ReadsWord}
 use Rattle.page_slots.specs.Stroke.{StrokeValue}
 use Rattle.page_slots.specs.declared.stroke.StrokeName.{StrokeName}
@@ -27,13 +27,13 @@ pub record ReadsOwn (window : SharedWindowValue) (old : WindowSeatValue) (at : �
   pub only : OnlyReadsAt window old new
   pub in_use : new.in_use ≡ old.in_use
 
--- A page of the range was found in use: the word that was read last, in this call, shows it taken. It was counted.
+-- A page of the range was found in use: the word that was read last, in this call, shows it taken. It was counted once.
 pub record FindsPage (window : SharedWindowValue) (old : WindowSeatValue) (at len : ℕ) (new : WindowSeatValue) (page word : ℕ) : Type 0 where
   pub finds : (lenders : List GName) → FindsInUse true (port_of lenders window old) at len page
   pub read : ReadsWord old.pages.last new.pages.last word
   pub bit : word % 2 ≡ 1
   pub only : OnlyReadsAt window old new
-  pub in_use : Rose old.in_use new.in_use
+  pub in_use : new.in_use ≡ risen old.in_use
 
 -- the range is outside of the region
 pub record IsOutside (window : SharedWindowValue) (old : WindowSeatValue) (at len : ℕ) (new : WindowSeatValue) : Type 0 where

@@ -56,7 +56,8 @@ impl Window {
         ensures at { IsSeatAt self.now seat.new }
         ensures ok { OnOk result (ReadsOwn self.now seat.old at out.new seat.new) }
         ensures fresh { OnOk result (AreFreshAt self.now name at (length out.old) seat.new) }
-        ensures err { IfErr result (RefusesNamed self.now seat.old name at (length out.old) seat.new) }
+        ensures err { IfErr result
+            (RefusesNamed self.now seat.old name at (length out.old) seat.new) }
         ensures out { OnErr result (out.new ≡ out.old) }
         ensures entries { seat.new.entries ≡ seat.old.entries }
         ensures within { SawWithin seat.old.pages → SawWithin seat.new.pages }

@@ -1,6 +1,6 @@
 // How the owner reads its region: the pages that a range touches are taken, read, and given back.
 ghost use Rattle.std.specs.Prelude.{◌≡◌, ℕ, ◌<◌, All, is_some, length, IfOk, IfErr, OnOk, OnErr};
-ghost use Rattle.vio_num.specs.Counts.{Rose};
+ghost use Rattle.vio_num.specs.Counts.{risen};
 ghost use Rattle.tce_window.specs.Pieces.{on_page};
 ghost use Rattle.tce_window.specs.Window.{strokes_at};
 ghost use Rattle.shared_window.specs.Hand.{IsEmptyFor, HasInHand, GivesHand, SawWithin};
@@ -17,7 +17,7 @@ use tce_window::{MOST_PIECES, OwnFault, Piece, pieces_over};
 
 // Counts a page that was found in use.
 fn one_more(in_use: u64) -> u64
-    ensures { Rose in_use result }
+    ensures { result ≡ risen in_use }
 {
     in_use.saturating_add(1)
 }

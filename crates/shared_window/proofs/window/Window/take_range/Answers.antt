@@ -1,6 +1,6 @@
 -- The pages of a range inside the region are taken, or one is in use.
 use Rattle.std.proofs.Common.{◌≡◌, ◌+◌, ◌<◌, All, List, true, length, subst, sym, ap, ◌∙◌, refl, arith}
-use Rattle.vio_num.specs.Counts.{Rose}
+use Rattle.vio_num.specs.Counts.{risen}
 use Rattle.tce_window.specs.declared.piece.Piece.{Piece}
 use Rattle.tce_window.specs.Pieces.{on_page}
 use Rattle.tce_window.specs.Region.{in_region}
@@ -54,6 +54,6 @@ returns-in-Err-clause-err c =
     let inside : in_region w.pages.count c.args.at c.args.len ≡ true = ap (λ n. in_region n c.args.at c.args.len) (sym at.empty.size) ∙ sym c.if-not-contains.ensures.inside in
     let found = c.in-Err.field-0 in
     let finds : FindsOneInUse w.pages old.pages pieces found new.pages new.region = subst (λ l. FindsOneInUse w.pages old.pages l found new.pages new.region) c.as_slice.ensures.value c.in-Err.ensures.err in
-    let rose : Rose old.in_use new.in_use = c.one_more-seat-inside.ensures in
+    let rose : new.in_use ≡ risen old.in_use = c.one_more-seat-inside.ensures in
     subst (λ (z : SharedWindowValue × WindowSeatValue). FindsPage z.0 z.1 c.args.at c.args.len new found.page found.word) (λ i. (c.self.view_is i, c.seat.view_is i))
     (finds_page w old new c.args.at c.args.len pieces found inside c.pieces_over-pieces.ensures finds refl rose)
