@@ -12,4 +12,6 @@ mod holding;
 #[cfg(test)]
 mod meeting;
 #[cfg(test)]
+mod owning;
+#[cfg(test)]
 mod threads;
