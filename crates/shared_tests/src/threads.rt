@@ -76,6 +76,31 @@ fn both<R: Threads + Sync>(
     )
 }
 
+// Has the owner work, too.
+fn all<R: Threads + Sync>(
+    rt: &R,
+    alloc: Global,
+    window: &Window,
+    first: Owner,
+    a: Guest,
+    b: Guest,
+) -> ((Owner, u16), ((Guest, u16), (Guest, u16)))
+    requires at { IsOwnerAt window.now first }
+    requires free { first.seat.entries.held_count ≡ 0 }
+    requires a { IsIdleAt window.now a }
+    requires b { IsIdleAt window.now b }
+    ensures at { IsOwnerAt window.now result.0.0 }
+    ensures free { result.0.0.seat.entries.held_count ≡ 0 }
+    ensures a { IsIdleAt window.now result.1.0.0 }
+    ensures b { IsIdleAt window.now result.1.1.0 }
+{
+    thread::join(
+        rt,
+        move || owner(window, first, ROUNDS),
+        move || both(rt, alloc, window, a, b),
+    )
+}
+
 // The numbers of strokes on the first page of a window, and of its values.
 fn counts(plain: &PlainWindow) -> (usize, usize)
     requires { plain.now.held_count ≡ 0 }
@@ -95,12 +120,7 @@ fn play<R: Threads + Sync>(
         a,
         b,
     } = open_two(alloc, 1)?;
-    let shared = &window;
-    let ((owner, puts), ((a, by_a), (b, by_b))) = thread::join(
-        rt,
-        move || owner(shared, first, ROUNDS),
-        move || both(rt, alloc, shared, a, b),
-    );
+    let ((owner, puts), ((a, by_a), (b, by_b))) = all(rt, alloc, &window, first, a, b);
     let plain = close_two(
         alloc,
         Shared {

@@ -9,10 +9,8 @@ use std::alloc::Global;
 use tce_window::{GuestPort, PlainWindow, Right};
 use vio_num::{NoMemory, PAGE_BYTES, UnitId};
 
-/// The pages of each window, and of each piece of plain memory.
+/// The pages of each window; plain memory has as many.
 const PAGES: u16 = 64;
-
-const BYTES: usize = 64 * 4096;
 
 const SOURCE: UnitId = UnitId {
     partition: 0,
@@ -40,14 +38,13 @@ fn page_of(k: u32) -> u64
 pub fn copy_memory(alloc: Global, count: u32) -> Result<u32, NoMemory>
     ensures { IfOk result (λ done. done ≤ count) }
 {
-    let source = vec![in alloc; 1u8; BYTES]?;
-    let mut target = vec![in alloc; 0u8; BYTES]?;
+    let source = vec![in alloc; [1u8; 4096]; 64]?;
+    let mut target = vec![in alloc; [0u8; 4096]; 64]?;
     for k in 0..count {
-        let from = 4096 * page_of(k) as usize;
-        let to = 4096 * page_of(k.wrapping_add(7)) as usize;
-        target[to..to + 4096].copy_from_slice(&source[from..from + 4096]);
+        let to = page_of(k.wrapping_add(7)) as usize;
+        target[to].copy_from_slice(&source[page_of(k) as usize]);
     }
-    Ok(if target[0] < 2 { count } else { 0 })
+    Ok(if target[0][0] < 2 { count } else { 0 })
 }
 
 // Copies this many pages from window to window, up to the first that is refused, and counts those that were copied.
