@@ -15,4 +15,5 @@ pub mod ReadingHand
 pub mod ReadingOver
 pub mod Refusals
 pub mod Taking
+pub mod WindowLaws
 pub mod WritingHand

@@ -11,10 +11,10 @@ use Rattle.tce_window.specs.Port.{Grows}
 use Rattle.tce_window.specs.PortState.{PortState}
 use Rattle.shared_window.specs.declared.guest.SharedGuest.{SharedGuest}
 use Rattle.shared_window.specs.Hand.{BeginsIn}
-use Rattle.shared_window.specs.SharedWindow.{SharedWindowValue, WindowSeatValue, port_of, AreOut, IsOutWith, FoundBy}
+use Rattle.shared_window.specs.SharedWindow.{SharedWindowValue, WindowSeatValue, window_names, port_of, AreOut, IsOutWith, FoundBy}
 
 abbrev pub guest_state : SharedGuest → PortState
-guest_state port = port_of (port.guest.ghost_name ∷ []) port.window.now port.guest.now
+guest_state port = port_of (port.guest.ghost_name ∷ window_names port.window.now) port.window.now port.guest.now
 
 abbrev pub guest_fits : SharedGuest → HeldValue → Type 0
 guest_fits port = IsOutWith port.window.now port.guest.now

@@ -3,10 +3,10 @@ use Rattle.std.specs.Prelude.{◌≡◌, ℕ, ◌+◌, ◌*◌, [], ◌∷◌, S
 use Rattle.tce_window.specs.Grant.{values_of}
 use Rattle.tce_window.specs.PortState.{PortState}
 use Rattle.shared_window.specs.declared.owner.SharedOwner.{SharedOwner}
-use Rattle.shared_window.specs.SharedWindow.{port_of}
+use Rattle.shared_window.specs.SharedWindow.{window_names, port_of}
 
 abbrev pub owner_state : SharedOwner → PortState
-owner_state port = port_of (port.owner.ghost_name ∷ []) port.window.now port.owner.now.seat
+owner_state port = port_of (port.owner.ghost_name ∷ window_names port.window.now) port.window.now port.owner.now.seat
 
 abbrev pub owner_spare : SharedOwner → ℕ
 owner_spare port = port.owner.now.spare

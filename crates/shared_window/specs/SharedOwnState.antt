@@ -6,10 +6,10 @@ use Rattle.tce_window.specs.Moved.{Follows}
 use Rattle.tce_window.specs.PortState.{PortState}
 use Rattle.shared_window.specs.declared.shared_own.SharedOwn.{SharedOwn}
 use Rattle.shared_window.specs.GuestState.{written_still_out}
-use Rattle.shared_window.specs.SharedWindow.{port_of, IsOutWith, FoundBy}
+use Rattle.shared_window.specs.SharedWindow.{window_names, port_of, IsOutWith, FoundBy}
 
 abbrev pub own_state : SharedOwn → PortState
-own_state port = port_of (port.owner.ghost_name ∷ port.guest.ghost_name ∷ []) port.window.now port.owner.now.seat
+own_state port = port_of (port.owner.ghost_name ∷ port.guest.ghost_name ∷ window_names port.window.now) port.window.now port.owner.now.seat
 
 abbrev pub own_fits : SharedOwn → HeldValue → Type 0
 own_fits port = IsOutWith port.window.now port.owner.now.seat

@@ -1,6 +1,7 @@
 -- What contracts see of a shared window and of a seat at it, and such a seat as a port.
-use Rattle.std.specs.Prelude.{◌≡◌, ℕ, ◌+◌, ◌<◌, ◌≤◌, ◌&&◌, nat_lt, not, if◌then◌else◌, true, false, All, List, Option, Some, None, is_some, length, map}
+use Rattle.std.specs.Prelude.{◌≡◌, ℕ, ◌+◌, ◌<◌, ◌≤◌, ◌&&◌, nat_lt, not, if◌then◌else◌, true, false, All, List, ◌∷◌, ◌++◌, Option, Some, None, is_some, length, map}
 use Rattle.std.specs.Borrow.{GName}
+use Rattle.atomic_table.specs.Seated.{TableId}
 use Rattle.vio_num.specs.declared.names.UnitId.{UnitId}
 use Rattle.page_slots.specs.Page.{PageValue}
 use Rattle.page_slots.specs.Stroke.{StrokeValue}
@@ -35,6 +36,14 @@ strokes_known n seat p = if nat_lt p n && not (holds seat p) then Some (saw seat
 -- of a page that the seat holds, the number of strokes that it had as it was taken
 abbrev pub taken_with : PageSeatValue → ℕ → ℕ
 taken_with seat p = if holds seat p then length (saw seat p) else 0
+
+-- the numbers that tell a table of pages or of entries from every other
+abbrev pub names_in : TableId → List GName
+names_in id = id.words ∷ id.slots ∷ id.views_name ∷ id.atom ∷ id.block ∷ id.offset ∷ id.slot_names
+
+-- those that tell a window from every other: its pages' with their count before them, and its entries'
+abbrev pub window_names : SharedWindowValue → List GName
+window_names window = length (names_in window.pages.id) ∷ names_in window.pages.id ++ names_in window.entries.id
 
 -- what a seat knows of the window, as a port that reaches it through these borrows
 abbrev pub port_of : List GName → SharedWindowValue → WindowSeatValue → PortState

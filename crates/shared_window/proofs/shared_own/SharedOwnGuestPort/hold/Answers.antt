@@ -1,12 +1,13 @@
 use Rattle.std.proofs.Common.{[], ◌∷◌}
 use Rattle.shared_window.proofs.Ports.{ok_holds, err_none, lays_nothing}
+use Rattle.shared_window.specs.SharedWindow.{window_names}
 use Rattle.shared_window.proofs.shared_own.SharedOwnGuestPort.hold.Goals as goal
 
 pub returns-clause-ok : goal.returns-clause-ok
-returns-clause-ok c = ok_holds c.args.self.now.window.now c.args.self.now.owner.now.seat c.hold_own.new.owner.seat c.args.ioba c.args.len c.args.right (c.args.self.now.owner.ghost_name ∷ c.args.self.now.guest.ghost_name ∷ []) c.hold_own.result c.hold_own.ensures.ok
+returns-clause-ok c = ok_holds c.args.self.now.window.now c.args.self.now.owner.now.seat c.hold_own.new.owner.seat c.args.ioba c.args.len c.args.right (c.args.self.now.owner.ghost_name ∷ c.args.self.now.guest.ghost_name ∷ window_names c.args.self.now.window.now) c.hold_own.result c.hold_own.ensures.ok
 
 pub returns-clause-err : goal.returns-clause-err
-returns-clause-err c = err_none c.args.self.now.window.now c.args.self.now.owner.now.seat c.hold_own.new.owner.seat c.args.ioba c.args.len c.args.right (c.args.self.now.owner.ghost_name ∷ c.args.self.now.guest.ghost_name ∷ []) c.hold_own.result c.hold_own.ensures.err
+returns-clause-err c = err_none c.args.self.now.window.now c.args.self.now.owner.now.seat c.hold_own.new.owner.seat c.args.ioba c.args.len c.args.right (c.args.self.now.owner.ghost_name ∷ c.args.self.now.guest.ghost_name ∷ window_names c.args.self.now.window.now) c.hold_own.result c.hold_own.ensures.err
 
 pub returns-clause-nothing : goal.returns-clause-nothing
 returns-clause-nothing c = lays_nothing c.args.self.now.window.now c.args.self.now.owner.now.seat c.hold_own.new.owner.seat c.args.ioba c.args.len c.args.right [] c.hold_own.result c.hold_own.ensures.ok c.hold_own.ensures.err

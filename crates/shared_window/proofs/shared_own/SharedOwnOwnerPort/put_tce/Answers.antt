@@ -1,6 +1,7 @@
 use Rattle.std.proofs.Common.{[], ◌∷◌}
 use Rattle.shared_window.proofs.PuttingValues.{puts_port}
+use Rattle.shared_window.specs.SharedWindow.{window_names}
 use Rattle.shared_window.proofs.shared_own.SharedOwnOwnerPort.put_tce.Goals as goal
 
 pub returns-clause-put : goal.returns-clause-put
-returns-clause-put c = puts_port c.args.self.now.window.now c.args.self.now.owner.now c.put_tce.new.owner c.args.ioba (c.args.tce ∷ []) (c.args.self.now.owner.ghost_name ∷ c.args.self.now.guest.ghost_name ∷ []) c.put_tce.result c.args.self.now.ours c.put_tce.ensures.at c.put_tce.ensures.puts
+returns-clause-put c = puts_port c.args.self.now.window.now c.args.self.now.owner.now c.put_tce.new.owner c.args.ioba (c.args.tce ∷ []) (c.args.self.now.owner.ghost_name ∷ c.args.self.now.guest.ghost_name ∷ window_names c.args.self.now.window.now) c.put_tce.result c.args.self.now.ours c.put_tce.ensures.at c.put_tce.ensures.puts
