@@ -14,4 +14,6 @@ mod meeting;
 #[cfg(test)]
 mod owning;
 #[cfg(test)]
+mod rows;
+#[cfg(test)]
 mod threads;

@@ -97,7 +97,9 @@ fn all<R: Threads + Sync>(
     thread::join(
         rt,
         move || owner(window, first, ROUNDS),
-        move || both(rt, alloc, window, a, b),
+        move ||
+            requires { IsIdleAt window.now a × IsIdleAt window.now b }
+        { both(rt, alloc, window, a, b) },
     )
 }
 
