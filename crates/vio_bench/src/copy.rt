@@ -1,12 +1,13 @@
-// Pages copied between two windows, plain and shared, beside the same pages copied as plain memory.
+// Pages copied between two windows, plain and shared, and their turns alone, beside the same pages copied as plain memory.
 ghost use Rattle.std.specs.Prelude.{◌≡◌, ◌≤◌, ◌<◌, IfOk, IfSome};
+ghost use Rattle.page_slots.specs.Turns.{IsIdle};
 ghost use Rattle.shared_window.specs.SharedWindow.{IsIdleAt};
 
-use page_slots::StrokeName;
+use page_slots::{OpenedPages, PageSeat, Pages, StrokeName, Take};
 use rdma_copy::{CopyAnswer, copy_rdma};
 use shared_window::{Guest, Opened, SharedGuest, Window};
 use std::alloc::Global;
-use tce_window::{GuestPort, PlainWindow, Right};
+use tce_window::{GuestPort, PlainWindow};
 use vio_num::{NoMemory, PAGE_BYTES, UnitId};
 
 /// The pages of each window; plain memory has as many.
@@ -116,56 +117,67 @@ pub fn copy_shared(alloc: Global, count: u32) -> Result<u32, NoMemory>
     Ok(copy_each(alloc, &mut source, &mut target, count))
 }
 
-// Holds a page and gives it back. Tells whether it was held.
-fn turn<G: GuestPort>(guest: &mut G, page: u64, right: Right) -> bool
-    requires free { (G.state guest.old).held_count ≡ 0 }
-    requires page { page < 64 }
-    ensures { (G.state guest.new).held_count ≡ 0 }
+// Takes a page and gives it back. Tells whether it was there.
+fn turn(pages: &Pages, seat: &mut PageSeat, page: u16) -> bool
+    requires idle { IsIdle pages.now seat.old }
+    requires within { page < pages.now.count }
+    ensures { IsIdle pages.now seat.new }
 {
-    match guest.hold(page * PAGE_BYTES, PAGE_BYTES as u32, right) {
-        Ok(held) => {
-            guest.give_back(held);
+    match pages.take(seat, page) {
+        Take::Taken(value) => {
+            pages.give(seat, page, value);
             true
         }
-        Err(_) => false,
+        Take::InUse { .. } => false,
     }
 }
 
-/// Takes and gives this many pages of one shared window and as many of another.
-pub fn turn_shared(alloc: Global, count: u32) -> Result<u32, NoMemory>
-    ensures { IfOk result (λ done. done ≤ count) }
+// Opens pages with a seat; none where the seat is missing.
+fn open_pages(alloc: Global) -> Result<Option<(Pages, PageSeat)>, NoMemory>
+    ensures { IfOk result (λ opened. IfSome opened
+        (λ pair. IsIdle pair.0 pair.1 × (pair.0.count ≡ 64))) }
 {
-    let Some((first, mut reader)) = open_shared(alloc, SOURCE)? else {
-        return Ok(0);
-    };
-    let Some((second, mut writer)) = open_shared(alloc, TARGET)? else {
-        return Ok(0);
-    };
-    let mut source = SharedGuest {
-        window: &first,
-        guest: &mut reader,
-    };
-    let mut target = SharedGuest {
-        window: &second,
-        guest: &mut writer,
-    };
-    Ok(turn_each(&mut source, &mut target, count))
+    let OpenedPages { pages, mut seats } = Pages::open(alloc, PAGES, 1)?;
+    match seats.pop() {
+        Some(seat) => Ok(Some((pages, seat))),
+        None => Ok(None),
+    }
 }
 
-// Takes and gives this many pages of each window, up to the first that is refused, and counts them.
-fn turn_each<S: GuestPort, D: GuestPort>(source: &mut S, target: &mut D, count: u32) -> u32
-    requires source { (S.state source.old).held_count ≡ 0 }
-    requires target { (D.state target.old).held_count ≡ 0 }
+// Takes and gives back this many pages of each, up to the first that is not there, and counts them.
+fn turn_each(
+    first: &Pages,
+    reader: &mut PageSeat,
+    second: &Pages,
+    writer: &mut PageSeat,
+    count: u32,
+) -> u32
+    requires reader { IsIdle first.now reader.old }
+    requires writer { IsIdle second.now writer.old }
+    requires counts { (first.now.count ≡ 64) × (second.now.count ≡ 64) }
     ensures { result ≤ count }
 {
     let mut done = 0;
     while done < count {
-        if !turn(source, page_of(done), Right::Read)
-            || !turn(target, page_of(done.wrapping_add(7)), Right::Write)
+        if !turn(first, reader, page_of(done) as u16)
+            || !turn(second, writer, page_of(done.wrapping_add(7)) as u16)
         {
             break;
         }
         done += 1;
     }
     done
+}
+
+/// Takes and gives back this many pages of a source and as many of a target.
+pub fn turn_pages(alloc: Global, count: u32) -> Result<u32, NoMemory>
+    ensures { IfOk result (λ done. done ≤ count) }
+{
+    let Some((first, mut reader)) = open_pages(alloc)? else {
+        return Ok(0);
+    };
+    let Some((second, mut writer)) = open_pages(alloc)? else {
+        return Ok(0);
+    };
+    Ok(turn_each(&first, &mut reader, &second, &mut writer, count))
 }

@@ -26,7 +26,7 @@ Does the work COUNT times, 1 to 100000000, and says on standard error what it to
   link-1      sends an entry over a shared link of 256 slots, on one thread in batches of 32
   link-2      sends an entry from one thread to another over such a link
   memcpy      copies 4096 bytes from a random place to another
-  turns       takes a page of one shared window and gives it back, and one of another
+  turns       takes a shared page and gives it back, and another one
   copy-plain  copies a page of 4096 bytes from one window to another
   copy        the same between shared windows
   turn        has a server unit serve a TEST UNIT READY, in a turn

@@ -28,7 +28,7 @@ pub enum Work {
     LinkTwo,
     /// 4,096 bytes are copied.
     Memcpy,
-    /// A page of each of two shared windows is taken and given back.
+    /// A shared page is taken and given back, and another one.
     Turns,
     /// A page is copied between plain windows.
     CopyPlain,
@@ -136,7 +136,7 @@ fn do_round(alloc: Global, work: Alone, count: u32) -> Result<u32, NoMemory>
         Alone::Ring => ring::pass_round(alloc, count),
         Alone::Link => link::pass_round(alloc, count),
         Alone::Memcpy => copy::copy_memory(alloc, count),
-        Alone::Turns => copy::turn_shared(alloc, count),
+        Alone::Turns => copy::turn_pages(alloc, count),
         Alone::CopyPlain => copy::copy_plain(alloc, count),
         Alone::Copy => copy::copy_shared(alloc, count),
         Alone::Turn => serve::serve_round(alloc, count),

@@ -1,12 +1,9 @@
-use Rattle.std.proofs.Common.{◌≡◌, ◌≤◌, ◌-◌}
+use Rattle.std.proofs.Common.{◌≤◌, ◌-◌}
+use Rattle.page_slots.specs.Turns.{IsIdle}
 use Rattle.vio_bench.proofs.copy.turn_each.Given as goal
 
 abbrev pub invariant-loop-done : goal.invariant-loop-done
-invariant-loop-done g l = record {
-  within : l.done ≤ l.count;
-  source : (g.S.WindowPort.state l.source).held_count ≡ 0;
-  target : (g.D.WindowPort.state l.target).held_count ≡ 0;
-}
+invariant-loop-done l = record { within : l.done ≤ l.count; reader : IsIdle l.first l.reader; writer : IsIdle l.second l.writer }
 
 abbrev pub decreases-loop-done : goal.decreases-loop-done
-decreases-loop-done g l = l.count - l.done
+decreases-loop-done l = l.count - l.done
