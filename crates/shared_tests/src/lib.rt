@@ -16,4 +16,6 @@ mod owning;
 #[cfg(test)]
 mod rows;
 #[cfg(test)]
+mod serving;
+#[cfg(test)]
 mod threads;

@@ -103,8 +103,8 @@ fn done<W: OwnerPort>(port: &mut W, step: Step) -> Seen {
     }
 }
 
-// Does the steps of the rows, and gives the number of the first of which something else is seen than its row says.
-fn first_other<W: OwnerPort>(port: &mut W) -> Option<usize> {
+/// Does the steps of the rows, and gives the number of the first of which something else is seen than its row says.
+pub(crate) fn first_other<W: OwnerPort>(port: &mut W) -> Option<usize> {
     for (number, (step, want)) in ROWS.iter().enumerate() {
         if done(port, *step) != *want {
             return Some(number);
