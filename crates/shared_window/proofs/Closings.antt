@@ -1,19 +1,18 @@
 -- What the end of the sharing of a window asks of its seats, and what it leaves.
-use Rattle.std.proofs.Common.{◌≡◌, ℕ, ◌+◌, ◌<◌, true, false, All, List, [], ◌∷◌, ◌++◌, Option, Some, None, is_some, length, length-append, map, slice_get, get_or, refl, sym, ap, ◌∙◌, subst, arith}
-use Rattle.std.specs.Prelude.{reverse, slice_index_or, IsSome}
+use Rattle.std.proofs.Common.{◌≡◌, ℕ, ◌<◌, false, All, List, [], ◌∷◌, ◌++◌, Option, Some, is_some, length, length-append, map, sym, ap, ◌∙◌, subst, arith}
+use Rattle.std.specs.Prelude.{reverse, slice_index_or}
 use Rattle.std.proofs.lemmas.List.{reverse-append, length-map, get_or-map}
 use Rattle.std.proofs.lemmas.List.Elements.{All-append, All-map, All-cons}
 use Rattle.std.proofs.lemmas.Option.{slice_get-get_or}
-use Rattle.vio_num.specs.Words.{Begins}
 use Rattle.page_slots.specs.Page.{PageValue}
 use Rattle.page_slots.specs.Seats.{PagesValue, PageSeatValue, holds}
-use Rattle.page_slots.specs.Turns.{AreAll, ClosesPages, IsOfSeats}
+use Rattle.page_slots.specs.Turns.{AreAll, ClosesPages}
 use Rattle.tce_window.specs.Window.{strokes_at, AllThere}
 use Rattle.entry_slots.specs.Entries.{EntrySeatValue}
 use Rattle.entry_slots.specs.EntryCuts.{AreGuests}
 use Rattle.shared_window.specs.Closing.{AreAllSeats, IsLeftPage, seats_of, strokes_listed}
 use Rattle.shared_window.specs.Opening.{OwnerValue}
-use Rattle.shared_window.specs.SharedWindow.{SharedWindowValue, WindowSeatValue, IsSeatAt}
+use Rattle.shared_window.specs.SharedWindow.{SharedWindowValue, WindowSeatValue}
 
 -- what is so of what a function makes of each is so of it
 pub all_of : {A B : Type 0} (P : B → Type 0) (f : A → B) (l : List A) → All P (map f l) → All (λ a. P (f a)) l

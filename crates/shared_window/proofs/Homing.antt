@@ -1,9 +1,8 @@
 -- Pages that are put into their places, each at its number in a list.
-use Rattle.std.proofs.Common.{◌≡◌, ℕ, zero, suc, ◌+◌, ◌<◌, ◌==◌, if◌then◌else◌, Bool, false, List, [], ◌∷◌, ◌++◌, Option, Some, None, length, length-append, map, slice_get, refl, sym, ap, ◌∙◌, subst, arith}
+use Rattle.std.proofs.Common.{◌≡◌, ℕ, zero, suc, ◌+◌, ◌<◌, ◌==◌, if◌then◌else◌, Bool, false, List, [], ◌∷◌, ◌++◌, Option, Some, None, length, length-append, refl, sym, ap, ◌∙◌, arith}
 use Rattle.std.proofs.lemmas.List.{append-nil}
 use Rattle.std.proofs.Math.Seq.{append_snoc}
 use Rattle.page_slots.specs.Page.{PageValue}
-use Rattle.page_slots.specs.Stroke.{StrokeValue}
 use Rattle.tce_window.specs.Window.{strokes_at}
 use Rattle.shared_window.specs.Closing.{strokes_listed}
 

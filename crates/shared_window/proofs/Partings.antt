@@ -1,13 +1,10 @@
 -- Seats that leave a list from its end, and go back into one.
-use Rattle.std.proofs.Common.{◌≡◌, List, [], ◌∷◌, ◌++◌, length, length-append, map, refl, sym, ap, ◌∙◌, subst, arith}
-use Rattle.std.proofs.lemmas.List.{reverse-append, append-nil}
+use Rattle.std.proofs.Common.{◌≡◌, List, [], ◌∷◌, ◌++◌, length, map, refl, sym, ap, ◌∙◌, arith}
+use Rattle.std.proofs.lemmas.List.{reverse-append}
 use Rattle.std.proofs.Math.Seq.{append_snoc}
 use Rattle.std.specs.Prelude.{reverse}
-use Rattle.page_slots.specs.Seats.{PageSeatValue}
-use Rattle.entry_slots.specs.Entries.{EntrySeatValue}
-use Rattle.shared_window.specs.Closing.{ArePartsOf, rest_of}
+use Rattle.shared_window.specs.Closing.{rest_of}
 use Rattle.shared_window.specs.SharedWindow.{WindowSeatValue}
-use Rattle.shared_window.specs.declared.parting.SeatRest.{SeatRest}
 
 module _ {X Y : Type 0} (f : X → Y) where
   -- what was made of the elements before one, and of it

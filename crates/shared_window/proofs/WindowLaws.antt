@@ -1,5 +1,5 @@
 -- What callers of a shared window's ports use: a seat whose port kept its place is still one at the window.
-use Rattle.std.proofs.Common.{◌≡◌, ℕ, ◌+◌, ◌<◌, ◌≤◌, true, false, List, ◌∷◌, ◌++◌, take, drop, length, slice_index, sym, ap, ◌∙◌, subst}
+use Rattle.std.proofs.Common.{◌≡◌, ◌+◌, ◌<◌, ◌≤◌, List, ◌∷◌, take, drop, slice_index, sym, ap, ◌∙◌, subst}
 use Rattle.std.specs.Borrow.{GName}
 use Rattle.std.proofs.Math.Seq.{take-append_seam, drop-append_seam}
 use Rattle.atomic_table.specs.Seated.{TableId}

@@ -1,5 +1,5 @@
 -- How the sharing of a window ends: its seats apart, and the plain window that is left.
-use Rattle.std.specs.Prelude.{◌≡◌, ℕ, ◌+◌, ◌<◌, All, List, [], ◌∷◌, ◌++◌, Option, Some, None, length, map, slice_get}
+use Rattle.std.specs.Prelude.{◌≡◌, ℕ, ◌+◌, ◌<◌, All, List, [], ◌∷◌, ◌++◌, Option, Some, length, map, slice_get}
 use Rattle.vio_num.specs.Words.{Begins}
 use Rattle.page_slots.specs.Page.{PageValue}
 use Rattle.page_slots.specs.Stroke.{StrokeValue}

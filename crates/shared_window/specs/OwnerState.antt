@@ -1,5 +1,5 @@
 -- The owner of a shared window as a port.
-use Rattle.std.specs.Prelude.{◌≡◌, ℕ, ◌+◌, ◌*◌, [], ◌∷◌, Some, slice_get, refl}
+use Rattle.std.specs.Prelude.{◌≡◌, ℕ, ◌+◌, ◌*◌, ◌∷◌, Some, slice_get, refl}
 use Rattle.tce_window.specs.Grant.{values_of}
 use Rattle.tce_window.specs.PortState.{PortState}
 use Rattle.shared_window.specs.declared.owner.SharedOwner.{SharedOwner}

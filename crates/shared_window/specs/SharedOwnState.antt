@@ -1,5 +1,5 @@
 -- A window with its owner and a guest as a port: what the owner's seat knows and holds.
-use Rattle.std.specs.Prelude.{◌≡◌, ℕ, ◌+◌, ◌*◌, [], ◌∷◌, Some, slice_get, refl}
+use Rattle.std.specs.Prelude.{◌≡◌, ℕ, ◌+◌, ◌*◌, ◌∷◌, Some, slice_get, refl}
 use Rattle.tce_window.specs.Grant.{values_of}
 use Rattle.tce_window.specs.Held.{HeldValue}
 use Rattle.tce_window.specs.Moved.{Follows}

@@ -1,7 +1,7 @@
 -- Each page goes into its place.
-use Rattle.std.proofs.Common.{rules, ◌≡◌, ◌∷◌, ◌∙◌, subst}
+use Rattle.std.proofs.Common.{rules, ◌≡◌, ◌∷◌, ◌∙◌}
 use Rattle.std.specs.Vec.Iter.{into_iter_items}
-use Rattle.shared_window.proofs.Homing.{inside, away, placed_more, all_placed}
+use Rattle.shared_window.proofs.Homing.{placed_more}
 use Rattle.shared_window.proofs.close.put_all.Goals as goal
 
 pub loop-page-preserved : goal.loop-page-preserved

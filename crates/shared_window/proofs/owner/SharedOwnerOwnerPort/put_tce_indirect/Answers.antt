@@ -1,4 +1,4 @@
-use Rattle.std.proofs.Common.{[], ◌∷◌}
+use Rattle.std.proofs.Common.{◌∷◌}
 use Rattle.shared_window.proofs.PuttingValues.{puts_port}
 use Rattle.shared_window.specs.SharedWindow.{window_names}
 use Rattle.shared_window.proofs.owner.SharedOwnerOwnerPort.put_tce_indirect.Goals as goal

@@ -1,4 +1,4 @@
-use Rattle.std.proofs.Common.{[], ◌∷◌, replicate}
+use Rattle.std.proofs.Common.{◌∷◌, replicate}
 use Rattle.shared_window.proofs.PuttingValues.{puts_port}
 use Rattle.shared_window.specs.SharedWindow.{window_names}
 use Rattle.shared_window.proofs.owner.SharedOwnerOwnerPort.stuff_tce.Goals as goal

@@ -1,4 +1,4 @@
-use Rattle.std.proofs.Common.{rules, ◌≡◌, [], ◌∷◌, List, length}
+use Rattle.std.proofs.Common.{rules, ◌≡◌, ◌∷◌, List, length}
 use Rattle.std.specs.Borrow.{GName}
 use Rattle.shared_window.proofs.OwnerPorts.{read_ok, read_range, read_in_use, read_rest}
 use Rattle.shared_window.specs.SharedWindow.{window_names}

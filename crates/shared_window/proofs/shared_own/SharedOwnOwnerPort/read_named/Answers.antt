@@ -1,4 +1,4 @@
-use Rattle.std.proofs.Common.{rules, ◌≡◌, [], ◌∷◌, List, length}
+use Rattle.std.proofs.Common.{rules, ◌≡◌, ◌∷◌, List, length}
 use Rattle.std.specs.Borrow.{GName}
 use Rattle.shared_window.proofs.OwnerPorts.{read_ok, named_range, named_in_use, named_stale, named_rest}
 use Rattle.shared_window.specs.SharedWindow.{window_names}

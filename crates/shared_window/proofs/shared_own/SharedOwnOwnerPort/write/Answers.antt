@@ -1,4 +1,4 @@
-use Rattle.std.proofs.Common.{[], ◌∷◌, List, length, refl}
+use Rattle.std.proofs.Common.{◌∷◌, List, length, refl}
 use Rattle.std.specs.Borrow.{GName}
 use Rattle.shared_window.proofs.OwnerPorts.{write_ok, write_range, write_in_use, write_memory, write_none, write_rest}
 use Rattle.shared_window.specs.SharedWindow.{window_names}

@@ -1,8 +1,8 @@
 -- All seats are closed by, and come back where there is no memory.
-use Rattle.std.proofs.Common.{rules, ◌≡◌, ◌<◌, All, List, [], ◌∷◌, ◌++◌, map, refl, sym, ap, ◌∙◌, subst}
+use Rattle.std.proofs.Common.{rules, ◌≡◌, ◌<◌, All, List, [], ◌∷◌, ◌++◌, map, sym, ap, ◌∙◌, subst}
 use Rattle.std.proofs.lemmas.List.{append_cancel_right}
 use Rattle.page_slots.specs.Seats.{PageSeatValue}
-use Rattle.page_slots.specs.Turns.{AreAll, ClosesPages}
+use Rattle.page_slots.specs.Turns.{AreAll}
 use Rattle.entry_slots.specs.Entries.{EntrySeatValue}
 use Rattle.entry_slots.specs.EntryCuts.{AreGuests}
 use Rattle.vio_num.specs.Words.{Begins}

@@ -1,14 +1,12 @@
 -- A range is held where its entries are pinned and its pages taken.
-use Rattle.std.proofs.Common.{rules, ◌≡◌, ◌<◌, All, List, Option, None, Err, if◌then◌else◌, length, map, subst, sym, ap, ◌∙◌, refl}
+use Rattle.std.proofs.Common.{rules, ◌≡◌, ◌<◌, All, List, Option, Err, length, map, subst, sym, ap, ◌∙◌, refl}
 use Rattle.page_slots.specs.Page.{PageValue}
 use Rattle.tce_window.specs.declared.piece.Piece.{Piece}
 use Rattle.tce_window.specs.Moved.{unplaced}
-use Rattle.tce_window.specs.Pieces.{on_page}
 use Rattle.tce_window.specs.Held.{HeldValue}
-use Rattle.tce_window.specs.Window.{strokes_at}
 use Rattle.vio_num.specs.Counts.{Rose}
 use Rattle.tce_window.specs.declared.answers.HoldFault.TheVariants.{InUse}
-use Rattle.shared_window.specs.Hand.{TakesPages, FindsOneInUse}
+use Rattle.shared_window.specs.Hand.{FindsOneInUse}
 use Rattle.shared_window.specs.Pinning.{Releases}
 use Rattle.shared_window.specs.Ranges.{HoldsRange, RefusesHold}
 use Rattle.shared_window.specs.SharedWindow.{SharedWindowValue, WindowSeatValue, IsSeatAt}
