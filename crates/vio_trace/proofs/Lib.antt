@@ -19,7 +19,6 @@ pub mod Numbers
 pub mod Order
 pub mod Outcomes
 pub mod Parted
-pub mod Ranges
 pub mod Refused
 pub mod Recorded
 pub mod Pushed

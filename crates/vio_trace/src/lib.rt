@@ -2,6 +2,7 @@
 #![tactic(auto)]
 
 mod fields;
+mod fitting;
 mod lan_lines;
 mod lan_rows;
 mod lan_words;
