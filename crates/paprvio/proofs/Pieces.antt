@@ -18,10 +18,3 @@ take-over a n k xs ys in_xs in_ys =
 pub in_front : (a n k : ℕ) (xs ys : List ℕ) → a ≤ length xs → n ≤ length ys → a + n ≤ length (put_mid a k xs ys)
 in_front a n k xs ys in_xs in_ys =
     omega (arith, length-take-le a xs in_xs, length-append (take a xs) (ys ++ post_of a k xs), length-append ys (post_of a k xs))
-
--- a front, and behind it a front of all that was left
-pub fronts : (a n : ℕ) (xs : List ℕ) → a ≤ length xs
-    → take (a + n) xs ≡ take a xs ++ take n (take (length xs - a) (drop a xs))
-fronts a n xs within =
-    let rest : take (length xs - a) (drop a xs) ≡ drop a xs = take_all (length xs - a) (drop a xs) (omega (arith, length-drop a xs)) in
-    rw rest (ap (λ zs. take (a + n) zs) (sym (take-append-drop a xs)) ∙ take-behind a n (take a xs) (drop a xs) (length-take-le a xs within))

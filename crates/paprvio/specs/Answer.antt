@@ -20,13 +20,14 @@ use Rattle.paprvio.specs.declared.task.Task.TheVariants as tasks
 use Rattle.paprvio.specs.Run.{AreRun, GivesPlan, IsFaulty, IsRefused, IsRefusedAs, IsSummaryOf, IsTraceOf, RunAnswer, Says}
 use Rattle.paprvio.specs.Texts.{summary_text, too_long_text, usage_text}
 use Rattle.vio_trace.specs.Form.{IsTextOf}
+use Rattle.vio_trace.specs.Text.{trace_text}
 use Rattle.vio_trace.specs.declared.rows.Trace.{Trace}
 
 abbrev pub answer_status : Answer → Status
 answer_status answers.Usage = Usage
 answer_status answers.TooLong = Refused
 answer_status (answers.Refused text) = Refused
-answer_status (answers.Trace text) = Done
+answer_status (answers.Trace trace) = Done
 answer_status (answers.Generated text) = Done
 answer_status (answers.Summary text) = Done
 
@@ -34,7 +35,7 @@ abbrev pub answer_text : Answer → List ℕ
 answer_text answers.Usage = usage_text
 answer_text answers.TooLong = too_long_text
 answer_text (answers.Refused text) = text.items
-answer_text (answers.Trace text) = text.items
+answer_text (answers.Trace trace) = trace_text trace
 answer_text (answers.Generated text) = text.items
 answer_text (answers.Summary text) = text.items
 

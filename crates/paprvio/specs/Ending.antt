@@ -5,7 +5,7 @@ use Rattle.vio_io.specs.Image.{ImageState, FailsAfter, after_sizing}
 use Rattle.vio_num.specs.Counts.{Rose}
 use Rattle.paprvio.specs.declared.status.Status.{Status}
 use Rattle.paprvio.specs.declared.status.Status.TheVariants.{SourceFailed, SinkFailed, ImageFailed, NoMemory}
-use Rattle.paprvio.specs.Written.{AppendsFront}
+use Rattle.vio_trace.specs.Passing.{AppendsFront}
 
 -- what a source, a sink and an image show at one moment
 pub record Outside : Type 0 where

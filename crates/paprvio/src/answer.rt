@@ -1,8 +1,12 @@
 // What a run answers: its status, and the text that goes to the sink.
 ghost use Rattle.std.specs.Prelude.{◌≡◌};
 ghost use Rattle.paprvio.specs.Answer.{answer_status, answer_text};
+ghost use Rattle.vio_trace.specs.Passing.{IsWritten};
 
 use crate::status::Status;
+use std::alloc::Global;
+use vio_io::{Sink, WriteFault};
+use vio_trace::{Trace, write_all, write_trace};
 
 /// What a run has to say, once it has done its work.
 #[derive(Debug, Drop)]
@@ -13,8 +17,8 @@ pub enum Answer {
     TooLong,
     /// The boot text says no plan: the text names its first wrong line and the cause.
     Refused(Vec<u8>),
-    /// The text of the run's trace.
-    Trace(Vec<u8>),
+    /// The run's trace, whose text is made as it is written.
+    Trace(Trace),
     /// The boot text of a seed.
     Generated(Vec<u8>),
     /// The summary of a run.
@@ -33,17 +37,18 @@ impl Answer {
         }
     }
 
-    /// The text for the sink.
-    pub fn text(&self) -> &[u8]
-        ensures { result.now ≡ answer_text self.now }
+    /// Writes the text to the sink.
+    pub fn write<S: Sink>(&self, alloc: Global, sink: &mut S) -> Result<(), WriteFault>
+        ensures { IsWritten result (answer_text self.now)
+            (S.taken sink.old) (S.taken sink.new) (S.faults sink.old) (S.faults sink.new) }
     {
         match self {
-            Answer::Usage => b"paprvio: usage\n",
-            Answer::TooLong => b"paprvio: line 0: TooLong\n",
-            Answer::Refused(text)
-            | Answer::Trace(text)
-            | Answer::Generated(text)
-            | Answer::Summary(text) => text,
+            Answer::Usage => write_all(sink, b"paprvio: usage\n"),
+            Answer::TooLong => write_all(sink, b"paprvio: line 0: TooLong\n"),
+            Answer::Trace(trace) => write_trace(alloc, trace, sink),
+            Answer::Refused(text) | Answer::Generated(text) | Answer::Summary(text) => {
+                write_all(sink, text)
+            }
         }
     }
 }

@@ -24,7 +24,6 @@ mod telling;
 #[cfg(test)]
 mod tests;
 mod words;
-mod writing;
 
 use crate::run::run;
 use crate::status::Status;

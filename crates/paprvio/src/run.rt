@@ -15,7 +15,6 @@ use crate::running::{Answered, run_plan};
 use crate::status::Status;
 use crate::stop::Stop;
 use crate::task::Task;
-use crate::writing::write_all;
 use std::alloc::Global;
 use std::thread::Threads;
 use vio_io::{Blocks, Gate, Sink, Source, WriteFault};
@@ -70,11 +69,11 @@ fn answer_words<So: Source, Di: Blocks + Drop>(
 }
 
 // Writes the answer, and says how that ended.
-fn finish<Si: Sink>(sink: &mut Si, answer: &Answer) -> Status
+fn finish<Si: Sink>(alloc: Global, sink: &mut Si, answer: &Answer) -> Status
     ensures { FinishesAs (answer_status answer.now) (answer_text answer.now) result
         (Si.taken sink.old) (Si.taken sink.new) (Si.faults sink.old) (Si.faults sink.new) }
 {
-    match write_all(sink, answer.text()) {
+    match answer.write(alloc, sink) {
         Ok(()) => answer.status(),
         Err(WriteFault::Failed) => Status::SinkFailed,
         Err(WriteFault::NoMemory) => Status::NoMemory,
@@ -116,7 +115,7 @@ fn run_words<So: Source, Di: Blocks + Drop, Si: Sink>(
     let Answered { image, answer } = answer_words(alloc, words, source, image);
     match answer {
         Ok(answer) => Finished {
-            status: finish(sink, &answer),
+            status: finish(alloc, sink, &answer),
             image,
         },
         Err(stop) => Finished {

@@ -1,4 +1,4 @@
-// The run of a plan over an image: its blocks are counted, the plan is run, and its trace is written as a text.
+// The run of a plan over an image: its blocks are counted, the plan is run, and what is asked of its trace is told.
 ghost use Rattle.std.specs.Prelude.{◌≡◌, IfOk, IsErrOf};
 ghost use Rattle.boot_text.specs.Sound.{IsSound};
 ghost use Rattle.vio_trace.specs.Form.{IsInOrder};
@@ -17,7 +17,7 @@ use std::alloc::Global;
 use vcpu_run::settle_plan;
 use vio_io::{Blocks, Failed};
 use vio_num::NoMemory;
-use vio_trace::{Trace, write_trace};
+use vio_trace::{Trace, form_of};
 
 /// An answer or why there is none, and the image as it was left.
 #[derive(Drop)]
@@ -27,14 +27,17 @@ pub struct Answered<Di> {
 }
 
 // Tells of a trace what is to be told.
-fn tell(alloc: Global, telling: Telling, trace: &Trace) -> Result<Answer, NoMemory>
-    requires { IsInOrder trace.now }
+fn tell(alloc: Global, telling: Telling, trace: Trace) -> Result<Answer, NoMemory>
+    requires { IsInOrder trace }
     ensures done { IfOk result (λ answer. answer_status answer ≡ Done) }
-    ensures told { IfOk result (λ answer. IsToldOfTrace telling trace.now (answer_text answer)) }
+    ensures told { IfOk result (λ answer. IsToldOfTrace telling trace (answer_text answer)) }
 {
     match telling {
-        Telling::Whole => Ok(Answer::Trace(write_trace(alloc, trace)?)),
-        Telling::Summary => Ok(Answer::Summary(summary_text(alloc, trace)?)),
+        Telling::Whole => {
+            form_of(&trace);
+            Ok(Answer::Trace(trace))
+        }
+        Telling::Summary => Ok(Answer::Summary(summary_text(alloc, &trace)?)),
     }
 }
 
@@ -55,7 +58,7 @@ fn run_counted<Di: Blocks + Drop>(
     ensures served { IsServed (Di.state image).blocks (Di.state result.image).blocks }
 {
     let settled = settle_plan(alloc, plan, image, count);
-    let answer = match &settled.trace {
+    let answer = match settled.trace {
         Some(trace) => match tell(alloc, telling, trace) {
             Ok(answer) => Ok(answer),
             Err(NoMemory) => Err(Stop::NoMemory),

@@ -4,11 +4,13 @@ ghost use Rattle.vio_trace.specs.Form.{Ascend, LogBefore, QueueBefore, AnswerBef
 
 use std::alloc::Global;
 use std::test::Fail;
+use vio_io::SureSink;
 use vio_num::{Bytes, Entry, Grant, Lapse, NoMemory, Sequence, Served, UnitId};
 use vio_trace::{AnswerRow, DropRow, LogRow, Outcome, QueueRow, Trace, write_trace};
 
 mod lans;
 mod log_words;
+mod pieces;
 mod reading;
 mod windows;
 
@@ -33,8 +35,11 @@ const MOST: u64 = 18446744073709551615;
 fn is_written(alloc: Global, trace: &Trace, text: &[u8]) -> Result<bool, NoMemory>
     requires { IsInOrder trace.now }
 {
-    let written = write_trace(alloc, trace)?;
-    Ok(written.as_slice() == text)
+    let mut sink = SureSink::new(alloc, 100);
+    match write_trace(alloc, trace, &mut sink) {
+        Ok(()) => Ok(sink.bytes() == text),
+        Err(_) => Err(NoMemory),
+    }
 }
 
 /// Whether a trace is written so. It lets the trace go, and no other function does.

@@ -11,6 +11,7 @@ pub mod Cuts
 pub mod Digits
 pub mod Ends
 pub mod Firsts
+pub mod Fronts
 pub mod Headed
 pub mod Histories
 pub mod Lans
@@ -19,7 +20,7 @@ pub mod Numbers
 pub mod Order
 pub mod Outcomes
 pub mod Parted
-pub mod Ranges
+pub mod Passing
 pub mod Refused
 pub mod Recorded
 pub mod Pushed

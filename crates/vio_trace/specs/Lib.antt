@@ -1,6 +1,7 @@
 pub mod Begun
 pub mod Form
 pub mod Heads
+pub mod Passing
 pub mod Reading
 pub mod Sections
 pub mod Shared

@@ -3,6 +3,7 @@ ghost use Rattle.std.specs.Prelude.{◌≡◌, ◌++◌, OnOk};
 ghost use Rattle.vio_trace.specs.Form.{IsFrameLine, IsFrameRow, IsOfferRow, IsPortRow, IsPostRow, IsDeliverLine, IsDeliverRow, IsHarvestRow};
 ghost use Rattle.vio_trace.specs.Text.{frame_line, frame_text, offer_text, port_text, post_text, deliver_line, deliver_text, harvest_text};
 
+use crate::fitting::{bytes_fit, name_fits, pieces_fit, rows_fit};
 use crate::lan_rows::{DeliverRow, FrameRow, HarvestRow, OfferRow, PortRow, PostRow};
 use crate::lan_words::{put_filled, put_offered};
 use crate::lines::{Lines, put_all};
@@ -12,8 +13,7 @@ use vio_num::NoMemory;
 
 // Writes the first line of a frame.
 fn put_frame_line(buffer: &mut Vec<u8>, row: &FrameRow) -> Result<(), NoMemory>
-    ensures text { OnOk result (buffer.new.items ≡ buffer.old.items ++ frame_line row.now) }
-    ensures range { OnOk result (IsFrameLine row.now) }
+    ensures { OnOk result (buffer.new.items ≡ buffer.old.items ++ frame_line row.now) }
 {
     put_head(buffer, b"frame", row.unit, row.number)?;
     put_code(buffer, row.code)?;
@@ -32,6 +32,15 @@ impl Lines for FrameRow {
         put_pieces(buffer, b"from", self.from.as_slice())?;
         put_all(buffer, self.offers.as_slice())
     }
+
+    fn fits(&self) {
+        name_fits(self.unit);
+        let _number = self.number;
+        let _from_len = self.from.len();
+        bytes_fit(self.bytes.as_slice());
+        pieces_fit(self.from.as_slice());
+        rows_fit(self.offers.as_slice());
+    }
 }
 
 impl Lines for OfferRow {
@@ -45,6 +54,12 @@ impl Lines for OfferRow {
         put_offered(buffer, self.offered)?;
         put(buffer, b"\n")
     }
+
+    fn fits(&self) {
+        name_fits(self.unit);
+        name_fits(self.port);
+        let _number = self.number;
+    }
 }
 
 impl Lines for PortRow {
@@ -57,6 +72,13 @@ impl Lines for PortRow {
         put_number(buffer, u64::from(self.slots))?;
         put_number(buffer, self.drops)?;
         put(buffer, b"\n")
+    }
+
+    fn fits(&self) {
+        name_fits(self.unit);
+        let _session = self.session;
+        let _slots = self.slots;
+        let _drops = self.drops;
     }
 }
 
@@ -72,12 +94,19 @@ impl Lines for PostRow {
         put_digits(buffer, self.correlator)?;
         put(buffer, b"\n")
     }
+
+    fn fits(&self) {
+        name_fits(self.unit);
+        let _session = self.session;
+        let _number = self.number;
+        let _descriptor = self.descriptor;
+        let _correlator = self.correlator;
+    }
 }
 
 // Writes the first line of a delivery.
 fn put_deliver_line(buffer: &mut Vec<u8>, row: &DeliverRow) -> Result<(), NoMemory>
-    ensures text { OnOk result (buffer.new.items ≡ buffer.old.items ++ deliver_line row.now) }
-    ensures range { OnOk result (IsDeliverLine row.now) }
+    ensures { OnOk result (buffer.new.items ≡ buffer.old.items ++ deliver_line row.now) }
 {
     put_head(buffer, b"deliver", row.unit, row.session)?;
     put_number(buffer, row.post)?;
@@ -97,6 +126,16 @@ impl Lines for DeliverRow {
         put_deliver_line(buffer, self)?;
         put_pieces(buffer, b"to", self.to.as_slice())
     }
+
+    fn fits(&self) {
+        name_fits(self.unit);
+        name_fits(self.sender);
+        let _session = self.session;
+        let _post = self.post;
+        let _frame = self.frame;
+        let _to_len = self.to.len();
+        pieces_fit(self.to.as_slice());
+    }
 }
 
 impl Lines for HarvestRow {
@@ -109,5 +148,12 @@ impl Lines for HarvestRow {
         put_digits(buffer, self.high)?;
         put_digits(buffer, self.low)?;
         put(buffer, b"\n")
+    }
+
+    fn fits(&self) {
+        name_fits(self.unit);
+        let _session = self.session;
+        let _high = self.high;
+        let _low = self.low;
     }
 }

@@ -2,6 +2,7 @@
 #![tactic(auto)]
 
 mod fields;
+mod fitting;
 mod lan_lines;
 mod lan_rows;
 mod lan_words;
@@ -29,4 +30,4 @@ pub use outcome::{Outcome, Shown};
 pub use read::{TraceFault, read_trace};
 pub use rows::{AnswerRow, DropRow, LogRow, QueueRow, Trace};
 pub use window_rows::{CopyRow, PieceRow, StrokeRow, TceValueRow};
-pub use write::write_trace;
+pub use write::{form_of, write_all, write_trace};

@@ -3,6 +3,7 @@ ghost use Rattle.std.specs.Prelude.{◌≡◌, ◌++◌, ℕ, List, All, OnOk, f
 ghost use Rattle.vio_trace.specs.Form.{IsLogRow, IsEntry, IsDropRow, IsQueueLine, IsQueueRow, IsGrantRow, IsServeRow, IsAnswerRow};
 ghost use Rattle.vio_trace.specs.Text.{log_text, entry_text, drop_text, queue_line, queue_text, grant_text, serve_text, answer_text};
 
+use crate::fitting::{bytes_fit, entries_fit, half_fits, name_fits, outcome_fits, rows_fit};
 use crate::log_words::put_outcome;
 use crate::rows::{AnswerRow, DropRow, LogRow, QueueRow};
 use crate::words::{
@@ -18,14 +19,16 @@ pub trait Lines {
 
     /// Writes the lines.
     fn put(&self, buffer: &mut Vec<u8>) -> Result<(), NoMemory>
-        ensures text { OnOk result (buffer.new.items ≡ buffer.old.items ++ text self.now) }
-        ensures range { OnOk result (in_range self.now) };
+        ensures { OnOk result (buffer.new.items ≡ buffer.old.items ++ text self.now) };
+
+    /// Each number and byte of the row is of its type. It does nothing.
+    fn fits(&self)
+        ensures { in_range self.now };
 }
 
 /// Writes the lines of each of these rows.
 pub fn put_all<R: Lines>(buffer: &mut Vec<u8>, rows: &[R]) -> Result<(), NoMemory>
-    ensures text { OnOk result (buffer.new.items ≡ buffer.old.items ++ flat_map R.text rows.now) }
-    ensures range { OnOk result (All R.in_range rows.now) }
+    ensures { OnOk result (buffer.new.items ≡ buffer.old.items ++ flat_map R.text rows.now) }
 {
     for row in rows {
         row.put(buffer)?;
@@ -45,13 +48,18 @@ impl Lines for LogRow {
         put_outcome(buffer, &self.outcome)?;
         put(buffer, b"\n")
     }
+
+    fn fits(&self) {
+        let _partition = self.partition;
+        let _line = self.line;
+        outcome_fits(&self.outcome);
+    }
 }
 
 // Writes a line of this first word for each entry.
 fn put_entries(buffer: &mut Vec<u8>, word: &[u8], entries: &[Entry]) -> Result<(), NoMemory>
-    ensures text { OnOk result (buffer.new.items ≡
+    ensures { OnOk result (buffer.new.items ≡
         buffer.old.items ++ flat_map (entry_text word.now) entries.now) }
-    ensures range { OnOk result (All IsEntry entries.now) }
 {
     for entry in entries {
         put_entry(buffer, word, entry)?;
@@ -61,9 +69,8 @@ fn put_entries(buffer: &mut Vec<u8>, word: &[u8], entries: &[Entry]) -> Result<(
 
 // Writes the line of an entry.
 fn put_entry(buffer: &mut Vec<u8>, word: &[u8], entry: &Entry) -> Result<(), NoMemory>
-    ensures text { OnOk result (buffer.new.items ≡
+    ensures { OnOk result (buffer.new.items ≡
         buffer.old.items ++ entry_text word.now entry.now) }
-    ensures range { OnOk result (IsEntry entry.now) }
 {
     put(buffer, word)?;
     put_digits(buffer, entry.high)?;
@@ -82,12 +89,16 @@ impl Lines for DropRow {
         put_digits(buffer, self.held)?;
         put(buffer, b"\n")
     }
+
+    fn fits(&self) {
+        let _number = self.number;
+        let _held = self.held;
+    }
 }
 
 // Writes the first line of a session.
 fn put_queue_line(buffer: &mut Vec<u8>, row: &QueueRow) -> Result<(), NoMemory>
-    ensures text { OnOk result (buffer.new.items ≡ buffer.old.items ++ queue_line row.now) }
-    ensures range { OnOk result (IsQueueLine row.now) }
+    ensures { OnOk result (buffer.new.items ≡ buffer.old.items ++ queue_line row.now) }
 {
     put_head(buffer, b"queue", row.unit, row.session)?;
     put_number(buffer, u64::from(row.slots))?;
@@ -107,6 +118,18 @@ impl Lines for QueueRow {
         put_entries(buffer, b"sent", self.sent.as_slice())?;
         put_entries(buffer, b"took", self.taken.as_slice())?;
         put_all(buffer, self.drops.as_slice())
+    }
+
+    fn fits(&self) {
+        name_fits(self.unit);
+        let _session = self.session;
+        let _slots = self.slots;
+        let _sent_len = self.sent.len();
+        let _taken_len = self.taken.len();
+        let _drops_len = self.drops.len();
+        entries_fit(self.sent.as_slice());
+        entries_fit(self.taken.as_slice());
+        rows_fit(self.drops.as_slice());
     }
 }
 
@@ -146,6 +169,26 @@ impl Lines for Grant {
         }
         put(buffer, b"\n")
     }
+
+    fn fits(&self) {
+        match *self {
+            Grant::Granted {
+                unit,
+                session: _session,
+                login: _login,
+                number: _number,
+                credits: _credits,
+            } => name_fits(unit),
+            Grant::Lapsed {
+                unit,
+                session: _session,
+                login: _login,
+                cause: _,
+                outstanding: _outstanding,
+                granted: _granted,
+            } => name_fits(unit),
+        }
+    }
 }
 
 impl Lines for Served {
@@ -164,6 +207,18 @@ impl Lines for Served {
         put_bytes(buffer, &self.inn)?;
         put(buffer, b"\n")
     }
+
+    fn fits(&self) {
+        name_fits(self.unit);
+        let _session = self.session;
+        let _login = self.login;
+        let _number = self.number;
+        half_fits(self.fault);
+        bytes_fit(self.iu.as_slice());
+        bytes_fit(self.out.as_slice());
+        bytes_fit(self.answer.as_slice());
+        bytes_fit(self.inn.as_slice());
+    }
 }
 
 impl Lines for AnswerRow {
@@ -176,5 +231,12 @@ impl Lines for AnswerRow {
         put_number(buffer, self.tag)?;
         put_bytes(buffer, &self.answer)?;
         put(buffer, b"\n")
+    }
+
+    fn fits(&self) {
+        name_fits(self.unit);
+        let _session = self.session;
+        let _tag = self.tag;
+        bytes_fit(self.answer.as_slice());
     }
 }

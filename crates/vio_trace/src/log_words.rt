@@ -10,9 +10,8 @@ use vio_num::{Hrc, NoMemory};
 
 /// How a script line ended.
 pub fn put_outcome(buffer: &mut Vec<u8>, outcome: &Outcome) -> Result<(), NoMemory>
-    ensures text { OnOk result (buffer.new.items ≡
+    ensures { OnOk result (buffer.new.items ≡
         with_words buffer.old.items (outcome_words outcome.now)) }
-    ensures range { OnOk result (IsOutcome outcome.now) }
 {
     match outcome {
         Outcome::Granted(credits) => put_counted(buffer, b"granted", u64::from(*credits)),
@@ -133,9 +132,8 @@ fn put_frame(buffer: &mut Vec<u8>, answer: Hrc, number: u64) -> Result<(), NoMem
 
 // Writes the bytes of a region.
 fn put_shown(buffer: &mut Vec<u8>, shown: &Shown) -> Result<(), NoMemory>
-    ensures text { OnOk result (buffer.new.items ≡
+    ensures { OnOk result (buffer.new.items ≡
         with_words buffer.old.items (outcome_words (outcomes.Bytes shown.now))) }
-    ensures range { OnOk result (IsOutcome (outcomes.Bytes shown.now)) }
 {
     put_word(buffer, b"bytes")?;
     put_bytes(buffer, shown.bytes())

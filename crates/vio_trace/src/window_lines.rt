@@ -3,6 +3,7 @@ ghost use Rattle.std.specs.Prelude.{◌≡◌, ◌++◌, All, OnOk, flat_map};
 ghost use Rattle.vio_trace.specs.Form.{IsTceValueRow, IsPieceRow, IsCopyLine, IsCopyRow, IsStrokeRow};
 ghost use Rattle.vio_trace.specs.Text.{tce_text, piece_text, copy_line, copy_text, stroke_text};
 
+use crate::fitting::{bytes_fit, name_fits, pieces_fit};
 use crate::lines::Lines;
 use crate::window_rows::{CopyRow, PieceRow, StrokeRow, TceValueRow};
 use crate::words::{put, put_bytes, put_digits, put_head, put_name, put_number};
@@ -19,13 +20,19 @@ impl Lines for TceValueRow {
         put_digits(buffer, self.value)?;
         put(buffer, b"\n")
     }
+
+    fn fits(&self) {
+        name_fits(self.unit);
+        let _entry = self.entry;
+        let _version = self.version;
+        let _value = self.value;
+    }
 }
 
 /// A line of this first word for each piece.
 pub fn put_pieces(buffer: &mut Vec<u8>, word: &[u8], pieces: &[PieceRow]) -> Result<(), NoMemory>
-    ensures text { OnOk result (buffer.new.items ≡
+    ensures { OnOk result (buffer.new.items ≡
         buffer.old.items ++ flat_map (piece_text word.now) pieces.now) }
-    ensures range { OnOk result (All IsPieceRow pieces.now) }
 {
     for piece in pieces {
         put_piece_line(buffer, word, *piece)?;
@@ -35,8 +42,7 @@ pub fn put_pieces(buffer: &mut Vec<u8>, word: &[u8], pieces: &[PieceRow]) -> Res
 
 // Writes the line of a piece.
 fn put_piece_line(buffer: &mut Vec<u8>, word: &[u8], piece: PieceRow) -> Result<(), NoMemory>
-    ensures text { OnOk result (buffer.new.items ≡ buffer.old.items ++ piece_text word.now piece) }
-    ensures range { OnOk result (IsPieceRow piece) }
+    ensures { OnOk result (buffer.new.items ≡ buffer.old.items ++ piece_text word.now piece) }
 {
     put_head(buffer, word, piece.unit, u64::from(piece.entry))?;
     put_number(buffer, u64::from(piece.version))?;
@@ -49,8 +55,7 @@ fn put_piece_line(buffer: &mut Vec<u8>, word: &[u8], piece: PieceRow) -> Result<
 
 // Writes the first line of a copy.
 fn put_copy_line(buffer: &mut Vec<u8>, row: &CopyRow) -> Result<(), NoMemory>
-    ensures text { OnOk result (buffer.new.items ≡ buffer.old.items ++ copy_line row.now) }
-    ensures range { OnOk result (IsCopyLine row.now) }
+    ensures { OnOk result (buffer.new.items ≡ buffer.old.items ++ copy_line row.now) }
 {
     put_head(buffer, b"copy", row.unit, row.mark)?;
     put_number(buffer, u64::from(row.len))?;
@@ -69,6 +74,16 @@ impl Lines for CopyRow {
         put_pieces(buffer, b"from", self.from.as_slice())?;
         put_pieces(buffer, b"to", self.to.as_slice())
     }
+
+    fn fits(&self) {
+        name_fits(self.unit);
+        let _mark = self.mark;
+        let _len_len = self.len;
+        let _from_len = self.from.len();
+        let _to_len = self.to.len();
+        pieces_fit(self.from.as_slice());
+        pieces_fit(self.to.as_slice());
+    }
 }
 
 impl Lines for StrokeRow {
@@ -84,5 +99,15 @@ impl Lines for StrokeRow {
         put_number(buffer, u64::from(self.offset))?;
         put_bytes(buffer, &self.bytes)?;
         put(buffer, b"\n")
+    }
+
+    fn fits(&self) {
+        name_fits(self.unit);
+        name_fits(self.writer);
+        let _page = self.page;
+        let _place = self.place;
+        let _mark = self.mark;
+        let _offset = self.offset;
+        bytes_fit(self.bytes.as_slice());
     }
 }

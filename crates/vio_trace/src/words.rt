@@ -53,8 +53,7 @@ pub fn put_code(buffer: &mut Vec<u8>, answer: Hrc) -> Result<(), NoMemory>
 
 /// A unit's name.
 pub fn put_name(buffer: &mut Vec<u8>, unit: UnitId) -> Result<(), NoMemory>
-    ensures text { OnOk result (buffer.new.items ≡ buffer.old.items ++ codes " " ++ name unit) }
-    ensures range { IsName unit }
+    ensures { OnOk result (buffer.new.items ≡ buffer.old.items ++ codes " " ++ name unit) }
 {
     let mut decimal = itoa::Buffer::new();
     put_number(buffer, u64::from(unit.partition))?;
@@ -64,9 +63,8 @@ pub fn put_name(buffer: &mut Vec<u8>, unit: UnitId) -> Result<(), NoMemory>
 
 /// The words that most lines begin with: the first word, a unit's name and a number.
 pub fn put_head(buffer: &mut Vec<u8>, word: &[u8], unit: UnitId, n: u64) -> Result<(), NoMemory>
-    ensures text { OnOk result (buffer.new.items ≡
+    ensures { OnOk result (buffer.new.items ≡
         buffer.old.items ++ word.now ++ codes " " ++ name unit ++ codes " " ++ decimal n) }
-    ensures range { IsName unit }
 {
     put(buffer, word)?;
     put_name(buffer, unit)?;
@@ -75,9 +73,8 @@ pub fn put_head(buffer: &mut Vec<u8>, word: &[u8], unit: UnitId, n: u64) -> Resu
 
 /// A number that may be absent.
 pub fn put_number_or_none(buffer: &mut Vec<u8>, n: Option<u32>) -> Result<(), NoMemory>
-    ensures text { OnOk result (buffer.new.items ≡
+    ensures { OnOk result (buffer.new.items ≡
         buffer.old.items ++ codes " " ++ number_or_none n) }
-    ensures range { IfSome n IsHalf }
 {
     match n {
         Some(n) => put_number(buffer, u64::from(n)),
@@ -102,9 +99,8 @@ pub fn put_cause(buffer: &mut Vec<u8>, why: Lapse) -> Result<(), NoMemory>
 
 /// A list of bytes.
 pub fn put_bytes(buffer: &mut Vec<u8>, list: &Bytes) -> Result<(), NoMemory>
-    ensures text { OnOk result (buffer.new.items ≡
+    ensures { OnOk result (buffer.new.items ≡
         buffer.old.items ++ codes " " ++ bytes_word list.now) }
-    ensures range { OnOk result (IsBytes list.now) }
 {
     if list.is_empty() {
         return put(buffer, b" -");
@@ -115,8 +111,7 @@ pub fn put_bytes(buffer: &mut Vec<u8>, list: &Bytes) -> Result<(), NoMemory>
 
 // Writes these bytes in lower-case digits, two a byte.
 fn put_hex(buffer: &mut Vec<u8>, bytes: &[u8]) -> Result<(), NoMemory>
-    ensures range { IsBytes bytes.now }
-    ensures text { OnOk result (buffer.new.items ≡ buffer.old.items ++ encode_lower bytes.now) }
+    ensures { OnOk result (buffer.new.items ≡ buffer.old.items ++ encode_lower bytes.now) }
 {
     for piece in bytes.chunks(PIECE) {
         put_piece(buffer, piece)?;

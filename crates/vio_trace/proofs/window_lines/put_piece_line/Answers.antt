@@ -1,11 +1,10 @@
-use Rattle.std.proofs.Common.{arith, [], ◌∷◌, decimal, refl}
+use Rattle.std.proofs.Common.{[], ◌∷◌, decimal, refl}
 use Rattle.vio_trace.specs.Text.{name}
-use Rattle.vio_trace.proofs.Ranges.{on_ok}
 use Rattle.vio_trace.proofs.Written.{line_written}
 use Rattle.vio_trace.proofs.window_lines.put_piece_line.Goals as goal
 
-pub returns-clause-text : goal.returns-clause-text
-returns-clause-text c =
+pub returns : goal.returns
+returns c =
     let row = c.args.piece in
     line_written c.put.result c.args.buffer.now.items _ _ c.args.word.now
     (name row.unit ∷ decimal row.entry ∷ decimal row.version ∷ decimal row.page ∷ decimal row.offset
@@ -16,7 +15,7 @@ returns-clause-text c =
       c.in_ok-put_number-3.ensures,
       c.in_ok-put_number-2.ensures,
       c.in_ok-put_number.ensures,
-      c.in_ok-put_head.ensures.text,
+      c.in_ok-put_head.ensures,
       c.from.ensures,
       c.from-2.ensures,
       c.from-3.ensures,
@@ -25,15 +24,3 @@ returns-clause-text c =
       c.from-6.ensures,
     ) refl)
     c.put.ensures
-
-pub returns-clause-range : goal.returns-clause-range
-returns-clause-range c =
-    on_ok c.put.result (record {
-      unit = c.in_ok-put_head.ensures.range;
-      entry = omega arith;
-      version = omega arith;
-      page = omega arith;
-      offset = omega arith;
-      len = omega arith;
-      at = omega arith;
-    })

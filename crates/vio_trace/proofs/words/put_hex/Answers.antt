@@ -1,4 +1,4 @@
-use Rattle.std.proofs.Common.{arith, ◌++◌, sym, ◌∙◌, ap, append_assoc}
+use Rattle.std.proofs.Common.{◌++◌, sym, ◌∙◌, ap, append_assoc}
 use Rattle.std.specs.Slice.Iter.{chunks_rest}
 use Rattle.hex.specs.Hex.{encode_lower}
 use Rattle.vio_trace.proofs.Digits.{encode_lower-append, all_written}
@@ -18,8 +18,5 @@ loop-piece-preserved c =
           ∙ inv.1,
     )
 
-pub returns-clause-text : goal.returns-clause-text
-returns-clause-text c = all_written _ _ (chunks_rest c.loop-piece.piece-iterator) c.in-None.ensures.steps.1.0 c.loop-piece.invariant.1
-
-pub returns-clause-range : goal.returns-clause-range
-returns-clause-range c i = omega (arith, c.type_inv.bytes i)
+pub returns : goal.returns
+returns c = all_written _ _ (chunks_rest c.loop-piece.piece-iterator) c.in-None.ensures.steps.1.0 c.loop-piece.invariant.1

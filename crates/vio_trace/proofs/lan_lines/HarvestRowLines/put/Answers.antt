@@ -1,26 +1,16 @@
-use Rattle.std.proofs.Common.{arith, [], ◌∷◌, codes, decimal, refl}
+use Rattle.std.proofs.Common.{[], ◌∷◌, codes, decimal, refl}
 use Rattle.vio_trace.specs.Text.{name, digits}
-use Rattle.vio_trace.proofs.Ranges.{on_ok}
 use Rattle.vio_trace.proofs.Written.{line_written}
 use Rattle.vio_trace.proofs.lan_lines.HarvestRowLines.put.Goals as goal
 
-pub returns-clause-text : goal.returns-clause-text
-returns-clause-text c =
+pub returns : goal.returns
+returns c =
     let row = c.args.self.now in
     line_written c.put.result c.args.buffer.now.items _ _ (codes "harvest")
     (name row.unit ∷ decimal row.session ∷ digits row.high ∷ digits row.low ∷ [])
     (rw (
       c.in_ok-put_digits-2.ensures,
       c.in_ok-put_digits.ensures,
-      c.in_ok-put_head.ensures.text,
+      c.in_ok-put_head.ensures,
     ) refl)
     c.put.ensures
-
-pub returns-clause-range : goal.returns-clause-range
-returns-clause-range c =
-    on_ok c.put.result (record {
-      unit = c.in_ok-put_head.ensures.range;
-      session = omega arith;
-      high = omega arith;
-      low = omega arith;
-    })

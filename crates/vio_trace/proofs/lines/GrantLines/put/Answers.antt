@@ -1,6 +1,5 @@
-use Rattle.std.proofs.Common.{arith, [], ◌∷◌, codes, decimal, refl}
+use Rattle.std.proofs.Common.{[], ◌∷◌, codes, decimal, refl}
 use Rattle.vio_trace.specs.Text.{name, cause}
-use Rattle.vio_trace.proofs.Ranges.{on_ok}
 use Rattle.vio_trace.proofs.Written.{line_written}
 use Rattle.vio_trace.proofs.lines.GrantLines.put.Goals as goal
 use Rattle.vio_trace.proofs.lines.GrantLines.put.Goals.{
@@ -8,8 +7,8 @@ use Rattle.vio_trace.proofs.lines.GrantLines.put.Goals.{
   in-Lapsed+in_ok-put_head-in-Lapsed+in_ok-put_number-in-Lapsed+in_ok-put_cause-in-Lapsed+in_ok-put_number-in-Lapsed-2+in_ok-put_number-in-Lapsed-3 as lapsed,
 }
 
-pub returns-clause-text : goal.returns-clause-text
-returns-clause-text c =
+pub returns : goal.returns
+returns c =
     elim c.match-self.branch [
       | granted w ↦
           let g = w.in-Granted in
@@ -20,7 +19,7 @@ returns-clause-text c =
             w.in_ok-put_number-in-Granted-3.ensures,
             w.in_ok-put_number-in-Granted-2.ensures,
             w.in_ok-put_number-in-Granted.ensures,
-            w.in_ok-put_head-in-Granted.ensures.text,
+            w.in_ok-put_head-in-Granted.ensures,
             w.from.ensures,
           ) refl)
           c.put.ensures)
@@ -34,32 +33,9 @@ returns-clause-text c =
             w.in_ok-put_number-in-Lapsed-2.ensures,
             w.in_ok-put_cause-in-Lapsed.ensures,
             w.in_ok-put_number-in-Lapsed.ensures,
-            w.in_ok-put_head-in-Lapsed.ensures.text,
+            w.in_ok-put_head-in-Lapsed.ensures,
             w.from-in-Lapsed.ensures,
             w.from-in-Lapsed-2.ensures,
           ) refl)
           c.put.ensures)
-    ]
-
-pub returns-clause-range : goal.returns-clause-range
-returns-clause-range c =
-    elim c.match-self.branch [
-      | granted w ↦
-          let g = w.in-Granted in
-          rw g.is (on_ok c.put.result (record {
-            name_of = w.in_ok-put_head-in-Granted.ensures.range;
-            in_session = omega arith;
-            at_login = omega arith;
-            at_number = omega arith;
-            limit = omega arith;
-          }))
-      | lapsed w ↦
-          let l = w.in-Lapsed in
-          rw l.is (on_ok c.put.result (record {
-            name_of = w.in_ok-put_head-in-Lapsed.ensures.range;
-            in_session = omega arith;
-            of_login = omega arith;
-            then_outstanding = omega arith;
-            then_granted = omega arith;
-          }))
     ]

@@ -2,8 +2,8 @@
 use Rattle.std.proofs.Common.{◌∙◌, arith}
 use Rattle.std.proofs.lemmas.List.{length-take-le}
 use Rattle.std.proofs.KnownBytes.{Appends-trans}
-use Rattle.paprvio.proofs.Pieces.{fronts}
-use Rattle.paprvio.proofs.writing.write_all.Goals as goal
+use Rattle.vio_trace.proofs.Fronts.{fronts}
+use Rattle.vio_trace.proofs.write.write_all.Goals as goal
 
 pub loop-written-preserved : goal.loop-written-preserved
 loop-written-preserved g c = record {

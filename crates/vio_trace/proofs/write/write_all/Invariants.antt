@@ -1,7 +1,7 @@
 -- The sink took the front of the text that was written so far.
 use Rattle.std.proofs.Common.{◌≡◌, ◌≤◌, ◌-◌, length, take}
 use Rattle.std.specs.Io.KnownBytes.{Appends}
-use Rattle.paprvio.proofs.writing.write_all.Given as goal
+use Rattle.vio_trace.proofs.write.write_all.Given as goal
 
 abbrev pub invariant-loop-written : goal.invariant-loop-written
 invariant-loop-written g l = record {
