@@ -1,4 +1,9 @@
 pub mod Advancing
+pub mod Placing
+pub mod DataPages
+pub mod DataCopies
+pub mod HandRows
+pub mod Hands
 pub mod Answered
 pub mod Named
 pub mod Denying

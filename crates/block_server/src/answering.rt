@@ -2,6 +2,9 @@
 ghost use Rattle.std.specs.Prelude.{◌≡◌, ◌≢◌, ◌⊎◌, ◌+◌, ◌<◌, ◌∷◌, ℕ, Bool, List, None, Some, IfOk, OnOk, drop, false, true};
 ghost use Rattle.block_server.specs.Advances.{Advances};
 ghost use Rattle.block_server.specs.Books.{books_at, books_of};
+ghost use Rattle.block_server.specs.Cargo.{KeepsCargo, cargo_at};
+ghost use Rattle.block_server.specs.declared.service.Service.{Service};
+ghost use Rattle.vio_num.specs.declared.names.UnitId.{UnitId};
 ghost use Rattle.block_server.specs.Ends.{EndsLogin};
 ghost use Rattle.block_server.specs.Entries.{IsPlain, MayPut, is_answer_len};
 ghost use Rattle.block_server.specs.Serving.{AnswersOnce, AnswersOnceBy, AsNone, LeavesRow, SettlesRow, desk_of};
@@ -215,6 +218,10 @@ fn cut_data(service: &mut Service, records: &mut Records)
     ensures grants { records.new.grants ≡ records.old.grants }
     ensures keys { keys_of records.new.history.items ≡ keys_of records.old.history.items }
     ensures states { row_states records.new.history.items ≡ row_states records.old.history.items }
+    ensures cargo { (id : UnitId) → (shown shown' : ℕ → ℕ) → (after : Service) →
+        after.stage ≡ Stage.Start → KeepsCargo
+        (cargo_at id service.old shown records.old.history.items)
+        (cargo_at id after shown' records.new.history.items) }
 {
     match service.stage {
         Stage::Given { row, .. } => records.fill(row, service.take_given(0)),
