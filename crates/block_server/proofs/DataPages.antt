@@ -27,10 +27,16 @@ use Rattle.block_server.proofs.NamedWindows.{grows_same}
 
 long_after : (page : List ℕ) (stroke : StrokeValue) → 4096 ≤ length page → 4096 ≤ length (overwritten page stroke)
 long_after page stroke long =
-    omega (arith, long, length-append (take stroke.offset page) (stroke.bytes ++ drop (stroke.offset + length stroke.bytes) page),
-    length-append (take stroke.offset page) stroke.bytes, length-append (take stroke.offset page ++ stroke.bytes) (drop (stroke.offset + length stroke.bytes) page),
-    length-append stroke.bytes (drop (stroke.offset + length stroke.bytes) page),
-    length-take stroke.offset page, length-drop (stroke.offset + length stroke.bytes) page)
+    omega (
+      arith,
+      long,
+      length-append (take stroke.offset page) (stroke.bytes ++ drop (stroke.offset + length stroke.bytes) page),
+      length-append (take stroke.offset page) stroke.bytes,
+      length-append (take stroke.offset page ++ stroke.bytes) (drop (stroke.offset + length stroke.bytes) page),
+      length-append stroke.bytes (drop (stroke.offset + length stroke.bytes) page),
+      length-take stroke.offset page,
+      length-drop (stroke.offset + length stroke.bytes) page,
+    )
 
 -- a page has 4,096 bytes, whatever its strokes
 page_long : (page : List ℕ) (strokes : List StrokeValue) → 4096 ≤ length page → 4096 ≤ length (fold overwritten page strokes)
@@ -115,8 +121,13 @@ read_long : (piece : Piece) (now : Option (List StrokeValue)) → HasStrokes pie
     → length (take piece.len (drop piece.offset (left_at now piece.at))) ≡ piece.len
 read_long piece None has inside = absurd has
 read_long piece (Some strokes) has inside =
-    omega (arith, inside, length-take piece.len (drop piece.offset (left_by (take piece.at strokes))), length-drop piece.offset (left_by (take piece.at strokes)),
-    left_long (take piece.at strokes))
+    omega (
+      arith,
+      inside,
+      length-take piece.len (drop piece.offset (left_by (take piece.at strokes))),
+      length-drop piece.offset (left_by (take piece.at strokes)),
+      left_long (take piece.at strokes),
+    )
 
 -- the bytes that pieces of the own window read are those that the window shows
 pub read_shows : (unit : UnitId) (values : ℕ → List ℕ) (right : Right) (strokes : ℕ → Option (List StrokeValue)) (from to : ℕ) (pieces : List Piece)

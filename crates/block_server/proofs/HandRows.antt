@@ -65,7 +65,7 @@ row_from h place row is = at (slice_get h place) refl
     same a b e = cc (e)
 
     at : (found : Option Served) → slice_get h place ≡ found → (found : Served) × ((slice_get h place ≡ Some found) × (row ≡ unanswered found))
-    at (Some found) e = (found, e, same (unanswered found) row (sym (row_in h place found e) ∙ is))
+    at (Some found) e = (found, (e, same (unanswered found) row (sym (row_in h place found e) ∙ is)))
     at None e = absurd (cc (sym (slice_get-map unanswered h place ∙ ap (option_map unanswered) e) ∙ is))
 
 -- an answer changes no row but in its answer

@@ -12,7 +12,7 @@ use Rattle.srp_iu.specs.Layout.{field}
 use Rattle.srp_iu.specs.declared.buffer.Desc.{Desc}
 use Rattle.srp_iu.specs.declared.command.Cmd.{Cmd}
 use Rattle.srp_iu.specs.declared.unit.Iu.TheVariants as units
-use Rattle.block_server.specs.Cargo.{AreShown, Cargo, HasToSend, IsInHand, IsLoaded, IsSending, IsToSend, KeepsCargo, Load, cargo}
+use Rattle.block_server.specs.Cargo.{AreShown, Cargo, HasToSend, IsAccounted, IsLoaded, IsSending, IsToSend, KeepsCargo, Load, cargo}
 use Rattle.block_server.specs.Cargo.Load.{given, none, sending}
 use Rattle.block_server.specs.Carried.{AreDelivered, HasDelivered, IsCarried, IsDelivered, address_of, data_at, delivery}
 use Rattle.block_server.specs.Causes.{Hearing, IsNamed, Told, told_to}
@@ -22,14 +22,14 @@ use Rattle.block_server.specs.declared.cursor.Cursor.{Cursor}
 use Rattle.block_server.proofs.HandRows.{get_last, get_more, get_push, get_set}
 
 pub keeps_same : (c c' : Cargo) → c' ≡ c → KeepsCargo c c'
-keeps_same c c' same told is = subst (IsInHand told) (sym same) is
+keeps_same c c' same told is = subst (IsAccounted told) (sym same) is
 
 pub keeps_on : (a b c : Cargo) → KeepsCargo a b → KeepsCargo b c → KeepsCargo a c
 keeps_on a b c first next told is = next told (first told is)
 
 -- the same of cargoes that are these
 pub keeps_by : (c c' d d' : Cargo) → c ≡ d → c' ≡ d' → KeepsCargo d d' → KeepsCargo c c'
-keeps_by c c' d d' was is keeps told all = subst (IsInHand told) (sym is) (keeps told (subst (IsInHand told) was all))
+keeps_by c c' d d' was is keeps told all = subst (IsAccounted told) (sym is) (keeps told (subst (IsAccounted told) was all))
 
 -- all rows but the one whose data-in are to be copied are so
 settled : (told : Told → Bool) (load : Load) (place : ℕ) (row : Served) → ¬ IsToSend load place → IsToSend load place ⊎ IsDelivered told row → IsDelivered told row
@@ -55,7 +55,7 @@ blank_none id shown shown' rows new blank told is = record { rows = each; load =
 
 pub added_given : (told : Told → Bool) (id : UnitId) (shown shown' : ℕ → ℕ) (rows : List Served) (new : Served) (inns : List Desc) (bytes : List ℕ) (command : Cmd)
     → new.unit ≡ id → new.inn ≡ bytes → Spells new.iu (units.Cmd command) → IsNamed (told_to told id) command.inn inns → length bytes ≤ sum_of inns
-    → IsInHand told (cargo id shown none rows) → IsInHand told (cargo id shown' (given (length rows) inns bytes) (rows ++ new ∷ []))
+    → IsAccounted told (cargo id shown none rows) → IsAccounted told (cargo id shown' (given (length rows) inns bytes) (rows ++ new ∷ []))
 added_given told id shown shown' rows new inns bytes command unit inn spells named fits is = record {
   rows = each;
   load = record { row = new; there = get_last rows new; unit_is = unit; inn_is = inn; command = command; spells = spells; in_named = named; fits = fits };
@@ -133,8 +133,9 @@ more_sent Hears tag inns bytes part at len address shown shows long few lies car
 pub moved_sending : (told : Told → Bool) (id : UnitId) (shown shown' : ℕ → ℕ) (rows : List Served) (place : ℕ) (cursor cursor' : Cursor) (inns : List Desc) (bytes part : List ℕ)
     (len address tag : ℕ) → shown' ≡ shown → length part ≡ len → len ≤ 65536 → LiesAt inns cursor.done (Some address) len → cursor'.done ≡ cursor.done + len
     → IsPlacedAt inns cursor' → ((row : Served) → slice_get rows place ≡ Some row → field 8 8 row.iu ≡ tag) → delivery (told_to told id) tag (data_at + cursor.done) address part
-    → ((k : ℕ) → k < len → slice_index part k ≡ shown' (cursor.done + k)) → IsInHand told (cargo id shown (sending place cursor inns bytes) rows)
-    → IsInHand told (cargo id shown' (sending place cursor' inns bytes) rows)
+    → ((k : ℕ) → k < len → slice_index part k ≡ shown' (cursor.done + k)) → IsAccounted told (cargo id shown (sending place cursor inns bytes) rows)
+    → IsAccounted told (cargo id shown' (sending place cursor' inns bytes) rows)
+unfolding to_send
 moved_sending told id shown shown' rows place cursor cursor' inns bytes part len address tag same long few lies on placed tagged carried shown_part is = record {
   rows = is.rows;
   load = record {
@@ -193,7 +194,7 @@ sent_all id shown shown' rows place cursor inns bytes done told is = record { ro
 -- the row's data-in are cut
 cut_rows : (told : Told → Bool) (id : UnitId) (shown shown' : ℕ → ℕ) (rows rows' : List Served) (place : ℕ) (load : Load) (inns : List Desc) (bytes inn : List ℕ)
     (has : HasToSend (told_to told id) (cargo id shown load rows) place inns bytes) → FillsRow rows rows' place inn → IsDelivered told (record has.row { inn = inn })
-    → ((at : ℕ) → IsToSend load at → at ≡ place) → IsInHand told (cargo id shown load rows) → IsInHand told (cargo id shown' none rows')
+    → ((at : ℕ) → IsToSend load at → at ≡ place) → IsAccounted told (cargo id shown load rows) → IsAccounted told (cargo id shown' none rows')
 cut_rows told id shown shown' rows rows' place load inns bytes inn has fills delivered only is = record { rows = each; load = tt }
   where
     each : (at : ℕ) (row : Served) → slice_get rows' at ≡ Some row → row.unit ≡ id → IsToSend none at ⊎ IsDelivered told row

@@ -4,6 +4,10 @@ pub mod DataPages
 pub mod DataCopies
 pub mod HandRows
 pub mod Hands
+pub mod Cargoes
+pub mod Sendings
+pub mod Makings
+pub mod CargoLaws
 pub mod Answered
 pub mod Named
 pub mod Denying

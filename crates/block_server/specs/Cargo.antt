@@ -1,5 +1,5 @@
 -- What a unit's service has in hand of a command's data, in its own window and in the rows, and what of it copies moved.
-use Rattle.std.specs.Prelude.{◌≡◌, ◌⊎◌, ◌+◌, ◌<◌, ◌≤◌, ⊤, ℕ, Bool, List, [], Option, Some, IfSome, length, map, min, slice_get, slice_index}
+use Rattle.std.specs.Prelude.{◌≡◌, ◌⊎◌, ◌+◌, ◌<◌, ◌≤◌, ⊤, ℕ, Bool, true, false, List, [], Option, Some, IfSome, length, map, min, slice_get, slice_index}
 use Rattle.vio_num.specs.declared.history.Served.{Served as ServedRow}
 use Rattle.vio_num.specs.declared.names.UnitId.{UnitId}
 use Rattle.page_slots.specs.Stroke.{StrokeValue}
@@ -14,7 +14,6 @@ use Rattle.tce_window.specs.Region.{region_byte}
 use Rattle.block_server.specs.Carried.{AreDelivered, IsDelivered, data_at}
 use Rattle.block_server.specs.Causes.{Hearing, IsNamed, Told, told_to}
 use Rattle.block_server.specs.Delivers.{DeliversOne}
-use Rattle.block_server.specs.Heard.{TellsAll}
 use Rattle.block_disk.specs.declared.reply.ScsiReply.{ScsiReply}
 use Rattle.block_server.specs.Parts.{IsPlacedAt}
 use Rattle.block_server.specs.SiteState.{SiteState}
@@ -52,6 +51,12 @@ abbrev pub load_at : Stage → (inns : List Desc) → (bytes : List ℕ) → Loa
 load_at (Given row reply) inns bytes = given row inns bytes
 load_at (DataIn row reply cursor) inns bytes = sending row cursor inns bytes
 load_at stage inns bytes = none
+
+-- whether data-in are to be written or copied
+abbrev pub is_loaded : Stage → Bool
+is_loaded (Given row reply) = true
+is_loaded (DataIn row reply cursor) = true
+is_loaded stage = false
 
 -- a row but for its answer
 abbrev pub unanswered : ServedRow → ServedRow
@@ -108,7 +113,7 @@ IsToSend (given row inns bytes) place = place ≡ row
 IsToSend (sending row cursor inns bytes) place = place ≡ row
 
 -- The data-in of each row of the unit were delivered, or are to be.
-pub record IsInHand (told : Told → Bool) (cargo : Cargo) : Type 0 where
+pub record IsAccounted (told : Told → Bool) (cargo : Cargo) : Type 0 where
   pub rows : (place : ℕ) (row : ServedRow) → slice_get cargo.rows place ≡ Some row → row.unit ≡ cargo.id → IsToSend cargo.load place ⊎ IsDelivered told row
   pub load : IsLoaded (told_to told cargo.id) cargo cargo.load
 
@@ -122,12 +127,12 @@ HasTag history place tag = (row : ServedRow) → slice_get history place ≡ Som
 
 -- This stays so, whatever was told.
 abbrev pub KeepsCargo : (old new : Cargo) → Type 0
-KeepsCargo old new = (told : Told → Bool) → IsInHand told old → IsInHand told new
-
--- the same over copies, of which is told
-abbrev pub MovesCargo : (site site' : SiteState) → (old new : Cargo) → Type 0
-MovesCargo site site' old new = (told : Told → Bool) → TellsAll told old.id site site' → IsInHand told old → IsInHand told new
+KeepsCargo old new = (told : Told → Bool) → IsAccounted told old → IsAccounted told new
 
 -- The unit of this number has its data in hand.
 abbrev pub HasCargo : (told : Told → Bool) → List Unit → (unit : ℕ) → (own : PortState) → Records → Type 0
-HasCargo told units unit own records = IfSome (slice_get units unit) (λ u. IsInHand told (cargo_at u.id u.service (data_bytes own) records.history.items))
+HasCargo told units unit own records = IfSome (slice_get units unit) (λ u. IsAccounted told (cargo_at u.id u.service (data_bytes own) records.history.items))
+
+-- No unit has data-in to be written or copied.
+abbrev pub AreIdle : List Unit → Type 0
+AreIdle units = (number : ℕ) → IfSome (slice_get units number) (λ u. is_loaded u.service.stage ≡ false)

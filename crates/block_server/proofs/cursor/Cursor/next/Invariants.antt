@@ -6,4 +6,4 @@ abbrev pub decreases-loop-piece : goal.decreases-loop-piece
 decreases-loop-piece l = length l.pieces - l.piece
 
 abbrev pub invariant-loop-piece : goal.invariant-loop-piece
-invariant-loop-piece l = record { ahead : IsAhead l.pieces l.limit l.self l.piece l.inside; }
+invariant-loop-piece l = record { ahead : IsAhead l.pieces l.limit l.self l.piece l.inside }
