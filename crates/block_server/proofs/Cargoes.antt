@@ -1,19 +1,18 @@
 -- The data-in that a unit has in hand, as its service goes on.
-use Rattle.std.proofs.Common.{◌≡◌, ◌++◌, ℕ, Bool, true, false, List, [], ◌∷◌, length, take, refl, sym, ◌∙◌, ap, subst}
+use Rattle.std.proofs.Common.{◌≡◌, ◌++◌, ℕ, false, List, [], ◌∷◌, take, refl, sym, ◌∙◌, ap, subst}
 use Rattle.vio_num.specs.declared.history.Served.{Served}
 use Rattle.vio_num.specs.declared.names.UnitId.{UnitId}
 use Rattle.block_disk.specs.declared.reply.ScsiReply.{ScsiReply}
 use Rattle.srp_iu.specs.declared.buffer.Desc.{Desc}
-use Rattle.block_server.specs.Cargo.{AreShown, Cargo, IsAccounted, KeepsCargo, Load, cargo, cargo_at, is_loaded, load_at, rows_of, unanswered}
+use Rattle.block_server.specs.Cargo.{KeepsCargo, Load, cargo, cargo_at, is_loaded, load_at, rows_of, unanswered}
 use Rattle.block_server.specs.Cargo.Load.{given, none, sending}
 use Rattle.block_server.specs.Records.{FillsRow}
 use Rattle.block_server.specs.declared.cursor.Cursor.{Cursor}
-use Rattle.block_server.specs.declared.service.Outcome.{Outcome}
 use Rattle.block_server.specs.declared.service.Service.{Service}
 use Rattle.block_server.specs.declared.service.Stage.{Stage}
 use Rattle.block_server.specs.declared.service.Stage.TheVariants.{Start, OutTable, InTable, DataOut, Given, DataIn, Answer, Entry}
 use Rattle.block_server.proofs.HandRows.{rows_push}
-use Rattle.block_server.proofs.Hands.{blank_none, cut_given, cut_sending, keeps_by, keeps_same, still_none}
+use Rattle.block_server.proofs.Hands.{blank_none, cut_given, cut_sending, keeps_by, still_none}
 
 -- the cargo of a service whose load is this
 pub cargo_is : (id : UnitId) (service : Service) (shown : ℕ → ℕ) (h : List Served) (load : Load) → load_at service.stage service.inn.list.items service.given.items ≡ load

@@ -1,7 +1,6 @@
 -- What copies leave of the data's pages of a unit's own window, and what copies from there carry.
-use Rattle.std.proofs.Common.{◌≡◌, ◌+◌, ◌*◌, ◌/◌, ◌<◌, ◌≤◌, ◌==◌, ◌++◌, ℕ, Bool, true, false, cond, if◌then◌else◌, All, List, [], ◌∷◌, Option, Some, None, Result, Ok, Err, OnErr, OnOk, length, take, drop, get_or, refl, sym, ◌∙◌, ap, subst, arith, append-nil}
+use Rattle.std.proofs.Common.{◌≡◌, ◌+◌, ◌*◌, ◌/◌, ◌<◌, ◌≤◌, ℕ, Bool, true, false, cond, All, List, [], ◌∷◌, Option, Some, None, Result, Ok, Err, OnErr, length, take, drop, get_or, refl, sym, ◌∙◌, ap, subst, arith, append-nil}
 use Rattle.std.specs.List.{flat_map}
-use Rattle.std.specs.Prelude.{slice_index}
 use Rattle.std.proofs.lemmas.Bool.{ne_eqb}
 use Rattle.std.proofs.lemmas.List.Elements.{All-head, All-tail}
 use Rattle.vio_num.specs.declared.names.UnitId.{UnitId}
@@ -9,13 +8,12 @@ use Rattle.page_slots.specs.Stroke.{StrokeValue}
 use Rattle.page_slots.specs.declared.stroke.StrokeName.{StrokeName}
 use Rattle.tce_window.specs.Moved.{IsLaid, piece_strokes, read_bytes, strokes_on}
 use Rattle.tce_window.specs.Pieces.{IsGranted, IsLast, Touches}
-use Rattle.tce_window.specs.PortState.{LaysNone, PortState}
+use Rattle.tce_window.specs.PortState.{PortState}
 use Rattle.tce_window.specs.Region.{region_byte}
 use Rattle.tce_window.specs.Strokes.{with_strokes}
 use Rattle.tce_window.specs.declared.answers.Right.{Right}
 use Rattle.tce_window.specs.declared.answers.Right.TheVariants.{Read, Write}
 use Rattle.tce_window.specs.declared.piece.Piece.{Piece}
-use Rattle.tce_window.proofs.Gathering.{on_ok_map}
 use Rattle.rdma_copy.specs.Answers.{OnRefused}
 use Rattle.rdma_copy.specs.Copies.{Copies, OnlyCopies}
 use Rattle.rdma_copy.specs.declared.copy.CopyRecord.{CopyRecord}
@@ -24,7 +22,7 @@ use Rattle.rdma_copy.specs.declared.copy.CopyAnswer.TheVariants as copies
 use Rattle.block_server.specs.Cargo.{SendsPart, data_bytes}
 use Rattle.block_server.specs.Copied.{MakesOne, copies_in, own_name}
 use Rattle.block_server.specs.SiteState.{SiteState}
-use Rattle.block_server.proofs.DataPages.{none_data, read_shows, same_data}
+use Rattle.block_server.proofs.DataPages.{read_shows, same_data}
 use Rattle.block_server.proofs.FirstPages.{entry_page}
 use Rattle.block_server.proofs.NamedWindows.{grows_same}
 use Rattle.block_server.proofs.Owning.{same_first}

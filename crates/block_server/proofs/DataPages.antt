@@ -1,5 +1,5 @@
 -- The bytes of a unit's own window, as writes lay them and copies read them.
-use Rattle.std.proofs.Common.{◌≡◌, ◌+◌, ◌-◌, ◌*◌, ◌/◌, ◌%◌, ◌<◌, ◌≤◌, ◌++◌, ◌&&◌, ℕ, min, Bool, true, false, cond, if◌then◌else◌, nat_le, nat_lt, All, IsSome, List, [], ◌∷◌, Option, Some, None, length, take, drop, get_or, fold, refl, sym, ◌∙◌, ap, ap₂, subst, arith, length-append, length-take}
+use Rattle.std.proofs.Common.{◌≡◌, ◌+◌, ◌-◌, ◌*◌, ◌/◌, ◌%◌, ◌<◌, ◌≤◌, ◌++◌, ◌&&◌, ℕ, min, Bool, true, false, cond, nat_le, nat_lt, All, IsSome, List, [], ◌∷◌, Option, Some, None, length, take, drop, get_or, fold, refl, sym, ◌∙◌, ap, ap₂, arith, length-append, length-take}
 use Rattle.std.specs.List.{flat_map}
 use Rattle.std.proofs.lemmas.Bool.Decides.{nat_tests}
 use Rattle.std.proofs.lemmas.List.{get_or-drop, get_or-take, get_or_append_left, get_or-append_right, length-drop, take_all}
@@ -9,11 +9,11 @@ use Rattle.page_slots.specs.Page.{left_by, overwritten, zeros}
 use Rattle.page_slots.specs.Stroke.{StrokeValue}
 use Rattle.page_slots.specs.declared.stroke.StrokeName.{StrokeName}
 use Rattle.page_slots.proofs.Strokes.{left_by-push, length-zeros}
-use Rattle.tce_window.specs.Moved.{IsReadFrom, left_at, read_bytes}
+use Rattle.tce_window.specs.Moved.{left_at, read_bytes}
 use Rattle.tce_window.specs.Pieces.{HasStrokes, IsGranted, IsLast, Touches}
 use Rattle.tce_window.specs.Port.{IsWritten}
 use Rattle.tce_window.specs.PortState.{LaysNone, OnlyReads, PortState, Writes}
-use Rattle.tce_window.specs.Region.{byte_in, region_byte, stroke_on, touches, written}
+use Rattle.tce_window.specs.Region.{byte_in, region_byte, stroke_on, touches}
 use Rattle.tce_window.specs.Strokes.{with_strokes}
 use Rattle.tce_window.specs.declared.answers.Right.{Right}
 use Rattle.tce_window.specs.declared.piece.Piece.{Piece}

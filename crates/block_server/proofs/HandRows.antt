@@ -1,12 +1,12 @@
 -- Rows but for their answers, as one comes or changes.
-use Rattle.std.proofs.Common.{◌≡◌, ◌≢◌, ◌⊎◌, inl, inr, ◌+◌, ◌<◌, ◌≤◌, ◌++◌, ◌==◌, ℕ, zero, suc, Bool, true, false, List, [], ◌∷◌, Option, Some, None, option_map, length, map, slice_get, slice_set, refl, sym, ◌∙◌, ap, subst, arith}
+use Rattle.std.proofs.Common.{◌≡◌, ◌≢◌, ◌⊎◌, inl, inr, ◌<◌, ◌++◌, ◌==◌, ℕ, zero, suc, Bool, true, false, List, [], ◌∷◌, Option, Some, None, option_map, length, slice_get, slice_set, refl, sym, ◌∙◌, ap, arith}
 use Rattle.std.proofs.lemmas.List.{map-append, map-set}
-use Rattle.std.proofs.lemmas.Option.{slice_get-map, slice_get_within}
+use Rattle.std.proofs.lemmas.Option.{slice_get-map}
 use Rattle.std.proofs.lemmas.Bool.{eqb-true, eqb-false}
 use Rattle.tce_window.proofs.Pages.{get-set_other, get-set_same}
 use Rattle.vio_num.specs.declared.history.Served.{Served}
 use Rattle.block_server.specs.Cargo.{rows_of, unanswered}
-use Rattle.block_server.specs.Records.{AnswersRow, FillsRow}
+use Rattle.block_server.specs.Records.{FillsRow}
 
 -- an element of a list with one more
 pub get_push : (rows : List Served) (new row : Served) (place : ℕ) → slice_get (rows ++ new ∷ []) place ≡ Some row → (slice_get rows place ≡ Some row) ⊎ ((place ≡ length rows) × (row ≡ new))

@@ -1,5 +1,5 @@
 -- What a unit has in hand of a command's data-in, from one step of its service to the next.
-use Rattle.std.proofs.Common.{◌≡◌, ◌≢◌, ◌⊎◌, inl, inr, ◌+◌, ◌-◌, ◌<◌, ◌≤◌, ◌++◌, ℕ, min, Bool, true, false, nat_lt, List, [], ◌∷◌, Option, Some, None, length, take, get_or, slice_get, slice_set, refl, sym, ◌∙◌, ap, ap₂, subst, arith, length-take}
+use Rattle.std.proofs.Common.{◌≡◌, ◌≢◌, ◌⊎◌, inl, inr, ◌+◌, ◌-◌, ◌<◌, ◌≤◌, ◌++◌, ℕ, min, Bool, true, false, nat_lt, List, [], ◌∷◌, Some, length, take, slice_get, refl, sym, ◌∙◌, ap, subst, arith, length-take}
 use Rattle.std.specs.Prelude.{slice_index}
 use Rattle.std.proofs.lemmas.Bool.Decides.{nat_tests}
 use Rattle.std.proofs.lemmas.List.{get_or-take}
@@ -12,14 +12,14 @@ use Rattle.srp_iu.specs.Layout.{field}
 use Rattle.srp_iu.specs.declared.buffer.Desc.{Desc}
 use Rattle.srp_iu.specs.declared.command.Cmd.{Cmd}
 use Rattle.srp_iu.specs.declared.unit.Iu.TheVariants as units
-use Rattle.block_server.specs.Cargo.{AreShown, Cargo, HasToSend, IsAccounted, IsLoaded, IsSending, IsToSend, KeepsCargo, Load, cargo}
+use Rattle.block_server.specs.Cargo.{AreShown, Cargo, HasToSend, IsAccounted, IsToSend, KeepsCargo, Load, cargo}
 use Rattle.block_server.specs.Cargo.Load.{given, none, sending}
-use Rattle.block_server.specs.Carried.{AreDelivered, HasDelivered, IsCarried, IsDelivered, address_of, data_at, delivery}
+use Rattle.block_server.specs.Carried.{AreDelivered, IsCarried, IsDelivered, address_of, data_at, delivery}
 use Rattle.block_server.specs.Causes.{Hearing, IsNamed, Told, told_to}
 use Rattle.block_server.specs.Parts.{IsPlacedAt, LiesAt}
 use Rattle.block_server.specs.Records.{FillsRow}
 use Rattle.block_server.specs.declared.cursor.Cursor.{Cursor}
-use Rattle.block_server.proofs.HandRows.{get_last, get_more, get_push, get_set}
+use Rattle.block_server.proofs.HandRows.{get_last, get_push, get_set}
 
 pub keeps_same : (c c' : Cargo) → c' ≡ c → KeepsCargo c c'
 keeps_same c c' same told is = subst (IsAccounted told) (sym same) is

@@ -1,5 +1,5 @@
 -- The data-in that a disk step gave, as the row comes.
-use Rattle.std.proofs.Common.{◌≡◌, ◌≤◌, ◌++◌, ℕ, Bool, false, List, [], ◌∷◌, length, refl, sym, ◌∙◌, ap, subst, arith}
+use Rattle.std.proofs.Common.{◌≡◌, ◌≤◌, ◌++◌, ℕ, Bool, false, List, [], ◌∷◌, length, sym, ◌∙◌, ap, subst}
 use Rattle.std.proofs.lemmas.List.{length-map}
 use Rattle.vio_num.specs.declared.history.Served.{Served}
 use Rattle.vio_num.specs.declared.names.UnitId.{UnitId}
@@ -9,11 +9,10 @@ use Rattle.srp_iu.specs.Grammar.{Spells}
 use Rattle.srp_iu.specs.declared.command.Cmd.{Cmd}
 use Rattle.srp_iu.specs.declared.unit.Iu.TheVariants as units
 use Rattle.block_server.specs.Cargo.{IsAccounted, cargo, cargo_at, is_loaded, load_at, rows_of, unanswered}
-use Rattle.block_server.specs.Cargo.Load.{given, none}
+use Rattle.block_server.specs.Cargo.Load.{given}
 use Rattle.block_server.specs.Causes.{IsNamed, Told, told_to}
 use Rattle.block_server.specs.Orders.{IsOrder}
 use Rattle.block_server.specs.declared.cursor.Cursor.{Cursor}
-use Rattle.block_server.specs.declared.data_pieces.DataPieces.{DataPieces}
 use Rattle.block_server.specs.declared.request.Order.{Order}
 use Rattle.block_server.specs.declared.request.Order.TheVariants.{Command}
 use Rattle.block_server.specs.declared.request.Request.{Request}

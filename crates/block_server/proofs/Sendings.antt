@@ -1,21 +1,18 @@
 -- The data-in of the row in service, as they are written, copied and cut.
-use Rattle.std.proofs.Common.{◌≡◌, ◌≢◌, ◌+◌, ◌<◌, ◌≤◌, ◌++◌, ◌⊎◌, ℕ, min, Bool, true, false, List, [], ◌∷◌, Option, Some, None, Result, Ok, Err, OnErr, OnOk, length, slice_get, refl, sym, ◌∙◌, ap, subst, arith}
-use Rattle.std.specs.Prelude.{slice_index}
+use Rattle.std.proofs.Common.{◌≡◌, ◌+◌, ◌≤◌, ℕ, min, Bool, true, false, List, [], ◌∷◌, Some, None, Result, Ok, Err, OnErr, OnOk, length, slice_get, refl, sym, ◌∙◌, ap, subst}
 use Rattle.vio_num.specs.declared.history.Served.{Served}
 use Rattle.vio_num.specs.declared.memory.NoMemory.{NoMemory}
 use Rattle.vio_num.specs.declared.names.UnitId.{UnitId}
 use Rattle.block_disk.specs.declared.reply.ScsiReply.{ScsiReply}
 use Rattle.srp_desc.specs.Pieces.{sum_of}
 use Rattle.srp_iu.specs.Layout.{field}
-use Rattle.srp_iu.specs.declared.buffer.Desc.{Desc}
 use Rattle.srp_iu.specs.declared.command.Cmd.{Cmd}
 use Rattle.block_server.specs.Answering.{IsInService}
-use Rattle.block_server.specs.Cargo.{AreShown, Cargo, HasTag, IsAccounted, IsSentAll, KeepsCargo, SendsPart, cargo, cargo_at, data_bytes, is_loaded, load_at, rows_of, unanswered}
-use Rattle.block_server.specs.Cargo.Load.{given, none, sending}
+use Rattle.block_server.specs.Cargo.{AreShown, HasTag, IsAccounted, IsSentAll, KeepsCargo, SendsPart, cargo, cargo_at, data_bytes, is_loaded, load_at, rows_of}
+use Rattle.block_server.specs.Cargo.Load.{given, sending}
 use Rattle.block_server.specs.Carried.{data_at, delivery}
 use Rattle.block_server.specs.Causes.{Told, told_to}
 use Rattle.block_server.specs.Causes.News.{delivered}
-use Rattle.block_server.specs.Fetched.{IfDone}
 use Rattle.block_server.specs.Heard.{TellsAll}
 use Rattle.block_server.specs.Judged.{is_command}
 use Rattle.block_server.specs.Parts.{IsPlacedAt, LiesAt}
@@ -23,10 +20,6 @@ use Rattle.block_server.specs.Serving.{IsServing, IsServed, IfRow, Terms, desk_a
 use Rattle.block_server.specs.SiteState.{SiteState}
 use Rattle.block_server.specs.Stage.{is_before_step}
 use Rattle.block_server.specs.declared.cursor.Cursor.{Cursor}
-use Rattle.block_server.specs.declared.data_pieces.DataPieces.{DataPieces}
-use Rattle.block_server.specs.declared.fetching.Progress.{Progress}
-use Rattle.block_server.specs.declared.fetching.Progress.TheVariants.{Done}
-use Rattle.block_server.specs.declared.request.Order.{Order}
 use Rattle.block_server.specs.declared.request.Order.TheVariants.{Command}
 use Rattle.block_server.specs.declared.request.Request.{Request}
 use Rattle.block_server.specs.declared.service.Service.{Service}
@@ -34,7 +27,7 @@ use Rattle.block_server.specs.declared.service.Outcome.{Outcome}
 use Rattle.block_server.specs.declared.service.Stage.{Stage}
 use Rattle.block_server.specs.declared.service.Stage.TheVariants.{Start, OutTable, InTable, DataOut, Given, DataIn, Answer, Entry}
 use Rattle.block_server.proofs.AnswerLaws.{get_at}
-use Rattle.block_server.proofs.Cargoes.{cargo_is, cargo_none, none_keeps, none_same, shown_same}
+use Rattle.block_server.proofs.Cargoes.{cargo_is, cargo_none}
 use Rattle.block_server.proofs.HandRows.{row_from}
 use Rattle.block_server.proofs.Hands.{keeps_by, keeps_same, moved_sending, sent_all, still_given, stored_given}
 

@@ -1,8 +1,7 @@
 -- What a unit's service has in hand of a command's data, in its own window and in the rows, and what of it copies moved.
-use Rattle.std.specs.Prelude.{◌≡◌, ◌⊎◌, ◌+◌, ◌<◌, ◌≤◌, ⊤, ℕ, Bool, true, false, List, [], Option, Some, IfSome, length, map, min, slice_get, slice_index}
+use Rattle.std.specs.Prelude.{◌≡◌, ◌⊎◌, ◌+◌, ◌<◌, ◌≤◌, ⊤, ℕ, Bool, true, false, List, [], Some, IfSome, length, map, min, slice_get, slice_index}
 use Rattle.vio_num.specs.declared.history.Served.{Served as ServedRow}
 use Rattle.vio_num.specs.declared.names.UnitId.{UnitId}
-use Rattle.page_slots.specs.Stroke.{StrokeValue}
 use Rattle.srp_iu.specs.Grammar.{Spells}
 use Rattle.srp_iu.specs.Layout.{field}
 use Rattle.srp_iu.specs.declared.buffer.Desc.{Desc}

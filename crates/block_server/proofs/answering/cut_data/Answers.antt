@@ -1,4 +1,4 @@
-use Rattle.std.proofs.Common.{ap, refl, sym, take, ◌∙◌, ℕ}
+use Rattle.std.proofs.Common.{ap, refl, take, ◌∙◌, ℕ}
 use Rattle.block_server.specs.Cargo.{is_loaded}
 use Rattle.block_server.proofs.Cargoes.{cut_at_given, cut_at_sending, none_keeps, other_stage}
 use Rattle.block_server.proofs.answering.cut_data.Goals as goal

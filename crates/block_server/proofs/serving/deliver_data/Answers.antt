@@ -1,6 +1,6 @@
 use Rattle.std.proofs.Common.{arith, length}
 use Rattle.srp_desc.specs.Pieces.{sum_of}
-use Rattle.std.proofs.Common.{◌≡◌, ◌+◌, ℕ, List, Option}
+use Rattle.std.proofs.Common.{◌+◌, ℕ, List, Option}
 use Rattle.srp_iu.specs.declared.buffer.Desc.{Desc}
 use Rattle.block_server.specs.Cargo.{SendsPart}
 use Rattle.block_server.specs.Parts.{LiesAt}
@@ -13,10 +13,8 @@ use Rattle.block_server.proofs.Denying.{part_refused}
 use Rattle.block_server.proofs.Advancing.{advances_on}
 use Rattle.block_server.proofs.Readying.{uses_later}
 use Rattle.std.proofs.Common.{sym, subst}
-use Rattle.block_server.specs.Cargo.{data_bytes}
 use Rattle.block_server.proofs.Cargoes.{shown_same}
 use Rattle.block_server.proofs.Sendings.{all_sent, part_moved}
-use Rattle.block_server.specs.Heard.{TellsAll}
 use Rattle.block_server.specs.Cargo.{IsAccounted}
 use Rattle.block_server.specs.Parts.{IsPlacedAt}
 use Rattle.block_server.proofs.Denying.{tells_first, tells_next}

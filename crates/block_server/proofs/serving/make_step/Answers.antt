@@ -17,11 +17,9 @@ use Rattle.block_server.proofs.Onces.{once_same}
 use Rattle.block_server.proofs.Serves.{gathers_of, once_added, once_before, pieces_of}
 use Rattle.block_server.proofs.Working.{command_row, one_row, one_same}
 use Rattle.block_server.specs.Judged.{has_row, is_command, keys_of}
-use Rattle.block_server.specs.Cargo.{is_loaded, rows_of}
-use Rattle.block_server.proofs.Cargoes.{cargo_none, none_keeps}
-use Rattle.block_server.proofs.Hands.{keeps_same}
+use Rattle.block_server.specs.Cargo.{rows_of}
+use Rattle.block_server.proofs.Cargoes.{none_keeps}
 use Rattle.block_server.proofs.Makings.{made_given, out_unloaded}
-use Rattle.block_server.specs.Causes.{Told}
 use Rattle.block_server.proofs.serving.make_step.Goals as goal
 
 pub returns-in_default-clause-once : goal.returns-in_default-clause-once

@@ -16,7 +16,6 @@ use Rattle.block_server.proofs.OwingCalls.{no_row_in}
 use Rattle.block_server.proofs.OwingRows.{moves_on, moves_same}
 use Rattle.block_server.proofs.Cargoes.{none_keeps}
 use Rattle.block_server.proofs.Sendings.{before_unloaded}
-use Rattle.block_server.proofs.Denying.{tells_next}
 use Rattle.block_server.specs.Cargo.{data_bytes}
 use Rattle.block_server.proofs.serving.run_step.Goals as goal
 

@@ -29,7 +29,7 @@ use Rattle.block_server.specs.Judged.{IsAtStage}
 use Rattle.block_server.specs.Owed.{HasAnswers, Owing, row_states}
 use Rattle.block_server.specs.declared.request.Request.{Request}
 use Rattle.block_server.proofs.Cargoes.{cargo_named, shown_same}
-use Rattle.block_server.proofs.Hands.{keeps_on, keeps_same}
+use Rattle.block_server.proofs.Hands.{keeps_same}
 use Rattle.block_server.proofs.Sendings.{other_unloaded}
 use Rattle.block_server.specs.Serving.{IsServing, terms_of}
 use Rattle.block_server.specs.Judged.{is_command}
