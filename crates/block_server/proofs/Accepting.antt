@@ -1,15 +1,13 @@
 -- What an entry that is judged leaves of a unit's books.
-use Rattle.std.proofs.Common.{◌≡◌, ◌≢◌, ◌+◌, length, ◌⊎◌, inl, inr, ◌==◌, ◌&&◌, ◌++◌, ◌<◌, ◌≤◌, ℕ, Bool, true, false, Contains, List, [], ◌∷◌, Option, Some, None, IsSome, refl, sym, ◌∙◌, ap, subst, arith}
+use Rattle.std.proofs.Common.{◌≡◌, ◌≢◌, ◌+◌, length, ◌⊎◌, inl, inr, ◌==◌, ◌&&◌, ◌++◌, ◌<◌, ◌≤◌, ℕ, Bool, true, false, Contains, List, [], ◌∷◌, IsSome, refl, sym, ◌∙◌, ap, subst, arith}
 use Rattle.std.proofs.lemmas.Bool.{eq-eqb}
 use Rattle.std.proofs.lemmas.List.Elements.{All-push}
 use Rattle.crq_ring.specs.Sessions.{of_session}
-use Rattle.vio_num.specs.declared.history.Grant.{Grant}
 use Rattle.vio_num.specs.declared.history.Grant.TheVariants.{Granted}
-use Rattle.vio_num.specs.declared.names.UnitId.{UnitId}
 use Rattle.block_server.specs.Receipts.{Receipt}
 use Rattle.block_server.specs.Closings.{TakesNone}
-use Rattle.block_server.specs.Judged.{Ahead, AreKept, AreLogins, ArePending, Asks, Books, Fate, HasFate, HasFront, HasGrant, IsAtStage, Judged, KeepsLogins, accepted, due_under, gets_row, has_row, is_login, login_of, receipt_key, request_key}
-use Rattle.block_server.specs.Fates.Fate.{asked, asks_logout, ends_it}
+use Rattle.block_server.specs.Judged.{Ahead, AreKept, AreLogins, ArePending, Asks, Books, Fate, HasFate, HasFront, HasGrant, IsAtStage, Judged, accepted, gets_row, has_row, is_login, login_of, receipt_key, request_key}
+use Rattle.block_server.specs.Fates.Fate.{asked, ends_it}
 use Rattle.block_server.specs.declared.request.Request.{Request}
 use Rattle.block_server.specs.declared.service.Outcome.TheVariants as outcomes
 use Rattle.block_server.specs.declared.service.Stage.{Stage}

@@ -77,14 +77,14 @@ pub more_down : (units : List Unit) (unit : Unit) → AreDown units → unit.lin
 more_down units unit all down number = more_at units unit down number (all number)
 
 -- of the unit that took its turn
-some_at : (o : Option Unit) (unit : Unit) (P : Unit → Type 0) → o ≡ Some unit → IfSome o P → P unit
+pub some_at : (o : Option Unit) (unit : Unit) (P : Unit → Type 0) → o ≡ Some unit → IfSome o P → P unit
 some_at (Some other) unit P same is = subst P (some_same other unit same) is
   where
     some_same : (a b : Unit) → Some a ≡ Some b → a ≡ b
     some_same a b e = cc (e)
 some_at None unit P same is = cc (same)
 
-if_at : (o : Option Unit) (unit : Unit) (P : Unit → Type 0) → o ≡ Some unit → P unit → IfSome o P
+pub if_at : (o : Option Unit) (unit : Unit) (P : Unit → Type 0) → o ≡ Some unit → P unit → IfSome o P
 if_at o unit P same is = subst (λ (o : Option Unit). IfSome o P) (sym same) is
 
 pub agrees_turn : (units : List Unit) (n : ℕ) (unit unit' : Unit) (queue queue' : EndState) → slice_get units n ≡ Some unit

@@ -154,7 +154,7 @@ answers_one unit iu history history' row answer is some answered =
     ∙ ap (λ list. list ++ srp_entry (length answer) (field 8 8 iu) ∷ [])
     (sym (ap (answers_of unit) is.history_is ∙ at_place unit is.before is.behind is.served is.last (blank_row unit is.served is.unanswered)))
 
-get_at : (before behind : List Served) (served : Served) → slice_get (before ++ served ∷ behind) (length before) ≡ Some served
+pub get_at : (before behind : List Served) (served : Served) → slice_get (before ++ served ∷ behind) (length before) ≡ Some served
 get_at [] behind served = refl
 get_at (row ∷ before) behind served = get_at before behind served
 

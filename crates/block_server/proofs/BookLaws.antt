@@ -1,9 +1,9 @@
 -- Laws of a unit's books for the crates above: they stay over turns of other units, and where nothing is pending all is served.
-use Rattle.std.proofs.Common.{◌≡◌, ◌≢◌, ◌⊎◌, inl, inr, ◌++◌, ◌==◌, ◌&&◌, ◌≤◌, ℕ, zero, suc, Bool, true, false, cond, All, List, [], ◌∷◌, Option, Some, None, IfSome, filter, length, map, refl, sym, ◌∙◌, ap, subst, arith}
+use Rattle.std.proofs.Common.{◌≡◌, ◌≢◌, inl, inr, ◌++◌, ◌==◌, ◌&&◌, ◌≤◌, ℕ, zero, suc, Bool, true, false, All, List, [], ◌∷◌, Option, Some, None, IfSome, filter, length, map, refl, sym, ◌∙◌, ap, subst}
 use Rattle.std.specs.List.{slice_get}
 use Rattle.std.proofs.lemmas.Bool.{eqb-true}
 use Rattle.std.proofs.lemmas.Option.{IfSome_then}
-use Rattle.std.proofs.lemmas.List.Elements.{All-append, All-cons, All-head, All-nil, All-tail, All-weaker}
+use Rattle.std.proofs.lemmas.List.Elements.{All-cons, All-head, All-tail, All-weaker}
 use Rattle.crq_ring.specs.Sessions.{of_session}
 use Rattle.crq_ring.proofs.Sessions.{of_session-nil}
 use Rattle.crq_session.specs.EndState.{EndState}
@@ -12,7 +12,7 @@ use Rattle.vio_num.specs.declared.history.Served.{Served}
 use Rattle.vio_num.specs.declared.names.UnitId.{UnitId}
 use Rattle.block_server.specs.Answering.{OnlyRowsOf, StaysRow}
 use Rattle.block_server.specs.Books.{books_seen, is_up, next_of, number_of}
-use Rattle.block_server.specs.Judged.{AreKept, Books, Credits, IsAllServed, IsOn, IsServedUnder, IsWorkDone, Judged, Key, RowKey, due_under, has_row, is_under, keys_of, row_key}
+use Rattle.block_server.specs.Judged.{AreKept, Books, Credits, IsAllServed, IsServedUnder, IsWorkDone, Judged, RowKey, due_under, has_row, is_under, keys_of, row_key}
 use Rattle.block_server.specs.Closings.{HasCauses}
 use Rattle.block_server.specs.Judges.{AreUnused, HasKept}
 use Rattle.block_server.specs.Makers.{same_unit}

@@ -1,17 +1,15 @@
 -- A unit's books over the calls of its turn.
-use Rattle.std.proofs.Common.{◌≡◌, ◌+◌, ◌++◌, ◌<◌, ◌≤◌, ℕ, zero, suc, Bool, true, false, Result, Ok, Err, OnOk, OnErr, List, [], ◌∷◌, Option, Some, None, drop, length, map, slice_get, slice_set, refl, sym, ◌∙◌, ap, ap₂, subst, arith}
+use Rattle.std.proofs.Common.{◌≡◌, ◌++◌, ◌<◌, ℕ, zero, suc, true, false, Result, Ok, Err, OnOk, OnErr, List, [], ◌∷◌, Option, Some, None, length, slice_get, slice_set, refl, sym, ◌∙◌, ap, subst}
 use Rattle.std.specs.List.{HoldsAt}
 use Rattle.std.proofs.lemmas.Option.{slice_get-get_or}
 use Rattle.crq_ring.specs.Sessions.{of_session}
-use Rattle.crq_ring.specs.declared.rows.PipeRow.{PipeRow}
-use Rattle.crq_session.specs.EndState.{EndState}
 use Rattle.vio_num.specs.declared.history.Grant.{Grant}
 use Rattle.vio_num.specs.declared.history.Grant.TheVariants.{Granted, Lapsed}
 use Rattle.vio_num.specs.declared.history.Lapse.{Lapse}
 use Rattle.vio_num.specs.declared.history.Served.{Served}
 use Rattle.vio_num.specs.declared.names.UnitId.{UnitId}
 use Rattle.block_server.specs.Books.{next_of}
-use Rattle.block_server.specs.Judged.{AreKept, Books, IsAtStage, IsKeptAt, IsOutcome, Judged, Keeps, ServesOne, gets_row, has_row, in_service, is_login, keys_of, row_key}
+use Rattle.block_server.specs.Judged.{AreKept, Books, IsAtStage, IsKeptAt, IsOutcome, Keeps, ServesOne, gets_row, has_row, in_service, is_login, keys_of, row_key}
 use Rattle.block_server.specs.Orders.{IsCodeOf}
 use Rattle.block_server.specs.Stage.{is_answered}
 use Rattle.block_server.specs.declared.request.Order.{Order}
@@ -21,7 +19,6 @@ use Rattle.srp_iu.specs.declared.response_code.ResponseCode.{ResponseCode}
 use Rattle.vio_num.specs.declared.memory.NoMemory.{NoMemory}
 use Rattle.block_server.proofs.Working.{login_one, one_given, one_same}
 use Rattle.block_server.specs.Moves.{Passes}
-use Rattle.block_server.specs.Receipts.{Standing}
 use Rattle.block_server.specs.SiteState.{SiteState}
 use Rattle.block_server.specs.declared.line.Kept.{Kept}
 use Rattle.block_server.specs.declared.line.Kept.TheVariants as keeps

@@ -1,12 +1,12 @@
 -- A unit's books as it is made, and over the turns of other units.
-use Rattle.std.proofs.Common.{◌≡◌, ◌⊎◌, inl, ◌==◌, ◌&&◌, ◌++◌, ◌<◌, ◌≤◌, ℕ, Bool, true, false, cond, All, List, [], ◌∷◌, None, filter, map, refl, sym, ◌∙◌, ap, subst, arith, append-nil}
-use Rattle.std.proofs.lemmas.List.Elements.{All-append, Contains-append_left, All-head, All-nil, All-tail, All-weaker, filter-append}
+use Rattle.std.proofs.Common.{◌≡◌, ◌⊎◌, inl, ◌==◌, ◌&&◌, ◌++◌, ◌≤◌, ℕ, Bool, true, false, All, List, [], ◌∷◌, None, filter, refl, sym, ◌∙◌, ap, subst, arith, append-nil}
+use Rattle.std.proofs.lemmas.List.Elements.{Contains-append_left, All-head, All-nil, All-tail, All-weaker, filter-append}
 use Rattle.vio_num.specs.declared.history.Grant.{Grant}
 use Rattle.vio_num.specs.declared.history.Grant.TheVariants.{Granted, Lapsed}
 use Rattle.vio_num.specs.declared.names.UnitId.{UnitId}
 use Rattle.block_server.specs.Makers.{same_unit}
 use Rattle.block_server.specs.Receipts.{unit_of}
-use Rattle.block_server.specs.Judged.{Ahead, AreKept, Books, Credits, HasFate, HasGrant, IsOn, IsServedUnder, Judged, KeepsLogins, RowKey, due_under, ends, has_row, is_logout, is_under, logs_out}
+use Rattle.block_server.specs.Judged.{Ahead, AreKept, Books, Credits, HasFate, HasGrant, IsServedUnder, Judged, RowKey, ends, is_logout, logs_out}
 use Rattle.block_server.specs.declared.service.Stage.TheVariants as stages
 use Rattle.block_server.proofs.Judging.{filter_pass}
 use Rattle.block_server.proofs.Lapsing.{lines_new, lines_others}

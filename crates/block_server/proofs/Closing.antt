@@ -1,24 +1,23 @@
 -- That each line keeps its cause, as more is taken, judged and written.
-use Rattle.std.proofs.Common.{◌≡◌, ◌≢◌, ◌⊎◌, inl, inr, ◌+◌, ◌==◌, ◌&&◌, ◌++◌, ◌<◌, ◌≤◌, ℕ, Bool, true, false, All, Contains, List, [], ◌∷◌, Option, Some, None, get_or, length, map, filter, take, refl, sym, ◌∙◌, ap, subst, arith, append-nil, append_assoc, length-append}
+use Rattle.std.proofs.Common.{◌≡◌, ◌+◌, ◌++◌, ◌<◌, ◌≤◌, ℕ, Bool, true, false, List, [], ◌∷◌, get_or, length, filter, take, refl, sym, ◌∙◌, ap, subst, arith, append-nil, append_assoc, length-append}
 use Rattle.std.specs.List.{AllPairs}
 use Rattle.std.proofs.lemmas.List.{take-append-le}
 use Rattle.std.proofs.lemmas.List.Elements.{Contains-append_left}
 use Rattle.std.proofs.lemmas.List.Quantifiers.{all_pairs_push}
 use Rattle.crq_ring.specs.Sessions.{of_session}
 use Rattle.crq_ring.specs.declared.rows.PipeRow.{PipeRow}
-use Rattle.crq_ring.proofs.Sessions.{of_session-append, of_session-pass, of_session-push}
-use Rattle.vio_num.specs.declared.entry.Entry.{Entry}
+use Rattle.crq_ring.proofs.Sessions.{of_session-append}
 use Rattle.vio_num.specs.declared.history.Grant.{Grant}
 use Rattle.vio_num.specs.declared.history.Grant.TheVariants.{Granted, Lapsed}
 use Rattle.vio_num.specs.declared.history.Lapse.{Lapse}
 use Rattle.vio_num.specs.declared.history.Lapse.TheVariants as lapses
 use Rattle.vio_num.specs.declared.names.UnitId.{UnitId}
-use Rattle.block_server.specs.Closings.{AreLosses, ClosesBefore, EndsBefore, Gives, HasCause, HasCauses, HaveCauses, IsAskedOut, IsEndedBy, IsOverLimit, TakesNone, heard, is_closing, is_event, is_line, is_loss}
-use Rattle.block_server.specs.Fates.{Fate, Judged, ends}
+use Rattle.block_server.specs.Closings.{AreLosses, ClosesBefore, EndsBefore, Gives, HasCause, HasCauses, HaveCauses, IsAskedOut, IsEndedBy, TakesNone, heard, is_closing, is_line}
+use Rattle.block_server.specs.Fates.{Judged, ends}
 use Rattle.block_server.specs.Fates.Fate.{ends_it}
-use Rattle.block_server.specs.Receipts.{Receipt, is_fatal}
+use Rattle.block_server.specs.Receipts.{Receipt}
 use Rattle.block_server.proofs.Judging.{filter_kept, filter_left}
-use Rattle.block_server.proofs.Heard.{and_first, and_next, none_at}
+use Rattle.block_server.proofs.Heard.{none_at}
 
 -- as more is taken and judged
 

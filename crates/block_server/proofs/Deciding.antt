@@ -1,23 +1,20 @@
 -- What the parts of a turn judge, one behind the other.
-use Rattle.std.proofs.Common.{◌≡◌, inl, inr, ◌+◌, ◌++◌, length-append, ◌≤◌, ℕ, Bool, true, false, cond, All, List, [], ◌∷◌, Option, Some, None, IfSome, MatchOption, drop, slice_get, ◌<◌, filter, length, map, refl, sym, ◌∙◌, ap, subst, arith, le_refl, append-nil, append_assoc}
+use Rattle.std.proofs.Common.{◌≡◌, inl, inr, ◌+◌, ◌++◌, ◌≤◌, ℕ, Bool, true, false, All, List, [], ◌∷◌, Option, Some, None, IfSome, slice_get, ◌<◌, filter, length, map, refl, sym, ◌∙◌, ap, subst, arith, append-nil, append_assoc}
 use Rattle.std.proofs.lemmas.List.{map-append}
-use Rattle.std.proofs.lemmas.List.Elements.{All-append, All-cons, All-head, All-nil, All-tail, All-weaker, filter-append, filter_map-append}
+use Rattle.std.proofs.lemmas.List.Elements.{All-append, All-cons, All-nil, All-weaker, filter-append}
 use Rattle.vio_num.specs.declared.history.Grant.{Grant}
 use Rattle.vio_num.specs.declared.history.Lapse.{Lapse}
 use Rattle.vio_num.specs.declared.history.Lapse.TheVariants as lapses
 use Rattle.vio_num.specs.declared.names.UnitId.{UnitId}
 use Rattle.block_server.specs.Advances.{Advances}
 use Rattle.block_server.specs.Judges.{Judges, JudgesMore}
-use Rattle.block_server.specs.Judged.{Ahead, AreKept, Books, Fate, IsInTime, IsOn, Judged, Keeps, ends, login_of}
+use Rattle.block_server.specs.Judged.{Ahead, AreKept, Books, IsInTime, IsOn, Judged, Keeps, ends, login_of}
 use Rattle.block_server.specs.Fates.Fate.{ends_it}
 use Rattle.block_server.specs.Moves.{Passes}
-use Rattle.block_server.specs.Receipts.{EndedFor, Intake, IsIntake, IsReceived, LinesMore, MayTake, Receipt, Standing, TakesEntry, TakesIn, intake_of, is_fatal}
+use Rattle.block_server.specs.Receipts.{EndedFor, Intake, IsIntake, LinesMore, MayTake, Receipt, Standing, TakesEntry, TakesIn, intake_of, is_fatal}
 use Rattle.block_server.specs.SiteState.{SameWindows, SiteState}
-use Rattle.std.specs.List.{cons_option, filter_map}
 use Rattle.std.proofs.lemmas.Option.{slice_get_within}
 use Rattle.crq_ring.specs.Sessions.{of_session}
-use Rattle.crq_ring.specs.declared.rows.PipeRow.{PipeRow}
-use Rattle.crq_ring.proofs.Sessions.{of_session-push}
 use Rattle.vio_num.specs.Entry.{is_srp_entry, iu_address, iu_length}
 use Rattle.vio_num.specs.declared.entry.Entry.{Entry}
 use Rattle.block_server.specs.Books.{next_of}

@@ -29,7 +29,6 @@ use Rattle.block_server.specs.declared.unit.Unit.{Unit}
 use Rattle.block_server.specs.Receipts.{is_down, is_ended, standing_of}
 use Rattle.block_server.specs.declared.intake.Next.{Next}
 use Rattle.block_server.specs.declared.intake.Next.TheVariants.{Entry as NextEntry}
-use Rattle.block_server.specs.declared.line.Line.{Line}
 
 command_by : (a b c d : Bool) → (if a then Unused else if b then Command else if c then Init else if d then Event else Reserved) ≡ Command → b ≡ true
 command_by true b c d is = absurd (cc (is))

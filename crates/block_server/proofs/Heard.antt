@@ -1,15 +1,13 @@
 -- What is heard of the other end among the entries that were taken, and the last line of a session: over lists alone.
-use Rattle.std.proofs.Common.{◌≡◌, ◌≢◌, ◌+◌, ◌==◌, ◌&&◌, ◌||◌, ◌++◌, ◌<◌, ◌≤◌, ℕ, zero, suc, Bool, true, false, cond, if◌then◌else◌, All, List, [], ◌∷◌, Option, Some, None, get_or, length, map, filter, take, refl, sym, ◌∙◌, ap, subst, arith, length-append}
+use Rattle.std.proofs.Common.{◌≡◌, ◌≢◌, ◌+◌, ◌==◌, ◌&&◌, ◌||◌, ◌++◌, ◌<◌, ◌≤◌, ℕ, zero, suc, Bool, true, false, if◌then◌else◌, List, [], ◌∷◌, Some, get_or, length, map, filter, take, refl, sym, ◌∙◌, ap, arith, length-append}
 use Rattle.std.proofs.lemmas.Bool.{eqb-true, ne_eqb}
 use Rattle.std.proofs.lemmas.List.{map-append}
-use Rattle.crq_ring.specs.Sessions.{of_session}
-use Rattle.crq_ring.specs.declared.rows.PipeRow.{PipeRow}
 use Rattle.vio_num.specs.Entry.{entry_format, first_byte}
 use Rattle.vio_num.specs.declared.entry.Entry.{Entry}
 use Rattle.vio_num.specs.declared.history.Grant.{Grant}
 use Rattle.vio_num.specs.declared.history.Grant.TheVariants.{Granted, Lapsed}
 use Rattle.vio_num.specs.declared.names.UnitId.{UnitId}
-use Rattle.block_server.specs.Closings.{has_no_event, heard, is_closing, is_event, is_handshake, is_line, is_loss, last_line, last_of}
+use Rattle.block_server.specs.Closings.{has_no_event, heard, is_closing, is_event, is_handshake, is_line, last_line, last_of}
 use Rattle.block_server.specs.Fates.{Judged, accepted, login_of, receipt_key}
 use Rattle.block_server.specs.Makers.{same_unit}
 use Rattle.block_server.proofs.Judging.{filter_first, filter_kept, filter_left, filter_pass}

@@ -1,20 +1,18 @@
 -- What the parts of a turn leave of what a unit's books say.
-use Rattle.std.proofs.Common.{◌≡◌, ◌≢◌, ◌⊎◌, inl, inr, ◌+◌, ◌==◌, ◌&&◌, ◌++◌, ◌<◌, ◌≤◌, ℕ, Bool, true, false, All, Contains, List, [], ◌∷◌, Option, Some, None, IsSome, drop, length, filter, refl, sym, ◌∙◌, ap, subst, arith, append-nil}
+use Rattle.std.proofs.Common.{◌≡◌, ◌⊎◌, inl, inr, ◌+◌, ◌==◌, ◌&&◌, ◌++◌, ◌<◌, ◌≤◌, ℕ, Bool, true, false, All, Contains, List, [], ◌∷◌, Option, None, drop, refl, sym, ◌∙◌, ap, subst, arith, append-nil}
 use Rattle.std.proofs.lemmas.Bool.{ne_eqb}
 use Rattle.std.proofs.lemmas.List.Elements.{All-append, All-nil, All-push, All-weaker, Contains-append_left, Contains-push}
-use Rattle.vio_num.specs.declared.entry.Entry.{Entry}
 use Rattle.vio_num.specs.declared.history.Grant.{Grant}
 use Rattle.vio_num.specs.declared.history.Grant.TheVariants.{Granted, Lapsed}
 use Rattle.vio_num.specs.declared.history.Lapse.{Lapse}
 use Rattle.vio_num.specs.declared.history.Lapse.TheVariants as lapses
 use Rattle.vio_num.specs.declared.names.UnitId.{UnitId}
 use Rattle.block_server.specs.Makers.{same_unit}
-use Rattle.block_server.specs.Receipts.{EndedFor, Receipt}
+use Rattle.block_server.specs.Receipts.{Receipt}
 use Rattle.block_server.specs.Decided.{IsEnd, IsGone, IsJudgedLast, IsTurnedDown}
-use Rattle.block_server.specs.Judged.{Ahead, AreKept, AreLogins, ArePending, Asks, Books, Credits, Fate, KeepsLines, HasFate, HasFront, HasGrant, HasLoginFront, IsAtStage, IsGranting, IsKeptAt, IsOn, IsOutcome, IsPendingUnder, IsServedUnder, Judged, KeepsLogins, RowKey, due_under, ends, gets_row, has_row, is_due, is_login, is_logout, receipt_key, request_key}
+use Rattle.block_server.specs.Judged.{Ahead, AreKept, AreLogins, ArePending, Books, Credits, Fate, KeepsLines, HasFate, HasFront, HasGrant, IsAtStage, IsGranting, IsKeptAt, IsOn, IsOutcome, IsServedUnder, Judged, KeepsLogins, RowKey, due_under, ends, gets_row, has_row, is_login, is_logout, request_key}
 use Rattle.block_server.specs.Fates.Fate.{ends_it, ignored, asks_login, asks_logout, asked}
 use Rattle.block_server.specs.declared.line.Kept.{Kept}
-use Rattle.block_server.specs.declared.request.Order.{Order}
 use Rattle.block_server.specs.declared.request.Request.{Request}
 use Rattle.block_server.specs.declared.service.Outcome.{Outcome}
 use Rattle.block_server.specs.declared.service.Outcome.TheVariants as outcomes
@@ -22,7 +20,7 @@ use Rattle.block_server.specs.declared.service.Stage.{Stage}
 use Rattle.block_server.specs.declared.service.Stage.TheVariants as stages
 use Rattle.block_server.proofs.Lapsing.{lines_end, lines_out}
 use Rattle.block_server.proofs.Lines.{lines_granted, lines_session}
-use Rattle.block_server.proofs.Judging.{all_logins, due_pass, due_popped, filter_left, login_no_row, row_no_login, served_due, served_ended, served_granted, served_left, served_more, served_other, served_row}
+use Rattle.block_server.proofs.Judging.{all_logins, due_popped, filter_left, login_no_row, row_no_login, served_due, served_ended, served_granted, served_left, served_other, served_row}
 
 -- a stage whose request has its row has a request
 pub front_of : (current : ℕ) (pending : List Request) (stage : Stage) → IsAtStage current pending stage → has_row stage ≡ true → HasFront pending

@@ -1,7 +1,7 @@
 -- What the end of a login leaves of the lines and their causes, and lines of other units.
-use Rattle.std.proofs.Common.{◌≡◌, ◌≢◌, ◌⊎◌, inl, inr, ◌+◌, ◌==◌, ◌&&◌, ◌++◌, ◌<◌, ◌≤◌, ℕ, Bool, true, false, All, List, [], ◌∷◌, Option, Some, None, get_or, length, filter, take, refl, sym, ◌∙◌, ap, subst, arith, append-nil, append_assoc}
+use Rattle.std.proofs.Common.{◌≡◌, ◌⊎◌, inl, inr, ◌+◌, ◌==◌, ◌&&◌, ◌++◌, ◌<◌, ◌≤◌, ℕ, Bool, true, false, All, List, [], ◌∷◌, length, filter, take, refl, sym, ◌∙◌, ap, subst, arith, append-nil, append_assoc}
 use Rattle.std.specs.List.{AllPairs}
-use Rattle.std.proofs.lemmas.Bool.{eq-eqb, eqb-true, ne_eqb}
+use Rattle.std.proofs.lemmas.Bool.{eq-eqb, eqb-true}
 use Rattle.std.proofs.lemmas.List.{take_all}
 use Rattle.std.proofs.lemmas.List.Elements.{All-head, All-push, All-tail, All-nil}
 use Rattle.crq_ring.specs.Sessions.{of_session}
@@ -13,11 +13,11 @@ use Rattle.vio_num.specs.declared.history.Grant.TheVariants.{Granted, Lapsed}
 use Rattle.vio_num.specs.declared.history.Lapse.{Lapse}
 use Rattle.vio_num.specs.declared.history.Lapse.TheVariants as lapses
 use Rattle.vio_num.specs.declared.names.UnitId.{UnitId}
-use Rattle.block_server.specs.Closings.{AreLosses, ClosesBefore, EndsBefore, Gives, HasCause, HasCauses, HaveCauses, IsEndedBy, TakesNone, heard, is_closing, is_event, is_line, is_lost, is_loss, last_line}
+use Rattle.block_server.specs.Closings.{AreLosses, ClosesBefore, EndsBefore, Gives, HasCause, HasCauses, HaveCauses, IsEndedBy, heard, is_closing, is_event, is_line, is_lost, is_loss}
 use Rattle.block_server.specs.Decided.{IsEnd, IsGone, IsJudgedLast, IsTurnedDown}
 use Rattle.block_server.specs.Fates.{Judged, ends}
 use Rattle.block_server.specs.Fates.Fate.{ends_it}
-use Rattle.block_server.specs.Judged.{Ahead, Books, Credits, IsOn, KeepsLines, is_logout}
+use Rattle.block_server.specs.Judged.{Ahead, Books, Credits, IsOn, KeepsLines}
 use Rattle.block_server.specs.Makers.{same_unit}
 use Rattle.block_server.specs.Receipts.{Receipt, is_fatal, unit_of}
 use Rattle.block_server.proofs.Closing.{all_grow, causes_push}

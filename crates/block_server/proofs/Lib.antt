@@ -1,4 +1,13 @@
 pub mod Advancing
+pub mod Placing
+pub mod DataPages
+pub mod DataCopies
+pub mod HandRows
+pub mod Hands
+pub mod Cargoes
+pub mod Sendings
+pub mod Makings
+pub mod CargoLaws
 pub mod Answered
 pub mod Named
 pub mod Denying

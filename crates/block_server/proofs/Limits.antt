@@ -1,9 +1,8 @@
 -- When one request more is refused: over the credits alone.
-use Rattle.std.proofs.Common.{◌≡◌, ◌↔◌, ◌+◌, ◌<◌, ◌≤◌, ℕ, Bool, true, false, Option, Some, None, Result, Err, IsOk, if◌then◌else◌, refl, sym, ◌∙◌, ap, subst, arith}
+use Rattle.std.proofs.Common.{◌≡◌, ◌↔◌, ◌+◌, ◌<◌, ◌≤◌, ℕ, Bool, true, false, Option, Some, None, Result, Err, IsOk, if◌then◌else◌, refl, ◌∙◌, subst, arith}
 use Rattle.std.specs.Result.{IsErrOf}
 use Rattle.srp_credits.specs.Target.{TargetCredits, over_limit}
 use Rattle.srp_credits.specs.declared.fault.CreditFault.{CreditFault}
-use Rattle.srp_credits.specs.declared.fault.CreditFault.TheVariants as faults
 
 -- no login takes requests
 pub none_taking : (on : Bool) (current : ℕ) (result : Option ℕ) → result ≡ (if on then Some current else None) → ((login : ℕ) → result ≡ Some login → ⊥) → on ≡ false

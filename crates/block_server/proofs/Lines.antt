@@ -1,27 +1,26 @@
 -- What the parts of a turn leave of the lines and their causes.
-use Rattle.std.proofs.Common.{◌≡◌, ◌≢◌, ◌⊎◌, inl, inr, ◌+◌, ◌==◌, ◌&&◌, ◌++◌, ◌<◌, ◌≤◌, ℕ, Bool, true, false, All, Contains, List, [], ◌∷◌, Option, Some, None, get_or, length, map, filter, take, refl, sym, ◌∙◌, ap, subst, arith, le_refl, append-nil, append_assoc, length-append}
+use Rattle.std.proofs.Common.{◌≡◌, ◌≢◌, ◌⊎◌, inl, inr, ◌+◌, ◌==◌, ◌&&◌, ◌++◌, ◌<◌, ◌≤◌, ℕ, Bool, true, false, All, List, [], ◌∷◌, Some, get_or, length, filter, take, refl, sym, ◌∙◌, ap, subst, arith, append-nil, length-append}
 use Rattle.std.specs.List.{AllPairs}
 use Rattle.std.proofs.lemmas.Bool.{eq-eqb, eqb-true, ne_eqb}
 use Rattle.std.proofs.lemmas.List.{take-append-le, take_all}
-use Rattle.std.proofs.lemmas.List.Elements.{All-push, All-weaker, Contains-append_left, Contains-push}
+use Rattle.std.proofs.lemmas.List.Elements.{All-push, All-weaker}
 use Rattle.std.proofs.lemmas.List.Quantifiers.{all_pairs_push}
 use Rattle.crq_ring.specs.Sessions.{of_session}
 use Rattle.crq_ring.specs.declared.rows.PipeRow.{PipeRow}
-use Rattle.crq_ring.proofs.Sessions.{of_session-append, of_session-pass, of_session-push}
+use Rattle.crq_ring.proofs.Sessions.{of_session-pass, of_session-push}
 use Rattle.vio_num.specs.declared.entry.Entry.{Entry}
 use Rattle.vio_num.specs.declared.history.Grant.{Grant}
 use Rattle.vio_num.specs.declared.history.Grant.TheVariants.{Granted, Lapsed}
-use Rattle.vio_num.specs.declared.history.Lapse.{Lapse}
 use Rattle.vio_num.specs.declared.history.Lapse.TheVariants as lapses
 use Rattle.vio_num.specs.declared.names.UnitId.{UnitId}
-use Rattle.block_server.specs.Closings.{AreLosses, ClosesBefore, EndsBefore, Gives, HasCause, HasCauses, HaveCauses, IsAskedOut, TakesNone, heard, is_closing, is_event, is_handshake, is_line, is_loss, last_line, last_of}
-use Rattle.block_server.specs.Fates.{Fate, Judged, accepted, ends}
+use Rattle.block_server.specs.Closings.{AreLosses, EndsBefore, HasCauses, TakesNone, heard, is_closing, is_event, is_handshake, is_line, is_loss, last_of}
+use Rattle.block_server.specs.Fates.{Fate, Judged, accepted}
 use Rattle.block_server.specs.Fates.Fate.{ends_it}
-use Rattle.block_server.specs.Judged.{Ahead, Credits, IsLastGrant, IsOn, KeepsLines}
+use Rattle.block_server.specs.Judged.{Ahead, Credits, KeepsLines}
 use Rattle.block_server.specs.Makers.{same_unit}
-use Rattle.block_server.specs.Receipts.{Receipt, is_fatal}
-use Rattle.block_server.proofs.Closing.{causes_grow, causes_push, none_grows}
-use Rattle.block_server.proofs.Heard.{accepted_more, and_first, and_next, heard_event, heard_pass, last_other, last_own, none_closing, take_none}
+use Rattle.block_server.specs.Receipts.{Receipt}
+use Rattle.block_server.proofs.Closing.{causes_grow, causes_push}
+use Rattle.block_server.proofs.Heard.{and_next, heard_pass, last_own, none_closing, take_none}
 use Rattle.block_server.proofs.Judging.{filter_kept, filter_left, unit_self}
 
 -- THE SESSION ------------------------------------------------------------------------------------

@@ -1,9 +1,7 @@
 -- What the parts of a turn do to a unit's intake, one behind the other.
-use Rattle.std.proofs.Common.{◌≡◌, ◌+◌, ◌++◌, ◌<◌, ◌||◌, ℕ, zero, suc, Bool, true, false, All, Contains, IfSome, List, [], ◌∷◌, Option, Some, None, length, filter, slice_get, slice_set, refl, sym, ◌∙◌, ap, ap₂, subst, arith, append-nil, append_assoc}
+use Rattle.std.proofs.Common.{◌≡◌, ◌+◌, ◌++◌, ◌<◌, ℕ, zero, suc, true, false, Contains, IfSome, List, [], ◌∷◌, Option, Some, None, length, filter, slice_get, slice_set, refl, sym, ◌∙◌, ap, ap₂, subst, arith, append-nil, append_assoc}
 use Rattle.std.proofs.lemmas.List.Elements.{All-nil, All-cons, All-append, All-weaker, Contains-push, filter-append}
 use Rattle.crq_session.specs.EndState.{EndState}
-use Rattle.crq_session.specs.declared.handshake.Handshake.{Handshake}
-use Rattle.crq_session.specs.declared.handshake.Handshake.TheVariants.{Down}
 use Rattle.rdma_copy.specs.declared.copy.CopyRecord.{CopyRecord}
 use Rattle.tce_window.specs.PortState.{PortPlace, PortState}
 use Rattle.vio_num.specs.Entry.{is_srp_entry, iu_address, iu_length}

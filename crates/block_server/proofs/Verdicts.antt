@@ -1,7 +1,6 @@
 -- What is decided of an information unit.
-use Rattle.std.proofs.Common.{◌≡◌, ◌≢◌, inl, inr, ◌+◌, ◌++◌, ◌<◌, ◌≤◌, ℕ, Bool, Option, Some, None, if◌then◌else◌, true, false, IsSome, List, [], ◌∷◌, length, refl, sym, ◌∙◌, ap, subst, arith, le_refl}
+use Rattle.std.proofs.Common.{◌≡◌, ◌≢◌, inl, inr, ◌+◌, ◌++◌, ◌<◌, ◌≤◌, ℕ, Bool, Option, Some, None, if◌then◌else◌, true, false, IsSome, List, [], ◌∷◌, length, refl, sym, ◌∙◌, ap, subst, arith}
 use Rattle.std.proofs.Math.Nat.{lt_of_not-le}
-use Rattle.srp_iu.specs.Command.{cmd_len}
 use Rattle.srp_iu.specs.Grammar.{Spells}
 use Rattle.srp_iu.specs.declared.command.Cmd.{Cmd}
 use Rattle.srp_iu.specs.declared.login.LoginReq.{LoginReq}
@@ -14,7 +13,6 @@ use Rattle.crq_ring.specs.Sessions.{of_session}
 use Rattle.std.proofs.lemmas.List.Elements.{Contains-push}
 use Rattle.vio_num.specs.declared.history.Lapse.{Lapse}
 use Rattle.vio_num.specs.declared.history.Lapse.TheVariants as lapses
-use Rattle.vio_num.specs.declared.names.UnitId.{UnitId}
 use Rattle.block_server.specs.Books.{books_of, credits_of, is_up}
 use Rattle.block_server.specs.Closings.{Gives, IsUnderLogin, TakesNone, last_line}
 use Rattle.block_server.specs.Decided.{Decides, DecidesOrder, EndsBooks, IsCause, IsToJudge, JudgesOne, StaysOn, TakesUnder}

@@ -1,15 +1,14 @@
 -- What the parts of a request's service leave of its unit's books.
-use Rattle.std.proofs.Common.{◌≡◌, ◌++◌, ℕ, Bool, true, false, List, [], ◌∷◌, None, map, refl, sym, ◌∙◌, ap, subst}
+use Rattle.std.proofs.Common.{◌≡◌, ◌++◌, ℕ, true, false, List, [], ◌∷◌, None, refl, sym, ◌∙◌, ap, subst}
 use Rattle.std.proofs.lemmas.List.{map-append}
 use Rattle.vio_num.specs.declared.history.Served.{Served}
 use Rattle.vio_num.specs.declared.names.UnitId.{UnitId}
-use Rattle.block_server.specs.Judged.{AreKept, Books, HasCommandFront, HasFront, IsAtStage, IsFor, IsOutcome, Judged, Keeps, RowKey, ServesOne, gets_row, has_row, in_service, is_command, is_login, keys_of, row_key}
+use Rattle.block_server.specs.Judged.{AreKept, Books, HasCommandFront, HasFront, IsAtStage, IsOutcome, Keeps, RowKey, ServesOne, gets_row, has_row, in_service, is_command, is_login, keys_of, row_key}
 use Rattle.block_server.specs.Stage.{is_answered, is_before_step}
 use Rattle.block_server.specs.declared.request.Order.{Order}
 use Rattle.block_server.specs.declared.request.Order.TheVariants as orders
 use Rattle.block_server.specs.declared.request.Request.{Request}
 use Rattle.block_server.specs.declared.service.Outcome.{Outcome}
-use Rattle.block_server.specs.declared.service.Outcome.TheVariants as outcomes
 use Rattle.block_server.specs.declared.service.Stage.{Stage}
 use Rattle.block_server.specs.declared.service.Stage.TheVariants as stages
 use Rattle.block_server.proofs.Keeping.{keeps_row, keeps_stage}

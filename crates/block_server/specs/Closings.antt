@@ -1,5 +1,5 @@
 -- Why each line on a login stands there: what the unit took and judged before it (SRP, "Login process"; LoPAR, "Transport Events").
-use Rattle.std.specs.Prelude.{◌≡◌, ◌⊎◌, ◌==◌, ◌&&◌, ◌||◌, ◌+◌, ◌<◌, ◌≤◌, ◌++◌, ℕ, Bool, true, false, ⊤, All, List, [], ◌∷◌, Option, Some, None, IsSome, if◌then◌else◌, length, filter, take}
+use Rattle.std.specs.Prelude.{◌≡◌, ◌⊎◌, ◌==◌, ◌&&◌, ◌||◌, ◌+◌, ◌<◌, ◌≤◌, ◌++◌, ℕ, Bool, true, false, ⊤, List, [], ◌∷◌, Option, Some, None, IsSome, if◌then◌else◌, length, filter, take}
 use Rattle.std.specs.List.{AllPairs, Contains}
 use Rattle.crq_ring.specs.Sessions.{of_session}
 use Rattle.crq_ring.specs.declared.rows.PipeRow.{PipeRow}

@@ -1,6 +1,5 @@
 -- What became of each SRP entry that a server unit took, and that each request has one row, in order (SRP, "Flow control").
 use Rattle.std.specs.Prelude.{◌≡◌, ◌⊎◌, ◌==◌, ◌&&◌, ◌+◌, ◌<◌, ◌≤◌, ◌++◌, ℕ, Bool, true, false, ⊤, All, List, [], ◌∷◌, Option, Some, None, IsSome, length, map, filter, take}
-use Rattle.std.specs.List.{Contains}
 use Rattle.crq_ring.specs.Sessions.{of_session}
 use Rattle.crq_ring.specs.declared.rows.PipeRow.{PipeRow}
 use Rattle.srp_iu.specs.Grammar.{Spells}

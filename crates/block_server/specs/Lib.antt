@@ -1,6 +1,8 @@
 pub mod Advances
 pub mod Answering
 pub mod Books
+pub mod Cargo
+pub mod Carried
 pub mod Causes
 pub mod Closings
 pub mod Copied

@@ -1,5 +1,5 @@
 -- Intake: each SRP entry that a unit took has one copy that fetched its information unit, or ended its session.
-use Rattle.std.specs.Prelude.{◌≡◌, ◌==◌, ◌<◌, ◌≤◌, ◌||◌, ◌++◌, ℕ, Bool, true, false, All, List, [], ◌∷◌, Option, Some, None, IfSome, MatchOption, length, map, filter}
+use Rattle.std.specs.Prelude.{◌≡◌, ◌<◌, ◌≤◌, ◌||◌, ◌++◌, ℕ, Bool, true, false, All, List, [], ◌∷◌, Option, Some, None, IfSome, MatchOption, length, map, filter}
 use Rattle.std.specs.List.{AllPairs, Contains, filter_map, slice_get}
 use Rattle.crq_ring.specs.Sessions.{of_session}
 use Rattle.crq_ring.specs.declared.rows.PipeRow.{PipeRow}

@@ -2,9 +2,12 @@
 ghost use Rattle.std.specs.Prelude.{◌≡◌, ◌≢◌, ◌⊎◌, ◌+◌, ◌<◌, ◌∷◌, ℕ, Bool, List, None, Some, IfOk, OnOk, drop, false, true};
 ghost use Rattle.block_server.specs.Advances.{Advances};
 ghost use Rattle.block_server.specs.Books.{books_at, books_of};
+ghost use Rattle.block_server.specs.Cargo.{KeepsCargo, cargo_at, cargo_of, is_loaded, rows_of};
+ghost use Rattle.block_server.specs.declared.service.Service.{Service};
+ghost use Rattle.vio_num.specs.declared.names.UnitId.{UnitId};
 ghost use Rattle.block_server.specs.Ends.{EndsLogin};
 ghost use Rattle.block_server.specs.Entries.{IsPlain, MayPut, is_answer_len};
-ghost use Rattle.block_server.specs.Serving.{AnswersOnce, AnswersOnceBy, AsNone, LeavesRow, SettlesRow, desk_of};
+ghost use Rattle.block_server.specs.Serving.{AnswersOnce, AnswersOnceBy, AsNone, IsServing, LeavesRow, SettlesRow, Terms, desk_of};
 ghost use Rattle.crq_session.specs.EndState.{EndState};
 ghost use Rattle.block_server.specs.Decided.{EndsBooks};
 ghost use Rattle.block_server.specs.Judges.{Judges};
@@ -53,6 +56,8 @@ pub(crate) fn put_reply<S: Site>(unit: &mut Unit, site: &mut S, reply: Entry) ->
         (books_at unit.new (S.state site.new) records) }
     ensures answers { (records : Records) → KeepsAnswers S.link_shared unit.old unit.new
         (S.state site.old) (S.state site.new) records records }
+    ensures cargo { (records : Records) → cargo_of unit.new (S.state site.new) records ≡
+        cargo_of unit.old (S.state site.old) records }
 {
     match site.send(reply) {
         SendAnswer::Dropped { .. } => {
@@ -89,6 +94,9 @@ pub(crate) fn end_session(
     ensures cuts { (q : EndState) → session ≡ q.last_session → is_logout cause ≡ false →
         HasAnswers (owing_of unit.old q records.old) → AreCutOff unit.old.id
         (row_states records.new.history.items) records.new.grants.items }
+    ensures cargo { (shown shown' : ℕ → ℕ) → KeepsCargo
+        (cargo_at unit.old.id unit.old.service shown records.old.history.items)
+        (cargo_at unit.new.id unit.new.service shown' records.new.history.items) }
 {
     end_counted(unit, session, records, cause, 0, 0)
 }
@@ -119,6 +127,9 @@ pub(crate) fn end_counted(
     ensures cuts { (q : EndState) → session ≡ q.last_session → is_logout cause ≡ false →
         HasAnswers (owing_of unit.old q records.old) → AreCutOff unit.old.id
         (row_states records.new.history.items) records.new.grants.items }
+    ensures cargo { (shown shown' : ℕ → ℕ) → KeepsCargo
+        (cargo_at unit.old.id unit.old.service shown records.old.history.items)
+        (cargo_at unit.new.id unit.new.service shown' records.new.history.items) }
 {
     end_login(unit, session, records, cause, outstanding, granted);
     unit.line.closing = true;
@@ -144,6 +155,9 @@ pub(crate) fn lose_partner(unit: &mut Unit, session: u64, records: &mut Records)
     ensures cuts { (q : EndState) → session ≡ q.last_session →
         HasAnswers (owing_of unit.old q records.old) → AreCutOff unit.old.id
         (row_states records.new.history.items) records.new.grants.items }
+    ensures cargo { (shown shown' : ℕ → ℕ) → KeepsCargo
+        (cargo_at unit.old.id unit.old.service shown records.old.history.items)
+        (cargo_at unit.new.id unit.new.service shown' records.new.history.items) }
 {
     end_login(unit, session, records, Lapse::Lost, 0, 0);
 }
@@ -173,6 +187,9 @@ fn end_login(
     ensures cuts { (q : EndState) → session ≡ q.last_session → is_logout cause ≡ false →
         HasAnswers (owing_of unit.old q records.old) → AreCutOff unit.old.id
         (row_states records.new.history.items) records.new.grants.items }
+    ensures cargo { (shown shown' : ℕ → ℕ) → KeepsCargo
+        (cargo_at unit.old.id unit.old.service shown records.old.history.items)
+        (cargo_at unit.new.id unit.new.service shown' records.new.history.items) }
 {
     bytes_spell_one();
     leave_row(unit, records);
@@ -203,6 +220,9 @@ fn leave_row(unit: &mut Unit, records: &mut Records)
     ensures waiting { unit.new.waiting ≡ unit.old.waiting }
     ensures keys { keys_of records.new.history.items ≡ keys_of records.old.history.items }
     ensures states { row_states records.new.history.items ≡ row_states records.old.history.items }
+    ensures cargo { (shown shown' : ℕ → ℕ) → KeepsCargo
+        (cargo_at unit.old.id unit.old.service shown records.old.history.items)
+        (cargo_at unit.new.id unit.new.service shown' records.new.history.items) }
 {
     cut_data(&mut unit.service, records);
     unit.service.reset();
@@ -215,6 +235,10 @@ fn cut_data(service: &mut Service, records: &mut Records)
     ensures grants { records.new.grants ≡ records.old.grants }
     ensures keys { keys_of records.new.history.items ≡ keys_of records.old.history.items }
     ensures states { row_states records.new.history.items ≡ row_states records.old.history.items }
+    ensures cargo { (id : UnitId) → (shown shown' : ℕ → ℕ) → (after : Service) →
+        after.stage ≡ Stage.Start → KeepsCargo
+        (cargo_at id service.old shown records.old.history.items)
+        (cargo_at id after shown' records.new.history.items) }
 {
     match service.stage {
         Stage::Given { row, .. } => records.fill(row, service.take_given(0)),
@@ -244,6 +268,10 @@ pub(crate) fn log_out(unit: &mut Unit, session: u64, records: &mut Records)
         unit.old.pending.items ≡ front ∷ rest → gets_row front.order ≡ false →
         HasAnswers (owing_of unit.old q records.old) →
         HasAnswers (owing_of unit.new q records.new) }
+    ensures cargo { (shown shown' : ℕ → ℕ) →
+        is_loaded unit.old.service.stage ≡ false → KeepsCargo
+        (cargo_at unit.old.id unit.old.service shown records.old.history.items)
+        (cargo_at unit.new.id unit.new.service shown' records.new.history.items) }
 {
     let login = unit.logins.end();
     records.grants.push_reserved(Grant::Lapsed {
@@ -288,6 +316,8 @@ pub(crate) fn answer<S: Site>(
         (standing_of unit.old) (standing_of unit.new) (S.state site.old) (S.state site.new)
         (books_at unit.old (S.state site.old) records.old)
         (books_at unit.new (S.state site.new) records.new) }
+    ensures cargo { KeepsCargo (cargo_of unit.old (S.state site.old) records.old)
+        (cargo_of unit.new (S.state site.new) records.new) }
 {
     records.make_room()?;
     unit.logins.make_room()?;
@@ -332,6 +362,8 @@ fn copy_answer<S: Site>(
         (standing_of unit.old) (standing_of unit.new) (S.state site.old) (S.state site.new)
         (books_at unit.old (S.state site.old) records.old)
         (books_at unit.new (S.state site.new) records.new) }
+    ensures cargo { KeepsCargo (cargo_of unit.old (S.state site.old) records.old)
+        (cargo_of unit.new (S.state site.new) records.new) }
 {
     let Stage::Answer(outcome) = unit.service.stage else {
         return Ok(());
@@ -369,6 +401,8 @@ fn deliver<S: Site>(unit: &mut Unit, site: &mut S, outcome: Outcome) -> Result<P
         (books_at unit.new (S.state site.new) records) }
     ensures answers { (records : Records) → KeepsAnswers S.link_shared unit.old unit.new
         (S.state site.old) (S.state site.new) records records }
+    ensures cargo { (records : Records) → cargo_of unit.new (S.state site.new) records ≡
+        cargo_of unit.old (S.state site.old) records }
 {
     let Some(request) = unit.pending.front() else {
         return Ok(Progress::Busy);
@@ -409,6 +443,8 @@ fn put_answer<S: Site>(unit: &mut Unit, site: &mut S, records: &mut Records, out
     ensures answers { KeepsAnswersBy (books_at unit.old (S.state site.old) records.old)
         S.link_shared unit.old unit.new (S.state site.old) (S.state site.new)
         records.old records.new }
+    ensures cargo { cargo_of unit.new (S.state site.new) records.new ≡
+        cargo_of unit.old (S.state site.old) records.old }
 {
     let Some(request) = unit.pending.front() else {
         return;
@@ -456,6 +492,10 @@ pub(crate) fn put_kept<S: Site>(
     ensures answers { KeepsAnswersBy (books_at unit.old (S.state site.old) records.old)
         S.link_shared unit.old unit.new (S.state site.old) (S.state site.new)
         records.old records.new }
+    ensures cargo { (terms : Terms) →
+        IsServing terms (desk_of unit.old) records.old.history.items →
+        cargo_of unit.new (S.state site.new) records.new ≡
+        cargo_of unit.old (S.state site.old) records.old }
 {
     let Some(kept) = unit.line.kept else {
         return Ok(Next::Entry);
@@ -504,6 +544,7 @@ fn settle(unit: &mut Unit, session: u64, records: &mut Records, outcome: Outcome
     ensures answers { (q : EndState) → unit.old.service.stage ≡ Stage.Entry outcome →
         is_ended unit.old.line ≡ false → IsUp q → HasAnswers (owing_of unit.old q records.old) →
         HasAnswers (owing_of unit.new q records.new) }
+    ensures rows { rows_of records.new.history.items ≡ rows_of records.old.history.items }
 {
     match outcome {
         Outcome::Granted { number } => {

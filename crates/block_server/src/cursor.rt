@@ -1,6 +1,7 @@
 // A place in the data that pieces name, as the copies between the windows pass over them.
-ghost use Rattle.std.specs.Prelude.{◌≡◌, ◌+◌, ◌-◌, ◌^◌, ◌<◌, ◌≤◌, IfSome, length, min};
-ghost use Rattle.block_server.specs.Parts.{LiesIn};
+ghost use Rattle.std.specs.Prelude.{◌≡◌, ◌+◌, ◌-◌, ◌^◌, ◌<◌, ◌≤◌, None, IfSome, length, min};
+ghost use Rattle.srp_desc.specs.Pieces.{sum_of};
+ghost use Rattle.block_server.specs.Parts.{IsPlacedAt, LiesAt, LiesIn};
 
 use srp_iu::Desc;
 
@@ -57,6 +58,12 @@ impl Cursor {
         ensures end { IfSome result (λ part. part.end.done ≡ part.at + part.len) }
         ensures within { IfSome result (λ part. part.at + part.len ≤ limit) }
         ensures piece { IfSome result (λ part. LiesIn pieces.now part.address part.len) }
+        ensures there { IsPlacedAt pieces.now self → IfSome result (λ part.
+            LiesAt pieces.now part.at part.address part.len) }
+        ensures placed { IsPlacedAt pieces.now self → IfSome result (λ part.
+            IsPlacedAt pieces.now part.end) }
+        ensures all { IsPlacedAt pieces.now self → result ≡ None →
+            min limit (sum_of pieces.now) ≤ self.done }
     {
         let mut piece = self.piece;
         let mut inside = self.inside;

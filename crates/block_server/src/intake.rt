@@ -1,4 +1,5 @@
 // Intake: entries are taken from the unit's queue, and the requests among them are fetched and judged.
+ghost use Rattle.block_server.specs.Cargo.{KeepsCargo, cargo_at, cargo_of};
 ghost use Rattle.std.specs.Prelude.{◌≡◌, ◌⊎◌, ◌↔◌, ◌+◌, ◌<◌, ◌≤◌, ℕ, List, None, Some, IfOk, IsTrue, OnOk, false, true, length, slice_index};
 ghost use Rattle.std.specs.VecDeque.{deque_len, deque_capacity};
 ghost use Rattle.block_server.specs.Records.{HasLineRoom};
@@ -109,6 +110,8 @@ pub(crate) fn take_in<S: Site>(
         (books_at unit.new (S.state site.new) records.new) }
     ensures answers { KeepsAnswers S.link_shared unit.old unit.new
         (S.state site.old) (S.state site.new) records.old records.new }
+    ensures cargo { KeepsCargo (cargo_of unit.old (S.state site.old) records.old)
+        (cargo_of unit.new (S.state site.new) records.new) }
 {
     let next = receive_waiting(unit, site, records)?;
     if next != Next::Entry {
@@ -156,6 +159,8 @@ fn receive_waiting<S: Site>(
         (books_at unit.new (S.state site.new) records.new) }
     ensures answers { KeepsAnswers S.link_shared unit.old unit.new
         (S.state site.old) (S.state site.new) records.old records.new }
+    ensures cargo { KeepsCargo (cargo_of unit.old (S.state site.old) records.old)
+        (cargo_of unit.new (S.state site.new) records.new) }
 {
     let Some(arrival) = unit.waiting else {
         return Ok(Next::Entry);
@@ -180,6 +185,9 @@ fn make_room(unit: &mut Unit, records: &mut Records) -> Result<(), NoMemory>
         (books_at unit.new site records.new) }
     ensures owing { (q : EndState) →
         owing_of unit.new q records.new ≡ owing_of unit.old q records.old }
+    ensures cargo { (shown : ℕ → ℕ) →
+        cargo_at unit.new.id unit.new.service shown records.new.history.items ≡
+        cargo_at unit.old.id unit.old.service shown records.old.history.items }
 {
     unit.pending.reserve(1)?;
     records.make_room()
@@ -215,6 +223,8 @@ fn take_one<S: Site>(unit: &mut Unit, site: &mut S, records: &mut Records) -> Re
         (books_at unit.new (S.state site.new) records.new) }
     ensures answers { KeepsAnswers S.link_shared unit.old unit.new
         (S.state site.old) (S.state site.new) records.old records.new }
+    ensures cargo { KeepsCargo (cargo_of unit.old (S.state site.old) records.old)
+        (cargo_of unit.new (S.state site.new) records.new) }
 {
     site.reserve(2)?;
     let PollAnswer::Got { number, entry } = site.poll() else {
@@ -273,6 +283,8 @@ fn take_command<S: Site>(
         (books_at unit.new (S.state site.new) records.new) }
     ensures answers { KeepsAnswers S.link_shared unit.old unit.new
         (S.state site.old) (S.state site.new) records.old records.new }
+    ensures cargo { KeepsCargo (cargo_of unit.old (S.state site.old) records.old)
+        (cargo_of unit.new (S.state site.new) records.new) }
 {
     match arrival.entry.format() {
         SRP => {
@@ -317,6 +329,8 @@ fn receive<S: Site>(
         (books_at unit.new (S.state site.new) records.new) }
     ensures answers { KeepsAnswers S.link_shared unit.old unit.new
         (S.state site.old) (S.state site.new) records.old records.new }
+    ensures cargo { KeepsCargo (cargo_of unit.old (S.state site.old) records.old)
+        (cargo_of unit.new (S.state site.new) records.new) }
 {
     let session = site.session();
     if !unit.line.is_up() {
@@ -370,6 +384,9 @@ fn judge(
     ensures answers { (q : EndState) → session ≡ q.last_session →
         HasAnswers (owing_of unit.old q records.old) →
         HasAnswers (owing_of unit.new q records.new) }
+    ensures cargo { (shown : ℕ → ℕ) → KeepsCargo
+        (cargo_at unit.old.id unit.old.service shown records.old.history.items)
+        (cargo_at unit.new.id unit.new.service shown records.new.history.items) }
 {
     match judge_unit(&mut unit.logins, bytes) {
         Verdict::Ignored => Next::Entry,

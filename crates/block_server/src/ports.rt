@@ -93,6 +93,8 @@ impl<C: CrqEnd, O: OwnerPort + GuestPort, R: GuestPort> Ports<'_, '_, '_, '_, C,
             (own_name (O.state self.old.own.now) 0)
             self.old.copies.now.items self.new.copies.now.items) }
         ensures none { OnErr result (self.new.copies.now.items ≡ self.old.copies.now.items) }
+        ensures laid { OnErr result (LaysNone O.is_shared
+            (O.state self.old.own.now) (O.state self.new.own.now)) }
     {
         let name = StrokeName {
             who: self.unit,
@@ -185,6 +187,8 @@ impl<C: CrqEnd, O: OwnerPort + GuestPort, R: GuestPort> Ports<'_, '_, '_, '_, C,
         ensures client { R.state self.new.client.now ≡ R.state self.old.client.now }
         ensures wrote { OnOk result (Writes O.is_shared (O.state self.old.own.now) at bytes.now
             mark (O.state self.new.own.now)) }
+        ensures laid { OnErr result (LaysNone O.is_shared
+            (O.state self.old.own.now) (O.state self.new.own.now)) }
     {
         match self.own.write(at, bytes, mark) {
             Ok(()) => Ok(()),

@@ -1,6 +1,7 @@
 // What a server keeps for good beside its copies: the requests that it served, and the logins that it granted and that
 // ended, each in the order of time.
 ghost use Rattle.std.specs.Prelude.{◌≡◌, ◌+◌, ◌<◌, ◌≤◌, [], ◌∷◌, ◌++◌, None, IfOk, OnOk, length, replicate, vec_len, vec_capacity};
+ghost use Rattle.block_server.specs.Cargo.{rows_of};
 ghost use Rattle.block_server.specs.Judged.{keys_of};
 ghost use Rattle.block_server.specs.Owed.{row_states};
 ghost use Rattle.block_server.specs.Records.{HasLineRoom, KeepsLists, IsBlankRow, AnswersRow, FillsRow};
@@ -101,6 +102,8 @@ impl Records {
         ensures grants { self.new.grants ≡ self.old.grants }
         ensures keys { keys_of self.new.history.items ≡ keys_of self.old.history.items }
         ensures states { row_states self.new.history.items ≡ row_states self.old.history.items }
+        ensures rows { FillsRow (rows_of self.old.history.items)
+            (rows_of self.new.history.items) row inn }
     {
         if let Some(row) = self.history.get_mut(row) {
             row.inn = inn;
@@ -112,6 +115,7 @@ impl Records {
         ensures row { AnswersRow self.old.history.items self.new.history.items row answer }
         ensures grants { self.new.grants ≡ self.old.grants }
         ensures keys { keys_of self.new.history.items ≡ keys_of self.old.history.items }
+        ensures rows { rows_of self.new.history.items ≡ rows_of self.old.history.items }
     {
         if let Some(row) = self.history.get_mut(row) {
             row.answer = answer;

@@ -2,6 +2,7 @@
 ghost use Rattle.std.specs.Prelude.{◌≡◌, ◌≢◌, ◌<◌, ◌≤◌, ◌++◌, ℕ, Bool, List, [], false, IfErr, IfOk, IfSome, IsSome, slice_get, vec_len};
 ghost use Rattle.rdma_copy.specs.Copies.{side_of};
 ghost use Rattle.block_server.specs.Advances.{CopiesMore, Goes, KeepsFreed, StayNamed};
+ghost use Rattle.block_server.specs.Cargo.{AreIdle, HasCargo};
 ghost use Rattle.block_server.specs.Causes.{Told, anything};
 ghost use Rattle.block_server.specs.DiskLaw.{KeepsDisk, KeepsDiskBy};
 ghost use Rattle.block_server.specs.Heard.{Tells};
@@ -81,6 +82,7 @@ impl<B: Blocks> Server<B> {
         ensures none { IfOk result (λ server. AwaitNone server.units.items) }
         ensures unused { IfOk result (λ server. AreUnused server.units.items) }
         ensures unanswered { IfOk result (λ server. OweNone server.units.items) }
+        ensures idle { IfOk result (λ server. AreIdle server.units.items) }
     {
         let Ok(units) = make_units(alloc, partition, grant, units) else {
             return Err(image);
@@ -138,6 +140,12 @@ impl<B: Blocks> Server<B> {
             self.old.disk.count self.old.partition self.old.units.items self.old.records →
             AreWritten told self.old.records.history.items →
             AreWritten told self.new.records.history.items }
+        ensures carried { (told : Told → Bool) → Tells told (O.state own.old).place.unit
+            R.is_shared (O.state own.new) (R.state client.old) (R.state client.new)
+            self.old.copies.items self.new.copies.items → AreInOrder told
+            self.old.disk.count self.old.partition self.old.units.items self.old.records →
+            HasCargo told self.old.units.items unit (O.state own.old) self.old.records →
+            HasCargo told self.new.units.items unit (O.state own.new) self.new.records }
         ensures tells { IfSome (B.state self.old.disk.image).blocks
             (λ _. IsSome (B.state self.new.disk.image).blocks) }
         ensures quiet { IfOk result (λ moved. moved ≡ Moved.Quiet →
@@ -246,6 +254,7 @@ fn make_units(alloc: Global, partition: u8, grant: u8, count: u8) -> Result<Vec<
     ensures none { IfOk result (λ units. AwaitNone units.items) }
     ensures unused { IfOk result (λ units. AreUnused units.items) }
     ensures unanswered { IfOk result (λ units. OweNone units.items) }
+    ensures idle { IfOk result (λ units. AreIdle units.items) }
 {
     let mut units = Vec::new(alloc);
     for unit in 0..count {

@@ -1,10 +1,12 @@
 // The service of the oldest request: what it asks is done, and then it is answered.
+ghost use Rattle.block_server.specs.Cargo.{HasTag, IsAccounted, IsSentAll, KeepsCargo, cargo_at, cargo_of, data_bytes, is_loaded};
+ghost use Rattle.block_server.specs.Parts.{IsPlacedAt};
 ghost use Rattle.std.specs.Prelude.{◌≡◌, ◌≢◌, ◌⊎◌, ◌∷◌, ◌<◌, ◌≤◌, ℕ, Bool, List, Option, Some, None, [], IfOk, OnOk, false, true, length};
 ghost use Rattle.block_server.specs.Advances.{Advances};
-ghost use Rattle.block_server.specs.Causes.{RefusesData, RefusesIn, Told};
+ghost use Rattle.block_server.specs.Causes.{RefusesData, RefusesIn, Told, told_to};
 ghost use Rattle.block_server.specs.Books.{books_at, books_of};
 ghost use Rattle.block_server.specs.Ends.{IsGrantable};
-ghost use Rattle.block_server.specs.Fetched.{IfRefused};
+ghost use Rattle.block_server.specs.Fetched.{IfDone, IfRefused, KnowsPieces};
 ghost use Rattle.block_server.specs.Judged.{Ahead, Books, IsAtStage, IsFor, Keeps, ServesOne, has_row, in_service, is_login};
 ghost use Rattle.block_server.specs.Judges.{Judges};
 ghost use Rattle.block_server.specs.Moves.{Passes};
@@ -12,7 +14,7 @@ ghost use Rattle.block_server.specs.Owed.{KeepsAnswersBy, MovesRow, row_states, 
 ghost use Rattle.block_server.specs.Receipts.{TakesIn, standing_of};
 ghost use Rattle.block_server.specs.Orders.{IsCauseOf, IsCodeOf};
 ghost use Rattle.block_server.specs.Records.{AddsRow};
-ghost use Rattle.block_server.specs.Serving.{AnswersOnce, AnswersOnceIf, AnswersOnceOn, desk_at, desk_of, held};
+ghost use Rattle.block_server.specs.Serving.{AnswersOnce, AnswersOnceIf, AnswersOnceOn, IsServing, desk_at, desk_of, held, terms_of};
 ghost use Rattle.block_server.specs.Heard.{TellsAll, heard_between};
 ghost use Rattle.tce_window.specs.declared.answers.Right.TheVariants.{Write};
 ghost use Rattle.block_server.specs.Entries.{is_response_len};
@@ -77,6 +79,11 @@ pub(crate) fn serve<S: Site, B: Blocks>(
         (standing_of unit.old) (standing_of unit.new) (S.state site.old) (S.state site.new)
         (books_at unit.old (S.state site.old) records.old)
         (books_at unit.new (S.state site.new) records.new) }
+    ensures cargo { (told : Told → Bool) →
+        TellsAll told unit.old.id (S.state site.old) (S.state site.new) →
+        IsServing (terms_of told disk.old.count) (desk_of unit.old) records.old.history.items →
+        IsAccounted told (cargo_of unit.old (S.state site.old) records.old) →
+        IsAccounted told (cargo_of unit.new (S.state site.new) records.new) }
 {
     let Some(request) = unit.pending.front() else {
         return Ok(());
@@ -112,6 +119,8 @@ fn note_stage(unit: &mut Unit, before: (u8, u32))
         books_of unit.new session next records ≡ books_of unit.old session next records }
     ensures owing { (q : EndState) → (records : Records) →
         owing_of unit.new q records ≡ owing_of unit.old q records }
+    ensures service { unit.new.service ≡ unit.old.service }
+    ensures id { unit.new.id ≡ unit.old.id }
 {
     let (stage, done) = unit.service.stage.how_far();
     if stage != before.0 || done != before.1 {
@@ -152,6 +161,14 @@ fn prepare<S: Site, B: Blocks>(
         MovesRow id (S.state site.old).queue.last_session request.now
         service.old.stage service.new.stage
         records.old.history.items records.new.history.items }
+    ensures cargo { (told : Told → Bool) →
+        TellsAll told id (S.state site.old) (S.state site.new) → (rest : List Request) →
+        IsServing (terms_of told disk.old.count) (desk_at id service.old None (request.now ∷ rest))
+        records.old.history.items →
+        IsAccounted told (cargo_at id service.old (data_bytes (S.state site.old).own)
+        records.old.history.items) →
+        IsAccounted told (cargo_at id service.new (data_bytes (S.state site.new).own)
+        records.new.history.items) }
 {
     match &request.order {
         Order::Command(command) => {
@@ -200,6 +217,9 @@ fn judge_login(
         is_answered service.old.stage ≡ false → Keeps
         (in_service books service.old.stage rows) (in_service books service.new.stage rows) }
     ensures row { row_in service.old.stage ≡ None → row_in service.new.stage ≡ None }
+    ensures cargo { (id : UnitId) → (shown : ℕ → ℕ) → (rows : List Served) →
+        is_loaded service.old.stage ≡ false → cargo_at id service.new shown rows ≡
+        cargo_at id service.old shown rows }
 {
     match login_refusal(logins.current(), login) {
         Some(reason) => service.set_answer(&login_rejected(login, reason), Outcome::Rejected),
@@ -247,6 +267,9 @@ fn add_code(
     ensures moves { row_in service.old.stage ≡ None → MovesRow id session request.now
         service.old.stage service.new.stage
         records.old.history.items records.new.history.items }
+    ensures cargo { (shown shown' : ℕ → ℕ) → is_loaded service.old.stage ≡ false → KeepsCargo
+        (cargo_at id service.old shown records.old.history.items)
+        (cargo_at id service.new shown' records.new.history.items) }
 {
     let blank = records.new_row(id, session, request)?;
     let row = records.history.len();
@@ -285,6 +308,14 @@ fn serve_command<S: Site, B: Blocks>(
     ensures moves { MovesRow id (S.state site.old).queue.last_session request.now
         service.old.stage service.new.stage
         records.old.history.items records.new.history.items }
+    ensures cargo { (told : Told → Bool) →
+        TellsAll told id (S.state site.old) (S.state site.new) → (rest : List Request) →
+        IsServing (terms_of told disk.old.count) (desk_at id service.old None (request.now ∷ rest))
+        records.old.history.items →
+        IsAccounted told (cargo_at id service.old (data_bytes (S.state site.old).own)
+        records.old.history.items) →
+        IsAccounted told (cargo_at id service.new (data_bytes (S.state site.new).own)
+        records.new.history.items) }
 {
     run_step(service, id, request, command, site, records, disk)?;
     store(service, request, site)?;
@@ -321,6 +352,14 @@ fn run_step<S: Site, B: Blocks>(
     ensures moves { MovesRow id (S.state site.old).queue.last_session request.now
         service.old.stage service.new.stage
         records.old.history.items records.new.history.items }
+    ensures cargo { (told : Told → Bool) →
+        TellsAll told id (S.state site.old) (S.state site.new) → (rest : List Request) →
+        IsServing (terms_of told disk.old.count) (desk_at id service.old None (request.now ∷ rest))
+        records.old.history.items →
+        IsAccounted told (cargo_at id service.old (data_bytes (S.state site.old).own)
+        records.old.history.items) →
+        IsAccounted told (cargo_at id service.new (data_bytes (S.state site.new).own)
+        records.new.history.items) }
 {
     if !service.stage.is_before_step() {
         return Ok(());
@@ -353,6 +392,9 @@ fn store<S: Site>(service: &mut Service, request: &Request, site: &mut S) -> Res
     ensures books { (id : UnitId) → (session : ℕ) → (rows : List Served) → ServesOne
         id session request.now service.old.stage service.new.stage rows rows }
     ensures row { row_in service.new.stage ≡ row_in service.old.stage }
+    ensures cargo { (id : UnitId) → (rows : List Served) → KeepsCargo
+        (cargo_at id service.old (data_bytes (S.state site.old).own) rows)
+        (cargo_at id service.new (data_bytes (S.state site.new).own) rows) }
 {
     if let Stage::Given { row, reply } = service.stage {
         site.write_data(&service.given, request.tag)?;
@@ -393,6 +435,14 @@ fn hand_over<S: Site>(
         records.old.history.items records.new.history.items }
     ensures row { row_in service.new.stage ≡ row_in service.old.stage }
     ensures states { row_states records.new.history.items ≡ row_states records.old.history.items }
+    ensures cargo { (id : UnitId) → (told : Told → Bool) →
+        TellsAll told id (S.state site.old) (S.state site.new) → (size : ℕ) → (rest : List Request) →
+        IsServing (terms_of told size) (desk_at id service.old None (request.now ∷ rest))
+        records.old.history.items →
+        IsAccounted told (cargo_at id service.old (data_bytes (S.state site.old).own)
+        records.old.history.items) →
+        IsAccounted told (cargo_at id service.new (data_bytes (S.state site.new).own)
+        records.new.history.items) }
 {
     let Stage::DataIn { row, reply, cursor } = service.stage else {
         return Ok(());
@@ -430,6 +480,11 @@ fn make_step<S: Site, B: Blocks>(
     ensures moves { MovesRow id (S.state site.old).queue.last_session request.now
         service.old.stage service.new.stage
         records.old.history.items records.new.history.items }
+    ensures cargo { (told : Told → Bool) → KnowsPieces (told_to told id) command.now service.old →
+        IsAccounted told (cargo_at id service.old (data_bytes (S.state site.old).own)
+        records.old.history.items) →
+        IsAccounted told (cargo_at id service.new (data_bytes (S.state site.new).own)
+        records.new.history.items) }
 {
     let Stage::DataOut(_) = service.stage else {
         return Ok(());
@@ -488,6 +543,13 @@ fn deliver_data<S: Site>(
     ensures queue { (S.state site.new).queue ≡ (S.state site.old).queue }
     ensures advances { Advances (S.state site.old) (S.state site.new) }
     ensures passes { Passes (S.state site.old) (S.state site.new) }
+    ensures cargo { (id : UnitId) → (told : Told → Bool) →
+        TellsAll told id (S.state site.old) (S.state site.new) → (rows : List Served) →
+        HasTag rows row tag →
+        IsAccounted told (cargo_at id service.old (data_bytes (S.state site.old).own) rows) →
+        IsAccounted told (cargo_at id service.new (data_bytes (S.state site.new).own) rows) }
+    ensures all { IsPlacedAt service.old.inn.list.items start →
+        IfDone result (IsSentAll service.new) }
 {
     let total = service.given.len() as u32;
     let mut cursor = start;
@@ -529,6 +591,10 @@ fn end_command(
         records.old.history.items records.new.history.items }
     ensures row { row_in service.new.stage ≡ row_in service.old.stage }
     ensures states { row_states records.new.history.items ≡ row_states records.old.history.items }
+    ensures cargo { (id : UnitId) → (shown : ℕ → ℕ) →
+        (progress ≡ Progress.Done → IsSentAll service.old) → KeepsCargo
+        (cargo_at id service.old shown records.old.history.items)
+        (cargo_at id service.new shown records.new.history.items) }
 {
     let Stage::DataIn { row, reply, .. } = service.stage else {
         return Ok(());
@@ -568,6 +634,9 @@ fn refuse_data(
         records.old.history.items records.new.history.items }
     ensures row { row_in service.new.stage ≡ row_in service.old.stage }
     ensures states { row_states records.new.history.items ≡ row_states records.old.history.items }
+    ensures cargo { (id : UnitId) → (shown : ℕ → ℕ) → KeepsCargo
+        (cargo_at id service.old shown records.old.history.items)
+        (cargo_at id service.new shown records.new.history.items) }
 {
     let Stage::DataIn { row, cursor, .. } = service.stage else {
         return Ok(());

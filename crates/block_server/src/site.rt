@@ -8,6 +8,7 @@ ghost use Rattle.crq_session.specs.Answered.{Opens, HoldsUp, TellsFreed, FindsIn
 ghost use Rattle.crq_session.specs.EndState.{OnlyReserves, OnlyRegisters, OnlyFrees, OnlySends, OnlyTakes, OnlyPushes};
 ghost use Rattle.block_server.specs.Advances.{Advances};
 ghost use Rattle.block_server.specs.Answering.{responses};
+ghost use Rattle.block_server.specs.Cargo.{AreShown, SendsPart, data_bytes};
 ghost use Rattle.block_server.specs.Delivers.{DeliversOne, FetchesTo};
 ghost use Rattle.block_server.specs.Entries.{MayPut};
 ghost use Rattle.block_server.specs.Moves.{FetchesOne, Passes};
@@ -151,7 +152,8 @@ pub(crate) trait Site {
         ensures advances { Advances (state self.old) (state self.new) }
         ensures fetched { OnOk result
             (FetchesOne (state self.old) (state self.new) address out.new) }
-        ensures missed { OnErr result (Passes (state self.old) (state self.new)) };
+        ensures missed { OnErr result (Passes (state self.old) (state self.new)) }
+        ensures data { data_bytes (state self.new).own ≡ data_bytes (state self.old).own };
 
     /// Copies a table of 1 to 4,096 bytes from this address of the client's window to page 1, and reads it.
     fn fetch_table(&mut self, address: u64, out: &mut [u8]) -> Result<(), Halt>
@@ -180,7 +182,8 @@ pub(crate) trait Site {
         ensures passes { Passes (state self.old) (state self.new) }
         ensures delivered { OnOk result
             (DeliversOne (state self.old) (state self.new) 0 address mark bytes.now) }
-        ensures none { OnErr result ((state self.new).copies ≡ (state self.old).copies) };
+        ensures none { OnErr result ((state self.new).copies ≡ (state self.old).copies) }
+        ensures data { data_bytes (state self.new).own ≡ data_bytes (state self.old).own };
 
     /// Copies data from this address of the client's window to a place of the data's pages.
     fn fetch_data(&mut self, at: u32, address: u64, len: u32) -> Result<(), Halt>
@@ -210,7 +213,8 @@ pub(crate) trait Site {
         ensures queue { (state self.new).queue ≡ (state self.old).queue }
         ensures advances { Advances (state self.old) (state self.new) }
         ensures passes { Passes (state self.old) (state self.new) }
-        ensures none { (state self.new).copies ≡ (state self.old).copies };
+        ensures none { (state self.new).copies ≡ (state self.old).copies }
+        ensures shown { OnOk result (AreShown (data_bytes (state self.new).own) bytes.now) };
 
     /// Copies data from a place of the data's pages to this address of the client's window.
     fn deliver_data(&mut self, at: u32, address: u64, len: u32, mark: u64) -> Result<(), Halt>
@@ -224,5 +228,8 @@ pub(crate) trait Site {
         ensures queue { (state self.new).queue ≡ (state self.old).queue }
         ensures advances { Advances (state self.old) (state self.new) }
         ensures passes { Passes (state self.old) (state self.new) }
-        ensures none { OnErr result ((state self.new).copies ≡ (state self.old).copies) };
+        ensures none { OnErr result ((state self.new).copies ≡ (state self.old).copies) }
+        ensures data { data_bytes (state self.new).own ≡ data_bytes (state self.old).own }
+        ensures sent { OnOk result
+            (SendsPart (state self.old) (state self.new) at address len mark) };
 }

@@ -1,11 +1,12 @@
 // The steps of a unit's turn.
+ghost use Rattle.block_server.specs.Cargo.{IsAccounted, cargo_of};
 ghost use Rattle.std.specs.Prelude.{◌≡◌, ◌≢◌, ◌+◌, ◌<◌, ◌≤◌, None, Bool, IfOk, List, OnOk, [], false, true};
 ghost use Rattle.block_server.specs.Advances.{Advances};
 ghost use Rattle.block_server.specs.Books.{as_begun, books_at};
 ghost use Rattle.block_server.specs.Causes.{Told};
 ghost use Rattle.block_server.specs.Judged.{Keeps};
 ghost use Rattle.block_server.specs.Judges.{Judges};
-ghost use Rattle.block_server.specs.Serving.{AnswersOnce, AnswersOnceOn, desk_of, held};
+ghost use Rattle.block_server.specs.Serving.{AnswersOnce, AnswersOnceOn, IsServing, desk_of, held, terms_of};
 ghost use Rattle.block_server.specs.Moves.{Passes};
 ghost use Rattle.block_server.specs.Owed.{KeepsAnswers, KeepsAnswersAll};
 ghost use Rattle.block_server.specs.Receipts.{TakesIn, is_ended, standing_of};
@@ -58,6 +59,11 @@ pub(crate) fn turn<S: Site, B: Blocks>(
         (books_at unit.new (S.state site.new) records.new) }
     ensures answers { KeepsAnswersAll S.link_shared unit.old unit.new
         (S.state site.old) (S.state site.new) records.old records.new }
+    ensures cargo { (told : Told → Bool) →
+        TellsAll told unit.old.id (S.state site.old) (S.state site.new) →
+        IsServing (terms_of told disk.old.count) (desk_of unit.old) records.old.history.items →
+        IsAccounted told (cargo_of unit.old (S.state site.old) records.old) →
+        IsAccounted told (cargo_of unit.new (S.state site.new) records.new) }
 {
     unit.moved = false;
     steps(unit, site, records, disk)?;
@@ -97,6 +103,11 @@ fn steps<S: Site, B: Blocks>(
         (books_at unit.new (S.state site.new) records.new) }
     ensures answers { KeepsAnswersAll S.link_shared unit.old unit.new
         (S.state site.old) (S.state site.new) records.old records.new }
+    ensures cargo { (told : Told → Bool) →
+        TellsAll told unit.old.id (S.state site.old) (S.state site.new) →
+        IsServing (terms_of told disk.old.count) (desk_of unit.old) records.old.history.items →
+        IsAccounted told (cargo_of unit.old (S.state site.old) records.old) →
+        IsAccounted told (cargo_of unit.new (S.state site.new) records.new) }
 {
     if open_line(unit, site)? == Next::End {
         return Ok(());
@@ -136,6 +147,8 @@ fn open_line<S: Site>(unit: &mut Unit, site: &mut S) -> Result<Next, NoMemory>
         (books_at unit.new (S.state site.new) records) }
     ensures answers { (records : Records) → KeepsAnswers S.link_shared unit.old unit.new
         (S.state site.old) (S.state site.new) records records }
+    ensures cargo { (records : Records) → cargo_of unit.new (S.state site.new) records ≡
+        cargo_of unit.old (S.state site.old) records }
 {
     site.reserve(FIRST_CALLS)?;
     if push_event(unit, site) == Next::End {
@@ -171,6 +184,8 @@ fn push_event<S: Site>(unit: &mut Unit, site: &mut S) -> Next
         (books_at unit.new (S.state site.new) records) }
     ensures answers { (records : Records) → KeepsAnswers S.link_shared unit.old unit.new
         (S.state site.old) (S.state site.new) records records }
+    ensures cargo { (records : Records) → cargo_of unit.new (S.state site.new) records ≡
+        cargo_of unit.old (S.state site.old) records }
 {
     match site.push_event() {
         EventAnswer::Nothing => Next::Entry,
@@ -202,6 +217,8 @@ fn free_closed<S: Site>(unit: &mut Unit, site: &mut S) -> Next
         (books_at unit.new (S.state site.new) records) }
     ensures answers { (records : Records) → KeepsAnswers S.link_shared unit.old unit.new
         (S.state site.old) (S.state site.new) records records }
+    ensures cargo { (records : Records) → cargo_of unit.new (S.state site.new) records ≡
+        cargo_of unit.old (S.state site.old) records }
 {
     if !unit.line.closing {
         return Next::Entry;
@@ -232,6 +249,8 @@ fn free<S: Site>(unit: &mut Unit, site: &mut S) -> Next
     ensures answers { (records : Records) → unit.old.line.closing ≡ true →
         KeepsAnswers S.link_shared unit.old unit.new
         (S.state site.old) (S.state site.new) records records }
+    ensures cargo { (records : Records) → cargo_of unit.new (S.state site.new) records ≡
+        cargo_of unit.old (S.state site.old) records }
 {
     match site.free() {
         FreeAnswer::Busy { .. } => Next::End,
@@ -270,6 +289,8 @@ fn register<S: Site>(unit: &mut Unit, site: &mut S)
         (books_at unit.new (S.state site.new) records) }
     ensures answers { (records : Records) → KeepsAnswers S.link_shared unit.old unit.new
         (S.state site.old) (S.state site.new) records records }
+    ensures cargo { (records : Records) → cargo_of unit.new (S.state site.new) records ≡
+        cargo_of unit.old (S.state site.old) records }
 {
     match site.register() {
         RegAnswer::Success => begin(unit, site),
@@ -297,6 +318,8 @@ fn begin<S: Site>(unit: &mut Unit, site: &mut S)
     ensures answers { (records : Records) → is_ended unit.old.line ≡ true →
         KeepsAnswers S.link_shared unit.old unit.new
         (S.state site.old) (S.state site.new) records records }
+    ensures cargo { (records : Records) → cargo_of unit.new (S.state site.new) records ≡
+        cargo_of unit.old (S.state site.old) records }
 {
     unit.moved = true;
     if let Some(initialize) = reply_of(unit.line.handshake.registered()) {

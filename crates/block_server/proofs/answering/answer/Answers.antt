@@ -18,6 +18,9 @@ use Rattle.block_server.specs.Judged.{keys_of}
 use Rattle.block_server.specs.Owed.{row_states}
 use Rattle.block_server.proofs.Owing.{owes_seen, seen_same}
 use Rattle.block_server.proofs.OwingCalls.{seen_reserves}
+use Rattle.block_server.specs.Cargo.{data_bytes}
+use Rattle.block_server.proofs.Cargoes.{shown_same}
+use Rattle.block_server.proofs.Hands.{keeps_on, keeps_same}
 use Rattle.block_server.proofs.answering.answer.Goals as goal
 
 pub returns-in_err-make_room-clause-once : goal.returns-in_err-make_room-clause-once
@@ -195,3 +198,16 @@ returns-in-Entry-clause-judges g c = (works_on _ _ _ _ _ _ _ _ _ (works_on _ _ _
     (λ judged is. moved_to _ _ judged refl (passed_session _ _ c.reserve.ensures.passes) (passed_next c.args.unit.now.waiting c.args.unit.now.waiting _ _ refl c.reserve.ensures.passes) refl refl refl refl refl refl (ap keys_of c.make_room.ensures.lists.history) c.make_room.ensures.lists.grants refl refl refl is))
     (works _ _ _ _ _ _ refl refl c.copy_answer.ensures.intake c.copy_answer.ensures.judges))
     (works_none _ _ _ _ _ _ c.put_answer.ensures.stands refl refl c.put_answer.ensures.advances c.put_answer.ensures.passes c.put_answer.ensures.lines c.put_answer.ensures.books)).judges
+
+pub returns-in_err-copy_answer-clause-cargo : goal.returns-in_err-copy_answer-clause-cargo
+returns-in_err-copy_answer-clause-cargo g c =
+    keeps_on _ _ _ (keeps_same _ _ (shown_same _ _ _ _ _ _ (ap data_bytes c.reserve.ensures.windows.own) c.make_room.ensures.lists.history)) c.copy_answer.ensures.cargo
+
+pub returns-in-Entry-clause-cargo : goal.returns-in-Entry-clause-cargo
+returns-in-Entry-clause-cargo g c =
+    keeps_on _ _ _ (keeps_on _ _ _ (keeps_same _ _ (shown_same _ _ _ _ _ _ (ap data_bytes c.reserve.ensures.windows.own) c.make_room.ensures.lists.history)) c.copy_answer.ensures.cargo)
+    (keeps_same _ _ c.put_answer.ensures.cargo)
+
+pub returns-in_default-clause-cargo : goal.returns-in_default-clause-cargo
+returns-in_default-clause-cargo g c =
+    keeps_on _ _ _ (keeps_same _ _ (shown_same _ _ _ _ _ _ (ap data_bytes c.reserve.ensures.windows.own) c.make_room.ensures.lists.history)) c.copy_answer.ensures.cargo

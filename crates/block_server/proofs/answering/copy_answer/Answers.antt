@@ -9,6 +9,7 @@ use Rattle.vio_num.specs.declared.history.Lapse.TheVariants.{Refused}
 use Rattle.std.proofs.Common.{ap}
 use Rattle.block_server.proofs.Owing.{has_cut_of}
 use Rattle.block_server.specs.Owed.{row_in}
+use Rattle.block_server.proofs.Hands.{keeps_on, keeps_same}
 use Rattle.block_server.proofs.answering.copy_answer.Goals as goal
 
 pub returns-in_default-clause-once : goal.returns-in_default-clause-once
@@ -108,3 +109,6 @@ pub returns-in-Refused-clause-answers : goal.returns-in-Refused-clause-answers
 returns-in-Refused-clause-answers g c = λ alone has.
     has_cut_of _ _ _ _ c.end_session.ensures.id refl refl c.end_session.ensures.ends.off (ap row_in c.end_session.ensures.stage)
     (c.end_session.ensures.cuts (g.S.Site.state c.deliver.new.site).queue c.session.ensures refl (c.deliver.ensures.answers c.args.records.now alone has))
+
+pub returns-in-Refused-clause-cargo : goal.returns-in-Refused-clause-cargo
+returns-in-Refused-clause-cargo g c = keeps_on _ _ _ (keeps_same _ _ (c.deliver.ensures.cargo c.args.records.now)) (c.end_session.ensures.cargo _ _)

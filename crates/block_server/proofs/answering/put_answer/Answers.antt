@@ -21,6 +21,8 @@ use Rattle.crq_session.specs.EndState.{EndPlace}
 use Rattle.block_server.specs.Owed.{row_in}
 use Rattle.block_server.proofs.Owing.{owes_seen}
 use Rattle.block_server.proofs.OwingCalls.{owes_discarded, pending_going, seen_sends}
+use Rattle.block_server.specs.Cargo.{data_bytes, is_loaded}
+use Rattle.block_server.proofs.Cargoes.{named_same, none_seen}
 use Rattle.block_server.proofs.answering.put_answer.Goals as goal
 
 pub returns-in_default-clause-once : goal.returns-in_default-clause-once
@@ -104,3 +106,16 @@ returns-in_default-send-clause-answers g c = λ judged is alone has.
     owes_discarded g.S.Site.link_shared c.send.result _ judged _ _ alone (λ number is. c.in_default-send.not-Success number is) (λ number held is. c.in_default-send.not-Dropped number held is)
     c.send.ensures.closed c.send.ensures.unregistered c.send.ensures.rest is refl refl c.finish.ensures.id (ap (λ (l : Logins). l.current) c.finish.ensures.logins)
     (ap row_in c.finish.ensures.stage) (ap is_ended c.finish.ensures.line) refl refl has
+
+pub returns-in-Success-clause-cargo : goal.returns-in-Success-clause-cargo
+returns-in-Success-clause-cargo g c =
+    named_same _ _ _ _ _ _ _ _ c.settle.ensures.id
+    (none_seen _ _ _ _ _ _ _ (ap data_bytes c.send.ensures.windows.own) (ap is_loaded c.requires.stage) (ap is_loaded c.settle.ensures.stage) c.settle.ensures.rows)
+
+pub returns-in-Dropped-clause-cargo : goal.returns-in-Dropped-clause-cargo
+returns-in-Dropped-clause-cargo g c = none_seen _ _ _ _ _ _ _ (ap data_bytes c.send.ensures.windows.own) (ap is_loaded c.requires.stage) (ap is_loaded c.requires.stage) refl
+
+pub returns-in_default-send-clause-cargo : goal.returns-in_default-send-clause-cargo
+returns-in_default-send-clause-cargo g c =
+    named_same _ _ _ _ _ _ _ _ c.finish.ensures.id
+    (none_seen _ _ _ _ _ _ _ (ap data_bytes c.send.ensures.windows.own) (ap is_loaded c.requires.stage) (ap is_loaded c.finish.ensures.stage) refl)

@@ -27,6 +27,8 @@ use Rattle.crq_session.specs.EndState.{EndPlace}
 use Rattle.block_server.specs.Owed.{row_states, owing_of, row_in}
 use Rattle.block_server.proofs.Owing.{owes_seen, seen_same}
 use Rattle.block_server.proofs.OwingCalls.{entry_going, owes_discarded, seen_on, seen_reserves, seen_sends}
+use Rattle.block_server.specs.Cargo.{data_bytes, is_loaded, rows_of}
+use Rattle.block_server.proofs.Cargoes.{named_same, none_seen}
 use Rattle.block_server.proofs.answering.put_kept.Goals as goal
 
 pub returns-in_default-clause-once : goal.returns-in_default-clause-once
@@ -193,3 +195,17 @@ returns-in-Answer-kept-clause-answers g c = λ judged is alone has.
     c.send.ensures.closed c.send.ensures.unregistered c.send.ensures.rest is refl refl c.finish.ensures.id (ap (λ (l : Logins). l.current) c.finish.ensures.logins)
     (ap row_in c.finish.ensures.stage) (ap is_ended c.finish.ensures.line) refl refl
     (owes_seen _ _ (seen_reserves _ _ c.reserve.ensures.rest) refl refl refl refl refl (ap row_states c.make_room.ensures.lists.history) c.make_room.ensures.lists.grants has)
+
+pub returns-in-Answer-clause-cargo : goal.returns-in-Answer-clause-cargo
+returns-in-Answer-clause-cargo g c = λ terms serving.
+    let is = serving.kept (keeps.Answer c.in-Answer.entry c.in-Answer.outcome) (c.in-Some.is ∙ ap Some c.in-Answer.is) in
+    named_same _ _ _ _ _ _ _ _ c.settle.ensures.id
+    (none_seen _ _ _ _ _ _ _ (ap data_bytes c.send.ensures.windows.own ∙ ap data_bytes c.reserve.ensures.windows.own) (ap is_loaded is.stage) (ap is_loaded c.settle.ensures.stage)
+    (c.settle.ensures.rows ∙ ap rows_of c.make_room.ensures.lists.history))
+
+pub returns-in-Answer-kept-clause-cargo : goal.returns-in-Answer-kept-clause-cargo
+returns-in-Answer-kept-clause-cargo g c = λ terms serving.
+    let is = serving.kept (keeps.Answer c.in-Answer-kept.entry c.in-Answer-kept.outcome) (c.in-Some.is ∙ ap Some c.in-Answer-kept.is) in
+    named_same _ _ _ _ _ _ _ _ c.finish.ensures.id
+    (none_seen _ _ _ _ _ _ _ (ap data_bytes c.send.ensures.windows.own ∙ ap data_bytes c.reserve.ensures.windows.own) (ap is_loaded is.stage) (ap is_loaded c.finish.ensures.stage)
+    (ap rows_of c.make_room.ensures.lists.history))

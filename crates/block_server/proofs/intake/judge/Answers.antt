@@ -61,3 +61,6 @@ returns-in-Fatal-clause-answers c = λ q now has.
     (c.end_counted.ensures.cuts q now
     (fatal_other c.args.unit.now.logins c.judge_unit.new.logins _ c.judge_unit.result _ _ _ c.in-Fatal.is c.judge_unit.ensures.decides)
     (owes_seen _ _ (seen_same _ _ refl) refl (decides_current c.args.unit.now.logins c.judge_unit.new.logins _ c.judge_unit.result c.judge_unit.ensures.decides) refl refl refl refl refl has))
+
+pub returns-in-Fatal-clause-cargo : goal.returns-in-Fatal-clause-cargo
+returns-in-Fatal-clause-cargo c = λ shown. c.end_counted.ensures.cargo shown shown

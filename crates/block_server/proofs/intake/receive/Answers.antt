@@ -18,6 +18,8 @@ use Rattle.std.proofs.Common.{inl}
 use Rattle.std.proofs.Common.{sym}
 use Rattle.block_server.proofs.Owing.{has_cut_of, owes_seen, seen_same}
 use Rattle.block_server.specs.Owed.{row_in}
+use Rattle.block_server.proofs.Cargoes.{shown_same}
+use Rattle.block_server.proofs.Hands.{keeps_on, keeps_same}
 use Rattle.block_server.proofs.intake.receive.Goals as goal
 
 pub returns-in-Ok-clause-once : goal.returns-in-Ok-clause-once
@@ -135,3 +137,15 @@ returns-in-Err-NoMemory-clause-answers g c = λ alone has. owes_seen _ _ (seen_s
 pub returns-in-Ok-clause-answers : goal.returns-in-Ok-clause-answers
 returns-in-Ok-clause-answers g c = λ alone has. c.judge.ensures.answers (g.S.Site.state c.fetch_unit.new.self).queue (c.session-session.ensures ∙ sym (ap (λ (q : EndState). q.last_session) c.fetch_unit.ensures.queue))
     (owes_seen _ _ (seen_same _ _ c.fetch_unit.ensures.queue) refl refl refl refl refl refl refl has)
+
+pub returns-then-not-is_up-clause-cargo : goal.returns-then-not-is_up-clause-cargo
+returns-then-not-is_up-clause-cargo g c = c.end_session.ensures.cargo _ _
+
+pub returns-then-len-eq0-clause-cargo : goal.returns-then-len-eq0-clause-cargo
+returns-then-len-eq0-clause-cargo g c = c.end_session-then-len-eq0.ensures.cargo _ _
+
+pub returns-in-Ok-clause-cargo : goal.returns-in-Ok-clause-cargo
+returns-in-Ok-clause-cargo g c = keeps_on _ _ _ (keeps_same _ _ (shown_same _ _ _ _ _ _ c.fetch_unit.ensures.data refl)) (c.judge.ensures.cargo _)
+
+pub returns-in-Err-Refused-clause-cargo : goal.returns-in-Err-Refused-clause-cargo
+returns-in-Err-Refused-clause-cargo g c = c.end_session-in-Err-Refused.ensures.cargo _ _

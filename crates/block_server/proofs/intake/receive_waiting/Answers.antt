@@ -6,12 +6,12 @@ use Rattle.block_server.proofs.Onces.{once_same, once_then}
 use Rattle.block_server.specs.Heard.{TellsAll}
 use Rattle.block_server.specs.Serving.{Desk}
 use Rattle.vio_num.specs.declared.names.UnitId.{UnitId}
-use Rattle.std.proofs.Common.{ap, subst, sym}
+use Rattle.std.proofs.Common.{subst, sym}
 use Rattle.block_server.proofs.Taking.{ended_stands, lines_same, takes_none, takes_on, waiting_stands}
 use Rattle.block_server.proofs.Advancing.{advances_same}
 use Rattle.block_server.proofs.Jointly.{works, works_none, works_on, works_pass}
-use Rattle.std.proofs.Common.{subst, sym}
 use Rattle.block_server.specs.Owed.{HasAnswers, Owing}
+use Rattle.block_server.proofs.Hands.{keeps_on, keeps_same}
 use Rattle.block_server.proofs.intake.receive_waiting.Goals as goal
 
 pub returns-in_default-clause-once : goal.returns-in_default-clause-once
@@ -73,3 +73,6 @@ returns-in_err-make_room-clause-answers g c = λ alone has. subst (λ (o : Owing
 pub returns-clause-answers : goal.returns-clause-answers
 returns-clause-answers g c = λ alone has.
     c.receive.ensures.answers alone (subst (λ (o : Owing). HasAnswers o) (sym (c.make_room.ensures.owing (g.S.Site.state c.args.site.now).queue)) has)
+
+pub returns-clause-cargo : goal.returns-clause-cargo
+returns-clause-cargo g c = keeps_on _ _ _ (keeps_same _ _ (c.make_room.ensures.cargo _)) c.receive.ensures.cargo

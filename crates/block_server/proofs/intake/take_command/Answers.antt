@@ -7,7 +7,6 @@ use Rattle.block_server.proofs.Taking.{lines_same, may_stands, takes_entry, take
 use Rattle.block_server.proofs.GoingOn.{command_no_event, command_no_handshake, not_format, srp_command}
 use Rattle.block_server.proofs.Jointly.{works, works_entry, works_none, works_on, works_other}
 use Rattle.block_server.specs.Books.{books_at, next_of}
-use Rattle.std.proofs.Common.{None}
 use Rattle.block_server.proofs.intake.take_command.Goals as goal
 
 pub returns-in-2-clause-once : goal.returns-in-2-clause-once

@@ -13,6 +13,7 @@ use Rattle.block_server.proofs.Taking.{lines_same, may_stands, takes_none, takes
 use Rattle.block_server.proofs.Jointly.{works, works_none, works_on}
 use Rattle.std.proofs.Common.{subst}
 use Rattle.block_server.specs.Owed.{HasAnswers, Owing}
+use Rattle.block_server.proofs.Hands.{keeps_on, keeps_same}
 use Rattle.block_server.proofs.intake.take_in.Goals as goal
 
 pub returns-in_err-next-clause-once : goal.returns-in_err-next-clause-once
@@ -37,6 +38,7 @@ loop-taken-init g c = record {
   intake = λ on. c.receive_waiting.ensures.intake;
   judges = λ on. c.receive_waiting.ensures.judges;
   answers = c.receive_waiting.ensures.answers;
+  cargo = c.receive_waiting.ensures.cargo;
   may = λ on. c.in_ok-next.ensures.goes_on on (search rules);
 }
 
@@ -84,6 +86,7 @@ loop-taken-preserved g c = record {
       (works _ _ _ _ _ _ refl refl (c.take_one.ensures.intake (may_stands _ _ c.make_room.ensures.stands (c.loop-taken.invariant.may on)))
       (c.take_one.ensures.judges (may_stands _ _ c.make_room.ensures.stands (c.loop-taken.invariant.may on))))).judges;
   answers = λ alone has. c.take_one.ensures.answers alone (subst (λ (o : Owing). HasAnswers o) (sym (c.make_room.ensures.owing (g.S.Site.state c.loop-taken.site).queue)) (c.loop-taken.invariant.answers alone has));
+  cargo = keeps_on _ _ _ (keeps_on _ _ _ c.loop-taken.invariant.cargo (keeps_same _ _ (c.make_room.ensures.cargo _))) c.take_one.ensures.cargo;
   may = λ on. c.in_ok-next-2.ensures.goes_on (may_stands _ _ c.make_room.ensures.stands (c.loop-taken.invariant.may on)) (search rules);
 }
 
@@ -191,3 +194,14 @@ returns-then-ne-2-clause-answers g c = λ alone has. c.take_one.ensures.answers 
 
 pub returns-after-loop-taken-clause-answers : goal.returns-after-loop-taken-clause-answers
 returns-after-loop-taken-clause-answers g c = c.loop-taken.invariant.answers
+
+pub returns-in_err-make_room-clause-cargo : goal.returns-in_err-make_room-clause-cargo
+returns-in_err-make_room-clause-cargo g c = keeps_on _ _ _ c.loop-taken.invariant.cargo (keeps_same _ _ (c.make_room.ensures.cargo _))
+
+pub returns-in_err-next-2-clause-cargo : goal.returns-in_err-next-2-clause-cargo
+returns-in_err-next-2-clause-cargo g c =
+    keeps_on _ _ _ (keeps_on _ _ _ c.loop-taken.invariant.cargo (keeps_same _ _ (c.make_room.ensures.cargo _))) c.take_one.ensures.cargo
+
+pub returns-then-ne-2-clause-cargo : goal.returns-then-ne-2-clause-cargo
+returns-then-ne-2-clause-cargo g c =
+    keeps_on _ _ _ (keeps_on _ _ _ c.loop-taken.invariant.cargo (keeps_same _ _ (c.make_room.ensures.cargo _))) c.take_one.ensures.cargo

@@ -1,6 +1,7 @@
 use Rattle.std.proofs.Common.{◌≡◌, ◌-◌, None, false}
 use Rattle.block_server.specs.Advances.{Advances}
 use Rattle.block_server.specs.Books.{books_at}
+use Rattle.block_server.specs.Cargo.{KeepsCargo, cargo_of}
 use Rattle.block_server.specs.Judges.{Judges}
 use Rattle.block_server.specs.Owed.{KeepsAnswers}
 use Rattle.block_server.specs.Receipts.{MayTake, TakesIn, is_ended, standing_of}
@@ -21,6 +22,7 @@ invariant-loop-taken g l = record {
   intake : is_ended l.fn.unit.line ≡ false → TakesIn (standing_of l.fn.unit) (standing_of l.unit) (g.S.Site.state l.fn.site) (g.S.Site.state l.site) l.fn.records.grants.items l.records.grants.items;
   judges : is_ended l.fn.unit.line ≡ false → Judges (standing_of l.fn.unit) (standing_of l.unit) (g.S.Site.state l.fn.site) (g.S.Site.state l.site) (books_at l.fn.unit (g.S.Site.state l.fn.site) l.fn.records) (books_at l.unit (g.S.Site.state l.site) l.records);
   answers : KeepsAnswers g.S.Site.link_shared l.fn.unit l.unit (g.S.Site.state l.fn.site) (g.S.Site.state l.site) l.fn.records l.records;
+  cargo : KeepsCargo (cargo_of l.fn.unit (g.S.Site.state l.fn.site) l.fn.records) (cargo_of l.unit (g.S.Site.state l.site) l.records);
   may : is_ended l.fn.unit.line ≡ false → MayTake (standing_of l.unit);
 }
 

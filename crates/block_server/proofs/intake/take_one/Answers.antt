@@ -15,6 +15,9 @@ use Rattle.block_server.specs.Receipts.{TakesEntry, standing_of}
 use Rattle.block_server.proofs.Owing.{has_cut_of, owes_seen, seen_call, seen_taken}
 use Rattle.block_server.proofs.OwingCalls.{event_kind, seen_on, seen_reserves}
 use Rattle.block_server.specs.Owed.{row_in}
+use Rattle.block_server.specs.Cargo.{data_bytes}
+use Rattle.block_server.proofs.Cargoes.{shown_same}
+use Rattle.block_server.proofs.Hands.{keeps_on, keeps_same}
 use Rattle.block_server.proofs.intake.take_one.Goals as goal
 
 pub returns-in_err-reserve-clause-once : goal.returns-in_err-reserve-clause-once
@@ -367,3 +370,10 @@ pub returns-in-Reserved-clause-answers : goal.returns-in-Reserved-clause-answers
 returns-in-Reserved-clause-answers g c = λ alone has.
     owes_seen _ _ (seen_on _ _ _ (seen_reserves _ _ c.reserve.ensures.rest) (seen_taken g.S.Site.link_shared _ _ c.in-Got.number c.in-Got.entry alone c.in-Got.ensures.got c.poll.ensures.rest
     (event_kind c.in-Got.entry (λ is. search rules)))) refl refl refl refl refl refl refl has
+
+pub returns-in-Command-clause-cargo : goal.returns-in-Command-clause-cargo
+returns-in-Command-clause-cargo g c =
+    keeps_on _ _ _ (keeps_same _ _ (shown_same _ _ _ _ _ _ (ap data_bytes c.poll.ensures.windows.own ∙ ap data_bytes c.reserve.ensures.windows.own) refl)) c.take_command.ensures.cargo
+
+pub returns-in-Event-clause-cargo : goal.returns-in-Event-clause-cargo
+returns-in-Event-clause-cargo g c = c.lose_partner.ensures.cargo _ _

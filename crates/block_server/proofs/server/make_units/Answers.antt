@@ -1,4 +1,6 @@
-use Rattle.std.proofs.Common.{◌∙◌, arith, List, sym, subst}
+use Rattle.block_server.specs.Cargo.{AreIdle, is_loaded}
+use Rattle.block_server.proofs.CargoLaws.{more_idle, none_idle}
+use Rattle.std.proofs.Common.{ap, ◌∙◌, arith, List, sym, subst}
 use Rattle.block_server.specs.Ready.{AreDown}
 use Rattle.block_server.specs.Units.{AreServing}
 use Rattle.block_server.specs.declared.unit.Unit.{Unit}
@@ -13,7 +15,7 @@ use Rattle.block_server.specs.Owed.{OweNone}
 use Rattle.block_server.proofs.server.make_units.Goals as goal
 
 pub loop-unit-init : goal.loop-unit-init
-loop-unit-init c = record { count = c.new-units.ensures.len; down = none_down _ c.new-units.ensures.items; none = none_wait _ c.new-units.ensures.items; unused = none_unused _ c.new-units.ensures.items; unanswered = none_owe _ c.new-units.ensures.items; serving = λ terms rows. units_none terms _ _ rows c.new-units.ensures.items }
+loop-unit-init c = record { count = c.new-units.ensures.len; down = none_down _ c.new-units.ensures.items; none = none_wait _ c.new-units.ensures.items; unused = none_unused _ c.new-units.ensures.items; unanswered = none_owe _ c.new-units.ensures.items; idle = none_idle _ c.new-units.ensures.items; serving = λ terms rows. units_none terms _ _ rows c.new-units.ensures.items }
 
 pub loop-unit-preserved : goal.loop-unit-preserved
 loop-unit-preserved c = record {
@@ -23,6 +25,7 @@ loop-unit-preserved c = record {
   unused = subst AreUnused (sym c.in_ok-push.ensures.items) (more_unused c.loop-unit.units.items c.new.result c.loop-unit.invariant.unused c.new.ensures.current c.new.ensures.last c.new.ensures.taking
       c.new.ensures.stage c.new.ensures.kept c.new.ensures.pending c.new.ensures.waiting);
   unanswered = subst OweNone (sym c.in_ok-push.ensures.items) (more_owe c.loop-unit.units.items c.new.result c.loop-unit.invariant.unanswered c.new.ensures.current c.new.ensures.stage);
+  idle = subst AreIdle (sym c.in_ok-push.ensures.items) (more_idle c.loop-unit.units.items c.new.result c.loop-unit.invariant.idle (ap is_loaded c.new.ensures.stage));
   serving = λ terms rows. subst (λ (units : List Unit). AreServing terms c.args.partition units rows) (sym c.in_ok-push.ensures.items)
       (units_more terms c.args.partition c.loop-unit.unit c.loop-unit.units.items c.new.result rows (sym c.loop-unit.invariant.count ∙ c.loop-unit.units.ok.0)
       c.new.ensures.id c.new.ensures.stage c.new.ensures.kept c.new.ensures.pending (c.loop-unit.invariant.serving terms rows));

@@ -1,6 +1,7 @@
 use Rattle.std.proofs.Common.{◌≡◌, List}
 use Rattle.vio_num.specs.declared.history.Served.{Served}
 use Rattle.std.specs.Vec.{vec_len}
+use Rattle.block_server.specs.Cargo.{AreIdle}
 use Rattle.block_server.specs.Ready.{AreDown}
 use Rattle.block_server.specs.Judges.{AreUnused}
 use Rattle.block_server.specs.Owed.{OweNone}
@@ -16,5 +17,6 @@ invariant-loop-unit l = record {
   none : AwaitNone l.units.items;
   unused : AreUnused l.units.items;
   unanswered : OweNone l.units.items;
+  idle : AreIdle l.units.items;
   serving : (terms : Terms) → (rows : List Served) → AreServing terms l.partition l.units.items rows;
 }

@@ -13,6 +13,8 @@ use Rattle.block_server.proofs.Serves.{once_added, says_none, stays_pushed}
 use Rattle.block_server.proofs.Working.{one_row, one_same}
 use Rattle.block_server.specs.Judged.{IsAtStage, has_row, keys_of}
 use Rattle.block_server.proofs.Booking.{code_gets}
+use Rattle.block_server.specs.Cargo.{is_loaded, rows_of}
+use Rattle.block_server.proofs.Cargoes.{blank_keeps, none_keeps}
 use Rattle.block_server.proofs.serving.add_code.Goals as goal
 
 pub returns-in_err-blank-clause-once : goal.returns-in_err-blank-clause-once
@@ -62,3 +64,15 @@ returns-clause-books c = λ before.
     (code_gets c.args.request.now.order c.args.code c.requires.code)
     (c.add_row.ensures.history ∙ ap (λ (list : List ServedRow). list ++ blank ∷ []) c.new_row.ensures.lists.history)
     row.unit_is row.session_is row.login row.number row.iu
+
+pub returns-in_err-blank-clause-cargo : goal.returns-in_err-blank-clause-cargo
+returns-in_err-blank-clause-cargo c = λ shown shown' before. none_keeps _ _ _ _ _ _ _ before before (ap rows_of c.new_row.ensures.lists.history)
+
+pub returns-in_err-set_answer-clause-cargo : goal.returns-in_err-set_answer-clause-cargo
+returns-in_err-set_answer-clause-cargo c = λ shown shown' before.
+    none_keeps _ _ _ _ _ _ _ before (ap is_loaded c.in_err-set_answer.ensures.err ∙ before) (ap rows_of c.new_row.ensures.lists.history)
+
+pub returns-clause-cargo : goal.returns-clause-cargo
+returns-clause-cargo c = λ shown shown' before.
+    blank_keeps _ _ _ _ _ _ _ c.in_ok-blank.blank before (ap is_loaded c.in_ok-set_answer.ensures.stage) c.in_ok-blank.ensures.row.inn
+    (c.add_row.ensures.history ∙ ap (λ (list : List ServedRow). list ++ c.in_ok-blank.blank ∷ []) c.new_row.ensures.lists.history)

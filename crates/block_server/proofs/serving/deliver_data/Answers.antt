@@ -1,3 +1,9 @@
+use Rattle.std.proofs.Common.{arith, length}
+use Rattle.srp_desc.specs.Pieces.{sum_of}
+use Rattle.std.proofs.Common.{◌+◌, ℕ, List, Option}
+use Rattle.srp_iu.specs.declared.buffer.Desc.{Desc}
+use Rattle.block_server.specs.Cargo.{SendsPart}
+use Rattle.block_server.specs.Parts.{LiesAt}
 use Rattle.std.proofs.Common.{◌∙◌, ap, refl}
 use Rattle.std.specs.Result.{IsErrOf}
 use Rattle.tce_window.specs.declared.answers.Right.TheVariants.{Write}
@@ -6,6 +12,12 @@ use Rattle.block_server.specs.declared.site.Halt.TheVariants.{Busy, Refused}
 use Rattle.block_server.proofs.Denying.{part_refused}
 use Rattle.block_server.proofs.Advancing.{advances_on}
 use Rattle.block_server.proofs.Readying.{uses_later}
+use Rattle.std.proofs.Common.{sym, subst}
+use Rattle.block_server.proofs.Cargoes.{shown_same}
+use Rattle.block_server.proofs.Sendings.{all_sent, part_moved}
+use Rattle.block_server.specs.Cargo.{IsAccounted}
+use Rattle.block_server.specs.Parts.{IsPlacedAt}
+use Rattle.block_server.proofs.Denying.{tells_first, tells_next}
 use Rattle.block_server.proofs.serving.deliver_data.Goals as goal
 
 pub returns-in-Err-Refused-clause-advances : goal.returns-in-Err-Refused-clause-advances
@@ -27,6 +39,20 @@ loop-part-preserved g c = record {
   given = c.loop-part.invariant.given;
   queue = c.deliver_data.ensures.queue ∙ c.loop-part.invariant.queue;
   passes = c.deliver_data.ensures.passes ∙ c.loop-part.invariant.passes;
+  placed = λ placed.
+      subst (λ (list : List Desc). IsPlacedAt list c.loop-part.cursor → IsPlacedAt list c.in-Some.part.end)
+      (c.as_slice.ensures ∙ ap (λ (pieces : DataPieces). pieces.list.items) c.loop-part.invariant.inn) c.in-Some.ensures.placed (c.loop-part.invariant.placed placed);
+  cargo = λ id told all rows tagged hand.
+      part_moved told id c.loop-part.service _ (g.S.Site.state c.loop-part.site) (g.S.Site.state c.deliver_data.new.self) rows c.args.row c.args.tag c.in-Some.part.len c.in-Some-address.address
+      c.args.reply c.loop-part.cursor c.in-Some.part.end c.loop-part.invariant.stage refl refl refl c.deliver_data.ensures.data
+      (subst (λ (n : ℕ). SendsPart (g.S.Site.state c.loop-part.site) (g.S.Site.state c.deliver_data.new.self) n c.in-Some-address.address c.in-Some.part.len c.args.tag) c.in-Some.ensures.at c.in-Ok.ensures.sent)
+      (tells_next told id (g.S.Site.state c.args.site.now) (g.S.Site.state c.loop-part.site) (g.S.Site.state c.deliver_data.new.self) c.loop-part.invariant.advances all)
+      c.in-Some.ensures.len.1 (c.in-Some.ensures.end ∙ ap (λ (n : ℕ). n + c.in-Some.part.len) c.in-Some.ensures.at)
+      (λ placed. subst (λ (z : List Desc × ℕ × Option ℕ). LiesAt z.0 z.1 z.2 c.in-Some.part.len) (λ i. (c.as_slice.ensures i, c.in-Some.ensures.at i, c.in-Some-address.is i))
+      (c.in-Some.ensures.there (subst (λ (list : List Desc). IsPlacedAt list c.loop-part.cursor) (sym c.as_slice.ensures) placed)))
+      (subst (λ (list : List Desc). IsPlacedAt list c.loop-part.cursor → IsPlacedAt list c.in-Some.part.end) c.as_slice.ensures c.in-Some.ensures.placed)
+      tagged
+      (c.loop-part.invariant.cargo id told (tells_first told id (g.S.Site.state c.args.site.now) (g.S.Site.state c.loop-part.site) (g.S.Site.state c.deliver_data.new.self) c.deliver_data.ensures.advances all) rows tagged hand);
 }
 
 pub returns-in-Err-Refused-clause-refused : goal.returns-in-Err-Refused-clause-refused
@@ -40,3 +66,26 @@ pub returns-in-Err-Busy-clause-busy : goal.returns-in-Err-Busy-clause-busy
 returns-in-Err-Busy-clause-busy g c = λ is.
     let busy : IsErrOf c.deliver_data.result Busy = cc (c.in-Err-Busy.is, c.in-Err-Busy.field-0-is) in
     uses_later (g.S.Site.state c.args.site.now) (g.S.Site.state c.loop-part.site) (g.S.Site.state c.deliver_data.new.self) c.loop-part.invariant.advances (c.deliver_data.ensures.busy busy)
+
+pub returns-in-Err-Refused-clause-cargo : goal.returns-in-Err-Refused-clause-cargo
+returns-in-Err-Refused-clause-cargo g c = λ id told all rows tagged hand.
+    subst (IsAccounted told) (sym (shown_same _ _ _ _ _ _ c.deliver_data.ensures.data refl))
+    (c.loop-part.invariant.cargo id told (tells_first told id (g.S.Site.state c.args.site.now) (g.S.Site.state c.loop-part.site) (g.S.Site.state c.deliver_data.new.self) c.deliver_data.ensures.advances all) rows tagged hand)
+
+pub returns-in-Err-Busy-clause-cargo : goal.returns-in-Err-Busy-clause-cargo
+returns-in-Err-Busy-clause-cargo g c = λ id told all rows tagged hand.
+    subst (IsAccounted told) (sym (shown_same _ _ _ _ _ _ c.deliver_data.ensures.data refl))
+    (c.loop-part.invariant.cargo id told (tells_first told id (g.S.Site.state c.args.site.now) (g.S.Site.state c.loop-part.site) (g.S.Site.state c.deliver_data.new.self) c.deliver_data.ensures.advances all) rows tagged hand)
+
+pub returns-in-Err-NoMemory-clause-cargo : goal.returns-in-Err-NoMemory-clause-cargo
+returns-in-Err-NoMemory-clause-cargo g c = λ id told all rows tagged hand.
+    subst (IsAccounted told) (sym (shown_same _ _ _ _ _ _ c.deliver_data.ensures.data refl))
+    (c.loop-part.invariant.cargo id told (tells_first told id (g.S.Site.state c.args.site.now) (g.S.Site.state c.loop-part.site) (g.S.Site.state c.deliver_data.new.self) c.deliver_data.ensures.advances all) rows tagged hand)
+
+pub returns-clause-all : goal.returns-clause-all
+returns-clause-all g c = λ placed.
+    let at : IsPlacedAt c.as_slice.result.now c.loop-part.cursor =
+    subst (λ (list : List Desc). IsPlacedAt list c.loop-part.cursor) (sym (c.as_slice.ensures ∙ ap (λ (pieces : DataPieces). pieces.list.items) c.loop-part.invariant.inn))
+    (c.loop-part.invariant.placed placed) in
+    all_sent c.loop-part.service c.args.row c.args.reply c.loop-part.cursor c.loop-part.invariant.stage
+    (omega (arith, c.in_default.ensures.all at refl, ap sum_of c.as_slice.ensures, ap length c.loop-part.invariant.given, c.len-total.ensures))

@@ -10,6 +10,10 @@ use Rattle.block_server.proofs.Onces.{once_same, once_then}
 use Rattle.block_server.proofs.Serves.{gathers_of, once_moved}
 use Rattle.block_server.proofs.Working.{one_given, one_on, one_same}
 use Rattle.block_server.specs.declared.service.Stage.TheVariants.{DataIn}
+use Rattle.block_server.proofs.Sendings.{hand_placed, tag_at}
+use Rattle.block_server.proofs.Gathering.{where_done}
+use Rattle.block_server.specs.Cargo.{IsSentAll}
+use Rattle.block_server.specs.Serving.{terms_of}
 use Rattle.block_server.proofs.serving.hand_over.Goals as goal
 
 pub returns-in_default-clause-once : goal.returns-in_default-clause-once
@@ -54,3 +58,18 @@ returns-clause-books g c = λ id session.
     one_on _ _ _ _ _ _ _ _ _ _ refl
     (one_given _ _ _ _ _ _ (DataIn c.in-DataIn.row c.in-DataIn.reply c.in-DataIn.cursor) (DataIn c.in-DataIn.row c.in-DataIn.reply c.deliver_data.ensures.stage.0)
     c.in-DataIn.is c.deliver_data.ensures.stage.1 refl (λ current pending at. at)) (c.end_command.ensures.books id session)
+
+pub returns-in_default-clause-cargo : goal.returns-in_default-clause-cargo
+returns-in_default-clause-cargo g c = λ id told all size rest serving hand. hand
+
+pub returns-in_err-progress-clause-cargo : goal.returns-in_err-progress-clause-cargo
+returns-in_err-progress-clause-cargo g c = λ id told all size rest serving hand.
+    c.deliver_data.ensures.cargo id told all c.args.records.now.history.items
+    (tag_at (terms_of told size) id c.args.service.now c.args.request.now rest c.args.records.now.history.items c.in-DataIn.row c.in-DataIn.reply c.in-DataIn.cursor c.in-DataIn.is serving) hand
+
+pub returns-clause-cargo : goal.returns-clause-cargo
+returns-clause-cargo g c = λ id told all size rest serving hand.
+    c.end_command.ensures.cargo id _ (λ done. where_done c.in_ok-progress.progress (IsSentAll c.deliver_data.new.service) done (c.in_ok-progress.ensures.all
+    (hand_placed told id c.args.service.now _ _ c.in-DataIn.row c.in-DataIn.reply c.in-DataIn.cursor c.in-DataIn.is hand))) told
+    (c.deliver_data.ensures.cargo id told all c.args.records.now.history.items
+    (tag_at (terms_of told size) id c.args.service.now c.args.request.now rest c.args.records.now.history.items c.in-DataIn.row c.in-DataIn.reply c.in-DataIn.cursor c.in-DataIn.is serving) hand)

@@ -3,6 +3,8 @@ use Rattle.block_server.specs.declared.service.Outcome.TheVariants.{Granted, Rej
 use Rattle.block_server.proofs.Serves.{once_judged}
 use Rattle.block_server.proofs.Booking.{login_set}
 use Rattle.std.proofs.Common.{sym, ◌∙◌}
+use Rattle.block_server.proofs.Cargoes.{none_same}
+use Rattle.block_server.proofs.Sendings.{set_unloaded}
 use Rattle.block_server.proofs.serving.judge_login.Goals as goal
 
 pub returns-in-Some-clause-once : goal.returns-in-Some-clause-once
@@ -23,3 +25,11 @@ pub returns-in-None-clause-books : goal.returns-in-None-clause-books
 returns-in-None-clause-books c = λ books front rest rows parts asks number current none before.
     login_set books _ _ rows front rest (Granted c.args.number) c.set_answer-in-None.result parts asks before none c.set_answer-in-None.ensures.stage c.set_answer-in-None.ensures.err refl
     (record { front = front; rest = rest; parts = parts; asks = asks; number_is = number; none_on = current ∙ sym c.current.ensures ∙ (c.login_refusal.ensures.none c.in-None.is).none_on })
+
+pub returns-in-Some-clause-cargo : goal.returns-in-Some-clause-cargo
+returns-in-Some-clause-cargo c = λ id shown rows before.
+    none_same _ c.args.service.now c.set_answer.new.self _ _ _ before (set_unloaded c.args.service.now c.set_answer.new.self Rejected c.set_answer.result c.set_answer.ensures.stage c.set_answer.ensures.err before) refl
+
+pub returns-in-None-clause-cargo : goal.returns-in-None-clause-cargo
+returns-in-None-clause-cargo c = λ id shown rows before.
+    none_same _ c.args.service.now c.set_answer-in-None.new.self _ _ _ before (set_unloaded c.args.service.now c.set_answer-in-None.new.self (Granted c.args.number) c.set_answer-in-None.result c.set_answer-in-None.ensures.stage c.set_answer-in-None.ensures.err before) refl

@@ -1,4 +1,4 @@
-use Rattle.std.proofs.Common.{ap, refl, subst, sym, ◌≡◌, ◌∙◌, ◌++◌, ◌∷◌, [], ℕ, List, length, min, take, arith}
+use Rattle.std.proofs.Common.{length-take, ap, refl, subst, sym, ◌≡◌, ◌∙◌, ◌++◌, ◌∷◌, [], ℕ, List, length, min, take, arith}
 use Rattle.vio_num.specs.declared.history.Served.{Served as ServedRow}
 use Rattle.crq_session.specs.EndState.{EndState}
 use Rattle.block_server.specs.Answering.{responses}
@@ -17,6 +17,9 @@ use Rattle.block_server.proofs.Onces.{once_same}
 use Rattle.block_server.proofs.Serves.{gathers_of, once_added, once_before, pieces_of}
 use Rattle.block_server.proofs.Working.{command_row, one_row, one_same}
 use Rattle.block_server.specs.Judged.{has_row, is_command, keys_of}
+use Rattle.block_server.specs.Cargo.{rows_of}
+use Rattle.block_server.proofs.Cargoes.{none_keeps}
+use Rattle.block_server.proofs.Makings.{made_given, out_unloaded}
 use Rattle.block_server.proofs.serving.make_step.Goals as goal
 
 pub returns-in_default-clause-once : goal.returns-in_default-clause-once
@@ -113,3 +116,35 @@ returns-clause-books g c =
     (command_row c.args.request.now.order (ap is_command c.requires.asked))
     (c.add_row-row.ensures.history ∙ ap (λ (list : List ServedRow). list ++ row ∷ []) c.new_row.ensures.lists.history)
     blank.unit_is (blank.session_is ∙ c.session.ensures) blank.login blank.number blank.iu
+
+pub returns-in_default-clause-cargo : goal.returns-in_default-clause-cargo
+returns-in_default-clause-cargo g c = λ told known hand. hand
+
+pub returns-in_err-row-clause-cargo : goal.returns-in_err-row-clause-cargo
+returns-in_err-row-clause-cargo g c = λ told known hand. none_keeps _ _ _ _ _ _ _ (out_unloaded _ _ c.in-DataOut.is) (out_unloaded _ _ c.in-DataOut.is) (ap rows_of c.new_row.ensures.lists.history) told hand
+
+pub returns-in_err-out-clause-cargo : goal.returns-in_err-out-clause-cargo
+returns-in_err-out-clause-cargo g c = λ told known hand. none_keeps _ _ _ _ _ _ _ (out_unloaded _ _ c.in-DataOut.is) (out_unloaded _ _ c.in-DataOut.is) (ap rows_of c.new_row.ensures.lists.history) told hand
+
+pub returns-in_err-room-clause-cargo : goal.returns-in_err-room-clause-cargo
+returns-in_err-room-clause-cargo g c = λ told known hand. none_keeps _ _ _ _ _ _ _ (out_unloaded _ _ c.in-DataOut.is) (out_unloaded _ _ c.in-DataOut.is) (ap rows_of c.new_row.ensures.lists.history) told hand
+
+pub returns-in_err-make_room-clause-cargo : goal.returns-in_err-make_room-clause-cargo
+returns-in_err-make_room-clause-cargo g c = λ told known hand.
+    none_keeps _ _ _ _ _ _ _ (out_unloaded _ _ c.in-DataOut.is) (out_unloaded _ _ (c.make_room.ensures.stage ∙ c.in-DataOut.is)) (ap rows_of c.new_row.ensures.lists.history) told hand
+
+pub returns-clause-cargo : goal.returns-clause-cargo
+returns-clause-cargo g c = λ told known hand.
+    let blank = c.in_ok-row.ensures.row in
+    let service = c.args.service.now in
+    let command = c.args.command.now in
+    let both : HasBoth (told_to told c.args.id) command service.out.list.items service.inn.list.items =
+    subst (λ (stage : Stage). Gathers (told_to told c.args.id) command stage service.out.list.items service.inn.list.items) c.in-DataOut.is known in
+    let row : ServedRow = record c.in_ok-row.row { out = c.from.result; inn = c.filled.result; fault = c.execute-reply.result.fault } in
+    let kept : c.keep.new.self.given.items ≡ c.given-given.result.now = c.keep.ensures.given ∙ ap (λ (xs : List ℕ). xs ++ c.given-given.result.now) c.make_room.ensures.none in
+    made_given told c.args.id service _ _ _ _ _ row command c.args.request.now (length c.args.records.now.history.items) c.execute-reply.result
+    (out_unloaded _ _ c.in-DataOut.is)
+    (ap (λ (n : ℕ). Given n c.execute-reply.result) (c.add_row-row.ensures.place ∙ ap length c.new_row.ensures.lists.history)) refl
+    (c.keep.ensures.inn ∙ c.make_room.ensures.inn) (c.add_row-row.ensures.history ∙ ap (λ (list : List ServedRow). list ++ row ∷ []) c.new_row.ensures.lists.history)
+    blank.unit_is (c.filled.ensures ∙ sym kept) blank.iu c.requires.asked both.in_named
+    (omega (arith, ap length kept, ap length c.given-given.ensures, length-take c.min.result c.execute-reply.new.self.given.items, c.min.ensures, c.total-expected.ensures.total, service.inn.summed)) hand

@@ -14,6 +14,9 @@ use Rattle.block_server.proofs.Working.{before_no_row, one_before, one_on, one_s
 use Rattle.std.proofs.Common.{◌∙◌}
 use Rattle.block_server.proofs.OwingCalls.{no_row_in}
 use Rattle.block_server.proofs.OwingRows.{moves_on, moves_same}
+use Rattle.block_server.proofs.Cargoes.{none_keeps}
+use Rattle.block_server.proofs.Sendings.{before_unloaded}
+use Rattle.block_server.specs.Cargo.{data_bytes}
 use Rattle.block_server.proofs.serving.run_step.Goals as goal
 
 pub returns-then-not-is_before_step-clause-once : goal.returns-then-not-is_before_step-clause-once
@@ -131,3 +134,30 @@ returns-in-Done-clause-moves g c =
     let none = no_row_in _ (before_no_row _ (c.fetch.ensures.before before)) in
     let first = moves_same c.args.id (g.S.Site.state c.args.site.now).queue.last_session c.args.request.now c.args.service.now.stage c.fetch.new.service.stage _ _ (none ∙ sym (no_row_in _ (before_no_row _ before))) refl in
     moves_on _ _ _ _ _ _ _ _ _ _ (ap (λ (q : EndState). q.last_session) c.fetch.ensures.queue) first c.make_step.ensures.moves
+
+pub returns-then-not-is_before_step-clause-cargo : goal.returns-then-not-is_before_step-clause-cargo
+returns-then-not-is_before_step-clause-cargo g c = λ told all rest serving hand. hand
+
+pub returns-in_err-fetch-clause-cargo : goal.returns-in_err-fetch-clause-cargo
+returns-in_err-fetch-clause-cargo g c = λ told all rest serving hand.
+    let before : is_before_step c.args.service.now.stage ≡ true = cc in
+    none_keeps _ _ _ _ _ _ _ (before_unloaded _ before) (before_unloaded _ (c.fetch.ensures.before before)) refl told hand
+
+pub returns-in-Busy-clause-cargo : goal.returns-in-Busy-clause-cargo
+returns-in-Busy-clause-cargo g c = λ told all rest serving hand.
+    let before : is_before_step c.args.service.now.stage ≡ true = cc in
+    none_keeps _ _ _ _ _ _ _ (before_unloaded _ before) (before_unloaded _ (c.fetch.ensures.before before)) refl told hand
+
+pub returns-in-Refused-clause-cargo : goal.returns-in-Refused-clause-cargo
+returns-in-Refused-clause-cargo g c = λ told all rest serving hand.
+    let before : is_before_step c.args.service.now.stage ≡ true = cc in
+    c.add_code.ensures.cargo _ _ (before_unloaded _ (c.fetch.ensures.before before)) told
+    (none_keeps _ _ _ (data_bytes (g.S.Site.state c.args.site.now).own) (data_bytes (g.S.Site.state c.args.site.now).own) _ _ (before_unloaded _ before) (before_unloaded _ (c.fetch.ensures.before before)) refl told hand)
+
+pub returns-in-Done-clause-cargo : goal.returns-in-Done-clause-cargo
+returns-in-Done-clause-cargo g c = λ told all rest serving hand.
+    let before : is_before_step c.args.service.now.stage ≡ true = cc in
+    c.make_step.ensures.cargo told
+    (c.fetch.ensures.named told c.args.id (tells_first told c.args.id (g.S.Site.state c.args.site.now) (g.S.Site.state c.fetch.new.site) (g.S.Site.state c.make_step.new.site) c.make_step.ensures.advances all)
+    (gathers_of _ _ _ _ c.args.request.now rest c.args.command.now c.requires.asked serving.fetched))
+    (none_keeps _ _ _ _ _ _ _ (before_unloaded _ before) (before_unloaded _ (c.fetch.ensures.before before)) refl told hand)

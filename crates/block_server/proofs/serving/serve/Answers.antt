@@ -11,8 +11,8 @@ use Rattle.block_server.proofs.Agreeing.{agrees_on, agrees_same}
 use Rattle.block_server.proofs.Staging.{serve_held, some_front}
 use Rattle.block_server.proofs.Advancing.{advances_on, advances_same}
 use Rattle.block_server.proofs.Quieting.{on_ok, quiet_on, quiet_stage}
-use Rattle.std.proofs.Common.{◌∙◌, None, ap, refl, rules, sym}
-use Rattle.block_server.specs.Serving.{Desk, desk_of}
+use Rattle.std.proofs.Common.{◌∙◌, None, refl, rules}
+use Rattle.block_server.specs.Serving.{desk_of}
 use Rattle.block_server.proofs.Denying.{tells_first, tells_next}
 use Rattle.block_server.proofs.Onces.{once_on, once_same, once_then}
 use Rattle.block_server.proofs.Serves.{desk_is, front_is, once_between}
@@ -21,13 +21,19 @@ use Rattle.block_server.proofs.Keeping.{moved_to}
 use Rattle.block_server.specs.Judged.{AreKept, Books, IsFor, gets_row, is_login, keys_of}
 use Rattle.block_server.specs.Books.{books_at, next_of}
 use Rattle.block_server.proofs.Taking.{waiting_stands}
-use Rattle.std.proofs.Common.{◌≡◌, false, subst}
+use Rattle.std.proofs.Common.{◌≡◌, false}
 use Rattle.std.proofs.Common.{List}
 use Rattle.block_server.proofs.Owing.{owes_seen, seen_same}
 use Rattle.block_server.proofs.OwingRows.{front_under, owes_moved}
 use Rattle.block_server.specs.Judged.{IsAtStage}
 use Rattle.block_server.specs.Owed.{HasAnswers, Owing, row_states}
 use Rattle.block_server.specs.declared.request.Request.{Request}
+use Rattle.block_server.proofs.Cargoes.{cargo_named, shown_same}
+use Rattle.block_server.proofs.Hands.{keeps_same}
+use Rattle.block_server.proofs.Sendings.{other_unloaded}
+use Rattle.block_server.specs.Serving.{IsServing, terms_of}
+use Rattle.block_server.specs.Judged.{is_command}
+use Rattle.block_server.specs.Cargo.{IsAccounted}
 use Rattle.block_server.proofs.serving.serve.Goals as goal
 
 pub returns-clause-advances : goal.returns-clause-advances
@@ -253,3 +259,36 @@ returns-clause-judges g c =
     (moved_to _ _ judged refl (ap (λ (q : EndState). q.last_session) c.prepare.ensures.queue) (ap (λ w. next_of w queue) (waiting_stands _ _ c.note_stage.ensures.stands) ∙ ap (next_of c.args.unit.now.waiting) c.prepare.ensures.queue) refl refl refl refl refl refl refl c.prepare.ensures.grants refl refl refl
     (c.prepare.ensures.books books for refl judged is))))
     (works _ _ _ _ _ _ refl refl c.answer.ensures.intake c.answer.ensures.judges)).judges
+
+pub returns-in_default-clause-cargo : goal.returns-in_default-clause-cargo
+returns-in_default-clause-cargo g c = λ told all serving hand. hand
+
+pub returns-in_err-make_room-clause-cargo : goal.returns-in_err-make_room-clause-cargo
+returns-in_err-make_room-clause-cargo g c = λ told all serving hand. keeps_same _ _ (shown_same _ _ _ _ _ _ refl c.make_room.ensures.lists.history) told hand
+
+pub returns-in-Logout-clause-cargo : goal.returns-in-Logout-clause-cargo
+returns-in-Logout-clause-cargo g c = λ told all serving hand.
+    let unit = c.args.unit.now in
+    let front = front_is _ _ c.in-Some.ensures.item.3 in
+    let desk = desk_is unit.id unit.service None _ _ _ c.requires.none front.1 in
+    let at = subst (λ (d : Desk). IsServing (terms_of told c.args.disk.now.count) d c.args.records.now.history.items) desk serving in
+    let other : is_command c.in-Some.request.now.order ≡ false = search rules in
+    c.log_out.ensures.cargo _ _ (other_unloaded (terms_of told c.args.disk.now.count) unit.id unit.service c.in-Some.request.now front.0 c.args.records.now.history.items other at) told (keeps_same _ _ (shown_same _ _ _ _ _ _ refl c.make_room.ensures.lists.history) told hand)
+
+pub returns-in_err-prepare-clause-cargo : goal.returns-in_err-prepare-clause-cargo
+returns-in_err-prepare-clause-cargo g c = λ told all serving hand.
+    let unit = c.args.unit.now in
+    let front = front_is _ _ c.in-Some.ensures.item.3 in
+    let desk = desk_is unit.id unit.service None _ _ _ c.requires.none front.1 in
+    let at = subst (λ (d : Desk). IsServing (terms_of told c.args.disk.now.count) d c.args.records.now.history.items) desk serving in
+    c.prepare.ensures.cargo told all front.0 at hand
+
+pub returns-clause-cargo : goal.returns-clause-cargo
+returns-clause-cargo g c = λ told all serving hand.
+    let unit = c.args.unit.now in
+    let front = front_is _ _ c.in-Some.ensures.item.3 in
+    let desk = desk_is unit.id unit.service None _ _ _ c.requires.none front.1 in
+    let at = subst (λ (d : Desk). IsServing (terms_of told c.args.disk.now.count) d c.args.records.now.history.items) desk serving in
+    c.answer.ensures.cargo told
+    (subst (IsAccounted told) (sym (cargo_named _ _ _ _ _ _ c.note_stage.ensures.id c.note_stage.ensures.service))
+    (c.prepare.ensures.cargo told (tells_first told unit.id (g.S.Site.state c.args.site.now) (g.S.Site.state c.prepare.new.site) (g.S.Site.state c.answer.new.site) c.answer.ensures.advances all) front.0 at hand))

@@ -8,6 +8,8 @@ use Rattle.block_server.proofs.Onces.{once_then}
 use Rattle.block_server.proofs.Working.{one_on}
 use Rattle.std.proofs.Common.{refl}
 use Rattle.block_server.proofs.OwingRows.{moves_on, moves_same}
+use Rattle.std.proofs.Common.{None}
+use Rattle.block_server.specs.Serving.{held}
 use Rattle.block_server.proofs.serving.serve_command.Goals as goal
 
 pub returns-in_err-run_step-clause-once : goal.returns-in_err-run_step-clause-once
@@ -66,3 +68,19 @@ pub returns-clause-moves : goal.returns-clause-moves
 returns-clause-moves g c =
     moves_on _ _ _ _ _ _ _ _ _ _ refl (moves_on _ _ _ _ _ _ _ _ _ _ refl c.run_step.ensures.moves (moves_same _ _ _ _ _ _ _ c.store.ensures.row refl))
     (moves_same _ _ _ _ _ _ _ c.hand_over.ensures.row c.hand_over.ensures.states)
+
+pub returns-in_err-run_step-clause-cargo : goal.returns-in_err-run_step-clause-cargo
+returns-in_err-run_step-clause-cargo g c = λ told all rest serving hand. c.run_step.ensures.cargo told all rest serving hand
+
+pub returns-in_err-store-clause-cargo : goal.returns-in_err-store-clause-cargo
+returns-in_err-store-clause-cargo g c = λ told all rest serving hand.
+    c.store.ensures.cargo c.args.id _ told (c.run_step.ensures.cargo told (tells_first told c.args.id (g.S.Site.state c.args.site.now) (g.S.Site.state c.run_step.new.site) (g.S.Site.state c.store.new.site) c.store.ensures.advances all) rest serving hand)
+
+pub returns-clause-cargo : goal.returns-clause-cargo
+returns-clause-cargo g c = λ told all rest serving hand.
+    let first = (tells_first told c.args.id (g.S.Site.state c.args.site.now) (g.S.Site.state c.run_step.new.site) (g.S.Site.state c.hand_over.new.site) (advances_on _ _ _ c.store.ensures.advances c.hand_over.ensures.advances) all) in
+    let stepped = (c.run_step.ensures.once told first rest serving).serving in
+    let stored = (c.store.ensures.once c.args.id rest c.run_step.new.records (held told c.run_step.new.disk.count None) stepped).serving in
+    c.hand_over.ensures.cargo c.args.id told
+    (tells_next told c.args.id (g.S.Site.state c.args.site.now) (g.S.Site.state c.store.new.site) (g.S.Site.state c.hand_over.new.site) (advances_on _ _ _ c.run_step.ensures.advances c.store.ensures.advances) all)
+    _ rest stored (c.store.ensures.cargo c.args.id _ told (c.run_step.ensures.cargo told first rest serving hand))

@@ -6,6 +6,10 @@ use Rattle.block_server.proofs.Onces.{once_same}
 use Rattle.block_server.proofs.Serves.{once_stored}
 use Rattle.block_server.proofs.Working.{one_given, one_same}
 use Rattle.block_server.specs.declared.service.Stage.TheVariants.{DataIn, Given}
+use Rattle.block_server.proofs.Hands.{keeps_same}
+use Rattle.block_server.proofs.Sendings.{given_shown, stored}
+use Rattle.std.proofs.Common.{rules, subst, ◌≡◌}
+use Rattle.block_server.specs.Cargo.{AreShown}
 use Rattle.block_server.proofs.serving.store.Goals as goal
 
 pub returns-in_err-write_data-clause-once : goal.returns-in_err-write_data-clause-once
@@ -32,3 +36,15 @@ returns-in_ok-write_data-clause-books g c = λ id session rows.
 
 pub returns-in_default-clause-books : goal.returns-in_default-clause-books
 returns-in_default-clause-books g c = λ id session rows. one_same _ _ _ _ _ _ _ refl refl
+
+pub returns-in_default-clause-cargo : goal.returns-in_default-clause-cargo
+returns-in_default-clause-cargo g c = λ id rows. keeps_same _ _ refl
+
+pub returns-in_err-write_data-clause-cargo : goal.returns-in_err-write_data-clause-cargo
+returns-in_err-write_data-clause-cargo g c = λ id rows. given_shown _ _ _ _ _ c.in-Given.row c.in-Given.reply c.in-Given.is
+
+pub returns-in_ok-write_data-clause-cargo : goal.returns-in_ok-write_data-clause-cargo
+returns-in_ok-write_data-clause-cargo g c = λ id rows.
+    let same : c.deref.result.now ≡ c.args.service.now.given.items = search (rules, c.deref.ensures) in
+    stored _ _ _ _ _ _ c.in-Given.row c.in-Given.reply c.start.result c.in-Given.is refl c.start.ensures refl refl
+    (subst (AreShown _) same c.in_ok-write_data.ensures.shown)

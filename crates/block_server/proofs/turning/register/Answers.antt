@@ -8,8 +8,6 @@ use Rattle.block_server.proofs.Readying.{register_same, register_stops}
 use Rattle.block_server.proofs.Taking.{lines_same, passes_windows, takes_none, takes_session}
 use Rattle.block_server.proofs.GoingOn.{down_ended, register_session}
 use Rattle.block_server.proofs.Jointly.{keeps_pass, keeps_registered}
-use Rattle.std.proofs.Common.{◌∙◌}
-use Rattle.block_server.proofs.Taking.{passed_copies, window_copies}
 use Rattle.block_server.proofs.Owing.{owes_ended}
 use Rattle.block_server.proofs.turning.register.Goals as goal
 

@@ -13,6 +13,9 @@ use Rattle.block_server.proofs.Jointly.{works, works_none, works_on}
 use Rattle.block_server.specs.Books.{books_at}
 use Rattle.block_server.specs.Receipts.{standing_of}
 use Rattle.std.proofs.Common.{◌++◌}
+use Rattle.std.proofs.Common.{None}
+use Rattle.block_server.proofs.Hands.{keeps_same}
+use Rattle.block_server.specs.Serving.{held}
 use Rattle.block_server.proofs.turning.steps.Goals as goal
 
 pub returns-in_err-open_line-clause-once : goal.returns-in_err-open_line-clause-once
@@ -238,3 +241,44 @@ returns-clause-answers g c = λ own receipts intake judged is alone has.
     (c.take_in.ensures.judges (ended_stands _ _ c.put_kept.ensures.stands ∙ c.in_ok-open_line.ensures.goes_on (search rules))))).judges).more own receipts judged intake is in
     c.serve.ensures.answers (judged ++ more.more) more.kept alone
     (c.take_in.ensures.answers alone (c.put_kept.ensures.answers judged (c.open_line.ensures.books c.args.records.now intake.idle judged is) alone (c.open_line.ensures.answers c.args.records.now alone has)))
+
+pub returns-in_err-open_line-clause-cargo : goal.returns-in_err-open_line-clause-cargo
+returns-in_err-open_line-clause-cargo g c = λ told all serving hand. keeps_same _ _ (c.open_line.ensures.cargo c.args.records.now) told hand
+
+pub returns-then-eq-clause-cargo : goal.returns-then-eq-clause-cargo
+returns-then-eq-clause-cargo g c = λ told all serving hand. keeps_same _ _ (c.open_line.ensures.cargo c.args.records.now) told hand
+
+pub returns-in_err-put_kept-clause-cargo : goal.returns-in_err-put_kept-clause-cargo
+returns-in_err-put_kept-clause-cargo g c = λ told all serving hand.
+    let opened = (c.open_line.ensures.once c.args.records.now (held told c.args.disk.now.count None) serving).serving in
+    keeps_same _ _ (c.put_kept.ensures.cargo _ opened) told (keeps_same _ _ (c.open_line.ensures.cargo c.args.records.now) told hand)
+
+pub returns-then-eq-2-clause-cargo : goal.returns-then-eq-2-clause-cargo
+returns-then-eq-2-clause-cargo g c = λ told all serving hand.
+    let opened = (c.open_line.ensures.once c.args.records.now (held told c.args.disk.now.count None) serving).serving in
+    keeps_same _ _ (c.put_kept.ensures.cargo _ opened) told (keeps_same _ _ (c.open_line.ensures.cargo c.args.records.now) told hand)
+
+pub returns-in_err-take_in-clause-cargo : goal.returns-in_err-take_in-clause-cargo
+returns-in_err-take_in-clause-cargo g c = λ told all serving hand.
+    let opened = (c.open_line.ensures.once c.args.records.now (held told c.args.disk.now.count None) serving).serving in
+    c.take_in.ensures.cargo told (keeps_same _ _ (c.put_kept.ensures.cargo _ opened) told (keeps_same _ _ (c.open_line.ensures.cargo c.args.records.now) told hand))
+
+pub returns-then-eq-3-clause-cargo : goal.returns-then-eq-3-clause-cargo
+returns-then-eq-3-clause-cargo g c = λ told all serving hand.
+    let opened = (c.open_line.ensures.once c.args.records.now (held told c.args.disk.now.count None) serving).serving in
+    c.take_in.ensures.cargo told (keeps_same _ _ (c.put_kept.ensures.cargo _ opened) told (keeps_same _ _ (c.open_line.ensures.cargo c.args.records.now) told hand))
+
+pub returns-clause-cargo : goal.returns-clause-cargo
+returns-clause-cargo g c = λ told all serving hand.
+    let heard = tells_first told c.args.unit.now.id (g.S.Site.state c.args.site.now) (g.S.Site.state c.take_in.new.site) (g.S.Site.state c.serve.new.site) c.serve.ensures.advances all in
+    let disk = held told c.args.disk.now.count None in
+    let first = (c.open_line.ensures.once c.args.records.now disk serving).serving in
+    let opened =
+    once_by (g.S.Site.state c.args.site.now) (g.S.Site.state c.put_kept.new.site) (g.S.Site.state c.take_in.new.site) _ _ _ c.args.records.now c.put_kept.new.records c.take_in.new.records
+    (advances_on _ _ _ c.open_line.ensures.advances c.put_kept.ensures.advances) c.take_in.ensures.advances
+    (λ disk heard. once_on _ _ _ _ _ _ _ _ _ (c.open_line.ensures.once c.args.records.now) c.put_kept.ensures.once disk) c.take_in.ensures.once disk heard serving in
+    let gone = advances_on _ _ _ (advances_on _ _ _ c.open_line.ensures.advances c.put_kept.ensures.advances) c.take_in.ensures.advances in
+    c.serve.ensures.cargo told
+    (tells_next told c.take_in.new.unit.id (g.S.Site.state c.args.site.now) (g.S.Site.state c.take_in.new.site) (g.S.Site.state c.serve.new.site) gone
+    (subst (λ (id : UnitId). TellsAll told id (g.S.Site.state c.args.site.now) (g.S.Site.state c.serve.new.site)) (sym opened.id) all)) opened.serving
+    (c.take_in.ensures.cargo told (keeps_same _ _ (c.put_kept.ensures.cargo _ first) told (keeps_same _ _ (c.open_line.ensures.cargo c.args.records.now) told hand)))

@@ -1,3 +1,5 @@
+use Rattle.block_server.proofs.DataCopies.{refused_none}
+use Rattle.block_server.proofs.UnitBytes.{lays_none}
 use Rattle.std.proofs.Common.{◌++◌, ◌∙◌, ap, arith, refl, sym}
 use Rattle.rdma_copy.proofs.Laws.{side_same}
 use Rattle.rdma_copy.specs.Copies.{side_of}
@@ -56,3 +58,9 @@ returns-clause-none g c =
 
 pub returns-then-is_err-clause-behind : goal.returns-then-is_err-clause-behind
 returns-then-is_err-clause-behind g c = λ behind. fetches_same _ _ _ c.reserve.ensures.items
+
+pub returns-clause-laid : goal.returns-clause-laid
+returns-clause-laid g c = refused_none c.note.result c.copy_rdma-answer.result _ c.copy_rdma-answer.ensures.refused c.note.ensures.none
+
+pub returns-then-is_err-clause-laid : goal.returns-then-is_err-clause-laid
+returns-then-is_err-clause-laid g c = lays_none _ _

@@ -1,3 +1,4 @@
+use Rattle.block_server.proofs.DataPages.{first_data, none_data}
 use Rattle.std.proofs.Common.{arith}
 use Rattle.tce_window.proofs.Gathering.{on_ok_map}
 use Rattle.block_server.proofs.DeliveredBytes.{delivers_one}
@@ -24,3 +25,11 @@ returns-in-Ok-clause-delivered g c =
     (λ made. delivers_one g.O.WindowPort.is_shared g.R.WindowPort.is_shared _ _ _ _ _ _ _ _ _ c.args.self.now.alone c.args.self.now.ready.first
     (omega arith) (omega arith) (omega arith) c.in-Ok.ensures.wrote c.write_own.ensures.own c.write_own.ensures.client c.write_own.ensures.copies
     c.copy_out.ensures.laid c.copy_out.ensures.rest made) c.copy_out.ensures.made
+
+pub returns-in-Ok-clause-data : goal.returns-in-Ok-clause-data
+returns-in-Ok-clause-data g c =
+    none_data _ _ _ c.args.self.now.alone c.copy_out.ensures.laid
+    ∙ first_data _ _ _ _ _ c.args.self.now.alone (omega arith) c.in-Ok.ensures.wrote
+
+pub returns-in-Err-clause-data : goal.returns-in-Err-clause-data
+returns-in-Err-clause-data g c = none_data _ _ _ c.args.self.now.alone c.in-Err.ensures.laid

@@ -1,4 +1,6 @@
-use Rattle.std.proofs.Common.{arith}
+use Rattle.std.proofs.Common.{arith, ◌∙◌}
+use Rattle.block_server.proofs.DataCopies.{unit_leaves}
+use Rattle.block_server.proofs.DataPages.{none_data, read_data}
 use Rattle.block_server.proofs.FirstPages.{fetches_same, on_error, queue_stays}
 use Rattle.block_server.proofs.UnitBytes.{fetches_one}
 use Rattle.block_server.proofs.Advancing.{advances_on}
@@ -15,3 +17,11 @@ returns-clause-fetched g c =
 pub returns-in_err-copy_in-clause-missed : goal.returns-in_err-copy_in-clause-missed
 returns-in_err-copy_in-clause-missed g c =
     on_error _ _ (queue_stays _ _ c.copy_in.ensures.queue c.copy_in.ensures.advances.own_place (fetches_same _ _ _ c.in_err-copy_in.ensures.none))
+
+pub returns-clause-data : goal.returns-clause-data
+returns-clause-data g c =
+    read_data _ _ _ c.args.self.now.alone c.read_own.ensures.own
+    ∙ unit_leaves _ _ _ _ _ _ _ _ _ c.args.self.now.alone c.args.self.now.ready.first (omega arith) c.in_ok-copy_in.ensures.made
+
+pub returns-in_err-copy_in-clause-data : goal.returns-in_err-copy_in-clause-data
+returns-in_err-copy_in-clause-data g c = none_data _ _ _ c.args.self.now.alone c.in_err-copy_in.ensures.laid

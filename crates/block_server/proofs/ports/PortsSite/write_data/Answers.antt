@@ -1,4 +1,7 @@
-use Rattle.std.proofs.Common.{◌∙◌}
+use Rattle.std.proofs.Common.{◌∙◌, ◌++◌, ap₂, sym, List, ℕ}
+use Rattle.std.proofs.lemmas.List.{take-append-drop}
+use Rattle.tce_window.proofs.Gathering.{on_ok_map}
+use Rattle.block_server.proofs.DataPages.{data_shown, data_shown_two}
 use Rattle.block_server.proofs.FirstPages.{fetches_same, queue_stays}
 use Rattle.block_server.proofs.Advancing.{advances_on}
 use Rattle.block_server.proofs.ports.PortsSite.write_data.Goals as goal
@@ -20,3 +23,15 @@ pub returns-else-is_empty-clause-passes : goal.returns-else-is_empty-clause-pass
 returns-else-is_empty-clause-passes g c =
     queue_stays _ _ c.write_own-else-is_empty.ensures.queue c.write_own-else-is_empty.ensures.own.place
     (fetches_same _ _ _ c.write_own-else-is_empty.ensures.copies)
+
+pub returns-in_ok-write_own-clause-shown : goal.returns-in_ok-write_own-clause-shown
+returns-in_ok-write_own-clause-shown g c =
+    on_ok_map c.write_own-then-bytes-gt-MOST_BYTES.result _ _
+    (λ wrote. data_shown_two g.O.WindowPort.is_shared _ _ _ _ c.args.bytes.now _ _ c.args.self.now.alone
+    (sym (ap₂ (λ (a b : List ℕ). a ++ b) c.split_at.ensures.front c.split_at.ensures.back ∙ take-append-drop 65536 c.args.bytes.now))
+    c.split_at.ensures.front_len c.in_ok-write_own.ensures.wrote wrote) c.write_own-then-bytes-gt-MOST_BYTES.ensures.wrote
+
+pub returns-else-is_empty-clause-shown : goal.returns-else-is_empty-clause-shown
+returns-else-is_empty-clause-shown g c =
+    on_ok_map c.write_own-else-is_empty.result _ _
+    (λ wrote. data_shown g.O.WindowPort.is_shared _ _ _ c.args.bytes.now c.args.self.now.alone wrote) c.write_own-else-is_empty.ensures.wrote

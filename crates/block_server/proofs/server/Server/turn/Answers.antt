@@ -17,6 +17,8 @@ use Rattle.block_server.proofs.Taking.{intake_turn}
 use Rattle.block_server.specs.Receipts.{LinesMore}
 use Rattle.block_server.proofs.Jointly.{judged_turn}
 use Rattle.block_server.proofs.OwingTurn.{answered_turn}
+use Rattle.block_server.specs.Cargo.{HasCargo}
+use Rattle.block_server.proofs.CargoLaws.{cargo_turn}
 use Rattle.block_server.proofs.server.Server.turn.Goals as goal
 
 pub returns-clause-answers : goal.returns-clause-answers
@@ -193,3 +195,17 @@ returns-clause-answered g c = λ alone judged has owes.
     let is = all c.args.unit c.index_mut.result.now there in
     answered_turn g.C.CrqEnd.is_shared server.units.items c.args.unit c.index_mut.result.now c.turn.new.unit _ _ server.records c.turn.new.records _ _ _ _ _ there (is.id ∙ sym c.requires.named)
     c.turn.ensures.intake c.turn.ensures.answers refl refl refl refl queue alone judged has owes)
+
+pub returns-clause-carried : goal.returns-clause-carried
+returns-clause-carried g c = λ told tells all has.
+    let server = c.args.self.now in
+    let there : slice_get server.units.items c.args.unit ≡ Some c.index_mut.result.now =
+    slice_get_read server.units.items _ c.args.unit _ server.units.ok.0 c.requires.unit c.index_mut.ensures.value in
+    let is = all c.args.unit c.index_mut.result.now there in
+    let reached = ap (λ (lent : Lenders). lent.client) c.turn.ensures.advances.reached in
+    let own = sym (ap g.O.WindowPort.state (c.own-1.given.1 (sym (ap (λ (lent : Lenders). lent.own) c.turn.ensures.advances.reached)))) in
+    let heard = tells_turn told _ _ _ _ _ _ _ _ _ _ (sym (is.id ∙ sym c.requires.named)) own
+    (sym (ap g.R.WindowPort.state (c.client-1.given.1 (sym reached)))) tells in
+    subst (λ (port : PortState). HasCargo told (slice_set server.units.items c.args.unit c.turn.new.unit) c.args.unit port c.turn.new.records) own
+    (cargo_turn told server.units.items c.args.unit c.index_mut.result.now c.turn.new.unit _ _ server.records c.turn.new.records there
+    (c.turn.ensures.cargo told heard is.serving) has)

@@ -1,0 +1,45 @@
+-- The data-in that a disk step gave, as the row comes.
+use Rattle.std.proofs.Common.{◌≡◌, ◌≤◌, ◌++◌, ℕ, Bool, false, List, [], ◌∷◌, length, sym, ◌∙◌, ap, subst}
+use Rattle.std.proofs.lemmas.List.{length-map}
+use Rattle.vio_num.specs.declared.history.Served.{Served}
+use Rattle.vio_num.specs.declared.names.UnitId.{UnitId}
+use Rattle.block_disk.specs.declared.reply.ScsiReply.{ScsiReply}
+use Rattle.srp_desc.specs.Pieces.{sum_of}
+use Rattle.srp_iu.specs.Grammar.{Spells}
+use Rattle.srp_iu.specs.declared.command.Cmd.{Cmd}
+use Rattle.srp_iu.specs.declared.unit.Iu.TheVariants as units
+use Rattle.block_server.specs.Cargo.{IsAccounted, cargo, cargo_at, is_loaded, load_at, rows_of, unanswered}
+use Rattle.block_server.specs.Cargo.Load.{given}
+use Rattle.block_server.specs.Causes.{IsNamed, Told, told_to}
+use Rattle.block_server.specs.Orders.{IsOrder}
+use Rattle.block_server.specs.declared.cursor.Cursor.{Cursor}
+use Rattle.block_server.specs.declared.request.Order.{Order}
+use Rattle.block_server.specs.declared.request.Order.TheVariants.{Command}
+use Rattle.block_server.specs.declared.request.Request.{Request}
+use Rattle.block_server.specs.declared.service.Service.{Service}
+use Rattle.block_server.specs.declared.service.Stage.{Stage}
+use Rattle.block_server.specs.declared.service.Stage.TheVariants.{DataOut, Given}
+use Rattle.block_server.proofs.Cargoes.{cargo_is, cargo_none}
+use Rattle.block_server.proofs.HandRows.{rows_push}
+use Rattle.block_server.proofs.Hands.{added_given}
+
+pub out_unloaded : (stage : Stage) (cursor : Cursor) → stage ≡ DataOut cursor → is_loaded stage ≡ false
+out_unloaded stage cursor is = ap is_loaded is
+
+rows_long : (h : List Served) → length (rows_of h) ≡ length h
+rows_long h = length-map h unanswered
+
+pub made_given : (told : Told → Bool) (id : UnitId) (a b : Service) (shown shown' : ℕ → ℕ) (h h' : List Served) (row : Served) (command : Cmd) (request : Request) (place : ℕ) (reply : ScsiReply)
+    → is_loaded a.stage ≡ false → b.stage ≡ Given place reply → place ≡ length h → b.inn ≡ a.inn → h' ≡ h ++ row ∷ [] → row.unit ≡ id → row.inn ≡ b.given.items
+    → row.iu ≡ request.unit.items → request.order ≡ Command command → IsNamed (told_to told id) command.inn a.inn.list.items → length b.given.items ≤ sum_of a.inn.list.items
+    → IsAccounted told (cargo_at id a shown h) → IsAccounted told (cargo_at id b shown' h')
+made_given told id a b shown shown' h h' row command request place reply was is at inn added unit bytes iu order named fits hand =
+    subst (IsAccounted told)
+    (sym (cargo_is id b shown' h' (given (length (rows_of h)) a.inn.list.items b.given.items)
+    ((λ i. load_at (is i) ((inn i).list.items) b.given.items) ∙ ap (λ (n : ℕ). given n a.inn.list.items b.given.items) (at ∙ sym (rows_long h)))
+    ∙ ap (cargo id shown' (given (length (rows_of h)) a.inn.list.items b.given.items)) (rows_push h h' row added)))
+    (added_given told id shown shown' (rows_of h) (unanswered row) a.inn.list.items b.given.items command unit bytes spells named fits
+    (subst (IsAccounted told) (cargo_none id a shown h was) hand))
+  where
+    spells : Spells row.iu (units.Cmd command)
+    spells = subst (λ (list : List ℕ). Spells list (units.Cmd command)) (sym iu) (subst (λ (o : Order). IsOrder o request.unit.items) order request.spelled)

@@ -1,0 +1,173 @@
+-- The data-in of the row in service, as they are written, copied and cut.
+use Rattle.std.proofs.Common.{◌≡◌, ◌+◌, ◌≤◌, ℕ, min, Bool, true, false, List, [], ◌∷◌, Some, None, Result, Ok, Err, OnErr, OnOk, length, slice_get, refl, sym, ◌∙◌, ap, subst}
+use Rattle.vio_num.specs.declared.history.Served.{Served}
+use Rattle.vio_num.specs.declared.memory.NoMemory.{NoMemory}
+use Rattle.vio_num.specs.declared.names.UnitId.{UnitId}
+use Rattle.block_disk.specs.declared.reply.ScsiReply.{ScsiReply}
+use Rattle.srp_desc.specs.Pieces.{sum_of}
+use Rattle.srp_iu.specs.Layout.{field}
+use Rattle.srp_iu.specs.declared.command.Cmd.{Cmd}
+use Rattle.block_server.specs.Answering.{IsInService}
+use Rattle.block_server.specs.Cargo.{AreShown, HasTag, IsAccounted, IsSentAll, KeepsCargo, SendsPart, cargo, cargo_at, data_bytes, is_loaded, load_at, rows_of}
+use Rattle.block_server.specs.Cargo.Load.{given, sending}
+use Rattle.block_server.specs.Carried.{data_at, delivery}
+use Rattle.block_server.specs.Causes.{Told, told_to}
+use Rattle.block_server.specs.Causes.News.{delivered}
+use Rattle.block_server.specs.Heard.{TellsAll}
+use Rattle.block_server.specs.Judged.{is_command}
+use Rattle.block_server.specs.Parts.{IsPlacedAt, LiesAt}
+use Rattle.block_server.specs.Serving.{IsServing, IsServed, IfRow, Terms, desk_at, place_of}
+use Rattle.block_server.specs.SiteState.{SiteState}
+use Rattle.block_server.specs.Stage.{is_before_step}
+use Rattle.block_server.specs.declared.cursor.Cursor.{Cursor}
+use Rattle.block_server.specs.declared.request.Order.TheVariants.{Command}
+use Rattle.block_server.specs.declared.request.Request.{Request}
+use Rattle.block_server.specs.declared.service.Service.{Service}
+use Rattle.block_server.specs.declared.service.Outcome.{Outcome}
+use Rattle.block_server.specs.declared.service.Stage.{Stage}
+use Rattle.block_server.specs.declared.service.Stage.TheVariants.{Start, OutTable, InTable, DataOut, Given, DataIn, Answer, Entry}
+use Rattle.block_server.proofs.AnswerLaws.{get_at}
+use Rattle.block_server.proofs.Cargoes.{cargo_is, cargo_none}
+use Rattle.block_server.proofs.HandRows.{row_from}
+use Rattle.block_server.proofs.Hands.{keeps_by, keeps_same, moved_sending, sent_all, still_given, stored_given}
+
+pub before_unloaded : (stage : Stage) → is_before_step stage ≡ true → is_loaded stage ≡ false
+before_unloaded Start is = refl
+before_unloaded OutTable is = refl
+before_unloaded InTable is = refl
+before_unloaded (DataOut cursor) is = refl
+before_unloaded (Given row reply) is = absurd (cc (is))
+before_unloaded (DataIn row reply cursor) is = absurd (cc (is))
+before_unloaded (Answer outcome) is = absurd (cc (is))
+before_unloaded (Entry outcome) is = absurd (cc (is))
+
+-- ---- data-in are written
+
+pub given_shown : (id : UnitId) (a : Service) (shown shown' : ℕ → ℕ) (h : List Served) (row : ℕ) (reply : ScsiReply) → a.stage ≡ Given row reply
+    → KeepsCargo (cargo_at id a shown h) (cargo_at id a shown' h)
+given_shown id a shown shown' h row reply is =
+    keeps_by _ _ _ _ (cargo_is id a shown h (given row a.inn.list.items a.given.items) at) (cargo_is id a shown' h (given row a.inn.list.items a.given.items) at)
+    (still_given id shown shown' (rows_of h) row a.inn.list.items a.given.items)
+  where
+    at : load_at a.stage a.inn.list.items a.given.items ≡ given row a.inn.list.items a.given.items
+    at = ap (λ st. load_at st a.inn.list.items a.given.items) is
+
+pub stored : (id : UnitId) (a b : Service) (shown shown' : ℕ → ℕ) (h : List Served) (row : ℕ) (reply : ScsiReply) (start : Cursor) → a.stage ≡ Given row reply
+    → b.stage ≡ DataIn row reply start → start ≡ record { piece = 0; inside = 0; done = 0 } → b.inn ≡ a.inn → b.given.items ≡ a.given.items → AreShown shown' a.given.items
+    → KeepsCargo (cargo_at id a shown h) (cargo_at id b shown' h)
+stored id a b shown shown' h row reply start was is begins inn bytes shows =
+    keeps_by _ _ _ _ (cargo_is id a shown h (given row a.inn.list.items a.given.items) (ap (λ st. load_at st a.inn.list.items a.given.items) was))
+    (cargo_is id b shown' h (sending row (record { piece = 0; inside = 0; done = 0 }) a.inn.list.items a.given.items)
+    ((λ i. load_at (is i) ((inn i).list.items) (bytes i)) ∙ ap (λ (c : Cursor). sending row c a.inn.list.items a.given.items) begins))
+    (stored_given id shown shown' (rows_of h) row a.inn.list.items a.given.items shows)
+
+-- ---- they are copied
+
+pub hand_placed : (told : Told → Bool) (id : UnitId) (a : Service) (shown : ℕ → ℕ) (h : List Served) (row : ℕ) (reply : ScsiReply) (cursor : Cursor) → a.stage ≡ DataIn row reply cursor
+    → IsAccounted told (cargo_at id a shown h) → IsPlacedAt a.inn.list.items cursor
+hand_placed told id a shown h row reply cursor was is =
+    placed (subst (IsAccounted told) (cargo_is id a shown h (sending row cursor a.inn.list.items a.given.items) (ap (λ st. load_at st a.inn.list.items a.given.items) was)) is)
+  where
+    placed : IsAccounted told (cargo id shown (sending row cursor a.inn.list.items a.given.items) (rows_of h)) → IsPlacedAt a.inn.list.items cursor
+    placed hand = hand.load.placed
+
+-- a part more
+pub part_moved : (told : Told → Bool) (id : UnitId) (a b : Service) (old new : SiteState) (h : List Served) (row tag len address : ℕ) (reply : ScsiReply) (cursor cursor' : Cursor)
+    → a.stage ≡ DataIn row reply cursor → b.stage ≡ DataIn row reply cursor' → b.inn ≡ a.inn → b.given.items ≡ a.given.items → data_bytes new.own ≡ data_bytes old.own
+    → SendsPart old new cursor.done address len tag → TellsAll told id old new → len ≤ 65536 → cursor'.done ≡ cursor.done + len
+    → (IsPlacedAt a.inn.list.items cursor → LiesAt a.inn.list.items cursor.done (Some address) len) → (IsPlacedAt a.inn.list.items cursor → IsPlacedAt a.inn.list.items cursor')
+    → HasTag h row tag → IsAccounted told (cargo_at id a (data_bytes old.own) h) → IsAccounted told (cargo_at id b (data_bytes new.own) h)
+part_moved told id a b old new h row tag len address reply cursor cursor' was is inn bytes same sent all few on lies placed tagged hand =
+    subst (IsAccounted told)
+    (sym (cargo_is id b (data_bytes new.own) h (sending row cursor' a.inn.list.items a.given.items) (λ i. load_at (is i) ((inn i).list.items) (bytes i))))
+    (moved_sending told id (data_bytes old.own) (data_bytes new.own) (rows_of h) row cursor cursor' a.inn.list.items a.given.items sent.part len address tag same sent.long few
+    (lies at) on (placed at) tag_of heard sent.shows
+    (subst (IsAccounted told) (cargo_is id a (data_bytes old.own) h (sending row cursor a.inn.list.items a.given.items) (ap (λ st. load_at st a.inn.list.items a.given.items) was)) hand))
+  where
+    at : IsPlacedAt a.inn.list.items cursor
+    at = hand_placed told id a (data_bytes old.own) h row reply cursor was hand
+
+    tag_of : (r : Served) → slice_get (rows_of h) row ≡ Some r → field 8 8 r.iu ≡ tag
+    tag_of r there = let found = row_from h row r there in ap (λ (x : Served). field 8 8 x.iu) found.1.1 ∙ tagged found.0 found.1.0
+
+    heard : delivery (told_to told id) tag (data_at + cursor.done) address sent.part
+    heard = all (delivered (data_at + cursor.done) address tag sent.part)
+        (record { front = []; copy = sent.delivered.copy; rest = []; made = sent.delivered.made; is = sent.delivered.delivered })
+
+-- none is left
+pub all_sent : (service : Service) (row : ℕ) (reply : ScsiReply) (cursor : Cursor) → service.stage ≡ DataIn row reply cursor
+    → min (length service.given.items) (sum_of service.inn.list.items) ≤ cursor.done → IsSentAll service
+all_sent service row reply cursor is done other_row other_reply other at =
+    subst (λ (c : Cursor). min (length service.given.items) (sum_of service.inn.list.items) ≤ c.done) (same cursor other (sym is ∙ at)) done
+  where
+    same : (x y : Cursor) → DataIn row reply x ≡ DataIn other_row other_reply y → x ≡ y
+    same x y e = cc (e)
+
+-- the same stage with the same data-in
+pub same_service : (id : UnitId) (a b : Service) (shown : ℕ → ℕ) (h : List Served) → b.stage ≡ a.stage → b.inn ≡ a.inn → b.given ≡ a.given → cargo_at id b shown h ≡ cargo_at id a shown h
+unfolding cargo_at
+same_service id a b shown h stage inn bytes i =
+    cargo id shown (load_at (stage i) ((inn i).list.items) ((bytes i).items)) (rows_of h)
+
+-- ---- the answer is written
+
+pub answered : (id : UnitId) (a b : Service) (shown : ℕ → ℕ) (h : List Served) (row : ℕ) (reply : ScsiReply) (cursor : Cursor) (outcome : Outcome) (result : Result (Unit {0}) NoMemory)
+    → a.stage ≡ DataIn row reply cursor → OnOk result (b.stage ≡ Answer outcome) → OnErr result (b.stage ≡ a.stage) → b.inn ≡ a.inn → b.given ≡ a.given → IsSentAll a
+    → KeepsCargo (cargo_at id a shown h) (cargo_at id b shown h)
+answered id a b shown h row reply cursor outcome (Ok value) was ok err inn bytes done =
+    keeps_by _ _ _ _ (cargo_is id a shown h (sending row cursor a.inn.list.items a.given.items) (ap (λ st. load_at st a.inn.list.items a.given.items) was))
+    (cargo_none id b shown h (ap is_loaded ok))
+    (sent_all id shown shown (rows_of h) row cursor a.inn.list.items a.given.items (done row reply cursor was))
+answered id a b shown h row reply cursor outcome (Err memory) was ok err inn bytes done = keeps_same _ _ (same_service id a b shown h err inn bytes)
+
+-- an answer that is set where nothing is to be copied
+pub set_unloaded : (a b : Service) (outcome : Outcome) (result : Result (Unit {0}) NoMemory) → OnOk result (b.stage ≡ Answer outcome) → OnErr result (b.stage ≡ a.stage)
+    → is_loaded a.stage ≡ false → is_loaded b.stage ≡ false
+set_unloaded a b outcome (Ok value) ok err is = ap is_loaded ok
+set_unloaded a b outcome (Err memory) ok err is = ap is_loaded err ∙ is
+
+-- ---- what the desk says of the row in service
+
+first_is : (request other : Request) (rest tail : List Request) → request ∷ rest ≡ other ∷ tail → request ≡ other
+first_is request other rest tail same = cc (same)
+
+pub tag_at : (terms : Terms) (id : UnitId) (service : Service) (request : Request) (rest : List Request) (h : List Served) (row : ℕ) (reply : ScsiReply) (cursor : Cursor)
+    → service.stage ≡ DataIn row reply cursor → IsServing terms (desk_at id service None (request ∷ rest)) h → HasTag h row request.tag
+tag_at terms id service request rest h row reply cursor is serving found there =
+    ap (λ (r : Served). field 8 8 r.iu) (one found at.served (sym there ∙ (λ i. slice_get (at.history_is i) (at.row_is i)) ∙ get_at at.before at.behind at.served))
+    ∙ ap (field 8 8) at.iu_is ∙ ap (λ (r : Request). field 8 8 r.unit.items) (sym (first_is request mine.request rest mine.rest mine.front)) ∙ sym request.tagged
+  where
+    mine : IsServed terms (place_of (desk_at id service None (request ∷ rest))) h row
+    mine = subst (λ st. IfRow st (IsServed terms (place_of (desk_at id service None (request ∷ rest))) h)) is serving.row
+
+    at : IsInService id mine.request.unit.items h row
+    at = mine.in_service
+
+    one : (x y : Served) → Some x ≡ Some y → x ≡ y
+    one x y e = cc (e)
+
+-- a request that is no command has no data-in
+pub other_unloaded : (terms : Terms) (id : UnitId) (service : Service) (request : Request) (rest : List Request) (h : List Served) → is_command request.order ≡ false
+    → IsServing terms (desk_at id service None (request ∷ rest)) h → is_loaded service.stage ≡ false
+other_unloaded terms id service request rest h other serving = by service.stage refl
+  where
+    none : (command : Cmd) (found : Request) (tail : List Request) → request ∷ rest ≡ found ∷ tail → found.order ≡ Command command → ⊥
+    none command found tail front order =
+        apart (sym other ∙ ap (λ (r : Request). is_command r.order) (first_is request found rest tail front) ∙ ap is_command order)
+      where
+        apart : false ≡ true → ⊥
+        apart e = cc (e)
+
+    by : (stage : Stage) → service.stage ≡ stage → is_loaded service.stage ≡ false
+    by Start at = ap is_loaded at
+    by OutTable at = ap is_loaded at
+    by InTable at = ap is_loaded at
+    by (DataOut cursor) at = ap is_loaded at
+    by (Answer outcome) at = ap is_loaded at
+    by (Entry outcome) at = ap is_loaded at
+    by (Given row reply) at =
+        let mine = subst (λ st. IfRow st (IsServed terms (record (place_of (desk_at id service None (request ∷ rest))) { stage = st }) h)) at serving.row in
+        absurd (none mine.holds.command mine.request mine.rest mine.front mine.holds.order)
+    by (DataIn row reply cursor) at =
+        let mine = subst (λ st. IfRow st (IsServed terms (record (place_of (desk_at id service None (request ∷ rest))) { stage = st }) h)) at serving.row in
+        absurd (none mine.holds.command mine.request mine.rest mine.front mine.holds.order)
