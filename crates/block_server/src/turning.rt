@@ -285,7 +285,8 @@ fn register<S: Site>(unit: &mut Unit, site: &mut S)
         (standing_of unit.old) (standing_of unit.new) (S.state site.old) (S.state site.new)
         (books_at unit.old (S.state site.old) records)
         (books_at unit.new (S.state site.new) records) }
-    ensures books { (records : Records) → unit.old.waiting ≡ None → Keeps (books_at unit.old (S.state site.old) records)
+    ensures books { (records : Records) → unit.old.waiting ≡ None → Keeps
+        (books_at unit.old (S.state site.old) records)
         (books_at unit.new (S.state site.new) records) }
     ensures answers { (records : Records) → KeepsAnswers S.link_shared unit.old unit.new
         (S.state site.old) (S.state site.new) records records }
