@@ -1,8 +1,7 @@
 -- What a copy to the data's pages of a unit's own window leaves there.
-use Rattle.std.proofs.Common.{◌≡◌, ◌+◌, ◌-◌, ◌*◌, ◌/◌, ◌%◌, ◌<◌, ◌≤◌, ◌==◌, ◌++◌, ℕ, Bool, true, false, cond, if◌then◌else◌, nat_lt, All, IsSome, List, [], ◌∷◌, Option, Some, None, Result, Ok, Err, OnErr, length, take, drop, get_or, refl, sym, ◌∙◌, ap, ap₂, subst, arith, length-append, length-take}
-use Rattle.std.specs.List.{flat_map, slice_get}
+use Rattle.std.proofs.Common.{◌≡◌, ◌+◌, ◌-◌, ◌*◌, ◌/◌, ◌%◌, ◌<◌, ◌≤◌, ◌==◌, ◌++◌, ℕ, Bool, true, false, cond, if◌then◌else◌, nat_lt, All, IsSome, List, [], ◌∷◌, Option, Some, None, Result, Ok, Err, OnErr, length, take, drop, get_or, refl, sym, ◌∙◌, ap, subst, arith, length-append, length-take}
+use Rattle.std.specs.List.{slice_get}
 use Rattle.std.specs.Option.{option_and_then}
-use Rattle.std.specs.Prelude.{slice_index}
 use Rattle.std.proofs.lemmas.Bool.{eq-eqb, eqb-true, eqb-false, ne_eqb}
 use Rattle.std.proofs.lemmas.Bool.Decides.{nat_tests}
 use Rattle.std.proofs.lemmas.List.{get_or-drop, get_or-take, get_or_append_left, length-drop}
@@ -12,16 +11,14 @@ use Rattle.page_slots.specs.Page.{left_by}
 use Rattle.page_slots.specs.Stroke.{StrokeValue}
 use Rattle.page_slots.specs.declared.stroke.StrokeName.{StrokeName}
 use Rattle.page_slots.proofs.Strokes.{left_by-push}
-use Rattle.tce_window.specs.Moved.{IsLaid, IsNamed, piece_strokes, read_bytes, stroke_of, strokes_on}
+use Rattle.tce_window.specs.Moved.{IsLaid, IsNamed, piece_strokes, stroke_of, strokes_on}
 use Rattle.tce_window.specs.Pieces.{IsGranted, IsLast, Touches}
-use Rattle.tce_window.specs.PortState.{PortState}
 use Rattle.tce_window.specs.Region.{byte_in, region_byte}
 use Rattle.tce_window.specs.Strokes.{with_strokes}
 use Rattle.tce_window.specs.declared.answers.Right.{Right}
 use Rattle.tce_window.specs.declared.answers.Right.TheVariants.{Write}
 use Rattle.tce_window.specs.declared.piece.Piece.{Piece}
 use Rattle.rdma_copy.specs.Copies.{Copies}
-use Rattle.rdma_copy.specs.declared.copy.CopyRecord.{CopyRecord}
 use Rattle.block_server.specs.Cargo.{FetchesPart, data_bytes}
 use Rattle.block_server.specs.Copied.{MakesOne, own_name}
 use Rattle.block_server.specs.SiteState.{SiteState}

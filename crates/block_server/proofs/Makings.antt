@@ -1,6 +1,6 @@
 -- The data-in that a disk step gave, as the row comes.
 use Rattle.std.specs.Prelude.{slice_index}
-use Rattle.std.proofs.Common.{◌<◌, ◌≡◌, ◌≤◌, ◌++◌, ℕ, Bool, false, List, [], ◌∷◌, length, sym, ◌∙◌, ap, subst, arith}
+use Rattle.std.proofs.Common.{◌<◌, ◌≡◌, ◌≤◌, ◌++◌, ℕ, Bool, List, [], ◌∷◌, length, sym, ◌∙◌, ap, subst, arith}
 use Rattle.std.proofs.lemmas.List.{length-map}
 use Rattle.vio_num.specs.declared.history.Served.{Served}
 use Rattle.vio_num.specs.declared.names.UnitId.{UnitId}
@@ -18,7 +18,6 @@ use Rattle.block_server.specs.declared.request.Order.{Order}
 use Rattle.block_server.specs.declared.request.Order.TheVariants.{Command}
 use Rattle.block_server.specs.declared.request.Request.{Request}
 use Rattle.block_server.specs.declared.service.Service.{Service}
-use Rattle.block_server.specs.declared.service.Stage.{Stage}
 use Rattle.block_server.specs.declared.service.Stage.TheVariants.{DataOut, Given}
 use Rattle.block_server.proofs.Cargoes.{cargo_is}
 use Rattle.block_server.proofs.HandRows.{rows_push}

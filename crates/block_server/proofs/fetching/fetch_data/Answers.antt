@@ -1,4 +1,4 @@
-use Rattle.std.proofs.Common.{arith, subst, sym, ◌≡◌, ◌+◌, ℕ, List, Option}
+use Rattle.std.proofs.Common.{arith, subst, sym, ◌+◌, ℕ, List, Option}
 use Rattle.srp_desc.specs.Pieces.{sum_of}
 use Rattle.srp_iu.specs.declared.buffer.Desc.{Desc}
 use Rattle.block_server.specs.Cargo.{FetchesPart, IsAccounted}

@@ -10,7 +10,6 @@ use Rattle.std.proofs.Common.{subst, ℕ}
 use Rattle.block_server.proofs.OwingCalls.{no_row_in}
 use Rattle.block_server.proofs.OwingRows.{moves_same}
 use Rattle.block_server.specs.Owed.{MovesRow}
-use Rattle.block_server.proofs.Hands.{keeps_same}
 use Rattle.block_server.proofs.Sendings.{other_unloaded}
 use Rattle.block_server.specs.Serving.{terms_of}
 use Rattle.block_server.proofs.serving.prepare.Goals as goal
