@@ -170,16 +170,22 @@ hand_elsewhere told id other shown load h h' apart only hand = record {
       shows = is.shows;
     }
 
--- Another unit's turn leaves a unit's data where it is, if it leaves the unit's own window.
+-- What the data's pages show counts, of the own window.
+pub cargo_seen : (told : Told → Bool) (units : List Unit) (n : ℕ) (own own' : PortState) (records : Records) → data_bytes own' ≡ data_bytes own
+    → HasCargo told units n own records → HasCargo told units n own' records
+cargo_seen told units n own own' records same has =
+    subst (λ (shown : ℕ → ℕ). IfSome (slice_get units n) (λ u. IsAccounted told (cargo_at u.id u.service shown records.history.items))) (sym same) has
+
+-- Another unit's turn leaves a unit's data where it is, if it leaves the data's pages of the unit's own window.
 pub cargo_elsewhere : (told : Told → Bool) (units units' : List Unit) (n : ℕ) (own own' : PortState) (records records' : Records) (other : UnitId) → slice_get units' n ≡ slice_get units n
-    → own' ≡ own → ((u : Unit) → slice_get units n ≡ Some u → u.id ≢ other) → OnlyRowsOf other records.history.items records'.history.items
+    → data_bytes own' ≡ data_bytes own → ((u : Unit) → slice_get units n ≡ Some u → u.id ≢ other) → OnlyRowsOf other records.history.items records'.history.items
     → HasCargo told units n own records → HasCargo told units' n own' records'
 cargo_elsewhere told units units' n own own' records records' other same same_own apart only has = at (slice_get units n) refl has
   where
     step : (u : Unit) → slice_get units n ≡ Some u → IsAccounted told (cargo_at u.id u.service (data_bytes own) records.history.items)
         → IsAccounted told (cargo_at u.id u.service (data_bytes own') records'.history.items)
     step u there hand =
-        subst (IsAccounted told) (sym (cargo_is u.id u.service (data_bytes own') records'.history.items _ refl ∙ ap (λ port. cargo u.id (data_bytes port) (load_at u.service.stage u.service.out.list.items u.service.inn.list.items u.service.given.items) (rows_of records'.history.items)) same_own))
+        subst (IsAccounted told) (sym (cargo_is u.id u.service (data_bytes own') records'.history.items _ refl ∙ ap (λ (shown : ℕ → ℕ). cargo u.id shown (load_at u.service.stage u.service.out.list.items u.service.inn.list.items u.service.given.items) (rows_of records'.history.items)) same_own))
         (hand_elsewhere told u.id other (data_bytes own) (load_at u.service.stage u.service.out.list.items u.service.inn.list.items u.service.given.items) records.history.items records'.history.items (apart u there) only
         (subst (IsAccounted told) (cargo_is u.id u.service (data_bytes own) records.history.items _ refl) hand))
 
