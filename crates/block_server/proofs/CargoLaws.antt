@@ -7,14 +7,14 @@ use Rattle.vio_num.specs.declared.names.UnitId.{UnitId}
 use Rattle.srp_iu.specs.declared.buffer.Desc.{Desc}
 use Rattle.tce_window.specs.PortState.{PortState}
 use Rattle.block_server.specs.Answering.{OnlyRowsOf, StaysRow}
-use Rattle.block_server.specs.Cargo.{AreIdle, HasCargo, HasToSend, IsAccounted, IsLoaded, IsToSend, Load, cargo, cargo_at, data_bytes, is_loaded, load_at, rows_of, unanswered}
-use Rattle.block_server.specs.Cargo.Load.{given, none, sending}
-use Rattle.block_server.specs.Carried.{IsDelivered}
+use Rattle.block_server.specs.Cargo.{AreIdle, HasCargo, HasToSend, IsAccounted, IsLoaded, IsToSend, Load, cargo, cargo_at, data_bytes, is_loaded, is_moving, load_at, rows_of, unanswered}
+use Rattle.block_server.specs.Cargo.Load.{fetching, given, none, sending}
+use Rattle.block_server.specs.Carried.{IsDelivered, IsOutFetched}
 use Rattle.block_server.specs.Causes.{Hearing, Told, told_to}
 use Rattle.block_server.specs.declared.records.Records.{Records}
 use Rattle.block_server.specs.declared.unit.Unit.{Unit}
 use Rattle.block_server.proofs.Agreeing.{if_at, some_at}
-use Rattle.block_server.proofs.Cargoes.{cargo_is, cargo_none}
+use Rattle.block_server.proofs.Cargoes.{cargo_is, cargo_none, to_none}
 use Rattle.block_server.proofs.HandRows.{row_from, row_in}
 use Rattle.block_server.proofs.Units.{get_set_same}
 
@@ -30,14 +30,14 @@ cargo_turn told units n unit unit' own own' records records' there step has =
 pub none_idle : (units : List Unit) → units ≡ [] → AreIdle units
 none_idle units empty = subst AreIdle (sym empty) (λ number. tt)
 
-idle_at : (units : List Unit) (unit : Unit) → is_loaded unit.service.stage ≡ false → (number : ℕ)
-    → IfSome (slice_get units number) (λ u. is_loaded u.service.stage ≡ false) → IfSome (slice_get (units ++ unit ∷ []) number) (λ u. is_loaded u.service.stage ≡ false)
+idle_at : (units : List Unit) (unit : Unit) → is_moving unit.service.stage ≡ false → (number : ℕ)
+    → IfSome (slice_get units number) (λ u. is_moving u.service.stage ≡ false) → IfSome (slice_get (units ++ unit ∷ []) number) (λ u. is_moving u.service.stage ≡ false)
 idle_at [] unit idle zero is = idle
 idle_at [] unit idle (suc number) is = tt
 idle_at (first ∷ units) unit idle zero is = is
 idle_at (first ∷ units) unit idle (suc number) is = idle_at units unit idle number is
 
-pub more_idle : (units : List Unit) (unit : Unit) → AreIdle units → is_loaded unit.service.stage ≡ false → AreIdle (units ++ unit ∷ [])
+pub more_idle : (units : List Unit) (unit : Unit) → AreIdle units → is_moving unit.service.stage ≡ false → AreIdle (units ++ unit ∷ [])
 more_idle units unit all idle number = idle_at units unit idle number (all number)
 
 -- no unit has data-in to be copied, and there is no row
@@ -48,7 +48,7 @@ cargo_unused told units n own records idle empty =
     (start u.id (data_bytes own)))
   where
     start : (id : UnitId) (shown : ℕ → ℕ) → IsAccounted told (cargo id shown none [])
-    start id shown = record { rows = λ place row there own. absurd (no_row place row there); load = tt }
+    start id shown = record { rows = λ place row there own. absurd (no_row place row there); outs = λ place row there own. absurd (no_row place row there); load = tt }
       where
         no_row : (place : ℕ) (row : Served) → slice_get {X = Served} [] place ≡ Some row → ⊥
         no_row place row there = cc (there)
@@ -57,7 +57,7 @@ cargo_unused told units n own records idle empty =
 pub delivered_at_rest : (told : Told → Bool) (units : List Unit) (n : ℕ) (own : PortState) (records : Records) (u : Unit) → slice_get units n ≡ Some u → is_loaded u.service.stage ≡ false
     → HasCargo told units n own records → (place : ℕ) (row : Served) → slice_get records.history.items place ≡ Some row → row.unit ≡ u.id → IsDelivered told row
 delivered_at_rest told units n own records u there rest has place row is own_row =
-    at (subst (IsAccounted told) (cargo_none u.id u.service (data_bytes own) records.history.items rest)
+    at (to_none u.id u.service (data_bytes own) (data_bytes own) records.history.items rest told
     (some_at (slice_get units n) u (λ u. IsAccounted told (cargo_at u.id u.service (data_bytes own) records.history.items)) there has))
   where
     at : IsAccounted told (cargo u.id (data_bytes own) none (rows_of records.history.items)) → IsDelivered told row
@@ -70,6 +70,21 @@ delivered_at_rest told units n own records u there rest has place row is own_row
             by_row : IsDelivered told (unanswered row) → IsDelivered told row
             by_row (inl blank) = inl blank
             by_row (inr has) = inr (record { command = has.command; spells = has.spells; inns = has.inns; in_named = has.in_named; all = has.all })
+
+-- The data-out of each row of the unit were fetched.
+pub fetched_of_rows : (told : Told → Bool) (units : List Unit) (n : ℕ) (own : PortState) (records : Records) (u : Unit) → slice_get units n ≡ Some u
+    → HasCargo told units n own records → (place : ℕ) (row : Served) → slice_get records.history.items place ≡ Some row → row.unit ≡ u.id → IsOutFetched told row
+fetched_of_rows told units n own records u there has place row is own_row =
+    at (subst (IsAccounted told) (cargo_is u.id u.service (data_bytes own) records.history.items _ refl)
+    (some_at (slice_get units n) u (λ u. IsAccounted told (cargo_at u.id u.service (data_bytes own) records.history.items)) there has))
+  where
+    at : IsAccounted told (cargo u.id (data_bytes own) (load_at u.service.stage u.service.out.list.items u.service.inn.list.items u.service.given.items) (rows_of records.history.items))
+        → IsOutFetched told row
+    at hand = by (hand.outs place (unanswered row) (row_in records.history.items place row is) own_row)
+      where
+        by : IsOutFetched told (unanswered row) → IsOutFetched told row
+        by (inl empty) = inl empty
+        by (inr has) = inr (record { command = has.command; spells = has.spells; outs = has.outs; out_named = has.out_named; all = has.all })
 
 -- ---- a turn of another unit
 
@@ -135,13 +150,18 @@ has_elsewhere Hears id other shown load h h' place inns bytes apart only has = r
 hand_elsewhere : (told : Told → Bool) (id other : UnitId) (shown : ℕ → ℕ) (load : Load) (h h' : List Served) → id ≢ other → OnlyRowsOf other h h'
     → IsAccounted told (cargo id shown load (rows_of h)) → IsAccounted told (cargo id shown load (rows_of h'))
 unfolding has_elsewhere
-hand_elsewhere told id other shown load h h' apart only hand = record { rows = each; load = by load hand.load }
+hand_elsewhere told id other shown load h h' apart only hand = record {
+  rows = each;
+  outs = λ place row there own. hand.outs place row (seen_kept other h h' place row only (λ is. apart (sym own ∙ is)) there) own;
+  load = by load hand.load;
+}
   where
     each : (place : ℕ) (row : Served) → slice_get (rows_of h') place ≡ Some row → row.unit ≡ id → IsToSend load place ⊎ IsDelivered told row
     each place row there own = hand.rows place row (seen_kept other h h' place row only (λ is. apart (sym own ∙ is)) there) own
 
     by : (l : Load) → IsLoaded (told_to told id) (cargo id shown load (rows_of h)) l → IsLoaded (told_to told id) (cargo id shown load (rows_of h')) l
     by none is = tt
+    by (fetching cursor outs) is = record { placed = is.placed; brought = is.brought }
     by (given place inns bytes) is = has_elsewhere (told_to told id) id other shown load h h' place inns bytes apart only is
     by (sending place cursor inns bytes) is = record {
       to_send = has_elsewhere (told_to told id) id other shown load h h' place inns bytes apart only is.to_send;
@@ -150,17 +170,23 @@ hand_elsewhere told id other shown load h h' apart only hand = record { rows = e
       shows = is.shows;
     }
 
--- Another unit's turn leaves a unit's data where it is, if it leaves the unit's own window.
+-- What the data's pages show counts, of the own window.
+pub cargo_seen : (told : Told → Bool) (units : List Unit) (n : ℕ) (own own' : PortState) (records : Records) → data_bytes own' ≡ data_bytes own
+    → HasCargo told units n own records → HasCargo told units n own' records
+cargo_seen told units n own own' records same has =
+    subst (λ (shown : ℕ → ℕ). IfSome (slice_get units n) (λ u. IsAccounted told (cargo_at u.id u.service shown records.history.items))) (sym same) has
+
+-- Another unit's turn leaves a unit's data where it is, if it leaves the data's pages of the unit's own window.
 pub cargo_elsewhere : (told : Told → Bool) (units units' : List Unit) (n : ℕ) (own own' : PortState) (records records' : Records) (other : UnitId) → slice_get units' n ≡ slice_get units n
-    → own' ≡ own → ((u : Unit) → slice_get units n ≡ Some u → u.id ≢ other) → OnlyRowsOf other records.history.items records'.history.items
+    → data_bytes own' ≡ data_bytes own → ((u : Unit) → slice_get units n ≡ Some u → u.id ≢ other) → OnlyRowsOf other records.history.items records'.history.items
     → HasCargo told units n own records → HasCargo told units' n own' records'
 cargo_elsewhere told units units' n own own' records records' other same same_own apart only has = at (slice_get units n) refl has
   where
     step : (u : Unit) → slice_get units n ≡ Some u → IsAccounted told (cargo_at u.id u.service (data_bytes own) records.history.items)
         → IsAccounted told (cargo_at u.id u.service (data_bytes own') records'.history.items)
     step u there hand =
-        subst (IsAccounted told) (sym (cargo_is u.id u.service (data_bytes own') records'.history.items _ refl ∙ ap (λ port. cargo u.id (data_bytes port) (load_at u.service.stage u.service.inn.list.items u.service.given.items) (rows_of records'.history.items)) same_own))
-        (hand_elsewhere told u.id other (data_bytes own) (load_at u.service.stage u.service.inn.list.items u.service.given.items) records.history.items records'.history.items (apart u there) only
+        subst (IsAccounted told) (sym (cargo_is u.id u.service (data_bytes own') records'.history.items _ refl ∙ ap (λ (shown : ℕ → ℕ). cargo u.id shown (load_at u.service.stage u.service.out.list.items u.service.inn.list.items u.service.given.items) (rows_of records'.history.items)) same_own))
+        (hand_elsewhere told u.id other (data_bytes own) (load_at u.service.stage u.service.out.list.items u.service.inn.list.items u.service.given.items) records.history.items records'.history.items (apart u there) only
         (subst (IsAccounted told) (cargo_is u.id u.service (data_bytes own) records.history.items _ refl) hand))
 
     at : (found : Option Unit) → slice_get units n ≡ found → IfSome found (λ u. IsAccounted told (cargo_at u.id u.service (data_bytes own) records.history.items)) → HasCargo told units' n own' records'

@@ -47,7 +47,7 @@ none_on unit values right name bytes from to p (piece ∷ pieces) first inside t
     page_is = entry_page values right piece first (omega (arith, touched.1.entry, touched.0, inside)) (All-head (IsGranted values right) piece pieces granted)
         (All-head (IsLast values) piece pieces last) ∙ touched.1.entry
 
-with_none : (strokes : Option (List StrokeValue)) → with_strokes strokes [] ≡ strokes
+pub with_none : (strokes : Option (List StrokeValue)) → with_strokes strokes [] ≡ strokes
 with_none (Some strokes) = ap Some (append-nil strokes)
 with_none None = refl
 

@@ -12,14 +12,14 @@ use Rattle.page_slots.proofs.Strokes.{left_by-push, length-zeros}
 use Rattle.tce_window.specs.Moved.{left_at, read_bytes}
 use Rattle.tce_window.specs.Pieces.{HasStrokes, IsGranted, IsLast, Touches}
 use Rattle.tce_window.specs.Port.{IsWritten}
-use Rattle.tce_window.specs.PortState.{LaysNone, OnlyReads, PortState, Writes}
+use Rattle.tce_window.specs.PortState.{LaysNone, OnlyReads, PortState, Reads, Writes}
 use Rattle.tce_window.specs.Region.{byte_in, region_byte, stroke_on, touches}
 use Rattle.tce_window.specs.Strokes.{with_strokes}
 use Rattle.tce_window.specs.declared.answers.Right.{Right}
 use Rattle.tce_window.specs.declared.piece.Piece.{Piece}
 use Rattle.tce_window.proofs.Growing.{not_none}
 use Rattle.std.specs.Prelude.{slice_index}
-use Rattle.block_server.specs.Cargo.{data_bytes}
+use Rattle.block_server.specs.Cargo.{AreShown, data_bytes}
 use Rattle.block_server.proofs.FirstPages.{entry_page}
 use Rattle.block_server.proofs.NamedWindows.{grows_same}
 
@@ -68,7 +68,7 @@ byte_over strokes stroke i from inside to =
 on_touched : (at len a : ℕ) → at ≤ a → a < at + len → touches at len (a / 4096) ≡ true
 on_touched at len a from to = grind (arith, nat_tests)
 
-shown_there : (before now : Option (List StrokeValue)) (stroke : StrokeValue) (i : ℕ) → now ≡ with_strokes before (stroke ∷ []) → IsSome now
+pub shown_there : (before now : Option (List StrokeValue)) (stroke : StrokeValue) (i : ℕ) → now ≡ with_strokes before (stroke ∷ []) → IsSome now
     → stroke.offset ≤ i → i < 4096 → i < stroke.offset + length stroke.bytes → byte_in now i ≡ get_or stroke.bytes (i - stroke.offset) 0
 shown_there (Some strokes) now stroke i laid there from inside to = ap (λ s. byte_in s i) laid ∙ byte_over strokes stroke i from inside to
 shown_there None now stroke i laid there from inside to = absurd (not_none now laid there)
@@ -248,3 +248,26 @@ data_shown_two false own own' own'' mark bytes front rest alone split long first
         let past : 65536 ≤ k = grind (arith, nat_tests) in
         write_shows own' own'' 73728 mark rest second (8192 + k) (omega (arith, past)) (omega (arith, less, all)) ∙ ap (λ (n : ℕ). get_or rest n 0) (omega (arith, past))
         ∙ sym (get_or-append_right front rest 65536 k 0 long past) ∙ joined
+
+-- what is read from the first of the data's pages on
+pub reads_shown : (own : PortState) (out : List ℕ) → Reads own 8192 out → AreShown (data_bytes own) out
+unfolding data_bytes
+reads_shown own out reads k less = sym (reads.bytes k less)
+
+reads_behind : (own : PortState) (rest : List ℕ) → Reads own 73728 rest → (n : ℕ) → n < length rest → data_bytes own (65536 + n) ≡ get_or rest n 0
+unfolding data_bytes
+reads_behind own rest reads n inside = ap (region_byte own.strokes) (omega arith) ∙ sym (reads.bytes n inside)
+
+-- the same in two reads
+pub reads_two : (shared : Bool) (own own' : PortState) (front rest : List ℕ) → shared ≡ false → OnlyReads shared own own' → length front ≡ 65536 → Reads own 8192 front
+    → Reads own' 73728 rest → AreShown (data_bytes own') (front ++ rest)
+reads_two shared own own' front rest alone only long first second k less = at (nat_lt k 65536) refl
+  where
+    at : (b : Bool) → nat_lt k 65536 ≡ b → data_bytes own' k ≡ get_or (front ++ rest) k 0
+    at true below =
+        let here : k < 65536 = grind (arith, nat_tests) in
+        ap (λ (s : ℕ → ℕ). s k) (read_data shared own own' alone only) ∙ reads_shown own front first k (omega (arith, here, long)) ∙ sym (get_or_append_left front rest 0 k (omega (arith, here, long)))
+    at false above =
+        let past : 65536 ≤ k = grind (arith, nat_tests) in
+        ap (data_bytes own') (omega (arith, past)) ∙ reads_behind own' rest second (k - 65536) (omega (arith, less, past, length-append front rest, long))
+        ∙ sym (get_or-append_right front rest 65536 k 0 long past)

@@ -2,6 +2,7 @@ pub mod Advancing
 pub mod Placing
 pub mod DataPages
 pub mod DataCopies
+pub mod DataFetches
 pub mod HandRows
 pub mod Hands
 pub mod Cargoes

@@ -8,11 +8,11 @@ use Rattle.srp_desc.specs.Pieces.{sum_of}
 use Rattle.srp_iu.specs.Layout.{field}
 use Rattle.srp_iu.specs.declared.command.Cmd.{Cmd}
 use Rattle.block_server.specs.Answering.{IsInService}
-use Rattle.block_server.specs.Cargo.{AreShown, HasTag, IsAccounted, IsSentAll, KeepsCargo, SendsPart, cargo, cargo_at, data_bytes, is_loaded, load_at, rows_of}
-use Rattle.block_server.specs.Cargo.Load.{given, sending}
-use Rattle.block_server.specs.Carried.{data_at, delivery}
+use Rattle.block_server.specs.Cargo.{AreShown, FetchesPart, IsFetchedAll, HasTag, IsAccounted, IsSentAll, KeepsCargo, SendsPart, cargo, cargo_at, data_bytes, is_loaded, is_moving, load_at, rows_of}
+use Rattle.block_server.specs.Cargo.Load.{fetching, given, sending}
+use Rattle.block_server.specs.Carried.{data_at, delivery, fetch}
 use Rattle.block_server.specs.Causes.{Told, told_to}
-use Rattle.block_server.specs.Causes.News.{delivered}
+use Rattle.block_server.specs.Causes.News.{delivered, fetched}
 use Rattle.block_server.specs.Heard.{TellsAll}
 use Rattle.block_server.specs.Judged.{is_command}
 use Rattle.block_server.specs.Parts.{IsPlacedAt, LiesAt}
@@ -27,9 +27,9 @@ use Rattle.block_server.specs.declared.service.Outcome.{Outcome}
 use Rattle.block_server.specs.declared.service.Stage.{Stage}
 use Rattle.block_server.specs.declared.service.Stage.TheVariants.{Start, OutTable, InTable, DataOut, Given, DataIn, Answer, Entry}
 use Rattle.block_server.proofs.AnswerLaws.{get_at}
-use Rattle.block_server.proofs.Cargoes.{cargo_is, cargo_none}
+use Rattle.block_server.proofs.Cargoes.{cargo_is, cargo_none, none_keeps}
 use Rattle.block_server.proofs.HandRows.{row_from}
-use Rattle.block_server.proofs.Hands.{keeps_by, keeps_same, moved_sending, sent_all, still_given, stored_given}
+use Rattle.block_server.proofs.Hands.{begun, keeps_by, keeps_same, moved_fetching, moved_sending, sent_all, still_given, stored_given}
 
 pub before_unloaded : (stage : Stage) → is_before_step stage ≡ true → is_loaded stage ≡ false
 before_unloaded Start is = refl
@@ -49,16 +49,16 @@ given_shown id a shown shown' h row reply is =
     keeps_by _ _ _ _ (cargo_is id a shown h (given row a.inn.list.items a.given.items) at) (cargo_is id a shown' h (given row a.inn.list.items a.given.items) at)
     (still_given id shown shown' (rows_of h) row a.inn.list.items a.given.items)
   where
-    at : load_at a.stage a.inn.list.items a.given.items ≡ given row a.inn.list.items a.given.items
-    at = ap (λ st. load_at st a.inn.list.items a.given.items) is
+    at : load_at a.stage a.out.list.items a.inn.list.items a.given.items ≡ given row a.inn.list.items a.given.items
+    at = ap (λ st. load_at st a.out.list.items a.inn.list.items a.given.items) is
 
 pub stored : (id : UnitId) (a b : Service) (shown shown' : ℕ → ℕ) (h : List Served) (row : ℕ) (reply : ScsiReply) (start : Cursor) → a.stage ≡ Given row reply
     → b.stage ≡ DataIn row reply start → start ≡ record { piece = 0; inside = 0; done = 0 } → b.inn ≡ a.inn → b.given.items ≡ a.given.items → AreShown shown' a.given.items
     → KeepsCargo (cargo_at id a shown h) (cargo_at id b shown' h)
 stored id a b shown shown' h row reply start was is begins inn bytes shows =
-    keeps_by _ _ _ _ (cargo_is id a shown h (given row a.inn.list.items a.given.items) (ap (λ st. load_at st a.inn.list.items a.given.items) was))
+    keeps_by _ _ _ _ (cargo_is id a shown h (given row a.inn.list.items a.given.items) (ap (λ st. load_at st a.out.list.items a.inn.list.items a.given.items) was))
     (cargo_is id b shown' h (sending row (record { piece = 0; inside = 0; done = 0 }) a.inn.list.items a.given.items)
-    ((λ i. load_at (is i) ((inn i).list.items) (bytes i)) ∙ ap (λ (c : Cursor). sending row c a.inn.list.items a.given.items) begins))
+    ((λ i. load_at (is i) b.out.list.items ((inn i).list.items) (bytes i)) ∙ ap (λ (c : Cursor). sending row c a.inn.list.items a.given.items) begins))
     (stored_given id shown shown' (rows_of h) row a.inn.list.items a.given.items shows)
 
 -- ---- they are copied
@@ -66,7 +66,7 @@ stored id a b shown shown' h row reply start was is begins inn bytes shows =
 pub hand_placed : (told : Told → Bool) (id : UnitId) (a : Service) (shown : ℕ → ℕ) (h : List Served) (row : ℕ) (reply : ScsiReply) (cursor : Cursor) → a.stage ≡ DataIn row reply cursor
     → IsAccounted told (cargo_at id a shown h) → IsPlacedAt a.inn.list.items cursor
 hand_placed told id a shown h row reply cursor was is =
-    placed (subst (IsAccounted told) (cargo_is id a shown h (sending row cursor a.inn.list.items a.given.items) (ap (λ st. load_at st a.inn.list.items a.given.items) was)) is)
+    placed (subst (IsAccounted told) (cargo_is id a shown h (sending row cursor a.inn.list.items a.given.items) (ap (λ st. load_at st a.out.list.items a.inn.list.items a.given.items) was)) is)
   where
     placed : IsAccounted told (cargo id shown (sending row cursor a.inn.list.items a.given.items) (rows_of h)) → IsPlacedAt a.inn.list.items cursor
     placed hand = hand.load.placed
@@ -79,10 +79,10 @@ pub part_moved : (told : Told → Bool) (id : UnitId) (a b : Service) (old new :
     → HasTag h row tag → IsAccounted told (cargo_at id a (data_bytes old.own) h) → IsAccounted told (cargo_at id b (data_bytes new.own) h)
 part_moved told id a b old new h row tag len address reply cursor cursor' was is inn bytes same sent all few on lies placed tagged hand =
     subst (IsAccounted told)
-    (sym (cargo_is id b (data_bytes new.own) h (sending row cursor' a.inn.list.items a.given.items) (λ i. load_at (is i) ((inn i).list.items) (bytes i))))
+    (sym (cargo_is id b (data_bytes new.own) h (sending row cursor' a.inn.list.items a.given.items) (λ i. load_at (is i) b.out.list.items ((inn i).list.items) (bytes i))))
     (moved_sending told id (data_bytes old.own) (data_bytes new.own) (rows_of h) row cursor cursor' a.inn.list.items a.given.items sent.part len address tag same sent.long few
     (lies at) on (placed at) tag_of heard sent.shows
-    (subst (IsAccounted told) (cargo_is id a (data_bytes old.own) h (sending row cursor a.inn.list.items a.given.items) (ap (λ st. load_at st a.inn.list.items a.given.items) was)) hand))
+    (subst (IsAccounted told) (cargo_is id a (data_bytes old.own) h (sending row cursor a.inn.list.items a.given.items) (ap (λ st. load_at st a.out.list.items a.inn.list.items a.given.items) was)) hand))
   where
     at : IsPlacedAt a.inn.list.items cursor
     at = hand_placed told id a (data_bytes old.own) h row reply cursor was hand
@@ -104,27 +104,35 @@ all_sent service row reply cursor is done other_row other_reply other at =
     same x y e = cc (e)
 
 -- the same stage with the same data-in
-pub same_service : (id : UnitId) (a b : Service) (shown : ℕ → ℕ) (h : List Served) → b.stage ≡ a.stage → b.inn ≡ a.inn → b.given ≡ a.given → cargo_at id b shown h ≡ cargo_at id a shown h
+pub same_service : (id : UnitId) (a b : Service) (shown : ℕ → ℕ) (h : List Served) → b.stage ≡ a.stage → b.out ≡ a.out → b.inn ≡ a.inn → b.given ≡ a.given
+    → cargo_at id b shown h ≡ cargo_at id a shown h
 unfolding cargo_at
-same_service id a b shown h stage inn bytes i =
-    cargo id shown (load_at (stage i) ((inn i).list.items) ((bytes i).items)) (rows_of h)
+same_service id a b shown h stage out inn bytes i =
+    cargo id shown (load_at (stage i) ((out i).list.items) ((inn i).list.items) ((bytes i).items)) (rows_of h)
 
 -- ---- the answer is written
 
 pub answered : (id : UnitId) (a b : Service) (shown : ℕ → ℕ) (h : List Served) (row : ℕ) (reply : ScsiReply) (cursor : Cursor) (outcome : Outcome) (result : Result (Unit {0}) NoMemory)
-    → a.stage ≡ DataIn row reply cursor → OnOk result (b.stage ≡ Answer outcome) → OnErr result (b.stage ≡ a.stage) → b.inn ≡ a.inn → b.given ≡ a.given → IsSentAll a
+    → a.stage ≡ DataIn row reply cursor → OnOk result (b.stage ≡ Answer outcome) → OnErr result (b.stage ≡ a.stage) → b.out ≡ a.out → b.inn ≡ a.inn → b.given ≡ a.given → IsSentAll a
     → KeepsCargo (cargo_at id a shown h) (cargo_at id b shown h)
-answered id a b shown h row reply cursor outcome (Ok value) was ok err inn bytes done =
-    keeps_by _ _ _ _ (cargo_is id a shown h (sending row cursor a.inn.list.items a.given.items) (ap (λ st. load_at st a.inn.list.items a.given.items) was))
-    (cargo_none id b shown h (ap is_loaded ok))
+answered id a b shown h row reply cursor outcome (Ok value) was ok err out inn bytes done =
+    keeps_by _ _ _ _ (cargo_is id a shown h (sending row cursor a.inn.list.items a.given.items) (ap (λ st. load_at st a.out.list.items a.inn.list.items a.given.items) was))
+    (cargo_none id b shown h (ap is_moving ok))
     (sent_all id shown shown (rows_of h) row cursor a.inn.list.items a.given.items (done row reply cursor was))
-answered id a b shown h row reply cursor outcome (Err memory) was ok err inn bytes done = keeps_same _ _ (same_service id a b shown h err inn bytes)
+answered id a b shown h row reply cursor outcome (Err memory) was ok err out inn bytes done = keeps_same _ _ (same_service id a b shown h err out inn bytes)
+
+-- the same place in the same data-out
+pub same_out : (id : UnitId) (a b : Service) (shown : ℕ → ℕ) (h : List Served) (cursor : Cursor) → a.stage ≡ DataOut cursor → b.stage ≡ DataOut cursor → b.out ≡ a.out
+    → cargo_at id b shown h ≡ cargo_at id a shown h
+same_out id a b shown h cursor was is out =
+    cargo_is id b shown h (fetching cursor a.out.list.items) (λ i. load_at (is i) ((out i).list.items) b.inn.list.items b.given.items)
+    ∙ sym (cargo_is id a shown h (fetching cursor a.out.list.items) (ap (λ st. load_at st a.out.list.items a.inn.list.items a.given.items) was))
 
 -- an answer that is set where nothing is to be copied
-pub set_unloaded : (a b : Service) (outcome : Outcome) (result : Result (Unit {0}) NoMemory) → OnOk result (b.stage ≡ Answer outcome) → OnErr result (b.stage ≡ a.stage)
-    → is_loaded a.stage ≡ false → is_loaded b.stage ≡ false
-set_unloaded a b outcome (Ok value) ok err is = ap is_loaded ok
-set_unloaded a b outcome (Err memory) ok err is = ap is_loaded err ∙ is
+pub set_unloaded : (id : UnitId) (a b : Service) (shown : ℕ → ℕ) (h : List Served) (outcome : Outcome) (result : Result (Unit {0}) NoMemory) → OnOk result (b.stage ≡ Answer outcome)
+    → OnErr result (b.stage ≡ a.stage) → b.out ≡ a.out → b.inn ≡ a.inn → b.given ≡ a.given → is_loaded a.stage ≡ false → KeepsCargo (cargo_at id a shown h) (cargo_at id b shown h)
+set_unloaded id a b shown h outcome (Ok value) ok err out inn bytes is = none_keeps id a b shown shown h h is (ap is_moving ok) refl
+set_unloaded id a b shown h outcome (Err memory) ok err out inn bytes is = keeps_same _ _ (same_service id a b shown h err out inn bytes)
 
 -- ---- what the desk says of the row in service
 
@@ -171,3 +179,49 @@ other_unloaded terms id service request rest h other serving = by service.stage 
     by (DataIn row reply cursor) at =
         let mine = subst (λ st. IfRow st (IsServed terms (record (place_of (desk_at id service None (request ∷ rest))) { stage = st }) h)) at serving.row in
         absurd (none mine.holds.command mine.request mine.rest mine.front mine.holds.order)
+
+-- ---- data-out are fetched
+
+pub begun_at : (id : UnitId) (a b : Service) (shown shown' : ℕ → ℕ) (h : List Served) (start : Cursor) → is_moving a.stage ≡ false → b.stage ≡ DataOut start
+    → start ≡ record { piece = 0; inside = 0; done = 0 } → KeepsCargo (cargo_at id a shown h) (cargo_at id b shown' h)
+begun_at id a b shown shown' h start was is begins =
+    keeps_by _ _ _ _ (cargo_none id a shown h was)
+    (cargo_is id b shown' h (fetching (record { piece = 0; inside = 0; done = 0 }) b.out.list.items)
+    (ap (λ st. load_at st b.out.list.items b.inn.list.items b.given.items) is ∙ ap (λ (c : Cursor). fetching c b.out.list.items) begins))
+    (begun id shown shown' (rows_of h) b.out.list.items)
+
+pub out_placed : (told : Told → Bool) (id : UnitId) (a : Service) (shown : ℕ → ℕ) (h : List Served) (cursor : Cursor) → a.stage ≡ DataOut cursor
+    → IsAccounted told (cargo_at id a shown h) → IsPlacedAt a.out.list.items cursor
+out_placed told id a shown h cursor was is =
+    placed (subst (IsAccounted told) (cargo_is id a shown h (fetching cursor a.out.list.items) (ap (λ st. load_at st a.out.list.items a.inn.list.items a.given.items) was)) is)
+  where
+    placed : IsAccounted told (cargo id shown (fetching cursor a.out.list.items) (rows_of h)) → IsPlacedAt a.out.list.items cursor
+    placed hand = hand.load.placed
+
+-- a part more
+pub part_fetched : (told : Told → Bool) (id : UnitId) (a b : Service) (old new : SiteState) (h : List Served) (len address : ℕ) (cursor cursor' : Cursor)
+    → a.stage ≡ DataOut cursor → b.stage ≡ DataOut cursor' → b.out ≡ a.out → FetchesPart old new address cursor.done len → TellsAll told id old new → len ≤ 65536
+    → cursor'.done ≡ cursor.done + len → (IsPlacedAt a.out.list.items cursor → LiesAt a.out.list.items cursor.done (Some address) len)
+    → (IsPlacedAt a.out.list.items cursor → IsPlacedAt a.out.list.items cursor')
+    → IsAccounted told (cargo_at id a (data_bytes old.own) h) → IsAccounted told (cargo_at id b (data_bytes new.own) h)
+part_fetched told id a b old new h len address cursor cursor' was is outs got all few on lies placed hand =
+    subst (IsAccounted told)
+    (sym (cargo_is id b (data_bytes new.own) h (fetching cursor' a.out.list.items) (λ i. load_at (is i) ((outs i).list.items) b.inn.list.items b.given.items)))
+    (moved_fetching told id (data_bytes old.own) (data_bytes new.own) (rows_of h) cursor cursor' a.out.list.items got.part len address got.long few (lies at) on (placed at) heard got.shows got.rest
+    (subst (IsAccounted told) (cargo_is id a (data_bytes old.own) h (fetching cursor a.out.list.items) (ap (λ st. load_at st a.out.list.items a.inn.list.items a.given.items) was)) hand))
+  where
+    at : IsPlacedAt a.out.list.items cursor
+    at = out_placed told id a (data_bytes old.own) h cursor was hand
+
+    heard : fetch (told_to told id) (data_at + cursor.done) address got.part
+    heard = all (fetched address (data_at + cursor.done) got.part) (record { front = []; copy = got.fetched.copy; rest = []; made = got.fetched.made; is = got.fetched.fetched })
+
+-- none is left
+pub all_fetched : (service : Service) (cursor : Cursor) → service.stage ≡ DataOut cursor → sum_of service.out.list.items ≤ cursor.done → IsFetchedAll service
+all_fetched service cursor is done other at = subst (λ (c : Cursor). sum_of service.out.list.items ≤ c.done) (same cursor other (sym is ∙ at)) done
+  where
+    same : (x y : Cursor) → DataOut x ≡ DataOut y → x ≡ y
+    same x y e = cc (e)
+
+pub none_fetched : (service : Service) → ((cursor : Cursor) → service.stage ≡ DataOut cursor → ⊥) → IsFetchedAll service
+none_fetched service other cursor at = absurd (other cursor at)

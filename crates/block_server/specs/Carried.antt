@@ -9,7 +9,7 @@ use Rattle.srp_iu.specs.declared.buffer.Desc.{Desc}
 use Rattle.srp_iu.specs.declared.command.Cmd.{Cmd}
 use Rattle.srp_iu.specs.declared.unit.Iu.TheVariants as units
 use Rattle.block_server.specs.Causes.{Hearing, IsNamed, Told, told_to}
-use Rattle.block_server.specs.Causes.News.{delivered}
+use Rattle.block_server.specs.Causes.News.{delivered, fetched}
 
 -- the address of page 2 of a unit's own window, from which on data lie
 abbrev pub data_at : ℕ
@@ -56,3 +56,23 @@ pub record HasDelivered (Hears : Hearing) (row : Served) : Type 0 where
 -- A row says no data-in, or those that copies delivered.
 abbrev pub IsDelivered : (told : Told → Bool) → Served → Type 0
 IsDelivered told row = (row.inn ≡ []) ⊎ HasDelivered (told_to told row.unit) row
+
+-- that a unit was told of a copy of data from its client
+abbrev pub fetch : Hearing → Copying
+fetch Hears at address part = Hears (fetched address at part)
+
+-- Each of the first n bytes, which are these, was fetched.
+abbrev pub AreFetched : Hearing → List Desc → (n : ℕ) → (bytes : ℕ → ℕ) → Type 0
+AreFetched Hears pieces n bytes = (k : ℕ) → k < n → IsCarried (fetch Hears) pieces k (bytes k)
+
+-- The row is of a command, and all its data-out were fetched from the pieces of its buffer.
+pub record HasOutFetched (Hears : Hearing) (row : Served) : Type 0 where
+  pub command : Cmd
+  pub spells : Spells row.iu (units.Cmd command)
+  pub outs : List Desc
+  pub out_named : IsNamed Hears command.out outs
+  pub all : AreFetched Hears outs (length row.out) (slice_index row.out)
+
+-- A row says no data-out, or those that copies fetched.
+abbrev pub IsOutFetched : (told : Told → Bool) → Served → Type 0
+IsOutFetched told row = (row.out ≡ []) ⊎ HasOutFetched (told_to told row.unit) row

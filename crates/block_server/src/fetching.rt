@@ -1,5 +1,8 @@
 // What a command brings: the tables of its descriptors, and its data-out.
-ghost use Rattle.std.specs.Prelude.{◌≡◌, ◌⊎◌, ◌%◌, ◌≤◌, Bool, IfOk, false, true};
+ghost use Rattle.block_server.specs.Cargo.{IsAccounted, IsFetchedAll, KeepsCargo, cargo_at, data_bytes};
+ghost use Rattle.block_server.specs.Parts.{IsPlacedAt};
+ghost use Rattle.vio_num.specs.declared.history.Served.{Served};
+ghost use Rattle.std.specs.Prelude.{◌≡◌, ◌⊎◌, ◌%◌, ◌≤◌, ℕ, Bool, IfOk, List, false, true};
 ghost use Rattle.block_server.specs.Advances.{Advances};
 ghost use Rattle.block_server.specs.Causes.{IsBad, IsNamed, RefusesBuffer, RefusesData, RefusesOut, Told, TurnsDown, told_to};
 ghost use Rattle.block_server.specs.Fetched.{DeniesTable, HasBadSum, IfDone, IfRefused, IsRead, KnowsPieces};
@@ -56,6 +59,14 @@ pub(crate) fn fetch<S: Site>(
     ensures queue { (S.state site.new).queue ≡ (S.state site.old).queue }
     ensures advances { Advances (S.state site.old) (S.state site.new) }
     ensures passes { Passes (S.state site.old) (S.state site.new) }
+    ensures cargo { (id : UnitId) → (told : Told → Bool) →
+        TellsAll told id (S.state site.old) (S.state site.new) → (rows : List Served) →
+        IsAccounted told (cargo_at id service.old (data_bytes (S.state site.old).own) rows) →
+        IsAccounted told (cargo_at id service.new (data_bytes (S.state site.new).own) rows) }
+    ensures all { (id : UnitId) → (told : Told → Bool) →
+        TellsAll told id (S.state site.old) (S.state site.new) → (rows : List Served) →
+        IsAccounted told (cargo_at id service.old (data_bytes (S.state site.old).own) rows) →
+        IfDone result (IsFetchedAll service.new) }
 {
     if is_refused(service, command) {
         return Ok(Progress::Refused);
@@ -81,6 +92,8 @@ fn is_refused(service: &mut Service, command: &Cmd) -> bool
     ensures went { result ≡ false → is_before_step service.old.stage ≡ true →
         is_judged service.new.stage ≡ true }
     ensures refused { result ≡ true → IsBad command.now.out ⊎ IsBad command.now.inn }
+    ensures cargo { (id : UnitId) → (shown : ℕ → ℕ) → (rows : List Served) →
+        cargo_at id service.new shown rows ≡ cargo_at id service.old shown rows }
 {
     if service.stage != Stage::Start {
         return false;
@@ -115,6 +128,9 @@ fn fetch_out_pieces<S: Site>(
     ensures queue { (S.state site.new).queue ≡ (S.state site.old).queue }
     ensures advances { Advances (S.state site.old) (S.state site.new) }
     ensures passes { Passes (S.state site.old) (S.state site.new) }
+    ensures cargo { (id : UnitId) → (rows : List Served) → KeepsCargo
+        (cargo_at id service.old (data_bytes (S.state site.old).own) rows)
+        (cargo_at id service.new (data_bytes (S.state site.new).own) rows) }
 {
     if service.stage != Stage::OutTable {
         return Ok(Progress::Done);
@@ -147,6 +163,9 @@ fn fetch_in_pieces<S: Site>(
     ensures queue { (S.state site.new).queue ≡ (S.state site.old).queue }
     ensures advances { Advances (S.state site.old) (S.state site.new) }
     ensures passes { Passes (S.state site.old) (S.state site.new) }
+    ensures cargo { (id : UnitId) → (rows : List Served) → KeepsCargo
+        (cargo_at id service.old (data_bytes (S.state site.old).own) rows)
+        (cargo_at id service.new (data_bytes (S.state site.new).own) rows) }
 {
     if service.stage != Stage::InTable {
         return Ok(Progress::Done);
@@ -176,6 +195,13 @@ fn fetch_data_out<S: Site>(service: &mut Service, site: &mut S) -> Result<Progre
     ensures queue { (S.state site.new).queue ≡ (S.state site.old).queue }
     ensures advances { Advances (S.state site.old) (S.state site.new) }
     ensures passes { Passes (S.state site.old) (S.state site.new) }
+    ensures cargo { (id : UnitId) → (told : Told → Bool) →
+        TellsAll told id (S.state site.old) (S.state site.new) → (rows : List Served) →
+        IsAccounted told (cargo_at id service.old (data_bytes (S.state site.old).own) rows) →
+        IsAccounted told (cargo_at id service.new (data_bytes (S.state site.new).own) rows) }
+    ensures all { (id : UnitId) → (told : Told → Bool) → (shown : ℕ → ℕ) → (rows : List Served) →
+        IsAccounted told (cargo_at id service.old shown rows) →
+        IfDone result (IsFetchedAll service.new) }
 {
     match service.stage {
         Stage::DataOut(cursor) => fetch_data(service, site, cursor),
@@ -271,6 +297,12 @@ fn fetch_data<S: Site>(
     ensures queue { (S.state site.new).queue ≡ (S.state site.old).queue }
     ensures advances { Advances (S.state site.old) (S.state site.new) }
     ensures passes { Passes (S.state site.old) (S.state site.new) }
+    ensures cargo { (id : UnitId) → (told : Told → Bool) →
+        TellsAll told id (S.state site.old) (S.state site.new) → (rows : List Served) →
+        IsAccounted told (cargo_at id service.old (data_bytes (S.state site.old).own) rows) →
+        IsAccounted told (cargo_at id service.new (data_bytes (S.state site.new).own) rows) }
+    ensures all { IsPlacedAt service.old.out.list.items start →
+        IfDone result (IsFetchedAll service.new) }
 {
     let mut cursor = start;
     while let Some(part) = cursor.next(service.out.as_slice(), service.out.total()) {

@@ -1,5 +1,5 @@
 // The service of the oldest request: what it asks is done, and then it is answered.
-ghost use Rattle.block_server.specs.Cargo.{HasTag, IsAccounted, IsSentAll, KeepsCargo, cargo_at, cargo_of, data_bytes, is_loaded};
+ghost use Rattle.block_server.specs.Cargo.{AreShown, HasTag, IsAccounted, IsFetchedAll, IsSentAll, KeepsCargo, cargo_at, cargo_of, data_bytes, is_loaded};
 ghost use Rattle.block_server.specs.Parts.{IsPlacedAt};
 ghost use Rattle.std.specs.Prelude.{◌≡◌, ◌≢◌, ◌⊎◌, ◌∷◌, ◌<◌, ◌≤◌, ℕ, Bool, List, Option, Some, None, [], IfOk, OnOk, false, true, length};
 ghost use Rattle.block_server.specs.Advances.{Advances};
@@ -218,8 +218,8 @@ fn judge_login(
         (in_service books service.old.stage rows) (in_service books service.new.stage rows) }
     ensures row { row_in service.old.stage ≡ None → row_in service.new.stage ≡ None }
     ensures cargo { (id : UnitId) → (shown : ℕ → ℕ) → (rows : List Served) →
-        is_loaded service.old.stage ≡ false → cargo_at id service.new shown rows ≡
-        cargo_at id service.old shown rows }
+        is_loaded service.old.stage ≡ false → KeepsCargo
+        (cargo_at id service.old shown rows) (cargo_at id service.new shown rows) }
 {
     match login_refusal(logins.current(), login) {
         Some(reason) => service.set_answer(&login_rejected(login, reason), Outcome::Rejected),
@@ -267,9 +267,9 @@ fn add_code(
     ensures moves { row_in service.old.stage ≡ None → MovesRow id session request.now
         service.old.stage service.new.stage
         records.old.history.items records.new.history.items }
-    ensures cargo { (shown shown' : ℕ → ℕ) → is_loaded service.old.stage ≡ false → KeepsCargo
+    ensures cargo { (shown : ℕ → ℕ) → is_loaded service.old.stage ≡ false → KeepsCargo
         (cargo_at id service.old shown records.old.history.items)
-        (cargo_at id service.new shown' records.new.history.items) }
+        (cargo_at id service.new shown records.new.history.items) }
 {
     let blank = records.new_row(id, session, request)?;
     let row = records.history.len();
@@ -481,6 +481,7 @@ fn make_step<S: Site, B: Blocks>(
         service.old.stage service.new.stage
         records.old.history.items records.new.history.items }
     ensures cargo { (told : Told → Bool) → KnowsPieces (told_to told id) command.now service.old →
+        IsFetchedAll service.old →
         IsAccounted told (cargo_at id service.old (data_bytes (S.state site.old).own)
         records.old.history.items) →
         IsAccounted told (cargo_at id service.new (data_bytes (S.state site.new).own)
@@ -514,6 +515,8 @@ fn read_out<S: Site>(site: &mut S, room: Vec<u8>) -> Vec<u8>
     ensures queue { (S.state site.new).queue ≡ (S.state site.old).queue }
     ensures advances { Advances (S.state site.old) (S.state site.new) }
     ensures passes { Passes (S.state site.old) (S.state site.new) }
+    ensures data { data_bytes (S.state site.new).own ≡ data_bytes (S.state site.old).own }
+    ensures read { AreShown (data_bytes (S.state site.new).own) result.items }
 {
     let mut out = room;
     site.read_data(&mut out);

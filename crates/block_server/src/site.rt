@@ -8,7 +8,7 @@ ghost use Rattle.crq_session.specs.Answered.{Opens, HoldsUp, TellsFreed, FindsIn
 ghost use Rattle.crq_session.specs.EndState.{OnlyReserves, OnlyRegisters, OnlyFrees, OnlySends, OnlyTakes, OnlyPushes};
 ghost use Rattle.block_server.specs.Advances.{Advances};
 ghost use Rattle.block_server.specs.Answering.{responses};
-ghost use Rattle.block_server.specs.Cargo.{AreShown, SendsPart, data_bytes};
+ghost use Rattle.block_server.specs.Cargo.{AreShown, FetchesPart, SendsPart, data_bytes};
 ghost use Rattle.block_server.specs.Delivers.{DeliversOne, FetchesTo};
 ghost use Rattle.block_server.specs.Entries.{MayPut};
 ghost use Rattle.block_server.specs.Moves.{FetchesOne, Passes};
@@ -197,7 +197,11 @@ pub(crate) trait Site {
         ensures queue { (state self.new).queue ≡ (state self.old).queue }
         ensures advances { Advances (state self.old) (state self.new) }
         ensures passes { Passes (state self.old) (state self.new) }
-        ensures none { OnErr result ((state self.new).copies ≡ (state self.old).copies) };
+        ensures none { OnErr result ((state self.new).copies ≡ (state self.old).copies) }
+        ensures brought { OnOk result
+            (FetchesPart (state self.old) (state self.new) address at len) }
+        ensures kept { OnErr result
+            (data_bytes (state self.new).own ≡ data_bytes (state self.old).own) };
 
     /// Reads the first bytes of the data's pages.
     fn read_data(&mut self, out: &mut [u8])
@@ -205,7 +209,9 @@ pub(crate) trait Site {
         ensures queue { (state self.new).queue ≡ (state self.old).queue }
         ensures advances { Advances (state self.old) (state self.new) }
         ensures passes { Passes (state self.old) (state self.new) }
-        ensures none { (state self.new).copies ≡ (state self.old).copies };
+        ensures none { (state self.new).copies ≡ (state self.old).copies }
+        ensures data { data_bytes (state self.new).own ≡ data_bytes (state self.old).own }
+        ensures read { AreShown (data_bytes (state self.new).own) out.new };
 
     /// Writes the first bytes of the data's pages.
     fn write_data(&mut self, bytes: &[u8], mark: u64) -> Result<(), NoMemory>

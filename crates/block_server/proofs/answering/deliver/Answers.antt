@@ -14,7 +14,7 @@ use Rattle.std.proofs.Common.{sym, ◌∙◌}
 use Rattle.block_server.proofs.Owing.{owes_seen, seen_same}
 use Rattle.block_server.proofs.OwingCalls.{entry_row, owes_stage}
 use Rattle.block_server.specs.Owed.{row_in}
-use Rattle.block_server.specs.Cargo.{is_loaded}
+use Rattle.block_server.specs.Cargo.{is_moving}
 use Rattle.block_server.proofs.Cargoes.{none_seen}
 use Rattle.block_server.proofs.answering.deliver.Goals as goal
 
@@ -77,13 +77,13 @@ pub returns-in-Err-NoMemory-clause-answers : goal.returns-in-Err-NoMemory-clause
 returns-in-Err-NoMemory-clause-answers g c = λ records alone has. owes_seen _ _ (seen_same _ _ c.deliver_unit.ensures.queue) refl refl refl refl refl refl refl has
 
 pub returns-in-Ok-clause-cargo : goal.returns-in-Ok-clause-cargo
-returns-in-Ok-clause-cargo g c = λ records. none_seen _ _ _ _ _ _ _ c.deliver_unit.ensures.data (ap is_loaded c.requires.stage) refl refl
+returns-in-Ok-clause-cargo g c = λ records. none_seen _ _ _ _ _ _ _ c.deliver_unit.ensures.data (ap is_moving c.requires.stage) refl refl
 
 pub returns-in-Err-Refused-clause-cargo : goal.returns-in-Err-Refused-clause-cargo
-returns-in-Err-Refused-clause-cargo g c = λ records. none_seen _ _ _ _ _ _ _ c.deliver_unit.ensures.data (ap is_loaded c.requires.stage) (ap is_loaded c.requires.stage) refl
+returns-in-Err-Refused-clause-cargo g c = λ records. none_seen _ _ _ _ _ _ _ c.deliver_unit.ensures.data (ap is_moving c.requires.stage) (ap is_moving c.requires.stage) refl
 
 pub returns-in-Err-Busy-clause-cargo : goal.returns-in-Err-Busy-clause-cargo
-returns-in-Err-Busy-clause-cargo g c = λ records. none_seen _ _ _ _ _ _ _ c.deliver_unit.ensures.data (ap is_loaded c.requires.stage) (ap is_loaded c.requires.stage) refl
+returns-in-Err-Busy-clause-cargo g c = λ records. none_seen _ _ _ _ _ _ _ c.deliver_unit.ensures.data (ap is_moving c.requires.stage) (ap is_moving c.requires.stage) refl
 
 pub returns-in-Err-NoMemory-clause-cargo : goal.returns-in-Err-NoMemory-clause-cargo
-returns-in-Err-NoMemory-clause-cargo g c = λ records. none_seen _ _ _ _ _ _ _ c.deliver_unit.ensures.data (ap is_loaded c.requires.stage) (ap is_loaded c.requires.stage) refl
+returns-in-Err-NoMemory-clause-cargo g c = λ records. none_seen _ _ _ _ _ _ _ c.deliver_unit.ensures.data (ap is_moving c.requires.stage) (ap is_moving c.requires.stage) refl

@@ -13,7 +13,7 @@ use Rattle.block_server.proofs.Owing.{no_login, owes_on}
 use Rattle.block_server.proofs.OwingCalls.{logout_front}
 use Rattle.block_server.specs.Owed.{row_in}
 use Rattle.vio_num.specs.declared.history.Grant.TheVariants.{Lapsed}
-use Rattle.block_server.specs.Cargo.{is_loaded}
+use Rattle.block_server.specs.Cargo.{is_moving}
 use Rattle.block_server.proofs.Cargoes.{named_keeps, none_keeps}
 use Rattle.block_server.proofs.answering.log_out.Goals as goal
 
@@ -40,4 +40,4 @@ returns-clause-answers c = λ q front rest parts none has.
     (λ some. absurd (no_login _ (ap (λ (logins : Logins). logins.current) c.finish.ensures.logins ∙ c.end-login.ensures.current) some)) has
 
 pub returns-clause-cargo : goal.returns-clause-cargo
-returns-clause-cargo c = λ shown shown' none. named_keeps _ _ _ _ _ _ _ _ c.finish.ensures.id (none_keeps _ _ _ shown shown' _ _ none (ap is_loaded c.finish.ensures.stage) refl)
+returns-clause-cargo c = λ shown shown' none. named_keeps _ _ _ _ _ _ _ _ c.finish.ensures.id (none_keeps _ _ _ shown shown' _ _ none (ap is_moving c.finish.ensures.stage) refl)

@@ -21,7 +21,7 @@ use Rattle.crq_session.specs.EndState.{EndPlace}
 use Rattle.block_server.specs.Owed.{row_in}
 use Rattle.block_server.proofs.Owing.{owes_seen}
 use Rattle.block_server.proofs.OwingCalls.{owes_discarded, pending_going, seen_sends}
-use Rattle.block_server.specs.Cargo.{data_bytes, is_loaded}
+use Rattle.block_server.specs.Cargo.{data_bytes, is_moving}
 use Rattle.block_server.proofs.Cargoes.{named_same, none_seen}
 use Rattle.block_server.proofs.answering.put_answer.Goals as goal
 
@@ -110,12 +110,12 @@ returns-in_default-send-clause-answers g c = λ judged is alone has.
 pub returns-in-Success-clause-cargo : goal.returns-in-Success-clause-cargo
 returns-in-Success-clause-cargo g c =
     named_same _ _ _ _ _ _ _ _ c.settle.ensures.id
-    (none_seen _ _ _ _ _ _ _ (ap data_bytes c.send.ensures.windows.own) (ap is_loaded c.requires.stage) (ap is_loaded c.settle.ensures.stage) c.settle.ensures.rows)
+    (none_seen _ _ _ _ _ _ _ (ap data_bytes c.send.ensures.windows.own) (ap is_moving c.requires.stage) (ap is_moving c.settle.ensures.stage) c.settle.ensures.rows)
 
 pub returns-in-Dropped-clause-cargo : goal.returns-in-Dropped-clause-cargo
-returns-in-Dropped-clause-cargo g c = none_seen _ _ _ _ _ _ _ (ap data_bytes c.send.ensures.windows.own) (ap is_loaded c.requires.stage) (ap is_loaded c.requires.stage) refl
+returns-in-Dropped-clause-cargo g c = none_seen _ _ _ _ _ _ _ (ap data_bytes c.send.ensures.windows.own) (ap is_moving c.requires.stage) (ap is_moving c.requires.stage) refl
 
 pub returns-in_default-send-clause-cargo : goal.returns-in_default-send-clause-cargo
 returns-in_default-send-clause-cargo g c =
     named_same _ _ _ _ _ _ _ _ c.finish.ensures.id
-    (none_seen _ _ _ _ _ _ _ (ap data_bytes c.send.ensures.windows.own) (ap is_loaded c.requires.stage) (ap is_loaded c.finish.ensures.stage) refl)
+    (none_seen _ _ _ _ _ _ _ (ap data_bytes c.send.ensures.windows.own) (ap is_moving c.requires.stage) (ap is_moving c.finish.ensures.stage) refl)

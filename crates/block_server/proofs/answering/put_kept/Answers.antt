@@ -27,7 +27,7 @@ use Rattle.crq_session.specs.EndState.{EndPlace}
 use Rattle.block_server.specs.Owed.{row_states, owing_of, row_in}
 use Rattle.block_server.proofs.Owing.{owes_seen, seen_same}
 use Rattle.block_server.proofs.OwingCalls.{entry_going, owes_discarded, seen_on, seen_reserves, seen_sends}
-use Rattle.block_server.specs.Cargo.{data_bytes, is_loaded, rows_of}
+use Rattle.block_server.specs.Cargo.{data_bytes, is_moving, rows_of}
 use Rattle.block_server.proofs.Cargoes.{named_same, none_seen}
 use Rattle.block_server.proofs.answering.put_kept.Goals as goal
 
@@ -200,12 +200,12 @@ pub returns-in-Answer-clause-cargo : goal.returns-in-Answer-clause-cargo
 returns-in-Answer-clause-cargo g c = λ terms serving.
     let is = serving.kept (keeps.Answer c.in-Answer.entry c.in-Answer.outcome) (c.in-Some.is ∙ ap Some c.in-Answer.is) in
     named_same _ _ _ _ _ _ _ _ c.settle.ensures.id
-    (none_seen _ _ _ _ _ _ _ (ap data_bytes c.send.ensures.windows.own ∙ ap data_bytes c.reserve.ensures.windows.own) (ap is_loaded is.stage) (ap is_loaded c.settle.ensures.stage)
+    (none_seen _ _ _ _ _ _ _ (ap data_bytes c.send.ensures.windows.own ∙ ap data_bytes c.reserve.ensures.windows.own) (ap is_moving is.stage) (ap is_moving c.settle.ensures.stage)
     (c.settle.ensures.rows ∙ ap rows_of c.make_room.ensures.lists.history))
 
 pub returns-in-Answer-kept-clause-cargo : goal.returns-in-Answer-kept-clause-cargo
 returns-in-Answer-kept-clause-cargo g c = λ terms serving.
     let is = serving.kept (keeps.Answer c.in-Answer-kept.entry c.in-Answer-kept.outcome) (c.in-Some.is ∙ ap Some c.in-Answer-kept.is) in
     named_same _ _ _ _ _ _ _ _ c.finish.ensures.id
-    (none_seen _ _ _ _ _ _ _ (ap data_bytes c.send.ensures.windows.own ∙ ap data_bytes c.reserve.ensures.windows.own) (ap is_loaded is.stage) (ap is_loaded c.finish.ensures.stage)
+    (none_seen _ _ _ _ _ _ _ (ap data_bytes c.send.ensures.windows.own ∙ ap data_bytes c.reserve.ensures.windows.own) (ap is_moving is.stage) (ap is_moving c.finish.ensures.stage)
     (ap rows_of c.make_room.ensures.lists.history))

@@ -6,6 +6,7 @@ use Rattle.block_server.specs.Heard.{heard_between}
 use Rattle.block_server.proofs.Denying.{buffer_map, tells_first, tells_next}
 use Rattle.block_server.proofs.Gathering.{bad_down, if_refused}
 use Rattle.block_server.proofs.Readying.{busy_on, if_each, uses_later}
+use Rattle.block_server.proofs.Hands.{keeps_same}
 use Rattle.block_server.proofs.fetching.fetch.Goals as goal
 
 pub returns-in_err-progress-2-clause-advances : goal.returns-in_err-progress-2-clause-advances
@@ -73,3 +74,25 @@ returns-clause-went g c = if_each c.fetch_data_out.result _ (λ progress done be
     let out : c.in_ok-progress.progress ≡ Done = search rules in
     let inn : c.in_ok-progress-2.progress ≡ Done = search rules in
     c.fetch_data_out.ensures.stays (c.in_ok-progress-2.ensures.went inn (c.in_ok-progress.ensures.went out (c.is_refused.ensures.went (search rules) before))))
+
+pub returns-in_err-progress-clause-cargo : goal.returns-in_err-progress-clause-cargo
+returns-in_err-progress-clause-cargo g c = λ id told all rows hand. c.fetch_out_pieces.ensures.cargo id rows told (keeps_same _ _ (c.is_refused.ensures.cargo id _ rows) told hand)
+
+pub returns-then-ne-clause-cargo : goal.returns-then-ne-clause-cargo
+returns-then-ne-clause-cargo g c = λ id told all rows hand. c.fetch_out_pieces.ensures.cargo id rows told (keeps_same _ _ (c.is_refused.ensures.cargo id _ rows) told hand)
+
+pub returns-in_err-progress-2-clause-cargo : goal.returns-in_err-progress-2-clause-cargo
+returns-in_err-progress-2-clause-cargo g c = λ id told all rows hand.
+    c.fetch_in_pieces.ensures.cargo id rows told (c.fetch_out_pieces.ensures.cargo id rows told (keeps_same _ _ (c.is_refused.ensures.cargo id _ rows) told hand))
+
+pub returns-then-ne-2-clause-cargo : goal.returns-then-ne-2-clause-cargo
+returns-then-ne-2-clause-cargo g c = λ id told all rows hand.
+    c.fetch_in_pieces.ensures.cargo id rows told (c.fetch_out_pieces.ensures.cargo id rows told (keeps_same _ _ (c.is_refused.ensures.cargo id _ rows) told hand))
+
+pub returns-clause-cargo : goal.returns-clause-cargo
+returns-clause-cargo g c = λ id told all rows hand.
+    c.fetch_data_out.ensures.cargo id told (tells_next told id (g.S.Site.state c.args.site.now) (g.S.Site.state c.fetch_in_pieces.new.site) (g.S.Site.state c.fetch_data_out.new.site) (advances_on _ _ _ c.fetch_out_pieces.ensures.advances c.fetch_in_pieces.ensures.advances) all) rows
+    (c.fetch_in_pieces.ensures.cargo id rows told (c.fetch_out_pieces.ensures.cargo id rows told (keeps_same _ _ (c.is_refused.ensures.cargo id _ rows) told hand)))
+
+pub returns-clause-all : goal.returns-clause-all
+returns-clause-all g c = λ id told all rows hand. c.fetch_data_out.ensures.all id told _ rows (c.fetch_in_pieces.ensures.cargo id rows told (c.fetch_out_pieces.ensures.cargo id rows told (keeps_same _ _ (c.is_refused.ensures.cargo id _ rows) told hand)))

@@ -6,6 +6,7 @@ use Rattle.block_server.specs.Heard.{heard_between}
 use Rattle.block_server.specs.declared.service.Stage.{Stage}
 use Rattle.block_server.proofs.Denying.{data_map}
 use Rattle.block_server.proofs.Gathering.{if_refused}
+use Rattle.block_server.proofs.Sendings.{out_placed}
 use Rattle.block_server.proofs.fetching.fetch_data_out.Goals as goal
 
 pub returns-in-DataOut-clause-refused : goal.returns-in-DataOut-clause-refused
@@ -19,3 +20,7 @@ returns-in-DataOut-clause-refused g c = λ command told id all known.
       out_named = both.out_named;
       refuses = data_map (heard_between (g.S.Site.state c.args.site.now) (g.S.Site.state c.fetch_data.new.site)) (told_to told id) Read outs all is;
     }) c.fetch_data.ensures.refused
+
+pub returns-in-DataOut-clause-all : goal.returns-in-DataOut-clause-all
+returns-in-DataOut-clause-all g c = λ id told shown rows hand.
+    c.fetch_data.ensures.all (out_placed told id c.args.service.now shown rows c.in-DataOut.cursor c.in-DataOut.is hand)

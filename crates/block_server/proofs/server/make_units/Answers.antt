@@ -1,4 +1,4 @@
-use Rattle.block_server.specs.Cargo.{AreIdle, is_loaded}
+use Rattle.block_server.specs.Cargo.{AreIdle, is_moving}
 use Rattle.block_server.proofs.CargoLaws.{more_idle, none_idle}
 use Rattle.std.proofs.Common.{ap, ◌∙◌, arith, List, sym, subst}
 use Rattle.block_server.specs.Ready.{AreDown}
@@ -25,7 +25,7 @@ loop-unit-preserved c = record {
   unused = subst AreUnused (sym c.in_ok-push.ensures.items) (more_unused c.loop-unit.units.items c.new.result c.loop-unit.invariant.unused c.new.ensures.current c.new.ensures.last c.new.ensures.taking
       c.new.ensures.stage c.new.ensures.kept c.new.ensures.pending c.new.ensures.waiting);
   unanswered = subst OweNone (sym c.in_ok-push.ensures.items) (more_owe c.loop-unit.units.items c.new.result c.loop-unit.invariant.unanswered c.new.ensures.current c.new.ensures.stage);
-  idle = subst AreIdle (sym c.in_ok-push.ensures.items) (more_idle c.loop-unit.units.items c.new.result c.loop-unit.invariant.idle (ap is_loaded c.new.ensures.stage));
+  idle = subst AreIdle (sym c.in_ok-push.ensures.items) (more_idle c.loop-unit.units.items c.new.result c.loop-unit.invariant.idle (ap is_moving c.new.ensures.stage));
   serving = λ terms rows. subst (λ (units : List Unit). AreServing terms c.args.partition units rows) (sym c.in_ok-push.ensures.items)
       (units_more terms c.args.partition c.loop-unit.unit c.loop-unit.units.items c.new.result rows (sym c.loop-unit.invariant.count ∙ c.loop-unit.units.ok.0)
       c.new.ensures.id c.new.ensures.stage c.new.ensures.kept c.new.ensures.pending (c.loop-unit.invariant.serving terms rows));

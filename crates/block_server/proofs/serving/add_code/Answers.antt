@@ -13,8 +13,10 @@ use Rattle.block_server.proofs.Serves.{once_added, says_none, stays_pushed}
 use Rattle.block_server.proofs.Working.{one_row, one_same}
 use Rattle.block_server.specs.Judged.{IsAtStage, has_row, keys_of}
 use Rattle.block_server.proofs.Booking.{code_gets}
-use Rattle.block_server.specs.Cargo.{is_loaded, rows_of}
-use Rattle.block_server.proofs.Cargoes.{blank_keeps, none_keeps}
+use Rattle.block_server.specs.Cargo.{is_moving}
+use Rattle.block_server.proofs.Cargoes.{blank_keeps, shown_same}
+use Rattle.block_server.proofs.Hands.{keeps_same}
+use Rattle.block_server.proofs.Sendings.{same_service}
 use Rattle.block_server.proofs.serving.add_code.Goals as goal
 
 pub returns-in_err-blank-clause-once : goal.returns-in_err-blank-clause-once
@@ -66,13 +68,14 @@ returns-clause-books c = λ before.
     row.unit_is row.session_is row.login row.number row.iu
 
 pub returns-in_err-blank-clause-cargo : goal.returns-in_err-blank-clause-cargo
-returns-in_err-blank-clause-cargo c = λ shown shown' before. none_keeps _ _ _ _ _ _ _ before before (ap rows_of c.new_row.ensures.lists.history)
+returns-in_err-blank-clause-cargo c = λ shown before. keeps_same _ _ (shown_same _ _ _ _ _ _ refl c.new_row.ensures.lists.history)
 
 pub returns-in_err-set_answer-clause-cargo : goal.returns-in_err-set_answer-clause-cargo
-returns-in_err-set_answer-clause-cargo c = λ shown shown' before.
-    none_keeps _ _ _ _ _ _ _ before (ap is_loaded c.in_err-set_answer.ensures.err ∙ before) (ap rows_of c.new_row.ensures.lists.history)
+returns-in_err-set_answer-clause-cargo c = λ shown before.
+    keeps_same _ _ (shown_same _ c.set_answer.new.self _ _ _ _ refl c.new_row.ensures.lists.history
+    ∙ same_service _ c.args.service.now c.set_answer.new.self _ _ c.in_err-set_answer.ensures.err c.set_answer.ensures.out c.set_answer.ensures.inn c.set_answer.ensures.given)
 
 pub returns-clause-cargo : goal.returns-clause-cargo
-returns-clause-cargo c = λ shown shown' before.
-    blank_keeps _ _ _ _ _ _ _ c.in_ok-blank.blank before (ap is_loaded c.in_ok-set_answer.ensures.stage) c.in_ok-blank.ensures.row.inn
+returns-clause-cargo c = λ shown before.
+    blank_keeps _ _ _ _ _ _ _ c.in_ok-blank.blank before (ap is_moving c.in_ok-set_answer.ensures.stage) c.in_ok-blank.ensures.row.inn c.in_ok-blank.ensures.row.out
     (c.add_row.ensures.history ∙ ap (λ (list : List ServedRow). list ++ c.in_ok-blank.blank ∷ []) c.new_row.ensures.lists.history)

@@ -27,7 +27,7 @@ pub returns-in-Done : goal.returns-in-Done
 returns-in-Done c = record {
   cargo = λ id shown done.
       answered _ c.args.service.now c.set_answer.new.self _ _ c.in-DataIn.row c.in-DataIn.reply c.in-DataIn.cursor (Served c.in-DataIn.row) c.set_answer.result c.in-DataIn.is
-      c.set_answer.ensures.stage c.set_answer.ensures.err c.set_answer.ensures.inn c.set_answer.ensures.given (done c.in-Done.is);
+      c.set_answer.ensures.stage c.set_answer.ensures.err c.set_answer.ensures.out c.set_answer.ensures.inn c.set_answer.ensures.given (done c.in-Done.is);
   row = set_row _ _ _ _ _ c.set_answer.result c.in-DataIn.is c.set_answer.ensures.stage c.set_answer.ensures.err;
   states = refl;
   grants = refl;

@@ -3,7 +3,6 @@ use Rattle.block_server.specs.declared.service.Outcome.TheVariants.{Granted, Rej
 use Rattle.block_server.proofs.Serves.{once_judged}
 use Rattle.block_server.proofs.Booking.{login_set}
 use Rattle.std.proofs.Common.{sym, ◌∙◌}
-use Rattle.block_server.proofs.Cargoes.{none_same}
 use Rattle.block_server.proofs.Sendings.{set_unloaded}
 use Rattle.block_server.proofs.serving.judge_login.Goals as goal
 
@@ -28,8 +27,10 @@ returns-in-None-clause-books c = λ books front rest rows parts asks number curr
 
 pub returns-in-Some-clause-cargo : goal.returns-in-Some-clause-cargo
 returns-in-Some-clause-cargo c = λ id shown rows before.
-    none_same _ c.args.service.now c.set_answer.new.self _ _ _ before (set_unloaded c.args.service.now c.set_answer.new.self Rejected c.set_answer.result c.set_answer.ensures.stage c.set_answer.ensures.err before) refl
+    set_unloaded id c.args.service.now c.set_answer.new.self shown rows Rejected c.set_answer.result c.set_answer.ensures.stage c.set_answer.ensures.err
+    c.set_answer.ensures.out c.set_answer.ensures.inn c.set_answer.ensures.given before
 
 pub returns-in-None-clause-cargo : goal.returns-in-None-clause-cargo
 returns-in-None-clause-cargo c = λ id shown rows before.
-    none_same _ c.args.service.now c.set_answer-in-None.new.self _ _ _ before (set_unloaded c.args.service.now c.set_answer-in-None.new.self (Granted c.args.number) c.set_answer-in-None.result c.set_answer-in-None.ensures.stage c.set_answer-in-None.ensures.err before) refl
+    set_unloaded id c.args.service.now c.set_answer-in-None.new.self shown rows (Granted c.args.number) c.set_answer-in-None.result c.set_answer-in-None.ensures.stage
+    c.set_answer-in-None.ensures.err c.set_answer-in-None.ensures.out c.set_answer-in-None.ensures.inn c.set_answer-in-None.ensures.given before

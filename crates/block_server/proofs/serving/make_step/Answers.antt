@@ -17,9 +17,11 @@ use Rattle.block_server.proofs.Onces.{once_same}
 use Rattle.block_server.proofs.Serves.{gathers_of, once_added, once_before, pieces_of}
 use Rattle.block_server.proofs.Working.{command_row, one_row, one_same}
 use Rattle.block_server.specs.Judged.{has_row, is_command, keys_of}
-use Rattle.block_server.specs.Cargo.{rows_of}
-use Rattle.block_server.proofs.Cargoes.{none_keeps}
-use Rattle.block_server.proofs.Makings.{made_given, out_unloaded}
+use Rattle.block_server.proofs.Cargoes.{shown_same}
+use Rattle.block_server.proofs.Makings.{made_given}
+use Rattle.block_server.proofs.Sendings.{same_out}
+use Rattle.block_server.proofs.Hands.{keeps_same}
+use Rattle.std.specs.Prelude.{slice_index}
 use Rattle.block_server.proofs.serving.make_step.Goals as goal
 
 pub returns-in_default-clause-once : goal.returns-in_default-clause-once
@@ -118,23 +120,24 @@ returns-clause-books g c =
     blank.unit_is (blank.session_is ∙ c.session.ensures) blank.login blank.number blank.iu
 
 pub returns-in_default-clause-cargo : goal.returns-in_default-clause-cargo
-returns-in_default-clause-cargo g c = λ told known hand. hand
+returns-in_default-clause-cargo g c = λ told known done hand. hand
 
 pub returns-in_err-row-clause-cargo : goal.returns-in_err-row-clause-cargo
-returns-in_err-row-clause-cargo g c = λ told known hand. none_keeps _ _ _ _ _ _ _ (out_unloaded _ _ c.in-DataOut.is) (out_unloaded _ _ c.in-DataOut.is) (ap rows_of c.new_row.ensures.lists.history) told hand
+returns-in_err-row-clause-cargo g c = λ told known done hand. keeps_same _ _ (shown_same _ _ _ _ _ _ refl c.new_row.ensures.lists.history) told hand
 
 pub returns-in_err-out-clause-cargo : goal.returns-in_err-out-clause-cargo
-returns-in_err-out-clause-cargo g c = λ told known hand. none_keeps _ _ _ _ _ _ _ (out_unloaded _ _ c.in-DataOut.is) (out_unloaded _ _ c.in-DataOut.is) (ap rows_of c.new_row.ensures.lists.history) told hand
+returns-in_err-out-clause-cargo g c = λ told known done hand. keeps_same _ _ (shown_same _ _ _ _ _ _ refl c.new_row.ensures.lists.history) told hand
 
 pub returns-in_err-room-clause-cargo : goal.returns-in_err-room-clause-cargo
-returns-in_err-room-clause-cargo g c = λ told known hand. none_keeps _ _ _ _ _ _ _ (out_unloaded _ _ c.in-DataOut.is) (out_unloaded _ _ c.in-DataOut.is) (ap rows_of c.new_row.ensures.lists.history) told hand
+returns-in_err-room-clause-cargo g c = λ told known done hand. keeps_same _ _ (shown_same _ _ _ _ _ _ refl c.new_row.ensures.lists.history) told hand
 
 pub returns-in_err-make_room-clause-cargo : goal.returns-in_err-make_room-clause-cargo
-returns-in_err-make_room-clause-cargo g c = λ told known hand.
-    none_keeps _ _ _ _ _ _ _ (out_unloaded _ _ c.in-DataOut.is) (out_unloaded _ _ (c.make_room.ensures.stage ∙ c.in-DataOut.is)) (ap rows_of c.new_row.ensures.lists.history) told hand
+returns-in_err-make_room-clause-cargo g c = λ told known done hand.
+    keeps_same _ _ (shown_same _ c.make_room.new.self _ _ _ _ refl c.new_row.ensures.lists.history
+    ∙ same_out _ c.args.service.now c.make_room.new.self _ _ c.in-DataOut.field-0 c.in-DataOut.is (c.make_room.ensures.stage ∙ c.in-DataOut.is) c.make_room.ensures.out) told hand
 
 pub returns-clause-cargo : goal.returns-clause-cargo
-returns-clause-cargo g c = λ told known hand.
+returns-clause-cargo g c = λ told known done hand.
     let blank = c.in_ok-row.ensures.row in
     let service = c.args.service.now in
     let command = c.args.command.now in
@@ -142,9 +145,13 @@ returns-clause-cargo g c = λ told known hand.
     subst (λ (stage : Stage). Gathers (told_to told c.args.id) command stage service.out.list.items service.inn.list.items) c.in-DataOut.is known in
     let row : ServedRow = record c.in_ok-row.row { out = c.from.result; inn = c.filled.result; fault = c.execute-reply.result.fault } in
     let kept : c.keep.new.self.given.items ≡ c.given-given.result.now = c.keep.ensures.given ∙ ap (λ (xs : List ℕ). xs ++ c.given-given.result.now) c.make_room.ensures.none in
-    made_given told c.args.id service _ _ _ _ _ row command c.args.request.now (length c.args.records.now.history.items) c.execute-reply.result
-    (out_unloaded _ _ c.in-DataOut.is)
+    made_given told c.args.id service _ _ _ _ _ row command c.args.request.now (length c.args.records.now.history.items) c.execute-reply.result c.in-DataOut.field-0
+    c.in-DataOut.is done
     (ap (λ (n : ℕ). Given n c.execute-reply.result) (c.add_row-row.ensures.place ∙ ap length c.new_row.ensures.lists.history)) refl
     (c.keep.ensures.inn ∙ c.make_room.ensures.inn) (c.add_row-row.ensures.history ∙ ap (λ (list : List ServedRow). list ++ row ∷ []) c.new_row.ensures.lists.history)
     blank.unit_is (c.filled.ensures ∙ sym kept) blank.iu c.requires.asked both.in_named
-    (omega (arith, ap length kept, ap length c.given-given.ensures, length-take c.min.result c.execute-reply.new.self.given.items, c.min.ensures, c.total-expected.ensures.total, service.inn.summed)) hand
+    (omega (arith, ap length kept, ap length c.given-given.ensures, length-take c.min.result c.execute-reply.new.self.given.items, c.min.ensures, c.total-expected.ensures.total, service.inn.summed))
+    both.out_named
+    (ap length c.from.ensures ∙ c.read_out-out.ensures.len ∙ c.in_ok-out.ensures ∙ c.total.ensures.total ∙ sym service.out.summed)
+    (λ k less. ap (λ (shown : ℕ → ℕ). shown k) (sym c.read_out-out.ensures.data) ∙ c.read_out-out.ensures.read k (omega (arith, less, ap length c.from.ensures))
+    ∙ ap (λ (list : List ℕ). slice_index list k) (sym c.from.ensures)) hand

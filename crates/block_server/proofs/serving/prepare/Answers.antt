@@ -10,7 +10,6 @@ use Rattle.std.proofs.Common.{subst, ℕ}
 use Rattle.block_server.proofs.OwingCalls.{no_row_in}
 use Rattle.block_server.proofs.OwingRows.{moves_same}
 use Rattle.block_server.specs.Owed.{MovesRow}
-use Rattle.block_server.proofs.Hands.{keeps_same}
 use Rattle.block_server.proofs.Sendings.{other_unloaded}
 use Rattle.block_server.specs.Serving.{terms_of}
 use Rattle.block_server.proofs.serving.prepare.Goals as goal
@@ -108,14 +107,14 @@ returns-in-Logout-clause-cargo g c = λ told all rest serving hand. hand
 pub returns-in-Login-clause-cargo : goal.returns-in-Login-clause-cargo
 returns-in-Login-clause-cargo g c = λ told all rest serving hand.
     let other : is_command c.args.request.now.order ≡ false = search rules in
-    keeps_same _ _ (c.judge_login.ensures.cargo c.args.id _ _ (other_unloaded (terms_of told c.args.disk.now.count) c.args.id c.args.service.now c.args.request.now rest c.args.records.now.history.items other serving)) told hand
+    c.judge_login.ensures.cargo c.args.id _ _ (other_unloaded (terms_of told c.args.disk.now.count) c.args.id c.args.service.now c.args.request.now rest c.args.records.now.history.items other serving) told hand
 
 pub returns-in-Task-clause-cargo : goal.returns-in-Task-clause-cargo
 returns-in-Task-clause-cargo g c = λ told all rest serving hand.
     let other : is_command c.args.request.now.order ≡ false = search rules in
-    c.add_code.ensures.cargo _ _ (other_unloaded (terms_of told c.args.disk.now.count) c.args.id c.args.service.now c.args.request.now rest c.args.records.now.history.items other serving) told hand
+    c.add_code.ensures.cargo _ (other_unloaded (terms_of told c.args.disk.now.count) c.args.id c.args.service.now c.args.request.now rest c.args.records.now.history.items other serving) told hand
 
 pub returns-in-Unreadable-clause-cargo : goal.returns-in-Unreadable-clause-cargo
 returns-in-Unreadable-clause-cargo g c = λ told all rest serving hand.
     let other : is_command c.args.request.now.order ≡ false = search rules in
-    c.add_code-in-Unreadable.ensures.cargo _ _ (other_unloaded (terms_of told c.args.disk.now.count) c.args.id c.args.service.now c.args.request.now rest c.args.records.now.history.items other serving) told hand
+    c.add_code-in-Unreadable.ensures.cargo _ (other_unloaded (terms_of told c.args.disk.now.count) c.args.id c.args.service.now c.args.request.now rest c.args.records.now.history.items other serving) told hand

@@ -12,7 +12,7 @@ use Rattle.block_server.proofs.Working.{front_answered, one_given, one_on, one_s
 use Rattle.block_server.specs.Owed.{row_in}
 use Rattle.block_server.proofs.Hands.{keeps_same}
 use Rattle.block_server.proofs.Cargoes.{cut_at_sending}
-use Rattle.block_server.specs.Cargo.{is_loaded}
+use Rattle.block_server.specs.Cargo.{is_moving}
 use Rattle.block_server.proofs.Sendings.{same_service}
 use Rattle.block_server.proofs.serving.refuse_data.Goals as goal
 
@@ -21,7 +21,7 @@ returns-in_default c = record { cargo = λ id shown. keeps_same _ _ refl; row = 
 
 pub returns-in_err-set_answer : goal.returns-in_err-set_answer
 returns-in_err-set_answer c = record {
-  cargo = λ id shown. keeps_same _ _ (same_service _ c.args.service.now c.set_answer.new.self _ _ c.in_err-set_answer.ensures.err c.set_answer.ensures.inn c.set_answer.ensures.given);
+  cargo = λ id shown. keeps_same _ _ (same_service _ c.args.service.now c.set_answer.new.self _ _ c.in_err-set_answer.ensures.err c.set_answer.ensures.out c.set_answer.ensures.inn c.set_answer.ensures.given);
   row = ap row_in c.in_err-set_answer.ensures.err;
   states = refl;
   grants = refl;
@@ -36,7 +36,7 @@ returns-in_err-set_answer c = record {
 pub returns : goal.returns
 returns c = record {
   cargo = λ id shown.
-      cut_at_sending _ _ _ _ _ _ _ c.in-DataIn.row c.in-DataIn.reply c.in-DataIn.cursor _ c.in-DataIn.is (ap is_loaded (c.take_given-inn.ensures.stage ∙ c.in_ok-set_answer.ensures.stage))
+      cut_at_sending _ _ _ _ _ _ _ c.in-DataIn.row c.in-DataIn.reply c.in-DataIn.cursor _ c.in-DataIn.is (ap is_moving (c.take_given-inn.ensures.stage ∙ c.in_ok-set_answer.ensures.stage))
       (c.take_given-inn.ensures.given ∙ (λ i. take (c.done.ensures i) (c.set_answer.ensures.given i).items)) c.fill.ensures.rows;
   row = ap row_in (c.take_given-inn.ensures.stage ∙ c.in_ok-set_answer.ensures.stage) ∙ sym (ap row_in c.in-DataIn.is);
   states = c.fill.ensures.states;

@@ -14,9 +14,9 @@ use Rattle.block_server.proofs.Working.{before_no_row, one_before, one_on, one_s
 use Rattle.std.proofs.Common.{◌∙◌}
 use Rattle.block_server.proofs.OwingCalls.{no_row_in}
 use Rattle.block_server.proofs.OwingRows.{moves_on, moves_same}
-use Rattle.block_server.proofs.Cargoes.{none_keeps}
+use Rattle.block_server.specs.Cargo.{IsFetchedAll}
+use Rattle.block_server.proofs.Gathering.{where_done}
 use Rattle.block_server.proofs.Sendings.{before_unloaded}
-use Rattle.block_server.specs.Cargo.{data_bytes}
 use Rattle.block_server.proofs.serving.run_step.Goals as goal
 
 pub returns-then-not-is_before_step-clause-once : goal.returns-then-not-is_before_step-clause-once
@@ -139,25 +139,20 @@ pub returns-then-not-is_before_step-clause-cargo : goal.returns-then-not-is_befo
 returns-then-not-is_before_step-clause-cargo g c = λ told all rest serving hand. hand
 
 pub returns-in_err-fetch-clause-cargo : goal.returns-in_err-fetch-clause-cargo
-returns-in_err-fetch-clause-cargo g c = λ told all rest serving hand.
-    let before : is_before_step c.args.service.now.stage ≡ true = cc in
-    none_keeps _ _ _ _ _ _ _ (before_unloaded _ before) (before_unloaded _ (c.fetch.ensures.before before)) refl told hand
+returns-in_err-fetch-clause-cargo g c = λ told all rest serving hand. c.fetch.ensures.cargo c.args.id told all c.args.records.now.history.items hand
 
 pub returns-in-Busy-clause-cargo : goal.returns-in-Busy-clause-cargo
-returns-in-Busy-clause-cargo g c = λ told all rest serving hand.
-    let before : is_before_step c.args.service.now.stage ≡ true = cc in
-    none_keeps _ _ _ _ _ _ _ (before_unloaded _ before) (before_unloaded _ (c.fetch.ensures.before before)) refl told hand
+returns-in-Busy-clause-cargo g c = λ told all rest serving hand. c.fetch.ensures.cargo c.args.id told all c.args.records.now.history.items hand
 
 pub returns-in-Refused-clause-cargo : goal.returns-in-Refused-clause-cargo
 returns-in-Refused-clause-cargo g c = λ told all rest serving hand.
     let before : is_before_step c.args.service.now.stage ≡ true = cc in
-    c.add_code.ensures.cargo _ _ (before_unloaded _ (c.fetch.ensures.before before)) told
-    (none_keeps _ _ _ (data_bytes (g.S.Site.state c.args.site.now).own) (data_bytes (g.S.Site.state c.args.site.now).own) _ _ (before_unloaded _ before) (before_unloaded _ (c.fetch.ensures.before before)) refl told hand)
+    c.add_code.ensures.cargo _ (before_unloaded _ (c.fetch.ensures.before before)) told (c.fetch.ensures.cargo c.args.id told all c.args.records.now.history.items hand)
 
 pub returns-in-Done-clause-cargo : goal.returns-in-Done-clause-cargo
 returns-in-Done-clause-cargo g c = λ told all rest serving hand.
-    let before : is_before_step c.args.service.now.stage ≡ true = cc in
+    let heard = tells_first told c.args.id (g.S.Site.state c.args.site.now) (g.S.Site.state c.fetch.new.site) (g.S.Site.state c.make_step.new.site) c.make_step.ensures.advances all in
     c.make_step.ensures.cargo told
-    (c.fetch.ensures.named told c.args.id (tells_first told c.args.id (g.S.Site.state c.args.site.now) (g.S.Site.state c.fetch.new.site) (g.S.Site.state c.make_step.new.site) c.make_step.ensures.advances all)
-    (gathers_of _ _ _ _ c.args.request.now rest c.args.command.now c.requires.asked serving.fetched))
-    (none_keeps _ _ _ _ _ _ _ (before_unloaded _ before) (before_unloaded _ (c.fetch.ensures.before before)) refl told hand)
+    (c.fetch.ensures.named told c.args.id heard (gathers_of _ _ _ _ c.args.request.now rest c.args.command.now c.requires.asked serving.fetched))
+    (where_done c.in_ok-fetch.field-0 (IsFetchedAll c.fetch.new.service) c.in-Done.is (c.in_ok-fetch.ensures.all c.args.id told heard c.args.records.now.history.items hand))
+    (c.fetch.ensures.cargo c.args.id told heard c.args.records.now.history.items hand)

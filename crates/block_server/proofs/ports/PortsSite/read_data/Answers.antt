@@ -1,3 +1,5 @@
+use Rattle.std.proofs.Common.{arith}
+use Rattle.block_server.proofs.DataPages.{read_data, reads_shown, reads_two}
 use Rattle.std.proofs.Common.{◌∙◌}
 use Rattle.block_server.proofs.FirstPages.{fetches_same, queue_stays}
 use Rattle.block_server.proofs.Advancing.{advances_on}
@@ -16,3 +18,17 @@ pub returns-then-not-is_empty-clause-passes : goal.returns-then-not-is_empty-cla
 returns-then-not-is_empty-clause-passes g c =
     queue_stays _ _ c.read_own-then-not-is_empty.ensures.queue c.read_own-then-not-is_empty.ensures.own.place
     (fetches_same _ _ _ c.read_own-then-not-is_empty.ensures.copies)
+
+pub returns-then-out-gt-MOST_BYTES-clause-data : goal.returns-then-out-gt-MOST_BYTES-clause-data
+returns-then-out-gt-MOST_BYTES-clause-data g c =
+    read_data _ _ _ c.args.self.now.alone c.read_own-then-out-gt-MOST_BYTES.ensures.own ∙ read_data _ _ _ c.args.self.now.alone c.read_own.ensures.own
+
+pub returns-then-not-is_empty-clause-data : goal.returns-then-not-is_empty-clause-data
+returns-then-not-is_empty-clause-data g c = read_data _ _ _ c.args.self.now.alone c.read_own-then-not-is_empty.ensures.own
+
+pub returns-then-out-gt-MOST_BYTES-clause-read : goal.returns-then-out-gt-MOST_BYTES-clause-read
+returns-then-out-gt-MOST_BYTES-clause-read g c =
+    reads_two _ _ _ _ _ c.args.self.now.alone c.read_own-then-out-gt-MOST_BYTES.ensures.own (omega arith) c.read_own.ensures.read c.read_own-then-out-gt-MOST_BYTES.ensures.read
+
+pub returns-then-not-is_empty-clause-read : goal.returns-then-not-is_empty-clause-read
+returns-then-not-is_empty-clause-read g c = reads_shown _ _ c.read_own-then-not-is_empty.ensures.read
