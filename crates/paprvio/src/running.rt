@@ -14,7 +14,7 @@ use crate::summary::summary_text;
 use crate::telling::Telling;
 use boot_text::Plan;
 use std::alloc::Global;
-use vcpu_run::settle_plan;
+use vcpu_run::{Settled, settle_plan};
 use vio_io::{Blocks, Failed};
 use vio_num::NoMemory;
 use vio_trace::{Trace, form_of};
@@ -57,18 +57,15 @@ fn run_counted<Di: Blocks + Drop>(
     ensures image { ¬ IsErrOf result.answer Stop.ImageFailed }
     ensures served { IsServed (Di.state image).blocks (Di.state result.image).blocks }
 {
-    let settled = settle_plan(alloc, plan, image, count);
-    let answer = match settled.trace {
+    let Settled { image, trace } = settle_plan(alloc, plan, image, count);
+    let answer = match trace {
         Some(trace) => match tell(alloc, telling, trace) {
             Ok(answer) => Ok(answer),
             Err(NoMemory) => Err(Stop::NoMemory),
         },
         None => Err(Stop::NoMemory),
     };
-    Answered {
-        image: settled.image,
-        answer,
-    }
+    Answered { image, answer }
 }
 
 /// Counts the blocks of the image, runs the plan over it, and tells what is to be told of that.
