@@ -1,20 +1,20 @@
 // A text of several pieces, which goes to its sink whole.
-ghost use Rattle.std.specs.Prelude.{◌≤◌, IfOk};
+ghost use Rattle.std.specs.Prelude.{◌≡◌, ◌≤◌, IfOk};
 ghost use Rattle.vio_trace.specs.Form.{Ascend, AnswerBefore, IsInOrder};
 
 use super::{CLIENT, nothing};
 use std::alloc::Global;
 use std::test::Fail;
 use vio_io::SureSink;
-use vio_num::{Bytes, NoMemory, Sequence};
+use vio_num::{Bytes, NoMemory, Sequence, UnitId};
 use vio_trace::{AnswerRow, Trace, write_trace};
 
 /// An answer of so many zero bytes.
-fn answer(alloc: Global, len: usize) -> Result<AnswerRow, NoMemory>
-    ensures { IfOk result (λ row. row.unit ≡ CLIENT) }
+fn answer(alloc: Global, unit: UnitId, len: usize) -> Result<AnswerRow, NoMemory>
+    ensures { IfOk result (λ row. row.unit ≡ unit) }
 {
     Ok(AnswerRow {
-        unit: CLIENT,
+        unit,
         session: 1,
         tag: 7,
         answer: Bytes::from(vec![in alloc; 0; len]?),
@@ -26,9 +26,9 @@ fn three_answers(alloc: Global, len: usize) -> Result<Sequence<AnswerRow>, NoMem
     ensures { IfOk result (λ answers. Ascend AnswerBefore answers) }
 {
     let mut answers = Sequence::new(alloc);
-    answers.push(answer(alloc, len)?)?;
-    answers.push(answer(alloc, len)?)?;
-    answers.push(answer(alloc, len)?)?;
+    answers.push(answer(alloc, CLIENT, len)?)?;
+    answers.push(answer(alloc, CLIENT, len)?)?;
+    answers.push(answer(alloc, CLIENT, len)?)?;
     Ok(answers)
 }
 
