@@ -64,3 +64,5 @@ pub mod Reaching
 pub mod OwingCalls
 pub mod OwedLaws
 pub mod OwingTurn
+pub mod Refusing
+pub mod RefusalLaws

@@ -32,7 +32,7 @@ slice_more xs rest i x e =
     ∙ ap Some (get_or_append_left xs rest x i less ∙ get_or_from_slice_get xs i x x e)
 
 -- the entries of a session stay at their places
-session_more : (q : ℕ) (old new : List PipeRow) (i : ℕ) (entry : Entry) → Begins old new → slice_get (of_session q old) i ≡ Some entry → slice_get (of_session q new) i ≡ Some entry
+pub session_more : (q : ℕ) (old new : List PipeRow) (i : ℕ) (entry : Entry) → Begins old new → slice_get (of_session q old) i ≡ Some entry → slice_get (of_session q new) i ≡ Some entry
 session_more q old new i entry more e =
     ap (λ rows. slice_get (of_session q rows) i) more.1 ∙ ap (λ xs. slice_get xs i) (of_session-append q old more.0)
     ∙ slice_more (of_session q old) (of_session q more.0) i entry e

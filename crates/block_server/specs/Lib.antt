@@ -25,6 +25,7 @@ pub mod Parts
 pub mod Ready
 pub mod Receipts
 pub mod Records
+pub mod Refusals
 pub mod Responses
 pub mod Service
 pub mod Serving

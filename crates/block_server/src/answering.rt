@@ -16,6 +16,8 @@ ghost use Rattle.block_server.specs.Moves.{Passes};
 ghost use Rattle.block_server.specs.Owed.{AreCutOff, HasAnswers, IsUp, KeepsAnswers, KeepsAnswersBy, row_states, owing_of};
 ghost use Rattle.block_server.specs.Receipts.{LinesMore, TakesIn, is_ended, standing_of};
 ghost use Rattle.block_server.specs.Ready.{MeetsFull};
+ghost use Rattle.block_server.specs.Refusals.{DeniesAnswer, Explains, ExplainsBy, basis_at, basis_of};
+ghost use Rattle.crq_ring.specs.declared.rows.PipeRow.{PipeRow};
 ghost use Rattle.block_server.specs.Stage.{is_answered};
 ghost use Rattle.block_server.specs.Turns.{IfQuiet};
 ghost use Rattle.block_server.specs.Waits.{AsNext, IsEntryDue, IsHeldUp, IsPending, MeetsUse, PassesKept, StaysAgreed};
@@ -58,6 +60,9 @@ pub(crate) fn put_reply<S: Site>(unit: &mut Unit, site: &mut S, reply: Entry) ->
         (S.state site.old) (S.state site.new) records records }
     ensures cargo { (records : Records) → cargo_of unit.new (S.state site.new) records ≡
         cargo_of unit.old (S.state site.old) records }
+    ensures refuses { (records : Records) → Explains
+        (basis_of unit.old (S.state site.old) records)
+        (basis_of unit.new (S.state site.new) records) }
 {
     match site.send(reply) {
         SendAnswer::Dropped { .. } => {
@@ -272,6 +277,8 @@ pub(crate) fn log_out(unit: &mut Unit, session: u64, records: &mut Records)
         is_loaded unit.old.service.stage ≡ false → KeepsCargo
         (cargo_at unit.old.id unit.old.service shown records.old.history.items)
         (cargo_at unit.new.id unit.new.service shown' records.new.history.items) }
+    ensures refuses { (queue : ℕ) → (taken : List PipeRow) → Explains
+        (basis_at unit.old queue taken records.old) (basis_at unit.new queue taken records.new) }
 {
     let login = unit.logins.end();
     records.grants.push_reserved(Grant::Lapsed {
@@ -318,6 +325,9 @@ pub(crate) fn answer<S: Site>(
         (books_at unit.new (S.state site.new) records.new) }
     ensures cargo { KeepsCargo (cargo_of unit.old (S.state site.old) records.old)
         (cargo_of unit.new (S.state site.new) records.new) }
+    ensures refuses { ExplainsBy (S.state site.old) (S.state site.new)
+        (basis_of unit.old (S.state site.old) records.old)
+        (basis_of unit.new (S.state site.new) records.new) }
 {
     records.make_room()?;
     unit.logins.make_room()?;
@@ -364,6 +374,9 @@ fn copy_answer<S: Site>(
         (books_at unit.new (S.state site.new) records.new) }
     ensures cargo { KeepsCargo (cargo_of unit.old (S.state site.old) records.old)
         (cargo_of unit.new (S.state site.new) records.new) }
+    ensures refuses { ExplainsBy (S.state site.old) (S.state site.new)
+        (basis_of unit.old (S.state site.old) records.old)
+        (basis_of unit.new (S.state site.new) records.new) }
 {
     let Stage::Answer(outcome) = unit.service.stage else {
         return Ok(());
@@ -403,6 +416,9 @@ fn deliver<S: Site>(unit: &mut Unit, site: &mut S, outcome: Outcome) -> Result<P
         (S.state site.old) (S.state site.new) records records }
     ensures cargo { (records : Records) → cargo_of unit.new (S.state site.new) records ≡
         cargo_of unit.old (S.state site.old) records }
+    ensures refused { IfOk result (λ progress. progress ≡ Progress.Refused →
+        DeniesAnswer (S.state site.old) (S.state site.new) unit.old.pending.items) }
+    ensures pending { unit.new.pending.items ≡ unit.old.pending.items }
 {
     let Some(request) = unit.pending.front() else {
         return Ok(Progress::Busy);
@@ -445,6 +461,9 @@ fn put_answer<S: Site>(unit: &mut Unit, site: &mut S, records: &mut Records, out
         records.old records.new }
     ensures cargo { cargo_of unit.new (S.state site.new) records.new ≡
         cargo_of unit.old (S.state site.old) records.old }
+    ensures refuses { Explains
+        (basis_of unit.old (S.state site.old) records.old)
+        (basis_of unit.new (S.state site.new) records.new) }
 {
     let Some(request) = unit.pending.front() else {
         return;
@@ -496,6 +515,9 @@ pub(crate) fn put_kept<S: Site>(
         IsServing terms (desk_of unit.old) records.old.history.items →
         cargo_of unit.new (S.state site.new) records.new ≡
         cargo_of unit.old (S.state site.old) records.old }
+    ensures refuses { Explains
+        (basis_of unit.old (S.state site.old) records.old)
+        (basis_of unit.new (S.state site.new) records.new) }
 {
     let Some(kept) = unit.line.kept else {
         return Ok(Next::Entry);
@@ -545,6 +567,8 @@ fn settle(unit: &mut Unit, session: u64, records: &mut Records, outcome: Outcome
         is_ended unit.old.line ≡ false → IsUp q → HasAnswers (owing_of unit.old q records.old) →
         HasAnswers (owing_of unit.new q records.new) }
     ensures rows { rows_of records.new.history.items ≡ rows_of records.old.history.items }
+    ensures refuses { (queue : ℕ) → (taken : List PipeRow) → Explains
+        (basis_at unit.old queue taken records.old) (basis_at unit.new queue taken records.new) }
 {
     match outcome {
         Outcome::Granted { number } => {

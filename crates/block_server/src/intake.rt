@@ -3,6 +3,8 @@ ghost use Rattle.block_server.specs.Cargo.{KeepsCargo, cargo_at, cargo_of};
 ghost use Rattle.std.specs.Prelude.{◌≡◌, ◌⊎◌, ◌↔◌, ◌+◌, ◌<◌, ◌≤◌, ℕ, List, None, Some, IfOk, IsTrue, OnOk, false, true, length, slice_index};
 ghost use Rattle.std.specs.VecDeque.{deque_len, deque_capacity};
 ghost use Rattle.block_server.specs.Records.{HasLineRoom};
+ghost use Rattle.block_server.specs.Refusals.{Explains, ExplainsBy, IsSrpAt, basis_at, basis_of};
+ghost use Rattle.crq_ring.specs.declared.rows.PipeRow.{PipeRow};
 ghost use Rattle.block_server.specs.Advances.{Advances};
 ghost use Rattle.block_server.specs.Ready.{Idles};
 ghost use Rattle.block_server.specs.Turns.{IfQuiet, StaysMoved, under_way};
@@ -112,6 +114,10 @@ pub(crate) fn take_in<S: Site>(
         (S.state site.old) (S.state site.new) records.old records.new }
     ensures cargo { KeepsCargo (cargo_of unit.old (S.state site.old) records.old)
         (cargo_of unit.new (S.state site.new) records.new) }
+    ensures refuses { is_ended unit.old.line ≡ false →
+        ExplainsBy (S.state site.old) (S.state site.new)
+        (basis_of unit.old (S.state site.old) records.old)
+        (basis_of unit.new (S.state site.new) records.new) }
 {
     let next = receive_waiting(unit, site, records)?;
     if next != Next::Entry {
@@ -161,6 +167,9 @@ fn receive_waiting<S: Site>(
         (S.state site.old) (S.state site.new) records.old records.new }
     ensures cargo { KeepsCargo (cargo_of unit.old (S.state site.old) records.old)
         (cargo_of unit.new (S.state site.new) records.new) }
+    ensures refuses { ExplainsBy (S.state site.old) (S.state site.new)
+        (basis_of unit.old (S.state site.old) records.old)
+        (basis_of unit.new (S.state site.new) records.new) }
 {
     let Some(arrival) = unit.waiting else {
         return Ok(Next::Entry);
@@ -188,6 +197,8 @@ fn make_room(unit: &mut Unit, records: &mut Records) -> Result<(), NoMemory>
     ensures cargo { (shown : ℕ → ℕ) →
         cargo_at unit.new.id unit.new.service shown records.new.history.items ≡
         cargo_at unit.old.id unit.old.service shown records.old.history.items }
+    ensures refuses { (queue : ℕ) → (taken : List PipeRow) → Explains
+        (basis_at unit.old queue taken records.old) (basis_at unit.new queue taken records.new) }
 {
     unit.pending.reserve(1)?;
     records.make_room()
@@ -225,6 +236,10 @@ fn take_one<S: Site>(unit: &mut Unit, site: &mut S, records: &mut Records) -> Re
         (S.state site.old) (S.state site.new) records.old records.new }
     ensures cargo { KeepsCargo (cargo_of unit.old (S.state site.old) records.old)
         (cargo_of unit.new (S.state site.new) records.new) }
+    ensures refuses { MayTake (standing_of unit.old) →
+        ExplainsBy (S.state site.old) (S.state site.new)
+        (basis_of unit.old (S.state site.old) records.old)
+        (basis_of unit.new (S.state site.new) records.new) }
 {
     site.reserve(2)?;
     let PollAnswer::Got { number, entry } = site.poll() else {
@@ -285,6 +300,12 @@ fn take_command<S: Site>(
         (S.state site.old) (S.state site.new) records.old records.new }
     ensures cargo { KeepsCargo (cargo_of unit.old (S.state site.old) records.old)
         (cargo_of unit.new (S.state site.new) records.new) }
+    ensures refuses { (before : SiteState) → MayTake (standing_of unit.old) →
+        first_byte arrival.entry ≡ 0x80 →
+        TakesEntry before (S.state site.old) arrival.number arrival.entry →
+        ExplainsBy (S.state site.old) (S.state site.new)
+        (basis_of unit.old before records.old)
+        (basis_of unit.new (S.state site.new) records.new) }
 {
     match arrival.entry.format() {
         SRP => {
@@ -331,6 +352,10 @@ fn receive<S: Site>(
         (S.state site.old) (S.state site.new) records.old records.new }
     ensures cargo { KeepsCargo (cargo_of unit.old (S.state site.old) records.old)
         (cargo_of unit.new (S.state site.new) records.new) }
+    ensures refuses { unit.old.waiting ≡ Some arrival →
+        ExplainsBy (S.state site.old) (S.state site.new)
+        (basis_of unit.old (S.state site.old) records.old)
+        (basis_of unit.new (S.state site.new) records.new) }
 {
     let session = site.session();
     if !unit.line.is_up() {
@@ -387,6 +412,10 @@ fn judge(
     ensures cargo { (shown : ℕ → ℕ) → KeepsCargo
         (cargo_at unit.old.id unit.old.service shown records.old.history.items)
         (cargo_at unit.new.id unit.new.service shown records.new.history.items) }
+    ensures refuses { (queue : ℕ) → (taken : List PipeRow) →
+        is_ended unit.old.line ≡ false → unit.old.waiting ≡ None →
+        IsSrpAt taken queue arrival.number arrival.entry → Explains
+        (basis_at unit.old queue taken records.old) (basis_at unit.new queue taken records.new) }
 {
     match judge_unit(&mut unit.logins, bytes) {
         Verdict::Ignored => Next::Entry,

@@ -14,6 +14,7 @@ ghost use Rattle.block_server.specs.Owed.{KeepsAnswersBy, MovesRow, row_states, 
 ghost use Rattle.block_server.specs.Receipts.{TakesIn, standing_of};
 ghost use Rattle.block_server.specs.Orders.{IsCauseOf, IsCodeOf};
 ghost use Rattle.block_server.specs.Records.{AddsRow};
+ghost use Rattle.block_server.specs.Refusals.{ExplainsBy, basis_of};
 ghost use Rattle.block_server.specs.Serving.{AnswersOnce, AnswersOnceIf, AnswersOnceOn, IsServing, desk_at, desk_of, held, terms_of};
 ghost use Rattle.block_server.specs.Heard.{TellsAll, heard_between};
 ghost use Rattle.tce_window.specs.declared.answers.Right.TheVariants.{Write};
@@ -84,6 +85,9 @@ pub(crate) fn serve<S: Site, B: Blocks>(
         IsServing (terms_of told disk.old.count) (desk_of unit.old) records.old.history.items →
         IsAccounted told (cargo_of unit.old (S.state site.old) records.old) →
         IsAccounted told (cargo_of unit.new (S.state site.new) records.new) }
+    ensures refuses { ExplainsBy (S.state site.old) (S.state site.new)
+        (basis_of unit.old (S.state site.old) records.old)
+        (basis_of unit.new (S.state site.new) records.new) }
 {
     let Some(request) = unit.pending.front() else {
         return Ok(());

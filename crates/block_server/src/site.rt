@@ -146,6 +146,8 @@ pub(crate) trait Site {
     fn fetch_unit(&mut self, address: u64, out: &mut [u8]) -> Result<(), Halt>
         requires some { 1 ≤ length out.old }
         requires few { length out.old ≤ 256 }
+        ensures refused { IsErrOf result Halt.Refused →
+            IsDeniedBetween (state self.old) (state self.new) Read address (length out.old) }
         ensures busy { IsErrOf result Halt.Busy →
             MeetsUse (state self.old) (state self.new) }
         ensures queue { (state self.new).queue ≡ (state self.old).queue }
@@ -175,6 +177,8 @@ pub(crate) trait Site {
     fn deliver_unit(&mut self, address: u64, bytes: &[u8], mark: u64) -> Result<(), Halt>
         requires some { 1 ≤ length bytes.now }
         requires few { length bytes.now ≤ 256 }
+        ensures refused { IsErrOf result Halt.Refused → IsDeniedBetween
+            (state self.old) (state self.new) Write address (length bytes.now) }
         ensures busy { IsErrOf result Halt.Busy →
             MeetsUse (state self.old) (state self.new) }
         ensures queue { (state self.new).queue ≡ (state self.old).queue }

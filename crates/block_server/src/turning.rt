@@ -12,6 +12,7 @@ ghost use Rattle.block_server.specs.Owed.{KeepsAnswers, KeepsAnswersAll};
 ghost use Rattle.block_server.specs.Receipts.{TakesIn, is_ended, standing_of};
 ghost use Rattle.block_server.specs.Heard.{TellsAll};
 ghost use Rattle.block_server.specs.Ready.{Agrees, Idles, MeetsFull, MeetsSender};
+ghost use Rattle.block_server.specs.Refusals.{Explains, ExplainsBy, basis_of};
 ghost use Rattle.block_server.specs.Turns.{IfQuiet, IsQuietTurn};
 ghost use Rattle.block_server.specs.Waits.{AsNext, IsIdle, PassesEvent, StandsOpen, StaysAgreed, StopsOpening};
 
@@ -64,6 +65,9 @@ pub(crate) fn turn<S: Site, B: Blocks>(
         IsServing (terms_of told disk.old.count) (desk_of unit.old) records.old.history.items →
         IsAccounted told (cargo_of unit.old (S.state site.old) records.old) →
         IsAccounted told (cargo_of unit.new (S.state site.new) records.new) }
+    ensures refuses { ExplainsBy (S.state site.old) (S.state site.new)
+        (basis_of unit.old (S.state site.old) records.old)
+        (basis_of unit.new (S.state site.new) records.new) }
 {
     unit.moved = false;
     steps(unit, site, records, disk)?;
@@ -108,6 +112,9 @@ fn steps<S: Site, B: Blocks>(
         IsServing (terms_of told disk.old.count) (desk_of unit.old) records.old.history.items →
         IsAccounted told (cargo_of unit.old (S.state site.old) records.old) →
         IsAccounted told (cargo_of unit.new (S.state site.new) records.new) }
+    ensures refuses { ExplainsBy (S.state site.old) (S.state site.new)
+        (basis_of unit.old (S.state site.old) records.old)
+        (basis_of unit.new (S.state site.new) records.new) }
 {
     if open_line(unit, site)? == Next::End {
         return Ok(());
@@ -149,6 +156,9 @@ fn open_line<S: Site>(unit: &mut Unit, site: &mut S) -> Result<Next, NoMemory>
         (S.state site.old) (S.state site.new) records records }
     ensures cargo { (records : Records) → cargo_of unit.new (S.state site.new) records ≡
         cargo_of unit.old (S.state site.old) records }
+    ensures refuses { (records : Records) → Explains
+        (basis_of unit.old (S.state site.old) records)
+        (basis_of unit.new (S.state site.new) records) }
 {
     site.reserve(FIRST_CALLS)?;
     if push_event(unit, site) == Next::End {
@@ -186,6 +196,9 @@ fn push_event<S: Site>(unit: &mut Unit, site: &mut S) -> Next
         (S.state site.old) (S.state site.new) records records }
     ensures cargo { (records : Records) → cargo_of unit.new (S.state site.new) records ≡
         cargo_of unit.old (S.state site.old) records }
+    ensures refuses { (records : Records) → Explains
+        (basis_of unit.old (S.state site.old) records)
+        (basis_of unit.new (S.state site.new) records) }
 {
     match site.push_event() {
         EventAnswer::Nothing => Next::Entry,
@@ -219,6 +232,9 @@ fn free_closed<S: Site>(unit: &mut Unit, site: &mut S) -> Next
         (S.state site.old) (S.state site.new) records records }
     ensures cargo { (records : Records) → cargo_of unit.new (S.state site.new) records ≡
         cargo_of unit.old (S.state site.old) records }
+    ensures refuses { (records : Records) → Explains
+        (basis_of unit.old (S.state site.old) records)
+        (basis_of unit.new (S.state site.new) records) }
 {
     if !unit.line.closing {
         return Next::Entry;
@@ -251,6 +267,9 @@ fn free<S: Site>(unit: &mut Unit, site: &mut S) -> Next
         (S.state site.old) (S.state site.new) records records }
     ensures cargo { (records : Records) → cargo_of unit.new (S.state site.new) records ≡
         cargo_of unit.old (S.state site.old) records }
+    ensures refuses { (records : Records) → unit.old.line.closing ≡ true → Explains
+        (basis_of unit.old (S.state site.old) records)
+        (basis_of unit.new (S.state site.new) records) }
 {
     match site.free() {
         FreeAnswer::Busy { .. } => Next::End,
@@ -292,6 +311,9 @@ fn register<S: Site>(unit: &mut Unit, site: &mut S)
         (S.state site.old) (S.state site.new) records records }
     ensures cargo { (records : Records) → cargo_of unit.new (S.state site.new) records ≡
         cargo_of unit.old (S.state site.old) records }
+    ensures refuses { (records : Records) → Explains
+        (basis_of unit.old (S.state site.old) records)
+        (basis_of unit.new (S.state site.new) records) }
 {
     match site.register() {
         RegAnswer::Success => begin(unit, site),
@@ -321,6 +343,9 @@ fn begin<S: Site>(unit: &mut Unit, site: &mut S)
         (S.state site.old) (S.state site.new) records records }
     ensures cargo { (records : Records) → cargo_of unit.new (S.state site.new) records ≡
         cargo_of unit.old (S.state site.old) records }
+    ensures refuses { (records : Records) → is_ended unit.old.line ≡ true → Explains
+        (basis_of unit.old (S.state site.old) records)
+        (basis_of unit.new (S.state site.new) records) }
 {
     unit.moved = true;
     if let Some(initialize) = reply_of(unit.line.handshake.registered()) {

@@ -21,6 +21,8 @@ use Rattle.block_server.proofs.OwingCalls.{seen_reserves}
 use Rattle.block_server.specs.Cargo.{data_bytes}
 use Rattle.block_server.proofs.Cargoes.{shown_same}
 use Rattle.block_server.proofs.Hands.{keeps_on, keeps_same}
+use Rattle.block_server.proofs.Refusing.{explains_stands}
+use Rattle.block_server.specs.Refusals.{basis_at, basis_of}
 use Rattle.block_server.proofs.answering.answer.Goals as goal
 
 pub returns-in_err-make_room-clause-once : goal.returns-in_err-make_room-clause-once
@@ -211,3 +213,26 @@ returns-in-Entry-clause-cargo g c =
 pub returns-in_default-clause-cargo : goal.returns-in_default-clause-cargo
 returns-in_default-clause-cargo g c =
     keeps_on _ _ _ (keeps_same _ _ (shown_same _ _ _ _ _ _ (ap data_bytes c.reserve.ensures.windows.own) c.make_room.ensures.lists.history)) c.copy_answer.ensures.cargo
+
+pub returns-in_err-make_room-clause-refuses : goal.returns-in_err-make_room-clause-refuses
+returns-in_err-make_room-clause-refuses g c = λ told unit since all. explains_stands c.args.unit.now c.args.unit.now (g.S.Site.state c.args.site.now) (g.S.Site.state c.args.site.now) c.args.records.now c.make_room.new.self refl refl refl c.make_room.ensures.lists.grants told unit since
+
+pub returns-in_err-make_room-2-clause-refuses : goal.returns-in_err-make_room-2-clause-refuses
+returns-in_err-make_room-2-clause-refuses g c = λ told unit since all. explains_stands c.args.unit.now c.args.unit.now (g.S.Site.state c.args.site.now) (g.S.Site.state c.args.site.now) c.args.records.now c.make_room.new.self refl refl refl c.make_room.ensures.lists.grants told unit since
+
+pub returns-in_err-reserve-clause-refuses : goal.returns-in_err-reserve-clause-refuses
+returns-in_err-reserve-clause-refuses g c = λ told unit since all. explains_stands c.args.unit.now c.args.unit.now (g.S.Site.state c.args.site.now) (g.S.Site.state c.reserve.new.self) c.args.records.now c.make_room.new.self refl c.reserve.ensures.passes refl c.make_room.ensures.lists.grants told unit since
+
+pub returns-in_err-copy_answer-clause-refuses : goal.returns-in_err-copy_answer-clause-refuses
+returns-in_err-copy_answer-clause-refuses g c = λ told unit since all is.
+    c.copy_answer.ensures.refuses told unit since (tells_next told unit (g.S.Site.state c.args.site.now) (g.S.Site.state c.reserve.new.self) (g.S.Site.state c.copy_answer.new.site) c.reserve.ensures.advances all) (explains_stands c.args.unit.now c.args.unit.now (g.S.Site.state c.args.site.now) (g.S.Site.state c.reserve.new.self) c.args.records.now c.make_room.new.self refl c.reserve.ensures.passes refl c.make_room.ensures.lists.grants told unit since is)
+
+pub returns-in_default-clause-refuses : goal.returns-in_default-clause-refuses
+returns-in_default-clause-refuses g c = λ told unit since all is.
+    c.copy_answer.ensures.refuses told unit since (tells_next told unit (g.S.Site.state c.args.site.now) (g.S.Site.state c.reserve.new.self) (g.S.Site.state c.copy_answer.new.site) c.reserve.ensures.advances all) (explains_stands c.args.unit.now c.args.unit.now (g.S.Site.state c.args.site.now) (g.S.Site.state c.reserve.new.self) c.args.records.now c.make_room.new.self refl c.reserve.ensures.passes refl c.make_room.ensures.lists.grants told unit since is)
+
+pub returns-in-Entry-clause-refuses : goal.returns-in-Entry-clause-refuses
+returns-in-Entry-clause-refuses g c = λ told unit since all is.
+    let heard = tells_first told unit (g.S.Site.state c.args.site.now) (g.S.Site.state c.copy_answer.new.site) (g.S.Site.state c.put_answer.new.site) c.put_answer.ensures.advances all in
+    c.put_answer.ensures.refuses told unit since (c.copy_answer.ensures.refuses told unit since (tells_next told unit (g.S.Site.state c.args.site.now) (g.S.Site.state c.reserve.new.self) (g.S.Site.state c.copy_answer.new.site) c.reserve.ensures.advances heard)
+    (explains_stands c.args.unit.now c.args.unit.now (g.S.Site.state c.args.site.now) (g.S.Site.state c.reserve.new.self) c.args.records.now c.make_room.new.self refl c.reserve.ensures.passes refl c.make_room.ensures.lists.grants told unit since is))

@@ -16,6 +16,12 @@ use Rattle.block_server.proofs.OwingCalls.{entry_row, owes_stage}
 use Rattle.block_server.specs.Owed.{row_in}
 use Rattle.block_server.specs.Cargo.{is_moving}
 use Rattle.block_server.proofs.Cargoes.{none_seen}
+use Rattle.std.proofs.Common.{true, length}
+use Rattle.block_server.specs.declared.service.Stage.{Stage}
+use Rattle.block_server.specs.Stage.{has_answer}
+use Rattle.block_server.specs.declared.site.Halt.TheVariants as halts
+use Rattle.block_server.specs.Entries.{is_answer_len}
+use Rattle.block_server.proofs.Refusing.{fits_answer}
 use Rattle.block_server.proofs.answering.deliver.Goals as goal
 
 pub returns-in_default-clause-once : goal.returns-in_default-clause-once
@@ -87,3 +93,18 @@ returns-in-Err-Busy-clause-cargo g c = λ records. none_seen _ _ _ _ _ _ _ c.del
 
 pub returns-in-Err-NoMemory-clause-cargo : goal.returns-in-Err-NoMemory-clause-cargo
 returns-in-Err-NoMemory-clause-cargo g c = λ records. none_seen _ _ _ _ _ _ _ c.deliver_unit.ensures.data (ap is_moving c.requires.stage) (ap is_moving c.requires.stage) refl
+
+pub returns-in-Err-Refused-clause-refused : goal.returns-in-Err-Refused-clause-refused
+returns-in-Err-Refused-clause-refused g c = λ is.
+    let refused : IsErrOf c.deliver_unit.result halts.Refused = cc (c.in-Err-Refused.is, c.in-Err-Refused.field-0-is) in
+    let front = front_is _ _ c.in-Some.ensures.item.3 in
+    let same : c.deref.result.now ≡ c.args.unit.now.service.answer.items = search (rules, c.deref.ensures) in
+    let fits = subst (λ (stage : Stage). has_answer stage (length c.args.unit.now.service.answer.items) ≡ true) c.requires.stage c.args.unit.now.service.answered in
+    record {
+      front = c.in-Some.request.now;
+      rest = front.0;
+      parts = front.1;
+      len = length c.deref.result.now;
+      answers = ap (λ (bytes : List ℕ). is_answer_len (length bytes)) same ∙ fits_answer c.args.outcome _ fits;
+      denied_is = c.deliver_unit.ensures.refused refused;
+    }

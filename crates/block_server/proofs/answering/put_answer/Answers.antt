@@ -23,6 +23,9 @@ use Rattle.block_server.proofs.Owing.{owes_seen}
 use Rattle.block_server.proofs.OwingCalls.{owes_discarded, pending_going, seen_sends}
 use Rattle.block_server.specs.Cargo.{data_bytes, is_moving}
 use Rattle.block_server.proofs.Cargoes.{named_same, none_seen}
+use Rattle.block_server.proofs.Refusing.{explains_finished, explains_same, explains_stands}
+use Rattle.block_server.proofs.Taking.{ended_stands, passed_taken}
+use Rattle.block_server.specs.Refusals.{basis_at, basis_of}
 use Rattle.block_server.proofs.answering.put_answer.Goals as goal
 
 pub returns-in_default-clause-once : goal.returns-in_default-clause-once
@@ -119,3 +122,16 @@ pub returns-in_default-send-clause-cargo : goal.returns-in_default-send-clause-c
 returns-in_default-send-clause-cargo g c =
     named_same _ _ _ _ _ _ _ _ c.finish.ensures.id
     (none_seen _ _ _ _ _ _ _ (ap data_bytes c.send.ensures.windows.own) (ap is_moving c.requires.stage) (ap is_moving c.finish.ensures.stage) refl)
+
+pub returns-in-Success-clause-refuses : goal.returns-in-Success-clause-refuses
+returns-in-Success-clause-refuses g c = λ told unit since is.
+    c.settle.ensures.refuses (g.S.Site.state c.send.new.self).queue.last_session (g.S.Site.state c.send.new.self).queue.taken told unit since
+    (explains_stands c.args.unit.now c.args.unit.now (g.S.Site.state c.args.site.now) (g.S.Site.state c.send.new.self) c.args.records.now c.args.records.now refl c.send.ensures.passes refl refl told unit since is)
+
+pub returns-in-Dropped-clause-refuses : goal.returns-in-Dropped-clause-refuses
+returns-in-Dropped-clause-refuses g c = explains_same (basis_of c.args.unit.now (g.S.Site.state c.args.site.now) c.args.records.now) _ (passed_session _ _ c.send.ensures.passes) (passed_taken _ _ c.send.ensures.passes) refl refl refl refl
+
+pub returns-in_default-send-clause-refuses : goal.returns-in_default-send-clause-refuses
+returns-in_default-send-clause-refuses g c =
+    explains_finished (basis_of c.args.unit.now (g.S.Site.state c.args.site.now) c.args.records.now) (basis_of c.finish.new.unit (g.S.Site.state c.send.new.self) c.args.records.now) (passed_session _ _ c.send.ensures.passes) (passed_taken _ _ c.send.ensures.passes)
+    (waiting_stands _ _ c.finish.ensures.stands) (ended_stands _ _ c.finish.ensures.stands) c.finish.ensures.pending refl

@@ -29,6 +29,9 @@ use Rattle.block_server.proofs.Owing.{owes_seen, seen_same}
 use Rattle.block_server.proofs.OwingCalls.{entry_going, owes_discarded, seen_on, seen_reserves, seen_sends}
 use Rattle.block_server.specs.Cargo.{data_bytes, is_moving, rows_of}
 use Rattle.block_server.proofs.Cargoes.{named_same, none_seen}
+use Rattle.block_server.proofs.Refusing.{explains_finished, explains_same, explains_stands}
+use Rattle.block_server.proofs.Taking.{ended_stands, passed_taken}
+use Rattle.block_server.specs.Refusals.{basis_at, basis_of}
 use Rattle.block_server.proofs.answering.put_kept.Goals as goal
 
 pub returns-in_default-clause-once : goal.returns-in_default-clause-once
@@ -209,3 +212,31 @@ returns-in-Answer-kept-clause-cargo g c = λ terms serving.
     named_same _ _ _ _ _ _ _ _ c.finish.ensures.id
     (none_seen _ _ _ _ _ _ _ (ap data_bytes c.send.ensures.windows.own ∙ ap data_bytes c.reserve.ensures.windows.own) (ap is_moving is.stage) (ap is_moving c.finish.ensures.stage)
     (ap rows_of c.make_room.ensures.lists.history))
+
+pub returns-in_err-make_room-clause-refuses : goal.returns-in_err-make_room-clause-refuses
+returns-in_err-make_room-clause-refuses g c = explains_stands c.args.unit.now c.args.unit.now (g.S.Site.state c.args.site.now) (g.S.Site.state c.args.site.now) c.args.records.now c.make_room.new.self refl refl refl c.make_room.ensures.lists.grants
+
+pub returns-in_err-make_room-2-clause-refuses : goal.returns-in_err-make_room-2-clause-refuses
+returns-in_err-make_room-2-clause-refuses g c = explains_stands c.args.unit.now c.args.unit.now (g.S.Site.state c.args.site.now) (g.S.Site.state c.args.site.now) c.args.records.now c.make_room.new.self refl refl refl c.make_room.ensures.lists.grants
+
+pub returns-in_err-reserve-clause-refuses : goal.returns-in_err-reserve-clause-refuses
+returns-in_err-reserve-clause-refuses g c = explains_stands c.args.unit.now c.args.unit.now (g.S.Site.state c.args.site.now) _ c.args.records.now c.make_room.new.self refl c.reserve.ensures.passes refl c.make_room.ensures.lists.grants
+
+pub returns-in-Dropped-clause-refuses : goal.returns-in-Dropped-clause-refuses
+returns-in-Dropped-clause-refuses g c = explains_stands c.args.unit.now c.args.unit.now (g.S.Site.state c.args.site.now) (g.S.Site.state c.send.new.self) c.args.records.now c.make_room.new.self refl (c.send.ensures.passes ∙ c.reserve.ensures.passes) refl c.make_room.ensures.lists.grants
+
+pub returns-in_default-kept-clause-refuses : goal.returns-in_default-kept-clause-refuses
+returns-in_default-kept-clause-refuses g c = explains_same (basis_of c.args.unit.now (g.S.Site.state c.args.site.now) c.args.records.now) _ (passed_session _ _ (c.send.ensures.passes ∙ c.reserve.ensures.passes)) (passed_taken _ _ (c.send.ensures.passes ∙ c.reserve.ensures.passes)) refl refl refl c.make_room.ensures.lists.grants
+
+pub returns-in_default-kept-2-clause-refuses : goal.returns-in_default-kept-2-clause-refuses
+returns-in_default-kept-2-clause-refuses g c = explains_same (basis_of c.args.unit.now (g.S.Site.state c.args.site.now) c.args.records.now) _ (passed_session _ _ (c.send.ensures.passes ∙ c.reserve.ensures.passes)) (passed_taken _ _ (c.send.ensures.passes ∙ c.reserve.ensures.passes)) refl refl refl c.make_room.ensures.lists.grants
+
+pub returns-in-Answer-clause-refuses : goal.returns-in-Answer-clause-refuses
+returns-in-Answer-clause-refuses g c = λ told unit since is.
+    c.settle.ensures.refuses (g.S.Site.state c.send.new.self).queue.last_session (g.S.Site.state c.send.new.self).queue.taken told unit since
+    (explains_stands c.args.unit.now c.args.unit.now (g.S.Site.state c.args.site.now) (g.S.Site.state c.send.new.self) c.args.records.now c.make_room.new.self refl (c.send.ensures.passes ∙ c.reserve.ensures.passes) refl c.make_room.ensures.lists.grants told unit since is)
+
+pub returns-in-Answer-kept-clause-refuses : goal.returns-in-Answer-kept-clause-refuses
+returns-in-Answer-kept-clause-refuses g c =
+    explains_finished (basis_of c.args.unit.now (g.S.Site.state c.args.site.now) c.args.records.now) (basis_of c.finish.new.unit (g.S.Site.state c.send.new.self) c.make_room.new.self) (passed_session _ _ (c.send.ensures.passes ∙ c.reserve.ensures.passes))
+    (passed_taken _ _ (c.send.ensures.passes ∙ c.reserve.ensures.passes)) (waiting_stands _ _ c.finish.ensures.stands) (ended_stands _ _ c.finish.ensures.stands) c.finish.ensures.pending c.make_room.ensures.lists.grants

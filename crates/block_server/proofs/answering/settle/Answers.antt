@@ -17,6 +17,9 @@ use Rattle.block_server.proofs.OwingCalls.{served_bytes}
 use Rattle.block_server.specs.Answering.{has_bytes}
 use Rattle.block_server.specs.Owed.{row_states, row_in}
 use Rattle.vio_num.specs.declared.history.Grant.TheVariants.{Granted}
+use Rattle.block_server.proofs.Refusing.{explains_finished, explains_settled}
+use Rattle.block_server.proofs.Taking.{ended_stands, waiting_stands}
+use Rattle.block_server.specs.Refusals.{basis_at}
 use Rattle.block_server.proofs.answering.settle.Goals as goal
 use Rattle.block_server.proofs.answering.settle.Goals.{in-Granted, in-Rejected, in-Served}
 
@@ -45,4 +48,19 @@ returns-clause-answers c = λ q stage going up has.
           (ap has_bytes w.take_answer-answer.ensures.answer ∙ served_bytes c.args.unit.now.service.stage w.in-Served.row c.args.unit.now.service.answer.items (stage ∙ ap Entry w.in-Served.is) c.args.unit.now.service.answered)
           w.answer-in-Served.ensures.row (c.finish.ensures.id ∙ ap (λ (u : ServerUnit). u.id) w.unit-is) (ap (λ (l : Logins). l.current) c.finish.ensures.logins ∙ ap (λ (u : ServerUnit). u.logins.current) w.unit-is ∙ w.answer.ensures.current) (ap row_in c.finish.ensures.stage) (ap is_ended c.finish.ensures.line ∙ ap (λ (u : ServerUnit). is_ended u.line) w.unit-is) refl
           (ap (λ (r : Records). r.grants.items) w.records-is ∙ ap (λ (v : Vec Grant Global). v.items) w.answer-in-Served.ensures.grants) has
+    ]
+
+pub returns-clause-refuses : goal.returns-clause-refuses
+returns-clause-refuses c = λ queue taken.
+    elim c.match-outcome.branch [
+      | in-Granted w ↦ explains_settled (basis_at c.args.unit.now queue taken c.args.records.now) _ (Granted c.args.unit.now.id c.args.session w.begin-login.result w.in-Granted.number w.credits-credits.result) refl refl
+          (waiting_stands _ _ c.finish.ensures.stands ∙ ap (λ (u : ServerUnit). u.waiting) w.unit-is) (ended_stands _ _ c.finish.ensures.stands ∙ ap (λ (u : ServerUnit). is_ended u.line) w.unit-is)
+          (c.finish.ensures.pending ∙ ap (λ (u : ServerUnit). drop 1 u.pending.items) w.unit-is) (ap (λ (r : Records). r.grants.items) w.records-is ∙ w.push_reserved.ensures.items) (λ Hears unit. tt)
+      | in-Rejected w ↦ explains_finished (basis_at c.args.unit.now queue taken c.args.records.now) _ refl refl
+          (waiting_stands _ _ c.finish.ensures.stands ∙ ap (λ (u : ServerUnit). u.waiting) w.unit-is) (ended_stands _ _ c.finish.ensures.stands ∙ ap (λ (u : ServerUnit). is_ended u.line) w.unit-is)
+          (c.finish.ensures.pending ∙ ap (λ (u : ServerUnit). drop 1 u.pending.items) w.unit-is) (ap (λ (r : Records). r.grants.items) w.records-is)
+      | in-Served w ↦ explains_finished (basis_at c.args.unit.now queue taken c.args.records.now) _ refl refl
+          (waiting_stands _ _ c.finish.ensures.stands ∙ ap (λ (u : ServerUnit). u.waiting) w.unit-is) (ended_stands _ _ c.finish.ensures.stands ∙ ap (λ (u : ServerUnit). is_ended u.line) w.unit-is)
+          (c.finish.ensures.pending ∙ ap (λ (u : ServerUnit). drop 1 u.pending.items) w.unit-is)
+          (ap (λ (r : Records). r.grants.items) w.records-is ∙ ap (λ (v : Vec Grant Global). v.items) w.answer-in-Served.ensures.grants)
     ]

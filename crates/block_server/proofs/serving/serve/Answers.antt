@@ -34,6 +34,9 @@ use Rattle.block_server.proofs.Sendings.{other_unloaded}
 use Rattle.block_server.specs.Serving.{IsServing, terms_of}
 use Rattle.block_server.specs.Judged.{is_command}
 use Rattle.block_server.specs.Cargo.{IsAccounted}
+use Rattle.block_server.proofs.Refusing.{explains_same, explains_stands}
+use Rattle.block_server.specs.Refusals.{basis_of}
+use Rattle.block_server.proofs.Taking.{ended_stands}
 use Rattle.block_server.proofs.serving.serve.Goals as goal
 
 pub returns-clause-advances : goal.returns-clause-advances
@@ -292,3 +295,28 @@ returns-clause-cargo g c = λ told all serving hand.
     c.answer.ensures.cargo told
     (subst (IsAccounted told) (sym (cargo_named _ _ _ _ _ _ c.note_stage.ensures.id c.note_stage.ensures.service))
     (c.prepare.ensures.cargo told (tells_first told unit.id (g.S.Site.state c.args.site.now) (g.S.Site.state c.prepare.new.site) (g.S.Site.state c.answer.new.site) c.answer.ensures.advances all) front.0 at hand))
+
+pub returns-in_default-clause-refuses : goal.returns-in_default-clause-refuses
+returns-in_default-clause-refuses g c = λ told unit since all is. is
+
+pub returns-in_err-make_room-clause-refuses : goal.returns-in_err-make_room-clause-refuses
+returns-in_err-make_room-clause-refuses g c = λ told unit since all is.
+    explains_same (basis_of c.args.unit.now (g.S.Site.state c.args.site.now) c.args.records.now) _ refl refl refl refl refl c.make_room.ensures.lists.grants told unit since is
+
+pub returns-in-Logout-clause-refuses : goal.returns-in-Logout-clause-refuses
+returns-in-Logout-clause-refuses g c = λ told unit since all is.
+    c.log_out.ensures.refuses (g.S.Site.state c.args.site.now).queue.last_session (g.S.Site.state c.args.site.now).queue.taken told unit since
+    (explains_same (basis_of c.args.unit.now (g.S.Site.state c.args.site.now) c.args.records.now) (basis_of c.args.unit.now (g.S.Site.state c.args.site.now) c.make_room.new.self) refl refl refl refl refl c.make_room.ensures.lists.grants told unit since is)
+
+pub returns-in_err-prepare-clause-refuses : goal.returns-in_err-prepare-clause-refuses
+returns-in_err-prepare-clause-refuses g c = λ told unit since all is.
+    explains_same (basis_of c.args.unit.now (g.S.Site.state c.args.site.now) c.args.records.now) _ (ap (λ (q : EndState). q.last_session) c.prepare.ensures.queue) (ap (λ (q : EndState). q.taken) c.prepare.ensures.queue) refl refl refl c.prepare.ensures.grants
+    told unit since is
+
+pub returns-clause-refuses : goal.returns-clause-refuses
+returns-clause-refuses g c = λ told unit since all is.
+    c.answer.ensures.refuses told unit since (tells_next told unit (g.S.Site.state c.args.site.now) (g.S.Site.state c.prepare.new.site) (g.S.Site.state c.answer.new.site) c.prepare.ensures.advances all)
+    (explains_same (basis_of c.args.unit.now (g.S.Site.state c.args.site.now) c.args.records.now) (basis_of c.note_stage.new.unit (g.S.Site.state c.prepare.new.site) c.prepare.new.records)
+    (ap (λ (q : EndState). q.last_session) c.prepare.ensures.queue) (ap (λ (q : EndState). q.taken) c.prepare.ensures.queue)
+    (waiting_stands _ _ c.note_stage.ensures.stands) (ap (λ (way : UnderWay). way.pending) c.note_stage.ensures.way) (ended_stands _ _ c.note_stage.ensures.stands)
+    c.prepare.ensures.grants told unit since is)

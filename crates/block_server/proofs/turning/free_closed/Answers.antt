@@ -24,3 +24,6 @@ returns-then-not-unit-clause-answers g c = λ records alone has. has
 
 pub returns-clause-answers : goal.returns-clause-answers
 returns-clause-answers g c = λ records. c.free.ensures.answers records (search rules)
+
+pub returns-clause-refuses : goal.returns-clause-refuses
+returns-clause-refuses g c = λ records. c.free.ensures.refuses records (search rules)

@@ -282,3 +282,36 @@ returns-clause-cargo g c = λ told all serving hand.
     (tells_next told c.take_in.new.unit.id (g.S.Site.state c.args.site.now) (g.S.Site.state c.take_in.new.site) (g.S.Site.state c.serve.new.site) gone
     (subst (λ (id : UnitId). TellsAll told id (g.S.Site.state c.args.site.now) (g.S.Site.state c.serve.new.site)) (sym opened.id) all)) opened.serving
     (c.take_in.ensures.cargo told (keeps_same _ _ (c.put_kept.ensures.cargo _ first) told (keeps_same _ _ (c.open_line.ensures.cargo c.args.records.now) told hand)))
+
+pub returns-in_err-open_line-clause-refuses : goal.returns-in_err-open_line-clause-refuses
+returns-in_err-open_line-clause-refuses g c = λ told unit since all is. c.open_line.ensures.refuses c.args.records.now told unit since is
+
+pub returns-then-eq-clause-refuses : goal.returns-then-eq-clause-refuses
+returns-then-eq-clause-refuses g c = λ told unit since all is. c.open_line.ensures.refuses c.args.records.now told unit since is
+
+pub returns-in_err-put_kept-clause-refuses : goal.returns-in_err-put_kept-clause-refuses
+returns-in_err-put_kept-clause-refuses g c = λ told unit since all is. c.put_kept.ensures.refuses told unit since (c.open_line.ensures.refuses c.args.records.now told unit since is)
+
+pub returns-then-eq-2-clause-refuses : goal.returns-then-eq-2-clause-refuses
+returns-then-eq-2-clause-refuses g c = λ told unit since all is. c.put_kept.ensures.refuses told unit since (c.open_line.ensures.refuses c.args.records.now told unit since is)
+
+pub returns-in_err-take_in-clause-refuses : goal.returns-in_err-take_in-clause-refuses
+returns-in_err-take_in-clause-refuses g c = λ told unit since all is.
+    c.take_in.ensures.refuses (ended_stands _ _ c.put_kept.ensures.stands ∙ c.in_ok-open_line.ensures.goes_on (search rules)) told unit since
+    (tells_next told unit (g.S.Site.state c.args.site.now) (g.S.Site.state c.put_kept.new.site) (g.S.Site.state c.take_in.new.site) (advances_on _ _ _ c.open_line.ensures.advances c.put_kept.ensures.advances) all)
+    (c.put_kept.ensures.refuses told unit since (c.open_line.ensures.refuses c.args.records.now told unit since is))
+
+pub returns-then-eq-3-clause-refuses : goal.returns-then-eq-3-clause-refuses
+returns-then-eq-3-clause-refuses g c = λ told unit since all is.
+    c.take_in.ensures.refuses (ended_stands _ _ c.put_kept.ensures.stands ∙ c.in_ok-open_line.ensures.goes_on (search rules)) told unit since
+    (tells_next told unit (g.S.Site.state c.args.site.now) (g.S.Site.state c.put_kept.new.site) (g.S.Site.state c.take_in.new.site) (advances_on _ _ _ c.open_line.ensures.advances c.put_kept.ensures.advances) all)
+    (c.put_kept.ensures.refuses told unit since (c.open_line.ensures.refuses c.args.records.now told unit since is))
+
+pub returns-clause-refuses : goal.returns-clause-refuses
+returns-clause-refuses g c = λ told unit since all is.
+    let opened = advances_on _ _ _ c.open_line.ensures.advances c.put_kept.ensures.advances in
+    let heard = tells_first told unit (g.S.Site.state c.args.site.now) (g.S.Site.state c.take_in.new.site) (g.S.Site.state c.serve.new.site) c.serve.ensures.advances all in
+    c.serve.ensures.refuses told unit since (tells_next told unit (g.S.Site.state c.args.site.now) (g.S.Site.state c.take_in.new.site) (g.S.Site.state c.serve.new.site) (advances_on _ _ _ opened c.take_in.ensures.advances) all)
+    (c.take_in.ensures.refuses (ended_stands _ _ c.put_kept.ensures.stands ∙ c.in_ok-open_line.ensures.goes_on (search rules)) told unit since
+    (tells_next told unit (g.S.Site.state c.args.site.now) (g.S.Site.state c.put_kept.new.site) (g.S.Site.state c.take_in.new.site) opened heard)
+    (c.put_kept.ensures.refuses told unit since (c.open_line.ensures.refuses c.args.records.now told unit since is)))

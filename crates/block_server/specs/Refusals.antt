@@ -1,0 +1,132 @@
+-- Why a session of a server unit ends as refused: its client's window denied a range (SRP, "Information unit classes"; LoPAR,
+-- "Remote DMA").
+use Rattle.std.specs.Prelude.{⊤, ◌≡◌, ◌⊎◌, ◌++◌, ℕ, Bool, true, All, List, [], ◌∷◌, Option, Some, None, IfSome}
+use Rattle.std.specs.List.{slice_get}
+use Rattle.crq_ring.specs.Sessions.{of_session}
+use Rattle.crq_ring.specs.declared.rows.PipeRow.{PipeRow}
+use Rattle.crq_session.specs.EndState.{EndState}
+use Rattle.tce_window.specs.declared.answers.HoldFault.{HoldFault}
+use Rattle.tce_window.specs.declared.answers.Right.TheVariants.{Read, Write}
+use Rattle.vio_num.specs.Entry.{is_srp_entry, iu_address, iu_length}
+use Rattle.vio_num.specs.declared.entry.Entry.{Entry}
+use Rattle.vio_num.specs.declared.history.Grant.{Grant}
+use Rattle.vio_num.specs.declared.history.Grant.TheVariants.{Granted, Lapsed}
+use Rattle.vio_num.specs.declared.history.Lapse.TheVariants as lapses
+use Rattle.vio_num.specs.declared.names.UnitId.{UnitId}
+use Rattle.block_server.specs.Causes.{Hearing, Told, told_to}
+use Rattle.block_server.specs.Causes.News.{denied}
+use Rattle.block_server.specs.Entries.{is_answer_len}
+use Rattle.block_server.specs.Heard.{TellsAll}
+use Rattle.block_server.specs.Makers.{same_unit}
+use Rattle.block_server.specs.Receipts.{is_ended}
+use Rattle.block_server.specs.SiteState.{IsDeniedBetween, SiteState}
+use Rattle.block_server.specs.declared.records.Records.{Records}
+use Rattle.block_server.specs.declared.request.Arrival.{Arrival}
+use Rattle.block_server.specs.declared.request.Request.{Request}
+use Rattle.block_server.specs.declared.unit.Unit.{Unit}
+
+-- An SRP entry was taken in the session, and has this number there.
+pub record IsSrpAt (taken : List PipeRow) (session number : ℕ) (entry : Entry) : Type 0 where
+  pub there : slice_get (of_session session taken) number ≡ Some entry
+  pub srp : is_srp_entry entry ≡ true
+
+-- The window denied to have the information unit of an entry that was taken in the session read.
+pub record IsNotRead (Hears : Hearing) (taken : List PipeRow) (session : ℕ) : Type 0 where
+  pub number : ℕ
+  pub entry : Entry
+  pub at : IsSrpAt taken session number entry
+  pub fault : HoldFault
+  pub told : Hears (denied Read (iu_address entry) (iu_length entry) fault)
+
+-- It denied to have an answer written over the information unit of one.
+pub record IsNotWritten (Hears : Hearing) (taken : List PipeRow) (session : ℕ) : Type 0 where
+  pub number : ℕ
+  pub entry : Entry
+  pub at : IsSrpAt taken session number entry
+  pub len : ℕ
+  pub answers : is_answer_len len ≡ true
+  pub fault : HoldFault
+  pub told : Hears (denied Write (iu_address entry) len fault)
+
+-- A line of the unit that says that its session ended as refused has such a cause.
+abbrev pub HasRefusal : Hearing → UnitId → List PipeRow → Grant → Type 0
+HasRefusal Hears unit taken (Granted of session login number credits) = ⊤
+HasRefusal Hears unit taken (Lapsed of session login lapses.Refused outstanding granted) =
+    same_unit of unit ≡ true → IsNotRead Hears taken session ⊎ IsNotWritten Hears taken session
+HasRefusal Hears unit taken (Lapsed of session login cause outstanding granted) = ⊤
+
+-- KEPT BETWEEN TURNS -----------------------------------------------------------------------------
+
+-- what a unit's refusals go by: its queue's session and what was taken, the entry that waits to be fetched, the requests that are
+-- pending, whether nothing more is taken in the session, and the lines
+pub record Basis : Type 0 where
+  pub session : ℕ
+  pub taken : List PipeRow
+  pub waiting : Option Arrival
+  pub pending : List Request
+  pub ended : Bool
+  pub lines : List Grant
+
+abbrev pub basis_at : Unit → (session : ℕ) → List PipeRow → Records → Basis
+basis_at unit session taken records = record {
+  session = session;
+  taken = taken;
+  waiting = unit.waiting;
+  pending = unit.pending.items;
+  ended = is_ended unit.line;
+  lines = records.grants.items;
+}
+
+abbrev pub basis_of : Unit → SiteState → Records → Basis
+basis_of unit site records = basis_at unit site.queue.last_session site.queue.taken records
+
+-- The request came by an SRP entry that was taken in the session, and is to be answered at the address that this names.
+pub record HasEntry (taken : List PipeRow) (session : ℕ) (request : Request) : Type 0 where
+  pub entry : Entry
+  pub at : IsSrpAt taken session request.number entry
+  pub address : request.address ≡ iu_address entry
+
+-- What waits and what is pending came by entries of the session, and each line behind these has its cause.
+pub record AreExplained (told : Told → Bool) (unit : UnitId) (since : List Grant) (basis : Basis) : Type 0 where
+  pub waits : IfSome basis.waiting (λ arrival. IsSrpAt basis.taken basis.session arrival.number arrival.entry)
+  pub pending : All (HasEntry basis.taken basis.session) basis.pending
+  pub idle : basis.ended ≡ true → (basis.waiting ≡ None) × (basis.pending ≡ [])
+  pub more : List Grant
+  pub lines : basis.lines ≡ since ++ more
+  pub each : All (HasRefusal (told_to told unit) unit basis.taken) more
+
+-- This stays so, whatever was told.
+abbrev pub Explains : (old new : Basis) → Type 0
+Explains old new = (told : Told → Bool) (unit : UnitId) (since : List Grant) → AreExplained told unit since old → AreExplained told unit since new
+
+-- It stays so where all that came between was told.
+abbrev pub ExplainsBy : (old new : SiteState) → (basis basis' : Basis) → Type 0
+ExplainsBy old new basis basis' =
+    (told : Told → Bool) (unit : UnitId) (since : List Grant) → TellsAll told unit old new → AreExplained told unit since basis → AreExplained told unit since basis'
+
+-- The window denied to have an answer written over the oldest request.
+pub record DeniesAnswer (old new : SiteState) (pending : List Request) : Type 0 where
+  pub front : Request
+  pub rest : List Request
+  pub parts : pending ≡ front ∷ rest
+  pub len : ℕ
+  pub answers : is_answer_len len ≡ true
+  pub denied_is : IsDeniedBetween old new Write front.address len
+
+abbrev pub basis_seen : Unit → EndState → List Grant → Basis
+basis_seen unit queue grants = record {
+  session = queue.last_session;
+  taken = queue.taken;
+  waiting = unit.waiting;
+  pending = unit.pending.items;
+  ended = is_ended unit.line;
+  lines = grants;
+}
+
+-- The unit of this number has its refusals explained, behind these lines.
+abbrev pub HasRefusals : (told : Told → Bool) → List Unit → (number : ℕ) → (unit : UnitId) → EndState → (since grants : List Grant) → Type 0
+HasRefusals told units number unit queue since grants = IfSome (slice_get units number) (λ u. AreExplained told unit since (basis_seen u queue grants))
+
+-- Units of which nothing waits and nothing is pending, whatever their names are, over any queue and behind any lines.
+abbrev pub RefuseNone : List Unit → Type 0
+RefuseNone units = (told : Told → Bool) (number : ℕ) (unit : UnitId) (queue : EndState) (grants : List Grant) → HasRefusals told units number unit queue grants grants
