@@ -1,18 +1,20 @@
 -- What an entry that is judged leaves of a unit's books.
 use Rattle.std.proofs.Common.{◌≡◌, ◌≢◌, ◌+◌, length, ◌⊎◌, inl, inr, ◌==◌, ◌&&◌, ◌++◌, ◌<◌, ◌≤◌, ℕ, Bool, true, false, Contains, List, [], ◌∷◌, IsSome, refl, sym, ◌∙◌, ap, subst, arith}
-use Rattle.std.proofs.lemmas.Bool.{eq-eqb}
+use Rattle.std.proofs.lemmas.Bool.{eq-eqb, ne_eqb}
 use Rattle.std.proofs.lemmas.List.Elements.{All-push}
 use Rattle.crq_ring.specs.Sessions.{of_session}
 use Rattle.vio_num.specs.declared.history.Grant.TheVariants.{Granted}
 use Rattle.block_server.specs.Receipts.{Receipt}
 use Rattle.block_server.specs.Closings.{TakesNone}
-use Rattle.block_server.specs.Judged.{Ahead, AreKept, AreLogins, ArePending, Asks, Books, Fate, HasFate, HasFront, HasGrant, IsAtStage, Judged, accepted, gets_row, has_row, is_login, login_of, receipt_key, request_key}
+use Rattle.block_server.specs.Judged.{Ahead, AreCounted, AreKept, AreLogins, HasLogout, ArePending, Asks, Books, Fate, HasFate, HasFront, HasGrant, IsAtStage, Judged, accepted, gets_row, has_row, is_login, login_of, receipt_key, request_key}
 use Rattle.block_server.specs.Fates.Fate.{asked, ends_it}
 use Rattle.block_server.specs.declared.request.Request.{Request}
 use Rattle.block_server.specs.declared.service.Outcome.TheVariants as outcomes
 use Rattle.block_server.specs.declared.service.Stage.{Stage}
 use Rattle.block_server.specs.declared.service.Stage.TheVariants as stages
 use Rattle.block_server.proofs.Closing.{none_grows}
+use Rattle.block_server.specs.declared.request.Order.TheVariants as orders
+use Rattle.block_server.proofs.Counting.{accepted_pass, limits_on, limits_to, logout_more, other_login}
 use Rattle.block_server.proofs.Heard.{accepted_more, accepted_one}
 use Rattle.block_server.proofs.Lines.{lines_judged}
 use Rattle.block_server.proofs.Judging.{due_pass, served_due, served_more, served_other}
@@ -52,7 +54,7 @@ pending_push current next next' taking taking' (first ∷ pending) request most 
     behind (inr under) was = absurd (cc (under.1.1, was.0))
 
 front_push : (pending : List Request) (request : Request) → HasFront pending → HasFront (pending ++ request ∷ [])
-front_push pending request is = record { front = is.front; rest = is.rest ++ request ∷ []; parts = ap (λ xs. xs ++ request ∷ []) is.parts }
+front_push pending request is = record { front = is.front; rest = is.rest ++ request ∷ []; parts = ap (λ xs. xs ++ request ∷ []) is.parts; gets = is.gets }
 
 -- the stage of the oldest request
 pub stage_push : (current : ℕ) (pending : List Request) (request : Request) (stage : Stage) → IsAtStage current pending stage → IsAtStage current (pending ++ request ∷ []) stage
@@ -134,13 +136,45 @@ keeps_asked books next' request receipt judged key row other under taking to cop
           (λ on. subst (λ (n : ℕ). books.credits.outstanding + 1 ≤ n) (sym (accepted_one books.current judged j (eq-eqb books.current books.current refl)))
           (one_more 0 books.credits.outstanding _ (is.lines.counted on))) is.lines;
       idle = λ over. absurd (cc (over, to.going));
+      counted = record {
+        row = is.counted.row;
+        exact = λ on. counts books.credits.outstanding _ _ _ (is.counted.exact on) (accepted_one books.current judged j (eq-eqb books.current books.current refl));
+        limits = limits_on books.id books.current books.rows books.rows judged (judged ++ j ∷ []) books.grants (is.logins.on some)
+            (λ login one apart. (refl, ap length (accepted_pass login judged j apart))) is.counted.limits;
+        asked_out = λ on off. absurd (cc (taking, off));
+        none_later = λ login high. accepted_pass login judged j (ne_eqb books.current login (λ same. apart_high books.current books.last login is.logins.most high same)) ∙ is.counted.none_later login high;
+      };
     }
   where
+    counts : (a b n n' : ℕ) → a + b ≡ n → n' ≡ n + 1 → a + 1 + b ≡ n'
+    counts a b n n' was more = omega (arith, was, more)
+
+    apart_high : (a b c : ℕ) → a ≤ b → b < c → a ≡ c → ⊥
+    apart_high a b c low high same = absurd (omega (arith, low, high, same))
+
     upto : (a b : ℕ) → a ≡ b → a ≤ b
     upto a b same = omega (arith, same)
 
     below : (a b : ℕ) → a < b → a ≤ b
     below a b low = omega (arith, low)
+
+-- what is counted as another entry is judged that is no request of a login
+counted_pass : (books : Books) (judged : List Judged) (receipt : Receipt) (fate : Fate) (taking' : Bool) (pending' : List Request) → login_of fate ≡ 0 → AreKept books judged
+    → (1 ≤ books.current → taking' ≡ false → HasLogout pending')
+    → AreCounted (record books { taking = taking'; pending = pending' }) (judged ++ record { receipt = receipt; fate = fate } ∷ [])
+counted_pass books judged receipt fate taking' pending' none is out =
+    let j : Judged = record { receipt = receipt; fate = fate } in
+    record {
+      row = is.counted.row;
+      exact = λ some. is.counted.exact some ∙ sym (ap length (accepted_pass books.current judged j (other_login (login_of fate) books.current none some)));
+      limits = limits_to books.id books.rows books.rows judged (judged ++ j ∷ []) books.grants
+          (λ login some. (refl, ap length (accepted_pass login judged j (other_login (login_of fate) login none some)))) is.counted.limits;
+      asked_out = out;
+      none_later = λ login high. accepted_pass login judged j (other_login (login_of fate) login none (above books.last login high)) ∙ is.counted.none_later login high;
+    }
+  where
+    above : (a b : ℕ) → a < b → 1 ≤ b
+    above a b high = omega (arith, high)
 
 -- what is counted as another entry is judged
 counted_on : (books : Books) (judged : List Judged) (j : Judged) → AreKept books judged → 1 ≤ books.current → books.credits.outstanding ≤ length (accepted books.current (judged ++ j ∷ []))
@@ -153,10 +187,10 @@ counted_on books judged j is on = below _ _ _ (is.lines.counted on) (accepted_mo
 pub keeps_unasked : (books : Books) (next' : Ahead) (taking' : Bool) (request : Request) (receipt : Receipt) (fate : Fate) (judged : List Judged) → login_of fate ≡ 0
     → HasFate books.id books.grants receipt fate → IsNext books next' receipt → request.number ≡ receipt.number → gets_row request.order ≡ false
     → (is_login request.order ≡ true) ⊎ ((request.login ≡ books.current) × ((1 ≤ books.current) × (books.taking ≡ true))) → (is_login request.order ≡ false → taking' ≡ false)
-    → (taking' ≡ true → books.taking ≡ true) → fate ≢ ends_it
+    → (taking' ≡ true → books.taking ≡ true) → (taking' ≡ false → (books.taking ≡ false) ⊎ (request.order ≡ orders.Logout)) → fate ≢ ends_it
     → (taking' ≡ false → TakesNone books.id books.session (judged ++ record { receipt = receipt; fate = fate } ∷ []) books.grants)
     → AreKept books judged → AreKept (record books { next = next'; taking = taking'; pending = books.pending ++ request ∷ [] }) (judged ++ record { receipt = receipt; fate = fate } ∷ [])
-keeps_unasked books next' taking' request receipt fate judged none has to number row how off stays other off_is is = record {
+keeps_unasked books next' taking' request receipt fate judged none has to number row how off stays closes other off_is is = record {
   fates = All-push (λ j. HasFate books.id books.grants j.receipt j.fate) judged (record { receipt = receipt; fate = fate }) is.fates has;
   served = λ login one. served_due books.id books.session (judged ++ record { receipt = receipt; fate = fate } ∷ []) books.rows books.grants books.stage books.stage books.pending (books.pending ++ request ∷ []) login
       (sym (due_pass books.session login (has_row books.stage) books.pending request (front_of books.current books.pending books.stage is.stage) (and_first (gets_row request.order) (request.login == login) row)))
@@ -171,8 +205,14 @@ keeps_unasked books next' taking' request receipt fate judged none has to number
   lines = lines_judged books.id books.session books.next next' books.current books.taking taking' books.up books.credits books.credits books.grants books.ended judged receipt fate
       to.taken to.all to.session_is to.going to.up other refl off_is (counted_on books judged (record { receipt = receipt; fate = fate }) is) is.lines;
   idle = λ over. absurd (cc (over, to.going));
+  counted = let is' = counted_pass books judged receipt fate taking' (books.pending ++ request ∷ []) none is (λ some off. out some (closes off)) in
+      record { row = is'.row; exact = is'.exact; limits = is'.limits; asked_out = is'.asked_out; none_later = is'.none_later };
 }
   where
+    out : 1 ≤ books.current → (books.taking ≡ false) ⊎ (request.order ≡ orders.Logout) → HasLogout (books.pending ++ request ∷ [])
+    out some (inl was) = logout_more books.pending request (is.counted.asked_out some was)
+    out some (inr asks) = record { before = books.pending; request = request; after = []; parts = refl; asks = asks }
+
     below : (a b : ℕ) → a < b → a ≤ b
     below a b low = omega (arith, low)
 
@@ -195,6 +235,8 @@ keeps_judged books next' receipt fate judged none has to other is = record {
       (λ off. none_grows books.id books.session judged (record { receipt = receipt; fate = fate } ∷ []) books.grants (is.lines.off off))
       (counted_on books judged (record { receipt = receipt; fate = fate }) is) is.lines;
   idle = is.idle;
+  counted = let is' = counted_pass books judged receipt fate books.taking books.pending none is is.counted.asked_out in
+      record { row = is'.row; exact = is'.exact; limits = is'.limits; asked_out = is'.asked_out; none_later = is'.none_later };
 }
   where
     below : (a b : ℕ) → a < b → a ≤ b

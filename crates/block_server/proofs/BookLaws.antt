@@ -1,5 +1,6 @@
 -- Laws of a unit's books for the crates above: they stay over turns of other units, and where nothing is pending all is served.
-use Rattle.std.proofs.Common.{◌≡◌, ◌≢◌, inl, inr, ◌++◌, ◌==◌, ◌&&◌, ◌≤◌, ℕ, zero, suc, Bool, true, false, All, List, [], ◌∷◌, Option, Some, None, IfSome, filter, length, map, refl, sym, ◌∙◌, ap, subst}
+use Rattle.block_server.proofs.Counting.{limits_to, same_self}
+use Rattle.std.proofs.Common.{◌≡◌, ◌≢◌, ◌+◌, inl, inr, ◌++◌, ◌==◌, ◌&&◌, ◌≤◌, ℕ, zero, suc, Bool, true, false, All, List, [], ◌∷◌, Option, Some, None, IfSome, filter, length, map, refl, sym, ◌∙◌, ap, subst}
 use Rattle.std.specs.List.{slice_get}
 use Rattle.std.proofs.lemmas.Bool.{eqb-true}
 use Rattle.std.proofs.lemmas.Option.{IfSome_then}
@@ -12,7 +13,7 @@ use Rattle.vio_num.specs.declared.history.Served.{Served}
 use Rattle.vio_num.specs.declared.names.UnitId.{UnitId}
 use Rattle.block_server.specs.Answering.{OnlyRowsOf, StaysRow}
 use Rattle.block_server.specs.Books.{books_seen, is_up, next_of, number_of}
-use Rattle.block_server.specs.Judged.{AreKept, Books, Credits, IsAllServed, IsServedUnder, IsWorkDone, Judged, RowKey, due_under, has_row, is_under, keys_of, row_key}
+use Rattle.block_server.specs.Judged.{AreKept, Books, Credits, HasLimit, IsAllServed, IsServedUnder, IsWorkDone, Judged, RowKey, due_under, has_row, is_under, keys_of, row_key, IsOpenRow, answered_under}
 use Rattle.block_server.specs.Closings.{HasCauses}
 use Rattle.block_server.specs.Judges.{AreUnused, HasKept}
 use Rattle.block_server.specs.Makers.{same_unit}
@@ -60,9 +61,10 @@ no_row unit other login row apart is = and_false (same_unit row.unit unit) (row.
 record Stay (unit : UnitId) (keys keys' : List RowKey) : Type 0 where
   same : (login : ℕ) → filter (is_under unit login) keys' ≡ filter (is_under unit login) keys
   under : All (λ (row : RowKey). same_unit row.unit unit ≡ true → 1 ≤ row.login) keys → All (λ (row : RowKey). same_unit row.unit unit ≡ true → 1 ≤ row.login) keys'
+  place : (i : ℕ) (row : RowKey) → slice_get keys i ≡ Some row → same_unit row.unit unit ≡ true → slice_get keys' i ≡ Some row
 
 apart_rows : (unit other : UnitId) (rows : List Served) → other ≢ unit → All (λ row. row.unit ≡ other) rows → Stay unit [] (keys_of rows)
-apart_rows unit other [] apart all = record { same = λ login. refl; under = λ none. none }
+apart_rows unit other [] apart all = record { same = λ login. refl; under = λ none. none; place = λ i row there. absurd (cc (there)) }
 apart_rows unit other (row ∷ rows) apart all =
     let is : row.unit ≡ other = All-head (λ (r : Served). r.unit ≡ other) row rows all in
     let rest = apart_rows unit other rows apart (All-tail (λ (r : Served). r.unit ≡ other) row rows all) in
@@ -70,6 +72,7 @@ apart_rows unit other (row ∷ rows) apart all =
       same = λ login. filter_pass (is_under unit login) (row_key row) (keys_of rows) (no_row unit other login row apart is) ∙ rest.same login;
       under = λ none. All-cons (λ (r : RowKey). same_unit r.unit unit ≡ true → 1 ≤ r.login) (row_key row) (keys_of rows)
           (λ own. absurd (cc (own, apart_is row.unit unit (λ e. apart (sym is ∙ e))))) (rest.under none);
+      place = λ i row there. absurd (cc (there));
     }
 
 rows_stay : (unit other : UnitId) (rows news : List Served) → other ≢ unit → OnlyRowsOf other rows news → Stay unit (keys_of rows) (keys_of news)
@@ -83,6 +86,19 @@ rows_stay unit other (row ∷ rows) (new ∷ news) apart only = by (rows_stay un
     front rest login false is = filter_pass (is_under unit login) (row_key row) (keys_of news) is ∙ rest.same login
         ∙ sym (filter_pass (is_under unit login) (row_key row) (keys_of rows) is)
 
+    kept_place : Stay unit (keys_of rows) (keys_of news) → new ≡ row → (i : ℕ) (k : RowKey) → slice_get (keys_of (row ∷ rows)) i ≡ Some k → same_unit k.unit unit ≡ true
+        → slice_get (keys_of (new ∷ news)) i ≡ Some k
+    kept_place rest same zero k there own = ap (λ (r : Served). Some (row_key r)) same ∙ there
+    kept_place rest same (suc i) k there own = rest.place i k there own
+
+    some_key : (a b : RowKey) → Some a ≡ Some b → a ≡ b
+    some_key a b same = cc (same)
+
+    other_place : Stay unit (keys_of rows) (keys_of news) → row.unit ≡ other → (i : ℕ) (k : RowKey) → slice_get (keys_of (row ∷ rows)) i ≡ Some k → same_unit k.unit unit ≡ true
+        → slice_get (keys_of (new ∷ news)) i ≡ Some k
+    other_place rest of zero k there own = absurd (cc (own, ap (λ (r : RowKey). same_unit r.unit unit) (some_key (row_key row) k there), apart_is row.unit unit (λ e. apart (sym of ∙ e))))
+    other_place rest of (suc i) k there own = rest.place i k there own
+
     by : Stay unit (keys_of rows) (keys_of news) → StaysRow other row new → Stay unit (keys_of (row ∷ rows)) (keys_of (new ∷ news))
     by rest (inl same) = record {
       same = λ login. ap (λ (r : Served). filter (is_under unit login) (keys_of (r ∷ news))) same ∙ front rest login (is_under unit login (row_key row)) refl;
@@ -90,6 +106,7 @@ rows_stay unit other (row ∷ rows) (new ∷ news) apart only = by (rows_stay un
           (All-cons (λ (k : RowKey). same_unit k.unit unit ≡ true → 1 ≤ k.login) (row_key row) (keys_of news)
           (All-head (λ (k : RowKey). same_unit k.unit unit ≡ true → 1 ≤ k.login) (row_key row) (keys_of rows) all)
           (rest.under (All-tail (λ (k : RowKey). same_unit k.unit unit ≡ true → 1 ≤ k.login) (row_key row) (keys_of rows) all)));
+      place = kept_place rest same;
     }
     by rest (inr both) = record {
       same = λ login. filter_pass (is_under unit login) (row_key new) (keys_of news) (no_row unit other login new apart both.1) ∙ rest.same login
@@ -97,6 +114,7 @@ rows_stay unit other (row ∷ rows) (new ∷ news) apart only = by (rows_stay un
       under = λ all. All-cons (λ (k : RowKey). same_unit k.unit unit ≡ true → 1 ≤ k.login) (row_key new) (keys_of news)
           (λ own. absurd (cc (own, apart_is new.unit unit (λ e. apart (sym both.1 ∙ e)))))
           (rest.under (All-tail (λ (k : RowKey). same_unit k.unit unit ≡ true → 1 ≤ k.login) (row_key row) (keys_of rows) all));
+      place = other_place rest both.0;
     }
 
 -- the books over them
@@ -111,8 +129,27 @@ rows_kept books rows judged stay is = record {
   under = stay.under is.under;
   lines = is.lines;
   idle = is.idle;
+  counted = record {
+    row = λ place in_service. stays (is.counted.row place in_service);
+    exact = λ some. ap (λ (n : ℕ). books.credits.outstanding + n) (answered books.current) ∙ is.counted.exact some;
+    limits = limits_to books.id books.rows rows judged judged books.grants (λ login some. (answered login, refl)) is.counted.limits;
+    asked_out = is.counted.asked_out;
+    none_later = is.counted.none_later;
+  };
 }
   where
+    answered : (login : ℕ) → answered_under books.id login rows ≡ answered_under books.id login books.rows
+    answered login = ap (λ (xs : List RowKey). length (filter (λ (r : RowKey). r.answered) xs)) (stay.same login)
+
+    stays : {place : ℕ} → IsOpenRow books.id books.current books.rows place → IsOpenRow books.id books.current rows place
+    stays {place = place} was = record {
+      row = was.row;
+      there = stay.place place was.row was.there (subst (λ (id : UnitId). same_unit id books.id ≡ true) (sym was.unit_is) (same_self books.id));
+      unit_is = was.unit_is;
+      login_is = was.login_is;
+      open_is = was.open_is;
+    }
+
     at : (login : ℕ) → IsServedUnder books.id books.session judged books.rows books.grants books.stage books.pending login
         → IsServedUnder books.id books.session judged rows books.grants books.stage books.pending login
     at login was = record {
@@ -191,3 +228,11 @@ more_unused units new all current last taking stage kept pending waiting = at un
     at [] all (suc n) id queue none = tt
     at (first ∷ units) all zero id queue none = all zero id queue none
     at (first ∷ units) all (suc n) id queue none = at units (λ m id queue none. all (suc m) id queue none) n id queue none
+
+-- As many requests had no answer as a login granted that ended for more.
+pub limits_seen : (units : List Unit) (unit : ℕ) (u : Unit) (id : UnitId) (queue : EndState) (history : List Served) (grants : List Grant) (judged : List Judged)
+    → slice_get units unit ≡ Some u → HasKept units unit id queue history grants judged → All (HasLimit id (keys_of history) judged) grants
+limits_seen units unit u id queue history grants judged there has =
+    let is : AreKept (books_seen u id queue history grants) judged =
+    subst (λ (o : Option Unit). IfSome o (λ u. AreKept (books_seen u id queue history grants) judged)) there has in
+    is.counted.limits

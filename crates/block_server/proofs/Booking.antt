@@ -1,4 +1,6 @@
 -- A unit's books over the calls of its turn.
+use Rattle.block_server.proofs.Counting.{marked}
+use Rattle.block_server.specs.Answering.{has_bytes}
 use Rattle.std.proofs.Common.{◌≡◌, ◌++◌, ◌<◌, ℕ, zero, suc, true, false, Result, Ok, Err, OnOk, OnErr, List, [], ◌∷◌, Option, Some, None, length, slice_get, slice_set, refl, sym, ◌∙◌, ap, subst}
 use Rattle.std.specs.List.{HoldsAt}
 use Rattle.std.proofs.lemmas.Option.{slice_get-get_or}
@@ -9,7 +11,7 @@ use Rattle.vio_num.specs.declared.history.Lapse.{Lapse}
 use Rattle.vio_num.specs.declared.history.Served.{Served}
 use Rattle.vio_num.specs.declared.names.UnitId.{UnitId}
 use Rattle.block_server.specs.Books.{next_of}
-use Rattle.block_server.specs.Judged.{AreKept, Books, IsAtStage, IsKeptAt, IsOutcome, Keeps, ServesOne, gets_row, has_row, in_service, is_login, keys_of, row_key}
+use Rattle.block_server.specs.Judged.{AreKept, Books, IsAtStage, IsKeptAt, IsOutcome, Keeps, ServesOne, gets_row, has_row, in_service, is_login, keys_of, row_key, RowKey, row_in}
 use Rattle.block_server.specs.Orders.{IsCodeOf}
 use Rattle.block_server.specs.Stage.{is_answered}
 use Rattle.block_server.specs.declared.request.Order.{Order}
@@ -68,6 +70,32 @@ keys_set (first ∷ rows) zero row row' there same = ap (λ k. k ∷ keys_of row
         ap (λ (s : Served). row_key s) is
 keys_set (first ∷ rows) (suc i) row row' there same = ap (λ keys. row_key first ∷ keys) (keys_set rows i row row' there same)
 
+-- the rows as one of them gets its answer
+pub keys_marked : (rows : List Served) (i : ℕ) (row : Served) (answer : List ℕ) → slice_get rows i ≡ Some row → has_bytes answer ≡ true
+    → keys_of (slice_set rows i (record row { answer = answer })) ≡ slice_set (keys_of rows) i (marked (row_key row))
+keys_marked [] i row answer there has = refl
+keys_marked (first ∷ rows) zero row answer there has = λ k. record {
+  unit = row.unit;
+  login = row.login;
+  key = record { session = row.session; number = row.number; bytes = row.iu };
+  answered = has k;
+} ∷ keys_of rows
+keys_marked (first ∷ rows) (suc i) row answer there has = ap (λ keys. row_key first ∷ keys) (keys_marked rows i row answer there has)
+
+pub key_there : (rows : List Served) (i : ℕ) (row : Served) → slice_get rows i ≡ Some row → slice_get (keys_of rows) i ≡ Some (row_key row)
+key_there [] i row there = absurd (cc (there))
+key_there (first ∷ rows) zero row there = ap Some (ap row_key (same first row there))
+  where
+    same : (a b : Served) → Some a ≡ Some b → a ≡ b
+    same a b is = cc (is)
+key_there (first ∷ rows) (suc i) row there = key_there rows i row there
+
+-- the row of a key
+pub key_from : (rows : List Served) (i : ℕ) (key : RowKey) → slice_get (keys_of rows) i ≡ Some key → (row : Served) × (slice_get rows i ≡ Some row)
+key_from [] i key there = absurd (cc (there))
+key_from (first ∷ rows) zero key there = (first, refl)
+key_from (first ∷ rows) (suc i) key there = key_from rows i key there
+
 -- what is kept is the answer of this outcome
 pub kept_stage : (stage : Stage) (kept : Option Kept) (entry : Entry) (outcome : Outcome) → kept ≡ Some (keeps.Answer entry outcome) → IsKeptAt stage kept → stage ≡ stages.Entry outcome
 kept_stage stage None entry outcome same is = absurd (cc (same))
@@ -81,10 +109,10 @@ granted_same mid new unit of login login' number credits added same = added ∙ 
 
 -- The information unit of the answer was kept, or memory is wanting.
 pub set_one : (id : UnitId) (session : ℕ) (request : Request) (stage stage' : Stage) (rows : List Served) (result : Result (Unit {0}) NoMemory) (given given' : Stage) → stage ≡ given
-    → OnOk result (stage' ≡ given') → OnErr result (stage' ≡ stage) → has_row given' ≡ has_row given
+    → OnOk result (stage' ≡ given') → OnErr result (stage' ≡ stage) → has_row given' ≡ has_row given → row_in given' ≡ row_in given
     → ((current : ℕ) → (pending : List Request) → IsAtStage current pending given → IsAtStage current pending given') → ServesOne id session request stage stage' rows rows
-set_one id session request stage stage' rows (Ok done) given given' was ok err same at = one_given id session request stage stage' rows given given' was ok same at
-set_one id session request stage stage' rows (Err memory) given given' was ok err same at = one_same id session request stage stage' rows rows err refl
+set_one id session request stage stage' rows (Ok done) given given' was ok err same placed at = one_given id session request stage stage' rows given given' was ok same placed at
+set_one id session request stage stage' rows (Err memory) given given' was ok err same placed at = one_same id session request stage stage' rows rows err refl
 
 pub login_set : (books : Books) (stage stage' : Stage) (rows : List Served) (front : Request) (rest : List Request) (outcome : Outcome) (result : Result (Unit {0}) NoMemory) → books.pending ≡ front ∷ rest
     → is_login front.order ≡ true → is_answered stage ≡ false → books.kept ≡ None → OnOk result (stage' ≡ stages.Answer outcome) → OnErr result (stage' ≡ stage)

@@ -1,12 +1,14 @@
 -- A unit's books as it is made, and over the turns of other units.
+use Rattle.vio_num.specs.declared.history.Lapse.TheVariants as lapses
+use Rattle.block_server.proofs.Counting.{open_start}
 use Rattle.std.proofs.Common.{◌≡◌, ◌⊎◌, inl, ◌==◌, ◌&&◌, ◌++◌, ◌≤◌, ℕ, Bool, true, false, All, List, [], ◌∷◌, None, filter, refl, sym, ◌∙◌, ap, subst, arith, append-nil}
-use Rattle.std.proofs.lemmas.List.Elements.{Contains-append_left, All-head, All-nil, All-tail, All-weaker, filter-append}
+use Rattle.std.proofs.lemmas.List.Elements.{Contains-append_left, All-head, All-nil, All-tail, All-weaker, filter-append, All-append}
 use Rattle.vio_num.specs.declared.history.Grant.{Grant}
 use Rattle.vio_num.specs.declared.history.Grant.TheVariants.{Granted, Lapsed}
 use Rattle.vio_num.specs.declared.names.UnitId.{UnitId}
 use Rattle.block_server.specs.Makers.{same_unit}
 use Rattle.block_server.specs.Receipts.{unit_of}
-use Rattle.block_server.specs.Judged.{Ahead, AreKept, Books, Credits, HasFate, HasGrant, IsServedUnder, Judged, RowKey, ends, is_logout, logs_out}
+use Rattle.block_server.specs.Judged.{Ahead, AreKept, Books, Credits, HasFate, HasGrant, IsServedUnder, Judged, RowKey, ends, is_logout, logs_out, HasLimit}
 use Rattle.block_server.specs.declared.service.Stage.TheVariants as stages
 use Rattle.block_server.proofs.Judging.{filter_pass}
 use Rattle.block_server.proofs.Lapsing.{lines_new, lines_others}
@@ -41,6 +43,19 @@ grant_grows : (unit : UnitId) (grants more : List Grant) (session login number :
 grant_grows unit grants more session login number is =
     record { at = is.at; credits = is.credits; listed = Contains-append_left grants more (Granted unit session login is.at is.credits) is.listed; earlier = is.earlier }
 
+no_limit : (unit : UnitId) (rows : List RowKey) (judged : List Judged) (line : Grant) → same_unit (unit_of line) unit ≡ false → HasLimit unit rows judged line
+no_limit unit rows judged (Granted of session login number credits) other = tt
+no_limit unit rows judged (Lapsed of session login lapses.Logout outstanding granted) other = tt
+no_limit unit rows judged (Lapsed of session login lapses.Lost outstanding granted) other = tt
+no_limit unit rows judged (Lapsed of session login lapses.Early outstanding granted) other = tt
+no_limit unit rows judged (Lapsed of session login lapses.BadIu outstanding granted) other = tt
+no_limit unit rows judged (Lapsed of session login lapses.NotLogin outstanding granted) other = tt
+no_limit unit rows judged (Lapsed of session login lapses.Refused outstanding granted) other = tt
+no_limit unit rows judged (Lapsed of session login lapses.OverLimit outstanding granted) other = λ own. absurd (apart (same_unit of unit) other own)
+  where
+    apart : (b : Bool) → b ≡ false → b ≡ true → ⊥
+    apart b is other = cc (is, other)
+
 -- Lines of other units came.
 pub keeps_lines : (books : Books) (lines : List Grant) (judged : List Judged) → All (λ line. same_unit (unit_of line) books.id ≡ false) lines → AreKept books judged
     → AreKept (record books { grants = books.grants ++ lines }) judged
@@ -60,6 +75,14 @@ keeps_lines books lines judged apart is = record {
   under = is.under;
   lines = lines_others books.id books.session books.next books.current books.taking books.up books.credits books.grants books.ended judged lines apart is.lines;
   idle = is.idle;
+  counted = record {
+    row = is.counted.row;
+    exact = is.counted.exact;
+    limits = All-append (HasLimit books.id books.rows judged) books.grants lines is.counted.limits
+        (All-weaker (λ line. same_unit (unit_of line) books.id ≡ false) (HasLimit books.id books.rows judged) (λ line other. no_limit books.id books.rows judged line other) lines apart);
+    asked_out = is.counted.asked_out;
+    none_later = is.counted.none_later;
+  };
 }
   where
     same_ends : (n : ℕ) → filter (ends books.id n) (books.grants ++ lines) ≡ filter (ends books.id n) books.grants
@@ -116,6 +139,13 @@ kept_new id session next ended up credits none zero = record {
   under = All-nil (λ (row : RowKey). same_unit row.unit id ≡ true → 1 ≤ row.login);
   lines = lines_new id session next up credits ended none zero;
   idle = λ over. (refl, refl);
+  counted = record {
+    row = open_start id 0 [];
+    exact = λ some. absurd (no_one some);
+    limits = All-nil (HasLimit id [] []);
+    asked_out = λ some. absurd (no_one some);
+    none_later = λ login high. refl;
+  };
 }
   where
     no_one : 1 ≤ 0 → ⊥

@@ -8,7 +8,7 @@ use Rattle.vio_num.specs.declared.history.Lapse.TheVariants as lapses
 use Rattle.vio_num.specs.declared.names.UnitId.{UnitId}
 use Rattle.block_server.specs.Advances.{Advances}
 use Rattle.block_server.specs.Judges.{Judges, JudgesMore}
-use Rattle.block_server.specs.Judged.{Ahead, AreKept, Books, IsInTime, IsOn, Judged, Keeps, ends, login_of}
+use Rattle.block_server.specs.Judged.{Ahead, AreKept, Books, IsInTime, IsOn, Judged, Keeps, ends, login_of, is_limit}
 use Rattle.block_server.specs.Fates.Fate.{ends_it}
 use Rattle.block_server.specs.Moves.{Passes}
 use Rattle.block_server.specs.Receipts.{EndedFor, Intake, IsIntake, LinesMore, MayTake, Receipt, Standing, TakesEntry, TakesIn, intake_of, is_fatal}
@@ -94,14 +94,14 @@ judges_on u0 u1 u2 s0 s1 s2 b0 b1 b2 takes named same first next = record {
 -- A part that ends the session for such a cause: the entry that waits, if one does, ended it.
 pub judges_ended : (unit unit' : Standing) (old new : SiteState) (books books' : Books) (next' : Ahead) (cause : Lapse) (outstanding granted : ℕ) → unit'.id ≡ unit.id → unit'.waiting ≡ None → unit'.ended ≡ true
     → books'.id ≡ unit.id → EndedFor unit.id old.queue.last_session books'.grants → Advances old new → Passes old new → LinesMore unit.id books.grants books'.grants
-    → books.session ≡ old.queue.last_session → next'.taken ≡ books.next.taken → next'.number ≡ length (of_session books.session next'.taken) → is_fatal cause ≡ true
+    → books.session ≡ old.queue.last_session → next'.taken ≡ books.next.taken → next'.number ≡ length (of_session books.session next'.taken) → is_fatal cause ≡ true → is_limit cause ≡ false
     → (unit.waiting ≡ None → cause ≡ lapses.Refused)
     → ((receipts : List Receipt) (judged : List Judged) → IsIntake (intake_of unit old books.grants) receipts → AreKept books judged → books.ended ≡ false)
     → ((arrival : Arrival) → unit.waiting ≡ Some arrival → (judged : List Judged) → books.ended ≡ false → AreKept books judged
     → Gives books.id books.next.taken judged books.grants (receipt_of (intake_of unit old books.grants) arrival None []) cause outstanding granted)
     → ((judged more : List Judged) → IsEnd books next' true cause outstanding granted judged more → AreKept books judged → AreKept books' (judged ++ more))
     → Judges unit unit' old new books books'
-judges_ended unit unit' old new books books' next' cause outstanding granted id none over named ended advances passes lines session taken done fatal down going gives keeps = record {
+judges_ended unit unit' old new books books' next' cause outstanding granted id none over named ended advances passes lines session taken done fatal limited down going gives keeps = record {
   more = λ own receipts judged intake is.
       at (intake_of unit old books.grants) (intake_of unit' new books'.grants) receipts judged
       (grown_of unit unit' old new books.grants books'.grants unit.id advances lines) (passed_session old new passes) (passed_taken old new passes) (passed_copies old new passes)
@@ -110,11 +110,13 @@ judges_ended unit unit' old new books books' next' cause outstanding granted id 
       (λ waits. keeps judged [] (record {
         going = going receipts judged intake is;
         done = done;
+        full = λ limit. absurd (cc (limit, limited));
         why = inr (inl (record { cause_is = down waits; none = refl; over = refl; taken = taken }));
       }) is)
       (λ arrival waits. keeps judged (record { receipt = receipt_of (intake_of unit old books.grants) arrival None []; fate = ends_it } ∷ []) (record {
         going = going receipts judged intake is;
         done = done;
+        full = λ limit. absurd (cc (limit, limited));
         why = inr (inr (record {
           receipt = receipt_of (intake_of unit old books.grants) arrival None [];
           one = refl;

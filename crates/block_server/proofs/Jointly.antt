@@ -19,7 +19,7 @@ use Rattle.block_server.specs.Books.{books_at, books_of, books_seen, is_up, next
 use Rattle.block_server.specs.Closings.{Gives, is_event, is_handshake}
 use Rattle.block_server.specs.Decided.{EndsBooks, IsToJudge, JudgesOne}
 use Rattle.block_server.specs.Ends.{EndsLogin}
-use Rattle.block_server.specs.Judged.{Ahead, AreKept, Books, IsAtStage, IsInTime, IsOutcome, Judged, Keeps, KeepsLines, is_logout}
+use Rattle.block_server.specs.Judged.{Ahead, AreKept, Books, IsAtStage, IsInTime, IsOutcome, Judged, Keeps, KeepsLines, is_logout, is_limit}
 use Rattle.block_server.specs.Judges.{AreInTime, HasJudged, Judges}
 use Rattle.block_server.specs.Moves.{FetchesOne, Passes}
 use Rattle.block_server.specs.Receipts.{EndedFor, Intake, IsIntake, LinesMore, MayTake, Receipt, Standing, TakesEntry, TakesIn, intake_of, is_ended, is_fatal, standing_of}
@@ -162,6 +162,7 @@ keeps_gone unit h unit' old new records records' session number entry may taken 
     ends (is_up unit.line.handshake) next next' judged [] refl (record {
       going = going;
       done = ap (λ w. number_of w new.queue) waiting ∙ (λ i. length (of_session ((taken.session ∙ sym session_is) i) new.queue.taken));
+      full = λ limit. absurd (cc (limit));
       why = inl (record {
         cause_is = refl;
         none = refl;
@@ -190,18 +191,18 @@ judges_gone unit unit' old new records records' number entry may taken other sta
 
 -- A part that ends the session for such a cause.
 pub judges_over : (unit unit' : Unit) (old new : SiteState) (records records' : Records) (session : ℕ) (cause : Lapse) (outstanding granted : ℕ)
-    → EndsLogin unit unit' records records' session cause outstanding granted → unit'.id ≡ unit.id → unit'.line.closing ≡ true → is_fatal cause ≡ true
+    → EndsLogin unit unit' records records' session cause outstanding granted → unit'.id ≡ unit.id → unit'.line.closing ≡ true → is_fatal cause ≡ true → is_limit cause ≡ false
     → session ≡ old.queue.last_session → Advances old new → Passes old new → EndsBooks unit unit' records records' session true cause outstanding granted → (unit.waiting ≡ None → cause ≡ lapses.Refused)
     → ((receipts : List Receipt) (judged : List Judged) → IsIntake (intake_of (standing_of unit) old records.grants.items) receipts → AreKept (books_at unit old records) judged → is_ended unit.line ≡ false)
     → ((arrival : Arrival) → unit.waiting ≡ Some arrival → (judged : List Judged) → is_ended unit.line ≡ false → AreKept (books_at unit old records) judged
     → Gives unit.id old.queue.taken judged records.grants.items (receipt_of (intake_of (standing_of unit) old records.grants.items) arrival None []) cause outstanding granted)
     → Judges (standing_of unit) (standing_of unit') old new (books_at unit old records) (books_at unit' new records')
-judges_over unit unit' old new records records' session cause outstanding granted is id closing fatal session_is advances passes keeps down going gives =
+judges_over unit unit' old new records records' session cause outstanding granted is id closing fatal limited session_is advances passes keeps down going gives =
     judges_ended (standing_of unit) (standing_of unit') old new (books_at unit old records) (books_at unit' new records') (next_of unit'.waiting new.queue) cause outstanding granted
     id is.waiting over id
     (subst (λ (n : ℕ). EndedFor unit.id n records'.grants.items) session_is (ends_for unit unit' records records' session cause outstanding granted is fatal))
     advances passes (ends_line unit unit' records records' session cause outstanding granted is) refl (passed_taken old new passes)
-    (ap (λ w. number_of w new.queue) is.waiting ∙ (λ i. length (of_session (passed_session old new passes i) new.queue.taken))) fatal down going gives
+    (ap (λ w. number_of w new.queue) is.waiting ∙ (λ i. length (of_session (passed_session old new passes i) new.queue.taken))) fatal limited down going gives
     (λ judged more end was. moved_to (record (books_of unit' old.queue.last_session (next_of unit'.waiting new.queue) records') { ended = true }) (books_at unit' new records') (judged ++ more)
     refl (passed_session old new passes) refl refl refl refl refl refl refl refl refl over refl refl
     (subst (λ (n : ℕ). EndsBooks unit unit' records records' n true cause outstanding granted) session_is keeps
@@ -293,6 +294,7 @@ keeps_refused unit unit' site records records' session outcome session_is waitin
     judged [] refl (record {
       going = answer_going (books_at unit site records) judged outcome is at;
       done = ap (λ w. number_of w site.queue) waiting;
+      full = λ limit. absurd (cc (limit));
       why = inr (inl (record { cause_is = refl; none = refl; over = refl; taken = refl }));
     }) is))
   where

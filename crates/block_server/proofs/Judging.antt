@@ -77,11 +77,11 @@ login_no_row orders.Unreadable is = absurd (cc (is))
 pub served_row : (unit : UnitId) (session : ℕ) (judged : List Judged) (rows : List RowKey) (grants : List Grant) (stage stage' : Stage) (front : Request) (rest : List Request) (current login : ℕ)
     → has_row stage ≡ false → has_row stage' ≡ true → gets_row front.order ≡ true → front.login ≡ current → IsOn unit current grants
     → IsServedUnder unit session judged rows grants stage (front ∷ rest) login
-    → IsServedUnder unit session judged (rows ++ record { unit = unit; login = front.login; key = request_key session front } ∷ []) grants stage' (front ∷ rest) login
+    → IsServedUnder unit session judged (rows ++ record { unit = unit; login = front.login; key = request_key session front; answered = false } ∷ []) grants stage' (front ∷ rest) login
 served_row unit session judged rows grants stage stage' front rest current login none some asks under on is = at (front.login == login) refl
   where
     made : RowKey
-    made = record { unit = unit; login = front.login; key = request_key session front }
+    made = record { unit = unit; login = front.login; key = request_key session front; answered = false }
 
     more : List Key
     more = map (request_key session) (filter (is_due login) rest)

@@ -1,6 +1,7 @@
 -- What the parts of a turn leave of what a unit's books say.
-use Rattle.std.proofs.Common.{◌≡◌, ◌⊎◌, inl, inr, ◌+◌, ◌==◌, ◌&&◌, ◌++◌, ◌<◌, ◌≤◌, ℕ, Bool, true, false, All, Contains, List, [], ◌∷◌, Option, None, drop, refl, sym, ◌∙◌, ap, subst, arith, append-nil}
-use Rattle.std.proofs.lemmas.Bool.{ne_eqb}
+use Rattle.std.proofs.Common.{◌≡◌, ◌⊎◌, inl, inr, ◌+◌, ◌==◌, ◌&&◌, ◌++◌, ◌<◌, ◌≤◌, ℕ, Bool, true, false, All, Contains, List, [], ◌∷◌, Option, Some, None, drop, length, suc, ◌-◌, slice_get, slice_set, map, filter, refl, sym, ◌∙◌, ap, subst, arith, append-nil, length-append}
+use Rattle.std.proofs.lemmas.Bool.{eq-eqb, eqb-true, ne_eqb}
+use Rattle.std.proofs.lemmas.List.{length-map}
 use Rattle.std.proofs.lemmas.List.Elements.{All-append, All-nil, All-push, All-weaker, Contains-append_left, Contains-push}
 use Rattle.vio_num.specs.declared.history.Grant.{Grant}
 use Rattle.vio_num.specs.declared.history.Grant.TheVariants.{Granted, Lapsed}
@@ -10,17 +11,27 @@ use Rattle.vio_num.specs.declared.names.UnitId.{UnitId}
 use Rattle.block_server.specs.Makers.{same_unit}
 use Rattle.block_server.specs.Receipts.{Receipt}
 use Rattle.block_server.specs.Decided.{IsEnd, IsGone, IsJudgedLast, IsTurnedDown}
-use Rattle.block_server.specs.Judged.{Ahead, AreKept, AreLogins, ArePending, Books, Credits, Fate, KeepsLines, HasFate, HasFront, HasGrant, IsAtStage, IsGranting, IsKeptAt, IsOn, IsOutcome, IsServedUnder, Judged, KeepsLogins, RowKey, due_under, ends, gets_row, has_row, is_login, is_logout, request_key}
+use Rattle.block_server.specs.Judged.{Ahead, AreKept, AreLogins, ArePending, Books, Credits, Fate, HasLimit, HasLogout, IsOpenRow, Key, KeepsLines, accepted, answered_under, is_command, is_limit, row_in, is_under, HasFate, HasFront, HasGrant, IsAtStage, IsGranting, IsKeptAt, IsOn, IsOutcome, IsServedUnder, Judged, KeepsLogins, RowKey, due_under, ends, gets_row, has_row, is_login, is_logout, request_key}
 use Rattle.block_server.specs.Fates.Fate.{ends_it, ignored, asks_login, asks_logout, asked}
 use Rattle.block_server.specs.declared.line.Kept.{Kept}
 use Rattle.block_server.specs.declared.request.Request.{Request}
+use Rattle.block_server.specs.declared.request.Order.{Order}
+use Rattle.block_server.specs.declared.request.Order.TheVariants as orders
 use Rattle.block_server.specs.declared.service.Outcome.{Outcome}
 use Rattle.block_server.specs.declared.service.Outcome.TheVariants as outcomes
 use Rattle.block_server.specs.declared.service.Stage.{Stage}
 use Rattle.block_server.specs.declared.service.Stage.TheVariants as stages
+use Rattle.block_server.proofs.Counting.{accepted_pass, answered_push, limits_on, limits_to, logout_rest, mark_all, mark_here, mark_other, mark_under, marked, none_answered, open_last, open_room, open_start, other_login, same_self}
 use Rattle.block_server.proofs.Lapsing.{lines_end, lines_out}
 use Rattle.block_server.proofs.Lines.{lines_granted, lines_session}
 use Rattle.block_server.proofs.Judging.{all_logins, due_popped, filter_left, login_no_row, row_no_login, served_due, served_ended, served_granted, served_left, served_other, served_row}
+
+command_gets : (order : Order) → is_command order ≡ true → gets_row order ≡ true
+command_gets (orders.Login request) is = absurd (cc (is))
+command_gets orders.Logout is = absurd (cc (is))
+command_gets (orders.Task task) is = refl
+command_gets (orders.Command command) is = refl
+command_gets orders.Unreadable is = refl
 
 -- a stage whose request has its row has a request
 pub front_of : (current : ℕ) (pending : List Request) (stage : Stage) → IsAtStage current pending stage → has_row stage ≡ true → HasFront pending
@@ -28,8 +39,8 @@ front_of current pending stages.Start is some = absurd (cc (some))
 front_of current pending stages.OutTable is some = absurd (cc (some))
 front_of current pending stages.InTable is some = absurd (cc (some))
 front_of current pending (stages.DataOut cursor) is some = absurd (cc (some))
-front_of current pending (stages.Given row reply) is some = record { front = is.front; rest = is.rest; parts = is.parts }
-front_of current pending (stages.DataIn row reply cursor) is some = record { front = is.front; rest = is.rest; parts = is.parts }
+front_of current pending (stages.Given row reply) is some = record { front = is.front; rest = is.rest; parts = is.parts; gets = command_gets is.front.order is.asks }
+front_of current pending (stages.DataIn row reply cursor) is some = record { front = is.front; rest = is.rest; parts = is.parts; gets = command_gets is.front.order is.asks }
 front_of current pending (stages.Answer (outcomes.Granted number)) is some = absurd (cc (some))
 front_of current pending (stages.Answer outcomes.Rejected) is some = absurd (cc (some))
 front_of current pending (stages.Answer (outcomes.Served row)) is some = is
@@ -74,9 +85,9 @@ fate_grows unit grants more judged all =
     grows receipt (asked n) is = (is.0, (is.1.0, grant_grows receipt.session n receipt.number is.1.1))
 
 -- The service comes to another stage, without a row more.
-pub keeps_stage : (books : Books) (stage' : Stage) (judged : List Judged) → has_row stage' ≡ has_row books.stage → IsAtStage books.current books.pending stage' → books.kept ≡ None
+pub keeps_stage : (books : Books) (stage' : Stage) (judged : List Judged) → has_row stage' ≡ has_row books.stage → row_in stage' ≡ row_in books.stage → IsAtStage books.current books.pending stage' → books.kept ≡ None
     → AreKept books judged → AreKept (record books { stage = stage' }) judged
-keeps_stage books stage' judged same at none is = record {
+keeps_stage books stage' judged same placed at none is = record {
   fates = is.fates;
   served = λ login some. served_due books.id books.session judged books.rows books.grants books.stage stage' books.pending books.pending login
       (ap (λ has. due_under books.session login has books.pending) (sym same)) (is.served login some);
@@ -87,17 +98,24 @@ keeps_stage books stage' judged same at none is = record {
   under = is.under;
   lines = is.lines;
   idle = is.idle;
+  counted = record {
+    row = λ place in_service. is.counted.row place (sym placed ∙ in_service);
+    exact = is.counted.exact;
+    limits = is.counted.limits;
+    asked_out = is.counted.asked_out;
+    none_later = is.counted.none_later;
+  };
 }
 
 -- the row that a request gets
 abbrev pub row_of_request : Books → Request → RowKey
-row_of_request books request = record { unit = books.id; login = request.login; key = request_key books.session request }
+row_of_request books request = record { unit = books.id; login = request.login; key = request_key books.session request; answered = false }
 
 -- The request in service gets its row.
 pub keeps_row : (books : Books) (stage' : Stage) (front : Request) (rest : List Request) (judged : List Judged) → books.pending ≡ front ∷ rest
-    → has_row books.stage ≡ false → has_row stage' ≡ true → gets_row front.order ≡ true → IsAtStage books.current books.pending stage' → books.kept ≡ None
+    → has_row books.stage ≡ false → has_row stage' ≡ true → row_in stage' ≡ Some (length books.rows) → gets_row front.order ≡ true → IsAtStage books.current books.pending stage' → books.kept ≡ None
     → AreKept books judged → AreKept (record books { stage = stage'; rows = books.rows ++ row_of_request books front ∷ [] }) judged
-keeps_row books stage' front rest judged parts before after asks at none is =
+keeps_row books stage' front rest judged parts before after placed asks at none is =
     let under = (subst (ArePending books.current books.next.number books.taking) parts is.pending).0.under (row_no_login front.order asks) in
     record {
       fates = is.fates;
@@ -112,16 +130,27 @@ keeps_row books stage' front rest judged parts before after asks at none is =
           (λ own. subst (λ (n : ℕ). 1 ≤ n) (sym under.0) under.1);
       lines = is.lines;
       idle = is.idle;
+      counted = record {
+        row = λ place in_service. open_last books.id books.current books.rows (row_of_request books front) place (place_is place (sym in_service ∙ placed)) refl under.0 refl;
+        exact = λ some. ap (λ (n : ℕ). books.credits.outstanding + n) (answered_push books.id books.current books.rows (row_of_request books front) refl) ∙ is.counted.exact some;
+        limits = limits_to books.id books.rows (books.rows ++ row_of_request books front ∷ []) judged judged books.grants
+            (λ login some. (answered_push books.id login books.rows (row_of_request books front) refl, refl)) is.counted.limits;
+        asked_out = is.counted.asked_out;
+        none_later = is.counted.none_later;
+      };
     }
+  where
+    place_is : (place : ℕ) → Some place ≡ Some (length books.rows) → place ≡ length books.rows
+    place_is place same = cc (same)
 
--- The oldest request is dropped, which has its row or gets none.
+-- The oldest request is dropped, which has its row or asks for a login.
 pub keeps_popped : (books : Books) (front : Request) (rest : List Request) (judged : List Judged) → books.pending ≡ front ∷ rest
-    → (has_row books.stage ≡ true) ⊎ (gets_row front.order ≡ false)
+    → (has_row books.stage ≡ true) ⊎ (is_login front.order ≡ true)
     → AreKept books judged → AreKept (record books { stage = stages.Start; kept = None; pending = rest }) judged
 keeps_popped books front rest judged parts gone is = record {
   fates = is.fates;
   served = λ login some. served_due books.id books.session judged books.rows books.grants books.stage stages.Start books.pending rest login
-      (ap (due_under books.session login (has_row books.stage)) parts ∙ due_popped books.session login (has_row books.stage) front rest gone) (is.served login some);
+      (ap (due_under books.session login (has_row books.stage)) parts ∙ due_popped books.session login (has_row books.stage) front rest (no_row_left gone)) (is.served login some);
   logins = is.logins;
   pending = (subst (ArePending books.current books.next.number books.taking) parts is.pending).1;
   stage = tt;
@@ -129,7 +158,27 @@ keeps_popped books front rest judged parts gone is = record {
   under = is.under;
   lines = is.lines;
   idle = λ over. absurd (no_cons front rest books.pending parts (is.idle over).0);
+  counted = record {
+    row = open_start books.id books.current books.rows;
+    exact = is.counted.exact;
+    limits = is.counted.limits;
+    asked_out = λ some off. logout_rest front rest books.pending parts (other gone) (is.counted.asked_out some off);
+    none_later = is.counted.none_later;
+  };
 }
+  where
+    no_row_left : (has_row books.stage ≡ true) ⊎ (is_login front.order ≡ true) → (has_row books.stage ≡ true) ⊎ (gets_row front.order ≡ false)
+    no_row_left (inl some) = inl some
+    no_row_left (inr asks) = inr (login_no_row front.order asks)
+
+    first_same : (a b : Request) (xs ys : List Request) → a ∷ xs ≡ b ∷ ys → a ≡ b
+    first_same a b xs ys same = cc (same)
+
+    other : (has_row books.stage ≡ true) ⊎ (is_login front.order ≡ true) → front.order ≡ orders.Logout → ⊥
+    other (inl some) logout =
+        let first = front_of books.current books.pending books.stage is.stage some in
+        absurd (cc (ap (λ (r : Request). gets_row r.order) (first_same first.front front first.rest rest (sym first.parts ∙ parts)), first.gets, ap gets_row logout))
+    other (inr asks) logout = absurd (cc (asks, ap is_login logout))
 
 -- None is there to drop.
 pub keeps_idle : (books : Books) (judged : List Judged) → books.pending ≡ [] → AreKept books judged → AreKept (record books { stage = stages.Start; kept = None; pending = [] }) judged
@@ -144,6 +193,13 @@ keeps_idle books judged none is = record {
   under = is.under;
   lines = is.lines;
   idle = λ over. (refl, (is.idle over).1);
+  counted = record {
+    row = open_start books.id books.current books.rows;
+    exact = is.counted.exact;
+    limits = is.counted.limits;
+    asked_out = λ some off. subst HasLogout none (is.counted.asked_out some off);
+    none_later = is.counted.none_later;
+  };
 }
   where
     none_due_of : (session login : ℕ) (has : Bool) → due_under session login has [] ≡ []
@@ -232,6 +288,21 @@ more_served books next' ended' cause outstanding granted judged more grants logi
     by (inr (inl down)) = subst Is (sym down.none) (subst (λ (js : List Judged). IsServedUnder books.id books.session js books.rows grants stages.Start [] login) (sym (append-nil judged)) is)
     by (inr (inr last)) = subst Is (sym last.one) (served_other books.id books.session judged books.rows grants stages.Start [] last.receipt ends_it login refl some is)
 
+-- the entry that ended its session is no request of a login
+more_accepted : (books : Books) (next' : Ahead) (ended' : Bool) (cause : Lapse) (outstanding granted : ℕ) (judged more : List Judged) (login : ℕ) → 1 ≤ login
+    → IsEnd books next' ended' cause outstanding granted judged more → accepted login (judged ++ more) ≡ accepted login judged
+more_accepted books next' ended' cause outstanding granted judged more login some end = by end.why
+  where
+    none : more ≡ [] → accepted login (judged ++ more) ≡ accepted login judged
+    none empty = ap (λ (js : List Judged). accepted login (judged ++ js)) empty ∙ ap (accepted login) (append-nil judged)
+
+    by : IsGone books next' ended' cause more ⊎ (IsTurnedDown books next' ended' cause more ⊎ IsJudgedLast books next' ended' cause outstanding granted judged more)
+        → accepted login (judged ++ more) ≡ accepted login judged
+    by (inl gone) = none gone.none
+    by (inr (inl down)) = none down.none
+    by (inr (inr last)) = ap (λ (js : List Judged). accepted login (judged ++ js)) last.one
+        ∙ accepted_pass login judged (record { receipt = last.receipt; fate = ends_it }) (other_login 0 login refl some)
+
 -- The login that is on ended for another cause than its logout, and nothing is pending.
 pub keeps_ended : (books : Books) (next' : Ahead) (cause : Lapse) (outstanding granted : ℕ) (ended' up' : Bool) (credits' : Credits) (judged more : List Judged) → is_logout cause ≡ false
     → IsEnd books next' ended' cause outstanding granted judged more → AreKept books judged → AreKept (record books {
@@ -261,7 +332,33 @@ keeps_ended books next' cause outstanding granted ended' up' credits' judged mor
       under = is.under;
       lines = lines_end books next' up' credits' ended' cause outstanding granted judged more is.logins.on end is.lines;
       idle = λ over. (refl, refl);
+      counted = record {
+        row = open_start books.id 0 books.rows;
+        exact = λ some. absurd (zero_one some);
+        limits = All-push (HasLimit books.id books.rows (judged ++ more)) books.grants line
+            (limits_to books.id books.rows books.rows judged (judged ++ more) books.grants (λ login some. (refl, ap length (more_accepted books next' ended' cause outstanding granted judged more login some end))) is.counted.limits)
+            (limit cause refl);
+        asked_out = λ some. absurd (zero_one some);
+        none_later = λ login high. more_accepted books next' ended' cause outstanding granted judged more login (above books.last login high) end ∙ is.counted.none_later login high;
+      };
     }
+  where
+    above : (a b : ℕ) → a < b → 1 ≤ b
+    above a b high = omega (arith, high)
+
+    limit : (c : Lapse) → cause ≡ c → HasLimit books.id books.rows (judged ++ more) (Lapsed books.id books.session books.current c outstanding granted)
+    limit lapses.Logout same = tt
+    limit lapses.Lost same = tt
+    limit lapses.Early same = tt
+    limit lapses.BadIu same = tt
+    limit lapses.NotLogin same = tt
+    limit lapses.Refused same = tt
+    limit lapses.OverLimit same = λ own.
+        let full = end.full (ap is_limit same) in (
+          full.0,
+          ap (λ (n : ℕ). n + answered_under books.id books.current books.rows) full.1 ∙ is.counted.exact full.0
+              ∙ sym (ap length (more_accepted books next' ended' cause outstanding granted judged more books.current full.0 end)),
+        )
 
 -- While a request is pending the session goes on.
 pub going_on : (books : Books) (judged : List Judged) (front : Request) (rest : List Request) → books.pending ≡ front ∷ rest → AreKept books judged → books.ended ≡ false
@@ -298,6 +395,13 @@ keeps_left books front rest outstanding granted credits' judged parts other none
       lines = lines_out books.id books.session books.next books.current books.taking books.up books.credits credits' books.grants books.ended judged outstanding granted
           (going_on books judged front rest parts is) (are.0.last other none).0 (are.0.under other).1 is.logins.on is.lines;
       idle = λ over. absurd (no_cons front rest books.pending parts (is.idle over).0);
+      counted = record {
+        row = open_start books.id 0 books.rows;
+        exact = λ some. absurd (zero_one some);
+        limits = All-push (HasLimit books.id books.rows judged) books.grants (Lapsed books.id books.session books.current lapses.Logout outstanding granted) is.counted.limits tt;
+        asked_out = λ some. absurd (zero_one some);
+        none_later = is.counted.none_later;
+      };
     }
 
 -- A login began, for the oldest request.
@@ -340,8 +444,24 @@ keeps_granted books number front rest judged parts grants is =
       lines = lines_granted books.id books.session books.next books.current (books.last + 1) number books.taking books.up books.credits books.grants books.ended judged
           (going_on books judged front rest parts is) is.lines;
       idle = λ over. absurd (no_cons front rest books.pending parts (is.idle over).0);
+      counted = record {
+        row = open_start books.id (books.last + 1) books.rows;
+        exact = λ some. zero_left _ (none_answered books.id (books.last + 1) books.rows
+            (none_front _ _ (sym (is.served (books.last + 1) some).in_order ∙ is.counted.none_later (books.last + 1) (next_one books.last))))
+            ∙ sym (ap length (is.counted.none_later (books.last + 1) (next_one books.last)));
+        limits = All-push (HasLimit books.id books.rows judged) books.grants line is.counted.limits tt;
+        asked_out = λ some off. absurd (cc (off));
+        none_later = λ login high. is.counted.none_later login (after_one books.last login high);
+      };
     }
   where
+    zero_left : (n : ℕ) → n ≡ 0 → 0 + n ≡ 0
+    zero_left n none = omega (arith, none)
+
+    none_front : (xs ys : List Key) → xs ++ ys ≡ [] → xs ≡ []
+    none_front [] ys empty = refl
+    none_front (x ∷ xs) ys empty = absurd (cc (empty))
+
     next_one : (n : ℕ) → n < n + 1
     next_one n = omega arith
 
@@ -370,6 +490,7 @@ keeps_session books session' next' ended' up' judged later taken first none off 
   under = is.under;
   lines = lines_session books.id books.session session' books.next next' books.current books.taking books.up up' books.credits books.grants books.ended ended' judged later taken first off is.lines;
   idle = λ over. (none, off);
+  counted = record { row = is.counted.row; exact = is.counted.exact; limits = is.counted.limits; asked_out = is.counted.asked_out; none_later = is.counted.none_later };
 }
   where
     nothing : (session login : ℕ) (has : Bool) → due_under session login has [] ≡ []
@@ -421,6 +542,7 @@ keeps_later books next' ended' up' judged most idle lines is = record {
   under = is.under;
   lines = lines;
   idle = idle;
+  counted = record { row = is.counted.row; exact = is.counted.exact; limits = is.counted.limits; asked_out = is.counted.asked_out; none_later = is.counted.none_later };
 }
 
 -- Books of the same content.
@@ -457,6 +579,7 @@ keeps_kept books kept' judged at is = record {
   under = is.under;
   lines = is.lines;
   idle = is.idle;
+  counted = record { row = is.counted.row; exact = is.counted.exact; limits = is.counted.limits; asked_out = is.counted.asked_out; none_later = is.counted.none_later };
 }
 
 popped_to : (books : Books) (front : Request) (rest : List Request) (judged : List Judged) → books.pending ≡ front ∷ rest
@@ -473,9 +596,9 @@ keeps_finished books outcome judged at is = by outcome at (subst (IsAtStage book
     by : (outcome : Outcome) → books.stage ≡ stages.Entry outcome → IsOutcome books.current books.pending outcome
         → AreKept (record books { stage = stages.Start; kept = None; pending = drop 1 books.pending }) judged
     by (outcomes.Granted number) at front =
-        popped_to books front.front front.rest judged front.parts (keeps_popped books front.front front.rest judged front.parts (inr (login_no_row front.front.order front.asks)) is)
+        popped_to books front.front front.rest judged front.parts (keeps_popped books front.front front.rest judged front.parts (inr front.asks) is)
     by outcomes.Rejected at front =
-        popped_to books front.front front.rest judged front.parts (keeps_popped books front.front front.rest judged front.parts (inr (login_no_row front.front.order front.asks)) is)
+        popped_to books front.front front.rest judged front.parts (keeps_popped books front.front front.rest judged front.parts (inr front.asks) is)
     by (outcomes.Served row) at front =
         popped_to books front.front front.rest judged front.parts (keeps_popped books front.front front.rest judged front.parts (inl (ap has_row at)) is)
 
@@ -508,40 +631,112 @@ keeps_begun books number judged at is =
 pub keeps_delivered : (books : Books) (outcome : Outcome) (judged : List Judged) → books.stage ≡ stages.Answer outcome → books.kept ≡ None
     → AreKept books judged → AreKept (record books { stage = stages.Entry outcome }) judged
 keeps_delivered books outcome judged at none is =
-    keeps_stage books (stages.Entry outcome) judged (same outcome ∙ sym (ap has_row at)) (subst (IsAtStage books.current books.pending) at is.stage) none is
+    keeps_stage books (stages.Entry outcome) judged (same outcome ∙ sym (ap has_row at)) (placed outcome ∙ sym (ap row_in at)) (subst (IsAtStage books.current books.pending) at is.stage) none is
   where
     same : (outcome : Outcome) → has_row (stages.Entry outcome) ≡ has_row (stages.Answer outcome)
     same (outcomes.Granted number) = refl
     same outcomes.Rejected = refl
     same (outcomes.Served row) = refl
 
--- A request was answered: no more is outstanding than before.
-pub keeps_credits : (books : Books) (outstanding' : ℕ) (judged : List Judged) → outstanding' ≤ books.credits.outstanding
-    → AreKept books judged → AreKept (record books { credits = record { outstanding = outstanding'; granted = books.credits.granted } }) judged
-keeps_credits books outstanding' judged less is = record {
-  fates = is.fates;
-  served = is.served;
-  logins = is.logins;
-  pending = is.pending;
-  stage = is.stage;
-  kept = is.kept;
-  under = is.under;
-  lines = record {
-    causes = is.lines.causes;
-    begun = is.lines.begun;
-    risen = is.lines.risen;
-    later = is.lines.later;
-    over = is.lines.over;
-    going = is.lines.going;
-    upto = is.lines.upto;
-    near = is.lines.near;
-    unheard = is.lines.unheard;
-    on = is.lines.on;
-    off = is.lines.off;
-    counted = λ some. below outstanding' books.credits.outstanding _ less (is.lines.counted some);
-  };
-  idle = is.idle;
-}
+    placed : (outcome : Outcome) → row_in (stages.Entry outcome) ≡ row_in (stages.Answer outcome)
+    placed (outcomes.Granted number) = refl
+    placed outcomes.Rejected = refl
+    placed (outcomes.Served row) = refl
+
+-- The oldest request was answered: its row has its answer, and one less is outstanding.
+pub keeps_answered : (books : Books) (place : ℕ) (row : RowKey) (judged : List Judged) → books.stage ≡ stages.Entry (outcomes.Served place) → slice_get books.rows place ≡ Some row
+    → AreKept books judged → AreKept (record books {
+      stage = stages.Start;
+      kept = None;
+      pending = drop 1 books.pending;
+      rows = slice_set books.rows place (marked row);
+      credits = record { outstanding = books.credits.outstanding - 1; granted = books.credits.granted };
+    }) judged
+keeps_answered books place row judged at there is =
+    let fin = keeps_finished books (outcomes.Served place) judged at is in
+    let first : HasFront books.pending = subst (IsAtStage books.current books.pending) at is.stage in
+    let on = ((subst (ArePending books.current books.next.number books.taking) first.parts is.pending).0.under (row_no_login first.front.order first.gets)).1 in
+    let lacks : IsOpenRow books.id books.current books.rows place = is.counted.row place (ap row_in at) in
+    let same = some_is lacks.row row (sym lacks.there ∙ there) in
+    let under : is_under books.id books.current row ≡ true = own_row row (sym (ap (λ (r : RowKey). r.unit) same) ∙ lacks.unit_is) (sym (ap (λ (r : RowKey). r.login) same) ∙ lacks.login_is) in
+    let unanswered : row.answered ≡ false = sym (ap (λ (r : RowKey). r.answered) same) ∙ lacks.open_is in
+    let rows' = slice_set books.rows place (marked row) in
+    record {
+      fates = fin.fates;
+      served = λ login some. served_marked login (fin.served login some);
+      logins = fin.logins;
+      pending = fin.pending;
+      stage = tt;
+      kept = tt;
+      under = mark_all (λ (r : RowKey). same_unit r.unit books.id ≡ true → 1 ≤ r.login) books.rows place row there (λ r keeps. keeps) is.under;
+      lines = record {
+        causes = is.lines.causes;
+        begun = is.lines.begun;
+        risen = is.lines.risen;
+        later = is.lines.later;
+        over = is.lines.over;
+        going = is.lines.going;
+        upto = is.lines.upto;
+        near = is.lines.near;
+        unheard = is.lines.unheard;
+        on = is.lines.on;
+        off = is.lines.off;
+        counted = λ some. below books.credits.outstanding _ (is.lines.counted some);
+      };
+      idle = fin.idle;
+      counted = record {
+        row = open_start books.id books.current rows';
+        exact = λ some. counts books.credits.outstanding _ _ (length (accepted books.current judged)) (mark_here books.id books.current books.rows place row there under unanswered)
+            (is.counted.exact some) (enough (open_room books.id books.current books.rows place row there under unanswered) (is.served books.current some));
+        limits = limits_on books.id books.current books.rows rows' judged judged books.grants (is.logins.on on)
+            (λ login some apart. (mark_other books.id login books.rows place row there (other_row row login under apart), refl)) is.counted.limits;
+        asked_out = fin.counted.asked_out;
+        none_later = is.counted.none_later;
+      };
+    }
   where
-    below : (a b c : ℕ) → a ≤ b → b ≤ c → a ≤ c
-    below a b c low high = omega (arith, low, high)
+    some_is : (a b : RowKey) → Some a ≡ Some b → a ≡ b
+    some_is a b same = cc (same)
+
+    own_row : (row : RowKey) → row.unit ≡ books.id → row.login ≡ books.current → is_under books.id books.current row ≡ true
+    own_row row unit login = subst (λ (z : UnitId × ℕ). same_unit z.0 books.id && (z.1 == books.current) ≡ true) (λ i. ((sym unit) i, (sym login) i))
+        (both (same_unit books.id books.id) (books.current == books.current) (same_self books.id) (eq-eqb books.current books.current refl))
+      where
+        both : (a b : Bool) → a ≡ true → b ≡ true → a && b ≡ true
+        both a b x y = cc (x, y)
+
+    other_row : (row : RowKey) (login : ℕ) → is_under books.id books.current row ≡ true → (books.current == login) ≡ false → is_under books.id login row ≡ false
+    other_row row login under apart = second (same_unit row.unit books.id) (row.login == login)
+        (subst (λ (n : ℕ). (n == login) ≡ false) (sym (eqb-true row.login books.current (right (same_unit row.unit books.id) (row.login == books.current) under))) apart)
+      where
+        second : (a b : Bool) → b ≡ false → a && b ≡ false
+        second true b is = is
+        second false b is = refl
+
+        right : (a b : Bool) → a && b ≡ true → b ≡ true
+        right true b is = is
+        right false b is = absurd (cc (is))
+
+    below : (a c : ℕ) → a ≤ c → a - 1 ≤ c
+    below a c low = omega (arith, low)
+
+    counts : (a b b' n : ℕ) → b' ≡ suc b → a + b ≡ n → suc b ≤ n → (a - 1) + b' ≡ n
+    counts a b b' n more was room = omega (arith, more, was, room)
+
+    enough : suc (answered_under books.id books.current books.rows) ≤ length (filter (is_under books.id books.current) books.rows)
+        → IsServedUnder books.id books.session judged books.rows books.grants books.stage books.pending books.current
+        → suc (answered_under books.id books.current books.rows) ≤ length (accepted books.current judged)
+    enough room was = over _ _ _ _ (length was.rest) room (length-map (filter (is_under books.id books.current) books.rows) (λ (r : RowKey). r.key))
+        (ap length was.in_order ∙ length-append (map (λ (r : RowKey). r.key) (filter (is_under books.id books.current) books.rows)) was.rest)
+      where
+        over : (a b c d e : ℕ) → a ≤ b → c ≡ b → d ≡ c + e → a ≤ d
+        over a b c d e room same sum = omega (arith, room, same, sum)
+
+    served_marked : (login : ℕ) → IsServedUnder books.id books.session judged books.rows books.grants stages.Start (drop 1 books.pending) login
+        → IsServedUnder books.id books.session judged (slice_set books.rows place (marked row)) books.grants stages.Start (drop 1 books.pending) login
+    served_marked login was = record {
+      rest = was.rest;
+      in_order = was.in_order ∙ ap (λ (keys : List Key). keys ++ was.rest) (sym (mark_under books.id login books.rows place row there));
+      waiting = was.waiting;
+      out = was.out;
+    }

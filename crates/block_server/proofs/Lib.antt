@@ -64,5 +64,6 @@ pub mod Reaching
 pub mod OwingCalls
 pub mod OwedLaws
 pub mod OwingTurn
+pub mod Counting
 pub mod Refusing
 pub mod RefusalLaws

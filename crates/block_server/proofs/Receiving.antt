@@ -25,7 +25,7 @@ use Rattle.block_server.specs.Receipts.{EndedFor, GoesOn, Intake, IsIntake, IsOv
 use Rattle.block_server.specs.declared.request.Arrival.{Arrival}
 
 -- an element of a list is that of each list that begins with it
-slice_more : {X : Type 0} (xs rest : List X) (i : ℕ) (x : X) → slice_get xs i ≡ Some x → slice_get (xs ++ rest) i ≡ Some x
+pub slice_more : {X : Type 0} (xs rest : List X) (i : ℕ) (x : X) → slice_get xs i ≡ Some x → slice_get (xs ++ rest) i ≡ Some x
 slice_more xs rest i x e =
     let less = slice_get_within xs i x e in
     slice_get-get_or (xs ++ rest) i x (omega (arith, less, length-append xs rest))

@@ -15,8 +15,8 @@ use Rattle.vio_num.specs.declared.history.Lapse.{Lapse}
 use Rattle.vio_num.specs.declared.history.Lapse.TheVariants as lapses
 use Rattle.block_server.specs.Books.{books_of, credits_of, is_up}
 use Rattle.block_server.specs.Closings.{Gives, IsUnderLogin, TakesNone, last_line}
-use Rattle.block_server.specs.Decided.{Decides, DecidesOrder, EndsBooks, IsCause, IsToJudge, JudgesOne, StaysOn, TakesUnder}
-use Rattle.block_server.specs.Judged.{Ahead, AreKept, Asks, Books, Credits, IsIgnored, IsLastGrant, Judged, accepted, gets_row, is_login, is_logout}
+use Rattle.block_server.specs.Decided.{Decides, DecidesOrder, EndsBooks, IsCause, IsToJudge, JudgesOne, StaysOn, TakesUnder, IsAtLimit}
+use Rattle.block_server.specs.Judged.{Ahead, AreKept, Asks, Books, Credits, IsIgnored, IsLastGrant, Judged, accepted, gets_row, is_login, is_logout, is_limit}
 use Rattle.block_server.specs.Fates.Fate.{asked, asks_login, asks_logout, ends_it, ignored}
 use Rattle.block_server.specs.Receipts.{Receipt, is_ended, is_fatal}
 use Rattle.block_server.specs.declared.intake.Verdict.{Verdict}
@@ -140,7 +140,7 @@ accepted_one books session next' number bytes receipt old new request (orders.Lo
       refl (credits_same books old new credits is.0.granted is.0.outstanding)
       (keeps_unasked books next' books.taking request receipt asks_login judged refl (to.copied, (asked_for, subst (λ xs. Spells xs (units.LoginReq asked_for)) (sym to.bytes_are) is.1))
       (next_to books session next' number bytes receipt to) (at ∙ sym to.number_is) (ap gets_row order) (inl (ap is_login order))
-      (λ other. absurd (cc (other, ap is_login order))) (λ on. on) (λ ends. absurd (cc (ends)))
+      (λ other. absurd (cc (other, ap is_login order))) (λ on. on) (λ off. inl off) (λ ends. absurd (cc (ends)))
       (λ off. none_grows books.id books.session judged (record { receipt = receipt; fate = asks_login } ∷ []) books.grants (kept.lines.off off)) kept);
 }
 accepted_one books session next' number bytes receipt old new request orders.Logout to current last taking credits at unit order is = record {
@@ -162,7 +162,7 @@ accepted_one books session next' number bytes receipt old new request orders.Log
         ),
       )
       (next_to books session next' number bytes receipt to) (at ∙ sym to.number_is) (ap gets_row order)
-      (inr (is.login_is ∙ sym current, (kept.logins.takes on, on))) (λ other. refl) (λ off. absurd (cc (off))) (λ ends. absurd (cc (ends)))
+      (inr (is.login_is ∙ sym current, (kept.logins.takes on, on))) (λ other. refl) (λ off. absurd (cc (off))) (λ off. inr order) (λ ends. absurd (cc (ends)))
       (λ off. asked_last books judged receipt (to.session_is ∙ sym to.present) (kept.lines.on (kept.logins.takes on))) kept);
 }
   where
@@ -245,6 +245,16 @@ pub passed_by : (books : Books) (session : ℕ) (next' : Ahead) (number : ℕ) (
 passed_by books session next' number bytes receipt old new verdict to current last taking credits is decides =
     passed_one books session next' number bytes receipt old new to current last taking credits (subst (Decides old new bytes) is decides)
 
+-- what is outstanding as it ends for more than it grants
+at_limit : (logins : Logins) (bytes : List ℕ) (cause : Lapse) (outstanding granted : ℕ) → IsCause logins bytes cause outstanding granted → is_limit cause ≡ true → IsAtLimit logins outstanding granted
+at_limit logins bytes lapses.OverLimit outstanding granted is limit = is.1
+at_limit logins bytes lapses.Logout outstanding granted is limit = absurd (cc (limit))
+at_limit logins bytes lapses.Lost outstanding granted is limit = absurd (cc (limit))
+at_limit logins bytes lapses.Early outstanding granted is limit = absurd (cc (limit))
+at_limit logins bytes lapses.BadIu outstanding granted is limit = absurd (cc (limit))
+at_limit logins bytes lapses.NotLogin outstanding granted is limit = absurd (cc (limit))
+at_limit logins bytes lapses.Refused outstanding granted is limit = absurd (cc (limit))
+
 -- One ended the session, by its verdict.
 pub ended_by : (unit unit' : Unit) (old new : Logins) (session : ℕ) (next next' : Ahead) (number : ℕ) (bytes : List ℕ) (receipt : Receipt) (records records' : Records) (verdict : Verdict)
     (cause : Lapse) (outstanding granted : ℕ) → unit.logins ≡ old → IsToJudge (books_of unit session next records) session next' number bytes receipt
@@ -264,6 +274,8 @@ ended_by unit unit' old new session next next' number bytes receipt records reco
       (ends (is_up unit.line.handshake) next next' judged (record { receipt = receipt; fate = ends_it } ∷ []) (no_logout cause (cause_fatal old bytes cause outstanding granted fatal.1)) (record {
         going = to.going;
         done = to.all ∙ ap (λ rows. length (of_session session rows)) (sym to.taken);
+        full = λ limit.
+            let full = at_limit old bytes cause outstanding granted fatal.1 limit in (was.logins.takes (stays.taking ∙ full.on), full.full ∙ sym stays.outstanding);
         why = inr (inr (record {
           receipt = receipt;
           one = refl;

@@ -1,14 +1,16 @@
 -- What the parts of a request's service leave of its unit's books.
-use Rattle.std.proofs.Common.{◌≡◌, ◌++◌, ℕ, true, false, List, [], ◌∷◌, None, refl, sym, ◌∙◌, ap, subst}
-use Rattle.std.proofs.lemmas.List.{map-append}
+use Rattle.block_server.specs.Answering.{has_bytes}
+use Rattle.std.proofs.Common.{◌≡◌, ◌++◌, ℕ, true, false, List, [], ◌∷◌, None, refl, sym, ◌∙◌, ap, subst, Some, length}
+use Rattle.std.proofs.lemmas.List.{map-append, length-map}
 use Rattle.vio_num.specs.declared.history.Served.{Served}
 use Rattle.vio_num.specs.declared.names.UnitId.{UnitId}
-use Rattle.block_server.specs.Judged.{AreKept, Books, HasCommandFront, HasFront, IsAtStage, IsOutcome, Keeps, RowKey, ServesOne, gets_row, has_row, in_service, is_command, is_login, keys_of, row_key}
+use Rattle.block_server.specs.Judged.{AreKept, Books, HasCommandFront, HasFront, IsAtStage, IsOutcome, Keeps, RowKey, ServesOne, gets_row, has_row, in_service, is_command, is_login, keys_of, row_in, row_key}
 use Rattle.block_server.specs.Stage.{is_answered, is_before_step}
 use Rattle.block_server.specs.declared.request.Order.{Order}
 use Rattle.block_server.specs.declared.request.Order.TheVariants as orders
 use Rattle.block_server.specs.declared.request.Request.{Request}
 use Rattle.block_server.specs.declared.service.Outcome.{Outcome}
+use Rattle.block_server.specs.declared.service.Outcome.TheVariants as outcomes
 use Rattle.block_server.specs.declared.service.Stage.{Stage}
 use Rattle.block_server.specs.declared.service.Stage.TheVariants as stages
 use Rattle.block_server.proofs.Keeping.{keeps_row, keeps_stage}
@@ -66,6 +68,20 @@ no_row_at current pending (stages.DataIn row reply cursor) request rest parts no
 no_row_at current pending (stages.Answer outcome) request rest parts none before at = absurd (cc (before))
 no_row_at current pending (stages.Entry outcome) request rest parts none before at = absurd (cc (before))
 
+no_place : (stage : Stage) → has_row stage ≡ false → row_in stage ≡ None
+no_place stages.Start none = refl
+no_place stages.OutTable none = refl
+no_place stages.InTable none = refl
+no_place (stages.DataOut cursor) none = refl
+no_place (stages.Given row reply) none = absurd (cc (none))
+no_place (stages.DataIn row reply cursor) none = absurd (cc (none))
+no_place (stages.Answer (outcomes.Granted number)) none = refl
+no_place (stages.Answer outcomes.Rejected) none = refl
+no_place (stages.Answer (outcomes.Served row)) none = absurd (cc (none))
+no_place (stages.Entry (outcomes.Granted number)) none = refl
+no_place (stages.Entry outcomes.Rejected) none = refl
+no_place (stages.Entry (outcomes.Served row)) none = absurd (cc (none))
+
 -- One part behind another.
 pub one_on : (id : UnitId) (session session' : ℕ) (request : Request) (a b c : Stage) (rows rows' rows'' : List Served) → session' ≡ session
     → ServesOne id session request a b rows rows' → ServesOne id session' request b c rows' rows'' → ServesOne id session request a c rows rows''
@@ -79,41 +95,43 @@ one_same id session request stage stage' rows rows' same keys = λ books for jud
     subst (λ (z : Stage × List RowKey). AreKept (record books { stage = z.0; rows = z.1 }) judged) (λ i. ((sym same) i, (sym keys) i)) is
 
 -- The service comes to another stage.
-pub one_to : (id : UnitId) (session : ℕ) (request : Request) (stage stage' : Stage) (rows : List Served) → has_row stage' ≡ has_row stage
+pub one_to : (id : UnitId) (session : ℕ) (request : Request) (stage stage' : Stage) (rows : List Served) → has_row stage' ≡ has_row stage → row_in stage' ≡ row_in stage
     → ((current : ℕ) → (pending : List Request) → IsAtStage current pending stage → IsAtStage current pending stage') → ServesOne id session request stage stage' rows rows
-one_to id session request stage stage' rows same at = λ books for judged is.
-    keeps_stage (in_service books stage rows) stage' judged same (at books.current books.pending is.stage) for.none is
+one_to id session request stage stage' rows same placed at = λ books for judged is.
+    keeps_stage (in_service books stage rows) stage' judged same placed (at books.current books.pending is.stage) for.none is
 
 pub one_before : (id : UnitId) (session : ℕ) (request : Request) (stage stage' : Stage) (rows : List Served) → is_before_step stage ≡ true → is_before_step stage' ≡ true
     → ServesOne id session request stage stage' rows rows
 one_before id session request stage stage' rows before before' =
-    one_to id session request stage stage' rows (before_no_row stage' before' ∙ sym (before_no_row stage before)) (λ current pending at. at_before current pending stage' before')
+    one_to id session request stage stage' rows (before_no_row stage' before' ∙ sym (before_no_row stage before))
+    (no_place stage' (before_no_row stage' before') ∙ sym (no_place stage (before_no_row stage before))) (λ current pending at. at_before current pending stage' before')
 
 -- The data-in of a command are on their way, and then it is answered.
-pub one_given : (id : UnitId) (session : ℕ) (request : Request) (stage stage' : Stage) (rows : List Served) (given given' : Stage) → stage ≡ given → stage' ≡ given' → has_row given' ≡ has_row given
+pub one_given : (id : UnitId) (session : ℕ) (request : Request) (stage stage' : Stage) (rows : List Served) (given given' : Stage) → stage ≡ given → stage' ≡ given' → has_row given' ≡ has_row given → row_in given' ≡ row_in given
     → ((current : ℕ) → (pending : List Request) → IsAtStage current pending given → IsAtStage current pending given') → ServesOne id session request stage stage' rows rows
-one_given id session request stage stage' rows given given' was is same at =
-    one_to id session request stage stage' rows (ap has_row is ∙ same ∙ sym (ap has_row was))
+one_given id session request stage stage' rows given given' was is same placed at =
+    one_to id session request stage stage' rows (ap has_row is ∙ same ∙ sym (ap has_row was)) (ap row_in is ∙ placed ∙ sym (ap row_in was))
     (λ current pending before. subst (IsAtStage current pending) (sym is) (at current pending (subst (IsAtStage current pending) was before)))
 
 pub front_answered : (current row : ℕ) (pending : List Request) → HasCommandFront pending → HasFront pending
-front_answered current row pending is = record { front = is.front; rest = is.rest; parts = is.parts }
+front_answered current row pending is = record { front = is.front; rest = is.rest; parts = is.parts; gets = command_row is.front.order is.asks }
 
 -- It gets its row.
-pub one_row : (id : UnitId) (session : ℕ) (request : Request) (stage stage' : Stage) (rows rows' : List Served) (row : Served) → has_row stage ≡ false → has_row stage' ≡ true
+pub one_row : (id : UnitId) (session : ℕ) (request : Request) (stage stage' : Stage) (rows rows' : List Served) (row : Served) → has_row stage ≡ false → has_row stage' ≡ true → row_in stage' ≡ Some (length rows) → row.answer ≡ []
     → ((current : ℕ) → (pending rest : List Request) → pending ≡ request ∷ rest → IsAtStage current pending stage') → gets_row request.order ≡ true
     → rows' ≡ rows ++ row ∷ [] → row.unit ≡ id → row.session ≡ session → row.login ≡ request.login → row.number ≡ request.number → row.iu ≡ request.unit.items
     → ServesOne id session request stage stage' rows rows'
-one_row id session request stage stage' rows rows' row before after at gets added unit in_session login number iu = λ books for judged is.
-    let made : keys_of rows' ≡ keys_of rows ++ record { unit = books.id; login = request.login; key = record { session = books.session; number = request.number; bytes = request.unit.items } } ∷ [] =
+one_row id session request stage stage' rows rows' row before after placed empty at gets added unit in_session login number iu = λ books for judged is.
+    let made : keys_of rows' ≡ keys_of rows ++ record { unit = books.id; login = request.login; key = record { session = books.session; number = request.number; bytes = request.unit.items }; answered = false } ∷ [] =
     ap keys_of added ∙ map-append row_key rows (row ∷ [])
     ∙ (λ i. keys_of rows ++ record {
       unit = (unit ∙ sym for.id_is) i;
       login = login i;
       key = record { session = (in_session ∙ sym for.session_is) i; number = number i; bytes = iu i };
+      answered = has_bytes (empty i);
     } ∷ []) in
     subst (λ (keys : List RowKey). AreKept (record books { stage = stage'; rows = keys }) judged) (sym made)
-    (keeps_row (in_service books stage rows) stage' request for.rest judged for.front before after gets (at books.current books.pending for.rest for.front) for.none is)
+    (keeps_row (in_service books stage rows) stage' request for.rest judged for.front before after (placed ∙ ap Some (sym (length-map rows row_key))) gets (at books.current books.pending for.rest for.front) for.none is)
 
 -- A login is judged.
 pub login_one : (books : Books) (stage stage' : Stage) (rows : List Served) (front : Request) (rest : List Request) (outcome : Outcome) → books.pending ≡ front ∷ rest → is_login front.order ≡ true
@@ -122,4 +140,6 @@ pub login_one : (books : Books) (stage stage' : Stage) (rows : List Served) (fro
 login_one books stage stage' rows front rest outcome parts asks before none answered no_row at = λ judged is.
     keeps_stage (in_service books stage rows) stage' judged
     (ap has_row answered ∙ no_row ∙ sym (no_row_at books.current books.pending stage front rest parts (login_no_command front.order asks) before is.stage))
+    (ap row_in answered ∙ no_place (stages.Answer outcome) no_row
+    ∙ sym (no_place stage (no_row_at books.current books.pending stage front rest parts (login_no_command front.order asks) before is.stage)))
     (subst (IsAtStage books.current books.pending) (sym answered) at) none is

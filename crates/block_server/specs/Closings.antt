@@ -100,7 +100,8 @@ IsBadIu unit judged lines receipt =
 abbrev pub IsUnderLogin : List ℕ → Type 0
 IsUnderLogin bytes = ((tag : ℕ) × Spells bytes (units.ILogout tag)) ⊎ Asks bytes
 
--- As many tasks and commands as are granted were accepted under the login that is on, and here is one more.
+-- As many tasks and commands as are granted were accepted under the login that is on, and here is one more. (How many of them
+-- have no answer stands in `Judged`: HasLimit.)
 pub record IsOverLimit (unit : UnitId) (judged : List Judged) (lines : List Grant) (receipt : Receipt) (outstanding granted : ℕ) : Type 0 where
   pub copied : IsSome receipt.copy
   pub asks : Asks receipt.bytes

@@ -8,7 +8,7 @@ use Rattle.vio_num.specs.declared.history.Lapse.{Lapse}
 use Rattle.vio_num.specs.declared.history.Lapse.TheVariants as lapses
 use Rattle.block_server.specs.Books.{books_of}
 use Rattle.block_server.specs.Closings.{Gives, IsUnderLogin, is_event}
-use Rattle.block_server.specs.Judged.{Ahead, AreKept, Asks, Books, Fate, IsIgnored, IsOn, Judged, is_logout, login_of}
+use Rattle.block_server.specs.Judged.{Ahead, AreKept, Asks, Books, Fate, IsIgnored, IsOn, Judged, is_limit, is_logout, login_of}
 use Rattle.block_server.specs.Fates.Fate.{ends_it}
 use Rattle.block_server.specs.Receipts.{Receipt, is_fatal}
 use Rattle.vio_num.specs.declared.entry.Entry.{Entry}
@@ -136,6 +136,8 @@ pub record IsJudgedLast (books : Books) (next' : Ahead) (ended' : Bool) (cause :
 pub record IsEnd (books : Books) (next' : Ahead) (ended' : Bool) (cause : Lapse) (outstanding granted : ℕ) (judged more : List Judged) : Type 0 where
   pub going : books.ended ≡ false
   pub done : next'.number ≡ length (of_session books.session next'.taken)
+  -- a login that ends as over limit is on, and has as many outstanding as it grants
+  pub full : is_limit cause ≡ true → (1 ≤ books.current) × (granted ≡ books.credits.outstanding)
   pub why : IsGone books next' ended' cause more ⊎ (IsTurnedDown books next' ended' cause more ⊎ IsJudgedLast books next' ended' cause outstanding granted judged more)
 
 -- What the end of the login leaves of the books, where nothing more is taken in the session or where it goes on.

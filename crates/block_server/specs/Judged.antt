@@ -1,5 +1,5 @@
 -- What became of each SRP entry that a server unit took, and that each request has one row, in order (SRP, "Flow control").
-use Rattle.std.specs.Prelude.{◌≡◌, ◌⊎◌, ◌==◌, ◌&&◌, ◌+◌, ◌<◌, ◌≤◌, ◌++◌, ℕ, Bool, true, false, ⊤, All, List, [], ◌∷◌, Option, Some, None, IsSome, length, map, filter, take}
+use Rattle.std.specs.Prelude.{◌≡◌, ◌⊎◌, ◌==◌, ◌&&◌, ◌+◌, ◌<◌, ◌≤◌, ◌++◌, ℕ, Bool, true, false, ⊤, All, List, [], ◌∷◌, Option, Some, None, IsSome, length, map, filter, slice_get, take}
 use Rattle.crq_ring.specs.Sessions.{of_session}
 use Rattle.crq_ring.specs.declared.rows.PipeRow.{PipeRow}
 use Rattle.srp_iu.specs.Grammar.{Spells}
@@ -14,6 +14,7 @@ use Rattle.vio_num.specs.declared.history.Served.{Served as ServedRow}
 use Rattle.vio_num.specs.declared.names.UnitId.{UnitId}
 pub use Rattle.block_server.specs.Fates.{Asks, Fate, HasGrant, IsIgnored, Judged, Key, accepted, ends, login_of, receipt_key}
 use Rattle.block_server.specs.Fates.Fate.{asked, asks_login, asks_logout, ends_it, ignored}
+use Rattle.block_server.specs.Answering.{has_bytes}
 use Rattle.block_server.specs.Closings.{HasCauses, is_closing, heard, is_line, last_line, TakesNone}
 use Rattle.block_server.specs.Makers.{same_unit}
 use Rattle.block_server.specs.Receipts.{EndedFor, Receipt}
@@ -44,6 +45,11 @@ abbrev pub is_logout : Lapse → Bool
 is_logout lapses.Logout = true
 is_logout cause = false
 
+-- whether it is for more outstanding than granted
+abbrev pub is_limit : Lapse → Bool
+is_limit lapses.OverLimit = true
+is_limit cause = false
+
 -- whether a line ends it since its client asked for that
 abbrev pub logs_out : (unit : UnitId) → (login : ℕ) → Grant → Bool
 logs_out unit n (Granted of session login number credits) = false
@@ -64,6 +70,8 @@ pub record RowKey : Type 0 where
   pub unit : UnitId
   pub login : ℕ
   pub key : Key
+  -- whether it has its answer
+  pub answered : Bool
 
 abbrev pub request_key : (session : ℕ) → Request → Key
 request_key session r = record { session = session; number = r.number; bytes = r.unit.items }
@@ -73,6 +81,7 @@ row_key row = record {
   unit = row.unit;
   login = row.login;
   key = record { session = row.session; number = row.number; bytes = row.iu };
+  answered = has_bytes row.answer;
 }
 
 abbrev pub keys_of : List ServedRow → List RowKey
@@ -84,6 +93,10 @@ is_under unit login row = same_unit row.unit unit && (row.login == login)
 
 abbrev pub rows_under : UnitId → (login : ℕ) → List RowKey → List Key
 rows_under unit login rows = map (λ row. row.key) (filter (is_under unit login) rows)
+
+-- how many of them have their answers
+abbrev pub answered_under : UnitId → (login : ℕ) → List RowKey → ℕ
+answered_under unit login rows = length (filter (λ row. row.answered) (filter (is_under unit login) rows))
 
 -- whether a request is a command or a task, which has a row; whether it is a command; and whether it asks for a login
 abbrev pub gets_row : Order → Bool
@@ -106,6 +119,14 @@ has_row (stages.DataIn row reply cursor) = true
 has_row (stages.Answer (outcomes.Served row)) = true
 has_row (stages.Entry (outcomes.Served row)) = true
 has_row stage = false
+
+-- the place of that row
+abbrev pub row_in : Stage → Option ℕ
+row_in (stages.Given row reply) = Some row
+row_in (stages.DataIn row reply cursor) = Some row
+row_in (stages.Answer (outcomes.Served row)) = Some row
+row_in (stages.Entry (outcomes.Served row)) = Some row
+row_in stage = None
 
 -- the requests that are due: those that are pending, but for the oldest where it has its row
 abbrev pub due : Bool → List Request → List Request
@@ -201,11 +222,12 @@ ArePending current next taking [] = ⊤
 ArePending current next taking (request ∷ requests) =
     IsPendingUnder current next taking request requests × ArePending current next taking requests
 
--- The oldest request is in service.
+-- The oldest request is in service, and is a command or a task.
 pub record HasFront (pending : List Request) : Type 0 where
   pub front : Request
   pub rest : List Request
   pub parts : pending ≡ front ∷ rest
+  pub gets : gets_row front.order ≡ true
 
 -- It is a command.
 pub record HasCommandFront (pending : List Request) : Type 0 where
@@ -272,6 +294,42 @@ pub record KeepsLines (unit : UnitId) (session : ℕ) (next : Ahead) (current : 
   pub off : taking ≡ false → TakesNone unit session judged grants
   pub counted : 1 ≤ current → credits.outstanding ≤ length (accepted current judged)
 
+-- The row in service, if there is one, is of the unit and under the login that is on, and has no answer yet.
+pub record IsOpenRow (unit : UnitId) (current : ℕ) (rows : List RowKey) (place : ℕ) : Type 0 where
+  pub row : RowKey
+  pub there : slice_get rows place ≡ Some row
+  pub unit_is : row.unit ≡ unit
+  pub login_is : row.login ≡ current
+  pub open_is : row.answered ≡ false
+
+abbrev pub HasOpenRow : UnitId → (current : ℕ) → List RowKey → Stage → Type 0
+HasOpenRow unit current rows stage = (place : ℕ) → row_in stage ≡ Some place → IsOpenRow unit current rows place
+
+-- A line says that a login had more outstanding than it grants: as many of its commands and tasks as it grants had no answer.
+abbrev pub HasLimit : UnitId → List RowKey → List Judged → Grant → Type 0
+HasLimit unit rows judged (Granted of session login number credits) = ⊤
+HasLimit unit rows judged (Lapsed of session login lapses.OverLimit outstanding granted) =
+    same_unit of unit ≡ true → (1 ≤ login) × (granted + answered_under unit login rows ≡ length (accepted login judged))
+HasLimit unit rows judged (Lapsed of session login cause outstanding granted) = ⊤
+
+-- A logout is pending.
+pub record HasLogout (pending : List Request) : Type 0 where
+  pub before : List Request
+  pub request : Request
+  pub after : List Request
+  pub parts : pending ≡ before ++ request ∷ after
+  pub asks : request.order ≡ orders.Logout
+
+-- What is outstanding under the login that is on, and was under those that ended as over limit: the commands and tasks that were
+-- accepted and have no answer. And while the login that is on takes none, its logout is pending.
+pub record AreCounted (books : Books) (judged : List Judged) : Type 0 where
+  pub row : HasOpenRow books.id books.current books.rows books.stage
+  pub exact : 1 ≤ books.current → books.credits.outstanding + answered_under books.id books.current books.rows ≡ length (accepted books.current judged)
+  pub limits : All (HasLimit books.id books.rows judged) books.grants
+  pub asked_out : 1 ≤ books.current → books.taking ≡ false → HasLogout books.pending
+  -- nothing was accepted under a login that is still to come
+  pub none_later : (login : ℕ) → books.last < login → accepted login judged ≡ []
+
 -- What a unit's books say, with the entries that were judged.
 pub record AreKept (books : Books) (judged : List Judged) : Type 0 where
   pub fates : All (λ j. HasFate books.id books.grants j.receipt j.fate) judged
@@ -284,6 +342,7 @@ pub record AreKept (books : Books) (judged : List Judged) : Type 0 where
   pub under : All (λ row. same_unit row.unit books.id ≡ true → 1 ≤ row.login) books.rows
   pub lines : KeepsLines books.id books.session books.next books.current books.taking books.up books.credits books.grants books.ended judged
   pub idle : books.ended ≡ true → (books.pending ≡ []) × (books.current ≡ 0)
+  pub counted : AreCounted books judged
 
 -- What a part of a turn that judges no entry leaves.
 abbrev pub Keeps : (books books' : Books) → Type 0

@@ -12,6 +12,7 @@ use Rattle.crq_session.specs.EndState.{EndState}
 use Rattle.crq_session.specs.Answered.{received_now, taken_now}
 use Rattle.block_server.specs.Answering.{has_bytes}
 use Rattle.block_server.specs.Judged.{AreKept, Books, Judged, gets_row, is_logout}
+pub use Rattle.block_server.specs.Judged.{row_in}
 use Rattle.block_server.specs.Makers.{same_unit}
 use Rattle.block_server.specs.Books.{books_at}
 use Rattle.block_server.specs.Receipts.{IsIntake, Receipt, intake_of, is_ended, standing_of}
@@ -73,14 +74,6 @@ row_state row = record { unit = row.unit; session = row.session; login = row.log
 
 abbrev pub row_states : List ServedRow → List RowState
 row_states rows = map row_state rows
-
--- the place of the row in service, if the request in service has one
-abbrev pub row_in : Stage → Option ℕ
-row_in (Given row reply) = Some row
-row_in (DataIn row reply cursor) = Some row
-row_in (Answer (Served row)) = Some row
-row_in (Entry (Served row)) = Some row
-row_in stage = None
 
 -- what of a unit says which answers it owes
 pub record Owing : Type 0 where

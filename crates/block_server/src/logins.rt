@@ -1,5 +1,5 @@
 // The logins of a unit: which one is on, and what is outstanding under it (SRP, "Flow control").
-ghost use Rattle.std.specs.Prelude.{◌≡◌, ◌↔◌, ◌+◌, ◌^◌, ◌<◌, ◌≤◌, false, true, Some, None, IsOk, OnOk, OnErr, IsErrOf, if◌then◌else◌};
+ghost use Rattle.std.specs.Prelude.{◌≡◌, ◌↔◌, ◌+◌, ◌-◌, ◌^◌, ◌<◌, ◌≤◌, false, true, Some, None, IsOk, OnOk, OnErr, IsErrOf, if◌then◌else◌};
 ghost use Rattle.srp_credits.specs.Target.{over_limit};
 
 use srp_credits::{CreditFault, Target};
@@ -120,7 +120,7 @@ impl Logins {
         ensures current { self.new.current ≡ self.old.current }
         ensures taking { self.new.taking ≡ self.old.taking }
         ensures granted { self.new.granted ≡ self.old.granted }
-        ensures less { self.new.target.outstanding ≤ self.old.target.outstanding }
+        ensures less { self.new.target.outstanding ≡ self.old.target.outstanding - 1 }
     {
         if self.target.outstanding() > 0 {
             self.target.answer();

@@ -114,7 +114,6 @@ impl Records {
     pub(crate) fn answer(&mut self, row: usize, answer: Bytes)
         ensures row { AnswersRow self.old.history.items self.new.history.items row answer }
         ensures grants { self.new.grants ≡ self.old.grants }
-        ensures keys { keys_of self.new.history.items ≡ keys_of self.old.history.items }
         ensures rows { rows_of self.new.history.items ≡ rows_of self.old.history.items }
     {
         if let Some(row) = self.history.get_mut(row) {

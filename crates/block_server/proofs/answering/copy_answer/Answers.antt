@@ -80,7 +80,7 @@ returns-in-Refused-clause-judges g c =
     (works_on _ _ _ _ _ _ _ _ _
     (works_none _ _ _ _ _ _ c.deliver.ensures.stands refl refl c.deliver.ensures.advances c.deliver.ensures.passes (lines_same _ _ _ refl) (c.deliver.ensures.books c.args.records.now))
     (works _ _ _ _ _ _ refl refl (takes_ended _ _ _ _ _ _ _ Refused 0 0 c.end_session.ensures.ends c.end_session.ensures.id c.end_session.ensures.closing refl c.session.ensures (advances_same _) refl)
-    (judges_over c.deliver.new.unit c.end_session.new.unit (g.S.Site.state c.deliver.new.site) (g.S.Site.state c.deliver.new.site) c.args.records.now c.end_session.new.records _ Refused 0 0 c.end_session.ensures.ends c.end_session.ensures.id c.end_session.ensures.closing refl c.session.ensures (advances_same _) refl
+    (judges_over c.deliver.new.unit c.end_session.new.unit (g.S.Site.state c.deliver.new.site) (g.S.Site.state c.deliver.new.site) c.args.records.now c.end_session.new.records _ Refused 0 0 c.end_session.ensures.ends c.end_session.ensures.id c.end_session.ensures.closing refl refl c.session.ensures (advances_same _) refl
     c.end_session.ensures.books (λ waits. refl) (λ receipts judged intake is. answer_going (books_at c.deliver.new.unit (g.S.Site.state c.deliver.new.site) c.args.records.now) judged _ is (c.in_ok-deliver.ensures.stays c.in-Refused.is)) (λ arrival waits judged going is. refl)))).judges
 
 pub returns-in_default-clause-passes : goal.returns-in_default-clause-passes

@@ -1,15 +1,15 @@
 use Rattle.std.proofs.Common.{ap, drop, refl, ◌∙◌, ◌++◌, ◌+◌, Global, Vec}
 use Rattle.vio_num.specs.declared.history.Grant.{Grant}
-use Rattle.block_server.specs.Judged.{keys_of}
+use Rattle.block_server.specs.Judged.{IsOpenRow, keys_of, row_key}
 use Rattle.block_server.specs.Receipts.{is_ended}
 use Rattle.block_server.specs.declared.logins.Logins.{Logins}
 use Rattle.block_server.specs.declared.records.Records.{Records}
 use Rattle.block_server.specs.declared.service.Stage.TheVariants.{Entry}
 use Rattle.block_server.specs.declared.unit.Unit.{Unit as ServerUnit}
-use Rattle.block_server.proofs.Booking.{granted_same}
-use Rattle.block_server.specs.Books.{credits_of, is_up}
+use Rattle.block_server.proofs.Booking.{granted_same, key_from, key_there, keys_marked}
+use Rattle.block_server.specs.Books.{books_of, credits_of, is_up}
 use Rattle.block_server.specs.declared.line.Line.{Line}
-use Rattle.block_server.proofs.Keeping.{keeps_begun, keeps_credits, keeps_finished, moved_to}
+use Rattle.block_server.proofs.Keeping.{keeps_answered, keeps_begun, keeps_finished, moved_to}
 use Rattle.std.proofs.Common.{sym, slice_get, ◌∷◌, [], inr}
 use Rattle.block_server.proofs.Owing.{none_some, owes_on}
 use Rattle.block_server.proofs.OwingRows.{owes_answered, owes_dropped}
@@ -30,8 +30,13 @@ returns-clause-books c = λ next stage kept judged is.
           (keeps_begun _ w.in-Granted.number judged (stage ∙ ap Entry w.in-Granted.is) is)
       | in-Rejected w ↦ moved_to _ _ judged (c.finish.ensures.id ∙ ap (λ (u : ServerUnit). u.id) w.unit-is) refl refl (ap (λ (l : Logins). l.current) c.finish.ensures.logins ∙ ap (λ (u : ServerUnit). u.logins.current) w.unit-is) (ap (λ (l : Logins). l.last) c.finish.ensures.logins ∙ ap (λ (u : ServerUnit). u.logins.last) w.unit-is) (ap (λ (l : Logins). l.taking) c.finish.ensures.logins ∙ ap (λ (u : ServerUnit). u.logins.taking) w.unit-is) c.finish.ensures.stage (c.finish.ensures.kept ∙ ap (λ (u : ServerUnit). u.line.kept) w.unit-is ∙ kept) (c.finish.ensures.pending ∙ ap (λ (u : ServerUnit). drop 1 u.pending.items) w.unit-is) (ap (λ (r : Records). keys_of r.history.items) w.records-is) (ap (λ (r : Records). r.grants.items) w.records-is) (ap is_ended c.finish.ensures.line ∙ ap (λ (u : ServerUnit). is_ended u.line) w.unit-is) (ap (λ (l : Line). is_up l.handshake) c.finish.ensures.line ∙ ap (λ (u : ServerUnit). is_up u.line.handshake) w.unit-is) (ap credits_of c.finish.ensures.logins ∙ ap (λ (u : ServerUnit). credits_of u.logins) w.unit-is)
           (keeps_finished _ c.args.outcome judged stage is)
-      | in-Served w ↦ moved_to _ _ judged (c.finish.ensures.id ∙ ap (λ (u : ServerUnit). u.id) w.unit-is) refl refl (ap (λ (l : Logins). l.current) c.finish.ensures.logins ∙ ap (λ (u : ServerUnit). u.logins.current) w.unit-is ∙ w.answer.ensures.current) (ap (λ (l : Logins). l.last) c.finish.ensures.logins ∙ ap (λ (u : ServerUnit). u.logins.last) w.unit-is ∙ w.answer.ensures.last) (ap (λ (l : Logins). l.taking) c.finish.ensures.logins ∙ ap (λ (u : ServerUnit). u.logins.taking) w.unit-is ∙ w.answer.ensures.taking) c.finish.ensures.stage (c.finish.ensures.kept ∙ ap (λ (u : ServerUnit). u.line.kept) w.unit-is ∙ kept) (c.finish.ensures.pending ∙ ap (λ (u : ServerUnit). drop 1 u.pending.items) w.unit-is) (ap (λ (r : Records). keys_of r.history.items) w.records-is ∙ w.answer-in-Served.ensures.keys) (ap (λ (r : Records). r.grants.items) w.records-is ∙ ap (λ (v : Vec Grant Global). v.items) w.answer-in-Served.ensures.grants) (ap is_ended c.finish.ensures.line ∙ ap (λ (u : ServerUnit). is_ended u.line) w.unit-is) (ap (λ (l : Line). is_up l.handshake) c.finish.ensures.line ∙ ap (λ (u : ServerUnit). is_up u.line.handshake) w.unit-is) (ap credits_of c.finish.ensures.logins ∙ ap (λ (u : ServerUnit). credits_of u.logins) w.unit-is ∙ (λ i. record { outstanding = w.answer.new.self.target.outstanding; granted = w.answer.ensures.granted i }))
-          (keeps_credits _ w.answer.new.self.target.outstanding judged w.answer.ensures.less (keeps_finished _ c.args.outcome judged stage is))
+      | in-Served w ↦ let place = w.in-Served.row in
+          let at = stage ∙ ap Entry w.in-Served.is in
+          let lacks : IsOpenRow c.args.unit.now.id c.args.unit.now.logins.current (keys_of c.args.records.now.history.items) place = is.counted.row place (ap row_in at) in
+          let found = key_from c.args.records.now.history.items place lacks.row lacks.there in
+          let has = ap has_bytes w.take_answer-answer.ensures.answer ∙ served_bytes c.args.unit.now.service.stage place c.args.unit.now.service.answer.items at c.args.unit.now.service.answered in
+          moved_to _ _ judged (c.finish.ensures.id ∙ ap (λ (u : ServerUnit). u.id) w.unit-is) refl refl (ap (λ (l : Logins). l.current) c.finish.ensures.logins ∙ ap (λ (u : ServerUnit). u.logins.current) w.unit-is ∙ w.answer.ensures.current) (ap (λ (l : Logins). l.last) c.finish.ensures.logins ∙ ap (λ (u : ServerUnit). u.logins.last) w.unit-is ∙ w.answer.ensures.last) (ap (λ (l : Logins). l.taking) c.finish.ensures.logins ∙ ap (λ (u : ServerUnit). u.logins.taking) w.unit-is ∙ w.answer.ensures.taking) c.finish.ensures.stage (c.finish.ensures.kept ∙ ap (λ (u : ServerUnit). u.line.kept) w.unit-is ∙ kept) (c.finish.ensures.pending ∙ ap (λ (u : ServerUnit). drop 1 u.pending.items) w.unit-is) (ap (λ (r : Records). keys_of r.history.items) w.records-is ∙ ap keys_of (w.answer-in-Served.ensures.row found.0 found.1) ∙ keys_marked c.args.records.now.history.items place found.0 w.take_answer-answer.result found.1 has) (ap (λ (r : Records). r.grants.items) w.records-is ∙ ap (λ (v : Vec Grant Global). v.items) w.answer-in-Served.ensures.grants) (ap is_ended c.finish.ensures.line ∙ ap (λ (u : ServerUnit). is_ended u.line) w.unit-is) (ap (λ (l : Line). is_up l.handshake) c.finish.ensures.line ∙ ap (λ (u : ServerUnit). is_up u.line.handshake) w.unit-is) (ap credits_of c.finish.ensures.logins ∙ ap (λ (u : ServerUnit). credits_of u.logins) w.unit-is ∙ (λ i. record { outstanding = w.answer.ensures.less i; granted = w.answer.ensures.granted i }))
+          (keeps_answered (books_of c.args.unit.now c.args.session next c.args.records.now) place (row_key found.0) judged at (key_there c.args.records.now.history.items place found.0 found.1) is)
     ]
 
 pub returns-clause-answers : goal.returns-clause-answers

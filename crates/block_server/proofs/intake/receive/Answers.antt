@@ -84,20 +84,20 @@ returns-in-Ok-clause-goes_on g c = λ on same. record { none = c.judge.ensures.w
 
 pub returns-then-not-is_up-clause-judges : goal.returns-then-not-is_up-clause-judges
 returns-then-not-is_up-clause-judges g c = λ waits.
-    judges_over _ _ _ _ _ _ _ Early 0 0 c.end_session.ensures.ends c.end_session.ensures.id c.end_session.ensures.closing refl c.session-session.ensures (advances_same _) refl
+    judges_over _ _ _ _ _ _ _ Early 0 0 c.end_session.ensures.ends c.end_session.ensures.id c.end_session.ensures.closing refl refl c.session-session.ensures (advances_same _) refl
     c.end_session.ensures.books (λ none. absurd (none_waits _ _ waits none)) (λ receipts judged intake is. waits_going _ receipts c.args.arrival _ intake waits refl)
     (λ arrival same judged going is. early_entry c.args.unit.now (g.S.Site.state c.args.site.now) c.args.records.now judged arrival c.args.arrival waits same is going (λ up. search rules))
 
 pub returns-then-len-eq0-clause-judges : goal.returns-then-len-eq0-clause-judges
 returns-then-len-eq0-clause-judges g c = λ waits.
-    judges_over _ _ _ _ _ _ _ BadIu 0 0 c.end_session-then-len-eq0.ensures.ends c.end_session-then-len-eq0.ensures.id c.end_session-then-len-eq0.ensures.closing refl c.session-session.ensures (advances_same _) refl
+    judges_over _ _ _ _ _ _ _ BadIu 0 0 c.end_session-then-len-eq0.ensures.ends c.end_session-then-len-eq0.ensures.id c.end_session-then-len-eq0.ensures.closing refl refl c.session-session.ensures (advances_same _) refl
     c.end_session-then-len-eq0.ensures.books (λ none. absurd (none_waits _ _ waits none)) (λ receipts judged intake is. waits_going _ receipts c.args.arrival _ intake waits refl)
     (λ arrival same judged going is. inl (refl, bad_len _ _ _ waits same (search rules)))
 
 pub returns-in-Err-Refused-clause-judges : goal.returns-in-Err-Refused-clause-judges
 returns-in-Err-Refused-clause-judges g c = λ waits.
     let failed : IsErrOf c.fetch_unit.result halts.Refused = cc (c.in-Err-Refused.is, c.in-Err-Refused.field-0-is) in
-    judges_over _ _ _ _ _ _ _ Refused 0 0 c.end_session-in-Err-Refused.ensures.ends c.end_session-in-Err-Refused.ensures.id c.end_session-in-Err-Refused.ensures.closing refl c.session-session.ensures
+    judges_over _ _ _ _ _ _ _ Refused 0 0 c.end_session-in-Err-Refused.ensures.ends c.end_session-in-Err-Refused.ensures.id c.end_session-in-Err-Refused.ensures.closing refl refl c.session-session.ensures
     c.fetch_unit.ensures.advances (missed_is c.fetch_unit.result halts.Refused _ failed c.fetch_unit.ensures.missed) c.end_session-in-Err-Refused.ensures.books
     (λ none. absurd (none_waits _ _ waits none)) (λ receipts judged intake is. waits_going _ receipts c.args.arrival _ intake waits refl) (λ arrival same judged going is. refl)
 

@@ -1,4 +1,4 @@
-use Rattle.std.proofs.Common.{ap, refl, rules, subst, sym, ◌≡◌, ◌∙◌, ◌++◌, ◌∷◌, [], ℕ, List, length}
+use Rattle.std.proofs.Common.{Some, ap, refl, rules, subst, sym, ◌≡◌, ◌∙◌, ◌++◌, ◌∷◌, [], ℕ, List, length}
 use Rattle.vio_num.specs.declared.history.Served.{Served as ServedRow}
 use Rattle.srp_iu.specs.Layout.{field}
 use Rattle.vio_num.specs.declared.names.UnitId.{UnitId}
@@ -11,7 +11,7 @@ use Rattle.block_server.proofs.DiskRows.{code_row, may_code}
 use Rattle.block_server.proofs.Onces.{once_same, once_still, tells_same}
 use Rattle.block_server.proofs.Serves.{once_added, says_none, stays_pushed}
 use Rattle.block_server.proofs.Working.{one_row, one_same}
-use Rattle.block_server.specs.Judged.{IsAtStage, has_row, keys_of}
+use Rattle.block_server.specs.Judged.{IsAtStage, has_row, keys_of, row_in}
 use Rattle.block_server.proofs.Booking.{code_gets}
 use Rattle.block_server.specs.Cargo.{is_moving}
 use Rattle.block_server.proofs.Cargoes.{blank_keeps, shown_same}
@@ -62,7 +62,8 @@ returns-clause-books c = λ before.
     let row = c.in_ok-blank.ensures.row in
     let blank = c.in_ok-blank.blank in
     one_row _ _ _ _ _ _ _ blank before (ap has_row c.in_ok-set_answer.ensures.stage)
-    (λ current pending rest parts. subst (IsAtStage current pending) (sym c.in_ok-set_answer.ensures.stage) (record { front = c.args.request.now; rest = rest; parts = parts }))
+    (ap row_in c.in_ok-set_answer.ensures.stage ∙ ap Some (search rules)) row.answer
+    (λ current pending rest parts. subst (IsAtStage current pending) (sym c.in_ok-set_answer.ensures.stage) (record { front = c.args.request.now; rest = rest; parts = parts; gets = code_gets c.args.request.now.order c.args.code c.requires.code }))
     (code_gets c.args.request.now.order c.args.code c.requires.code)
     (c.add_row.ensures.history ∙ ap (λ (list : List ServedRow). list ++ blank ∷ []) c.new_row.ensures.lists.history)
     row.unit_is row.session_is row.login row.number row.iu

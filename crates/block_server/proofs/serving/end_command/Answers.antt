@@ -32,7 +32,7 @@ returns-in-Done c = record {
   states = refl;
   grants = refl;
   books = λ id session. set_one _ _ _ _ _ _ c.set_answer.result (DataIn c.in-DataIn.row c.in-DataIn.reply c.in-DataIn.cursor) (Answer (Served c.in-DataIn.row))
-      c.in-DataIn.is c.set_answer.ensures.stage c.set_answer.ensures.err refl (λ current pending at. front_answered current 0 pending at);
+      c.in-DataIn.is c.set_answer.ensures.stage c.set_answer.ensures.err refl refl (λ current pending at. front_answered current 0 pending at);
   once = λ id rest q disk cause.
       let same : c.deref.result.now ≡ c.with_status.result.items = search (rules, c.deref.ensures) in
       once_stated_if c.bytes_spell_one.ensures _ _ _ _ c.in-DataIn.row c.in-DataIn.reply c.in-DataIn.cursor c.args.request.now rest c.args.command.now _ c.set_answer.result refl refl c.in-DataIn.is

@@ -51,13 +51,13 @@ returns-in_default-clause-books g c = λ id session. one_same _ _ _ _ _ _ _ refl
 pub returns-in_err-progress-clause-books : goal.returns-in_err-progress-clause-books
 returns-in_err-progress-clause-books g c = λ id session.
     one_given _ _ _ _ _ _ (DataIn c.in-DataIn.row c.in-DataIn.reply c.in-DataIn.cursor) (DataIn c.in-DataIn.row c.in-DataIn.reply c.deliver_data.ensures.stage.0)
-    c.in-DataIn.is c.deliver_data.ensures.stage.1 refl (λ current pending at. at)
+    c.in-DataIn.is c.deliver_data.ensures.stage.1 refl refl (λ current pending at. at)
 
 pub returns-clause-books : goal.returns-clause-books
 returns-clause-books g c = λ id session.
     one_on _ _ _ _ _ _ _ _ _ _ refl
     (one_given _ _ _ _ _ _ (DataIn c.in-DataIn.row c.in-DataIn.reply c.in-DataIn.cursor) (DataIn c.in-DataIn.row c.in-DataIn.reply c.deliver_data.ensures.stage.0)
-    c.in-DataIn.is c.deliver_data.ensures.stage.1 refl (λ current pending at. at)) (c.end_command.ensures.books id session)
+    c.in-DataIn.is c.deliver_data.ensures.stage.1 refl refl (λ current pending at. at)) (c.end_command.ensures.books id session)
 
 pub returns-in_default-clause-cargo : goal.returns-in_default-clause-cargo
 returns-in_default-clause-cargo g c = λ id told all size rest serving hand. hand

@@ -1,4 +1,4 @@
-use Rattle.std.proofs.Common.{length-take, ap, refl, subst, sym, ◌≡◌, ◌∙◌, ◌++◌, ◌∷◌, [], ℕ, List, length, min, take, arith}
+use Rattle.std.proofs.Common.{Some, rules, length-take, ap, refl, subst, sym, ◌≡◌, ◌∙◌, ◌++◌, ◌∷◌, [], ℕ, List, length, min, take, arith}
 use Rattle.vio_num.specs.declared.history.Served.{Served as ServedRow}
 use Rattle.crq_session.specs.EndState.{EndState}
 use Rattle.block_server.specs.Answering.{responses}
@@ -113,7 +113,7 @@ pub returns-clause-books : goal.returns-clause-books
 returns-clause-books g c =
     let blank = c.in_ok-row.ensures.row in
     let row : ServedRow = record c.in_ok-row.row { out = c.from.result; inn = c.filled.result; fault = c.execute-reply.result.fault } in
-    one_row _ _ _ _ _ _ _ row (ap has_row c.in-DataOut.is) refl
+    one_row _ _ _ _ _ _ _ row (ap has_row c.in-DataOut.is) refl (ap Some (search rules)) blank.answer
     (λ current pending rest parts. record { front = c.args.request.now; rest = rest; parts = parts; asks = ap is_command c.requires.asked })
     (command_row c.args.request.now.order (ap is_command c.requires.asked))
     (c.add_row-row.ensures.history ∙ ap (λ (list : List ServedRow). list ++ row ∷ []) c.new_row.ensures.lists.history)

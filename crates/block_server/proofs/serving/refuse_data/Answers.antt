@@ -43,7 +43,7 @@ returns c = record {
   grants = λ i. (c.fill.ensures.grants i).items;
   books = λ id session. one_on _ _ _ _ _ _ _ _ _ _ refl
       (one_given _ _ _ _ _ c.args.records.now.history.items (DataIn c.in-DataIn.row c.in-DataIn.reply c.in-DataIn.cursor) (Answer (Served c.in-DataIn.row))
-      c.in-DataIn.is (c.take_given-inn.ensures.stage ∙ c.in_ok-set_answer.ensures.stage) refl (λ current pending at. front_answered current 0 pending at))
+      c.in-DataIn.is (c.take_given-inn.ensures.stage ∙ c.in_ok-set_answer.ensures.stage) refl refl (λ current pending at. front_answered current 0 pending at))
       (one_same _ _ _ _ _ _ _ refl c.fill.ensures.keys);
   once = λ id rest q disk cause serving.
       let same : c.deref.result.now ≡ c.with_code.result.items = search (rules, c.deref.ensures) in

@@ -32,7 +32,7 @@ returns-in_err-write_data-clause-books g c = λ id session rows. one_same _ _ _ 
 
 pub returns-in_ok-write_data-clause-books : goal.returns-in_ok-write_data-clause-books
 returns-in_ok-write_data-clause-books g c = λ id session rows.
-    one_given _ _ _ _ _ _ (Given c.in-Given.row c.in-Given.reply) (DataIn c.in-Given.row c.in-Given.reply c.start.result) c.in-Given.is refl refl (λ current pending at. at)
+    one_given _ _ _ _ _ _ (Given c.in-Given.row c.in-Given.reply) (DataIn c.in-Given.row c.in-Given.reply c.start.result) c.in-Given.is refl refl refl (λ current pending at. at)
 
 pub returns-in_default-clause-books : goal.returns-in_default-clause-books
 returns-in_default-clause-books g c = λ id session rows. one_same _ _ _ _ _ _ _ refl refl

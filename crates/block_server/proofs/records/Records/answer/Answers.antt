@@ -1,10 +1,7 @@
 use Rattle.block_server.proofs.HandRows.{answered_same}
 use Rattle.std.proofs.Common.{refl}
-use Rattle.block_server.proofs.Booking.{keys_set, row_there}
+use Rattle.block_server.proofs.Booking.{row_there}
 use Rattle.block_server.proofs.records.Records.answer.Goals as goal
-
-pub returns-in-Some-clause-keys : goal.returns-in-Some-clause-keys
-returns-in-Some-clause-keys c = keys_set _ _ _ _ (row_there _ _ _ c.in-Some.ensures.item.3) refl
 
 pub returns-in-Some-clause-rows : goal.returns-in-Some-clause-rows
 returns-in-Some-clause-rows c = answered_same _ _ _ _ (row_there _ _ _ c.in-Some.ensures.item.3) refl
