@@ -107,13 +107,13 @@ one_more n a b low = omega (arith, low)
 -- A command or a task was accepted.
 pub keeps_asked : (books : Books) (next' : Ahead) (request : Request) (receipt : Receipt) (judged : List Judged) → receipt_key receipt ≡ request_key books.session request
     → gets_row request.order ≡ true → is_login request.order ≡ false → request.login ≡ books.current → books.taking ≡ true → IsNext books next' receipt
-    → IsSome receipt.copy → Asks receipt.bytes
+    → IsSome receipt.copy → Asks receipt.bytes → books.credits.outstanding + 1 ≤ books.credits.granted
     → AreKept books judged → AreKept (record books {
       next = next';
       pending = books.pending ++ request ∷ [];
       credits = record { outstanding = books.credits.outstanding + 1; granted = books.credits.granted };
     }) (judged ++ record { receipt = receipt; fate = asked books.current } ∷ [])
-keeps_asked books next' request receipt judged key row other under taking to copy asks is =
+keeps_asked books next' request receipt judged key row other under taking to copy asks within is =
     let j : Judged = record { receipt = receipt; fate = asked books.current } in
     let low = upto _ _ (sym to.number_is) in
     let most = below _ _ to.below in
@@ -139,6 +139,7 @@ keeps_asked books next' request receipt judged key row other under taking to cop
       counted = record {
         row = is.counted.row;
         exact = λ on. counts books.credits.outstanding _ _ _ (is.counted.exact on) (accepted_one books.current judged j (eq-eqb books.current books.current refl));
+        most = λ on. within;
         limits = limits_on books.id books.current books.rows books.rows judged (judged ++ j ∷ []) books.grants (is.logins.on some)
             (λ login one apart. (refl, ap length (accepted_pass login judged j apart))) is.counted.limits;
         asked_out = λ on off. absurd (cc (taking, off));
@@ -167,6 +168,7 @@ counted_pass books judged receipt fate taking' pending' none is out =
     record {
       row = is.counted.row;
       exact = λ some. is.counted.exact some ∙ sym (ap length (accepted_pass books.current judged j (other_login (login_of fate) books.current none some)));
+      most = is.counted.most;
       limits = limits_to books.id books.rows books.rows judged (judged ++ j ∷ []) books.grants
           (λ login some. (refl, ap length (accepted_pass login judged j (other_login (login_of fate) login none some)))) is.counted.limits;
       asked_out = out;
@@ -206,7 +208,7 @@ keeps_unasked books next' taking' request receipt fate judged none has to number
       to.taken to.all to.session_is to.going to.up other refl off_is (counted_on books judged (record { receipt = receipt; fate = fate }) is) is.lines;
   idle = λ over. absurd (cc (over, to.going));
   counted = let is' = counted_pass books judged receipt fate taking' (books.pending ++ request ∷ []) none is (λ some off. out some (closes off)) in
-      record { row = is'.row; exact = is'.exact; limits = is'.limits; asked_out = is'.asked_out; none_later = is'.none_later };
+      record { row = is'.row; exact = is'.exact; most = is'.most; limits = is'.limits; asked_out = is'.asked_out; none_later = is'.none_later };
 }
   where
     out : 1 ≤ books.current → (books.taking ≡ false) ⊎ (request.order ≡ orders.Logout) → HasLogout (books.pending ++ request ∷ [])
@@ -236,7 +238,7 @@ keeps_judged books next' receipt fate judged none has to other is = record {
       (counted_on books judged (record { receipt = receipt; fate = fate }) is) is.lines;
   idle = is.idle;
   counted = let is' = counted_pass books judged receipt fate books.taking books.pending none is is.counted.asked_out in
-      record { row = is'.row; exact = is'.exact; limits = is'.limits; asked_out = is'.asked_out; none_later = is'.none_later };
+      record { row = is'.row; exact = is'.exact; most = is'.most; limits = is'.limits; asked_out = is'.asked_out; none_later = is'.none_later };
 }
   where
     below : (a b : ℕ) → a < b → a ≤ b

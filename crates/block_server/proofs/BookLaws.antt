@@ -13,7 +13,7 @@ use Rattle.vio_num.specs.declared.history.Served.{Served}
 use Rattle.vio_num.specs.declared.names.UnitId.{UnitId}
 use Rattle.block_server.specs.Answering.{OnlyRowsOf, StaysRow}
 use Rattle.block_server.specs.Books.{books_seen, is_up, next_of, number_of}
-use Rattle.block_server.specs.Judged.{AreKept, Books, Credits, HasLimit, IsAllServed, IsServedUnder, IsWorkDone, Judged, RowKey, due_under, has_row, is_under, keys_of, row_key, IsOpenRow, answered_under}
+use Rattle.block_server.specs.Judged.{AreCounted, AreKept, Books, Credits, IsAllServed, IsServedUnder, IsWorkDone, Judged, RowKey, due_under, has_row, is_under, keys_of, row_key, IsOpenRow, answered_under}
 use Rattle.block_server.specs.Closings.{HasCauses}
 use Rattle.block_server.specs.Judges.{AreUnused, HasKept}
 use Rattle.block_server.specs.Makers.{same_unit}
@@ -132,6 +132,7 @@ rows_kept books rows judged stay is = record {
   counted = record {
     row = λ place in_service. stays (is.counted.row place in_service);
     exact = λ some. ap (λ (n : ℕ). books.credits.outstanding + n) (answered books.current) ∙ is.counted.exact some;
+    most = is.counted.most;
     limits = limits_to books.id books.rows rows judged judged books.grants (λ login some. (answered login, refl)) is.counted.limits;
     asked_out = is.counted.asked_out;
     none_later = is.counted.none_later;
@@ -229,10 +230,10 @@ more_unused units new all current last taking stage kept pending waiting = at un
     at (first ∷ units) all zero id queue none = all zero id queue none
     at (first ∷ units) all (suc n) id queue none = at units (λ m id queue none. all (suc m) id queue none) n id queue none
 
--- As many requests had no answer as a login granted that ended for more.
-pub limits_seen : (units : List Unit) (unit : ℕ) (u : Unit) (id : UnitId) (queue : EndState) (history : List Served) (grants : List Grant) (judged : List Judged)
-    → slice_get units unit ≡ Some u → HasKept units unit id queue history grants judged → All (HasLimit id (keys_of history) judged) grants
-limits_seen units unit u id queue history grants judged there has =
+-- What is outstanding is counted, and was where a login ended for more than it grants.
+pub counted_seen : (units : List Unit) (unit : ℕ) (u : Unit) (id : UnitId) (queue : EndState) (history : List Served) (grants : List Grant) (judged : List Judged)
+    → slice_get units unit ≡ Some u → HasKept units unit id queue history grants judged → AreCounted (books_seen u id queue history grants) judged
+counted_seen units unit u id queue history grants judged there has =
     let is : AreKept (books_seen u id queue history grants) judged =
     subst (λ (o : Option Unit). IfSome o (λ u. AreKept (books_seen u id queue history grants) judged)) there has in
-    is.counted.limits
+    is.counted

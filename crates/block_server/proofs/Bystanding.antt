@@ -78,6 +78,7 @@ keeps_lines books lines judged apart is = record {
   counted = record {
     row = is.counted.row;
     exact = is.counted.exact;
+    most = is.counted.most;
     limits = All-append (HasLimit books.id books.rows judged) books.grants lines is.counted.limits
         (All-weaker (λ line. same_unit (unit_of line) books.id ≡ false) (HasLimit books.id books.rows judged) (λ line other. no_limit books.id books.rows judged line other) lines apart);
     asked_out = is.counted.asked_out;
@@ -142,6 +143,7 @@ kept_new id session next ended up credits none zero = record {
   counted = record {
     row = open_start id 0 [];
     exact = λ some. absurd (no_one some);
+    most = λ some. absurd (no_one some);
     limits = All-nil (HasLimit id [] []);
     asked_out = λ some. absurd (no_one some);
     none_later = λ login high. refl;

@@ -1,11 +1,10 @@
 -- What the parts of a turn leave of what is counted as outstanding.
-use Rattle.std.proofs.Common.{◌≡◌, ◌==◌, ◌&&◌, ◌+◌, ◌-◌, ◌++◌, ◌≤◌, ℕ, zero, suc, Bool, true, false, All, List, [], ◌∷◌, Some, length, map, filter, slice_get, slice_set, refl, sym, ◌∙◌, ap, subst, arith, append_assoc}
+use Rattle.std.proofs.Common.{◌≡◌, ◌==◌, ◌&&◌, ◌+◌, ◌++◌, ◌≤◌, ℕ, zero, suc, Bool, true, false, All, List, [], ◌∷◌, Some, length, map, filter, slice_get, slice_set, refl, sym, ◌∙◌, ap, subst, arith, append_assoc}
 use Rattle.std.proofs.lemmas.Bool.{eq-eqb, ne_eqb}
 use Rattle.std.proofs.lemmas.List.{length-map}
-use Rattle.std.proofs.lemmas.List.Elements.{All-cons, All-head, All-nil, All-push, All-tail, All-weaker}
+use Rattle.std.proofs.lemmas.List.Elements.{All-cons, All-head, All-nil, All-tail, All-weaker}
 use Rattle.vio_num.specs.declared.history.Grant.{Grant}
 use Rattle.vio_num.specs.declared.history.Grant.TheVariants.{Granted, Lapsed}
-use Rattle.vio_num.specs.declared.history.Lapse.{Lapse}
 use Rattle.vio_num.specs.declared.history.Lapse.TheVariants as lapses
 use Rattle.vio_num.specs.declared.names.UnitId.{UnitId}
 use Rattle.block_server.specs.Makers.{same_unit}
@@ -14,7 +13,6 @@ use Rattle.block_server.specs.declared.request.Order.TheVariants as orders
 use Rattle.block_server.specs.declared.request.Request.{Request}
 use Rattle.block_server.specs.declared.service.Stage.TheVariants as stages
 use Rattle.block_server.proofs.Judging.{filter_first, filter_kept, filter_left, filter_pass}
-use Rattle.block_server.proofs.Receiving.{slice_more}
 
 pub same_self : (unit : UnitId) → same_unit unit unit ≡ true
 same_self unit = both (unit.partition == unit.partition) (unit.unit == unit.unit) (eq-eqb unit.partition unit.partition refl) (eq-eqb unit.unit unit.unit refl)

@@ -101,6 +101,7 @@ keeps_stage books stage' judged same placed at none is = record {
   counted = record {
     row = λ place in_service. is.counted.row place (sym placed ∙ in_service);
     exact = is.counted.exact;
+    most = is.counted.most;
     limits = is.counted.limits;
     asked_out = is.counted.asked_out;
     none_later = is.counted.none_later;
@@ -133,6 +134,7 @@ keeps_row books stage' front rest judged parts before after placed asks at none 
       counted = record {
         row = λ place in_service. open_last books.id books.current books.rows (row_of_request books front) place (place_is place (sym in_service ∙ placed)) refl under.0 refl;
         exact = λ some. ap (λ (n : ℕ). books.credits.outstanding + n) (answered_push books.id books.current books.rows (row_of_request books front) refl) ∙ is.counted.exact some;
+        most = is.counted.most;
         limits = limits_to books.id books.rows (books.rows ++ row_of_request books front ∷ []) judged judged books.grants
             (λ login some. (answered_push books.id login books.rows (row_of_request books front) refl, refl)) is.counted.limits;
         asked_out = is.counted.asked_out;
@@ -161,6 +163,7 @@ keeps_popped books front rest judged parts gone is = record {
   counted = record {
     row = open_start books.id books.current books.rows;
     exact = is.counted.exact;
+    most = is.counted.most;
     limits = is.counted.limits;
     asked_out = λ some off. logout_rest front rest books.pending parts (other gone) (is.counted.asked_out some off);
     none_later = is.counted.none_later;
@@ -196,6 +199,7 @@ keeps_idle books judged none is = record {
   counted = record {
     row = open_start books.id books.current books.rows;
     exact = is.counted.exact;
+    most = is.counted.most;
     limits = is.counted.limits;
     asked_out = λ some off. subst HasLogout none (is.counted.asked_out some off);
     none_later = is.counted.none_later;
@@ -335,6 +339,7 @@ keeps_ended books next' cause outstanding granted ended' up' credits' judged mor
       counted = record {
         row = open_start books.id 0 books.rows;
         exact = λ some. absurd (zero_one some);
+        most = λ some. absurd (zero_one some);
         limits = All-push (HasLimit books.id books.rows (judged ++ more)) books.grants line
             (limits_to books.id books.rows books.rows judged (judged ++ more) books.grants (λ login some. (refl, ap length (more_accepted books next' ended' cause outstanding granted judged more login some end))) is.counted.limits)
             (limit cause refl);
@@ -398,6 +403,7 @@ keeps_left books front rest outstanding granted credits' judged parts other none
       counted = record {
         row = open_start books.id 0 books.rows;
         exact = λ some. absurd (zero_one some);
+        most = λ some. absurd (zero_one some);
         limits = All-push (HasLimit books.id books.rows judged) books.grants (Lapsed books.id books.session books.current lapses.Logout outstanding granted) is.counted.limits tt;
         asked_out = λ some. absurd (zero_one some);
         none_later = is.counted.none_later;
@@ -449,12 +455,16 @@ keeps_granted books number front rest judged parts grants is =
         exact = λ some. zero_left _ (none_answered books.id (books.last + 1) books.rows
             (none_front _ _ (sym (is.served (books.last + 1) some).in_order ∙ is.counted.none_later (books.last + 1) (next_one books.last))))
             ∙ sym (ap length (is.counted.none_later (books.last + 1) (next_one books.last)));
+        most = λ some. zero_most books.credits.granted;
         limits = All-push (HasLimit books.id books.rows judged) books.grants line is.counted.limits tt;
         asked_out = λ some off. absurd (cc (off));
         none_later = λ login high. is.counted.none_later login (after_one books.last login high);
       };
     }
   where
+    zero_most : (n : ℕ) → 0 ≤ n
+    zero_most n = omega arith
+
     zero_left : (n : ℕ) → n ≡ 0 → 0 + n ≡ 0
     zero_left n none = omega (arith, none)
 
@@ -490,7 +500,7 @@ keeps_session books session' next' ended' up' judged later taken first none off 
   under = is.under;
   lines = lines_session books.id books.session session' books.next next' books.current books.taking books.up up' books.credits books.grants books.ended ended' judged later taken first off is.lines;
   idle = λ over. (none, off);
-  counted = record { row = is.counted.row; exact = is.counted.exact; limits = is.counted.limits; asked_out = is.counted.asked_out; none_later = is.counted.none_later };
+  counted = record { row = is.counted.row; exact = is.counted.exact; most = is.counted.most; limits = is.counted.limits; asked_out = is.counted.asked_out; none_later = is.counted.none_later };
 }
   where
     nothing : (session login : ℕ) (has : Bool) → due_under session login has [] ≡ []
@@ -542,7 +552,7 @@ keeps_later books next' ended' up' judged most idle lines is = record {
   under = is.under;
   lines = lines;
   idle = idle;
-  counted = record { row = is.counted.row; exact = is.counted.exact; limits = is.counted.limits; asked_out = is.counted.asked_out; none_later = is.counted.none_later };
+  counted = record { row = is.counted.row; exact = is.counted.exact; most = is.counted.most; limits = is.counted.limits; asked_out = is.counted.asked_out; none_later = is.counted.none_later };
 }
 
 -- Books of the same content.
@@ -579,7 +589,7 @@ keeps_kept books kept' judged at is = record {
   under = is.under;
   lines = is.lines;
   idle = is.idle;
-  counted = record { row = is.counted.row; exact = is.counted.exact; limits = is.counted.limits; asked_out = is.counted.asked_out; none_later = is.counted.none_later };
+  counted = record { row = is.counted.row; exact = is.counted.exact; most = is.counted.most; limits = is.counted.limits; asked_out = is.counted.asked_out; none_later = is.counted.none_later };
 }
 
 popped_to : (books : Books) (front : Request) (rest : List Request) (judged : List Judged) → books.pending ≡ front ∷ rest
@@ -688,6 +698,7 @@ keeps_answered books place row judged at there is =
         row = open_start books.id books.current rows';
         exact = λ some. counts books.credits.outstanding _ _ (length (accepted books.current judged)) (mark_here books.id books.current books.rows place row there under unanswered)
             (is.counted.exact some) (enough (open_room books.id books.current books.rows place row there under unanswered) (is.served books.current some));
+        most = λ some. below books.credits.outstanding _ (is.counted.most some);
         limits = limits_on books.id books.current books.rows rows' judged judged books.grants (is.logins.on on)
             (λ login some apart. (mark_other books.id login books.rows place row there (other_row row login under apart), refl)) is.counted.limits;
         asked_out = fin.counted.asked_out;

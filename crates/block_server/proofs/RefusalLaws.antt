@@ -1,5 +1,5 @@
 -- Why a unit's sessions ended as refused: over a turn of another unit, while its queue is seen through other ends, and of each line.
-use Rattle.std.proofs.Common.{◌≡◌, ◌⊎◌, ◌++◌, ℕ, Bool, true, false, All, List, [], Option, Some, None, IfSome, slice_get, refl, sym, ◌∙◌, ap, subst, append_assoc}
+use Rattle.std.proofs.Common.{◌≡◌, ◌⊎◌, ◌++◌, ℕ, Bool, true, false, List, [], Option, Some, None, IfSome, slice_get, refl, sym, ◌∙◌, ap, subst, append_assoc}
 use Rattle.std.specs.List.{Contains}
 use Rattle.std.proofs.lemmas.List.Elements.{All-append, All-weaker, All-contains}
 use Rattle.crq_ring.specs.declared.rows.PipeRow.{PipeRow}

@@ -27,7 +27,7 @@ use Rattle.block_server.specs.Refusals.{AreExplained, Basis, DeniesAnswer, Expla
 use Rattle.block_server.specs.SiteState.{IsDeniedBetween, SiteState}
 use Rattle.block_server.specs.Stage.{fits}
 use Rattle.block_server.specs.declared.intake.Verdict.{Verdict}
-use Rattle.block_server.specs.declared.intake.Verdict.TheVariants.{Accepted, Fatal, Ignored}
+use Rattle.block_server.specs.declared.intake.Verdict.TheVariants.{Fatal}
 use Rattle.block_server.specs.declared.logins.Logins.{Logins}
 use Rattle.block_server.specs.declared.records.Records.{Records}
 use Rattle.block_server.specs.declared.request.Arrival.{Arrival}

@@ -125,7 +125,9 @@ asked_one books session next' number bytes receipt old new request to current la
           (keeps_asked books next' request receipt judged
           (λ i. record { session = (to.session_is ∙ sym to.present) i; number = (to.number_is ∙ sym at) i; bytes = (to.bytes_are ∙ sym unit) i })
           gets other (is.login_is ∙ sym current) on (next_to books session next' number bytes receipt to)
-          to.copied (subst Asks (sym to.bytes_are) is.asks) kept);
+          to.copied (subst Asks (sym to.bytes_are) is.asks)
+          (subst (λ (z : ℕ × ℕ). z.0 ≤ z.1)
+          (λ i. ((is.more ∙ ap (λ (c : Credits). c.outstanding + 1) (sym credits)) i, (is.stays.granted ∙ ap (λ (c : Credits). c.granted) (sym credits)) i)) is.within) kept);
     }
 
 -- A request was accepted.

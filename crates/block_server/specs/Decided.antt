@@ -41,6 +41,7 @@ pub record TakesUnder (old new : Logins) (login : ℕ) (bytes : List ℕ) : Type
   pub login_is : login ≡ old.current
   pub stays : GoesWith old new
   pub more : new.target.outstanding ≡ old.target.outstanding + 1
+  pub within : new.target.outstanding ≤ new.granted
   pub asks : Asks bytes
 
 -- Its logout was accepted: it takes no request any more.

@@ -320,11 +320,12 @@ pub record HasLogout (pending : List Request) : Type 0 where
   pub parts : pending ≡ before ++ request ∷ after
   pub asks : request.order ≡ orders.Logout
 
--- What is outstanding under the login that is on, and was under those that ended as over limit: the commands and tasks that were
--- accepted and have no answer. And while the login that is on takes none, its logout is pending.
+-- What is outstanding under the login that is on, at most as much as it grants, and was under those that ended as over limit: the
+-- commands and tasks that were accepted and have no answer. And while the login that is on takes none, its logout is pending.
 pub record AreCounted (books : Books) (judged : List Judged) : Type 0 where
   pub row : HasOpenRow books.id books.current books.rows books.stage
   pub exact : 1 ≤ books.current → books.credits.outstanding + answered_under books.id books.current books.rows ≡ length (accepted books.current judged)
+  pub most : 1 ≤ books.current → books.credits.outstanding ≤ books.credits.granted
   pub limits : All (HasLimit books.id books.rows judged) books.grants
   pub asked_out : 1 ≤ books.current → books.taking ≡ false → HasLogout books.pending
   -- nothing was accepted under a login that is still to come

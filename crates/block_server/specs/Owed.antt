@@ -1,5 +1,5 @@
 -- Each row of a unit has its answer at last, or a line says why not: which answers a unit still owes between the steps of a turn.
-use Rattle.std.specs.Prelude.{◌≡◌, ◌⊎◌, ◌++◌, ◌≤◌, ℕ, Bool, true, false, List, [], ◌∷◌, Option, Some, None, IfSome, length, map, slice_get}
+use Rattle.std.specs.Prelude.{◌≡◌, ◌⊎◌, ◌++◌, ◌≤◌, ℕ, Bool, true, false, List, [], ◌∷◌, Some, None, IfSome, length, map, slice_get}
 use Rattle.std.specs.List.{Contains}
 use Rattle.vio_num.specs.declared.entry.Entry.{Entry as QueueEntry}
 use Rattle.vio_num.specs.declared.history.Grant.{Grant}
@@ -19,9 +19,7 @@ use Rattle.block_server.specs.Receipts.{IsIntake, Receipt, intake_of, is_ended, 
 use Rattle.block_server.specs.SiteState.{SiteState}
 use Rattle.block_server.specs.declared.records.Records.{Records}
 use Rattle.block_server.specs.declared.request.Request.{Request}
-use Rattle.block_server.specs.declared.service.Outcome.TheVariants.{Served}
 use Rattle.block_server.specs.declared.service.Stage.{Stage}
-use Rattle.block_server.specs.declared.service.Stage.TheVariants.{Given, DataIn, Answer, Entry}
 use Rattle.block_server.specs.declared.unit.Unit.{Unit}
 
 -- THE CLIENT IS GONE ------------------------------------------------------------------------------

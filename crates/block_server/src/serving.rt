@@ -1,11 +1,11 @@
 // The service of the oldest request: what it asks is done, and then it is answered.
 ghost use Rattle.block_server.specs.Cargo.{AreShown, HasTag, IsAccounted, IsFetchedAll, IsSentAll, KeepsCargo, cargo_at, cargo_of, data_bytes, is_loaded};
 ghost use Rattle.block_server.specs.Parts.{IsPlacedAt};
-ghost use Rattle.std.specs.Prelude.{◌≡◌, ◌≢◌, ◌⊎◌, ◌∷◌, ◌<◌, ◌≤◌, ℕ, Bool, List, Option, Some, None, [], IfOk, OnOk, false, true, length};
+ghost use Rattle.std.specs.Prelude.{◌≡◌, ◌≢◌, ◌⊎◌, ◌∷◌, ◌<◌, ◌≤◌, ℕ, Bool, List, Option, Some, None, [], IfOk, IfSome, OnOk, false, true, length};
 ghost use Rattle.block_server.specs.Advances.{Advances};
 ghost use Rattle.block_server.specs.Causes.{RefusesData, RefusesIn, Told, told_to};
 ghost use Rattle.block_server.specs.Books.{books_at, books_of};
-ghost use Rattle.block_server.specs.Ends.{IsGrantable};
+ghost use Rattle.block_server.specs.Ends.{IsGrantable, IsRejectedFor, IsRejection};
 ghost use Rattle.block_server.specs.Fetched.{IfDone, IfRefused, KnowsPieces};
 ghost use Rattle.block_server.specs.Judged.{Ahead, Books, IsAtStage, IsFor, Keeps, ServesOne, has_row, in_service, is_login};
 ghost use Rattle.block_server.specs.Judges.{Judges};
@@ -14,6 +14,7 @@ ghost use Rattle.block_server.specs.Owed.{KeepsAnswersBy, MovesRow, row_states, 
 ghost use Rattle.block_server.specs.Receipts.{TakesIn, standing_of};
 ghost use Rattle.block_server.specs.Orders.{IsCauseOf, IsCodeOf};
 ghost use Rattle.block_server.specs.Records.{AddsRow};
+ghost use Rattle.block_server.specs.Responses.{GrantsLogin};
 ghost use Rattle.block_server.specs.Refusals.{ExplainsBy, basis_of};
 ghost use Rattle.block_server.specs.Serving.{AnswersOnce, AnswersOnceIf, AnswersOnceOn, IsServing, desk_at, desk_of, held, terms_of};
 ghost use Rattle.block_server.specs.Heard.{TellsAll, heard_between};
@@ -215,6 +216,10 @@ fn judge_login(
     ensures rejected { OnOk result (service.new.stage ≡ Stage.Answer Outcome.Rejected →
         ¬ IsGrantable logins.now.current login.now) }
     ensures judged { OnOk result (is_answered service.new.stage ≡ true) }
+    ensures grants { OnOk result (service.new.stage ≡ Stage.Answer (Outcome.Granted number) →
+        GrantsLogin service.new.answer.items login.now.tag logins.now.granted) }
+    ensures rejects { OnOk result (service.new.stage ≡ Stage.Answer Outcome.Rejected →
+        IsRejection logins.now.current login.now service.new.answer.items) }
     ensures books { (books : Books) → (front : Request) → (rest : List Request) →
         (rows : List Served) → books.pending ≡ front ∷ rest → is_login front.order ≡ true →
         front.number ≡ number → books.current ≡ logins.now.current → books.kept ≡ None →
@@ -239,6 +244,7 @@ fn login_refusal(current: u64, login: &LoginReq) -> Option<u32>
     ensures on { 0 < current → result ≡ Some UNABLE_TO_ESTABLISH_CHANNEL }
     ensures none { result ≡ None → IsGrantable current login.now }
     ensures some { IsGrantable current login.now → result ≡ None }
+    ensures why { IfSome result (λ reason. IsRejectedFor current login.now reason) }
 {
     if current == 0 {
         login_fault(login)

@@ -22,7 +22,6 @@ use Rattle.block_server.specs.Cargo.{data_bytes}
 use Rattle.block_server.proofs.Cargoes.{shown_same}
 use Rattle.block_server.proofs.Hands.{keeps_on, keeps_same}
 use Rattle.block_server.proofs.Refusing.{explains_stands}
-use Rattle.block_server.specs.Refusals.{basis_at, basis_of}
 use Rattle.block_server.proofs.answering.answer.Goals as goal
 
 pub returns-in_err-make_room-clause-once : goal.returns-in_err-make_room-clause-once

@@ -14,7 +14,7 @@ use Rattle.block_server.proofs.Refusing.{denied_answer, explained_ended, explain
 use Rattle.block_server.proofs.Taking.{passed_session, passed_taken}
 use Rattle.vio_num.specs.declared.history.Grant.TheVariants.{Lapsed}
 use Rattle.std.proofs.Common.{◌∙◌}
-use Rattle.block_server.specs.Refusals.{basis_at, basis_of}
+use Rattle.block_server.specs.Refusals.{basis_of}
 use Rattle.block_server.proofs.answering.copy_answer.Goals as goal
 
 pub returns-in_default-clause-once : goal.returns-in_default-clause-once

@@ -25,7 +25,7 @@ use Rattle.block_server.specs.Cargo.{data_bytes, is_moving}
 use Rattle.block_server.proofs.Cargoes.{named_same, none_seen}
 use Rattle.block_server.proofs.Refusing.{explains_finished, explains_same, explains_stands}
 use Rattle.block_server.proofs.Taking.{ended_stands, passed_taken}
-use Rattle.block_server.specs.Refusals.{basis_at, basis_of}
+use Rattle.block_server.specs.Refusals.{basis_of}
 use Rattle.block_server.proofs.answering.put_answer.Goals as goal
 
 pub returns-in_default-clause-once : goal.returns-in_default-clause-once

@@ -18,6 +18,7 @@ returns-in-Ok-clause-decides c = λ bytes asks gets.
       login_is = on.1;
       stays = record { current = c.accept.ensures.current; last = c.accept.ensures.last; taking = c.accept.ensures.taking; granted = c.accept.ensures.granted };
       more = c.in-Ok.ensures.more;
+      within = c.accept.ensures.within;
       asks = asks;
     })
 

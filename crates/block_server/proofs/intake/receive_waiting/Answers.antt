@@ -12,7 +12,6 @@ use Rattle.block_server.proofs.Advancing.{advances_same}
 use Rattle.block_server.proofs.Jointly.{works, works_none, works_on, works_pass}
 use Rattle.block_server.specs.Owed.{HasAnswers, Owing}
 use Rattle.block_server.proofs.Hands.{keeps_on, keeps_same}
-use Rattle.block_server.specs.Refusals.{basis_at, basis_of}
 use Rattle.block_server.proofs.intake.receive_waiting.Goals as goal
 
 pub returns-in_default-clause-once : goal.returns-in_default-clause-once

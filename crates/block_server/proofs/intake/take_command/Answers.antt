@@ -8,8 +8,8 @@ use Rattle.block_server.proofs.GoingOn.{command_no_event, command_no_handshake, 
 use Rattle.block_server.proofs.Jointly.{works, works_entry, works_none, works_on, works_other}
 use Rattle.block_server.specs.Books.{books_at, next_of}
 use Rattle.block_server.proofs.Refusing.{explains_entry, explains_taken}
-use Rattle.block_server.specs.Refusals.{basis_at, basis_of}
-use Rattle.std.proofs.Common.{[], ◌∷◌, Some}
+use Rattle.block_server.specs.Refusals.{basis_of}
+use Rattle.std.proofs.Common.{Some}
 use Rattle.block_server.proofs.intake.take_command.Goals as goal
 
 pub returns-in-2-clause-once : goal.returns-in-2-clause-once

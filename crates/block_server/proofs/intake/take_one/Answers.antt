@@ -21,7 +21,7 @@ use Rattle.block_server.proofs.Hands.{keeps_on, keeps_same}
 use Rattle.block_server.proofs.Refusing.{explained_ended, explains_same, explains_stands, explains_taken}
 use Rattle.vio_num.specs.declared.history.Grant.TheVariants.{Lapsed}
 use Rattle.vio_num.specs.declared.history.Lapse.TheVariants.{Lost}
-use Rattle.block_server.specs.Refusals.{basis_at, basis_of}
+use Rattle.block_server.specs.Refusals.{basis_of}
 use Rattle.block_server.proofs.intake.take_one.Goals as goal
 
 pub returns-in_err-reserve-clause-once : goal.returns-in_err-reserve-clause-once

@@ -34,7 +34,7 @@ use Rattle.block_server.proofs.Sendings.{other_unloaded}
 use Rattle.block_server.specs.Serving.{IsServing, terms_of}
 use Rattle.block_server.specs.Judged.{is_command}
 use Rattle.block_server.specs.Cargo.{IsAccounted}
-use Rattle.block_server.proofs.Refusing.{explains_same, explains_stands}
+use Rattle.block_server.proofs.Refusing.{explains_same}
 use Rattle.block_server.specs.Refusals.{basis_of}
 use Rattle.block_server.proofs.Taking.{ended_stands}
 use Rattle.block_server.proofs.serving.serve.Goals as goal

@@ -7,7 +7,7 @@ use Rattle.block_server.proofs.Jointly.{keeps_opened}
 use Rattle.block_server.specs.Books.{books_at, is_up}
 use Rattle.block_server.proofs.Keeping.{moved_to}
 use Rattle.block_server.proofs.Owing.{owes_ended}
-use Rattle.block_server.proofs.Refusing.{explains_begun, explains_on}
+use Rattle.block_server.proofs.Refusing.{explains_begun}
 use Rattle.block_server.specs.Refusals.{basis_of}
 use Rattle.block_server.proofs.turning.begin.Goals as goal
 

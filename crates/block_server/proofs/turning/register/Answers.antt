@@ -9,7 +9,7 @@ use Rattle.block_server.proofs.Taking.{lines_same, passes_windows, takes_none, t
 use Rattle.block_server.proofs.GoingOn.{down_ended, register_session}
 use Rattle.block_server.proofs.Jointly.{keeps_pass, keeps_registered}
 use Rattle.block_server.proofs.Owing.{owes_ended}
-use Rattle.block_server.proofs.Refusing.{explains_begun, explains_on}
+use Rattle.block_server.proofs.Refusing.{explains_begun}
 use Rattle.block_server.specs.Refusals.{basis_of}
 use Rattle.block_server.proofs.turning.register.Goals as goal
 
