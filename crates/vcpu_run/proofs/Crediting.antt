@@ -151,7 +151,7 @@ pub credited_all : (old new : List Pair) (script : Script) → AllSame old new �
 credited_all old new script same is = credited_by_own old new script (λ unit k found. same k) is
 
 -- the unit of the current line, or another
-here_or : (a b : ℕ) → ((a == b) ≡ true) ⊎ ((a == b) ≡ false)
+pub here_or : (a b : ℕ) → ((a == b) ≡ true) ⊎ ((a == b) ≡ false)
 here_or a b = at (a == b)
   where
     at : (t : Bool) → (t ≡ true) ⊎ (t ≡ false)

@@ -110,6 +110,17 @@ serve_frees begun f g a b old new is place was now = at f g is (ap (λ (p : EndP
     at true false e e' place now = absurd (no_true e')
     at false d' e e' place now = absurd (no_true e)
 
+-- a turn of the server unit leaves the client's queue registered as it was
+pub serve_queue : (f g : Bool) (a b : List GName) (old new : Pair) → f ≡ true → (end_of b new.link g).place ≡ (end_of a old.link f).place
+    → (side_of new.link false).registered ≡ (side_of old.link false).registered
+serve_queue f g a b old new is place = at f g is (ap (λ (p : EndPlace). p.first) place ∙ is) place
+  where
+    at : (d d' : Bool) → d ≡ true → d' ≡ true → (end_of b new.link d').place ≡ (end_of a old.link d).place
+        → (side_of new.link false).registered ≡ (side_of old.link false).registered
+    at true true e e' place = ap (λ (p : EndPlace). p.partner_registered) place
+    at true false e e' place = absurd (no_true e')
+    at false d' e e' place = absurd (no_true e)
+
 -- a unit takes its queue for what it is, by whatever is the same of it
 pub agrees_like : (units : List Unit) (k : ℕ) (q q' : EndState) → q'.registered ≡ q.registered → AgreesAt units k q → AgreesAt units k q'
 agrees_like units k q q' same agrees = IfSome_then (slice_get units k) agrees

@@ -3,6 +3,7 @@ pub mod Announces
 pub mod Answered
 pub mod AnswersSent
 pub mod CallRows
+pub mod Commands
 pub mod CopyRows
 pub mod Credited
 pub mod Freed
@@ -17,14 +18,18 @@ pub mod Named
 pub mod Numbered
 pub mod OnDisk
 pub mod Pairs
+pub mod PlainClients
 pub mod PortSteps
 pub mod PortWords
 pub mod Ports
 pub mod Quietly
 pub mod RawCalls
 pub mod Received
+pub mod Refusals
+pub mod Replay
 pub mod Requests
 pub mod RunLaw
+pub mod ScriptTold
 pub mod Scripts
 pub mod Sendings
 pub mod Sessions
@@ -32,6 +37,7 @@ pub mod Settled
 pub mod Shown
 pub mod StrokeMakers
 pub mod Suited
+pub mod Telling
 pub mod Units
 pub mod Windows
 pub mod Works

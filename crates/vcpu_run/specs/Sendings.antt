@@ -1,10 +1,12 @@
 -- What comes of the calls of a client, as a step of a line says it.
-use Rattle.std.specs.Prelude.{◌≡◌, ℕ, ◌+◌, ◌≤◌, Result, Ok, Err, None, length, ⊤}
+use Rattle.std.specs.Prelude.{◌≡◌, ℕ, ◌+◌, ◌≤◌, Option, Some, None, Result, Ok, Err, length, ⊤}
 use Rattle.vio_num.specs.declared.memory.NoMemory.{NoMemory}
+use Rattle.vio_trace.specs.declared.outcome.Outcome.{Outcome}
 use Rattle.vio_trace.specs.declared.outcome.Outcome.TheVariants as outcomes
 use Rattle.vscsi_client.specs.declared.answers.LoginTurn.{LoginTurn}
 use Rattle.vscsi_client.specs.declared.answers.LoginTurn.TheVariants as turns
 use Rattle.vscsi_client.specs.declared.answers.Refused.{Refused}
+use Rattle.vscsi_client.specs.declared.answers.Refused.TheVariants as whys
 use Rattle.vscsi_client.specs.State.{ClientState}
 use Rattle.unit_region.specs.declared.step.Step.{Step}
 use Rattle.unit_region.specs.declared.step.Step.TheVariants as steps
@@ -16,6 +18,21 @@ use Rattle.unit_region.specs.Steps.{IsPlain}
 abbrev pub SaysSent : Result ℕ Refused → Result Step NoMemory → Type 0
 SaysSent (Ok tag) result = result ≡ Ok (steps.Ends (outcomes.Sent tag))
 SaysSent (Err why) result = IsPlain result
+
+-- what a request says that was refused, or met a closed queue or a full one; none where it is to be tried again, or memory ran out
+abbrev pub says_as : Refused → Option Outcome
+says_as whys.Range = Some outcomes.Range
+says_as whys.NotLoggedIn = Some outcomes.NotLoggedIn
+says_as (whys.NoCredit limit) = Some (outcomes.NoCredit limit)
+says_as (whys.Overlap tag) = Some (outcomes.Overlap tag)
+says_as (whys.Closed control) = Some outcomes.Closed
+says_as (whys.Dropped number held) = Some (outcomes.Dropped number held)
+says_as _ = None
+
+abbrev pub SaysWhy : Refused → Result Step NoMemory → Type 0
+SaysWhy why (Ok (steps.Ends outcome)) = says_as why ≡ Some outcome
+SaysWhy why (Ok (steps.Waits did)) = says_as why ≡ None
+SaysWhy why (Err memory) = ⊤
 
 -- what a turn of a login says
 abbrev pub SaysTurned : LoginTurn → Step → Type 0

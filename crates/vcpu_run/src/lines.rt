@@ -1,5 +1,5 @@
 // What a script line does at its client unit.
-ghost use Rattle.std.specs.Prelude.{◌≡◌, ◌≤◌, true, false};
+ghost use Rattle.std.specs.Prelude.{◌≡◌, ◌⊎◌, ◌≤◌, [], IfErr, None, true, false};
 ghost use Rattle.vscsi_client.specs.declared.TheConstants.{MIN_PAGES};
 ghost use Rattle.vscsi_client.specs.Transferred.{FitRows};
 ghost use Rattle.vscsi_client.specs.Units.{FitsOp};
@@ -8,7 +8,12 @@ ghost use Rattle.boot_text.specs.declared.verb.Verb.TheVariants as verbs;
 ghost use Rattle.vcpu_run.specs.Credited.{StepsAgreed, taken_in, uses_credit};
 ghost use Rattle.unit_region.specs.Steps.{IsPlain};
 ghost use Rattle.vcpu_run.specs.Freeing.{is_reset};
-ghost use Rattle.vcpu_run.specs.Sendings.{SaysSent, SaysTurned};
+ghost use Rattle.vcpu_run.specs.Sendings.{SaysSent, SaysTurned, SaysWhy};
+ghost use Rattle.vcpu_run.specs.Commands.{IsOpOf};
+ghost use Rattle.vcpu_run.specs.Replay.{asks, ranges_of};
+ghost use Rattle.vcpu_run.specs.Telling.{LeavesOut, StepsOut, StepsTold, seated};
+ghost use Rattle.vcpu_run.specs.declared.script.Progress.{Progress as ProgressValue};
+ghost use Rattle.vcpu_run.specs.declared.script.Progress.TheVariants as stages;
 ghost use Rattle.vcpu_run.specs.Works.{IsUnitVerb, Works, sends};
 ghost use Rattle.unit_region.specs.Kept.{KeepsWindow};
 
@@ -26,7 +31,8 @@ use vscsi_client::{DataFault, LoginTurn, Op, Refused};
 
 // What comes of a request that was sent, or was not.
 fn sent(answer: Result<u64, Refused>) -> Result<Step, NoMemory>
-    ensures { SaysSent answer result }
+    ensures sent { SaysSent answer result }
+    ensures why { IfErr answer (λ why. SaysWhy why result) }
 {
     let outcome = match answer {
         Ok(tag) => Outcome::Sent(tag),
@@ -73,6 +79,16 @@ impl Driver {
         line: u64,
     ) -> Result<Step, NoMemory>
         requires { MIN_PAGES ≤ (O.state own.old).place.size }
+        ensures told { (p : ProgressValue) → StepsTold (O.state own.old).place.size verbs.Login
+            (seated self.old.client p (C.state crq.old.end).registered)
+            (seated self.new.client p (C.state crq.new.end).registered)
+            result }
+        ensures renewed { StepsTold (O.state own.old).place.size verbs.Reset
+            (seated self.old.client stages.Freed (C.state crq.old.end).registered)
+            (seated self.new.client stages.Freed (C.state crq.new.end).registered)
+            result }
+        ensures out { (self.old.client.granted ≡ None)
+            ⊎ ((C.state crq.old.end).registered ≡ false) → LeavesOut self.new.client result }
         ensures works { Works false C.is_shared O.is_shared
             (C.state crq.old.end) (C.state crq.new.end)
             (O.state own.old) (O.state own.new) self.old self.new }
@@ -92,6 +108,14 @@ impl Driver {
         progress: &mut Progress,
     ) -> Result<Step, NoMemory>
         requires { MIN_PAGES ≤ (O.state own.old).place.size }
+        ensures told { StepsTold (O.state own.old).place.size verbs.Reset
+            (seated self.old.client progress.old (C.state crq.old.end).registered)
+            (seated self.new.client progress.new (C.state crq.new.end).registered)
+            result }
+        ensures out { C.is_shared ≡ false → StepsOut verbs.Reset
+            (seated self.old.client progress.old (C.state crq.old.end).registered)
+            (seated self.new.client progress.new (C.state crq.new.end).registered)
+            result }
         ensures works { Works true C.is_shared O.is_shared
             (C.state crq.old.end) (C.state crq.new.end)
             (O.state own.old) (O.state own.new) self.old self.new }
@@ -146,6 +170,11 @@ impl Driver {
     ) -> Result<Step, NoMemory>
         requires pages { MIN_PAGES ≤ (O.state own.old).place.size }
         requires fits { FitsOp op.now }
+        ensures told { (verb : VerbValue) (p : ProgressValue) → IsOpOf verb op.now →
+            StepsTold (O.state own.old).place.size verb
+            (seated self.old.client p (C.state crq.old.end).registered)
+            (seated self.new.client p (C.state crq.new.end).registered)
+            result }
         ensures works { Works false C.is_shared O.is_shared
             (C.state crq.old.end) (C.state crq.new.end)
             (O.state own.old) (O.state own.new) self.old self.new }
@@ -165,6 +194,11 @@ impl Driver {
         line: u64,
     ) -> Result<Step, NoMemory>
         requires { MIN_PAGES ≤ (O.state own.old).place.size }
+        ensures told { (verb : VerbValue) (p : ProgressValue) →
+            asks verb ≡ true → ranges_of verb ≡ [] → StepsTold (O.state own.old).place.size verb
+            (seated self.old.client p (C.state crq.old.end).registered)
+            (seated self.new.client p (C.state crq.new.end).registered)
+            result }
         ensures works { Works false C.is_shared O.is_shared
             (C.state crq.old.end) (C.state crq.new.end)
             (O.state own.old) (O.state own.new) self.old self.new }
@@ -182,6 +216,10 @@ impl Driver {
         line: u64,
     ) -> Result<Step, NoMemory>
         requires { MIN_PAGES ≤ (O.state own.old).place.size }
+        ensures told { (p : ProgressValue) → StepsTold (O.state own.old).place.size verbs.Logout
+            (seated self.old.client p (C.state crq.old.end).registered)
+            (seated self.new.client p (C.state crq.new.end).registered)
+            result }
         ensures works { Works false C.is_shared O.is_shared
             (C.state crq.old.end) (C.state crq.new.end)
             (O.state own.old) (O.state own.new) self.old self.new }
@@ -203,6 +241,10 @@ impl Driver {
         ensures works { Works false C.is_shared O.is_shared
             (C.state crq.old.end) (C.state crq.new.end)
             (O.state own.old) (O.state own.new) self.old self.new }
+        ensures told { StepsTold (O.state own.old).place.size (verbs.Take count)
+            (seated self.old.client progress.old (C.state crq.old.end).registered)
+            (seated self.new.client progress.new (C.state crq.new.end).registered)
+            result }
         ensures credit { StepsAgreed (verbs.Take count) (taken_in progress.old)
             (taken_in progress.new) self.old.client self.new.client result }
     {
@@ -223,6 +265,14 @@ impl Driver {
         requires verb { IsUnitVerb line.now.verb }
         requires pages { MIN_PAGES ≤ (O.state own.old).place.size }
         requires rows { FitRows (O.state own.old).place.size self.old.client }
+        ensures told { StepsTold (O.state own.old).place.size line.now.verb
+            (seated self.old.client progress.old (C.state crq.old.end).registered)
+            (seated self.new.client progress.new (C.state crq.new.end).registered)
+            result }
+        ensures out { C.is_shared ≡ false → StepsOut line.now.verb
+            (seated self.old.client progress.old (C.state crq.old.end).registered)
+            (seated self.new.client progress.new (C.state crq.new.end).registered)
+            result }
         ensures works { Works (is_reset line.now.verb) C.is_shared O.is_shared
             (C.state crq.old.end) (C.state crq.new.end)
             (O.state own.old) (O.state own.new) self.old self.new }
@@ -247,6 +297,14 @@ impl Driver {
         requires verb { IsUnitVerb line.now.verb }
         requires pages { MIN_PAGES ≤ (O.state own.old).place.size }
         requires rows { FitRows (O.state own.old).place.size self.old.client }
+        ensures told { StepsTold (O.state own.old).place.size line.now.verb
+            (seated self.old.client progress.old (C.state crq.old.end).registered)
+            (seated self.new.client progress.new (C.state crq.new.end).registered)
+            result }
+        ensures out { C.is_shared ≡ false → StepsOut line.now.verb
+            (seated self.old.client progress.old (C.state crq.old.end).registered)
+            (seated self.new.client progress.new (C.state crq.new.end).registered)
+            result }
         ensures works { Works (is_reset line.now.verb) C.is_shared O.is_shared
             (C.state crq.old.end) (C.state crq.new.end)
             (O.state own.old) (O.state own.new) self.old self.new }

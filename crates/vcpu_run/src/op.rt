@@ -3,6 +3,7 @@ ghost use Rattle.std.specs.Prelude.{◌≡◌, ◌≤◌, true, false, IfSome, M
 ghost use Rattle.boot_text.specs.Sound.{IsInRange};
 ghost use Rattle.boot_text.specs.declared.transfer.TheConstants.{MOST_BLOCKS, MOST_LBA};
 ghost use Rattle.vscsi_client.specs.Units.{FitsOp};
+ghost use Rattle.vcpu_run.specs.Commands.{HasNoData, IsOpOf};
 ghost use Rattle.vcpu_run.specs.Works.{sends};
 
 use boot_text::Verb;
@@ -28,7 +29,8 @@ pub(crate) const TEST_UNIT_READY: Op = Op {
 
 // A command without data.
 fn without_data(cdb: [u8; 16]) -> Op
-    ensures { FitsOp result }
+    ensures fits { FitsOp result }
+    ensures none { HasNoData result }
 {
     Op {
         cdb,
@@ -64,6 +66,7 @@ pub(crate) fn op_of(verb: &Verb) -> Option<Op>
     requires { IsInRange verb.now }
     ensures fits { MatchOption result (sends verb.now ≡ false) FitsOp }
     ensures sends { IfSome result (λ _. sends verb.now ≡ true) }
+    ensures command { IfSome result (IsOpOf verb.now) }
 {
     match verb {
         Verb::Tur => Some(TEST_UNIT_READY),

@@ -170,6 +170,8 @@ impl Pair {
             server.new.records.history.items (Di.state server.old.disk.image).blocks
             (Di.state server.new.disk.image).blocks }
         ensures unfreed { FreesNoneAt self.old self.new }
+        ensures queue { (side_of self.new.link false).registered
+            ≡ (side_of self.old.link false).registered }
         ensures linked { OnOk result (IsLinked server.old.units.items unit self.old →
             IsLinked server.new.units.items unit self.new) }
         ensures linked_else { (k : ℕ) (other : Pair) → k ≢ unit →
@@ -225,6 +227,8 @@ impl Pair {
             server.new.records.history.items (Di.state server.old.disk.image).blocks
             (Di.state server.new.disk.image).blocks }
         ensures unfreed { FreesNoneAt self.old self.new }
+        ensures queue { (side_of self.new.link false).registered
+            ≡ (side_of self.old.link false).registered }
         ensures linked { OnOk result (IsLinked server.old.units.items unit self.old →
             IsLinked server.new.units.items unit self.new) }
         ensures linked_else { (k : ℕ) (other : Pair) → k ≢ unit →

@@ -16,6 +16,7 @@ ghost use Rattle.vcpu_run.specs.Links.{AreIdle, AreIdleTo, AreLinked, AreOverTo,
 ghost use Rattle.vcpu_run.specs.Links.{SeatsRestWhole, ServerWaits, ServersWait, links_of};
 ghost use Rattle.vcpu_run.specs.Freed.{FreesNoneIf};
 ghost use Rattle.vcpu_run.specs.Freeing.{KeepQueues};
+ghost use Rattle.vcpu_run.specs.ScriptTold.{SameClients};
 ghost use Rattle.vcpu_run.specs.Machines.{AllRun, AllStay, AreScripts, IsMachine, IsServing};
 ghost use Rattle.vcpu_run.specs.Pairs.{ArePairs, AreDrivers};
 ghost use Rattle.vcpu_run.specs.PortWords.{PortsTell};
@@ -228,6 +229,7 @@ fn serve<Di: Blocks>(server: &mut Server<Di>, pairs: &mut [Pair]) -> Result<Move
         server.new.copies.items pairs.new }
     ensures stay { AllStay pairs.old pairs.new }
     ensures drivers { SameDrivers pairs.old pairs.new }
+    ensures clients { SameClients pairs.old pairs.new }
     ensures stays { FreesNoneIf (λ _. ⊤) pairs.old pairs.new }
     ensures answered { AreAnswered server.new.records.history.items pairs.new }
     ensures received { AreReceived server.new.units.items server.new.copies.items
@@ -264,6 +266,7 @@ fn serve_at<Di: Blocks>(
         server.new.copies.items pairs.new }
     ensures stay { AllStay pairs.old pairs.new }
     ensures drivers { SameDrivers pairs.old pairs.new }
+    ensures clients { SameClients pairs.old pairs.new }
     ensures stays { FreesNoneIf (λ _. ⊤) pairs.old pairs.new }
     ensures answered { AreAnswered server.new.records.history.items pairs.new }
     ensures received { AreReceived server.new.units.items server.new.copies.items

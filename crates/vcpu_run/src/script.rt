@@ -1,5 +1,5 @@
 // A partition: its script, and a turn of it.
-ghost use Rattle.std.specs.Prelude.{◌≡◌, ◌<◌, All, IfOk, List, Some, OnOk, length, slice_get, true};
+ghost use Rattle.std.specs.Prelude.{◌≡◌, ◌<◌, All, IfOk, List, Some, OnOk, false, length, slice_get, true};
 ghost use Rattle.std.specs.List.{AllPairs};
 ghost use Rattle.vcpu_run.specs.declared.pair.Pair.{Pair as PairValue};
 ghost use Rattle.vcpu_run.specs.Agreed.{AreLoggedOut, IsCredited, IsEnded, SameElse};
@@ -13,8 +13,9 @@ ghost use Rattle.vcpu_run.specs.Quietly.{OnQuiet};
 ghost use Rattle.lan_script.specs.Units.{LanValue};
 ghost use Rattle.vcpu_run.specs.Ports.{HasPorts};
 ghost use Rattle.vcpu_run.specs.PortSteps.{AreFresh, IsApart};
-ghost use Rattle.vcpu_run.specs.PortWords.{TellsPorts, done_in};
+ghost use Rattle.vcpu_run.specs.PortWords.{HasNoCall, TellsPorts, done_in};
 ghost use Rattle.vcpu_run.specs.Suited.{IsLineAt};
+ghost use Rattle.vcpu_run.specs.ScriptTold.{IsResetOut, IsScriptTold};
 ghost use Rattle.vcpu_run.specs.Scripts.{AreSeats, IsScript, OnlyRuns, are_servers};
 ghost use Rattle.vcpu_run.specs.Works.{fails};
 
@@ -91,6 +92,8 @@ impl<'p> Script<'p> {
             AreSeats partition seats.items pairs → IsScript pairs result }
         ensures credited { (pairs : List PairValue) → AreLoggedOut seats.items pairs →
             IsCredited pairs result }
+        ensures said { (pairs : List PairValue) → AreLoggedOut seats.items pairs →
+            IsScriptTold pairs result }
         ensures told { (lan : LanValue) → AreFresh lan → TellsPorts lan result }
         ensures partition { result.partition ≡ partition }
         ensures lines { result.lines.now ≡ lines.now }
@@ -124,6 +127,10 @@ impl<'p> Script<'p> {
         ensures apart { OnOk result (IsApart self.old.partition lan.old lan.new) }
         ensures credited { OnOk result (IsCredited pairs.old self.old →
             IsCredited pairs.new self.new) }
+        ensures said { OnOk result (HasNoCall self.old.lines.now →
+            IsScriptTold pairs.old self.old → IsScriptTold pairs.new self.new) }
+        ensures out { IfOk result (λ moved. moved ≡ Moved.Quiet → HasNoCall self.old.lines.now →
+            IsScriptTold pairs.old self.old → IsResetOut pairs.new self.new) }
         ensures quiet { IfOk result (λ moved. moved ≡ Moved.Quiet → IsOver self.new →
             SeatsRestWhole self.old.seats.items pairs.old pairs.new) }
     {
@@ -148,6 +155,10 @@ impl<'p> Script<'p> {
         ensures apart { OnOk result (IsApart self.old.partition lan.old lan.new) }
         ensures credited { OnOk result (IsCredited pairs.old self.old →
             IsCredited pairs.new self.new) }
+        ensures said { OnOk result (HasNoCall self.old.lines.now →
+            IsScriptTold pairs.old self.old → IsScriptTold pairs.new self.new) }
+        ensures out { IfOk result (λ moved. moved ≡ Moved.Quiet → HasNoCall self.old.lines.now →
+            IsScriptTold pairs.old self.old → IsResetOut pairs.new self.new) }
         ensures quiet { IfOk result (λ moved. moved ≡ Moved.Quiet → IsOver self.new →
             SeatsRest self.old.seats.items pairs.old pairs.new) }
     {
@@ -175,6 +186,10 @@ impl<'p> Script<'p> {
         ensures apart { OnOk result (IsApart self.old.partition lan.old lan.new) }
         ensures credited { OnOk result (IsCredited pairs.old self.old →
             IsCredited pairs.new self.new) }
+        ensures said { OnOk result (HasNoCall self.old.lines.now →
+            IsScriptTold pairs.old self.old → IsScriptTold pairs.new self.new) }
+        ensures out { IfOk result (λ moved. moved ≡ Moved.Quiet → HasNoCall self.old.lines.now →
+            IsScriptTold pairs.old self.old → IsResetOut pairs.new self.new) }
         ensures quiet { IfOk result (λ moved. moved ≡ Moved.Quiet → ¬ (IsOver self.new)) }
     {
         if let Verb::Fail = line.verb {
@@ -221,6 +236,10 @@ impl<'p> Script<'p> {
         ensures apart { OnOk result (IsApart self.old.partition lan.old lan.new) }
         ensures credited { OnOk result (IsCredited pairs.old self.old →
             IsCredited pairs.new self.new) }
+        ensures said { OnOk result (IsScriptTold pairs.old self.old →
+            IsScriptTold pairs.new self.new) }
+        ensures out { IfOk result (λ moved. moved ≡ Moved.Quiet →
+            IsResetOut pairs.new self.new) }
         ensures quiet { IfOk result (λ moved. moved ≡ Moved.Quiet → ¬ (IsOver self.new)) }
     {
         if fail(self.partition, &self.seats, pairs, lan)? {
@@ -274,6 +293,9 @@ impl<'p> Script<'p> {
             IsCredited pairs self.old → IsCredited pairs self.new) }
         ensures told { OnOk result ((pairs : List PairValue) (lan : LanValue) →
             IsScript pairs self.old → TellsPorts lan self.old → TellsPorts lan self.new) }
+        ensures said { OnOk result ((pairs : List PairValue) → IsScript pairs self.old →
+            IsResetOut pairs self.old → IsScriptTold pairs self.old →
+            IsScriptTold pairs self.new) }
         ensures quiet { OnQuiet result (self.new ≡ self.old) }
     {
         let lines = self.lines;

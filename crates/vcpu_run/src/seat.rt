@@ -1,5 +1,6 @@
 // What a client partition does at one of its pairs.
 ghost use Rattle.std.specs.Prelude.{◌≡◌, true, false, IfOk, IsSomeAnd};
+ghost use Rattle.crq_session.specs.PlainState.{side_of};
 ghost use Rattle.vcpu_run.specs.Pairs.{Drives, IsDriver};
 ghost use Rattle.vcpu_run.specs.Credited.{StepsAgreed, taken_in};
 ghost use Rattle.vcpu_run.specs.Freed.{FreesNoneAt};
@@ -9,6 +10,7 @@ ghost use Rattle.vcpu_run.specs.Agreed.{OnDrivers};
 ghost use Rattle.hcall_table.specs.Rows.{IsAnswer, may_answer};
 ghost use Rattle.vcpu_run.specs.CallRows.{queue_row, row_for};
 ghost use Rattle.vcpu_run.specs.Sendings.{SameCredits};
+ghost use Rattle.vcpu_run.specs.Telling.{PairOut, PairTold};
 ghost use Rattle.vcpu_run.specs.Works.{IsUnitVerb};
 
 use crate::client_call::{ClientCall, QueueCall};
@@ -28,6 +30,9 @@ pub(crate) fn push_event(pair: &mut Pair) -> Result<Moved, NoMemory>
     ensures drives { Drives pair.old pair.new }
     ensures driver { pair.new.driver ≡ pair.old.driver }
     ensures stays { FreesNoneAt pair.old pair.new }
+    ensures window { pair.new.window ≡ pair.old.window }
+    ensures queue { (side_of pair.new.link false).registered
+        ≡ (side_of pair.old.link false).registered }
     ensures quiet { IfOk result (λ moved. moved ≡ Moved.Quiet → PairRests pair.old pair.new) }
     ensures waits { IfOk result (λ moved. moved ≡ Moved.Quiet → EventWaits pair.new) }
 {
@@ -48,6 +53,8 @@ pub(crate) fn step(pair: &mut Pair, line: &Line, progress: &mut Progress) -> Res
     ensures credit { OnDrivers pair.old.driver pair.new.driver (λ a b.
         StepsAgreed line.now.verb (taken_in progress.old) (taken_in progress.new)
         a.client b.client result) }
+    ensures said { PairTold line.now.verb progress.old progress.new pair.old pair.new result }
+    ensures out { PairOut line.now.verb progress.old progress.new pair.old pair.new result }
     ensures stays { is_reset line.now.verb ≡ false → FreesNoneAt pair.old pair.new }
 {
     let Some(driver) = &mut pair.driver else {

@@ -10,6 +10,8 @@ ghost use Rattle.vcpu_run.specs.Ports.{HavePorts, IsPortOf};
 ghost use Rattle.vcpu_run.specs.PortSteps.{AllIdle, AllTake, IsApart, IsBeside, TakesOn, TellsStep};
 ghost use Rattle.vcpu_run.specs.PortWords.{done_in};
 ghost use Rattle.vcpu_run.specs.Suited.{is_call, suits};
+ghost use Rattle.vcpu_run.specs.ScriptTold.{SameClients};
+ghost use Rattle.vcpu_run.specs.Telling.{LineOut, LineTold, SeatOut, SeatTold};
 ghost use Rattle.vcpu_run.specs.Works.{HaveClients, IsLineVerb, IsPortVerb, IsUnitVerb};
 ghost use Rattle.vcpu_run.specs.declared.unit_seat.Seat.TheVariants as sits;
 
@@ -41,6 +43,7 @@ fn push_event_of(pairs: &mut [Pair], pair: usize) -> Result<Moved, NoMemory>
     ensures driven { AreDriven pairs.old pairs.new }
     ensures drivers { SameDrivers pairs.old pairs.new }
     ensures stays { FreesNoneIf (λ _. ⊤) pairs.old pairs.new }
+    ensures clients { SameClients pairs.old pairs.new }
     ensures quiet { IfOk result (λ moved. moved ≡ Moved.Quiet → LinksRest pairs.old pairs.new) }
     ensures waits { IfOk result (λ moved. moved ≡ Moved.Quiet →
         IfSome (slice_get pairs.new pair) EventWaits) }
@@ -54,6 +57,7 @@ fn push_event_at(pairs: &mut [Pair], seat: Seat) -> Result<Moved, NoMemory>
     ensures driven { AreDriven pairs.old pairs.new }
     ensures drivers { SameDrivers pairs.old pairs.new }
     ensures stays { FreesNoneIf (λ _. ⊤) pairs.old pairs.new }
+    ensures clients { SameClients pairs.old pairs.new }
     ensures quiet { IfOk result (λ moved. moved ≡ Moved.Quiet → LinksRest pairs.old pairs.new) }
     ensures waits { IfOk result (λ moved. moved ≡ Moved.Quiet → (k : ℕ) → seat ≡ sits.Client k →
         IfSome (slice_get pairs.new k) EventWaits) }
@@ -70,6 +74,7 @@ pub(crate) fn push_events(seats: &[Seat], pairs: &mut [Pair]) -> Result<Moved, N
     ensures driven { AreDriven pairs.old pairs.new }
     ensures drivers { SameDrivers pairs.old pairs.new }
     ensures stays { FreesNoneIf (λ _. ⊤) pairs.old pairs.new }
+    ensures clients { SameClients pairs.old pairs.new }
     ensures quiet { IfOk result (λ moved. moved ≡ Moved.Quiet → LinksRest pairs.old pairs.new) }
     ensures waits { IfOk result (λ moved. moved ≡ Moved.Quiet → EventsWait seats.now pairs.new) }
 {
@@ -95,6 +100,10 @@ pub(crate) fn step_at(
     ensures driven { AreDriven pairs.old pairs.new }
     ensures credit { StepsSeat pair line.now.verb (taken_in progress.old)
         (taken_in progress.new) pairs.old pairs.new result }
+    ensures said { SeatTold pair line.now.verb progress.old progress.new
+        pairs.old pairs.new result }
+    ensures out { SeatOut pair line.now.verb progress.old progress.new
+        pairs.old pairs.new result }
     ensures stays { FreesNoneIf (λ k. k ≡ pair → is_reset line.now.verb ≡ false)
         pairs.old pairs.new }
 {
@@ -126,6 +135,10 @@ fn step_own(
     ensures driven { AreDriven pairs.old pairs.new }
     ensures credit { StepsLine seats.now line.now (taken_in progress.old)
         (taken_in progress.new) pairs.old pairs.new result }
+    ensures said { LineTold seats.now line.now progress.old progress.new
+        pairs.old pairs.new result }
+    ensures out { LineOut seats.now line.now progress.old progress.new
+        pairs.old pairs.new result }
     ensures stays { FreesNoneIf (IsSpared seats.now line.now) pairs.old pairs.new }
     ensures lan { lan.new.seats ≡ lan.old.seats }
     ensures told { IfOk result (TellsStep partition seats.now line.now
@@ -156,6 +169,10 @@ pub(crate) fn step_unit(
     ensures driven { AreDriven pairs.old pairs.new }
     ensures credit { StepsLine seats.now line.now (taken_in progress.old)
         (taken_in progress.new) pairs.old pairs.new result }
+    ensures said { is_call line.now.verb ≡ false →
+        LineTold seats.now line.now progress.old progress.new pairs.old pairs.new result }
+    ensures out { is_call line.now.verb ≡ false →
+        LineOut seats.now line.now progress.old progress.new pairs.old pairs.new result }
     ensures stays { FreesNoneIf (IsSpared seats.now line.now) pairs.old pairs.new }
     ensures lan { lan.new.seats ≡ lan.old.seats }
     ensures told { IfOk result (λ step. is_call line.now.verb ≡ false →

@@ -2,9 +2,12 @@
 ghost use Rattle.std.specs.Prelude.{◌≡◌, ◌≤◌, IfOk, false};
 ghost use Rattle.boot_text.specs.declared.verb.Verb.TheVariants as verbs;
 ghost use Rattle.vscsi_client.specs.declared.TheConstants.{MIN_PAGES};
-ghost use Rattle.vcpu_run.specs.Credited.{StepsAgreed};
+ghost use Rattle.vcpu_run.specs.Credited.{StepsAgreed, taken_in};
 ghost use Rattle.vcpu_run.specs.Links.{EndRests};
 ghost use Rattle.vcpu_run.specs.Sendings.{TookOf};
+ghost use Rattle.vcpu_run.specs.Telling.{StepsTold, TookTold, seated};
+ghost use Rattle.vcpu_run.specs.declared.script.Progress.{Progress as ProgressValue};
+ghost use Rattle.vcpu_run.specs.declared.script.Progress.TheVariants as stages;
 ghost use Rattle.vcpu_run.specs.Works.{Works};
 
 use crate::driver::Driver;
@@ -38,6 +41,8 @@ impl Driver {
             (C.state crq.old.end) (C.state crq.new.end)
             (O.state own.old) (O.state own.new) self.old self.new }
         ensures took { IfOk result (λ took. TookOf took self.old.client self.new.client) }
+        ensures told { IfOk result (λ took. TookTold took self.old.client self.new.client) }
+        ensures queue { (C.state crq.new.end).registered ≡ (C.state crq.old.end).registered }
         ensures none { IfOk result (λ took. C.is_shared ≡ false → took ≡ Took.Nothing →
             EndRests (C.state crq.old.end) (C.state crq.new.end)) }
     {
@@ -91,6 +96,11 @@ impl Driver {
         ensures works { Works false C.is_shared O.is_shared
             (C.state crq.old.end) (C.state crq.new.end)
             (O.state own.old) (O.state own.new) self.old self.new }
+        ensures told { (p : ProgressValue) → taken_in p ≡ taken.old →
+            StepsTold (O.state own.old).place.size (verbs.Take count)
+            (seated self.old.client p (C.state crq.old.end).registered)
+            (seated self.new.client (stages.Took taken.new) (C.state crq.new.end).registered)
+            result }
         ensures credit { StepsAgreed (verbs.Take count) taken.old taken.new
             self.old.client self.new.client result }
     {

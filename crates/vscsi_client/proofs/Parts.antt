@@ -22,7 +22,7 @@ use Rattle.vscsi_client.specs.declared.turning.Next.{Next}
 use Rattle.vscsi_client.specs.declared.turning.Next.TheVariants as nexts
 use Rattle.vscsi_client.specs.State.{ClientState}
 use Rattle.vscsi_client.specs.Ports.{ports}
-use Rattle.vscsi_client.specs.Turned.{Site, site, LoginStep, Took, TookNone, Looked, Began, RanOut, Put, Registered, Runs, NoneEnds, ends_turn, ends_login, EndsOr, Ends, Did, IsHeldUp, IsSpent, IsLooked, finds_use, times_taken, is_up, is_idle, is_login, begins, login_due, is_dropped, sent_stage, IsEntryOf, is_found_used, Registers, FollowOn, AreInOrder}
+use Rattle.vscsi_client.specs.Turned.{Site, site, is_busy, LoginStep, Took, TookNone, Looked, Began, RanOut, Put, Registered, Runs, NoneEnds, ends_turn, ends_login, EndsOr, Ends, Did, IsHeldUp, IsSpent, IsLooked, finds_use, times_taken, is_up, is_idle, is_login, begins, login_due, is_dropped, sent_stage, IsEntryOf, is_found_used, Registers, FollowOn, AreInOrder}
 use Rattle.vscsi_client.specs.TurnParts.{next_after, TookOne, TookAll, Went, PutAll, PutOne, PutsAs, begun, is_unwritten, IsWritten, HoldsNoMore, InParts}
 use Rattle.vscsi_client.proofs.Same.{lays_none}
 use Rattle.vscsi_client.proofs.Runs.{runs_after, none_ends_append, times_append, ends_with_append, held_up_append, none_before, spent_append, looked_append, looked_none_held, looked_used, hands, did_after, parts_append, parts_more, parts_none, parts_took, parts_took_none, parts_looked, parts_looked_on}
@@ -404,3 +404,8 @@ turned_after line a r b slots slots' result answer runs none same did =
     (λ turn steps. (times_taken steps ≤ slots) × Ends slots b turn steps × AreInOrder steps) result (Registered answer ∷ []) runs none
     (λ turn xs h. subst (λ n. (times_taken (xs ++ Registered answer ∷ []) ≤ n) × Ends n b turn (xs ++ Registered answer ∷ []) × AreInOrder (xs ++ Registered answer ∷ [])) same
     (turn_front slots' b answer none turn xs h)) did
+
+-- a turn that has an answer leaves the queue registered
+pub if_open : (result : Result LoginTurn NoMemory) (registered : Bool) → registered ≡ true → IfOk result (λ turn. is_busy turn ≡ false → registered ≡ true)
+if_open (Ok turn) registered is = λ busy. is
+if_open (Err memory) registered is = tt

@@ -337,6 +337,11 @@ Ends slots b (turns.Rejected reason) steps = EndsWith (Looked (Rejected reason))
 Ends slots b turns.Lost steps = EndsWith (Looked Lost) steps
 Ends slots b (turns.Busy number held) steps = EndsWith (Registered (reg.Busy number held)) steps
 
+-- whether the own queue was not registered, since the event that is kept found its slot full
+abbrev pub is_busy : LoginTurn → Bool
+is_busy (turns.Busy number held) = true
+is_busy _ = false
+
 -- how a part of a turn ends: as is said of its steps, or by want of memory
 abbrev pub EndsOr : {X : Type 0} → (X → List LoginStep → Type 0) → Result X NoMemory → List LoginStep → Type 0
 EndsOr P (Ok x) steps = P x steps

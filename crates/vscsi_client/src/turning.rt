@@ -4,7 +4,7 @@ ghost use Rattle.crq_session.specs.EndState.{OnlyRegisters, OnlyReserves, OnlyTa
 ghost use Rattle.tce_window.specs.PortState.{OnlyReads, OnlyWrites};
 ghost use Rattle.vscsi_client.specs.Frames.{KeepsEnd, OnlyTurns};
 ghost use Rattle.vscsi_client.specs.Ports.{ports};
-ghost use Rattle.vscsi_client.specs.Turned.{site, begins, Did, IsFirst, Registers, Turned};
+ghost use Rattle.vscsi_client.specs.Turned.{site, begins, is_busy, Did, IsFirst, Registers, Turned};
 ghost use Rattle.vscsi_client.specs.TurnParts.{next_after, PutAll, PutOne, TookAll, TookAs, TookOne, TurnedOn, HoldsNoMore, IsWritten, PutsAs};
 
 use crate::MIN_PAGES;
@@ -278,6 +278,8 @@ impl Client {
             (site self.old (ports C.is_shared (C.state crq.old) O.is_shared (O.state own.old)))
             (site self.new (ports C.is_shared (C.state crq.new) O.is_shared (O.state own.new)))
             result }
+        ensures registered { IfOk result (λ turn. is_busy turn ≡ false →
+            (C.state crq.new).registered ≡ true) }
         ensures crq_rest { OnlyTurns C.is_shared (C.state crq.old) (C.state crq.new) }
         ensures own_rest { OnlyWrites (O.state own.old) (O.state own.new) }
     {

@@ -3,16 +3,18 @@ use Rattle.std.proofs.Common.{◌∙◌, refl, arith}
 use Rattle.vcpu_run.proofs.Disks.{lasts_same, lasts_then}
 use Rattle.vcpu_run.proofs.Keeping.{all_same, all_then}
 use Rattle.vcpu_run.proofs.Unfreed.{frees_on, frees_same}
+use Rattle.vcpu_run.proofs.ClientsTold.{clients_on, clients_same}
 use Rattle.vcpu_run.proofs.rounds.serve.Goals as goal
 
 pub loop-unit-init : goal.loop-unit-init
-loop-unit-init g c = record { serving = c.requires.serving; stay = all_same c.args.pairs.now; drivers = λ k. refl; answered = c.requires.answered; received = c.requires.received; disk = lasts_same c.args.server.now.records.history.items (g.Di.Blocks.state c.args.server.now.disk.image).blocks; linked = λ are. are; stays = frees_same _ c.args.pairs.now; wait = λ is are k link less found. absurd (omega (arith, less)) }
+loop-unit-init g c = record { serving = c.requires.serving; stay = all_same c.args.pairs.now; drivers = λ k. refl; clients = clients_same c.args.pairs.now; answered = c.requires.answered; received = c.requires.received; disk = lasts_same c.args.server.now.records.history.items (g.Di.Blocks.state c.args.server.now.disk.image).blocks; linked = λ are. are; stays = frees_same _ c.args.pairs.now; wait = λ is are k link less found. absurd (omega (arith, less)) }
 
 pub loop-unit-preserved : goal.loop-unit-preserved
 loop-unit-preserved g c = record {
   serving = c.serve_at.ensures.serving;
   stay = all_then c.args.pairs.now c.loop-unit.pairs c.serve_at.new.pairs c.loop-unit.invariant.stay c.serve_at.ensures.stay;
   drivers = λ k. c.serve_at.ensures.drivers k ∙ c.loop-unit.invariant.drivers k;
+  clients = clients_on c.args.pairs.now c.loop-unit.pairs c.serve_at.new.pairs c.loop-unit.invariant.clients c.serve_at.ensures.clients;
   answered = c.serve_at.ensures.answered;
   received = c.serve_at.ensures.received;
   disk = lasts_then c.args.server.now.records.history.items c.loop-unit.server.records.history.items c.serve_at.new.server.records.history.items
@@ -44,3 +46,6 @@ returns-in_err-turned-clause-disk g c =
 
 pub returns-in_err-turned-clause-stays : goal.returns-in_err-turned-clause-stays
 returns-in_err-turned-clause-stays g c = frees_on _ c.args.pairs.now c.loop-unit.pairs c.serve_at.new.pairs c.loop-unit.invariant.stays c.serve_at.ensures.stays
+
+pub returns-in_err-turned-clause-clients : goal.returns-in_err-turned-clause-clients
+returns-in_err-turned-clause-clients g c = clients_on c.args.pairs.now c.loop-unit.pairs c.serve_at.new.pairs c.loop-unit.invariant.clients c.serve_at.ensures.clients

@@ -7,6 +7,7 @@ use Rattle.vcpu_run.specs.Agreed.{SameDrivers}
 use Rattle.vcpu_run.specs.Answered.{AreAnswered}
 use Rattle.vcpu_run.specs.Received.{AreReceived}
 use Rattle.vcpu_run.specs.OnDisk.{LastsOnDisk}
+use Rattle.vcpu_run.specs.ScriptTold.{SameClients}
 use Rattle.vcpu_run.specs.Machines.{AllStay, IsServing}
 use Rattle.vcpu_run.proofs.rounds.serve.Given as goal
 
@@ -15,6 +16,7 @@ invariant-loop-unit g l = record {
   serving : IsServing l.server.partition (vec_len l.server.units) l.server.copies.items l.pairs;
   stay : AllStay l.initial.pairs l.pairs;
   drivers : SameDrivers l.initial.pairs l.pairs;
+  clients : SameClients l.initial.pairs l.pairs;
   answered : AreAnswered l.server.records.history.items l.pairs;
   received : AreReceived l.server.units.items l.server.copies.items l.server.records.grants.items l.server.records.history.items l.pairs;
   disk : LastsOnDisk l.initial.server.records.history.items l.server.records.history.items

@@ -9,6 +9,7 @@ use Rattle.vcpu_run.specs.Answered.{IsAnswered}
 use Rattle.vcpu_run.specs.Machines.{Stays}
 use Rattle.vcpu_run.specs.Pairs.{IsPair}
 use Rattle.vcpu_run.specs.Received.{IsReceived}
+use Rattle.vcpu_run.proofs.ClientsTold.{clients_set}
 use Rattle.vcpu_run.proofs.Agreeing.{set_same}
 use Rattle.vcpu_run.proofs.Keeping.{stays_same}
 use Rattle.vcpu_run.proofs.Listed.{each_on, each_set}
@@ -112,3 +113,10 @@ returns-clause-stays g c =
     let pairs = c.args.pairs.now in
     frees_set _ pairs c.args.unit (slice_index_or pairs c.args.unit c.index-pairs-unit.result) c.serve.new.self (slice_get-get_or pairs c.args.unit c.index-pairs-unit.result c.requires.there)
     (λ always. c.serve.ensures.unfreed)
+
+pub returns-clause-clients : goal.returns-clause-clients
+returns-clause-clients g c =
+    let pairs = c.args.pairs.now in
+    clients_set pairs c.args.unit (slice_index_or pairs c.args.unit c.index-pairs-unit.result) c.serve.new.self
+    (slice_get-get_or pairs c.args.unit c.index-pairs-unit.result c.requires.there)
+    (record { driver = c.serve.ensures.driver; pages = c.serve.ensures.stays.pages; queue = c.serve.ensures.queue })

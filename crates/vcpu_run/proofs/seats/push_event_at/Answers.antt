@@ -2,6 +2,7 @@ use Rattle.std.proofs.Common.{◌≡◌, ◌∙◌, ℕ, IfSome, refl, slice_get
 use Rattle.vcpu_run.specs.declared.unit_seat.Seat.TheVariants as sits
 use Rattle.vcpu_run.specs.Links.{EventWaits}
 use Rattle.vcpu_run.proofs.Resting.{ok_more}
+use Rattle.vcpu_run.proofs.ClientsTold.{clients_same}
 use Rattle.vcpu_run.proofs.Driving.{driven_same}
 use Rattle.vcpu_run.proofs.seats.push_event_at.Goals as goal
 
@@ -19,3 +20,6 @@ returns-in-Client-clause-waits c =
   where
     client_here : (j k : ℕ) → sits.Client j ≡ sits.Client k → j ≡ k
     client_here j k e = cc
+
+pub returns-in-Server-clause-clients : goal.returns-in-Server-clause-clients
+returns-in-Server-clause-clients c = clients_same c.args.pairs.now

@@ -2,6 +2,8 @@ use Rattle.vcpu_run.specs.Links.{EventWaits}
 use Rattle.vcpu_run.proofs.Resting.{events_set, ok_more, rests_set}
 use Rattle.vcpu_run.proofs.Unfreed.{frees_set}
 use Rattle.std.proofs.lemmas.Option.{slice_get-get_or}
+use Rattle.std.proofs.Common.{ap, length}
+use Rattle.vcpu_run.proofs.ClientsTold.{clients_set}
 use Rattle.vcpu_run.proofs.Agreeing.{set_same}
 use Rattle.vcpu_run.proofs.Driving.{driven_set}
 use Rattle.vcpu_run.proofs.seats.push_event_of.Goals as goal
@@ -25,3 +27,8 @@ pub returns-clause-waits : goal.returns-clause-waits
 returns-clause-waits c =
     ok_more c.push_event.result _ _ (λ moved wait is. events_set EventWaits c.args.pairs.now c.args.pair c.push_event.new.pair c.requires (wait is))
     c.push_event.ensures.waits
+
+pub returns-clause-clients : goal.returns-clause-clients
+returns-clause-clients c =
+    clients_set c.args.pairs.now c.args.pair _ c.push_event.new.pair (slice_get-get_or c.args.pairs.now c.args.pair _ c.requires)
+    (record { driver = c.push_event.ensures.driver; pages = ap (λ w. length w.pages) c.push_event.ensures.window; queue = c.push_event.ensures.queue })

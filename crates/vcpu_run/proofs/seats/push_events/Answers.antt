@@ -3,6 +3,7 @@ use Rattle.std.proofs.lemmas.Option.{slice_get_within}
 use Rattle.vcpu_run.specs.declared.unit_seat.Seat.TheVariants as sits
 use Rattle.vcpu_run.proofs.Resting.{events_next, rests_on, rests_same}
 use Rattle.vcpu_run.proofs.Unfreed.{frees_on, frees_same}
+use Rattle.vcpu_run.proofs.ClientsTold.{clients_on, clients_same}
 use Rattle.vcpu_run.proofs.Driving.{driven_on, driven_same, seat_of, seat_within, still_clients}
 use Rattle.vcpu_run.proofs.seats.push_events.Goals as goal
 
@@ -18,6 +19,7 @@ pub loop-k-preserved : goal.loop-k-preserved
 loop-k-preserved c = record {
   driven = driven_on c.args.pairs.now c.loop-k.pairs c.push_event_at.new.pairs c.loop-k.invariant.driven c.push_event_at.ensures.driven;
   drivers = (λ k. c.push_event_at.ensures.drivers k ∙ c.loop-k.invariant.drivers k);
+  same = clients_on c.args.pairs.now c.loop-k.pairs c.push_event_at.new.pairs c.loop-k.invariant.same c.push_event_at.ensures.clients;
   clients = still_clients c.args.seats.now c.loop-k.pairs c.push_event_at.new.pairs c.push_event_at.ensures.driven c.loop-k.invariant.clients;
   stays = frees_on _ c.args.pairs.now c.loop-k.pairs c.push_event_at.new.pairs c.loop-k.invariant.stays c.push_event_at.ensures.stays;
   rest = λ is.
@@ -34,6 +36,7 @@ pub loop-k-init : goal.loop-k-init
 loop-k-init c = record {
   driven = driven_same c.args.pairs.now;
   drivers = λ k. refl;
+  same = clients_same c.args.pairs.now;
   clients = c.requires;
   stays = frees_same _ c.args.pairs.now;
   rest = λ is. rests_same c.args.pairs.now;
@@ -47,3 +50,6 @@ pub returns-clause-waits : goal.returns-clause-waits
 returns-clause-waits c = λ is u k found.
     let less = slice_get_within c.args.seats.now u (sits.Client k) found in
     c.loop-k.invariant.wait is u k (omega (arith, less, c.loop-k-test.false)) found
+
+pub returns-in_err-here-clause-clients : goal.returns-in_err-here-clause-clients
+returns-in_err-here-clause-clients c = clients_on c.args.pairs.now c.loop-k.pairs c.push_event_at.new.pairs c.loop-k.invariant.same c.push_event_at.ensures.clients

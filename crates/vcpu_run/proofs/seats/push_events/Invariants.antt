@@ -6,6 +6,7 @@ use Rattle.vcpu_run.specs.Freed.{FreesNoneIf}
 use Rattle.vcpu_run.specs.Links.{EventWaits, LinksRest}
 use Rattle.vcpu_run.specs.Agreed.{SameDrivers}
 use Rattle.vcpu_run.specs.Pairs.{AreDriven}
+use Rattle.vcpu_run.specs.ScriptTold.{SameClients}
 use Rattle.vcpu_run.specs.Works.{HaveClients}
 use Rattle.vcpu_run.proofs.seats.push_events.Given as goal
 
@@ -13,6 +14,7 @@ abbrev pub invariant-loop-k : goal.invariant-loop-k
 invariant-loop-k l = record {
   driven : AreDriven l.initial.pairs l.pairs;
   drivers : SameDrivers l.initial.pairs l.pairs;
+  same : SameClients l.initial.pairs l.pairs;
   clients : HaveClients l.seats l.pairs;
   stays : FreesNoneIf (λ _. ⊤) l.initial.pairs l.pairs;
   rest : l.moved ≡ Quiet → LinksRest l.initial.pairs l.pairs;

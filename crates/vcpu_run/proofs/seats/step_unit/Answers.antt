@@ -1,4 +1,4 @@
-use Rattle.std.proofs.Common.{rules, ◌≡◌, false, true}
+use Rattle.std.proofs.Common.{rules, ◌≡◌, Bool, false, true}
 use Rattle.vcpu_run.specs.Credited.{is_take, taken_in}
 use Rattle.vcpu_run.specs.Suited.{is_call}
 use Rattle.vcpu_run.proofs.RawCalling.{plain_port, told_steps}
@@ -22,3 +22,19 @@ pub returns-in-Some-clause-stays : goal.returns-in-Some-clause-stays
 returns-in-Some-clause-stays c =
     let calls : is_call c.args.line.now.verb ≡ true = search rules in
     frees_call c.args.seats.now c.args.line.now c.args.pairs.now c.make_call.new.pairs calls c.make_call.ensures.stays
+
+pub returns-in-Some-clause-said : goal.returns-in-Some-clause-said
+returns-in-Some-clause-said c = λ none.
+    let calls : is_call c.args.line.now.verb ≡ true = search rules in
+    absurd (not_both (is_call c.args.line.now.verb) calls none)
+  where
+    not_both : (b : Bool) → b ≡ true → b ≡ false → ⊥
+    not_both b is isnt = cc
+
+pub returns-in-Some-clause-out : goal.returns-in-Some-clause-out
+returns-in-Some-clause-out c = λ none.
+    let calls : is_call c.args.line.now.verb ≡ true = search rules in
+    absurd (not_both (is_call c.args.line.now.verb) calls none)
+  where
+    not_both : (b : Bool) → b ≡ true → b ≡ false → ⊥
+    not_both b is isnt = cc

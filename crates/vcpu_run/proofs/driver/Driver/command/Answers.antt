@@ -1,5 +1,7 @@
 use Rattle.std.proofs.Common.{refl}
 use Rattle.vscsi_client.specs.Ports.{ports}
+use Rattle.vcpu_run.specs.Telling.{seated}
+use Rattle.vcpu_run.proofs.Askings.{asks_by, submit_told}
 use Rattle.vcpu_run.proofs.Credits.{submit_agreed}
 use Rattle.vcpu_run.proofs.Working.{submit_works}
 use Rattle.vcpu_run.proofs.driver.Driver.command.Goals as goal
@@ -14,4 +16,15 @@ returns-clause-credit g c = λ verb uses.
     submit_agreed verb c.args.line c.args.op.now c.args.self.now.client c.submit.new.self
     (ports g.C.CrqEnd.is_shared (g.C.CrqEnd.state c.args.crq.now.end) g.O.WindowPort.is_shared (g.O.WindowPort.state c.args.own.now))
     (ports g.C.CrqEnd.is_shared (g.C.CrqEnd.state c.submit.new.crq.end) g.O.WindowPort.is_shared (g.O.WindowPort.state c.submit.new.own))
-    c.submit.result c.sent.result uses c.sent.ensures c.submit.ensures.refused c.submit.ensures.sent c.submit.ensures.why
+    c.submit.result c.sent.result uses c.sent.ensures.sent c.submit.ensures.refused c.submit.ensures.sent c.submit.ensures.why
+
+pub returns-clause-told : goal.returns-clause-told
+returns-clause-told g c = λ verb p is.
+    submit_told verb c.args.line c.args.op.now
+    (seated c.args.self.now.client p (g.C.CrqEnd.state c.args.crq.now.end).registered)
+    (seated c.submit.new.self p (g.C.CrqEnd.state c.submit.new.crq.end).registered)
+    (ports g.C.CrqEnd.is_shared (g.C.CrqEnd.state c.args.crq.now.end) g.O.WindowPort.is_shared (g.O.WindowPort.state c.args.own.now))
+    (ports g.C.CrqEnd.is_shared (g.C.CrqEnd.state c.submit.new.crq.end) g.O.WindowPort.is_shared (g.O.WindowPort.state c.submit.new.own))
+    c.submit.result c.sent.result
+    (record { asks_one = asks_by verb c.args.op.now is; progress = refl; queue = c.submit.ensures.crq_rest.registered })
+    is c.sent.ensures.sent c.sent.ensures.why c.submit.ensures.refused c.submit.ensures.sent c.submit.ensures.why

@@ -1,6 +1,7 @@
 use Rattle.std.proofs.Common.{refl}
 use Rattle.vscsi_client.specs.Ports.{ports}
 use Rattle.vscsi_client.specs.Turned.{site}
+use Rattle.vcpu_run.proofs.LoginSteps.{login_out, login_told, reset_told, stays_open}
 use Rattle.vcpu_run.proofs.Credits.{turn_agreed}
 use Rattle.vcpu_run.proofs.Working.{turn_works}
 use Rattle.vcpu_run.proofs.driver.Driver.login.Goals as goal
@@ -20,3 +21,22 @@ returns-clause-credit g c = λ verb.
     let a = site c.args.self.now.client (ports g.C.CrqEnd.is_shared (g.C.CrqEnd.state c.args.crq.now.end) g.O.WindowPort.is_shared (g.O.WindowPort.state c.args.own.now)) in
     let b = site c.login_turn.new.self (ports g.C.CrqEnd.is_shared (g.C.CrqEnd.state c.login_turn.new.crq.end) g.O.WindowPort.is_shared (g.O.WindowPort.state c.login_turn.new.own)) in
     turn_agreed verb c.args.line a b c.in_ok-turn.turn c.turned.result c.in_ok-turn.ensures.turned c.turned.ensures
+
+pub returns-clause-told : goal.returns-clause-told
+returns-clause-told g c = λ p.
+    let a = site c.args.self.now.client (ports g.C.CrqEnd.is_shared (g.C.CrqEnd.state c.args.crq.now.end) g.O.WindowPort.is_shared (g.O.WindowPort.state c.args.own.now)) in
+    let b = site c.login_turn.new.self (ports g.C.CrqEnd.is_shared (g.C.CrqEnd.state c.login_turn.new.crq.end) g.O.WindowPort.is_shared (g.O.WindowPort.state c.login_turn.new.own)) in
+    login_told (g.O.WindowPort.state c.args.own.now).place.size c.args.line p a b c.in_ok-turn.turn c.turned.result c.in_ok-turn.ensures.turned c.turned.ensures c.in_ok-turn.ensures.registered
+    (stays_open g.C.CrqEnd.is_shared (g.C.CrqEnd.state c.args.crq.now.end) (g.C.CrqEnd.state c.login_turn.new.crq.end) c.login_turn.ensures.crq_rest)
+
+pub returns-clause-renewed : goal.returns-clause-renewed
+returns-clause-renewed g c =
+    let a = site c.args.self.now.client (ports g.C.CrqEnd.is_shared (g.C.CrqEnd.state c.args.crq.now.end) g.O.WindowPort.is_shared (g.O.WindowPort.state c.args.own.now)) in
+    let b = site c.login_turn.new.self (ports g.C.CrqEnd.is_shared (g.C.CrqEnd.state c.login_turn.new.crq.end) g.O.WindowPort.is_shared (g.O.WindowPort.state c.login_turn.new.own)) in
+    reset_told (g.O.WindowPort.state c.args.own.now).place.size c.args.line a b c.in_ok-turn.turn c.turned.result c.in_ok-turn.ensures.turned c.turned.ensures c.in_ok-turn.ensures.registered
+
+pub returns-clause-out : goal.returns-clause-out
+returns-clause-out g c = λ queue.
+    let a = site c.args.self.now.client (ports g.C.CrqEnd.is_shared (g.C.CrqEnd.state c.args.crq.now.end) g.O.WindowPort.is_shared (g.O.WindowPort.state c.args.own.now)) in
+    let b = site c.login_turn.new.self (ports g.C.CrqEnd.is_shared (g.C.CrqEnd.state c.login_turn.new.crq.end) g.O.WindowPort.is_shared (g.O.WindowPort.state c.login_turn.new.own)) in
+    login_out c.args.line a b c.in_ok-turn.turn c.turned.result c.in_ok-turn.ensures.turned c.turned.ensures queue

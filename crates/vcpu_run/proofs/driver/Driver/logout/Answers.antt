@@ -1,5 +1,7 @@
 use Rattle.std.proofs.Common.{refl}
 use Rattle.vscsi_client.specs.Ports.{ports}
+use Rattle.vcpu_run.specs.Telling.{seated}
+use Rattle.vcpu_run.proofs.Askings.{logout_told}
 use Rattle.vcpu_run.proofs.Credits.{logout_agreed}
 use Rattle.vcpu_run.proofs.Working.{logout_works}
 use Rattle.vcpu_run.proofs.driver.Driver.logout.Goals as goal
@@ -14,4 +16,15 @@ returns-clause-credit g c = λ verb uses.
     logout_agreed verb c.args.line c.args.self.now.client c.logout.new.self
     (ports g.C.CrqEnd.is_shared (g.C.CrqEnd.state c.args.crq.now.end) g.O.WindowPort.is_shared (g.O.WindowPort.state c.args.own.now))
     (ports g.C.CrqEnd.is_shared (g.C.CrqEnd.state c.logout.new.crq.end) g.O.WindowPort.is_shared (g.O.WindowPort.state c.logout.new.own))
-    c.logout.result c.sent.result uses c.sent.ensures c.logout.ensures.sent c.logout.ensures.same
+    c.logout.result c.sent.result uses c.sent.ensures.sent c.logout.ensures.sent c.logout.ensures.same
+
+pub returns-clause-told : goal.returns-clause-told
+returns-clause-told g c = λ p.
+    logout_told (g.O.WindowPort.state c.args.own.now).place.size c.args.line
+    (seated c.args.self.now.client p (g.C.CrqEnd.state c.args.crq.now.end).registered)
+    (seated c.logout.new.self p (g.C.CrqEnd.state c.logout.new.crq.end).registered)
+    (ports g.C.CrqEnd.is_shared (g.C.CrqEnd.state c.args.crq.now.end) g.O.WindowPort.is_shared (g.O.WindowPort.state c.args.own.now))
+    (ports g.C.CrqEnd.is_shared (g.C.CrqEnd.state c.logout.new.crq.end) g.O.WindowPort.is_shared (g.O.WindowPort.state c.logout.new.own))
+    c.logout.result c.sent.result
+    refl (c.logout.ensures.crq_rest.registered)
+    c.sent.ensures.sent c.sent.ensures.why c.logout.ensures.refused c.logout.ensures.sent c.logout.ensures.why c.logout.ensures.same

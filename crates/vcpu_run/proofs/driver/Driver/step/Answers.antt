@@ -1,4 +1,7 @@
 use Rattle.vcpu_run.specs.Credited.{taken_in}
+use Rattle.vcpu_run.specs.Telling.{seated}
+use Rattle.vcpu_run.proofs.Askings.{asks_by, asks_plain}
+use Rattle.vcpu_run.proofs.LoginSteps.{other_out}
 use Rattle.vcpu_run.proofs.Credits.{fresh_both, sends_one}
 use Rattle.vcpu_run.proofs.driver.Driver.step.Goals as goal
 
@@ -7,3 +10,12 @@ returns-in-Some-clause-credit g c =
     let facts = sends_one c.args.line.now.verb c.in-Some.ensures.sends in
     fresh_both c.args.line.now.verb (taken_in c.args.progress.now) c.args.self.now.client c.command.new.self.client c.command.result facts.1
     (c.command.ensures.credit c.args.line.now.verb facts.0)
+
+pub returns-in-Some-clause-told : goal.returns-in-Some-clause-told
+returns-in-Some-clause-told g c = c.command.ensures.told c.args.line.now.verb c.args.progress.now c.in-Some.ensures.command
+
+pub returns-in-Some-clause-out : goal.returns-in-Some-clause-out
+returns-in-Some-clause-out g c = λ alone.
+    other_out c.args.line.now.verb (seated c.args.self.now.client c.args.progress.now (g.C.CrqEnd.state c.args.crq.now.end).registered)
+    (seated c.command.new.self.client c.args.progress.now (g.C.CrqEnd.state c.command.new.crq.end).registered)
+    c.command.result (asks_plain c.args.line.now.verb (asks_by c.args.line.now.verb c.in-Some.op c.in-Some.ensures.command)).1

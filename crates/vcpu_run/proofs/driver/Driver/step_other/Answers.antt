@@ -1,5 +1,9 @@
-use Rattle.std.proofs.Common.{ap}
+use Rattle.std.proofs.Common.{ap, refl}
 use Rattle.vcpu_run.specs.Credited.{is_take, taken_in}
+use Rattle.vcpu_run.specs.Telling.{seated}
+use Rattle.vcpu_run.proofs.Askings.{aside_as, aside_told, told_as}
+use Rattle.vcpu_run.specs.Freeing.{is_reset}
+use Rattle.vcpu_run.proofs.LoginSteps.{other_out, out_as}
 use Rattle.vcpu_run.proofs.Credits.{fresh_both}
 use Rattle.vcpu_run.proofs.driver.Driver.step_other.Goals as goal
 
@@ -7,3 +11,133 @@ pub returns-in-Login-clause-credit : goal.returns-in-Login-clause-credit
 returns-in-Login-clause-credit g c =
     fresh_both c.args.line.now.verb (taken_in c.args.progress.now) c.args.self.now.client c.login.new.self.client c.login.result (ap is_take c.in-Login.is)
     (c.login.ensures.credit c.args.line.now.verb)
+
+pub returns-in-Login-clause-told : goal.returns-in-Login-clause-told
+returns-in-Login-clause-told g c =
+    told_as (g.O.WindowPort.state c.args.own.now).place.size c.args.line.now.verb _
+    (seated c.args.self.now.client c.args.progress.now (g.C.CrqEnd.state c.args.crq.now.end).registered)
+    (seated c.login.new.self.client c.args.progress.now (g.C.CrqEnd.state c.login.new.crq.end).registered)
+    c.login.result c.in-Login.is (c.login.ensures.told c.args.progress.now)
+
+pub returns-in-Reset-clause-told : goal.returns-in-Reset-clause-told
+returns-in-Reset-clause-told g c =
+    told_as (g.O.WindowPort.state c.args.own.now).place.size c.args.line.now.verb _
+    (seated c.args.self.now.client c.args.progress.now (g.C.CrqEnd.state c.args.crq.now.end).registered)
+    (seated c.reset.new.self.client c.reset.new.progress (g.C.CrqEnd.state c.reset.new.crq.end).registered)
+    c.reset.result c.in-Reset.is (c.reset.ensures.told)
+
+pub returns-in-Logout-clause-told : goal.returns-in-Logout-clause-told
+returns-in-Logout-clause-told g c =
+    told_as (g.O.WindowPort.state c.args.own.now).place.size c.args.line.now.verb _
+    (seated c.args.self.now.client c.args.progress.now (g.C.CrqEnd.state c.args.crq.now.end).registered)
+    (seated c.logout.new.self.client c.args.progress.now (g.C.CrqEnd.state c.logout.new.crq.end).registered)
+    c.logout.result c.in-Logout.is (c.logout.ensures.told c.args.progress.now)
+
+pub returns-in-Task-clause-told : goal.returns-in-Task-clause-told
+returns-in-Task-clause-told g c =
+    told_as (g.O.WindowPort.state c.args.own.now).place.size c.args.line.now.verb _
+    (seated c.args.self.now.client c.args.progress.now (g.C.CrqEnd.state c.args.crq.now.end).registered)
+    (seated c.task.new.self.client c.args.progress.now (g.C.CrqEnd.state c.task.new.crq.end).registered)
+    c.task.result c.in-Task.is (c.task.ensures.told _ c.args.progress.now refl refl)
+
+pub returns-in-Take-clause-told : goal.returns-in-Take-clause-told
+returns-in-Take-clause-told g c =
+    told_as (g.O.WindowPort.state c.args.own.now).place.size c.args.line.now.verb _
+    (seated c.args.self.now.client c.args.progress.now (g.C.CrqEnd.state c.args.crq.now.end).registered)
+    (seated c.take_on.new.self.client c.take_on.new.progress (g.C.CrqEnd.state c.take_on.new.crq.end).registered)
+    c.take_on.result c.in-Take.is (c.take_on.ensures.told)
+
+pub returns-in-Data-clause-told : goal.returns-in-Data-clause-told
+returns-in-Data-clause-told g c =
+    aside_told (g.O.WindowPort.state c.args.own.now).place.size c.args.line.now.verb
+    (seated c.args.self.now.client c.args.progress.now (g.C.CrqEnd.state c.args.crq.now.end).registered)
+    (seated c.data.new.self.client c.args.progress.now (g.C.CrqEnd.state c.args.crq.now.end).registered)
+    c.data.result (aside_as c.args.line.now.verb _ c.in-Data.is (record { no_ask = refl; no_logout = refl; no_take = refl; no_reset = refl })) c.data.ensures.client refl refl c.data.ensures.plain
+
+pub returns-in-Fill-clause-told : goal.returns-in-Fill-clause-told
+returns-in-Fill-clause-told g c =
+    aside_told (g.O.WindowPort.state c.args.own.now).place.size c.args.line.now.verb
+    (seated c.args.self.now.client c.args.progress.now (g.C.CrqEnd.state c.args.crq.now.end).registered)
+    (seated c.args.self.now.client c.args.progress.now (g.C.CrqEnd.state c.args.crq.now.end).registered)
+    c.fill.result (aside_as c.args.line.now.verb _ c.in-Fill.is (record { no_ask = refl; no_logout = refl; no_take = refl; no_reset = refl })) refl refl refl c.fill.ensures.plain
+
+pub returns-in-Poke-clause-told : goal.returns-in-Poke-clause-told
+returns-in-Poke-clause-told g c =
+    aside_told (g.O.WindowPort.state c.args.own.now).place.size c.args.line.now.verb
+    (seated c.args.self.now.client c.args.progress.now (g.C.CrqEnd.state c.args.crq.now.end).registered)
+    (seated c.args.self.now.client c.args.progress.now (g.C.CrqEnd.state c.args.crq.now.end).registered)
+    c.poke.result (aside_as c.args.line.now.verb _ c.in-Poke.is (record { no_ask = refl; no_logout = refl; no_take = refl; no_reset = refl })) refl refl refl c.poke.ensures.plain
+
+pub returns-in-Peek-clause-told : goal.returns-in-Peek-clause-told
+returns-in-Peek-clause-told g c =
+    aside_told (g.O.WindowPort.state c.args.own.now).place.size c.args.line.now.verb
+    (seated c.args.self.now.client c.args.progress.now (g.C.CrqEnd.state c.args.crq.now.end).registered)
+    (seated c.args.self.now.client c.args.progress.now (g.C.CrqEnd.state c.args.crq.now.end).registered)
+    c.peek.result (aside_as c.args.line.now.verb _ c.in-Peek.is (record { no_ask = refl; no_logout = refl; no_take = refl; no_reset = refl })) refl refl refl c.peek.ensures.plain
+
+pub returns-in-Tce-clause-told : goal.returns-in-Tce-clause-told
+returns-in-Tce-clause-told g c =
+    aside_told (g.O.WindowPort.state c.args.own.now).place.size c.args.line.now.verb
+    (seated c.args.self.now.client c.args.progress.now (g.C.CrqEnd.state c.args.crq.now.end).registered)
+    (seated c.args.self.now.client c.args.progress.now (g.C.CrqEnd.state c.args.crq.now.end).registered)
+    c.put_tce.result (aside_as c.args.line.now.verb _ c.in-Tce.is (record { no_ask = refl; no_logout = refl; no_take = refl; no_reset = refl })) refl refl refl c.put_tce.ensures.plain
+
+pub returns-in-Login-clause-out : goal.returns-in-Login-clause-out
+returns-in-Login-clause-out g c = λ alone.
+    other_out c.args.line.now.verb (seated c.args.self.now.client c.args.progress.now (g.C.CrqEnd.state c.args.crq.now.end).registered)
+    (seated c.login.new.self.client c.args.progress.now (g.C.CrqEnd.state c.login.new.crq.end).registered)
+    c.login.result (ap is_reset c.in-Login.is)
+
+pub returns-in-Reset-clause-out : goal.returns-in-Reset-clause-out
+returns-in-Reset-clause-out g c = λ alone.
+    out_as c.args.line.now.verb _ (seated c.args.self.now.client c.args.progress.now (g.C.CrqEnd.state c.args.crq.now.end).registered)
+    (seated c.reset.new.self.client c.reset.new.progress (g.C.CrqEnd.state c.reset.new.crq.end).registered)
+    c.reset.result c.in-Reset.is (c.reset.ensures.out alone)
+
+pub returns-in-Logout-clause-out : goal.returns-in-Logout-clause-out
+returns-in-Logout-clause-out g c = λ alone.
+    other_out c.args.line.now.verb (seated c.args.self.now.client c.args.progress.now (g.C.CrqEnd.state c.args.crq.now.end).registered)
+    (seated c.logout.new.self.client c.args.progress.now (g.C.CrqEnd.state c.logout.new.crq.end).registered)
+    c.logout.result (ap is_reset c.in-Logout.is)
+
+pub returns-in-Task-clause-out : goal.returns-in-Task-clause-out
+returns-in-Task-clause-out g c = λ alone.
+    other_out c.args.line.now.verb (seated c.args.self.now.client c.args.progress.now (g.C.CrqEnd.state c.args.crq.now.end).registered)
+    (seated c.task.new.self.client c.args.progress.now (g.C.CrqEnd.state c.task.new.crq.end).registered)
+    c.task.result (ap is_reset c.in-Task.is)
+
+pub returns-in-Take-clause-out : goal.returns-in-Take-clause-out
+returns-in-Take-clause-out g c = λ alone.
+    other_out c.args.line.now.verb (seated c.args.self.now.client c.args.progress.now (g.C.CrqEnd.state c.args.crq.now.end).registered)
+    (seated c.take_on.new.self.client c.take_on.new.progress (g.C.CrqEnd.state c.take_on.new.crq.end).registered)
+    c.take_on.result (ap is_reset c.in-Take.is)
+
+pub returns-in-Data-clause-out : goal.returns-in-Data-clause-out
+returns-in-Data-clause-out g c = λ alone.
+    other_out c.args.line.now.verb (seated c.args.self.now.client c.args.progress.now (g.C.CrqEnd.state c.args.crq.now.end).registered)
+    (seated c.data.new.self.client c.args.progress.now (g.C.CrqEnd.state c.args.crq.now.end).registered)
+    c.data.result (ap is_reset c.in-Data.is)
+
+pub returns-in-Fill-clause-out : goal.returns-in-Fill-clause-out
+returns-in-Fill-clause-out g c = λ alone.
+    other_out c.args.line.now.verb (seated c.args.self.now.client c.args.progress.now (g.C.CrqEnd.state c.args.crq.now.end).registered)
+    (seated c.args.self.now.client c.args.progress.now (g.C.CrqEnd.state c.args.crq.now.end).registered)
+    c.fill.result (ap is_reset c.in-Fill.is)
+
+pub returns-in-Poke-clause-out : goal.returns-in-Poke-clause-out
+returns-in-Poke-clause-out g c = λ alone.
+    other_out c.args.line.now.verb (seated c.args.self.now.client c.args.progress.now (g.C.CrqEnd.state c.args.crq.now.end).registered)
+    (seated c.args.self.now.client c.args.progress.now (g.C.CrqEnd.state c.args.crq.now.end).registered)
+    c.poke.result (ap is_reset c.in-Poke.is)
+
+pub returns-in-Peek-clause-out : goal.returns-in-Peek-clause-out
+returns-in-Peek-clause-out g c = λ alone.
+    other_out c.args.line.now.verb (seated c.args.self.now.client c.args.progress.now (g.C.CrqEnd.state c.args.crq.now.end).registered)
+    (seated c.args.self.now.client c.args.progress.now (g.C.CrqEnd.state c.args.crq.now.end).registered)
+    c.peek.result (ap is_reset c.in-Peek.is)
+
+pub returns-in-Tce-clause-out : goal.returns-in-Tce-clause-out
+returns-in-Tce-clause-out g c = λ alone.
+    other_out c.args.line.now.verb (seated c.args.self.now.client c.args.progress.now (g.C.CrqEnd.state c.args.crq.now.end).registered)
+    (seated c.args.self.now.client c.args.progress.now (g.C.CrqEnd.state c.args.crq.now.end).registered)
+    c.put_tce.result (ap is_reset c.in-Tce.is)

@@ -1,8 +1,11 @@
-use Rattle.std.proofs.Common.{◌≡◌, ◌≤◌, ◌<◌, ◌+◌, refl, sym, subst, arith}
+use Rattle.std.proofs.Common.{◌≡◌, ◌∙◌, ◌≤◌, ◌<◌, ◌+◌, refl, sym, subst, arith}
 use Rattle.vio_num.specs.declared.hypervisor.Moved.TheVariants.{Moved as DidMove}
 use Rattle.boot_text.specs.declared.verb.Verb.TheVariants as verbs
 use Rattle.vcpu_run.specs.declared.taking.Took.{Took}
 use Rattle.vcpu_run.specs.Sendings.{TookOf}
+use Rattle.vcpu_run.specs.declared.script.Progress.TheVariants as stages
+use Rattle.vcpu_run.specs.Telling.{TookTold}
+use Rattle.vcpu_run.proofs.TakesTold.{TakesSo, lost_takes_told, takes_none, takes_one, takes_same, took_told, waits_takes_told}
 use Rattle.vcpu_run.proofs.Credits.{TakesOn, takes_answer, takes_on, takes_other, took_agreed, waits_agreed}
 use Rattle.tce_window.specs.PortState.{PortPlace}
 use Rattle.vscsi_client.specs.declared.TheConstants.{MIN_PAGES}
@@ -56,7 +59,7 @@ returns-clause-credit g c =
 
 pub loop-entry-preserved : goal.loop-entry-preserved
 loop-entry-preserved g c =
-    let next : TakesOn c.args.taken.now c.match-branch-2.taken c.args.self.now.client c.take_one.new.self.client × (c.match-branch-2.taken < c.args.count) =
+    let next : TakesOn c.args.taken.now c.match-branch-2.taken c.args.self.now.client c.take_one.new.self.client × (c.match-branch-2.taken < c.args.count) × TakesSo c.args.taken.now c.match-branch-2.taken c.args.self.now.client c.take_one.new.self.client =
     elim c.match-branch-2.branch [
       | in-Answer+else-taken-count-2 w ↦ (
         subst (λ n. TakesOn c.args.taken.now n c.args.self.now.client c.take_one.new.self.client) (sym w.taken-is)
@@ -64,17 +67,66 @@ loop-entry-preserved g c =
             (takes_answer c.loop-entry.taken w.saturating_add.result c.loop-entry.self.client c.take_one.new.self.client (omega (arith, w.saturating_add.ensures, c.loop-entry.invariant.less, c.ranges.count.fits))
             (subst (λ (t : Took). TookOf t c.loop-entry.self.client c.take_one.new.self.client) w.in-Answer.is c.in_ok-take_one.ensures.took))),
         omega (arith, w.taken-is, w.if-taken-count-2.false),
+        subst (λ n. TakesSo c.args.taken.now n c.args.self.now.client c.take_one.new.self.client) (sym w.taken-is)
+            (takes_one c.args.taken.now c.loop-entry.taken w.saturating_add.result c.args.self.now.client c.loop-entry.self.client c.take_one.new.self.client c.loop-entry.invariant.so
+            (omega (arith, w.saturating_add.ensures, c.loop-entry.invariant.less, c.ranges.count.fits))
+            (subst (λ (t : Took). TookTold t c.loop-entry.self.client c.take_one.new.self.client) w.in-Answer.is c.in_ok-take_one.ensures.told)),
       )
       | in-Other w ↦ (
         subst (λ n. TakesOn c.args.taken.now n c.args.self.now.client c.take_one.new.self.client) (sym w.taken-is)
             (takes_on c.args.taken.now c.loop-entry.taken c.loop-entry.taken c.args.self.now.client c.loop-entry.self.client c.take_one.new.self.client c.loop-entry.invariant.takes
             (takes_other c.loop-entry.taken c.loop-entry.self.client c.take_one.new.self.client (subst (λ (t : Took). TookOf t c.loop-entry.self.client c.take_one.new.self.client) w.in-Other.is c.in_ok-take_one.ensures.took))),
         omega (arith, w.taken-is, c.loop-entry.invariant.less),
+        subst (λ n. TakesSo c.args.taken.now n c.args.self.now.client c.take_one.new.self.client) (sym w.taken-is)
+            (takes_same c.args.taken.now c.loop-entry.taken c.args.self.now.client c.loop-entry.self.client c.take_one.new.self.client c.loop-entry.invariant.so
+            (subst (λ (t : Took). TookTold t c.loop-entry.self.client c.take_one.new.self.client) w.in-Other.is c.in_ok-take_one.ensures.told)),
       )
     ] in
     record {
       works = works_on _ _ _ _ _ _ _ _ _ _ _ _ c.loop-entry.invariant.works c.take_one.ensures.works;
       pages = subst (λ (place : PortPlace). MIN_PAGES ≤ place.size) (sym c.take_one.ensures.works.window.place) c.loop-entry.invariant.pages;
       takes = next.0;
+      so = next.2;
+      queue = c.take_one.ensures.queue ∙ c.loop-entry.invariant.queue;
       less = next.1;
     }
+
+pub returns-then-taken-count-clause-told : goal.returns-then-taken-count-clause-told
+returns-then-taken-count-clause-told g c = λ p is.
+    took_told (g.O.WindowPort.state c.args.own.now).place.size c.args.count p c.args.taken.now c.args.taken.now c.args.self.now.client c.args.self.now.client (g.C.CrqEnd.state c.args.crq.now.end).registered (g.C.CrqEnd.state c.args.crq.now.end).registered
+    (is, takes_none c.args.taken.now c.args.self.now.client, refl)
+
+pub returns-then-taken-count-2-clause-told : goal.returns-then-taken-count-2-clause-told
+returns-then-taken-count-2-clause-told g c = λ p is.
+    let more : c.saturating_add.result ≡ c.loop-entry.taken + 1 = omega (arith, c.saturating_add.ensures, c.loop-entry.invariant.less, c.ranges.count.fits) in
+    took_told (g.O.WindowPort.state c.args.own.now).place.size c.args.count p c.args.taken.now c.saturating_add.result c.args.self.now.client c.take_one.new.self.client (g.C.CrqEnd.state c.args.crq.now.end).registered (g.C.CrqEnd.state c.take_one.new.crq.end).registered (
+      is,
+      takes_one c.args.taken.now c.loop-entry.taken c.saturating_add.result c.args.self.now.client c.loop-entry.self.client c.take_one.new.self.client c.loop-entry.invariant.so more
+          (subst (λ (t : Took). TookTold t c.loop-entry.self.client c.take_one.new.self.client) c.in-Answer.is c.in_ok-take_one.ensures.told),
+      (c.take_one.ensures.queue ∙ c.loop-entry.invariant.queue),
+    )
+
+pub returns-in-Lost-clause-told : goal.returns-in-Lost-clause-told
+returns-in-Lost-clause-told g c = λ p is.
+    lost_takes_told (g.O.WindowPort.state c.args.own.now).place.size c.args.count p (stages.Took c.loop-entry.taken) c.args.taken.now c.loop-entry.taken c.loop-entry.taken c.args.self.now.client c.loop-entry.self.client c.take_one.new.self.client (g.C.CrqEnd.state c.args.crq.now.end).registered (g.C.CrqEnd.state c.take_one.new.crq.end).registered
+    c.loop-entry.invariant.so (subst (λ (t : Took). TookTold t c.loop-entry.self.client c.take_one.new.self.client) c.in-Lost.is c.in_ok-take_one.ensures.told)
+
+pub returns-in-InUse-clause-told : goal.returns-in-InUse-clause-told
+returns-in-InUse-clause-told g c = λ p is.
+    waits_takes_told (g.O.WindowPort.state c.args.own.now).place.size c.args.count p c.args.taken.now c.loop-entry.taken c.args.self.now.client c.take_one.new.self.client (g.C.CrqEnd.state c.args.crq.now.end).registered (g.C.CrqEnd.state c.take_one.new.crq.end).registered c.moved.result
+    (is, (takes_same c.args.taken.now c.loop-entry.taken c.args.self.now.client c.loop-entry.self.client c.take_one.new.self.client c.loop-entry.invariant.so (subst (λ (t : Took). TookTold t c.loop-entry.self.client c.take_one.new.self.client) c.in-InUse.is c.in_ok-take_one.ensures.told)), (c.take_one.ensures.queue ∙ c.loop-entry.invariant.queue))
+
+pub returns-then-is_empty-clause-told : goal.returns-then-is_empty-clause-told
+returns-then-is_empty-clause-told g c = λ p is.
+    took_told (g.O.WindowPort.state c.args.own.now).place.size c.args.count p c.args.taken.now c.loop-entry.taken c.args.self.now.client c.take_one.new.self.client (g.C.CrqEnd.state c.args.crq.now.end).registered (g.C.CrqEnd.state c.take_one.new.crq.end).registered
+    (is, (takes_same c.args.taken.now c.loop-entry.taken c.args.self.now.client c.loop-entry.self.client c.take_one.new.self.client c.loop-entry.invariant.so (subst (λ (t : Took). TookTold t c.loop-entry.self.client c.take_one.new.self.client) c.in-Nothing.is c.in_ok-take_one.ensures.told)), (c.take_one.ensures.queue ∙ c.loop-entry.invariant.queue))
+
+pub returns-in-Nothing-clause-told : goal.returns-in-Nothing-clause-told
+returns-in-Nothing-clause-told g c = λ p is.
+    waits_takes_told (g.O.WindowPort.state c.args.own.now).place.size c.args.count p c.args.taken.now c.loop-entry.taken c.args.self.now.client c.take_one.new.self.client (g.C.CrqEnd.state c.args.crq.now.end).registered (g.C.CrqEnd.state c.take_one.new.crq.end).registered c.moved-in-Nothing.result
+    (is, (takes_same c.args.taken.now c.loop-entry.taken c.args.self.now.client c.loop-entry.self.client c.take_one.new.self.client c.loop-entry.invariant.so (subst (λ (t : Took). TookTold t c.loop-entry.self.client c.take_one.new.self.client) c.in-Nothing.is c.in_ok-take_one.ensures.told)), (c.take_one.ensures.queue ∙ c.loop-entry.invariant.queue))
+
+pub returns-clause-told : goal.returns-clause-told
+returns-clause-told g c = λ p is.
+    waits_takes_told (g.O.WindowPort.state c.args.own.now).place.size c.args.count p c.args.taken.now c.loop-entry.taken c.args.self.now.client c.loop-entry.self.client (g.C.CrqEnd.state c.args.crq.now.end).registered (g.C.CrqEnd.state c.loop-entry.crq.end).registered DidMove
+    (is, c.loop-entry.invariant.so, c.loop-entry.invariant.queue)

@@ -1,7 +1,8 @@
-use Rattle.std.proofs.Common.{◌≤◌, ◌<◌, false}
+use Rattle.std.proofs.Common.{◌≡◌, ◌≤◌, ◌<◌, false}
 use Rattle.vscsi_client.specs.declared.TheConstants.{MIN_PAGES}
 use Rattle.vcpu_run.specs.Works.{Works}
 use Rattle.vcpu_run.proofs.Credits.{TakesOn}
+use Rattle.vcpu_run.proofs.TakesTold.{TakesSo}
 use Rattle.vcpu_run.proofs.driver.Driver.take.Given as goal
 
 abbrev pub invariant-loop-entry : goal.invariant-loop-entry
@@ -9,5 +10,7 @@ invariant-loop-entry g l = record {
   works : Works false g.C.CrqEnd.is_shared g.O.WindowPort.is_shared (g.C.CrqEnd.state l.initial.crq.end) (g.C.CrqEnd.state l.crq.end) (g.O.WindowPort.state l.initial.own) (g.O.WindowPort.state l.own) l.initial.self l.self;
   pages : MIN_PAGES ≤ (g.O.WindowPort.state l.own).place.size;
   takes : TakesOn l.initial.taken l.taken l.initial.self.client l.self.client;
+  so : TakesSo l.initial.taken l.taken l.initial.self.client l.self.client;
+  queue : (g.C.CrqEnd.state l.crq.end).registered ≡ (g.C.CrqEnd.state l.initial.crq.end).registered;
   less : l.taken < l.count;
 }

@@ -1,5 +1,7 @@
 use Rattle.std.proofs.Common.{refl}
 use Rattle.vscsi_client.specs.Ports.{ports}
+use Rattle.vcpu_run.specs.Telling.{seated}
+use Rattle.vcpu_run.proofs.Askings.{task_told}
 use Rattle.vcpu_run.proofs.Credits.{task_agreed}
 use Rattle.vcpu_run.proofs.Working.{task_works}
 use Rattle.vcpu_run.proofs.driver.Driver.task.Goals as goal
@@ -14,4 +16,15 @@ returns-clause-credit g c = λ verb uses.
     task_agreed verb c.args.line c.args.function c.args.tag c.args.self.now.client c.task.new.self
     (ports g.C.CrqEnd.is_shared (g.C.CrqEnd.state c.args.crq.now.end) g.O.WindowPort.is_shared (g.O.WindowPort.state c.args.own.now))
     (ports g.C.CrqEnd.is_shared (g.C.CrqEnd.state c.task.new.crq.end) g.O.WindowPort.is_shared (g.O.WindowPort.state c.task.new.own))
-    c.task.result c.sent.result uses c.sent.ensures c.task.ensures.sent c.task.ensures.same
+    c.task.result c.sent.result uses c.sent.ensures.sent c.task.ensures.sent c.task.ensures.same
+
+pub returns-clause-told : goal.returns-clause-told
+returns-clause-told g c = λ verb p is none.
+    task_told (g.O.WindowPort.state c.args.own.now).place.size verb c.args.line c.args.function c.args.tag
+    (seated c.args.self.now.client p (g.C.CrqEnd.state c.args.crq.now.end).registered)
+    (seated c.task.new.self p (g.C.CrqEnd.state c.task.new.crq.end).registered)
+    (ports g.C.CrqEnd.is_shared (g.C.CrqEnd.state c.args.crq.now.end) g.O.WindowPort.is_shared (g.O.WindowPort.state c.args.own.now))
+    (ports g.C.CrqEnd.is_shared (g.C.CrqEnd.state c.task.new.crq.end) g.O.WindowPort.is_shared (g.O.WindowPort.state c.task.new.own))
+    c.task.result c.sent.result
+    (record { asks_one = is; progress = refl; queue = c.task.ensures.crq_rest.registered }) none
+    c.sent.ensures.sent c.sent.ensures.why c.task.ensures.refused c.task.ensures.sent c.task.ensures.why c.task.ensures.same

@@ -8,6 +8,7 @@ use Rattle.vcpu_run.specs.Credited.{StepsAgreed, grants, is_take, taken_in}
 use Rattle.vcpu_run.specs.Suited.{IsLineAt}
 use Rattle.vcpu_run.proofs.Crediting.{less_by, line_ends, lines_none}
 use Rattle.vcpu_run.proofs.Credits.{plain_fresh, takes_same, took_agreed}
+use Rattle.vcpu_run.proofs.ScriptsTold.{EndsWaiting, of_login, of_reset, of_take, waiting_told}
 use Rattle.vcpu_run.proofs.Logging.{all_at}
 use Rattle.vcpu_run.proofs.script.Script.end_waiting.Goals.{in-Login, in-Reset, in-Take}
 use Rattle.vcpu_run.proofs.PortTelling.{quiet_tells, taken_within, took_tells}
@@ -65,3 +66,22 @@ returns-clause-told c = λ pairs lan script tells.
       | in-Take w ↦ took_tells lan c.args.self.now c.end.new.self c.in-Some.line.now _ _ (taken_in c.args.self.now.progress) found reached rest.partition rest.lines rest.seats
           c.in_ok-end.ensures.ended.logs fresh (w.outcome-is ∙ ap (λ n. outcomes.Took n) w.taken.ensures) w.in-Take.is (taken_within c.args.self.now.progress) tells
     ]
+
+pub returns-clause-said : goal.returns-clause-said
+returns-clause-said c = λ pairs script out is.
+    let found : slice_get c.args.self.now.lines.now c.args.self.now.at ≡ Some c.in-Some.line.now =
+    slice_get_read c.args.self.now.lines.now (length c.args.self.now.lines.now) c.args.self.now.at c.in-Some.line.now refl
+    (less_by c.args.self.now.at (length c.args.self.now.lines.now) (sym c.in-Some.ensures.lookup.0)) c.in-Some.ensures.lookup.1 in
+    let line : IsLineAt c.args.self.now.seats.items c.in-Some.line.now =
+    all_at (IsLineAt c.args.self.now.seats.items) c.args.self.now.lines.now c.args.self.now.at c.in-Some.line.now found script.lines in
+    let ends : EndsWaiting c.args.self.now.progress c.in-Some.line.now.verb c.match-line.outcome =
+    elim c.match-line.branch [
+      | in-Login w ↦ of_login w.in-Login.is w.outcome-is
+      | in-Reset w ↦ of_reset w.in-Reset.is w.outcome-is
+      | in-Take w ↦ of_take w.in-Take.count w.in-Take.is (w.outcome-is ∙ ap (λ n. outcomes.Took n) w.taken.ensures)
+    ] in
+    waiting_told pairs c.args.self.now c.end.new.self c.in-Some.line.now
+    (record { partition = c.args.self.now.partition; line = c.in-Some.line.now.number; outcome = c.match-line.outcome })
+    found line.suited script.seats
+    (script.logs.reached (slice_get_within c.args.self.now.lines.now c.args.self.now.at c.in-Some.line.now found)) ends
+    c.end.ensures.rest.lines c.end.ensures.rest.seats c.in_ok-end.ensures.ended.logs c.in_ok-end.ensures.fresh out is

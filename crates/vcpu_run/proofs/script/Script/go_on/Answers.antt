@@ -5,6 +5,8 @@ use Rattle.vcpu_run.specs.declared.unit_seat.Seat.{Seat}
 use Rattle.vcpu_run.specs.Agreed.{SameElse}
 use Rattle.vcpu_run.proofs.Crediting.{credited_rest, on_ok, over_by}
 use Rattle.vcpu_run.proofs.Driving.{clients_of}
+use Rattle.std.proofs.lemmas.Option.{slice_get_past}
+use Rattle.vcpu_run.proofs.ScriptsTold.{none_out, over_told}
 use Rattle.vcpu_run.proofs.Logging.{script_stays}
 use Rattle.vcpu_run.specs.Freeing.{IsSparedBy}
 use Rattle.vcpu_run.proofs.Unfreed.{frees_always}
@@ -47,3 +49,16 @@ returns-in-None-clause-stays c = frees_always (IsSparedBy c.args.self.now) c.arg
 pub returns-in-None-clause-told : goal.returns-in-None-clause-told
 returns-in-None-clause-told c =
     ok_then c.take_rest.result _ _ (λ takes tells. rest_tells c.args.lan.now c.take_rest.new.lan c.args.self.now takes tells) c.take_rest.ensures.takes
+
+pub returns-in-None-clause-said : goal.returns-in-None-clause-said
+returns-in-None-clause-said c =
+    let over : length c.args.self.now.lines.now ≤ c.args.self.now.at = over_by c.args.self.now.at (length c.args.self.now.lines.now) (sym c.get.ensures.lookup.0 ∙ ap is_some c.in-None.is) in
+    on_ok c.take_rest.result _ (λ no is.
+    over_told c.args.pairs.now c.take_rest.new.pairs c.args.self.now (slice_get_past c.args.self.now.lines.now c.args.self.now.at over) c.requires.script.seats c.take_rest.ensures.driven is)
+
+pub returns-in-None-clause-out : goal.returns-in-None-clause-out
+returns-in-None-clause-out c =
+    let over : length c.args.self.now.lines.now ≤ c.args.self.now.at = over_by c.args.self.now.at (length c.args.self.now.lines.now) (sym c.get.ensures.lookup.0 ∙ ap is_some c.in-None.is) in
+    ok_more c.take_rest.result _ _
+    (λ moved rests is no told. none_out c.take_rest.new.pairs c.args.self.now (slice_get_past c.args.self.now.lines.now c.args.self.now.at over))
+    c.take_rest.ensures.quiet

@@ -2,6 +2,7 @@ use Rattle.std.proofs.Common.{List, sym, subst, arith, refl}
 use Rattle.vio_trace.specs.declared.rows.LogRow.{LogRow}
 use Rattle.vcpu_run.specs.Scripts.{AreLogged}
 use Rattle.vcpu_run.proofs.Crediting.{credited_new}
+use Rattle.vcpu_run.proofs.ScriptsTold.{new_told}
 use Rattle.vcpu_run.proofs.Logging.{logged_none}
 use Rattle.vcpu_run.specs.declared.script.Progress.TheVariants as progress
 use Rattle.vcpu_run.proofs.PortTelling.{fresh_tells}
@@ -30,3 +31,6 @@ returns-clause-told c = λ lan fresh. fresh_tells lan
       seats = c.args.seats;
       logs = c.new.result;
     }) c.new.ensures.items refl fresh
+
+pub returns-clause-said : goal.returns-clause-said
+returns-clause-said c = λ pairs out. new_told pairs _ c.new.ensures.items refl out

@@ -1,14 +1,19 @@
-use Rattle.vcpu_run.proofs.Resting.{not_quiet}
+use Rattle.vcpu_run.proofs.Resting.{not_quiet, ok_more}
 use Rattle.vcpu_run.specs.declared.unit_seat.Seat.{Seat}
 use Rattle.vcpu_run.specs.Freed.{FreesNoneIf}
 use Rattle.vcpu_run.specs.Freeing.{IsSpared}
 use Rattle.vcpu_run.proofs.Unfreed.{frees_by}
-use Rattle.std.proofs.Common.{rules, ap, ◌≡◌, ◌∙◌, List, Ok, length, refl, slice_get, subst, arith}
+use Rattle.std.proofs.Common.{rules, ap, false, ◌≡◌, ◌∙◌, List, Ok, length, refl, slice_get, subst, arith}
 use Rattle.std.proofs.lemmas.Option.{slice_get_within}
 use Rattle.unit_region.specs.declared.step.Step.{Step}
+use Rattle.unit_region.specs.declared.step.Step.TheVariants as steps
 use Rattle.vcpu_run.specs.Agreed.{StepsLine}
 use Rattle.vcpu_run.specs.Credited.{taken_in}
 use Rattle.vcpu_run.specs.Suited.{IsLineAt}
+use Rattle.boot_text.specs.declared.plan.Line.{Line}
+use Rattle.vcpu_run.specs.Suited.{is_call}
+use Rattle.vcpu_run.specs.Telling.{LineOut, LineTold}
+use Rattle.vcpu_run.proofs.ScriptsTold.{line_ends_told, line_waits_told, waits_out}
 use Rattle.vcpu_run.proofs.Crediting.{line_ends, line_waits}
 use Rattle.vcpu_run.proofs.Driving.{clients_of}
 use Rattle.vcpu_run.proofs.Elsewhere.{else_line}
@@ -48,6 +53,8 @@ returns-in_err-step c =
       credited = search rules;
       told = search rules;
       apart = search rules;
+      said = search rules;
+      out = search rules;
       quiet = search rules;
     }
 
@@ -67,6 +74,8 @@ returns-in_err-end-in-Ends c =
       credited = search rules;
       told = search rules;
       apart = search rules;
+      said = search rules;
+      out = search rules;
       quiet = search rules;
     }
 
@@ -100,6 +109,15 @@ returns-in_ok-end-in-Ends c =
           subst (λ (st : Step). TellsStep c.args.self.now.partition c.args.self.now.seats.items c.args.line.now (done_in c.args.self.now.progress) (done_in c.step_unit.new.progress) c.args.lan.now c.step_unit.new.lan st) c.in-Ends.is
           (rw (← c.deref.ensures.value) (c.in_ok-step.ensures.told no))) tells;
       apart = c.in_ok-step.ensures.apart;
+      said = λ no is. let one = one_unit c.args.line.now.verb c.in_default.not-Fail in
+          line_ends_told c.args.pairs.now c.step_unit.new.pairs c.args.self.now c.end.new.self c.args.line.now
+          (record { partition = c.args.self.now.partition; line = c.args.line.now.number; outcome = c.in-Ends.outcome }) c.step_unit.new.progress
+          c.requires.line one line.suited c.requires.script.seats c.step_unit.ensures.driven
+          (c.requires.script.logs.reached (slice_get_within c.args.self.now.lines.now c.args.self.now.at c.args.line.now c.requires.line))
+          (subst (λ (st : Step). LineTold c.args.self.now.seats.items c.args.line.now c.args.self.now.progress c.step_unit.new.progress c.args.pairs.now c.step_unit.new.pairs (Ok st)) c.in-Ends.is
+          (rw (← c.deref.ensures.value) (c.in_ok-step.ensures.said (all_at (λ (l : Line). is_call l.verb ≡ false) c.args.self.now.lines.now c.args.self.now.at c.args.line.now c.requires.line no))))
+          c.end.ensures.rest.lines c.end.ensures.rest.seats c.in_ok-end-in-Ends.ensures.ended.logs c.in_ok-end-in-Ends.ensures.fresh is;
+      out = λ is. absurd (not_quiet is);
       quiet = λ is. absurd (not_quiet is);
     }
 
@@ -127,5 +145,18 @@ returns-in-Waits c =
           subst (λ (st : Step). TellsStep c.args.self.now.partition c.args.self.now.seats.items c.args.line.now (done_in c.args.self.now.progress) (done_in c.step_unit.new.progress) c.args.lan.now c.step_unit.new.lan st) c.in-Waits.is
           (rw (← c.deref.ensures.value) (c.in_ok-step.ensures.told no))) tells;
       apart = c.in_ok-step.ensures.apart;
+      said = λ no is. let one = one_unit c.args.line.now.verb c.in_default.not-Fail in
+          line_waits_told c.args.pairs.now c.step_unit.new.pairs c.args.self.now c.step_unit.new.progress c.args.line.now c.in-Waits.moved
+          c.requires.line one line.suited c.requires.script.seats c.step_unit.ensures.driven
+          (subst (λ (st : Step). LineTold c.args.self.now.seats.items c.args.line.now c.args.self.now.progress c.step_unit.new.progress c.args.pairs.now c.step_unit.new.pairs (Ok st)) c.in-Waits.is
+          (rw (← c.deref.ensures.value) (c.in_ok-step.ensures.said (all_at (λ (l : Line). is_call l.verb ≡ false) c.args.self.now.lines.now c.args.self.now.at c.args.line.now c.requires.line no)))) is;
+      out = λ is no told. let one = one_unit c.args.line.now.verb c.in_default.not-Fail in
+          waits_out c.args.pairs.now c.step_unit.new.pairs c.args.self.now c.step_unit.new.progress c.args.line.now c.requires.line one c.requires.script.seats c.step_unit.ensures.driven
+          (subst (λ (st : Step). LineOut c.args.self.now.seats.items c.args.line.now c.args.self.now.progress c.step_unit.new.progress c.args.pairs.now c.step_unit.new.pairs (Ok st))
+          (c.in-Waits.is ∙ ap (λ m. steps.Waits m) is)
+          (rw (← c.deref.ensures.value) (c.in_ok-step.ensures.out (all_at (λ (l : Line). is_call l.verb ≡ false) c.args.self.now.lines.now c.args.self.now.at c.args.line.now c.requires.line no)))) told;
       quiet = λ is over. let less = slice_get_within c.args.self.now.lines.now c.args.self.now.at c.args.line.now c.requires.line in omega (arith, less, over);
     }
+
+pub returns-in-Fail-clause-out : goal.returns-in-Fail-clause-out
+returns-in-Fail-clause-out c = ok_more c.step_fail.result _ _ (λ moved out is no told. out is) c.step_fail.ensures.out

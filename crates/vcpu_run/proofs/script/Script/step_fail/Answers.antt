@@ -4,6 +4,7 @@ use Rattle.std.proofs.lemmas.Option.{slice_get_within}
 use Rattle.vcpu_run.proofs.Crediting.{credited_all, credited_fails}
 use Rattle.vcpu_run.proofs.Driving.{clients_of}
 use Rattle.vcpu_run.proofs.Elsewhere.{else_all}
+use Rattle.vcpu_run.proofs.ScriptsTold.{fail_ends_told, fail_out, fail_waits_told, fails_reset}
 use Rattle.vcpu_run.proofs.Logging.{script_stays}
 use Rattle.vcpu_run.specs.declared.unit_seat.Seat.{Seat}
 use Rattle.vcpu_run.specs.Freed.{FreesNoneIf}
@@ -109,3 +110,23 @@ returns-then-branch-clause-apart c = λ unit _. c.fail.ensures.idle unit
 
 pub returns-clause-apart : goal.returns-clause-apart
 returns-clause-apart c = λ unit _. c.fail.ensures.idle unit
+
+pub returns-then-branch-clause-said : goal.returns-then-branch-clause-said
+returns-then-branch-clause-said c = λ is.
+    let over : c.end.new.self.at ≡ length c.end.new.self.lines.now =
+    c.in_ok-end.ensures.at ∙ (ap (λ b. cond b (length c.args.self.now.lines.now) (c.args.self.now.at + 1)) c.requires.fails
+    ∙ sym (ap (λ lines. length lines.now) c.end.ensures.rest.lines)) in
+    fail_ends_told c.args.pairs.now c.fail.new.pairs c.args.self.now c.end.new.self c.args.line.now _ c.requires.line c.requires.fails
+    c.requires.script.seats c.fail.ensures.driven
+    (c.requires.script.logs.reached (slice_get_within c.args.self.now.lines.now c.args.self.now.at c.args.line.now c.requires.line))
+    refl c.end.ensures.rest.lines c.end.ensures.rest.seats c.in_ok-end.ensures.ended.logs over is
+
+pub returns-clause-said : goal.returns-clause-said
+returns-clause-said c = λ is.
+    fail_waits_told c.args.pairs.now c.fail.new.pairs c.args.self.now c.args.line.now c.requires.line c.requires.fails c.requires.script.seats c.fail.ensures.driven is
+
+pub returns-then-branch-clause-out : goal.returns-then-branch-clause-out
+returns-then-branch-clause-out c = λ is. absurd (not_quiet is)
+
+pub returns-clause-out : goal.returns-clause-out
+returns-clause-out c = λ is. fail_out c.fail.new.pairs c.args.self.now c.args.line.now c.requires.line (fails_reset c.args.line.now.verb c.requires.fails)

@@ -2,6 +2,7 @@ use Rattle.std.proofs.Common.{◌∙◌}
 use Rattle.vcpu_run.proofs.Crediting.{credited_same}
 use Rattle.vcpu_run.proofs.Driving.{clients_of, driven_on, still_drivers}
 use Rattle.vcpu_run.proofs.Elsewhere.{else_drivers, else_on}
+use Rattle.vcpu_run.proofs.ScriptsTold.{clients_told}
 use Rattle.vcpu_run.proofs.Logging.{script_stays}
 use Rattle.vcpu_run.specs.Freeing.{IsSparedBy}
 use Rattle.vcpu_run.specs.Links.{EventsWait}
@@ -68,3 +69,11 @@ returns-clause-quiet c = λ is over.
 pub returns-clause-credited : goal.returns-clause-credited
 returns-clause-credited c = λ is.
     c.in_ok-moved.ensures.credited (credited_same c.args.pairs.now c.push_events.new.pairs c.args.self.now c.push_events.ensures.drivers is)
+
+pub returns-clause-said : goal.returns-clause-said
+returns-clause-said c = λ no is.
+    c.in_ok-moved.ensures.said no (clients_told c.args.pairs.now c.push_events.new.pairs c.args.self.now c.push_events.ensures.clients is)
+
+pub returns-clause-out : goal.returns-clause-out
+returns-clause-out c = λ is no told.
+    c.in_ok-moved.ensures.out (c.either.ensures.other is) no (clients_told c.args.pairs.now c.push_events.new.pairs c.args.self.now c.push_events.ensures.clients told)

@@ -1,11 +1,11 @@
-use Rattle.std.proofs.Common.{[], ◌∷◌, refl, ap, arith}
+use Rattle.std.proofs.Common.{◌∙◌, [], ◌∷◌, refl, ap, arith}
 use Rattle.crq_session.specs.EndState.{EndPlace}
 use Rattle.vscsi_client.specs.Ports.{ports}
 use Rattle.vscsi_client.specs.Turned.{site, RanOut, Registered}
 use Rattle.vscsi_client.proofs.Same.{lays_none}
 use Rattle.vscsi_client.proofs.Frames.{opened_by, opened_none, turns_after, turns_opened}
 use Rattle.vscsi_client.proofs.Runs.{hands}
-use Rattle.vscsi_client.proofs.Parts.{turned_after, not_busy, none_busy, now_registered}
+use Rattle.vscsi_client.proofs.Parts.{turned_after, not_busy, none_busy, now_registered, if_open}
 use Rattle.vscsi_client.proofs.client.Client.login_turn.Goals as goal
 
 pub returns-in-Err-clause-turned : goal.returns-in-Err-clause-turned
@@ -62,5 +62,7 @@ returns-in_default g c =
           (a, refl, (c.in-Ok.ensures.registers, refl), hands _ _ _ _ _ _ _ _) none
           (ap (λ (p : EndPlace). p.own_slots) c.register.ensures.rest.place) c.turn_registered.ensures.turned;
       crq_rest = turns_after _ _ _ _ (opened_by _ _ _ _ _ c.in-Ok.answer c.in-Ok.ensures.registers c.register.ensures.rest) c.turn_registered.ensures.crq_rest;
+      registered = if_open c.turn_registered.result (g.C.CrqEnd.state c.turn_registered.new.crq).registered
+          (c.turn_registered.ensures.crq_rest.registered ∙ now_registered _ _ _ _ _ c.in-Ok.answer c.in_default.not-Busy c.in-Ok.ensures.registers);
       own_rest = c.turn_registered.ensures.own_rest;
     }

@@ -1,0 +1,607 @@
+-- The refusals of a script's clients, as its lines go on and end.
+use Rattle.std.proofs.Common.{◌≡◌, ◌≢◌, ◌∙◌, ◌⊎◌, inl, inr, ℕ, ◌<◌, ◌==◌, cond, Bool, true, false, List, [], ◌∷◌, ◌++◌, Option, Some, None, Result, Ok, IfSome, IsSomeAnd, length, slice_get, refl, sym, ap, subst, append-nil, arith, eq-eqb, eqb-true}
+use Rattle.std.specs.List.{AllPairs}
+use Rattle.std.proofs.lemmas.List.Elements.{All-nil}
+use Rattle.std.proofs.lemmas.Option.{slice_get_past}
+use Rattle.vio_num.specs.declared.hypervisor.Moved.{Moved}
+use Rattle.vio_num.specs.declared.hypervisor.Moved.TheVariants.{Quiet}
+use Rattle.boot_text.specs.declared.plan.Line.{Line}
+use Rattle.boot_text.specs.declared.verb.Verb.{Verb}
+use Rattle.boot_text.specs.declared.verb.Verb.TheVariants as verbs
+use Rattle.vio_trace.specs.declared.outcome.Outcome.{Outcome}
+use Rattle.vio_trace.specs.declared.outcome.Outcome.TheVariants as outcomes
+use Rattle.vscsi_client.specs.State.{next_tag}
+use Rattle.crq_session.specs.PlainState.{side_of}
+use Rattle.vio_trace.specs.declared.rows.LogRow.{LogRow}
+use Rattle.unit_region.specs.declared.step.Step.{Step}
+use Rattle.unit_region.specs.declared.step.Step.TheVariants as steps
+use Rattle.vcpu_run.specs.declared.driver.Driver.{Driver}
+use Rattle.vcpu_run.specs.declared.pair.Pair.{Pair}
+use Rattle.vcpu_run.specs.declared.script.Progress.{Progress}
+use Rattle.vcpu_run.specs.declared.script.Progress.TheVariants as progress
+use Rattle.vcpu_run.specs.declared.script.Script.{Script}
+use Rattle.vcpu_run.specs.declared.unit_seat.Seat.{Seat}
+use Rattle.vcpu_run.specs.declared.unit_seat.Seat.TheVariants as places
+use Rattle.vcpu_run.specs.Agreed.{AreLoggedOut, IsLoggedOut, OnDrivers, driver_in}
+use Rattle.vcpu_run.specs.Freeing.{is_reset}
+use Rattle.vcpu_run.specs.Credited.{Ended, ended_by, taken_in}
+use Rattle.vcpu_run.specs.Pairs.{AreDriven, Drives}
+use Rattle.vcpu_run.specs.Refusals.{HasCausesTold, tag_of, tags_told}
+use Rattle.vcpu_run.specs.Replay.{asks}
+use Rattle.vcpu_run.specs.Scripts.{AreSeats}
+use Rattle.vcpu_run.specs.ScriptTold.{AtSeats, IsResetOut, IsScriptTold, SameClient, SameClients, PairIsTold, own_of, progress_at, progress_by}
+use Rattle.vcpu_run.specs.Suited.{suits}
+use Rattle.vcpu_run.specs.Telling.{IsOf, IsTold, LineOut, LineTold, PairTold, SeatTold, Seated, StepsOut, StepsTold, login_after, seated}
+use Rattle.vcpu_run.specs.Works.{fails}
+use Rattle.vcpu_run.proofs.Crediting.{ended_more, here_or, one_seat}
+use Rattle.vcpu_run.proofs.Askings.{plain_ends}
+use Rattle.vcpu_run.proofs.Driving.{client_is, driven_same, no_port, some_is}
+use Rattle.vcpu_run.proofs.LoginsTold.{true_false}
+use Rattle.vcpu_run.proofs.Sayings.{is_logout, says_nothing}
+use Rattle.vcpu_run.proofs.Sole.{pairs_from_ordered}
+use Rattle.vcpu_run.proofs.TakesTold.{takes_none, took_told}
+use Rattle.vcpu_run.proofs.Tellings.{ended, ends_told, said_more, same_told, tags_more}
+
+-- a pair with a driver, behind the turn of its client's partition
+pub record Before (old : List Pair) (k : ℕ) (after : Pair) : Type 0 where
+  pub pair : Pair
+  pub there : slice_get old k ≡ Some pair
+  pub pages : length after.window.pages ≡ length pair.window.pages
+  pub has : IsSomeAnd pair.driver (λ d. Unit {0})
+
+before_of : (partition unit k : ℕ) (seats : List Seat) (old new : List Pair) (after : Pair) → AreSeats partition seats old → AreDriven old new
+    → slice_get seats unit ≡ Some (places.Client k) → slice_get new k ≡ Some after → Before old k after
+before_of partition unit k seats old new after are driven sits there = at (slice_get old k) refl (are unit k sits)
+  where
+    some : (o : Option Driver) → IsSomeAnd o (λ d. d.unit ≡ record { partition = partition; unit = unit }) → IsSomeAnd o (λ d. Unit {0})
+    some None h = absurd h
+    some (Some d) h = tt
+
+    drives : (o : Option Pair) (pair : Pair) → o ≡ Some after → IsSomeAnd o (Drives pair) → length after.window.pages ≡ length pair.window.pages
+    drives None pair is h = absurd h
+    drives (Some x) pair is h = subst (λ (y : Pair). length y.window.pages ≡ length pair.window.pages) (some_is x after is) h.pages
+
+    at : (o : Option Pair) → slice_get old k ≡ o → IsSomeAnd o (λ pair. IsSomeAnd pair.driver (λ d. d.unit ≡ record { partition = partition; unit = unit })) → Before old k after
+    at None e h = absurd h
+    at (Some pair) e h = record { pair = pair; there = e; pages = drives (slice_get new k) pair there (driven.each k pair e); has = some pair.driver h }
+
+-- two units have two pairs
+apart_seats : (partition unit other k seat : ℕ) (seats : List Seat) (pairs : List Pair) → AreSeats partition seats pairs → slice_get seats other ≡ Some (places.Client seat)
+    → slice_get seats unit ≡ Some (places.Client k) → (other == unit) ≡ false → k ≢ seat
+apart_seats partition unit other k seat seats pairs are sits at differ is =
+    both (other == unit) differ (ap (λ n. n == unit) (one_seat partition other unit k seats pairs are (sits ∙ ap (λ n. Some (places.Client n)) (sym is)) at) ∙ itself unit)
+  where
+    itself : (n : ℕ) → (n == n) ≡ true
+    itself n = eq-eqb n n refl
+
+    both : (t : Bool) → t ≡ false → t ≡ true → ⊥
+    both t x y = cc
+
+-- a pair that is as it was
+same_pair : (old new : List Pair) (k : ℕ) (after pair : Pair) → slice_get new k ≡ slice_get old k → slice_get new k ≡ Some after → slice_get old k ≡ Some pair → after ≡ pair
+same_pair old new k after pair same there here = some_is after pair (sym there ∙ (same ∙ here))
+
+-- a step of the pair's own line that waits
+waits_pair : (verb : Verb) (p p' : Progress) (own : List Ended) (before after : Pair) (did : Moved) → IsSomeAnd before.driver (λ d. Unit {0}) → length after.window.pages ≡ length before.window.pages
+    → IsOf verb p → PairTold verb p p' before after (Ok (steps.Waits did)) → PairIsTold own p before → IsOf verb p' × PairIsTold own p' after
+waits_pair verb p p' own before after did has pages of step told = at before.driver after.driver has step told
+  where
+    r : Bool
+    r = (side_of before.link false).registered
+
+    r' : Bool
+    r' = (side_of after.link false).registered
+
+    at : (o o' : Option Driver) → IsSomeAnd o (λ d. Unit {0})
+        → OnDrivers o o' (λ a b. StepsTold (length before.window.pages) verb (seated a.client p r) (seated b.client p' r') (Ok (steps.Waits did)))
+        → IfSome o (λ d. IsTold (length before.window.pages) own p r d.client)
+        → IsOf verb p' × IfSome o' (λ d. IsTold (length after.window.pages) own p' r' d.client)
+    at None o' has step told = absurd has
+    at (Some a) None has step told = absurd step
+    at (Some a) (Some b) has step told =
+        let kept = step of in (kept.0, subst (λ n. IsTold n own p' r' b.client) (sym pages) (kept.1 own told))
+
+-- and one that ends
+ends_pair : (verb : Verb) (p p' : Progress) (own : List Ended) (e : Ended) (before after : Pair) → e.verb ≡ verb → IsSomeAnd before.driver (λ d. Unit {0})
+    → length after.window.pages ≡ length before.window.pages → IsOf verb p → PairTold verb p p' before after (Ok (steps.Ends e.outcome)) → PairIsTold own p before
+    → HasCausesTold (length after.window.pages) (own ++ e ∷ []) × PairIsTold (own ++ e ∷ []) progress.Fresh after
+ends_pair verb p p' own e before after is has pages of step told = at before.driver after.driver has step told
+  where
+    r : Bool
+    r = (side_of before.link false).registered
+
+    r' : Bool
+    r' = (side_of after.link false).registered
+
+    same : Ended
+    same = record { verb = verb; outcome = e.outcome }
+
+    e_is : same ≡ e
+    e_is = ap (λ (v : Verb). record { verb = v; outcome = e.outcome }) (sym is)
+
+    at : (o o' : Option Driver) → IsSomeAnd o (λ d. Unit {0})
+        → OnDrivers o o' (λ a b. StepsTold (length before.window.pages) verb (seated a.client p r) (seated b.client p' r') (Ok (steps.Ends e.outcome)))
+        → IfSome o (λ d. IsTold (length before.window.pages) own p r d.client)
+        → HasCausesTold (length after.window.pages) (own ++ e ∷ []) × IfSome o' (λ d. IsTold (length after.window.pages) (own ++ e ∷ []) progress.Fresh r' d.client)
+    at None o' has step told = absurd has
+    at (Some a) None has step told = absurd step
+    at (Some a) (Some b) has step told =
+        let kept : IsTold (length after.window.pages) (own ++ e ∷ []) progress.Fresh r' b.client =
+        subst (λ n. IsTold n (own ++ e ∷ []) progress.Fresh r' b.client) (sym pages)
+        (subst (λ (x : Ended). IsTold (length before.window.pages) (own ++ x ∷ []) progress.Fresh r' b.client) e_is (step of own told)) in
+        (kept.law, kept)
+
+-- what a line's progress is to a unit
+here_by : (unit : ℕ) (p : Progress) (line : Line) (o : Option Line) → o ≡ Some line → (line.unit == unit) ≡ true → progress_at unit p o ≡ p
+here_by unit p line o found is = ap (progress_at unit p) found ∙ ap (λ b. cond b p progress.Fresh) is
+
+else_by : (unit : ℕ) (p : Progress) (line : Line) (o : Option Line) → o ≡ Some line → (line.unit == unit) ≡ false → progress_at unit p o ≡ progress.Fresh
+else_by unit p line o found is = ap (progress_at unit p) found ∙ ap (λ b. cond b p progress.Fresh) is
+
+fresh_at : (unit : ℕ) (o : Option Line) → progress_at unit progress.Fresh o ≡ progress.Fresh
+fresh_at unit None = refl
+fresh_at unit (Some line) = at (line.unit == unit)
+  where
+    at : (b : Bool) → cond b progress.Fresh progress.Fresh ≡ progress.Fresh
+    at true = refl
+    at false = refl
+
+current_of : (script : Script) (line : Line) → slice_get script.lines.now script.at ≡ Some line
+    → IfSome (slice_get script.lines.now script.at) (λ l. (k : ℕ) → slice_get script.seats.items l.unit ≡ Some (places.Client k) → IsOf l.verb script.progress)
+    → (k : ℕ) → slice_get script.seats.items line.unit ≡ Some (places.Client k) → IsOf line.verb script.progress
+current_of script line found fresh =
+    subst (λ (o : Option Line). IfSome o (λ l. (k : ℕ) → slice_get script.seats.items l.unit ≡ Some (places.Client k) → IsOf l.verb script.progress)) found fresh
+
+-- the current line is to be gone on with, at the pair where its client sits
+pub client_waits : (old new : List Pair) (script : Script) (p' : Progress) (line : Line) (seat : ℕ) (here : Pair) (did : Moved)
+    → slice_get script.lines.now script.at ≡ Some line → fails line.verb ≡ false → slice_get script.seats.items line.unit ≡ Some (places.Client seat) → slice_get new seat ≡ Some here
+    → AreSeats script.partition script.seats.items old → AreDriven old new → SeatTold seat line.verb script.progress p' old new (Ok (steps.Waits did))
+    → IsScriptTold old script → IsScriptTold new (record script { progress = p' })
+client_waits old new script p' line seat here did found one sits there are driven step is = record {
+  law = λ unit k after at now. let b = before_of script.partition unit k script.seats.items old new after are driven at now in
+      subst (λ n. HasCausesTold n (own_of unit script)) (sym b.pages) (is.law unit k b.pair at b.there);
+  fresh = subst (λ (o : Option Line). IfSome o (λ l. (k : ℕ) → slice_get script.seats.items l.unit ≡ Some (places.Client k) → IsOf l.verb p')) (sym found) (λ k at. (own line.unit here sits there (eq-eqb line.unit line.unit refl)).0);
+  told = λ l next ok unit k after at now. by unit k after at now (here_or line.unit unit);
+}
+  where
+    of : IsOf line.verb script.progress
+    of = current_of script line found is.fresh seat sits
+
+    own : (unit : ℕ) (after : Pair) → slice_get script.seats.items unit ≡ Some (places.Client seat) → slice_get new seat ≡ Some after → (line.unit == unit) ≡ true
+        → IsOf line.verb p' × PairIsTold (own_of unit script) p' after
+    own unit after at now same =
+        let b = before_of script.partition unit seat script.seats.items old new after are driven at now in
+        waits_pair line.verb script.progress p' (own_of unit script) b.pair after did b.has b.pages of (step.here b.pair after b.there now)
+        (subst (λ (q : Progress). PairIsTold (own_of unit script) q b.pair) (here_by unit script.progress line (slice_get script.lines.now script.at) found same) (is.told line found one unit seat b.pair at b.there))
+
+    by : (unit k : ℕ) (after : Pair) → slice_get script.seats.items unit ≡ Some (places.Client k) → slice_get new k ≡ Some after → ((line.unit == unit) ≡ true) ⊎ ((line.unit == unit) ≡ false)
+        → PairIsTold (own_of unit script) (progress_at unit p' (slice_get script.lines.now script.at)) after
+    by unit k after at now (inl e) =
+        let same_seat : seat ≡ k = client_is seat k (sym sits ∙ (ap (λ n. slice_get script.seats.items n) (eqb-true line.unit unit e) ∙ at)) in
+        subst (λ (q : Progress). PairIsTold (own_of unit script) q after) (sym (here_by unit p' line (slice_get script.lines.now script.at) found e))
+        (own unit after (at ∙ ap (λ n. Some (places.Client n)) (sym same_seat)) (ap (slice_get new) same_seat ∙ now) e).1
+    by unit k after at now (inr e) =
+        let b = before_of script.partition unit k script.seats.items old new after are driven at now in
+        let apart = apart_seats script.partition unit line.unit k seat script.seats.items old are sits at e in
+        subst (λ (q : Progress). PairIsTold (own_of unit script) q after) (sym (else_by unit p' line (slice_get script.lines.now script.at) found e))
+        (subst (PairIsTold (own_of unit script) progress.Fresh) (sym (same_pair old new k after b.pair (step.beside k apart) now b.there))
+        (subst (λ (q : Progress). PairIsTold (own_of unit script) q b.pair) (else_by unit script.progress line (slice_get script.lines.now script.at) found e) (is.told line found one unit k b.pair at b.there)))
+
+-- the current line ended, at the pair where its client sits
+pub client_ends : (old new : List Pair) (script done : Script) (line : Line) (row : LogRow) (seat : ℕ) (p' : Progress)
+    → slice_get script.lines.now script.at ≡ Some line → fails line.verb ≡ false → slice_get script.seats.items line.unit ≡ Some (places.Client seat)
+    → AreSeats script.partition script.seats.items old → AreDriven old new → length script.logs.items ≡ script.at
+    → SeatTold seat line.verb script.progress p' old new (Ok (steps.Ends row.outcome))
+    → done.lines ≡ script.lines → done.seats ≡ script.seats → done.logs.items ≡ script.logs.items ++ row ∷ [] → done.progress ≡ progress.Fresh
+    → IsScriptTold old script → IsScriptTold new done
+client_ends old new script done line row seat p' found one sits are driven many step lines seats logs fresh is = record {
+  law = λ unit k after at now. (each unit k after (back unit k at) now (here_or line.unit unit)).0;
+  fresh = fresh_any (slice_get done.lines.now done.at);
+  told = λ l next ok unit k after at now. subst (λ (q : Progress). PairIsTold (own_of unit done) q after)
+      (sym (ap (λ (p : Progress). progress_at unit p (slice_get done.lines.now done.at)) fresh ∙ fresh_at unit (slice_get done.lines.now done.at)))
+      (each unit k after (back unit k at) now (here_or line.unit unit)).1;
+}
+  where
+    of : IsOf line.verb script.progress
+    of = current_of script line found is.fresh seat sits
+
+    e : Ended
+    e = record { verb = line.verb; outcome = row.outcome }
+
+    back : (unit k : ℕ) → slice_get done.seats.items unit ≡ Some (places.Client k) → slice_get script.seats.items unit ≡ Some (places.Client k)
+    back unit k at = subst (λ ss. slice_get ss.items unit ≡ Some (places.Client k)) seats at
+
+    records : (unit : ℕ) → own_of unit done ≡ cond (line.unit == unit) (own_of unit script ++ e ∷ []) (own_of unit script)
+    records unit = ap (λ ls. ended_by unit ls.now done.logs.items) lines
+        ∙ (ap (ended_by unit script.lines.now) logs ∙ ended_more unit script.lines.now script.logs.items line row (ap (λ n. slice_get script.lines.now n) many ∙ found))
+
+    fresh_any : (o : Option Line) → IfSome o (λ l. (k : ℕ) → slice_get done.seats.items l.unit ≡ Some (places.Client k) → IsOf l.verb done.progress)
+    fresh_any None = tt
+    fresh_any (Some l) = λ k at. subst (IsOf l.verb) (sym fresh) (record { take = λ h. refl; reset = λ h. refl })
+
+    each : (unit k : ℕ) (after : Pair) → slice_get script.seats.items unit ≡ Some (places.Client k) → slice_get new k ≡ Some after → ((line.unit == unit) ≡ true) ⊎ ((line.unit == unit) ≡ false)
+        → HasCausesTold (length after.window.pages) (own_of unit done) × PairIsTold (own_of unit done) progress.Fresh after
+    each unit k after at now (inl same) =
+        let same_seat : seat ≡ k = client_is seat k (sym sits ∙ (ap (λ n. slice_get script.seats.items n) (eqb-true line.unit unit same) ∙ at)) in
+        let b = before_of script.partition unit k script.seats.items old new after are driven at now in
+        let told = subst (λ (q : Progress). PairIsTold (own_of unit script) q b.pair) (here_by unit script.progress line (slice_get script.lines.now script.at) found same) (is.told line found one unit k b.pair at b.there) in
+        let stepped : SeatTold k line.verb script.progress p' old new (Ok (steps.Ends row.outcome)) =
+        subst (λ n. SeatTold n line.verb script.progress p' old new (Ok (steps.Ends row.outcome))) same_seat step in
+        subst (λ (own : List Ended). HasCausesTold (length after.window.pages) own × PairIsTold own progress.Fresh after)
+        (sym (records unit ∙ ap (λ t. cond t (own_of unit script ++ e ∷ []) (own_of unit script)) same))
+        (ends_pair line.verb script.progress p' (own_of unit script) e b.pair after refl b.has b.pages of (stepped.here b.pair after b.there now) told)
+    each unit k after at now (inr differ) =
+        let b = before_of script.partition unit k script.seats.items old new after are driven at now in
+        let apart = apart_seats script.partition unit line.unit k seat script.seats.items old are sits at differ in
+        let told = subst (λ (q : Progress). PairIsTold (own_of unit script) q b.pair) (else_by unit script.progress line (slice_get script.lines.now script.at) found differ) (is.told line found one unit k b.pair at b.there) in
+        subst (λ (own : List Ended). HasCausesTold (length after.window.pages) own × PairIsTold own progress.Fresh after)
+        (sym (records unit ∙ ap (λ t. cond t (own_of unit script ++ e ∷ []) (own_of unit script)) differ)) (
+          subst (λ n. HasCausesTold n (own_of unit script)) (sym b.pages) (is.law unit k b.pair at b.there),
+          subst (PairIsTold (own_of unit script) progress.Fresh) (sym (same_pair old new k after b.pair (step.beside k apart) now b.there)) told,
+        )
+
+-- the pair of a seat behind a turn
+after_of : (partition unit k : ℕ) (seats : List Seat) (old new : List Pair) → AreSeats partition seats old → AreDriven old new → slice_get seats unit ≡ Some (places.Client k)
+    → (after : Pair) × (slice_get new k ≡ Some after)
+after_of partition unit k seats old new are driven sits = at (slice_get old k) refl (are unit k sits)
+  where
+    some : (o : Option Pair) (pair : Pair) → slice_get new k ≡ o → IsSomeAnd o (Drives pair) → (after : Pair) × (slice_get new k ≡ Some after)
+    some None pair e h = absurd h
+    some (Some after) pair e h = (after, e)
+
+    at : (o : Option Pair) → slice_get old k ≡ o → IsSomeAnd o (λ pair. IsSomeAnd pair.driver (λ d. d.unit ≡ record { partition = partition; unit = unit }))
+        → (after : Pair) × (slice_get new k ≡ Some after)
+    at None e h = absurd h
+    at (Some pair) e h = some (slice_get new k) pair refl (driven.each k pair e)
+
+-- a client's unit is none at which a port sits
+not_port : (script : Script) (line : Line) (unit k : ℕ) → slice_get script.seats.items line.unit ≡ Some places.Port → slice_get script.seats.items unit ≡ Some (places.Client k)
+    → (line.unit == unit) ≡ false
+not_port script line unit k sits at = by (here_or line.unit unit)
+  where
+    by : ((line.unit == unit) ≡ true) ⊎ ((line.unit == unit) ≡ false) → (line.unit == unit) ≡ false
+    by (inl e) = absurd (no_port k (sym at ∙ (ap (λ n. slice_get script.seats.items n) (sym (eqb-true line.unit unit e)) ∙ sits)))
+    by (inr e) = e
+
+-- the current line is a port's
+pub port_waits_told : (pairs : List Pair) (script : Script) (p' : Progress) (line : Line) → slice_get script.lines.now script.at ≡ Some line → fails line.verb ≡ false
+    → slice_get script.seats.items line.unit ≡ Some places.Port → IsScriptTold pairs script → IsScriptTold pairs (record script { progress = p' })
+port_waits_told pairs script p' line found one sits is = record {
+  law = is.law;
+  fresh = subst (λ (o : Option Line). IfSome o (λ l. (k : ℕ) → slice_get script.seats.items l.unit ≡ Some (places.Client k) → IsOf l.verb p')) (sym found)
+      (λ k at. absurd (no_port k (sym at ∙ sits)));
+  told = λ l next ok unit k pair at now. let other = not_port script line unit k sits at in
+      subst (λ (q : Progress). PairIsTold (own_of unit script) q pair) (else_by unit script.progress line (slice_get script.lines.now script.at) found other
+      ∙ sym (else_by unit p' line (slice_get script.lines.now script.at) found other)) (is.told line found one unit k pair at now);
+}
+
+pub port_ends_told : (pairs : List Pair) (script done : Script) (line : Line) (row : LogRow) → slice_get script.lines.now script.at ≡ Some line → fails line.verb ≡ false
+    → slice_get script.seats.items line.unit ≡ Some places.Port → length script.logs.items ≡ script.at → done.lines ≡ script.lines → done.seats ≡ script.seats
+    → done.logs.items ≡ script.logs.items ++ row ∷ [] → done.progress ≡ progress.Fresh → IsScriptTold pairs script → IsScriptTold pairs done
+port_ends_told pairs script done line row found one sits many lines seats logs fresh is = record {
+  law = λ unit k pair at now. let here = back unit k at in
+      subst (HasCausesTold (length pair.window.pages)) (sym (records unit k here)) (is.law unit k pair here now);
+  fresh = fresh_any (slice_get done.lines.now done.at);
+  told = λ l next ok unit k pair at now. let here = back unit k at in
+      subst (λ (q : Progress). PairIsTold (own_of unit done) q pair)
+      (sym (ap (λ (p : Progress). progress_at unit p (slice_get done.lines.now done.at)) fresh ∙ fresh_at unit (slice_get done.lines.now done.at)))
+      (subst (λ (own : List Ended). PairIsTold own progress.Fresh pair) (sym (records unit k here))
+      (subst (λ (q : Progress). PairIsTold (own_of unit script) q pair) (else_by unit script.progress line (slice_get script.lines.now script.at) found (not_port script line unit k sits here))
+      (is.told line found one unit k pair here now)));
+}
+  where
+    e : Ended
+    e = record { verb = line.verb; outcome = row.outcome }
+
+    back : (unit k : ℕ) → slice_get done.seats.items unit ≡ Some (places.Client k) → slice_get script.seats.items unit ≡ Some (places.Client k)
+    back unit k at = subst (λ ss. slice_get ss.items unit ≡ Some (places.Client k)) seats at
+
+    records : (unit k : ℕ) → slice_get script.seats.items unit ≡ Some (places.Client k) → own_of unit done ≡ own_of unit script
+    records unit k here = ap (λ ls. ended_by unit ls.now done.logs.items) lines
+        ∙ (ap (ended_by unit script.lines.now) logs ∙ (ended_more unit script.lines.now script.logs.items line row (ap (λ n. slice_get script.lines.now n) many ∙ found)
+        ∙ ap (λ t. cond t (own_of unit script ++ e ∷ []) (own_of unit script)) (not_port script line unit k sits here)))
+
+    fresh_any : (o : Option Line) → IfSome o (λ l. (k : ℕ) → slice_get done.seats.items l.unit ≡ Some (places.Client k) → IsOf l.verb done.progress)
+    fresh_any None = tt
+    fresh_any (Some l) = λ k at. subst (IsOf l.verb) (sym fresh) (record { take = λ h. refl; reset = λ h. refl })
+
+-- at whichever unit it is
+pub line_waits_told : (old new : List Pair) (script : Script) (p' : Progress) (line : Line) (did : Moved) → slice_get script.lines.now script.at ≡ Some line → fails line.verb ≡ false
+    → IsSomeAnd (slice_get script.seats.items line.unit) (suits line.verb) → AreSeats script.partition script.seats.items old → AreDriven old new
+    → LineTold script.seats.items line script.progress p' old new (Ok (steps.Waits did)) → IsScriptTold old script → IsScriptTold new (record script { progress = p' })
+line_waits_told old new script p' line did found one suited are driven step is = at (slice_get script.seats.items line.unit) refl suited
+  where
+    at : (o : Option Seat) → slice_get script.seats.items line.unit ≡ o → IsSomeAnd o (suits line.verb) → IsScriptTold new (record script { progress = p' })
+    at None e h = absurd h
+    at (Some places.Server) e h = absurd h
+    at (Some (places.Client k)) e h =
+        let here = after_of script.partition line.unit k script.seats.items old new are driven e in
+        client_waits old new script p' line k here.0 did found one e here.1 are driven (step.client k e) is
+    at (Some places.Port) e h = subst (λ pairs. IsScriptTold pairs (record script { progress = p' })) (sym (step.port e)) (port_waits_told old script p' line found one e is)
+
+pub line_ends_told : (old new : List Pair) (script done : Script) (line : Line) (row : LogRow) (p' : Progress) → slice_get script.lines.now script.at ≡ Some line → fails line.verb ≡ false
+    → IsSomeAnd (slice_get script.seats.items line.unit) (suits line.verb) → AreSeats script.partition script.seats.items old → AreDriven old new → length script.logs.items ≡ script.at
+    → LineTold script.seats.items line script.progress p' old new (Ok (steps.Ends row.outcome))
+    → done.lines ≡ script.lines → done.seats ≡ script.seats → done.logs.items ≡ script.logs.items ++ row ∷ [] → done.progress ≡ progress.Fresh
+    → IsScriptTold old script → IsScriptTold new done
+line_ends_told old new script done line row p' found one suited are driven many step lines seats logs fresh is = at (slice_get script.seats.items line.unit) refl suited
+  where
+    at : (o : Option Seat) → slice_get script.seats.items line.unit ≡ o → IsSomeAnd o (suits line.verb) → IsScriptTold new done
+    at None e h = absurd h
+    at (Some places.Server) e h = absurd h
+    at (Some (places.Client k)) e h = client_ends old new script done line row k p' found one e are driven many (step.client k e) lines seats logs fresh is
+    at (Some places.Port) e h =
+        subst (λ pairs. IsScriptTold pairs done) (sym (step.port e)) (port_ends_told old script done line row found one e many lines seats logs fresh is)
+
+-- before the first line
+pub new_told : (pairs : List Pair) (script : Script) → script.logs.items ≡ [] → script.progress ≡ progress.Fresh → AreLoggedOut script.seats.items pairs → IsScriptTold pairs script
+new_told pairs script logs fresh out = record {
+  law = λ unit k pair at now. subst (HasCausesTold (length pair.window.pages)) (sym (none unit)) (nothing (length pair.window.pages));
+  fresh = first (slice_get script.lines.now script.at);
+  told = λ l next ok unit k pair at now. subst (λ (own : List Ended). PairIsTold own (progress_by unit script) pair) (sym (none unit))
+      (subst (λ (q : Progress). PairIsTold [] q pair) (sym (ap (λ (p : Progress). progress_at unit p (slice_get script.lines.now script.at)) fresh ∙ fresh_at unit (slice_get script.lines.now script.at)))
+      (begun pair (subst (λ (o : Option Pair). IfSome (driver_in o) (λ d. d.client.granted ≡ None)) now (out unit k at))));
+}
+  where
+    empty : (unit : ℕ) (lines : List Line) → ended_by unit lines [] ≡ []
+    empty unit [] = refl
+    empty unit (l ∷ ls) = refl
+
+    none : (unit : ℕ) → own_of unit script ≡ []
+    none unit = ap (ended_by unit script.lines.now) logs ∙ empty unit script.lines.now
+
+    nothing : (pages : ℕ) → HasCausesTold pages []
+    nothing pages = record { refusals = tt; tags = pairs_from_ordered (λ a b. a < b) [] tt }
+
+    first : (o : Option Line) → IfSome o (λ l. (k : ℕ) → slice_get script.seats.items l.unit ≡ Some (places.Client k) → IsOf l.verb script.progress)
+    first None = tt
+    first (Some l) = λ k at. subst (IsOf l.verb) (sym fresh) (record { take = λ h. refl; reset = λ h. refl })
+
+    begun : (pair : Pair) → IsLoggedOut pair → PairIsTold [] progress.Fresh pair
+    begun pair h = at pair.driver h
+      where
+        at : (o : Option Driver) → IfSome o (λ d. d.client.granted ≡ None) → IfSome o (λ d. IsTold (length pair.window.pages) [] progress.Fresh (side_of pair.link false).registered d.client)
+        at None h = tt
+        at (Some d) h = record { law = nothing (length pair.window.pages); below = All-nil (λ tag. tag < next_tag d.client); agrees = λ going. h; queue = inl h }
+
+-- a line that waits for what does not come any more
+login_none : (pages : ℕ) (a : Seated) → StepsTold pages verbs.Login a a (Ok (steps.Ends outcomes.Unanswered))
+login_none pages a = λ of own told. plain_ends pages verbs.Login outcomes.Unanswered own a a refl refl of refl refl (same_told a.client) told (λ agrees. tt)
+
+reset_none : (pages : ℕ) (a : Seated) → a.client.granted ≡ None → StepsTold pages verbs.Reset a a (Ok (steps.Ends outcomes.Unanswered))
+reset_none pages a out = λ of own told.
+    ends_told pages verbs.Reset outcomes.Unanswered own a a told tt (same_told a.client).tags (record { from = tt; below = tt }) out (inl out)
+
+take_none : (pages count : ℕ) (a : Seated) → StepsTold pages (verbs.Take count) a a (Ok (steps.Ends (outcomes.Took (taken_in a.progress))))
+take_none pages count a =
+    took_told pages count a.progress (taken_in a.progress) (taken_in a.progress) a.client a.client a.registered a.registered (refl, takes_none (taken_in a.progress) a.client, refl)
+
+-- which outcome such a line has
+pub data EndsWaiting (p : Progress) (verb : Verb) (outcome : Outcome) : Type 0 where
+  of_login : verb ≡ verbs.Login → outcome ≡ outcomes.Unanswered → EndsWaiting p verb outcome
+  of_reset : verb ≡ verbs.Reset → outcome ≡ outcomes.Unanswered → EndsWaiting p verb outcome
+  of_take : (count : ℕ) → verb ≡ verbs.Take count → outcome ≡ outcomes.Took (taken_in p) → EndsWaiting p verb outcome
+
+one_waits : (p : Progress) (verb : Verb) (outcome : Outcome) → EndsWaiting p verb outcome → fails verb ≡ false
+one_waits p verb outcome (of_login v o) = ap fails v
+one_waits p verb outcome (of_reset v o) = ap fails v
+one_waits p verb outcome (of_take count v o) = ap fails v
+
+waiting_pair : (p : Progress) (verb : Verb) (outcome : Outcome) (pair : Pair) → EndsWaiting p verb outcome → (is_reset verb ≡ true → IsLoggedOut pair)
+    → PairTold verb p p pair pair (Ok (steps.Ends outcome))
+waiting_pair p verb outcome pair ends out = at pair.driver out
+  where
+    r : Bool
+    r = (side_of pair.link false).registered
+
+    pages : ℕ
+    pages = length pair.window.pages
+
+    told_by : (d : Driver) (v : Verb) (o : Outcome) → verb ≡ v → outcome ≡ o → StepsTold pages v (seated d.client p r) (seated d.client p r) (Ok (steps.Ends o))
+        → StepsTold pages verb (seated d.client p r) (seated d.client p r) (Ok (steps.Ends outcome))
+    told_by d v o vs os told = subst (λ (w : Verb). StepsTold pages w (seated d.client p r) (seated d.client p r) (Ok (steps.Ends outcome))) (sym vs)
+        (subst (λ (q : Outcome). StepsTold pages v (seated d.client p r) (seated d.client p r) (Ok (steps.Ends q))) (sym os) told)
+
+    step : (d : Driver) → EndsWaiting p verb outcome → (is_reset verb ≡ true → d.client.granted ≡ None)
+        → StepsTold pages verb (seated d.client p r) (seated d.client p r) (Ok (steps.Ends outcome))
+    step d (of_login v o) out = told_by d verbs.Login outcomes.Unanswered v o (login_none pages (seated d.client p r))
+    step d (of_reset v o) out = told_by d verbs.Reset outcomes.Unanswered v o (reset_none pages (seated d.client p r) (out (ap is_reset v)))
+    step d (of_take count v o) out = told_by d (verbs.Take count) (outcomes.Took (taken_in p)) v o (take_none pages count (seated d.client p r))
+
+    at : (o : Option Driver) → (is_reset verb ≡ true → IfSome o (λ d. d.client.granted ≡ None))
+        → OnDrivers o o (λ a b. StepsTold pages verb (seated a.client p r) (seated b.client p r) (Ok (steps.Ends outcome)))
+    at None out = tt
+    at (Some d) out = step d ends out
+
+pub waiting_told : (pairs : List Pair) (script done : Script) (line : Line) (row : LogRow) → slice_get script.lines.now script.at ≡ Some line
+    → IsSomeAnd (slice_get script.seats.items line.unit) (suits line.verb) → AreSeats script.partition script.seats.items pairs → length script.logs.items ≡ script.at
+    → EndsWaiting script.progress line.verb row.outcome
+    → done.lines ≡ script.lines → done.seats ≡ script.seats → done.logs.items ≡ script.logs.items ++ row ∷ [] → done.progress ≡ progress.Fresh
+    → IsResetOut pairs script → IsScriptTold pairs script → IsScriptTold pairs done
+waiting_told pairs script done line row found suited are many ends lines seats logs fresh out is =
+    line_ends_told pairs pairs script done line row script.progress found (one_waits script.progress line.verb row.outcome ends) suited are (driven_same pairs) many
+    (record {
+      client = λ k at. record {
+        beside = λ j apart. refl;
+        here = λ before after b a. subst (λ (x : Pair). PairTold line.verb script.progress script.progress before x (Ok (steps.Ends row.outcome)))
+            (some_is before after (sym b ∙ a)) (waiting_pair script.progress line.verb row.outcome before ends (λ reset. out line k before found reset at b));
+      };
+      port = λ at. refl;
+    }) lines seats logs fresh is
+
+-- a line that fails the partition asks nothing
+fails_aside : (verb : Verb) → fails verb ≡ true → (asks verb ≡ false) × (is_logout verb ≡ false)
+fails_aside verbs.Login is = absurd (cc)
+fails_aside verbs.Reset is = absurd (cc)
+fails_aside verbs.Logout is = absurd (cc)
+fails_aside verbs.Tur is = absurd (cc)
+fails_aside (verbs.Read lba blocks at pieces table) is = absurd (cc)
+fails_aside (verbs.Write lba blocks at pieces table) is = absurd (cc)
+fails_aside (verbs.Command cdb) is = absurd (cc)
+fails_aside (verbs.CommandIn cdb at len pieces table) is = absurd (cc)
+fails_aside (verbs.CommandOut cdb at len pieces table) is = absurd (cc)
+fails_aside (verbs.Task function of) is = absurd (cc)
+fails_aside (verbs.Take count) is = absurd (cc)
+fails_aside (verbs.Data of) is = absurd (cc)
+fails_aside verbs.Open is = absurd (cc)
+fails_aside verbs.Close is = absurd (cc)
+fails_aside (verbs.Post at len count) is = absurd (cc)
+fails_aside (verbs.Send to len seed at) is = absurd (cc)
+fails_aside (verbs.ChangeMac own) is = absurd (cc)
+fails_aside (verbs.Multicast control group) is = absurd (cc)
+fails_aside (verbs.Fill at len seed) is = absurd (cc)
+fails_aside (verbs.Poke at bytes) is = absurd (cc)
+fails_aside (verbs.Peek at len) is = absurd (cc)
+fails_aside (verbs.Tce entry page readable writable) is = absurd (cc)
+fails_aside (verbs.Hcall number arguments) is = absurd (cc)
+fails_aside verbs.Fail is = (refl, refl)
+
+-- a line that tells of no tag
+quiet_more : (pages : ℕ) (own : List Ended) (verb : Verb) (outcome : Outcome) → HasCausesTold pages own → asks verb ≡ false → is_logout verb ≡ false → tag_of outcome ≡ []
+    → HasCausesTold pages (own ++ ended verb outcome ∷ [])
+quiet_more pages own verb outcome law no_ask no_logout none = record {
+  refusals = said_more pages None own verb outcome law.refusals (says_nothing pages (login_after None own) verb outcome no_ask no_logout);
+  tags = subst (AllPairs (λ a b. a < b)) (sym (tags_more own verb outcome ∙ (ap (λ tags. tags_told own ++ tags) none ∙ append-nil (tags_told own)))) law.tags;
+}
+
+law_on : (old new : List Pair) (script : Script) → AreSeats script.partition script.seats.items old → AreDriven old new → IsScriptTold old script
+    → AtSeats script.seats.items new (λ unit pair. HasCausesTold (length pair.window.pages) (own_of unit script))
+law_on old new script are driven is unit k after at now =
+    let b = before_of script.partition unit k script.seats.items old new after are driven at now in
+    subst (λ n. HasCausesTold n (own_of unit script)) (sym b.pages) (is.law unit k b.pair at b.there)
+
+-- the line that fails the partition is to be gone on with
+pub fail_waits_told : (old new : List Pair) (script : Script) (line : Line) → slice_get script.lines.now script.at ≡ Some line → fails line.verb ≡ true
+    → AreSeats script.partition script.seats.items old → AreDriven old new → IsScriptTold old script → IsScriptTold new script
+fail_waits_told old new script line found failing are driven is = record {
+  law = law_on old new script are driven is;
+  fresh = is.fresh;
+  told = λ l next ok unit k pair at now.
+      absurd (true_false (fails line.verb) failing (subst (λ (x : Line). fails x.verb ≡ false) (some_is l line (sym next ∙ found)) ok));
+}
+
+-- it ended, and no line is left
+pub fail_ends_told : (old new : List Pair) (script done : Script) (line : Line) (row : LogRow) → slice_get script.lines.now script.at ≡ Some line → fails line.verb ≡ true
+    → AreSeats script.partition script.seats.items old → AreDriven old new → length script.logs.items ≡ script.at → tag_of row.outcome ≡ []
+    → done.lines ≡ script.lines → done.seats ≡ script.seats → done.logs.items ≡ script.logs.items ++ row ∷ [] → done.at ≡ length done.lines.now
+    → IsScriptTold old script → IsScriptTold new done
+fail_ends_told old new script done line row found failing are driven many quiet lines seats logs over is = record {
+  law = λ unit k after at now. each unit after (law_on old new script are driven is unit k after (subst (λ ss. slice_get ss.items unit ≡ Some (places.Client k)) seats at) now) (here_or line.unit unit);
+  fresh = subst (λ (o : Option Line). IfSome o (λ l. (k : ℕ) → slice_get done.seats.items l.unit ≡ Some (places.Client k) → IsOf l.verb done.progress)) (sym none) tt;
+  told = λ l next ok unit k pair at now. absurd (some_none l (sym none ∙ next));
+}
+  where
+    none : slice_get done.lines.now done.at ≡ None
+    none = ap (slice_get done.lines.now) over ∙ slice_get_past done.lines.now (length done.lines.now) (omega arith)
+
+    some_none : (l : Line) → None ≡ Some l → ⊥
+    some_none l e = cc
+
+    e : Ended
+    e = record { verb = line.verb; outcome = row.outcome }
+
+    records : (unit : ℕ) → own_of unit done ≡ cond (line.unit == unit) (own_of unit script ++ e ∷ []) (own_of unit script)
+    records unit = ap (λ ls. ended_by unit ls.now done.logs.items) lines
+        ∙ (ap (ended_by unit script.lines.now) logs ∙ ended_more unit script.lines.now script.logs.items line row (ap (λ n. slice_get script.lines.now n) many ∙ found))
+
+    each : (unit : ℕ) (after : Pair) → HasCausesTold (length after.window.pages) (own_of unit script) → ((line.unit == unit) ≡ true) ⊎ ((line.unit == unit) ≡ false)
+        → HasCausesTold (length after.window.pages) (own_of unit done)
+    each unit after law (inl same) =
+        let aside = fails_aside line.verb failing in
+        subst (HasCausesTold (length after.window.pages)) (sym (records unit ∙ ap (λ b. cond b (own_of unit script ++ e ∷ []) (own_of unit script)) same))
+        (quiet_more (length after.window.pages) (own_of unit script) line.verb row.outcome law aside.0 aside.1 quiet)
+    each unit after law (inr differ) =
+        subst (HasCausesTold (length after.window.pages)) (sym (records unit ∙ ap (λ b. cond b (own_of unit script ++ e ∷ []) (own_of unit script)) differ)) law
+
+-- no line is left, and a turn was had
+pub over_told : (old new : List Pair) (script : Script) → slice_get script.lines.now script.at ≡ None
+    → AreSeats script.partition script.seats.items old → AreDriven old new → IsScriptTold old script → IsScriptTold new script
+over_told old new script none are driven is = record {
+  law = law_on old new script are driven is;
+  fresh = is.fresh;
+  told = λ l next ok unit k pair at now. absurd (some_none l (sym none ∙ next));
+}
+  where
+    some_none : (l : Line) → None ≡ Some l → ⊥
+    some_none l e = cc
+
+-- the clients are as they were
+pub clients_told : (old new : List Pair) (script : Script) → SameClients old new → IsScriptTold old script → IsScriptTold new script
+clients_told old new script same is = record {
+  law = λ unit k after at now. law unit k after at (slice_get old k) refl (same k after now);
+  fresh = is.fresh;
+  told = λ l next ok unit k after at now. told l next ok unit k after at (slice_get old k) refl (same k after now);
+}
+  where
+    law : (unit k : ℕ) (after : Pair) → slice_get script.seats.items unit ≡ Some (places.Client k) → (o : Option Pair) → slice_get old k ≡ o
+        → IsSomeAnd o (λ before. SameClient before after) → HasCausesTold (length after.window.pages) (own_of unit script)
+    law unit k after at None e h = absurd h
+    law unit k after at (Some before) e h = subst (λ n. HasCausesTold n (own_of unit script)) (sym h.pages) (is.law unit k before at e)
+
+    told : (l : Line) → slice_get script.lines.now script.at ≡ Some l → fails l.verb ≡ false → (unit k : ℕ) (after : Pair) → slice_get script.seats.items unit ≡ Some (places.Client k)
+        → (o : Option Pair) → slice_get old k ≡ o → IsSomeAnd o (λ before. SameClient before after) → PairIsTold (own_of unit script) (progress_by unit script) after
+    told l next ok unit k after at None e h = absurd h
+    told l next ok unit k after at (Some before) e h =
+        let p = progress_by unit script in
+        let own = own_of unit script in
+        subst (λ (o : Option Driver). IfSome o (λ d. IsTold (length after.window.pages) own p (side_of after.link false).registered d.client)) (sym h.driver)
+        (subst (λ r. IfSome before.driver (λ d. IsTold (length after.window.pages) own p r d.client)) (sym h.queue)
+        (subst (λ n. IfSome before.driver (λ d. IsTold n own p (side_of before.link false).registered d.client)) (sym h.pages) (is.told l next ok unit k before at e)))
+
+-- a reset that waits and did nothing has no login on
+pub waits_out : (old new : List Pair) (script : Script) (p' : Progress) (line : Line) → slice_get script.lines.now script.at ≡ Some line → fails line.verb ≡ false
+    → AreSeats script.partition script.seats.items old → AreDriven old new → LineOut script.seats.items line script.progress p' old new (Ok (steps.Waits Quiet))
+    → IsScriptTold old script → IsResetOut new (record script { progress = p' })
+waits_out old new script p' line found one are driven step is l k after next reset sits now =
+    let same : l ≡ line = some_is l line (sym next ∙ found) in
+    let here : slice_get script.seats.items line.unit ≡ Some (places.Client k) = subst (λ (x : Line). slice_get script.seats.items x.unit ≡ Some (places.Client k)) same sits in
+    let b = before_of script.partition line.unit k script.seats.items old new after are driven here now in
+    let told : PairIsTold (own_of line.unit script) script.progress b.pair =
+    subst (λ (q : Progress). PairIsTold (own_of line.unit script) q b.pair) (here_by line.unit script.progress line (slice_get script.lines.now script.at) found (eq-eqb line.unit line.unit refl))
+    (is.told line found one line.unit k b.pair here b.there) in
+    at b.pair (own_of line.unit script) b.pair.driver after.driver (step k here b.pair after b.there now) told (subst (λ (x : Line). is_reset x.verb ≡ true) same reset)
+  where
+    at : (before : Pair) (own : List Ended) (o o' : Option Driver)
+        → OnDrivers o o' (λ a b. StepsOut line.verb (seated a.client script.progress (side_of before.link false).registered) (seated b.client p' (side_of after.link false).registered) (Ok (steps.Waits Quiet)))
+        → IfSome o (λ d. IsTold (length before.window.pages) own script.progress (side_of before.link false).registered d.client) → is_reset line.verb ≡ true
+        → IfSome o' (λ d. d.client.granted ≡ None)
+    at before own o None out told reset = tt
+    at before own None (Some d) out told reset = absurd out
+    at before own (Some d) (Some d') out told reset = out reset told.queue
+
+pub fail_out : (new : List Pair) (script : Script) (line : Line) → slice_get script.lines.now script.at ≡ Some line → is_reset line.verb ≡ false → IsResetOut new script
+fail_out new script line found other l k after next reset sits now =
+    absurd (true_false (is_reset line.verb) (subst (λ (x : Line). is_reset x.verb ≡ true) (some_is l line (sym next ∙ found)) reset) other)
+
+-- a line that fails the partition is no reset
+pub fails_reset : (verb : Verb) → fails verb ≡ true → is_reset verb ≡ false
+fails_reset verbs.Login is = absurd (cc)
+fails_reset verbs.Reset is = absurd (cc)
+fails_reset verbs.Logout is = absurd (cc)
+fails_reset verbs.Tur is = absurd (cc)
+fails_reset (verbs.Read lba blocks at pieces table) is = absurd (cc)
+fails_reset (verbs.Write lba blocks at pieces table) is = absurd (cc)
+fails_reset (verbs.Command cdb) is = absurd (cc)
+fails_reset (verbs.CommandIn cdb at len pieces table) is = absurd (cc)
+fails_reset (verbs.CommandOut cdb at len pieces table) is = absurd (cc)
+fails_reset (verbs.Task function of) is = absurd (cc)
+fails_reset (verbs.Take count) is = absurd (cc)
+fails_reset (verbs.Data of) is = absurd (cc)
+fails_reset verbs.Open is = absurd (cc)
+fails_reset verbs.Close is = absurd (cc)
+fails_reset (verbs.Post at len count) is = absurd (cc)
+fails_reset (verbs.Send to len seed at) is = absurd (cc)
+fails_reset (verbs.ChangeMac own) is = absurd (cc)
+fails_reset (verbs.Multicast control group) is = absurd (cc)
+fails_reset (verbs.Fill at len seed) is = absurd (cc)
+fails_reset (verbs.Poke at bytes) is = absurd (cc)
+fails_reset (verbs.Peek at len) is = absurd (cc)
+fails_reset (verbs.Tce entry page readable writable) is = absurd (cc)
+fails_reset (verbs.Hcall number arguments) is = absurd (cc)
+fails_reset verbs.Fail is = refl
+
+pub none_out : (new : List Pair) (script : Script) → slice_get script.lines.now script.at ≡ None → IsResetOut new script
+none_out new script none l k after next reset sits now = absurd (some_none (sym none ∙ next))
+  where
+    some_none : None ≡ Some l → ⊥
+    some_none e = cc

@@ -1,0 +1,60 @@
+-- What is so of a partition whose lines make no raw call: the refusals of its clients, and what those to come are judged by.
+use Rattle.std.specs.Prelude.{◌≡◌, ℕ, ◌==◌, false, true, List, Option, Some, None, IfSome, IsSomeAnd, length, if◌then◌else◌}
+use Rattle.std.specs.List.{slice_get}
+use Rattle.boot_text.specs.declared.plan.Line.{Line}
+use Rattle.crq_session.specs.PlainState.{side_of}
+use Rattle.vcpu_run.specs.declared.pair.Pair.{Pair}
+use Rattle.vcpu_run.specs.declared.script.Progress.{Progress}
+use Rattle.vcpu_run.specs.declared.script.Progress.TheVariants as progress
+use Rattle.vcpu_run.specs.declared.script.Script.{Script}
+use Rattle.vcpu_run.specs.declared.unit_seat.Seat.{Seat}
+use Rattle.vcpu_run.specs.declared.unit_seat.Seat.TheVariants as sits
+use Rattle.vcpu_run.specs.Agreed.{IsLoggedOut}
+use Rattle.vcpu_run.specs.Freeing.{is_reset}
+use Rattle.vcpu_run.specs.Credited.{Ended, ended_by}
+use Rattle.vcpu_run.specs.Refusals.{HasCausesTold}
+use Rattle.vcpu_run.specs.Telling.{IsOf, IsTold}
+use Rattle.vcpu_run.specs.Works.{fails}
+
+-- how far the current line came, if it is of this unit
+abbrev pub progress_at : (unit : ℕ) → Progress → Option Line → Progress
+progress_at unit p None = progress.Fresh
+progress_at unit p (Some line) = if line.unit == unit then p else progress.Fresh
+
+abbrev pub progress_by : (unit : ℕ) → Script → Progress
+progress_by unit script = progress_at unit script.progress (slice_get script.lines.now script.at)
+
+-- the lines of a unit that ended
+abbrev pub own_of : (unit : ℕ) → Script → List Ended
+own_of unit script = ended_by unit script.lines.now script.logs.items
+
+-- the client of a pair, where there is one
+abbrev pub PairIsTold : List Ended → Progress → Pair → Type 0
+PairIsTold own p pair = IfSome pair.driver (λ driver. IsTold (length pair.window.pages) own p (side_of pair.link false).registered driver.client)
+
+-- P of each pair at which a client sits, with its unit
+abbrev pub AtSeats : List Seat → List Pair → (P : ℕ → Pair → Type 0) → Type 0
+AtSeats seats pairs P = (unit k : ℕ) (pair : Pair) → slice_get seats unit ≡ Some (sits.Client k) → slice_get pairs k ≡ Some pair → P unit pair
+
+-- The refusals of each client have their causes; before a line that fails no partition each client agrees with its records.
+pub record IsScriptTold (pairs : List Pair) (script : Script) : Type 0 where
+  pub law : AtSeats script.seats.items pairs (λ unit pair. HasCausesTold (length pair.window.pages) (own_of unit script))
+  pub fresh : IfSome (slice_get script.lines.now script.at)
+      (λ line. (k : ℕ) → slice_get script.seats.items line.unit ≡ Some (sits.Client k) → IsOf line.verb script.progress)
+  pub told : (line : Line) → slice_get script.lines.now script.at ≡ Some line → fails line.verb ≡ false
+      → AtSeats script.seats.items pairs (λ unit pair. PairIsTold (own_of unit script) (progress_by unit script) pair)
+
+-- a reset that is the current line left its client without a login
+abbrev pub IsResetOut : List Pair → Script → Type 0
+IsResetOut pairs script = (line : Line) (k : ℕ) (pair : Pair) → slice_get script.lines.now script.at ≡ Some line → is_reset line.verb ≡ true
+    → slice_get script.seats.items line.unit ≡ Some (sits.Client k) → slice_get pairs k ≡ Some pair → IsLoggedOut pair
+
+-- The client of a pair, its window's length and whether its queue is registered are as before.
+pub record SameClient (old new : Pair) : Type 0 where
+  pub driver : new.driver ≡ old.driver
+  pub pages : length new.window.pages ≡ length old.window.pages
+  pub queue : (side_of new.link false).registered ≡ (side_of old.link false).registered
+
+-- the same of all pairs
+abbrev pub SameClients : List Pair → List Pair → Type 0
+SameClients old new = (k : ℕ) (after : Pair) → slice_get new k ≡ Some after → IsSomeAnd (slice_get old k) (λ before. SameClient before after)
