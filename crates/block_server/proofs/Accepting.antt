@@ -136,6 +136,7 @@ keeps_asked books next' request receipt judged key row other under taking to cop
           (λ on. subst (λ (n : ℕ). books.credits.outstanding + 1 ≤ n) (sym (accepted_one books.current judged j (eq-eqb books.current books.current refl)))
           (one_more 0 books.credits.outstanding _ (is.lines.counted on))) is.lines;
       idle = λ over. absurd (cc (over, to.going));
+      numbers = is.numbers;
       counted = record {
         row = is.counted.row;
         exact = λ on. counts books.credits.outstanding _ _ _ (is.counted.exact on) (accepted_one books.current judged j (eq-eqb books.current books.current refl));
@@ -207,6 +208,7 @@ keeps_unasked books next' taking' request receipt fate judged none has to number
   lines = lines_judged books.id books.session books.next next' books.current books.taking taking' books.up books.credits books.credits books.grants books.ended judged receipt fate
       to.taken to.all to.session_is to.going to.up other refl off_is (counted_on books judged (record { receipt = receipt; fate = fate }) is) is.lines;
   idle = λ over. absurd (cc (over, to.going));
+  numbers = is.numbers;
   counted = let is' = counted_pass books judged receipt fate taking' (books.pending ++ request ∷ []) none is (λ some off. out some (closes off)) in
       record { row = is'.row; exact = is'.exact; most = is'.most; limits = is'.limits; asked_out = is'.asked_out; none_later = is'.none_later };
 }
@@ -237,6 +239,7 @@ keeps_judged books next' receipt fate judged none has to other is = record {
       (λ off. none_grows books.id books.session judged (record { receipt = receipt; fate = fate } ∷ []) books.grants (is.lines.off off))
       (counted_on books judged (record { receipt = receipt; fate = fate }) is) is.lines;
   idle = is.idle;
+  numbers = is.numbers;
   counted = let is' = counted_pass books judged receipt fate books.taking books.pending none is is.counted.asked_out in
       record { row = is'.row; exact = is'.exact; most = is'.most; limits = is'.limits; asked_out = is'.asked_out; none_later = is'.none_later };
 }

@@ -1,5 +1,6 @@
 -- A unit's books as it is made, and over the turns of other units.
 use Rattle.vio_num.specs.declared.history.Lapse.TheVariants as lapses
+use Rattle.block_server.proofs.Numbering.{numbers_new, numbers_others}
 use Rattle.block_server.proofs.Counting.{open_start}
 use Rattle.std.proofs.Common.{◌≡◌, ◌⊎◌, inl, ◌==◌, ◌&&◌, ◌++◌, ◌≤◌, ℕ, Bool, true, false, All, List, [], ◌∷◌, None, filter, refl, sym, ◌∙◌, ap, subst, arith, append-nil}
 use Rattle.std.proofs.lemmas.List.Elements.{Contains-append_left, All-head, All-nil, All-tail, All-weaker, filter-append, All-append}
@@ -75,6 +76,7 @@ keeps_lines books lines judged apart is = record {
   under = is.under;
   lines = lines_others books.id books.session books.next books.current books.taking books.up books.credits books.grants books.ended judged lines apart is.lines;
   idle = is.idle;
+  numbers = numbers_others books.id books.session books.current books.last books.grants lines apart is.numbers;
   counted = record {
     row = is.counted.row;
     exact = is.counted.exact;
@@ -140,6 +142,7 @@ kept_new id session next ended up credits none zero = record {
   under = All-nil (λ (row : RowKey). same_unit row.unit id ≡ true → 1 ≤ row.login);
   lines = lines_new id session next up credits ended none zero;
   idle = λ over. (refl, refl);
+  numbers = numbers_new id session;
   counted = record {
     row = open_start id 0 [];
     exact = λ some. absurd (no_one some);

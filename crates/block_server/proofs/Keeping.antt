@@ -21,6 +21,7 @@ use Rattle.block_server.specs.declared.service.Outcome.{Outcome}
 use Rattle.block_server.specs.declared.service.Outcome.TheVariants as outcomes
 use Rattle.block_server.specs.declared.service.Stage.{Stage}
 use Rattle.block_server.specs.declared.service.Stage.TheVariants as stages
+use Rattle.block_server.proofs.Numbering.{numbers_begun, numbers_ended, numbers_granted}
 use Rattle.block_server.proofs.Counting.{accepted_pass, answered_push, limits_on, limits_to, logout_rest, mark_all, mark_here, mark_other, mark_under, marked, none_answered, open_last, open_room, open_start, other_login, same_self}
 use Rattle.block_server.proofs.Lapsing.{lines_end, lines_out}
 use Rattle.block_server.proofs.Lines.{lines_granted, lines_session}
@@ -98,6 +99,7 @@ keeps_stage books stage' judged same placed at none is = record {
   under = is.under;
   lines = is.lines;
   idle = is.idle;
+  numbers = is.numbers;
   counted = record {
     row = λ place in_service. is.counted.row place (sym placed ∙ in_service);
     exact = is.counted.exact;
@@ -131,6 +133,7 @@ keeps_row books stage' front rest judged parts before after placed asks at none 
           (λ own. subst (λ (n : ℕ). 1 ≤ n) (sym under.0) under.1);
       lines = is.lines;
       idle = is.idle;
+      numbers = is.numbers;
       counted = record {
         row = λ place in_service. open_last books.id books.current books.rows (row_of_request books front) place (place_is place (sym in_service ∙ placed)) refl under.0 refl;
         exact = λ some. ap (λ (n : ℕ). books.credits.outstanding + n) (answered_push books.id books.current books.rows (row_of_request books front) refl) ∙ is.counted.exact some;
@@ -160,6 +163,7 @@ keeps_popped books front rest judged parts gone is = record {
   under = is.under;
   lines = is.lines;
   idle = λ over. absurd (no_cons front rest books.pending parts (is.idle over).0);
+  numbers = is.numbers;
   counted = record {
     row = open_start books.id books.current books.rows;
     exact = is.counted.exact;
@@ -196,6 +200,7 @@ keeps_idle books judged none is = record {
   under = is.under;
   lines = is.lines;
   idle = λ over. (refl, (is.idle over).1);
+  numbers = is.numbers;
   counted = record {
     row = open_start books.id books.current books.rows;
     exact = is.counted.exact;
@@ -336,6 +341,7 @@ keeps_ended books next' cause outstanding granted ended' up' credits' judged mor
       under = is.under;
       lines = lines_end books next' up' credits' ended' cause outstanding granted judged more is.logins.on end is.lines;
       idle = λ over. (refl, refl);
+      numbers = numbers_ended books.id books.session books.current books.last cause outstanding granted books.grants is.numbers;
       counted = record {
         row = open_start books.id 0 books.rows;
         exact = λ some. absurd (zero_one some);
@@ -400,6 +406,7 @@ keeps_left books front rest outstanding granted credits' judged parts other none
       lines = lines_out books.id books.session books.next books.current books.taking books.up books.credits credits' books.grants books.ended judged outstanding granted
           (going_on books judged front rest parts is) (are.0.last other none).0 (are.0.under other).1 is.logins.on is.lines;
       idle = λ over. absurd (no_cons front rest books.pending parts (is.idle over).0);
+      numbers = numbers_ended books.id books.session books.current books.last lapses.Logout outstanding granted books.grants is.numbers;
       counted = record {
         row = open_start books.id 0 books.rows;
         exact = λ some. absurd (zero_one some);
@@ -450,6 +457,7 @@ keeps_granted books number front rest judged parts grants is =
       lines = lines_granted books.id books.session books.next books.current (books.last + 1) number books.taking books.up books.credits books.grants books.ended judged
           (going_on books judged front rest parts is) is.lines;
       idle = λ over. absurd (no_cons front rest books.pending parts (is.idle over).0);
+      numbers = numbers_granted books.id books.session books.current books.last number books.credits.granted books.grants grants.none_on is.numbers;
       counted = record {
         row = open_start books.id (books.last + 1) books.rows;
         exact = λ some. zero_left _ (none_answered books.id (books.last + 1) books.rows
@@ -500,6 +508,7 @@ keeps_session books session' next' ended' up' judged later taken first none off 
   under = is.under;
   lines = lines_session books.id books.session session' books.next next' books.current books.taking books.up up' books.credits books.grants books.ended ended' judged later taken first off is.lines;
   idle = λ over. (none, off);
+  numbers = numbers_begun books.id books.session session' books.current books.last books.grants off (is.lines.later session' later) is.numbers;
   counted = record { row = is.counted.row; exact = is.counted.exact; most = is.counted.most; limits = is.counted.limits; asked_out = is.counted.asked_out; none_later = is.counted.none_later };
 }
   where
@@ -552,6 +561,7 @@ keeps_later books next' ended' up' judged most idle lines is = record {
   under = is.under;
   lines = lines;
   idle = idle;
+  numbers = is.numbers;
   counted = record { row = is.counted.row; exact = is.counted.exact; most = is.counted.most; limits = is.counted.limits; asked_out = is.counted.asked_out; none_later = is.counted.none_later };
 }
 
@@ -589,6 +599,7 @@ keeps_kept books kept' judged at is = record {
   under = is.under;
   lines = is.lines;
   idle = is.idle;
+  numbers = is.numbers;
   counted = record { row = is.counted.row; exact = is.counted.exact; most = is.counted.most; limits = is.counted.limits; asked_out = is.counted.asked_out; none_later = is.counted.none_later };
 }
 
@@ -694,6 +705,7 @@ keeps_answered books place row judged at there is =
         counted = λ some. below books.credits.outstanding _ (is.lines.counted some);
       };
       idle = fin.idle;
+      numbers = is.numbers;
       counted = record {
         row = open_start books.id books.current rows';
         exact = λ some. counts books.credits.outstanding _ _ (length (accepted books.current judged)) (mark_here books.id books.current books.rows place row there under unanswered)

@@ -26,6 +26,7 @@ pub mod DiskLaws
 pub mod DiskRows
 pub mod Gathering
 pub mod Writing
+pub mod Offering
 pub mod Onces
 pub mod Serves
 pub mod Plains
@@ -48,6 +49,7 @@ pub mod Heard
 pub mod Closing
 pub mod Lines
 pub mod Lapsing
+pub mod Numbering
 pub mod Keeping
 pub mod Accepting
 pub mod Working

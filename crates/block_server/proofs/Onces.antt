@@ -16,7 +16,7 @@ use Rattle.block_disk.specs.declared.reply.ScsiReply.{ScsiReply}
 use Rattle.block_server.specs.declared.line.Kept.{Kept}
 use Rattle.block_server.specs.declared.request.Request.{Request}
 use Rattle.block_server.specs.Records.{AnswersRow}
-use Rattle.block_server.specs.Stage.{fits}
+use Rattle.block_server.specs.Stage.{fits, is_answered}
 use Rattle.block_server.specs.declared.line.Kept.TheVariants as keeps
 use Rattle.block_server.specs.declared.service.Outcome.{Outcome}
 use Rattle.block_server.specs.declared.service.Outcome.TheVariants.{Granted, Rejected, Served}
@@ -30,10 +30,12 @@ use Rattle.std.proofs.lemmas.Option.{IfSome_then}
 use Rattle.std.specs.Prelude.{IsSome}
 use Rattle.block_server.specs.Causes.{Hearing, told_to}
 use Rattle.block_server.specs.Fetched.{Buffers, HasPieces}
+use Rattle.block_server.specs.Granting.{HasOffer}
 use Rattle.block_server.specs.Serving.{AreBrought, Desk, HasReply, Held, IsReady, IfRow, IsKept, IsServed, IsServing, LeavesRow, Once, Place, ServeFrom, SettlesRow, StaysServed, Terms, place_of}
 use Rattle.block_server.proofs.AnswerLaws.{answered_there, answers_filled, answers_one, filled_there, only_there}
 use Rattle.block_server.specs.Written.{AreWritten}
 use Rattle.block_server.proofs.DiskLaws.{serve_changed}
+use Rattle.block_server.proofs.Offering.{offer_at, offer_none}
 use Rattle.block_server.proofs.Writing.{written_same, written_there}
 use Rattle.block_server.proofs.DiskRows.{IsKnown, SpellsOne, may_cut}
 use Rattle.block_server.proofs.Rows.{stays_on, stays_same}
@@ -109,6 +111,10 @@ once_same a b s s' h h' same rows put d serving = record {
   tells = tells_same d.now;
 }
 
+-- a desk is in order where nothing is kept
+pub unkept : (terms : Terms) (desk : Desk) (h : List ServedRow) → IsServing terms desk h → IsServing terms (record desk { kept = None }) h
+unkept terms desk h serving = record { row = serving.row; kept = λ kept is. absurd (cc (is)); fetched = serving.fetched; brought = serving.brought; offer = serving.offer }
+
 -- the same over a disk that changed in nothing
 pub once_disk : (d d' : Held) (a b : Desk) (s s' : List PipeRow) (h h' : List ServedRow) → d' ≡ d → ((x : Held) → IsServing x.terms a h → Once x x a b s s' h h')
     → IsServing d.terms a h → Once d d' a b s s' h h'
@@ -151,6 +157,7 @@ cleared terms desk history stage kept brought = record {
   kept = λ entry is. absurd (cc (kept, is));
   fetched = subst (λ st. HasPieces (told_to terms.told desk.id) st desk.buffers.outs desk.buffers.inns desk.pending) (sym stage) tt;
   brought = brought;
+  offer = offer_none (told_to terms.told desk.id) desk.stage desk.credits desk.answer desk.pending (ap is_answered stage);
 }
 
 -- the row in service, whose disk step was made
@@ -240,8 +247,9 @@ once_cleared a b s s' h h' id stage kept rows put d pending serving = record {
 -- nothing is kept, no response was put, and the row in service is the same
 pub once_goes : (a b : Desk) (s s' : List PipeRow) (h h' : List ServedRow) → b.id ≡ a.id → b.kept ≡ None → h' ≡ h → responses s' ≡ responses s
     → (d : Held) → IfRow b.stage (IsServed d.terms (place_of b) h)
-    → HasPieces (told_to d.terms.told b.id) b.stage b.buffers.outs b.buffers.inns b.pending → AreBrought (told_to d.terms.told b.id) b.pending → Once d d a b s s' h h'
-once_goes a b s s' h h' id kept rows put d row fetched brought = record {
+    → HasPieces (told_to d.terms.told b.id) b.stage b.buffers.outs b.buffers.inns b.pending → AreBrought (told_to d.terms.told b.id) b.pending
+    → HasOffer (told_to d.terms.told b.id) b.stage b.credits b.answer b.pending → Once d d a b s s' h h'
+once_goes a b s s' h h' id kept rows put d row fetched brought offer = record {
   id = id;
   terms = refl;
   serving = record {
@@ -249,6 +257,7 @@ once_goes a b s s' h h' id kept rows put d row fetched brought = record {
     kept = λ entry is. absurd (cc (kept, is));
     fetched = fetched;
     brought = brought;
+    offer = offer;
   };
   answers = more_none a.id s s' h h' put (ap (answers_of a.id) rows);
   others = subst (OnlyRowsOf a.id h) (sym rows) (stays_same a.id h);
@@ -274,16 +283,16 @@ pieces_at terms a b id stage buffers pending =
     subst (λ (z : UnitId × Stage × Buffers × List Request). HasPieces (told_to terms.told z.0) z.1 z.2.outs z.2.inns z.3) (λ i. ((sym id) i, (sym stage) i, (sym buffers) i, (sym pending) i))
 
 -- the service is where it was; nothing is kept, and no response was put
-pub once_still : (a b : Desk) (s s' : List PipeRow) (h h' : List ServedRow) → b.id ≡ a.id → b.stage ≡ a.stage → b.answer ≡ a.answer → b.buffers ≡ a.buffers → b.pending ≡ a.pending
+pub once_still : (a b : Desk) (s s' : List PipeRow) (h h' : List ServedRow) → b.id ≡ a.id → b.credits ≡ a.credits → b.stage ≡ a.stage → b.answer ≡ a.answer → b.buffers ≡ a.buffers → b.pending ≡ a.pending
     → b.kept ≡ None → h' ≡ h → responses s' ≡ responses s → (d : Held) → IsServing d.terms a h → Once d d a b s s' h h'
-once_still a b s s' h h' id stage answer buffers pending kept rows put d serving =
+once_still a b s s' h h' id credits stage answer buffers pending kept rows put d serving =
     once_goes a b s s' h h' id kept rows put d (row_at d.terms a b h id stage answer buffers pending serving.row) (pieces_at d.terms a b id stage buffers pending serving.fetched)
-    (brought_at d.terms a b a.pending id pending serving.brought)
+    (brought_at d.terms a b a.pending id pending serving.brought) (offer_at d.terms a b a.stage a.answer a.pending id credits stage answer pending serving.offer)
 
 -- an entry that answers no request is kept in the place of what was kept
-pub once_reply_kept : (a b : Desk) (s s' : List PipeRow) (h : List ServedRow) (entry : QueueEntry) → b.id ≡ a.id → b.pending ≡ a.pending → b.stage ≡ a.stage → b.answer ≡ a.answer
+pub once_reply_kept : (a b : Desk) (s s' : List PipeRow) (h : List ServedRow) (entry : QueueEntry) → b.id ≡ a.id → b.credits ≡ a.credits → b.pending ≡ a.pending → b.stage ≡ a.stage → b.answer ≡ a.answer
     → b.buffers ≡ a.buffers → b.kept ≡ Some (keeps.Reply entry) → IsPlain entry → responses s' ≡ responses s → (d : Held) → IsServing d.terms a h → Once d d a b s s' h h
-once_reply_kept a b s s' h entry id pending stage answer buffers kept plain put d serving = record {
+once_reply_kept a b s s' h entry id credits pending stage answer buffers kept plain put d serving = record {
   id = id;
   terms = refl;
   serving = record {
@@ -291,6 +300,7 @@ once_reply_kept a b s s' h entry id pending stage answer buffers kept plain put 
     kept = λ other is. subst (IsKept b) (some_is entry other (sym kept ∙ is)) plain;
     fetched = pieces_at d.terms a b id stage buffers pending serving.fetched;
     brought = brought_at d.terms a b a.pending id pending serving.brought;
+    offer = offer_at d.terms a b a.stage a.answer a.pending id credits stage answer pending serving.offer;
   };
   answers = more_none a.id s s' h h put refl;
   others = stays_same a.id h;

@@ -11,7 +11,7 @@ use Rattle.crq_session.specs.Answers.{IfClosed, OnNotSent}
 use Rattle.crq_session.specs.declared.answers.SendAnswer.{SendAnswer}
 use Rattle.crq_session.specs.declared.answers.SendAnswer.TheVariants as sending
 use Rattle.block_server.specs.Answering.{has_bytes}
-use Rattle.block_server.specs.Decided.{Decides, IsCause, StaysOn}
+use Rattle.block_server.specs.Decided.{Decides, IsCause, StaysOn, DecidesOrder}
 use Rattle.block_server.proofs.Verdicts.{cause_fatal}
 use Rattle.block_server.specs.Entries.{is_response_len}
 use Rattle.block_server.specs.Judged.{AreKept, Books, IsAtStage, IsOutcome, Judged, gets_row, has_row, is_logout}
@@ -222,6 +222,19 @@ pub decides_current : (old new : Logins) (bytes : List ℕ) (verdict : Verdict) 
 decides_current old new bytes (verdicts.Accepted login tag order) is = order_current old new login bytes tag order is
 decides_current old new bytes verdicts.Ignored is = is.0.current
 decides_current old new bytes (verdicts.Fatal cause outstanding granted) is = is.0.current
+
+-- It leaves how many requests a login grants.
+pub decides_granted : (old new : Logins) (bytes : List ℕ) (verdict : Verdict) → Decides old new bytes verdict → new.granted ≡ old.granted
+decides_granted old new bytes (verdicts.Accepted login tag order) is = by order is
+  where
+    by : (order : Order) → DecidesOrder old new login bytes order → new.granted ≡ old.granted
+    by (orders.Login request) is = is.0.granted
+    by orders.Logout is = is.granted
+    by (orders.Task task) is = is.stays.granted
+    by (orders.Command command) is = is.stays.granted
+    by orders.Unreadable is = is.stays.granted
+decides_granted old new bytes verdicts.Ignored is = is.0.granted
+decides_granted old new bytes (verdicts.Fatal cause outstanding granted) is = is.0.granted
 
 pub fatal_other : (old new : Logins) (bytes : List ℕ) (verdict : Verdict) (cause : Lapse) (outstanding granted : ℕ) → verdict ≡ verdicts.Fatal cause outstanding granted → Decides old new bytes verdict
     → is_logout cause ≡ false

@@ -15,15 +15,18 @@ use Rattle.vio_num.specs.declared.history.Grant.TheVariants.{Granted, Lapsed}
 use Rattle.vio_num.specs.declared.history.Lapse.{Lapse}
 use Rattle.vio_num.specs.declared.history.Lapse.TheVariants as lapses
 use Rattle.vio_num.specs.declared.names.UnitId.{UnitId}
-use Rattle.block_server.specs.Causes.{Hearing, Told, told_to}
-use Rattle.block_server.specs.Causes.News.{denied}
+use Rattle.block_server.specs.Causes.{Hearing, Told, told_to, units_at}
+use Rattle.block_server.specs.Causes.News.{delivered, denied, fetched}
 use Rattle.block_server.specs.Decided.{Decides, IsCause, StaysOn}
 use Rattle.block_server.specs.Entries.{is_answer_len, is_response_len, login_rej_len, login_rsp_len}
+use Rattle.block_server.specs.Granting.{HasOffer, IsGrantedOver, IsOfferedOver, IsSrpAt}
 use Rattle.block_server.specs.Heard.{TellsAll}
 use Rattle.block_server.specs.Moves.{Passes}
 use Rattle.block_server.specs.Receipts.{Standing, TakesEntry, standing_of}
 use Rattle.tce_window.specs.declared.answers.Right.TheVariants.{Read, Write}
-use Rattle.block_server.specs.Refusals.{AreExplained, Basis, DeniesAnswer, Explains, HasEntry, HasRefusal, HasRefusals, IsNotRead, IsNotWritten, IsSrpAt, RefuseNone, basis_of, basis_seen}
+use Rattle.block_server.specs.Refusals.{AreExplained, Basis, DeniesAnswer, Explains, HasEntry, IsExplained, HasExplained, IsNotRead, IsNotWritten, ExplainNone, ExplainsOf, basis_of, basis_seen}
+use Rattle.block_server.specs.Orders.{IsOrder}
+use Rattle.block_server.specs.Serving.{AreBrought, Desk, Held, IsServing, Once, Terms}
 use Rattle.block_server.specs.SiteState.{IsDeniedBetween, SiteState}
 use Rattle.block_server.specs.Stage.{fits}
 use Rattle.block_server.specs.declared.intake.Verdict.{Verdict}
@@ -31,10 +34,16 @@ use Rattle.block_server.specs.declared.intake.Verdict.TheVariants.{Fatal}
 use Rattle.block_server.specs.declared.logins.Logins.{Logins}
 use Rattle.block_server.specs.declared.records.Records.{Records}
 use Rattle.block_server.specs.declared.request.Arrival.{Arrival}
+use Rattle.block_server.specs.declared.request.Order.{Order}
 use Rattle.block_server.specs.declared.request.Request.{Request}
 use Rattle.block_server.specs.declared.service.Outcome.{Outcome}
 use Rattle.block_server.specs.declared.service.Outcome.TheVariants as outcomes
+use Rattle.block_server.specs.declared.service.Stage.{Stage}
+use Rattle.block_server.specs.declared.service.Stage.TheVariants as stages
 use Rattle.block_server.specs.declared.unit.Unit.{Unit}
+use Rattle.srp_iu.specs.Grammar.{Spells}
+use Rattle.srp_iu.specs.declared.unit.Iu.TheVariants as ius
+use Rattle.vio_num.specs.declared.history.Served.{Served}
 use Rattle.block_server.proofs.Agreeing.{if_at, some_at}
 use Rattle.block_server.proofs.Receiving.{session_more}
 use Rattle.block_server.proofs.Taking.{passed_session, passed_taken}
@@ -44,8 +53,23 @@ use Rattle.block_server.proofs.Units.{get_set_same}
 srp_more : (old new : List PipeRow) (session number : ℕ) (entry : Entry) → Begins old new → IsSrpAt old session number entry → IsSrpAt new session number entry
 srp_more old new session number entry more is = record { there = session_more session old new number entry more is.there; srp = is.srp }
 
-refusal_more : (Hears : Hearing) (unit : UnitId) (old new : List PipeRow) → Begins old new → (line : Grant) → HasRefusal Hears unit old line → HasRefusal Hears unit new line
-refusal_more Hears unit old new more (Granted of session login number credits) is = tt
+granted_more : (Hears : Hearing) (old new : List PipeRow) (session number credits : ℕ) → Begins old new → IsGrantedOver Hears old session number credits → IsGrantedOver Hears new session number credits
+granted_more Hears old new session number credits more is = record {
+  entry = is.entry;
+  at = srp_more old new session number is.entry more is.at;
+  bytes = is.bytes;
+  long = is.long;
+  brought = is.brought;
+  asked = is.asked;
+  asks = is.asks;
+  may = is.may;
+  answer = is.answer;
+  grants = is.grants;
+  written = is.written;
+}
+
+refusal_more : (Hears : Hearing) (unit : UnitId) (old new : List PipeRow) → Begins old new → (line : Grant) → IsExplained Hears unit old line → IsExplained Hears unit new line
+refusal_more Hears unit old new more (Granted of session login number credits) is = λ own. granted_more Hears old new session number credits more (is own)
 refusal_more Hears unit old new more (Lapsed of session login lapses.Logout outstanding granted) is = tt
 refusal_more Hears unit old new more (Lapsed of session login lapses.Lost outstanding granted) is = tt
 refusal_more Hears unit old new more (Lapsed of session login lapses.Early outstanding granted) is = tt
@@ -84,10 +108,11 @@ explains_stands unit unit' old new records records' stands passes pending lines 
 pub explains_on : (a b c : Basis) → Explains a b → Explains b c → Explains a c
 explains_on a b c first next = λ told unit since is. next told unit since (first told unit since is)
 
--- Some of the oldest requests are pending no more, and lines came that are no refusals.
-pub explains_left : (old new : Basis) (n : ℕ) (lines : List Grant) → new.session ≡ old.session → new.taken ≡ old.taken → new.waiting ≡ old.waiting → new.ended ≡ old.ended
-    → new.pending ≡ drop n old.pending → new.lines ≡ old.lines ++ lines → ((Hears : Hearing) (unit : UnitId) → All (HasRefusal Hears unit old.taken) lines) → Explains old new
-explains_left old new n lines session taken waiting ended pending more others = λ told unit since is.
+-- Some of the oldest requests are pending no more, and lines came that have their causes.
+pub explained_left : (told : Told → Bool) (unit : UnitId) (since : List Grant) (old new : Basis) (n : ℕ) (lines : List Grant) → new.session ≡ old.session → new.taken ≡ old.taken
+    → new.waiting ≡ old.waiting → new.ended ≡ old.ended → new.pending ≡ drop n old.pending → new.lines ≡ old.lines ++ lines → All (IsExplained (told_to told unit) unit old.taken) lines
+    → AreExplained told unit since old → AreExplained told unit since new
+explained_left told unit since old new n lines session taken waiting ended pending more causes is =
     let mid = record old { pending = drop n old.pending; lines = old.lines ++ lines } in
     explains_same mid new session taken waiting pending ended more told unit since (record {
       waits = is.waits;
@@ -95,16 +120,22 @@ explains_left old new n lines session taken waiting ended pending more others = 
       idle = λ over. ((is.idle over).0, drop_none n old.pending (is.idle over).1);
       more = is.more ++ lines;
       lines = ap (λ front. front ++ lines) is.lines ∙ append_assoc since is.more lines;
-      each = All-append (HasRefusal (told_to told unit) unit old.taken) is.more lines is.each (others (told_to told unit) unit);
+      each = All-append (IsExplained (told_to told unit) unit old.taken) is.more lines is.each causes;
     })
   where
     drop_none : (n : ℕ) (requests : List Request) → requests ≡ [] → drop n requests ≡ []
     drop_none zero requests empty = empty
     drop_none (suc n) requests empty = ap (drop (suc n)) empty
 
+-- The same where the lines have them whatever was told.
+pub explains_left : (old new : Basis) (n : ℕ) (lines : List Grant) → new.session ≡ old.session → new.taken ≡ old.taken → new.waiting ≡ old.waiting → new.ended ≡ old.ended
+    → new.pending ≡ drop n old.pending → new.lines ≡ old.lines ++ lines → ((Hears : Hearing) (unit : UnitId) → All (IsExplained Hears unit old.taken) lines) → Explains old new
+explains_left old new n lines session taken waiting ended pending more others = λ told unit since is.
+    explained_left told unit since old new n lines session taken waiting ended pending more (others (told_to told unit) unit) is
+
 -- The login ended, and a line says why.
 pub explained_ended : (told : Told → Bool) (unit : UnitId) (since : List Grant) (old new : Basis) (line : Grant) → new.session ≡ old.session → new.taken ≡ old.taken
-    → new.waiting ≡ None → new.pending ≡ [] → new.lines ≡ old.lines ++ line ∷ [] → HasRefusal (told_to told unit) unit old.taken line
+    → new.waiting ≡ None → new.pending ≡ [] → new.lines ≡ old.lines ++ line ∷ [] → IsExplained (told_to told unit) unit old.taken line
     → AreExplained told unit since old → AreExplained told unit since new
 explained_ended told unit since old new line session taken waiting pending more cause is = record {
   waits = subst (λ w. IfSome w (λ arrival. IsSrpAt new.taken new.session arrival.number arrival.entry)) (sym waiting) tt;
@@ -112,7 +143,7 @@ explained_ended told unit since old new line session taken waiting pending more 
   idle = λ over. (waiting, pending);
   more = is.more ++ line ∷ [];
   lines = more ∙ ap (λ front. front ++ line ∷ []) is.lines ∙ append_assoc since is.more (line ∷ []);
-  each = subst (λ rows. All (HasRefusal (told_to told unit) unit rows) (is.more ++ line ∷ [])) (sym taken) (All-push (HasRefusal (told_to told unit) unit old.taken) is.more line is.each cause);
+  each = subst (λ rows. All (IsExplained (told_to told unit) unit rows) (is.more ++ line ∷ [])) (sym taken) (All-push (IsExplained (told_to told unit) unit old.taken) is.more line is.each cause);
 }
 
 -- A session begins, or ended before: nothing is pending.
@@ -127,7 +158,7 @@ explains_begun old new over taken waiting pending lines = λ told unit since is.
       idle = λ over. (waits, empty);
       more = is.more;
       lines = lines ∙ is.lines;
-      each = subst (λ rows. All (HasRefusal (told_to told unit) unit rows) is.more) (sym taken) is.each;
+      each = subst (λ rows. All (IsExplained (told_to told unit) unit rows) is.more) (sym taken) is.each;
     }
 
 -- Entries were taken, and none of them waits.
@@ -137,11 +168,11 @@ explains_taken old new session taken waiting pending ended lines = λ told unit 
     explains_same (record old { taken = new.taken }) new session refl waiting pending ended lines told unit since (record {
       waits = waits_more old.waiting is.waits;
       pending = All-weaker (HasEntry old.taken old.session) (HasEntry new.taken old.session)
-          (λ request has. record { entry = has.entry; at = srp_more old.taken new.taken old.session request.number has.entry taken has.at; address = has.address }) old.pending is.pending;
+          (λ request has. record { entry = has.entry; at = srp_more old.taken new.taken old.session request.number has.entry taken has.at; address = has.address; long = has.long }) old.pending is.pending;
       idle = is.idle;
       more = is.more;
       lines = is.lines;
-      each = All-weaker (HasRefusal (told_to told unit) unit old.taken) (HasRefusal (told_to told unit) unit new.taken) (refusal_more (told_to told unit) unit old.taken new.taken taken) is.more is.each;
+      each = All-weaker (IsExplained (told_to told unit) unit old.taken) (IsExplained (told_to told unit) unit new.taken) (refusal_more (told_to told unit) unit old.taken new.taken taken) is.more is.each;
     })
   where
     waits_more : (waiting : Option Arrival) → IfSome waiting (λ arrival. IsSrpAt old.taken old.session arrival.number arrival.entry)
@@ -182,13 +213,56 @@ explains_entry old new before after arrival taken srp was_session was_taken goin
 pub explains_finished : (old new : Basis) → new.session ≡ old.session → new.taken ≡ old.taken → new.waiting ≡ old.waiting → new.ended ≡ old.ended
     → new.pending ≡ drop 1 old.pending → new.lines ≡ old.lines → Explains old new
 explains_finished old new session taken waiting ended pending same =
-    explains_left old new 1 [] session taken waiting ended pending (same ∙ sym (append-nil old.lines)) (λ Hears unit. All-nil (HasRefusal Hears unit old.taken))
+    explains_left old new 1 [] session taken waiting ended pending (same ∙ sym (append-nil old.lines)) (λ Hears unit. All-nil (IsExplained Hears unit old.taken))
 
 pub explains_settled : (old new : Basis) (line : Grant) → new.session ≡ old.session → new.taken ≡ old.taken → new.waiting ≡ old.waiting → new.ended ≡ old.ended
-    → new.pending ≡ drop 1 old.pending → new.lines ≡ old.lines ++ line ∷ [] → ((Hears : Hearing) (unit : UnitId) → HasRefusal Hears unit old.taken line) → Explains old new
+    → new.pending ≡ drop 1 old.pending → new.lines ≡ old.lines ++ line ∷ [] → ((Hears : Hearing) (unit : UnitId) → IsExplained Hears unit old.taken line) → Explains old new
 explains_settled old new line session taken waiting ended pending more cause =
     explains_left old new 1 (line ∷ []) session taken waiting ended pending more
-    (λ Hears unit. All-cons (HasRefusal Hears unit old.taken) line [] (cause Hears unit) (All-nil (HasRefusal Hears unit old.taken)))
+    (λ Hears unit. All-cons (IsExplained Hears unit old.taken) line [] (cause Hears unit) (All-nil (IsExplained Hears unit old.taken)))
+
+-- The answer that grants a login was put over its request.
+granted_over : (terms : Terms) (desk : Desk) (history : List Served) (taken : List PipeRow) (session number : ℕ) → desk.stage ≡ stages.Entry (outcomes.Granted number)
+    → All (HasEntry taken session) desk.pending → IsServing terms desk history → IsGrantedOver (told_to terms.told desk.id) taken session number desk.credits
+granted_over terms desk history taken session number stage pending serving =
+    let Hears = told_to terms.told desk.id in
+    let over : IsOfferedOver Hears number desk.credits desk.answer desk.pending =
+    subst (λ (st : Stage). HasOffer Hears st desk.credits desk.answer desk.pending) stage serving.offer in
+    let offer = over.offered in
+    let has : HasEntry taken session offer.front = All-head (HasEntry taken session) offer.front offer.rest (subst (All (HasEntry taken session)) offer.parts pending) in
+    let brought : AreBrought Hears (offer.front ∷ offer.rest) = subst (AreBrought Hears) offer.parts serving.brought in
+    let spelled : Spells offer.front.unit.items (ius.LoginReq offer.asked) = subst (λ (order : Order). IsOrder order offer.front.unit.items) offer.asks offer.front.spelled in
+    record {
+      entry = has.entry;
+      at = subst (λ (n : ℕ). IsSrpAt taken session n has.entry) offer.number_is has.at;
+      bytes = offer.front.unit.items;
+      long = has.long;
+      brought = subst (λ (n : ℕ). Hears (fetched n units_at offer.front.unit.items)) has.address brought.0;
+      asked = offer.asked;
+      asks = spelled;
+      may = offer.may;
+      answer = desk.answer;
+      grants = offer.grants;
+      written = subst (λ (z : ℕ × ℕ). Hears (delivered units_at z.0 z.1 desk.answer)) (λ i. (has.address i, (offer.front.tagged ∙ sym spelled.unit.tag) i)) over.written;
+    }
+
+-- It was put, and a line says so.
+pub explains_granted : (terms : Terms) (desk : Desk) (history : List Served) (old new : Basis) (login number credits : ℕ) → desk.stage ≡ stages.Entry (outcomes.Granted number)
+    → desk.pending ≡ old.pending → credits ≡ desk.credits → new.session ≡ old.session → new.taken ≡ old.taken → new.waiting ≡ old.waiting → new.ended ≡ old.ended → new.pending ≡ drop 1 old.pending
+    → new.lines ≡ old.lines ++ Granted desk.id old.session login number credits ∷ [] → ExplainsOf terms desk history old new
+explains_granted terms desk history old new login number credits stage requests same session taken waiting ended pending more = λ serving since is.
+    let P = IsExplained (told_to terms.told desk.id) desk.id old.taken in
+    let line = Granted desk.id old.session login number credits in
+    let over = granted_over terms desk history old.taken old.session number stage (subst (All (HasEntry old.taken old.session)) (sym requests) is.pending) serving in
+    explained_left terms.told desk.id since old new 1 (line ∷ []) session taken waiting ended pending more
+    (All-cons P line [] (λ own. subst (IsGrantedOver (told_to terms.told desk.id) old.taken old.session number) (sym same) over) (All-nil P)) is
+
+-- A part of a turn behind another that left the desk in order.
+pub explained_then : (d d' : Held) (a b : Desk) (s s' : List PipeRow) (h h' : List Served) (since : List Grant) (x y z : Basis) → Once d d' a b s s' h h'
+    → (AreExplained d.terms.told a.id since x → AreExplained d.terms.told a.id since y) → ExplainsOf d'.terms b h' y z
+    → AreExplained d.terms.told a.id since x → AreExplained d.terms.told a.id since z
+explained_then d d' a b s s' h h' since x y z once first next is =
+    subst (λ (w : UnitId × Terms). AreExplained w.1.told w.0 since y → AreExplained w.1.told w.0 since z) (λ i. (once.id i, once.terms i)) (next once.serving since) (first is)
 
 -- what is copied as an answer has the length of one
 pub fits_answer : (outcome : Outcome) (n : ℕ) → fits outcome n ≡ true → is_answer_len n ≡ true
@@ -208,12 +282,12 @@ fits_answer (outcomes.Served row) n is = rw is refl
 -- What is decided of an information unit that was fetched is no refusal.
 pub decided_cause : (Hears : Hearing) (unit of : UnitId) (taken : List PipeRow) (session login : ℕ) (old new : Logins) (bytes : List ℕ) (verdict : Verdict)
     (cause : Lapse) (outstanding granted : ℕ) → verdict ≡ Fatal cause outstanding granted → Decides old new bytes verdict
-    → HasRefusal Hears unit taken (Lapsed of session login cause outstanding granted)
+    → IsExplained Hears unit taken (Lapsed of session login cause outstanding granted)
 decided_cause Hears unit of taken session login old new bytes verdict cause outstanding granted is decides =
     let why : StaysOn old new × IsCause old bytes cause outstanding granted = subst (Decides old new bytes) is decides in
     at cause why.1
   where
-    at : (cause : Lapse) → IsCause old bytes cause outstanding granted → HasRefusal Hears unit taken (Lapsed of session login cause outstanding granted)
+    at : (cause : Lapse) → IsCause old bytes cause outstanding granted → IsExplained Hears unit taken (Lapsed of session login cause outstanding granted)
     at lapses.Logout why = tt
     at lapses.Lost why = tt
     at lapses.Early why = tt
@@ -225,7 +299,7 @@ decided_cause Hears unit of taken session login old new bytes verdict cause outs
 -- The window denied to have the answer to the oldest request written.
 pub denied_answer : (told : Told → Bool) (unit : UnitId) (since : List Grant) (basis : Basis) (old new : SiteState) (of : UnitId) (session login : ℕ) → session ≡ basis.session
     → DeniesAnswer old new basis.pending → TellsAll told unit old new → AreExplained told unit since basis
-    → HasRefusal (told_to told unit) unit basis.taken (Lapsed of session login lapses.Refused 0 0)
+    → IsExplained (told_to told unit) unit basis.taken (Lapsed of session login lapses.Refused 0 0)
 denied_answer told unit since basis old new of session login same denies all is = λ own.
     let has : HasEntry basis.taken basis.session denies.front =
     All-head (HasEntry basis.taken basis.session) denies.front denies.rest (subst (All (HasEntry basis.taken basis.session)) denies.parts is.pending) in
@@ -264,7 +338,7 @@ explained_apart told unit since basis is =
 -- The window denied to have the information unit of the entry that waits read.
 pub denied_unit : (told : Told → Bool) (unit : UnitId) (since : List Grant) (basis : Basis) (old new : SiteState) (of : UnitId) (session login address len : ℕ) (arrival : Arrival)
     → session ≡ basis.session → basis.waiting ≡ Some arrival → address ≡ iu_address arrival.entry → len ≡ iu_length arrival.entry → IsDeniedBetween old new Read address len
-    → TellsAll told unit old new → AreExplained told unit since basis → HasRefusal (told_to told unit) unit basis.taken (Lapsed of session login lapses.Refused 0 0)
+    → TellsAll told unit old new → AreExplained told unit since basis → IsExplained (told_to told unit) unit basis.taken (Lapsed of session login lapses.Refused 0 0)
 denied_unit told unit since basis old new of session login address len arrival same waits at long denies all is = λ own.
     inl (record {
       number = arrival.number;
@@ -276,12 +350,12 @@ denied_unit told unit since basis old new of session login address len arrival s
 
 -- A request that came by an entry is pending behind those that are.
 pub explains_pushed : (old new : Basis) (request : Request) (entry : Entry) → old.ended ≡ false → IsSrpAt old.taken old.session request.number entry → request.address ≡ iu_address entry
-    → new.session ≡ old.session → new.taken ≡ old.taken → new.waiting ≡ old.waiting → new.ended ≡ old.ended → new.lines ≡ old.lines → new.pending ≡ old.pending ++ request ∷ []
+    → length request.unit.items ≡ iu_length entry → new.session ≡ old.session → new.taken ≡ old.taken → new.waiting ≡ old.waiting → new.ended ≡ old.ended → new.lines ≡ old.lines → new.pending ≡ old.pending ++ request ∷ []
     → Explains old new
-explains_pushed old new request entry going found at session taken waiting ended lines pushed = λ told unit since is.
+explains_pushed old new request entry going found at long session taken waiting ended lines pushed = λ told unit since is.
     explains_same (record old { pending = old.pending ++ request ∷ [] }) new session taken waiting pushed ended lines told unit since (record {
       waits = is.waits;
-      pending = All-push (HasEntry old.taken old.session) old.pending request is.pending (record { entry = entry; at = found; address = at });
+      pending = All-push (HasEntry old.taken old.session) old.pending request is.pending (record { entry = entry; at = found; address = at; long = long });
       idle = λ over. absurd (apart old.ended going over);
       more = is.more;
       lines = is.lines;
@@ -294,27 +368,27 @@ explains_pushed old new request entry going found at session taken waiting ended
 -- A turn of the unit.
 pub refuses_turn : (told : Told → Bool) (units : List Unit) (n : ℕ) (u u' : Unit) (unit : UnitId) (queue queue' : EndState) (since grants grants' : List Grant) → slice_get units n ≡ Some u
     → (AreExplained told unit since (basis_seen u queue grants) → AreExplained told unit since (basis_seen u' queue' grants'))
-    → HasRefusals told units n unit queue since grants → HasRefusals told (slice_set units n u') n unit queue' since grants'
+    → HasExplained told units n unit queue since grants → HasExplained told (slice_set units n u') n unit queue' since grants'
 refuses_turn told units n u u' unit queue queue' since grants grants' there step has =
     if_at (slice_get (slice_set units n u') n) u' (λ x. AreExplained told unit since (basis_seen x queue' grants')) (get_set_same units n u u' there)
     (step (some_at (slice_get units n) u (λ x. AreExplained told unit since (basis_seen x queue grants)) there has))
 
 -- No unit, and one more of which nothing waits and nothing is pending.
-pub none_refuse : (units : List Unit) → units ≡ [] → RefuseNone units
-none_refuse units empty = subst RefuseNone (sym empty) (λ told number unit queue grants. tt)
+pub none_refuse : (units : List Unit) → units ≡ [] → ExplainNone units
+none_refuse units empty = subst ExplainNone (sym empty) (λ told number unit queue grants. tt)
 
-pub more_refuse : (units : List Unit) (u : Unit) → RefuseNone units → u.waiting ≡ None → u.pending.items ≡ [] → RefuseNone (units ++ u ∷ [])
+pub more_refuse : (units : List Unit) (u : Unit) → ExplainNone units → u.waiting ≡ None → u.pending.items ≡ [] → ExplainNone (units ++ u ∷ [])
 more_refuse units u all none empty = λ told number unit queue grants. at told number unit queue grants units (all told number unit queue grants)
   where
-    at : (told : Told → Bool) (number : ℕ) (unit : UnitId) (queue : EndState) (grants : List Grant) (units : List Unit) → HasRefusals told units number unit queue grants grants
-        → HasRefusals told (units ++ u ∷ []) number unit queue grants grants
+    at : (told : Told → Bool) (number : ℕ) (unit : UnitId) (queue : EndState) (grants : List Grant) (units : List Unit) → HasExplained told units number unit queue grants grants
+        → HasExplained told (units ++ u ∷ []) number unit queue grants grants
     at told zero unit queue grants [] has = record {
       waits = subst (λ w. IfSome w (λ arrival. IsSrpAt queue.taken queue.last_session arrival.number arrival.entry)) (sym none) tt;
       pending = subst (All (HasEntry queue.taken queue.last_session)) (sym empty) (All-nil (HasEntry queue.taken queue.last_session));
       idle = λ over. (none, empty);
       more = [];
       lines = sym (append-nil grants);
-      each = All-nil (HasRefusal (told_to told unit) unit queue.taken);
+      each = All-nil (IsExplained (told_to told unit) unit queue.taken);
     }
     at told (suc number) unit queue grants [] has = tt
     at told zero unit queue grants (first ∷ units) has = has

@@ -139,14 +139,14 @@ set_unloaded id a b shown h outcome (Err memory) ok err out inn bytes is = keeps
 first_is : (request other : Request) (rest tail : List Request) → request ∷ rest ≡ other ∷ tail → request ≡ other
 first_is request other rest tail same = cc (same)
 
-pub tag_at : (terms : Terms) (id : UnitId) (service : Service) (request : Request) (rest : List Request) (h : List Served) (row : ℕ) (reply : ScsiReply) (cursor : Cursor)
-    → service.stage ≡ DataIn row reply cursor → IsServing terms (desk_at id service None (request ∷ rest)) h → HasTag h row request.tag
-tag_at terms id service request rest h row reply cursor is serving found there =
+pub tag_at : (terms : Terms) (id : UnitId) (credits : ℕ) (service : Service) (request : Request) (rest : List Request) (h : List Served) (row : ℕ) (reply : ScsiReply) (cursor : Cursor)
+    → service.stage ≡ DataIn row reply cursor → IsServing terms (desk_at id credits service None (request ∷ rest)) h → HasTag h row request.tag
+tag_at terms id credits service request rest h row reply cursor is serving found there =
     ap (λ (r : Served). field 8 8 r.iu) (one found at.served (sym there ∙ (λ i. slice_get (at.history_is i) (at.row_is i)) ∙ get_at at.before at.behind at.served))
     ∙ ap (field 8 8) at.iu_is ∙ ap (λ (r : Request). field 8 8 r.unit.items) (sym (first_is request mine.request rest mine.rest mine.front)) ∙ sym request.tagged
   where
-    mine : IsServed terms (place_of (desk_at id service None (request ∷ rest))) h row
-    mine = subst (λ st. IfRow st (IsServed terms (place_of (desk_at id service None (request ∷ rest))) h)) is serving.row
+    mine : IsServed terms (place_of (desk_at id credits service None (request ∷ rest))) h row
+    mine = subst (λ st. IfRow st (IsServed terms (place_of (desk_at id credits service None (request ∷ rest))) h)) is serving.row
 
     at : IsInService id mine.request.unit.items h row
     at = mine.in_service
@@ -155,9 +155,9 @@ tag_at terms id service request rest h row reply cursor is serving found there =
     one x y e = cc (e)
 
 -- a request that is no command has no data-in
-pub other_unloaded : (terms : Terms) (id : UnitId) (service : Service) (request : Request) (rest : List Request) (h : List Served) → is_command request.order ≡ false
-    → IsServing terms (desk_at id service None (request ∷ rest)) h → is_loaded service.stage ≡ false
-other_unloaded terms id service request rest h other serving = by service.stage refl
+pub other_unloaded : (terms : Terms) (id : UnitId) (credits : ℕ) (service : Service) (request : Request) (rest : List Request) (h : List Served) → is_command request.order ≡ false
+    → IsServing terms (desk_at id credits service None (request ∷ rest)) h → is_loaded service.stage ≡ false
+other_unloaded terms id credits service request rest h other serving = by service.stage refl
   where
     none : (command : Cmd) (found : Request) (tail : List Request) → request ∷ rest ≡ found ∷ tail → found.order ≡ Command command → ⊥
     none command found tail front order =
@@ -174,10 +174,10 @@ other_unloaded terms id service request rest h other serving = by service.stage 
     by (Answer outcome) at = ap is_loaded at
     by (Entry outcome) at = ap is_loaded at
     by (Given row reply) at =
-        let mine = subst (λ st. IfRow st (IsServed terms (record (place_of (desk_at id service None (request ∷ rest))) { stage = st }) h)) at serving.row in
+        let mine = subst (λ st. IfRow st (IsServed terms (record (place_of (desk_at id credits service None (request ∷ rest))) { stage = st }) h)) at serving.row in
         absurd (none mine.holds.command mine.request mine.rest mine.front mine.holds.order)
     by (DataIn row reply cursor) at =
-        let mine = subst (λ st. IfRow st (IsServed terms (record (place_of (desk_at id service None (request ∷ rest))) { stage = st }) h)) at serving.row in
+        let mine = subst (λ st. IfRow st (IsServed terms (record (place_of (desk_at id credits service None (request ∷ rest))) { stage = st }) h)) at serving.row in
         absurd (none mine.holds.command mine.request mine.rest mine.front mine.holds.order)
 
 -- ---- data-out are fetched

@@ -1,5 +1,5 @@
 -- Each answer once, where the service of a request goes on, and where an entry is kept or a request comes.
-use Rattle.std.proofs.Common.{◌≡◌, ◌≢◌, ◌++◌, ◌<◌, ℕ, length, List, [], ◌∷◌, Bool, true, Option, Some, None, IfSome, take, Result, Ok, Err, OnOk, OnErr, refl, sym, ◌∙◌, ap, subst, arith}
+use Rattle.std.proofs.Common.{◌≡◌, ◌≢◌, ◌++◌, ◌<◌, ℕ, length, List, [], ◌∷◌, Bool, true, false, Option, Some, None, IfSome, take, Result, Ok, Err, OnOk, OnErr, refl, sym, ◌∙◌, ap, subst, arith}
 use Rattle.std.specs.List.{HoldsAt}
 use Rattle.std.specs.Prelude.{IsSome}
 use Rattle.vio_num.specs.declared.entry.Entry.{Entry as QueueEntry}
@@ -15,7 +15,7 @@ use Rattle.crq_session.specs.Answered.{TurnsBack}
 use Rattle.crq_session.specs.EndState.{EndState, OnlyReserves}
 use Rattle.block_server.specs.Answering.{OnlyRowsOf, responses}
 use Rattle.block_server.specs.Records.{FillsRow}
-use Rattle.block_server.specs.Stage.{is_before_step}
+use Rattle.block_server.specs.Stage.{is_answered, is_before_step}
 use Rattle.block_server.specs.declared.cursor.Cursor.{Cursor}
 use Rattle.block_server.specs.declared.intake.Next.{Next}
 use Rattle.block_server.specs.declared.intake.Next.TheVariants as nexts
@@ -26,7 +26,7 @@ use Rattle.block_server.specs.declared.service.Outcome.{Outcome}
 use Rattle.block_server.specs.declared.service.Outcome.TheVariants.{Granted, Rejected, Served}
 use Rattle.block_server.specs.declared.service.Stage.{Stage}
 use Rattle.block_server.specs.declared.service.Stage.TheVariants.{Start, OutTable, InTable, DataOut, Given, DataIn, Answer, Entry}
-use Rattle.block_server.specs.Serving.{AreBrought, AsNone, Desk, Held, HoldsAtStage, IfRow, IsAnswerKept, IsKept, IsServed, IsServing, MayAnswer, Once, Place, StaysServed, Terms, desk_at, place_of}
+use Rattle.block_server.specs.Serving.{AreBrought, AsNone, Desk, Held, HoldsAtStage, IfRow, IsAnswerKept, IsKept, IsServed, IsServing, MayAnswer, Once, Place, StaysServed, Terms, desk_at, place_of, desk_of}
 use Rattle.srp_iu.specs.Layout.{field}
 use Rattle.srp_iu.specs.declared.buffer.Desc.{Desc}
 use Rattle.srp_iu.specs.declared.command.Cmd.{Cmd}
@@ -34,7 +34,9 @@ use Rattle.srp_iu.specs.declared.response.Rsp.{Rsp}
 use Rattle.srp_iu.specs.declared.response_code.ResponseCode.TheVariants.{FieldsInvalid}
 use Rattle.srp_desc.specs.Pieces.{total_of}
 use Rattle.block_server.specs.declared.request.Order.TheVariants.{Command}
+use Rattle.block_server.specs.declared.logins.Logins.{Logins}
 use Rattle.block_server.specs.declared.service.Service.{Service}
+use Rattle.block_server.specs.declared.unit.Unit.{Unit as ServerUnit}
 use Rattle.block_server.specs.Causes.{Hearing, IsNamed, RefusesIn, told_to, units_at}
 use Rattle.block_server.specs.Written.{AreWritten, IsWrittenOver}
 use Rattle.block_server.proofs.Writing.{written_blank, written_there}
@@ -45,14 +47,16 @@ use Rattle.block_server.specs.Responses.{Answers, HasCode, HasStatus}
 use Rattle.block_server.proofs.AnswerLaws.{answers_blank, answers_filled, filled_there, in_service_filled, in_service_new, only_there}
 use Rattle.block_server.proofs.DiskLaws.{serve_push}
 use Rattle.block_server.proofs.DiskRows.{SpellsOne, known_cut, may_cut, may_refuse, may_status}
+use Rattle.block_server.proofs.Offering.{offer_at, offer_copied, offer_none, offer_pushed}
+use Rattle.block_server.specs.Granting.{HasOffer}
 use Rattle.block_server.proofs.Onces.{brought_at, known_of, more_none, once_goes, once_still, pieces_at, row_at, stays_equal, stays_rows, stays_there, tells_same}
 use Rattle.block_server.proofs.Rows.{stays_one, stays_same}
 
 -- the answer's entry is kept in the place of what was kept
-pub once_kept : (a b : Desk) (s s' : List PipeRow) (h : List ServedRow) (entry : QueueEntry) (outcome : Outcome) → b.id ≡ a.id → b.pending ≡ a.pending → b.stage ≡ a.stage
+pub once_kept : (a b : Desk) (s s' : List PipeRow) (h : List ServedRow) (entry : QueueEntry) (outcome : Outcome) → b.id ≡ a.id → b.credits ≡ a.credits → b.pending ≡ a.pending → b.stage ≡ a.stage
     → b.answer ≡ a.answer → b.buffers ≡ a.buffers → b.kept ≡ Some (keeps.Answer entry outcome) → IsAnswerKept b entry outcome → responses s' ≡ responses s
     → (d : Held) → IsServing d.terms a h → Once d d a b s s' h h
-once_kept a b s s' h entry outcome id pending stage answer buffers kept is put d serving = record {
+once_kept a b s s' h entry outcome id credits pending stage answer buffers kept is put d serving = record {
   id = id;
   terms = refl;
   serving = record {
@@ -60,6 +64,7 @@ once_kept a b s s' h entry outcome id pending stage answer buffers kept is put d
     kept = λ other other_is. subst (IsKept b) (some_is entry outcome other (sym kept ∙ other_is)) is;
     fetched = pieces_at d.terms a b id stage buffers pending serving.fetched;
     brought = brought_at d.terms a b a.pending id pending serving.brought;
+    offer = offer_at d.terms a b a.stage a.answer a.pending id credits stage answer pending serving.offer;
   };
   answers = more_none a.id s s' h h put refl;
   others = stays_same a.id h;
@@ -116,10 +121,10 @@ brought_pushed Hears [] new all one = (one, tt)
 brought_pushed Hears (request ∷ requests) new all one = (all.0, brought_pushed Hears requests new all.1 one)
 
 -- a request came behind those that are pending
-pub once_pushed : (a b : Desk) (s s' : List PipeRow) (h : List ServedRow) (new : Request) → b.id ≡ a.id → b.pending ≡ a.pending ++ new ∷ [] → b.stage ≡ a.stage
+pub once_pushed : (a b : Desk) (s s' : List PipeRow) (h : List ServedRow) (new : Request) → b.id ≡ a.id → b.credits ≡ a.credits → b.pending ≡ a.pending ++ new ∷ [] → b.stage ≡ a.stage
     → b.answer ≡ a.answer → b.buffers ≡ a.buffers → b.kept ≡ None → responses s' ≡ responses s
     → (d : Held) → told_to d.terms.told a.id (news.fetched new.address units_at new.unit.items) → IsServing d.terms a h → Once d d a b s s' h h
-once_pushed a b s s' h new id pending stage answer buffers kept put d one serving =
+once_pushed a b s s' h new id credits pending stage answer buffers kept put d one serving =
     let q : Place = record (place_of a) { pending = a.pending ++ new ∷ [] } in
     once_goes a b s s' h h id kept refl put d
     (subst (λ (p : Place). IfRow p.stage (IsServed d.terms p h)) (λ i. record { id = (sym id) i; stage = (sym stage) i; answer = (sym answer) i; given = ((sym buffers) i).given; pending = (sym pending) i })
@@ -127,6 +132,8 @@ once_pushed a b s s' h new id pending stage answer buffers kept put d one servin
     (subst (λ (z : UnitId × Stage × Buffers × List Request). HasPieces (told_to d.terms.told z.0) z.1 z.2.outs z.2.inns z.3) (λ i. ((sym id) i, (sym stage) i, (sym buffers) i, (sym pending) i))
     (pieces_pushed (told_to d.terms.told a.id) a.stage a.buffers.outs a.buffers.inns a.pending new serving.fetched))
     (brought_at d.terms a b (a.pending ++ new ∷ []) id pending (brought_pushed (told_to d.terms.told a.id) a.pending new serving.brought one))
+    (offer_at d.terms a b a.stage a.answer (a.pending ++ new ∷ []) id credits stage answer pending
+    (offer_pushed (told_to d.terms.told a.id) a.stage a.credits a.answer a.pending new serving.offer))
 
 -- a stage before the disk step has no row
 before_row : (stage : Stage) (P : ℕ → Type 0) → is_before_step stage ≡ true → IfRow stage P
@@ -139,11 +146,23 @@ before_row (DataIn row reply cursor) P is = absurd (cc (is))
 before_row (Answer outcome) P is = absurd (cc (is))
 before_row (Entry outcome) P is = absurd (cc (is))
 
+-- nor has it an answer
+before_answered : (stage : Stage) → is_before_step stage ≡ true → is_answered stage ≡ false
+before_answered Start is = refl
+before_answered OutTable is = refl
+before_answered InTable is = refl
+before_answered (DataOut cursor) is = refl
+before_answered (Given row reply) is = absurd (cc (is))
+before_answered (DataIn row reply cursor) is = absurd (cc (is))
+before_answered (Answer outcome) is = absurd (cc (is))
+before_answered (Entry outcome) is = absurd (cc (is))
+
 -- the service is before its disk step, and nothing is kept
 pub once_before : (d : Held) (a b : Desk) (s s' : List PipeRow) (h h' : List ServedRow) → b.id ≡ a.id → is_before_step b.stage ≡ true → b.kept ≡ None
     → HasPieces (told_to d.terms.told b.id) b.stage b.buffers.outs b.buffers.inns b.pending → h' ≡ h → responses s' ≡ responses s → AreBrought (told_to d.terms.told b.id) b.pending → Once d d a b s s' h h'
 once_before d a b s s' h h' id stage kept fetched rows put brought =
     once_goes a b s s' h h' id kept rows put d (before_row b.stage (IsServed d.terms (place_of b) h) stage) fetched brought
+    (offer_none (told_to d.terms.told b.id) b.stage b.credits b.answer b.pending (before_answered b.stage stage))
 
 -- what is known of the pieces of a command that is the oldest request, and back
 first_is : (request other : Request) (rest tail : List Request) → request ∷ rest ≡ other ∷ tail → other ≡ request
@@ -229,13 +248,15 @@ carried terms a h row old new answer given answer' given' carry is = record {
 -- the service came from one stage to another, both with a row; nothing is kept, and no response was put
 pub once_to : (d : Held) (a b : Desk) (s s' : List PipeRow) (h h' : List ServedRow) (old new : Stage) (answer given : List ℕ) → b.id ≡ a.id → b.pending ≡ a.pending → a.stage ≡ old → b.stage ≡ new
     → b.answer ≡ answer → b.buffers.given ≡ given → b.kept ≡ None → h' ≡ h → responses s' ≡ responses s → HasPieces (told_to d.terms.told b.id) new b.buffers.outs b.buffers.inns b.pending
-    → (IfRow old (IsServed d.terms (staged a old a.answer a.buffers.given) h) → IfRow new (IsServed d.terms (staged a new answer given) h)) → IsServing d.terms a h → Once d d a b s s' h h'
-once_to d a b s s' h h' old new answer given id pending was is answer_is given_is kept rows put fetched row serving =
+    → (IfRow old (IsServed d.terms (staged a old a.answer a.buffers.given) h) → IfRow new (IsServed d.terms (staged a new answer given) h))
+    → HasOffer (told_to d.terms.told b.id) new b.credits b.answer b.pending → IsServing d.terms a h → Once d d a b s s' h h'
+once_to d a b s s' h h' old new answer given id pending was is answer_is given_is kept rows put fetched row offer serving =
     once_goes a b s s' h h' id kept rows put d
     (subst (λ (p : Place). IfRow p.stage (IsServed d.terms p h)) (λ i. record { id = (sym id) i; stage = (sym is) i; answer = (sym answer_is) i; given = (sym given_is) i; pending = (sym pending) i })
     (row (subst (λ (st : Stage). IfRow st (IsServed d.terms (staged a st a.answer a.buffers.given) h)) was serving.row)))
     (subst (λ (st : Stage). HasPieces (told_to d.terms.told b.id) st b.buffers.outs b.buffers.inns b.pending) (sym is) fetched)
     (brought_at d.terms a b a.pending id pending serving.brought)
+    (subst (λ (st : Stage). HasOffer (told_to d.terms.told b.id) st b.credits b.answer b.pending) (sym is) offer)
 
 -- what is known of the pieces at one stage is known at another which says the same of them
 pieces_there : (terms : Terms) (a b : Desk) (old new : Stage) → b.id ≡ a.id → a.stage ≡ old → b.buffers ≡ a.buffers → b.pending ≡ a.pending
@@ -252,7 +273,7 @@ pub once_stored : (a b : Desk) (s s' : List PipeRow) (h h' : List ServedRow) (ro
 once_stored a b s s' h h' row reply cursor id pending was is same kept rows put d serving =
     once_to d a b s s' h h' (Given row reply) (DataIn row reply cursor) b.answer a.buffers.given id pending was is refl (ap (λ (x : Buffers). x.given) same) kept rows put
     (pieces_there d.terms a b (Given row reply) (DataIn row reply cursor) id was same pending (λ outs inns list is. is) serving.fetched)
-    (carried d.terms a h row (Given row reply) (DataIn row reply cursor) a.answer a.buffers.given b.answer a.buffers.given (λ is. is.holds)) serving
+    (carried d.terms a h row (Given row reply) (DataIn row reply cursor) a.answer a.buffers.given b.answer a.buffers.given (λ is. is.holds)) tt serving
 
 -- data-in were copied on, as far as it went
 pub once_moved : (a b : Desk) (s s' : List PipeRow) (h : List ServedRow) (row : ℕ) (reply : ScsiReply) (old : Cursor) → b.id ≡ a.id → b.pending ≡ a.pending
@@ -261,15 +282,21 @@ pub once_moved : (a b : Desk) (s s' : List PipeRow) (h : List ServedRow) (row : 
 once_moved a b s s' h row reply old id pending was is same kept put d serving =
     once_to d a b s s' h h (DataIn row reply old) (DataIn row reply is.0) b.answer a.buffers.given id pending was is.1 refl (ap (λ (x : Buffers). x.given) same) kept refl put
     (pieces_there d.terms a b (DataIn row reply old) (DataIn row reply is.0) id was same pending (λ outs inns list is. is) serving.fetched)
-    (carried d.terms a h row (DataIn row reply old) (DataIn row reply is.0) a.answer a.buffers.given b.answer a.buffers.given (λ is. is.holds)) serving
+    (carried d.terms a h row (DataIn row reply old) (DataIn row reply is.0) a.answer a.buffers.given b.answer a.buffers.given (λ is. is.holds)) tt serving
 
 -- the answer was copied over the request
-pub once_copied : (a b : Desk) (s s' : List PipeRow) (h h' : List ServedRow) (outcome : Outcome) (request : Request) (rest : List Request) → b.id ≡ a.id → b.pending ≡ a.pending
+pub once_copied : (a b : Desk) (s s' : List PipeRow) (h h' : List ServedRow) (outcome : Outcome) (request : Request) (rest : List Request) → b.id ≡ a.id → b.credits ≡ a.credits → b.pending ≡ a.pending
     → a.pending ≡ request ∷ rest → a.stage ≡ Answer outcome → b.stage ≡ Entry outcome → b.answer ≡ a.answer → b.kept ≡ None → h' ≡ h → responses s' ≡ responses s
     → (d : Held) → told_to d.terms.told a.id (news.delivered units_at request.address request.tag a.answer) → IsServing d.terms a h → Once d d a b s s' h h'
-once_copied a b s s' h h' outcome request rest id pending front was is answer kept rows put d written serving =
-    once_to d a b s s' h h' (Answer outcome) (Entry outcome) a.answer b.buffers.given id pending was is answer refl kept rows put tt (row outcome) serving
+once_copied a b s s' h h' outcome request rest id credits pending front was is answer kept rows put d written serving =
+    once_to d a b s s' h h' (Answer outcome) (Entry outcome) a.answer b.buffers.given id pending was is answer refl kept rows put tt (row outcome) offer serving
   where
+    offer : HasOffer (told_to d.terms.told b.id) (Entry outcome) b.credits b.answer b.pending
+    offer = subst (λ (st : Stage). HasOffer (told_to d.terms.told b.id) st b.credits b.answer b.pending) is
+        (offer_at d.terms a b (Entry outcome) a.answer a.pending id credits is answer pending
+        (offer_copied (told_to d.terms.told a.id) outcome a.credits a.answer request rest a.pending front written
+        (subst (λ (st : Stage). HasOffer (told_to d.terms.told a.id) st a.credits a.answer a.pending) was serving.offer)))
+
     brought : AreBrought (told_to d.terms.told a.id) (request ∷ rest)
     brought = subst (AreBrought (told_to d.terms.told a.id)) front serving.brought
 
@@ -310,7 +337,7 @@ pub once_stated : SpellsOne → (a b : Desk) (s s' : List PipeRow) (h h' : List 
     → (d : Held) → IsServing d.terms a h → Once d d a b s s' h h'
 once_stated one a b s s' h h' row reply cursor request rest command id pending was is front order says kept rows put d =
     once_to d a b s s' h h' (DataIn row reply cursor) (Answer (Served row)) b.answer b.buffers.given id pending was is refl refl kept rows put tt
-    (carried d.terms a h row (DataIn row reply cursor) (Answer (Served row)) a.answer a.buffers.given b.answer b.buffers.given may)
+    (carried d.terms a h row (DataIn row reply cursor) (Answer (Served row)) a.answer a.buffers.given b.answer b.buffers.given may) tt
   where
     may : (is : IsServed d.terms (staged a (DataIn row reply cursor) a.answer a.buffers.given) h row) → MayAnswer d.terms b.answer is.in_service.served
     may is =
@@ -324,14 +351,14 @@ once_stated one a b s s' h h' row reply cursor request rest command id pending w
 -- the same, or there was no memory for the answer and the service is where it was
 pub once_stated_if : SpellsOne → (a b : Desk) (s : List PipeRow) (h : List ServedRow) (row : ℕ) (reply : ScsiReply) (cursor : Cursor) (request : Request) (rest : List Request) (command : Cmd)
     (bytes : List ℕ) (result : Result (Unit {0}) NoMemory)
-    → b.id ≡ a.id → b.pending ≡ a.pending → a.stage ≡ DataIn row reply cursor → OnOk result (b.stage ≡ Answer (Served row)) → OnOk result (b.answer ≡ bytes) → OnErr result (b.stage ≡ a.stage)
+    → b.id ≡ a.id → b.credits ≡ a.credits → b.pending ≡ a.pending → a.stage ≡ DataIn row reply cursor → OnOk result (b.stage ≡ Answer (Served row)) → OnOk result (b.answer ≡ bytes) → OnErr result (b.stage ≡ a.stage)
     → OnErr result (b.answer ≡ a.answer) → b.buffers ≡ a.buffers → a.pending ≡ request ∷ rest → request.order ≡ Command command
     → Answers bytes (HasStatus request.tag (total_of command.out) (total_of command.inn) reply) → b.kept ≡ None → (d : Held) → IsServing d.terms a h → Once d d a b s s h h
-once_stated_if one a b s h row reply cursor request rest command bytes (Ok done) id pending was is answer err same buffers front order says kept d =
+once_stated_if one a b s h row reply cursor request rest command bytes (Ok done) id credits pending was is answer err same buffers front order says kept d =
     once_stated one a b s s h h row reply cursor request rest command id pending was is front order
     (subst (λ (xs : List ℕ). Answers xs (HasStatus request.tag (total_of command.out) (total_of command.inn) reply)) (sym answer) says) kept refl refl d
-once_stated_if one a b s h row reply cursor request rest command bytes (Err memory) id pending was is answer err same buffers front order says kept d =
-    once_still a b s s h h id err same buffers pending kept refl refl d
+once_stated_if one a b s h row reply cursor request rest command bytes (Err memory) id credits pending was is answer err same buffers front order says kept d =
+    once_still a b s s h h id credits err same buffers pending kept refl refl d
 
 -- the data-in were refused: the row keeps those that were copied, and the answer that says so is next
 pub once_cut : SpellsOne → (a b : Desk) (s : List PipeRow) (h h' : List ServedRow) (row n : ℕ) (reply : ScsiReply) (cursor : Cursor) (request : Request) (rest : List Request) (command : Cmd)
@@ -370,6 +397,7 @@ once_cut one a b s h h' row n reply cursor request rest command id pending was i
         kept = λ entry some_kept. absurd (cc (kept, some_kept));
         fetched = subst (λ (st : Stage). HasPieces (told_to d.terms.told b.id) st b.buffers.outs b.buffers.inns b.pending) (sym is) tt;
         brought = brought_at d.terms a b a.pending id pending serving.brought;
+        offer = subst (λ (st : Stage). HasOffer (told_to d.terms.told b.id) st b.credits b.answer b.pending) (sym is) tt;
       };
       answers = more_none a.id s s h h' refl (answers_filled a.id iu h h' row (take n old.inn) served.in_service there);
       others = only_there a.id iu h h' row served.in_service new served.in_service.unit_is there;
@@ -388,8 +416,9 @@ pub once_added : (d d' : Held) (a b : Desk) (s s' : List PipeRow) (h h' : List S
     → b.id ≡ a.id → b.pending ≡ request ∷ rest → b.kept ≡ None → b.stage ≡ stage → IsStageOf stage (length h)
     → served.unit ≡ a.id → served.iu ≡ request.unit.items → served.answer ≡ [] → h' ≡ h ++ served ∷ [] → responses s' ≡ responses s
     → d'.terms ≡ d.terms → HasPieces (told_to d'.terms.told b.id) stage b.buffers.outs b.buffers.inns b.pending → HoldsAtStage d'.terms stage b.answer b.buffers.given request served
-    → StaysServed d d' h h' → IfSome d.now (λ all. IsSome d'.now) → AreBrought (told_to d'.terms.told b.id) b.pending → Once d d' a b s s' h h'
-once_added d d' a b s s' h h' request rest served stage id front kept stage_is of unit iu blank added put terms fetched holds disk tells brought =
+    → StaysServed d d' h h' → IfSome d.now (λ all. IsSome d'.now) → AreBrought (told_to d'.terms.told b.id) b.pending
+    → HasOffer (told_to d'.terms.told b.id) stage b.credits b.answer b.pending → Once d d' a b s s' h h'
+once_added d d' a b s s' h h' request rest served stage id front kept stage_is of unit iu blank added put terms fetched holds disk tells brought offer =
     let q : Place = record { id = b.id; stage = stage; answer = b.answer; given = b.buffers.given; pending = b.pending } in
     let served' : IsServed d'.terms q h' (length h) = record {
       request = request;
@@ -407,6 +436,7 @@ once_added d d' a b s s' h h' request rest served stage id front kept stage_is o
         kept = λ entry some. absurd (cc (kept, some));
         fetched = subst (λ (st : Stage). HasPieces (told_to d'.terms.told b.id) st b.buffers.outs b.buffers.inns b.pending) (sym stage_is) fetched;
         brought = brought;
+        offer = subst (λ (st : Stage). HasOffer (told_to d'.terms.told b.id) st b.credits b.answer b.pending) (sym stage_is) offer;
       };
       answers = more_none a.id s s' h h' put (answers_blank a.id h h' served blank added);
       others = subst (OnlyRowsOf a.id h) (sym added) (stays_one a.id h served unit);
@@ -425,16 +455,17 @@ pub says_none : (bytes : List ℕ) (P : Rsp → Type 0) → bytes ≡ [] → Ans
 says_none bytes P none = subst (λ (xs : List ℕ). Answers xs P) (sym none) tt
 
 -- an answer without a row is next, or there was no memory for it and the service is where it was
-pub once_judged : (a b : Desk) (s : List PipeRow) (h : List ServedRow) (outcome : Outcome) (result : Result (Unit {0}) NoMemory) → b.id ≡ a.id → b.pending ≡ a.pending → b.kept ≡ None
+pub once_judged : (a b : Desk) (s : List PipeRow) (h : List ServedRow) (outcome : Outcome) (result : Result (Unit {0}) NoMemory) → b.id ≡ a.id → b.credits ≡ a.credits → b.pending ≡ a.pending → b.kept ≡ None
     → ((P : ℕ → Type 0) → IfRow (Answer outcome) P) → OnOk result (b.stage ≡ Answer outcome) → OnErr result (b.stage ≡ a.stage) → OnErr result (b.answer ≡ a.answer) → b.buffers ≡ a.buffers
-    → (d : Held) → IsServing d.terms a h → Once d d a b s s h h
-once_judged a b s h outcome (Ok done) id pending kept none ok err same buffers d serving =
+    → (d : Held) → OnOk result (HasOffer (told_to d.terms.told b.id) (Answer outcome) b.credits b.answer b.pending) → IsServing d.terms a h → Once d d a b s s h h
+once_judged a b s h outcome (Ok done) id credits pending kept none ok err same buffers d offer serving =
     once_goes a b s s h h id kept refl refl d
     (subst (λ st. IfRow st (IsServed d.terms (place_of b) h)) (sym ok) (none (IsServed d.terms (place_of b) h)))
     (subst (λ st. HasPieces (told_to d.terms.told b.id) st b.buffers.outs b.buffers.inns b.pending) (sym ok) tt)
     (brought_at d.terms a b a.pending id pending serving.brought)
-once_judged a b s h outcome (Err memory) id pending kept none ok err same buffers d serving =
-    once_still a b s s h h id err same buffers pending kept refl refl d serving
+    (subst (λ st. HasOffer (told_to d.terms.told b.id) st b.credits b.answer b.pending) (sym ok) offer)
+once_judged a b s h outcome (Err memory) id credits pending kept none ok err same buffers d offer serving =
+    once_still a b s s h h id credits err same buffers pending kept refl refl d serving
 
 -- the same between desks that are equal to these
 pub once_between : (a b a' b' : Desk) (s s' : List PipeRow) (h h' : List ServedRow) → a' ≡ a → b' ≡ b → (d d' : Held) → (IsServing d.terms a h → Once d d' a b s s' h h')
@@ -469,9 +500,13 @@ pub front_is : (items : List Request) (request : Request) → (0 < length items)
 front_is [] request is = absurd (omega (arith, is.0))
 front_is (item ∷ items) request is = (items, ap (λ (x : Request). x ∷ items) (sym (is.1 request)))
 
-pub desk_is : (id : UnitId) (service : Service) (kept kept' : Option Kept) (pending pending' : List Request) → kept' ≡ kept → pending' ≡ pending
-    → desk_at id service kept' pending' ≡ desk_at id service kept pending
-desk_is id service kept kept' pending pending' kept_is pending_is = λ i. desk_at id service (kept_is i) (pending_is i)
+pub desk_is : (id : UnitId) (credits : ℕ) (service : Service) (kept kept' : Option Kept) (pending pending' : List Request) → kept' ≡ kept → pending' ≡ pending
+    → desk_at id credits service kept' pending' ≡ desk_at id credits service kept pending
+desk_is id credits service kept kept' pending pending' kept_is pending_is = λ i. desk_at id credits service (kept_is i) (pending_is i)
+
+-- the same desk of a unit whose logins grant as many requests
+pub desk_credits : (unit : ServerUnit) (logins : Logins) → logins.granted ≡ unit.logins.granted → desk_of (record unit { logins = logins }) ≡ desk_of unit
+desk_credits unit logins same = λ i. record (desk_of unit) { credits = same i }
 
 pub entry_none : (next : Next) (kept : Option Kept) → AsNone (Ok next) kept → next ≡ nexts.Entry → kept ≡ None
 entry_none nexts.Entry kept none is = none

@@ -42,6 +42,7 @@ serving_stays unit terms desk h h' apart only serving = record {
   kept = serving.kept;
   fetched = serving.fetched;
   brought = serving.brought;
+  offer = serving.offer;
 }
 
 pub get_set_same : (units : List Unit) (i : ℕ) (old new : Unit) → slice_get units i ≡ Some old → slice_get (slice_set units i new) i ≡ Some new

@@ -14,11 +14,13 @@ pub mod Entries
 pub mod Fates
 pub mod Heard
 pub mod Fetched
+pub mod Granting
 pub mod Judged
 pub mod Judges
 pub mod Kept
 pub mod Makers
 pub mod Moves
+pub mod Numbers
 pub mod Orders
 pub mod Owed
 pub mod Parts

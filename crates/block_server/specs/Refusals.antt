@@ -1,34 +1,31 @@
 -- Why a session of a server unit ends as refused: its client's window denied a range (SRP, "Information unit classes"; LoPAR,
 -- "Remote DMA").
-use Rattle.std.specs.Prelude.{⊤, ◌≡◌, ◌⊎◌, ◌++◌, ℕ, Bool, true, All, List, [], ◌∷◌, Option, Some, None, IfSome}
+use Rattle.std.specs.Prelude.{⊤, ◌≡◌, ◌⊎◌, ◌++◌, ℕ, Bool, true, All, List, [], ◌∷◌, Option, Some, None, IfSome, length}
 use Rattle.std.specs.List.{slice_get}
-use Rattle.crq_ring.specs.Sessions.{of_session}
 use Rattle.crq_ring.specs.declared.rows.PipeRow.{PipeRow}
 use Rattle.crq_session.specs.EndState.{EndState}
 use Rattle.tce_window.specs.declared.answers.HoldFault.{HoldFault}
 use Rattle.tce_window.specs.declared.answers.Right.TheVariants.{Read, Write}
-use Rattle.vio_num.specs.Entry.{is_srp_entry, iu_address, iu_length}
+use Rattle.vio_num.specs.Entry.{iu_address, iu_length}
 use Rattle.vio_num.specs.declared.entry.Entry.{Entry}
 use Rattle.vio_num.specs.declared.history.Grant.{Grant}
 use Rattle.vio_num.specs.declared.history.Grant.TheVariants.{Granted, Lapsed}
 use Rattle.vio_num.specs.declared.history.Lapse.TheVariants as lapses
+use Rattle.vio_num.specs.declared.history.Served.{Served}
 use Rattle.vio_num.specs.declared.names.UnitId.{UnitId}
 use Rattle.block_server.specs.Causes.{Hearing, Told, told_to}
 use Rattle.block_server.specs.Causes.News.{denied}
 use Rattle.block_server.specs.Entries.{is_answer_len}
+use Rattle.block_server.specs.Granting.{IsGrantedOver, IsSrpAt}
 use Rattle.block_server.specs.Heard.{TellsAll}
 use Rattle.block_server.specs.Makers.{same_unit}
 use Rattle.block_server.specs.Receipts.{is_ended}
+use Rattle.block_server.specs.Serving.{Desk, IsServing, Terms}
 use Rattle.block_server.specs.SiteState.{IsDeniedBetween, SiteState}
 use Rattle.block_server.specs.declared.records.Records.{Records}
 use Rattle.block_server.specs.declared.request.Arrival.{Arrival}
 use Rattle.block_server.specs.declared.request.Request.{Request}
 use Rattle.block_server.specs.declared.unit.Unit.{Unit}
-
--- An SRP entry was taken in the session, and has this number there.
-pub record IsSrpAt (taken : List PipeRow) (session number : ℕ) (entry : Entry) : Type 0 where
-  pub there : slice_get (of_session session taken) number ≡ Some entry
-  pub srp : is_srp_entry entry ≡ true
 
 -- The window denied to have the information unit of an entry that was taken in the session read.
 pub record IsNotRead (Hears : Hearing) (taken : List PipeRow) (session : ℕ) : Type 0 where
@@ -48,12 +45,13 @@ pub record IsNotWritten (Hears : Hearing) (taken : List PipeRow) (session : ℕ)
   pub fault : HoldFault
   pub told : Hears (denied Write (iu_address entry) len fault)
 
--- A line of the unit that says that its session ended as refused has such a cause.
-abbrev pub HasRefusal : Hearing → UnitId → List PipeRow → Grant → Type 0
-HasRefusal Hears unit taken (Granted of session login number credits) = ⊤
-HasRefusal Hears unit taken (Lapsed of session login lapses.Refused outstanding granted) =
+-- A line of the unit that says that its session ended as refused has such a cause, and one that grants a login was granted
+-- over its request.
+abbrev pub IsExplained : Hearing → UnitId → List PipeRow → Grant → Type 0
+IsExplained Hears unit taken (Granted of session login number credits) = same_unit of unit ≡ true → IsGrantedOver Hears taken session number credits
+IsExplained Hears unit taken (Lapsed of session login lapses.Refused outstanding granted) =
     same_unit of unit ≡ true → IsNotRead Hears taken session ⊎ IsNotWritten Hears taken session
-HasRefusal Hears unit taken (Lapsed of session login cause outstanding granted) = ⊤
+IsExplained Hears unit taken (Lapsed of session login cause outstanding granted) = ⊤
 
 -- KEPT BETWEEN TURNS -----------------------------------------------------------------------------
 
@@ -80,11 +78,13 @@ basis_at unit session taken records = record {
 abbrev pub basis_of : Unit → SiteState → Records → Basis
 basis_of unit site records = basis_at unit site.queue.last_session site.queue.taken records
 
--- The request came by an SRP entry that was taken in the session, and is to be answered at the address that this names.
+-- The request came by an SRP entry that was taken in the session: its information unit has the length that this names, and
+-- is to be answered at the address.
 pub record HasEntry (taken : List PipeRow) (session : ℕ) (request : Request) : Type 0 where
   pub entry : Entry
   pub at : IsSrpAt taken session request.number entry
   pub address : request.address ≡ iu_address entry
+  pub long : length request.unit.items ≡ iu_length entry
 
 -- What waits and what is pending came by entries of the session, and each line behind these has its cause.
 pub record AreExplained (told : Told → Bool) (unit : UnitId) (since : List Grant) (basis : Basis) : Type 0 where
@@ -93,7 +93,7 @@ pub record AreExplained (told : Told → Bool) (unit : UnitId) (since : List Gra
   pub idle : basis.ended ≡ true → (basis.waiting ≡ None) × (basis.pending ≡ [])
   pub more : List Grant
   pub lines : basis.lines ≡ since ++ more
-  pub each : All (HasRefusal (told_to told unit) unit basis.taken) more
+  pub each : All (IsExplained (told_to told unit) unit basis.taken) more
 
 -- This stays so, whatever was told.
 abbrev pub Explains : (old new : Basis) → Type 0
@@ -103,6 +103,14 @@ Explains old new = (told : Told → Bool) (unit : UnitId) (since : List Grant) �
 abbrev pub ExplainsBy : (old new : SiteState) → (basis basis' : Basis) → Type 0
 ExplainsBy old new basis basis' =
     (told : Told → Bool) (unit : UnitId) (since : List Grant) → TellsAll told unit old new → AreExplained told unit since basis → AreExplained told unit since basis'
+
+-- It stays so of a unit whose desk is in order, on these terms; and of one where all that came between was told to it.
+abbrev pub ExplainsOf : Terms → Desk → List Served → (old new : Basis) → Type 0
+ExplainsOf terms desk history old new =
+    IsServing terms desk history → (since : List Grant) → AreExplained terms.told desk.id since old → AreExplained terms.told desk.id since new
+
+abbrev pub ExplainsOn : Terms → (old new : SiteState) → Desk → List Served → (basis basis' : Basis) → Type 0
+ExplainsOn terms old new desk history basis basis' = TellsAll terms.told desk.id old new → ExplainsOf terms desk history basis basis'
 
 -- The window denied to have an answer written over the oldest request.
 pub record DeniesAnswer (old new : SiteState) (pending : List Request) : Type 0 where
@@ -124,9 +132,9 @@ basis_seen unit queue grants = record {
 }
 
 -- The unit of this number has its refusals explained, behind these lines.
-abbrev pub HasRefusals : (told : Told → Bool) → List Unit → (number : ℕ) → (unit : UnitId) → EndState → (since grants : List Grant) → Type 0
-HasRefusals told units number unit queue since grants = IfSome (slice_get units number) (λ u. AreExplained told unit since (basis_seen u queue grants))
+abbrev pub HasExplained : (told : Told → Bool) → List Unit → (number : ℕ) → (unit : UnitId) → EndState → (since grants : List Grant) → Type 0
+HasExplained told units number unit queue since grants = IfSome (slice_get units number) (λ u. AreExplained told unit since (basis_seen u queue grants))
 
 -- Units of which nothing waits and nothing is pending, whatever their names are, over any queue and behind any lines.
-abbrev pub RefuseNone : List Unit → Type 0
-RefuseNone units = (told : Told → Bool) (number : ℕ) (unit : UnitId) (queue : EndState) (grants : List Grant) → HasRefusals told units number unit queue grants grants
+abbrev pub ExplainNone : List Unit → Type 0
+ExplainNone units = (told : Told → Bool) (number : ℕ) (unit : UnitId) (queue : EndState) (grants : List Grant) → HasExplained told units number unit queue grants grants

@@ -31,13 +31,16 @@ use Rattle.block_server.specs.DiskLaw.{HasData, ServeBy, ServesRowBy, handed_ove
 use Rattle.block_server.specs.Fetched.{HasPieces, Buffers, buffers_of}
 use Rattle.block_server.specs.Answering.{AnswersMore, IsInService, OnlyRowsOf}
 use Rattle.block_server.specs.Entries.{IsPlain}
+use Rattle.block_server.specs.Granting.{HasOffer}
 use Rattle.block_server.specs.Records.{AnswersRow, FillsRow}
 use Rattle.block_server.specs.Written.{AreWritten, IsWrittenOver}
 
 -- What a unit has in service: how far the oldest request's service has come, its answer and its data, the entry that found
--- the client's queue full, and the requests that are not answered, the oldest first.
+-- the client's queue full, and the requests that are not answered, the oldest first; and how many requests a login grants.
 pub record Desk : Type 0 where
   pub id : UnitId
+  -- how many requests a login grants
+  pub credits : ℕ
   pub stage : Stage
   pub answer : List ℕ
   pub buffers : Buffers
@@ -47,6 +50,7 @@ pub record Desk : Type 0 where
 abbrev pub desk_of : Unit → Desk
 desk_of unit = record {
   id = unit.id;
+  credits = unit.logins.granted;
   stage = unit.service.stage;
   answer = unit.service.answer.items;
   buffers = buffers_of unit.service;
@@ -55,9 +59,10 @@ desk_of unit = record {
 }
 
 -- the same while a service is apart from its unit, which keeps no entry
-abbrev pub desk_at : UnitId → Service → Option Kept → List Request → Desk
-desk_at id service kept pending = record {
+abbrev pub desk_at : UnitId → (credits : ℕ) → Service → Option Kept → List Request → Desk
+desk_at id credits service kept pending = record {
   id = id;
+  credits = credits;
   stage = service.stage;
   answer = service.answer.items;
   buffers = buffers_of service;
@@ -154,13 +159,14 @@ abbrev pub AreBrought : Hearing → List Request → Type 0
 AreBrought Hears [] = ⊤
 AreBrought Hears (request ∷ requests) = Hears (fetched request.address units_at request.unit.items) × AreBrought Hears requests
 
--- The desk is in order: its row is in service, what it keeps may be put, the pieces that were fetched are its request's, and
--- its requests were brought.
+-- The desk is in order: its row is in service, what it keeps may be put, the pieces that were fetched are its request's, its
+-- requests were brought, and a login that is to be granted was offered.
 pub record IsServing (terms : Terms) (desk : Desk) (history : List ServedRow) : Type 0 where
   pub row : IfRow desk.stage (IsServed terms (place_of desk) history)
   pub kept : (kept : Kept) → desk.kept ≡ Some kept → IsKept desk kept
   pub fetched : HasPieces (told_to terms.told desk.id) desk.stage desk.buffers.outs desk.buffers.inns desk.pending
   pub brought : AreBrought (told_to terms.told desk.id) desk.pending
+  pub offer : HasOffer (told_to terms.told desk.id) desk.stage desk.credits desk.answer desk.pending
 
 -- The rows took these blocks, as many as the disk has, to others.
 pub record ServeFrom (terms : Terms) (before : List (List ℕ)) (history : List ServedRow) (all : List (List ℕ)) : Type 0 where

@@ -16,7 +16,7 @@ ghost use Rattle.block_server.specs.Moves.{Passes};
 ghost use Rattle.block_server.specs.Owed.{AreCutOff, HasAnswers, IsUp, KeepsAnswers, KeepsAnswersBy, row_states, owing_of};
 ghost use Rattle.block_server.specs.Receipts.{LinesMore, TakesIn, is_ended, standing_of};
 ghost use Rattle.block_server.specs.Ready.{MeetsFull};
-ghost use Rattle.block_server.specs.Refusals.{DeniesAnswer, Explains, ExplainsBy, basis_at, basis_of};
+ghost use Rattle.block_server.specs.Refusals.{DeniesAnswer, Explains, ExplainsBy, ExplainsOf, ExplainsOn, basis_at, basis_of};
 ghost use Rattle.crq_ring.specs.declared.rows.PipeRow.{PipeRow};
 ghost use Rattle.block_server.specs.Stage.{is_answered};
 ghost use Rattle.block_server.specs.Turns.{IfQuiet};
@@ -325,7 +325,8 @@ pub(crate) fn answer<S: Site>(
         (books_at unit.new (S.state site.new) records.new) }
     ensures cargo { KeepsCargo (cargo_of unit.old (S.state site.old) records.old)
         (cargo_of unit.new (S.state site.new) records.new) }
-    ensures refuses { ExplainsBy (S.state site.old) (S.state site.new)
+    ensures refuses { (terms : Terms) → ExplainsOn terms (S.state site.old) (S.state site.new)
+        (desk_of unit.old) records.old.history.items
         (basis_of unit.old (S.state site.old) records.old)
         (basis_of unit.new (S.state site.new) records.new) }
 {
@@ -461,7 +462,8 @@ fn put_answer<S: Site>(unit: &mut Unit, site: &mut S, records: &mut Records, out
         records.old records.new }
     ensures cargo { cargo_of unit.new (S.state site.new) records.new ≡
         cargo_of unit.old (S.state site.old) records.old }
-    ensures refuses { Explains
+    ensures refuses { (terms : Terms) → ExplainsOf terms
+        (desk_of unit.old) records.old.history.items
         (basis_of unit.old (S.state site.old) records.old)
         (basis_of unit.new (S.state site.new) records.new) }
 {
@@ -515,7 +517,8 @@ pub(crate) fn put_kept<S: Site>(
         IsServing terms (desk_of unit.old) records.old.history.items →
         cargo_of unit.new (S.state site.new) records.new ≡
         cargo_of unit.old (S.state site.old) records.old }
-    ensures refuses { Explains
+    ensures refuses { (terms : Terms) → ExplainsOf terms
+        (desk_of unit.old) records.old.history.items
         (basis_of unit.old (S.state site.old) records.old)
         (basis_of unit.new (S.state site.new) records.new) }
 {
@@ -567,8 +570,11 @@ fn settle(unit: &mut Unit, session: u64, records: &mut Records, outcome: Outcome
         is_ended unit.old.line ≡ false → IsUp q → HasAnswers (owing_of unit.old q records.old) →
         HasAnswers (owing_of unit.new q records.new) }
     ensures rows { rows_of records.new.history.items ≡ rows_of records.old.history.items }
-    ensures refuses { (queue : ℕ) → (taken : List PipeRow) → Explains
-        (basis_at unit.old queue taken records.old) (basis_at unit.new queue taken records.new) }
+    ensures refuses { (terms : Terms) → (taken : List PipeRow) →
+        unit.old.service.stage ≡ Stage.Entry outcome →
+        ExplainsOf terms (desk_of unit.old) records.old.history.items
+        (basis_at unit.old session taken records.old)
+        (basis_at unit.new session taken records.new) }
 {
     match outcome {
         Outcome::Granted { number } => {

@@ -3,7 +3,8 @@ ghost use Rattle.block_server.specs.Cargo.{KeepsCargo, cargo_at, cargo_of};
 ghost use Rattle.std.specs.Prelude.{◌≡◌, ◌⊎◌, ◌↔◌, ◌+◌, ◌<◌, ◌≤◌, ℕ, List, None, Some, IfOk, IsTrue, OnOk, false, true, length, slice_index};
 ghost use Rattle.std.specs.VecDeque.{deque_len, deque_capacity};
 ghost use Rattle.block_server.specs.Records.{HasLineRoom};
-ghost use Rattle.block_server.specs.Refusals.{Explains, ExplainsBy, IsSrpAt, basis_at, basis_of};
+ghost use Rattle.block_server.specs.Refusals.{Explains, ExplainsBy, basis_at, basis_of};
+ghost use Rattle.block_server.specs.Granting.{IsSrpAt};
 ghost use Rattle.crq_ring.specs.declared.rows.PipeRow.{PipeRow};
 ghost use Rattle.block_server.specs.Advances.{Advances};
 ghost use Rattle.block_server.specs.Ready.{Idles};
@@ -20,7 +21,7 @@ ghost use Rattle.block_server.specs.Judged.{Ahead, Asks, Keeps, gets_row};
 ghost use Rattle.block_server.specs.Verdicts.{IsTagged};
 ghost use Rattle.crq_session.specs.EndState.{EndState};
 ghost use Rattle.srp_iu.specs.Grammar.{Spells};
-ghost use Rattle.vio_num.specs.Entry.{first_byte, iu_address};
+ghost use Rattle.vio_num.specs.Entry.{first_byte, iu_address, iu_length};
 ghost use Rattle.block_server.specs.Causes.{units_at};
 ghost use Rattle.block_server.specs.Causes.News.{fetched};
 ghost use Rattle.srp_iu.specs.Layout.{field};
@@ -414,7 +415,8 @@ fn judge(
         (cargo_at unit.new.id unit.new.service shown records.new.history.items) }
     ensures refuses { (queue : ℕ) → (taken : List PipeRow) →
         is_ended unit.old.line ≡ false → unit.old.waiting ≡ None →
-        IsSrpAt taken queue arrival.number arrival.entry → Explains
+        IsSrpAt taken queue arrival.number arrival.entry →
+        length bytes.now ≡ iu_length arrival.entry → Explains
         (basis_at unit.old queue taken records.old) (basis_at unit.new queue taken records.new) }
 {
     match judge_unit(&mut unit.logins, bytes) {

@@ -12,7 +12,7 @@ ghost use Rattle.block_server.specs.Makers.{AreNamed};
 ghost use Rattle.block_server.specs.Owed.{HaveAnswers, OweNone};
 ghost use Rattle.block_server.specs.Receipts.{AwaitNone, HasIntake, LinesMore, Receipt};
 ghost use Rattle.block_server.specs.Ready.{AgreesAt, AreDown, UnitWaits};
-ghost use Rattle.block_server.specs.Refusals.{HasRefusals, RefuseNone};
+ghost use Rattle.block_server.specs.Refusals.{HasExplained, ExplainNone};
 ghost use Rattle.block_server.specs.Turns.{IsStill, way_of};
 ghost use Rattle.block_server.specs.SiteState.{AreReady};
 ghost use Rattle.block_server.specs.Serving.{Terms};
@@ -84,7 +84,7 @@ impl<B: Blocks> Server<B> {
         ensures unused { IfOk result (λ server. AreUnused server.units.items) }
         ensures unanswered { IfOk result (λ server. OweNone server.units.items) }
         ensures idle { IfOk result (λ server. AreIdle server.units.items) }
-        ensures unrefused { IfOk result (λ server. RefuseNone server.units.items) }
+        ensures unrefused { IfOk result (λ server. ExplainNone server.units.items) }
     {
         let Ok(units) = make_units(alloc, partition, grant, units) else {
             return Err(image);
@@ -192,11 +192,13 @@ impl<B: Blocks> Server<B> {
             self.old.records.history.items self.old.records.grants.items →
             ∥ HaveAnswers self.new.units.items unit (O.state own.old).place.unit
             (C.state crq.new) self.new.records.history.items self.new.records.grants.items ∥₁ }
-        ensures refuses { (told : Told → Bool) → Tells told (O.state own.old).place.unit
+        ensures explains { (told : Told → Bool) → Tells told (O.state own.old).place.unit
             R.is_shared (O.state own.new) (R.state client.old) (R.state client.new)
-            self.old.copies.items self.new.copies.items → (since : List Grant) → HasRefusals
+            self.old.copies.items self.new.copies.items → AreInOrder told
+            self.old.disk.count self.old.partition self.old.units.items self.old.records →
+            (since : List Grant) → HasExplained
             told self.old.units.items unit (O.state own.old).place.unit (C.state crq.old)
-            since self.old.records.grants.items → HasRefusals
+            since self.old.records.grants.items → HasExplained
             told self.new.units.items unit (O.state own.old).place.unit (C.state crq.new)
             since self.new.records.grants.items }
     {
@@ -264,7 +266,7 @@ fn make_units(alloc: Global, partition: u8, grant: u8, count: u8) -> Result<Vec<
     ensures unused { IfOk result (λ units. AreUnused units.items) }
     ensures unanswered { IfOk result (λ units. OweNone units.items) }
     ensures idle { IfOk result (λ units. AreIdle units.items) }
-    ensures unrefused { IfOk result (λ units. RefuseNone units.items) }
+    ensures unrefused { IfOk result (λ units. ExplainNone units.items) }
 {
     let mut units = Vec::new(alloc);
     for unit in 0..count {

@@ -15,7 +15,7 @@ ghost use Rattle.block_server.specs.Receipts.{TakesIn, standing_of};
 ghost use Rattle.block_server.specs.Orders.{IsCauseOf, IsCodeOf};
 ghost use Rattle.block_server.specs.Records.{AddsRow};
 ghost use Rattle.block_server.specs.Responses.{GrantsLogin};
-ghost use Rattle.block_server.specs.Refusals.{ExplainsBy, basis_of};
+ghost use Rattle.block_server.specs.Refusals.{ExplainsOn, basis_of};
 ghost use Rattle.block_server.specs.Serving.{AnswersOnce, AnswersOnceIf, AnswersOnceOn, IsServing, desk_at, desk_of, held, terms_of};
 ghost use Rattle.block_server.specs.Heard.{TellsAll, heard_between};
 ghost use Rattle.tce_window.specs.declared.answers.Right.TheVariants.{Write};
@@ -86,7 +86,8 @@ pub(crate) fn serve<S: Site, B: Blocks>(
         IsServing (terms_of told disk.old.count) (desk_of unit.old) records.old.history.items →
         IsAccounted told (cargo_of unit.old (S.state site.old) records.old) →
         IsAccounted told (cargo_of unit.new (S.state site.new) records.new) }
-    ensures refuses { ExplainsBy (S.state site.old) (S.state site.new)
+    ensures refuses { (told : Told → Bool) → ExplainsOn (terms_of told disk.old.count)
+        (S.state site.old) (S.state site.new) (desk_of unit.old) records.old.history.items
         (basis_of unit.old (S.state site.old) records.old)
         (basis_of unit.new (S.state site.new) records.new) }
 {
@@ -147,8 +148,8 @@ fn prepare<S: Site, B: Blocks>(
         (rest : List Request) → AnswersOnceOn
         (held told disk.old.count (B.state disk.old.image).blocks)
         (held told disk.new.count (B.state disk.new.image).blocks)
-        (desk_at id service.old None (request.now ∷ rest))
-        (desk_at id service.new None (request.now ∷ rest))
+        (desk_at id logins.now.granted service.old None (request.now ∷ rest))
+        (desk_at id logins.now.granted service.new None (request.now ∷ rest))
         (S.state site.old).queue (S.state site.new).queue records.old records.new }
     ensures went { OnOk result (request.now.order ≢ Order.Logout →
         is_answered service.new.stage ≡ true ⊎ MeetsUse (S.state site.old) (S.state site.new)) }
@@ -168,7 +169,7 @@ fn prepare<S: Site, B: Blocks>(
         records.old.history.items records.new.history.items }
     ensures cargo { (told : Told → Bool) →
         TellsAll told id (S.state site.old) (S.state site.new) → (rest : List Request) →
-        IsServing (terms_of told disk.old.count) (desk_at id service.old None (request.now ∷ rest))
+        IsServing (terms_of told disk.old.count) (desk_at id logins.now.granted service.old None (request.now ∷ rest))
         records.old.history.items →
         IsAccounted told (cargo_at id service.old (data_bytes (S.state site.old).own)
         records.old.history.items) →
@@ -208,9 +209,11 @@ fn judge_login(
     number: u64,
     login: &LoginReq,
 ) -> Result<(), NoMemory>
-    ensures once { (id : UnitId) → (pending : List Request) → (q : EndState) →
-        (records : Records) → AnswersOnce (desk_at id service.old None pending)
-        (desk_at id service.new None pending) q q records records }
+    ensures once { (id : UnitId) → (front : Request) → (rest : List Request) →
+        front.number ≡ number → front.order ≡ Order.Login login.now →
+        (q : EndState) → (records : Records) → AnswersOnce
+        (desk_at id logins.now.granted service.old None (front ∷ rest))
+        (desk_at id logins.now.granted service.new None (front ∷ rest)) q q records records }
     ensures granted { OnOk result (service.new.stage ≡ Stage.Answer (Outcome.Granted number) →
         IsGrantable logins.now.current login.now) }
     ensures rejected { OnOk result (service.new.stage ≡ Stage.Answer Outcome.Rejected →
@@ -263,10 +266,10 @@ fn add_code(
     code: ResponseCode,
 ) -> Result<(), NoMemory>
     requires code { IsCodeOf request.now.order code }
-    ensures once { (rest : List Request) → (q : EndState) → AnswersOnceIf
+    ensures once { (credits : ℕ) → (rest : List Request) → (q : EndState) → AnswersOnceIf
         (λ Hears. IsCauseOf Hears request.now.order)
-        (desk_at id service.old None (request.now ∷ rest))
-        (desk_at id service.new None (request.now ∷ rest)) q q records.old records.new }
+        (desk_at id credits service.old None (request.now ∷ rest))
+        (desk_at id credits service.new None (request.now ∷ rest)) q q records.old records.new }
     ensures row { OnOk result (AddsRow id session request.now records.old records.new) }
     ensures stage { OnOk result (service.new.stage ≡
         Stage.Answer (Outcome.Served (length records.old.history.items))) }
@@ -300,11 +303,11 @@ fn serve_command<S: Site, B: Blocks>(
 ) -> Result<(), NoMemory>
     requires asked { request.now.order ≡ Order.Command command.now }
     ensures once { (told : Told → Bool) → TellsAll told id (S.state site.old) (S.state site.new) →
-        (rest : List Request) → AnswersOnceOn
+        (credits : ℕ) → (rest : List Request) → AnswersOnceOn
         (held told disk.old.count (B.state disk.old.image).blocks)
         (held told disk.new.count (B.state disk.new.image).blocks)
-        (desk_at id service.old None (request.now ∷ rest))
-        (desk_at id service.new None (request.now ∷ rest))
+        (desk_at id credits service.old None (request.now ∷ rest))
+        (desk_at id credits service.new None (request.now ∷ rest))
         (S.state site.old).queue (S.state site.new).queue records.old records.new }
     ensures went { OnOk result (is_answered service.new.stage ≡ true ⊎
         MeetsUse (S.state site.old) (S.state site.new)) }
@@ -319,8 +322,8 @@ fn serve_command<S: Site, B: Blocks>(
         service.old.stage service.new.stage
         records.old.history.items records.new.history.items }
     ensures cargo { (told : Told → Bool) →
-        TellsAll told id (S.state site.old) (S.state site.new) → (rest : List Request) →
-        IsServing (terms_of told disk.old.count) (desk_at id service.old None (request.now ∷ rest))
+        TellsAll told id (S.state site.old) (S.state site.new) → (credits : ℕ) → (rest : List Request) →
+        IsServing (terms_of told disk.old.count) (desk_at id credits service.old None (request.now ∷ rest))
         records.old.history.items →
         IsAccounted told (cargo_at id service.old (data_bytes (S.state site.old).own)
         records.old.history.items) →
@@ -344,11 +347,11 @@ fn run_step<S: Site, B: Blocks>(
 ) -> Result<(), NoMemory>
     requires asked { request.now.order ≡ Order.Command command.now }
     ensures once { (told : Told → Bool) → TellsAll told id (S.state site.old) (S.state site.new) →
-        (rest : List Request) → AnswersOnceOn
+        (credits : ℕ) → (rest : List Request) → AnswersOnceOn
         (held told disk.old.count (B.state disk.old.image).blocks)
         (held told disk.new.count (B.state disk.new.image).blocks)
-        (desk_at id service.old None (request.now ∷ rest))
-        (desk_at id service.new None (request.now ∷ rest))
+        (desk_at id credits service.old None (request.now ∷ rest))
+        (desk_at id credits service.new None (request.now ∷ rest))
         (S.state site.old).queue (S.state site.new).queue records.old records.new }
     ensures went { OnOk result (is_before_step service.new.stage ≡ false ⊎
         MeetsUse (S.state site.old) (S.state site.new)) }
@@ -363,8 +366,8 @@ fn run_step<S: Site, B: Blocks>(
         service.old.stage service.new.stage
         records.old.history.items records.new.history.items }
     ensures cargo { (told : Told → Bool) →
-        TellsAll told id (S.state site.old) (S.state site.new) → (rest : List Request) →
-        IsServing (terms_of told disk.old.count) (desk_at id service.old None (request.now ∷ rest))
+        TellsAll told id (S.state site.old) (S.state site.new) → (credits : ℕ) → (rest : List Request) →
+        IsServing (terms_of told disk.old.count) (desk_at id credits service.old None (request.now ∷ rest))
         records.old.history.items →
         IsAccounted told (cargo_at id service.old (data_bytes (S.state site.old).own)
         records.old.history.items) →
@@ -390,9 +393,9 @@ fn run_step<S: Site, B: Blocks>(
 
 // Writes the data-in that the disk step gave to the unit's region, if that is to be done.
 fn store<S: Site>(service: &mut Service, request: &Request, site: &mut S) -> Result<(), NoMemory>
-    ensures once { (id : UnitId) → (rest : List Request) → (records : Records) → AnswersOnce
-        (desk_at id service.old None (request.now ∷ rest))
-        (desk_at id service.new None (request.now ∷ rest))
+    ensures once { (id : UnitId) → (credits : ℕ) → (rest : List Request) → (records : Records) → AnswersOnce
+        (desk_at id credits service.old None (request.now ∷ rest))
+        (desk_at id credits service.new None (request.now ∷ rest))
         (S.state site.old).queue (S.state site.new).queue records records }
     ensures went { OnOk result (is_before_step service.old.stage ≡ false →
         (is_before_step service.new.stage ≡ false) × (is_given service.new.stage ≡ false)) }
@@ -428,10 +431,10 @@ fn hand_over<S: Site>(
     requires asked { request.now.order ≡ Order.Command command.now }
     ensures once { (id : UnitId) → (told : Told → Bool) →
         TellsAll told id (S.state site.old) (S.state site.new) →
-        (size : ℕ) → (now : Option (List (List ℕ))) → (rest : List Request) →
+        (size : ℕ) → (now : Option (List (List ℕ))) → (credits : ℕ) → (rest : List Request) →
         AnswersOnceOn (held told size now) (held told size now)
-        (desk_at id service.old None (request.now ∷ rest))
-        (desk_at id service.new None (request.now ∷ rest))
+        (desk_at id credits service.old None (request.now ∷ rest))
+        (desk_at id credits service.new None (request.now ∷ rest))
         (S.state site.old).queue (S.state site.new).queue records.old records.new }
     ensures went { OnOk result (is_before_step service.old.stage ≡ false →
         is_given service.old.stage ≡ false → is_answered service.new.stage ≡ true ⊎
@@ -446,8 +449,8 @@ fn hand_over<S: Site>(
     ensures row { row_in service.new.stage ≡ row_in service.old.stage }
     ensures states { row_states records.new.history.items ≡ row_states records.old.history.items }
     ensures cargo { (id : UnitId) → (told : Told → Bool) →
-        TellsAll told id (S.state site.old) (S.state site.new) → (size : ℕ) → (rest : List Request) →
-        IsServing (terms_of told size) (desk_at id service.old None (request.now ∷ rest))
+        TellsAll told id (S.state site.old) (S.state site.new) → (size : ℕ) → (credits : ℕ) → (rest : List Request) →
+        IsServing (terms_of told size) (desk_at id credits service.old None (request.now ∷ rest))
         records.old.history.items →
         IsAccounted told (cargo_at id service.old (data_bytes (S.state site.old).own)
         records.old.history.items) →
@@ -472,11 +475,11 @@ fn make_step<S: Site, B: Blocks>(
     disk: &mut Disk<B>,
 ) -> Result<(), NoMemory>
     requires asked { request.now.order ≡ Order.Command command.now }
-    ensures once { (told : Told → Bool) → (rest : List Request) → AnswersOnceOn
+    ensures once { (told : Told → Bool) → (credits : ℕ) → (rest : List Request) → AnswersOnceOn
         (held told disk.old.count (B.state disk.old.image).blocks)
         (held told disk.new.count (B.state disk.new.image).blocks)
-        (desk_at id service.old None (request.now ∷ rest))
-        (desk_at id service.new None (request.now ∷ rest))
+        (desk_at id credits service.old None (request.now ∷ rest))
+        (desk_at id credits service.new None (request.now ∷ rest))
         (S.state site.old).queue (S.state site.new).queue records.old records.new }
     ensures went { OnOk result (is_data_out service.old.stage ≡ true →
         is_before_step service.new.stage ≡ false) }
@@ -592,10 +595,10 @@ fn end_command(
 ) -> Result<(), NoMemory>
     requires asked { request.now.order ≡ Order.Command command.now }
     requires some { progress ≡ Progress.Refused → 0 < length service.old.given.items }
-    ensures once { (id : UnitId) → (rest : List Request) → (q : EndState) → AnswersOnceIf
+    ensures once { (id : UnitId) → (credits : ℕ) → (rest : List Request) → (q : EndState) → AnswersOnceIf
         (λ Hears. progress ≡ Progress.Refused → RefusesIn Hears command.now)
-        (desk_at id service.old None (request.now ∷ rest))
-        (desk_at id service.new None (request.now ∷ rest)) q q records.old records.new }
+        (desk_at id credits service.old None (request.now ∷ rest))
+        (desk_at id credits service.new None (request.now ∷ rest)) q q records.old records.new }
     ensures went { OnOk result (is_data_in service.old.stage ≡ true → progress ≢ Progress.Busy →
         is_answered service.new.stage ≡ true) }
     ensures grants { records.new.grants.items ≡ records.old.grants.items }
@@ -635,10 +638,10 @@ fn refuse_data(
 ) -> Result<(), NoMemory>
     requires asked { request.now.order ≡ Order.Command command.now }
     requires some { 0 < length service.old.given.items }
-    ensures once { (id : UnitId) → (rest : List Request) → (q : EndState) → AnswersOnceIf
+    ensures once { (id : UnitId) → (credits : ℕ) → (rest : List Request) → (q : EndState) → AnswersOnceIf
         (λ Hears. RefusesIn Hears command.now)
-        (desk_at id service.old None (request.now ∷ rest))
-        (desk_at id service.new None (request.now ∷ rest)) q q records.old records.new }
+        (desk_at id credits service.old None (request.now ∷ rest))
+        (desk_at id credits service.new None (request.now ∷ rest)) q q records.old records.new }
     ensures went { OnOk result (is_data_in service.old.stage ≡ true →
         is_answered service.new.stage ≡ true) }
     ensures grants { records.new.grants.items ≡ records.old.grants.items }

@@ -65,7 +65,8 @@ pub(crate) fn turn<S: Site, B: Blocks>(
         IsServing (terms_of told disk.old.count) (desk_of unit.old) records.old.history.items →
         IsAccounted told (cargo_of unit.old (S.state site.old) records.old) →
         IsAccounted told (cargo_of unit.new (S.state site.new) records.new) }
-    ensures refuses { ExplainsBy (S.state site.old) (S.state site.new)
+    ensures refuses { (told : Told → Bool) → ExplainsOn (terms_of told disk.old.count)
+        (S.state site.old) (S.state site.new) (desk_of unit.old) records.old.history.items
         (basis_of unit.old (S.state site.old) records.old)
         (basis_of unit.new (S.state site.new) records.new) }
 {
@@ -112,7 +113,8 @@ fn steps<S: Site, B: Blocks>(
         IsServing (terms_of told disk.old.count) (desk_of unit.old) records.old.history.items →
         IsAccounted told (cargo_of unit.old (S.state site.old) records.old) →
         IsAccounted told (cargo_of unit.new (S.state site.new) records.new) }
-    ensures refuses { ExplainsBy (S.state site.old) (S.state site.new)
+    ensures refuses { (told : Told → Bool) → ExplainsOn (terms_of told disk.old.count)
+        (S.state site.old) (S.state site.new) (desk_of unit.old) records.old.history.items
         (basis_of unit.old (S.state site.old) records.old)
         (basis_of unit.new (S.state site.new) records.new) }
 {

@@ -31,7 +31,7 @@ pub returns-in-Ok-clause-once : goal.returns-in-Ok-clause-once
 returns-in-Ok-clause-once g c = λ records disk all serving.
     let front = front_is _ _ c.in-Some.ensures.item.3 in
     let same : c.deref.result.now ≡ c.args.unit.now.service.answer.items = search (rules, c.deref.ensures) in
-    once_copied _ _ _ _ _ _ c.args.outcome c.in-Some.request.now front.0 refl refl front.1 c.requires.stage refl refl c.requires.none refl
+    once_copied _ _ _ _ _ _ c.args.outcome c.in-Some.request.now front.0 refl refl refl front.1 c.requires.stage refl refl c.requires.none refl
     (ap (λ (q : EndState). responses q.sent) c.deliver_unit.ensures.queue) disk
     (heard_delivered disk.terms.told c.args.unit.now.id _ _ _ _ _ all (subst (λ (bytes : List ℕ). DeliversOne (g.S.Site.state c.args.site.now) (g.S.Site.state c.deliver_unit.new.self) 0 c.in-Some.request.now.address c.in-Some.request.now.tag bytes)
     same c.in-Ok.ensures.delivered)) serving

@@ -15,7 +15,7 @@ use Rattle.block_server.proofs.Taking.{passed_session, waiting_stands}
 use Rattle.block_server.specs.Books.{next_of}
 use Rattle.block_server.specs.Receipts.{is_ended}
 use Rattle.block_server.specs.declared.logins.Logins.{Logins}
-use Rattle.std.proofs.Common.{Some, sym}
+use Rattle.std.proofs.Common.{Some, sym, ℕ}
 use Rattle.block_server.specs.declared.line.Kept.TheVariants as keeps
 use Rattle.crq_session.specs.EndState.{EndPlace}
 use Rattle.block_server.specs.Owed.{row_in}
@@ -25,7 +25,8 @@ use Rattle.block_server.specs.Cargo.{data_bytes, is_moving}
 use Rattle.block_server.proofs.Cargoes.{named_same, none_seen}
 use Rattle.block_server.proofs.Refusing.{explains_finished, explains_same, explains_stands}
 use Rattle.block_server.proofs.Taking.{ended_stands, passed_taken}
-use Rattle.block_server.specs.Refusals.{basis_of}
+use Rattle.block_server.specs.Refusals.{ExplainsOf, basis_at, basis_of}
+use Rattle.block_server.specs.Serving.{desk_of}
 use Rattle.block_server.proofs.answering.put_answer.Goals as goal
 
 pub returns-in_default-clause-once : goal.returns-in_default-clause-once
@@ -43,7 +44,7 @@ returns-in-Success-clause-once g c = λ disk serving.
 pub returns-in-Dropped-clause-once : goal.returns-in-Dropped-clause-once
 returns-in-Dropped-clause-once g c = λ disk serving.
     let front = front_is _ _ c.in-Some.ensures.item.3 in
-    once_kept _ _ _ _ _ c.answer_entry-entry.result c.args.outcome refl refl refl refl refl refl
+    once_kept _ _ _ _ _ c.answer_entry-entry.result c.args.outcome refl refl refl refl refl refl refl
     (record {
       request = c.in-Some.request.now;
       rest = front.0;
@@ -124,14 +125,17 @@ returns-in_default-send-clause-cargo g c =
     (none_seen _ _ _ _ _ _ _ (ap data_bytes c.send.ensures.windows.own) (ap is_moving c.requires.stage) (ap is_moving c.finish.ensures.stage) refl)
 
 pub returns-in-Success-clause-refuses : goal.returns-in-Success-clause-refuses
-returns-in-Success-clause-refuses g c = λ told unit since is.
-    c.settle.ensures.refuses (g.S.Site.state c.send.new.self).queue.last_session (g.S.Site.state c.send.new.self).queue.taken told unit since
-    (explains_stands c.args.unit.now c.args.unit.now (g.S.Site.state c.args.site.now) (g.S.Site.state c.send.new.self) c.args.records.now c.args.records.now refl c.send.ensures.passes refl refl told unit since is)
+returns-in-Success-clause-refuses g c = λ terms serving since is.
+    let taken = (g.S.Site.state c.send.new.self).queue.taken in
+    subst (λ (session : ℕ). ExplainsOf terms (desk_of c.args.unit.now) c.args.records.now.history.items (basis_at c.args.unit.now session taken c.args.records.now) (basis_at c.settle.new.unit session taken c.settle.new.records))
+    c.session.ensures (c.settle.ensures.refuses terms taken c.requires.stage) serving since
+    (explains_stands c.args.unit.now c.args.unit.now (g.S.Site.state c.args.site.now) (g.S.Site.state c.send.new.self) c.args.records.now c.args.records.now refl c.send.ensures.passes refl refl terms.told c.args.unit.now.id since is)
 
 pub returns-in-Dropped-clause-refuses : goal.returns-in-Dropped-clause-refuses
-returns-in-Dropped-clause-refuses g c = explains_same (basis_of c.args.unit.now (g.S.Site.state c.args.site.now) c.args.records.now) _ (passed_session _ _ c.send.ensures.passes) (passed_taken _ _ c.send.ensures.passes) refl refl refl refl
+returns-in-Dropped-clause-refuses g c = λ terms serving since.
+    explains_same (basis_of c.args.unit.now (g.S.Site.state c.args.site.now) c.args.records.now) _ (passed_session _ _ c.send.ensures.passes) (passed_taken _ _ c.send.ensures.passes) refl refl refl refl terms.told c.args.unit.now.id since
 
 pub returns-in_default-send-clause-refuses : goal.returns-in_default-send-clause-refuses
-returns-in_default-send-clause-refuses g c =
+returns-in_default-send-clause-refuses g c = λ terms serving since.
     explains_finished (basis_of c.args.unit.now (g.S.Site.state c.args.site.now) c.args.records.now) (basis_of c.finish.new.unit (g.S.Site.state c.send.new.self) c.args.records.now) (passed_session _ _ c.send.ensures.passes) (passed_taken _ _ c.send.ensures.passes)
-    (waiting_stands _ _ c.finish.ensures.stands) (ended_stands _ _ c.finish.ensures.stands) c.finish.ensures.pending refl
+    (waiting_stands _ _ c.finish.ensures.stands) (ended_stands _ _ c.finish.ensures.stands) c.finish.ensures.pending refl terms.told c.args.unit.now.id since

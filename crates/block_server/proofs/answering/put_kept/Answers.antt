@@ -6,13 +6,13 @@ use Rattle.vio_num.specs.declared.history.Served.{Served}
 use Rattle.block_server.specs.Answering.{responses}
 use Rattle.block_server.specs.Entries.{is_response}
 use Rattle.block_server.specs.Kept.{kept_entry}
-use Rattle.block_server.specs.Serving.{SettlesRow}
+use Rattle.block_server.specs.Serving.{IsServing, SettlesRow, desk_of}
 use Rattle.block_server.specs.Stage.{has_answer}
 use Rattle.block_server.specs.declared.line.Kept.TheVariants as keeps
 use Rattle.block_server.specs.declared.service.Stage.{Stage}
 use Rattle.block_server.proofs.Agreeing.{agrees_same}
 use Rattle.block_server.proofs.Readying.{full_later, full_now, idles_on, idles_reserves, idles_same, send_idles}
-use Rattle.block_server.proofs.Onces.{once_cleared, once_same, once_settled, once_still, responses_plain}
+use Rattle.block_server.proofs.Onces.{once_cleared, once_same, once_settled, once_still, responses_plain, unkept}
 use Rattle.block_server.proofs.Serves.{none_sent}
 use Rattle.block_server.proofs.Keeping.{keeps_finished, keeps_kept, moved_to}
 use Rattle.block_server.proofs.Booking.{passed_next}
@@ -20,7 +20,7 @@ use Rattle.block_server.proofs.Taking.{passed_session, waiting_stands}
 use Rattle.block_server.specs.Books.{next_of}
 use Rattle.block_server.specs.Receipts.{is_ended}
 use Rattle.block_server.specs.declared.logins.Logins.{Logins}
-use Rattle.std.proofs.Common.{None, sym}
+use Rattle.std.proofs.Common.{None, sym, ℕ}
 use Rattle.block_server.proofs.Booking.{kept_stage}
 use Rattle.block_server.specs.Judged.{keys_of}
 use Rattle.crq_session.specs.EndState.{EndPlace}
@@ -31,7 +31,7 @@ use Rattle.block_server.specs.Cargo.{data_bytes, is_moving, rows_of}
 use Rattle.block_server.proofs.Cargoes.{named_same, none_seen}
 use Rattle.block_server.proofs.Refusing.{explains_finished, explains_same, explains_stands}
 use Rattle.block_server.proofs.Taking.{ended_stands, passed_taken}
-use Rattle.block_server.specs.Refusals.{basis_of}
+use Rattle.block_server.specs.Refusals.{AreExplained, basis_at, basis_of}
 use Rattle.block_server.proofs.answering.put_kept.Goals as goal
 
 pub returns-in_default-clause-once : goal.returns-in_default-clause-once
@@ -66,7 +66,7 @@ returns-in-Answer-clause-once g c = λ disk serving.
 pub returns-in_default-kept-clause-once : goal.returns-in_default-kept-clause-once
 returns-in_default-kept-clause-once g c = λ disk serving.
     let is = serving.kept (keeps.Reply c.in_default-kept.field-0) (c.in-Some.is ∙ ap Some c.in_default-kept.is) in
-    once_still _ _ _ _ _ _ refl refl refl refl refl refl c.make_room.ensures.lists.history
+    once_still _ _ _ _ _ _ refl refl refl refl refl refl refl c.make_room.ensures.lists.history
     (responses_plain _ _ _ (ap is_response (c.entry.ensures ∙ ap kept_entry c.in_default-kept.is) ∙ is.no_response) c.in-Success.ensures.success.puts.sent
     ∙ ap responses c.reserve.ensures.rest.sent) disk serving
 
@@ -78,7 +78,7 @@ returns-in-Answer-kept-clause-once g c = λ disk serving.
 
 pub returns-in_default-kept-2-clause-once : goal.returns-in_default-kept-2-clause-once
 returns-in_default-kept-2-clause-once g c = λ disk serving.
-    once_still _ _ _ _ _ _ refl refl refl refl refl refl c.make_room.ensures.lists.history
+    once_still _ _ _ _ _ _ refl refl refl refl refl refl refl c.make_room.ensures.lists.history
     (none_sent _ _ _ _ c.in_default-send.not-Success c.in_default-send.not-Dropped c.send.ensures.closed c.send.ensures.refused
     ∙ ap responses c.reserve.ensures.rest.sent) disk serving
 
@@ -214,29 +214,40 @@ returns-in-Answer-kept-clause-cargo g c = λ terms serving.
     (ap rows_of c.make_room.ensures.lists.history))
 
 pub returns-in_err-make_room-clause-refuses : goal.returns-in_err-make_room-clause-refuses
-returns-in_err-make_room-clause-refuses g c = explains_stands c.args.unit.now c.args.unit.now (g.S.Site.state c.args.site.now) (g.S.Site.state c.args.site.now) c.args.records.now c.make_room.new.self refl refl refl c.make_room.ensures.lists.grants
+returns-in_err-make_room-clause-refuses g c = λ terms serving since.
+    explains_stands c.args.unit.now c.args.unit.now (g.S.Site.state c.args.site.now) (g.S.Site.state c.args.site.now) c.args.records.now c.make_room.new.self refl refl refl c.make_room.ensures.lists.grants terms.told c.args.unit.now.id since
 
 pub returns-in_err-make_room-2-clause-refuses : goal.returns-in_err-make_room-2-clause-refuses
-returns-in_err-make_room-2-clause-refuses g c = explains_stands c.args.unit.now c.args.unit.now (g.S.Site.state c.args.site.now) (g.S.Site.state c.args.site.now) c.args.records.now c.make_room.new.self refl refl refl c.make_room.ensures.lists.grants
+returns-in_err-make_room-2-clause-refuses g c = λ terms serving since.
+    explains_stands c.args.unit.now c.args.unit.now (g.S.Site.state c.args.site.now) (g.S.Site.state c.args.site.now) c.args.records.now c.make_room.new.self refl refl refl c.make_room.ensures.lists.grants terms.told c.args.unit.now.id since
 
 pub returns-in_err-reserve-clause-refuses : goal.returns-in_err-reserve-clause-refuses
-returns-in_err-reserve-clause-refuses g c = explains_stands c.args.unit.now c.args.unit.now (g.S.Site.state c.args.site.now) _ c.args.records.now c.make_room.new.self refl c.reserve.ensures.passes refl c.make_room.ensures.lists.grants
+returns-in_err-reserve-clause-refuses g c = λ terms serving since.
+    explains_stands c.args.unit.now c.args.unit.now (g.S.Site.state c.args.site.now) _ c.args.records.now c.make_room.new.self refl c.reserve.ensures.passes refl c.make_room.ensures.lists.grants terms.told c.args.unit.now.id since
 
 pub returns-in-Dropped-clause-refuses : goal.returns-in-Dropped-clause-refuses
-returns-in-Dropped-clause-refuses g c = explains_stands c.args.unit.now c.args.unit.now (g.S.Site.state c.args.site.now) (g.S.Site.state c.send.new.self) c.args.records.now c.make_room.new.self refl (c.send.ensures.passes ∙ c.reserve.ensures.passes) refl c.make_room.ensures.lists.grants
+returns-in-Dropped-clause-refuses g c = λ terms serving since.
+    explains_stands c.args.unit.now c.args.unit.now (g.S.Site.state c.args.site.now) (g.S.Site.state c.send.new.self) c.args.records.now c.make_room.new.self refl (c.send.ensures.passes ∙ c.reserve.ensures.passes) refl c.make_room.ensures.lists.grants terms.told c.args.unit.now.id since
 
 pub returns-in_default-kept-clause-refuses : goal.returns-in_default-kept-clause-refuses
-returns-in_default-kept-clause-refuses g c = explains_same (basis_of c.args.unit.now (g.S.Site.state c.args.site.now) c.args.records.now) _ (passed_session _ _ (c.send.ensures.passes ∙ c.reserve.ensures.passes)) (passed_taken _ _ (c.send.ensures.passes ∙ c.reserve.ensures.passes)) refl refl refl c.make_room.ensures.lists.grants
+returns-in_default-kept-clause-refuses g c = λ terms serving since.
+    explains_same (basis_of c.args.unit.now (g.S.Site.state c.args.site.now) c.args.records.now) _ (passed_session _ _ (c.send.ensures.passes ∙ c.reserve.ensures.passes)) (passed_taken _ _ (c.send.ensures.passes ∙ c.reserve.ensures.passes)) refl refl refl c.make_room.ensures.lists.grants terms.told c.args.unit.now.id since
 
 pub returns-in_default-kept-2-clause-refuses : goal.returns-in_default-kept-2-clause-refuses
-returns-in_default-kept-2-clause-refuses g c = explains_same (basis_of c.args.unit.now (g.S.Site.state c.args.site.now) c.args.records.now) _ (passed_session _ _ (c.send.ensures.passes ∙ c.reserve.ensures.passes)) (passed_taken _ _ (c.send.ensures.passes ∙ c.reserve.ensures.passes)) refl refl refl c.make_room.ensures.lists.grants
+returns-in_default-kept-2-clause-refuses g c = λ terms serving since.
+    explains_same (basis_of c.args.unit.now (g.S.Site.state c.args.site.now) c.args.records.now) _ (passed_session _ _ (c.send.ensures.passes ∙ c.reserve.ensures.passes)) (passed_taken _ _ (c.send.ensures.passes ∙ c.reserve.ensures.passes)) refl refl refl c.make_room.ensures.lists.grants terms.told c.args.unit.now.id since
 
 pub returns-in-Answer-clause-refuses : goal.returns-in-Answer-clause-refuses
-returns-in-Answer-clause-refuses g c = λ told unit since is.
-    c.settle.ensures.refuses (g.S.Site.state c.send.new.self).queue.last_session (g.S.Site.state c.send.new.self).queue.taken told unit since
-    (explains_stands c.args.unit.now c.args.unit.now (g.S.Site.state c.args.site.now) (g.S.Site.state c.send.new.self) c.args.records.now c.make_room.new.self refl (c.send.ensures.passes ∙ c.reserve.ensures.passes) refl c.make_room.ensures.lists.grants told unit since is)
+returns-in-Answer-clause-refuses g c = λ terms serving since is.
+    let taken = (g.S.Site.state c.send.new.self).queue.taken in
+    let kept = serving.kept (keeps.Answer c.in-Answer.entry c.in-Answer.outcome) (c.in-Some.is ∙ ap Some c.in-Answer.is) in
+    subst (λ (session : ℕ). AreExplained terms.told c.args.unit.now.id since (basis_at c.args.unit.now session taken c.make_room.new.self) → AreExplained terms.told c.args.unit.now.id since (basis_at c.settle.new.unit session taken c.settle.new.records))
+    c.session.ensures
+    (c.settle.ensures.refuses terms taken kept.stage
+    (unkept terms (desk_of c.args.unit.now) _ (subst (IsServing terms (desk_of c.args.unit.now)) (sym c.make_room.ensures.lists.history) serving)) since)
+    (explains_stands c.args.unit.now c.args.unit.now (g.S.Site.state c.args.site.now) (g.S.Site.state c.send.new.self) c.args.records.now c.make_room.new.self refl (c.send.ensures.passes ∙ c.reserve.ensures.passes) refl c.make_room.ensures.lists.grants terms.told c.args.unit.now.id since is)
 
 pub returns-in-Answer-kept-clause-refuses : goal.returns-in-Answer-kept-clause-refuses
-returns-in-Answer-kept-clause-refuses g c =
+returns-in-Answer-kept-clause-refuses g c = λ terms serving since.
     explains_finished (basis_of c.args.unit.now (g.S.Site.state c.args.site.now) c.args.records.now) (basis_of c.finish.new.unit (g.S.Site.state c.send.new.self) c.make_room.new.self) (passed_session _ _ (c.send.ensures.passes ∙ c.reserve.ensures.passes))
-    (passed_taken _ _ (c.send.ensures.passes ∙ c.reserve.ensures.passes)) (waiting_stands _ _ c.finish.ensures.stands) (ended_stands _ _ c.finish.ensures.stands) c.finish.ensures.pending c.make_room.ensures.lists.grants
+    (passed_taken _ _ (c.send.ensures.passes ∙ c.reserve.ensures.passes)) (waiting_stands _ _ c.finish.ensures.stands) (ended_stands _ _ c.finish.ensures.stands) c.finish.ensures.pending c.make_room.ensures.lists.grants terms.told c.args.unit.now.id since

@@ -14,7 +14,7 @@ use Rattle.block_server.proofs.answering.put_reply.Goals as goal
 
 pub returns-in-Dropped-clause-once : goal.returns-in-Dropped-clause-once
 returns-in-Dropped-clause-once g c = λ records disk serving.
-    once_reply_kept _ _ _ _ _ c.args.reply refl refl refl refl refl refl c.requires.plain (ap responses c.in-Dropped.ensures.dropped.sent) disk serving
+    once_reply_kept _ _ _ _ _ c.args.reply refl refl refl refl refl refl refl c.requires.plain (ap responses c.in-Dropped.ensures.dropped.sent) disk serving
 
 pub returns-in-Success-clause-once : goal.returns-in-Success-clause-once
 returns-in-Success-clause-once g c = λ records disk serving.

@@ -17,9 +17,10 @@ use Rattle.block_server.proofs.OwingCalls.{served_bytes}
 use Rattle.block_server.specs.Answering.{has_bytes}
 use Rattle.block_server.specs.Owed.{row_states, row_in}
 use Rattle.vio_num.specs.declared.history.Grant.TheVariants.{Granted}
-use Rattle.block_server.proofs.Refusing.{explains_finished, explains_settled}
+use Rattle.block_server.proofs.Refusing.{explains_finished, explains_granted}
 use Rattle.block_server.proofs.Taking.{ended_stands, waiting_stands}
 use Rattle.block_server.specs.Refusals.{basis_at}
+use Rattle.block_server.specs.Serving.{desk_of}
 use Rattle.block_server.proofs.answering.settle.Goals as goal
 use Rattle.block_server.proofs.answering.settle.Goals.{in-Granted, in-Rejected, in-Served}
 
@@ -56,16 +57,17 @@ returns-clause-answers c = λ q stage going up has.
     ]
 
 pub returns-clause-refuses : goal.returns-clause-refuses
-returns-clause-refuses c = λ queue taken.
+returns-clause-refuses c = λ terms taken stage.
     elim c.match-outcome.branch [
-      | in-Granted w ↦ explains_settled (basis_at c.args.unit.now queue taken c.args.records.now) _ (Granted c.args.unit.now.id c.args.session w.begin-login.result w.in-Granted.number w.credits-credits.result) refl refl
+      | in-Granted w ↦ explains_granted terms (desk_of c.args.unit.now) c.args.records.now.history.items (basis_at c.args.unit.now c.args.session taken c.args.records.now) _
+          w.begin-login.result w.in-Granted.number w.credits-credits.result (stage ∙ ap Entry w.in-Granted.is) refl w.credits-credits.ensures refl refl
           (waiting_stands _ _ c.finish.ensures.stands ∙ ap (λ (u : ServerUnit). u.waiting) w.unit-is) (ended_stands _ _ c.finish.ensures.stands ∙ ap (λ (u : ServerUnit). is_ended u.line) w.unit-is)
-          (c.finish.ensures.pending ∙ ap (λ (u : ServerUnit). drop 1 u.pending.items) w.unit-is) (ap (λ (r : Records). r.grants.items) w.records-is ∙ w.push_reserved.ensures.items) (λ Hears unit. tt)
-      | in-Rejected w ↦ explains_finished (basis_at c.args.unit.now queue taken c.args.records.now) _ refl refl
+          (c.finish.ensures.pending ∙ ap (λ (u : ServerUnit). drop 1 u.pending.items) w.unit-is) (ap (λ (r : Records). r.grants.items) w.records-is ∙ w.push_reserved.ensures.items)
+      | in-Rejected w ↦ λ serving since. explains_finished (basis_at c.args.unit.now c.args.session taken c.args.records.now) _ refl refl
           (waiting_stands _ _ c.finish.ensures.stands ∙ ap (λ (u : ServerUnit). u.waiting) w.unit-is) (ended_stands _ _ c.finish.ensures.stands ∙ ap (λ (u : ServerUnit). is_ended u.line) w.unit-is)
-          (c.finish.ensures.pending ∙ ap (λ (u : ServerUnit). drop 1 u.pending.items) w.unit-is) (ap (λ (r : Records). r.grants.items) w.records-is)
-      | in-Served w ↦ explains_finished (basis_at c.args.unit.now queue taken c.args.records.now) _ refl refl
+          (c.finish.ensures.pending ∙ ap (λ (u : ServerUnit). drop 1 u.pending.items) w.unit-is) (ap (λ (r : Records). r.grants.items) w.records-is) terms.told c.args.unit.now.id since
+      | in-Served w ↦ λ serving since. explains_finished (basis_at c.args.unit.now c.args.session taken c.args.records.now) _ refl refl
           (waiting_stands _ _ c.finish.ensures.stands ∙ ap (λ (u : ServerUnit). u.waiting) w.unit-is) (ended_stands _ _ c.finish.ensures.stands ∙ ap (λ (u : ServerUnit). is_ended u.line) w.unit-is)
           (c.finish.ensures.pending ∙ ap (λ (u : ServerUnit). drop 1 u.pending.items) w.unit-is)
-          (ap (λ (r : Records). r.grants.items) w.records-is ∙ ap (λ (v : Vec Grant Global). v.items) w.answer-in-Served.ensures.grants)
+          (ap (λ (r : Records). r.grants.items) w.records-is ∙ ap (λ (v : Vec Grant Global). v.items) w.answer-in-Served.ensures.grants) terms.told c.args.unit.now.id since
     ]

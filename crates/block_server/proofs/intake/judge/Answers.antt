@@ -2,14 +2,14 @@ use Rattle.std.proofs.Common.{List, ℕ, subst, sym}
 use Rattle.block_server.specs.Causes.{told_to, units_at}
 use Rattle.block_server.specs.Causes.News.{fetched}
 use Rattle.std.proofs.Common.{refl}
-use Rattle.block_server.proofs.Onces.{once_same}
-use Rattle.block_server.proofs.Serves.{once_pushed}
+use Rattle.block_server.proofs.Onces.{once_same, once_then}
+use Rattle.block_server.proofs.Serves.{desk_credits, once_pushed}
 use Rattle.block_server.proofs.Taking.{ends_line, lines_same}
 use Rattle.block_server.proofs.Verdicts.{accepted_push, ended_by, passed_by}
 use Rattle.block_server.specs.Books.{books_of}
-use Rattle.std.proofs.Common.{ap}
+use Rattle.std.proofs.Common.{ap, length, ◌∙◌}
 use Rattle.block_server.proofs.Owing.{has_cut_of, owes_seen, seen_same}
-use Rattle.block_server.proofs.OwingCalls.{closing_ended, decides_current, fatal_other, owes_pushed}
+use Rattle.block_server.proofs.OwingCalls.{closing_ended, decides_current, decides_granted, fatal_other, owes_pushed}
 use Rattle.block_server.specs.Owed.{row_in}
 use Rattle.block_server.proofs.Refusing.{decided_cause, explained_ended, explains_pushed}
 use Rattle.vio_num.specs.declared.history.Grant.TheVariants.{Lapsed}
@@ -17,15 +17,19 @@ use Rattle.block_server.specs.Refusals.{basis_at}
 use Rattle.block_server.proofs.intake.judge.Goals as goal
 
 pub returns-in-Ignored-clause-once : goal.returns-in-Ignored-clause-once
-returns-in-Ignored-clause-once c = λ q disk heard serving. once_same _ _ _ _ _ _ refl refl refl disk serving
+returns-in-Ignored-clause-once c = λ q disk heard serving.
+    once_same _ _ _ _ _ _ (desk_credits c.args.unit.now _ (decides_granted c.args.unit.now.logins c.judge_unit.new.logins _ c.judge_unit.result c.judge_unit.ensures.decides)) refl refl disk serving
 
 pub returns-in-Ok-clause-once : goal.returns-in-Ok-clause-once
 returns-in-Ok-clause-once c = λ q disk heard serving.
-    once_pushed _ _ _ _ _ _ refl c.in-Ok.ensures.items refl refl refl c.requires.none refl disk
+    once_pushed _ _ _ _ _ _ refl (decides_granted c.args.unit.now.logins c.judge_unit.new.logins _ c.judge_unit.result c.judge_unit.ensures.decides) c.in-Ok.ensures.items refl refl refl c.requires.none refl disk
     (subst (λ (z : ℕ × List ℕ). told_to disk.terms.told c.args.unit.now.id (fetched z.0 units_at z.1)) (λ i. ((sym c.iu_address.ensures) i, (sym c.kept.ensures) i)) heard) serving
 
 pub returns-in-Fatal-clause-once : goal.returns-in-Fatal-clause-once
-returns-in-Fatal-clause-once c = λ q disk heard. c.end_counted.ensures.once q disk
+returns-in-Fatal-clause-once c = λ q disk heard.
+    once_then disk disk disk _ _ _ _ _ _ _ _ _
+    (once_same _ _ q.sent q.sent _ _ (desk_credits c.args.unit.now _ (decides_granted c.args.unit.now.logins c.judge_unit.new.logins _ c.judge_unit.result c.judge_unit.ensures.decides)) refl refl disk)
+    (c.end_counted.ensures.once q disk)
 
 pub returns-in-Ignored-clause-lines : goal.returns-in-Ignored-clause-lines
 returns-in-Ignored-clause-lines c = lines_same _ _ _ refl
@@ -69,14 +73,14 @@ pub returns-in-Fatal-clause-cargo : goal.returns-in-Fatal-clause-cargo
 returns-in-Fatal-clause-cargo c = λ shown. c.end_counted.ensures.cargo shown shown
 
 pub returns-in-Ignored-clause-refuses : goal.returns-in-Ignored-clause-refuses
-returns-in-Ignored-clause-refuses c = λ queue taken going none at told unit since is. is
+returns-in-Ignored-clause-refuses c = λ queue taken going none at long told unit since is. is
 
 pub returns-in-Ok-clause-refuses : goal.returns-in-Ok-clause-refuses
-returns-in-Ok-clause-refuses c = λ queue taken going none at.
-    explains_pushed (basis_at c.args.unit.now queue taken c.args.records.now) _ _ c.args.arrival.entry going at c.iu_address.ensures refl refl refl refl refl c.in-Ok.ensures.items
+returns-in-Ok-clause-refuses c = λ queue taken going none at long.
+    explains_pushed (basis_at c.args.unit.now queue taken c.args.records.now) _ _ c.args.arrival.entry going at c.iu_address.ensures (ap length c.kept.ensures ∙ long) refl refl refl refl refl c.in-Ok.ensures.items
 
 pub returns-in-Fatal-clause-refuses : goal.returns-in-Fatal-clause-refuses
-returns-in-Fatal-clause-refuses c = λ queue taken going none at told unit since.
+returns-in-Fatal-clause-refuses c = λ queue taken going none at long told unit since.
     explained_ended told unit since (basis_at c.args.unit.now queue taken c.args.records.now) (basis_at c.end_counted.new.unit queue taken c.end_counted.new.records)
     (Lapsed c.args.unit.now.id c.args.session c.judge_unit.new.logins.current c.in-Fatal.cause c.in-Fatal.outstanding c.in-Fatal.granted) refl refl
     c.end_counted.ensures.ends.waiting c.end_counted.ensures.ends.pending c.end_counted.ensures.ends.line

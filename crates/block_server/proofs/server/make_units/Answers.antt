@@ -13,7 +13,7 @@ use Rattle.block_server.proofs.OwedLaws.{more_owe, none_owe}
 use Rattle.block_server.specs.Judges.{AreUnused}
 use Rattle.block_server.specs.Owed.{OweNone}
 use Rattle.block_server.proofs.Refusing.{more_refuse, none_refuse}
-use Rattle.block_server.specs.Refusals.{RefuseNone}
+use Rattle.block_server.specs.Refusals.{ExplainNone}
 use Rattle.block_server.proofs.server.make_units.Goals as goal
 
 pub loop-unit-init : goal.loop-unit-init
@@ -28,7 +28,7 @@ loop-unit-preserved c = record {
       c.new.ensures.stage c.new.ensures.kept c.new.ensures.pending c.new.ensures.waiting);
   unanswered = subst OweNone (sym c.in_ok-push.ensures.items) (more_owe c.loop-unit.units.items c.new.result c.loop-unit.invariant.unanswered c.new.ensures.current c.new.ensures.stage);
   idle = subst AreIdle (sym c.in_ok-push.ensures.items) (more_idle c.loop-unit.units.items c.new.result c.loop-unit.invariant.idle (ap is_moving c.new.ensures.stage));
-  unrefused = subst RefuseNone (sym c.in_ok-push.ensures.items) (more_refuse c.loop-unit.units.items c.new.result c.loop-unit.invariant.unrefused c.new.ensures.waiting c.new.ensures.pending);
+  unrefused = subst ExplainNone (sym c.in_ok-push.ensures.items) (more_refuse c.loop-unit.units.items c.new.result c.loop-unit.invariant.unrefused c.new.ensures.waiting c.new.ensures.pending);
   serving = λ terms rows. subst (λ (units : List Unit). AreServing terms c.args.partition units rows) (sym c.in_ok-push.ensures.items)
       (units_more terms c.args.partition c.loop-unit.unit c.loop-unit.units.items c.new.result rows (sym c.loop-unit.invariant.count ∙ c.loop-unit.units.ok.0)
       c.new.ensures.id c.new.ensures.stage c.new.ensures.kept c.new.ensures.pending (c.loop-unit.invariant.serving terms rows));

@@ -6,7 +6,7 @@ use Rattle.block_server.specs.Ready.{AreDown}
 use Rattle.block_server.specs.Judges.{AreUnused}
 use Rattle.block_server.specs.Owed.{OweNone}
 use Rattle.block_server.specs.Receipts.{AwaitNone}
-use Rattle.block_server.specs.Refusals.{RefuseNone}
+use Rattle.block_server.specs.Refusals.{ExplainNone}
 use Rattle.block_server.specs.Serving.{Terms}
 use Rattle.block_server.specs.Units.{AreServing}
 use Rattle.block_server.proofs.server.make_units.Given as goal
@@ -19,6 +19,6 @@ invariant-loop-unit l = record {
   unused : AreUnused l.units.items;
   unanswered : OweNone l.units.items;
   idle : AreIdle l.units.items;
-  unrefused : RefuseNone l.units.items;
+  unrefused : ExplainNone l.units.items;
   serving : (terms : Terms) → (rows : List Served) → AreServing terms l.partition l.units.items rows;
 }

@@ -20,16 +20,16 @@ use Rattle.block_server.proofs.Sendings.{same_service}
 use Rattle.block_server.proofs.serving.add_code.Goals as goal
 
 pub returns-in_err-blank-clause-once : goal.returns-in_err-blank-clause-once
-returns-in_err-blank-clause-once c = λ rest q disk cause serving. once_same _ _ _ _ _ _ refl c.new_row.ensures.lists.history refl disk serving
+returns-in_err-blank-clause-once c = λ credits rest q disk cause serving. once_same _ _ _ _ _ _ refl c.new_row.ensures.lists.history refl disk serving
 
 pub returns-in_err-set_answer-clause-once : goal.returns-in_err-set_answer-clause-once
-returns-in_err-set_answer-clause-once c = λ rest q disk cause serving.
-    once_still _ _ _ _ _ _ refl c.in_err-set_answer.ensures.err c.in_err-set_answer.ensures.same
+returns-in_err-set_answer-clause-once c = λ credits rest q disk cause serving.
+    once_still _ _ _ _ _ _ refl refl c.in_err-set_answer.ensures.err c.in_err-set_answer.ensures.same
     (λ i. record { outs = (c.set_answer.ensures.out i).list.items; inns = (c.set_answer.ensures.inn i).list.items; given = (c.set_answer.ensures.given i).items })
     refl refl c.new_row.ensures.lists.history refl disk serving
 
 pub returns-clause-once : goal.returns-clause-once
-returns-clause-once c = λ rest q disk cause serving.
+returns-clause-once c = λ credits rest q disk cause serving.
     let row = c.in_ok-blank.ensures.row in
     let blank = c.in_ok-blank.blank in
     let order = c.args.request.now.order in
@@ -49,7 +49,7 @@ returns-clause-once c = λ rest q disk cause serving.
     row.unit_is row.iu row.answer added refl refl tt
     (may_code order code blank disk.terms bytes spelled c.requires.code cause' row.out row.inn row.fault says)
     (stays_pushed disk _ _ blank added (λ b. code_row disk.terms order code blank b spelled c.requires.code cause' row.out row.inn row.fault (says_none blank.answer (HasCode (field 8 8 blank.iu) code) row.answer)))
-    (tells_same disk.now) serving.brought
+    (tells_same disk.now) serving.brought tt
 
 pub returns-in_err-blank-clause-books : goal.returns-in_err-blank-clause-books
 returns-in_err-blank-clause-books c = λ before. one_same _ _ _ _ _ _ _ refl (ap keys_of c.new_row.ensures.lists.history)

@@ -15,13 +15,13 @@ use Rattle.block_server.proofs.Sendings.{answered}
 use Rattle.block_server.proofs.serving.end_command.Goals as goal
 
 pub returns-in_default : goal.returns-in_default
-returns-in_default c = record { cargo = λ id shown done. keeps_same _ _ refl; row = refl; states = refl; grants = refl; books = λ id session. one_same _ _ _ _ _ _ _ refl refl; once = λ id rest q disk cause serving. once_same _ _ _ _ _ _ refl refl refl disk serving; went = λ inn apart. not_data_in _ _ (λ row reply cursor is. c.in_default.not-DataIn row reply cursor is) inn }
+returns-in_default c = record { cargo = λ id shown done. keeps_same _ _ refl; row = refl; states = refl; grants = refl; books = λ id session. one_same _ _ _ _ _ _ _ refl refl; once = λ id credits rest q disk cause serving. once_same _ _ _ _ _ _ refl refl refl disk serving; went = λ inn apart. not_data_in _ _ (λ row reply cursor is. c.in_default.not-DataIn row reply cursor is) inn }
 
 pub returns-in-Busy : goal.returns-in-Busy
-returns-in-Busy c = record { cargo = λ id shown done. keeps_same _ _ refl; row = refl; states = refl; grants = refl; books = λ id session. one_same _ _ _ _ _ _ _ refl refl; once = λ id rest q disk cause serving. once_same _ _ _ _ _ _ refl refl refl disk serving; went = λ inn apart. absurd (apart c.in-Busy.is) }
+returns-in-Busy c = record { cargo = λ id shown done. keeps_same _ _ refl; row = refl; states = refl; grants = refl; books = λ id session. one_same _ _ _ _ _ _ _ refl refl; once = λ id credits rest q disk cause serving. once_same _ _ _ _ _ _ refl refl refl disk serving; went = λ inn apart. absurd (apart c.in-Busy.is) }
 
 pub returns-in-Refused : goal.returns-in-Refused
-returns-in-Refused c = record { cargo = λ id shown done. c.refuse_data.ensures.cargo id shown; row = c.refuse_data.ensures.row; states = c.refuse_data.ensures.states; grants = c.refuse_data.ensures.grants; books = c.refuse_data.ensures.books; once = λ id rest q disk cause serving. c.refuse_data.ensures.once id rest q disk (cause c.in-Refused.is) serving; went = on_ok c.refuse_data.result _ _ (λ went inn apart. went inn) c.refuse_data.ensures.went }
+returns-in-Refused c = record { cargo = λ id shown done. c.refuse_data.ensures.cargo id shown; row = c.refuse_data.ensures.row; states = c.refuse_data.ensures.states; grants = c.refuse_data.ensures.grants; books = c.refuse_data.ensures.books; once = λ id credits rest q disk cause serving. c.refuse_data.ensures.once id credits rest q disk (cause c.in-Refused.is) serving; went = on_ok c.refuse_data.result _ _ (λ went inn apart. went inn) c.refuse_data.ensures.went }
 
 pub returns-in-Done : goal.returns-in-Done
 returns-in-Done c = record {
@@ -33,9 +33,9 @@ returns-in-Done c = record {
   grants = refl;
   books = λ id session. set_one _ _ _ _ _ _ c.set_answer.result (DataIn c.in-DataIn.row c.in-DataIn.reply c.in-DataIn.cursor) (Answer (Served c.in-DataIn.row))
       c.in-DataIn.is c.set_answer.ensures.stage c.set_answer.ensures.err refl refl (λ current pending at. front_answered current 0 pending at);
-  once = λ id rest q disk cause.
+  once = λ id credits rest q disk cause.
       let same : c.deref.result.now ≡ c.with_status.result.items = search (rules, c.deref.ensures) in
-      once_stated_if c.bytes_spell_one.ensures _ _ _ _ c.in-DataIn.row c.in-DataIn.reply c.in-DataIn.cursor c.args.request.now rest c.args.command.now _ c.set_answer.result refl refl c.in-DataIn.is
+      once_stated_if c.bytes_spell_one.ensures _ _ _ _ c.in-DataIn.row c.in-DataIn.reply c.in-DataIn.cursor c.args.request.now rest c.args.command.now _ c.set_answer.result refl refl refl c.in-DataIn.is
       c.set_answer.ensures.stage c.set_answer.ensures.answer c.set_answer.ensures.err c.set_answer.ensures.same
       (λ i. record { outs = (c.set_answer.ensures.out i).list.items; inns = (c.set_answer.ensures.inn i).list.items; given = (c.set_answer.ensures.given i).items })
       refl c.requires.asked

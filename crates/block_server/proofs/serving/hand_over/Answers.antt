@@ -17,21 +17,21 @@ use Rattle.block_server.specs.Serving.{terms_of}
 use Rattle.block_server.proofs.serving.hand_over.Goals as goal
 
 pub returns-in_default-clause-once : goal.returns-in_default-clause-once
-returns-in_default-clause-once g c = λ id told all size now rest serving. once_same _ _ _ _ _ _ refl refl refl _ serving
+returns-in_default-clause-once g c = λ id told all size now credits rest serving. once_same _ _ _ _ _ _ refl refl refl _ serving
 
 pub returns-in_err-progress-clause-once : goal.returns-in_err-progress-clause-once
-returns-in_err-progress-clause-once g c = λ id told all size now rest serving.
+returns-in_err-progress-clause-once g c = λ id told all size now credits rest serving.
     let same : buffers_of c.deliver_data.new.service ≡ buffers_of c.args.service.now = (λ i. record { outs = (c.deliver_data.ensures.out i).list.items; inns = (c.deliver_data.ensures.inn i).list.items; given = c.deliver_data.ensures.given i }) in
     once_moved _ _ _ _ _ c.in-DataIn.row c.in-DataIn.reply c.in-DataIn.cursor refl refl c.in-DataIn.is c.deliver_data.ensures.stage same refl
     (ap (λ (q : EndState). responses q.sent) c.deliver_data.ensures.queue) _ serving
 
 pub returns-clause-once : goal.returns-clause-once
-returns-clause-once g c = λ id told all size now rest serving.
+returns-clause-once g c = λ id told all size now credits rest serving.
     let same : buffers_of c.deliver_data.new.service ≡ buffers_of c.args.service.now = (λ i. record { outs = (c.deliver_data.ensures.out i).list.items; inns = (c.deliver_data.ensures.inn i).list.items; given = c.deliver_data.ensures.given i }) in
     once_then _ _ _ _ _ _ _ _ _ _ _ _
     (once_moved _ _ _ _ _ c.in-DataIn.row c.in-DataIn.reply c.in-DataIn.cursor refl refl c.in-DataIn.is c.deliver_data.ensures.stage same refl
     (ap (λ (q : EndState). responses q.sent) c.deliver_data.ensures.queue) _)
-    (c.end_command.ensures.once id rest (g.S.Site.state c.deliver_data.new.site).queue _
+    (c.end_command.ensures.once id credits rest (g.S.Site.state c.deliver_data.new.site).queue _
     (handed_cause told id (g.S.Site.state c.args.site.now) (g.S.Site.state c.deliver_data.new.site) c.args.command.now c.in-DataIn.row c.in-DataIn.reply c.in-DataIn.cursor c.args.service.now.stage c.args.service.now.out.list.items c.args.service.now.inn.list.items c.in_ok-progress.progress c.in-DataIn.is all
     (gathers_of _ _ _ _ c.args.request.now rest c.args.command.now c.requires.asked serving.fetched) c.in_ok-progress.ensures.refused))
     serving
@@ -60,16 +60,16 @@ returns-clause-books g c = λ id session.
     c.in-DataIn.is c.deliver_data.ensures.stage.1 refl refl (λ current pending at. at)) (c.end_command.ensures.books id session)
 
 pub returns-in_default-clause-cargo : goal.returns-in_default-clause-cargo
-returns-in_default-clause-cargo g c = λ id told all size rest serving hand. hand
+returns-in_default-clause-cargo g c = λ id told all size credits rest serving hand. hand
 
 pub returns-in_err-progress-clause-cargo : goal.returns-in_err-progress-clause-cargo
-returns-in_err-progress-clause-cargo g c = λ id told all size rest serving hand.
+returns-in_err-progress-clause-cargo g c = λ id told all size credits rest serving hand.
     c.deliver_data.ensures.cargo id told all c.args.records.now.history.items
-    (tag_at (terms_of told size) id c.args.service.now c.args.request.now rest c.args.records.now.history.items c.in-DataIn.row c.in-DataIn.reply c.in-DataIn.cursor c.in-DataIn.is serving) hand
+    (tag_at (terms_of told size) id credits c.args.service.now c.args.request.now rest c.args.records.now.history.items c.in-DataIn.row c.in-DataIn.reply c.in-DataIn.cursor c.in-DataIn.is serving) hand
 
 pub returns-clause-cargo : goal.returns-clause-cargo
-returns-clause-cargo g c = λ id told all size rest serving hand.
+returns-clause-cargo g c = λ id told all size credits rest serving hand.
     c.end_command.ensures.cargo id _ (λ done. where_done c.in_ok-progress.progress (IsSentAll c.deliver_data.new.service) done (c.in_ok-progress.ensures.all
     (hand_placed told id c.args.service.now _ _ c.in-DataIn.row c.in-DataIn.reply c.in-DataIn.cursor c.in-DataIn.is hand))) told
     (c.deliver_data.ensures.cargo id told all c.args.records.now.history.items
-    (tag_at (terms_of told size) id c.args.service.now c.args.request.now rest c.args.records.now.history.items c.in-DataIn.row c.in-DataIn.reply c.in-DataIn.cursor c.in-DataIn.is serving) hand)
+    (tag_at (terms_of told size) id credits c.args.service.now c.args.request.now rest c.args.records.now.history.items c.in-DataIn.row c.in-DataIn.reply c.in-DataIn.cursor c.in-DataIn.is serving) hand)

@@ -1,19 +1,32 @@
-use Rattle.std.proofs.Common.{refl}
+use Rattle.std.proofs.Common.{◌≡◌, ℕ, List, refl, rules, subst}
 use Rattle.block_server.specs.declared.service.Outcome.TheVariants.{Granted, Rejected}
 use Rattle.block_server.proofs.Serves.{once_judged}
+use Rattle.block_server.proofs.Offering.{may_first}
+use Rattle.block_server.proofs.Quieting.{on_ok}
+use Rattle.block_server.specs.Responses.{GrantsLogin}
 use Rattle.block_server.proofs.Booking.{login_set}
 use Rattle.std.proofs.Common.{sym, ◌∙◌}
 use Rattle.block_server.proofs.Sendings.{set_unloaded}
 use Rattle.block_server.proofs.serving.judge_login.Goals as goal
 
 pub returns-in-Some-clause-once : goal.returns-in-Some-clause-once
-returns-in-Some-clause-once c = λ id pending q records disk serving.
-    once_judged _ _ _ _ Rejected c.set_answer.result refl refl refl (λ P. tt) c.set_answer.ensures.stage c.set_answer.ensures.err c.set_answer.ensures.same (λ i. record { outs = (c.set_answer.ensures.out i).list.items; inns = (c.set_answer.ensures.inn i).list.items; given = (c.set_answer.ensures.given i).items }) disk serving
+returns-in-Some-clause-once c = λ id front rest number order q records disk serving.
+    once_judged _ _ _ _ Rejected c.set_answer.result refl refl refl refl (λ P. tt) c.set_answer.ensures.stage c.set_answer.ensures.err c.set_answer.ensures.same (λ i. record { outs = (c.set_answer.ensures.out i).list.items; inns = (c.set_answer.ensures.inn i).list.items; given = (c.set_answer.ensures.given i).items }) disk (on_ok c.set_answer.result _ _ (λ is. tt) c.set_answer.ensures.stage) serving
 
 pub returns-in-None-clause-once : goal.returns-in-None-clause-once
-returns-in-None-clause-once c = λ id pending q records disk serving.
-    once_judged _ _ _ _ (Granted c.args.number) c.set_answer-in-None.result refl refl refl (λ P. tt)
-    c.set_answer-in-None.ensures.stage c.set_answer-in-None.ensures.err c.set_answer-in-None.ensures.same (λ i. record { outs = (c.set_answer-in-None.ensures.out i).list.items; inns = (c.set_answer-in-None.ensures.inn i).list.items; given = (c.set_answer-in-None.ensures.given i).items }) disk serving
+returns-in-None-clause-once c = λ id front rest number order q records disk serving.
+    once_judged _ _ _ _ (Granted c.args.number) c.set_answer-in-None.result refl refl refl refl (λ P. tt)
+    c.set_answer-in-None.ensures.stage c.set_answer-in-None.ensures.err c.set_answer-in-None.ensures.same (λ i. record { outs = (c.set_answer-in-None.ensures.out i).list.items; inns = (c.set_answer-in-None.ensures.inn i).list.items; given = (c.set_answer-in-None.ensures.given i).items }) disk
+    (on_ok c.set_answer-in-None.result _ _ (λ bytes. record {
+      front = front;
+      rest = rest;
+      parts = refl;
+      number_is = number;
+      asked = c.args.login.now;
+      asks = order;
+      may = may_first _ _ (c.login_refusal.ensures.none c.in-None.is);
+      grants = subst (λ (z : List ℕ × ℕ). GrantsLogin z.0 c.args.login.now.tag z.1) (λ i. ((sym (bytes ∙ same)) i, c.credits.ensures i)) c.login_granted.ensures.canonical;
+    }) c.set_answer-in-None.ensures.answer) serving
 
 pub returns-in-Some-clause-books : goal.returns-in-Some-clause-books
 returns-in-Some-clause-books c = λ books front rest rows parts asks number current none before.

@@ -25,19 +25,19 @@ use Rattle.std.specs.Prelude.{slice_index}
 use Rattle.block_server.proofs.serving.make_step.Goals as goal
 
 pub returns-in_default-clause-once : goal.returns-in_default-clause-once
-returns-in_default-clause-once g c = λ told rest serving. once_same _ _ _ _ _ _ refl refl refl _ serving
+returns-in_default-clause-once g c = λ told credits rest serving. once_same _ _ _ _ _ _ refl refl refl _ serving
 
 pub returns-in_err-row-clause-once : goal.returns-in_err-row-clause-once
-returns-in_err-row-clause-once g c = λ told rest serving. once_same _ _ _ _ _ _ refl c.new_row.ensures.lists.history refl _ serving
+returns-in_err-row-clause-once g c = λ told credits rest serving. once_same _ _ _ _ _ _ refl c.new_row.ensures.lists.history refl _ serving
 
 pub returns-in_err-out-clause-once : goal.returns-in_err-out-clause-once
-returns-in_err-out-clause-once g c = λ told rest serving. once_same _ _ _ _ _ _ refl c.new_row.ensures.lists.history refl _ serving
+returns-in_err-out-clause-once g c = λ told credits rest serving. once_same _ _ _ _ _ _ refl c.new_row.ensures.lists.history refl _ serving
 
 pub returns-in_err-room-clause-once : goal.returns-in_err-room-clause-once
-returns-in_err-room-clause-once g c = λ told rest serving. once_same _ _ _ _ _ _ refl c.new_row.ensures.lists.history refl _ serving
+returns-in_err-room-clause-once g c = λ told credits rest serving. once_same _ _ _ _ _ _ refl c.new_row.ensures.lists.history refl _ serving
 
 pub returns-in_err-make_room-clause-once : goal.returns-in_err-make_room-clause-once
-returns-in_err-make_room-clause-once g c = λ told rest serving.
+returns-in_err-make_room-clause-once g c = λ told credits rest serving.
     let made = c.make_room.ensures in
     once_before _ _ _ _ _ _ _ refl (ap is_before_step (made.stage ∙ c.in-DataOut.is)) refl
     (subst (λ (z : Stage × DataPieces × DataPieces). HasPieces (told_to told c.args.id) z.0 z.1.list.items z.2.list.items (c.args.request.now ∷ rest))
@@ -45,7 +45,7 @@ returns-in_err-make_room-clause-once g c = λ told rest serving.
     c.new_row.ensures.lists.history refl serving.brought
 
 pub returns-clause-once : goal.returns-clause-once
-returns-clause-once g c = λ told rest serving.
+returns-clause-once g c = λ told credits rest serving.
     let blank = c.in_ok-row.ensures.row in
     let service = c.args.service.now in
     let request = c.args.request.now in
@@ -89,7 +89,7 @@ returns-clause-once g c = λ told rest serving.
     (stays_stepped _ _ _ _ row (made_step command.lun command.cdb out reply buffer) _ (ap (terms_of told) c.execute-reply.ensures.count) c.execute-reply.ensures.step c.execute-reply.ensures.image added
     (new_row_serves request command outs inns out given buffer (terms_of told size) reply row new))
     (tells_map _ _ _ c.execute-reply.ensures.image)
-    (subst (λ (t : Terms). AreBrought (told_to t.told c.args.id) (request ∷ rest)) (sym (ap (terms_of told) c.execute-reply.ensures.count)) serving.brought)
+    (subst (λ (t : Terms). AreBrought (told_to t.told c.args.id) (request ∷ rest)) (sym (ap (terms_of told) c.execute-reply.ensures.count)) serving.brought) tt
 
 pub returns-in_default-clause-went : goal.returns-in_default-clause-went
 returns-in_default-clause-went g c = λ out. not_data_out _ _ (λ cursor is. c.in_default.not-DataOut cursor is) out

@@ -12,13 +12,16 @@ use Rattle.block_server.proofs.OwingRows.{moves_same}
 use Rattle.block_server.specs.Owed.{MovesRow}
 use Rattle.block_server.proofs.Sendings.{other_unloaded}
 use Rattle.block_server.specs.Serving.{terms_of}
+use Rattle.block_server.specs.declared.request.Order.TheVariants.{Login}
 use Rattle.block_server.proofs.serving.prepare.Goals as goal
 
 pub returns-in-Command-clause-once : goal.returns-in-Command-clause-once
 returns-in-Command-clause-once g c = λ told all rest. c.serve_command.ensures.once told all rest
 
 pub returns-in-Login-clause-once : goal.returns-in-Login-clause-once
-returns-in-Login-clause-once g c = λ told all rest. c.judge_login.ensures.once c.args.id (c.args.request.now ∷ rest) (g.S.Site.state c.args.site.now).queue c.args.records.now _
+returns-in-Login-clause-once g c = λ told all rest.
+    let asks : c.args.request.now.order ≡ Login c.in-Login.login.now = search rules in
+    c.judge_login.ensures.once c.args.id c.args.request.now rest refl asks (g.S.Site.state c.args.site.now).queue c.args.records.now _
 
 pub returns-in-Task-clause-once : goal.returns-in-Task-clause-once
 returns-in-Task-clause-once g c = λ told all rest.
@@ -107,14 +110,14 @@ returns-in-Logout-clause-cargo g c = λ told all rest serving hand. hand
 pub returns-in-Login-clause-cargo : goal.returns-in-Login-clause-cargo
 returns-in-Login-clause-cargo g c = λ told all rest serving hand.
     let other : is_command c.args.request.now.order ≡ false = search rules in
-    c.judge_login.ensures.cargo c.args.id _ _ (other_unloaded (terms_of told c.args.disk.now.count) c.args.id c.args.service.now c.args.request.now rest c.args.records.now.history.items other serving) told hand
+    c.judge_login.ensures.cargo c.args.id _ _ (other_unloaded (terms_of told c.args.disk.now.count) c.args.id c.args.logins.now.granted c.args.service.now c.args.request.now rest c.args.records.now.history.items other serving) told hand
 
 pub returns-in-Task-clause-cargo : goal.returns-in-Task-clause-cargo
 returns-in-Task-clause-cargo g c = λ told all rest serving hand.
     let other : is_command c.args.request.now.order ≡ false = search rules in
-    c.add_code.ensures.cargo _ (other_unloaded (terms_of told c.args.disk.now.count) c.args.id c.args.service.now c.args.request.now rest c.args.records.now.history.items other serving) told hand
+    c.add_code.ensures.cargo _ (other_unloaded (terms_of told c.args.disk.now.count) c.args.id c.args.logins.now.granted c.args.service.now c.args.request.now rest c.args.records.now.history.items other serving) told hand
 
 pub returns-in-Unreadable-clause-cargo : goal.returns-in-Unreadable-clause-cargo
 returns-in-Unreadable-clause-cargo g c = λ told all rest serving hand.
     let other : is_command c.args.request.now.order ≡ false = search rules in
-    c.add_code-in-Unreadable.ensures.cargo _ (other_unloaded (terms_of told c.args.disk.now.count) c.args.id c.args.service.now c.args.request.now rest c.args.records.now.history.items other serving) told hand
+    c.add_code-in-Unreadable.ensures.cargo _ (other_unloaded (terms_of told c.args.disk.now.count) c.args.id c.args.logins.now.granted c.args.service.now c.args.request.now rest c.args.records.now.history.items other serving) told hand

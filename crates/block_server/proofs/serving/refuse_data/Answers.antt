@@ -17,7 +17,7 @@ use Rattle.block_server.proofs.Sendings.{same_service}
 use Rattle.block_server.proofs.serving.refuse_data.Goals as goal
 
 pub returns-in_default : goal.returns-in_default
-returns-in_default c = record { cargo = λ id shown. keeps_same _ _ refl; row = refl; states = refl; grants = refl; books = λ id session. one_same _ _ _ _ _ _ _ refl refl; once = λ id rest q disk cause serving. once_same _ _ _ _ _ _ refl refl refl disk serving; went = λ inn. not_data_in _ _ (λ row reply cursor is. c.in_default.not-DataIn row reply cursor is) inn }
+returns-in_default c = record { cargo = λ id shown. keeps_same _ _ refl; row = refl; states = refl; grants = refl; books = λ id session. one_same _ _ _ _ _ _ _ refl refl; once = λ id credits rest q disk cause serving. once_same _ _ _ _ _ _ refl refl refl disk serving; went = λ inn. not_data_in _ _ (λ row reply cursor is. c.in_default.not-DataIn row reply cursor is) inn }
 
 pub returns-in_err-set_answer : goal.returns-in_err-set_answer
 returns-in_err-set_answer c = record {
@@ -26,8 +26,8 @@ returns-in_err-set_answer c = record {
   states = refl;
   grants = refl;
   books = λ id session. one_same _ _ _ _ _ _ _ c.in_err-set_answer.ensures.err refl;
-  once = λ id rest q disk cause serving.
-      once_still _ _ _ _ _ _ refl c.in_err-set_answer.ensures.err c.in_err-set_answer.ensures.same
+  once = λ id credits rest q disk cause serving.
+      once_still _ _ _ _ _ _ refl refl c.in_err-set_answer.ensures.err c.in_err-set_answer.ensures.same
       (λ i. record { outs = (c.set_answer.ensures.out i).list.items; inns = (c.set_answer.ensures.inn i).list.items; given = (c.set_answer.ensures.given i).items })
       refl refl refl refl disk serving;
   went = search rules;
@@ -45,7 +45,7 @@ returns c = record {
       (one_given _ _ _ _ _ c.args.records.now.history.items (DataIn c.in-DataIn.row c.in-DataIn.reply c.in-DataIn.cursor) (Answer (Served c.in-DataIn.row))
       c.in-DataIn.is (c.take_given-inn.ensures.stage ∙ c.in_ok-set_answer.ensures.stage) refl refl (λ current pending at. front_answered current 0 pending at))
       (one_same _ _ _ _ _ _ _ refl c.fill.ensures.keys);
-  once = λ id rest q disk cause serving.
+  once = λ id credits rest q disk cause serving.
       let same : c.deref.result.now ≡ c.with_code.result.items = search (rules, c.deref.ensures) in
       once_cut c.bytes_spell_one.ensures _ _ _ _ _ c.in-DataIn.row c.done.result c.in-DataIn.reply c.in-DataIn.cursor c.args.request.now rest c.args.command.now refl refl c.in-DataIn.is
       (c.take_given-inn.ensures.stage ∙ c.in_ok-set_answer.ensures.stage) refl c.requires.asked c.requires.some

@@ -20,10 +20,10 @@ use Rattle.block_server.proofs.Sendings.{before_unloaded}
 use Rattle.block_server.proofs.serving.run_step.Goals as goal
 
 pub returns-then-not-is_before_step-clause-once : goal.returns-then-not-is_before_step-clause-once
-returns-then-not-is_before_step-clause-once g c = λ told all rest serving. once_same _ _ _ _ _ _ refl refl refl _ serving
+returns-then-not-is_before_step-clause-once g c = λ told all credits rest serving. once_same _ _ _ _ _ _ refl refl refl _ serving
 
 pub returns-in_err-fetch-clause-once : goal.returns-in_err-fetch-clause-once
-returns-in_err-fetch-clause-once g c = λ told all rest serving.
+returns-in_err-fetch-clause-once g c = λ told all credits rest serving.
     let before : is_before_step c.args.service.now.stage ≡ true = cc in
     once_before _ _ _ _ _ _ _ refl (c.fetch.ensures.before before) refl
     (pieces_of _ _ _ _ c.args.request.now rest c.args.command.now c.requires.asked
@@ -31,7 +31,7 @@ returns-in_err-fetch-clause-once g c = λ told all rest serving.
     (ap (λ (q : EndState). responses q.sent) c.fetch.ensures.queue) serving.brought
 
 pub returns-in-Busy-clause-once : goal.returns-in-Busy-clause-once
-returns-in-Busy-clause-once g c = λ told all rest serving.
+returns-in-Busy-clause-once g c = λ told all credits rest serving.
     let before : is_before_step c.args.service.now.stage ≡ true = cc in
     once_before _ _ _ _ _ _ _ refl (c.fetch.ensures.before before) refl
     (pieces_of _ _ _ _ c.args.request.now rest c.args.command.now c.requires.asked
@@ -39,7 +39,7 @@ returns-in-Busy-clause-once g c = λ told all rest serving.
     (ap (λ (q : EndState). responses q.sent) c.fetch.ensures.queue) serving.brought
 
 pub returns-in-Refused-clause-once : goal.returns-in-Refused-clause-once
-returns-in-Refused-clause-once g c = λ told all rest serving.
+returns-in-Refused-clause-once g c = λ told all credits rest serving.
     let before : is_before_step c.args.service.now.stage ≡ true = cc in
     let known = gathers_of _ _ _ _ c.args.request.now rest c.args.command.now c.requires.asked serving.fetched in
     let cause = where_refused c.in_ok-fetch.field-0 (TurnsDown (told_to told c.args.id) c.args.command.now) c.in-Refused.is (c.in_ok-fetch.ensures.refused told c.args.id all known) in
@@ -47,18 +47,18 @@ returns-in-Refused-clause-once g c = λ told all rest serving.
     (λ serving. once_before _ _ _ _ _ _ _ refl (c.fetch.ensures.before before) refl
     (pieces_of _ _ _ _ c.args.request.now rest c.args.command.now c.requires.asked (c.fetch.ensures.named told c.args.id all known)) refl
     (ap (λ (q : EndState). responses q.sent) c.fetch.ensures.queue) serving.brought)
-    (c.add_code.ensures.once rest (g.S.Site.state c.fetch.new.site).queue _
+    (c.add_code.ensures.once credits rest (g.S.Site.state c.fetch.new.site).queue _
     (subst (IsCauseOf (told_to told c.args.id)) (sym c.requires.asked) cause)) serving
 
 pub returns-in-Done-clause-once : goal.returns-in-Done-clause-once
-returns-in-Done-clause-once g c = λ told all rest.
+returns-in-Done-clause-once g c = λ told all credits rest.
     let before : is_before_step c.args.service.now.stage ≡ true = cc in
     once_then _ _ _ _ _ _ _ _ _ _ _ _
     (λ serving. once_before _ _ _ _ _ _ _ refl (c.fetch.ensures.before before) refl
     (pieces_of _ _ _ _ c.args.request.now rest c.args.command.now c.requires.asked
     (c.fetch.ensures.named told c.args.id (tells_first told c.args.id (g.S.Site.state c.args.site.now) (g.S.Site.state c.fetch.new.site) (g.S.Site.state c.make_step.new.site) c.make_step.ensures.advances all) (gathers_of _ _ _ _ c.args.request.now rest c.args.command.now c.requires.asked serving.fetched))) refl
     (ap (λ (q : EndState). responses q.sent) c.fetch.ensures.queue) serving.brought)
-    (c.make_step.ensures.once told rest)
+    (c.make_step.ensures.once told credits rest)
 
 pub returns-in-Done-clause-advances : goal.returns-in-Done-clause-advances
 returns-in-Done-clause-advances g c = advances_on _ _ _ c.fetch.ensures.advances c.make_step.ensures.advances
@@ -136,21 +136,21 @@ returns-in-Done-clause-moves g c =
     moves_on _ _ _ _ _ _ _ _ _ _ (ap (λ (q : EndState). q.last_session) c.fetch.ensures.queue) first c.make_step.ensures.moves
 
 pub returns-then-not-is_before_step-clause-cargo : goal.returns-then-not-is_before_step-clause-cargo
-returns-then-not-is_before_step-clause-cargo g c = λ told all rest serving hand. hand
+returns-then-not-is_before_step-clause-cargo g c = λ told all credits rest serving hand. hand
 
 pub returns-in_err-fetch-clause-cargo : goal.returns-in_err-fetch-clause-cargo
-returns-in_err-fetch-clause-cargo g c = λ told all rest serving hand. c.fetch.ensures.cargo c.args.id told all c.args.records.now.history.items hand
+returns-in_err-fetch-clause-cargo g c = λ told all credits rest serving hand. c.fetch.ensures.cargo c.args.id told all c.args.records.now.history.items hand
 
 pub returns-in-Busy-clause-cargo : goal.returns-in-Busy-clause-cargo
-returns-in-Busy-clause-cargo g c = λ told all rest serving hand. c.fetch.ensures.cargo c.args.id told all c.args.records.now.history.items hand
+returns-in-Busy-clause-cargo g c = λ told all credits rest serving hand. c.fetch.ensures.cargo c.args.id told all c.args.records.now.history.items hand
 
 pub returns-in-Refused-clause-cargo : goal.returns-in-Refused-clause-cargo
-returns-in-Refused-clause-cargo g c = λ told all rest serving hand.
+returns-in-Refused-clause-cargo g c = λ told all credits rest serving hand.
     let before : is_before_step c.args.service.now.stage ≡ true = cc in
     c.add_code.ensures.cargo _ (before_unloaded _ (c.fetch.ensures.before before)) told (c.fetch.ensures.cargo c.args.id told all c.args.records.now.history.items hand)
 
 pub returns-in-Done-clause-cargo : goal.returns-in-Done-clause-cargo
-returns-in-Done-clause-cargo g c = λ told all rest serving hand.
+returns-in-Done-clause-cargo g c = λ told all credits rest serving hand.
     let heard = tells_first told c.args.id (g.S.Site.state c.args.site.now) (g.S.Site.state c.fetch.new.site) (g.S.Site.state c.make_step.new.site) c.make_step.ensures.advances all in
     c.make_step.ensures.cargo told
     (c.fetch.ensures.named told c.args.id heard (gathers_of _ _ _ _ c.args.request.now rest c.args.command.now c.requires.asked serving.fetched))

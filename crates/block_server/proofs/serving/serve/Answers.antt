@@ -34,7 +34,7 @@ use Rattle.block_server.proofs.Sendings.{other_unloaded}
 use Rattle.block_server.specs.Serving.{IsServing, terms_of}
 use Rattle.block_server.specs.Judged.{is_command}
 use Rattle.block_server.specs.Cargo.{IsAccounted}
-use Rattle.block_server.proofs.Refusing.{explains_same}
+use Rattle.block_server.proofs.Refusing.{explained_then, explains_same}
 use Rattle.block_server.specs.Refusals.{basis_of}
 use Rattle.block_server.proofs.Taking.{ended_stands}
 use Rattle.block_server.proofs.serving.serve.Goals as goal
@@ -65,8 +65,8 @@ returns-in_err-prepare-clause-once g c = λ told all.
     let unit = c.args.unit.now in
     let front = front_is _ _ c.in-Some.ensures.item.3 in
     once_between _ _ _ _ _ _ _ _
-    (desk_is unit.id unit.service None _ _ _ c.requires.none front.1)
-    (desk_is unit.id c.prepare.new.service None _ _ _ c.requires.none front.1)
+    (desk_is unit.id unit.logins.granted unit.service None _ _ _ c.requires.none front.1)
+    (desk_is unit.id unit.logins.granted c.prepare.new.service None _ _ _ c.requires.none front.1)
     _ _ (c.prepare.ensures.once told all front.0)
 
 pub returns-clause-once : goal.returns-clause-once
@@ -75,8 +75,8 @@ returns-clause-once g c = λ told all.
     let front = front_is _ _ c.in-Some.ensures.item.3 in
     once_then _ _ _ _ _ _ _ _ _ _ _ _
     (once_between _ _ _ (desk_of c.note_stage.new.unit) _ _ _ _
-    (desk_is unit.id unit.service None _ _ _ c.requires.none front.1)
-    (c.note_stage.ensures.desk ∙ desk_is unit.id c.prepare.new.service None _ _ _ c.requires.none front.1)
+    (desk_is unit.id unit.logins.granted unit.service None _ _ _ c.requires.none front.1)
+    (c.note_stage.ensures.desk ∙ desk_is unit.id unit.logins.granted c.prepare.new.service None _ _ _ c.requires.none front.1)
     _ _ (c.prepare.ensures.once told (tells_first told unit.id (g.S.Site.state c.args.site.now) (g.S.Site.state c.prepare.new.site) (g.S.Site.state c.answer.new.site) c.answer.ensures.advances all) front.0))
     (c.answer.ensures.once _ (subst (λ (id : UnitId). TellsAll told id (g.S.Site.state c.prepare.new.site) (g.S.Site.state c.answer.new.site)) (sym (ap (λ (desk : Desk). desk.id) c.note_stage.ensures.desk))
     (tells_next told unit.id (g.S.Site.state c.args.site.now) (g.S.Site.state c.prepare.new.site) (g.S.Site.state c.answer.new.site) c.prepare.ensures.advances all)))
@@ -273,16 +273,16 @@ pub returns-in-Logout-clause-cargo : goal.returns-in-Logout-clause-cargo
 returns-in-Logout-clause-cargo g c = λ told all serving hand.
     let unit = c.args.unit.now in
     let front = front_is _ _ c.in-Some.ensures.item.3 in
-    let desk = desk_is unit.id unit.service None _ _ _ c.requires.none front.1 in
+    let desk = desk_is unit.id unit.logins.granted unit.service None _ _ _ c.requires.none front.1 in
     let at = subst (λ (d : Desk). IsServing (terms_of told c.args.disk.now.count) d c.args.records.now.history.items) desk serving in
     let other : is_command c.in-Some.request.now.order ≡ false = search rules in
-    c.log_out.ensures.cargo _ _ (other_unloaded (terms_of told c.args.disk.now.count) unit.id unit.service c.in-Some.request.now front.0 c.args.records.now.history.items other at) told (keeps_same _ _ (shown_same _ _ _ _ _ _ refl c.make_room.ensures.lists.history) told hand)
+    c.log_out.ensures.cargo _ _ (other_unloaded (terms_of told c.args.disk.now.count) unit.id unit.logins.granted unit.service c.in-Some.request.now front.0 c.args.records.now.history.items other at) told (keeps_same _ _ (shown_same _ _ _ _ _ _ refl c.make_room.ensures.lists.history) told hand)
 
 pub returns-in_err-prepare-clause-cargo : goal.returns-in_err-prepare-clause-cargo
 returns-in_err-prepare-clause-cargo g c = λ told all serving hand.
     let unit = c.args.unit.now in
     let front = front_is _ _ c.in-Some.ensures.item.3 in
-    let desk = desk_is unit.id unit.service None _ _ _ c.requires.none front.1 in
+    let desk = desk_is unit.id unit.logins.granted unit.service None _ _ _ c.requires.none front.1 in
     let at = subst (λ (d : Desk). IsServing (terms_of told c.args.disk.now.count) d c.args.records.now.history.items) desk serving in
     c.prepare.ensures.cargo told all front.0 at hand
 
@@ -290,33 +290,45 @@ pub returns-clause-cargo : goal.returns-clause-cargo
 returns-clause-cargo g c = λ told all serving hand.
     let unit = c.args.unit.now in
     let front = front_is _ _ c.in-Some.ensures.item.3 in
-    let desk = desk_is unit.id unit.service None _ _ _ c.requires.none front.1 in
+    let desk = desk_is unit.id unit.logins.granted unit.service None _ _ _ c.requires.none front.1 in
     let at = subst (λ (d : Desk). IsServing (terms_of told c.args.disk.now.count) d c.args.records.now.history.items) desk serving in
     c.answer.ensures.cargo told
     (subst (IsAccounted told) (sym (cargo_named _ _ _ _ _ _ c.note_stage.ensures.id c.note_stage.ensures.service))
     (c.prepare.ensures.cargo told (tells_first told unit.id (g.S.Site.state c.args.site.now) (g.S.Site.state c.prepare.new.site) (g.S.Site.state c.answer.new.site) c.answer.ensures.advances all) front.0 at hand))
 
 pub returns-in_default-clause-refuses : goal.returns-in_default-clause-refuses
-returns-in_default-clause-refuses g c = λ told unit since all is. is
+returns-in_default-clause-refuses g c = λ told all serving since is. is
 
 pub returns-in_err-make_room-clause-refuses : goal.returns-in_err-make_room-clause-refuses
-returns-in_err-make_room-clause-refuses g c = λ told unit since all is.
-    explains_same (basis_of c.args.unit.now (g.S.Site.state c.args.site.now) c.args.records.now) _ refl refl refl refl refl c.make_room.ensures.lists.grants told unit since is
+returns-in_err-make_room-clause-refuses g c = λ told all serving since is.
+    explains_same (basis_of c.args.unit.now (g.S.Site.state c.args.site.now) c.args.records.now) _ refl refl refl refl refl c.make_room.ensures.lists.grants told c.args.unit.now.id since is
 
 pub returns-in-Logout-clause-refuses : goal.returns-in-Logout-clause-refuses
-returns-in-Logout-clause-refuses g c = λ told unit since all is.
-    c.log_out.ensures.refuses (g.S.Site.state c.args.site.now).queue.last_session (g.S.Site.state c.args.site.now).queue.taken told unit since
-    (explains_same (basis_of c.args.unit.now (g.S.Site.state c.args.site.now) c.args.records.now) (basis_of c.args.unit.now (g.S.Site.state c.args.site.now) c.make_room.new.self) refl refl refl refl refl c.make_room.ensures.lists.grants told unit since is)
+returns-in-Logout-clause-refuses g c = λ told all serving since is.
+    c.log_out.ensures.refuses (g.S.Site.state c.args.site.now).queue.last_session (g.S.Site.state c.args.site.now).queue.taken told c.args.unit.now.id since
+    (explains_same (basis_of c.args.unit.now (g.S.Site.state c.args.site.now) c.args.records.now) (basis_of c.args.unit.now (g.S.Site.state c.args.site.now) c.make_room.new.self) refl refl refl refl refl c.make_room.ensures.lists.grants told c.args.unit.now.id since is)
 
 pub returns-in_err-prepare-clause-refuses : goal.returns-in_err-prepare-clause-refuses
-returns-in_err-prepare-clause-refuses g c = λ told unit since all is.
+returns-in_err-prepare-clause-refuses g c = λ told all serving since is.
     explains_same (basis_of c.args.unit.now (g.S.Site.state c.args.site.now) c.args.records.now) _ (ap (λ (q : EndState). q.last_session) c.prepare.ensures.queue) (ap (λ (q : EndState). q.taken) c.prepare.ensures.queue) refl refl refl c.prepare.ensures.grants
-    told unit since is
+    told c.args.unit.now.id since is
 
 pub returns-clause-refuses : goal.returns-clause-refuses
-returns-clause-refuses g c = λ told unit since all is.
-    c.answer.ensures.refuses told unit since (tells_next told unit (g.S.Site.state c.args.site.now) (g.S.Site.state c.prepare.new.site) (g.S.Site.state c.answer.new.site) c.prepare.ensures.advances all)
-    (explains_same (basis_of c.args.unit.now (g.S.Site.state c.args.site.now) c.args.records.now) (basis_of c.note_stage.new.unit (g.S.Site.state c.prepare.new.site) c.prepare.new.records)
+returns-clause-refuses g c = λ told all serving since is.
+    let unit = c.args.unit.now in
+    let front = front_is _ _ c.in-Some.ensures.item.3 in
+    let old = g.S.Site.state c.args.site.now in
+    let mid = g.S.Site.state c.prepare.new.site in
+    let new = g.S.Site.state c.answer.new.site in
+    let prepared =
+    once_between _ _ _ (desk_of c.note_stage.new.unit) _ _ _ _
+    (desk_is unit.id unit.logins.granted unit.service None _ _ _ c.requires.none front.1)
+    (c.note_stage.ensures.desk ∙ desk_is unit.id unit.logins.granted c.prepare.new.service None _ _ _ c.requires.none front.1)
+    _ _ (c.prepare.ensures.once told (tells_first told unit.id old mid new c.answer.ensures.advances all) front.0) serving in
+    explained_then _ _ (desk_of unit) (desk_of c.note_stage.new.unit) _ _ _ _ since (basis_of unit old c.args.records.now) (basis_of c.note_stage.new.unit mid c.prepare.new.records) _ prepared
+    (explains_same (basis_of unit old c.args.records.now) (basis_of c.note_stage.new.unit mid c.prepare.new.records)
     (ap (λ (q : EndState). q.last_session) c.prepare.ensures.queue) (ap (λ (q : EndState). q.taken) c.prepare.ensures.queue)
     (waiting_stands _ _ c.note_stage.ensures.stands) (ap (λ (way : UnderWay). way.pending) c.note_stage.ensures.way) (ended_stands _ _ c.note_stage.ensures.stands)
-    c.prepare.ensures.grants told unit since is)
+    c.prepare.ensures.grants told unit.id since)
+    (c.answer.ensures.refuses (terms_of told c.prepare.new.disk.count)
+    (subst (λ (id : UnitId). TellsAll told id mid new) (sym (ap (λ (desk : Desk). desk.id) c.note_stage.ensures.desk)) (tells_next told unit.id old mid new c.prepare.ensures.advances all))) is

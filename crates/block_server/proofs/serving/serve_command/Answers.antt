@@ -13,20 +13,20 @@ use Rattle.block_server.specs.Serving.{held}
 use Rattle.block_server.proofs.serving.serve_command.Goals as goal
 
 pub returns-in_err-run_step-clause-once : goal.returns-in_err-run_step-clause-once
-returns-in_err-run_step-clause-once g c = λ told all rest. c.run_step.ensures.once told all rest
+returns-in_err-run_step-clause-once g c = λ told all credits rest. c.run_step.ensures.once told all credits rest
 
 pub returns-in_err-store-clause-once : goal.returns-in_err-store-clause-once
-returns-in_err-store-clause-once g c = λ told all rest.
+returns-in_err-store-clause-once g c = λ told all credits rest.
     once_then _ _ _ _ _ _ _ _ _ _ _ _
-    (c.run_step.ensures.once told (tells_first told c.args.id (g.S.Site.state c.args.site.now) (g.S.Site.state c.run_step.new.site) (g.S.Site.state c.store.new.site) c.store.ensures.advances all) rest) (c.store.ensures.once c.args.id rest c.run_step.new.records _)
+    (c.run_step.ensures.once told (tells_first told c.args.id (g.S.Site.state c.args.site.now) (g.S.Site.state c.run_step.new.site) (g.S.Site.state c.store.new.site) c.store.ensures.advances all) credits rest) (c.store.ensures.once c.args.id credits rest c.run_step.new.records _)
 
 pub returns-clause-once : goal.returns-clause-once
-returns-clause-once g c = λ told all rest.
+returns-clause-once g c = λ told all credits rest.
     once_then _ _ _ _ _ _ _ _ _ _ _ _
     (once_then _ _ _ _ _ _ _ _ _ _ _ _
-    (c.run_step.ensures.once told (tells_first told c.args.id (g.S.Site.state c.args.site.now) (g.S.Site.state c.run_step.new.site) (g.S.Site.state c.hand_over.new.site) (advances_on _ _ _ c.store.ensures.advances c.hand_over.ensures.advances) all) rest)
-    (c.store.ensures.once c.args.id rest c.run_step.new.records _))
-    (c.hand_over.ensures.once c.args.id told (tells_next told c.args.id (g.S.Site.state c.args.site.now) (g.S.Site.state c.store.new.site) (g.S.Site.state c.hand_over.new.site) (advances_on _ _ _ c.run_step.ensures.advances c.store.ensures.advances) all) _ _ rest)
+    (c.run_step.ensures.once told (tells_first told c.args.id (g.S.Site.state c.args.site.now) (g.S.Site.state c.run_step.new.site) (g.S.Site.state c.hand_over.new.site) (advances_on _ _ _ c.store.ensures.advances c.hand_over.ensures.advances) all) credits rest)
+    (c.store.ensures.once c.args.id credits rest c.run_step.new.records _))
+    (c.hand_over.ensures.once c.args.id told (tells_next told c.args.id (g.S.Site.state c.args.site.now) (g.S.Site.state c.store.new.site) (g.S.Site.state c.hand_over.new.site) (advances_on _ _ _ c.run_step.ensures.advances c.store.ensures.advances) all) _ _ credits rest)
 
 pub returns-in_err-store-clause-advances : goal.returns-in_err-store-clause-advances
 returns-in_err-store-clause-advances g c = advances_on _ _ _ c.run_step.ensures.advances c.store.ensures.advances
@@ -70,17 +70,17 @@ returns-clause-moves g c =
     (moves_same _ _ _ _ _ _ _ c.hand_over.ensures.row c.hand_over.ensures.states)
 
 pub returns-in_err-run_step-clause-cargo : goal.returns-in_err-run_step-clause-cargo
-returns-in_err-run_step-clause-cargo g c = λ told all rest serving hand. c.run_step.ensures.cargo told all rest serving hand
+returns-in_err-run_step-clause-cargo g c = λ told all credits rest serving hand. c.run_step.ensures.cargo told all credits rest serving hand
 
 pub returns-in_err-store-clause-cargo : goal.returns-in_err-store-clause-cargo
-returns-in_err-store-clause-cargo g c = λ told all rest serving hand.
-    c.store.ensures.cargo c.args.id _ told (c.run_step.ensures.cargo told (tells_first told c.args.id (g.S.Site.state c.args.site.now) (g.S.Site.state c.run_step.new.site) (g.S.Site.state c.store.new.site) c.store.ensures.advances all) rest serving hand)
+returns-in_err-store-clause-cargo g c = λ told all credits rest serving hand.
+    c.store.ensures.cargo c.args.id _ told (c.run_step.ensures.cargo told (tells_first told c.args.id (g.S.Site.state c.args.site.now) (g.S.Site.state c.run_step.new.site) (g.S.Site.state c.store.new.site) c.store.ensures.advances all) credits rest serving hand)
 
 pub returns-clause-cargo : goal.returns-clause-cargo
-returns-clause-cargo g c = λ told all rest serving hand.
+returns-clause-cargo g c = λ told all credits rest serving hand.
     let first = (tells_first told c.args.id (g.S.Site.state c.args.site.now) (g.S.Site.state c.run_step.new.site) (g.S.Site.state c.hand_over.new.site) (advances_on _ _ _ c.store.ensures.advances c.hand_over.ensures.advances) all) in
-    let stepped = (c.run_step.ensures.once told first rest serving).serving in
-    let stored = (c.store.ensures.once c.args.id rest c.run_step.new.records (held told c.run_step.new.disk.count None) stepped).serving in
+    let stepped = (c.run_step.ensures.once told first credits rest serving).serving in
+    let stored = (c.store.ensures.once c.args.id credits rest c.run_step.new.records (held told c.run_step.new.disk.count None) stepped).serving in
     c.hand_over.ensures.cargo c.args.id told
     (tells_next told c.args.id (g.S.Site.state c.args.site.now) (g.S.Site.state c.store.new.site) (g.S.Site.state c.hand_over.new.site) (advances_on _ _ _ c.run_step.ensures.advances c.store.ensures.advances) all)
-    _ rest stored (c.store.ensures.cargo c.args.id _ told (c.run_step.ensures.cargo told first rest serving hand))
+    _ credits rest stored (c.store.ensures.cargo c.args.id _ told (c.run_step.ensures.cargo told first credits rest serving hand))

@@ -13,16 +13,16 @@ use Rattle.block_server.specs.Cargo.{AreShown}
 use Rattle.block_server.proofs.serving.store.Goals as goal
 
 pub returns-in_err-write_data-clause-once : goal.returns-in_err-write_data-clause-once
-returns-in_err-write_data-clause-once g c = λ id rest records disk serving.
+returns-in_err-write_data-clause-once g c = λ id credits rest records disk serving.
     once_same _ _ _ _ _ _ refl refl (ap (λ (q : EndState). responses q.sent) c.write_data.ensures.queue) disk serving
 
 pub returns-in_ok-write_data-clause-once : goal.returns-in_ok-write_data-clause-once
-returns-in_ok-write_data-clause-once g c = λ id rest records disk serving.
+returns-in_ok-write_data-clause-once g c = λ id credits rest records disk serving.
     once_stored _ _ _ _ _ _ c.in-Given.row c.in-Given.reply c.start.result refl refl c.in-Given.is refl refl refl refl
     (ap (λ (q : EndState). responses q.sent) c.write_data.ensures.queue) disk serving
 
 pub returns-in_default-clause-once : goal.returns-in_default-clause-once
-returns-in_default-clause-once g c = λ id rest records disk serving. once_same _ _ _ _ _ _ refl refl refl disk serving
+returns-in_default-clause-once g c = λ id credits rest records disk serving. once_same _ _ _ _ _ _ refl refl refl disk serving
 
 pub returns-in_default-clause-went : goal.returns-in_default-clause-went
 returns-in_default-clause-went g c = λ before. (before, not_given _ (λ row reply is. c.in_default.not-Given row reply is))

@@ -20,7 +20,7 @@ use Rattle.block_server.proofs.OwingTurn.{answered_turn}
 use Rattle.block_server.specs.Cargo.{HasCargo}
 use Rattle.block_server.proofs.CargoLaws.{cargo_turn}
 use Rattle.block_server.proofs.Refusing.{refuses_turn}
-use Rattle.block_server.specs.Refusals.{HasRefusals}
+use Rattle.block_server.specs.Refusals.{AreExplained, HasExplained, basis_seen}
 use Rattle.block_server.proofs.server.Server.turn.Goals as goal
 
 pub returns-clause-answers : goal.returns-clause-answers
@@ -212,16 +212,19 @@ returns-clause-carried g c = λ told tells all has.
     (cargo_turn told server.units.items c.args.unit c.index_mut.result.now c.turn.new.unit _ _ server.records c.turn.new.records there
     (c.turn.ensures.cargo told heard is.serving) has)
 
-pub returns-clause-refuses : goal.returns-clause-refuses
-returns-clause-refuses g c = λ told tells since has.
+pub returns-clause-explains : goal.returns-clause-explains
+returns-clause-explains g c = λ told tells all since has.
     let server = c.args.self.now in
     let there : slice_get server.units.items c.args.unit ≡ Some c.index_mut.result.now =
     slice_get_read server.units.items _ c.args.unit _ server.units.ok.0 c.requires.unit c.index_mut.ensures.value in
+    let is = all c.args.unit c.index_mut.result.now there in
     let lent = c.turn.ensures.advances.reached in
     let unit = (g.O.WindowPort.state c.args.own.now).place.unit in
     let queue = sym (ap g.C.CrqEnd.state (c.crq-1.given.1 (sym (ap (λ (lent : Lenders). lent.queue) lent)))) in
-    let heard = tells_turn told _ _ _ _ _ _ _ _ _ _ refl (sym (ap g.O.WindowPort.state (c.own-1.given.1 (sym (ap (λ (lent : Lenders). lent.own) lent)))))
+    let heard = tells_turn told _ _ _ _ _ _ _ _ _ _ (sym (is.id ∙ sym c.requires.named)) (sym (ap g.O.WindowPort.state (c.own-1.given.1 (sym (ap (λ (lent : Lenders). lent.own) lent)))))
     (sym (ap g.R.WindowPort.state (c.client-1.given.1 (sym (ap (λ (lent : Lenders). lent.client) lent))))) tells in
-    subst (λ (q : EndState). HasRefusals told (slice_set server.units.items c.args.unit c.turn.new.unit) c.args.unit unit q since c.turn.new.records.grants.items) queue
+    let step = c.turn.ensures.refuses told heard is.serving since in
+    subst (λ (q : EndState). HasExplained told (slice_set server.units.items c.args.unit c.turn.new.unit) c.args.unit unit q since c.turn.new.records.grants.items) queue
     (refuses_turn told server.units.items c.args.unit c.index_mut.result.now c.turn.new.unit unit (g.C.CrqEnd.state c.args.crq.now) (g.C.CrqEnd.state c.turn.new.site.queue.now) since _ _ there
-    (c.turn.ensures.refuses told unit since heard) has)
+    (subst (λ (id : UnitId). AreExplained told id since (basis_seen c.index_mut.result.now (g.C.CrqEnd.state c.args.crq.now) server.records.grants.items)
+    → AreExplained told id since (basis_seen c.turn.new.unit (g.C.CrqEnd.state c.turn.new.site.queue.now) c.turn.new.records.grants.items)) (is.id ∙ sym c.requires.named) step) has)

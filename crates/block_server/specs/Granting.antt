@@ -1,0 +1,64 @@
+-- Which logins are granted: a copy wrote the response over the request of each (SRP, "SRP_LOGIN_RSP response").
+use Rattle.std.specs.Prelude.{⊤, ◌≡◌, ℕ, true, List, ◌∷◌, Some, length}
+use Rattle.std.specs.List.{slice_get}
+use Rattle.crq_ring.specs.Sessions.{of_session}
+use Rattle.crq_ring.specs.declared.rows.PipeRow.{PipeRow}
+use Rattle.srp_iu.specs.Grammar.{Spells}
+use Rattle.srp_iu.specs.declared.login.LoginReq.{LoginReq}
+use Rattle.srp_iu.specs.declared.unit.Iu.TheVariants as units
+use Rattle.vio_num.specs.Entry.{is_srp_entry, iu_address, iu_length}
+use Rattle.vio_num.specs.declared.entry.Entry.{Entry as QueueEntry}
+use Rattle.block_server.specs.Causes.{Hearing, units_at}
+use Rattle.block_server.specs.Causes.News.{delivered, fetched}
+use Rattle.block_server.specs.Ends.{IsGrantable}
+use Rattle.block_server.specs.Responses.{GrantsLogin}
+use Rattle.block_server.specs.declared.request.Order.TheVariants as orders
+use Rattle.block_server.specs.declared.request.Request.{Request}
+use Rattle.block_server.specs.declared.service.Outcome.TheVariants.{Granted}
+use Rattle.block_server.specs.declared.service.Stage.{Stage}
+use Rattle.block_server.specs.declared.service.Stage.TheVariants.{Answer, Entry}
+
+-- An SRP entry was taken in the session, and has this number there.
+pub record IsSrpAt (taken : List PipeRow) (session number : ℕ) (entry : QueueEntry) : Type 0 where
+  pub there : slice_get (of_session session taken) number ≡ Some entry
+  pub srp : is_srp_entry entry ≡ true
+
+-- A login was granted over its request: an SRP entry of the session was taken, which has this number there; a copy brought
+-- its information unit, which asks for a login that may be granted; and a copy wrote over it, under its tag, the response
+-- that grants the login so many requests.
+pub record IsGrantedOver (Hears : Hearing) (taken : List PipeRow) (session number credits : ℕ) : Type 0 where
+  pub entry : QueueEntry
+  pub at : IsSrpAt taken session number entry
+  pub bytes : List ℕ
+  pub long : length bytes ≡ iu_length entry
+  pub brought : Hears (fetched (iu_address entry) units_at bytes)
+  pub asked : LoginReq
+  pub asks : Spells bytes (units.LoginReq asked)
+  pub may : IsGrantable 0 asked
+  pub answer : List ℕ
+  pub grants : GrantsLogin answer asked.tag credits
+  pub written : Hears (delivered units_at (iu_address entry) asked.tag answer)
+
+-- KEPT BETWEEN TURNS -----------------------------------------------------------------------------
+
+-- The oldest request asks for a login that may be granted, and these bytes grant it so many requests.
+pub record IsOffered (number credits : ℕ) (answer : List ℕ) (pending : List Request) : Type 0 where
+  pub front : Request
+  pub rest : List Request
+  pub parts : pending ≡ front ∷ rest
+  pub number_is : front.number ≡ number
+  pub asked : LoginReq
+  pub asks : front.order ≡ orders.Login asked
+  pub may : IsGrantable 0 asked
+  pub grants : GrantsLogin answer asked.tag credits
+
+-- The same, and a copy wrote them over the request.
+pub record IsOfferedOver (Hears : Hearing) (number credits : ℕ) (answer : List ℕ) (pending : List Request) : Type 0 where
+  pub offered : IsOffered number credits answer pending
+  pub written : Hears (delivered units_at offered.front.address offered.front.tag answer)
+
+-- What is so of a login that is to be granted, at each stage.
+abbrev pub HasOffer : Hearing → Stage → (credits : ℕ) → (answer : List ℕ) → List Request → Type 0
+HasOffer Hears (Answer (Granted number)) credits answer pending = IsOffered number credits answer pending
+HasOffer Hears (Entry (Granted number)) credits answer pending = IsOfferedOver Hears number credits answer pending
+HasOffer Hears _ credits answer pending = ⊤
