@@ -169,7 +169,8 @@ fn prepare<S: Site, B: Blocks>(
         records.old.history.items records.new.history.items }
     ensures cargo { (told : Told → Bool) →
         TellsAll told id (S.state site.old) (S.state site.new) → (rest : List Request) →
-        IsServing (terms_of told disk.old.count) (desk_at id logins.now.granted service.old None (request.now ∷ rest))
+        IsServing (terms_of told disk.old.count)
+        (desk_at id logins.now.granted service.old None (request.now ∷ rest))
         records.old.history.items →
         IsAccounted told (cargo_at id service.old (data_bytes (S.state site.old).own)
         records.old.history.items) →
@@ -322,8 +323,9 @@ fn serve_command<S: Site, B: Blocks>(
         service.old.stage service.new.stage
         records.old.history.items records.new.history.items }
     ensures cargo { (told : Told → Bool) →
-        TellsAll told id (S.state site.old) (S.state site.new) → (credits : ℕ) → (rest : List Request) →
-        IsServing (terms_of told disk.old.count) (desk_at id credits service.old None (request.now ∷ rest))
+        TellsAll told id (S.state site.old) (S.state site.new) →
+        (credits : ℕ) → (rest : List Request) → IsServing (terms_of told disk.old.count)
+        (desk_at id credits service.old None (request.now ∷ rest))
         records.old.history.items →
         IsAccounted told (cargo_at id service.old (data_bytes (S.state site.old).own)
         records.old.history.items) →
@@ -366,8 +368,9 @@ fn run_step<S: Site, B: Blocks>(
         service.old.stage service.new.stage
         records.old.history.items records.new.history.items }
     ensures cargo { (told : Told → Bool) →
-        TellsAll told id (S.state site.old) (S.state site.new) → (credits : ℕ) → (rest : List Request) →
-        IsServing (terms_of told disk.old.count) (desk_at id credits service.old None (request.now ∷ rest))
+        TellsAll told id (S.state site.old) (S.state site.new) →
+        (credits : ℕ) → (rest : List Request) → IsServing (terms_of told disk.old.count)
+        (desk_at id credits service.old None (request.now ∷ rest))
         records.old.history.items →
         IsAccounted told (cargo_at id service.old (data_bytes (S.state site.old).own)
         records.old.history.items) →
@@ -393,7 +396,8 @@ fn run_step<S: Site, B: Blocks>(
 
 // Writes the data-in that the disk step gave to the unit's region, if that is to be done.
 fn store<S: Site>(service: &mut Service, request: &Request, site: &mut S) -> Result<(), NoMemory>
-    ensures once { (id : UnitId) → (credits : ℕ) → (rest : List Request) → (records : Records) → AnswersOnce
+    ensures once { (id : UnitId) → (credits : ℕ) → (rest : List Request) →
+        (records : Records) → AnswersOnce
         (desk_at id credits service.old None (request.now ∷ rest))
         (desk_at id credits service.new None (request.now ∷ rest))
         (S.state site.old).queue (S.state site.new).queue records records }
@@ -431,7 +435,8 @@ fn hand_over<S: Site>(
     requires asked { request.now.order ≡ Order.Command command.now }
     ensures once { (id : UnitId) → (told : Told → Bool) →
         TellsAll told id (S.state site.old) (S.state site.new) →
-        (size : ℕ) → (now : Option (List (List ℕ))) → (credits : ℕ) → (rest : List Request) →
+        (size : ℕ) → (now : Option (List (List ℕ))) →
+        (credits : ℕ) → (rest : List Request) →
         AnswersOnceOn (held told size now) (held told size now)
         (desk_at id credits service.old None (request.now ∷ rest))
         (desk_at id credits service.new None (request.now ∷ rest))
@@ -449,8 +454,9 @@ fn hand_over<S: Site>(
     ensures row { row_in service.new.stage ≡ row_in service.old.stage }
     ensures states { row_states records.new.history.items ≡ row_states records.old.history.items }
     ensures cargo { (id : UnitId) → (told : Told → Bool) →
-        TellsAll told id (S.state site.old) (S.state site.new) → (size : ℕ) → (credits : ℕ) → (rest : List Request) →
-        IsServing (terms_of told size) (desk_at id credits service.old None (request.now ∷ rest))
+        TellsAll told id (S.state site.old) (S.state site.new) → (size : ℕ) →
+        (credits : ℕ) → (rest : List Request) → IsServing (terms_of told size)
+        (desk_at id credits service.old None (request.now ∷ rest))
         records.old.history.items →
         IsAccounted told (cargo_at id service.old (data_bytes (S.state site.old).own)
         records.old.history.items) →
@@ -595,7 +601,8 @@ fn end_command(
 ) -> Result<(), NoMemory>
     requires asked { request.now.order ≡ Order.Command command.now }
     requires some { progress ≡ Progress.Refused → 0 < length service.old.given.items }
-    ensures once { (id : UnitId) → (credits : ℕ) → (rest : List Request) → (q : EndState) → AnswersOnceIf
+    ensures once { (id : UnitId) → (credits : ℕ) → (rest : List Request) →
+        (q : EndState) → AnswersOnceIf
         (λ Hears. progress ≡ Progress.Refused → RefusesIn Hears command.now)
         (desk_at id credits service.old None (request.now ∷ rest))
         (desk_at id credits service.new None (request.now ∷ rest)) q q records.old records.new }
@@ -638,7 +645,8 @@ fn refuse_data(
 ) -> Result<(), NoMemory>
     requires asked { request.now.order ≡ Order.Command command.now }
     requires some { 0 < length service.old.given.items }
-    ensures once { (id : UnitId) → (credits : ℕ) → (rest : List Request) → (q : EndState) → AnswersOnceIf
+    ensures once { (id : UnitId) → (credits : ℕ) → (rest : List Request) →
+        (q : EndState) → AnswersOnceIf
         (λ Hears. RefusesIn Hears command.now)
         (desk_at id credits service.old None (request.now ∷ rest))
         (desk_at id credits service.new None (request.now ∷ rest)) q q records.old records.new }

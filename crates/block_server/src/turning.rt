@@ -12,7 +12,7 @@ ghost use Rattle.block_server.specs.Owed.{KeepsAnswers, KeepsAnswersAll};
 ghost use Rattle.block_server.specs.Receipts.{TakesIn, is_ended, standing_of};
 ghost use Rattle.block_server.specs.Heard.{TellsAll};
 ghost use Rattle.block_server.specs.Ready.{Agrees, Idles, MeetsFull, MeetsSender};
-ghost use Rattle.block_server.specs.Refusals.{Explains, ExplainsBy, basis_of};
+ghost use Rattle.block_server.specs.Refusals.{Explains, ExplainsOn, basis_of};
 ghost use Rattle.block_server.specs.Turns.{IfQuiet, IsQuietTurn};
 ghost use Rattle.block_server.specs.Waits.{AsNext, IsIdle, PassesEvent, StandsOpen, StaysAgreed, StopsOpening};
 

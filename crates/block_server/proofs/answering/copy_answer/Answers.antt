@@ -24,6 +24,12 @@ pub returns-in-Refused-clause-once : goal.returns-in-Refused-clause-once
 returns-in-Refused-clause-once g c =
     λ disk all. once_then disk disk disk _ _ _ _ _ _ _ _ _ (c.deliver.ensures.once c.args.records.now disk all) (c.end_session.ensures.once (g.S.Site.state c.deliver.new.site).queue disk)
 
+pub returns-in-Done-clause-once : goal.returns-in-Done-clause-once
+returns-in-Done-clause-once g c = λ disk all serving. c.deliver.ensures.once c.args.records.now disk all serving
+
+pub returns-in-Busy-clause-once : goal.returns-in-Busy-clause-once
+returns-in-Busy-clause-once g c = λ disk all serving. c.deliver.ensures.once c.args.records.now disk all serving
+
 pub returns-in_default-clause-waits : goal.returns-in_default-clause-waits
 returns-in_default-clause-waits g c = λ moved pending answered.
     inr (record { pending = pending; stage = at_entry _ (λ outcome is. c.in_default.not-Answer outcome is) answered })

@@ -18,7 +18,7 @@ use Rattle.block_server.proofs.intake.judge.Goals as goal
 
 pub returns-in-Ignored-clause-once : goal.returns-in-Ignored-clause-once
 returns-in-Ignored-clause-once c = λ q disk heard serving.
-    once_same _ _ _ _ _ _ (desk_credits c.args.unit.now _ (decides_granted c.args.unit.now.logins c.judge_unit.new.logins _ c.judge_unit.result c.judge_unit.ensures.decides)) refl refl disk serving
+    once_same _ _ _ _ _ _ (desk_credits c.args.unit.now c.judge_unit.new.logins (decides_granted c.args.unit.now.logins c.judge_unit.new.logins _ c.judge_unit.result c.judge_unit.ensures.decides)) refl refl disk serving
 
 pub returns-in-Ok-clause-once : goal.returns-in-Ok-clause-once
 returns-in-Ok-clause-once c = λ q disk heard serving.
@@ -28,7 +28,7 @@ returns-in-Ok-clause-once c = λ q disk heard serving.
 pub returns-in-Fatal-clause-once : goal.returns-in-Fatal-clause-once
 returns-in-Fatal-clause-once c = λ q disk heard.
     once_then disk disk disk _ _ _ _ _ _ _ _ _
-    (once_same _ _ q.sent q.sent _ _ (desk_credits c.args.unit.now _ (decides_granted c.args.unit.now.logins c.judge_unit.new.logins _ c.judge_unit.result c.judge_unit.ensures.decides)) refl refl disk)
+    (once_same _ _ q.sent q.sent _ _ (desk_credits c.args.unit.now c.judge_unit.new.logins (decides_granted c.args.unit.now.logins c.judge_unit.new.logins _ c.judge_unit.result c.judge_unit.ensures.decides)) refl refl disk)
     (c.end_counted.ensures.once q disk)
 
 pub returns-in-Ignored-clause-lines : goal.returns-in-Ignored-clause-lines

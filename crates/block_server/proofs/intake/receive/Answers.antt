@@ -186,5 +186,5 @@ returns-in-Ok-clause-refuses g c = λ waits told unit since all is.
     let at = basis_of c.args.unit.now (g.S.Site.state c.args.site.now) c.args.records.now in
     explains_same (basis_at c.judge.new.unit (g.S.Site.state c.args.site.now).queue.last_session (g.S.Site.state c.args.site.now).queue.taken c.judge.new.records) (basis_of c.judge.new.unit (g.S.Site.state c.fetch_unit.new.self) c.judge.new.records)
     (ap (λ (q : EndState). q.last_session) c.fetch_unit.ensures.queue) (ap (λ (q : EndState). q.taken) c.fetch_unit.ensures.queue) refl refl refl refl told unit since
-    (c.judge.ensures.refuses (g.S.Site.state c.args.site.now).queue.last_session (g.S.Site.state c.args.site.now).queue.taken (waits_open told unit since at c.args.arrival waits is) refl (waits_at told unit since at c.args.arrival waits is) told unit since
+    (c.judge.ensures.refuses (g.S.Site.state c.args.site.now).queue.last_session (g.S.Site.state c.args.site.now).queue.taken (waits_open told unit since at c.args.arrival waits is) refl (waits_at told unit since at c.args.arrival waits is) (search rules) told unit since
     (explained_apart told unit since at is))

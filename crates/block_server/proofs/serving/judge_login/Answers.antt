@@ -15,6 +15,7 @@ returns-in-Some-clause-once c = λ id front rest number order q records disk ser
 
 pub returns-in-None-clause-once : goal.returns-in-None-clause-once
 returns-in-None-clause-once c = λ id front rest number order q records disk serving.
+    let same : c.deref-in-None.result.now ≡ c.login_granted.result.items = search (rules, c.deref-in-None.ensures) in
     once_judged _ _ _ _ (Granted c.args.number) c.set_answer-in-None.result refl refl refl refl (λ P. tt)
     c.set_answer-in-None.ensures.stage c.set_answer-in-None.ensures.err c.set_answer-in-None.ensures.same (λ i. record { outs = (c.set_answer-in-None.ensures.out i).list.items; inns = (c.set_answer-in-None.ensures.inn i).list.items; given = (c.set_answer-in-None.ensures.given i).items }) disk
     (on_ok c.set_answer-in-None.result _ _ (λ bytes. record {

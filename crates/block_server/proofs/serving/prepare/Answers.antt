@@ -12,26 +12,24 @@ use Rattle.block_server.proofs.OwingRows.{moves_same}
 use Rattle.block_server.specs.Owed.{MovesRow}
 use Rattle.block_server.proofs.Sendings.{other_unloaded}
 use Rattle.block_server.specs.Serving.{terms_of}
-use Rattle.block_server.specs.declared.request.Order.TheVariants.{Login}
 use Rattle.block_server.proofs.serving.prepare.Goals as goal
 
 pub returns-in-Command-clause-once : goal.returns-in-Command-clause-once
-returns-in-Command-clause-once g c = λ told all rest. c.serve_command.ensures.once told all rest
+returns-in-Command-clause-once g c = λ told all rest. c.serve_command.ensures.once told all c.args.logins.now.granted rest
 
 pub returns-in-Login-clause-once : goal.returns-in-Login-clause-once
 returns-in-Login-clause-once g c = λ told all rest.
-    let asks : c.args.request.now.order ≡ Login c.in-Login.login.now = search rules in
-    c.judge_login.ensures.once c.args.id c.args.request.now rest refl asks (g.S.Site.state c.args.site.now).queue c.args.records.now _
+    c.judge_login.ensures.once c.args.id c.args.request.now rest refl (search rules) (g.S.Site.state c.args.site.now).queue c.args.records.now _
 
 pub returns-in-Task-clause-once : goal.returns-in-Task-clause-once
 returns-in-Task-clause-once g c = λ told all rest.
     let cause : IsCauseOf (told_to told c.args.id) c.args.request.now.order = search rules in
-    c.add_code.ensures.once rest (g.S.Site.state c.args.site.now).queue _ cause
+    c.add_code.ensures.once c.args.logins.now.granted rest (g.S.Site.state c.args.site.now).queue _ cause
 
 pub returns-in-Unreadable-clause-once : goal.returns-in-Unreadable-clause-once
 returns-in-Unreadable-clause-once g c = λ told all rest.
     let cause : IsCauseOf (told_to told c.args.id) c.args.request.now.order = search rules in
-    c.add_code-in-Unreadable.ensures.once rest (g.S.Site.state c.args.site.now).queue _ cause
+    c.add_code-in-Unreadable.ensures.once c.args.logins.now.granted rest (g.S.Site.state c.args.site.now).queue _ cause
 
 pub returns-in-Logout-clause-once : goal.returns-in-Logout-clause-once
 returns-in-Logout-clause-once g c = λ told all rest serving. once_same _ _ _ _ _ _ refl refl refl _ serving
@@ -99,7 +97,7 @@ pub returns-in_default-clause-moves : goal.returns-in_default-clause-moves
 returns-in_default-clause-moves g c = λ current rest at. moves_same _ _ _ _ _ _ _ refl refl
 
 pub returns-in-Command-clause-cargo : goal.returns-in-Command-clause-cargo
-returns-in-Command-clause-cargo g c = λ told all rest serving hand. c.serve_command.ensures.cargo told all rest serving hand
+returns-in-Command-clause-cargo g c = λ told all rest serving hand. c.serve_command.ensures.cargo told all c.args.logins.now.granted rest serving hand
 
 pub returns-in_default-clause-cargo : goal.returns-in_default-clause-cargo
 returns-in_default-clause-cargo g c = λ told all rest serving hand. hand
