@@ -8,7 +8,7 @@ use Rattle.vio_num.specs.declared.history.Lapse.{Lapse}
 use Rattle.vio_num.specs.declared.names.UnitId.{UnitId}
 use Rattle.block_server.specs.Closings.{is_line, last_of}
 use Rattle.block_server.specs.Makers.{same_unit}
-use Rattle.block_server.specs.Numbers.{KeepsNumbers, NameLogins, NamesLogin, granted_to, grants_to, login_left, login_on}
+use Rattle.block_server.specs.Numbers.{KeepsNumbers, NameLogins, NamesLogin, grants_to, login_left}
 use Rattle.block_server.specs.Receipts.{unit_of}
 use Rattle.block_server.proofs.Counting.{same_self}
 use Rattle.block_server.proofs.Heard.{last_other, last_own}

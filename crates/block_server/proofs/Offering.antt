@@ -1,9 +1,9 @@
 -- What becomes of a login that is to be granted, from one step to the next.
-use Rattle.std.proofs.Common.{◌≡◌, ◌++◌, ℕ, Bool, true, false, List, [], ◌∷◌, refl, sym, ◌∙◌, ap, subst}
+use Rattle.std.proofs.Common.{◌≡◌, ◌++◌, ℕ, false, List, [], ◌∷◌, refl, sym, ◌∙◌, ap, subst}
 use Rattle.block_server.specs.Causes.{Hearing, told_to, units_at}
 use Rattle.block_server.specs.Causes.News.{delivered}
 use Rattle.block_server.specs.Ends.{IsGrantable}
-use Rattle.block_server.specs.Granting.{HasOffer, IsOffered, IsOfferedOver}
+use Rattle.block_server.specs.Granting.{HasOffer, IsOffered}
 use Rattle.block_server.specs.Serving.{Desk, Terms}
 use Rattle.block_server.specs.Stage.{is_answered}
 use Rattle.srp_iu.specs.declared.login.LoginReq.{LoginReq}

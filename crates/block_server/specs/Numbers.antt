@@ -1,6 +1,6 @@
 -- Which login each line names: the logins of a unit have the numbers from 1, and a line that ends one names the login that is
 -- on (SRP, "Login process").
-use Rattle.std.specs.Prelude.{⊤, ◌≡◌, ◌+◌, ◌++◌, ℕ, Bool, true, false, List, [], ◌∷◌, Option, Some, None, length, filter}
+use Rattle.std.specs.Prelude.{⊤, ◌≡◌, ◌+◌, ◌++◌, ℕ, Bool, true, false, List, [], ◌∷◌, Option, Some, length, filter}
 use Rattle.vio_num.specs.declared.history.Grant.{Grant}
 use Rattle.vio_num.specs.declared.history.Grant.TheVariants.{Granted, Lapsed}
 use Rattle.vio_num.specs.declared.names.UnitId.{UnitId}

@@ -1,6 +1,6 @@
 -- Why a session of a server unit ends as refused: its client's window denied a range (SRP, "Information unit classes"; LoPAR,
 -- "Remote DMA").
-use Rattle.std.specs.Prelude.{⊤, ◌≡◌, ◌⊎◌, ◌++◌, ℕ, Bool, true, All, List, [], ◌∷◌, Option, Some, None, IfSome, length}
+use Rattle.std.specs.Prelude.{⊤, ◌≡◌, ◌⊎◌, ◌++◌, ℕ, Bool, true, All, List, [], ◌∷◌, Option, None, IfSome, length}
 use Rattle.std.specs.List.{slice_get}
 use Rattle.crq_ring.specs.declared.rows.PipeRow.{PipeRow}
 use Rattle.crq_session.specs.EndState.{EndState}
