@@ -8,7 +8,7 @@ use Rattle.paprvio.specs.Words.{asked}
 use Rattle.paprvio.specs.declared.request.Request.{Request}
 use Rattle.paprvio.specs.declared.request.Request.TheVariants.{Run, Generate, Summarize}
 use Rattle.paprvio.specs.Ending.{Outside, EndsAs, FinishesAs}
-use Rattle.paprvio.specs.Run.{AreRun, AsksFor, AsksForRun, IsDoneAs, IsRefusedAs, RunAnswer, RunsPlan, RunEndsWith, FitsWords, IsUnrun, IsUnwritten}
+use Rattle.paprvio.specs.Run.{AreRun, AsksFor, AsksForRun, IsDoneAs, IsRefusedAs, IsRun, RunAnswer, RunsPlan, RunEndsWith, FitsWords, IsUnrun, IsUnwritten}
 use Rattle.paprvio.specs.Status.{status_code}
 
 -- an answer was written
@@ -78,12 +78,12 @@ pub done_asks : (request : Option Request) (left left' : Option (List ℕ)) (ima
 done_asks None left left' image image' text done none = done
 done_asks (Some request) left left' image image' text done none = absurd (cc)
 
--- what was refused, and what was to be run, is a plan
-pub refused_runs : (request : Option Request) (left left' : Option (List ℕ)) (text : List ℕ) → IsRefusedAs request left left' text → RunsPlan request
+-- what was refused is the source's, and what was to be run is a plan
+pub refused_runs : (request : Option Request) (left left' : Option (List ℕ)) (text : List ℕ) → IsRefusedAs request left left' text → IsRun request
 refused_runs None left left' text told = absurd told
 refused_runs (Some (Run workers)) left left' text told = tt
 refused_runs (Some (Generate seed)) left left' text told = absurd told
-refused_runs (Some (Summarize seed workers)) left left' text told = tt
+refused_runs (Some (Summarize seed workers)) left left' text told = absurd told
 
 pub asks_runs : (request : Option Request) (left left' : Option (List ℕ)) → AsksFor request left left' → RunsPlan request
 asks_runs None left left' asks = absurd asks

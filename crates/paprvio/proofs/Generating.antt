@@ -1,5 +1,5 @@
 -- Texts that grow piece by piece, and what is left of a seed's text.
-use Rattle.std.proofs.Common.{◌≡◌, ◌∙◌, ◌++◌, ◌-◌, ◌<◌, ◌≤◌, ℕ, suc, zero, ◌+◌, List, [], ◌∷◌, Result, Ok, Err, OnOk, refl, sym, ap, rules, arith}
+use Rattle.std.proofs.Common.{◌≡◌, ◌∙◌, ◌++◌, ◌-◌, ◌<◌, ◌≤◌, ℕ, suc, ◌+◌, List, [], Result, Ok, Err, OnOk, refl, sym, ap, arith}
 use Rattle.std.proofs.lemmas.List.{append_assoc, append-nil}
 use Rattle.paprvio.specs.Generated.{after, client, clients, drawn, transfer, transfers}
 

@@ -2,8 +2,15 @@ pub mod Asking
 pub mod Decimals
 pub mod Endings
 pub mod Generating
+pub mod Joining
+pub mod LinesJudged
 pub mod Musts
+pub mod NumberWords
 pub mod Pieces
 pub mod Rows
+pub mod ScriptLines
+pub mod SeedLines
+pub mod SeedRead
+pub mod SeedScripts
 pub mod Sizing
 pub mod Tasks

@@ -1,5 +1,5 @@
 -- From how a run ends to which status it must have.
-use Rattle.std.proofs.Common.{◌≡◌, ◌≤◌, ℕ, Bool, All, if◌then◌else◌, List, [], ◌++◌, length, Option, Some, None, IfSome, ◌⊎◌, inl, inr, refl, sym, ◌∙◌, ap, subst, arith, length-append}
+use Rattle.std.proofs.Common.{◌≡◌, ◌≤◌, ℕ, Bool, if◌then◌else◌, List, [], ◌++◌, length, Option, Some, None, IfSome, ◌⊎◌, inl, inr, refl, sym, ◌∙◌, ap, subst, arith, length-append}
 use Rattle.std.specs.Bool.{⊤}
 use Rattle.std.proofs.lemmas.Bool.{lt-ltb}
 use Rattle.std.proofs.lemmas.List.{append-nil}
@@ -116,7 +116,7 @@ usage_said : (words : List (List ℕ)) (status : Status) (old new : Outside) →
 usage_said words Done old new ends read runs other sink =
     absurd (done_asks (asked words) old.left new.left old.image new.image ends.text ends.belongs other)
 usage_said words Usage old new ends read runs other sink = inl refl
-usage_said words Refused old new ends read runs other sink = absurd (subst RunsPlan other (refused_runs (asked words) old.left new.left ends.text ends.belongs))
+usage_said words Refused old new ends read runs other sink = absurd (subst IsRun other (refused_runs (asked words) old.left new.left ends.text ends.belongs))
 usage_said words SourceFailed old new ends read runs other sink = absurd (subst IsRun other (read refl))
 usage_said words SinkFailed old new ends read runs other sink = absurd (sink ends.sink_faults)
 usage_said words ImageFailed old new ends read runs other sink = absurd (subst RunsPlan other (asks_runs (asked words) old.left new.left (runs refl)))
@@ -138,14 +138,15 @@ generated_said words NoMemory old new ends read runs generate sink = inr refl
 -- the summary of a seed's run
 summed_said : (words : List (List ℕ)) (status : Status) (old new : Outside) → RunEndsWith words status old new → (status ≡ SourceFailed → AreRun words)
     → IsSummarize (asked words) → ¬ Rose old.sink_faults new.sink_faults
-    → (status_code status ≡ status_code ImageFailed) ⊎ ((status_code status ≡ status_code Refused) ⊎ IsOrStarved (status_code status) Done)
-summed_said words Done old new ends read summarize sink = inr (inr (inl refl))
+    → (status_code status ≡ status_code ImageFailed) ⊎ IsOrStarved (status_code status) Done
+summed_said words Done old new ends read summarize sink = inr (inl refl)
 summed_said words Usage old new ends read summarize sink = absurd (subst IsSummarize ends.belongs.0 summarize)
-summed_said words Refused old new ends read summarize sink = inr (inl refl)
+summed_said words Refused old new ends read summarize sink =
+    absurd (summarize_is_no_run (asked words) summarize (refused_runs (asked words) old.left new.left ends.text ends.belongs))
 summed_said words SourceFailed old new ends read summarize sink = absurd (summarize_is_no_run (asked words) summarize (read refl))
 summed_said words SinkFailed old new ends read summarize sink = absurd (sink ends.sink_faults)
 summed_said words ImageFailed old new ends read summarize sink = inl refl
-summed_said words NoMemory old new ends read summarize sink = inr (inr (inr refl))
+summed_said words NoMemory old new ends read summarize sink = inr (inr refl)
 
 -- a boot text that says a plan
 done_said : (words : List (List ℕ)) (status : Status) (old new : Outside) (boot : List ℕ) (plan : Plan)

@@ -1,5 +1,5 @@
 -- Some words, and what they ask for.
-use Rattle.std.proofs.Common.{◌≡◌, List, [], ◌∷◌, Some, None, codes, refl}
+use Rattle.std.proofs.Common.{◌≡◌, [], ◌∷◌, Some, None, codes, refl}
 use Rattle.clap.proofs.OnLiterals.{clap_on_literals}
 use Rattle.paprvio.specs.declared.request.Request.TheVariants.{Run, Generate, Summarize}
 use Rattle.paprvio.specs.Words.{asked}

@@ -1,5 +1,5 @@
 -- From what is to be done to what a run answers.
-use Rattle.std.proofs.Common.{◌≡◌, ◌≢◌, ℕ, List, Option, Some, None, refl, sym, subst}
+use Rattle.std.proofs.Common.{◌≡◌, ℕ, List, Option, Some, None, Result, Ok, Err, IfOk, IsErrOf, sym, subst}
 use Rattle.boot_text.specs.Sound.{IsSound}
 use Rattle.boot_text.specs.declared.plan.Plan.{Plan}
 use Rattle.vio_io.specs.Image.{ImageState}
@@ -8,18 +8,21 @@ use Rattle.paprvio.specs.declared.request.Request.{Request}
 use Rattle.paprvio.specs.declared.request.Request.TheVariants.{Run, Generate, Summarize}
 use Rattle.paprvio.specs.declared.status.Status.{Status}
 use Rattle.paprvio.specs.declared.status.Status.TheVariants.{Done, Usage, Refused, SourceFailed, SinkFailed, ImageFailed, NoMemory}
+use Rattle.paprvio.specs.declared.stop.Stop.{Stop}
+use Rattle.paprvio.specs.declared.stop.Stop.TheVariants as stops
 use Rattle.paprvio.specs.declared.task.Task.{Task}
 use Rattle.paprvio.specs.declared.task.Task.TheVariants as tasks
 use Rattle.paprvio.specs.declared.telling.Telling.{Telling}
 use Rattle.paprvio.specs.declared.telling.Telling.TheVariants as tellings
 use Rattle.paprvio.specs.Answer.{answer_status, answer_text, BootAnswer, BootTask, IsAnswerTo, IsToldOf, OwnTask, RequestAnswer, SourceAnswer, SourceTask, SumsUp, TellsOf, WordsTask}
 use Rattle.paprvio.specs.Generated.{generated}
-use Rattle.paprvio.specs.Run.{AreRun, GivesPlan, IsCounted, IsDoneAs, IsRefused, IsRefusedAs, IsRun, RunAnswer, Says}
+use Rattle.paprvio.specs.Run.{AreRun, GivesPlan, IsCounted, IsDoneAs, IsRefused, IsRefusedAs, IsRun, IsSummaryOf, RunAnswer, Says}
 use Rattle.paprvio.specs.Words.{asked}
+use Rattle.paprvio.proofs.SeedRead.{never_refused, plan_is}
 
 -- the boot text of a seed is to be run, or is refused
 boot_answer : (seed workers : ℕ) (status : Status) (text : List ℕ) → BootAnswer (generated seed) status text → RequestAnswer (Some (Summarize seed workers)) None None status text
-boot_answer seed workers Refused text told = told
+boot_answer seed workers Refused text told = absurd (never_refused seed told.line told.cause told.refusal)
 boot_answer seed workers Done text told = absurd told
 boot_answer seed workers Usage text told = absurd told
 boot_answer seed workers SourceFailed text told = absurd told
@@ -122,7 +125,11 @@ sum_did : (request : Option Request) (old new : Option (List ℕ)) (image image'
 sum_did None old new image image' plan text sums counted told = absurd sums
 sum_did (Some (Run workers)) old new image image' plan text sums counted told = absurd sums
 sum_did (Some (Generate seed)) old new image image' plan text sums counted told = absurd sums
-sum_did (Some (Summarize seed workers)) old new image image' plan text sums counted told = record { plan = plan; says = sums; counted = counted; summary = told }
+sum_did (Some (Summarize seed workers)) old new image image' plan text sums counted told = record {
+  says = subst (λ (p : Plan). Says (generated seed) p) (plan_is seed plan sums) sums;
+  counted = counted;
+  summary = subst (λ (p : Plan). IsSummaryOf p image image' text) (plan_is seed plan sums) told;
+}
 
 done_as : (words : List (List ℕ)) (old new : Option (List ℕ)) (image image' : ImageState) (status : Status) (text : List ℕ) → status ≡ Done → IsDoneAs (asked words) old new image image' text
     → RunAnswer words old new image image' status text
@@ -136,3 +143,10 @@ answers_run words old new image image' plan tellings.Whole answer task counted t
 answers_run words old new image image' plan tellings.Summary answer task counted tells =
     done_as words old new image image' (answer_status answer) (answer_text answer) tells.0
     (sum_did (asked words) old new image image' plan (answer_text answer) task.0 counted tells.1)
+
+-- what a run answers, where it stops for no want
+pub ran : (words : List (List ℕ)) (old new : Option (List ℕ)) (image image' : ImageState) (plan : Plan) (telling : Telling) (result : Result Answer Stop)
+    → WordsTask words old new (tasks.Run plan telling) → (¬ IsErrOf result stops.ImageFailed → IsCounted image) → IfOk result (TellsOf telling plan image image')
+    → IfOk result (IsAnswerTo words old new image image')
+ran words old new image image' plan telling (Ok answer) task counted told = answers_run words old new image image' plan telling answer task (counted (λ e. absurd (cc))) told
+ran words old new image image' plan telling (Err stop) task counted told = tt

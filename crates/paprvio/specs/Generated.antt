@@ -1,5 +1,5 @@
 -- The boot text of a seed: what its draws say.
-use Rattle.std.specs.Prelude.{ℕ, zero, suc, ◌+◌, ◌*◌, ◌/◌, ◌%◌, ◌^◌, ◌++◌, List, [], ◌∷◌, codes, decimal}
+use Rattle.std.specs.Prelude.{ℕ, zero, suc, ◌+◌, ◌*◌, ◌/◌, ◌%◌, ◌^◌, ◌++◌, List, [], codes, decimal}
 
 -- the draw behind another
 abbrev pub drawn : ℕ → ℕ

@@ -2,6 +2,7 @@ pub mod Answer
 pub mod Ending
 pub mod Generated
 pub mod Run
+pub mod SeedPlan
 pub mod Status
 pub mod Texts
 pub mod Words

@@ -1,5 +1,5 @@
 -- What a run answers: the text that belongs to its words, to the bytes that it read, and to its image.
-use Rattle.std.specs.Prelude.{◌≡◌, ◌≢◌, ℕ, ◌+◌, ◌≤◌, ◌^◌, ◌⊎◌, List, All, Option, Some, None, IfSome, IsSome, length}
+use Rattle.std.specs.Prelude.{◌≡◌, ◌≢◌, ℕ, ◌+◌, ◌≤◌, ◌^◌, ◌⊎◌, List, Option, Some, None, IfSome, IsSome, length}
 use Rattle.std.specs.Bool.{⊤}
 use Rattle.std.specs.Io.KnownBytes.{Consumes, IsAtEnd}
 use Rattle.boot_text.specs.BootText.{plan_of, refused, SaysPlan}
@@ -17,6 +17,7 @@ use Rattle.paprvio.specs.declared.status.Status.TheVariants.{Done, Usage, Refuse
 use Rattle.paprvio.specs.declared.request.Request.{Request}
 use Rattle.paprvio.specs.declared.request.Request.TheVariants.{Run, Generate, Summarize}
 use Rattle.paprvio.specs.Generated.{generated}
+use Rattle.paprvio.specs.SeedPlan.{generated_plan}
 use Rattle.paprvio.specs.Words.{asked}
 use Rattle.paprvio.specs.Ending.{Outside, EndsAs}
 use Rattle.paprvio.specs.Status.{status_code}
@@ -126,12 +127,11 @@ pub record IsSummaryOf (plan : Plan) (image image' : ImageState) (text : List �
   pub ran : IsTraceOn plan image image' trace
   pub told : text ≡ summary_text trace
 
--- the run of a seed's boot text was done and summed up
+-- A seed's boot text says its plan, whose run was done and summed up.
 pub record IsSummed (seed : ℕ) (image image' : ImageState) (text : List ℕ) : Type 0 where
-  pub plan : Plan
-  pub says : Says (generated seed) plan
+  pub says : Says (generated seed) (generated_plan seed)
   pub counted : IsCounted image
-  pub summary : IsSummaryOf plan image image' text
+  pub summary : IsSummaryOf (generated_plan seed) image image' text
 
 -- The text of what was asked for and done. The source had `old` left before and `new` behind the run; the image was `image` before,
 -- and is `image'`.
@@ -141,10 +141,9 @@ IsDoneAs (Some (Generate seed)) old new image image' text = text ≡ generated s
 IsDoneAs (Some (Summarize seed workers)) old new image image' text = IsSummed seed image image' text
 IsDoneAs None old new image image' text = ⊥
 
--- the refusal of the boot text that was to be run
+-- the refusal of the boot text that the source gave: that of a seed is never refused
 abbrev pub IsRefusedAs : Option Request → (old new : Option (List ℕ)) → List ℕ → Type 0
 IsRefusedAs (Some (Run workers)) old new text = IsRefused old new text
-IsRefusedAs (Some (Summarize seed workers)) old new text = IsFaulty (generated seed) text
 IsRefusedAs _ old new text = ⊥
 
 -- the text that belongs to a run: the usage alone for words that ask for nothing
@@ -168,7 +167,7 @@ pub record RunEndsAs (words : List (List ℕ)) (code : ℕ) (old new : Outside) 
 pub record FitsWords (words : List (List ℕ)) (code : ℕ) : Type 0 where
   pub done : code ≡ status_code Done → asked words ≢ None
   pub usage : code ≡ status_code Usage → asked words ≡ None
-  pub refused : code ≡ status_code Refused → RunsPlan (asked words)
+  pub refused : code ≡ status_code Refused → AreRun words
   pub source_failed : code ≡ status_code SourceFailed → AreRun words
   pub image_failed : code ≡ status_code ImageFailed → RunsPlan (asked words)
 
@@ -185,13 +184,12 @@ abbrev pub IsOrStarved : ℕ → Status → Type 0
 IsOrStarved code status = (code ≡ status_code status) ⊎ (code ≡ status_code NoMemory)
 
 -- where neither source nor sink failed, words and bytes decide the exit status: that of other words, of a seed's text, of a boot
--- text that says a plan, where the image did not fail as its blocks were counted, and of one that says none. A seed's boot text
--- is told to be refused where it is; that it never is, no clause says.
+-- text that says a plan, where the image did not fail as its blocks were counted, and of one that says none.
 pub record MustEndAs (words : List (List ℕ)) (code : ℕ) (old new : Outside) : Type 0 where
   pub usage : asked words ≡ None → ¬ Rose old.sink_faults new.sink_faults → IsOrStarved code Usage
   pub generated : IsGenerate (asked words) → ¬ Rose old.sink_faults new.sink_faults → IsOrStarved code Done
   pub summed : IsSummarize (asked words) → ¬ Rose old.sink_faults new.sink_faults
-      → (code ≡ status_code ImageFailed) ⊎ ((code ≡ status_code Refused) ⊎ IsOrStarved code Done)
+      → (code ≡ status_code ImageFailed) ⊎ IsOrStarved code Done
   pub done : AreRun words → ¬ Rose old.source_faults new.source_faults → ¬ Rose old.sink_faults new.sink_faults
       → IfSome old.left (λ boot. (plan : Plan) → Says boot plan → (code ≡ status_code ImageFailed) ⊎ IsOrStarved code Done)
   pub refused : AreRun words → ¬ Rose old.source_faults new.source_faults → ¬ Rose old.sink_faults new.sink_faults

@@ -1,6 +1,6 @@
 -- The words of a command line, and what they ask for: a mode and a seed by their places, and the option of workers,
 -- as the command-line parser takes them.
-use Rattle.std.specs.Prelude.{◌&&◌, ◌∷◌, ℕ, Bool, true, false, List, [], Option, Some, None, codes, is_some, length, nat_le, nat_lt, not, ◌^◌, if◌then◌else◌}
+use Rattle.std.specs.Prelude.{◌&&◌, ◌∷◌, ℕ, Bool, true, List, [], Option, Some, None, codes, length, nat_le, nat_lt, ◌^◌, if◌then◌else◌}
 use Rattle.std.specs.List.{list_all}
 use Rattle.std.specs.Option.{option_and_then, option_map}
 use Rattle.std.specs.Borrow.{Bor}

@@ -1,5 +1,5 @@
 -- What is left to add is the clients that are left.
-use Rattle.std.proofs.Common.{◌≡◌, ◌++◌, ◌-◌, ◌%◌, ◌^◌, ℕ, List}
+use Rattle.std.proofs.Common.{◌≡◌, ◌++◌, ◌-◌}
 use Rattle.paprvio.specs.Generated.{clients, generated}
 use Rattle.paprvio.proofs.generator.boot_text_of.Given as goal
 

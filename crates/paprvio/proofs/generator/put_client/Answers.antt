@@ -1,5 +1,5 @@
 -- The lines of a client.
-use Rattle.std.proofs.Common.{◌≡◌, ◌++◌, decimal, codes, OnOk}
+use Rattle.std.proofs.Common.{◌++◌, decimal, codes}
 use Rattle.paprvio.specs.Generated.{transfers}
 use Rattle.paprvio.proofs.Generating.{last_piece, piece}
 use Rattle.paprvio.proofs.generator.put_client.Goals as goal

@@ -1,6 +1,6 @@
 -- The line of a fill.
-use Rattle.std.proofs.Common.{◌≡◌, ◌∙◌, ap, ◌++◌, ◌/◌, ◌%◌, decimal, codes, OnOk}
-use Rattle.paprvio.specs.Generated.{fill, blocks_in, bytes_in}
+use Rattle.std.proofs.Common.{◌∙◌, ap, ◌++◌, ◌/◌, ◌%◌, decimal, codes}
+use Rattle.paprvio.specs.Generated.{bytes_in}
 use Rattle.paprvio.proofs.Generating.{last_piece, piece}
 use Rattle.paprvio.proofs.generator.put_fill.Goals as goal
 

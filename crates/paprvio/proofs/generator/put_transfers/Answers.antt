@@ -1,5 +1,5 @@
 -- Each turn adds what its draw says.
-use Rattle.std.proofs.Common.{◌≡◌, ◌∙◌, ◌++◌, arith, sym, ap, subst}
+use Rattle.std.proofs.Common.{◌∙◌, ◌++◌, arith, sym, ap}
 use Rattle.paprvio.specs.Generated.{transfer}
 use Rattle.paprvio.proofs.Generating.{left_draws, left_last, left_more, left_none}
 use Rattle.paprvio.proofs.generator.put_transfers.Goals as goal

@@ -1,5 +1,5 @@
 -- What is left to add is what the draws that are left say.
-use Rattle.std.proofs.Common.{◌≡◌, ◌++◌, ◌-◌, ◌≤◌, ℕ, List}
+use Rattle.std.proofs.Common.{◌≡◌, ◌++◌, ◌-◌}
 use Rattle.paprvio.specs.Generated.{after, transfers}
 use Rattle.paprvio.proofs.generator.put_transfers.Given as goal
 

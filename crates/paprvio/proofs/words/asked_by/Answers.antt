@@ -1,5 +1,5 @@
 -- What the entries of a parse ask for.
-use Rattle.std.proofs.Common.{rules, ◌≡◌, ◌∙◌, Some, None}
+use Rattle.std.proofs.Common.{rules, ◌∙◌}
 use Rattle.clap.specs.Matches.{found_of}
 use Rattle.paprvio.proofs.Asking.{none_in, some_in}
 use Rattle.paprvio.proofs.words.asked_by.Goals as goal

@@ -1,5 +1,5 @@
 -- What the words ask for.
-use Rattle.std.proofs.Common.{rules, ◌≡◌, ◌≢◌, ◌∙◌, Some, None, [], map, string_bytes}
+use Rattle.std.proofs.Common.{rules, map, string_bytes}
 use Rattle.clap.specs.Simple.{app_of}
 use Rattle.paprvio.proofs.Asking.{asked_none}
 use Rattle.paprvio.proofs.words.read_words.Goals as goal
