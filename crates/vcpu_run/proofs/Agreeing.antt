@@ -3,7 +3,7 @@ use Rattle.std.proofs.Common.{◌≡◌, ◌≢◌, ◌∙◌, ◌⊎◌, inl, i
 use Rattle.std.proofs.lemmas.Option.{slice_get_within}
 use Rattle.vcpu_run.specs.declared.driver.Driver.{Driver}
 use Rattle.vcpu_run.specs.declared.pair.Pair.{Pair}
-use Rattle.vcpu_run.specs.Agreed.{AllSame, OnDrivers, SameDrivers, SameOthers, driver_at, driver_in}
+use Rattle.vcpu_run.specs.Agreed.{AllSame, OnDrivers, SameBeside, SameDrivers, SameOthers, driver_at, driver_in}
 use Rattle.vcpu_run.specs.Sendings.{SameCredits}
 use Rattle.vcpu_run.proofs.Driving.{get_set_other, get_set_same, same_or}
 
@@ -13,6 +13,9 @@ set_here pairs i old new there = ap driver_in (get_set_same pairs i new (slice_g
 
 pub was_here : (pairs : List Pair) (i : ℕ) (old : Pair) → slice_get pairs i ≡ Some old → driver_at pairs i ≡ old.driver
 was_here pairs i old there = ap driver_in there
+
+pub set_beside : (pairs : List Pair) (i : ℕ) (new : Pair) → SameBeside i pairs (slice_set pairs i new)
+set_beside pairs i new k apart = get_set_other pairs i k new apart
 
 pub set_others : (pairs : List Pair) (i : ℕ) (new : Pair) → SameOthers i pairs (slice_set pairs i new)
 set_others pairs i new k apart = ap driver_in (get_set_other pairs i k new apart)

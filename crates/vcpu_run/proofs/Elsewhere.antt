@@ -4,37 +4,29 @@ use Rattle.std.specs.List.{slice_get, slice_set}
 use Rattle.vio_num.specs.declared.memory.NoMemory.{NoMemory}
 use Rattle.boot_text.specs.declared.plan.Line.{Line}
 use Rattle.boot_text.specs.declared.plan.Partition.{Partition}
-use Rattle.unit_region.specs.declared.step.Step.{Step}
 use Rattle.vcpu_run.specs.declared.pair.Pair.{Pair}
 use Rattle.vcpu_run.specs.declared.script.Script.{Script}
 use Rattle.vcpu_run.specs.declared.unit_seat.Seat.{Seat}
 use Rattle.vcpu_run.specs.declared.unit_seat.Seat.TheVariants as places
 use Rattle.lan_script.specs.declared.seat.PortSeat.{PortSeat}
-use Rattle.vcpu_run.specs.Agreed.{AllSame, AreAllOut, AreCredited, IsCredited, IsLoggedOut, SameDrivers, SameElse, SameOthers, StepsLine, driver_at, driver_in}
+use Rattle.vcpu_run.specs.Agreed.{AreAllOut, AreCredited, IsCredited, IsLoggedOut, SameBeside, SameDrivers, SameElse, driver_at, driver_in}
 use Rattle.vcpu_run.specs.Machines.{AreScripts}
 use Rattle.vcpu_run.specs.Making.{AreMade, IsMade}
-use Rattle.vcpu_run.specs.Suited.{suits}
-use Rattle.vcpu_run.proofs.Agreeing.{all_same, on_on, on_same}
+use Rattle.vcpu_run.proofs.Agreeing.{on_same}
 use Rattle.vcpu_run.proofs.Crediting.{credited_by_own, credited_same}
 use Rattle.vcpu_run.proofs.Listed.{each_set, held}
 use Rattle.vcpu_run.proofs.Scripted.{seats_apart}
 
 pub else_none : (seats : List Seat) (pairs : List Pair) → SameElse seats pairs pairs
-else_none seats pairs k none = all_same pairs k
+else_none seats pairs k none = refl
 
 pub else_on : (seats : List Seat) (a b c : List Pair) → SameElse seats a b → SameElse seats b c → SameElse seats a c
-else_on seats a b c one two k none = on_on (driver_at a k) (driver_at b k) (driver_at c k) (one k none) (two k none)
-
-pub else_drivers : (seats : List Seat) (old new : List Pair) → SameDrivers old new → SameElse seats old new
-else_drivers seats old new same k none = on_same (driver_at old k) (driver_at new k) (same k)
-
-pub else_all : (seats : List Seat) (old new : List Pair) → AllSame old new → SameElse seats old new
-else_all seats old new same k none = same k
+else_on seats a b c one two k none = two k none ∙ one k none
 
 -- a turn at one of the seats
-pub else_one : (seats : List Seat) (unit k : ℕ) (old new : List Pair) → slice_get seats unit ≡ Some (places.Client k) → SameOthers k old new → SameElse seats old new
+pub else_one : (seats : List Seat) (unit k : ℕ) (old new : List Pair) → slice_get seats unit ≡ Some (places.Client k) → SameBeside k old new → SameElse seats old new
 else_one seats unit k old new here others j none =
-    on_same (driver_at old j) (driver_at new j) (others j (λ same. none unit (here ∙ ap (λ n. Some (places.Client n)) (sym same))))
+    others j (λ same. none unit (here ∙ ap (λ n. Some (places.Client n)) (sym same)))
 
 -- the seat of a unit by itself
 pub else_within : (seats : List Seat) (unit : ℕ) (seat : Seat) (old new : List Pair) → slice_get seats unit ≡ Some seat → SameElse (seat ∷ []) old new → SameElse seats old new
@@ -47,17 +39,6 @@ else_within seats unit seat old new here others j none =
       where
         nothing : (n : ℕ) → slice_get {X = Seat} [] n ≡ Some (places.Client j) → ⊥
         nothing n e = cc
-
--- a step of a line at its unit
-pub else_line : (seats : List Seat) (line : Line) (taken taken' : ℕ) (old new : List Pair) (result : Result Step NoMemory)
-    → IsSomeAnd (slice_get seats line.unit) (suits line.verb) → StepsLine seats line taken taken' old new result → SameElse seats old new
-else_line seats line taken taken' old new result suited steps = at (slice_get seats line.unit) refl suited
-  where
-    at : (o : Option Seat) → slice_get seats line.unit ≡ o → IsSomeAnd o (suits line.verb) → SameElse seats old new
-    at None e h = absurd h
-    at (Some places.Server) e h = absurd h
-    at (Some (places.Client k)) e h = else_one seats line.unit k old new e (steps.client k e).others
-    at (Some places.Port) e h = else_drivers seats old new (steps.port e).0
 
 -- what is so where a call ended well
 pub ok_then : {T : Type 0} {E : Type 0} (r : Result T E) (P Q : Type 0) → (P → Q) → OnOk r P → OnOk r Q
@@ -74,12 +55,14 @@ credits_turned old new ports scripts i script later found scripts_are others are
     each_set (λ j other. IsCredited new other) scripts i later
     (λ j other there apart.
     credited_by_own old new other
-    (λ u k sits. others k (λ v too. apart (seats_apart old ports scripts scripts_are j i u v k other script there found sits too).0))
+    (λ u k sits.
+    on_same (driver_at old k) (driver_at new k)
+    (ap driver_in (others k (λ v too. apart (seats_apart old ports scripts scripts_are j i u v k other script there found sits too).0))))
     (are j other there))
     here
 
 -- before the first turn
-all_out : (o : Option Pair) → ((pair : Pair) → o ≡ Some pair → IsLoggedOut pair) → IfSome (driver_in o) (λ driver. driver.client.granted ≡ None)
+pub all_out : (o : Option Pair) → ((pair : Pair) → o ≡ Some pair → IsLoggedOut pair) → IfSome (driver_in o) (λ driver. driver.client.granted ≡ None)
 all_out None out = tt
 all_out (Some pair) out = out pair refl
 

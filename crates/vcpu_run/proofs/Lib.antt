@@ -51,9 +51,11 @@ pub mod RawCalling
 pub mod RawSaid
 pub mod Receiving
 pub mod RecordLaws
+pub mod RefusalsTold
 pub mod Requesting
 pub mod Resting
 pub mod Sayings
+pub mod RoundsTold
 pub mod Scripted
 pub mod ScriptsTold
 pub mod Seated

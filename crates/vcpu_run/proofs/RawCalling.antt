@@ -28,7 +28,7 @@ use Rattle.vcpu_run.proofs.Driving.{driven_same}
 use Rattle.vcpu_run.proofs.Unfreed.{frees_same}
 
 units_same : (old new : PartitionUnits) → new ≡ old → CallsUnits old new
-units_same old new same = subst (CallsUnits old) (sym same) (record { lender = refl; lan_lender = refl; driven = driven_same old.pairs.now; told = λ k. refl; ports = refl; stays = frees_same (NoneSits old.seats.now) old.pairs.now })
+units_same old new same = subst (CallsUnits old) (sym same) (record { lender = refl; lan_lender = refl; driven = driven_same old.pairs.now; told = λ k. refl; ports = refl; stays = frees_same (NoneSits old.seats.now) old.pairs.now; others = λ k none. refl })
 
 calls_same : (old new : PartitionUnits) (result : Result Returned NoMemory) → new ≡ old → MakesCall old new result
 calls_same old new result same = record {

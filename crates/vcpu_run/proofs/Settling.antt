@@ -77,7 +77,7 @@ script_for : (partitions : List Partition) (pairs : List Pair) (scripts : List S
 script_for partitions pairs scripts ports i script plan there =
     held (λ partition. IsScriptFor partition script) (slice_get partitions i) (plan.scripts_are.each i script there)
 
-script_at : (partitions : List Partition) (pairs : List Pair) (scripts : List Script) (ports : List PortSeat) (id : UnitId) (unit : UnitPlan)
+pub script_at : (partitions : List Partition) (pairs : List Pair) (scripts : List Script) (ports : List PortSeat) (id : UnitId) (unit : UnitPlan)
     → IsOfPlan partitions pairs scripts ports → unit_at partitions id ≡ Some unit
     → (script : Script) × (slice_get scripts id.partition ≡ Some script) × (slice_get script.seats.items id.unit ≡ Some (seat_of unit))
 script_at partitions pairs scripts ports id unit plan named =
@@ -97,7 +97,7 @@ servers_home partitions pairs scripts ports server i script plan serves there of
     let named : unit_at partitions id ≡ Some (units.Server first.0) = ap (λ slot. unit_in slot 0) own.1 ∙ first.1 in
     plan.sound.one_home id server (first.0, named) serves
 
-no_servers : (partitions : List Partition) (pairs : List Pair) (scripts : List Script) (ports : List PortSeat) (server : UnitId) (i : ℕ) (script : Script)
+pub no_servers : (partitions : List Partition) (pairs : List Pair) (scripts : List Script) (ports : List PortSeat) (server : UnitId) (i : ℕ) (script : Script)
     → IsOfPlan partitions pairs scripts ports → IsServer partitions server → slice_get scripts i ≡ Some script → server.partition < i → are_servers script.seats.items ≡ false
 no_servers partitions pairs scripts ports server i script plan serves there behind = at (are_servers script.seats.items) refl
   where

@@ -19,7 +19,9 @@ use Rattle.vcpu_run.specs.Machines.{IsOfPlan}
 use Rattle.lan_script.specs.Units.{LanValue}
 use Rattle.vcpu_run.specs.PortWords.{PortsAreTold, PortsTell}
 use Rattle.vcpu_run.specs.Received.{AreAtRest}
+use Rattle.vcpu_run.specs.Refusals.{RefusalsAreTold}
 use Rattle.vcpu_run.specs.Requests.{RequestsAreServed}
+use Rattle.vcpu_run.specs.ScriptTold.{AreTold}
 use Rattle.vcpu_run.specs.Settled.{ClientsAreSettled, ServersAreSettled}
 use Rattle.vcpu_run.specs.RunLaw.{CopiesAreLawful, CreditsAreKept, KeepsLawOf, PortsKeepLaw, QueuesAreLawful, RecordsAreOfLines}
 
@@ -35,6 +37,7 @@ pub law_told : {E : Type 0} (r : Result Trace E) (o : Option Trace) (pairs : Lis
     → IfOk r IsInOrder → IfOk r (Keeps QueuesAreLawful pairs scripts ports) → IfOk r (Keeps CopiesAreLawful pairs scripts ports)
     → IfOk r (KeepsOnce (All IsOver scripts) RecordsAreOfLines pairs scripts ports) → All IsOver scripts
     → IfOk r (KeepsOnce (AreCredited pairs scripts) CreditsAreKept pairs scripts ports) → AreCredited pairs scripts
+    → IfOk r (KeepsOnce (AreTold pairs scripts) RefusalsAreTold pairs scripts ports) → AreTold pairs scripts
     → IfOk r (KeepsOnce (AreAnswered history pairs) AnswersAreSent pairs scripts ports) → AreAnswered history pairs
     → IfOk r (Keeps PortsKeepLaw pairs scripts ports) → (lan : LanValue)
     → IfOk r (KeepsOnce (All IsOver scripts) (λ partitions trace. PortsTell lan scripts → PortsAreTold partitions trace) pairs scripts ports) → PortsTell lan scripts
@@ -44,7 +47,7 @@ pub law_told : {E : Type 0} (r : Result Trace E) (o : Option Trace) (pairs : Lis
     → IfOk r (KeepsOnce (AreAtRest copies_made lines history pairs scripts) RequestsAreServed pairs scripts ports)
     → IfOk r (KeepsOnce (AreAtRest copies_made lines history pairs scripts) AnswersAreGiven pairs scripts ports) → AreAtRest copies_made lines history pairs scripts
     → IfSome o (Keeps KeepsLawOf pairs scripts ports)
-law_told (Ok trace) o pairs scripts ports history copies_made lines e order queues copies records over credits are answers answered keeps lan words tells settled handed intake requests given rests =
+law_told (Ok trace) o pairs scripts ports history copies_made lines e order queues copies records over credits are refusals said answers answered keeps lan words tells settled handed intake requests given rests =
     subst (λ (o : Option Trace). IfSome o (Keeps KeepsLawOf pairs scripts ports)) (sym e)
     (λ partitions of_plan. record {
       order = order;
@@ -52,6 +55,7 @@ law_told (Ok trace) o pairs scripts ports history copies_made lines e order queu
       copies = copies partitions of_plan;
       records = records partitions of_plan over;
       credits = credits partitions of_plan are;
+      refusals = refusals partitions of_plan said;
       answers = answers partitions of_plan answered;
       ports = keeps partitions of_plan;
       told = words partitions of_plan over tells;
@@ -61,7 +65,7 @@ law_told (Ok trace) o pairs scripts ports history copies_made lines e order queu
       requests = requests partitions of_plan rests;
       given = given partitions of_plan rests;
     })
-law_told (Err error) o pairs scripts ports history copies_made lines e order queues copies records over credits are answers answered keeps lan words tells settled handed intake requests given rests =
+law_told (Err error) o pairs scripts ports history copies_made lines e order queues copies records over credits are refusals said answers answered keeps lan words tells settled handed intake requests given rests =
     subst (λ (o : Option Trace). IfSome o (Keeps KeepsLawOf pairs scripts ports)) (sym e) tt
 
 -- the rows that were served

@@ -12,6 +12,7 @@ use Rattle.unit_region.specs.declared.step.Step.{Step}
 use Rattle.vcpu_run.specs.declared.unit_seat.Seat.{Seat}
 use Rattle.vcpu_run.specs.declared.unit_seat.Seat.TheVariants as sits
 use Rattle.vcpu_run.specs.Credited.{Agrees, IsFresh, KeepsCredit, StepsAgreed, StepsPort, credit_after, ended_by, taken_in}
+use Rattle.vcpu_run.specs.Freeing.{NoneSits}
 use Rattle.vcpu_run.specs.Sendings.{SameCredits}
 
 -- P of a driver before and after, where there is one
@@ -83,10 +84,12 @@ IsLoggedOut pair = IfSome pair.driver (λ driver. driver.client.granted ≡ None
 abbrev pub AreAllOut : List Pair → Type 0
 AreAllOut pairs = (k : ℕ) (pair : Pair) → slice_get pairs k ≡ Some pair → IsLoggedOut pair
 
--- of the pairs that are none of these seats the clients' credits are as before
+-- the pairs beside this one are as before, or those at which none of these seats is
+abbrev pub SameBeside : (seat : ℕ) → List Pair → List Pair → Type 0
+SameBeside seat old new = (k : ℕ) → k ≢ seat → slice_get new k ≡ slice_get old k
+
 abbrev pub SameElse : List Seat → List Pair → List Pair → Type 0
-SameElse seats old new =
-    (k : ℕ) → ((u : ℕ) → slice_get seats u ≡ Some (sits.Client k) → ⊥) → OnDrivers (driver_at old k) (driver_at new k) (λ a b. SameCredits a.client b.client)
+SameElse seats old new = (k : ℕ) → NoneSits seats k → slice_get new k ≡ slice_get old k
 
 -- the records of each script keep the credits of its units, and its clients agree with them
 abbrev pub AreCredited : List Pair → List Script → Type 0

@@ -15,6 +15,7 @@ use Rattle.vcpu_run.specs.Machines.{IsScriptFor}
 use Rattle.vcpu_run.specs.PortSteps.{AreFresh}
 use Rattle.vcpu_run.specs.PortWords.{TellsPorts}
 use Rattle.vcpu_run.specs.Scripts.{AreSeats, IsScript}
+use Rattle.vcpu_run.specs.ScriptTold.{IsScriptTold}
 
 -- the seat's unit is a client of this server unit, of the seat's sizes
 abbrev pub IsSeatOf : List Partition → UnitId → ClientSeat → Type 0
@@ -42,12 +43,13 @@ pub record IsSeatAt (unit : UnitPlan) (id server : UnitId) (seat : ClientSeat) :
   pub client : unit ≡ kinds.Client server seat.pages seat.queue
 
 -- A script was made for a partition: once its clients sit at their pairs, it is whole, its records keep the credits of clients
--- that are not logged in, and they tell what ports did that did nothing.
+-- that are not logged in, such clients agree with them, and they tell what ports did that did nothing.
 pub record IsMade (partition : Partition) (number : ℕ) (script : Script) : Type 0 where
   pub number_is : script.partition ≡ number
   pub for_it : IsScriptFor partition script
   pub whole : (pairs : List Pair) → AreSeats number script.seats.items pairs → IsScript pairs script
   pub credited : (pairs : List Pair) → AreLoggedOut script.seats.items pairs → IsCredited pairs script
+  pub said : (pairs : List Pair) → AreLoggedOut script.seats.items pairs → IsScriptTold pairs script
   pub told : (lan : LanValue) → AreFresh lan → TellsPorts lan script
 
 -- The scripts were made for the partitions.

@@ -11,7 +11,7 @@ use Rattle.lan_script.specs.declared.seat.PortSeat.{PortSeat}
 use Rattle.vcpu_run.specs.declared.partition_units.PartitionUnits.{PartitionUnits}
 use Rattle.vcpu_run.specs.declared.unit_seat.Seat.{Seat}
 use Rattle.vcpu_run.specs.declared.unit_seat.Seat.TheVariants as sits
-use Rattle.vcpu_run.specs.Agreed.{SameDrivers}
+use Rattle.vcpu_run.specs.Agreed.{SameDrivers, SameElse}
 use Rattle.vcpu_run.specs.Freed.{FreesNoneIf}
 use Rattle.vcpu_run.specs.Freeing.{NoneSits}
 use Rattle.vcpu_run.specs.Pairs.{AreDriven}
@@ -55,8 +55,8 @@ IsThere units unit sits.Server = ⊤
 IsThere units unit (sits.Client k) = nat_lt k (length units.pairs.now) ≡ true
 IsThere units unit sits.Port = IsPortOf units.lan.now.seats (unit_of units.partition unit)
 
--- Each pair is left as its client's part of a turn leaves it, no driver is told, the ports are the same, and no other partition's
--- client has its queue freed.
+-- Each pair is left as its client's part of a turn leaves it, no driver is told, the ports are the same, no other partition's
+-- client has its queue freed, and the pairs of others are as before.
 pub record CallsUnits (old new : PartitionUnits) : Type 0 where
   pub lender : new.pairs.ghost_name ≡ old.pairs.ghost_name
   pub lan_lender : new.lan.ghost_name ≡ old.lan.ghost_name
@@ -64,6 +64,7 @@ pub record CallsUnits (old new : PartitionUnits) : Type 0 where
   pub told : SameDrivers old.pairs.now new.pairs.now
   pub ports : new.lan.now.seats ≡ old.lan.now.seats
   pub stays : FreesNoneIf (NoneSits old.seats.now) old.pairs.now new.pairs.now
+  pub others : SameElse old.seats.now old.pairs.now new.pairs.now
 
 -- And a call that was made leaves the LAN units of other partitions as they were.
 pub record MakesCall (old new : PartitionUnits) (answer : Result Returned NoMemory) : Type 0 where

@@ -1,5 +1,5 @@
 -- The law of a run, so far as it is proved: what its trace says of its queues, its copies and windows, its
--- records, the credits that they tell of, the answers that were sent, its LAN ports and what is told of them, how it ends, what its server units took in,
+-- records, the credits and the refusals that they tell of, the answers that were sent, its LAN ports and what is told of them, how it ends, what its server units took in,
 -- which of it they served, and that each of that has its answer.
 use Rattle.std.specs.Prelude.{◌≡◌, ◌⊎◌, ℕ, ◌+◌, ◌*◌, ◌<◌, ◌≤◌, List, [], ◌∷◌, All, Option, Some, None, length, map, slice_get}
 use Rattle.std.specs.List.{AllPairs}
@@ -29,6 +29,7 @@ use Rattle.vcpu_run.specs.Lines.{numbers_to_fail}
 use Rattle.vcpu_run.specs.Ports.{ports_of}
 use Rattle.vcpu_run.specs.PortWords.{PortsAreTold}
 use Rattle.vcpu_run.specs.StrokeMakers.{StrokesAreMade}
+use Rattle.vcpu_run.specs.Refusals.{RefusalsAreTold}
 use Rattle.vcpu_run.specs.Requests.{RequestsAreServed}
 use Rattle.vcpu_run.specs.Settled.{ClientsAreSettled, ServersAreSettled, script_of}
 use Rattle.vcpu_run.specs.Shown.{pages_at, puts_into, records_of, sessions_of, strokes_on, window_shown}
@@ -116,6 +117,7 @@ pub record KeepsLawOf (partitions : List Partition) (trace : Trace) : Type 0 whe
   pub copies : CopiesAreLawful partitions trace
   pub records : RecordsAreOfLines partitions trace
   pub credits : CreditsAreKept partitions trace
+  pub refusals : RefusalsAreTold partitions trace
   pub answers : AnswersAreSent partitions trace
   pub ports : PortsKeepLaw partitions trace
   pub told : PortsAreTold partitions trace

@@ -1,5 +1,5 @@
 -- What is so of a partition whose lines make no raw call: the refusals of its clients, and what those to come are judged by.
-use Rattle.std.specs.Prelude.{◌≡◌, ℕ, ◌==◌, false, true, List, Option, Some, None, IfSome, IsSomeAnd, length, if◌then◌else◌}
+use Rattle.std.specs.Prelude.{◌≡◌, ℕ, ◌<◌, ◌==◌, false, true, List, Option, Some, None, IfSome, IsSomeAnd, length, if◌then◌else◌}
 use Rattle.std.specs.List.{slice_get}
 use Rattle.boot_text.specs.declared.plan.Line.{Line}
 use Rattle.crq_session.specs.PlainState.{side_of}
@@ -12,7 +12,9 @@ use Rattle.vcpu_run.specs.declared.unit_seat.Seat.TheVariants as sits
 use Rattle.vcpu_run.specs.Agreed.{IsLoggedOut}
 use Rattle.vcpu_run.specs.Freeing.{is_reset}
 use Rattle.vcpu_run.specs.Credited.{Ended, ended_by}
+use Rattle.vcpu_run.specs.PortWords.{HasNoCall}
 use Rattle.vcpu_run.specs.Refusals.{HasCausesTold}
+use Rattle.vcpu_run.specs.Scripts.{are_servers}
 use Rattle.vcpu_run.specs.Telling.{IsOf, IsTold}
 use Rattle.vcpu_run.specs.Works.{fails}
 
@@ -58,3 +60,20 @@ pub record SameClient (old new : Pair) : Type 0 where
 -- the same of all pairs
 abbrev pub SameClients : List Pair → List Pair → Type 0
 SameClients old new = (k : ℕ) (after : Pair) → slice_get new k ≡ Some after → IsSomeAnd (slice_get old k) (λ before. SameClient before after)
+
+-- A script of a partition that has no server unit, and that makes no raw call.
+pub record MakesNoCall (script : Script) : Type 0 where
+  pub others : are_servers script.seats.items ≡ false
+  pub no_call : HasNoCall script.lines.now
+
+-- the refusals of the clients of each such script have their causes, and its clients agree with their records
+abbrev pub AreTold : List Pair → List Script → Type 0
+AreTold pairs scripts = (i : ℕ) (script : Script) → slice_get scripts i ≡ Some script → MakesNoCall script → IsScriptTold pairs script
+
+-- a reset that is the current line of such a script, of which P is so, left its client without a login
+abbrev pub AreOutIf : (P : ℕ → Type 0) → List Pair → List Script → Type 0
+AreOutIf P pairs scripts = (i : ℕ) (script : Script) → P i → slice_get scripts i ≡ Some script → MakesNoCall script → IsResetOut pairs script
+
+-- the same of the first scripts
+abbrev pub AreOutTo : (count : ℕ) → List Pair → List Script → Type 0
+AreOutTo count = AreOutIf (λ i. i < count)

@@ -13,7 +13,7 @@ use Rattle.crq_session.specs.PlainState.{side_of}
 use Rattle.vcpu_run.specs.declared.pair.Pair.{Pair}
 use Rattle.vcpu_run.specs.declared.unit_seat.Seat.{Seat}
 use Rattle.vcpu_run.specs.declared.unit_seat.Seat.TheVariants as sits
-use Rattle.vcpu_run.specs.Agreed.{OnDrivers}
+use Rattle.vcpu_run.specs.Agreed.{OnDrivers, SameBeside}
 use Rattle.vcpu_run.specs.declared.script.Progress.{Progress}
 use Rattle.vcpu_run.specs.declared.script.Progress.TheVariants as progress
 use Rattle.vcpu_run.specs.declared.taking.Took.{Took}
@@ -117,7 +117,7 @@ PairTold verb p p' old new result = OnDrivers old.driver new.driver (λ a b. Ste
 
 -- A step of a line at one pair, and the others as they were.
 pub record SeatTold (seat : ℕ) (verb : Verb) (p p' : Progress) (old new : List Pair) (result : Result Step NoMemory) : Type 0 where
-  pub beside : (k : ℕ) → k ≢ seat → slice_get new k ≡ slice_get old k
+  pub beside : SameBeside seat old new
   pub here : (before after : Pair) → slice_get old seat ≡ Some before → slice_get new seat ≡ Some after → PairTold verb p p' before after result
 
 -- A step of a line at its unit: at the pair where a client sits, and at none where a port does.

@@ -14,7 +14,9 @@ ghost use Rattle.vcpu_run.specs.Intake.{EntriesAreFetched};
 ghost use Rattle.vcpu_run.specs.Pairs.{AreOfOneHome};
 ghost use Rattle.vcpu_run.specs.PortWords.{PortsAreTold, PortsTell};
 ghost use Rattle.vcpu_run.specs.Received.{AreAtRest};
+ghost use Rattle.vcpu_run.specs.Refusals.{RefusalsAreTold};
 ghost use Rattle.vcpu_run.specs.Requests.{RequestsAreServed};
+ghost use Rattle.vcpu_run.specs.ScriptTold.{AreTold};
 ghost use Rattle.vcpu_run.specs.Units.{seats_of};
 ghost use Rattle.vcpu_run.specs.Settled.{ClientsAreSettled, ServersAreSettled};
 ghost use Rattle.vcpu_run.specs.RunLaw.{CopiesAreLawful, CreditsAreKept, PortsKeepLaw, QueuesAreLawful, RecordsAreOfLines};
@@ -63,6 +65,9 @@ pub(crate) fn gather(
     ensures credits { IfOk result (λ trace. (partitions : List Partition) →
         IsOfPlan partitions pairs.items scripts.entry.items lan.seats →
         AreCredited pairs.items scripts.entry.items → CreditsAreKept partitions trace) }
+    ensures refusals { IfOk result (λ trace. (partitions : List Partition) →
+        IsOfPlan partitions pairs.items scripts.entry.items lan.seats →
+        AreTold pairs.items scripts.entry.items → RefusalsAreTold partitions trace) }
     ensures answers { IfOk result (λ trace. (partitions : List Partition) →
         IsOfPlan partitions pairs.items scripts.entry.items lan.seats →
         AreAnswered history.items pairs.items → AnswersAreSent partitions trace) }

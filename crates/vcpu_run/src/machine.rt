@@ -16,6 +16,7 @@ ghost use Rattle.vcpu_run.specs.PortSteps.{AreFresh};
 ghost use Rattle.vcpu_run.specs.PortWords.{PortsTell};
 ghost use Rattle.vcpu_run.specs.Received.{AreAtRest, AreReceived};
 ghost use Rattle.vcpu_run.specs.RunLaw.{KeepsLaw, KeepsLawOf};
+ghost use Rattle.vcpu_run.specs.ScriptTold.{AreTold};
 
 use crate::gather::gather;
 use crate::making::{home_of, make_pairs, make_scripts, ports_of};
@@ -66,6 +67,7 @@ impl<'p, Di: Blocks> Machine<'p, Di> {
             machine.pairs.items machine.scripts.items machine.lan.seats) }
         ensures credited { IfOk result (λ machine.
             AreCredited machine.pairs.items machine.scripts.items) }
+        ensures said { IfOk result (λ machine. AreTold machine.pairs.items machine.scripts.items) }
         ensures told { IfOk result (λ machine. PortsTell machine.lan machine.scripts.items) }
         ensures answered { IfOk result (λ machine. AreAnswered [] machine.pairs.items) }
         ensures received { IfOk result (λ machine. AreReceived machine.server.units.items
@@ -111,6 +113,7 @@ impl<'p, Di: Blocks> Machine<'p, Di> {
         requires machine { IsMachine self.server.partition (vec_len self.server.units)
             self.server.copies.items self.pairs.items self.scripts.items self.lan.seats }
         requires credited { AreCredited self.pairs.items self.scripts.items }
+        requires said { AreTold self.pairs.items self.scripts.items }
         requires told { PortsTell self.lan self.scripts.items }
         requires answered { AreAnswered self.server.records.history.items self.pairs.items }
         requires received { AreReceived self.server.units.items self.server.copies.items
@@ -185,6 +188,7 @@ fn trace_of(
     requires pairs { AreOfOneHome copies.items pairs.items }
     requires scripts { AreScripts pairs.items lan.seats scripts.items }
     requires credited { OnOk run (AreCredited pairs.items scripts.items) }
+    requires said { OnOk run (AreTold pairs.items scripts.items) }
     requires told { OnOk run (PortsTell lan scripts.items) }
     requires over { OnOk run (All IsOver scripts.items) }
     requires answered { AreAnswered history.items pairs.items }

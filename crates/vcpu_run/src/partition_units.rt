@@ -5,7 +5,7 @@ ghost use Rattle.hcall_table.specs.Rows.{IsAnswer};
 ghost use Rattle.lan_script.specs.PortRows.{port_row};
 ghost use Rattle.unit_region.specs.EntryRows.{entry_row};
 ghost use Rattle.vio_num.specs.declared.hypervisor.Hrc.TheVariants as codes;
-ghost use Rattle.vcpu_run.specs.Agreed.{SameDrivers};
+ghost use Rattle.vcpu_run.specs.Agreed.{SameBeside, SameDrivers};
 ghost use Rattle.vcpu_run.specs.CallRows.{queue_row, row_for};
 ghost use Rattle.vcpu_run.specs.Freed.{FreesNoneIf};
 ghost use Rattle.vcpu_run.specs.Pairs.{AreDriven};
@@ -114,6 +114,7 @@ fn call_at(
     ensures driven { AreDriven pairs.old pairs.new }
     ensures told { SameDrivers pairs.old pairs.new }
     ensures stays { FreesNoneIf (λ k. k ≢ pair) pairs.old pairs.new }
+    ensures others { SameBeside pair pairs.old pairs.new }
     ensures answer { IfOk result (IsAnswer (row_for call)) }
 {
     seat::call(alloc, &mut pairs[pair], call)

@@ -2,7 +2,7 @@
 ghost use Rattle.std.specs.Prelude.{◌≡◌, true, false, None, IfOk, IfSome, IfNone, OnOk};
 ghost use Rattle.vio_num.specs.declared.hypervisor.Hrc.TheVariants as codes;
 ghost use Rattle.hcall_table.specs.Rows.{IsAnswer, row_of};
-ghost use Rattle.vcpu_run.specs.Agreed.{SameDrivers};
+ghost use Rattle.vcpu_run.specs.Agreed.{SameDrivers, SameElse};
 ghost use Rattle.vcpu_run.specs.CallRows.{EndsCall, gives, says};
 ghost use Rattle.vcpu_run.specs.Credited.{is_take};
 ghost use Rattle.unit_region.specs.Steps.{IsPlain, is_plain};
@@ -61,6 +61,7 @@ pub(crate) fn make_call(
     ensures driven { AreDriven pairs.old pairs.new }
     ensures told { SameDrivers pairs.old pairs.new }
     ensures stays { FreesNoneIf (NoneSits seats.now) pairs.old pairs.new }
+    ensures others { SameElse seats.now pairs.old pairs.new }
     ensures lan { lan.new.seats ≡ lan.old.seats }
     ensures apart { OnOk result (IsApart partition lan.old lan.new) }
     ensures plain { IsPlain result }

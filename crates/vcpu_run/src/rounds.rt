@@ -1,5 +1,5 @@
 // The turns of a round: one of each partition, in their order.
-ghost use Rattle.std.specs.Prelude.{◌≡◌, ◌≢◌, ◌<◌, ⊤, ℕ, All, IfOk, IsSomeAnd, IsTrue, List, OnOk};
+ghost use Rattle.std.specs.Prelude.{◌≡◌, ◌≢◌, ◌+◌, ◌<◌, ⊤, ℕ, All, IfOk, IsSomeAnd, IsTrue, List, OnOk};
 ghost use Rattle.std.specs.Prelude.{length, slice_get, vec_len};
 ghost use Rattle.block_server.specs.declared.unit.Unit.{Unit};
 ghost use Rattle.std.specs.List.{list_all};
@@ -16,7 +16,7 @@ ghost use Rattle.vcpu_run.specs.Links.{AreIdle, AreIdleTo, AreLinked, AreOverTo,
 ghost use Rattle.vcpu_run.specs.Links.{SeatsRestWhole, ServerWaits, ServersWait, links_of};
 ghost use Rattle.vcpu_run.specs.Freed.{FreesNoneIf};
 ghost use Rattle.vcpu_run.specs.Freeing.{KeepQueues};
-ghost use Rattle.vcpu_run.specs.ScriptTold.{SameClients};
+ghost use Rattle.vcpu_run.specs.ScriptTold.{AreOutIf, AreOutTo, AreTold, SameClients};
 ghost use Rattle.vcpu_run.specs.Machines.{AllRun, AllStay, AreScripts, IsMachine, IsServing};
 ghost use Rattle.vcpu_run.specs.Pairs.{ArePairs, AreDrivers};
 ghost use Rattle.vcpu_run.specs.PortWords.{PortsTell};
@@ -50,6 +50,8 @@ pub(crate) fn run<Di: Blocks>(
     ensures run { AllRun scripts.old scripts.new }
     ensures credited { OnOk result (AreCredited pairs.old scripts.old →
         AreCredited pairs.new scripts.new) }
+    ensures said { OnOk result (AreTold pairs.old scripts.old →
+        AreTold pairs.new scripts.new) }
     ensures told { OnOk result (PortsTell lan.old scripts.old →
         PortsTell lan.new scripts.new) }
     ensures unfreed { KeepQueues pairs.old scripts.old → KeepQueues pairs.new scripts.new }
@@ -108,6 +110,8 @@ fn step<Di: Blocks>(
     ensures run { AllRun scripts.old scripts.new }
     ensures credited { OnOk result (AreCredited pairs.old scripts.old →
         AreCredited pairs.new scripts.new) }
+    ensures said { OnOk result (AreTold pairs.old scripts.old →
+        AreTold pairs.new scripts.new) }
     ensures told { OnOk result (PortsTell lan.old scripts.old →
         PortsTell lan.new scripts.new) }
     ensures unfreed { KeepQueues pairs.old scripts.old → KeepQueues pairs.new scripts.new }
@@ -148,6 +152,8 @@ fn round<Di: Blocks>(
     ensures run { AllRun scripts.old scripts.new }
     ensures credited { OnOk result (AreCredited pairs.old scripts.old →
         AreCredited pairs.new scripts.new) }
+    ensures said { OnOk result (AreTold pairs.old scripts.old →
+        AreTold pairs.new scripts.new) }
     ensures told { OnOk result (PortsTell lan.old scripts.old →
         PortsTell lan.new scripts.new) }
     ensures unfreed { KeepQueues pairs.old scripts.old → KeepQueues pairs.new scripts.new }
@@ -156,6 +162,8 @@ fn round<Di: Blocks>(
         server.new.records.grants.items server.new.records.history.items pairs.new }
     ensures disk { LastsOnDisk server.old.records.history.items server.new.records.history.items
         (Di.state server.old.disk.image).blocks (Di.state server.new.disk.image).blocks }
+    ensures out { IfOk result (λ moved. moved ≡ Moved.Quiet → AreTold pairs.old scripts.old →
+        AreOutTo (length scripts.new) pairs.new scripts.new) }
     ensures lan { lan.new.seats ≡ lan.old.seats }
     ensures linked { OnOk result (AreLinked server.old.units.items pairs.old →
         AreLinked server.new.units.items pairs.new) }
@@ -192,6 +200,8 @@ fn turn_at<Di: Blocks>(
     ensures run { AllRun scripts.old scripts.new }
     ensures credited { OnOk result (AreCredited pairs.old scripts.old →
         AreCredited pairs.new scripts.new) }
+    ensures said { OnOk result (AreTold pairs.old scripts.old →
+        AreTold pairs.new scripts.new) }
     ensures told { OnOk result (PortsTell lan.old scripts.old →
         PortsTell lan.new scripts.new) }
     ensures unfreed { KeepQueues pairs.old scripts.old → KeepQueues pairs.new scripts.new }
@@ -200,6 +210,8 @@ fn turn_at<Di: Blocks>(
         server.new.records.grants.items server.new.records.history.items pairs.new }
     ensures disk { LastsOnDisk server.old.records.history.items server.new.records.history.items
         (Di.state server.old.disk.image).blocks (Di.state server.new.disk.image).blocks }
+    ensures out { IfOk result (λ moved. moved ≡ Moved.Quiet → AreTold pairs.old scripts.old →
+        AreOutTo number pairs.old scripts.old → AreOutTo (number + 1) pairs.new scripts.new) }
     ensures lan { lan.new.seats ≡ lan.old.seats }
     ensures linked { OnOk result (AreLinked server.old.units.items pairs.old →
         AreLinked server.new.units.items pairs.new) }
@@ -304,6 +316,8 @@ fn run_script(
     ensures run { AllRun scripts.old scripts.new }
     ensures credited { OnOk result (AreCredited pairs.old scripts.old →
         AreCredited pairs.new scripts.new) }
+    ensures said { OnOk result (AreTold pairs.old scripts.old →
+        AreTold pairs.new scripts.new) }
     ensures told { OnOk result (PortsTell lan.old scripts.old →
         PortsTell lan.new scripts.new) }
     ensures unfreed { KeepQueues pairs.old scripts.old → KeepQueues pairs.new scripts.new }
@@ -312,6 +326,8 @@ fn run_script(
     ensures received { (units : List Unit) (copies : List CopyRecord) (grants : List Grant)
         (history : List Served) → AreReceived units copies grants history pairs.old →
         AreReceived units copies grants history pairs.new }
+    ensures out { IfOk result (λ moved. moved ≡ Moved.Quiet → AreTold pairs.old scripts.old →
+        AreOutTo number pairs.old scripts.old → AreOutTo (number + 1) pairs.new scripts.new) }
     ensures lan { lan.new.seats ≡ lan.old.seats }
     ensures linked { (units : List Unit) → AreLinked units pairs.old → AreLinked units pairs.new }
     ensures idle { IfOk result (λ moved. moved ≡ Moved.Quiet →
@@ -332,6 +348,9 @@ fn end_lines(scripts: &mut [Script<'_>]) -> Result<Moved, NoMemory>
     ensures credited { OnOk result ((pairs : List Pair) (ports : List PortSeat) →
         AreScripts pairs ports scripts.old → AreCredited pairs scripts.old →
         AreCredited pairs scripts.new) }
+    ensures said { OnOk result ((pairs : List Pair) (ports : List PortSeat) →
+        AreScripts pairs ports scripts.old → AreOutTo (length scripts.old) pairs scripts.old →
+        AreTold pairs scripts.old → AreTold pairs scripts.new) }
     ensures told { OnOk result ((pairs : List Pair) (ports : List PortSeat) (lan : LanValue) →
         AreScripts pairs ports scripts.old → PortsTell lan scripts.old →
         PortsTell lan scripts.new) }
@@ -354,10 +373,15 @@ fn end_line_at(scripts: &mut [Script<'_>], number: usize) -> Result<Moved, NoMem
     ensures credited { OnOk result ((pairs : List Pair) (ports : List PortSeat) →
         AreScripts pairs ports scripts.old → AreCredited pairs scripts.old →
         AreCredited pairs scripts.new) }
+    ensures said { OnOk result ((pairs : List Pair) (ports : List PortSeat) →
+        AreScripts pairs ports scripts.old → AreOutIf (λ i. i ≡ number) pairs scripts.old →
+        AreTold pairs scripts.old → AreTold pairs scripts.new) }
     ensures told { OnOk result ((pairs : List Pair) (ports : List PortSeat) (lan : LanValue) →
         AreScripts pairs ports scripts.old → PortsTell lan scripts.old →
         PortsTell lan scripts.new) }
     ensures quiet { IfOk result (λ moved. moved ≡ Moved.Quiet → scripts.new ≡ scripts.old) }
+    ensures elsewhere { (i : ℕ) → i ≢ number →
+        slice_get scripts.new i ≡ slice_get scripts.old i }
 {
     scripts[number].end_waiting()
 }

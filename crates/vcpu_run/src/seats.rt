@@ -1,6 +1,6 @@
 // What a partition does at its units, one after the other or at one of them.
 ghost use Rattle.std.specs.Prelude.{◌≡◌, ◌≢◌, ◌<◌, ◌≤◌, ◌∷◌, [], ⊤, ℕ, false, IfOk, IfSome, OnOk, Some, IsSomeAnd, length, slice_get};
-ghost use Rattle.vcpu_run.specs.Agreed.{AllSame, SameDrivers, SameElse, SameOthers, StepsLine, StepsSeat};
+ghost use Rattle.vcpu_run.specs.Agreed.{AllSame, SameBeside, SameDrivers, SameElse, StepsLine, StepsSeat};
 ghost use Rattle.vcpu_run.specs.Credited.{taken_in};
 ghost use Rattle.vcpu_run.specs.Freed.{FreesNoneIf};
 ghost use Rattle.vcpu_run.specs.Freeing.{IsSpared, NoneSits, is_reset};
@@ -42,6 +42,7 @@ fn push_event_of(pairs: &mut [Pair], pair: usize) -> Result<Moved, NoMemory>
     requires { pair < length pairs.old }
     ensures driven { AreDriven pairs.old pairs.new }
     ensures drivers { SameDrivers pairs.old pairs.new }
+    ensures others { SameBeside pair pairs.old pairs.new }
     ensures stays { FreesNoneIf (λ _. ⊤) pairs.old pairs.new }
     ensures clients { SameClients pairs.old pairs.new }
     ensures quiet { IfOk result (λ moved. moved ≡ Moved.Quiet → LinksRest pairs.old pairs.new) }
@@ -56,6 +57,7 @@ fn push_event_at(pairs: &mut [Pair], seat: Seat) -> Result<Moved, NoMemory>
     requires { (k : ℕ) → seat ≡ sits.Client k → k < length pairs.old }
     ensures driven { AreDriven pairs.old pairs.new }
     ensures drivers { SameDrivers pairs.old pairs.new }
+    ensures others { SameElse (seat ∷ []) pairs.old pairs.new }
     ensures stays { FreesNoneIf (λ _. ⊤) pairs.old pairs.new }
     ensures clients { SameClients pairs.old pairs.new }
     ensures quiet { IfOk result (λ moved. moved ≡ Moved.Quiet → LinksRest pairs.old pairs.new) }
@@ -73,6 +75,7 @@ pub(crate) fn push_events(seats: &[Seat], pairs: &mut [Pair]) -> Result<Moved, N
     requires { HaveClients seats.now pairs.old }
     ensures driven { AreDriven pairs.old pairs.new }
     ensures drivers { SameDrivers pairs.old pairs.new }
+    ensures others { SameElse seats.now pairs.old pairs.new }
     ensures stays { FreesNoneIf (λ _. ⊤) pairs.old pairs.new }
     ensures clients { SameClients pairs.old pairs.new }
     ensures quiet { IfOk result (λ moved. moved ≡ Moved.Quiet → LinksRest pairs.old pairs.new) }
@@ -140,6 +143,7 @@ fn step_own(
     ensures out { LineOut seats.now line.now progress.old progress.new
         pairs.old pairs.new result }
     ensures stays { FreesNoneIf (IsSpared seats.now line.now) pairs.old pairs.new }
+    ensures others { SameElse seats.now pairs.old pairs.new }
     ensures lan { lan.new.seats ≡ lan.old.seats }
     ensures told { IfOk result (TellsStep partition seats.now line.now
         (done_in progress.old) (done_in progress.new) lan.old lan.new) }
@@ -174,6 +178,7 @@ pub(crate) fn step_unit(
     ensures out { is_call line.now.verb ≡ false →
         LineOut seats.now line.now progress.old progress.new pairs.old pairs.new result }
     ensures stays { FreesNoneIf (IsSpared seats.now line.now) pairs.old pairs.new }
+    ensures others { SameElse seats.now pairs.old pairs.new }
     ensures lan { lan.new.seats ≡ lan.old.seats }
     ensures told { IfOk result (λ step. is_call line.now.verb ≡ false →
         TellsStep partition seats.now line.now
@@ -192,7 +197,7 @@ fn take_rest_of(pairs: &mut [Pair], pair: usize) -> Result<Moved, NoMemory>
     requires client { IsSomeAnd (slice_get pairs.old pair)
         (λ pair. IsSomeAnd pair.driver (IsDriver pair.window)) }
     ensures driven { AreDriven pairs.old pairs.new }
-    ensures others { SameOthers pair pairs.old pairs.new }
+    ensures others { SameBeside pair pairs.old pairs.new }
     ensures stays { FreesNoneIf (λ _. ⊤) pairs.old pairs.new }
     ensures still { IfOk result (λ moved. moved ≡ Moved.Quiet → LinksRest pairs.old pairs.new) }
     ensures waits { IfOk result (λ moved. moved ≡ Moved.Quiet →
@@ -267,6 +272,7 @@ fn fail_of(pairs: &mut [Pair], pair: usize) -> Result<bool, NoMemory>
     ensures driven { AreDriven pairs.old pairs.new }
     ensures credit { AllSame pairs.old pairs.new }
     ensures stays { FreesNoneIf (λ k. k ≢ pair) pairs.old pairs.new }
+    ensures others { SameBeside pair pairs.old pairs.new }
 {
     seat::fail(&mut pairs[pair])
 }
@@ -279,6 +285,7 @@ fn fail_at(unit: UnitId, seat: Seat, pairs: &mut [Pair], lan: &mut Lan) -> Resul
     ensures driven { AreDriven pairs.old pairs.new }
     ensures credit { AllSame pairs.old pairs.new }
     ensures stays { FreesNoneIf (NoneSits (seat ∷ [])) pairs.old pairs.new }
+    ensures others { SameElse (seat ∷ []) pairs.old pairs.new }
     ensures lan { lan.new.seats ≡ lan.old.seats }
     ensures idle { AllIdle lan.old lan.new }
 {
@@ -302,6 +309,7 @@ pub(crate) fn fail(
     ensures driven { AreDriven pairs.old pairs.new }
     ensures credit { AllSame pairs.old pairs.new }
     ensures stays { FreesNoneIf (NoneSits seats.now) pairs.old pairs.new }
+    ensures others { SameElse seats.now pairs.old pairs.new }
     ensures lan { lan.new.seats ≡ lan.old.seats }
     ensures idle { AllIdle lan.old lan.new }
 {

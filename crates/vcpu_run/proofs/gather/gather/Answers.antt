@@ -9,6 +9,7 @@ use Rattle.vcpu_run.proofs.Ordering.{order_is}
 use Rattle.vcpu_run.proofs.PortsTold.{from_counts, told_are}
 use Rattle.vcpu_run.proofs.QueueLaws.{queues_are}
 use Rattle.vcpu_run.proofs.RecordLaws.{credits_are, records_are}
+use Rattle.vcpu_run.proofs.RefusalsTold.{refusals_are}
 use Rattle.vcpu_run.proofs.SentTo.{answers_are}
 use Rattle.vcpu_run.proofs.Settling.{handed_are, settled_are}
 use Rattle.std.proofs.Common.{refl}
@@ -96,3 +97,8 @@ returns-clause-told c =
     from_counts c.args.pairs.items c.args.scripts.items c.args.lan c.args.history.items c.args.grants.items c.args.copies.items c.rows_of.result _ c.rows_of.ensures.trace
     (λ rows counted partitions of_plan over tells. told_are c.args.pairs.items c.args.scripts.items c.args.lan rows c.args.history.items c.args.grants.items c.args.copies.items partitions
     c.requires.scripts of_plan over tells counted)
+
+pub returns-clause-refusals : goal.returns-clause-refusals
+returns-clause-refusals c =
+    from_rows c.args.pairs.items c.args.scripts.items c.args.lan c.args.history.items c.args.grants.items c.args.copies.items c.rows_of.result _ _ c.rows_of.ensures.trace c.rows_of.ensures.queues
+    (λ rows keeps ordered lawful partitions of_plan told. refusals_are c.args.pairs.items c.args.scripts.items c.args.lan rows c.args.history.items c.args.grants.items c.args.copies.items partitions c.requires.scripts of_plan told)

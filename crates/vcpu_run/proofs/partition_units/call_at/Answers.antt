@@ -1,5 +1,5 @@
 use Rattle.std.proofs.lemmas.Option.{slice_get-get_or}
-use Rattle.vcpu_run.proofs.Agreeing.{set_same}
+use Rattle.vcpu_run.proofs.Agreeing.{set_beside, set_same}
 use Rattle.vcpu_run.proofs.Driving.{driven_set}
 use Rattle.vcpu_run.proofs.Unfreed.{frees_other}
 use Rattle.vcpu_run.proofs.partition_units.call_at.Goals as goal
@@ -12,3 +12,6 @@ returns-clause-told c = set_same c.args.pairs.now c.args.pair _ c.call.new.pair 
 
 pub returns-clause-stays : goal.returns-clause-stays
 returns-clause-stays c = frees_other c.args.pairs.now c.args.pair c.call.new.pair
+
+pub returns-clause-others : goal.returns-clause-others
+returns-clause-others c = set_beside c.args.pairs.now c.args.pair c.call.new.pair

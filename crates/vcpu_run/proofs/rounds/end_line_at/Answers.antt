@@ -3,6 +3,8 @@ use Rattle.std.proofs.Common.{slice_index_or}
 use Rattle.std.proofs.lemmas.Option.{slice_get-get_or}
 use Rattle.vcpu_run.proofs.Elsewhere.{credits_turned, else_none, ok_then}
 use Rattle.vcpu_run.proofs.Keeping.{all_same}
+use Rattle.vcpu_run.proofs.Driving.{get_set_other}
+use Rattle.vcpu_run.proofs.RoundsTold.{told_ended}
 use Rattle.vcpu_run.proofs.Scripted.{run_one, script_turned}
 use Rattle.vcpu_run.proofs.PortTurns.{ports_ended}
 use Rattle.vcpu_run.proofs.rounds.end_line_at.Goals as goal
@@ -52,3 +54,17 @@ returns-clause-told c =
     (λ kept pairs ports lan scripts_are tells.
     ports_ended lan scripts c.args.number c.end_waiting.new.self tells (kept pairs lan (scripts_are c.args.number old found).script_is (tells c.args.number old found)))
     c.end_waiting.ensures.told
+
+pub returns-clause-said : goal.returns-clause-said
+returns-clause-said c =
+    let scripts = c.args.scripts.now in
+    let d = c.index-scripts-number.result in
+    let old = slice_index_or scripts c.args.number d in
+    let found = slice_get-get_or scripts c.args.number d c.requires in
+    ok_then c.end_waiting.result _ _
+    (λ kept pairs ports scripts_are out told.
+    told_ended pairs scripts c.args.number old c.end_waiting.new.self found c.end_waiting.ensures.rest (kept pairs (scripts_are c.args.number old found).script_is) out told)
+    c.end_waiting.ensures.said
+
+pub returns-clause-elsewhere : goal.returns-clause-elsewhere
+returns-clause-elsewhere c = λ i apart. get_set_other c.args.scripts.now c.args.number i c.end_waiting.new.self apart

@@ -1,9 +1,10 @@
-use Rattle.std.proofs.Common.{◌∙◌, refl}
+use Rattle.std.proofs.Common.{◌∙◌, arith, refl}
+use Rattle.vcpu_run.proofs.RoundsTold.{out_next}
 use Rattle.vcpu_run.proofs.Scripted.{run_same, run_then}
 use Rattle.vcpu_run.proofs.rounds.end_lines.Goals as goal
 
 pub loop-number-init : goal.loop-number-init
-loop-number-init c = record { scripts = λ pairs ports are. are; run = run_same c.args.scripts.now; credited = λ pairs ports scripts_are are. are; told = λ pairs ports lan scripts_are tells. tells; same = λ is. refl }
+loop-number-init c = record { scripts = λ pairs ports are. are; run = run_same c.args.scripts.now; credited = λ pairs ports scripts_are are. are; said = λ pairs ports scripts_are out are. are; rest = λ i more. refl; told = λ pairs ports lan scripts_are tells. tells; same = λ is. refl }
 
 pub loop-number-preserved : goal.loop-number-preserved
 loop-number-preserved c =
@@ -13,6 +14,10 @@ loop-number-preserved c =
       scripts = λ pairs ports are. after.scripts pairs ports (before.scripts pairs ports are);
       run = run_then c.args.scripts.now c.loop-number.scripts c.end_line_at.new.scripts before.run after.run;
       credited = λ pairs ports scripts_are are. c.in_ok-turned.ensures.credited pairs ports (before.scripts pairs ports scripts_are) (before.credited pairs ports scripts_are are);
+      said = λ pairs ports scripts_are out are.
+          c.in_ok-turned.ensures.said pairs ports (before.scripts pairs ports scripts_are)
+          (out_next pairs c.args.scripts.now c.loop-number.scripts c.loop-number.number before.rest out) (before.said pairs ports scripts_are out are);
+      rest = λ i more. after.elsewhere i (λ same. omega (arith, more, same)) ∙ before.rest i (omega (arith, more));
       told = λ pairs ports lan scripts_are tells. c.in_ok-turned.ensures.told pairs ports lan (before.scripts pairs ports scripts_are) (before.told pairs ports lan scripts_are tells);
       same = λ is. c.in_ok-turned.ensures.quiet (c.either-moved.ensures.other is) ∙ before.same (c.either-moved.ensures.one is);
     }

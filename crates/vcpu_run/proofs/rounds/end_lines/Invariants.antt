@@ -1,4 +1,4 @@
-use Rattle.std.proofs.Common.{◌≡◌, List}
+use Rattle.std.proofs.Common.{◌≡◌, ◌≤◌, ℕ, List, length, slice_get}
 use Rattle.vio_num.specs.declared.hypervisor.Moved.TheVariants.{Quiet}
 use Rattle.lan_script.specs.Units.{LanValue}
 use Rattle.lan_script.specs.declared.seat.PortSeat.{PortSeat}
@@ -6,6 +6,7 @@ use Rattle.vcpu_run.specs.declared.pair.Pair.{Pair}
 use Rattle.vcpu_run.specs.Agreed.{AreCredited}
 use Rattle.vcpu_run.specs.Machines.{AllRun, AreScripts}
 use Rattle.vcpu_run.specs.PortWords.{PortsTell}
+use Rattle.vcpu_run.specs.ScriptTold.{AreOutTo, AreTold}
 use Rattle.vcpu_run.proofs.rounds.end_lines.Given as goal
 
 abbrev pub invariant-loop-number : goal.invariant-loop-number
@@ -13,6 +14,8 @@ invariant-loop-number l = record {
   scripts : (pairs : List Pair) (ports : List PortSeat) → AreScripts pairs ports l.initial.scripts → AreScripts pairs ports l.scripts;
   run : AllRun l.initial.scripts l.scripts;
   credited : (pairs : List Pair) (ports : List PortSeat) → AreScripts pairs ports l.initial.scripts → AreCredited pairs l.initial.scripts → AreCredited pairs l.scripts;
+  said : (pairs : List Pair) (ports : List PortSeat) → AreScripts pairs ports l.initial.scripts → AreOutTo (length l.initial.scripts) pairs l.initial.scripts → AreTold pairs l.initial.scripts → AreTold pairs l.scripts;
+  rest : (i : ℕ) → l.number ≤ i → slice_get l.scripts i ≡ slice_get l.initial.scripts i;
   told : (pairs : List Pair) (ports : List PortSeat) (lan : LanValue) → AreScripts pairs ports l.initial.scripts → PortsTell lan l.initial.scripts → PortsTell lan l.scripts;
   same : l.moved ≡ Quiet → l.scripts ≡ l.initial.scripts;
 }

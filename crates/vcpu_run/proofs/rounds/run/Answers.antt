@@ -6,7 +6,7 @@ use Rattle.vcpu_run.proofs.Scripted.{run_same, run_then}
 use Rattle.vcpu_run.proofs.rounds.run.Goals as goal
 
 pub loop-round-init : goal.loop-round-init
-loop-round-init g c = record { told = λ tells. tells; machine = c.requires.machine; stay = all_same c.args.pairs.now; run = run_same c.args.scripts.now; answered = c.requires.answered; received = c.requires.received; disk = lasts_same c.args.server.now.records.history.items (g.Di.Blocks.state c.args.server.now.disk.image).blocks; credited = λ are. are; lan = refl; unfreed = λ keep. keep; linked = λ are. are }
+loop-round-init g c = record { said = λ told. told; told = λ tells. tells; machine = c.requires.machine; stay = all_same c.args.pairs.now; run = run_same c.args.scripts.now; answered = c.requires.answered; received = c.requires.received; disk = lasts_same c.args.server.now.records.history.items (g.Di.Blocks.state c.args.server.now.disk.image).blocks; credited = λ are. are; lan = refl; unfreed = λ keep. keep; linked = λ are. are }
 
 pub loop-round-preserved : goal.loop-round-preserved
 loop-round-preserved g c =
@@ -21,6 +21,7 @@ loop-round-preserved g c =
       disk = lasts_then c.args.server.now.records.history.items c.loop-round.server.records.history.items c.step.new.server.records.history.items
           (g.Di.Blocks.state c.args.server.now.disk.image).blocks (g.Di.Blocks.state c.loop-round.server.disk.image).blocks (g.Di.Blocks.state c.step.new.server.disk.image).blocks c.loop-round.invariant.disk c.step.ensures.disk;
       credited = λ are. c.in_ok-moved.ensures.credited (before.credited are);
+      said = λ told. c.in_ok-moved.ensures.said (before.said told);
       told = λ tells. c.in_ok-moved.ensures.told (before.told tells);
       lan = after.lan ∙ before.lan;
       unfreed = λ keep. after.unfreed (before.unfreed keep);
@@ -66,3 +67,6 @@ returns-then-is_end-clause-idle g c = λ are.
 
 pub returns-then-is_end-clause-told : goal.returns-then-is_end-clause-told
 returns-then-is_end-clause-told g c = λ tells. c.in_ok-moved.ensures.told (c.loop-round.invariant.told tells)
+
+pub returns-then-is_end-clause-said : goal.returns-then-is_end-clause-said
+returns-then-is_end-clause-said g c = λ told. c.in_ok-moved.ensures.said (c.loop-round.invariant.said told)

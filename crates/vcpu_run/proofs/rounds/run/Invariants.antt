@@ -5,6 +5,7 @@ use Rattle.vcpu_run.specs.Freeing.{KeepQueues}
 use Rattle.vcpu_run.specs.Links.{AreLinked}
 use Rattle.vcpu_run.specs.PortWords.{PortsTell}
 use Rattle.vcpu_run.specs.Received.{AreReceived}
+use Rattle.vcpu_run.specs.ScriptTold.{AreTold}
 use Rattle.vcpu_run.specs.OnDisk.{LastsOnDisk}
 use Rattle.vcpu_run.specs.Machines.{AllRun, AllStay, IsMachine}
 use Rattle.vcpu_run.proofs.rounds.run.Given as goal
@@ -19,6 +20,7 @@ invariant-loop-round g l = record {
   disk : LastsOnDisk l.initial.server.records.history.items l.server.records.history.items
       (g.Di.Blocks.state l.initial.server.disk.image).blocks (g.Di.Blocks.state l.server.disk.image).blocks;
   credited : AreCredited l.initial.pairs l.initial.scripts → AreCredited l.pairs l.scripts;
+  said : AreTold l.initial.pairs l.initial.scripts → AreTold l.pairs l.scripts;
   told : PortsTell l.initial.lan l.initial.scripts → PortsTell l.lan l.scripts;
   lan : l.lan.seats ≡ l.initial.lan.seats;
   unfreed : KeepQueues l.initial.pairs l.initial.scripts → KeepQueues l.pairs l.scripts;

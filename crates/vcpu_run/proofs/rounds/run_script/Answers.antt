@@ -8,6 +8,7 @@ use Rattle.vcpu_run.proofs.Answering.{answered_driven}
 use Rattle.vcpu_run.proofs.Elsewhere.{credits_turned, ok_then}
 use Rattle.vcpu_run.proofs.Keeping.{driven_stay, drivers_driven, pairs_driven}
 use Rattle.vcpu_run.proofs.Receiving.{received_driven}
+use Rattle.vcpu_run.proofs.RoundsTold.{out_turned, told_turned}
 use Rattle.vcpu_run.proofs.Scripted.{run_one, script_turned}
 use Rattle.vcpu_run.proofs.Unfreed.{queues_turned}
 use Rattle.vcpu_run.proofs.PortTurns.{ports_turned}
@@ -97,3 +98,25 @@ returns-clause-told c =
     let found = slice_get-get_or scripts c.args.number d c.requires.there in
     ports_turned c.args.lan.now c.turn.new.lan c.args.pairs.now c.args.lan.now.seats scripts c.args.number old c.turn.new.self c.turn.result found c.requires.scripts
     c.turn.ensures.apart c.turn.ensures.told
+
+pub returns-clause-said : goal.returns-clause-said
+returns-clause-said c =
+    let scripts = c.args.scripts.now in
+    let d = c.index-scripts-number.result in
+    let old = slice_index_or scripts c.args.number d in
+    let found = slice_get-get_or scripts c.args.number d c.requires.there in
+    ok_then c.turn.result _ _
+    (λ kept told.
+    told_turned c.args.pairs.now c.turn.new.pairs c.args.lan.now.seats scripts c.args.number old c.turn.new.self found c.requires.scripts c.turn.ensures.others c.turn.ensures.rest kept told)
+    c.turn.ensures.said
+
+pub returns-clause-out : goal.returns-clause-out
+returns-clause-out c =
+    let scripts = c.args.scripts.now in
+    let d = c.index-scripts-number.result in
+    let old = slice_index_or scripts c.args.number d in
+    let found = slice_get-get_or scripts c.args.number d c.requires.there in
+    ok_more c.turn.result _ _
+    (λ moved quiet is told out.
+    out_turned c.args.pairs.now c.turn.new.pairs c.args.lan.now.seats scripts c.args.number old c.turn.new.self found c.requires.scripts c.turn.ensures.others c.turn.ensures.rest (quiet is) told out)
+    c.turn.ensures.out

@@ -43,3 +43,9 @@ returns-in-Quiet-clause-told g c =
     ok_then c.end_lines.result _ _
     (λ kept tells. kept c.round.new.pairs c.round.new.lan.seats c.round.new.lan c.round.ensures.machine.scripts_are (c.in_ok-round.ensures.told tells))
     c.end_lines.ensures.told
+
+pub returns-in-Quiet-clause-said : goal.returns-in-Quiet-clause-said
+returns-in-Quiet-clause-said g c =
+    ok_then c.end_lines.result _ _
+    (λ kept told. kept c.round.new.pairs c.round.new.lan.seats c.round.ensures.machine.scripts_are (c.in_ok-round.ensures.out c.in-Quiet.is told) (c.in_ok-round.ensures.said told))
+    c.end_lines.ensures.said

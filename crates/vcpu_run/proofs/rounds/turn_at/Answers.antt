@@ -6,6 +6,7 @@ use Rattle.vcpu_run.proofs.Crediting.{on_ok}
 use Rattle.vcpu_run.proofs.Elsewhere.{credits_served}
 use Rattle.vcpu_run.proofs.Keeping.{drivers_of}
 use Rattle.vcpu_run.proofs.Lasting.{serving_stays}
+use Rattle.vcpu_run.proofs.RoundsTold.{out_served, told_served}
 use Rattle.vcpu_run.proofs.Scripted.{run_same, scripts_stay}
 use Rattle.vcpu_run.proofs.Unfreed.{queues_served}
 use Rattle.vcpu_run.proofs.rounds.turn_at.Goals as goal
@@ -69,3 +70,16 @@ returns-then-is_of_servers-clause-unfreed g c = queues_served c.args.pairs.now c
 
 pub returns-then-is_of_servers-clause-told : goal.returns-then-is_of_servers-clause-told
 returns-then-is_of_servers-clause-told g c = on_ok c.serve.result _ (λ tells. tells)
+
+pub returns-then-is_of_servers-clause-said : goal.returns-then-is_of_servers-clause-said
+returns-then-is_of_servers-clause-said g c =
+    on_ok c.serve.result _ (λ told. told_served c.args.pairs.now c.serve.new.pairs c.args.scripts.now c.serve.ensures.clients told)
+
+pub returns-then-is_of_servers-clause-out : goal.returns-then-is_of_servers-clause-out
+returns-then-is_of_servers-clause-out g c =
+    let scripts = c.args.scripts.now in
+    let d = c.index-scripts-number.result in
+    ok_more c.serve.result _ _
+    (λ moved wait is told out. out_served c.args.pairs.now c.serve.new.pairs scripts c.args.number (slice_index_or scripts c.args.number d)
+    (slice_get-get_or scripts c.args.number d c.requires.there) (sym c.is_of_servers.ensures ∙ c.if-is_of_servers.true) c.serve.ensures.clients out)
+    c.serve.ensures.wait

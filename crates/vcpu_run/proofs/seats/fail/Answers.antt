@@ -1,5 +1,7 @@
-use Rattle.std.proofs.Common.{◌∙◌, Some, ap}
+use Rattle.std.proofs.Common.{◌∙◌, Some, ap, slice_index_or}
+use Rattle.vcpu_run.specs.declared.unit_seat.Seat.TheVariants as places
 use Rattle.vcpu_run.proofs.Agreeing.{all_on}
+use Rattle.vcpu_run.proofs.Elsewhere.{else_on, else_within}
 use Rattle.vcpu_run.proofs.Driving.{driven_on, seat_of, still_clients}
 use Rattle.vcpu_run.proofs.Unfreed.{frees_on, frees_seat}
 use Rattle.vcpu_run.proofs.PortTurns.{idle_on}
@@ -22,6 +24,9 @@ returns-then-not-branch-clause-driven c = driven_on c.args.pairs.now c.loop-k.pa
 pub loop-k-preserved : goal.loop-k-preserved
 loop-k-preserved c = record {
   driven = driven_on c.args.pairs.now c.loop-k.pairs c.fail_at.new.pairs c.loop-k.invariant.driven c.fail_at.ensures.driven;
+  others = else_on c.args.seats.now c.args.pairs.now c.loop-k.pairs c.fail_at.new.pairs c.loop-k.invariant.others
+      (else_within c.args.seats.now c.loop-k.k (slice_index_or c.args.seats.now c.loop-k.k places.Server) c.loop-k.pairs c.fail_at.new.pairs
+      (seat_of c.args.seats.now c.loop-k.k c.loop-k-test.true) c.fail_at.ensures.others);
   credit = (all_on c.args.pairs.now c.loop-k.pairs c.fail_at.new.pairs c.loop-k.invariant.credit c.fail_at.ensures.credit);
   stays = frees_on _ c.args.pairs.now c.loop-k.pairs c.fail_at.new.pairs c.loop-k.invariant.stays
       (frees_seat c.args.seats.now c.loop-k.k _ c.loop-k.pairs c.fail_at.new.pairs (seat_of c.args.seats.now c.loop-k.k c.loop-k-test.true) c.fail_at.ensures.stays);
@@ -52,3 +57,15 @@ returns-in_err-fail_at-clause-idle c = idle_on c.args.lan.now c.loop-k.lan c.fai
 
 pub returns-then-not-branch-clause-idle : goal.returns-then-not-branch-clause-idle
 returns-then-not-branch-clause-idle c = idle_on c.args.lan.now c.loop-k.lan c.fail_at.new.lan c.loop-k.invariant.idle c.fail_at.ensures.idle
+
+pub returns-in_err-fail_at-clause-others : goal.returns-in_err-fail_at-clause-others
+returns-in_err-fail_at-clause-others c =
+    else_on c.args.seats.now c.args.pairs.now c.loop-k.pairs c.fail_at.new.pairs c.loop-k.invariant.others
+    (else_within c.args.seats.now c.loop-k.k (slice_index_or c.args.seats.now c.loop-k.k places.Server) c.loop-k.pairs c.fail_at.new.pairs
+    (seat_of c.args.seats.now c.loop-k.k c.loop-k-test.true) c.fail_at.ensures.others)
+
+pub returns-then-not-branch-clause-others : goal.returns-then-not-branch-clause-others
+returns-then-not-branch-clause-others c =
+    else_on c.args.seats.now c.args.pairs.now c.loop-k.pairs c.fail_at.new.pairs c.loop-k.invariant.others
+    (else_within c.args.seats.now c.loop-k.k (slice_index_or c.args.seats.now c.loop-k.k places.Server) c.loop-k.pairs c.fail_at.new.pairs
+    (seat_of c.args.seats.now c.loop-k.k c.loop-k-test.true) c.fail_at.ensures.others)

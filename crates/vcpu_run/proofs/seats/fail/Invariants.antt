@@ -1,5 +1,5 @@
 use Rattle.std.proofs.Common.{◌≡◌}
-use Rattle.vcpu_run.specs.Agreed.{AllSame}
+use Rattle.vcpu_run.specs.Agreed.{AllSame, SameElse}
 use Rattle.vcpu_run.specs.Freed.{FreesNoneIf}
 use Rattle.vcpu_run.specs.Freeing.{NoneSits}
 use Rattle.vcpu_run.specs.Pairs.{AreDriven}
@@ -11,6 +11,7 @@ use Rattle.vcpu_run.proofs.seats.fail.Given as goal
 abbrev pub invariant-loop-k : goal.invariant-loop-k
 invariant-loop-k l = record {
   driven : AreDriven l.initial.pairs l.pairs;
+  others : SameElse l.seats l.initial.pairs l.pairs;
   credit : AllSame l.initial.pairs l.pairs;
   stays : FreesNoneIf (NoneSits l.seats) l.initial.pairs l.pairs;
   clients : HaveClients l.seats l.pairs;

@@ -1,6 +1,7 @@
 use Rattle.std.proofs.Common.{◌∷◌, [], Some, ap}
 use Rattle.vcpu_run.proofs.Unfreed.{frees_but}
 use Rattle.vcpu_run.proofs.Driving.{seat_within}
+use Rattle.vcpu_run.proofs.Elsewhere.{else_one}
 use Rattle.vcpu_run.proofs.PortRising.{all_idle}
 use Rattle.vcpu_run.proofs.seats.fail_at.Goals as goal
 
@@ -15,3 +16,6 @@ returns-in-Client-clause-stays c = frees_but (c.args.seat ∷ []) 0 c.in-Client.
 
 pub returns-in-Port-clause-idle : goal.returns-in-Port-clause-idle
 returns-in-Port-clause-idle c = all_idle c.args.lan.now c.fail.new.self c.fail.ensures.seats c.fail.ensures.frames c.fail.ensures.counts
+
+pub returns-in-Client-clause-others : goal.returns-in-Client-clause-others
+returns-in-Client-clause-others c = else_one (c.args.seat ∷ []) 0 c.in-Client.pair c.args.pairs.now c.fail_of.new.pairs (ap Some c.in-Client.is) c.fail_of.ensures.others

@@ -1,9 +1,10 @@
-use Rattle.std.proofs.Common.{◌≡◌, ◌∙◌, ℕ, IfSome, refl, slice_get, subst, sym}
+use Rattle.std.proofs.Common.{◌≡◌, ◌∙◌, ◌∷◌, [], ℕ, IfSome, Some, ap, refl, slice_get, subst, sym}
 use Rattle.vcpu_run.specs.declared.unit_seat.Seat.TheVariants as sits
 use Rattle.vcpu_run.specs.Links.{EventWaits}
 use Rattle.vcpu_run.proofs.Resting.{ok_more}
 use Rattle.vcpu_run.proofs.ClientsTold.{clients_same}
 use Rattle.vcpu_run.proofs.Driving.{driven_same}
+use Rattle.vcpu_run.proofs.Elsewhere.{else_one}
 use Rattle.vcpu_run.proofs.seats.push_event_at.Goals as goal
 
 pub push_event_of-requires : goal.push_event_of-requires
@@ -23,3 +24,7 @@ returns-in-Client-clause-waits c =
 
 pub returns-in-Server-clause-clients : goal.returns-in-Server-clause-clients
 returns-in-Server-clause-clients c = clients_same c.args.pairs.now
+
+pub returns-in-Client-clause-others : goal.returns-in-Client-clause-others
+returns-in-Client-clause-others c =
+    else_one (c.args.seat ∷ []) 0 c.in-Client.pair c.args.pairs.now c.push_event_of.new.pairs (ap Some c.in-Client.is) c.push_event_of.ensures.others

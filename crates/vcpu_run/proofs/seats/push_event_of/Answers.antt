@@ -4,7 +4,7 @@ use Rattle.vcpu_run.proofs.Unfreed.{frees_set}
 use Rattle.std.proofs.lemmas.Option.{slice_get-get_or}
 use Rattle.std.proofs.Common.{ap, length}
 use Rattle.vcpu_run.proofs.ClientsTold.{clients_set}
-use Rattle.vcpu_run.proofs.Agreeing.{set_same}
+use Rattle.vcpu_run.proofs.Agreeing.{set_beside, set_same}
 use Rattle.vcpu_run.proofs.Driving.{driven_set}
 use Rattle.vcpu_run.proofs.seats.push_event_of.Goals as goal
 
@@ -32,3 +32,6 @@ pub returns-clause-clients : goal.returns-clause-clients
 returns-clause-clients c =
     clients_set c.args.pairs.now c.args.pair _ c.push_event.new.pair (slice_get-get_or c.args.pairs.now c.args.pair _ c.requires)
     (record { driver = c.push_event.ensures.driver; pages = ap (λ w. length w.pages) c.push_event.ensures.window; queue = c.push_event.ensures.queue })
+
+pub returns-clause-others : goal.returns-clause-others
+returns-clause-others c = set_beside c.args.pairs.now c.args.pair c.push_event.new.pair

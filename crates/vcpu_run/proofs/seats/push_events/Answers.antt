@@ -1,8 +1,9 @@
-use Rattle.std.proofs.Common.{◌∙◌, Some, ap, arith, refl}
+use Rattle.std.proofs.Common.{◌∙◌, Some, ap, arith, refl, slice_index_or}
 use Rattle.std.proofs.lemmas.Option.{slice_get_within}
 use Rattle.vcpu_run.specs.declared.unit_seat.Seat.TheVariants as sits
 use Rattle.vcpu_run.proofs.Resting.{events_next, rests_on, rests_same}
 use Rattle.vcpu_run.proofs.Unfreed.{frees_on, frees_same}
+use Rattle.vcpu_run.proofs.Elsewhere.{else_none, else_on, else_within}
 use Rattle.vcpu_run.proofs.ClientsTold.{clients_on, clients_same}
 use Rattle.vcpu_run.proofs.Driving.{driven_on, driven_same, seat_of, seat_within, still_clients}
 use Rattle.vcpu_run.proofs.seats.push_events.Goals as goal
@@ -18,6 +19,9 @@ returns-in_err-here-clause-driven c = driven_on c.args.pairs.now c.loop-k.pairs 
 pub loop-k-preserved : goal.loop-k-preserved
 loop-k-preserved c = record {
   driven = driven_on c.args.pairs.now c.loop-k.pairs c.push_event_at.new.pairs c.loop-k.invariant.driven c.push_event_at.ensures.driven;
+  others = else_on c.args.seats.now c.args.pairs.now c.loop-k.pairs c.push_event_at.new.pairs c.loop-k.invariant.others
+      (else_within c.args.seats.now c.loop-k.k (slice_index_or c.args.seats.now c.loop-k.k sits.Server) c.loop-k.pairs c.push_event_at.new.pairs
+      (seat_of c.args.seats.now c.loop-k.k c.loop-k-test.true) c.push_event_at.ensures.others);
   drivers = (λ k. c.push_event_at.ensures.drivers k ∙ c.loop-k.invariant.drivers k);
   same = clients_on c.args.pairs.now c.loop-k.pairs c.push_event_at.new.pairs c.loop-k.invariant.same c.push_event_at.ensures.clients;
   clients = still_clients c.args.seats.now c.loop-k.pairs c.push_event_at.new.pairs c.push_event_at.ensures.driven c.loop-k.invariant.clients;
@@ -35,6 +39,7 @@ returns-in_err-here-clause-drivers c = (λ k. c.push_event_at.ensures.drivers k 
 pub loop-k-init : goal.loop-k-init
 loop-k-init c = record {
   driven = driven_same c.args.pairs.now;
+  others = else_none c.args.seats.now c.args.pairs.now;
   drivers = λ k. refl;
   same = clients_same c.args.pairs.now;
   clients = c.requires;
@@ -53,3 +58,9 @@ returns-clause-waits c = λ is u k found.
 
 pub returns-in_err-here-clause-clients : goal.returns-in_err-here-clause-clients
 returns-in_err-here-clause-clients c = clients_on c.args.pairs.now c.loop-k.pairs c.push_event_at.new.pairs c.loop-k.invariant.same c.push_event_at.ensures.clients
+
+pub returns-in_err-here-clause-others : goal.returns-in_err-here-clause-others
+returns-in_err-here-clause-others c =
+    else_on c.args.seats.now c.args.pairs.now c.loop-k.pairs c.push_event_at.new.pairs c.loop-k.invariant.others
+    (else_within c.args.seats.now c.loop-k.k (slice_index_or c.args.seats.now c.loop-k.k sits.Server) c.loop-k.pairs c.push_event_at.new.pairs
+    (seat_of c.args.seats.now c.loop-k.k c.loop-k-test.true) c.push_event_at.ensures.others)

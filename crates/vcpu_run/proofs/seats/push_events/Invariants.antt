@@ -4,7 +4,7 @@ use Rattle.vcpu_run.specs.declared.unit_seat.Seat.TheVariants as sits
 use Rattle.vio_num.specs.declared.hypervisor.Moved.TheVariants.{Quiet}
 use Rattle.vcpu_run.specs.Freed.{FreesNoneIf}
 use Rattle.vcpu_run.specs.Links.{EventWaits, LinksRest}
-use Rattle.vcpu_run.specs.Agreed.{SameDrivers}
+use Rattle.vcpu_run.specs.Agreed.{SameDrivers, SameElse}
 use Rattle.vcpu_run.specs.Pairs.{AreDriven}
 use Rattle.vcpu_run.specs.ScriptTold.{SameClients}
 use Rattle.vcpu_run.specs.Works.{HaveClients}
@@ -13,6 +13,7 @@ use Rattle.vcpu_run.proofs.seats.push_events.Given as goal
 abbrev pub invariant-loop-k : goal.invariant-loop-k
 invariant-loop-k l = record {
   driven : AreDriven l.initial.pairs l.pairs;
+  others : SameElse l.seats l.initial.pairs l.pairs;
   drivers : SameDrivers l.initial.pairs l.pairs;
   same : SameClients l.initial.pairs l.pairs;
   clients : HaveClients l.seats l.pairs;

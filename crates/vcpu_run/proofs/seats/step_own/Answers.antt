@@ -8,6 +8,7 @@ use Rattle.vcpu_run.proofs.Driving.{client_is, driven_same, no_port, seat_within
 use Rattle.vcpu_run.proofs.Unfreed.{frees_line, frees_same}
 use Rattle.vcpu_run.proofs.PortTurns.{client_told, idle_same, port_apart, port_told}
 use Rattle.vcpu_run.proofs.Crediting.{on_ok}
+use Rattle.vcpu_run.proofs.Elsewhere.{else_none, else_one}
 use Rattle.vcpu_run.specs.PortWords.{done_in}
 use Rattle.vcpu_run.proofs.seats.step_own.Goals as goal
 
@@ -123,3 +124,10 @@ pub returns-in-Port-clause-out : goal.returns-in-Port-clause-out
 returns-in-Port-clause-out c = λ k at.
     let here : slice_get c.args.seats.now c.args.line.now.unit ≡ Some places.Port = c.seat_at.ensures ∙ ap Some c.in-Port.is in
     absurd (no_port k (sym at ∙ here))
+
+pub returns-in-Client-clause-others : goal.returns-in-Client-clause-others
+returns-in-Client-clause-others c =
+    else_one c.args.seats.now c.args.line.now.unit c.in-Client.pair c.args.pairs.now c.step_at.new.pairs (c.seat_at.ensures ∙ ap Some c.in-Client.is) c.step_at.ensures.said.beside
+
+pub returns-in-Port-clause-others : goal.returns-in-Port-clause-others
+returns-in-Port-clause-others c = else_none c.args.seats.now c.args.pairs.now

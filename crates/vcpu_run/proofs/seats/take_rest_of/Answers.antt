@@ -2,7 +2,7 @@ use Rattle.vcpu_run.specs.Links.{ClientWaits}
 use Rattle.vcpu_run.proofs.Resting.{ok_more, rests_set, waits_set}
 use Rattle.vcpu_run.proofs.Unfreed.{frees_set}
 use Rattle.std.proofs.lemmas.Option.{slice_get-get_or}
-use Rattle.vcpu_run.proofs.Agreeing.{set_others}
+use Rattle.vcpu_run.proofs.Agreeing.{set_beside}
 use Rattle.vcpu_run.proofs.Driving.{driven_set, some_there}
 use Rattle.vcpu_run.proofs.seats.take_rest_of.Goals as goal
 
@@ -13,7 +13,7 @@ pub returns-clause-driven : goal.returns-clause-driven
 returns-clause-driven c = driven_set c.args.pairs.now c.args.pair _ c.take_rest.new.pair (slice_get-get_or c.args.pairs.now c.args.pair _ c.requires.there) c.take_rest.ensures.drives
 
 pub returns-clause-others : goal.returns-clause-others
-returns-clause-others c = set_others c.args.pairs.now c.args.pair c.take_rest.new.pair
+returns-clause-others c = set_beside c.args.pairs.now c.args.pair c.take_rest.new.pair
 
 pub returns-clause-still : goal.returns-clause-still
 returns-clause-still c =

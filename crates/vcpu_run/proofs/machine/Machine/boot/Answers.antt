@@ -12,6 +12,7 @@ use Rattle.vcpu_run.proofs.Booted.{few_pairs, scripts_made, scripts_of_plan}
 use Rattle.vcpu_run.proofs.Elsewhere.{credits_made}
 use Rattle.vcpu_run.proofs.Homes.{home_within}
 use Rattle.vcpu_run.proofs.Receiving.{received_fresh}
+use Rattle.vcpu_run.proofs.RoundsTold.{told_made}
 use Rattle.vcpu_run.proofs.Unfreed.{queues_fresh}
 use Rattle.vcpu_run.proofs.PortTurns.{ports_made}
 use Rattle.vcpu_run.proofs.machine.Machine.boot.Goals as goal
@@ -104,3 +105,11 @@ returns-clause-told g c =
     let partitions = c.args.plan.now.partitions in
     let made : AreMade partitions scripts.items = rw (← c.as_slice-partitions.ensures) c.in-Ok-make_scripts.ensures in
     ports_made c.in-Ok-open_lan.lan partitions scripts.items c.in-Ok-open_lan.ensures.fresh made
+
+pub returns-clause-said : goal.returns-clause-said
+returns-clause-said g c =
+    let pairs = c.in-Ok.pairs in
+    let scripts = c.in-Ok-make_scripts.scripts in
+    let partitions = c.args.plan.now.partitions in
+    let made : AreMade partitions scripts.items = rw (← c.as_slice-partitions.ensures) c.in-Ok-make_scripts.ensures in
+    told_made partitions pairs.items scripts.items made c.in-Ok.ensures.out

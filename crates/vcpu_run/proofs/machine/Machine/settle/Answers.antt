@@ -10,6 +10,7 @@ use Rattle.vcpu_run.specs.Lines.{IsOver}
 use Rattle.vcpu_run.specs.Machines.{AllRun, AllStay, AreScripts}
 use Rattle.vcpu_run.specs.Pairs.{AreOfOneHome}
 use Rattle.vcpu_run.specs.Received.{AreAtRest, AreReceived}
+use Rattle.vcpu_run.specs.ScriptTold.{AreTold}
 use Rattle.vcpu_run.proofs.Disks.{disk_told, lasts_somehow, tells_told}
 use Rattle.vcpu_run.proofs.Elsewhere.{ok_then}
 use Rattle.vcpu_run.proofs.Lasting.{lent, plan_lasts}
@@ -164,3 +165,24 @@ trace_of-trace-requires-clause-told g c =
     ok_then c.run-run.result (PortsTell c.args.self.lan c.deref_mut-2.result.now → PortsTell c.run-run.new.lan new_scripts) _
     (λ kept. subst (λ (list : List Script). PortsTell c.run-run.new.lan list) (sym scripts) (kept before))
     c.run-run.ensures.told
+
+pub trace_of-trace-requires-clause-said : goal.trace_of-trace-requires-clause-said
+trace_of-trace-requires-clause-said g c =
+    let old = c.args.self.pairs in
+    let new = c.run-run.new.pairs in
+    let old_scripts = c.args.self.scripts in
+    let new_scripts = c.run-run.new.scripts in
+    let size : old.len ≡ length old.items = search rules in
+    let size_scripts : old_scripts.len ≡ length old_scripts.items = search rules in
+    let pairs : take old.len (new ++ drop (length new) old.items) ≡ new =
+    lent old.len old.items new size (c.run-run.ensures.stay.count ∙ ap length c.deref_mut.ensures.value) in
+    let scripts : take old_scripts.len (new_scripts ++ drop (length new_scripts) old_scripts.items) ≡ new_scripts =
+    lent old_scripts.len old_scripts.items new_scripts size_scripts (c.run-run.ensures.run.count ∙ ap length c.deref_mut-2.ensures.value) in
+    let before : AreTold c.deref_mut.result.now c.deref_mut-2.result.now =
+    subst (λ (list : List Pair). AreTold list c.deref_mut-2.result.now) (sym c.deref_mut.ensures.value)
+    (subst (λ (list : List Script). AreTold old.items list) (sym c.deref_mut-2.ensures.value) c.requires.said) in
+    ok_then c.run-run.result (AreTold c.deref_mut.result.now c.deref_mut-2.result.now → AreTold new new_scripts) _
+    (λ kept.
+    subst (λ (list : List Pair). AreTold list (take old_scripts.len (new_scripts ++ drop (length new_scripts) old_scripts.items))) (sym pairs)
+    (subst (λ (list : List Script). AreTold new list) (sym scripts) (kept before)))
+    c.run-run.ensures.said

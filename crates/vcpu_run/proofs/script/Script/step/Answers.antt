@@ -7,7 +7,7 @@ use Rattle.std.proofs.Common.{rules, ap, false, ◌≡◌, ◌∙◌, List, Ok, 
 use Rattle.std.proofs.lemmas.Option.{slice_get_within}
 use Rattle.unit_region.specs.declared.step.Step.{Step}
 use Rattle.unit_region.specs.declared.step.Step.TheVariants as steps
-use Rattle.vcpu_run.specs.Agreed.{StepsLine}
+use Rattle.vcpu_run.specs.Agreed.{SameElse, StepsLine}
 use Rattle.vcpu_run.specs.Credited.{taken_in}
 use Rattle.vcpu_run.specs.Suited.{IsLineAt}
 use Rattle.boot_text.specs.declared.plan.Line.{Line}
@@ -16,7 +16,6 @@ use Rattle.vcpu_run.specs.Telling.{LineOut, LineTold}
 use Rattle.vcpu_run.proofs.ScriptsTold.{line_ends_told, line_waits_told, waits_out}
 use Rattle.vcpu_run.proofs.Crediting.{line_ends, line_waits}
 use Rattle.vcpu_run.proofs.Driving.{clients_of}
-use Rattle.vcpu_run.proofs.Elsewhere.{else_line}
 use Rattle.vcpu_run.proofs.Logging.{all_at, one_unit, script_steps}
 use Rattle.vcpu_run.specs.PortSteps.{TellsStep}
 use Rattle.vcpu_run.specs.PortWords.{done_in}
@@ -45,8 +44,7 @@ returns-in_err-step c =
       driven = c.step_unit.ensures.driven;
       script = script_steps c.args.pairs.now c.step_unit.new.pairs c.args.self.now c.step_unit.new.progress c.step_unit.ensures.driven c.requires.script;
       rest = record { partition = refl; lines = refl; seats = refl };
-      others = else_line c.args.self.now.seats.items c.args.line.now (taken_in c.args.self.now.progress) (taken_in c.step_unit.new.progress) c.args.pairs.now c.step_unit.new.pairs c.step_unit.result line.suited
-          (rw (← c.deref.ensures.value) c.step_unit.ensures.credit);
+      others = subst (λ (seats : List Seat). SameElse seats c.args.pairs.now c.step_unit.new.pairs) c.deref.ensures.value c.step_unit.ensures.others;
       stays = frees_by c.args.self.now c.args.self.now.at c.args.line.now c.args.pairs.now c.step_unit.new.pairs c.requires.line
           (subst (λ (seats : List Seat). FreesNoneIf (IsSpared seats c.args.line.now) c.args.pairs.now c.step_unit.new.pairs) c.deref.ensures.value c.step_unit.ensures.stays);
       lan = c.step_unit.ensures.lan;
@@ -66,8 +64,7 @@ returns-in_err-end-in-Ends c =
       driven = c.step_unit.ensures.driven;
       script = c.end.ensures.script c.step_unit.new.pairs (script_steps c.args.pairs.now c.step_unit.new.pairs c.args.self.now c.step_unit.new.progress c.step_unit.ensures.driven c.requires.script);
       rest = record { partition = c.end.ensures.rest.partition; lines = c.end.ensures.rest.lines; seats = c.end.ensures.rest.seats };
-      others = else_line c.args.self.now.seats.items c.args.line.now (taken_in c.args.self.now.progress) (taken_in c.step_unit.new.progress) c.args.pairs.now c.step_unit.new.pairs c.step_unit.result line.suited
-          (rw (← c.deref.ensures.value) c.step_unit.ensures.credit);
+      others = subst (λ (seats : List Seat). SameElse seats c.args.pairs.now c.step_unit.new.pairs) c.deref.ensures.value c.step_unit.ensures.others;
       stays = frees_by c.args.self.now c.args.self.now.at c.args.line.now c.args.pairs.now c.step_unit.new.pairs c.requires.line
           (subst (λ (seats : List Seat). FreesNoneIf (IsSpared seats c.args.line.now) c.args.pairs.now c.step_unit.new.pairs) c.deref.ensures.value c.step_unit.ensures.stays);
       lan = c.step_unit.ensures.lan;
@@ -87,8 +84,7 @@ returns-in_ok-end-in-Ends c =
       driven = c.step_unit.ensures.driven;
       script = c.end.ensures.script c.step_unit.new.pairs (script_steps c.args.pairs.now c.step_unit.new.pairs c.args.self.now c.step_unit.new.progress c.step_unit.ensures.driven c.requires.script);
       rest = record { partition = c.end.ensures.rest.partition; lines = c.end.ensures.rest.lines; seats = c.end.ensures.rest.seats };
-      others = else_line c.args.self.now.seats.items c.args.line.now (taken_in c.args.self.now.progress) (taken_in c.step_unit.new.progress) c.args.pairs.now c.step_unit.new.pairs c.step_unit.result line.suited
-          (rw (← c.deref.ensures.value) c.step_unit.ensures.credit);
+      others = subst (λ (seats : List Seat). SameElse seats c.args.pairs.now c.step_unit.new.pairs) c.deref.ensures.value c.step_unit.ensures.others;
       stays = frees_by c.args.self.now c.args.self.now.at c.args.line.now c.args.pairs.now c.step_unit.new.pairs c.requires.line
           (subst (λ (seats : List Seat). FreesNoneIf (IsSpared seats c.args.line.now) c.args.pairs.now c.step_unit.new.pairs) c.deref.ensures.value c.step_unit.ensures.stays);
       lan = c.step_unit.ensures.lan;
@@ -129,8 +125,7 @@ returns-in-Waits c =
       driven = c.step_unit.ensures.driven;
       script = script_steps c.args.pairs.now c.step_unit.new.pairs c.args.self.now c.step_unit.new.progress c.step_unit.ensures.driven c.requires.script;
       rest = record { partition = refl; lines = refl; seats = refl };
-      others = else_line c.args.self.now.seats.items c.args.line.now (taken_in c.args.self.now.progress) (taken_in c.step_unit.new.progress) c.args.pairs.now c.step_unit.new.pairs c.step_unit.result line.suited
-          (rw (← c.deref.ensures.value) c.step_unit.ensures.credit);
+      others = subst (λ (seats : List Seat). SameElse seats c.args.pairs.now c.step_unit.new.pairs) c.deref.ensures.value c.step_unit.ensures.others;
       stays = frees_by c.args.self.now c.args.self.now.at c.args.line.now c.args.pairs.now c.step_unit.new.pairs c.requires.line
           (subst (λ (seats : List Seat). FreesNoneIf (IsSpared seats c.args.line.now) c.args.pairs.now c.step_unit.new.pairs) c.deref.ensures.value c.step_unit.ensures.stays);
       lan = c.step_unit.ensures.lan;

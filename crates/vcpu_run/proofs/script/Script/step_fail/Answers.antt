@@ -3,7 +3,7 @@ use Rattle.std.proofs.Common.{◌≡◌, ◌+◌, ◌∙◌, List, ap, cond, len
 use Rattle.std.proofs.lemmas.Option.{slice_get_within}
 use Rattle.vcpu_run.proofs.Crediting.{credited_all, credited_fails}
 use Rattle.vcpu_run.proofs.Driving.{clients_of}
-use Rattle.vcpu_run.proofs.Elsewhere.{else_all}
+use Rattle.vcpu_run.specs.Agreed.{SameElse}
 use Rattle.vcpu_run.proofs.ScriptsTold.{fail_ends_told, fail_out, fail_waits_told, fails_reset}
 use Rattle.vcpu_run.proofs.Logging.{script_stays}
 use Rattle.vcpu_run.specs.declared.unit_seat.Seat.{Seat}
@@ -51,16 +51,16 @@ pub returns-clause-credited : goal.returns-clause-credited
 returns-clause-credited c = λ is. credited_all c.args.pairs.now c.fail.new.pairs c.args.self.now c.fail.ensures.credit is
 
 pub returns-in_err-fail-clause-others : goal.returns-in_err-fail-clause-others
-returns-in_err-fail-clause-others c = else_all c.args.self.now.seats.items c.args.pairs.now c.fail.new.pairs c.fail.ensures.credit
+returns-in_err-fail-clause-others c = subst (λ (seats : List Seat). SameElse seats c.args.pairs.now c.fail.new.pairs) c.deref.ensures.value c.fail.ensures.others
 
 pub returns-in_err-end-clause-others : goal.returns-in_err-end-clause-others
-returns-in_err-end-clause-others c = else_all c.args.self.now.seats.items c.args.pairs.now c.fail.new.pairs c.fail.ensures.credit
+returns-in_err-end-clause-others c = subst (λ (seats : List Seat). SameElse seats c.args.pairs.now c.fail.new.pairs) c.deref.ensures.value c.fail.ensures.others
 
 pub returns-then-branch-clause-others : goal.returns-then-branch-clause-others
-returns-then-branch-clause-others c = else_all c.args.self.now.seats.items c.args.pairs.now c.fail.new.pairs c.fail.ensures.credit
+returns-then-branch-clause-others c = subst (λ (seats : List Seat). SameElse seats c.args.pairs.now c.fail.new.pairs) c.deref.ensures.value c.fail.ensures.others
 
 pub returns-clause-others : goal.returns-clause-others
-returns-clause-others c = else_all c.args.self.now.seats.items c.args.pairs.now c.fail.new.pairs c.fail.ensures.credit
+returns-clause-others c = subst (λ (seats : List Seat). SameElse seats c.args.pairs.now c.fail.new.pairs) c.deref.ensures.value c.fail.ensures.others
 
 pub returns-then-branch-clause-quiet : goal.returns-then-branch-clause-quiet
 returns-then-branch-clause-quiet c = λ is. absurd (not_quiet is)

@@ -1,7 +1,9 @@
-use Rattle.std.proofs.Common.{◌∙◌}
+use Rattle.std.proofs.Common.{◌∙◌, List, subst}
 use Rattle.vcpu_run.proofs.Crediting.{credited_same}
 use Rattle.vcpu_run.proofs.Driving.{clients_of, driven_on, still_drivers}
-use Rattle.vcpu_run.proofs.Elsewhere.{else_drivers, else_on}
+use Rattle.vcpu_run.specs.Agreed.{SameElse}
+use Rattle.vcpu_run.specs.declared.unit_seat.Seat.{Seat}
+use Rattle.vcpu_run.proofs.Elsewhere.{else_on}
 use Rattle.vcpu_run.proofs.ScriptsTold.{clients_told}
 use Rattle.vcpu_run.proofs.Logging.{script_stays}
 use Rattle.vcpu_run.specs.Freeing.{IsSparedBy}
@@ -29,17 +31,17 @@ pub returns-clause-driven : goal.returns-clause-driven
 returns-clause-driven c = driven_on c.args.pairs.now c.push_events.new.pairs c.go_on.new.pairs c.push_events.ensures.driven c.go_on.ensures.driven
 
 pub returns-in_err-pushed-clause-others : goal.returns-in_err-pushed-clause-others
-returns-in_err-pushed-clause-others c = else_drivers c.args.self.now.seats.items c.args.pairs.now c.push_events.new.pairs c.push_events.ensures.drivers
+returns-in_err-pushed-clause-others c = subst (λ (seats : List Seat). SameElse seats c.args.pairs.now c.push_events.new.pairs) c.deref.ensures.value c.push_events.ensures.others
 
 pub returns-in_err-moved-clause-others : goal.returns-in_err-moved-clause-others
 returns-in_err-moved-clause-others c =
     else_on c.args.self.now.seats.items c.args.pairs.now c.push_events.new.pairs c.go_on.new.pairs
-    (else_drivers c.args.self.now.seats.items c.args.pairs.now c.push_events.new.pairs c.push_events.ensures.drivers) c.go_on.ensures.others
+    (subst (λ (seats : List Seat). SameElse seats c.args.pairs.now c.push_events.new.pairs) c.deref.ensures.value c.push_events.ensures.others) c.go_on.ensures.others
 
 pub returns-clause-others : goal.returns-clause-others
 returns-clause-others c =
     else_on c.args.self.now.seats.items c.args.pairs.now c.push_events.new.pairs c.go_on.new.pairs
-    (else_drivers c.args.self.now.seats.items c.args.pairs.now c.push_events.new.pairs c.push_events.ensures.drivers) c.go_on.ensures.others
+    (subst (λ (seats : List Seat). SameElse seats c.args.pairs.now c.push_events.new.pairs) c.deref.ensures.value c.push_events.ensures.others) c.go_on.ensures.others
 
 pub returns-in_err-pushed-clause-stays : goal.returns-in_err-pushed-clause-stays
 returns-in_err-pushed-clause-stays c = frees_always (IsSparedBy c.args.self.now) c.args.pairs.now c.push_events.new.pairs c.push_events.ensures.stays
