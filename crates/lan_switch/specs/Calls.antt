@@ -135,6 +135,7 @@ pub record Multicasts (control : ℕ) (mac : Mac) (answer : LanAnswer) (old new 
   pub parameter : (answer.code ≡ Parameter) ↔ (¬ IsMulticast control mac old)
   pub resource : answer.code ≡ Resource → IfSome old.settings (HasNoFilter control mac)
   pub not_found : answer.code ≡ NotFound → IfSome old.settings (FindsNoFilter control mac)
+  pub full : IsMulticast control mac old → IfSome old.settings (HasNoFilter control mac) → answer.code ≡ Resource
   pub success : answer.code ≡ Success → SetsControlled control mac old new
   pub refused : ¬ (answer.code ≡ Success) → new ≡ old
   pub plain : IsPlainAnswer (Success ∷ Parameter ∷ Resource ∷ NotFound ∷ []) answer

@@ -128,6 +128,8 @@ pub fn multicast(port: &mut PlainPort, control: u64, mac: Mac) -> LanAnswer
         → IfSome port.old.settings (HasNoFilter control mac) }
     ensures not_found { result.code ≡ Hrc.NotFound
         → IfSome port.old.settings (FindsNoFilter control mac) }
+    ensures full { IsMulticast control mac port.old
+        → IfSome port.old.settings (HasNoFilter control mac) → result.code ≡ Hrc.Resource }
     ensures success { result.code ≡ Hrc.Success → SetsControlled control mac port.old port.new }
     ensures refused { ¬ (result.code ≡ Hrc.Success) → port.new ≡ port.old }
     ensures plain { IsPlainAnswer
@@ -169,6 +171,8 @@ fn act(settings: &mut Settings, asked: Control, mac: Mac) -> Hrc
         × IsFullFor mac settings.old.filters }
     ensures not_found { result ≡ Hrc.NotFound → (action_of asked.action ≡ FilterAction.Remove)
         × (¬ Contains settings.old.filters mac) }
+    ensures full { action_of asked.action ≡ FilterAction.Add
+        → IsFullFor mac settings.old.filters → result ≡ Hrc.Resource }
     ensures codes { Contains (Hrc.Success ∷ Hrc.Resource ∷ Hrc.NotFound ∷ []) result }
 {
     settings.reception = asked.reception.unwrap_or(settings.reception);
@@ -183,6 +187,7 @@ fn act_on(filters: &mut Filters, action: FilterAction, mac: Mac) -> Hrc
         × IsFullFor mac filters.old }
     ensures not_found { result ≡ Hrc.NotFound → (action ≡ FilterAction.Remove)
         × (¬ Contains filters.old mac) }
+    ensures full { action ≡ FilterAction.Add → IsFullFor mac filters.old → result ≡ Hrc.Resource }
     ensures codes { Contains (Hrc.Success ∷ Hrc.Resource ∷ Hrc.NotFound ∷ []) result }
 {
     match action {

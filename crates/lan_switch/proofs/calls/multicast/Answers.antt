@@ -37,6 +37,9 @@ returns-in_default-act c =
           (record { adds = sym action ∙ (c.act.ensures.resource (sym code ∙ e)).0; full = (c.act.ensures.resource (sym code ∙ e)).1 });
       not_found = λ e. subst (λ (o : Option Settings). IfSome o (FindsNoFilter c.args.control c.args.mac)) (sym shown)
           (record { removes = sym action ∙ (c.act.ensures.not_found (sym code ∙ e)).0; absent = (c.act.ensures.not_found (sym code ∙ e)).1 });
+      full = λ _ full.
+          let none : HasNoFilter c.args.control c.args.mac c.in-Some.settings = subst (λ (o : Option Settings). IfSome o (HasNoFilter c.args.control c.args.mac)) shown full in
+          code ∙ c.act.ensures.full (action ∙ none.adds) none.full;
       success = λ e. absurd (c.in_default-act.not-Success (sym code ∙ e));
       refused = λ _. refl;
       plain = record { code = subst (λ (x : Hrc). Contains (Success ∷ Parameter ∷ Resource ∷ NotFound ∷ []) x) (sym code) (acted_among c.act.result c.act.ensures.codes); word = c.plain-in_default-act.ensures.word };
