@@ -1,14 +1,13 @@
 -- What the calls of a port say in its replay.
-use Rattle.std.proofs.Common.{◌≡◌, ◌⊎◌, ◌==◌, ◌*◌, inl, inr, ℕ, suc, arith, Bool, true, false, IfSome, IsSome, List, [], ◌∷◌, ◌++◌, Option, Some, None, Result, filter, length, length-append, map, refl, sym, ◌∙◌, ap, subst}
+use Rattle.std.proofs.Common.{◌≡◌, ◌⊎◌, ◌*◌, inl, inr, ℕ, IsSome, [], ◌∷◌, Option, Some, None, Result, length, map, refl, sym, ◌∙◌, ap, subst}
 use Rattle.std.specs.List.{Contains}
 use Rattle.std.specs.Option.{option_map}
 use Rattle.std.proofs.lemmas.List.Elements.{All-cons, All-contains, All-nil}
 use Rattle.vio_num.specs.declared.memory.NoMemory.{NoMemory}
 use Rattle.vio_num.specs.declared.names.Mac.{Mac}
 use Rattle.vio_num.specs.declared.hypervisor.Hrc.{Hrc}
-use Rattle.vio_num.specs.declared.hypervisor.Hrc.TheVariants.{Success, Parameter, NotFound, Resource}
+use Rattle.vio_num.specs.declared.hypervisor.Hrc.TheVariants.{Success, Parameter, Resource}
 use Rattle.vio_trace.specs.declared.outcome.Outcome.TheVariants as outcomes
-use Rattle.lan_frame.specs.Station.{IsGroup, IsZero}
 use Rattle.lan_buffers.specs.Calls.{BeginsSession, IsOpen, first_settings}
 use Rattle.lan_buffers.specs.Pools.{post_len}
 use Rattle.lan_buffers.specs.Port.{PortValue, Session}
@@ -18,9 +17,9 @@ use Rattle.lan_buffers.specs.declared.settings.Settings.{Settings}
 use Rattle.lan_switch.specs.declared.answers.LanAnswer.{LanAnswer}
 use Rattle.lan_switch.specs.Calls.{ChangesMac, Frees, Harvests, IsOwnAddress, IsRegistration, Registers, Reserves}
 use Rattle.lan_script.specs.declared.seat.PortSeat.{PortSeat}
-use Rattle.lan_script.specs.PortReplay.{CloseSays, Codes, IsOn, MacSays, OpenSays, PortReplay, with_mac}
+use Rattle.lan_script.specs.PortReplay.{CloseSays, Codes, MacSays, OpenSays, PortReplay}
 use Rattle.lan_script.specs.Replayed.{IsOpening, replay_of}
-use Rattle.lan_script.proofs.Replaying.{Moves, Stays, replay_same, replay_with, stays_equal, stays_with}
+use Rattle.lan_script.proofs.Replaying.{Moves, Stays, replay_with, stays_equal, stays_with}
 use Rattle.lan_script.proofs.Tallies.{shut}
 
 -- a code that is among two, or three

@@ -1,6 +1,6 @@
 -- What the control of a port's filters says in its replay.
-use Rattle.std.proofs.Common.{◌≡◌, ◌==◌, ◌⊎◌, inl, inr, ℕ, IfSome, IsSome, List, [], ◌∷◌, Option, Some, None, length, refl, sym, ◌∙◌, ap, subst}
-use Rattle.std.specs.List.{Contains, slice_get}
+use Rattle.std.proofs.Common.{◌≡◌, ◌==◌, ◌⊎◌, inl, inr, ℕ, IfSome, IsSome, List, [], ◌∷◌, Option, Some, None, refl, sym, ◌∙◌, ap, subst}
+use Rattle.std.specs.List.{Contains}
 use Rattle.std.specs.Option.{unwrap_or}
 use Rattle.std.proofs.lemmas.Bool.{eqb-false, eqb-true}
 use Rattle.std.proofs.lemmas.Option.{slice_get_within, unwrap_or-slice_get}
@@ -17,11 +17,10 @@ use Rattle.lan_buffers.specs.Port.{PortValue}
 use Rattle.lan_buffers.specs.declared.settings.Settings.{Settings}
 use Rattle.lan_switch.specs.declared.answers.LanAnswer.{LanAnswer}
 use Rattle.lan_switch.specs.Calls.{Acts, FindsNoFilter, HasNoFilter, IsMulticast, Multicasts, SetsControlled}
-use Rattle.lan_script.specs.PortReplay.{ControlSays, MayControl, MulticastSays, PortReplay}
+use Rattle.lan_script.specs.PortReplay.{MayControl, MulticastSays}
 use Rattle.lan_script.specs.Replayed.{replay_of}
 use Rattle.lan_script.proofs.Placing.{by_bool, same_some}
 use Rattle.lan_script.proofs.Replaying.{Moves, stays_equal}
-use Rattle.lan_script.proofs.ReplayedCalls.{is_on}
 
 abbrev pub OneOf4 : (a b d e x : Hrc) → Type 0
 OneOf4 a b d e x = (x ≡ a) ⊎ ((x ≡ b) ⊎ ((x ≡ d) ⊎ (x ≡ e)))

@@ -1,7 +1,6 @@
 -- A buffer that has a place at its port is posted.
-use Rattle.std.proofs.Common.{◌≡◌, ◌⊎◌, ◌+◌, ◌-◌, ◌*◌, ◌<◌, ◌≤◌, ◌^◌, inl, inr, ℕ, zero, suc, arith, Bool, true, false, IfOk, IfSome, IsSome, List, [], ◌∷◌, ◌++◌, Option, Some, None, Result, Ok, Err, length, length-append, map, mul-le-mul_left, mul-suc, add-zero, add-suc, if◌then◌else◌, refl, sym, ◌∙◌, ap, subst}
+use Rattle.std.proofs.Common.{◌≡◌, ◌+◌, ◌-◌, ◌*◌, ◌<◌, ◌≤◌, ◌^◌, inl, inr, ℕ, zero, suc, arith, Bool, true, false, IfOk, IfSome, IsSome, List, [], ◌∷◌, ◌++◌, Option, Some, Result, length, length-append, map, mul-le-mul_left, mul-suc, add-zero, add-suc, refl, sym, ◌∙◌, ap, subst}
 use Rattle.std.proofs.lemmas.List.{length-map}
-use Rattle.std.specs.List.{Contains}
 use Rattle.vio_num.specs.declared.hypervisor.Hrc.{Hrc}
 use Rattle.vio_num.specs.declared.hypervisor.Hrc.TheVariants.{Success, Busy, Parameter, Resource}
 use Rattle.vio_num.specs.declared.memory.NoMemory.{NoMemory}
@@ -19,7 +18,7 @@ use Rattle.lan_switch.specs.declared.station.Station.{Station}
 use Rattle.lan_switch.specs.Switch.{MadeAt}
 use Rattle.lan_script.specs.declared.seat.PortSeat.{PortSeat}
 use Rattle.lan_script.specs.Invariant.{IsLan, sent_by}
-use Rattle.lan_script.specs.PortReplay.{FitsAll, IsBufferLen, IsOn, PortReplay, different, different_with, with_posted}
+use Rattle.lan_script.specs.PortReplay.{FitsAll, IsOn, PortReplay, different, different_with, with_posted}
 use Rattle.lan_script.specs.Replayed.{FitsOne, GrantsAll, HasPosted, IsReplayable, ReplaysOn, SameReplays, replay_at, replay_of}
 use Rattle.lan_script.specs.Seats.{seat_at}
 use Rattle.lan_script.specs.Units.{LanValue}

@@ -1,7 +1,7 @@
 -- What steps of lines say in the replay of their port.
-use Rattle.std.proofs.Common.{◌≡◌, ◌⊎◌, ◌+◌, ◌*◌, ◌≤◌, ◌<◌, inl, inr, ℕ, arith, Bool, true, false, IsSome, List, [], ◌∷◌, min, Option, Some, None, refl, sym, ◌∙◌, ap, subst}
+use Rattle.std.proofs.Common.{◌≡◌, ◌+◌, ◌*◌, ◌≤◌, ◌<◌, inl, inr, ℕ, arith, true, false, IsSome, List, [], ◌∷◌, min, Option, Some, None, refl, sym, ◌∙◌, ap, subst}
 use Rattle.vio_num.specs.declared.hypervisor.Hrc.{Hrc}
-use Rattle.vio_num.specs.declared.hypervisor.Hrc.TheVariants.{Success, Busy, Parameter, Resource, NotFound}
+use Rattle.vio_num.specs.declared.hypervisor.Hrc.TheVariants.{Success, Busy}
 use Rattle.vio_num.specs.declared.names.Mac.{Mac}
 use Rattle.vio_num.specs.declared.names.UnitId.{UnitId}
 use Rattle.boot_text.specs.declared.verb.Verb.{Verb}

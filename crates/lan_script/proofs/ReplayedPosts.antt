@@ -1,5 +1,5 @@
 -- What a post says in its port's replay.
-use Rattle.std.proofs.Common.{◌≡◌, ◌==◌, ◌⊎◌, ◌<◌, ◌≤◌, ◌+◌, inl, inr, ℕ, zero, suc, arith, Bool, true, false, IsSome, List, [], ◌∷◌, ◌++◌, Option, Some, None, IfOk, Result, Ok, Err, filter, length, map, refl, sym, ◌∙◌, ap, subst}
+use Rattle.std.proofs.Common.{◌≡◌, ◌==◌, ℕ, suc, arith, Bool, true, false, List, [], ◌∷◌, ◌++◌, Some, IfOk, Result, Ok, Err, filter, length, map, refl, ◌∙◌, ap, subst}
 use Rattle.std.proofs.lemmas.Bool.{eq-eqb}
 use Rattle.std.proofs.lemmas.List.{map-append}
 use Rattle.std.proofs.lemmas.List.Elements.{filter-append}
@@ -12,14 +12,13 @@ use Rattle.tce_window.specs.declared.answers.HoldFault.TheVariants.{Past, NotGra
 use Rattle.tce_window.specs.PortState.{PortState}
 use Rattle.tce_window.specs.Pieces.{IsSharedUse}
 use Rattle.lan_buffers.specs.declared.rows.PostRow.{PostRow as Post}
-use Rattle.lan_buffers.specs.declared.settings.Settings.{Settings}
 use Rattle.lan_buffers.specs.Buffer.{IsBuffer, buffer_len, is_valid}
 use Rattle.lan_buffers.specs.Calls.{Posts, post_row}
 use Rattle.lan_buffers.specs.Pools.{post_len}
 use Rattle.lan_buffers.specs.Port.{PortValue, last_session}
 use Rattle.lan_switch.specs.declared.answers.LanAnswer.{LanAnswer}
 use Rattle.lan_switch.specs.Calls.{Adds, IsUnread, SaysUnread}
-use Rattle.lan_script.specs.PortReplay.{IsBufferLen, IsOn, PortReplay, with_posted}
+use Rattle.lan_script.specs.PortReplay.{IsBufferLen, IsOn, PortReplay}
 use Rattle.lan_script.specs.Replayed.{AddSays, HasPosted, ReplaysOn, SameReplays, replay_at, replay_of}
 use Rattle.lan_script.specs.Units.{LanValue}
 use Rattle.lan_script.proofs.Called.{by_code}

@@ -1,5 +1,5 @@
 -- What a unit's own window says in the replay of its port: what it grants, and that no page of it is away.
-use Rattle.std.proofs.Common.{◌≡◌, ◌↔◌, ◌&&◌, ◌+◌, ◌*◌, ◌/◌, ◌<◌, ◌≤◌, ℕ, arith, nat_le, Bool, true, false, IfSome, IsSome, IsTrue, List, [], ◌∷◌, Option, Some, None, Result, Ok, Err, IsErrOf, length, refl, sym, ◌∙◌, ap, subst}
+use Rattle.std.proofs.Common.{◌≡◌, ◌↔◌, ◌&&◌, ◌+◌, ◌*◌, ◌≤◌, ℕ, arith, nat_le, Bool, true, false, IfSome, IsSome, IsTrue, List, [], ◌∷◌, Option, Some, None, Result, Ok, Err, IsErrOf, length, refl, sym, ◌∙◌, ap, subst}
 use Rattle.std.proofs.lemmas.Bool.{le-leb, leb-true}
 use Rattle.vio_num.specs.declared.names.UnitId.{UnitId}
 use Rattle.page_slots.specs.Stroke.{StrokeValue}
@@ -15,7 +15,7 @@ use Rattle.lan_script.specs.declared.windows.Place.{Place}
 use Rattle.lan_script.specs.Invariant.{IsLan}
 use Rattle.lan_script.specs.Replayed.{GrantsAll, HasPages}
 use Rattle.lan_script.specs.Seats.{seat_at}
-use Rattle.lan_script.specs.Units.{LanValue, window_at}
+use Rattle.lan_script.specs.Units.{LanValue}
 use Rattle.lan_script.specs.Windows.{facts_in, facts_of, window_in, with_window}
 use Rattle.lan_script.proofs.Keys.{WindowOf, window_of}
 use Rattle.lan_script.proofs.Placing.{has_place, same_some, window_with, with_twice}

@@ -3,12 +3,11 @@ use Rattle.std.proofs.Common.{◌≡◌, ◌==◌, ◌&&◌, ◌⊎◌, ◌+◌,
 use Rattle.std.proofs.lemmas.Bool.{eq-eqb, eqb-false, eqb-true}
 use Rattle.std.proofs.lemmas.List.{append-nil}
 use Rattle.vio_num.specs.declared.hypervisor.Hrc.{Hrc}
-use Rattle.vio_num.specs.declared.hypervisor.Hrc.TheVariants.{Success, Busy, Parameter, Dropped}
+use Rattle.vio_num.specs.declared.hypervisor.Hrc.TheVariants.{Success, Parameter, Dropped}
 use Rattle.vio_num.specs.declared.names.UnitId.{UnitId}
 use Rattle.tce_window.specs.declared.answers.HoldFault.{HoldFault}
 use Rattle.tce_window.specs.declared.answers.HoldFault.TheVariants.{Past, NotGranted, InUse}
 use Rattle.tce_window.specs.declared.answers.Right.TheVariants.{Read}
-use Rattle.tce_window.specs.Grant.{grants}
 use Rattle.tce_window.specs.PlainPort.{known_of}
 use Rattle.tce_window.specs.Window.{WindowValue}
 use Rattle.tce_window.specs.declared.piece.Piece.{Piece}

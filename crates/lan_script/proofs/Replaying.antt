@@ -1,5 +1,5 @@
 -- Where calls at ports leave them in their replays.
-use Rattle.std.proofs.Common.{◌≡◌, ◌==◌, ◌⊎◌, inl, inr, ℕ, arith, Bool, true, false, IfSome, IsSome, List, Option, Some, None, filter, length, map, refl, sym, ◌∙◌, ap, subst}
+use Rattle.std.proofs.Common.{◌≡◌, ◌==◌, inl, inr, ℕ, Bool, true, false, IsSome, List, Option, Some, filter, length, map, refl, sym, ◌∙◌, ap, subst}
 use Rattle.vio_num.specs.declared.names.UnitId.{UnitId}
 use Rattle.lan_buffers.specs.declared.rows.PostRow.{PostRow as Post}
 use Rattle.lan_buffers.specs.declared.settings.Settings.{Settings}

@@ -1,4 +1,4 @@
-use Rattle.std.proofs.Common.{ℕ, false, List, IsSome, refl, sym, subst}
+use Rattle.std.proofs.Common.{ℕ, false, List, IsSome, sym, subst}
 use Rattle.tce_window.specs.PlainPort.{known_of}
 use Rattle.lan_switch.specs.Calls.{Adds}
 use Rattle.lan_script.specs.declared.seat.PortSeat.{PortSeat}

@@ -1,4 +1,4 @@
-use Rattle.std.proofs.Common.{◌≡◌, IfSome, refl, sym, subst}
+use Rattle.std.proofs.Common.{◌≡◌, IfSome, sym, subst}
 use Rattle.lan_buffers.specs.Calls.{IsOpen}
 use Rattle.lan_switch.specs.Switch.{port_of}
 use Rattle.lan_script.specs.Units.{LanValue}

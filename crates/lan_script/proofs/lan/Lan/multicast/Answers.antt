@@ -7,7 +7,6 @@ use Rattle.lan_script.proofs.ReplayedFilters.{multicasts_replay}
 use Rattle.lan_script.proofs.Replaying.{made_replays}
 use Rattle.lan_script.specs.PortReplay.{MulticastSays}
 use Rattle.vio_trace.specs.declared.outcome.Outcome.TheVariants as outcomes
-use Rattle.std.proofs.Common.{refl}
 use Rattle.lan_script.proofs.lan.Lan.multicast.Goals as goal
 
 pub invariant_of-self : goal.invariant_of-self

@@ -1,4 +1,4 @@
-use Rattle.std.proofs.Common.{◌≡◌, ◌∙◌, ◌+◌, ℕ, suc, arith, min, sym, subst}
+use Rattle.std.proofs.Common.{◌≡◌, ◌∙◌, ◌+◌, suc, arith, min, sym, subst}
 use Rattle.boot_text.specs.declared.verb.Verb.TheVariants as verbs
 use Rattle.lan_script.specs.PortCounts.{CountsStep, counts}
 use Rattle.lan_script.specs.declared.lines.PortStep.{PortStep}
@@ -7,7 +7,6 @@ use Rattle.lan_script.specs.PortReplay.{IsBufferLen}
 use Rattle.lan_script.specs.Replayed.{HasPosted, ReplaysOn}
 use Rattle.lan_script.proofs.ReplayedLines.{add_allowed, post_refused, refused_counts}
 use Rattle.lan_script.proofs.ReplayedFits.{next_fits}
-use Rattle.vio_num.specs.declared.hypervisor.Hrc.{Hrc}
 use Rattle.vio_num.specs.declared.hypervisor.Hrc.TheVariants.{Success}
 use Rattle.vio_trace.specs.declared.outcome.Outcome.TheVariants as outcomes
 use Rattle.lan_script.specs.declared.lines.PortStep.TheVariants as steps
