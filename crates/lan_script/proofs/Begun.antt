@@ -1,18 +1,13 @@
 -- An open port is in a session, whatever became of a frame that was sent.
-use Rattle.std.proofs.Common.{◌≡◌, inl, inr, ℕ, zero, suc, Bool, true, false, List, [], ◌∷◌, Option, Some, None, Result, Ok, Err, IfOk, OnErr, take, drop, if◌then◌else◌, refl, sym, ◌∙◌, ap, subst}
+use Rattle.std.proofs.Common.{inl, inr, ℕ, zero, suc, Bool, true, false, List, [], ◌∷◌, Result, Ok, Err, IfOk, OnErr, take, drop, if◌then◌else◌, sym, subst}
 use Rattle.vio_num.specs.declared.names.UnitId.{UnitId}
 use Rattle.vio_num.specs.declared.memory.NoMemory.{NoMemory}
 use Rattle.tce_window.specs.PortState.{PortState}
-use Rattle.lan_buffers.specs.Calls.{IsOpen}
-use Rattle.lan_buffers.specs.Port.{PortValue}
 use Rattle.lan_switch.specs.declared.answers.SendRecord.{SendRecord}
 use Rattle.lan_switch.specs.declared.station.Station.{Station}
 use Rattle.lan_switch.specs.Sending.{FailsToSend, IsSent, LanWindows, OffersFrame, is_numbered, next_number, with_frames}
-use Rattle.lan_switch.specs.Switch.{AtPort, port_of, same_unit, unit_of}
 use Rattle.lan_script.specs.Invariant.{HaveBegun}
 use Rattle.lan_script.proofs.Balancing.{numbered_begun}
-use Rattle.lan_script.proofs.Bringing.{begun_at}
-use Rattle.lan_script.proofs.CountedCalls.{HasBegun}
 use Rattle.lan_script.proofs.Gains.{begun_offered}
 
 -- the first and the others

@@ -1,5 +1,5 @@
 -- A frame that is sent changes no count of posts and frames taken.
-use Rattle.std.proofs.Common.{◌≡◌, inl, inr, ℕ, Bool, true, false, List, [], ◌∷◌, Option, Some, Result, Ok, Err, IfOk, OnOk, length, refl, sym, ◌∙◌, ap, subst, if◌then◌else◌}
+use Rattle.std.proofs.Common.{◌≡◌, inl, inr, ℕ, Bool, true, false, List, [], ◌∷◌, Some, Result, Ok, Err, IfOk, OnOk, length, refl, sym, ◌∙◌, ap, if◌then◌else◌}
 use Rattle.vio_num.specs.declared.names.UnitId.{UnitId}
 use Rattle.tce_window.specs.PortState.{PortState}
 use Rattle.lan_buffers.specs.Port.{PortValue}

@@ -31,6 +31,15 @@ pub mod Opened
 pub mod Order
 pub mod Placing
 pub mod Posted
+pub mod ReplayedCalls
+pub mod ReplayedFilters
+pub mod ReplayedFits
+pub mod ReplayedLines
+pub mod ReplayedPosts
+pub mod ReplayedRegion
+pub mod ReplayedSends
+pub mod ReplayedSent
+pub mod Replaying
 pub mod RowLaws
 pub mod Sent
 pub mod SessionCounts

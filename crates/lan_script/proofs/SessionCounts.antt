@@ -1,5 +1,5 @@
 -- The rows that a trace has of a port's posts and harvests, counted session by session.
-use Rattle.std.proofs.Common.{◌≡◌, ◌+◌, ◌≤◌, ◌<◌, ◌==◌, ℕ, zero, suc, arith, Bool, true, false, List, [], ◌∷◌, ◌++◌, filter, length, length-append, map, if◌then◌else◌, refl, sym, ◌∙◌, ap, subst}
+use Rattle.std.proofs.Common.{◌≡◌, ◌+◌, ◌≤◌, ◌<◌, ◌==◌, ℕ, zero, suc, arith, Bool, true, false, List, [], ◌∷◌, ◌++◌, filter, length, length-append, map, if◌then◌else◌, refl, ◌∙◌, ap}
 use Rattle.std.specs.List.{flat_map}
 use Rattle.std.proofs.lemmas.List.Elements.{filter-append}
 use Rattle.vio_num.specs.declared.names.UnitId.{UnitId}

@@ -7,7 +7,9 @@ pub mod LineSays
 pub mod Opening
 pub mod PortCounts
 pub mod PortLaw
+pub mod PortReplay
 pub mod PortRows
+pub mod Replayed
 pub mod Rows
 pub mod RowsOf
 pub mod Seats

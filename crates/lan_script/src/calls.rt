@@ -5,6 +5,9 @@ ghost use Rattle.hcall_table.specs.declared.hcall.Hcall.TheVariants as rows;
 ghost use Rattle.lan_switch.specs.Switch.{HasRoom};
 ghost use Rattle.lan_script.specs.PortCounts.{CountsOn, SameCounts, SendsCalled, counts, counts_called};
 ghost use Rattle.lan_script.specs.PortRows.{port_row};
+ghost use Rattle.vio_trace.specs.declared.outcome.Outcome.TheVariants as outcomes;
+ghost use Rattle.lan_script.specs.PortReplay.{MacSays, MulticastSays};
+ghost use Rattle.lan_script.specs.Replayed.{ClosesAt, OpensAt, ReplaysOn, SameBeside, SameReplays};
 ghost use Rattle.lan_script.specs.Seats.{seat_at};
 ghost use Rattle.lan_script.specs.Units.{IsOpenAt};
 
@@ -56,6 +59,7 @@ impl Lan {
             CountsOn unit (counts 0 0) (counts_called call returned.code) self.old self.new) }
         ensures sends { IfOk result (λ returned.
             SendsCalled unit call returned.code self.old self.new) }
+        ensures beside { OnOk result (SameBeside unit self.old self.new) }
     {
         match call {
             PortCall::Entry(call) => self.entry_call(unit, call),
@@ -88,6 +92,7 @@ impl Lan {
         ensures frames { self.new.frames ≡ self.old.frames }
         ensures counts { SameCounts self.old self.new }
         ensures answer { IfOk result (IsAnswer (port_row (PortCall.Entry call))) }
+        ensures replays { SameReplays self.old self.new }
     {
         let mut own = self.windows.take(unit);
         let returned = make_entry_call(self.alloc, &mut own, call);
@@ -109,6 +114,9 @@ impl Lan {
         ensures frames { self.new.frames ≡ self.old.frames }
         ensures counts { OnOk result (SameCounts self.old self.new) }
         ensures code { IfOk result (λ code. may_answer rows.RegisterLogicalLan code ≡ true) }
+        ensures replays { IfOk result (λ code.
+            OpensAt unit list queue filters mac code self.old self.new) }
+        ensures beside { OnOk result (SameBeside unit self.old self.new) }
     {
         self.make_room(unit)?;
         Ok(self.switch.register(unit, list, queue, filters, mac).code)
@@ -122,6 +130,8 @@ impl Lan {
         ensures counts { SameCounts self.old self.new }
         ensures room { OnOk result (HasRoom self.new.stations unit) }
         ensures opened { IsOpenAt self.old unit → IsOpenAt self.new unit }
+        ensures replays { SameReplays self.old self.new }
+        ensures places { self.new.places ≡ self.old.places }
     {
         self.switch.reserve(unit, 1)
     }
@@ -133,6 +143,7 @@ impl Lan {
         ensures frames { self.new.frames ≡ self.old.frames }
         ensures counts { SameCounts self.old self.new }
         ensures code { may_answer rows.FreeLogicalLan result ≡ true }
+        ensures replays { ClosesAt unit result self.old self.new }
     {
         self.switch.free(unit).code
     }
@@ -144,6 +155,8 @@ impl Lan {
         ensures frames { self.new.frames ≡ self.old.frames }
         ensures counts { SameCounts self.old self.new }
         ensures code { may_answer rows.MulticastCtrl result ≡ true }
+        ensures replays { ReplaysOn unit (MulticastSays control mac (outcomes.Code result)) self.old
+            self.new }
     {
         self.switch.multicast(unit, control, mac).code
     }
@@ -155,6 +168,7 @@ impl Lan {
         ensures frames { self.new.frames ≡ self.old.frames }
         ensures counts { SameCounts self.old self.new }
         ensures code { may_answer rows.ChangeLogicalLanMac result ≡ true }
+        ensures replays { ReplaysOn unit (MacSays mac (outcomes.Code result)) self.old self.new }
     {
         self.switch.change_mac(unit, mac).code
     }
@@ -166,6 +180,7 @@ impl Lan {
         ensures frames { self.new.frames ≡ self.old.frames }
         ensures counts { SameCounts self.old self.new }
         ensures closed { IfOk result (λ closed. IsTrue closed ↔ (¬ IsOpenAt self.new unit)) }
+        ensures beside { SameBeside unit self.old self.new }
     {
         if !self.is_open(unit) {
             return Ok(true);

@@ -3,6 +3,7 @@ ghost use Rattle.std.specs.Prelude.{◌≡◌, IfOk, IsSome, OnOk, true};
 ghost use Rattle.boot_text.specs.Sound.{IsInRange};
 ghost use Rattle.lan_script.specs.LineSays.{SendsAs, TellsNoFrame};
 ghost use Rattle.lan_script.specs.PortCounts.{CountsStep, SameCounts, TellsNoCount};
+ghost use Rattle.lan_script.specs.Replayed.{IsFirst, Replays, SameBeside, SameReplays};
 ghost use Rattle.lan_script.specs.Seats.{TellsOfPort, TellsOfRegion, is_for_port, is_in_region, seat_at};
 ghost use Rattle.unit_region.specs.Kept.{KeepsWindow};
 
@@ -46,6 +47,7 @@ impl PortStep {
         ensures told { TellsOfPort result }
         ensures still { TellsNoCount result }
         ensures none { TellsNoFrame result }
+        ensures coded { ¬ (code ≡ Hrc.Busy) → result ≡ PortStep.Ends (Outcome.Code code) }
     {
         match code {
             Hrc::Busy => PortStep::waits(0),
@@ -78,6 +80,9 @@ impl Lan {
         ensures counts { IfOk result (λ step.
             CountsStep unit line.now.verb done step self.old self.new) }
         ensures told { IfOk result TellsOfPort }
+        ensures replays { IsFirst line.now.verb done → IfOk result (λ step.
+            Replays unit line.now.verb step self.old self.new) }
+        ensures beside { OnOk result (SameBeside unit self.old self.new) }
     {
         let mark = u64::from(line.number);
         match &line.verb {
@@ -103,6 +108,9 @@ impl Lan {
         ensures still { IfOk result TellsNoCount }
         ensures none { IfOk result TellsNoFrame }
         ensures told { IfOk result TellsOfPort }
+        ensures replays { IfOk result (λ step.
+            Replays unit Verb.Open step self.old self.new) }
+        ensures beside { OnOk result (SameBeside unit self.old self.new) }
     {
         let seat = self.seat(unit);
         let code = self.register(unit, 0, seat.queue(), 0, seat.mac)?;
@@ -120,6 +128,7 @@ impl Lan {
         ensures still { IfOk result TellsNoCount }
         ensures none { IfOk result TellsNoFrame }
         ensures told { IfOk result TellsOfPort }
+        ensures replays { SameReplays self.old self.new }
     {
         let mut own = self.windows.take(unit);
         let step = step_in(self.alloc, &mut own, line);

@@ -1,13 +1,17 @@
 // The line that posts receive buffers, one behind the other.
-ghost use Rattle.std.specs.Prelude.{◌≡◌, ◌≤◌, ◌^◌, IfOk, IsSome, true};
+ghost use Rattle.std.specs.Prelude.{◌≡◌, ◌↔◌, ◌≤◌, ◌+◌, ◌*◌, ◌^◌, ◌<◌, Some, IfOk, IfSome, IsSome, OnOk, true};
 ghost use Rattle.boot_text.specs.declared.port_script.TheConstants.{MOST_BUFFERS};
 ghost use Rattle.boot_text.specs.declared.verb.Verb.TheVariants as verbs;
 ghost use Rattle.hcall_table.specs.Rows.{may_answer};
 ghost use Rattle.hcall_table.specs.declared.hcall.Hcall.TheVariants as rows;
 ghost use Rattle.vio_trace.specs.declared.outcome.Outcome.TheVariants as outcomes;
 ghost use Rattle.lan_script.specs.declared.lines.PortStep.TheVariants as steps;
+ghost use Rattle.lan_script.specs.declared.seat.PortSeat.{PortSeat};
 ghost use Rattle.lan_script.specs.LineSays.{TellsNoFrame};
 ghost use Rattle.lan_script.specs.PortCounts.{CountsOn, CountsStep, counts, posted_on};
+ghost use Rattle.lan_buffers.specs.Buffer.{IsBuffer, buffer_address, buffer_len, is_valid};
+ghost use Rattle.lan_script.specs.PortReplay.{IsBufferLen};
+ghost use Rattle.lan_script.specs.Replayed.{AddSays, FitsOne, GrantsAll, HasPages, Replays, ReplaysOn, SameBeside};
 ghost use Rattle.lan_script.specs.Seats.{TellsOfPort, seat_at};
 
 use crate::lan::Lan;
@@ -34,6 +38,7 @@ impl Lan {
         mark: u64,
     ) -> Result<PortStep, NoMemory>
         requires there { IsSome (seat_at self.old.seats unit) }
+        requires some { 1 ≤ count }
         requires few { count ≤ MOST_BUFFERS }
         ensures seats { self.new.seats ≡ self.old.seats }
         ensures none { IfOk result TellsNoFrame }
@@ -41,6 +46,9 @@ impl Lan {
         ensures counts { IfOk result (λ step.
             CountsStep unit (verbs.Post at len count) done step self.old self.new) }
         ensures told { IfOk result TellsOfPort }
+        ensures replays { done ≡ 0 → IfOk result (λ step.
+            Replays unit (verbs.Post at len count) step self.old self.new) }
+        ensures beside { OnOk result (SameBeside unit self.old self.new) }
     {
         for posted in done..count {
             match self.post_one(unit, buffer_at(at, len, posted), len, mark)? {
@@ -70,6 +78,11 @@ impl Lan {
         ensures frames { self.new.frames ≡ self.old.frames }
         ensures counts { IfOk result (λ code.
             CountsOn unit (counts 0 0) (posted_on code) self.old self.new) }
+        ensures replays { IfOk result (λ code.
+            ReplaysOn unit (AddSays len (IsBufferLen len) code) self.old self.new) }
+        ensures fits { IfSome address (λ at. FitsOne self.old unit at len
+            → IfOk result (λ code. code ≡ Hrc.Success)) }
+        ensures grants { GrantsAll self.old unit → OnOk result (GrantsAll self.new unit) }
     {
         let Some(address) = address else {
             return Ok(Hrc::Parameter);
@@ -92,9 +105,26 @@ impl Lan {
         requires there { IsSome (seat_at self.now.seats unit) }
         ensures address { result ≡ true → address ≤ 2 ^ 20 }
         ensures len { result ≡ true → len ≤ 2 ^ 20 }
+        ensures fits { (seat : PortSeat) → seat_at self.now.seats unit ≡ Some seat
+            → IsBufferLen len → address + len ≤ 4096 * seat.pages → result ≡ true }
+        ensures pages { HasPages self.now unit }
     {
-        let size = PAGE_BYTES * u64::from(self.windows.at(unit).pages());
-        address <= size && len.max(CORRELATOR) <= size - address
+        self.has_range(unit, address, len.max(CORRELATOR))
+    }
+
+    // Tells whether a range lies in the region of the unit.
+    pub(crate) fn has_range(&self, unit: UnitId, address: u64, len: u64) -> bool
+        requires there { IsSome (seat_at self.now.seats unit) }
+        ensures range { (seat : PortSeat) → seat_at self.now.seats unit ≡ Some seat
+            → ((result ≡ true) ↔ (address + len ≤ 4096 * seat.pages)) }
+        ensures small { result ≡ true → address + len ≤ 2 ^ 20 }
+        ensures pages { HasPages self.now unit }
+    {
+        lies_within(
+            PAGE_BYTES * u64::from(self.windows.at(unit).pages()),
+            address,
+            len,
+        )
     }
 
     // Adds a buffer of the unit.
@@ -105,6 +135,12 @@ impl Lan {
         ensures counts { IfOk result (λ code.
             CountsOn unit (counts 0 0) (posted_on code) self.old self.new) }
         ensures code { IfOk result (λ code. may_answer rows.AddLogicalLanBuffer code ≡ true) }
+        ensures replays { IfOk result (λ code. ReplaysOn unit
+            (AddSays (buffer_len descriptor) (IsBuffer descriptor) code) self.old self.new) }
+        ensures fits { is_valid descriptor ≡ true
+            → FitsOne self.old unit (buffer_address descriptor) (buffer_len descriptor)
+            → IfOk result (λ code. code ≡ Hrc.Success) }
+        ensures grants { GrantsAll self.old unit → OnOk result (GrantsAll self.new unit) }
     {
         self.make_room(unit)?;
         let mut own = self.windows.take(unit);
@@ -114,8 +150,17 @@ impl Lan {
     }
 }
 
+// Tells whether a range lies within as many bytes.
+fn lies_within(size: u64, address: u64, len: u64) -> bool
+    ensures { (result ≡ true) ↔ (address + len ≤ size) }
+{
+    address <= size && len <= size - address
+}
+
 // Gives the address of a buffer, if it is a number of 64 bits.
-fn buffer_at(at: u64, len: u64, number: u64) -> Option<u64> {
+fn buffer_at(at: u64, len: u64, number: u64) -> Option<u64>
+    ensures { at + len * number < 2 ^ 64 → result ≡ Some (at + len * number) }
+{
     at.checked_add(len.checked_mul(number)?)
 }
 

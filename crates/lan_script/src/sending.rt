@@ -1,9 +1,13 @@
 // Frames: what a line writes of one, and how a frame is sent and kept.
-ghost use Rattle.std.specs.Prelude.{◌≡◌, ◌≤◌, ◌-◌, IfOk, IsSome, OnOk, ◌^◌, false, length, true};
+ghost use Rattle.std.specs.Prelude.{◌≡◌, ◌≤◌, ◌-◌, IfOk, IsSome, OnOk, ◌^◌, ◌*◌, ◌+◌, false, length, IsErrOf, None, Some, true};
 ghost use Rattle.boot_text.specs.declared.port_script.TheConstants.{LEAST_FRAME, MOST_FRAME};
+ghost use Rattle.boot_text.specs.declared.verb.Verb.TheVariants as verbs;
+ghost use Rattle.lan_script.specs.declared.seat.PortSeat.{PortSeat};
 ghost use Rattle.hcall_table.specs.Rows.{may_answer};
 ghost use Rattle.hcall_table.specs.declared.hcall.Hcall.TheVariants as rows;
+ghost use Rattle.tce_window.specs.Answers.{IfInUse};
 ghost use Rattle.lan_script.specs.Invariant.{Owes};
+ghost use Rattle.lan_script.specs.Replayed.{GoesOut, GrantsAll, HasPages, Replays, ReplaysOn, SameBeside, SameReplays, SentSays};
 ghost use Rattle.lan_script.specs.Seats.{TellsOfPort, seat_at};
 ghost use Rattle.lan_script.specs.LineFrame.{line_frame};
 ghost use Rattle.lan_script.specs.LineSays.{SaysSent, SendsAs, SentAs};
@@ -49,7 +53,13 @@ impl Lan {
         ensures counts { OnOk result (SameCounts self.old self.new) }
         ensures still { IfOk result TellsNoCount }
         ensures told { IfOk result TellsOfPort }
+        ensures replays { IfOk result (λ step.
+            Replays unit (verbs.Send to len seed at) step self.old self.new) }
+        ensures beside { OnOk result (SameBeside unit self.old self.new) }
     {
+        if !self.has_range(unit, at, len) {
+            return Ok(PortStep::Ends(Outcome::Range));
+        }
         let from = self.present(unit);
         let frame = frame_bytes(self.alloc, to, from, len, seed)?;
         match self.write(unit, at, &frame, mark) {
@@ -85,6 +95,12 @@ impl Lan {
         ensures frames { self.new.frames ≡ self.old.frames }
         ensures counts { SameCounts self.old self.new }
         ensures inside { OnOk result (at ≤ 2 ^ 20) }
+        ensures replays { SameReplays self.old self.new }
+        ensures free { HasPages self.old unit → IfInUse result (λ _ _. ⊥) }
+        ensures range { (seat : PortSeat) → seat_at self.old.seats unit ≡ Some seat
+            → at + length bytes.now ≤ 4096 * seat.pages → 1 ≤ length bytes.now
+            → length bytes.now ≤ 65536 → ¬ IsErrOf result OwnFault.Range }
+        ensures grants { GrantsAll self.old unit → GrantsAll self.new unit }
     {
         let mut own = self.windows.take(unit);
         let answer = OwnerPort::write(&mut own, at, bytes, mark);
@@ -100,6 +116,10 @@ impl Lan {
             SentAs unit sent.code sent.number self.old self.new) }
         ensures counts { OnOk result (SameCounts self.old self.new) }
         ensures code { IfOk result (λ sent. may_answer rows.SendLogicalLan sent.code ≡ true) }
+        ensures replays { IfOk result (λ sent.
+            ReplaysOn unit (SentSays sent.code sent.number) self.old self.new) }
+        ensures goes { IfOk result (λ sent.
+            GoesOut self.old unit parts.now sent.code sent.number) }
     {
         if !self.whole {
             return Err(NoMemory);
@@ -118,6 +138,9 @@ impl Lan {
         ensures short { self.new.whole ≡ false }
         ensures code { IfOk result (λ made. may_answer rows.SendLogicalLan made.code ≡ true) }
         ensures owes { IfOk result (Owes self.new unit) }
+        ensures replays { OnOk result (SameReplays self.old self.new) }
+        ensures goes { IfOk result (λ made.
+            GoesOut self.old unit parts.now made.code made.frame) }
     {
         self.whole = false;
         let mut own = self.windows.take(unit);
@@ -136,6 +159,9 @@ impl Lan {
             SentAs unit sent.code sent.number self.old self.new) }
         ensures counts { OnOk result (SameCounts self.old self.new) }
         ensures code { IfOk result (λ sent. sent.code ≡ made.code) }
+        ensures number { IfOk result (λ sent. sent.number ≡ made.frame) }
+        ensures replays { IfOk result (λ sent.
+            ReplaysOn unit (SentSays sent.code sent.number) self.old self.new) }
     {
         let sent = Sent {
             code: made.code,
@@ -157,6 +183,8 @@ impl Lan {
 fn said(sent: Sent) -> PortStep
     ensures told { TellsOfPort result }
     ensures says { SaysSent sent.code sent.number result }
+    ensures coded { sent.number ≡ None → ¬ (sent.code ≡ Hrc.Busy)
+        → result ≡ PortStep.Ends (Outcome.Code sent.code) }
     ensures still { TellsNoCount result }
 {
     match sent.number {

@@ -5,6 +5,7 @@ ghost use Rattle.lan_buffers.specs.Answers.{IfFrame};
 ghost use Rattle.lan_script.specs.LineSays.{TellsNoFrame};
 ghost use Rattle.lan_script.specs.PortCounts.{CountsOn, CountsStep, TakesSome, counts};
 ghost use Rattle.lan_script.specs.Taking.{harvested_on, taken_on};
+ghost use Rattle.lan_script.specs.Replayed.{SameReplays};
 ghost use Rattle.lan_script.specs.Seats.{TellsOfPort, seat_at};
 
 use crate::lan::Lan;
@@ -39,6 +40,7 @@ impl Lan {
         ensures frames { self.new.frames ≡ self.old.frames }
         ensures counts { IfOk result (λ step.
             CountsStep unit (verbs.Take count) done step self.old self.new) }
+        ensures replays { OnOk result (SameReplays self.old self.new) }
         ensures told { IfOk result TellsOfPort }
     {
         let mut done = done;
@@ -68,6 +70,7 @@ impl Lan {
         ensures seats { self.new.seats ≡ self.old.seats }
         ensures frames { self.new.frames ≡ self.old.frames }
         ensures counts { OnOk result (TakesSome unit self.old self.new) }
+        ensures replays { OnOk result (SameReplays self.old self.new) }
     {
         let mut moved = Moved::Quiet;
         for _entry in 0..self.seat(unit).slots {
@@ -84,6 +87,7 @@ impl Lan {
         requires there { IsSome (seat_at self.old.seats unit) }
         ensures seats { self.new.seats ≡ self.old.seats }
         ensures frames { self.new.frames ≡ self.old.frames }
+        ensures replays { OnOk result (SameReplays self.old self.new) }
         ensures counts { IfOk result (λ taken.
             CountsOn unit (counts 0 0) (taken_on taken) self.old self.new) }
     {

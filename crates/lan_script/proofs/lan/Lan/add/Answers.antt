@@ -9,6 +9,12 @@ use Rattle.lan_script.proofs.Lans.{lan_back, lan_made, place_after, window_free,
 use Rattle.lan_script.specs.PortCounts.{posted_on}
 use Rattle.lan_script.proofs.CountedCalls.{adds_more}
 use Rattle.lan_script.proofs.CountsKept.{counts_behind, made_adds}
+use Rattle.lan_buffers.specs.Buffer.{IsBuffer, buffer_address, buffer_len}
+use Rattle.lan_script.specs.Replayed.{AddSays}
+use Rattle.lan_script.proofs.Replaying.{made_replays, replays_behind}
+use Rattle.lan_script.proofs.ReplayedFits.{fits_on, grants_on, made_fits}
+use Rattle.lan_script.proofs.ReplayedPosts.{adds_replay}
+use Rattle.lan_script.proofs.ReplayedRegion.{grants_back}
 use Rattle.lan_script.proofs.lan.Lan.add.Goals as goal
 
 abbrev none_found : ℕ → ℕ → Type 0
@@ -48,3 +54,30 @@ returns-clause-counts c =
     (Adds c.args.descriptor false none_found (known_of c.take-own.result) (known_of c.add-answer.new.window) c.add-answer.result) (posted_on c.add-answer.result.code)
     c.self.view_is c.self.invariant there c.add-answer.ensures.made
     (λ before after begun h. adds_more c.args.descriptor false none_found (known_of c.take-own.result) (known_of c.add-answer.new.window) c.add-answer.result before after begun h))
+
+pub returns-clause-replays : goal.returns-clause-replays
+returns-clause-replays c =
+    let h =
+    replays_behind c.args.unit (AddSays (buffer_len c.args.descriptor) (IsBuffer c.args.descriptor) c.add-answer.result.code) c.args.self.now c.make_room.new.self _
+    c.make_room.ensures.replays
+    (made_replays _ c.make_room.new.self c.args.unit c.add-answer.new.self c.add-answer.result
+    (Adds c.args.descriptor false none_found (known_of c.take-own.result) (known_of c.add-answer.new.window) c.add-answer.result)
+    (AddSays (buffer_len c.args.descriptor) (IsBuffer c.args.descriptor) c.add-answer.result.code) c.self.view_is c.self.invariant
+    (subst (λ (l : List PortSeat). IsSome (seat_at l c.args.unit)) (sym c.make_room.ensures.seats) c.requires.there) c.add-answer.ensures.made
+    (λ before after was h. adds_replay c.args.descriptor none_found (known_of c.take-own.result) (known_of c.add-answer.new.window) c.add-answer.result before after h)) in
+    record { says = h.says; beside = h.beside }
+
+pub returns-clause-grants : goal.returns-clause-grants
+returns-clause-grants c = λ grants e.
+    grants_back _ c.make_room.new.self c.args.unit c.take-own.new.self c.put.new.self c.take-own.result c.add-answer.new.window c.self.view_is
+    c.take-own.ensures.window c.take-own.ensures.rest c.put.ensures c.add-answer.ensures.window.rest.values
+    (grants_on c.args.self.now c.make_room.new.self c.args.unit c.make_room.ensures.places grants) e
+
+pub returns-clause-fits : goal.returns-clause-fits
+returns-clause-fits c = λ valid fit.
+    made_fits _ c.make_room.new.self c.args.unit c.add-answer.new.self c.add-answer.result c.args.descriptor none_found c.take-own.result c.add-answer.new.window
+    c.self.view_is c.self.invariant (subst (λ (l : List PortSeat). IsSome (seat_at l c.args.unit)) (sym c.make_room.ensures.seats) c.requires.there)
+    c.take-own.ensures.window c.add-answer.ensures.window.rest.values c.add-answer.ensures.made valid
+    (fits_on c.args.self.now c.make_room.new.self c.args.unit (buffer_address c.args.descriptor) (buffer_len c.args.descriptor)
+    (c.make_room.ensures.replays c.args.unit) c.make_room.ensures.seats
+    (grants_on c.args.self.now c.make_room.new.self c.args.unit c.make_room.ensures.places) fit)

@@ -5,6 +5,8 @@ use Rattle.lan_script.proofs.Keeping.{map_long}
 use Rattle.lan_script.proofs.Kept.{kept_in, short_in}
 use Rattle.lan_script.proofs.Lans.{frames_within}
 use Rattle.lan_script.proofs.Telling.{keeps_sent}
+use Rattle.lan_script.specs.Units.{LanValue}
+use Rattle.lan_script.proofs.ReplayedSends.{kept_replay}
 use Rattle.lan_script.proofs.lan.Lan.keep.Goals as goal
 
 pub index_mut-requires : goal.index_mut-requires
@@ -44,3 +46,8 @@ returns-clause-sends c =
       frames_within _ c.args.self.now c.args.unit c.place_of-place.result c.self.view_is c.self.invariant c.requires.there at,
       map_long (λ rows. rows.items) c.self.inside.frames.items,
     )) c.index_mut.ensures.value c.in_ok-push.ensures.items refl
+
+pub returns-clause-replays : goal.returns-clause-replays
+returns-clause-replays c =
+    kept_replay c.args.unit c.args.made c.in-Some.number c.args.self.now _ c.requires.owes c.in-Some.is (ap (λ (l : LanValue). l.stations) c.self.view_is)
+    (returns-clause-sends c) (ap (λ (l : LanValue). l.seats) c.self.view_is)

@@ -1,4 +1,4 @@
-use Rattle.std.proofs.Common.{IfSome, sym, subst}
+use Rattle.std.proofs.Common.{◌≡◌, IfSome, sym, subst}
 use Rattle.lan_buffers.specs.Calls.{IsOpen}
 use Rattle.lan_switch.specs.Switch.{port_of}
 use Rattle.lan_script.specs.Units.{LanValue}
@@ -7,6 +7,8 @@ use Rattle.lan_script.proofs.Called.{reserves_same}
 use Rattle.lan_script.proofs.Lans.{lan_at, port_there, room_made, room_opened}
 use Rattle.lan_script.proofs.CountedCalls.{reserves_rows}
 use Rattle.lan_script.proofs.CountsKept.{port_counts}
+use Rattle.lan_script.proofs.ReplayedCalls.{reserves_stay}
+use Rattle.lan_script.proofs.Replaying.{port_replays, stays_all}
 use Rattle.lan_script.proofs.lan.Lan.make_room.Goals as goal
 
 pub reserve-requires : goal.reserve-requires
@@ -29,3 +31,9 @@ pub returns-clause-opened : goal.returns-clause-opened
 returns-clause-opened c = λ opened.
     room_opened c.self.inside.switch c.reserve.new.self c.args.unit c.reserve.result c.reserve.ensures
     (subst (λ (l : LanValue). IfSome (port_of l.stations c.args.unit) IsOpen) (sym c.self.view_is) opened)
+
+pub returns-clause-replays : goal.returns-clause-replays
+returns-clause-replays c =
+    stays_all c.args.unit c.args.self.now _
+    (port_replays _ c.args.self.now c.args.unit c.reserve.new.self (Reserves 1 c.reserve.result) (λ a b. b ≡ a) c.self.view_is c.reserve.ensures
+    (λ before after was h. reserves_stay 1 c.reserve.result before after h))

@@ -5,6 +5,8 @@ use Rattle.lan_script.specs.Windows.{FoundIn, facts_in}
 use Rattle.lan_script.proofs.Begun.{begun_sent}
 use Rattle.lan_script.proofs.Lans.{lending, lent_keys, others_free, owes_ok, place_lent, sent_ports, sent_untouched, whole_carried, whole_sends, window_free, window_there}
 use Rattle.lan_script.proofs.CountedSent.{sends_same}
+use Rattle.lan_script.proofs.ReplayedSent.{sends_stay}
+use Rattle.lan_script.proofs.ReplayedSends.{goes_all}
 use Rattle.lan_script.proofs.lan.Lan.offer.Goals as goal
 
 abbrev none_found : ℕ → ℕ → Type 0
@@ -74,3 +76,14 @@ pub returns-clause-counts : goal.returns-clause-counts
 returns-clause-counts c =
     sends_same _ c.args.self.now c.send-answer.new.self c.args.unit c.args.parts.now false none_found (known_of c.take-own.result) (known_of c.send-answer.new.window)
     (windows_of false facts_in FoundIn c.take-own.new.self c.send-answer.new.others) c.send-answer.result c.self.view_is c.send-answer.ensures.sent
+
+pub returns-clause-replays : goal.returns-clause-replays
+returns-clause-replays c =
+    sends_stay _ c.args.self.now c.send-answer.new.self c.args.unit c.args.parts.now false none_found (known_of c.take-own.result) (known_of c.send-answer.new.window)
+    (windows_of false facts_in FoundIn c.take-own.new.self c.send-answer.new.others) c.send-answer.result c.self.view_is c.send-answer.ensures.sent
+
+pub returns-clause-goes : goal.returns-clause-goes
+returns-clause-goes c =
+    goes_all _ c.args.self.now c.args.unit c.send-answer.new.self c.args.parts.now none_found c.take-own.result c.send-answer.new.window
+    (windows_of false facts_in FoundIn c.take-own.new.self c.send-answer.new.others) c.send-answer.result c.self.view_is c.self.invariant c.take-own.ensures.window
+    c.send-answer.ensures.window.rest.values refl c.send-answer.ensures.sent

@@ -1,11 +1,13 @@
 use Rattle.std.proofs.Common.{◌≡◌, ◌<◌}
 use Rattle.lan_script.specs.PortCounts.{CountsOn, counts}
+use Rattle.lan_script.specs.Replayed.{SameReplays}
 use Rattle.lan_script.proofs.lan.Lan.take_line.Given as goal
 
 abbrev pub invariant-loop-entry : goal.invariant-loop-entry
 invariant-loop-entry l = record {
   seats : l.self.seats ≡ l.fn.self.seats;
   frames : l.self.frames ≡ l.fn.self.frames;
+  replays : SameReplays l.fn.self l.self;
   counted : CountsOn l.unit (counts 0 l.fn.done) (counts 0 l.done) l.fn.self l.self;
   less : l.done < l.count;
 }

@@ -1,11 +1,13 @@
 use Rattle.std.proofs.Common.{◌∙◌}
 use Rattle.lan_script.proofs.CountsKept.{takes_on}
+use Rattle.lan_script.proofs.Replaying.{same_on}
 use Rattle.lan_script.proofs.lan.Lan.take_rest.Goals as goal
 
 pub loop-entry-preserved : goal.loop-entry-preserved
 loop-entry-preserved c = record {
   seats = c.take_one.ensures.seats ∙ c.loop-entry.invariant.seats;
   frames = c.take_one.ensures.frames ∙ c.loop-entry.invariant.frames;
+  replays = same_on c.args.self.now c.loop-entry.self c.take_one.new.self c.loop-entry.invariant.replays c.in_ok-take_one.ensures.replays;
   taken = takes_on c.args.unit c.in_ok-take_one.field-0 c.args.self.now c.loop-entry.self c.take_one.new.self c.loop-entry.invariant.taken
       c.in_ok-take_one.ensures.counts;
 }

@@ -1,10 +1,12 @@
 use Rattle.std.proofs.Common.{◌≡◌}
 use Rattle.lan_script.specs.PortCounts.{TakesSome}
+use Rattle.lan_script.specs.Replayed.{SameReplays}
 use Rattle.lan_script.proofs.lan.Lan.take_rest.Given as goal
 
 abbrev pub invariant-loop-entry : goal.invariant-loop-entry
 invariant-loop-entry l = record {
   seats : l.self.seats ≡ l.fn.self.seats;
   frames : l.self.frames ≡ l.fn.self.frames;
+  replays : SameReplays l.fn.self l.self;
   taken : TakesSome l.unit l.fn.self l.self;
 }

@@ -1,0 +1,10 @@
+use Rattle.lan_script.proofs.ReplayedSends.{goes_kept, send_behind}
+use Rattle.lan_script.proofs.lan.Lan.send.Goals as goal
+
+pub returns-clause-replays : goal.returns-clause-replays
+returns-clause-replays c =
+    send_behind c.args.unit c.keep.result c.args.self.now c.offer.new.self c.keep.new.self c.in_ok-made.ensures.replays c.keep.ensures.replays
+
+pub returns-clause-goes : goal.returns-clause-goes
+returns-clause-goes c =
+    goes_kept c.args.self.now c.args.unit c.args.parts.now c.in_ok-made.made c.keep.result c.in_ok-made.ensures.goes c.keep.ensures.code c.keep.ensures.number
