@@ -9,12 +9,14 @@ pub mod Credited
 pub mod Freed
 pub mod Freeing
 pub mod Gathered
+pub mod Heard
 pub mod Intake
 pub mod Lines
 pub mod Links
 pub mod Machines
 pub mod Making
 pub mod Named
+pub mod News
 pub mod Numbered
 pub mod OnDisk
 pub mod Pairs
@@ -28,6 +30,7 @@ pub mod Received
 pub mod Refusals
 pub mod Replay
 pub mod Requests
+pub mod RowsCopied
 pub mod RunLaw
 pub mod ScriptTold
 pub mod Scripts
