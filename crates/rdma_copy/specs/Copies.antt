@@ -4,11 +4,13 @@ use Rattle.std.specs.List.{flat_map}
 use Rattle.page_slots.specs.declared.stroke.StrokeName.{StrokeName}
 use Rattle.tce_window.specs.declared.answers.HoldFault.{HoldFault}
 use Rattle.tce_window.specs.declared.answers.Right.{Right}
-use Rattle.tce_window.specs.Held.{HeldValue, joined}
-use Rattle.tce_window.specs.Moved.{piece_strokes, places_on, read_bytes, IsLaid, IsWrittenTo}
+use Rattle.tce_window.specs.declared.piece.Piece.{Piece}
+use Rattle.tce_window.specs.Held.{HeldValue, held_len, held_strokes, joined}
+use Rattle.tce_window.specs.Moved.{numbered, piece_strokes, places_on, read_bytes, stroke_count, strokes_on, IsLaid, IsWrittenTo}
 use Rattle.tce_window.specs.Pieces.{HasStrokes, IsLast, IsOfEntry, IsRefused, IsUsable}
 use Rattle.tce_window.specs.Port.{Later}
 use Rattle.tce_window.specs.PortState.{PortState, Lays}
+use Rattle.tce_window.specs.Strokes.{with_strokes}
 use Rattle.rdma_copy.specs.declared.copy.CopyRecord.{CopyRecord}
 use Rattle.rdma_copy.specs.Copy.{IsLawful, Side, side}
 
@@ -43,6 +45,25 @@ pub record Fills (is_shared : Bool) (source : HeldValue) (dst dst' : PortState) 
   pub last : All (IsLast dst'.values) copy.to.items
   pub laid : (p : ℕ) → IsLaid is_shared p copy.to.items (piece_strokes name (bytes_held source) copy.to.items) (dst.strokes p) (dst'.strokes p)
   pub places : Lays is_shared (λ p. places_on p copy.to.items) dst dst'
+
+-- A record of this copy, between these pieces.
+pub record IsRecordOf (name : StrokeName) (len : ℕ) (from to : List Piece) (copy : CopyRecord) : Type 0 where
+  pub name_is : copy.name ≡ name
+  pub len_is : copy.len ≡ len
+  pub from_is : copy.from.items ≡ from
+  pub to_is : copy.to.items ≡ to
+
+-- The bytes of a held range were written over another, and its pieces are placed behind the strokes of before.
+pub record IsOverwritten (name : StrokeName) (source old new : HeldValue) : Type 0 where
+  pub bytes : length (bytes_held source) ≡ held_len source.pieces
+  pub strokes : (p : ℕ) → held_strokes new.pages p ≡ with_strokes (held_strokes old.pages p)
+      (strokes_on p old.pieces (piece_strokes name (bytes_held source) old.pieces))
+  pub pieces : new.pieces ≡ numbered (λ p. stroke_count (held_strokes old.pages p)) old.pieces
+
+-- Nothing was written over a held range.
+pub record IsUnwritten (old new : HeldValue) : Type 0 where
+  pub strokes : (p : ℕ) → held_strokes new.pages p ≡ held_strokes old.pages p
+  pub pieces : new.pieces ≡ old.pieces
 
 -- Each entry of a range may be used, as it is known.
 abbrev pub MayHold : PortState → Right → (ioba len : ℕ) → Type 0

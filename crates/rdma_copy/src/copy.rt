@@ -1,10 +1,11 @@
 // A copy holds both ranges, then takes memory for what it will write, then writes. `IsLawful` in
 // specs/Copy.antt is what a copy that was made is.
-ghost use Rattle.std.specs.Prelude.{◌≡◌, ◌↔◌, ◌<◌, ◌≤◌, ◌⊎◌, [], length};
+ghost use Rattle.std.specs.Prelude.{◌≡◌, ◌↔◌, ◌<◌, ◌≤◌, ◌⊎◌, [], IfOk, OnErr, OnOk, length};
 ghost use Rattle.tce_window.specs.declared.answers.Right.TheVariants.{Read, Write};
 ghost use Rattle.tce_window.specs.PortState.{LaysNone};
 ghost use Rattle.tce_window.specs.Held.{held_len};
-ghost use Rattle.rdma_copy.specs.Copies.{Copies, Fills, MayHold, OnlyCopies, RefusesRange};
+ghost use Rattle.tce_window.specs.Moved.{Follows};
+ghost use Rattle.rdma_copy.specs.Copies.{Copies, Fills, IsOverwritten, IsRecordOf, IsUnwritten, MayHold, OnlyCopies, RefusesRange};
 ghost use Rattle.rdma_copy.specs.Answers.{IfCopied, IsCopied, OnHeld, OnRefused, IfSourceParm, IfDestParm, IfBusy, IsBusySide, CountsCopy, CountsTarget};
 
 use arrayvec::ArrayVec;
@@ -23,10 +24,10 @@ pub struct CopyRecord {
     pub name: StrokeName,
     /// The number of bytes.
     pub len: u32,
-    /// The pieces that were read, in the order of their addresses.
-    pub from: ArrayVec<Piece, 17>,
-    /// The pieces that were written, each with the place of its stroke.
-    pub to: ArrayVec<Piece, 17>,
+    /// The pieces that were read, at most 17, in the order of their addresses.
+    pub from: Vec<Piece>,
+    /// The pieces that were written, at most 17, each with the place of its stroke.
+    pub to: Vec<Piece>,
 }
 
 /// What became of a copy.
@@ -89,8 +90,8 @@ pub fn copy_rdma<S: GuestPort, D: GuestPort>(
         return CopyAnswer::Copied(CopyRecord {
             name,
             len: 0,
-            from: ArrayVec::new(),
-            to: ArrayVec::new(),
+            from: Vec::new(alloc),
+            to: Vec::new(alloc),
         });
     }
     let len = len as u32;
@@ -134,18 +135,40 @@ fn copy_held<D: GuestPort>(
         Err(HoldFault::InUse { page, word }) => return CopyAnswer::Busy { page, word },
         Err(fault) => return CopyAnswer::DestParm(fault),
     };
-    let written = target.copy_from(alloc, name, source);
-    let to = copied_pieces(target.pieces());
+    let copied = write_held(alloc, source, &mut target, len, name);
     dst.give_back(target);
-    match written {
-        Ok(()) => CopyAnswer::Copied(CopyRecord {
-            name,
-            len,
-            from: copied_pieces(source.pieces()),
-            to,
-        }),
+    match copied {
+        Ok(copy) => CopyAnswer::Copied(copy),
         Err(NoMemory) => CopyAnswer::NoMemory,
     }
+}
+
+// Writes the bytes of the one range over the other, which is as long. The record's lists are as long as their
+// pieces and are made first, so that nothing is written where memory runs out.
+fn write_held(
+    alloc: Global,
+    source: &Held,
+    target: &mut Held,
+    len: u32,
+    name: StrokeName,
+) -> Result<CopyRecord, NoMemory>
+    requires right { target.old.right ≡ Write }
+    requires long { held_len source.now.pieces ≡ held_len target.old.pieces }
+    ensures record { IfOk result (IsRecordOf name len source.now.pieces target.new.pieces) }
+    ensures written { OnOk result (IsOverwritten name source.now target.old target.new) }
+    ensures err { OnErr result (IsUnwritten target.old target.new) }
+    ensures follows { Follows target.old target.new }
+{
+    let from = Vec::from_slice(alloc, source.pieces())?;
+    let mut to = Vec::from_slice(alloc, target.pieces())?;
+    target.copy_from(alloc, name, source)?;
+    to.copy_from_slice(target.pieces());
+    Ok(CopyRecord {
+        name,
+        len,
+        from,
+        to,
+    })
 }
 
 /// Copies the pieces of a held range, of which there are at most 17, into a list of their own.

@@ -1,4 +1,4 @@
-use Rattle.std.proofs.Common.{◌≡◌, ℕ, ◌+◌, All, List, Option, ◌++◌, length, refl, sym, ap, subst, ◌∙◌, rules}
+use Rattle.std.proofs.Common.{◌≡◌, ℕ, ◌+◌, All, List, Option, ◌++◌, length, sym, ap, subst, ◌∙◌, rules}
 use Rattle.page_slots.specs.Stroke.{StrokeValue}
 use Rattle.tce_window.specs.declared.answers.Right.TheVariants.{Write}
 use Rattle.tce_window.specs.Pieces.{IsGranted, IsLast, Touches}
@@ -9,18 +9,18 @@ use Rattle.rdma_copy.proofs.Copied.{may_hold}
 use Rattle.rdma_copy.proofs.Holding.{behind, Written, laid_on, written_back, places_laid, nothing_since}
 use Rattle.rdma_copy.proofs.copy.copy_held.Goals as goal
 
-pub returns-in-Ok-written-clause-copied : goal.returns-in-Ok-written-clause-copied
-returns-in-Ok-written-clause-copied g c =
+pub returns-in-Ok-copied-clause-copied : goal.returns-in-Ok-copied-clause-copied
+returns-in-Ok-copied-clause-copied g c =
     let held = c.in-Ok.held in
     let shared = g.D.WindowPort.is_shared in
     let dst = g.D.WindowPort.state c.args.dst.now in
     let mid = g.D.WindowPort.state c.hold.new.self in
     let dst' = g.D.WindowPort.state c.give_back.new.self in
-    let after : ℕ → Option (List StrokeValue) = held_strokes c.copy_from-written.new.self.pages in
+    let after : ℕ → Option (List StrokeValue) = held_strokes c.write_held-copied.new.target.pages in
     let bytes : List ℕ = joined c.args.source.now.pages c.args.source.now.pieces in
-    let long : length bytes ≡ c.args.len = c.in-Ok-written.ensures.bytes ∙ c.requires.source in
+    let long : length bytes ≡ c.args.len = c.in-Ok-copied.ensures.written.bytes ∙ c.requires.source in
     let kept : dst'.place.unit ≡ dst.place.unit = ap (λ place. place.unit) (c.give_back.ensures.rest.place ∙ c.hold.ensures.rest.place) in
-    let placed : c.copied_pieces-to.result.items ≡ behind (held_strokes held.pages) held.pieces = c.copied_pieces-to.ensures ∙ c.pieces.ensures.pieces ∙ c.in-Ok-written.ensures.pieces in
+    let placed : c.in-Ok-copied.copy.to.items ≡ behind (held_strokes held.pages) held.pieces = c.in-Ok-copied.ensures.record.to_is ∙ c.in-Ok-copied.ensures.written.pieces in
     let touched : Touches dst.place.unit c.args.d_ioba (c.args.d_ioba + length bytes) held.pieces =
     subst (λ len. Touches dst.place.unit c.args.d_ioba (c.args.d_ioba + len) held.pieces) (sym long) c.in-Ok.ensures.ok.touched in
     let granted : All (IsGranted dst'.values Write) held.pieces =
@@ -31,14 +31,14 @@ returns-in-Ok-written-clause-copied g c =
       taken = c.in-Ok.ensures.ok.taken;
       on = c.in-Ok.ensures.ok.pages;
       there = c.in-Ok.ensures.ok.strokes;
-      laid = c.in-Ok-written.ensures.strokes;
+      laid = c.in-Ok-copied.ensures.written.strokes;
       back = c.give_back.ensures.strokes;
     } in
     record {
-      name_is = refl;
-      len_is = refl;
+      name_is = c.in-Ok-copied.ensures.record.name_is;
+      len_is = c.in-Ok-copied.ensures.record.len_is;
       long = long;
-      from = search rules;
+      from = c.in-Ok-copied.ensures.record.from_is;
       written = subst (λ list. IsWrittenTo dst'.place.unit dst'.values dst'.strokes c.args.d_ioba c.args.name list bytes) (sym placed)
           (subst (λ unit. IsWrittenTo unit dst'.values dst'.strokes c.args.d_ioba c.args.name (behind (held_strokes held.pages) held.pieces) bytes) (sym kept)
           (written_back shared dst.place.unit dst'.values c.args.d_ioba c.args.name bytes held.pieces dst.strokes (held_strokes held.pages) mid.strokes after dst'.strokes laid touched granted));
@@ -50,23 +50,23 @@ returns-in-Ok-written-clause-copied g c =
           p mid.taken (dst.laid p) (mid.laid p) (dst'.laid p) (c.in-Ok.ensures.ok.counted is p) (c.hold.ensures.nothing is p) (c.give_back.ensures.laid is p));
     }
 
-pub returns-in-Ok-written-clause-held : goal.returns-in-Ok-written-clause-held
-returns-in-Ok-written-clause-held g c =
+pub returns-in-Ok-copied-clause-held : goal.returns-in-Ok-copied-clause-held
+returns-in-Ok-copied-clause-held g c =
     may_hold (g.D.WindowPort.state c.hold.new.self).values ((g.D.WindowPort.state c.args.dst.now).place.size) (g.D.WindowPort.state c.give_back.new.self) Write c.args.d_ioba c.args.len c.give_back.ensures.rest.values
     (ap (λ place. place.size) (c.give_back.ensures.rest.place ∙ c.hold.ensures.rest.place)) c.in-Ok.ensures.ok.usable
 
-pub returns-in-Err-written-clause-held : goal.returns-in-Err-written-clause-held
-returns-in-Err-written-clause-held g c =
+pub returns-in-Err-copied-clause-held : goal.returns-in-Err-copied-clause-held
+returns-in-Err-copied-clause-held g c =
     may_hold (g.D.WindowPort.state c.hold.new.self).values ((g.D.WindowPort.state c.args.dst.now).place.size) (g.D.WindowPort.state c.give_back.new.self) Write c.args.d_ioba c.args.len c.give_back.ensures.rest.values
     (ap (λ place. place.size) (c.give_back.ensures.rest.place ∙ c.hold.ensures.rest.place)) c.in-Ok.ensures.ok.usable
 
-pub returns-in-Err-written-clause-refused : goal.returns-in-Err-written-clause-refused
-returns-in-Err-written-clause-refused g c =
+pub returns-in-Err-copied-clause-refused : goal.returns-in-Err-copied-clause-refused
+returns-in-Err-copied-clause-refused g c =
     let held = c.in-Ok.held in
     record {
       strokes = search rules;
       laid = λ shared p.
-          nothing_since p (held_strokes held.pages) (held_strokes c.copy_from-written.new.self.pages) (g.D.WindowPort.state c.hold.new.self).taken
+          nothing_since p (held_strokes held.pages) (held_strokes c.write_held-copied.new.target.pages) (g.D.WindowPort.state c.hold.new.self).taken
           ((g.D.WindowPort.state c.args.dst.now).laid p) ((g.D.WindowPort.state c.hold.new.self).laid p) ((g.D.WindowPort.state c.give_back.new.self).laid p)
-          (c.in-Ok.ensures.ok.counted shared p) (c.in-Err-written.ensures.err p) (c.hold.ensures.nothing shared p) (c.give_back.ensures.laid shared p);
+          (c.in-Ok.ensures.ok.counted shared p) (c.in-Err-copied.ensures.err.strokes p) (c.hold.ensures.nothing shared p) (c.give_back.ensures.laid shared p);
     }

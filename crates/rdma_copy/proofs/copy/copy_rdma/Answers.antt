@@ -15,7 +15,7 @@ pub returns-then-len-eq0-clause-copied : goal.returns-then-len-eq0-clause-copied
 returns-then-len-eq0-clause-copied g c =
     let none : c.args.len ≡ 0 = omega arith in
     copies_none g.D.WindowPort.is_shared (g.S.WindowPort.state c.args.src.now) (g.D.WindowPort.state c.args.dst.now) c.args.s_ioba c.args.d_ioba c.args.len c.args.name
-    (record { name = c.args.name; len = 0; from = c.new.result; to = c.new-then-len-eq0.result }) refl (sym none) none c.new.ensures c.new-then-len-eq0.ensures
+    (record { name = c.args.name; len = 0; from = c.new.result; to = c.new-then-len-eq0.result }) refl (sym none) none c.new.ensures.items c.new-then-len-eq0.ensures.items
 
 pub returns-clause-copied : goal.returns-clause-copied
 returns-clause-copied g c =
