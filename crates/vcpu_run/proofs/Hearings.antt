@@ -76,24 +76,25 @@ moves_on source source' target target' name name' from to bytes copy source_grow
       (written_stays target.unit to name copy.to.items bytes target.values target'.values target.strokes target'.strokes target_grows.values target_grows.strokes is.written));
 }
 
-name_of : UnitId → ℕ → StrokeName
+abbrev name_of : UnitId → ℕ → StrokeName
 name_of unit mark = record { who = unit; mark = mark }
 
 named_on : (own own' : Side) (mark : ℕ) → SideGrows own own' → name_of own.unit mark ≡ name_of own'.unit mark
 named_on own own' mark grows = ap (λ unit. name_of unit mark) (sym grows.unit)
 
-pub hearing_on : (Listed Listed' : CopyRecord → Type 0) (own own' client client' : Side) (pages pages' : ℕ) → ((copy : CopyRecord) → Listed copy → Listed' copy) → SideGrows own own' → SideGrows client client'
+pub hearing_on : (Listed Listed' : CopyRecord → Type 0) (own own' client client' : Side) (pages pages' : ℕ) → ((copy : CopyRecord) → copy.name.who ≡ own.unit → Listed copy → Listed' copy)
+    → SideGrows own own' → SideGrows client client'
     → pages ≡ pages' → Includes (hearing Listed own client pages) (hearing Listed' own' client' pages')
 hearing_on Listed Listed' own own' client client' pages pages' more own_grows client_grows same (denied right address len fault) is =
     subst (λ (n : ℕ). HasDenied client'.values right n address len fault) same (denied_on client.values client'.values right pages address len fault client_grows.values is)
 hearing_on Listed Listed' own own' client client' pages pages' more own_grows client_grows same (fetched address at bytes) is = record {
   copy = is.copy;
-  listed = more is.copy is.listed;
+  listed = more is.copy (ap (λ (name : StrokeName). name.who) is.moves.name_is) is.listed;
   moves = moves_on client client' own own' (name_of own.unit 0) (name_of own'.unit 0) address at bytes is.copy client_grows own_grows (named_on own own' 0 own_grows) is.moves;
 }
 hearing_on Listed Listed' own own' client client' pages pages' more own_grows client_grows same (delivered at address mark bytes) is = record {
   copy = is.copy;
-  listed = more is.copy is.listed;
+  listed = more is.copy (ap (λ (name : StrokeName). name.who) is.moves.name_is) is.listed;
   moves = moves_on own own' client client' (name_of own.unit mark) (name_of own'.unit mark) at address bytes is.copy own_grows client_grows (named_on own own' mark own_grows) is.moves;
 }
 

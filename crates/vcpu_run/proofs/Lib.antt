@@ -6,6 +6,7 @@ pub mod Askings
 pub mod Blocks
 pub mod Booted
 pub mod Calls
+pub mod Choices
 pub mod ClientsTold
 pub mod Copied
 pub mod Crediting
@@ -19,6 +20,8 @@ pub mod Following
 pub mod FramesCarried
 pub mod Freed
 pub mod GivenAnswers
+pub mod HeardTurns
+pub mod Hearings
 pub mod Homes
 pub mod Idling
 pub mod InSessions
@@ -53,6 +56,7 @@ pub mod Receiving
 pub mod RecordLaws
 pub mod Requesting
 pub mod Resting
+pub mod RowCopies
 pub mod Sayings
 pub mod Scripted
 pub mod ScriptsTold
@@ -65,6 +69,7 @@ pub mod Sole
 pub mod TakesTold
 pub mod Tellings
 pub mod Told
+pub mod ToldRows
 pub mod Unfreed
 pub mod Waiting
 pub mod Working

@@ -21,6 +21,7 @@ use Rattle.vcpu_run.specs.PortWords.{PortsAreTold, PortsTell}
 use Rattle.vcpu_run.specs.Received.{AreAtRest}
 use Rattle.vcpu_run.specs.Requests.{RequestsAreServed}
 use Rattle.vcpu_run.specs.Settled.{ClientsAreSettled, ServersAreSettled}
+use Rattle.vcpu_run.specs.RowsCopied.{RefusalsAreDenied, RowsAreCopied}
 use Rattle.vcpu_run.specs.RunLaw.{CopiesAreLawful, CreditsAreKept, KeepsLawOf, PortsKeepLaw, QueuesAreLawful, RecordsAreOfLines}
 
 -- a law of traces is kept over each plan that this is the machine of
@@ -42,9 +43,11 @@ pub law_told : {E : Type 0} (r : Result Trace E) (o : Option Trace) (pairs : Lis
     → IfOk r (KeepsOnce (AreAtRest copies_made lines history pairs scripts) ClientsAreSettled pairs scripts ports)
     → IfOk r (KeepsOnce (AreAtRest copies_made lines history pairs scripts) EntriesAreFetched pairs scripts ports)
     → IfOk r (KeepsOnce (AreAtRest copies_made lines history pairs scripts) RequestsAreServed pairs scripts ports)
-    → IfOk r (KeepsOnce (AreAtRest copies_made lines history pairs scripts) AnswersAreGiven pairs scripts ports) → AreAtRest copies_made lines history pairs scripts
+    → IfOk r (KeepsOnce (AreAtRest copies_made lines history pairs scripts) AnswersAreGiven pairs scripts ports)
+    → IfOk r (KeepsOnce (AreAtRest copies_made lines history pairs scripts) RowsAreCopied pairs scripts ports)
+    → IfOk r (KeepsOnce (AreAtRest copies_made lines history pairs scripts) RefusalsAreDenied pairs scripts ports) → AreAtRest copies_made lines history pairs scripts
     → IfSome o (Keeps KeepsLawOf pairs scripts ports)
-law_told (Ok trace) o pairs scripts ports history copies_made lines e order queues copies records over credits are answers answered keeps lan words tells settled handed intake requests given rests =
+law_told (Ok trace) o pairs scripts ports history copies_made lines e order queues copies records over credits are answers answered keeps lan words tells settled handed intake requests given copied denied rests =
     subst (λ (o : Option Trace). IfSome o (Keeps KeepsLawOf pairs scripts ports)) (sym e)
     (λ partitions of_plan. record {
       order = order;
@@ -60,8 +63,10 @@ law_told (Ok trace) o pairs scripts ports history copies_made lines e order queu
       intake = intake partitions of_plan rests;
       requests = requests partitions of_plan rests;
       given = given partitions of_plan rests;
+      copied = copied partitions of_plan rests;
+      denied = denied partitions of_plan rests;
     })
-law_told (Err error) o pairs scripts ports history copies_made lines e order queues copies records over credits are answers answered keeps lan words tells settled handed intake requests given rests =
+law_told (Err error) o pairs scripts ports history copies_made lines e order queues copies records over credits are answers answered keeps lan words tells settled handed intake requests given copied denied rests =
     subst (λ (o : Option Trace). IfSome o (Keeps KeepsLawOf pairs scripts ports)) (sym e) tt
 
 -- the rows that were served

@@ -3,6 +3,7 @@ use Rattle.std.specs.Prelude.{◌≡◌, ℕ, Bool, true, List, [], Some, Contai
 use Rattle.crq_session.specs.PlainState.{end_of}
 use Rattle.tce_window.specs.PlainPort.{known_of}
 use Rattle.rdma_copy.specs.Copies.{side_of as side_at}
+use Rattle.rdma_copy.specs.Copy.{SideGrows}
 use Rattle.rdma_copy.specs.declared.copy.CopyRecord.{CopyRecord}
 use Rattle.block_server.specs.Cargo.{HasCargo}
 use Rattle.block_server.specs.Causes.{Hearing, Includes, Told, told_to}
@@ -41,3 +42,10 @@ pub record AreHeard (size partition : ℕ) (units : List Unit) (records : Record
   pub all : (told : Told → Bool) → TellsPairs told copies pairs → AreTold told size partition units records
   pub each : (told : Told → Bool) → TellsPairs told copies pairs → (k : ℕ) (pair : Pair) → slice_get pairs k ≡ Some pair
       → ∥ IsTold told units records k pair ∥₁
+
+-- More copies were made, and both windows of the pair have what they had.
+pub record ShowsMore (copies copies' : List CopyRecord) (old new : Pair) : Type 0 where
+  pub listed : (copy : CopyRecord) → Contains copies copy → Contains copies' copy
+  pub own : SideGrows (side_at (known_of old.own)) (side_at (known_of new.own))
+  pub window : SideGrows (side_at (known_of old.window)) (side_at (known_of new.window))
+  pub pages : length new.window.pages ≡ length old.window.pages

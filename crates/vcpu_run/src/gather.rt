@@ -15,6 +15,7 @@ ghost use Rattle.vcpu_run.specs.Pairs.{AreOfOneHome};
 ghost use Rattle.vcpu_run.specs.PortWords.{PortsAreTold, PortsTell};
 ghost use Rattle.vcpu_run.specs.Received.{AreAtRest};
 ghost use Rattle.vcpu_run.specs.Requests.{RequestsAreServed};
+ghost use Rattle.vcpu_run.specs.RowsCopied.{RefusalsAreDenied, RowsAreCopied};
 ghost use Rattle.vcpu_run.specs.Units.{seats_of};
 ghost use Rattle.vcpu_run.specs.Settled.{ClientsAreSettled, ServersAreSettled};
 ghost use Rattle.vcpu_run.specs.RunLaw.{CopiesAreLawful, CreditsAreKept, PortsKeepLaw, QueuesAreLawful, RecordsAreOfLines};
@@ -93,6 +94,14 @@ pub(crate) fn gather(
         IsOfPlan partitions pairs.items scripts.entry.items lan.seats →
         AreAtRest copies.items grants.items history.items pairs.items scripts.entry.items →
         AnswersAreGiven partitions trace) }
+    ensures copied { IfOk result (λ trace. (partitions : List Partition) →
+        IsOfPlan partitions pairs.items scripts.entry.items lan.seats →
+        AreAtRest copies.items grants.items history.items pairs.items scripts.entry.items →
+        RowsAreCopied partitions trace) }
+    ensures denied { IfOk result (λ trace. (partitions : List Partition) →
+        IsOfPlan partitions pairs.items scripts.entry.items lan.seats →
+        AreAtRest copies.items grants.items history.items pairs.items scripts.entry.items →
+        RefusalsAreDenied partitions trace) }
 {
     rows_of(alloc, pairs, scripts, lan, history, grants, copies)
 }

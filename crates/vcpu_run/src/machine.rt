@@ -5,6 +5,7 @@ ghost use Rattle.boot_text.specs.declared.plan.Partition.{Partition};
 ghost use Rattle.block_server.specs.DiskLaw.{KeepsDisk};
 ghost use Rattle.vcpu_run.specs.Agreed.{AreCredited};
 ghost use Rattle.vcpu_run.specs.Answered.{AreAnswered};
+ghost use Rattle.vcpu_run.specs.Heard.{AreHeard};
 ghost use Rattle.vcpu_run.specs.Lines.{IsOver};
 ghost use Rattle.vcpu_run.specs.Freeing.{KeepQueues};
 ghost use Rattle.vcpu_run.specs.Links.{AreLinked};
@@ -71,6 +72,10 @@ impl<'p, Di: Blocks> Machine<'p, Di> {
         ensures received { IfOk result (λ machine. AreReceived machine.server.units.items
             machine.server.copies.items machine.server.records.grants.items
             machine.server.records.history.items machine.pairs.items) }
+        ensures heard { IfOk result (λ machine.
+            AreHeard machine.server.disk.count machine.server.partition
+            machine.server.units.items machine.server.records
+            machine.server.copies.items machine.pairs.items) }
         ensures none { IfOk result (λ machine. machine.server.records.history.items ≡ []) }
         ensures linked { IfOk result (λ machine.
             AreLinked machine.server.units.items machine.pairs.items) }
@@ -116,6 +121,9 @@ impl<'p, Di: Blocks> Machine<'p, Di> {
         requires received { AreReceived self.server.units.items self.server.copies.items
             self.server.records.grants.items self.server.records.history.items
             self.pairs.items }
+        requires heard { AreHeard self.server.disk.count self.server.partition
+            self.server.units.items self.server.records
+            self.server.copies.items self.pairs.items }
         requires linked { AreLinked self.server.units.items self.pairs.items }
         requires unfreed { KeepQueues self.pairs.items self.scripts.items }
         ensures law { IfSome result.trace (λ trace. (partitions : List Partition) →

@@ -2,6 +2,7 @@
 ghost use Rattle.std.specs.Prelude.{◌≡◌, ◌≢◌, ◌<◌, ⊤, ℕ, All, IfOk, IsSomeAnd, IsTrue, List, OnOk};
 ghost use Rattle.std.specs.Prelude.{length, slice_get, vec_len};
 ghost use Rattle.block_server.specs.declared.unit.Unit.{Unit};
+ghost use Rattle.block_server.specs.declared.records.Records.{Records};
 ghost use Rattle.std.specs.List.{list_all};
 ghost use Rattle.rdma_copy.specs.declared.copy.CopyRecord.{CopyRecord};
 ghost use Rattle.lan_script.specs.Units.{LanValue};
@@ -11,6 +12,7 @@ ghost use Rattle.vio_num.specs.declared.history.Served.{Served};
 ghost use Rattle.vcpu_run.specs.Agreed.{AreCredited, SameDrivers};
 ghost use Rattle.vcpu_run.specs.Answered.{AreAnswered};
 ghost use Rattle.vcpu_run.specs.OnDisk.{LastsOnDisk};
+ghost use Rattle.vcpu_run.specs.Heard.{AreHeard};
 ghost use Rattle.vcpu_run.specs.Lines.{IsOver, is_over};
 ghost use Rattle.vcpu_run.specs.Links.{AreIdle, AreIdleTo, AreLinked, AreOverTo, RestsAt};
 ghost use Rattle.vcpu_run.specs.Links.{SeatsRestWhole, ServerWaits, ServersWait, links_of};
@@ -44,6 +46,8 @@ pub(crate) fn run<Di: Blocks>(
     requires answered { AreAnswered server.old.records.history.items pairs.old }
     requires received { AreReceived server.old.units.items server.old.copies.items
         server.old.records.grants.items server.old.records.history.items pairs.old }
+    requires heard { AreHeard server.old.disk.count server.old.partition
+        server.old.units.items server.old.records server.old.copies.items pairs.old }
     ensures machine { IsMachine server.new.partition (vec_len server.new.units)
         server.new.copies.items pairs.new scripts.new lan.new.seats }
     ensures stay { AllStay pairs.old pairs.new }
@@ -57,6 +61,8 @@ pub(crate) fn run<Di: Blocks>(
     ensures answered { AreAnswered server.new.records.history.items pairs.new }
     ensures received { AreReceived server.new.units.items server.new.copies.items
         server.new.records.grants.items server.new.records.history.items pairs.new }
+    ensures heard { AreHeard server.new.disk.count server.new.partition
+        server.new.units.items server.new.records server.new.copies.items pairs.new }
     ensures disk { LastsOnDisk server.old.records.history.items server.new.records.history.items
         (Di.state server.old.disk.image).blocks (Di.state server.new.disk.image).blocks }
     ensures lan { lan.new.seats ≡ lan.old.seats }
@@ -102,6 +108,8 @@ fn step<Di: Blocks>(
     requires answered { AreAnswered server.old.records.history.items pairs.old }
     requires received { AreReceived server.old.units.items server.old.copies.items
         server.old.records.grants.items server.old.records.history.items pairs.old }
+    requires heard { AreHeard server.old.disk.count server.old.partition
+        server.old.units.items server.old.records server.old.copies.items pairs.old }
     ensures machine { IsMachine server.new.partition (vec_len server.new.units)
         server.new.copies.items pairs.new scripts.new lan.new.seats }
     ensures stay { AllStay pairs.old pairs.new }
@@ -114,6 +122,8 @@ fn step<Di: Blocks>(
     ensures answered { AreAnswered server.new.records.history.items pairs.new }
     ensures received { AreReceived server.new.units.items server.new.copies.items
         server.new.records.grants.items server.new.records.history.items pairs.new }
+    ensures heard { AreHeard server.new.disk.count server.new.partition
+        server.new.units.items server.new.records server.new.copies.items pairs.new }
     ensures disk { LastsOnDisk server.old.records.history.items server.new.records.history.items
         (Di.state server.old.disk.image).blocks (Di.state server.new.disk.image).blocks }
     ensures lan { lan.new.seats ≡ lan.old.seats }
@@ -142,6 +152,8 @@ fn round<Di: Blocks>(
     requires answered { AreAnswered server.old.records.history.items pairs.old }
     requires received { AreReceived server.old.units.items server.old.copies.items
         server.old.records.grants.items server.old.records.history.items pairs.old }
+    requires heard { AreHeard server.old.disk.count server.old.partition
+        server.old.units.items server.old.records server.old.copies.items pairs.old }
     ensures machine { IsMachine server.new.partition (vec_len server.new.units)
         server.new.copies.items pairs.new scripts.new lan.new.seats }
     ensures stay { AllStay pairs.old pairs.new }
@@ -154,6 +166,8 @@ fn round<Di: Blocks>(
     ensures answered { AreAnswered server.new.records.history.items pairs.new }
     ensures received { AreReceived server.new.units.items server.new.copies.items
         server.new.records.grants.items server.new.records.history.items pairs.new }
+    ensures heard { AreHeard server.new.disk.count server.new.partition
+        server.new.units.items server.new.records server.new.copies.items pairs.new }
     ensures disk { LastsOnDisk server.old.records.history.items server.new.records.history.items
         (Di.state server.old.disk.image).blocks (Di.state server.new.disk.image).blocks }
     ensures lan { lan.new.seats ≡ lan.old.seats }
@@ -186,6 +200,8 @@ fn turn_at<Di: Blocks>(
     requires answered { AreAnswered server.old.records.history.items pairs.old }
     requires received { AreReceived server.old.units.items server.old.copies.items
         server.old.records.grants.items server.old.records.history.items pairs.old }
+    requires heard { AreHeard server.old.disk.count server.old.partition
+        server.old.units.items server.old.records server.old.copies.items pairs.old }
     ensures machine { IsMachine server.new.partition (vec_len server.new.units)
         server.new.copies.items pairs.new scripts.new lan.new.seats }
     ensures stay { AllStay pairs.old pairs.new }
@@ -198,6 +214,8 @@ fn turn_at<Di: Blocks>(
     ensures answered { AreAnswered server.new.records.history.items pairs.new }
     ensures received { AreReceived server.new.units.items server.new.copies.items
         server.new.records.grants.items server.new.records.history.items pairs.new }
+    ensures heard { AreHeard server.new.disk.count server.new.partition
+        server.new.units.items server.new.records server.new.copies.items pairs.new }
     ensures disk { LastsOnDisk server.old.records.history.items server.new.records.history.items
         (Di.state server.old.disk.image).blocks (Di.state server.new.disk.image).blocks }
     ensures lan { lan.new.seats ≡ lan.old.seats }
@@ -225,6 +243,8 @@ fn serve<Di: Blocks>(server: &mut Server<Di>, pairs: &mut [Pair]) -> Result<Move
     requires answered { AreAnswered server.old.records.history.items pairs.old }
     requires received { AreReceived server.old.units.items server.old.copies.items
         server.old.records.grants.items server.old.records.history.items pairs.old }
+    requires heard { AreHeard server.old.disk.count server.old.partition
+        server.old.units.items server.old.records server.old.copies.items pairs.old }
     ensures serving { IsServing server.new.partition (vec_len server.new.units)
         server.new.copies.items pairs.new }
     ensures stay { AllStay pairs.old pairs.new }
@@ -234,6 +254,8 @@ fn serve<Di: Blocks>(server: &mut Server<Di>, pairs: &mut [Pair]) -> Result<Move
     ensures answered { AreAnswered server.new.records.history.items pairs.new }
     ensures received { AreReceived server.new.units.items server.new.copies.items
         server.new.records.grants.items server.new.records.history.items pairs.new }
+    ensures heard { AreHeard server.new.disk.count server.new.partition
+        server.new.units.items server.new.records server.new.copies.items pairs.new }
     ensures disk { LastsOnDisk server.old.records.history.items server.new.records.history.items
         (Di.state server.old.disk.image).blocks (Di.state server.new.disk.image).blocks }
     ensures linked { OnOk result (AreLinked server.old.units.items pairs.old →
@@ -262,6 +284,8 @@ fn serve_at<Di: Blocks>(
     requires answered { AreAnswered server.old.records.history.items pairs.old }
     requires received { AreReceived server.old.units.items server.old.copies.items
         server.old.records.grants.items server.old.records.history.items pairs.old }
+    requires heard { AreHeard server.old.disk.count server.old.partition
+        server.old.units.items server.old.records server.old.copies.items pairs.old }
     ensures serving { IsServing server.new.partition (vec_len server.new.units)
         server.new.copies.items pairs.new }
     ensures stay { AllStay pairs.old pairs.new }
@@ -271,6 +295,8 @@ fn serve_at<Di: Blocks>(
     ensures answered { AreAnswered server.new.records.history.items pairs.new }
     ensures received { AreReceived server.new.units.items server.new.copies.items
         server.new.records.grants.items server.new.records.history.items pairs.new }
+    ensures heard { AreHeard server.new.disk.count server.new.partition
+        server.new.units.items server.new.records server.new.copies.items pairs.new }
     ensures disk { LastsOnDisk server.old.records.history.items server.new.records.history.items
         (Di.state server.old.disk.image).blocks (Di.state server.new.disk.image).blocks }
     ensures linked { OnOk result (AreLinked server.old.units.items pairs.old →
@@ -312,6 +338,9 @@ fn run_script(
     ensures received { (units : List Unit) (copies : List CopyRecord) (grants : List Grant)
         (history : List Served) → AreReceived units copies grants history pairs.old →
         AreReceived units copies grants history pairs.new }
+    ensures heard { (size partition : ℕ) (units : List Unit) (records : Records)
+        (copies : List CopyRecord) → AreHeard size partition units records copies pairs.old →
+        AreHeard size partition units records copies pairs.new }
     ensures lan { lan.new.seats ≡ lan.old.seats }
     ensures linked { (units : List Unit) → AreLinked units pairs.old → AreLinked units pairs.new }
     ensures idle { IfOk result (λ moved. moved ≡ Moved.Quiet →

@@ -6,7 +6,7 @@ use Rattle.vcpu_run.proofs.Scripted.{run_same, run_then}
 use Rattle.vcpu_run.proofs.rounds.round.Goals as goal
 
 pub loop-number-init : goal.loop-number-init
-loop-number-init g c = record { machine = c.requires.machine; stay = all_same c.args.pairs.now; run = run_same c.args.scripts.now; answered = c.requires.answered; received = c.requires.received; disk = lasts_same c.args.server.now.records.history.items (g.Di.Blocks.state c.args.server.now.disk.image).blocks; credited = λ are. are; told = λ tells. tells; lan = refl; linked = λ are. are; unfreed = λ keep. keep; idle = λ is are over. idle_none c.args.server.now.units.items c.args.pairs.now c.args.scripts.now }
+loop-number-init g c = record { machine = c.requires.machine; stay = all_same c.args.pairs.now; run = run_same c.args.scripts.now; answered = c.requires.answered; received = c.requires.received; heard = c.requires.heard; disk = lasts_same c.args.server.now.records.history.items (g.Di.Blocks.state c.args.server.now.disk.image).blocks; credited = λ are. are; told = λ tells. tells; lan = refl; linked = λ are. are; unfreed = λ keep. keep; idle = λ is are over. idle_none c.args.server.now.units.items c.args.pairs.now c.args.scripts.now }
 
 pub loop-number-preserved : goal.loop-number-preserved
 loop-number-preserved g c =
@@ -18,6 +18,7 @@ loop-number-preserved g c =
       run = run_then c.args.scripts.now c.loop-number.scripts c.turn_at.new.scripts before.run after.run;
       answered = after.answered;
       received = after.received;
+      heard = after.heard;
       disk = lasts_then c.args.server.now.records.history.items c.loop-number.server.records.history.items c.turn_at.new.server.records.history.items
           (g.Di.Blocks.state c.args.server.now.disk.image).blocks (g.Di.Blocks.state c.loop-number.server.disk.image).blocks (g.Di.Blocks.state c.turn_at.new.server.disk.image).blocks c.loop-number.invariant.disk c.turn_at.ensures.disk;
       credited = λ are. c.in_ok-turned.ensures.credited (before.credited are);

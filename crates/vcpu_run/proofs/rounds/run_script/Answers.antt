@@ -6,6 +6,7 @@ use Rattle.std.proofs.Common.{slice_index_or, refl}
 use Rattle.std.proofs.lemmas.Option.{slice_get-get_or}
 use Rattle.vcpu_run.proofs.Answering.{answered_driven}
 use Rattle.vcpu_run.proofs.Elsewhere.{credits_turned, ok_then}
+use Rattle.vcpu_run.proofs.HeardTurns.{heard_driven}
 use Rattle.vcpu_run.proofs.Keeping.{driven_stay, drivers_driven, pairs_driven}
 use Rattle.vcpu_run.proofs.Receiving.{received_driven}
 use Rattle.vcpu_run.proofs.Scripted.{run_one, script_turned}
@@ -97,3 +98,6 @@ returns-clause-told c =
     let found = slice_get-get_or scripts c.args.number d c.requires.there in
     ports_turned c.args.lan.now c.turn.new.lan c.args.pairs.now c.args.lan.now.seats scripts c.args.number old c.turn.new.self c.turn.result found c.requires.scripts
     c.turn.ensures.apart c.turn.ensures.told
+
+pub returns-clause-heard : goal.returns-clause-heard
+returns-clause-heard c size partition units records copies = heard_driven size partition units records copies c.args.pairs.now c.turn.new.pairs c.turn.ensures.driven

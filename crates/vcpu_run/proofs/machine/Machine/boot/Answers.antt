@@ -10,6 +10,7 @@ use Rattle.vcpu_run.specs.Ports.{ports_of}
 use Rattle.vcpu_run.proofs.Apart.{pairs_apart}
 use Rattle.vcpu_run.proofs.Booted.{few_pairs, scripts_made, scripts_of_plan}
 use Rattle.vcpu_run.proofs.Elsewhere.{credits_made}
+use Rattle.vcpu_run.proofs.HeardTurns.{heard_fresh}
 use Rattle.vcpu_run.proofs.Homes.{home_within}
 use Rattle.vcpu_run.proofs.Receiving.{received_fresh}
 use Rattle.vcpu_run.proofs.Unfreed.{queues_fresh}
@@ -104,3 +105,9 @@ returns-clause-told g c =
     let partitions = c.args.plan.now.partitions in
     let made : AreMade partitions scripts.items = rw (← c.as_slice-partitions.ensures) c.in-Ok-make_scripts.ensures in
     ports_made c.in-Ok-open_lan.lan partitions scripts.items c.in-Ok-open_lan.ensures.fresh made
+
+pub returns-clause-heard : goal.returns-clause-heard
+returns-clause-heard g c =
+    let server = c.in_ok-server in
+    heard_fresh server.server.disk.count server.server.partition server.server.units.items server.server.records server.server.copies.items c.in-Ok.pairs.items
+    server.ensures.history server.ensures.lines server.ensures.order server.ensures.idle server.ensures.unrefused

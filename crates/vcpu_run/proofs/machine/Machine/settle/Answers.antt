@@ -6,6 +6,7 @@ use Rattle.vcpu_run.specs.declared.script.Script.{Script}
 use Rattle.vcpu_run.specs.Agreed.{AreCredited}
 use Rattle.vcpu_run.specs.Answered.{AreAnswered}
 use Rattle.vcpu_run.specs.Freeing.{KeepQueues}
+use Rattle.vcpu_run.specs.Heard.{AreHeard}
 use Rattle.vcpu_run.specs.Lines.{IsOver}
 use Rattle.vcpu_run.specs.Machines.{AllRun, AllStay, AreScripts}
 use Rattle.vcpu_run.specs.Pairs.{AreOfOneHome}
@@ -142,11 +143,27 @@ trace_of-trace-requires-clause-rests g c =
     let unfreed : KeepQueues new new_scripts = c.run-run.ensures.unfreed whole in
     let received : AreReceived units' c.finish-image.result.copies.items c.finish-image.result.grants.items c.finish-image.result.history.items new =
     rw (c.finish-image.ensures.copies, c.finish-image.ensures.grants, c.finish-image.ensures.history) c.run-run.ensures.received in
+    let rows : c.finish-image.result.history.items ≡ c.run-run.new.server.records.history.items = rw c.finish-image.ensures.history refl in
+    let lines : c.finish-image.result.grants.items ≡ c.run-run.new.server.records.grants.items = rw c.finish-image.ensures.grants refl in
+    let heard : AreHeard c.run-run.new.server.disk.count c.run-run.new.server.partition units' c.run-run.new.server.records c.finish-image.result.copies.items new =
+    rw c.finish-image.ensures.copies c.run-run.ensures.heard in
     ok_then c.run-run.result (AreLinked units c.deref_mut.result.now → AreIdle units' new new_scripts) _
     (λ idle.
     subst (λ (list : List Pair). AreAtRest c.finish-image.result.copies.items c.finish-image.result.grants.items c.finish-image.result.history.items list (take old_scripts.len (new_scripts ++ drop (length new_scripts) old_scripts.items))) (sym pairs)
     (subst (λ (list : List Script). AreAtRest c.finish-image.result.copies.items c.finish-image.result.grants.items c.finish-image.result.history.items new list) (sym scripts)
-    (record { units = units'; idle = idle before; received = received; unfreed = unfreed })))
+    (record {
+      units = units';
+      idle = idle before;
+      received = received;
+      unfreed = unfreed;
+      size = c.run-run.new.server.disk.count;
+      partition = c.run-run.new.server.partition;
+      records = c.run-run.new.server.records;
+      rows_are = sym rows;
+      lines_are = sym lines;
+      names = λ k pair found. (c.run-run.ensures.machine.serving.pairs_are k pair found).own_unit ∙ (c.run-run.ensures.machine.serving.pairs_are k pair found).server;
+      heard = heard;
+    })))
     c.run-run.ensures.idle
 
 pub run-run-requires-clause-received : goal.run-run-requires-clause-received
@@ -164,3 +181,6 @@ trace_of-trace-requires-clause-told g c =
     ok_then c.run-run.result (PortsTell c.args.self.lan c.deref_mut-2.result.now → PortsTell c.run-run.new.lan new_scripts) _
     (λ kept. subst (λ (list : List Script). PortsTell c.run-run.new.lan list) (sym scripts) (kept before))
     c.run-run.ensures.told
+
+pub run-run-requires-clause-heard : goal.run-run-requires-clause-heard
+run-run-requires-clause-heard g c = rw c.deref_mut.ensures.value c.requires.heard
