@@ -78,7 +78,7 @@ flat_is : (unit : UnitId) (pipe : PipeValue) (q n : ℕ) → flat_map rows_taken
 flat_is unit pipe q zero = refl
 flat_is unit pipe q (suc n) = ap₂ (λ (a b : List PipeRow). a ++ b) (rows_again q pipe.taken) (flat_is unit pipe (q + 1) n)
 
-all_taken : (unit : UnitId) (pipe : PipeValue) → IsLawfulPipe pipe → AreBegun pipe.taken → flat_map rows_taken (session_rows unit pipe) ≡ pipe.taken
+pub all_taken : (unit : UnitId) (pipe : PipeValue) → IsLawfulPipe pipe → AreBegun pipe.taken → flat_map rows_taken (session_rows unit pipe) ≡ pipe.taken
 all_taken unit pipe laws begun =
     flat_is unit pipe 1 pipe.session
     ∙ all_flat pipe.session pipe.taken (ordered_from (λ (a b : PipeRow). a.session ≤ b.session) pipe.taken laws.taken.in_order)

@@ -122,7 +122,7 @@ one_or_other j k P same apart = at (ℕ_discrete j k)
     at (no e) = apart e
 
 -- What the pairs show behind a turn of one of them is told, and so is what they showed before.
-tells_before : (told : Told → Bool) (copies copies' : List CopyRecord) (pairs : List Pair) (n : ℕ) (old new : Pair) → slice_get pairs n ≡ Some old → ShowsMore copies copies' old new → new.own.unit ≡ old.own.unit
+pub tells_before : (told : Told → Bool) (copies copies' : List CopyRecord) (pairs : List Pair) (n : ℕ) (old new : Pair) → slice_get pairs n ≡ Some old → ShowsMore copies copies' old new → new.own.unit ≡ old.own.unit
     → TellsPairs told copies' (slice_set pairs n new) → TellsPairs told copies pairs
 tells_before told copies copies' pairs n old new there more name tells k pair found =
     one_or_other k n (TellsPair told copies pair)
@@ -165,7 +165,7 @@ shows_driven copies old new d = record {
 name_driven : (old new : Pair) → Drives old new → new.own.unit ≡ old.own.unit
 name_driven old new d = ap (λ (own : WindowValue). own.unit) d.own
 
-tells_driven : (told : Told → Bool) (copies : List CopyRecord) (old new : List Pair) → AreDriven old new → TellsPairs told copies new → TellsPairs told copies old
+pub tells_driven : (told : Told → Bool) (copies : List CopyRecord) (old new : List Pair) → AreDriven old new → TellsPairs told copies new → TellsPairs told copies old
 tells_driven told copies old new driven tells k pair found =
     let next = held (Drives pair) (slice_get new k) (driven.each k pair found) in
     tells_back told copies copies pair next.0 (shows_driven copies pair next.0 next.2) (name_driven pair next.0 next.2) (tells k next.0 next.1)

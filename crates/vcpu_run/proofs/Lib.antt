@@ -6,6 +6,7 @@ pub mod Askings
 pub mod Blocks
 pub mod Booted
 pub mod Calls
+pub mod Causings
 pub mod Choices
 pub mod ClientsTold
 pub mod Copied
@@ -69,6 +70,7 @@ pub mod Sole
 pub mod TakesTold
 pub mod Tellings
 pub mod Told
+pub mod ToldAll
 pub mod ToldRows
 pub mod Unfreed
 pub mod Waiting

@@ -74,3 +74,8 @@ pub served_told : {E : Type 0} (r : Result Trace E) (o : Option Trace) (rows : L
     → IfSome o (λ told. told.serves ≡ rows)
 served_told (Ok told) o rows e is = subst (λ (o : Option Trace). IfSome o (λ told. told.serves ≡ rows)) (sym e) is
 served_told (Err error) o rows e is = subst (λ (o : Option Trace). IfSome o (λ told. told.serves ≡ rows)) (sym e) tt
+
+-- whatever is said of the trace
+pub said_told : {E : Type 0} (r : Result Trace E) (o : Option Trace) (P : Trace → Type 0) → o ≡ result_ok r → IfOk r P → IfSome o P
+said_told (Ok told) o P e is = subst (λ (o : Option Trace). IfSome o P) (sym e) is
+said_told (Err error) o P e is = subst (λ (o : Option Trace). IfSome o P) (sym e) tt

@@ -64,65 +64,7 @@ use Rattle.vcpu_run.proofs.RowCopies.{copied_more, refusals_more, row_in_all, wr
 use Rattle.vcpu_run.proofs.Seated.{IsSeated, IsSeatedAt, all_seated, planned_in}
 use Rattle.vcpu_run.proofs.Settling.{emptied}
 use Rattle.vcpu_run.proofs.Sole.{same_refl}
-
--- WHAT IS TOLD -----------------------------------------------------------------------------------
-
-says : {A : Type 0} → Dec A → Bool
-says (yes a) = true
-says (no h) = false
-
-says_yes : {A : Type 0} (d : Dec A) → A → says d ≡ true
-says_yes (yes a) b = refl
-says_yes (no h) b = absurd (h b)
-
-yes_of : {A : Type 0} (d : Dec A) → says d ≡ true → A
-yes_of (yes a) is = a
-yes_of (no h) is = absurd (cc (is))
-
--- of one unit what its pair shows, and of others whatever is told
-chosen : (of : Bool) → Bool → Bool
-chosen true is = is
-chosen false is = true
-
-abbrev told_of : UnitId → List CopyRecord → Pair → Told → Bool
-told_of server copies pair told =
-    chosen (same_unit told.unit server) (says (hearing_decided copies (side_at (known_of pair.own)) (side_at (known_of pair.window)) (length pair.window.pages) told.news))
-
-tells_own : (server : UnitId) (copies : List CopyRecord) (pair : Pair) → Includes (heard_at copies pair) (told_to (told_of server copies pair) pair.own.unit)
-tells_own server copies pair news heard = at (same_unit pair.own.unit server)
-  where
-    decided : Dec (heard_at copies pair news)
-    decided = hearing_decided copies (side_at (known_of pair.own)) (side_at (known_of pair.window)) (length pair.window.pages) news
-
-    at : (of : Bool) → chosen of (says decided) ≡ true
-    at true = says_yes decided heard
-    at false = refl
-
-tells_else : (server : UnitId) (copies : List CopyRecord) (pair other : Pair) → same_unit other.own.unit server ≡ false → Includes (heard_at copies other) (told_to (told_of server copies pair) other.own.unit)
-tells_else server copies pair other apart news heard =
-    ap (λ of. chosen of (says (hearing_decided copies (side_at (known_of pair.own)) (side_at (known_of pair.window)) (length pair.window.pages) news))) apart
-
--- what was told to it is what its pair shows
-told_shows : (server : UnitId) (copies : List CopyRecord) (pair : Pair) → Includes (told_to (told_of server copies pair) server) (heard_at copies pair)
-told_shows server copies pair news is =
-    yes_of decided (sym (ap (λ of. chosen of (says decided)) (same_refl server)) ∙ is)
-  where
-    decided : Dec (heard_at copies pair news)
-    decided = hearing_decided copies (side_at (known_of pair.own)) (side_at (known_of pair.window)) (length pair.window.pages) news
-
--- So all that the pairs show is told.
-tells_each : (pairs : List Pair) (server : UnitId) (copies : List CopyRecord) (partitions : List Partition) → AreOfOneHome copies pairs → ArePlanned partitions pairs
-    → (pair : Pair) → slice_get pairs server.unit ≡ Some pair → TellsPairs (told_of server copies pair) copies pairs
-tells_each pairs server copies partitions home planned pair there k other found = at (same_unit other.own.unit server) refl
-  where
-    at : (of : Bool) → same_unit other.own.unit server ≡ of → Includes (heard_at copies other) (told_to (told_of server copies pair) other.own.unit)
-    at false apart = tells_else server copies pair other apart
-    at true same = subst (λ (p : Pair). Includes (heard_at copies p) (told_to (told_of server copies pair) p.own.unit)) (some_is pair other (sym there ∙ ap (slice_get pairs) number ∙ found))
-        (tells_own server copies pair)
-      where
-        number : server.unit ≡ k
-        number =
-            ap (λ (u : UnitId). u.unit) (sym (one_unit other.own.unit server same) ∙ (home.pairs_are k other found).own_unit) ∙ (planned.each k other found).number
+use Rattle.vcpu_run.proofs.ToldAll.{shown_all}
 
 -- AT REST ----------------------------------------------------------------------------------------
 
@@ -201,8 +143,6 @@ rows_are_shown pairs scripts lan rows history grants copies partitions home are 
     let seats = seats_of scripts in
     let seat : UnitSeat = unit_seat server.partition server.unit sits.Server in
     let inside : IsIn seat seats = planned_in partitions pairs scripts lan.seats server (units.Server serves.0) are plan serves.1 in
-    let seat' : UnitSeat = unit_seat client.partition client.unit (sits.Client server.unit) in
-    let inside' : IsIn seat' seats = planned_in partitions pairs scripts lan.seats client (units.Client server drives.0 drives.1) are plan drives.2 in
     let queue : queue_at pairs seat ≡ Some pipe = ap (option_map (λ (pair : Pair). (side_of pair.link true).queue)) there.1 in
     let laws : IsLawfulPipe pipe =
     subst (λ slot. IfSome slot IsLawfulPipe) queue (each_in (HasLawfulQueue pairs) seat seats inside (each_from_all (HasLawfulQueue pairs) seats lawful)) in
@@ -211,28 +151,16 @@ rows_are_shown pairs scripts lan rows history grants copies partitions home are 
     (sessions_told pairs server seats) (names_apart server seats (seats_ordered pairs lan.seats scripts are))
     ∙ ap (rows_if (session_rows server)) queue in
     let own : pair.own.unit ≡ server = (home.pairs_are server.unit pair there.1).own_unit ∙ there.2 in
-    let own_grows = windows_shown pairs scripts lan rows history grants copies partitions home are windows plan seat pair.own inside (ap (option_map (λ (pair : Pair). pair.own)) there.1) in
-    let client_grows = windows_shown pairs scripts lan rows history grants copies partitions home are windows plan seat' pair.window inside' (ap (option_map (λ (pair : Pair). pair.window)) there.1) in
-    let windows_each = each_from_all (HasLawfulWindow pairs lan) seats windows in
-    let pages : length pair.window.pages ≡ pages_at partitions client =
-    sym (subst (λ slot. IfSome slot (IsSeatedAt partitions client)) (ap (option_map (λ (pair : Pair). pair.window)) there.1)
-    (each_in (IsSeated partitions pairs lan) seat' seats inside' (all_seated partitions pairs scripts lan copies home are plan windows_each))).size in
     let none = (emptied rests.units pairs scripts lan.seats partitions server pair are lawful plan rests.idle serves there.1 there.2).1 in
     let u = held HasNothing (slice_get rests.units server.unit) none in
     let received = rests.received server.unit pair there.1 in
-    let told : Told → Bool = told_of server copies pair in
-    let tells : TellsPairs told copies pairs = tells_each pairs server copies partitions home plan.pairs_are pair there.1 in
-    let shows : Includes (told_to told server) (shown_to partitions trace server client) =
-    λ news is.
-    hearing_on (Contains copies) (λ copy. Contains trace.copies (copy_row copy)) (side_at (known_of pair.own)) (window_shown partitions trace server) (side_at (known_of pair.window)) (window_shown partitions trace client)
-    (length pair.window.pages) (pages_at partitions client) (λ copy mine listed. row_in_all server copies pairs server.unit pair copy there.1 there.2 (mine ∙ own) listed) own_grows client_grows
-    pages news (told_shows server copies pair news is) in
-    ∥∥₁_map₂ received.judged (rests.heard.each told tells server.unit pair there.1)
+    let shown = shown_all pairs scripts lan rows history grants copies partitions home are windows plan in
+    ∥∥₁_map₂ received.judged (rests.heard.each shown.told shown.all server.unit pair there.1)
     (λ has is.
     let kept : AreKept (books_seen u.0 pair.own.unit (end_of [] pair.link true) history grants) has.0 =
     subst (λ (o : Option Unit). IfSome o (λ unit. AreKept (books_seen unit pair.own.unit (end_of [] pair.link true) history grants) has.0)) u.1 has.1.kept in
-    shown_by told partitions trace server client rests.size rests.partition rests.units rests.records u.0 pair has.0 u.1 u.2.pending (sym own ∙ rests.names server.unit pair there.1) own
-    kept rests.rows_are rests.lines_are (sym (ap (flat_map rows_taken) sessions ∙ all_taken server pipe laws received.begun)) shows (rests.heard.all told tells) is)
+    shown_by shown.told partitions trace server client rests.size rests.partition rests.units rests.records u.0 pair has.0 u.1 u.2.pending (sym own ∙ rests.names server.unit pair there.1) own
+    kept rests.rows_are rests.lines_are (sym (ap (flat_map rows_taken) sessions ∙ all_taken server pipe laws received.begun)) (shown.only server client serves drives) (rests.heard.all shown.told shown.all) is)
 
 pub rows_are_copied : (partitions : List Partition) (trace : Trace)
     → ((server client : UnitId) → IsServer partitions server → IsClientOf partitions client server → ∥ AreShown partitions trace server client ∥₁) → RowsAreCopied partitions trace

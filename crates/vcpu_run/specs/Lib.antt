@@ -3,6 +3,7 @@ pub mod Announces
 pub mod Answered
 pub mod AnswersSent
 pub mod CallRows
+pub mod Caused
 pub mod Commands
 pub mod CopyRows
 pub mod Credited

@@ -7,6 +7,7 @@ ghost use Rattle.vcpu_run.specs.Agreed.{IsLoggedOut};
 ghost use Rattle.vcpu_run.specs.Answered.{IsAnswered, IsBegun};
 ghost use Rattle.vcpu_run.specs.Freed.{FreesNoneAt};
 ghost use Rattle.block_server.specs.Causes.{Told};
+ghost use Rattle.block_server.specs.DiskLaw.{KeepsDiskBy};
 ghost use Rattle.block_server.specs.Units.{AreInOrder};
 ghost use Rattle.vcpu_run.specs.Heard.{AreTold, IsTold, ShowsMore, TellsPair};
 ghost use Rattle.vcpu_run.specs.Links.{IsClosed, IsLinked, ServerWaits, link_state};
@@ -176,6 +177,12 @@ impl Pair {
             server.old.units.items server.old.records →
             AreTold told server.new.disk.count server.new.partition
             server.new.units.items server.new.records }
+        ensures causes { (told : Told → Bool) →
+            TellsPair told server.new.copies.items self.new →
+            AreInOrder told server.old.disk.count server.old.partition
+            server.old.units.items server.old.records → KeepsDiskBy told
+            server.old.records.history.items server.new.records.history.items
+            (Di.state server.old.disk.image).blocks (Di.state server.new.disk.image).blocks }
         ensures told_own { (told : Told → Bool) →
             TellsPair told server.new.copies.items self.new →
             AreTold told server.old.disk.count server.old.partition
@@ -254,6 +261,12 @@ impl Pair {
             server.old.units.items server.old.records →
             AreTold told server.new.disk.count server.new.partition
             server.new.units.items server.new.records }
+        ensures causes { (told : Told → Bool) →
+            TellsPair told server.new.copies.items self.new →
+            AreInOrder told server.old.disk.count server.old.partition
+            server.old.units.items server.old.records → KeepsDiskBy told
+            server.old.records.history.items server.new.records.history.items
+            (Di.state server.old.disk.image).blocks (Di.state server.new.disk.image).blocks }
         ensures told_own { (told : Told → Bool) →
             TellsPair told server.new.copies.items self.new →
             AreTold told server.old.disk.count server.old.partition

@@ -1,6 +1,7 @@
 // The turns of a round: one of each partition, in their order.
-ghost use Rattle.std.specs.Prelude.{◌≡◌, ◌≢◌, ◌<◌, ⊤, ℕ, All, IfOk, IsSomeAnd, IsTrue, List, OnOk};
+ghost use Rattle.std.specs.Prelude.{◌≡◌, ◌≢◌, ◌<◌, ⊤, ℕ, All, Bool, IfOk, IsSomeAnd, IsTrue, List, OnOk};
 ghost use Rattle.std.specs.Prelude.{length, slice_get, vec_len};
+ghost use Rattle.block_server.specs.Causes.{Told};
 ghost use Rattle.block_server.specs.declared.unit.Unit.{Unit};
 ghost use Rattle.block_server.specs.declared.records.Records.{Records};
 ghost use Rattle.std.specs.List.{list_all};
@@ -11,8 +12,9 @@ ghost use Rattle.vcpu_run.specs.declared.pair.Pair.{Pair};
 ghost use Rattle.vio_num.specs.declared.history.Served.{Served};
 ghost use Rattle.vcpu_run.specs.Agreed.{AreCredited, SameDrivers};
 ghost use Rattle.vcpu_run.specs.Answered.{AreAnswered};
+ghost use Rattle.vcpu_run.specs.Caused.{LastsBy};
 ghost use Rattle.vcpu_run.specs.OnDisk.{LastsOnDisk};
-ghost use Rattle.vcpu_run.specs.Heard.{AreHeard};
+ghost use Rattle.vcpu_run.specs.Heard.{AreHeard, TellsPairs};
 ghost use Rattle.vcpu_run.specs.Lines.{IsOver, is_over};
 ghost use Rattle.vcpu_run.specs.Links.{AreIdle, AreIdleTo, AreLinked, AreOverTo, RestsAt};
 ghost use Rattle.vcpu_run.specs.Links.{SeatsRestWhole, ServerWaits, ServersWait, links_of};
@@ -64,6 +66,9 @@ pub(crate) fn run<Di: Blocks>(
     ensures heard { AreHeard server.new.disk.count server.new.partition
         server.new.units.items server.new.records server.new.copies.items pairs.new }
     ensures disk { LastsOnDisk server.old.records.history.items server.new.records.history.items
+        (Di.state server.old.disk.image).blocks (Di.state server.new.disk.image).blocks }
+    ensures causes { LastsBy server.old.copies.items server.new.copies.items
+        pairs.old pairs.new server.old.records.history.items server.new.records.history.items
         (Di.state server.old.disk.image).blocks (Di.state server.new.disk.image).blocks }
     ensures lan { lan.new.seats ≡ lan.old.seats }
     ensures idle { OnOk result (AreLinked server.old.units.items pairs.old →
@@ -126,6 +131,9 @@ fn step<Di: Blocks>(
         server.new.units.items server.new.records server.new.copies.items pairs.new }
     ensures disk { LastsOnDisk server.old.records.history.items server.new.records.history.items
         (Di.state server.old.disk.image).blocks (Di.state server.new.disk.image).blocks }
+    ensures causes { LastsBy server.old.copies.items server.new.copies.items
+        pairs.old pairs.new server.old.records.history.items server.new.records.history.items
+        (Di.state server.old.disk.image).blocks (Di.state server.new.disk.image).blocks }
     ensures lan { lan.new.seats ≡ lan.old.seats }
     ensures linked { OnOk result (AreLinked server.old.units.items pairs.old →
         AreLinked server.new.units.items pairs.new) }
@@ -169,6 +177,9 @@ fn round<Di: Blocks>(
     ensures heard { AreHeard server.new.disk.count server.new.partition
         server.new.units.items server.new.records server.new.copies.items pairs.new }
     ensures disk { LastsOnDisk server.old.records.history.items server.new.records.history.items
+        (Di.state server.old.disk.image).blocks (Di.state server.new.disk.image).blocks }
+    ensures causes { LastsBy server.old.copies.items server.new.copies.items
+        pairs.old pairs.new server.old.records.history.items server.new.records.history.items
         (Di.state server.old.disk.image).blocks (Di.state server.new.disk.image).blocks }
     ensures lan { lan.new.seats ≡ lan.old.seats }
     ensures linked { OnOk result (AreLinked server.old.units.items pairs.old →
@@ -218,6 +229,9 @@ fn turn_at<Di: Blocks>(
         server.new.units.items server.new.records server.new.copies.items pairs.new }
     ensures disk { LastsOnDisk server.old.records.history.items server.new.records.history.items
         (Di.state server.old.disk.image).blocks (Di.state server.new.disk.image).blocks }
+    ensures causes { LastsBy server.old.copies.items server.new.copies.items
+        pairs.old pairs.new server.old.records.history.items server.new.records.history.items
+        (Di.state server.old.disk.image).blocks (Di.state server.new.disk.image).blocks }
     ensures lan { lan.new.seats ≡ lan.old.seats }
     ensures linked { OnOk result (AreLinked server.old.units.items pairs.old →
         AreLinked server.new.units.items pairs.new) }
@@ -257,6 +271,9 @@ fn serve<Di: Blocks>(server: &mut Server<Di>, pairs: &mut [Pair]) -> Result<Move
     ensures heard { AreHeard server.new.disk.count server.new.partition
         server.new.units.items server.new.records server.new.copies.items pairs.new }
     ensures disk { LastsOnDisk server.old.records.history.items server.new.records.history.items
+        (Di.state server.old.disk.image).blocks (Di.state server.new.disk.image).blocks }
+    ensures causes { LastsBy server.old.copies.items server.new.copies.items
+        pairs.old pairs.new server.old.records.history.items server.new.records.history.items
         (Di.state server.old.disk.image).blocks (Di.state server.new.disk.image).blocks }
     ensures linked { OnOk result (AreLinked server.old.units.items pairs.old →
         AreLinked server.new.units.items pairs.new) }
@@ -299,6 +316,9 @@ fn serve_at<Di: Blocks>(
         server.new.units.items server.new.records server.new.copies.items pairs.new }
     ensures disk { LastsOnDisk server.old.records.history.items server.new.records.history.items
         (Di.state server.old.disk.image).blocks (Di.state server.new.disk.image).blocks }
+    ensures causes { LastsBy server.old.copies.items server.new.copies.items
+        pairs.old pairs.new server.old.records.history.items server.new.records.history.items
+        (Di.state server.old.disk.image).blocks (Di.state server.new.disk.image).blocks }
     ensures linked { OnOk result (AreLinked server.old.units.items pairs.old →
         AreLinked server.new.units.items pairs.new) }
     ensures waits { IfOk result (λ moved. moved ≡ Moved.Quiet →
@@ -338,6 +358,8 @@ fn run_script(
     ensures received { (units : List Unit) (copies : List CopyRecord) (grants : List Grant)
         (history : List Served) → AreReceived units copies grants history pairs.old →
         AreReceived units copies grants history pairs.new }
+    ensures tells { (copies : List CopyRecord) (told : Told → Bool) →
+        TellsPairs told copies pairs.new → TellsPairs told copies pairs.old }
     ensures heard { (size partition : ℕ) (units : List Unit) (records : Records)
         (copies : List CopyRecord) → AreHeard size partition units records copies pairs.old →
         AreHeard size partition units records copies pairs.new }

@@ -11,6 +11,7 @@ use Rattle.vcpu_run.proofs.QueueLaws.{queues_are}
 use Rattle.vcpu_run.proofs.RecordLaws.{credits_are, records_are}
 use Rattle.vcpu_run.proofs.SentTo.{answers_are}
 use Rattle.vcpu_run.proofs.Settling.{handed_are, settled_are}
+use Rattle.vcpu_run.proofs.ToldAll.{shown_all}
 use Rattle.vcpu_run.proofs.ToldRows.{refusals_are_denied, rows_are_copied, rows_are_shown}
 use Rattle.std.proofs.Common.{refl}
 use Rattle.vcpu_run.proofs.gather.gather.Goals as goal
@@ -113,3 +114,9 @@ returns-clause-denied c =
     (λ rows keeps ordered lawful partitions of_plan rests. refusals_are_denied partitions _
     (rows_are_shown c.args.pairs.items c.args.scripts.items c.args.lan rows c.args.history.items c.args.grants.items c.args.copies.items partitions
     c.requires.pairs c.requires.scripts lawful.0 lawful.1 of_plan rests))
+
+pub returns-clause-shown : goal.returns-clause-shown
+returns-clause-shown c =
+    from_rows c.args.pairs.items c.args.scripts.items c.args.lan c.args.history.items c.args.grants.items c.args.copies.items c.rows_of.result _ _ c.rows_of.ensures.trace c.rows_of.ensures.windows
+    (λ rows keeps ordered lawful partitions of_plan. shown_all c.args.pairs.items c.args.scripts.items c.args.lan rows c.args.history.items c.args.grants.items c.args.copies.items partitions
+    c.requires.pairs c.requires.scripts lawful of_plan)

@@ -3,7 +3,7 @@ use Rattle.vcpu_run.specs.Agreed.{AreCredited}
 use Rattle.vcpu_run.specs.Lines.{IsOver}
 use Rattle.vcpu_run.specs.PortWords.{PortsTell}
 use Rattle.vcpu_run.specs.Received.{AreAtRest}
-use Rattle.vcpu_run.proofs.Told.{law_told, served_told}
+use Rattle.vcpu_run.proofs.Told.{law_told, said_told, served_told}
 use Rattle.vcpu_run.proofs.machine.trace_of.Goals as goal
 
 pub returns-in-Ok-clause-law : goal.returns-in-Ok-clause-law
@@ -18,3 +18,6 @@ returns-in-Ok-clause-law c =
 
 pub returns-in-Ok-clause-serves : goal.returns-in-Ok-clause-serves
 returns-in-Ok-clause-serves c = served_told c.gather.result c.ok.result c.args.history.items c.ok.ensures.value c.gather.ensures.serves
+
+pub returns-in-Ok-clause-shown : goal.returns-in-Ok-clause-shown
+returns-in-Ok-clause-shown c = said_told c.gather.result c.ok.result _ c.ok.ensures.value c.gather.ensures.shown

@@ -1,12 +1,13 @@
 use Rattle.vcpu_run.proofs.Idling.{idle_all, idle_next, idle_none}
 use Rattle.std.proofs.Common.{◌∙◌, refl, arith}
+use Rattle.vcpu_run.proofs.Causings.{causes_same, causes_then}
 use Rattle.vcpu_run.proofs.Disks.{lasts_same, lasts_then}
 use Rattle.vcpu_run.proofs.Keeping.{all_same, all_then}
 use Rattle.vcpu_run.proofs.Scripted.{run_same, run_then}
 use Rattle.vcpu_run.proofs.rounds.round.Goals as goal
 
 pub loop-number-init : goal.loop-number-init
-loop-number-init g c = record { machine = c.requires.machine; stay = all_same c.args.pairs.now; run = run_same c.args.scripts.now; answered = c.requires.answered; received = c.requires.received; heard = c.requires.heard; disk = lasts_same c.args.server.now.records.history.items (g.Di.Blocks.state c.args.server.now.disk.image).blocks; credited = λ are. are; told = λ tells. tells; lan = refl; linked = λ are. are; unfreed = λ keep. keep; idle = λ is are over. idle_none c.args.server.now.units.items c.args.pairs.now c.args.scripts.now }
+loop-number-init g c = record { machine = c.requires.machine; stay = all_same c.args.pairs.now; run = run_same c.args.scripts.now; answered = c.requires.answered; received = c.requires.received; heard = c.requires.heard; disk = lasts_same c.args.server.now.records.history.items (g.Di.Blocks.state c.args.server.now.disk.image).blocks; causes = causes_same c.args.server.now.copies.items c.args.pairs.now c.args.server.now.records.history.items (g.Di.Blocks.state c.args.server.now.disk.image).blocks; credited = λ are. are; told = λ tells. tells; lan = refl; linked = λ are. are; unfreed = λ keep. keep; idle = λ is are over. idle_none c.args.server.now.units.items c.args.pairs.now c.args.scripts.now }
 
 pub loop-number-preserved : goal.loop-number-preserved
 loop-number-preserved g c =
@@ -21,6 +22,9 @@ loop-number-preserved g c =
       heard = after.heard;
       disk = lasts_then c.args.server.now.records.history.items c.loop-number.server.records.history.items c.turn_at.new.server.records.history.items
           (g.Di.Blocks.state c.args.server.now.disk.image).blocks (g.Di.Blocks.state c.loop-number.server.disk.image).blocks (g.Di.Blocks.state c.turn_at.new.server.disk.image).blocks c.loop-number.invariant.disk c.turn_at.ensures.disk;
+      causes = causes_then c.args.server.now.copies.items c.loop-number.server.copies.items c.turn_at.new.server.copies.items c.args.pairs.now c.loop-number.pairs c.turn_at.new.pairs
+          c.args.server.now.records.history.items c.loop-number.server.records.history.items c.turn_at.new.server.records.history.items
+          (g.Di.Blocks.state c.args.server.now.disk.image).blocks (g.Di.Blocks.state c.loop-number.server.disk.image).blocks (g.Di.Blocks.state c.turn_at.new.server.disk.image).blocks c.loop-number.invariant.causes c.turn_at.ensures.causes;
       credited = λ are. c.in_ok-turned.ensures.credited (before.credited are);
       told = λ tells. c.in_ok-turned.ensures.told (before.told tells);
       lan = after.lan ∙ before.lan;
@@ -49,3 +53,9 @@ pub returns-clause-idle : goal.returns-clause-idle
 returns-clause-idle g c = λ is are.
     let count = c.loop-number.invariant.run.count in
     idle_all c.loop-number.number c.loop-number.server.units.items c.loop-number.pairs c.loop-number.scripts (omega (arith, count, c.loop-number-test.false)) (c.loop-number.invariant.idle is are)
+
+pub returns-in_err-turned-clause-causes : goal.returns-in_err-turned-clause-causes
+returns-in_err-turned-clause-causes g c =
+    causes_then c.args.server.now.copies.items c.loop-number.server.copies.items c.turn_at.new.server.copies.items c.args.pairs.now c.loop-number.pairs c.turn_at.new.pairs
+    c.args.server.now.records.history.items c.loop-number.server.records.history.items c.turn_at.new.server.records.history.items
+    (g.Di.Blocks.state c.args.server.now.disk.image).blocks (g.Di.Blocks.state c.loop-number.server.disk.image).blocks (g.Di.Blocks.state c.turn_at.new.server.disk.image).blocks c.loop-number.invariant.causes c.turn_at.ensures.causes

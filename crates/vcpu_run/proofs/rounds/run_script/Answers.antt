@@ -6,7 +6,7 @@ use Rattle.std.proofs.Common.{slice_index_or, refl}
 use Rattle.std.proofs.lemmas.Option.{slice_get-get_or}
 use Rattle.vcpu_run.proofs.Answering.{answered_driven}
 use Rattle.vcpu_run.proofs.Elsewhere.{credits_turned, ok_then}
-use Rattle.vcpu_run.proofs.HeardTurns.{heard_driven}
+use Rattle.vcpu_run.proofs.HeardTurns.{heard_driven, tells_driven}
 use Rattle.vcpu_run.proofs.Keeping.{driven_stay, drivers_driven, pairs_driven}
 use Rattle.vcpu_run.proofs.Receiving.{received_driven}
 use Rattle.vcpu_run.proofs.Scripted.{run_one, script_turned}
@@ -101,3 +101,6 @@ returns-clause-told c =
 
 pub returns-clause-heard : goal.returns-clause-heard
 returns-clause-heard c size partition units records copies = heard_driven size partition units records copies c.args.pairs.now c.turn.new.pairs c.turn.ensures.driven
+
+pub returns-clause-tells : goal.returns-clause-tells
+returns-clause-tells c copies told = tells_driven told copies c.args.pairs.now c.turn.new.pairs c.turn.ensures.driven

@@ -69,3 +69,11 @@ returns-then-is_of_servers-clause-unfreed g c = queues_served c.args.pairs.now c
 
 pub returns-then-is_of_servers-clause-told : goal.returns-then-is_of_servers-clause-told
 returns-then-is_of_servers-clause-told g c = on_ok c.serve.result _ (λ tells. tells)
+
+pub returns-else-is_of_servers-clause-heard : goal.returns-else-is_of_servers-clause-heard
+returns-else-is_of_servers-clause-heard g c =
+    let server = c.args.server.now in
+    c.run_script.ensures.heard server.disk.count server.partition server.units.items server.records server.copies.items c.requires.heard
+
+pub returns-else-is_of_servers-clause-causes : goal.returns-else-is_of_servers-clause-causes
+returns-else-is_of_servers-clause-causes g c = λ told tells. (c.run_script.ensures.tells c.args.server.now.copies.items told tells, λ before serve. serve)

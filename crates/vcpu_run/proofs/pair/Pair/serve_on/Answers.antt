@@ -255,3 +255,12 @@ returns-clause-told_else g c = λ told k other apart own order is.
     told_elsewhere told server.disk.count server.partition server.units.items server'.units.items server.records server'.records k c.args.self.now.own.unit other
     (λ e. apart (sym (ap (λ (u : UnitId). u.unit) (sym (c.requires.pair.own_unit ∙ c.requires.pair.server) ∙ (e ∙ own)))))
     own (c.turn.ensures.others_stay k apart) c.turn.ensures.lines c.turn.ensures.others order is
+
+pub returns-clause-causes : goal.returns-clause-causes
+returns-clause-causes g c = λ told tells order.
+    let old = c.args.self.now in
+    let goes = c.turn.ensures.goes in
+    let new : Pair = record { server = old.server; link = old.link; own = c.turn.new.own; window = c.turn.new.client; driver = old.driver } in
+    c.turn.ensures.causes told
+    (tells_turn told c.args.server.now.copies.items c.turn.new.self.copies.items old new
+    (ap (λ (place : PortPlace). place.size) goes.client_place) (ap (λ (place : PortPlace). place.unit) goes.own_place) tells) order
