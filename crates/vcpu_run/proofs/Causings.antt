@@ -1,18 +1,12 @@
 -- Causes of rows, over turns one behind the other, and as a trace shows them.
-use Rattle.std.proofs.Common.{◌≡◌, ◌∙◌, ℕ, Bool, true, false, Contains, List, [], Option, Some, None, IfSome, length, slice_get, refl, sym, ap, subst}
+use Rattle.std.proofs.Common.{◌≡◌, ◌∙◌, ℕ, List, [], Option, Some, None, IfSome, refl, sym, subst}
 use Rattle.vio_num.specs.declared.history.Served.{Served}
-use Rattle.vio_num.specs.declared.names.UnitId.{UnitId}
-use Rattle.tce_window.specs.PlainPort.{known_of}
-use Rattle.rdma_copy.specs.Copies.{side_of as side_at}
 use Rattle.rdma_copy.specs.declared.copy.CopyRecord.{CopyRecord}
-use Rattle.block_server.specs.Causes.{Includes, Told, told_to}
 use Rattle.block_server.specs.DiskLaw.{KeepsDiskBy}
 use Rattle.boot_text.specs.declared.plan.Partition.{Partition}
 use Rattle.vio_trace.specs.declared.rows.Trace.{Trace}
 use Rattle.vcpu_run.specs.declared.pair.Pair.{Pair}
-use Rattle.vcpu_run.specs.Caused.{AreCaused, IsShownAll, KeepsCaused, LastsBy, LeadsCaused, TellsShown}
-use Rattle.vcpu_run.specs.CopyRows.{same_unit}
-use Rattle.vcpu_run.specs.Heard.{TellsPairs}
+use Rattle.vcpu_run.specs.Caused.{IsShownAll, KeepsCaused, LastsBy, LeadsCaused}
 
 abbrev pub Blocks : Type 0
 Blocks = Option (List (List ℕ))

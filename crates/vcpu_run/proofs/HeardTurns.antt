@@ -1,35 +1,32 @@
 -- What goes by what the windows of server units told: over a turn of a unit, of another, of the clients, and before the first turn.
-use Rattle.std.proofs.Common.{◌≡◌, ◌≢◌, ◌∙◌, ℕ, ◌==◌, ◌&&◌, Bool, true, false, List, [], Option, Some, IfSome, IsSomeAnd, Contains, All, length, slice_get, slice_set, refl, sym, ap, subst, eqb-true}
+use Rattle.std.proofs.Common.{◌≡◌, ◌≢◌, ◌∙◌, ℕ, ◌==◌, ◌&&◌, Bool, true, false, List, [], Some, Contains, length, slice_get, slice_set, refl, sym, ap, subst, eqb-true}
 use Rattle.std.proofs.Math.Logic.{∥∥₁_elim, ∥∥₁_map, ∥∥₁_map₂, ∥∥₁_prop}
 use Rattle.std.proofs.lemmas.Option.{IfSome_then, slice_get_within}
 use native.Mathlib.Decide.{ℕ_discrete}
 use Rattle.vio_num.specs.declared.history.Grant.{Grant}
-use Rattle.vio_num.specs.declared.history.Served.{Served}
 use Rattle.vio_num.specs.declared.names.UnitId.{UnitId}
-use Rattle.crq_ring.specs.declared.rows.PipeRow.{PipeRow}
 use Rattle.crq_session.specs.EndState.{EndState}
 use Rattle.crq_session.specs.PlainState.{end_of, side_of}
 use Rattle.tce_window.specs.PlainPort.{known_of}
 use Rattle.tce_window.specs.Window.{WindowValue}
 use Rattle.rdma_copy.proofs.Laws.{side_same}
 use Rattle.rdma_copy.specs.Copies.{side_of as side_at}
-use Rattle.rdma_copy.specs.Copy.{SideGrows}
 use Rattle.rdma_copy.specs.declared.copy.CopyRecord.{CopyRecord}
 use Rattle.block_server.proofs.CargoLaws.{cargo_elsewhere, cargo_unused}
 use Rattle.block_server.proofs.RefusalLaws.{refusals_elsewhere}
 use Rattle.block_server.specs.Answering.{OnlyRowsOf}
 use Rattle.block_server.specs.Cargo.{AreIdle, HasCargo}
-use Rattle.block_server.specs.Causes.{Hearing, News, Told, told_to}
+use Rattle.block_server.specs.Causes.{Told, told_to}
 use Rattle.block_server.specs.Heard.{Tells}
 use Rattle.block_server.specs.Makers.{same_unit}
 use Rattle.block_server.specs.Receipts.{LinesMore, is_ended}
-use Rattle.block_server.specs.Refusals.{AreExplained, Basis, HasRefusals, RefuseNone, basis_seen}
+use Rattle.block_server.specs.Refusals.{AreExplained, HasRefusals, RefuseNone, basis_seen}
 use Rattle.block_server.specs.Units.{AreInOrder}
 use Rattle.block_server.specs.Written.{AreWritten}
 use Rattle.block_server.specs.declared.records.Records.{Records}
 use Rattle.block_server.specs.declared.unit.Unit.{Unit}
 use Rattle.vcpu_run.specs.declared.pair.Pair.{Pair}
-use Rattle.vcpu_run.specs.Heard.{AreHeard, AreTold, IsTold, ShowsMore, TellsPair, TellsPairs, heard_at}
+use Rattle.vcpu_run.specs.Heard.{AreHeard, AreTold, IsTold, ShowsMore, TellsPair, TellsPairs}
 use Rattle.vcpu_run.specs.Machines.{server_id}
 use Rattle.vcpu_run.specs.Pairs.{AreDriven, Drives}
 use Rattle.vcpu_run.proofs.Driving.{get_set_other, get_set_same}

@@ -1,9 +1,7 @@
 -- A gathered trace shows the copies that moved each row's answer and data, and the denials behind each session that ended as refused.
-use Rattle.std.proofs.Common.{◌≡◌, ◌⊎◌, inl, inr, ◌∙◌, ◌++◌, ℕ, ◌+◌, ◌<◌, Bool, true, false, cond, All, Contains, List, [], ◌∷◌, Option, Some, None, IfSome, filter, map, option_map, slice_get, slice_index, slice_index_or, zero, suc, refl, sym, ap, subst, arith}
+use Rattle.std.proofs.Common.{◌≡◌, ◌⊎◌, inl, inr, ◌∙◌, ℕ, Bool, true, false, cond, All, Contains, List, [], ◌∷◌, Some, filter, map, slice_get, slice_index, zero, suc, refl, sym, ap, subst, arith}
 use Rattle.std.specs.List.{flat_map}
-use Rattle.std.proofs.Math.Logic.{∥∥₁_elim, ∥∥₁_map, ∥∥₁_map₂, ∥∥₁_prop}
 use Rattle.std.proofs.lemmas.List.Elements.{All-nil, All-cons, All-weaker, Contains-append_left, Contains-append_right}
-use Rattle.std.proofs.lemmas.Option.{slice_get-get_or}
 use Rattle.vio_num.specs.declared.history.Grant.{Grant}
 use Rattle.vio_num.specs.declared.history.Grant.TheVariants.{Granted, Lapsed}
 use Rattle.vio_num.specs.declared.history.Lapse.TheVariants as lapses
@@ -16,8 +14,7 @@ use Rattle.srp_iu.specs.Layout.{field}
 use Rattle.srp_desc.specs.Tables.{tables_of}
 use Rattle.rdma_copy.specs.declared.copy.CopyRecord.{CopyRecord}
 use Rattle.block_server.specs.Carried.{HasDelivered, HasOutFetched, IsCarried, IsDelivered, IsOutFetched, delivery, fetch}
-use Rattle.block_server.specs.Causes.{Hearing, Includes, IsFetched, IsNamed, News, Told, told_to}
-use Rattle.block_server.specs.Makers.{same_unit as same_name}
+use Rattle.block_server.specs.Causes.{Hearing, Includes, IsFetched, IsNamed, Told, told_to}
 use Rattle.block_server.specs.Refusals.{HasRefusal, IsNotRead, IsNotWritten}
 use Rattle.block_server.specs.Written.{AreWritten, IsAnswerWritten, IsWrittenOver}
 use Rattle.vio_trace.specs.declared.window_rows.CopyRow.{CopyRow}

@@ -1,12 +1,12 @@
 -- At the end of a run it is decided what counts as told: all that the pairs show, and nothing but what the trace shows.
-use Rattle.std.proofs.Common.{◌≡◌, ◌∙◌, ℕ, Bool, true, false, All, Contains, List, Option, Some, None, IfSome, length, option_map, slice_get, refl, sym, ap, subst}
+use Rattle.std.proofs.Common.{◌≡◌, ◌∙◌, Bool, true, false, All, Contains, List, Option, Some, None, IfSome, length, option_map, slice_get, refl, sym, ap, subst}
 use Rattle.vio_num.specs.declared.history.Grant.{Grant}
 use Rattle.vio_num.specs.declared.history.Served.{Served}
 use Rattle.vio_num.specs.declared.names.UnitId.{UnitId}
 use Rattle.tce_window.specs.PlainPort.{known_of}
 use Rattle.rdma_copy.specs.Copies.{side_of as side_at}
 use Rattle.rdma_copy.specs.declared.copy.CopyRecord.{CopyRecord}
-use Rattle.block_server.specs.Causes.{Includes, News, Told, told_to}
+use Rattle.block_server.specs.Causes.{Includes, News, Told}
 use Rattle.boot_text.specs.Sound.{IsClientOf, IsServer}
 use Rattle.boot_text.specs.declared.plan.Partition.{Partition}
 use Rattle.boot_text.specs.declared.plan.UnitPlan.TheVariants as units
@@ -16,7 +16,7 @@ use Rattle.vcpu_run.specs.declared.pair.Pair.{Pair}
 use Rattle.vcpu_run.specs.declared.script.Script.{Script}
 use Rattle.vcpu_run.specs.declared.unit_seat.Seat.TheVariants as sits
 use Rattle.vcpu_run.specs.declared.unit_seat.UnitSeat.{UnitSeat}
-use Rattle.vcpu_run.specs.Caused.{IsShownAll, TellsShown}
+use Rattle.vcpu_run.specs.Caused.{IsShownAll}
 use Rattle.vcpu_run.specs.CopyRows.{copy_row, same_unit}
 use Rattle.vcpu_run.specs.Gathered.{HasLawfulWindow, trace_of}
 use Rattle.vcpu_run.specs.Heard.{TellsPairs, heard_at}

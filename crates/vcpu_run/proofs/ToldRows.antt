@@ -1,7 +1,7 @@
 -- The law of the copies behind a run's rows, and of the denials behind its refusals: what was told is what the trace shows.
-use Rattle.std.proofs.Common.{◌≡◌, ◌∙◌, ℕ, ◌<◌, Bool, true, false, All, Contains, List, [], Option, Some, IfSome, length, map, option_map, slice_get, slice_index_or, refl, sym, ap, subst}
+use Rattle.std.proofs.Common.{◌≡◌, ◌∙◌, ℕ, ◌<◌, Bool, true, false, All, List, [], Option, Some, IfSome, length, option_map, slice_get, slice_index_or, refl, sym, ap, subst}
 use Rattle.std.specs.List.{flat_map}
-use Rattle.std.proofs.Math.Logic.{∥∥₁_elim, ∥∥₁_map, ∥∥₁_map₂, ∥∥₁_prop}
+use Rattle.std.proofs.Math.Logic.{∥∥₁_map, ∥∥₁_map₂}
 use Rattle.std.proofs.lemmas.List.Elements.{All-same}
 use Rattle.std.proofs.lemmas.Option.{slice_get-get_or, slice_get_within}
 use Rattle.vio_num.specs.declared.history.Grant.{Grant}
@@ -11,15 +11,12 @@ use Rattle.crq_ring.specs.Pipe.{PipeValue, IsLawfulPipe}
 use Rattle.crq_ring.specs.declared.rows.PipeRow.{PipeRow}
 use Rattle.crq_session.specs.PlainState.{end_of, side_of}
 use Rattle.tce_window.specs.PlainPort.{known_of}
-use Rattle.rdma_copy.specs.Copies.{side_of as side_at}
-use Rattle.rdma_copy.specs.Copy.{Side, SideGrows}
 use Rattle.rdma_copy.specs.declared.copy.CopyRecord.{CopyRecord}
 use Rattle.block_server.proofs.CargoLaws.{delivered_at_rest, fetched_of_rows}
 use Rattle.block_server.specs.Books.{books_seen}
 use Rattle.block_server.specs.Cargo.{is_loaded}
-use Rattle.block_server.specs.Causes.{Hearing, Includes, News, Told, told_to}
+use Rattle.block_server.specs.Causes.{Hearing, Includes, Told, told_to}
 use Rattle.block_server.specs.Judged.{AreKept, IsAtStage, Judged}
-use Rattle.block_server.specs.Makers.{same_unit as same_name}
 use Rattle.block_server.specs.Ready.{HasNothing}
 use Rattle.block_server.specs.Refusals.{AreExplained, HasRefusal, basis_seen}
 use Rattle.block_server.specs.Written.{IsAnswerWritten}
@@ -39,29 +36,26 @@ use Rattle.vcpu_run.specs.declared.pair.Pair.{Pair}
 use Rattle.vcpu_run.specs.declared.script.Script.{Script}
 use Rattle.vcpu_run.specs.declared.unit_seat.Seat.TheVariants as sits
 use Rattle.vcpu_run.specs.declared.unit_seat.UnitSeat.{UnitSeat}
-use Rattle.vcpu_run.specs.CopyRows.{copy_row, same_unit}
+use Rattle.vcpu_run.specs.CopyRows.{same_unit}
 use Rattle.vcpu_run.specs.Gathered.{HasLawfulQueue, HasLawfulWindow, queue_at, rows_if, sessions_at, trace_of}
-use Rattle.vcpu_run.specs.Heard.{AreTold, IsTold, TellsPairs, heard_at}
+use Rattle.vcpu_run.specs.Heard.{AreTold, IsTold}
 use Rattle.vcpu_run.specs.Intake.{entries_taken, rows_taken}
-use Rattle.vcpu_run.specs.Machines.{ArePlanned, AreScripts, IsOfPlan, server_id}
-use Rattle.vcpu_run.specs.News.{hearing}
+use Rattle.vcpu_run.specs.Machines.{AreScripts, IsOfPlan, server_id}
 use Rattle.vcpu_run.specs.Pairs.{AreOfOneHome}
 use Rattle.vcpu_run.specs.Received.{AreAtRest}
 use Rattle.vcpu_run.specs.RowsCopied.{IsCopied, RefusalsAreDenied, RowsAreCopied, shown_to}
 use Rattle.vcpu_run.specs.Sessions.{session_rows}
-use Rattle.vcpu_run.specs.Shown.{pages_at, sessions_of, window_shown}
+use Rattle.vcpu_run.specs.Shown.{sessions_of}
 use Rattle.vcpu_run.specs.Units.{seats_of, unit_seat}
-use Rattle.vcpu_run.proofs.Copied.{names_apart, windows_shown}
+use Rattle.vcpu_run.proofs.Copied.{names_apart}
 use Rattle.vcpu_run.proofs.Fetching.{all_taken}
 use Rattle.vcpu_run.proofs.Following.{each_from_all}
-use Rattle.vcpu_run.proofs.Hearings.{hearing_decided, hearing_on}
 use Rattle.vcpu_run.proofs.Listed.{held, some_is}
-use Rattle.vcpu_run.proofs.Naming.{one_unit}
 use Rattle.vcpu_run.proofs.Parts.{IsIn, each_in, found}
 use Rattle.vcpu_run.proofs.Placing.{seats_ordered}
 use Rattle.vcpu_run.proofs.QueueLaws.{sessions_told}
-use Rattle.vcpu_run.proofs.RowCopies.{copied_more, refusals_more, row_in_all, written_each}
-use Rattle.vcpu_run.proofs.Seated.{IsSeated, IsSeatedAt, all_seated, planned_in}
+use Rattle.vcpu_run.proofs.RowCopies.{copied_more, refusals_more, written_each}
+use Rattle.vcpu_run.proofs.Seated.{planned_in}
 use Rattle.vcpu_run.proofs.Settling.{emptied}
 use Rattle.vcpu_run.proofs.Sole.{same_refl}
 use Rattle.vcpu_run.proofs.ToldAll.{shown_all}

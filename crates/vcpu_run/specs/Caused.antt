@@ -1,6 +1,6 @@
 -- What the turns of a run leave of the server's disk, by what its units were told: each row has its cause in what the trace shows
 -- (SRP, "SRP_RSP response").
-use Rattle.std.specs.Prelude.{◌≡◌, ℕ, Bool, List, Option, IfSome}
+use Rattle.std.specs.Prelude.{ℕ, Bool, List, Option, IfSome}
 use Rattle.vio_num.specs.declared.history.Served.{Served}
 use Rattle.vio_num.specs.declared.names.UnitId.{UnitId}
 use Rattle.rdma_copy.specs.declared.copy.CopyRecord.{CopyRecord}

@@ -1,7 +1,6 @@
 -- What a run shows of what its client's window told a server unit: the copies between the two windows, byte by byte, and what the
 -- client's denied (SRP, "Virtual SCSI"; LoPAR, "H_COPY_RDMA").
 use Rattle.std.specs.Prelude.{◌≡◌, ℕ, ◌/◌, ◌<◌, ◌≤◌, true, false, List, Some, length, slice_get}
-use Rattle.vio_num.specs.declared.names.UnitId.{UnitId}
 use Rattle.page_slots.specs.declared.stroke.StrokeName.{StrokeName}
 use Rattle.tce_window.specs.Grant.{grants, told}
 use Rattle.tce_window.specs.Moved.{IsReadFrom, IsWrittenTo}
