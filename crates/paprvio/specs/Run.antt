@@ -6,6 +6,7 @@ use Rattle.boot_text.specs.BootText.{plan_of, refused, SaysPlan}
 use Rattle.boot_text.specs.declared.cause.Cause.{Cause}
 use Rattle.boot_text.specs.declared.plan.Plan.{Plan}
 use Rattle.boot_text.specs.declared.read.TheConstants.{MOST_TEXT}
+use Rattle.vcpu_run.specs.Caused.{LeadsCaused}
 use Rattle.vcpu_run.specs.OnDisk.{LeadsOn}
 use Rattle.vcpu_run.specs.RunLaw.{KeepsLaw}
 use Rattle.vio_io.specs.Image.{ImageState, AreWhole}
@@ -51,10 +52,11 @@ abbrev pub Says : (boot : List ℕ) → Plan → Type 0
 Says boot plan = SaysPlan (plan_of boot) plan
 
 -- A trace that keeps the law of a run of the plan, whose rows of served requests lead from the blocks of the image to those that
--- it then has; an image that told its blocks still tells them.
+-- it then has, each with a cause that the trace shows; an image that told its blocks still tells them.
 pub record IsTraceOn (plan : Plan) (image image' : ImageState) (trace : Trace) : Type 0 where
   pub lawful : KeepsLaw plan trace
   pub served : LeadsOn trace.serves image.blocks image'.blocks
+  pub caused : LeadsCaused plan.partitions trace image.blocks image'.blocks
   pub tells : IfSome image.blocks (λ blocks. IsSome image'.blocks)
 
 -- the text of such a trace

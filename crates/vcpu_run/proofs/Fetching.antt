@@ -24,7 +24,7 @@ use Rattle.rdma_copy.specs.declared.copy.CopyRecord.{CopyRecord}
 use Rattle.block_server.proofs.BookLaws.{served_at_rest}
 use Rattle.block_server.specs.Books.{books_seen}
 use Rattle.block_server.specs.Closings.{HasCauses}
-use Rattle.block_server.specs.Judged.{AreKept, IsWorkDone, Judged, RowKey, keys_of}
+use Rattle.block_server.specs.Judged.{AreKept, HasLimit, IsWorkDone, Judged, RowKey, keys_of}
 use Rattle.block_server.specs.Makers.{same_unit as same_name}
 use Rattle.block_server.specs.Ready.{HasNothing}
 use Rattle.block_server.specs.Moves.{Fetches, begin_on, is_intake}
@@ -78,7 +78,7 @@ flat_is : (unit : UnitId) (pipe : PipeValue) (q n : ℕ) → flat_map rows_taken
 flat_is unit pipe q zero = refl
 flat_is unit pipe q (suc n) = ap₂ (λ (a b : List PipeRow). a ++ b) (rows_again q pipe.taken) (flat_is unit pipe (q + 1) n)
 
-all_taken : (unit : UnitId) (pipe : PipeValue) → IsLawfulPipe pipe → AreBegun pipe.taken → flat_map rows_taken (session_rows unit pipe) ≡ pipe.taken
+pub all_taken : (unit : UnitId) (pipe : PipeValue) → IsLawfulPipe pipe → AreBegun pipe.taken → flat_map rows_taken (session_rows unit pipe) ≡ pipe.taken
 all_taken unit pipe laws begun =
     flat_is unit pipe 1 pipe.session
     ∙ all_flat pipe.session pipe.taken (ordered_from (λ (a b : PipeRow). a.session ≤ b.session) pipe.taken laws.taken.in_order)
@@ -246,14 +246,15 @@ taken_in_at partitions trace server client u pair copies receipts laws begun non
 served_in_at : (partitions : List Partition) (trace : Trace) (server client : UnitId) (id : UnitId) (judged : List Judged) (taken : IsTakenIn partitions trace server client)
     → map (λ (j : Judged). j.receipt) judged ≡ taken.receipts → id ≡ server → IsWorkDone id trace.serves trace.grants judged
     → All (λ (row : RowKey). same_name row.unit id ≡ true → 1 ≤ row.login) (keys_of trace.serves)
-    → HasCauses id (entries_taken trace server) judged trace.grants → IsServedIn partitions trace server client
-served_in_at partitions trace server client id judged taken receipts name done under causes = record {
+    → HasCauses id (entries_taken trace server) judged trace.grants → All (HasLimit id (keys_of trace.serves) judged) trace.grants → IsServedIn partitions trace server client
+served_in_at partitions trace server client id judged taken receipts name done under causes limits = record {
   judged = judged;
   taken = taken;
   receipts = receipts;
   done = subst (λ (name : UnitId). IsWorkDone name trace.serves trace.grants judged) name done;
   under = subst (λ (name : UnitId). All (λ (row : RowKey). same_name row.unit name ≡ true → 1 ≤ row.login) (keys_of trace.serves)) name under;
   causes = subst (λ (name : UnitId). HasCauses name (entries_taken trace server) judged trace.grants) name causes;
+  limits = subst (λ (name : UnitId). All (HasLimit name (keys_of trace.serves) judged) trace.grants) name limits;
 }
 
 pub requests_are_served : (pairs : List Pair) (scripts : List Script) (lan : LanValue) (rows : LanRows) (history : List Served) (grants : List Grant) (copies : List CopyRecord) (partitions : List Partition)
@@ -296,7 +297,7 @@ requests_are_served pairs scripts lan rows history grants copies partitions home
     served_in_at partitions trace server client pair.own.unit has.0 taken.0 (sym taken.1) own
     (served_at_rest rests.units server.unit u.0 pair.own.unit (end_of [] pair.link true) history grants has.0 u.1 u.2.pending has.1.kept) kept.under
     (subst (λ (rows : List PipeRow). HasCauses pair.own.unit rows has.0 trace.grants)
-    (sym (ap (flat_map rows_taken) sessions ∙ all_taken server pipe laws received.begun)) kept.lines.causes))
+    (sym (ap (flat_map rows_taken) sessions ∙ all_taken server pipe laws received.begun)) kept.lines.causes) kept.counted.limits)
 
 pub entries_are_fetched : (partitions : List Partition) (trace : Trace) → RequestsAreServed partitions trace → EntriesAreFetched partitions trace
 entries_are_fetched partitions trace served server client serves drives = ∥∥₁_map (served server client serves drives) (λ is. is.taken)

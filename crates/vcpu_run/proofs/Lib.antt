@@ -6,6 +6,8 @@ pub mod Askings
 pub mod Blocks
 pub mod Booted
 pub mod Calls
+pub mod Causings
+pub mod Choices
 pub mod ClientsTold
 pub mod Copied
 pub mod Crediting
@@ -19,6 +21,8 @@ pub mod Following
 pub mod FramesCarried
 pub mod Freed
 pub mod GivenAnswers
+pub mod HeardTurns
+pub mod Hearings
 pub mod Homes
 pub mod Idling
 pub mod InSessions
@@ -54,6 +58,7 @@ pub mod RecordLaws
 pub mod RefusalsTold
 pub mod Requesting
 pub mod Resting
+pub mod RowCopies
 pub mod Sayings
 pub mod RoundsTold
 pub mod Scripted
@@ -67,6 +72,8 @@ pub mod Sole
 pub mod TakesTold
 pub mod Tellings
 pub mod Told
+pub mod ToldAll
+pub mod ToldRows
 pub mod Unfreed
 pub mod Waiting
 pub mod Working

@@ -24,6 +24,7 @@ use Rattle.vcpu_run.specs.Requests.{RequestsAreServed}
 use Rattle.vcpu_run.specs.ScriptTold.{AreTold}
 use Rattle.vcpu_run.specs.Settled.{ClientsAreSettled, ServersAreSettled}
 use Rattle.vcpu_run.specs.RunLaw.{CopiesAreLawful, CreditsAreKept, KeepsLawOf, PortsKeepLaw, QueuesAreLawful, RecordsAreOfLines}
+use Rattle.vcpu_run.specs.RowsCopied.{LinesAreExplained, RowsAreCopied}
 
 -- a law of traces is kept over each plan that this is the machine of
 abbrev pub Keeps : (List Partition → Trace → Type 0) → List Pair → List Script → List PortSeat → Trace → Type 0
@@ -45,9 +46,11 @@ pub law_told : {E : Type 0} (r : Result Trace E) (o : Option Trace) (pairs : Lis
     → IfOk r (KeepsOnce (AreAtRest copies_made lines history pairs scripts) ClientsAreSettled pairs scripts ports)
     → IfOk r (KeepsOnce (AreAtRest copies_made lines history pairs scripts) EntriesAreFetched pairs scripts ports)
     → IfOk r (KeepsOnce (AreAtRest copies_made lines history pairs scripts) RequestsAreServed pairs scripts ports)
-    → IfOk r (KeepsOnce (AreAtRest copies_made lines history pairs scripts) AnswersAreGiven pairs scripts ports) → AreAtRest copies_made lines history pairs scripts
+    → IfOk r (KeepsOnce (AreAtRest copies_made lines history pairs scripts) AnswersAreGiven pairs scripts ports)
+    → IfOk r (KeepsOnce (AreAtRest copies_made lines history pairs scripts) RowsAreCopied pairs scripts ports)
+    → IfOk r (KeepsOnce (AreAtRest copies_made lines history pairs scripts) LinesAreExplained pairs scripts ports) → AreAtRest copies_made lines history pairs scripts
     → IfSome o (Keeps KeepsLawOf pairs scripts ports)
-law_told (Ok trace) o pairs scripts ports history copies_made lines e order queues copies records over credits are refusals said answers answered keeps lan words tells settled handed intake requests given rests =
+law_told (Ok trace) o pairs scripts ports history copies_made lines e order queues copies records over credits are refusals said answers answered keeps lan words tells settled handed intake requests given copied explained rests =
     subst (λ (o : Option Trace). IfSome o (Keeps KeepsLawOf pairs scripts ports)) (sym e)
     (λ partitions of_plan. record {
       order = order;
@@ -64,8 +67,10 @@ law_told (Ok trace) o pairs scripts ports history copies_made lines e order queu
       intake = intake partitions of_plan rests;
       requests = requests partitions of_plan rests;
       given = given partitions of_plan rests;
+      copied = copied partitions of_plan rests;
+      explained = explained partitions of_plan rests;
     })
-law_told (Err error) o pairs scripts ports history copies_made lines e order queues copies records over credits are refusals said answers answered keeps lan words tells settled handed intake requests given rests =
+law_told (Err error) o pairs scripts ports history copies_made lines e order queues copies records over credits are refusals said answers answered keeps lan words tells settled handed intake requests given copied explained rests =
     subst (λ (o : Option Trace). IfSome o (Keeps KeepsLawOf pairs scripts ports)) (sym e) tt
 
 -- the rows that were served
@@ -73,3 +78,8 @@ pub served_told : {E : Type 0} (r : Result Trace E) (o : Option Trace) (rows : L
     → IfSome o (λ told. told.serves ≡ rows)
 served_told (Ok told) o rows e is = subst (λ (o : Option Trace). IfSome o (λ told. told.serves ≡ rows)) (sym e) is
 served_told (Err error) o rows e is = subst (λ (o : Option Trace). IfSome o (λ told. told.serves ≡ rows)) (sym e) tt
+
+-- whatever is said of the trace
+pub said_told : {E : Type 0} (r : Result Trace E) (o : Option Trace) (P : Trace → Type 0) → o ≡ result_ok r → IfOk r P → IfSome o P
+said_told (Ok told) o P e is = subst (λ (o : Option Trace). IfSome o P) (sym e) is
+said_told (Err error) o P e is = subst (λ (o : Option Trace). IfSome o P) (sym e) tt

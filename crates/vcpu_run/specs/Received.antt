@@ -8,12 +8,15 @@ use Rattle.rdma_copy.specs.declared.copy.CopyRecord.{CopyRecord}
 use Rattle.block_server.specs.Judged.{Judged}
 use Rattle.block_server.specs.Judges.{HasJudged}
 use Rattle.block_server.specs.Owed.{HaveAnswers}
+use Rattle.block_server.specs.declared.records.Records.{Records}
 use Rattle.block_server.specs.declared.unit.Unit.{Unit}
 use Rattle.vcpu_run.specs.declared.pair.Pair.{Pair}
 use Rattle.vcpu_run.specs.declared.script.Script.{Script}
 use Rattle.vcpu_run.specs.Answered.{AreBegun, IsBehind}
+use Rattle.vcpu_run.specs.Heard.{AreHeard}
 use Rattle.vcpu_run.specs.Freeing.{KeepQueues}
 use Rattle.vcpu_run.specs.Links.{AreIdle}
+use Rattle.vcpu_run.specs.Machines.{server_id}
 
 -- these are the entries that server unit k took, each with its receipt and its fate
 abbrev pub HasEntries : List Unit → List CopyRecord → List Grant → List Served → (k : ℕ) → Pair → List Judged → Type 0
@@ -38,9 +41,16 @@ IsFresh pair = (side_of pair.link true).queue.taken ≡ []
 abbrev pub AreFresh : List Pair → Type 0
 AreFresh pairs = (k : ℕ) (pair : Pair) → slice_get pairs k ≡ Some pair → IsFresh pair
 
--- A machine whose run ended: its units wait, and each server unit has its receipts.
+-- A machine whose run ended: its units wait, each server unit has its receipts, and what goes by what it was told is so.
 pub record AreAtRest (copies : List CopyRecord) (grants : List Grant) (history : List Served) (pairs : List Pair) (scripts : List Script) : Type 0 where
   pub units : List Unit
   pub idle : AreIdle units pairs scripts
   pub unfreed : KeepQueues pairs scripts
   pub received : AreReceived units copies grants history pairs
+  pub size : ℕ
+  pub partition : ℕ
+  pub records : Records
+  pub rows_are : records.history.items ≡ history
+  pub lines_are : records.grants.items ≡ grants
+  pub names : (k : ℕ) (pair : Pair) → slice_get pairs k ≡ Some pair → pair.own.unit ≡ server_id partition k
+  pub heard : AreHeard size partition units records copies pairs

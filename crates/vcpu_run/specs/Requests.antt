@@ -3,7 +3,7 @@
 use Rattle.std.specs.Prelude.{◌≡◌, ◌≤◌, ℕ, true, All, List, map}
 use Rattle.vio_num.specs.declared.names.UnitId.{UnitId}
 use Rattle.block_server.specs.Closings.{HasCauses}
-use Rattle.block_server.specs.Judged.{IsWorkDone, Judged, keys_of}
+use Rattle.block_server.specs.Judged.{HasLimit, IsWorkDone, Judged, keys_of}
 use Rattle.block_server.specs.Makers.{same_unit}
 use Rattle.boot_text.specs.Sound.{IsClientOf, IsServer}
 use Rattle.boot_text.specs.declared.plan.Partition.{Partition}
@@ -14,7 +14,8 @@ use Rattle.vcpu_run.specs.Intake.{IsTakenIn, entries_taken}
 -- login; it asks to end its login; or it is a command or a task under a login that was granted in its session before it. Of each
 -- login the rows are the first of its commands and tasks, each once and in order, with the bytes that were fetched: all of them,
 -- unless a line ends the login for another cause than its client's logout. No row is of no login. And each line on its logins has
--- the cause that it says, in what the unit took and in these fates.
+-- the cause that it says, in what the unit took and in these fates; one that says more was outstanding than granted says exactly how
+-- many of the login's commands and tasks had no answer.
 pub record IsServedIn (partitions : List Partition) (trace : Trace) (server client : UnitId) : Type 0 where
   pub judged : List Judged
   pub taken : IsTakenIn partitions trace server client
@@ -22,6 +23,7 @@ pub record IsServedIn (partitions : List Partition) (trace : Trace) (server clie
   pub done : IsWorkDone server trace.serves trace.grants judged
   pub under : All (λ row. same_unit row.unit server ≡ true → 1 ≤ row.login) (keys_of trace.serves)
   pub causes : HasCauses server (entries_taken trace server) judged trace.grants
+  pub limits : All (HasLimit server (keys_of trace.serves) judged) trace.grants
 
 -- of each server unit that has a client
 abbrev pub RequestsAreServed : List Partition → Trace → Type 0

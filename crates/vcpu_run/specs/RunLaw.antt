@@ -1,6 +1,6 @@
 -- The law of a run, so far as it is proved: what its trace says of its queues, its copies and windows, its
 -- records, the credits and the refusals that they tell of, the answers that were sent, its LAN ports and what is told of them, how it ends, what its server units took in,
--- which of it they served, and that each of that has its answer.
+-- which of it they served, that each of that has its answer, and which copies moved its answer and its data.
 use Rattle.std.specs.Prelude.{◌≡◌, ◌⊎◌, ℕ, ◌+◌, ◌*◌, ◌<◌, ◌≤◌, List, [], ◌∷◌, All, Option, Some, None, length, map, slice_get}
 use Rattle.std.specs.List.{AllPairs}
 use Rattle.vio_num.specs.Queue.{Handed, LawfulDrop}
@@ -31,6 +31,7 @@ use Rattle.vcpu_run.specs.PortWords.{PortsAreTold}
 use Rattle.vcpu_run.specs.StrokeMakers.{StrokesAreMade}
 use Rattle.vcpu_run.specs.Refusals.{RefusalsAreTold}
 use Rattle.vcpu_run.specs.Requests.{RequestsAreServed}
+use Rattle.vcpu_run.specs.RowsCopied.{LinesAreExplained, RowsAreCopied}
 use Rattle.vcpu_run.specs.Settled.{ClientsAreSettled, ServersAreSettled, script_of}
 use Rattle.vcpu_run.specs.Shown.{pages_at, puts_into, records_of, sessions_of, strokes_on, window_shown}
 
@@ -126,6 +127,8 @@ pub record KeepsLawOf (partitions : List Partition) (trace : Trace) : Type 0 whe
   pub intake : EntriesAreFetched partitions trace
   pub requests : RequestsAreServed partitions trace
   pub given : AnswersAreGiven partitions trace
+  pub copied : RowsAreCopied partitions trace
+  pub explained : LinesAreExplained partitions trace
 
 abbrev pub KeepsLaw : Plan → Trace → Type 0
 KeepsLaw plan trace = KeepsLawOf plan.partitions trace

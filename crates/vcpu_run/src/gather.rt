@@ -6,6 +6,7 @@ ghost use Rattle.vcpu_run.specs.Gathered.{logs_of, sessions_at, answer_by, answe
 ghost use Rattle.boot_text.specs.declared.plan.Partition.{Partition};
 ghost use Rattle.vio_trace.specs.Form.{IsInOrder};
 ghost use Rattle.vcpu_run.specs.Agreed.{AreCredited};
+ghost use Rattle.vcpu_run.specs.Caused.{IsShownAll};
 ghost use Rattle.vcpu_run.specs.Answered.{AreAnswered};
 ghost use Rattle.vcpu_run.specs.AnswersSent.{AnswersAreGiven, AnswersAreSent};
 ghost use Rattle.vcpu_run.specs.Lines.{IsOver};
@@ -16,6 +17,7 @@ ghost use Rattle.vcpu_run.specs.PortWords.{PortsAreTold, PortsTell};
 ghost use Rattle.vcpu_run.specs.Received.{AreAtRest};
 ghost use Rattle.vcpu_run.specs.Refusals.{RefusalsAreTold};
 ghost use Rattle.vcpu_run.specs.Requests.{RequestsAreServed};
+ghost use Rattle.vcpu_run.specs.RowsCopied.{LinesAreExplained, RowsAreCopied};
 ghost use Rattle.vcpu_run.specs.ScriptTold.{AreTold};
 ghost use Rattle.vcpu_run.specs.Units.{seats_of};
 ghost use Rattle.vcpu_run.specs.Settled.{ClientsAreSettled, ServersAreSettled};
@@ -98,6 +100,17 @@ pub(crate) fn gather(
         IsOfPlan partitions pairs.items scripts.entry.items lan.seats →
         AreAtRest copies.items grants.items history.items pairs.items scripts.entry.items →
         AnswersAreGiven partitions trace) }
+    ensures copied { IfOk result (λ trace. (partitions : List Partition) →
+        IsOfPlan partitions pairs.items scripts.entry.items lan.seats →
+        AreAtRest copies.items grants.items history.items pairs.items scripts.entry.items →
+        RowsAreCopied partitions trace) }
+    ensures explained { IfOk result (λ trace. (partitions : List Partition) →
+        IsOfPlan partitions pairs.items scripts.entry.items lan.seats →
+        AreAtRest copies.items grants.items history.items pairs.items scripts.entry.items →
+        LinesAreExplained partitions trace) }
+    ensures shown { IfOk result (λ trace. (partitions : List Partition) →
+        IsOfPlan partitions pairs.items scripts.entry.items lan.seats →
+        IsShownAll partitions trace copies.items pairs.items) }
 {
     rows_of(alloc, pairs, scripts, lan, history, grants, copies)
 }

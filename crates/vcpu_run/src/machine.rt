@@ -4,7 +4,9 @@ ghost use Rattle.boot_text.specs.Sound.{AreSound, IsSound};
 ghost use Rattle.boot_text.specs.declared.plan.Partition.{Partition};
 ghost use Rattle.block_server.specs.DiskLaw.{KeepsDisk};
 ghost use Rattle.vcpu_run.specs.Agreed.{AreCredited};
+ghost use Rattle.vcpu_run.specs.Caused.{IsShownAll, KeepsCaused, LeadsCaused};
 ghost use Rattle.vcpu_run.specs.Answered.{AreAnswered};
+ghost use Rattle.vcpu_run.specs.Heard.{AreHeard};
 ghost use Rattle.vcpu_run.specs.Lines.{IsOver};
 ghost use Rattle.vcpu_run.specs.Freeing.{KeepQueues};
 ghost use Rattle.vcpu_run.specs.Links.{AreLinked};
@@ -73,6 +75,10 @@ impl<'p, Di: Blocks> Machine<'p, Di> {
         ensures received { IfOk result (λ machine. AreReceived machine.server.units.items
             machine.server.copies.items machine.server.records.grants.items
             machine.server.records.history.items machine.pairs.items) }
+        ensures heard { IfOk result (λ machine.
+            AreHeard machine.server.disk.count machine.server.partition
+            machine.server.units.items machine.server.records
+            machine.server.copies.items machine.pairs.items) }
         ensures none { IfOk result (λ machine. machine.server.records.history.items ≡ []) }
         ensures linked { IfOk result (λ machine.
             AreLinked machine.server.units.items machine.pairs.items) }
@@ -119,11 +125,19 @@ impl<'p, Di: Blocks> Machine<'p, Di> {
         requires received { AreReceived self.server.units.items self.server.copies.items
             self.server.records.grants.items self.server.records.history.items
             self.pairs.items }
+        requires heard { AreHeard self.server.disk.count self.server.partition
+            self.server.units.items self.server.records
+            self.server.copies.items self.pairs.items }
         requires linked { AreLinked self.server.units.items self.pairs.items }
         requires unfreed { KeepQueues self.pairs.items self.scripts.items }
         ensures law { IfSome result.trace (λ trace. (partitions : List Partition) →
             IsOfPlan partitions self.entry.pairs.items self.entry.scripts.items
             self.entry.lan.seats → KeepsLawOf partitions trace) }
+        ensures caused { IfSome result.trace (λ trace. (partitions : List Partition) →
+            IsOfPlan partitions self.entry.pairs.items self.entry.scripts.items
+            self.entry.lan.seats → KeepsCaused partitions trace
+            self.entry.server.records.history.items
+            (Di.state self.entry.server.disk.image).blocks (Di.state result.image).blocks) }
         ensures disk { IfSome result.trace (λ trace. ∥ KeepsDisk
             self.entry.server.records.history.items trace.serves
             (Di.state self.entry.server.disk.image).blocks (Di.state result.image).blocks ∥₁) }
@@ -152,8 +166,8 @@ impl<'p, Di: Blocks> Machine<'p, Di> {
 }
 
 /// Runs a plan over an image of `count` blocks until nothing moves any more. Its trace keeps the law of the
-/// plan's runs, and its rows lead from the image's blocks to those that the image then has. Where memory runs
-/// out, the image has the blocks to which the commands lead that were served till then.
+/// plan's runs, and its rows lead from the image's blocks to those that the image then has, each with a cause that
+/// the trace shows. Where memory runs out, the image has the blocks to which the commands lead that were served till then.
 pub fn settle_plan<Di: Blocks + Drop>(
     alloc: Global,
     plan: &Plan,
@@ -163,6 +177,8 @@ pub fn settle_plan<Di: Blocks + Drop>(
     requires sound { IsSound plan.now }
     requires count { count ≡ (Di.state image).size }
     ensures law { IfSome result.trace (KeepsLaw plan.now) }
+    ensures caused { IfSome result.trace (λ trace. LeadsCaused plan.now.partitions trace
+        (Di.state image).blocks (Di.state result.image).blocks) }
     ensures disk { IfSome result.trace (λ trace. LeadsOn trace.serves
         (Di.state image).blocks (Di.state result.image).blocks) }
     ensures tells { IfSome (Di.state image).blocks (λ _. IsSome (Di.state result.image).blocks) }
@@ -195,6 +211,9 @@ fn trace_of(
     requires rests { OnOk run (AreAtRest copies.items grants.items history.items
         pairs.items scripts.items) }
     ensures serves { IfSome result (λ trace. trace.serves ≡ history.items) }
+    ensures shown { IfSome result (λ trace. (partitions : List Partition) →
+        IsOfPlan partitions pairs.items scripts.entry.items lan.seats →
+        IsShownAll partitions trace copies.items pairs.items) }
     ensures law { IfSome result (λ trace. (partitions : List Partition) →
         IsOfPlan partitions pairs.items scripts.entry.items lan.seats → KeepsLawOf partitions trace) }
 {

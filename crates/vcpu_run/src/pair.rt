@@ -1,11 +1,15 @@
 // A server unit and its client unit: the link between them, and both windows.
-ghost use Rattle.std.specs.Prelude.{◌≡◌, ◌≢◌, ◌*◌, ◌<◌, ℕ, [], true, None, IfOk, IfSome, OnOk, slice_get, vec_len, false};
+ghost use Rattle.std.specs.Prelude.{◌≡◌, ◌≢◌, ◌*◌, ◌<◌, ℕ, Bool, [], true, None, IfOk, IfSome, OnOk, slice_get, vec_len, false};
 ghost use Rattle.boot_text.specs.Sound.{IsFrom};
 ghost use Rattle.boot_text.specs.declared.statement.TheConstants.{MOST_QUEUE};
 ghost use Rattle.crq_session.specs.PlainState.{side_of, IsNewLink};
 ghost use Rattle.vcpu_run.specs.Agreed.{IsLoggedOut};
 ghost use Rattle.vcpu_run.specs.Answered.{IsAnswered, IsBegun};
 ghost use Rattle.vcpu_run.specs.Freed.{FreesNoneAt};
+ghost use Rattle.block_server.specs.Causes.{Told};
+ghost use Rattle.block_server.specs.DiskLaw.{KeepsDiskBy};
+ghost use Rattle.block_server.specs.Units.{AreInOrder};
+ghost use Rattle.vcpu_run.specs.Heard.{AreTold, IsTold, ShowsMore, TellsPair};
 ghost use Rattle.vcpu_run.specs.Links.{IsClosed, IsLinked, ServerWaits, link_state};
 ghost use Rattle.vcpu_run.specs.Machines.{FitsSeat, HasSeat, SitsAt, Stays, server_id};
 ghost use Rattle.vcpu_run.specs.Named.{HasWindow};
@@ -164,6 +168,33 @@ impl Pair {
             server.old.records.grants.items server.old.records.history.items k other →
             IsReceived server.new.units.items server.new.copies.items
             server.new.records.grants.items server.new.records.history.items k other }
+        ensures shows { ShowsMore server.old.copies.items server.new.copies.items
+            self.old self.new }
+        ensures own { self.new.own.unit ≡ self.old.own.unit }
+        ensures told { (told : Told → Bool) →
+            TellsPair told server.new.copies.items self.new →
+            AreTold told server.old.disk.count server.old.partition
+            server.old.units.items server.old.records →
+            AreTold told server.new.disk.count server.new.partition
+            server.new.units.items server.new.records }
+        ensures causes { (told : Told → Bool) →
+            TellsPair told server.new.copies.items self.new →
+            AreInOrder told server.old.disk.count server.old.partition
+            server.old.units.items server.old.records → KeepsDiskBy told
+            server.old.records.history.items server.new.records.history.items
+            (Di.state server.old.disk.image).blocks (Di.state server.new.disk.image).blocks }
+        ensures told_own { (told : Told → Bool) →
+            TellsPair told server.new.copies.items self.new →
+            AreTold told server.old.disk.count server.old.partition
+            server.old.units.items server.old.records →
+            IsTold told server.old.units.items server.old.records unit self.old →
+            IsTold told server.new.units.items server.new.records unit self.new }
+        ensures told_else { (told : Told → Bool) (k : ℕ) (other : Pair) → k ≢ unit →
+            other.own.unit ≡ server_id server.old.partition k →
+            AreInOrder told server.old.disk.count server.old.partition
+            server.old.units.items server.old.records →
+            IsTold told server.old.units.items server.old.records k other →
+            ∥ IsTold told server.new.units.items server.new.records k other ∥₁ }
         ensures units_else { (k : ℕ) → k ≢ unit →
             slice_get server.new.units.items k ≡ slice_get server.old.units.items k }
         ensures disk { LastsOnDisk server.old.records.history.items
@@ -221,6 +252,33 @@ impl Pair {
             server.old.records.grants.items server.old.records.history.items k other →
             IsReceived server.new.units.items server.new.copies.items
             server.new.records.grants.items server.new.records.history.items k other }
+        ensures shows { ShowsMore server.old.copies.items server.new.copies.items
+            self.old self.new }
+        ensures own { self.new.own.unit ≡ self.old.own.unit }
+        ensures told { (told : Told → Bool) →
+            TellsPair told server.new.copies.items self.new →
+            AreTold told server.old.disk.count server.old.partition
+            server.old.units.items server.old.records →
+            AreTold told server.new.disk.count server.new.partition
+            server.new.units.items server.new.records }
+        ensures causes { (told : Told → Bool) →
+            TellsPair told server.new.copies.items self.new →
+            AreInOrder told server.old.disk.count server.old.partition
+            server.old.units.items server.old.records → KeepsDiskBy told
+            server.old.records.history.items server.new.records.history.items
+            (Di.state server.old.disk.image).blocks (Di.state server.new.disk.image).blocks }
+        ensures told_own { (told : Told → Bool) →
+            TellsPair told server.new.copies.items self.new →
+            AreTold told server.old.disk.count server.old.partition
+            server.old.units.items server.old.records →
+            IsTold told server.old.units.items server.old.records unit self.old →
+            IsTold told server.new.units.items server.new.records unit self.new }
+        ensures told_else { (told : Told → Bool) (k : ℕ) (other : Pair) → k ≢ unit →
+            other.own.unit ≡ server_id server.old.partition k →
+            AreInOrder told server.old.disk.count server.old.partition
+            server.old.units.items server.old.records →
+            IsTold told server.old.units.items server.old.records k other →
+            ∥ IsTold told server.new.units.items server.new.records k other ∥₁ }
         ensures units_else { (k : ℕ) → k ≢ unit →
             slice_get server.new.units.items k ≡ slice_get server.old.units.items k }
         ensures disk { LastsOnDisk server.old.records.history.items

@@ -1,7 +1,9 @@
 // The turns of a round: one of each partition, in their order.
-ghost use Rattle.std.specs.Prelude.{◌≡◌, ◌≢◌, ◌+◌, ◌<◌, ⊤, ℕ, All, IfOk, IsSomeAnd, IsTrue, List, OnOk};
+ghost use Rattle.std.specs.Prelude.{◌≡◌, ◌≢◌, ◌+◌, ◌<◌, ⊤, ℕ, All, Bool, IfOk, IsSomeAnd, IsTrue, List, OnOk};
 ghost use Rattle.std.specs.Prelude.{length, slice_get, vec_len};
+ghost use Rattle.block_server.specs.Causes.{Told};
 ghost use Rattle.block_server.specs.declared.unit.Unit.{Unit};
+ghost use Rattle.block_server.specs.declared.records.Records.{Records};
 ghost use Rattle.std.specs.List.{list_all};
 ghost use Rattle.rdma_copy.specs.declared.copy.CopyRecord.{CopyRecord};
 ghost use Rattle.lan_script.specs.Units.{LanValue};
@@ -10,7 +12,9 @@ ghost use Rattle.vcpu_run.specs.declared.pair.Pair.{Pair};
 ghost use Rattle.vio_num.specs.declared.history.Served.{Served};
 ghost use Rattle.vcpu_run.specs.Agreed.{AreCredited, SameDrivers};
 ghost use Rattle.vcpu_run.specs.Answered.{AreAnswered};
+ghost use Rattle.vcpu_run.specs.Caused.{LastsBy};
 ghost use Rattle.vcpu_run.specs.OnDisk.{LastsOnDisk};
+ghost use Rattle.vcpu_run.specs.Heard.{AreHeard, TellsPairs};
 ghost use Rattle.vcpu_run.specs.Lines.{IsOver, is_over};
 ghost use Rattle.vcpu_run.specs.Links.{AreIdle, AreIdleTo, AreLinked, AreOverTo, RestsAt};
 ghost use Rattle.vcpu_run.specs.Links.{SeatsRestWhole, ServerWaits, ServersWait, links_of};
@@ -44,6 +48,8 @@ pub(crate) fn run<Di: Blocks>(
     requires answered { AreAnswered server.old.records.history.items pairs.old }
     requires received { AreReceived server.old.units.items server.old.copies.items
         server.old.records.grants.items server.old.records.history.items pairs.old }
+    requires heard { AreHeard server.old.disk.count server.old.partition
+        server.old.units.items server.old.records server.old.copies.items pairs.old }
     ensures machine { IsMachine server.new.partition (vec_len server.new.units)
         server.new.copies.items pairs.new scripts.new lan.new.seats }
     ensures stay { AllStay pairs.old pairs.new }
@@ -59,7 +65,12 @@ pub(crate) fn run<Di: Blocks>(
     ensures answered { AreAnswered server.new.records.history.items pairs.new }
     ensures received { AreReceived server.new.units.items server.new.copies.items
         server.new.records.grants.items server.new.records.history.items pairs.new }
+    ensures heard { AreHeard server.new.disk.count server.new.partition
+        server.new.units.items server.new.records server.new.copies.items pairs.new }
     ensures disk { LastsOnDisk server.old.records.history.items server.new.records.history.items
+        (Di.state server.old.disk.image).blocks (Di.state server.new.disk.image).blocks }
+    ensures causes { LastsBy server.old.copies.items server.new.copies.items
+        pairs.old pairs.new server.old.records.history.items server.new.records.history.items
         (Di.state server.old.disk.image).blocks (Di.state server.new.disk.image).blocks }
     ensures lan { lan.new.seats ≡ lan.old.seats }
     ensures idle { OnOk result (AreLinked server.old.units.items pairs.old →
@@ -104,6 +115,8 @@ fn step<Di: Blocks>(
     requires answered { AreAnswered server.old.records.history.items pairs.old }
     requires received { AreReceived server.old.units.items server.old.copies.items
         server.old.records.grants.items server.old.records.history.items pairs.old }
+    requires heard { AreHeard server.old.disk.count server.old.partition
+        server.old.units.items server.old.records server.old.copies.items pairs.old }
     ensures machine { IsMachine server.new.partition (vec_len server.new.units)
         server.new.copies.items pairs.new scripts.new lan.new.seats }
     ensures stay { AllStay pairs.old pairs.new }
@@ -118,7 +131,12 @@ fn step<Di: Blocks>(
     ensures answered { AreAnswered server.new.records.history.items pairs.new }
     ensures received { AreReceived server.new.units.items server.new.copies.items
         server.new.records.grants.items server.new.records.history.items pairs.new }
+    ensures heard { AreHeard server.new.disk.count server.new.partition
+        server.new.units.items server.new.records server.new.copies.items pairs.new }
     ensures disk { LastsOnDisk server.old.records.history.items server.new.records.history.items
+        (Di.state server.old.disk.image).blocks (Di.state server.new.disk.image).blocks }
+    ensures causes { LastsBy server.old.copies.items server.new.copies.items
+        pairs.old pairs.new server.old.records.history.items server.new.records.history.items
         (Di.state server.old.disk.image).blocks (Di.state server.new.disk.image).blocks }
     ensures lan { lan.new.seats ≡ lan.old.seats }
     ensures linked { OnOk result (AreLinked server.old.units.items pairs.old →
@@ -146,6 +164,8 @@ fn round<Di: Blocks>(
     requires answered { AreAnswered server.old.records.history.items pairs.old }
     requires received { AreReceived server.old.units.items server.old.copies.items
         server.old.records.grants.items server.old.records.history.items pairs.old }
+    requires heard { AreHeard server.old.disk.count server.old.partition
+        server.old.units.items server.old.records server.old.copies.items pairs.old }
     ensures machine { IsMachine server.new.partition (vec_len server.new.units)
         server.new.copies.items pairs.new scripts.new lan.new.seats }
     ensures stay { AllStay pairs.old pairs.new }
@@ -160,10 +180,15 @@ fn round<Di: Blocks>(
     ensures answered { AreAnswered server.new.records.history.items pairs.new }
     ensures received { AreReceived server.new.units.items server.new.copies.items
         server.new.records.grants.items server.new.records.history.items pairs.new }
+    ensures heard { AreHeard server.new.disk.count server.new.partition
+        server.new.units.items server.new.records server.new.copies.items pairs.new }
     ensures disk { LastsOnDisk server.old.records.history.items server.new.records.history.items
         (Di.state server.old.disk.image).blocks (Di.state server.new.disk.image).blocks }
     ensures out { IfOk result (λ moved. moved ≡ Moved.Quiet → AreTold pairs.old scripts.old →
         AreOutTo (length scripts.new) pairs.new scripts.new) }
+    ensures causes { LastsBy server.old.copies.items server.new.copies.items
+        pairs.old pairs.new server.old.records.history.items server.new.records.history.items
+        (Di.state server.old.disk.image).blocks (Di.state server.new.disk.image).blocks }
     ensures lan { lan.new.seats ≡ lan.old.seats }
     ensures linked { OnOk result (AreLinked server.old.units.items pairs.old →
         AreLinked server.new.units.items pairs.new) }
@@ -194,6 +219,8 @@ fn turn_at<Di: Blocks>(
     requires answered { AreAnswered server.old.records.history.items pairs.old }
     requires received { AreReceived server.old.units.items server.old.copies.items
         server.old.records.grants.items server.old.records.history.items pairs.old }
+    requires heard { AreHeard server.old.disk.count server.old.partition
+        server.old.units.items server.old.records server.old.copies.items pairs.old }
     ensures machine { IsMachine server.new.partition (vec_len server.new.units)
         server.new.copies.items pairs.new scripts.new lan.new.seats }
     ensures stay { AllStay pairs.old pairs.new }
@@ -208,10 +235,15 @@ fn turn_at<Di: Blocks>(
     ensures answered { AreAnswered server.new.records.history.items pairs.new }
     ensures received { AreReceived server.new.units.items server.new.copies.items
         server.new.records.grants.items server.new.records.history.items pairs.new }
+    ensures heard { AreHeard server.new.disk.count server.new.partition
+        server.new.units.items server.new.records server.new.copies.items pairs.new }
     ensures disk { LastsOnDisk server.old.records.history.items server.new.records.history.items
         (Di.state server.old.disk.image).blocks (Di.state server.new.disk.image).blocks }
     ensures out { IfOk result (λ moved. moved ≡ Moved.Quiet → AreTold pairs.old scripts.old →
         AreOutTo number pairs.old scripts.old → AreOutTo (number + 1) pairs.new scripts.new) }
+    ensures causes { LastsBy server.old.copies.items server.new.copies.items
+        pairs.old pairs.new server.old.records.history.items server.new.records.history.items
+        (Di.state server.old.disk.image).blocks (Di.state server.new.disk.image).blocks }
     ensures lan { lan.new.seats ≡ lan.old.seats }
     ensures linked { OnOk result (AreLinked server.old.units.items pairs.old →
         AreLinked server.new.units.items pairs.new) }
@@ -237,6 +269,8 @@ fn serve<Di: Blocks>(server: &mut Server<Di>, pairs: &mut [Pair]) -> Result<Move
     requires answered { AreAnswered server.old.records.history.items pairs.old }
     requires received { AreReceived server.old.units.items server.old.copies.items
         server.old.records.grants.items server.old.records.history.items pairs.old }
+    requires heard { AreHeard server.old.disk.count server.old.partition
+        server.old.units.items server.old.records server.old.copies.items pairs.old }
     ensures serving { IsServing server.new.partition (vec_len server.new.units)
         server.new.copies.items pairs.new }
     ensures stay { AllStay pairs.old pairs.new }
@@ -246,7 +280,12 @@ fn serve<Di: Blocks>(server: &mut Server<Di>, pairs: &mut [Pair]) -> Result<Move
     ensures answered { AreAnswered server.new.records.history.items pairs.new }
     ensures received { AreReceived server.new.units.items server.new.copies.items
         server.new.records.grants.items server.new.records.history.items pairs.new }
+    ensures heard { AreHeard server.new.disk.count server.new.partition
+        server.new.units.items server.new.records server.new.copies.items pairs.new }
     ensures disk { LastsOnDisk server.old.records.history.items server.new.records.history.items
+        (Di.state server.old.disk.image).blocks (Di.state server.new.disk.image).blocks }
+    ensures causes { LastsBy server.old.copies.items server.new.copies.items
+        pairs.old pairs.new server.old.records.history.items server.new.records.history.items
         (Di.state server.old.disk.image).blocks (Di.state server.new.disk.image).blocks }
     ensures linked { OnOk result (AreLinked server.old.units.items pairs.old →
         AreLinked server.new.units.items pairs.new) }
@@ -274,6 +313,8 @@ fn serve_at<Di: Blocks>(
     requires answered { AreAnswered server.old.records.history.items pairs.old }
     requires received { AreReceived server.old.units.items server.old.copies.items
         server.old.records.grants.items server.old.records.history.items pairs.old }
+    requires heard { AreHeard server.old.disk.count server.old.partition
+        server.old.units.items server.old.records server.old.copies.items pairs.old }
     ensures serving { IsServing server.new.partition (vec_len server.new.units)
         server.new.copies.items pairs.new }
     ensures stay { AllStay pairs.old pairs.new }
@@ -283,7 +324,12 @@ fn serve_at<Di: Blocks>(
     ensures answered { AreAnswered server.new.records.history.items pairs.new }
     ensures received { AreReceived server.new.units.items server.new.copies.items
         server.new.records.grants.items server.new.records.history.items pairs.new }
+    ensures heard { AreHeard server.new.disk.count server.new.partition
+        server.new.units.items server.new.records server.new.copies.items pairs.new }
     ensures disk { LastsOnDisk server.old.records.history.items server.new.records.history.items
+        (Di.state server.old.disk.image).blocks (Di.state server.new.disk.image).blocks }
+    ensures causes { LastsBy server.old.copies.items server.new.copies.items
+        pairs.old pairs.new server.old.records.history.items server.new.records.history.items
         (Di.state server.old.disk.image).blocks (Di.state server.new.disk.image).blocks }
     ensures linked { OnOk result (AreLinked server.old.units.items pairs.old →
         AreLinked server.new.units.items pairs.new) }
@@ -328,6 +374,11 @@ fn run_script(
         AreReceived units copies grants history pairs.new }
     ensures out { IfOk result (λ moved. moved ≡ Moved.Quiet → AreTold pairs.old scripts.old →
         AreOutTo number pairs.old scripts.old → AreOutTo (number + 1) pairs.new scripts.new) }
+    ensures tells { (copies : List CopyRecord) (told : Told → Bool) →
+        TellsPairs told copies pairs.new → TellsPairs told copies pairs.old }
+    ensures heard { (size partition : ℕ) (units : List Unit) (records : Records)
+        (copies : List CopyRecord) → AreHeard size partition units records copies pairs.old →
+        AreHeard size partition units records copies pairs.new }
     ensures lan { lan.new.seats ≡ lan.old.seats }
     ensures linked { (units : List Unit) → AreLinked units pairs.old → AreLinked units pairs.new }
     ensures idle { IfOk result (λ moved. moved ≡ Moved.Quiet →

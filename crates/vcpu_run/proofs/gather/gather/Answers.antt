@@ -13,6 +13,8 @@ use Rattle.vcpu_run.proofs.RefusalsTold.{refusals_are}
 use Rattle.vcpu_run.proofs.SentTo.{answers_are}
 use Rattle.vcpu_run.proofs.Settling.{handed_are, settled_are}
 use Rattle.std.proofs.Common.{refl}
+use Rattle.vcpu_run.proofs.ToldAll.{shown_all}
+use Rattle.vcpu_run.proofs.ToldRows.{lines_are_explained, rows_are_copied, rows_are_shown}
 use Rattle.vcpu_run.proofs.gather.gather.Goals as goal
 
 pub rows_of-requires : goal.rows_of-requires
@@ -102,3 +104,25 @@ pub returns-clause-refusals : goal.returns-clause-refusals
 returns-clause-refusals c =
     from_rows c.args.pairs.items c.args.scripts.items c.args.lan c.args.history.items c.args.grants.items c.args.copies.items c.rows_of.result _ _ c.rows_of.ensures.trace c.rows_of.ensures.queues
     (λ rows keeps ordered lawful partitions of_plan told. refusals_are c.args.pairs.items c.args.scripts.items c.args.lan rows c.args.history.items c.args.grants.items c.args.copies.items partitions c.requires.scripts of_plan told)
+
+pub returns-clause-copied : goal.returns-clause-copied
+returns-clause-copied c =
+    from_rows c.args.pairs.items c.args.scripts.items c.args.lan c.args.history.items c.args.grants.items c.args.copies.items c.rows_of.result _ _ c.rows_of.ensures.trace
+    (ok_pair c.rows_of.result _ _ c.rows_of.ensures.queues c.rows_of.ensures.windows)
+    (λ rows keeps ordered lawful partitions of_plan rests. rows_are_copied partitions _
+    (rows_are_shown c.args.pairs.items c.args.scripts.items c.args.lan rows c.args.history.items c.args.grants.items c.args.copies.items partitions
+    c.requires.pairs c.requires.scripts lawful.0 lawful.1 of_plan rests))
+
+pub returns-clause-explained : goal.returns-clause-explained
+returns-clause-explained c =
+    from_rows c.args.pairs.items c.args.scripts.items c.args.lan c.args.history.items c.args.grants.items c.args.copies.items c.rows_of.result _ _ c.rows_of.ensures.trace
+    (ok_pair c.rows_of.result _ _ c.rows_of.ensures.queues c.rows_of.ensures.windows)
+    (λ rows keeps ordered lawful partitions of_plan rests. lines_are_explained partitions _
+    (rows_are_shown c.args.pairs.items c.args.scripts.items c.args.lan rows c.args.history.items c.args.grants.items c.args.copies.items partitions
+    c.requires.pairs c.requires.scripts lawful.0 lawful.1 of_plan rests))
+
+pub returns-clause-shown : goal.returns-clause-shown
+returns-clause-shown c =
+    from_rows c.args.pairs.items c.args.scripts.items c.args.lan c.args.history.items c.args.grants.items c.args.copies.items c.rows_of.result _ _ c.rows_of.ensures.trace c.rows_of.ensures.windows
+    (λ rows keeps ordered lawful partitions of_plan. shown_all c.args.pairs.items c.args.scripts.items c.args.lan rows c.args.history.items c.args.grants.items c.args.copies.items partitions
+    c.requires.pairs c.requires.scripts lawful of_plan)

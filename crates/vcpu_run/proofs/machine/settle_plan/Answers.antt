@@ -1,8 +1,10 @@
-use Rattle.std.proofs.Common.{◌≡◌, List, [], IfSome, IsSome, subst, sym}
+use Rattle.std.proofs.Common.{◌≡◌, List, [], IfSome, IsSome, ap, subst, sym}
 use Rattle.vio_num.specs.declared.history.Served.{Served}
 use Rattle.block_server.specs.DiskLaw.{KeepsDisk}
 use Rattle.vcpu_run.specs.Answered.{AreAnswered}
 use Rattle.vcpu_run.specs.OnDisk.{IsServed, LastsInRows}
+use Rattle.vcpu_run.specs.Machines.{IsOfPlan}
+use Rattle.vcpu_run.proofs.Causings.{caused_of_plan}
 use Rattle.vcpu_run.proofs.Disks.{served_from, served_same, served_somehow, told_same}
 use Rattle.vcpu_run.proofs.machine.settle_plan.Goals as goal
 
@@ -41,3 +43,10 @@ pub returns-in-Err-clause-served : goal.returns-in-Err-clause-served
 returns-in-Err-clause-served g c =
     subst (λ image. IsServed (g.Di.Blocks.state c.args.image).blocks (g.Di.Blocks.state image).blocks) (sym c.in-Err.ensures.err)
     (served_same (g.Di.Blocks.state c.args.image).blocks)
+
+pub returns-in-Ok-clause-caused : goal.returns-in-Ok-clause-caused
+returns-in-Ok-clause-caused g c =
+    let machine = c.in-Ok.machine in
+    caused_of_plan c.settle.result.trace c.args.plan.now.partitions machine.server.records.history.items (g.Di.Blocks.state machine.server.disk.image).blocks (g.Di.Blocks.state c.args.image).blocks
+    (g.Di.Blocks.state c.settle.result.image).blocks (λ partitions. IsOfPlan partitions machine.pairs.items machine.scripts.items machine.lan.seats)
+    c.in-Ok.ensures.of_plan c.in-Ok.ensures.none (ap (λ image. (g.Di.Blocks.state image).blocks) c.in-Ok.ensures.image) c.settle.ensures.caused

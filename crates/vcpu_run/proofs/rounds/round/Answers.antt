@@ -4,10 +4,11 @@ use Rattle.vcpu_run.proofs.Disks.{lasts_same, lasts_then}
 use Rattle.vcpu_run.proofs.Keeping.{all_same, all_then}
 use Rattle.vcpu_run.proofs.RoundsTold.{out_all, out_none}
 use Rattle.vcpu_run.proofs.Scripted.{run_same, run_then}
+use Rattle.vcpu_run.proofs.Causings.{causes_same, causes_then}
 use Rattle.vcpu_run.proofs.rounds.round.Goals as goal
 
 pub loop-number-init : goal.loop-number-init
-loop-number-init g c = record { machine = c.requires.machine; stay = all_same c.args.pairs.now; run = run_same c.args.scripts.now; answered = c.requires.answered; received = c.requires.received; disk = lasts_same c.args.server.now.records.history.items (g.Di.Blocks.state c.args.server.now.disk.image).blocks; credited = λ are. are; said = λ told. told; out = λ is told. out_none c.args.pairs.now c.args.scripts.now; told = λ tells. tells; lan = refl; linked = λ are. are; unfreed = λ keep. keep; idle = λ is are over. idle_none c.args.server.now.units.items c.args.pairs.now c.args.scripts.now }
+loop-number-init g c = record { machine = c.requires.machine; stay = all_same c.args.pairs.now; run = run_same c.args.scripts.now; answered = c.requires.answered; received = c.requires.received; heard = c.requires.heard; disk = lasts_same c.args.server.now.records.history.items (g.Di.Blocks.state c.args.server.now.disk.image).blocks; causes = causes_same c.args.server.now.copies.items c.args.pairs.now c.args.server.now.records.history.items (g.Di.Blocks.state c.args.server.now.disk.image).blocks; credited = λ are. are; said = λ told. told; out = λ is told. out_none c.args.pairs.now c.args.scripts.now; told = λ tells. tells; lan = refl; linked = λ are. are; unfreed = λ keep. keep; idle = λ is are over. idle_none c.args.server.now.units.items c.args.pairs.now c.args.scripts.now }
 
 pub loop-number-preserved : goal.loop-number-preserved
 loop-number-preserved g c =
@@ -19,8 +20,12 @@ loop-number-preserved g c =
       run = run_then c.args.scripts.now c.loop-number.scripts c.turn_at.new.scripts before.run after.run;
       answered = after.answered;
       received = after.received;
+      heard = after.heard;
       disk = lasts_then c.args.server.now.records.history.items c.loop-number.server.records.history.items c.turn_at.new.server.records.history.items
           (g.Di.Blocks.state c.args.server.now.disk.image).blocks (g.Di.Blocks.state c.loop-number.server.disk.image).blocks (g.Di.Blocks.state c.turn_at.new.server.disk.image).blocks c.loop-number.invariant.disk c.turn_at.ensures.disk;
+      causes = causes_then c.args.server.now.copies.items c.loop-number.server.copies.items c.turn_at.new.server.copies.items c.args.pairs.now c.loop-number.pairs c.turn_at.new.pairs
+          c.args.server.now.records.history.items c.loop-number.server.records.history.items c.turn_at.new.server.records.history.items
+          (g.Di.Blocks.state c.args.server.now.disk.image).blocks (g.Di.Blocks.state c.loop-number.server.disk.image).blocks (g.Di.Blocks.state c.turn_at.new.server.disk.image).blocks c.loop-number.invariant.causes c.turn_at.ensures.causes;
       credited = λ are. c.in_ok-turned.ensures.credited (before.credited are);
       said = λ told. c.in_ok-turned.ensures.said (before.said told);
       out = λ is told. c.in_ok-turned.ensures.out (c.either-moved.ensures.other is) (before.said told) (before.out (c.either-moved.ensures.one is) told);
@@ -56,3 +61,9 @@ pub returns-clause-out : goal.returns-clause-out
 returns-clause-out g c = λ is told.
     let count = c.loop-number.invariant.run.count in
     out_all c.loop-number.number c.loop-number.pairs c.loop-number.scripts (omega (arith, count, c.loop-number-test.false)) (c.loop-number.invariant.out is told)
+
+pub returns-in_err-turned-clause-causes : goal.returns-in_err-turned-clause-causes
+returns-in_err-turned-clause-causes g c =
+    causes_then c.args.server.now.copies.items c.loop-number.server.copies.items c.turn_at.new.server.copies.items c.args.pairs.now c.loop-number.pairs c.turn_at.new.pairs
+    c.args.server.now.records.history.items c.loop-number.server.records.history.items c.turn_at.new.server.records.history.items
+    (g.Di.Blocks.state c.args.server.now.disk.image).blocks (g.Di.Blocks.state c.loop-number.server.disk.image).blocks (g.Di.Blocks.state c.turn_at.new.server.disk.image).blocks c.loop-number.invariant.causes c.turn_at.ensures.causes

@@ -3,10 +3,11 @@ use Rattle.std.proofs.Common.{◌∙◌, refl}
 use Rattle.vcpu_run.proofs.Disks.{lasts_same, lasts_then}
 use Rattle.vcpu_run.proofs.Keeping.{all_same, all_then}
 use Rattle.vcpu_run.proofs.Scripted.{run_same, run_then}
+use Rattle.vcpu_run.proofs.Causings.{causes_same, causes_then}
 use Rattle.vcpu_run.proofs.rounds.run.Goals as goal
 
 pub loop-round-init : goal.loop-round-init
-loop-round-init g c = record { said = λ told. told; told = λ tells. tells; machine = c.requires.machine; stay = all_same c.args.pairs.now; run = run_same c.args.scripts.now; answered = c.requires.answered; received = c.requires.received; disk = lasts_same c.args.server.now.records.history.items (g.Di.Blocks.state c.args.server.now.disk.image).blocks; credited = λ are. are; lan = refl; unfreed = λ keep. keep; linked = λ are. are }
+loop-round-init g c = record { said = λ told. told; told = λ tells. tells; machine = c.requires.machine; stay = all_same c.args.pairs.now; run = run_same c.args.scripts.now; answered = c.requires.answered; received = c.requires.received; heard = c.requires.heard; disk = lasts_same c.args.server.now.records.history.items (g.Di.Blocks.state c.args.server.now.disk.image).blocks; causes = causes_same c.args.server.now.copies.items c.args.pairs.now c.args.server.now.records.history.items (g.Di.Blocks.state c.args.server.now.disk.image).blocks; credited = λ are. are; lan = refl; unfreed = λ keep. keep; linked = λ are. are }
 
 pub loop-round-preserved : goal.loop-round-preserved
 loop-round-preserved g c =
@@ -18,8 +19,12 @@ loop-round-preserved g c =
       run = run_then c.args.scripts.now c.loop-round.scripts c.step.new.scripts before.run after.run;
       answered = after.answered;
       received = after.received;
+      heard = after.heard;
       disk = lasts_then c.args.server.now.records.history.items c.loop-round.server.records.history.items c.step.new.server.records.history.items
           (g.Di.Blocks.state c.args.server.now.disk.image).blocks (g.Di.Blocks.state c.loop-round.server.disk.image).blocks (g.Di.Blocks.state c.step.new.server.disk.image).blocks c.loop-round.invariant.disk c.step.ensures.disk;
+      causes = causes_then c.args.server.now.copies.items c.loop-round.server.copies.items c.step.new.server.copies.items c.args.pairs.now c.loop-round.pairs c.step.new.pairs
+          c.args.server.now.records.history.items c.loop-round.server.records.history.items c.step.new.server.records.history.items
+          (g.Di.Blocks.state c.args.server.now.disk.image).blocks (g.Di.Blocks.state c.loop-round.server.disk.image).blocks (g.Di.Blocks.state c.step.new.server.disk.image).blocks c.loop-round.invariant.causes c.step.ensures.causes;
       credited = λ are. c.in_ok-moved.ensures.credited (before.credited are);
       said = λ told. c.in_ok-moved.ensures.said (before.said told);
       told = λ tells. c.in_ok-moved.ensures.told (before.told tells);
@@ -70,3 +75,15 @@ returns-then-is_end-clause-told g c = λ tells. c.in_ok-moved.ensures.told (c.lo
 
 pub returns-then-is_end-clause-said : goal.returns-then-is_end-clause-said
 returns-then-is_end-clause-said g c = λ told. c.in_ok-moved.ensures.said (c.loop-round.invariant.said told)
+
+pub returns-in_err-moved-clause-causes : goal.returns-in_err-moved-clause-causes
+returns-in_err-moved-clause-causes g c =
+    causes_then c.args.server.now.copies.items c.loop-round.server.copies.items c.step.new.server.copies.items c.args.pairs.now c.loop-round.pairs c.step.new.pairs
+    c.args.server.now.records.history.items c.loop-round.server.records.history.items c.step.new.server.records.history.items
+    (g.Di.Blocks.state c.args.server.now.disk.image).blocks (g.Di.Blocks.state c.loop-round.server.disk.image).blocks (g.Di.Blocks.state c.step.new.server.disk.image).blocks c.loop-round.invariant.causes c.step.ensures.causes
+
+pub returns-then-is_end-clause-causes : goal.returns-then-is_end-clause-causes
+returns-then-is_end-clause-causes g c =
+    causes_then c.args.server.now.copies.items c.loop-round.server.copies.items c.step.new.server.copies.items c.args.pairs.now c.loop-round.pairs c.step.new.pairs
+    c.args.server.now.records.history.items c.loop-round.server.records.history.items c.step.new.server.records.history.items
+    (g.Di.Blocks.state c.args.server.now.disk.image).blocks (g.Di.Blocks.state c.loop-round.server.disk.image).blocks (g.Di.Blocks.state c.step.new.server.disk.image).blocks c.loop-round.invariant.causes c.step.ensures.causes

@@ -2,6 +2,8 @@ use Rattle.std.proofs.Common.{◌≡◌, vec_len}
 use Rattle.vcpu_run.specs.Agreed.{AreCredited}
 use Rattle.vcpu_run.specs.Answered.{AreAnswered}
 use Rattle.vcpu_run.specs.Freeing.{KeepQueues}
+use Rattle.vcpu_run.specs.Caused.{LastsBy}
+use Rattle.vcpu_run.specs.Heard.{AreHeard}
 use Rattle.vcpu_run.specs.Links.{AreLinked}
 use Rattle.vcpu_run.specs.PortWords.{PortsTell}
 use Rattle.vcpu_run.specs.Received.{AreReceived}
@@ -17,7 +19,10 @@ invariant-loop-round g l = record {
   run : AllRun l.initial.scripts l.scripts;
   answered : AreAnswered l.server.records.history.items l.pairs;
   received : AreReceived l.server.units.items l.server.copies.items l.server.records.grants.items l.server.records.history.items l.pairs;
+  heard : AreHeard l.server.disk.count l.server.partition l.server.units.items l.server.records l.server.copies.items l.pairs;
   disk : LastsOnDisk l.initial.server.records.history.items l.server.records.history.items
+      (g.Di.Blocks.state l.initial.server.disk.image).blocks (g.Di.Blocks.state l.server.disk.image).blocks;
+  causes : LastsBy l.initial.server.copies.items l.server.copies.items l.initial.pairs l.pairs l.initial.server.records.history.items l.server.records.history.items
       (g.Di.Blocks.state l.initial.server.disk.image).blocks (g.Di.Blocks.state l.server.disk.image).blocks;
   credited : AreCredited l.initial.pairs l.initial.scripts → AreCredited l.pairs l.scripts;
   said : AreTold l.initial.pairs l.initial.scripts → AreTold l.pairs l.scripts;

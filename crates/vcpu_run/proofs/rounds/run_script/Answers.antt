@@ -12,6 +12,7 @@ use Rattle.vcpu_run.proofs.RoundsTold.{out_turned, told_turned}
 use Rattle.vcpu_run.proofs.Scripted.{run_one, script_turned}
 use Rattle.vcpu_run.proofs.Unfreed.{queues_turned}
 use Rattle.vcpu_run.proofs.PortTurns.{ports_turned}
+use Rattle.vcpu_run.proofs.HeardTurns.{heard_driven, tells_driven}
 use Rattle.vcpu_run.proofs.rounds.run_script.Goals as goal
 
 pub turn-requires-clause-script : goal.turn-requires-clause-script
@@ -120,3 +121,9 @@ returns-clause-out c =
     (λ moved quiet is told out.
     out_turned c.args.pairs.now c.turn.new.pairs c.args.lan.now.seats scripts c.args.number old c.turn.new.self found c.requires.scripts c.turn.ensures.others c.turn.ensures.rest (quiet is) told out)
     c.turn.ensures.out
+
+pub returns-clause-heard : goal.returns-clause-heard
+returns-clause-heard c size partition units records copies = heard_driven size partition units records copies c.args.pairs.now c.turn.new.pairs c.turn.ensures.driven
+
+pub returns-clause-tells : goal.returns-clause-tells
+returns-clause-tells c copies told = tells_driven told copies c.args.pairs.now c.turn.new.pairs c.turn.ensures.driven

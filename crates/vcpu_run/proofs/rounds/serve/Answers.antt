@@ -1,5 +1,6 @@
 use Rattle.vcpu_run.proofs.Idling.{serves_all, serves_next}
 use Rattle.std.proofs.Common.{◌∙◌, refl, arith}
+use Rattle.vcpu_run.proofs.Causings.{causes_same, causes_then}
 use Rattle.vcpu_run.proofs.Disks.{lasts_same, lasts_then}
 use Rattle.vcpu_run.proofs.Keeping.{all_same, all_then}
 use Rattle.vcpu_run.proofs.Unfreed.{frees_on, frees_same}
@@ -7,7 +8,7 @@ use Rattle.vcpu_run.proofs.ClientsTold.{clients_on, clients_same}
 use Rattle.vcpu_run.proofs.rounds.serve.Goals as goal
 
 pub loop-unit-init : goal.loop-unit-init
-loop-unit-init g c = record { serving = c.requires.serving; stay = all_same c.args.pairs.now; drivers = λ k. refl; clients = clients_same c.args.pairs.now; answered = c.requires.answered; received = c.requires.received; disk = lasts_same c.args.server.now.records.history.items (g.Di.Blocks.state c.args.server.now.disk.image).blocks; linked = λ are. are; stays = frees_same _ c.args.pairs.now; wait = λ is are k link less found. absurd (omega (arith, less)) }
+loop-unit-init g c = record { serving = c.requires.serving; stay = all_same c.args.pairs.now; drivers = λ k. refl; clients = clients_same c.args.pairs.now; answered = c.requires.answered; received = c.requires.received; heard = c.requires.heard; disk = lasts_same c.args.server.now.records.history.items (g.Di.Blocks.state c.args.server.now.disk.image).blocks; causes = causes_same c.args.server.now.copies.items c.args.pairs.now c.args.server.now.records.history.items (g.Di.Blocks.state c.args.server.now.disk.image).blocks; linked = λ are. are; stays = frees_same _ c.args.pairs.now; wait = λ is are k link less found. absurd (omega (arith, less)) }
 
 pub loop-unit-preserved : goal.loop-unit-preserved
 loop-unit-preserved g c = record {
@@ -17,8 +18,12 @@ loop-unit-preserved g c = record {
   clients = clients_on c.args.pairs.now c.loop-unit.pairs c.serve_at.new.pairs c.loop-unit.invariant.clients c.serve_at.ensures.clients;
   answered = c.serve_at.ensures.answered;
   received = c.serve_at.ensures.received;
+  heard = c.serve_at.ensures.heard;
   disk = lasts_then c.args.server.now.records.history.items c.loop-unit.server.records.history.items c.serve_at.new.server.records.history.items
       (g.Di.Blocks.state c.args.server.now.disk.image).blocks (g.Di.Blocks.state c.loop-unit.server.disk.image).blocks (g.Di.Blocks.state c.serve_at.new.server.disk.image).blocks c.loop-unit.invariant.disk c.serve_at.ensures.disk;
+  causes = causes_then c.args.server.now.copies.items c.loop-unit.server.copies.items c.serve_at.new.server.copies.items c.args.pairs.now c.loop-unit.pairs c.serve_at.new.pairs
+      c.args.server.now.records.history.items c.loop-unit.server.records.history.items c.serve_at.new.server.records.history.items
+      (g.Di.Blocks.state c.args.server.now.disk.image).blocks (g.Di.Blocks.state c.loop-unit.server.disk.image).blocks (g.Di.Blocks.state c.serve_at.new.server.disk.image).blocks c.loop-unit.invariant.causes c.serve_at.ensures.causes;
   linked = λ are. c.in_ok-turned.ensures.linked (c.loop-unit.invariant.linked are);
   stays = frees_on _ c.args.pairs.now c.loop-unit.pairs c.serve_at.new.pairs c.loop-unit.invariant.stays c.serve_at.ensures.stays;
   wait = λ is are.
@@ -49,3 +54,9 @@ returns-in_err-turned-clause-stays g c = frees_on _ c.args.pairs.now c.loop-unit
 
 pub returns-in_err-turned-clause-clients : goal.returns-in_err-turned-clause-clients
 returns-in_err-turned-clause-clients g c = clients_on c.args.pairs.now c.loop-unit.pairs c.serve_at.new.pairs c.loop-unit.invariant.clients c.serve_at.ensures.clients
+
+pub returns-in_err-turned-clause-causes : goal.returns-in_err-turned-clause-causes
+returns-in_err-turned-clause-causes g c =
+    causes_then c.args.server.now.copies.items c.loop-unit.server.copies.items c.serve_at.new.server.copies.items c.args.pairs.now c.loop-unit.pairs c.serve_at.new.pairs
+    c.args.server.now.records.history.items c.loop-unit.server.records.history.items c.serve_at.new.server.records.history.items
+    (g.Di.Blocks.state c.args.server.now.disk.image).blocks (g.Di.Blocks.state c.loop-unit.server.disk.image).blocks (g.Di.Blocks.state c.serve_at.new.server.disk.image).blocks c.loop-unit.invariant.causes c.serve_at.ensures.causes

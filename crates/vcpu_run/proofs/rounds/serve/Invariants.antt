@@ -2,6 +2,8 @@ use Rattle.std.specs.Prelude.{⊤}
 use Rattle.std.proofs.Common.{◌≡◌, ◌<◌, ℕ, Some, slice_get, vec_len}
 use Rattle.vio_num.specs.declared.hypervisor.Moved.TheVariants.{Quiet}
 use Rattle.vcpu_run.specs.Freed.{FreesNoneIf}
+use Rattle.vcpu_run.specs.Caused.{LastsBy}
+use Rattle.vcpu_run.specs.Heard.{AreHeard}
 use Rattle.vcpu_run.specs.Links.{AreLinked, LinkState, ServerWaits, links_of}
 use Rattle.vcpu_run.specs.Agreed.{SameDrivers}
 use Rattle.vcpu_run.specs.Answered.{AreAnswered}
@@ -19,7 +21,10 @@ invariant-loop-unit g l = record {
   clients : SameClients l.initial.pairs l.pairs;
   answered : AreAnswered l.server.records.history.items l.pairs;
   received : AreReceived l.server.units.items l.server.copies.items l.server.records.grants.items l.server.records.history.items l.pairs;
+  heard : AreHeard l.server.disk.count l.server.partition l.server.units.items l.server.records l.server.copies.items l.pairs;
   disk : LastsOnDisk l.initial.server.records.history.items l.server.records.history.items
+      (g.Di.Blocks.state l.initial.server.disk.image).blocks (g.Di.Blocks.state l.server.disk.image).blocks;
+  causes : LastsBy l.initial.server.copies.items l.server.copies.items l.initial.pairs l.pairs l.initial.server.records.history.items l.server.records.history.items
       (g.Di.Blocks.state l.initial.server.disk.image).blocks (g.Di.Blocks.state l.server.disk.image).blocks;
   stays : FreesNoneIf (λ _. ⊤) l.initial.pairs l.pairs;
   linked : AreLinked l.initial.server.units.items l.initial.pairs → AreLinked l.server.units.items l.pairs;

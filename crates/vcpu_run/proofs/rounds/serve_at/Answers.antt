@@ -1,7 +1,7 @@
 use Rattle.vcpu_run.specs.Links.{IsLinked, ServerWaits}
 use Rattle.vcpu_run.proofs.Resting.{ok_more, waits_set}
 use Rattle.vcpu_run.proofs.Elsewhere.{ok_then}
-use Rattle.vcpu_run.proofs.Driving.{get_set_other}
+use Rattle.vcpu_run.proofs.Driving.{get_set_other, get_set_same}
 use Rattle.std.proofs.Common.{◌≡◌, ◌≤◌, ℕ, Some, length, slice_get, slice_index_or, slice_set, sym, ◌∙◌, subst, length-set}
 use Rattle.std.proofs.lemmas.Option.{slice_get-get_or}
 use Rattle.vcpu_run.specs.declared.pair.Pair.{Pair}
@@ -11,6 +11,7 @@ use Rattle.vcpu_run.specs.Pairs.{IsPair}
 use Rattle.vcpu_run.specs.Received.{IsReceived}
 use Rattle.vcpu_run.proofs.ClientsTold.{clients_set}
 use Rattle.vcpu_run.proofs.Agreeing.{set_same}
+use Rattle.vcpu_run.proofs.HeardTurns.{heard_set, tells_before}
 use Rattle.vcpu_run.proofs.Keeping.{stays_same}
 use Rattle.vcpu_run.proofs.Listed.{each_on, each_set}
 use Rattle.vcpu_run.proofs.PairNames.{apart_stays}
@@ -120,3 +121,25 @@ returns-clause-clients g c =
     clients_set pairs c.args.unit (slice_index_or pairs c.args.unit c.index-pairs-unit.result) c.serve.new.self
     (slice_get-get_or pairs c.args.unit c.index-pairs-unit.result c.requires.there)
     (record { driver = c.serve.ensures.driver; pages = c.serve.ensures.stays.pages; queue = c.serve.ensures.queue })
+
+pub returns-clause-heard : goal.returns-clause-heard
+returns-clause-heard g c =
+    let server = c.args.server.now in
+    let server' = c.serve.new.server in
+    let pairs = c.args.pairs.now in
+    let old = slice_index_or pairs c.args.unit c.index-pairs-unit.result in
+    heard_set server.disk.count server'.disk.count server.partition server'.partition server.units.items server'.units.items server.records server'.records server.copies.items server'.copies.items
+    pairs c.args.unit old c.serve.new.self (slice_get-get_or pairs c.args.unit c.index-pairs-unit.result c.requires.there) c.serve.ensures.shows c.serve.ensures.own
+    c.serve.ensures.told c.serve.ensures.told_own
+    (λ told k other found apart order is.
+    let pair = c.requires.serving.pairs_are k other found in
+    c.serve.ensures.told_else told k other apart (pair.own_unit ∙ pair.server) order is)
+    c.requires.heard
+
+pub returns-clause-causes : goal.returns-clause-causes
+returns-clause-causes g c = λ told tells.
+    let pairs = c.args.pairs.now in
+    let there = slice_get-get_or pairs c.args.unit c.index-pairs-unit.result c.requires.there in
+    let before = tells_before told c.args.server.now.copies.items c.serve.new.server.copies.items pairs c.args.unit (slice_index_or pairs c.args.unit c.index-pairs-unit.result) c.serve.new.self there
+    c.serve.ensures.shows c.serve.ensures.own tells in
+    (before, c.serve.ensures.causes told (tells c.args.unit c.serve.new.self (get_set_same pairs c.args.unit c.serve.new.self c.requires.there)) (c.requires.heard.all told before).order)

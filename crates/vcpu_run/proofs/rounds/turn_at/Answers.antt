@@ -83,3 +83,11 @@ returns-then-is_of_servers-clause-out g c =
     (λ moved wait is told out. out_served c.args.pairs.now c.serve.new.pairs scripts c.args.number (slice_index_or scripts c.args.number d)
     (slice_get-get_or scripts c.args.number d c.requires.there) (sym c.is_of_servers.ensures ∙ c.if-is_of_servers.true) c.serve.ensures.clients out)
     c.serve.ensures.wait
+
+pub returns-else-is_of_servers-clause-heard : goal.returns-else-is_of_servers-clause-heard
+returns-else-is_of_servers-clause-heard g c =
+    let server = c.args.server.now in
+    c.run_script.ensures.heard server.disk.count server.partition server.units.items server.records server.copies.items c.requires.heard
+
+pub returns-else-is_of_servers-clause-causes : goal.returns-else-is_of_servers-clause-causes
+returns-else-is_of_servers-clause-causes g c = λ told tells. (c.run_script.ensures.tells c.args.server.now.copies.items told tells, λ before serve. serve)

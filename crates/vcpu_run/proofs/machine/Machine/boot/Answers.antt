@@ -15,6 +15,7 @@ use Rattle.vcpu_run.proofs.Receiving.{received_fresh}
 use Rattle.vcpu_run.proofs.RoundsTold.{told_made}
 use Rattle.vcpu_run.proofs.Unfreed.{queues_fresh}
 use Rattle.vcpu_run.proofs.PortTurns.{ports_made}
+use Rattle.vcpu_run.proofs.HeardTurns.{heard_fresh}
 use Rattle.vcpu_run.proofs.machine.Machine.boot.Goals as goal
 
 pub overflow_cast-home : goal.overflow_cast-home
@@ -113,3 +114,9 @@ returns-clause-said g c =
     let partitions = c.args.plan.now.partitions in
     let made : AreMade partitions scripts.items = rw (← c.as_slice-partitions.ensures) c.in-Ok-make_scripts.ensures in
     told_made partitions pairs.items scripts.items made c.in-Ok.ensures.out
+
+pub returns-clause-heard : goal.returns-clause-heard
+returns-clause-heard g c =
+    let server = c.in_ok-server in
+    heard_fresh server.server.disk.count server.server.partition server.server.units.items server.server.records server.server.copies.items c.in-Ok.pairs.items
+    server.ensures.history server.ensures.lines server.ensures.order server.ensures.idle server.ensures.unrefused

@@ -7,7 +7,7 @@ use Rattle.vcpu_run.specs.Agreed.{AreCredited}
 use Rattle.vcpu_run.specs.Answered.{AreAnswered}
 use Rattle.vcpu_run.specs.Freeing.{KeepQueues}
 use Rattle.vcpu_run.specs.Lines.{IsOver}
-use Rattle.vcpu_run.specs.Machines.{AllRun, AllStay, AreScripts}
+use Rattle.vcpu_run.specs.Machines.{AllRun, AllStay, AreScripts, IsOfPlan}
 use Rattle.vcpu_run.specs.Pairs.{AreOfOneHome}
 use Rattle.vcpu_run.specs.Received.{AreAtRest, AreReceived}
 use Rattle.vcpu_run.specs.ScriptTold.{AreTold}
@@ -15,6 +15,8 @@ use Rattle.vcpu_run.proofs.Disks.{disk_told, lasts_somehow, tells_told}
 use Rattle.vcpu_run.proofs.Elsewhere.{ok_then}
 use Rattle.vcpu_run.proofs.Lasting.{lent, plan_lasts}
 use Rattle.vcpu_run.specs.PortWords.{PortsTell}
+use Rattle.vcpu_run.specs.Heard.{AreHeard}
+use Rattle.vcpu_run.proofs.Causings.{caused_told}
 use Rattle.vcpu_run.proofs.machine.Machine.settle.Goals as goal
 
 pub trace_of-trace-requires-clause-pairs : goal.trace_of-trace-requires-clause-pairs
@@ -143,11 +145,27 @@ trace_of-trace-requires-clause-rests g c =
     let unfreed : KeepQueues new new_scripts = c.run-run.ensures.unfreed whole in
     let received : AreReceived units' c.finish-image.result.copies.items c.finish-image.result.grants.items c.finish-image.result.history.items new =
     rw (c.finish-image.ensures.copies, c.finish-image.ensures.grants, c.finish-image.ensures.history) c.run-run.ensures.received in
+    let rows : c.finish-image.result.history.items ≡ c.run-run.new.server.records.history.items = rw c.finish-image.ensures.history refl in
+    let lines : c.finish-image.result.grants.items ≡ c.run-run.new.server.records.grants.items = rw c.finish-image.ensures.grants refl in
+    let heard : AreHeard c.run-run.new.server.disk.count c.run-run.new.server.partition units' c.run-run.new.server.records c.finish-image.result.copies.items new =
+    rw c.finish-image.ensures.copies c.run-run.ensures.heard in
     ok_then c.run-run.result (AreLinked units c.deref_mut.result.now → AreIdle units' new new_scripts) _
     (λ idle.
     subst (λ (list : List Pair). AreAtRest c.finish-image.result.copies.items c.finish-image.result.grants.items c.finish-image.result.history.items list (take old_scripts.len (new_scripts ++ drop (length new_scripts) old_scripts.items))) (sym pairs)
     (subst (λ (list : List Script). AreAtRest c.finish-image.result.copies.items c.finish-image.result.grants.items c.finish-image.result.history.items new list) (sym scripts)
-    (record { units = units'; idle = idle before; received = received; unfreed = unfreed })))
+    (record {
+      units = units';
+      idle = idle before;
+      received = received;
+      unfreed = unfreed;
+      size = c.run-run.new.server.disk.count;
+      partition = c.run-run.new.server.partition;
+      records = c.run-run.new.server.records;
+      rows_are = sym rows;
+      lines_are = sym lines;
+      names = λ k pair found. (c.run-run.ensures.machine.serving.pairs_are k pair found).own_unit ∙ (c.run-run.ensures.machine.serving.pairs_are k pair found).server;
+      heard = heard;
+    })))
     c.run-run.ensures.idle
 
 pub run-run-requires-clause-received : goal.run-run-requires-clause-received
@@ -186,3 +204,32 @@ trace_of-trace-requires-clause-said g c =
     subst (λ (list : List Pair). AreTold list (take old_scripts.len (new_scripts ++ drop (length new_scripts) old_scripts.items))) (sym pairs)
     (subst (λ (list : List Script). AreTold new list) (sym scripts) (kept before)))
     c.run-run.ensures.said
+
+pub run-run-requires-clause-heard : goal.run-run-requires-clause-heard
+run-run-requires-clause-heard g c = rw c.deref_mut.ensures.value c.requires.heard
+
+pub returns-clause-caused : goal.returns-clause-caused
+returns-clause-caused g c =
+    let old = c.args.self.pairs in
+    let new = c.run-run.new.pairs in
+    let old_scripts = c.args.self.scripts in
+    let new_scripts = c.run-run.new.scripts in
+    let server = c.args.self.server in
+    let server' = c.run-run.new.server in
+    let size : old.len ≡ length old.items = search rules in
+    let size_scripts : old_scripts.len ≡ length old_scripts.items = search rules in
+    let stay : AllStay old.items new = rw (← c.deref_mut.ensures.value) c.run-run.ensures.stay in
+    let run : AllRun old_scripts.items new_scripts = rw (← c.deref_mut-2.ensures.value) c.run-run.ensures.run in
+    let pairs : take old.len (new ++ drop (length new) old.items) ≡ new = lent old.len old.items new size stay.count in
+    let scripts : take old_scripts.len (new_scripts ++ drop (length new_scripts) old_scripts.items) ≡ new_scripts =
+    lent old_scripts.len old_scripts.items new_scripts size_scripts run.count in
+    let history : c.finish-image.result.history.items ≡ server'.records.history.items = rw c.finish-image.ensures.history refl in
+    let copies : c.finish-image.result.copies.items ≡ server'.copies.items = rw c.finish-image.ensures.copies refl in
+    caused_told c.trace_of-trace.result server.copies.items server'.copies.items c.finish-image.result.copies.items c.deref_mut.result.now new
+    (take old.len (new ++ drop (length new) old.items)) server.records.history.items server'.records.history.items c.finish-image.result.history.items
+    (g.Di.Blocks.state server.disk.image).blocks (g.Di.Blocks.state server'.disk.image).blocks (g.Di.Blocks.state c.finish-image.result.image).blocks
+    (λ partitions. IsOfPlan partitions old.items old_scripts.items c.args.self.lan.seats)
+    (λ partitions. IsOfPlan partitions (take old.len (new ++ drop (length new) old.items)) (take old_scripts.len (new_scripts ++ drop (length new_scripts) old_scripts.items)) c.run-run.new.lan.seats)
+    (λ partitions of_plan. rw (pairs, scripts) (plan_lasts partitions old.items new old_scripts.items new_scripts c.args.self.lan.seats c.run-run.new.lan.seats stay run c.run-run.ensures.lan of_plan))
+    history copies pairs (ap (λ image. (g.Di.Blocks.state image).blocks) c.finish-image.ensures.image)
+    c.run-run.ensures.causes c.trace_of-trace.ensures.serves c.trace_of-trace.ensures.shown

@@ -4,8 +4,13 @@ use Rattle.vcpu_run.specs.Freed.{FreesNoneAt, IsNotFreed, NotFreed}
 use Rattle.vcpu_run.proofs.Waiting.{agrees_like, agrees_other, serve_frees, serve_queue, serve_waits}
 use Rattle.vcpu_run.proofs.Resting.{ok_both}
 use Rattle.vcpu_run.proofs.Crediting.{on_ok}
-use Rattle.std.proofs.Common.{rules, ◌≡◌, Bool, List, [], ◌∷◌, false, true, refl, sym, ◌∙◌, ap, subst, IfNone, ◌<◌, IfOk, OnOk, arith, length, slice_get}
+use Rattle.std.proofs.Common.{rules, ◌≡◌, Bool, Contains, List, [], ◌∷◌, false, true, refl, sym, ◌∙◌, ap, subst, IfNone, ◌<◌, IfOk, OnOk, arith, length, slice_get}
+use Rattle.std.proofs.lemmas.List.Elements.{Contains-append_left}
 use Rattle.vio_num.specs.declared.names.UnitId.{UnitId}
+use Rattle.rdma_copy.specs.declared.copy.CopyRecord.{CopyRecord}
+use Rattle.block_server.specs.Causes.{Told}
+use Rattle.vcpu_run.specs.Heard.{AllGoBy, UnitGoesBy, TellsPair}
+use Rattle.vcpu_run.proofs.HeardTurns.{tells_turn, told_elsewhere, told_served}
 use Rattle.crq_session.specs.EndState.{EndPlace}
 use Rattle.crq_session.specs.declared.link.PlainLink.{PlainLink}
 use Rattle.crq_session.specs.PlainState.{partner_of, side_of, state_of}
@@ -193,3 +198,69 @@ returns-clause-queue g c =
     (record { server = old.server; link = lent; own = old.own; window = old.window; driver = old.driver })
     (record { server = old.server; link = link; own = c.turn.new.own; window = c.turn.new.client; driver = old.driver }) c.side.ensures.first c.turn.ensures.goes.queue_place
     ∙ ap (λ (side : PlainSide). side.registered) before)
+
+pub returns-clause-shows : goal.returns-clause-shows
+returns-clause-shows g c =
+    let goes = c.turn.ensures.goes in
+    let more = c.turn.ensures.copies in
+    record {
+      listed = λ copy listed.
+          subst (λ (list : List CopyRecord). Contains list copy) (sym more.made) (Contains-append_left c.args.server.now.copies.items more.more copy listed);
+      own = goes.own_grows;
+      window = goes.client_grows;
+      pages = ap (λ (place : PortPlace). place.size) goes.client_place;
+    }
+
+pub returns-clause-own : goal.returns-clause-own
+returns-clause-own g c = ap (λ (place : PortPlace). place.unit) c.turn.ensures.goes.own_place
+
+pub returns-clause-told : goal.returns-clause-told
+returns-clause-told g c = λ told tells is.
+    let old = c.args.self.now in
+    let goes = c.turn.ensures.goes in
+    let new : Pair = record { server = old.server; link = old.link; own = c.turn.new.own; window = c.turn.new.client; driver = old.driver } in
+    let all = tells_turn told c.args.server.now.copies.items c.turn.new.self.copies.items old new
+    (ap (λ (place : PortPlace). place.size) goes.client_place) (ap (λ (place : PortPlace). place.unit) goes.own_place) tells in
+    record { order = c.turn.ensures.order told all is.order; written = c.turn.ensures.written told all is.order is.written }
+
+pub returns-clause-told_own : goal.returns-clause-told_own
+returns-clause-told_own g c =
+    let old = c.args.self.now in
+    let server = c.args.server.now in
+    let server' = c.turn.new.self in
+    let goes = c.turn.ensures.goes in
+    let link = c.turn.new.crq.end.link.now in
+    let new : Pair = record { server = old.server; link = link; own = c.turn.new.own; window = c.turn.new.client; driver = old.driver } in
+    let name : new.own.unit ≡ old.own.unit = ap (λ (place : PortPlace). place.unit) goes.own_place in
+    let pages : length new.window.pages ≡ length old.window.pages = ap (λ (place : PortPlace). place.size) goes.client_place in
+    let first : c.turn.new.crq.end.first ≡ true = ap (λ (place : EndPlace). place.first) goes.queue_place ∙ c.side.ensures.first in
+    let before : side_of c.side.result.link.now c.side.result.first ≡ side_of old.link true =
+    ap (λ (b : Bool). side_of c.side.result.link.now b) c.side.ensures.first ∙ ap (λ (l : PlainLink). side_of l true) c.side.ensures.link in
+    let after : side_of link c.turn.new.crq.end.first ≡ side_of link true = ap (λ (b : Bool). side_of link b) first in
+    let link_is : link ≡ c.self-1.given.0 = search rules in
+    subst (λ (l : PlainLink). (told : Told → Bool) → TellsPair told server'.copies.items (record { server = old.server; link = l; own = c.turn.new.own; window = c.turn.new.client; driver = old.driver })
+    → AllGoBy told server.disk.count server.partition server.units.items server.records → UnitGoesBy told server.units.items server.records c.args.unit old
+    → UnitGoesBy told server'.units.items server'.records c.args.unit (record { server = old.server; link = l; own = c.turn.new.own; window = c.turn.new.client; driver = old.driver })) link_is
+    (λ told tells all is.
+    let news = tells_turn told server.copies.items server'.copies.items old new pages name tells in
+    told_served told server.units.items server'.units.items server.records server'.records c.args.unit old new (state_of c.side.result) (state_of c.turn.new.crq.end)
+    (ap (λ (side : PlainSide). side.queue.session) before) (ap (λ (side : PlainSide). side.queue.taken) before)
+    (ap (λ (side : PlainSide). side.queue.session) after) (ap (λ (side : PlainSide). side.queue.taken) after) name
+    (c.turn.ensures.carried told news all.order) (c.turn.ensures.explains told news all.order []) is)
+
+pub returns-clause-told_else : goal.returns-clause-told_else
+returns-clause-told_else g c = λ told k other apart own order is.
+    let server = c.args.server.now in
+    let server' = c.turn.new.self in
+    told_elsewhere told server.disk.count server.partition server.units.items server'.units.items server.records server'.records k c.args.self.now.own.unit other
+    (λ e. apart (sym (ap (λ (u : UnitId). u.unit) (sym (c.requires.pair.own_unit ∙ c.requires.pair.server) ∙ (e ∙ own)))))
+    own (c.turn.ensures.others_stay k apart) c.turn.ensures.lines c.turn.ensures.others order is
+
+pub returns-clause-causes : goal.returns-clause-causes
+returns-clause-causes g c = λ told tells order.
+    let old = c.args.self.now in
+    let goes = c.turn.ensures.goes in
+    let new : Pair = record { server = old.server; link = old.link; own = c.turn.new.own; window = c.turn.new.client; driver = old.driver } in
+    c.turn.ensures.causes told
+    (tells_turn told c.args.server.now.copies.items c.turn.new.self.copies.items old new
+    (ap (λ (place : PortPlace). place.size) goes.client_place) (ap (λ (place : PortPlace). place.unit) goes.own_place) tells) order

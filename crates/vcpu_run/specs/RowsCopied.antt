@@ -1,0 +1,44 @@
+-- Of each row of a run, which copies moved its answer and its data; of each session that ended as refused, what the client's window
+-- denied (SRP, "SRP_RSP response", "Data buffer descriptor formats"; LoPAR, "H_COPY_RDMA").
+use Rattle.std.specs.Prelude.{◌≡◌, ◌⊎◌, All, List, [], Contains}
+use Rattle.vio_num.specs.declared.history.Served.{Served}
+use Rattle.vio_num.specs.declared.names.UnitId.{UnitId}
+use Rattle.block_server.specs.Carried.{HasDelivered, HasOutFetched}
+use Rattle.block_server.specs.Causes.{Hearing}
+use Rattle.block_server.specs.Refusals.{IsExplained}
+use Rattle.block_server.specs.Written.{IsWrittenOver}
+use Rattle.boot_text.specs.Sound.{IsClientOf, IsServer}
+use Rattle.boot_text.specs.declared.plan.Partition.{Partition}
+use Rattle.vio_trace.specs.declared.rows.Trace.{Trace}
+use Rattle.vcpu_run.specs.CopyRows.{copy_row}
+use Rattle.vcpu_run.specs.Intake.{entries_taken}
+use Rattle.vcpu_run.specs.News.{hearing}
+use Rattle.vcpu_run.specs.Shown.{pages_at, window_shown}
+
+-- what the trace shows that a server unit was told: by its rows of copies, by the strokes that these name, and by the values of its
+-- client's window
+abbrev pub shown_to : List Partition → Trace → (server client : UnitId) → Hearing
+shown_to partitions trace server client =
+    hearing (λ copy. Contains trace.copies (copy_row copy)) (window_shown partitions trace server) (window_shown partitions trace client)
+    (pages_at partitions client)
+
+-- A copy wrote the row's answer over its request, copies brought all its data-out, and copies delivered all its data-in; what the
+-- row does not have needs none.
+pub record IsCopied (Hears : Hearing) (row : Served) : Type 0 where
+  pub answer : (row.answer ≡ []) ⊎ IsWrittenOver Hears row.iu row.answer
+  pub out : (row.out ≡ []) ⊎ HasOutFetched Hears row
+  pub inn : (row.inn ≡ []) ⊎ HasDelivered Hears row
+
+-- So it is of each row of a server unit that has a client.
+abbrev pub RowsAreCopied : List Partition → Trace → Type 0
+RowsAreCopied partitions trace =
+    (server client : UnitId) → IsServer partitions server → IsClientOf partitions client server
+    → ∥ All (λ row. row.unit ≡ server → IsCopied (shown_to partitions trace server client) row) trace.serves ∥₁
+
+-- Each line of such a unit is explained: one that grants a login has the SRP entry of its number, whose information unit a copy
+-- brought, and over which a copy wrote the response that grants it; and a session that ended as refused has an SRP entry whose
+-- information unit the client's window denied to have read, or over which it denied to have an answer written.
+abbrev pub LinesAreExplained : List Partition → Trace → Type 0
+LinesAreExplained partitions trace =
+    (server client : UnitId) → IsServer partitions server → IsClientOf partitions client server
+    → ∥ All (IsExplained (shown_to partitions trace server client) server (entries_taken trace server)) trace.grants ∥₁
