@@ -166,8 +166,9 @@ impl<'p, Di: Blocks> Machine<'p, Di> {
 }
 
 /// Runs a plan over an image of `count` blocks until nothing moves any more. Its trace keeps the law of the
-/// plan's runs, and its rows lead from the image's blocks to those that the image then has, each with a cause that
-/// the trace shows. Where memory runs out, the image has the blocks to which the commands lead that were served till then.
+/// plan's runs, and its rows lead from the image's blocks to those that the image then has, each with a cause
+/// that the trace shows. Where memory runs out, the image has the blocks to which the commands lead that were
+/// served till then.
 pub fn settle_plan<Di: Blocks + Drop>(
     alloc: Global,
     plan: &Plan,
