@@ -9,7 +9,7 @@ ghost use Rattle.vcpu_run.specs.Freed.{FreesNoneAt};
 ghost use Rattle.block_server.specs.Causes.{Told};
 ghost use Rattle.block_server.specs.DiskLaw.{KeepsDiskBy};
 ghost use Rattle.block_server.specs.Units.{AreInOrder};
-ghost use Rattle.vcpu_run.specs.Heard.{AreTold, IsTold, ShowsMore, TellsPair};
+ghost use Rattle.vcpu_run.specs.Heard.{AllGoBy, UnitGoesBy, ShowsMore, TellsPair};
 ghost use Rattle.vcpu_run.specs.Links.{IsClosed, IsLinked, ServerWaits, link_state};
 ghost use Rattle.vcpu_run.specs.Machines.{FitsSeat, HasSeat, SitsAt, Stays, server_id};
 ghost use Rattle.vcpu_run.specs.Named.{HasWindow};
@@ -173,9 +173,9 @@ impl Pair {
         ensures own { self.new.own.unit ≡ self.old.own.unit }
         ensures told { (told : Told → Bool) →
             TellsPair told server.new.copies.items self.new →
-            AreTold told server.old.disk.count server.old.partition
+            AllGoBy told server.old.disk.count server.old.partition
             server.old.units.items server.old.records →
-            AreTold told server.new.disk.count server.new.partition
+            AllGoBy told server.new.disk.count server.new.partition
             server.new.units.items server.new.records }
         ensures causes { (told : Told → Bool) →
             TellsPair told server.new.copies.items self.new →
@@ -185,16 +185,16 @@ impl Pair {
             (Di.state server.old.disk.image).blocks (Di.state server.new.disk.image).blocks }
         ensures told_own { (told : Told → Bool) →
             TellsPair told server.new.copies.items self.new →
-            AreTold told server.old.disk.count server.old.partition
+            AllGoBy told server.old.disk.count server.old.partition
             server.old.units.items server.old.records →
-            IsTold told server.old.units.items server.old.records unit self.old →
-            IsTold told server.new.units.items server.new.records unit self.new }
+            UnitGoesBy told server.old.units.items server.old.records unit self.old →
+            UnitGoesBy told server.new.units.items server.new.records unit self.new }
         ensures told_else { (told : Told → Bool) (k : ℕ) (other : Pair) → k ≢ unit →
             other.own.unit ≡ server_id server.old.partition k →
             AreInOrder told server.old.disk.count server.old.partition
             server.old.units.items server.old.records →
-            IsTold told server.old.units.items server.old.records k other →
-            ∥ IsTold told server.new.units.items server.new.records k other ∥₁ }
+            UnitGoesBy told server.old.units.items server.old.records k other →
+            ∥ UnitGoesBy told server.new.units.items server.new.records k other ∥₁ }
         ensures units_else { (k : ℕ) → k ≢ unit →
             slice_get server.new.units.items k ≡ slice_get server.old.units.items k }
         ensures disk { LastsOnDisk server.old.records.history.items
@@ -257,9 +257,9 @@ impl Pair {
         ensures own { self.new.own.unit ≡ self.old.own.unit }
         ensures told { (told : Told → Bool) →
             TellsPair told server.new.copies.items self.new →
-            AreTold told server.old.disk.count server.old.partition
+            AllGoBy told server.old.disk.count server.old.partition
             server.old.units.items server.old.records →
-            AreTold told server.new.disk.count server.new.partition
+            AllGoBy told server.new.disk.count server.new.partition
             server.new.units.items server.new.records }
         ensures causes { (told : Told → Bool) →
             TellsPair told server.new.copies.items self.new →
@@ -269,16 +269,16 @@ impl Pair {
             (Di.state server.old.disk.image).blocks (Di.state server.new.disk.image).blocks }
         ensures told_own { (told : Told → Bool) →
             TellsPair told server.new.copies.items self.new →
-            AreTold told server.old.disk.count server.old.partition
+            AllGoBy told server.old.disk.count server.old.partition
             server.old.units.items server.old.records →
-            IsTold told server.old.units.items server.old.records unit self.old →
-            IsTold told server.new.units.items server.new.records unit self.new }
+            UnitGoesBy told server.old.units.items server.old.records unit self.old →
+            UnitGoesBy told server.new.units.items server.new.records unit self.new }
         ensures told_else { (told : Told → Bool) (k : ℕ) (other : Pair) → k ≢ unit →
             other.own.unit ≡ server_id server.old.partition k →
             AreInOrder told server.old.disk.count server.old.partition
             server.old.units.items server.old.records →
-            IsTold told server.old.units.items server.old.records k other →
-            ∥ IsTold told server.new.units.items server.new.records k other ∥₁ }
+            UnitGoesBy told server.old.units.items server.old.records k other →
+            ∥ UnitGoesBy told server.new.units.items server.new.records k other ∥₁ }
         ensures units_else { (k : ℕ) → k ≢ unit →
             slice_get server.new.units.items k ≡ slice_get server.old.units.items k }
         ensures disk { LastsOnDisk server.old.records.history.items
