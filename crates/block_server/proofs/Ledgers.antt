@@ -1,7 +1,9 @@
 -- What the parts of a turn leave of why lines stand there, and of the answers to requests to log in.
-use Rattle.std.proofs.Common.{◌≡◌, ◌++◌, ◌∙◌, Bool, true, false, List, [], ◌∷◌, Some, None, length, drop, refl, sym, ap, subst, append-nil}
-use Rattle.std.proofs.lemmas.List.Elements.{All-nil, All-cons, filter-append}
+use Rattle.std.proofs.Common.{◌≡◌, ◌⊎◌, inl, inr, ◌++◌, ◌∙◌, ℕ, Bool, true, false, All, List, [], ◌∷◌, Option, Some, None, length, drop, slice_get, slice_set, refl, sym, ap, subst, append-nil}
+use Rattle.std.proofs.lemmas.List.Elements.{All-nil, All-cons, All-head, filter-append}
+use Rattle.crq_ring.specs.Sessions.{of_session}
 use Rattle.crq_ring.specs.declared.rows.PipeRow.{PipeRow}
+use Rattle.crq_session.specs.EndState.{EndState}
 use Rattle.vio_num.specs.Entry.{is_srp_entry, iu_address, iu_length}
 use Rattle.vio_num.specs.Words.{Begins}
 use Rattle.vio_num.specs.declared.entry.Entry.{Entry}
@@ -9,20 +11,26 @@ use Rattle.vio_num.specs.declared.history.Grant.{Grant}
 use Rattle.vio_num.specs.declared.history.Served.{Served}
 use Rattle.vio_num.specs.declared.names.UnitId.{UnitId}
 use Rattle.block_server.specs.Causes.{Hearing, Told, told_to}
+use Rattle.block_server.specs.Closings.{is_event}
+use Rattle.block_server.specs.Dealt.{AreDealt, AsksNoLogin, HasDealt, IsLoginAnswered, TookNoEvent}
+use Rattle.block_server.specs.Granting.{IsSrpAt}
+use Rattle.block_server.specs.Judged.{is_login}
 use Rattle.block_server.specs.LoginAnswers.{LoginsMore, grants_in, is_grant, login_answers}
 use Rattle.block_server.specs.Moves.{Passes}
-use Rattle.block_server.specs.Receipts.{Standing, TakesEntry, standing_of}
-use Rattle.block_server.specs.Granting.{IsSrpAt}
-use Rattle.block_server.specs.Refusals.{AreAccounted, AreExplained, Explains, ExplainsOf, Front, IsExplained, Ledger, basis_in, ledger_of}
+use Rattle.block_server.specs.Receipts.{Standing, TakesEntry, is_ended, standing_of}
+use Rattle.block_server.specs.Refusals.{AreAccounted, AreExplained, Basis, Explains, ExplainsOf, Front, IsExplained, Ledger, basis_in, ledger_of}
 use Rattle.block_server.specs.Serving.{Desk, Held, Once, Terms}
 use Rattle.block_server.specs.SiteState.{SiteState}
 use Rattle.block_server.specs.declared.records.Records.{Records}
 use Rattle.block_server.specs.declared.request.Arrival.{Arrival}
 use Rattle.block_server.specs.declared.request.Request.{Request}
 use Rattle.block_server.specs.declared.unit.Unit.{Unit}
+use Rattle.block_server.proofs.Dealing.{deal_begun, deal_entry, deal_ignored, deal_lost, deal_over, deal_popped, deal_pushed, deal_same, deal_taken}
 use Rattle.block_server.proofs.LoginPuts.{logins_none, logins_on}
 use Rattle.block_server.proofs.Refusing.{known_apart, known_begun, known_ended, known_entry, known_left, known_pushed, known_same, known_taken}
+use Rattle.block_server.proofs.Agreeing.{if_at, some_at}
 use Rattle.block_server.proofs.Taking.{passed_session, passed_taken}
+use Rattle.block_server.proofs.Units.{get_set_same}
 
 pub begins_same : (old new : List PipeRow) → new ≡ old → Begins old new
 begins_same old new same = ([], same ∙ sym (append-nil old))
@@ -34,28 +42,43 @@ no_grant lines lines' line more ends = ap grants_in more ∙ filter-append is_gr
     one : is_grant line ≡ false → grants_in (line ∷ []) ≡ []
     one e = rw e refl
 
+-- what became of the requests to log in, in the one and in the other
+abbrev pub Deals : Hearing → (old new : Ledger) → Type 0
+Deals Hears old new =
+    AreDealt Hears old.session old.taken old.waiting old.pending old.ended → AreDealt Hears new.session new.taken new.waiting new.pending new.ended
+
 -- One step more.
 pub accounted : (told : Told → Bool) (unit : UnitId) (front : Front) (old new : Ledger)
     → (AreExplained told unit front.since (basis_in old) → AreExplained told unit front.since (basis_in new)) → Begins old.taken new.taken
-    → LoginsMore (told_to told unit) new.taken old.answers new.answers old.lines new.lines → AreAccounted told unit front old → AreAccounted told unit front new
-accounted told unit front old new know begins more is = record {
+    → LoginsMore (told_to told unit) new.taken old.answers new.answers old.lines new.lines → (front.deals ≡ true → Deals (told_to told unit) old new)
+    → AreAccounted told unit front old → AreAccounted told unit front new
+accounted told unit front old new know begins more deal is = record {
   known = know is.known;
   logins = logins_on (told_to told unit) old.taken new.taken front.answers old.answers new.answers front.lines old.lines new.lines begins is.logins more;
+  dealt = λ deals. deal deals (is.dealt deals);
 }
 
 -- One in which no login was granted or rejected.
 none_more : (told : Told → Bool) (unit : UnitId) (front : Front) (old new : Ledger)
     → (AreExplained told unit front.since (basis_in old) → AreExplained told unit front.since (basis_in new)) → Begins old.taken new.taken → new.answers ≡ old.answers
-    → grants_in new.lines ≡ grants_in old.lines → AreAccounted told unit front old → AreAccounted told unit front new
+    → grants_in new.lines ≡ grants_in old.lines → (front.deals ≡ true → Deals (told_to told unit) old new) → AreAccounted told unit front old → AreAccounted told unit front new
 none_more told unit front old new know begins answers lines =
     accounted told unit front old new know begins (logins_none (told_to told unit) new.taken old.answers new.answers old.lines new.lines answers lines)
+
+-- what waits, what is pending and whether the session goes on is the same, or only those changed
+deals_same : (Hears : Hearing) (old new : Ledger) → new.session ≡ old.session → new.taken ≡ old.taken → new.waiting ≡ old.waiting → new.pending ≡ old.pending → new.ended ≡ old.ended → Deals Hears old new
+deals_same Hears old new = deal_same Hears old.session new.session old.taken new.taken old.waiting new.waiting old.pending new.pending old.ended new.ended
+
+deals_at : (Hears : Hearing) (old new : Ledger) → new.session ≡ old.session → new.taken ≡ old.taken → AreDealt Hears old.session old.taken new.waiting new.pending new.ended
+    → AreDealt Hears new.session new.taken new.waiting new.pending new.ended
+deals_at Hears old new session taken = deal_same Hears old.session new.session old.taken new.taken new.waiting new.waiting new.pending new.pending new.ended new.ended session taken refl refl refl
 
 -- Nothing of it changed.
 pub explains_same : (old new : Ledger) → new.session ≡ old.session → new.taken ≡ old.taken → new.waiting ≡ old.waiting → new.pending ≡ old.pending → new.ended ≡ old.ended
     → new.lines ≡ old.lines → new.answers ≡ old.answers → Explains old new
 explains_same old new session taken waiting pending ended lines answers = λ told unit front.
     none_more told unit front old new (known_same (basis_in old) (basis_in new) session taken waiting pending ended lines told unit front.since) (begins_same old.taken new.taken taken) answers
-    (ap grants_in lines)
+    (ap grants_in lines) (λ deals. deals_same (told_to told unit) old new session taken waiting pending ended)
 
 pub explains_stands : (unit unit' : Unit) (old new : SiteState) (records records' : Records) → standing_of unit' ≡ standing_of unit → Passes old new
     → unit'.pending.items ≡ unit.pending.items → records'.grants.items ≡ records.grants.items → login_answers new.queue.sent ≡ login_answers old.queue.sent
@@ -71,57 +94,106 @@ explains_on a b c first next = λ told unit front is. next told unit front (firs
 -- The login ended, and a line says why.
 pub explained_ended : (told : Told → Bool) (unit : UnitId) (front : Front) (old new : Ledger) (line : Grant) → new.session ≡ old.session → new.taken ≡ old.taken
     → new.waiting ≡ None → new.pending ≡ [] → new.lines ≡ old.lines ++ line ∷ [] → IsExplained (told_to told unit) unit old.taken line → is_grant line ≡ false → new.answers ≡ old.answers
-    → AreAccounted told unit front old → AreAccounted told unit front new
-explained_ended told unit front old new line session taken waiting pending more cause ends answers =
+    → (new.ended ≡ true) ⊎ (TookNoEvent old.session old.taken → ⊥) → AreAccounted told unit front old → AreAccounted told unit front new
+explained_ended told unit front old new line session taken waiting pending more cause ends answers how =
     none_more told unit front old new (known_ended told unit front.since (basis_in old) (basis_in new) line session taken waiting pending more cause) (begins_same old.taken new.taken taken)
-    answers (no_grant old.lines new.lines line more ends)
+    answers (no_grant old.lines new.lines line more ends) (λ deals is. deals_at (told_to told unit) old new session taken (by how is))
+  where
+    by : (new.ended ≡ true) ⊎ (TookNoEvent old.session old.taken → ⊥) → AreDealt (told_to told unit) old.session old.taken old.waiting old.pending old.ended
+        → AreDealt (told_to told unit) old.session old.taken new.waiting new.pending new.ended
+    by (inl over) = deal_over (told_to told unit) old.session old.taken old.waiting new.waiting old.pending new.pending old.ended new.ended over
+    by (inr lost) = deal_lost (told_to told unit) old.session old.taken old.waiting new.waiting old.pending new.pending old.ended new.ended lost
 
 -- A session begins, or ended before: nothing is pending.
 pub explains_begun : (old new : Ledger) → old.ended ≡ true → new.taken ≡ old.taken → new.waiting ≡ old.waiting → new.pending ≡ old.pending → new.lines ≡ old.lines → new.answers ≡ old.answers
-    → Explains old new
-explains_begun old new over taken waiting pending lines answers = λ told unit front.
+    → (new.ended ≡ true) ⊎ (of_session new.session new.taken ≡ []) → Explains old new
+explains_begun old new over taken waiting pending lines answers how = λ told unit front.
     none_more told unit front old new (known_begun (basis_in old) (basis_in new) over taken waiting pending lines told unit front.since) (begins_same old.taken new.taken taken) answers
-    (ap grants_in lines)
+    (ap grants_in lines) (λ deals is. deal_begun (told_to told unit) new.session new.taken new.waiting new.pending new.ended how)
 
--- Entries were taken, and none of them waits.
-pub explains_taken : (old new : Ledger) → new.session ≡ old.session → Begins old.taken new.taken → new.waiting ≡ old.waiting → new.pending ≡ old.pending → new.ended ≡ old.ended
+-- An entry was taken, and does not wait.
+pub explains_taken : (old new : Ledger) (row : PipeRow) → new.session ≡ old.session → new.taken ≡ old.taken ++ row ∷ [] → row.session ≡ old.session
+    → (is_event row.entry ≡ true) ⊎ (is_srp_entry row.entry ≡ false) → new.waiting ≡ old.waiting → new.pending ≡ old.pending → new.ended ≡ old.ended
     → new.lines ≡ old.lines → new.answers ≡ old.answers → Explains old new
-explains_taken old new session taken waiting pending ended lines answers = λ told unit front.
-    none_more told unit front old new (known_taken (basis_in old) (basis_in new) session taken waiting pending ended lines told unit front.since) taken answers (ap grants_in lines)
+explains_taken old new row session taken own kind waiting pending ended lines answers = λ told unit front.
+    none_more told unit front old new (known_taken (basis_in old) (basis_in new) session (row ∷ [], taken) waiting pending ended lines told unit front.since) (row ∷ [], taken) answers (ap grants_in lines)
+    (λ deals is. deal_same (told_to told unit) old.session new.session new.taken new.taken old.waiting new.waiting old.pending new.pending new.ended new.ended session refl waiting pending refl
+    (deal_taken (told_to told unit) old.session old.taken new.taken row own taken old.waiting old.pending old.ended new.ended ended kind is))
 
 -- An SRP entry was taken, and waits.
 pub explains_entry : (old new : Ledger) (before after : SiteState) (arrival : Arrival) → TakesEntry before after arrival.number arrival.entry → is_srp_entry arrival.entry ≡ true
-    → old.session ≡ before.queue.last_session → old.taken ≡ before.queue.taken → old.ended ≡ false → new.session ≡ after.queue.last_session → new.taken ≡ after.queue.taken
+    → old.session ≡ before.queue.last_session → old.taken ≡ before.queue.taken → old.waiting ≡ None → old.ended ≡ false → new.session ≡ after.queue.last_session → new.taken ≡ after.queue.taken
     → new.waiting ≡ Some arrival → new.pending ≡ old.pending → new.ended ≡ old.ended → new.lines ≡ old.lines → new.answers ≡ old.answers → Explains old new
-explains_entry old new before after arrival taken srp was_session was_taken going session now_taken waits pending ended lines answers = λ told unit front.
+explains_entry old new before after arrival taken srp was_session was_taken none going session now_taken waits pending ended lines answers = λ told unit front.
     let row : PipeRow = record { session = before.queue.last_session; entry = arrival.entry } in
+    let grown : new.taken ≡ old.taken ++ row ∷ [] = now_taken ∙ taken.taken ∙ ap (λ rows. rows ++ row ∷ []) (sym was_taken) in
     none_more told unit front old new
     (known_entry (basis_in old) (basis_in new) before after arrival taken srp was_session was_taken going session now_taken waits pending ended lines told unit front.since)
-    (row ∷ [], now_taken ∙ taken.taken ∙ ap (λ rows. rows ++ row ∷ []) (sym was_taken)) answers (ap grants_in lines)
+    (row ∷ [], grown) answers (ap grants_in lines)
+    (λ deals is. deal_same (told_to told unit) old.session new.session new.taken new.taken (Some arrival) new.waiting old.pending new.pending new.ended new.ended
+    (session ∙ taken.session ∙ sym was_session) refl waits pending refl
+    (deal_entry (told_to told unit) old.session old.taken new.taken row (sym was_session) grown arrival old.pending old.ended new.ended ended
+    (taken.number_is ∙ (λ i. length (of_session (sym was_session i) (sym was_taken i))))
+    (deal_same (told_to told unit) old.session old.session old.taken old.taken old.waiting None old.pending old.pending old.ended old.ended refl refl (sym none) refl refl is)))
 
--- A request that came by an entry is pending behind those that are.
-pub explains_pushed : (old new : Ledger) (request : Request) (entry : Entry) → old.ended ≡ false → IsSrpAt old.taken old.session request.number entry → request.address ≡ iu_address entry
-    → length request.unit.items ≡ iu_length entry → new.session ≡ old.session → new.taken ≡ old.taken → new.waiting ≡ old.waiting → new.ended ≡ old.ended → new.lines ≡ old.lines
-    → new.pending ≡ old.pending ++ request ∷ [] → new.answers ≡ old.answers → Explains old new
-explains_pushed old new request entry going found at long session taken waiting ended lines pushed answers = λ told unit front.
-    none_more told unit front old new (known_pushed (basis_in old) (basis_in new) request entry going found at long session taken waiting ended lines pushed told unit front.since)
+-- What waited waits no more: it asks for nothing that is kept, or its request is pending behind those that are.
+pub explains_ignored : (told : Told → Bool) (unit : UnitId) (front : Front) (old new : Ledger) (arrival : Arrival) → IsSrpAt old.taken old.session arrival.number arrival.entry
+    → old.waiting ≡ Some arrival → new.waiting ≡ None → new.session ≡ old.session → new.taken ≡ old.taken → new.pending ≡ old.pending → new.ended ≡ old.ended → new.lines ≡ old.lines
+    → new.answers ≡ old.answers → AsksNoLogin (told_to told unit) arrival.entry → AreAccounted told unit front old → AreAccounted told unit front new
+explains_ignored told unit front old new arrival at waits waiting session taken pending ended lines answers none =
+    none_more told unit front old new
+    (λ known. known_same (record (basis_in old) { waiting = None }) (basis_in new) session taken waiting pending ended lines told unit front.since (known_apart told unit front.since (basis_in old) known))
     (begins_same old.taken new.taken taken) answers (ap grants_in lines)
+    (λ deals is. deal_same (told_to told unit) old.session new.session old.taken new.taken None new.waiting old.pending new.pending new.ended new.ended session taken waiting pending refl
+    (deal_ignored (told_to told unit) old.session old.taken old.pending old.ended new.ended ended arrival at none
+    (deal_same (told_to told unit) old.session old.session old.taken old.taken old.waiting (Some arrival) old.pending old.pending old.ended old.ended refl refl (sym waits) refl refl is)))
 
--- The oldest request is pending no more, and no line came.
-pub explains_finished : (old new : Ledger) → new.session ≡ old.session → new.taken ≡ old.taken → new.waiting ≡ old.waiting → new.ended ≡ old.ended
-    → new.pending ≡ drop 1 old.pending → new.lines ≡ old.lines → new.answers ≡ old.answers → Explains old new
-explains_finished old new session taken waiting ended pending same answers = λ told unit front.
-    none_more told unit front old new (known_left told unit front.since (basis_in old) (basis_in new) 1 [] session taken waiting ended pending (same ∙ sym (append-nil old.lines))
-    (All-nil (IsExplained (told_to told unit) unit old.taken))) (begins_same old.taken new.taken taken) answers (ap grants_in same)
+pub explains_pushed : (told : Told → Bool) (unit : UnitId) (front : Front) (old new : Ledger) (request : Request) (arrival : Arrival) → old.ended ≡ false
+    → IsSrpAt old.taken old.session arrival.number arrival.entry → request.number ≡ arrival.number → request.address ≡ iu_address arrival.entry
+    → length request.unit.items ≡ iu_length arrival.entry → old.waiting ≡ Some arrival → new.waiting ≡ None → new.session ≡ old.session → new.taken ≡ old.taken → new.ended ≡ old.ended
+    → new.lines ≡ old.lines → new.pending ≡ old.pending ++ request ∷ [] → new.answers ≡ old.answers → (is_login request.order ≡ true) ⊎ AsksNoLogin (told_to told unit) arrival.entry
+    → AreAccounted told unit front old → AreAccounted told unit front new
+explains_pushed told unit front old new request arrival going found number_is at long waits waiting session taken ended lines pushed answers how =
+    none_more told unit front old new
+    (λ known. known_pushed (record (basis_in old) { waiting = None }) (basis_in new) request arrival.entry going
+    (subst (λ (n : ℕ). IsSrpAt old.taken old.session n arrival.entry) (sym number_is) found) at long session taken waiting ended lines pushed told unit front.since
+    (known_apart told unit front.since (basis_in old) known))
+    (begins_same old.taken new.taken taken) answers (ap grants_in lines)
+    (λ deals is. deal_same (told_to told unit) old.session new.session old.taken new.taken None new.waiting (old.pending ++ request ∷ []) new.pending new.ended new.ended session taken waiting pushed refl
+    (deal_pushed (told_to told unit) old.session old.taken old.pending old.ended new.ended ended arrival found request number_is how
+    (deal_same (told_to told unit) old.session old.session old.taken old.taken old.waiting (Some arrival) old.pending old.pending old.ended old.ended refl refl (sym waits) refl refl is)))
 
--- The same, and a line came that grants none and has its cause.
-pub explains_settled : (old new : Ledger) (line : Grant) → new.session ≡ old.session → new.taken ≡ old.taken → new.waiting ≡ old.waiting → new.ended ≡ old.ended
+-- what became of the requests then
+pub deals_left : (Hears : Hearing) (old new : Ledger) → new.session ≡ old.session → new.taken ≡ old.taken → new.waiting ≡ old.waiting → new.ended ≡ old.ended → new.pending ≡ drop 1 old.pending
+    → ((first : Request) (rest : List Request) → old.pending ≡ first ∷ rest → (is_login first.order ≡ false) ⊎ IsLoginAnswered Hears old.taken old.session first.number) → Deals Hears old new
+deals_left Hears old new session taken waiting ended pending gone is =
+    deal_same Hears old.session new.session old.taken new.taken old.waiting new.waiting (drop 1 old.pending) new.pending new.ended new.ended session taken waiting pending refl
+    (deal_popped Hears old.session old.taken old.pending old.ended new.ended ended old.waiting gone is)
+
+-- The oldest request is pending no more, and a line came that grants none, or none.
+pub explains_left : (told : Told → Bool) (unit : UnitId) (front : Front) (old new : Ledger) (lines : List Grant) → new.session ≡ old.session → new.taken ≡ old.taken → new.waiting ≡ old.waiting
+    → new.ended ≡ old.ended → new.pending ≡ drop 1 old.pending → new.lines ≡ old.lines ++ lines → All (IsExplained (told_to told unit) unit old.taken) lines → grants_in new.lines ≡ grants_in old.lines
+    → new.answers ≡ old.answers
+    → (AreExplained told unit front.since (basis_in old) → (first : Request) (rest : List Request) → old.pending ≡ first ∷ rest
+    → (is_login first.order ≡ false) ⊎ IsLoginAnswered (told_to told unit) old.taken old.session first.number)
+    → AreAccounted told unit front old → AreAccounted told unit front new
+explains_left told unit front old new lines session taken waiting ended pending more causes grants answers gone is =
+    none_more told unit front old new (known_left told unit front.since (basis_in old) (basis_in new) 1 lines session taken waiting ended pending more causes)
+    (begins_same old.taken new.taken taken) answers grants (λ deals. deals_left (told_to told unit) old new session taken waiting ended pending (gone is.known)) is
+
+-- It was the client's own logout, or another that asks for no login.
+pub explains_settled : (old new : Ledger) (line : Grant) (first : Request) (rest : List Request) → old.pending ≡ first ∷ rest → is_login first.order ≡ false → new.session ≡ old.session → new.taken ≡ old.taken
+    → new.waiting ≡ old.waiting → new.ended ≡ old.ended
     → new.pending ≡ drop 1 old.pending → new.lines ≡ old.lines ++ line ∷ [] → ((Hears : Hearing) (unit : UnitId) → IsExplained Hears unit old.taken line) → is_grant line ≡ false
     → new.answers ≡ old.answers → Explains old new
-explains_settled old new line session taken waiting ended pending more cause ends answers = λ told unit front.
-    none_more told unit front old new (known_left told unit front.since (basis_in old) (basis_in new) 1 (line ∷ []) session taken waiting ended pending more
-    (All-cons (IsExplained (told_to told unit) unit old.taken) line [] (cause (told_to told unit) unit) (All-nil (IsExplained (told_to told unit) unit old.taken))))
-    (begins_same old.taken new.taken taken) answers (no_grant old.lines new.lines line more ends)
+explains_settled old new line first rest parts other session taken waiting ended pending more cause ends answers = λ told unit front.
+    explains_left told unit front old new (line ∷ []) session taken waiting ended pending more
+    (All-cons (IsExplained (told_to told unit) unit old.taken) line [] (cause (told_to told unit) unit) (All-nil (IsExplained (told_to told unit) unit old.taken)))
+    (no_grant old.lines new.lines line more ends) answers
+    (λ known front rest' parts'. inl (subst (λ (r : Request). is_login r.order ≡ false) (head_is first front rest rest' (sym parts ∙ parts')) other))
+  where
+    head_is : (x y : Request) (xs ys : List Request) → x ∷ xs ≡ y ∷ ys → x ≡ y
+    head_is x y xs ys same = cc (same)
 
 -- A part of a turn behind another that left the desk in order.
 pub explained_then : (d d' : Held) (a b : Desk) (s s' : List PipeRow) (h h' : List Served) (front : Front) (x y z : Ledger) → Once d d' a b s s' h h'
@@ -130,11 +202,20 @@ pub explained_then : (d d' : Held) (a b : Desk) (s s' : List PipeRow) (h h' : Li
 explained_then d d' a b s s' h h' front x y z once first next is =
     subst (λ (w : UnitId × Terms). AreAccounted w.1.told w.0 front y → AreAccounted w.1.told w.0 front z) (λ i. (once.id i, once.terms i)) (next once.serving front) (first is)
 
--- What waits waits no more.
-pub explained_apart : (told : Told → Bool) (unit : UnitId) (front : Front) (ledger : Ledger) → AreAccounted told unit front ledger → AreAccounted told unit front (record ledger { waiting = None })
-explained_apart told unit front ledger is = record { known = known_apart told unit front.since (basis_in ledger) is.known; logins = is.logins }
-
 -- As a turn begins nothing was put in it.
-pub accounted_first : (told : Told → Bool) (unit : UnitId) (since : List Grant) (ledger : Ledger) → AreExplained told unit since (basis_in ledger)
-    → AreAccounted told unit (record { since = since; lines = ledger.lines; answers = ledger.answers }) ledger
-accounted_first told unit since ledger is = record { known = is; logins = logins_none (told_to told unit) ledger.taken ledger.answers ledger.answers ledger.lines ledger.lines refl refl }
+pub accounted_first : (told : Told → Bool) (unit : UnitId) (front : Front) (ledger : Ledger) → AreExplained told unit front.since (basis_in ledger) → front.lines ≡ ledger.lines → front.answers ≡ ledger.answers
+    → (front.deals ≡ true → AreDealt (told_to told unit) ledger.session ledger.taken ledger.waiting ledger.pending ledger.ended) → AreAccounted told unit front ledger
+accounted_first told unit front ledger is lines answers dealt = record {
+  known = is;
+  logins = logins_none (told_to told unit) ledger.taken front.answers ledger.answers front.lines ledger.lines (sym answers) (ap grants_in (sym lines));
+  dealt = dealt;
+}
+
+-- A turn of the unit.
+pub dealt_turn : (told : Told → Bool) (units : List Unit) (n : ℕ) (u u' : Unit) (unit : UnitId) (queue queue' : EndState) → slice_get units n ≡ Some u
+    → (AreDealt (told_to told unit) queue.last_session queue.taken u.waiting u.pending.items (is_ended u.line)
+    → AreDealt (told_to told unit) queue'.last_session queue'.taken u'.waiting u'.pending.items (is_ended u'.line))
+    → HasDealt told units n unit queue → HasDealt told (slice_set units n u') n unit queue'
+dealt_turn told units n u u' unit queue queue' there step has =
+    if_at (slice_get (slice_set units n u') n) u' (λ x. AreDealt (told_to told unit) queue'.last_session queue'.taken x.waiting x.pending.items (is_ended x.line)) (get_set_same units n u u' there)
+    (step (some_at (slice_get units n) u (λ x. AreDealt (told_to told unit) queue.last_session queue.taken x.waiting x.pending.items (is_ended x.line)) there has))

@@ -70,6 +70,8 @@ pub mod OwedLaws
 pub mod OwingTurn
 pub mod Counting
 pub mod Refusing
+pub mod Dealing
 pub mod Ledgers
 pub mod Settling
+pub mod DealtLaws
 pub mod RefusalLaws

@@ -1,8 +1,8 @@
 -- The answers to requests to log in that were put, over steps one after the other.
-use Rattle.std.proofs.Common.{◌≡◌, ◌++◌, ◌∙◌, ℕ, Bool, false, List, [], ◌∷◌, Option, Some, None, map, refl, sym, ap, append-nil, append_assoc}
+use Rattle.std.proofs.Common.{◌≡◌, ◌++◌, ◌∙◌, ℕ, Bool, false, All, List, [], ◌∷◌, Option, Some, None, map, refl, sym, ap, append-nil, append_assoc}
 use Rattle.std.specs.List.{filter_map}
 use Rattle.std.proofs.lemmas.List.{map-append}
-use Rattle.std.proofs.lemmas.List.Elements.{All-append, All-nil, All-weaker, filter_map-append}
+use Rattle.std.proofs.lemmas.List.Elements.{All-append, All-nil, All-weaker, filter-append, filter_map-append}
 use Rattle.crq_ring.specs.declared.rows.PipeRow.{PipeRow}
 use Rattle.crq_session.specs.Answered.{TurnsBack}
 use Rattle.crq_session.specs.Answers.{IfClosed, OnNotSent}
@@ -13,10 +13,12 @@ use Rattle.vio_num.specs.Words.{Begins}
 use Rattle.vio_num.specs.declared.entry.Entry.{Entry}
 use Rattle.vio_num.specs.declared.history.Grant.{Grant}
 use Rattle.vio_num.specs.declared.history.Grant.TheVariants.{Granted, Lapsed}
+use Rattle.vio_num.specs.declared.history.Lapse.{Lapse}
+use Rattle.vio_num.specs.declared.names.UnitId.{UnitId}
 use Rattle.block_server.specs.Causes.{Hearing}
 use Rattle.block_server.specs.Entries.{IsPlain}
 use Rattle.block_server.specs.Granting.{IsGrantedOver, IsRejectedOver, IsSrpAt}
-use Rattle.block_server.specs.LoginAnswers.{IsLoginAnswer, IsLoginPut, LoginsMore, entry_put, grants_in, is_login_answer, line_of, login_answers, login_put}
+use Rattle.block_server.specs.LoginAnswers.{IsLoginAnswer, IsLoginPut, LoginAnswer, LoginsMore, entry_put, grants_in, is_grant, is_login_answer, line_of, login_answers, login_put}
 use Rattle.block_server.proofs.Onces.{put_append, put_plain}
 use Rattle.block_server.proofs.Receiving.{session_more}
 use Rattle.block_server.proofs.Serves.{same_sent}
@@ -40,7 +42,7 @@ granted_more Hears old new session number credits more is = record {
   written = is.written;
 }
 
-rejected_more : (Hears : Hearing) (old new : List PipeRow) (session number : ℕ) → Begins old new → IsRejectedOver Hears old session number → IsRejectedOver Hears new session number
+pub rejected_more : (Hears : Hearing) (old new : List PipeRow) (session number : ℕ) → Begins old new → IsRejectedOver Hears old session number → IsRejectedOver Hears new session number
 rejected_more Hears old new session number more is = record {
   entry = is.entry;
   at = srp_more old new session number is.entry more is.at;

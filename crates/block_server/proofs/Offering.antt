@@ -3,7 +3,7 @@ use Rattle.std.proofs.Common.{◌≡◌, ◌++◌, ℕ, false, List, [], ◌∷�
 use Rattle.block_server.specs.Causes.{Hearing, told_to, units_at}
 use Rattle.block_server.specs.Causes.News.{delivered}
 use Rattle.block_server.specs.Ends.{IsGrantable}
-use Rattle.block_server.specs.Granting.{HasOffer, IsOffered, IsRejecting}
+use Rattle.block_server.specs.Granting.{HasOffer, HasOtherFront, IsOffered, IsRejecting}
 use Rattle.block_server.specs.Serving.{Desk, Terms}
 use Rattle.block_server.specs.Stage.{is_answered}
 use Rattle.srp_iu.specs.declared.login.LoginReq.{LoginReq}
@@ -56,6 +56,9 @@ rejecting_pushed answer pending new is = record {
   rejects = is.rejects;
 }
 
+other_pushed : (pending : List Request) (new : Request) → HasOtherFront pending → HasOtherFront (pending ++ new ∷ [])
+other_pushed pending new is = record { front = is.front; rest = is.rest ++ new ∷ []; parts = ap (λ list. list ++ new ∷ []) is.parts; other = is.other }
+
 pub offer_pushed : (Hears : Hearing) (stage : Stage) (credits : ℕ) (answer : List ℕ) (pending : List Request) (new : Request) → HasOffer Hears stage credits answer pending
     → HasOffer Hears stage credits answer (pending ++ new ∷ [])
 unfolding offered_pushed rejecting_pushed
@@ -67,12 +70,12 @@ offer_pushed Hears (Given row reply) credits answer pending new is = tt
 offer_pushed Hears (DataIn row reply cursor) credits answer pending new is = tt
 offer_pushed Hears (Answer (Granted number)) credits answer pending new is = offered_pushed number credits answer pending new is
 offer_pushed Hears (Answer Rejected) credits answer pending new is = rejecting_pushed answer pending new is
-offer_pushed Hears (Answer (Served row)) credits answer pending new is = tt
+offer_pushed Hears (Answer (Served row)) credits answer pending new is = other_pushed pending new is
 offer_pushed Hears (Entry (Granted number)) credits answer pending new is =
     record { offered = offered_pushed number credits answer pending new is.offered; written = is.written }
 offer_pushed Hears (Entry Rejected) credits answer pending new is =
     record { rejecting = rejecting_pushed answer pending new is.rejecting; written = is.written }
-offer_pushed Hears (Entry (Served row)) credits answer pending new is = tt
+offer_pushed Hears (Entry (Served row)) credits answer pending new is = other_pushed pending new is
 
 -- its answer was copied over the request
 pub offer_copied : (Hears : Hearing) (outcome : Outcome) (credits : ℕ) (answer : List ℕ) (request : Request) (rest pending : List Request) → pending ≡ request ∷ rest
@@ -88,7 +91,7 @@ offer_copied Hears outcome credits answer request rest pending front written is 
     at : (outcome : Outcome) → HasOffer Hears (Answer outcome) credits answer pending → HasOffer Hears (Entry outcome) credits answer pending
     at (Granted number) is = record { offered = is; written = over is.front is.rest is.parts }
     at Rejected is = record { rejecting = is; written = over is.front is.rest is.parts }
-    at (Served row) is = tt
+    at (Served row) is = is
 
 -- a login may be granted while this one is on, so none is
 pub may_first : (current : ℕ) (asked : LoginReq) → IsGrantable current asked → IsGrantable 0 asked

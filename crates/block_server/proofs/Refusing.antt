@@ -1,7 +1,7 @@
 -- What the parts of a turn leave of why a unit's sessions end as refused.
 use Rattle.std.proofs.Common.{◌≡◌, ◌⊎◌, ◌==◌, ◌||◌, ◌++◌, ℕ, suc, zero, Bool, true, false, List, [], ◌∷◌, Option, Some, None, IfSome, All, length, drop, slice_get, slice_set, refl, sym, ◌∙◌, ap, subst, arith, append-nil, append_assoc, length-append, inl, inr}
 use Rattle.std.proofs.lemmas.List.{get_or_push}
-use Rattle.std.proofs.lemmas.List.Elements.{All-nil, All-append, All-drop, All-head, All-push, All-weaker}
+use Rattle.std.proofs.lemmas.List.Elements.{All-nil, All-cons, All-append, All-drop, All-head, All-push, All-weaker}
 use Rattle.std.proofs.lemmas.Option.{slice_get-get_or}
 use Rattle.crq_ring.specs.Sessions.{of_session}
 use Rattle.crq_ring.specs.declared.rows.PipeRow.{PipeRow}
@@ -15,25 +15,35 @@ use Rattle.vio_num.specs.declared.history.Grant.TheVariants.{Granted, Lapsed}
 use Rattle.vio_num.specs.declared.history.Lapse.{Lapse}
 use Rattle.vio_num.specs.declared.history.Lapse.TheVariants as lapses
 use Rattle.vio_num.specs.declared.names.UnitId.{UnitId}
-use Rattle.block_server.specs.Causes.{Hearing, Told, told_to}
-use Rattle.block_server.specs.Causes.News.{denied}
+use Rattle.block_server.specs.Causes.{Hearing, Told, told_to, units_at}
+use Rattle.block_server.specs.Causes.News.{delivered, denied, fetched}
 use Rattle.block_server.specs.Decided.{Decides, IsCause, StaysOn}
 use Rattle.block_server.specs.Entries.{is_answer_len, is_response_len, login_rej_len, login_rsp_len}
-use Rattle.block_server.specs.Granting.{IsSrpAt}
+use Rattle.block_server.specs.Granting.{HasOffer, IsGrantedOver, IsOfferedOver, IsSrpAt}
 use Rattle.block_server.specs.Heard.{TellsAll}
-use Rattle.block_server.specs.Receipts.{TakesEntry}
+use Rattle.block_server.specs.Moves.{Passes}
+use Rattle.block_server.specs.Receipts.{Standing, TakesEntry, standing_of}
 use Rattle.tce_window.specs.declared.answers.Right.TheVariants.{Read, Write}
 use Rattle.block_server.specs.Refusals.{AreExplained, Basis, DeniesAnswer, HasEntry, IsExplained, HasExplained, IsNotRead, IsNotWritten, ExplainNone, basis_seen}
+use Rattle.block_server.specs.Orders.{IsOrder}
+use Rattle.block_server.specs.Serving.{AreBrought, Desk, Held, IsServing, Once, Terms}
 use Rattle.block_server.specs.SiteState.{IsDeniedBetween, SiteState}
 use Rattle.block_server.specs.Stage.{fits}
 use Rattle.block_server.specs.declared.intake.Verdict.{Verdict}
 use Rattle.block_server.specs.declared.intake.Verdict.TheVariants.{Fatal}
 use Rattle.block_server.specs.declared.logins.Logins.{Logins}
+use Rattle.block_server.specs.declared.records.Records.{Records}
 use Rattle.block_server.specs.declared.request.Arrival.{Arrival}
+use Rattle.block_server.specs.declared.request.Order.{Order}
 use Rattle.block_server.specs.declared.request.Request.{Request}
 use Rattle.block_server.specs.declared.service.Outcome.{Outcome}
 use Rattle.block_server.specs.declared.service.Outcome.TheVariants as outcomes
+use Rattle.block_server.specs.declared.service.Stage.{Stage}
+use Rattle.block_server.specs.declared.service.Stage.TheVariants as stages
 use Rattle.block_server.specs.declared.unit.Unit.{Unit}
+use Rattle.srp_iu.specs.Grammar.{Spells}
+use Rattle.srp_iu.specs.declared.unit.Iu.TheVariants as ius
+use Rattle.vio_num.specs.declared.history.Served.{Served}
 use Rattle.block_server.proofs.Agreeing.{if_at, some_at}
 use Rattle.block_server.proofs.LoginPuts.{granted_more, srp_more}
 use Rattle.block_server.proofs.Units.{get_set_same}

@@ -47,6 +47,7 @@ use Rattle.block_server.specs.Responses.{Answers, HasCode, HasStatus}
 use Rattle.block_server.proofs.AnswerLaws.{answers_blank, answers_filled, filled_there, in_service_filled, in_service_new, only_there}
 use Rattle.block_server.proofs.DiskLaws.{serve_push}
 use Rattle.block_server.proofs.DiskRows.{SpellsOne, known_cut, may_cut, may_refuse, may_status}
+use Rattle.block_server.specs.Judged.{is_login}
 use Rattle.block_server.proofs.Offering.{offer_at, offer_copied, offer_none, offer_pushed}
 use Rattle.block_server.specs.Granting.{HasOffer}
 use Rattle.block_server.proofs.Onces.{brought_at, known_of, more_none, once_goes, once_still, pieces_at, row_at, stays_equal, stays_rows, stays_there, tells_same}
@@ -337,7 +338,8 @@ pub once_stated : SpellsOne → (a b : Desk) (s s' : List PipeRow) (h h' : List 
     → (d : Held) → IsServing d.terms a h → Once d d a b s s' h h'
 once_stated one a b s s' h h' row reply cursor request rest command id pending was is front order says kept rows put d =
     once_to d a b s s' h h' (DataIn row reply cursor) (Answer (Served row)) b.answer b.buffers.given id pending was is refl refl kept rows put tt
-    (carried d.terms a h row (DataIn row reply cursor) (Answer (Served row)) a.answer a.buffers.given b.answer b.buffers.given may) tt
+    (carried d.terms a h row (DataIn row reply cursor) (Answer (Served row)) a.answer a.buffers.given b.answer b.buffers.given may)
+    (record { front = request; rest = rest; parts = pending ∙ front; other = ap is_login order })
   where
     may : (is : IsServed d.terms (staged a (DataIn row reply cursor) a.answer a.buffers.given) h row) → MayAnswer d.terms b.answer is.in_service.served
     may is =
@@ -397,7 +399,8 @@ once_cut one a b s h h' row n reply cursor request rest command id pending was i
         kept = λ entry some_kept. absurd (cc (kept, some_kept));
         fetched = subst (λ (st : Stage). HasPieces (told_to d.terms.told b.id) st b.buffers.outs b.buffers.inns b.pending) (sym is) tt;
         brought = brought_at d.terms a b a.pending id pending serving.brought;
-        offer = subst (λ (st : Stage). HasOffer (told_to d.terms.told b.id) st b.credits b.answer b.pending) (sym is) tt;
+        offer = subst (λ (st : Stage). HasOffer (told_to d.terms.told b.id) st b.credits b.answer b.pending) (sym is)
+            (record { front = request; rest = rest; parts = pending ∙ front; other = ap is_login order });
       };
       answers = more_none a.id s s h h' refl (answers_filled a.id iu h h' row (take n old.inn) served.in_service there);
       others = only_there a.id iu h h' row served.in_service new served.in_service.unit_is there;

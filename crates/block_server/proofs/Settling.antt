@@ -1,31 +1,37 @@
 -- What the answer to a request that was put says of a login: it granted one, and a line says so, rejected one, or answered no
 -- such request.
-use Rattle.std.proofs.Common.{◌≡◌, ◌++◌, ◌==◌, ◌∙◌, ◌⊎◌, inl, inr, ℕ, true, false, All, List, [], ◌∷◌, Some, None, length, drop, refl, sym, ap, subst, append-nil}
+use Rattle.std.proofs.Common.{◌≡◌, ◌++◌, ◌==◌, ◌∙◌, ◌⊎◌, inl, inr, ℕ, Bool, true, false, All, List, [], ◌∷◌, Some, None, filter, length, drop, refl, sym, ap, subst, append-nil}
 use Rattle.std.proofs.lemmas.Bool.{eqb-true}
 use Rattle.std.proofs.lemmas.List.Elements.{All-nil, All-cons, All-head, filter-append}
 use Rattle.crq_ring.specs.declared.rows.PipeRow.{PipeRow}
 use Rattle.srp_iu.specs.Grammar.{Spells}
+use Rattle.srp_iu.specs.declared.login.LoginReq.{LoginReq}
 use Rattle.srp_iu.specs.declared.unit.Iu.TheVariants as ius
 use Rattle.vio_num.specs.Entry.{srp_entry}
+use Rattle.vio_num.specs.Words.{Begins}
 use Rattle.vio_num.specs.declared.entry.Entry.{Entry}
 use Rattle.vio_num.specs.declared.history.Grant.{Grant}
 use Rattle.vio_num.specs.declared.history.Grant.TheVariants.{Granted}
 use Rattle.vio_num.specs.declared.history.Served.{Served}
-use Rattle.block_server.specs.Causes.{told_to, units_at}
+use Rattle.block_server.specs.Causes.{Hearing, told_to, units_at}
 use Rattle.block_server.specs.Causes.News.{delivered, fetched}
+use Rattle.block_server.specs.Dealt.{IsLoginAnswered}
+use Rattle.block_server.specs.Judged.{is_login}
 use Rattle.block_server.specs.Entries.{is_response_len, login_rej_len, login_rsp_len}
-use Rattle.block_server.specs.Granting.{HasOffer, IsOfferedOver, IsRejectingOver, IsSrpAt}
-use Rattle.block_server.specs.LoginAnswers.{IsGrantPut, IsLoginAnswer, IsRejectionPut, LoginAnswer, grants_in, is_grant, is_login_answer, login_put}
+use Rattle.block_server.specs.Granting.{HasOffer, HasOtherFront, IsGrantedOver, IsOfferedOver, IsRejectedOver, IsRejectingOver, IsSrpAt}
+use Rattle.block_server.specs.LoginAnswers.{IsGrantPut, IsLoginAnswer, IsRejectionPut, LoginAnswer, LoginsMore, grants_in, is_grant, is_login_answer, login_put}
 use Rattle.block_server.specs.Orders.{IsOrder}
-use Rattle.block_server.specs.Refusals.{Explains, ExplainsOf, HasEntry, IsExplained, Ledger, basis_in}
+use Rattle.block_server.specs.Refusals.{AreExplained, ExplainsOf, HasEntry, IsExplained, Ledger, basis_in}
 use Rattle.block_server.specs.Serving.{AreBrought, Desk, IsAnswerKept, IsServing, Terms}
+use Rattle.block_server.specs.Stage.{fits}
 use Rattle.block_server.specs.declared.request.Order.{Order}
+use Rattle.block_server.specs.declared.request.Order.TheVariants as orders
 use Rattle.block_server.specs.declared.request.Request.{Request}
 use Rattle.block_server.specs.declared.service.Outcome.{Outcome}
 use Rattle.block_server.specs.declared.service.Outcome.TheVariants as outcomes
 use Rattle.block_server.specs.declared.service.Stage.{Stage}
 use Rattle.block_server.specs.declared.service.Stage.TheVariants as stages
-use Rattle.block_server.proofs.Ledgers.{accounted, begins_same, explains_finished}
+use Rattle.block_server.proofs.Ledgers.{accounted, begins_same, deals_left, explains_left}
 use Rattle.block_server.proofs.Onces.{response_lens}
 use Rattle.block_server.proofs.Refusing.{known_left}
 
@@ -39,11 +45,10 @@ entry_of desk entry outcome n front rest tag kept len parts is =
     kept.entry_is ∙ (λ i. srp_entry (eqb-true (length desk.answer) n len i) (kept.request.tag))
     ∙ ap (srp_entry n) (ap (λ (r : Request). r.tag) (head_is kept.request front kept.rest rest (sym kept.front ∙ parts)) ∙ is)
 
--- The answer that grants a login was put over its request.
-granted_put : (terms : Terms) (desk : Desk) (history : List Served) (taken : List PipeRow) (session number : ℕ) (entry : Entry) → desk.stage ≡ stages.Entry (outcomes.Granted number)
-    → IsAnswerKept desk entry (outcomes.Granted number) → (length desk.answer == login_rsp_len) ≡ true → All (HasEntry taken session) desk.pending → IsServing terms desk history
-    → IsGrantPut (told_to terms.told desk.id) taken session number desk.credits entry
-granted_put terms desk history taken session number entry stage kept len pending serving =
+-- The answer that grants a login was written over its request.
+granted_over : (terms : Terms) (desk : Desk) (history : List Served) (taken : List PipeRow) (session number : ℕ) → desk.stage ≡ stages.Entry (outcomes.Granted number)
+    → All (HasEntry taken session) desk.pending → IsServing terms desk history → IsGrantedOver (told_to terms.told desk.id) taken session number desk.credits
+granted_over terms desk history taken session number stage pending serving =
     let Hears = told_to terms.told desk.id in
     let over : IsOfferedOver Hears number desk.credits desk.answer desk.pending =
     subst (λ (st : Stage). HasOffer Hears st desk.credits desk.answer desk.pending) stage serving.offer in
@@ -52,52 +57,101 @@ granted_put terms desk history taken session number entry stage kept len pending
     let brought : AreBrought Hears (offer.front ∷ offer.rest) = subst (AreBrought Hears) offer.parts serving.brought in
     let spelled : Spells offer.front.unit.items (ius.LoginReq offer.asked) = subst (λ (order : Order). IsOrder order offer.front.unit.items) offer.asks offer.front.spelled in
     record {
-      over = record {
-        entry = has.entry;
-        at = subst (λ (n : ℕ). IsSrpAt taken session n has.entry) offer.number_is has.at;
-        bytes = offer.front.unit.items;
-        long = has.long;
-        brought = subst (λ (n : ℕ). Hears (fetched n units_at offer.front.unit.items)) has.address brought.0;
-        asked = offer.asked;
-        asks = spelled;
-        may = offer.may;
-        answer = desk.answer;
-        grants = offer.grants;
-        written = subst (λ (z : ℕ × ℕ). Hears (delivered units_at z.0 z.1 desk.answer)) (λ i. (has.address i, (offer.front.tagged ∙ sym spelled.unit.tag) i)) over.written;
-      };
-      entry_is = entry_of desk entry (outcomes.Granted number) login_rsp_len offer.front offer.rest offer.asked.tag kept len offer.parts (offer.front.tagged ∙ sym spelled.unit.tag);
+      entry = has.entry;
+      at = subst (λ (n : ℕ). IsSrpAt taken session n has.entry) offer.number_is has.at;
+      bytes = offer.front.unit.items;
+      long = has.long;
+      brought = subst (λ (n : ℕ). Hears (fetched n units_at offer.front.unit.items)) has.address brought.0;
+      asked = offer.asked;
+      asks = spelled;
+      may = offer.may;
+      answer = desk.answer;
+      grants = offer.grants;
+      written = subst (λ (z : ℕ × ℕ). Hears (delivered units_at z.0 z.1 desk.answer)) (λ i. (has.address i, (offer.front.tagged ∙ sym spelled.unit.tag) i)) over.written;
     }
 
 -- The answer that rejects one was.
-rejected_put : (terms : Terms) (desk : Desk) (history : List Served) (taken : List PipeRow) (session : ℕ) (entry : Entry) → desk.stage ≡ stages.Entry outcomes.Rejected
-    → IsAnswerKept desk entry outcomes.Rejected → (length desk.answer == login_rej_len) ≡ true → All (HasEntry taken session) desk.pending → IsServing terms desk history
-    → IsRejectionPut (told_to terms.told desk.id) taken entry
-rejected_put terms desk history taken session entry stage kept len pending serving =
+rejected_over : (terms : Terms) (desk : Desk) (history : List Served) (taken : List PipeRow) (session : ℕ) (over : IsRejectingOver (told_to terms.told desk.id) desk.answer desk.pending)
+    → All (HasEntry taken session) desk.pending → IsServing terms desk history → IsRejectedOver (told_to terms.told desk.id) taken session over.rejecting.front.number
+rejected_over terms desk history taken session over pending serving =
     let Hears = told_to terms.told desk.id in
-    let over : IsRejectingOver Hears desk.answer desk.pending =
-    subst (λ (st : Stage). HasOffer Hears st desk.credits desk.answer desk.pending) stage serving.offer in
     let offer = over.rejecting in
     let has : HasEntry taken session offer.front = All-head (HasEntry taken session) offer.front offer.rest (subst (All (HasEntry taken session)) offer.parts pending) in
     let brought : AreBrought Hears (offer.front ∷ offer.rest) = subst (AreBrought Hears) offer.parts serving.brought in
     let spelled : Spells offer.front.unit.items (ius.LoginReq offer.asked) = subst (λ (order : Order). IsOrder order offer.front.unit.items) offer.asks offer.front.spelled in
     record {
+      entry = has.entry;
+      at = has.at;
+      bytes = offer.front.unit.items;
+      long = has.long;
+      brought = subst (λ (n : ℕ). Hears (fetched n units_at offer.front.unit.items)) has.address brought.0;
+      asked = offer.asked;
+      asks = spelled;
+      current = offer.current;
+      answer = desk.answer;
+      rejects = offer.rejects;
+      written = subst (λ (z : ℕ × ℕ). Hears (delivered units_at z.0 z.1 desk.answer)) (λ i. (has.address i, (offer.front.tagged ∙ sym spelled.unit.tag) i)) over.written;
+    }
+
+-- They were put.
+granted_put : (terms : Terms) (desk : Desk) (history : List Served) (taken : List PipeRow) (session number : ℕ) (entry : Entry) → desk.stage ≡ stages.Entry (outcomes.Granted number)
+    → IsAnswerKept desk entry (outcomes.Granted number) → (length desk.answer == login_rsp_len) ≡ true → All (HasEntry taken session) desk.pending → IsServing terms desk history
+    → IsGrantPut (told_to terms.told desk.id) taken session number desk.credits entry
+unfolding granted_over
+granted_put terms desk history taken session number entry stage kept len pending serving =
+    let Hears = told_to terms.told desk.id in
+    let over : IsOfferedOver Hears number desk.credits desk.answer desk.pending =
+    subst (λ (st : Stage). HasOffer Hears st desk.credits desk.answer desk.pending) stage serving.offer in
+    let offer = over.offered in
+    let spelled : Spells offer.front.unit.items (ius.LoginReq offer.asked) = subst (λ (order : Order). IsOrder order offer.front.unit.items) offer.asks offer.front.spelled in
+    record {
+      over = granted_over terms desk history taken session number stage pending serving;
+      entry_is = entry_of desk entry (outcomes.Granted number) login_rsp_len offer.front offer.rest offer.asked.tag kept len offer.parts (offer.front.tagged ∙ sym spelled.unit.tag);
+    }
+
+rejected_put : (terms : Terms) (desk : Desk) (history : List Served) (taken : List PipeRow) (session : ℕ) (entry : Entry) → desk.stage ≡ stages.Entry outcomes.Rejected
+    → IsAnswerKept desk entry outcomes.Rejected → (length desk.answer == login_rej_len) ≡ true → All (HasEntry taken session) desk.pending → IsServing terms desk history
+    → IsRejectionPut (told_to terms.told desk.id) taken entry
+unfolding rejected_over
+rejected_put terms desk history taken session entry stage kept len pending serving =
+    let Hears = told_to terms.told desk.id in
+    let over : IsRejectingOver Hears desk.answer desk.pending =
+    subst (λ (st : Stage). HasOffer Hears st desk.credits desk.answer desk.pending) stage serving.offer in
+    let offer = over.rejecting in
+    let spelled : Spells offer.front.unit.items (ius.LoginReq offer.asked) = subst (λ (order : Order). IsOrder order offer.front.unit.items) offer.asks offer.front.spelled in
+    record {
       session = session;
       number = offer.front.number;
-      over = record {
-        entry = has.entry;
-        at = has.at;
-        bytes = offer.front.unit.items;
-        long = has.long;
-        brought = subst (λ (n : ℕ). Hears (fetched n units_at offer.front.unit.items)) has.address brought.0;
-        asked = offer.asked;
-        asks = spelled;
-        current = offer.current;
-        answer = desk.answer;
-        rejects = offer.rejects;
-        written = subst (λ (z : ℕ × ℕ). Hears (delivered units_at z.0 z.1 desk.answer)) (λ i. (has.address i, (offer.front.tagged ∙ sym spelled.unit.tag) i)) over.written;
-      };
+      over = rejected_over terms desk history taken session over pending serving;
       entry_is = entry_of desk entry outcomes.Rejected login_rej_len offer.front offer.rest offer.asked.tag kept len offer.parts (offer.front.tagged ∙ sym spelled.unit.tag);
     }
+
+-- The oldest request, whose answer was copied, asks for no login, or was answered.
+gone_at : (terms : Terms) (desk : Desk) (history : List Served) (taken : List PipeRow) (session : ℕ) (outcome : Outcome) → desk.stage ≡ stages.Entry outcome
+    → All (HasEntry taken session) desk.pending → IsServing terms desk history → (front : Request) (rest : List Request) → desk.pending ≡ front ∷ rest
+    → (is_login front.order ≡ false) ⊎ IsLoginAnswered (told_to terms.told desk.id) taken session front.number
+gone_at terms desk history taken session (outcomes.Granted number) stage pending serving front rest parts =
+    let Hears = told_to terms.told desk.id in
+    let over : IsOfferedOver Hears number desk.credits desk.answer desk.pending =
+    subst (λ (st : Stage). HasOffer Hears st desk.credits desk.answer desk.pending) stage serving.offer in
+    let offer = over.offered in
+    inr (inl (
+      desk.credits,
+      subst (λ (n : ℕ). IsGrantedOver Hears taken session n desk.credits)
+          (sym offer.number_is ∙ ap (λ (r : Request). r.number) (head_is offer.front front offer.rest rest (sym offer.parts ∙ parts)))
+          (granted_over terms desk history taken session number stage pending serving),
+    ))
+gone_at terms desk history taken session outcomes.Rejected stage pending serving front rest parts =
+    let Hears = told_to terms.told desk.id in
+    let over : IsRejectingOver Hears desk.answer desk.pending =
+    subst (λ (st : Stage). HasOffer Hears st desk.credits desk.answer desk.pending) stage serving.offer in
+    let offer = over.rejecting in
+    inr (inr (subst (IsRejectedOver Hears taken session) (ap (λ (r : Request). r.number) (head_is offer.front front offer.rest rest (sym offer.parts ∙ parts)))
+    (rejected_over terms desk history taken session over pending serving)))
+gone_at terms desk history taken session (outcomes.Served row) stage pending serving front rest parts =
+    let Hears = told_to terms.told desk.id in
+    let other : HasOtherFront desk.pending = subst (λ (st : Stage). HasOffer Hears st desk.credits desk.answer desk.pending) stage serving.offer in
+    inl (subst (λ (r : Request). is_login r.order ≡ false) (head_is other.front front other.rest rest (sym other.parts ∙ parts)) other.other)
 
 -- what an entry adds to the answers to requests to log in
 put_some : (entry : Entry) (n tag : ℕ) → entry ≡ srp_entry n tag → is_login_answer (srp_entry n tag) ≡ true → login_put entry ≡ entry ∷ []
@@ -111,6 +165,20 @@ grant_added lines lines' line grants more = ap grants_in more ∙ filter-append 
   where
     one : is_grant line ≡ true → grants_in (line ∷ []) ≡ line ∷ []
     one e = rw e refl
+
+-- The oldest request was answered, and its entry is put or discarded; no line came.
+module _ (terms : Terms) (desk : Desk) (history : List Served) (old : Ledger) (outcome : Outcome) (stage : desk.stage ≡ stages.Entry outcome) (requests : desk.pending ≡ old.pending) (serving : IsServing terms desk history) where
+  gone_from : (since : List Grant) → AreExplained terms.told desk.id since (basis_in old) → (first : Request) (rest : List Request) → old.pending ≡ first ∷ rest
+      → (is_login first.order ≡ false) ⊎ IsLoginAnswered (told_to terms.told desk.id) old.taken old.session first.number
+  gone_from since known first rest parts =
+      gone_at terms desk history old.taken old.session outcome stage (subst (All (HasEntry old.taken old.session)) (sym requests) known.pending) serving first rest (requests ∙ parts)
+
+pub explains_finished : (terms : Terms) (desk : Desk) (history : List Served) (old new : Ledger) (outcome : Outcome) → desk.stage ≡ stages.Entry outcome → desk.pending ≡ old.pending
+    → new.session ≡ old.session → new.taken ≡ old.taken → new.waiting ≡ old.waiting → new.ended ≡ old.ended
+    → new.pending ≡ drop 1 old.pending → new.lines ≡ old.lines → new.answers ≡ old.answers → ExplainsOf terms desk history old new
+explains_finished terms desk history old new outcome stage requests session taken waiting ended pending same answers = λ serving front.
+    explains_left terms.told desk.id front old new [] session taken waiting ended pending (same ∙ sym (append-nil old.lines))
+    (All-nil (IsExplained (told_to terms.told desk.id) desk.id old.taken)) (ap grants_in same) answers (gone_from terms desk history old outcome stage requests serving front.since)
 
 -- A login was granted: a line says so.
 pub explains_granted : (terms : Terms) (desk : Desk) (history : List Served) (old new : Ledger) (login number credits : ℕ) (entry : Entry) → desk.stage ≡ stages.Entry (outcomes.Granted number)
@@ -132,7 +200,8 @@ explains_granted terms desk history old new login number credits entry stage kep
       put = answers ∙ ap (λ list. old.answers ++ list) (put_some entry login_rsp_len put.over.asked.tag put.entry_is refl);
       granted = grant_added old.lines new.lines line refl more;
       each = subst (λ rows. All (IsLoginAnswer Hears rows) (answer ∷ [])) (sym taken) (All-cons (IsLoginAnswer Hears old.taken) answer [] put' (All-nil (IsLoginAnswer Hears old.taken)));
-    }) is
+    })
+    (λ deals. deals_left Hears old new session taken waiting ended pending (gone_from terms desk history old (outcomes.Granted number) stage requests serving front.since is.known)) is
 
 -- One was rejected.
 pub explains_rejected : (terms : Terms) (desk : Desk) (history : List Served) (old new : Ledger) (entry : Entry) → desk.stage ≡ stages.Entry outcomes.Rejected
@@ -152,7 +221,8 @@ explains_rejected terms desk history old new entry stage kept len requests sessi
       put = answers ∙ ap (λ list. old.answers ++ list) (put_some entry login_rej_len put.over.asked.tag put.entry_is refl);
       granted = ap grants_in lines ∙ sym (append-nil (grants_in old.lines));
       each = subst (λ rows. All (IsLoginAnswer Hears rows) (answer ∷ [])) (sym taken) (All-cons (IsLoginAnswer Hears old.taken) answer [] put (All-nil (IsLoginAnswer Hears old.taken)));
-    }) is
+    })
+    (λ deals. deals_left Hears old new session taken waiting ended pending (gone_from terms desk history old outcomes.Rejected stage requests serving front.since is.known)) is
 
 -- A command or a task was answered.
 served_none : (desk : Desk) (entry : Entry) (row : ℕ) → IsAnswerKept desk entry (outcomes.Served row) → is_response_len (length desk.answer) ≡ true → login_put entry ≡ []
@@ -166,9 +236,10 @@ served_none desk entry row kept len = at (response_lens (length desk.answer) len
     at (inr (inl is)) = by 40 is refl
     at (inr (inr is)) = by 54 is refl
 
-pub explains_served : (desk : Desk) (old new : Ledger) (entry : Entry) (row : ℕ) → IsAnswerKept desk entry (outcomes.Served row) → is_response_len (length desk.answer) ≡ true
+pub explains_served : (terms : Terms) (desk : Desk) (history : List Served) (old new : Ledger) (entry : Entry) (row : ℕ) → desk.stage ≡ stages.Entry (outcomes.Served row)
+    → IsAnswerKept desk entry (outcomes.Served row) → is_response_len (length desk.answer) ≡ true → desk.pending ≡ old.pending
     → new.session ≡ old.session → new.taken ≡ old.taken → new.waiting ≡ old.waiting → new.ended ≡ old.ended → new.pending ≡ drop 1 old.pending → new.lines ≡ old.lines
-    → new.answers ≡ old.answers ++ login_put entry → Explains old new
-explains_served desk old new entry row kept len session taken waiting ended pending lines answers =
-    explains_finished old new session taken waiting ended pending lines
+    → new.answers ≡ old.answers ++ login_put entry → ExplainsOf terms desk history old new
+explains_served terms desk history old new entry row stage kept len requests session taken waiting ended pending lines answers =
+    explains_finished terms desk history old new (outcomes.Served row) stage requests session taken waiting ended pending lines
     (answers ∙ ap (λ list. old.answers ++ list) (served_none desk entry row kept len) ∙ append-nil old.answers)

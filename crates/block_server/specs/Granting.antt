@@ -1,6 +1,6 @@
 -- Which logins are granted or rejected: a copy wrote the answer over the request of each (SRP, "SRP_LOGIN_RSP response",
 -- "SRP_LOGIN_REJ response").
-use Rattle.std.specs.Prelude.{⊤, ◌≡◌, ℕ, true, List, ◌∷◌, Some, length}
+use Rattle.std.specs.Prelude.{⊤, ◌≡◌, ℕ, true, false, List, ◌∷◌, Some, length}
 use Rattle.std.specs.List.{slice_get}
 use Rattle.crq_ring.specs.Sessions.{of_session}
 use Rattle.crq_ring.specs.declared.rows.PipeRow.{PipeRow}
@@ -12,10 +12,11 @@ use Rattle.vio_num.specs.declared.entry.Entry.{Entry as QueueEntry}
 use Rattle.block_server.specs.Causes.{Hearing, units_at}
 use Rattle.block_server.specs.Causes.News.{delivered, fetched}
 use Rattle.block_server.specs.Ends.{IsGrantable, IsRejection}
+use Rattle.block_server.specs.Judged.{is_login}
 use Rattle.block_server.specs.Responses.{GrantsLogin}
 use Rattle.block_server.specs.declared.request.Order.TheVariants as orders
 use Rattle.block_server.specs.declared.request.Request.{Request}
-use Rattle.block_server.specs.declared.service.Outcome.TheVariants.{Granted, Rejected}
+use Rattle.block_server.specs.declared.service.Outcome.TheVariants.{Granted, Rejected, Served}
 use Rattle.block_server.specs.declared.service.Stage.{Stage}
 use Rattle.block_server.specs.declared.service.Stage.TheVariants.{Answer, Entry}
 
@@ -89,10 +90,19 @@ pub record IsRejectingOver (Hears : Hearing) (answer : List ℕ) (pending : List
   pub rejecting : IsRejecting answer pending
   pub written : Hears (delivered units_at rejecting.front.address rejecting.front.tag answer)
 
--- What is so of a login that is to be granted or rejected, at each stage.
+-- The oldest request asks for no login.
+pub record HasOtherFront (pending : List Request) : Type 0 where
+  pub front : Request
+  pub rest : List Request
+  pub parts : pending ≡ front ∷ rest
+  pub other : is_login front.order ≡ false
+
+-- What is so of a login that is to be granted or rejected, at each stage, and of another request that is to be answered.
 abbrev pub HasOffer : Hearing → Stage → (credits : ℕ) → (answer : List ℕ) → List Request → Type 0
 HasOffer Hears (Answer (Granted number)) credits answer pending = IsOffered number credits answer pending
 HasOffer Hears (Entry (Granted number)) credits answer pending = IsOfferedOver Hears number credits answer pending
 HasOffer Hears (Answer Rejected) credits answer pending = IsRejecting answer pending
 HasOffer Hears (Entry Rejected) credits answer pending = IsRejectingOver Hears answer pending
+HasOffer Hears (Answer (Served row)) credits answer pending = HasOtherFront pending
+HasOffer Hears (Entry (Served row)) credits answer pending = HasOtherFront pending
 HasOffer Hears _ credits answer pending = ⊤

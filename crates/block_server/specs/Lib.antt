@@ -6,6 +6,7 @@ pub mod Carried
 pub mod Causes
 pub mod Closings
 pub mod Copied
+pub mod Dealt
 pub mod Delivers
 pub mod Decided
 pub mod DiskLaw

@@ -1,6 +1,6 @@
 -- Why a session of a server unit ends as refused: its client's window denied a range (SRP, "Information unit classes"; LoPAR,
 -- "Remote DMA").
-use Rattle.std.specs.Prelude.{⊤, ◌≡◌, ◌⊎◌, ◌++◌, ℕ, Bool, true, All, List, [], ◌∷◌, Option, None, IfSome, length}
+use Rattle.std.specs.Prelude.{⊤, ◌≡◌, ◌⊎◌, ◌++◌, ℕ, Bool, true, All, List, [], ◌∷◌, Option, Some, None, IfSome, length}
 use Rattle.std.specs.List.{slice_get}
 use Rattle.crq_ring.specs.declared.rows.PipeRow.{PipeRow}
 use Rattle.crq_session.specs.EndState.{EndState}
@@ -15,6 +15,7 @@ use Rattle.vio_num.specs.declared.history.Served.{Served}
 use Rattle.vio_num.specs.declared.names.UnitId.{UnitId}
 use Rattle.block_server.specs.Causes.{Hearing, Told, told_to}
 use Rattle.block_server.specs.Causes.News.{denied}
+use Rattle.block_server.specs.Dealt.{AreDealt}
 use Rattle.block_server.specs.Entries.{is_answer_len}
 use Rattle.block_server.specs.Granting.{IsGrantedOver, IsSrpAt}
 use Rattle.block_server.specs.Heard.{TellsAll}
@@ -119,21 +120,32 @@ ledger_at unit session taken answers records = record {
 abbrev pub ledger_of : Unit → SiteState → Records → Ledger
 ledger_of unit site records = ledger_at unit site.queue.last_session site.queue.taken (login_answers site.queue.sent) records
 
+-- the same while this entry waits
+abbrev pub waiting_in : Arrival → Ledger → Ledger
+waiting_in arrival ledger = record ledger { waiting = Some arrival }
+
 -- what stood as the turn began: the lines, and the answers that were put; and the lines behind which causes are asked
 pub record Front : Type 0 where
   pub since : List Grant
   pub lines : List Grant
   pub answers : List Entry
+  -- whether it is known what became of the requests to log in
+  pub deals : Bool
 
 -- Each line behind these has its cause, and each answer to a request to log in that was put in the turn is its line's, or a
 -- rejection.
 pub record AreAccounted (told : Told → Bool) (unit : UnitId) (front : Front) (ledger : Ledger) : Type 0 where
   pub known : AreExplained told unit front.since (basis_in ledger)
   pub logins : LoginsMore (told_to told unit) ledger.taken front.answers ledger.answers front.lines ledger.lines
+  pub dealt : front.deals ≡ true → AreDealt (told_to told unit) ledger.session ledger.taken ledger.waiting ledger.pending ledger.ended
 
 -- This stays so, whatever was told.
 abbrev pub Explains : (old new : Ledger) → Type 0
 Explains old new = (told : Told → Bool) (unit : UnitId) (front : Front) → AreAccounted told unit front old → AreAccounted told unit front new
+
+-- It stays so for a cause, which holds of what the unit was told.
+abbrev pub ExplainsIf : (Hearing → Type 0) → (old new : Ledger) → Type 0
+ExplainsIf Cause old new = (told : Told → Bool) (unit : UnitId) (front : Front) → Cause (told_to told unit) → AreAccounted told unit front old → AreAccounted told unit front new
 
 -- It stays so where all that came between was told.
 abbrev pub ExplainsBy : (old new : SiteState) → (ledger ledger' : Ledger) → Type 0

@@ -278,7 +278,9 @@ pub(crate) fn log_out(unit: &mut Unit, session: u64, records: &mut Records)
         is_loaded unit.old.service.stage ≡ false → KeepsCargo
         (cargo_at unit.old.id unit.old.service shown records.old.history.items)
         (cargo_at unit.new.id unit.new.service shown' records.new.history.items) }
-    ensures refuses { (queue : ℕ) → (taken : List PipeRow) → (answers : List Entry) → Explains
+    ensures refuses { (queue : ℕ) → (taken : List PipeRow) → (answers : List Entry) →
+        (front : Request) → (rest : List Request) → unit.old.pending.items ≡ front ∷ rest →
+        is_login front.order ≡ false → Explains
         (ledger_at unit.old queue taken answers records.old)
         (ledger_at unit.new queue taken answers records.new) }
 {

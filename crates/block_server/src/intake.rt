@@ -3,7 +3,7 @@ ghost use Rattle.block_server.specs.Cargo.{KeepsCargo, cargo_at, cargo_of};
 ghost use Rattle.std.specs.Prelude.{◌≡◌, ◌⊎◌, ◌↔◌, ◌+◌, ◌<◌, ◌≤◌, ℕ, List, None, Some, IfOk, IsTrue, OnOk, false, true, length, slice_index};
 ghost use Rattle.std.specs.VecDeque.{deque_len, deque_capacity};
 ghost use Rattle.block_server.specs.Records.{HasLineRoom};
-ghost use Rattle.block_server.specs.Refusals.{Explains, ExplainsBy, ledger_at, ledger_of};
+ghost use Rattle.block_server.specs.Refusals.{Explains, ExplainsBy, ExplainsIf, ledger_at, ledger_of, waiting_in};
 ghost use Rattle.block_server.specs.Granting.{IsSrpAt};
 ghost use Rattle.crq_ring.specs.declared.rows.PipeRow.{PipeRow};
 ghost use Rattle.block_server.specs.Advances.{Advances};
@@ -419,8 +419,9 @@ fn judge(
     ensures refuses { (queue : ℕ) → (taken : List PipeRow) → (answers : List Entry) →
         is_ended unit.old.line ≡ false → unit.old.waiting ≡ None →
         IsSrpAt taken queue arrival.number arrival.entry →
-        length bytes.now ≡ iu_length arrival.entry → Explains
-        (ledger_at unit.old queue taken answers records.old)
+        length bytes.now ≡ iu_length arrival.entry → ExplainsIf
+        (λ Hears. Hears (fetched (iu_address arrival.entry) units_at bytes.now))
+        (waiting_in arrival (ledger_at unit.old queue taken answers records.old))
         (ledger_at unit.new queue taken answers records.new) }
 {
     match judge_unit(&mut unit.logins, bytes) {

@@ -4,6 +4,7 @@ ghost use Rattle.rdma_copy.specs.Copies.{side_of};
 ghost use Rattle.block_server.specs.Advances.{CopiesMore, Goes, KeepsFreed, StayNamed};
 ghost use Rattle.block_server.specs.Cargo.{AreIdle, HasCargo};
 ghost use Rattle.block_server.specs.Causes.{Told, anything};
+ghost use Rattle.block_server.specs.Dealt.{HasDealt};
 ghost use Rattle.block_server.specs.DiskLaw.{KeepsDisk, KeepsDiskBy};
 ghost use Rattle.block_server.specs.Heard.{Tells};
 ghost use Rattle.block_server.specs.Judged.{Judged};
@@ -209,6 +210,15 @@ impl<B: Blocks> Server<B> {
             told self.old.units.items unit (O.state own.old).place.unit (C.state crq.old)
             since self.old.records.grants.items → AnswersLogins told (O.state own.old).place.unit
             (C.state crq.old) (C.state crq.new) self.old.records self.new.records }
+        ensures deals { (told : Told → Bool) → Tells told (O.state own.old).place.unit
+            R.is_shared (O.state own.new) (R.state client.old) (R.state client.new)
+            self.old.copies.items self.new.copies.items → AreInOrder told
+            self.old.disk.count self.old.partition self.old.units.items self.old.records →
+            (since : List Grant) → HasExplained
+            told self.old.units.items unit (O.state own.old).place.unit (C.state crq.old)
+            since self.old.records.grants.items → HasDealt
+            told self.old.units.items unit (O.state own.old).place.unit (C.state crq.old) → HasDealt
+            told self.new.units.items unit (O.state own.old).place.unit (C.state crq.new) }
     {
         let id = UnitId {
             partition: self.partition,

@@ -1,4 +1,5 @@
 // The steps of a unit's turn.
+ghost use Rattle.crq_session.specs.Answered.{taken_now};
 ghost use Rattle.block_server.specs.Cargo.{IsAccounted, cargo_of};
 ghost use Rattle.std.specs.Prelude.{◌≡◌, ◌≢◌, ◌+◌, ◌<◌, ◌≤◌, None, Bool, IfOk, List, OnOk, [], false, true};
 ghost use Rattle.block_server.specs.Advances.{Advances};
@@ -345,7 +346,8 @@ fn begin<S: Site>(unit: &mut Unit, site: &mut S)
         (S.state site.old) (S.state site.new) records records }
     ensures cargo { (records : Records) → cargo_of unit.new (S.state site.new) records ≡
         cargo_of unit.old (S.state site.old) records }
-    ensures refuses { (records : Records) → is_ended unit.old.line ≡ true → Explains
+    ensures refuses { (records : Records) → is_ended unit.old.line ≡ true →
+        taken_now (S.state site.old).queue ≡ [] → Explains
         (ledger_of unit.old (S.state site.old) records)
         (ledger_of unit.new (S.state site.new) records) }
 {

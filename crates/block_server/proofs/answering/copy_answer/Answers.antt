@@ -18,6 +18,8 @@ use Rattle.std.proofs.Common.{◌∙◌}
 use Rattle.block_server.specs.Refusals.{basis_in, ledger_of}
 use Rattle.block_server.specs.LoginAnswers.{login_answers}
 use Rattle.crq_session.specs.EndState.{EndState}
+use Rattle.std.proofs.Common.{inl}
+use Rattle.block_server.proofs.OwingCalls.{closing_ended}
 use Rattle.block_server.proofs.answering.copy_answer.Goals as goal
 
 pub returns-in_default-clause-once : goal.returns-in_default-clause-once
@@ -142,4 +144,5 @@ returns-in-Refused-clause-refuses g c = λ told unit front all is.
     let session = passed_session _ _ c.deliver.ensures.passes in
     explained_ended told unit front at (ledger_of c.end_session.new.unit (g.S.Site.state c.deliver.new.site) c.end_session.new.records) (Lapsed c.deliver.new.unit.id c.session.result c.deliver.new.unit.logins.current Refused 0 0)
     session (passed_taken _ _ c.deliver.ensures.passes) c.end_session.ensures.ends.waiting c.end_session.ensures.ends.pending c.end_session.ensures.ends.line
-    (denied_answer told unit front.since (basis_in at) (g.S.Site.state c.args.site.now) (g.S.Site.state c.deliver.new.site) c.deliver.new.unit.id c.session.result c.deliver.new.unit.logins.current (c.session.ensures ∙ session) (c.in_ok-deliver.ensures.refused c.in-Refused.is) all is.known) refl (ap (λ (q : EndState). login_answers q.sent) c.deliver.ensures.queue) is
+    (denied_answer told unit front.since (basis_in at) (g.S.Site.state c.args.site.now) (g.S.Site.state c.deliver.new.site) c.deliver.new.unit.id c.session.result c.deliver.new.unit.logins.current (c.session.ensures ∙ session) (c.in_ok-deliver.ensures.refused c.in-Refused.is) all is.known) refl (ap (λ (q : EndState). login_answers q.sent) c.deliver.ensures.queue)
+    (inl (closing_ended c.end_session.new.unit.line c.end_session.ensures.closing)) is

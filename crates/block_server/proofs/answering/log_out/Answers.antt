@@ -46,6 +46,6 @@ pub returns-clause-cargo : goal.returns-clause-cargo
 returns-clause-cargo c = λ shown shown' none. named_keeps _ _ _ _ _ _ _ _ c.finish.ensures.id (none_keeps _ _ _ shown shown' _ _ none (ap is_moving c.finish.ensures.stage) refl)
 
 pub returns-clause-refuses : goal.returns-clause-refuses
-returns-clause-refuses c = λ queue taken answers.
-    explains_settled (ledger_at c.args.unit.now queue taken answers c.args.records.now) _ (Lapsed c.args.unit.now.id c.args.session c.end-login.result Logout 0 0) refl refl (waiting_stands _ _ c.finish.ensures.stands)
+returns-clause-refuses c = λ queue taken answers first rest parts other.
+    explains_settled (ledger_at c.args.unit.now queue taken answers c.args.records.now) _ (Lapsed c.args.unit.now.id c.args.session c.end-login.result Logout 0 0) first rest parts other refl refl (waiting_stands _ _ c.finish.ensures.stands)
     (ended_stands _ _ c.finish.ensures.stands) c.finish.ensures.pending c.push_reserved.ensures.items (λ Hears unit. tt) refl refl

@@ -23,7 +23,7 @@ use Rattle.block_server.proofs.Owing.{owes_seen}
 use Rattle.block_server.proofs.OwingCalls.{owes_discarded, pending_going, seen_sends}
 use Rattle.block_server.specs.Cargo.{data_bytes, is_moving}
 use Rattle.block_server.proofs.Cargoes.{named_same, none_seen}
-use Rattle.block_server.proofs.Ledgers.{explains_finished, explains_same}
+use Rattle.block_server.proofs.Ledgers.{explains_same}
 use Rattle.block_server.proofs.Taking.{ended_stands, passed_taken}
 use Rattle.block_server.specs.Refusals.{AreAccounted, ledger_at, ledger_of}
 use Rattle.block_server.specs.Serving.{desk_of}
@@ -31,6 +31,7 @@ use Rattle.std.proofs.Common.{◌++◌}
 use Rattle.block_server.specs.LoginAnswers.{login_answers, login_put}
 use Rattle.block_server.specs.Serving.{IsAnswerKept}
 use Rattle.block_server.proofs.LoginPuts.{logins_put, logins_same}
+use Rattle.block_server.proofs.Settling.{explains_finished}
 use Rattle.block_server.proofs.answering.put_answer.Goals as goal
 
 pub returns-in_default-clause-once : goal.returns-in_default-clause-once
@@ -158,6 +159,6 @@ returns-in-Dropped-clause-refuses g c = λ terms serving front.
 
 pub returns-in_default-send-clause-refuses : goal.returns-in_default-send-clause-refuses
 returns-in_default-send-clause-refuses g c = λ terms serving front.
-    explains_finished (ledger_of c.args.unit.now (g.S.Site.state c.args.site.now) c.args.records.now) (ledger_of c.finish.new.unit (g.S.Site.state c.send.new.self) c.args.records.now) (passed_session _ _ c.send.ensures.passes) (passed_taken _ _ c.send.ensures.passes)
+    explains_finished terms (desk_of c.args.unit.now) c.args.records.now.history.items (ledger_of c.args.unit.now (g.S.Site.state c.args.site.now) c.args.records.now) (ledger_of c.finish.new.unit (g.S.Site.state c.send.new.self) c.args.records.now) c.args.outcome c.requires.stage refl (passed_session _ _ c.send.ensures.passes) (passed_taken _ _ c.send.ensures.passes)
     (waiting_stands _ _ c.finish.ensures.stands) (ended_stands _ _ c.finish.ensures.stands) c.finish.ensures.pending refl
-    (logins_same _ _ _ _ c.in_default-send.not-Success c.in_default-send.not-Dropped c.send.ensures.closed c.send.ensures.refused) terms.told c.args.unit.now.id front
+    (logins_same _ _ _ _ c.in_default-send.not-Success c.in_default-send.not-Dropped c.send.ensures.closed c.send.ensures.refused) serving front

@@ -29,13 +29,14 @@ use Rattle.block_server.proofs.Owing.{owes_seen, seen_same}
 use Rattle.block_server.proofs.OwingCalls.{entry_going, owes_discarded, seen_on, seen_reserves, seen_sends}
 use Rattle.block_server.specs.Cargo.{data_bytes, is_moving, rows_of}
 use Rattle.block_server.proofs.Cargoes.{named_same, none_seen}
-use Rattle.block_server.proofs.Ledgers.{explains_finished, explains_same, explains_stands}
+use Rattle.block_server.proofs.Ledgers.{explains_same, explains_stands}
 use Rattle.block_server.proofs.Taking.{ended_stands, passed_taken}
 use Rattle.block_server.specs.Refusals.{AreAccounted, ledger_at, ledger_of}
 use Rattle.block_server.specs.Entries.{IsPlain}
 use Rattle.block_server.specs.LoginAnswers.{login_answers, login_put}
 use Rattle.block_server.specs.Serving.{IsAnswerKept}
 use Rattle.block_server.proofs.LoginPuts.{logins_plain, logins_put, logins_same}
+use Rattle.block_server.proofs.Settling.{explains_finished}
 use Rattle.block_server.proofs.answering.put_kept.Goals as goal
 
 pub returns-in_default-clause-once : goal.returns-in_default-clause-once
@@ -269,6 +270,7 @@ returns-in-Answer-clause-refuses g c = λ terms serving front is.
 
 pub returns-in-Answer-kept-clause-refuses : goal.returns-in-Answer-kept-clause-refuses
 returns-in-Answer-kept-clause-refuses g c = λ terms serving front.
-    explains_finished (ledger_of c.args.unit.now (g.S.Site.state c.args.site.now) c.args.records.now) (ledger_of c.finish.new.unit (g.S.Site.state c.send.new.self) c.make_room.new.self) (passed_session _ _ (c.send.ensures.passes ∙ c.reserve.ensures.passes))
+    let kept = serving.kept (keeps.Answer c.in-Answer-kept.entry c.in-Answer-kept.outcome) (c.in-Some.is ∙ ap Some c.in-Answer-kept.is) in
+    explains_finished terms (desk_of c.args.unit.now) c.args.records.now.history.items (ledger_of c.args.unit.now (g.S.Site.state c.args.site.now) c.args.records.now) (ledger_of c.finish.new.unit (g.S.Site.state c.send.new.self) c.make_room.new.self) c.in-Answer-kept.outcome kept.stage refl (passed_session _ _ (c.send.ensures.passes ∙ c.reserve.ensures.passes))
     (passed_taken _ _ (c.send.ensures.passes ∙ c.reserve.ensures.passes)) (waiting_stands _ _ c.finish.ensures.stands) (ended_stands _ _ c.finish.ensures.stands) c.finish.ensures.pending c.make_room.ensures.lists.grants
-    (logins_same _ _ _ _ c.in_default-send.not-Success c.in_default-send.not-Dropped c.send.ensures.closed c.send.ensures.refused ∙ ap login_answers c.reserve.ensures.rest.sent) terms.told c.args.unit.now.id front
+    (logins_same _ _ _ _ c.in_default-send.not-Success c.in_default-send.not-Dropped c.send.ensures.closed c.send.ensures.refused ∙ ap login_answers c.reserve.ensures.rest.sent) serving front

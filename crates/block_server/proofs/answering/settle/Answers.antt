@@ -79,8 +79,8 @@ returns-clause-refuses c = λ terms taken answers entry kept.
           refl refl refl
           (waiting_stands _ _ c.finish.ensures.stands ∙ ap (λ (u : ServerUnit). u.waiting) w.unit-is) (ended_stands _ _ c.finish.ensures.stands ∙ ap (λ (u : ServerUnit). is_ended u.line) w.unit-is)
           (c.finish.ensures.pending ∙ ap (λ (u : ServerUnit). drop 1 u.pending.items) w.unit-is) (ap (λ (r : Records). r.grants.items) w.records-is) refl
-      | in-Served w ↦ λ serving front. explains_served desk old _ entry w.in-Served.row (kept_at _ w.in-Served.is) (fits_at _ w.in-Served.is) refl refl
+      | in-Served w ↦ explains_served terms desk c.args.records.now.history.items old _ entry w.in-Served.row (kept.stage ∙ ap Entry w.in-Served.is) (kept_at _ w.in-Served.is) (fits_at _ w.in-Served.is) refl refl refl
           (waiting_stands _ _ c.finish.ensures.stands ∙ ap (λ (u : ServerUnit). u.waiting) w.unit-is) (ended_stands _ _ c.finish.ensures.stands ∙ ap (λ (u : ServerUnit). is_ended u.line) w.unit-is)
           (c.finish.ensures.pending ∙ ap (λ (u : ServerUnit). drop 1 u.pending.items) w.unit-is)
-          (ap (λ (r : Records). r.grants.items) w.records-is ∙ ap (λ (v : Vec Grant Global). v.items) w.answer-in-Served.ensures.grants) refl terms.told c.args.unit.now.id front
+          (ap (λ (r : Records). r.grants.items) w.records-is ∙ ap (λ (v : Vec Grant Global). v.items) w.answer-in-Served.ensures.grants) refl
     ]

@@ -11,10 +11,12 @@ use Rattle.std.proofs.Common.{ap, length, ◌∙◌}
 use Rattle.block_server.proofs.Owing.{has_cut_of, owes_seen, seen_same}
 use Rattle.block_server.proofs.OwingCalls.{closing_ended, decides_current, decides_granted, fatal_other, owes_pushed}
 use Rattle.block_server.specs.Owed.{row_in}
-use Rattle.block_server.proofs.Ledgers.{explained_ended, explains_pushed}
+use Rattle.block_server.proofs.Ledgers.{explained_ended, explains_ignored, explains_pushed}
 use Rattle.block_server.proofs.Refusing.{decided_cause}
 use Rattle.vio_num.specs.declared.history.Grant.TheVariants.{Lapsed}
-use Rattle.block_server.specs.Refusals.{ledger_at}
+use Rattle.block_server.specs.Refusals.{ledger_at, waiting_in}
+use Rattle.std.proofs.Common.{inl}
+use Rattle.block_server.proofs.Dealing.{accepted_how, ignored_none}
 use Rattle.block_server.proofs.intake.judge.Goals as goal
 
 pub returns-in-Ignored-clause-once : goal.returns-in-Ignored-clause-once
@@ -74,15 +76,20 @@ pub returns-in-Fatal-clause-cargo : goal.returns-in-Fatal-clause-cargo
 returns-in-Fatal-clause-cargo c = λ shown. c.end_counted.ensures.cargo shown shown
 
 pub returns-in-Ignored-clause-refuses : goal.returns-in-Ignored-clause-refuses
-returns-in-Ignored-clause-refuses c = λ queue taken answers going none at long told unit front is. is
+returns-in-Ignored-clause-refuses c = λ queue taken answers going none at long told unit front heard.
+    explains_ignored told unit front (waiting_in c.args.arrival (ledger_at c.args.unit.now queue taken answers c.args.records.now)) _ c.args.arrival at refl none refl refl refl refl refl refl
+    (ignored_none (told_to told unit) c.args.unit.now.logins c.judge_unit.new.logins _ c.judge_unit.result c.args.arrival.entry c.in-Ignored.is c.judge_unit.ensures.decides long heard)
 
 pub returns-in-Ok-clause-refuses : goal.returns-in-Ok-clause-refuses
-returns-in-Ok-clause-refuses c = λ queue taken answers going none at long.
-    explains_pushed (ledger_at c.args.unit.now queue taken answers c.args.records.now) _ _ c.args.arrival.entry going at c.iu_address.ensures (ap length c.kept.ensures ∙ long) refl refl refl refl refl c.in-Ok.ensures.items refl
+returns-in-Ok-clause-refuses c = λ queue taken answers going none at long told unit front heard.
+    explains_pushed told unit front (waiting_in c.args.arrival (ledger_at c.args.unit.now queue taken answers c.args.records.now)) _ _ c.args.arrival going at refl c.iu_address.ensures
+    (ap length c.kept.ensures ∙ long) refl none refl refl refl refl c.in-Ok.ensures.items refl
+    (accepted_how (told_to told unit) c.args.unit.now.logins c.judge_unit.new.logins _ c.judge_unit.result _ _ _ c.args.arrival.entry c.in-Accepted.is c.judge_unit.ensures.decides long heard)
 
 pub returns-in-Fatal-clause-refuses : goal.returns-in-Fatal-clause-refuses
-returns-in-Fatal-clause-refuses c = λ queue taken answers going none at long told unit front.
-    explained_ended told unit front (ledger_at c.args.unit.now queue taken answers c.args.records.now) (ledger_at c.end_counted.new.unit queue taken answers c.end_counted.new.records)
+returns-in-Fatal-clause-refuses c = λ queue taken answers going none at long told unit front heard.
+    explained_ended told unit front (waiting_in c.args.arrival (ledger_at c.args.unit.now queue taken answers c.args.records.now)) (ledger_at c.end_counted.new.unit queue taken answers c.end_counted.new.records)
     (Lapsed c.args.unit.now.id c.args.session c.judge_unit.new.logins.current c.in-Fatal.cause c.in-Fatal.outstanding c.in-Fatal.granted) refl refl
     c.end_counted.ensures.ends.waiting c.end_counted.ensures.ends.pending c.end_counted.ensures.ends.line
     (decided_cause (told_to told unit) unit c.args.unit.now.id taken c.args.session c.judge_unit.new.logins.current c.args.unit.now.logins c.judge_unit.new.logins _ c.judge_unit.result _ _ _ c.in-Fatal.is c.judge_unit.ensures.decides) refl refl
+    (inl (closing_ended c.end_counted.new.unit.line c.end_counted.ensures.closing))

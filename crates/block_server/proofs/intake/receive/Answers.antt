@@ -20,11 +20,13 @@ use Rattle.block_server.proofs.Owing.{has_cut_of, owes_seen, seen_same}
 use Rattle.block_server.specs.Owed.{row_in}
 use Rattle.block_server.proofs.Cargoes.{shown_same}
 use Rattle.block_server.proofs.Hands.{keeps_on, keeps_same}
-use Rattle.block_server.proofs.Ledgers.{explained_apart, explained_ended, explains_same, explains_stands}
+use Rattle.block_server.proofs.Ledgers.{explained_ended, explains_same, explains_stands}
 use Rattle.block_server.proofs.Refusing.{denied_unit, waits_at, waits_open}
 use Rattle.vio_num.specs.declared.history.Grant.TheVariants.{Lapsed}
-use Rattle.block_server.specs.Refusals.{basis_in, ledger_at, ledger_of}
+use Rattle.block_server.specs.Refusals.{basis_in, ledger_at, ledger_of, waiting_in}
 use Rattle.block_server.specs.LoginAnswers.{login_answers}
+use Rattle.std.proofs.Common.{inl, sym}
+use Rattle.block_server.proofs.OwingCalls.{closing_ended}
 use Rattle.block_server.proofs.intake.receive.Goals as goal
 
 pub returns-in-Ok-clause-once : goal.returns-in-Ok-clause-once
@@ -158,12 +160,12 @@ returns-in-Err-Refused-clause-cargo g c = c.end_session-in-Err-Refused.ensures.c
 pub returns-then-not-is_up-clause-refuses : goal.returns-then-not-is_up-clause-refuses
 returns-then-not-is_up-clause-refuses g c = λ waits told unit front all is.
     explained_ended told unit front (ledger_of c.args.unit.now (g.S.Site.state c.args.site.now) c.args.records.now) (ledger_of c.end_session.new.unit (g.S.Site.state c.args.site.now) c.end_session.new.records)
-    (Lapsed c.args.unit.now.id c.session-session.result c.args.unit.now.logins.current Early 0 0) refl refl c.end_session.ensures.ends.waiting c.end_session.ensures.ends.pending c.end_session.ensures.ends.line tt refl refl is
+    (Lapsed c.args.unit.now.id c.session-session.result c.args.unit.now.logins.current Early 0 0) refl refl c.end_session.ensures.ends.waiting c.end_session.ensures.ends.pending c.end_session.ensures.ends.line tt refl refl (inl (closing_ended c.end_session.new.unit.line c.end_session.ensures.closing)) is
 
 pub returns-then-len-eq0-clause-refuses : goal.returns-then-len-eq0-clause-refuses
 returns-then-len-eq0-clause-refuses g c = λ waits told unit front all is.
     explained_ended told unit front (ledger_of c.args.unit.now (g.S.Site.state c.args.site.now) c.args.records.now) (ledger_of c.end_session-then-len-eq0.new.unit (g.S.Site.state c.args.site.now) c.end_session-then-len-eq0.new.records)
-    (Lapsed c.args.unit.now.id c.session-session.result c.args.unit.now.logins.current BadIu 0 0) refl refl c.end_session-then-len-eq0.ensures.ends.waiting c.end_session-then-len-eq0.ensures.ends.pending c.end_session-then-len-eq0.ensures.ends.line tt refl refl is
+    (Lapsed c.args.unit.now.id c.session-session.result c.args.unit.now.logins.current BadIu 0 0) refl refl c.end_session-then-len-eq0.ensures.ends.waiting c.end_session-then-len-eq0.ensures.ends.pending c.end_session-then-len-eq0.ensures.ends.line tt refl refl (inl (closing_ended c.end_session-then-len-eq0.new.unit.line c.end_session-then-len-eq0.ensures.closing)) is
 
 pub returns-in-Err-Refused-clause-refuses : goal.returns-in-Err-Refused-clause-refuses
 returns-in-Err-Refused-clause-refuses g c = λ waits told unit front all is.
@@ -171,7 +173,8 @@ returns-in-Err-Refused-clause-refuses g c = λ waits told unit front all is.
     explained_ended told unit front (ledger_of c.args.unit.now (g.S.Site.state c.args.site.now) c.args.records.now) (ledger_of c.end_session-in-Err-Refused.new.unit (g.S.Site.state c.fetch_unit.new.self) c.end_session-in-Err-Refused.new.records)
     (Lapsed c.args.unit.now.id c.session-session.result c.args.unit.now.logins.current Refused 0 0) (ap (λ (q : EndState). q.last_session) c.fetch_unit.ensures.queue) (ap (λ (q : EndState). q.taken) c.fetch_unit.ensures.queue) c.end_session-in-Err-Refused.ensures.ends.waiting c.end_session-in-Err-Refused.ensures.ends.pending c.end_session-in-Err-Refused.ensures.ends.line
     (denied_unit told unit front.since (basis_in (ledger_of c.args.unit.now (g.S.Site.state c.args.site.now) c.args.records.now)) (g.S.Site.state c.args.site.now) (g.S.Site.state c.fetch_unit.new.self) c.args.unit.now.id c.session-session.result c.args.unit.now.logins.current c.iu_address.result _ c.args.arrival c.session-session.ensures waits c.iu_address.ensures (search rules)
-    (c.fetch_unit.ensures.refused failed) all is.known) refl (ap (λ (q : EndState). login_answers q.sent) c.fetch_unit.ensures.queue) is
+    (c.fetch_unit.ensures.refused failed) all is.known) refl (ap (λ (q : EndState). login_answers q.sent) c.fetch_unit.ensures.queue)
+    (inl (closing_ended c.end_session-in-Err-Refused.new.unit.line c.end_session-in-Err-Refused.ensures.closing)) is
 
 pub returns-in-Err-Busy-clause-refuses : goal.returns-in-Err-Busy-clause-refuses
 returns-in-Err-Busy-clause-refuses g c = λ waits told unit front all.
@@ -189,4 +192,5 @@ returns-in-Ok-clause-refuses g c = λ waits told unit front all is.
     explains_same (ledger_at c.judge.new.unit (g.S.Site.state c.args.site.now).queue.last_session (g.S.Site.state c.args.site.now).queue.taken (login_answers (g.S.Site.state c.args.site.now).queue.sent) c.judge.new.records) (ledger_of c.judge.new.unit (g.S.Site.state c.fetch_unit.new.self) c.judge.new.records)
     (ap (λ (q : EndState). q.last_session) c.fetch_unit.ensures.queue) (ap (λ (q : EndState). q.taken) c.fetch_unit.ensures.queue) refl refl refl refl (ap (λ (q : EndState). login_answers q.sent) c.fetch_unit.ensures.queue) told unit front
     (c.judge.ensures.refuses (g.S.Site.state c.args.site.now).queue.last_session (g.S.Site.state c.args.site.now).queue.taken (login_answers (g.S.Site.state c.args.site.now).queue.sent) (waits_open told unit front.since (basis_in at) c.args.arrival waits is.known) refl (waits_at told unit front.since (basis_in at) c.args.arrival waits is.known) (search rules) told unit front
-    (explained_apart told unit front at is))
+    (heard_fetched told unit _ _ _ _ _ c.iu_address.ensures all c.in-Ok.ensures.fetched)
+    (explains_same at (waiting_in c.args.arrival at) refl refl (sym waits) refl refl refl refl told unit front is))

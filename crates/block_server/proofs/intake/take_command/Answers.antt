@@ -10,6 +10,7 @@ use Rattle.block_server.specs.Books.{books_at, next_of}
 use Rattle.block_server.proofs.Ledgers.{explains_entry, explains_taken}
 use Rattle.block_server.specs.Refusals.{ledger_of}
 use Rattle.std.proofs.Common.{Some}
+use Rattle.std.proofs.Common.{inr}
 use Rattle.block_server.proofs.intake.take_command.Goals as goal
 
 pub returns-in-2-clause-once : goal.returns-in-2-clause-once
@@ -92,13 +93,13 @@ pub returns-in-1-clause-refuses : goal.returns-in-1-clause-refuses
 returns-in-1-clause-refuses g c = λ before may first taken answers told unit front all is.
     c.receive.ensures.refuses refl told unit front all
     (explains_entry (ledger_of c.args.unit.now before c.args.records.now) (ledger_of (record c.args.unit.now { waiting = Some c.args.arrival }) (g.S.Site.state c.args.site.now) c.args.records.now) before (g.S.Site.state c.args.site.now) c.args.arrival taken
-    (srp_command c.args.arrival.entry first (search rules)) refl refl may.goes_on refl refl refl refl refl refl answers told unit front is)
+    (srp_command c.args.arrival.entry first (search rules)) refl refl may.none may.goes_on refl refl refl refl refl refl answers told unit front is)
 
 pub returns-in-2-clause-refuses : goal.returns-in-2-clause-refuses
 returns-in-2-clause-refuses g c = λ before may first taken answers told unit front all is.
     c.put_reply.ensures.refuses c.args.records.now told unit front
-    (explains_taken (ledger_of c.args.unit.now before c.args.records.now) (ledger_of c.args.unit.now (g.S.Site.state c.args.site.now) c.args.records.now) taken.session (_, taken.taken) refl refl refl refl answers told unit front is)
+    (explains_taken (ledger_of c.args.unit.now before c.args.records.now) (ledger_of c.args.unit.now (g.S.Site.state c.args.site.now) c.args.records.now) _ taken.session taken.taken refl (inr (not_format c.args.arrival.entry (λ one. search rules))) refl refl refl refl answers told unit front is)
 
 pub returns-in_default-clause-refuses : goal.returns-in_default-clause-refuses
 returns-in_default-clause-refuses g c = λ before may first taken answers told unit front all.
-    explains_taken (ledger_of c.args.unit.now before c.args.records.now) (ledger_of c.args.unit.now (g.S.Site.state c.args.site.now) c.args.records.now) taken.session (_, taken.taken) refl refl refl refl answers told unit front
+    explains_taken (ledger_of c.args.unit.now before c.args.records.now) (ledger_of c.args.unit.now (g.S.Site.state c.args.site.now) c.args.records.now) _ taken.session taken.taken refl (inr (not_format c.args.arrival.entry (λ one. search rules))) refl refl refl refl answers told unit front

@@ -23,6 +23,9 @@ use Rattle.vio_num.specs.declared.history.Grant.TheVariants.{Lapsed}
 use Rattle.vio_num.specs.declared.history.Lapse.TheVariants.{Lost}
 use Rattle.block_server.specs.Refusals.{ledger_of}
 use Rattle.block_server.specs.LoginAnswers.{login_answers}
+use Rattle.std.proofs.Common.{inl, inr, sym}
+use Rattle.block_server.specs.Causes.{told_to}
+use Rattle.block_server.proofs.Dealing.{heard_event}
 use Rattle.block_server.proofs.intake.take_one.Goals as goal
 
 pub returns-in_err-reserve-clause-once : goal.returns-in_err-reserve-clause-once
@@ -408,23 +411,23 @@ returns-in-Command-clause-refuses g c = λ may told unit front all is.
 pub returns-in-Some-clause-refuses : goal.returns-in-Some-clause-refuses
 returns-in-Some-clause-refuses g c = λ may told unit front all is.
     c.put_reply.ensures.refuses c.args.records.now told unit front
-    (explains_taken (ledger_of c.args.unit.now (g.S.Site.state c.reserve.new.self) c.args.records.now) (ledger_of (record c.args.unit.now { line = record c.args.unit.now.line { handshake = c.got-step.new.self } }) (g.S.Site.state c.poll.new.self) c.args.records.now) c.poll.ensures.rest.last_session (_, c.in-Got.ensures.got.taken) refl refl
+    (explains_taken (ledger_of c.args.unit.now (g.S.Site.state c.reserve.new.self) c.args.records.now) (ledger_of (record c.args.unit.now { line = record c.args.unit.now.line { handshake = c.got-step.new.self } }) (g.S.Site.state c.poll.new.self) c.args.records.now) _ c.poll.ensures.rest.last_session c.in-Got.ensures.got.taken refl (inr (not_command c.in-Got.entry (λ is. search rules))) refl refl
     (got_ended _ _ _ c.in-Got.entry c.got-step.ensures.state) refl (ap login_answers c.poll.ensures.rest.sent) told unit front
     (explains_stands c.args.unit.now c.args.unit.now (g.S.Site.state c.args.site.now) (g.S.Site.state c.reserve.new.self) c.args.records.now c.args.records.now refl c.reserve.ensures.passes refl refl (ap login_answers c.reserve.ensures.rest.sent) told unit front is))
 
 pub returns-in-None-clause-refuses : goal.returns-in-None-clause-refuses
 returns-in-None-clause-refuses g c = λ may told unit front all is.
-    explains_taken (ledger_of c.args.unit.now (g.S.Site.state c.reserve.new.self) c.args.records.now) _ c.poll.ensures.rest.last_session (_, c.in-Got.ensures.got.taken) refl refl (got_ended _ _ _ c.in-Got.entry c.got-step.ensures.state) refl (ap login_answers c.poll.ensures.rest.sent) told unit front
+    explains_taken (ledger_of c.args.unit.now (g.S.Site.state c.reserve.new.self) c.args.records.now) _ _ c.poll.ensures.rest.last_session c.in-Got.ensures.got.taken refl (inr (not_command c.in-Got.entry (λ is. search rules))) refl refl (got_ended _ _ _ c.in-Got.entry c.got-step.ensures.state) refl (ap login_answers c.poll.ensures.rest.sent) told unit front
     (explains_stands c.args.unit.now c.args.unit.now (g.S.Site.state c.args.site.now) (g.S.Site.state c.reserve.new.self) c.args.records.now c.args.records.now refl c.reserve.ensures.passes refl refl (ap login_answers c.reserve.ensures.rest.sent) told unit front is)
 
 pub returns-in-Unused-clause-refuses : goal.returns-in-Unused-clause-refuses
 returns-in-Unused-clause-refuses g c = λ may told unit front all is.
-    explains_taken (ledger_of c.args.unit.now (g.S.Site.state c.reserve.new.self) c.args.records.now) _ c.poll.ensures.rest.last_session (_, c.in-Got.ensures.got.taken) refl refl refl refl (ap login_answers c.poll.ensures.rest.sent) told unit front
+    explains_taken (ledger_of c.args.unit.now (g.S.Site.state c.reserve.new.self) c.args.records.now) _ _ c.poll.ensures.rest.last_session c.in-Got.ensures.got.taken refl (inr (not_command c.in-Got.entry (λ is. search rules))) refl refl refl refl (ap login_answers c.poll.ensures.rest.sent) told unit front
     (explains_stands c.args.unit.now c.args.unit.now (g.S.Site.state c.args.site.now) (g.S.Site.state c.reserve.new.self) c.args.records.now c.args.records.now refl c.reserve.ensures.passes refl refl (ap login_answers c.reserve.ensures.rest.sent) told unit front is)
 
 pub returns-in-Reserved-clause-refuses : goal.returns-in-Reserved-clause-refuses
 returns-in-Reserved-clause-refuses g c = λ may told unit front all is.
-    explains_taken (ledger_of c.args.unit.now (g.S.Site.state c.reserve.new.self) c.args.records.now) _ c.poll.ensures.rest.last_session (_, c.in-Got.ensures.got.taken) refl refl refl refl (ap login_answers c.poll.ensures.rest.sent) told unit front
+    explains_taken (ledger_of c.args.unit.now (g.S.Site.state c.reserve.new.self) c.args.records.now) _ _ c.poll.ensures.rest.last_session c.in-Got.ensures.got.taken refl (inr (not_command c.in-Got.entry (λ is. search rules))) refl refl refl refl (ap login_answers c.poll.ensures.rest.sent) told unit front
     (explains_stands c.args.unit.now c.args.unit.now (g.S.Site.state c.args.site.now) (g.S.Site.state c.reserve.new.self) c.args.records.now c.args.records.now refl c.reserve.ensures.passes refl refl (ap login_answers c.reserve.ensures.rest.sent) told unit front is)
 
 pub returns-in-Event-clause-refuses : goal.returns-in-Event-clause-refuses
@@ -432,5 +435,7 @@ returns-in-Event-clause-refuses g c = λ may told unit front all is.
     let at = ledger_of (record c.args.unit.now { line = record c.args.unit.now.line { handshake = c.got-step-in-Event.new.self } }) (g.S.Site.state c.poll.new.self) c.args.records.now in
     explained_ended told unit front at (ledger_of c.lose_partner.new.unit (g.S.Site.state c.poll.new.self) c.lose_partner.new.records)
     (Lapsed c.args.unit.now.id c.session.result c.args.unit.now.logins.current Lost 0 0) refl refl c.lose_partner.ensures.ends.waiting c.lose_partner.ensures.ends.pending c.lose_partner.ensures.ends.line tt refl refl
-    (explains_taken (ledger_of c.args.unit.now (g.S.Site.state c.reserve.new.self) c.args.records.now) at c.poll.ensures.rest.last_session (_, c.in-Got.ensures.got.taken) refl refl (got_ended _ _ _ c.in-Got.entry c.got-step-in-Event.ensures.state) refl (ap login_answers c.poll.ensures.rest.sent) told unit front
+    (inr (heard_event (told_to told unit) (g.S.Site.state c.poll.new.self).queue.last_session (g.S.Site.state c.reserve.new.self).queue.taken (g.S.Site.state c.poll.new.self).queue.taken
+    (record { session = (g.S.Site.state c.reserve.new.self).queue.last_session; entry = c.in-Got.entry }) (sym c.poll.ensures.rest.last_session) c.in-Got.ensures.got.taken (event_is c.in-Got.entry (search rules))))
+    (explains_taken (ledger_of c.args.unit.now (g.S.Site.state c.reserve.new.self) c.args.records.now) at _ c.poll.ensures.rest.last_session c.in-Got.ensures.got.taken refl (inl (event_is c.in-Got.entry (search rules))) refl refl (got_ended _ _ _ c.in-Got.entry c.got-step-in-Event.ensures.state) refl (ap login_answers c.poll.ensures.rest.sent) told unit front
     (explains_stands c.args.unit.now c.args.unit.now (g.S.Site.state c.args.site.now) (g.S.Site.state c.reserve.new.self) c.args.records.now c.args.records.now refl c.reserve.ensures.passes refl refl (ap login_answers c.reserve.ensures.rest.sent) told unit front is))

@@ -13,6 +13,7 @@ use Rattle.block_server.proofs.Serves.{once_added, says_none, stays_pushed}
 use Rattle.block_server.proofs.Working.{one_row, one_same}
 use Rattle.block_server.specs.Judged.{IsAtStage, has_row, keys_of, row_in}
 use Rattle.block_server.proofs.Booking.{code_gets}
+use Rattle.block_server.proofs.Judging.{row_no_login}
 use Rattle.block_server.specs.Cargo.{is_moving}
 use Rattle.block_server.proofs.Cargoes.{blank_keeps, shown_same}
 use Rattle.block_server.proofs.Hands.{keeps_same}
@@ -49,7 +50,8 @@ returns-clause-once c = λ credits rest q disk cause serving.
     row.unit_is row.iu row.answer added refl refl tt
     (may_code order code blank disk.terms bytes spelled c.requires.code cause' row.out row.inn row.fault says)
     (stays_pushed disk _ _ blank added (λ b. code_row disk.terms order code blank b spelled c.requires.code cause' row.out row.inn row.fault (says_none blank.answer (HasCode (field 8 8 blank.iu) code) row.answer)))
-    (tells_same disk.now) serving.brought tt
+    (tells_same disk.now) serving.brought
+    (record { front = c.args.request.now; rest = rest; parts = refl; other = row_no_login order (code_gets order code c.requires.code) })
 
 pub returns-in_err-blank-clause-books : goal.returns-in_err-blank-clause-books
 returns-in_err-blank-clause-books c = λ before. one_same _ _ _ _ _ _ _ refl (ap keys_of c.new_row.ensures.lists.history)

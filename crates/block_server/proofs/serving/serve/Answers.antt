@@ -305,9 +305,11 @@ returns-in_err-make_room-clause-refuses g c = λ told all serving front is.
     explains_same (ledger_of c.args.unit.now (g.S.Site.state c.args.site.now) c.args.records.now) _ refl refl refl refl refl c.make_room.ensures.lists.grants refl told c.args.unit.now.id front is
 
 pub returns-in-Logout-clause-refuses : goal.returns-in-Logout-clause-refuses
-returns-in-Logout-clause-refuses g c = λ told all serving front is.
-    c.log_out.ensures.refuses (g.S.Site.state c.args.site.now).queue.last_session (g.S.Site.state c.args.site.now).queue.taken (login_answers (g.S.Site.state c.args.site.now).queue.sent) told c.args.unit.now.id front
-    (explains_same (ledger_of c.args.unit.now (g.S.Site.state c.args.site.now) c.args.records.now) (ledger_of c.args.unit.now (g.S.Site.state c.args.site.now) c.make_room.new.self) refl refl refl refl refl c.make_room.ensures.lists.grants refl told c.args.unit.now.id front is)
+returns-in-Logout-clause-refuses g c = λ told all serving begun is.
+    let front = front_is _ _ c.in-Some.ensures.item.3 in
+    let other : is_login c.in-Some.request.now.order ≡ false = search rules in
+    c.log_out.ensures.refuses (g.S.Site.state c.args.site.now).queue.last_session (g.S.Site.state c.args.site.now).queue.taken (login_answers (g.S.Site.state c.args.site.now).queue.sent) c.in-Some.request.now front.0 front.1 other told c.args.unit.now.id begun
+    (explains_same (ledger_of c.args.unit.now (g.S.Site.state c.args.site.now) c.args.records.now) (ledger_of c.args.unit.now (g.S.Site.state c.args.site.now) c.make_room.new.self) refl refl refl refl refl c.make_room.ensures.lists.grants refl told c.args.unit.now.id begun is)
 
 pub returns-in_err-prepare-clause-refuses : goal.returns-in_err-prepare-clause-refuses
 returns-in_err-prepare-clause-refuses g c = λ told all serving front is.

@@ -1,4 +1,4 @@
-use Rattle.std.proofs.Common.{◌≡◌, ◌∙◌, Some, ap, refl, slice_get, slice_set, subst, sym}
+use Rattle.std.proofs.Common.{◌≡◌, ◌∙◌, Bool, List, Some, ap, false, refl, true, slice_get, slice_set, subst, sym}
 use Rattle.std.proofs.Math.Logic.{∥∥₁_elim, ∥∥₁_map}
 use Rattle.std.proofs.lemmas.Option.{slice_get_read}
 use Rattle.vio_num.specs.declared.names.UnitId.{UnitId}
@@ -23,7 +23,10 @@ use Rattle.block_server.proofs.Refusing.{refuses_turn}
 use Rattle.block_server.specs.Refusals.{AnswersLogins, AreExplained, Front, HasExplained, basis_seen, ledger_at}
 use Rattle.block_server.specs.declared.unit.Unit.{Unit as ServerUnit}
 use Rattle.block_server.specs.LoginAnswers.{login_answers}
-use Rattle.block_server.proofs.Ledgers.{accounted_first}
+use Rattle.block_server.proofs.Ledgers.{accounted_first, dealt_turn}
+use Rattle.block_server.specs.Causes.{told_to}
+use Rattle.block_server.specs.Dealt.{AreDealt, HasDealt}
+use Rattle.block_server.specs.Receipts.{is_ended}
 use Rattle.block_server.proofs.server.Server.turn.Goals as goal
 
 pub returns-clause-answers : goal.returns-clause-answers
@@ -228,10 +231,10 @@ returns-clause-explains g c = λ told tells all since has.
     let heard = tells_turn told _ _ _ _ _ _ _ _ _ _ (sym (is.id ∙ sym c.requires.named)) (sym (ap g.O.WindowPort.state (c.own-1.given.1 (sym (ap (λ (lent : Lenders). lent.own) lent)))))
     (sym (ap g.R.WindowPort.state (c.client-1.given.1 (sym (ap (λ (lent : Lenders). lent.client) lent))))) tells in
     let ledger = ledger_at c.index_mut.result.now old.last_session old.taken (login_answers old.sent) server.records in
-    let front : Front = record { since = since; lines = server.records.grants.items; answers = login_answers old.sent } in
+    let front : Front = record { since = since; lines = server.records.grants.items; answers = login_answers old.sent; deals = false } in
     let step : AreExplained told c.index_mut.result.now.id since (basis_seen c.index_mut.result.now old server.records.grants.items)
     → AreExplained told c.index_mut.result.now.id since (basis_seen c.turn.new.unit (g.C.CrqEnd.state c.turn.new.site.queue.now) c.turn.new.records.grants.items) =
-    λ known. (c.turn.ensures.refuses told heard is.serving front (accounted_first told c.index_mut.result.now.id since ledger known)).known in
+    λ known. (c.turn.ensures.refuses told heard is.serving front (accounted_first told c.index_mut.result.now.id front ledger known refl refl (λ deals. absurd (cc (deals))))).known in
     subst (λ (q : EndState). HasExplained told (slice_set server.units.items c.args.unit c.turn.new.unit) c.args.unit unit q since c.turn.new.records.grants.items) queue
     (refuses_turn told server.units.items c.args.unit c.index_mut.result.now c.turn.new.unit unit old (g.C.CrqEnd.state c.turn.new.site.queue.now) since _ _ there
     (subst (λ (id : UnitId). AreExplained told id since (basis_seen c.index_mut.result.now old server.records.grants.items)
@@ -250,9 +253,35 @@ returns-clause-logins g c = λ told tells all since has.
     let heard = tells_turn told _ _ _ _ _ _ _ _ _ _ (sym (is.id ∙ sym c.requires.named)) (sym (ap g.O.WindowPort.state (c.own-1.given.1 (sym (ap (λ (lent : Lenders). lent.own) lent)))))
     (sym (ap g.R.WindowPort.state (c.client-1.given.1 (sym (ap (λ (lent : Lenders). lent.client) lent))))) tells in
     let ledger = ledger_at c.index_mut.result.now old.last_session old.taken (login_answers old.sent) server.records in
-    let front : Front = record { since = since; lines = server.records.grants.items; answers = login_answers old.sent } in
+    let front : Front = record { since = since; lines = server.records.grants.items; answers = login_answers old.sent; deals = false } in
     let known = subst (λ (id : UnitId). AreExplained told id since (basis_seen c.index_mut.result.now old server.records.grants.items)) (sym (is.id ∙ sym c.requires.named))
     (some_at (slice_get server.units.items c.args.unit) c.index_mut.result.now (λ (u : ServerUnit). AreExplained told unit since (basis_seen u old server.records.grants.items)) there has) in
     subst (λ (q : EndState). AnswersLogins told unit old q server.records c.turn.new.records) queue
     (subst (λ (id : UnitId). AnswersLogins told id old (g.C.CrqEnd.state c.turn.new.site.queue.now) server.records c.turn.new.records) (is.id ∙ sym c.requires.named)
-    (c.turn.ensures.refuses told heard is.serving front (accounted_first told c.index_mut.result.now.id since ledger known)).logins)
+    (c.turn.ensures.refuses told heard is.serving front (accounted_first told c.index_mut.result.now.id front ledger known refl refl (λ deals. absurd (cc (deals))))).logins)
+
+pub returns-clause-deals : goal.returns-clause-deals
+returns-clause-deals g c = λ told tells all since has dealt.
+    let server = c.args.self.now in
+    let there : slice_get server.units.items c.args.unit ≡ Some c.index_mut.result.now =
+    slice_get_read server.units.items _ c.args.unit _ server.units.ok.0 c.requires.unit c.index_mut.ensures.value in
+    let is = all c.args.unit c.index_mut.result.now there in
+    let lent = c.turn.ensures.advances.reached in
+    let unit = (g.O.WindowPort.state c.args.own.now).place.unit in
+    let old = g.C.CrqEnd.state c.args.crq.now in
+    let queue = sym (ap g.C.CrqEnd.state (c.crq-1.given.1 (sym (ap (λ (lent : Lenders). lent.queue) lent)))) in
+    let heard = tells_turn told _ _ _ _ _ _ _ _ _ _ (sym (is.id ∙ sym c.requires.named)) (sym (ap g.O.WindowPort.state (c.own-1.given.1 (sym (ap (λ (lent : Lenders). lent.own) lent)))))
+    (sym (ap g.R.WindowPort.state (c.client-1.given.1 (sym (ap (λ (lent : Lenders). lent.client) lent))))) tells in
+    let ledger = ledger_at c.index_mut.result.now old.last_session old.taken (login_answers old.sent) server.records in
+    let front : Front = record { since = since; lines = server.records.grants.items; answers = login_answers old.sent; deals = true } in
+    let known = subst (λ (id : UnitId). AreExplained told id since (basis_seen c.index_mut.result.now old server.records.grants.items)) (sym (is.id ∙ sym c.requires.named))
+    (some_at (slice_get server.units.items c.args.unit) c.index_mut.result.now (λ (u : ServerUnit). AreExplained told unit since (basis_seen u old server.records.grants.items)) there has) in
+    let step : AreDealt (told_to told c.index_mut.result.now.id) old.last_session old.taken c.index_mut.result.now.waiting c.index_mut.result.now.pending.items (is_ended c.index_mut.result.now.line)
+    → AreDealt (told_to told c.index_mut.result.now.id) (g.C.CrqEnd.state c.turn.new.site.queue.now).last_session (g.C.CrqEnd.state c.turn.new.site.queue.now).taken
+    c.turn.new.unit.waiting c.turn.new.unit.pending.items (is_ended c.turn.new.unit.line) =
+    λ was. (c.turn.ensures.refuses told heard is.serving front (accounted_first told c.index_mut.result.now.id front ledger known refl refl (λ deals. was))).dealt refl in
+    subst (λ (q : EndState). HasDealt told (slice_set server.units.items c.args.unit c.turn.new.unit) c.args.unit unit q) queue
+    (dealt_turn told server.units.items c.args.unit c.index_mut.result.now c.turn.new.unit unit old (g.C.CrqEnd.state c.turn.new.site.queue.now) there
+    (subst (λ (id : UnitId). AreDealt (told_to told id) old.last_session old.taken c.index_mut.result.now.waiting c.index_mut.result.now.pending.items (is_ended c.index_mut.result.now.line)
+    → AreDealt (told_to told id) (g.C.CrqEnd.state c.turn.new.site.queue.now).last_session (g.C.CrqEnd.state c.turn.new.site.queue.now).taken
+    c.turn.new.unit.waiting c.turn.new.unit.pending.items (is_ended c.turn.new.unit.line)) (is.id ∙ sym c.requires.named) step) dealt)
