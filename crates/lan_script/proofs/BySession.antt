@@ -86,7 +86,7 @@ later_sessions : {X Row : Type 0} (session : X → ℕ) (make : ℕ → X → Ro
     → Each (λ x. session x < s + 1 + count) xs → Ordered (λ a b. session a ≤ session b) xs
     → numbered make n (filter (λ x. session x == s) xs) ++ flat_map (λ k. numbered make 0 (filter (λ x. session x == k) xs)) (sessions_from (s + 1) count)
     ≡ numbered_on session make s n xs
-later_sessions {X} {Row} session make s n [] count from below order = nothing (numbered {X} {Row} make 0) refl (s + 1) count
+later_sessions {X} {Row} session make s n [] count from below order = nothing {X = X} {Row = Row} (λ k l. numbered make 0 l) (λ k. refl) (s + 1) count
 later_sessions {X} {Row} session make s n (x ∷ xs) count from below order =
     at (session x == s) refl (λ t m left. later_sessions session make t m xs left)
   where
@@ -104,9 +104,9 @@ later_sessions {X} {Row} session make s n (x ∷ xs) count from below order =
     at true e again =
         let same : session x ≡ s = eqb-true (session x) s e in
         ap (λ b. numbered make n (cond b (x ∷ filter (λ y. session y == s) xs) (filter (λ y. session y == s) xs))
-            ++ flat_map (blocks (x ∷ xs)) (sessions_from (s + 1) count)) e
+        ++ flat_map (blocks (x ∷ xs)) (sessions_from (s + 1) count)) e
         ∙ ap (λ l. make n x ∷ (numbered make (n + 1) (filter (λ y. session y == s) xs) ++ l))
-            (same_above session (numbered make 0) x xs (s + 1) count (omega (arith, same)))
+        (same_above session (numbered make 0) x xs (s + 1) count (omega (arith, same)))
         ∙ ap (λ l. make n x ∷ l) (again s (n + 1) count from.1 below.1 order.1)
         ∙ ap (λ k. make n x ∷ numbered_on session make k (n + 1) xs) (sym same)
         ∙ ap (λ b. make (if b then n else 0) x ∷ numbered_on session make (session x) ((if b then n else 0) + 1) xs) (sym e)
@@ -115,11 +115,11 @@ later_sessions {X} {Row} session make s n (x ∷ xs) count from below order =
         let empty : filter (λ y. session y == s) xs ≡ [] = none_of session s xs (each_weaker (λ y. session x ≤ session y) (λ y. s < session y) (λ y h. omega (arith, h, less)) xs order.0) in
         let reach = reaches session make x xs (s + 1) count (omega (arith, less)) (omega (arith, below.0)) order.0 in
         ap (λ b. numbered make n (cond b (x ∷ filter (λ y. session y == s) xs) (filter (λ y. session y == s) xs))
-            ++ flat_map (blocks (x ∷ xs)) (sessions_from (s + 1) count)) e
+        ++ flat_map (blocks (x ∷ xs)) (sessions_from (s + 1) count)) e
         ∙ ap (λ l. numbered make n l ++ flat_map (blocks (x ∷ xs)) (sessions_from (s + 1) count)) empty
         ∙ reach.is
         ∙ ap (λ l. make 0 x ∷ l) (again (session x) 1 reach.left order.0
-            (each_weaker (λ y. session y < s + 1 + count) (λ y. session y < session x + 1 + reach.left) (λ y h. omega (arith, h, reach.in_all)) xs below.1) order.1)
+        (each_weaker (λ y. session y < s + 1 + count) (λ y. session y < session x + 1 + reach.left) (λ y h. omega (arith, h, reach.in_all)) xs below.1) order.1)
         ∙ ap (λ b. make (if b then n else 0) x ∷ numbered_on session make (session x) ((if b then n else 0) + 1) xs) (sym e)
       where
         other : (session x == s) ≡ false → session x ≡ s → ⊥
@@ -132,8 +132,8 @@ by_number {X} {Row} session make count xs stand =
     let begun : Each (λ x. 0 < session x) xs = each_of (λ x. 0 < session x) xs (λ k d lt. omega (arith, stand.begun k d lt)) in
     ap (λ l. numbered make 0 l ++ flat_map blocks (sessions_from 1 count)) (sym (none_of session 0 xs begun))
     ∙ later_sessions session make 0 0 xs count (each_weaker (λ x. 0 < session x) (λ x. 0 ≤ session x) (λ x h. omega arith) xs begun)
-        (each_of (λ x. session x < 0 + 1 + count) xs (λ k d lt. omega (arith, stand.none_later k d lt)))
-        (ordered_of (λ a b. session a ≤ session b) xs stand.rising)
+    (each_of (λ x. session x < 0 + 1 + count) xs (λ k d lt. omega (arith, stand.none_later k d lt)))
+    (ordered_of (λ a b. session a ≤ session b) xs stand.rising)
   where
     blocks : ℕ → List Row
     blocks k = numbered make 0 (filter (λ x. session x == k) xs)
@@ -155,6 +155,6 @@ pub by_session : {X Row : Type 0} (session : X → ℕ) (make : X → Row) (coun
     → flat_map (λ k. map make (filter (λ x. session x == k) xs)) (sessions_from 1 count) ≡ map make xs
 by_session session make count xs stand =
     same_blocks (λ k. map make (filter (λ x. session x == k) xs)) (λ k. numbered (λ _. make) 0 (filter (λ x. session x == k) xs))
-        (λ k. sym (unnumbered make 0 (filter (λ x. session x == k) xs))) (sessions_from 1 count)
+    (λ k. sym (unnumbered make 0 (filter (λ x. session x == k) xs))) (sessions_from 1 count)
     ∙ by_number session (λ _. make) count xs stand
     ∙ unnumbered_on session make 0 0 xs
