@@ -4,6 +4,7 @@ pub mod Balancing
 pub mod Begun
 pub mod Blocks
 pub mod Bringing
+pub mod BySession
 pub mod Called
 pub mod CarriedOn
 pub mod CarriedRows
