@@ -40,6 +40,7 @@ pub mod ReplayedPosts
 pub mod ReplayedRegion
 pub mod ReplayedSends
 pub mod ReplayedSent
+pub mod ReplayedValues
 pub mod Replaying
 pub mod RowLaws
 pub mod Sent
