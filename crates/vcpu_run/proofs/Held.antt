@@ -1,5 +1,5 @@
 -- That the queues of clients are held, over what is done at the pairs and as lines go on and end.
-use Rattle.std.proofs.Common.{◌≡◌, ◌≢◌, ◌∙◌, ◌⊎◌, inl, inr, ℕ, ◌==◌, ◌&&◌, ◌||◌, ◌≤◌, Bool, true, false, List, Option, Some, None, Ok, IfSome, slice_get, slice_set, refl, sym, ap, subst, eqb-true, arith}
+use Rattle.std.proofs.Common.{◌≡◌, ◌∙◌, ◌⊎◌, inl, inr, ℕ, ◌==◌, ◌&&◌, ◌||◌, ◌≤◌, Bool, true, false, List, Option, Some, None, Ok, IfSome, slice_get, slice_set, refl, sym, ap, subst, eqb-true, arith}
 use Rattle.std.specs.Prelude.{⊤}
 use Rattle.vio_num.specs.declared.hypervisor.Moved.{Moved}
 use Rattle.boot_text.specs.declared.plan.Line.{Line}
@@ -8,9 +8,7 @@ use Rattle.lan_script.specs.declared.seat.PortSeat.{PortSeat}
 use Rattle.unit_region.specs.declared.step.Step.TheVariants as steps
 use Rattle.vcpu_run.specs.declared.pair.Pair.{Pair}
 use Rattle.vcpu_run.specs.declared.script.Progress.{Progress}
-use Rattle.vcpu_run.specs.declared.script.Progress.TheVariants as progress
 use Rattle.vcpu_run.specs.declared.script.Script.{Script}
-use Rattle.vcpu_run.specs.declared.unit_seat.Seat.{Seat}
 use Rattle.vcpu_run.specs.declared.unit_seat.Seat.TheVariants as sits
 use Rattle.vcpu_run.specs.Agreed.{SameElse}
 use Rattle.vcpu_run.specs.Freed.{FreesNoneIf, IsNotFreed}
@@ -18,7 +16,7 @@ use Rattle.vcpu_run.specs.Freeing.{IsSpared, NoneBreaks, breaks, is_reset}
 use Rattle.vcpu_run.specs.Holding.{HoldsQueue, IsRegistered, IsResetOpen, KeepQueues, KeepsQueues, LineOpen, is_renewed}
 use Rattle.vcpu_run.specs.Links.{AreClosed}
 use Rattle.vcpu_run.specs.Machines.{AreScripts}
-use Rattle.vcpu_run.specs.Scripts.{AreSeats, OnlyRuns}
+use Rattle.vcpu_run.specs.Scripts.{AreSeats}
 use Rattle.vcpu_run.specs.Suited.{is_call}
 use Rattle.vcpu_run.specs.Telling.{is_freed}
 use Rattle.vcpu_run.specs.Works.{fails}

@@ -1,7 +1,6 @@
 -- That a reset leaves its client's queue registered, over a step of its line.
-use Rattle.std.proofs.Common.{◌≡◌, ℕ, ◌<◌, Bool, true, false, List, Option, Some, None, Result, Ok, Err, IfSome, length, slice_get, slice_set, refl, sym, ap, subst}
+use Rattle.std.proofs.Common.{◌≡◌, ℕ, ◌<◌, Bool, true, false, List, Option, Result, Ok, Err, IfSome, length, slice_set, refl, sym, ap, subst}
 use Rattle.vio_num.specs.declared.memory.NoMemory.{NoMemory}
-use Rattle.vio_num.specs.declared.hypervisor.Moved.{Moved}
 use Rattle.boot_text.specs.declared.verb.Verb.{Verb}
 use Rattle.unit_region.specs.declared.step.Step.{Step}
 use Rattle.unit_region.specs.declared.step.Step.TheVariants as steps

@@ -1,5 +1,5 @@
 -- Why a server unit did nothing, as its link shows it; and that its queue is what it takes it for.
-use Rattle.std.proofs.Common.{◌≡◌, ◌∙◌, inl, inr, ℕ, ◌+◌, ◌<◌, ◌≤◌, zero, suc, Bool, true, false, List, [], ◌∷◌, Option, Some, None, IfNone, IfSome, length, min, slice_get, refl, sym, ap, ap₂, subst, arith}
+use Rattle.std.proofs.Common.{◌≡◌, ◌∙◌, inl, inr, ℕ, ◌+◌, ◌<◌, ◌≤◌, zero, suc, Bool, true, false, List, [], ◌∷◌, Option, Some, None, IfNone, IfSome, length, slice_get, refl, sym, ap, ap₂, subst, arith}
 use Rattle.std.specs.Borrow.{GName}
 use Rattle.std.proofs.lemmas.Option.{IfSome_then}
 use Rattle.crq_ring.specs.Sessions.{of_session}

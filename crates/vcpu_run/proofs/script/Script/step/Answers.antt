@@ -4,7 +4,7 @@ use Rattle.vcpu_run.specs.Freed.{FreesNoneIf}
 use Rattle.vcpu_run.specs.Freeing.{IsSpared}
 use Rattle.vcpu_run.specs.Holding.{LineOpen}
 use Rattle.vcpu_run.proofs.Held.{ends_held, waits_held}
-use Rattle.std.proofs.Common.{rules, ap, false, ◌≡◌, ◌∙◌, List, Ok, length, refl, slice_get, subst, arith}
+use Rattle.std.proofs.Common.{rules, ap, false, ◌≡◌, ◌∙◌, List, Ok, refl, subst, arith}
 use Rattle.std.proofs.lemmas.Option.{slice_get_within}
 use Rattle.unit_region.specs.declared.step.Step.{Step}
 use Rattle.unit_region.specs.declared.step.Step.TheVariants as steps

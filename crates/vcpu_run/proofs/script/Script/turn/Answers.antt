@@ -1,4 +1,4 @@
-use Rattle.std.proofs.Common.{◌∙◌, List, subst}
+use Rattle.std.proofs.Common.{List, subst}
 use Rattle.vcpu_run.proofs.Crediting.{credited_same}
 use Rattle.vcpu_run.proofs.Driving.{clients_of, driven_on, still_drivers}
 use Rattle.vcpu_run.specs.Agreed.{SameElse}
