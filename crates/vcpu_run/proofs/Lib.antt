@@ -40,6 +40,7 @@ pub mod Naming
 pub mod Opened
 pub mod Order
 pub mod Ordering
+pub mod OwnLines
 pub mod PairNames
 pub mod Parts
 pub mod Placing

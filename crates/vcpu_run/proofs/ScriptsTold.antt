@@ -37,7 +37,7 @@ use Rattle.vcpu_run.proofs.Crediting.{ended_more, here_or, one_seat}
 use Rattle.vcpu_run.proofs.Askings.{plain_ends}
 use Rattle.vcpu_run.proofs.Driving.{client_is, driven_same, no_port, some_is}
 use Rattle.vcpu_run.proofs.LoginsTold.{true_false}
-use Rattle.vcpu_run.proofs.Sayings.{is_logout, says_nothing}
+use Rattle.vcpu_run.proofs.Sayings.{is_logout, is_own, says_nothing}
 use Rattle.vcpu_run.proofs.Sole.{pairs_from_ordered}
 use Rattle.vcpu_run.proofs.TakesTold.{takes_none, took_told}
 use Rattle.vcpu_run.proofs.Tellings.{ended, ends_told, said_more, same_told, tags_more}
@@ -430,7 +430,7 @@ waiting_told pairs script done line row found suited are many ends lines seats l
     }) lines seats logs fresh is
 
 -- a line that fails the partition asks nothing
-fails_aside : (verb : Verb) → fails verb ≡ true → (asks verb ≡ false) × (is_logout verb ≡ false)
+fails_aside : (verb : Verb) → fails verb ≡ true → (asks verb ≡ false) × (is_logout verb ≡ false) × (is_own verb ≡ false)
 fails_aside verbs.Login is = absurd (cc)
 fails_aside verbs.Reset is = absurd (cc)
 fails_aside verbs.Logout is = absurd (cc)
@@ -454,13 +454,13 @@ fails_aside (verbs.Poke at bytes) is = absurd (cc)
 fails_aside (verbs.Peek at len) is = absurd (cc)
 fails_aside (verbs.Tce entry page readable writable) is = absurd (cc)
 fails_aside (verbs.Hcall number arguments) is = absurd (cc)
-fails_aside verbs.Fail is = (refl, refl)
+fails_aside verbs.Fail is = (refl, refl, refl)
 
 -- a line that tells of no tag
-quiet_more : (pages : ℕ) (own : List Ended) (verb : Verb) (outcome : Outcome) → HasCausesTold pages own → asks verb ≡ false → is_logout verb ≡ false → tag_of outcome ≡ []
+quiet_more : (pages : ℕ) (own : List Ended) (verb : Verb) (outcome : Outcome) → HasCausesTold pages own → asks verb ≡ false → is_logout verb ≡ false → is_own verb ≡ false → tag_of outcome ≡ []
     → HasCausesTold pages (own ++ ended verb outcome ∷ [])
-quiet_more pages own verb outcome law no_ask no_logout none = record {
-  refusals = said_more pages None own verb outcome law.refusals (says_nothing pages (login_after None own) verb outcome no_ask no_logout);
+quiet_more pages own verb outcome law no_ask no_logout no_own none = record {
+  refusals = said_more pages None own verb outcome law.refusals (says_nothing pages (login_after None own) verb outcome no_ask no_logout no_own);
   tags = subst (AllPairs (λ a b. a < b)) (sym (tags_more own verb outcome ∙ (ap (λ tags. tags_told own ++ tags) none ∙ append-nil (tags_told own)))) law.tags;
 }
 
@@ -509,7 +509,7 @@ fail_ends_told old new script done line row found failing are driven many quiet 
     each unit after law (inl same) =
         let aside = fails_aside line.verb failing in
         subst (HasCausesTold (length after.window.pages)) (sym (records unit ∙ ap (λ b. cond b (own_of unit script ++ e ∷ []) (own_of unit script)) same))
-        (quiet_more (length after.window.pages) (own_of unit script) line.verb row.outcome law aside.0 aside.1 quiet)
+        (quiet_more (length after.window.pages) (own_of unit script) line.verb row.outcome law aside.0 aside.1 aside.2 quiet)
     each unit after law (inr differ) =
         subst (HasCausesTold (length after.window.pages)) (sym (records unit ∙ ap (λ b. cond b (own_of unit script ++ e ∷ []) (own_of unit script)) differ)) law
 

@@ -1,8 +1,12 @@
-use Rattle.std.proofs.Common.{ap, refl}
+use Rattle.std.proofs.Common.{ℕ, List, IfOk, ap, refl, subst}
+use Rattle.unit_region.specs.Answers.{AnswersWrite}
 use Rattle.vcpu_run.specs.Credited.{is_take, taken_in}
 use Rattle.vcpu_run.specs.Telling.{seated}
 use Rattle.vcpu_run.proofs.Askings.{aside_as, aside_told, told_as}
 use Rattle.vcpu_run.specs.Freeing.{is_reset}
+use Rattle.vcpu_run.specs.Replay.{asks}
+use Rattle.vcpu_run.proofs.OwnLines.{fill_says, peek_says, poke_says, tce_says}
+use Rattle.vcpu_run.proofs.Sayings.{is_logout, is_own, says_nothing}
 use Rattle.vcpu_run.proofs.LoginSteps.{other_out, out_as}
 use Rattle.vcpu_run.proofs.Credits.{fresh_both}
 use Rattle.vcpu_run.proofs.driver.Driver.step_other.Goals as goal
@@ -53,6 +57,7 @@ returns-in-Data-clause-told g c =
     (seated c.args.self.now.client c.args.progress.now (g.C.CrqEnd.state c.args.crq.now.end).registered)
     (seated c.data.new.self.client c.args.progress.now (g.C.CrqEnd.state c.args.crq.now.end).registered)
     c.data.result (aside_as c.args.line.now.verb _ c.in-Data.is (record { no_ask = refl; no_logout = refl; no_take = refl; no_reset = refl })) c.data.ensures.client refl refl c.data.ensures.plain
+    (λ login outcome is. says_nothing (g.O.WindowPort.state c.args.own.now).place.size login c.args.line.now.verb outcome (ap asks c.in-Data.is) (ap is_logout c.in-Data.is) (ap is_own c.in-Data.is))
 
 pub returns-in-Fill-clause-told : goal.returns-in-Fill-clause-told
 returns-in-Fill-clause-told g c =
@@ -60,6 +65,7 @@ returns-in-Fill-clause-told g c =
     (seated c.args.self.now.client c.args.progress.now (g.C.CrqEnd.state c.args.crq.now.end).registered)
     (seated c.args.self.now.client c.args.progress.now (g.C.CrqEnd.state c.args.crq.now.end).registered)
     c.fill.result (aside_as c.args.line.now.verb _ c.in-Fill.is (record { no_ask = refl; no_logout = refl; no_take = refl; no_reset = refl })) refl refl refl c.fill.ensures.plain
+    (fill_says g.O.WindowPort.is_shared (g.O.WindowPort.state c.args.own.now) (g.O.WindowPort.state c.fill.new.own) c.in-Fill.at c.in-Fill.len c.in-Fill.seed _ c.args.line.now.verb c.fill.result c.in-Fill.is c.fill.ensures.answer)
 
 pub returns-in-Poke-clause-told : goal.returns-in-Poke-clause-told
 returns-in-Poke-clause-told g c =
@@ -67,6 +73,9 @@ returns-in-Poke-clause-told g c =
     (seated c.args.self.now.client c.args.progress.now (g.C.CrqEnd.state c.args.crq.now.end).registered)
     (seated c.args.self.now.client c.args.progress.now (g.C.CrqEnd.state c.args.crq.now.end).registered)
     c.poke.result (aside_as c.args.line.now.verb _ c.in-Poke.is (record { no_ask = refl; no_logout = refl; no_take = refl; no_reset = refl })) refl refl refl c.poke.ensures.plain
+    (poke_says g.O.WindowPort.is_shared (g.O.WindowPort.state c.args.own.now) (g.O.WindowPort.state c.poke.new.own) c.in-Poke.at c.in-Poke.bytes c.from-mark.result c.args.line.now.verb c.poke.result c.in-Poke.is
+    (subst (λ (bytes : List ℕ). IfOk c.poke.result (AnswersWrite g.O.WindowPort.is_shared (g.O.WindowPort.state c.args.own.now) (g.O.WindowPort.state c.poke.new.own) c.in-Poke.at bytes c.from-mark.result))
+    c.as_slice.ensures c.poke.ensures.answer))
 
 pub returns-in-Peek-clause-told : goal.returns-in-Peek-clause-told
 returns-in-Peek-clause-told g c =
@@ -74,6 +83,7 @@ returns-in-Peek-clause-told g c =
     (seated c.args.self.now.client c.args.progress.now (g.C.CrqEnd.state c.args.crq.now.end).registered)
     (seated c.args.self.now.client c.args.progress.now (g.C.CrqEnd.state c.args.crq.now.end).registered)
     c.peek.result (aside_as c.args.line.now.verb _ c.in-Peek.is (record { no_ask = refl; no_logout = refl; no_take = refl; no_reset = refl })) refl refl refl c.peek.ensures.plain
+    (peek_says (g.O.WindowPort.state c.args.own.now) (g.O.WindowPort.state c.peek.new.own) c.in-Peek.at c.in-Peek.len c.args.line.now.verb c.peek.result c.in-Peek.is c.peek.ensures.window.place c.peek.ensures.answer)
 
 pub returns-in-Tce-clause-told : goal.returns-in-Tce-clause-told
 returns-in-Tce-clause-told g c =
@@ -81,6 +91,7 @@ returns-in-Tce-clause-told g c =
     (seated c.args.self.now.client c.args.progress.now (g.C.CrqEnd.state c.args.crq.now.end).registered)
     (seated c.args.self.now.client c.args.progress.now (g.C.CrqEnd.state c.args.crq.now.end).registered)
     c.put_tce.result (aside_as c.args.line.now.verb _ c.in-Tce.is (record { no_ask = refl; no_logout = refl; no_take = refl; no_reset = refl })) refl refl refl c.put_tce.ensures.plain
+    (tce_says (g.O.WindowPort.state c.args.own.now) (g.O.WindowPort.state c.put_tce.new.own) c.in-Tce.entry c.in-Tce.page c.in-Tce.readable c.in-Tce.writable c.args.line.now.verb c.put_tce.result c.in-Tce.is c.put_tce.ensures.answer)
 
 pub returns-in-Login-clause-out : goal.returns-in-Login-clause-out
 returns-in-Login-clause-out g c = λ alone.
