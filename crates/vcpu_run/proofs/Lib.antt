@@ -29,6 +29,7 @@ pub mod InSessions
 pub mod Keeping
 pub mod Lasting
 pub mod Lined
+pub mod LinesShown
 pub mod Listed
 pub mod Logging
 pub mod LoginSteps

@@ -13,6 +13,7 @@ pub mod Gathered
 pub mod Heard
 pub mod Intake
 pub mod Lines
+pub mod LinesShow
 pub mod Links
 pub mod Machines
 pub mod Making

@@ -1,6 +1,6 @@
 -- What the records of a client's lines say of requests that were not sent: each refusal by the records before it; and of its own
 -- region. (Of a client whose partition makes no raw hypervisor call, plain or not.)
-use Rattle.std.specs.Prelude.{◌≡◌, ℕ, ◌+◌, ◌-◌, ◌*◌, ◌<◌, ◌==◌, Bool, true, false, length, List, [], ◌∷◌, ◌++◌, MatchBool, MatchOption, Option, Some, None, min, not, ⊤, if◌then◌else◌}
+use Rattle.std.specs.Prelude.{◌≡◌, ℕ, ◌+◌, ◌-◌, ◌*◌, ◌<◌, ◌==◌, Bool, true, false, length, map, List, [], ◌∷◌, ◌++◌, MatchBool, MatchOption, Option, Some, None, min, not, ⊤, if◌then◌else◌}
 use Rattle.std.specs.List.{AllPairs, Contains}
 use Rattle.std.specs.Option.{option_map}
 use Rattle.boot_text.specs.Sound.{IsClientOf}
@@ -16,11 +16,13 @@ use Rattle.unit_region.specs.Answers.{tce_of}
 use Rattle.vio_trace.specs.declared.outcome.Outcome.{Outcome}
 use Rattle.vio_trace.specs.declared.outcome.Outcome.TheVariants as outcomes
 use Rattle.vio_trace.specs.declared.rows.Trace.{Trace}
+use Rattle.vcpu_run.specs.AnswersSent.{sent_to}
 use Rattle.vcpu_run.specs.Credited.{Ended, ended_by}
+use Rattle.vcpu_run.specs.LinesShow.{LinesShow, Seen}
 use Rattle.vcpu_run.specs.PortWords.{HasNoCall}
 use Rattle.vcpu_run.specs.Replay.{Range, asks, lie_within, ranges_of}
 use Rattle.vcpu_run.specs.Settled.{script_of}
-use Rattle.vcpu_run.specs.Shown.{pages_at, records_of}
+use Rattle.vcpu_run.specs.Shown.{pages_at, records_of, stroke_value, strokes_on}
 
 -- A login that is on by the records: what it grants, how many commands and tasks are outstanding, and the tags of those that were
 -- sent since it was granted.
@@ -128,8 +130,18 @@ pub record HasCausesTold (pages : ℕ) (ended : List Ended) : Type 0 where
   pub refusals : AreSaid pages None ended
   pub tags : AllPairs (λ a b. a < b) (tags_told ended)
 
--- So is it of each client of a partition that makes no raw call.
+-- what a trace shows of a client's region, and of its server unit's queue
+abbrev pub seen_in : Trace → (client server : UnitId) → Seen
+seen_in trace client server = record {
+  stroke_at = λ page stroke. Contains (map stroke_value (strokes_on trace client page)) stroke;
+  entry_put = λ entry. Contains (sent_to trace server) entry;
+}
+
+-- So is it of each client of a partition that makes no raw call, and what its lines say that they sent or wrote is there.
+pub record IsClientTold (partitions : List Partition) (trace : Trace) (client server : UnitId) : Type 0 where
+  pub causes : HasCausesTold (pages_at partitions client) (ended_by client.unit (script_of partitions client.partition) (records_of trace client.partition))
+  pub shown : LinesShow (seen_in trace client server) client client.unit (script_of partitions client.partition) (records_of trace client.partition)
+
 abbrev pub RefusalsAreTold : List Partition → Trace → Type 0
 RefusalsAreTold partitions trace = (client server : UnitId) → IsClientOf partitions client server
-    → HasNoCall (script_of partitions client.partition)
-    → HasCausesTold (pages_at partitions client) (ended_by client.unit (script_of partitions client.partition) (records_of trace client.partition))
+    → HasNoCall (script_of partitions client.partition) → IsClientTold partitions trace client server
