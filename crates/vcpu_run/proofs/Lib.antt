@@ -23,6 +23,7 @@ pub mod Freed
 pub mod GivenAnswers
 pub mod HeardTurns
 pub mod Hearings
+pub mod Held
 pub mod Homes
 pub mod Idling
 pub mod InSessions
@@ -39,6 +40,7 @@ pub mod Makers
 pub mod Marked
 pub mod Naming
 pub mod Opened
+pub mod Opening
 pub mod Order
 pub mod Ordering
 pub mod OwnLines

@@ -11,6 +11,7 @@ pub mod Freed
 pub mod Freeing
 pub mod Gathered
 pub mod Heard
+pub mod Holding
 pub mod Intake
 pub mod Lines
 pub mod LinesShow

@@ -8,6 +8,7 @@ ghost use Rattle.boot_text.specs.declared.verb.Verb.TheVariants as verbs;
 ghost use Rattle.vcpu_run.specs.Credited.{StepsAgreed, taken_in, uses_credit};
 ghost use Rattle.unit_region.specs.Steps.{IsPlain};
 ghost use Rattle.vcpu_run.specs.Freeing.{is_reset};
+ghost use Rattle.vcpu_run.specs.Holding.{EndsOpen, StepsOpen};
 ghost use Rattle.vcpu_run.specs.Sendings.{SaysSent, SaysTurned, SaysWhy};
 ghost use Rattle.vcpu_run.specs.Commands.{IsOpOf, cdb_of};
 ghost use Rattle.vcpu_run.specs.LinesShow.{StepShows, seen_by};
@@ -90,6 +91,7 @@ impl Driver {
             result }
         ensures out { (self.old.client.granted ≡ None)
             ⊎ ((C.state crq.old.end).registered ≡ false) → LeavesOut self.new.client result }
+        ensures registered { EndsOpen (C.state crq.new.end).registered result }
         ensures works { Works false C.is_shared O.is_shared
             (C.state crq.old.end) (C.state crq.new.end)
             (O.state own.old) (O.state own.new) self.old self.new }
@@ -117,6 +119,8 @@ impl Driver {
             (seated self.old.client progress.old (C.state crq.old.end).registered)
             (seated self.new.client progress.new (C.state crq.new.end).registered)
             result }
+        ensures registered { C.is_shared ≡ false → StepsOpen verbs.Reset progress.new
+            (C.state crq.new.end).registered result }
         ensures works { Works true C.is_shared O.is_shared
             (C.state crq.old.end) (C.state crq.new.end)
             (O.state own.old) (O.state own.new) self.old self.new }
@@ -287,6 +291,8 @@ impl Driver {
         ensures shows { StepShows
             (seen_by C.is_shared (O.state own.new) (C.state crq.new.end))
             (O.state own.old).place.unit line.now.number line.now.verb result }
+        ensures registered { C.is_shared ≡ false → StepsOpen line.now.verb progress.new
+            (C.state crq.new.end).registered result }
         ensures works { Works (is_reset line.now.verb) C.is_shared O.is_shared
             (C.state crq.old.end) (C.state crq.new.end)
             (O.state own.old) (O.state own.new) self.old self.new }
@@ -322,6 +328,8 @@ impl Driver {
         ensures shows { StepShows
             (seen_by C.is_shared (O.state own.new) (C.state crq.new.end))
             (O.state own.old).place.unit line.now.number line.now.verb result }
+        ensures registered { C.is_shared ≡ false → StepsOpen line.now.verb progress.new
+            (C.state crq.new.end).registered result }
         ensures works { Works (is_reset line.now.verb) C.is_shared O.is_shared
             (C.state crq.old.end) (C.state crq.new.end)
             (O.state own.old) (O.state own.new) self.old self.new }

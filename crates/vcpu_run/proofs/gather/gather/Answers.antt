@@ -66,7 +66,7 @@ returns-clause-settled c =
 pub returns-clause-handed : goal.returns-clause-handed
 returns-clause-handed c =
     from_rows c.args.pairs.items c.args.scripts.items c.args.lan c.args.history.items c.args.grants.items c.args.copies.items c.rows_of.result _ _ c.rows_of.ensures.trace c.rows_of.ensures.queues
-    (λ rows keeps ordered lawful partitions of_plan rests. handed_are c.args.pairs.items c.args.scripts.items c.args.lan rows c.args.history.items c.args.grants.items c.args.copies.items partitions rests.units c.requires.scripts of_plan rests.idle rests.unfreed)
+    (λ rows keeps ordered lawful partitions of_plan rests. handed_are c.args.pairs.items c.args.scripts.items c.args.lan rows c.args.history.items c.args.grants.items c.args.copies.items partitions rests.units c.requires.scripts of_plan rests.idle rests.unfreed rests.over)
 
 pub returns-clause-intake : goal.returns-clause-intake
 returns-clause-intake c =

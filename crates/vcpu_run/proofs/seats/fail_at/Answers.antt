@@ -1,5 +1,4 @@
 use Rattle.std.proofs.Common.{◌∷◌, [], Some, ap}
-use Rattle.vcpu_run.proofs.Unfreed.{frees_but}
 use Rattle.vcpu_run.proofs.Driving.{seat_within}
 use Rattle.vcpu_run.proofs.Elsewhere.{else_one}
 use Rattle.vcpu_run.proofs.PortRising.{all_idle}
@@ -10,9 +9,6 @@ fail_of-requires-clause-there c = seat_within _ c.args.pairs.now c.in-Client.pai
 
 pub fail_of-requires-clause-client : goal.fail_of-requires-clause-client
 fail_of-requires-clause-client c = c.requires.client c.in-Client.pair c.in-Client.is
-
-pub returns-in-Client-clause-stays : goal.returns-in-Client-clause-stays
-returns-in-Client-clause-stays c = frees_but (c.args.seat ∷ []) 0 c.in-Client.pair c.args.pairs.now c.fail_of.new.pairs (ap Some c.in-Client.is) c.fail_of.ensures.stays
 
 pub returns-in-Port-clause-idle : goal.returns-in-Port-clause-idle
 returns-in-Port-clause-idle c = all_idle c.args.lan.now c.fail.new.self c.fail.ensures.seats c.fail.ensures.frames c.fail.ensures.counts

@@ -4,6 +4,7 @@ use Rattle.vcpu_run.specs.Credited.{taken_in}
 use Rattle.vcpu_run.specs.Telling.{seated}
 use Rattle.vcpu_run.proofs.Askings.{asks_by, asks_plain}
 use Rattle.vcpu_run.proofs.LoginSteps.{other_out}
+use Rattle.vcpu_run.proofs.Opening.{other_open}
 use Rattle.vcpu_run.proofs.Credits.{fresh_both, sends_one}
 use Rattle.vcpu_run.proofs.driver.Driver.step.Goals as goal
 
@@ -27,3 +28,8 @@ returns-in-Some-clause-shows g c =
     let mark : c.from.result ≡ c.args.line.now.number = search rules in
     subst (λ n. StepShows (seen_by g.C.CrqEnd.is_shared (g.O.WindowPort.state c.command.new.own) (g.C.CrqEnd.state c.command.new.crq.end))
     (g.O.WindowPort.state c.args.own.now).place.unit n c.args.line.now.verb c.command.result) mark (c.command.ensures.shows c.args.line.now.verb c.in-Some.ensures.command c.in-Some.ensures.cdb)
+
+pub returns-in-Some-clause-registered : goal.returns-in-Some-clause-registered
+returns-in-Some-clause-registered g c = λ alone.
+    other_open c.args.line.now.verb c.args.progress.now (g.C.CrqEnd.state c.command.new.crq.end).registered
+    c.command.result (asks_plain c.args.line.now.verb (asks_by c.args.line.now.verb c.in-Some.op c.in-Some.ensures.command)).1

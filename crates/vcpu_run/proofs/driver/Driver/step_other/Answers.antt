@@ -14,6 +14,7 @@ use Rattle.vcpu_run.proofs.OwnLines.{fill_says, peek_says, poke_says, tce_says}
 use Rattle.vcpu_run.proofs.Sayings.{is_logout, is_own, says_nothing}
 use Rattle.vcpu_run.proofs.LoginSteps.{other_out, out_as}
 use Rattle.vcpu_run.proofs.Credits.{fresh_both}
+use Rattle.vcpu_run.proofs.Opening.{open_as, other_open}
 use Rattle.vcpu_run.proofs.driver.Driver.step_other.Goals as goal
 
 pub returns-in-Login-clause-credit : goal.returns-in-Login-clause-credit
@@ -228,3 +229,43 @@ returns-in-Poke-clause-shows g c =
     c.in-Poke.bytes n)) mark
     (subst (λ (bytes : List ℕ). IfOk c.poke.result (AnswersWrite g.O.WindowPort.is_shared (g.O.WindowPort.state c.args.own.now) (g.O.WindowPort.state c.poke.new.own) c.in-Poke.at bytes c.from-mark.result))
     c.as_slice.ensures c.poke.ensures.answer))
+
+pub returns-in-Login-clause-registered : goal.returns-in-Login-clause-registered
+returns-in-Login-clause-registered g c = λ alone.
+    other_open c.args.line.now.verb c.args.progress.now (g.C.CrqEnd.state c.login.new.crq.end).registered c.login.result (ap is_reset c.in-Login.is)
+
+pub returns-in-Reset-clause-registered : goal.returns-in-Reset-clause-registered
+returns-in-Reset-clause-registered g c = λ alone.
+    open_as c.args.line.now.verb _ c.reset.new.progress (g.C.CrqEnd.state c.reset.new.crq.end).registered c.reset.result c.in-Reset.is (c.reset.ensures.registered alone)
+
+pub returns-in-Logout-clause-registered : goal.returns-in-Logout-clause-registered
+returns-in-Logout-clause-registered g c = λ alone.
+    other_open c.args.line.now.verb c.args.progress.now (g.C.CrqEnd.state c.logout.new.crq.end).registered c.logout.result (ap is_reset c.in-Logout.is)
+
+pub returns-in-Task-clause-registered : goal.returns-in-Task-clause-registered
+returns-in-Task-clause-registered g c = λ alone.
+    other_open c.args.line.now.verb c.args.progress.now (g.C.CrqEnd.state c.task.new.crq.end).registered c.task.result (ap is_reset c.in-Task.is)
+
+pub returns-in-Take-clause-registered : goal.returns-in-Take-clause-registered
+returns-in-Take-clause-registered g c = λ alone.
+    other_open c.args.line.now.verb c.take_on.new.progress (g.C.CrqEnd.state c.take_on.new.crq.end).registered c.take_on.result (ap is_reset c.in-Take.is)
+
+pub returns-in-Data-clause-registered : goal.returns-in-Data-clause-registered
+returns-in-Data-clause-registered g c = λ alone.
+    other_open c.args.line.now.verb c.args.progress.now (g.C.CrqEnd.state c.args.crq.now.end).registered c.data.result (ap is_reset c.in-Data.is)
+
+pub returns-in-Fill-clause-registered : goal.returns-in-Fill-clause-registered
+returns-in-Fill-clause-registered g c = λ alone.
+    other_open c.args.line.now.verb c.args.progress.now (g.C.CrqEnd.state c.args.crq.now.end).registered c.fill.result (ap is_reset c.in-Fill.is)
+
+pub returns-in-Poke-clause-registered : goal.returns-in-Poke-clause-registered
+returns-in-Poke-clause-registered g c = λ alone.
+    other_open c.args.line.now.verb c.args.progress.now (g.C.CrqEnd.state c.args.crq.now.end).registered c.poke.result (ap is_reset c.in-Poke.is)
+
+pub returns-in-Peek-clause-registered : goal.returns-in-Peek-clause-registered
+returns-in-Peek-clause-registered g c = λ alone.
+    other_open c.args.line.now.verb c.args.progress.now (g.C.CrqEnd.state c.args.crq.now.end).registered c.peek.result (ap is_reset c.in-Peek.is)
+
+pub returns-in-Tce-clause-registered : goal.returns-in-Tce-clause-registered
+returns-in-Tce-clause-registered g c = λ alone.
+    other_open c.args.line.now.verb c.args.progress.now (g.C.CrqEnd.state c.args.crq.now.end).registered c.put_tce.result (ap is_reset c.in-Tce.is)

@@ -9,6 +9,7 @@ use Rattle.vcpu_run.specs.Suited.{IsLineAt}
 use Rattle.vcpu_run.proofs.Crediting.{less_by, line_ends, lines_none}
 use Rattle.vcpu_run.proofs.Credits.{plain_fresh, takes_same, took_agreed}
 use Rattle.vcpu_run.proofs.ScriptsTold.{EndsWaiting, of_login, of_reset, of_take, waiting_told}
+use Rattle.vcpu_run.proofs.Held.{waited_held}
 use Rattle.vcpu_run.proofs.Logging.{all_at}
 use Rattle.vcpu_run.proofs.script.Script.end_waiting.Goals.{in-Login, in-Reset, in-Take}
 use Rattle.vcpu_run.proofs.PortTelling.{quiet_tells, taken_within, took_tells}
@@ -85,3 +86,10 @@ returns-clause-said c = λ pairs script out is.
     found line.suited script.seats
     (script.logs.reached (slice_get_within c.args.self.now.lines.now c.args.self.now.at c.in-Some.line.now found)) ends
     c.end.ensures.rest.lines c.end.ensures.rest.seats c.in_ok-end.ensures.ended.logs c.in_ok-end.ensures.fresh out is
+
+pub returns-clause-unfreed : goal.returns-clause-unfreed
+returns-clause-unfreed c = λ pairs script opens keep.
+    let found : slice_get c.args.self.now.lines.now c.args.self.now.at ≡ Some c.in-Some.line.now =
+    slice_get_read c.args.self.now.lines.now (length c.args.self.now.lines.now) c.args.self.now.at c.in-Some.line.now refl
+    (less_by c.args.self.now.at (length c.args.self.now.lines.now) (sym c.in-Some.ensures.lookup.0)) c.in-Some.ensures.lookup.1 in
+    waited_held pairs c.args.self.now c.end.new.self c.in-Some.line.now c.match-line.outcome found script.seats opens c.end.ensures.rest.lines c.end.ensures.rest.seats keep

@@ -7,9 +7,7 @@ use Rattle.vcpu_run.specs.Agreed.{SameElse}
 use Rattle.vcpu_run.proofs.ScriptsTold.{fail_ends_told, fail_out, fail_waits_told, fails_reset}
 use Rattle.vcpu_run.proofs.Logging.{script_stays}
 use Rattle.vcpu_run.specs.declared.unit_seat.Seat.{Seat}
-use Rattle.vcpu_run.specs.Freed.{FreesNoneIf}
-use Rattle.vcpu_run.specs.Freeing.{NoneSits}
-use Rattle.vcpu_run.proofs.Unfreed.{frees_by, frees_fail}
+use Rattle.vcpu_run.proofs.Held.{fails_held}
 use Rattle.vcpu_run.proofs.PortTelling.{idle_takes, quiet_tells, rest_tells}
 use Rattle.vcpu_run.proofs.PortTelling.{fails_none}
 use Rattle.vcpu_run.specs.PortWords.{done_in}
@@ -70,29 +68,12 @@ returns-clause-quiet c = λ is over.
     let less = slice_get_within c.args.self.now.lines.now c.args.self.now.at c.args.line.now c.requires.line in
     omega (arith, less, over)
 
-pub returns-in_err-fail-clause-stays : goal.returns-in_err-fail-clause-stays
-returns-in_err-fail-clause-stays c =
-    frees_by c.args.self.now c.args.self.now.at c.args.line.now c.args.pairs.now c.fail.new.pairs c.requires.line
-    (frees_fail c.args.self.now.seats.items c.args.line.now c.args.pairs.now c.fail.new.pairs c.requires.fails
-    (subst (λ (seats : List Seat). FreesNoneIf (NoneSits seats) c.args.pairs.now c.fail.new.pairs) c.deref.ensures.value c.fail.ensures.stays))
+pub returns-then-branch-clause-unfreed : goal.returns-then-branch-clause-unfreed
+returns-then-branch-clause-unfreed c = λ keep.
+    fails_held c.fail.new.pairs c.args.self.now c.end.new.self c.args.line.now c.requires.line c.requires.fails c.end.ensures.rest.lines
 
-pub returns-in_err-end-clause-stays : goal.returns-in_err-end-clause-stays
-returns-in_err-end-clause-stays c =
-    frees_by c.args.self.now c.args.self.now.at c.args.line.now c.args.pairs.now c.fail.new.pairs c.requires.line
-    (frees_fail c.args.self.now.seats.items c.args.line.now c.args.pairs.now c.fail.new.pairs c.requires.fails
-    (subst (λ (seats : List Seat). FreesNoneIf (NoneSits seats) c.args.pairs.now c.fail.new.pairs) c.deref.ensures.value c.fail.ensures.stays))
-
-pub returns-then-branch-clause-stays : goal.returns-then-branch-clause-stays
-returns-then-branch-clause-stays c =
-    frees_by c.args.self.now c.args.self.now.at c.args.line.now c.args.pairs.now c.fail.new.pairs c.requires.line
-    (frees_fail c.args.self.now.seats.items c.args.line.now c.args.pairs.now c.fail.new.pairs c.requires.fails
-    (subst (λ (seats : List Seat). FreesNoneIf (NoneSits seats) c.args.pairs.now c.fail.new.pairs) c.deref.ensures.value c.fail.ensures.stays))
-
-pub returns-clause-stays : goal.returns-clause-stays
-returns-clause-stays c =
-    frees_by c.args.self.now c.args.self.now.at c.args.line.now c.args.pairs.now c.fail.new.pairs c.requires.line
-    (frees_fail c.args.self.now.seats.items c.args.line.now c.args.pairs.now c.fail.new.pairs c.requires.fails
-    (subst (λ (seats : List Seat). FreesNoneIf (NoneSits seats) c.args.pairs.now c.fail.new.pairs) c.deref.ensures.value c.fail.ensures.stays))
+pub returns-clause-unfreed : goal.returns-clause-unfreed
+returns-clause-unfreed c = λ keep. fails_held c.fail.new.pairs c.args.self.now c.args.self.now c.args.line.now c.requires.line c.requires.fails refl
 
 pub returns-then-branch-clause-told : goal.returns-then-branch-clause-told
 returns-then-branch-clause-told c = λ tells.

@@ -18,7 +18,7 @@ use Rattle.crq_session.specs.declared.side.PlainSide.{PlainSide}
 use Rattle.crq_ring.specs.declared.rows.PipeRow.{PipeRow}
 use Rattle.block_server.specs.Answering.{AnswersMore, OnlyRowsOf}
 use Rattle.vcpu_run.specs.declared.pair.Pair.{Pair}
-use Rattle.vcpu_run.specs.Answered.{AreBegun, IsAnswered, IsBegun}
+use Rattle.vcpu_run.specs.Answered.{AreBegun, IsAnswered}
 use Rattle.tce_window.specs.PlainPort.{known_of}
 use Rattle.tce_window.specs.PortState.{PortPlace}
 use Rattle.vcpu_run.specs.Named.{HasWindow}
@@ -29,7 +29,7 @@ use Rattle.vcpu_run.specs.Received.{IsReceived}
 use Rattle.vcpu_run.proofs.Losing.{behind_back, sees_back, sees_lent}
 use Rattle.vcpu_run.proofs.Receiving.{received_elsewhere, received_served}
 use Rattle.vcpu_run.proofs.Keeping.{served}
-use Rattle.vcpu_run.proofs.pair.Pair.serve_on.Goals as goal
+use Rattle.vcpu_run.proofs.pair.Pair.serve.Goals as goal
 
 pub returns-clause-pair : goal.returns-clause-pair
 returns-clause-pair g c =
@@ -174,17 +174,15 @@ returns-clause-unfreed g c =
     let link = c.turn.new.crq.end.link.now in
     let lent = c.side.result.link.now in
     let link_is : link ≡ c.self-1.given.0 = search rules in
-    let was : IsBegun g.row.BEGUN (side_of lent false).queue.session =
-    subst (λ (l : PlainLink). IsBegun g.row.BEGUN (side_of l false).queue.session) (sym c.side.ensures.link) c.requires.begun in
     let before : (side_of lent false) ≡ (side_of old.link false) = ap (λ (l : PlainLink). side_of l false) c.side.ensures.link in
     let was_kept : IsNotFreed old → IsNotFreed (record { server = old.server; link = lent; own = old.own; window = old.window; driver = old.driver }) =
     subst (λ (side : PlainSide). NotFreed side.queue.session side.registered → NotFreed (side_of lent false).queue.session (side_of lent false).registered) before (λ kept. kept) in
     subst (λ (l : PlainLink). FreesNoneAt old (record { server = old.server; link = l; own = c.turn.new.own; window = c.turn.new.client; driver = old.driver })) link_is
     (λ kept.
-    serve_frees g.row.BEGUN c.side.result.first c.turn.new.crq.end.first (c.side.result.link.ghost_name ∷ []) (c.turn.new.crq.end.link.ghost_name ∷ [])
+    serve_frees c.side.result.first c.turn.new.crq.end.first (c.side.result.link.ghost_name ∷ []) (c.turn.new.crq.end.link.ghost_name ∷ [])
     (record { server = old.server; link = lent; own = old.own; window = old.window; driver = old.driver })
     (record { server = old.server; link = link; own = c.turn.new.own; window = c.turn.new.client; driver = old.driver }) c.side.ensures.first c.turn.ensures.goes.queue_place
-    was c.turn.new.crq.begun (was_kept kept))
+    (c.turn.ensures.partner refl) (was_kept kept))
 
 pub returns-clause-queue : goal.returns-clause-queue
 returns-clause-queue g c =
