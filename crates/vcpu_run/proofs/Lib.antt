@@ -30,6 +30,7 @@ pub mod InSessions
 pub mod Keeping
 pub mod Lasting
 pub mod Lined
+pub mod LinesShown
 pub mod Listed
 pub mod Logging
 pub mod LoginSteps
@@ -42,6 +43,7 @@ pub mod Opened
 pub mod Opening
 pub mod Order
 pub mod Ordering
+pub mod OwnLines
 pub mod PairNames
 pub mod Parts
 pub mod Placing

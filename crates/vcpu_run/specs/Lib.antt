@@ -14,6 +14,7 @@ pub mod Heard
 pub mod Holding
 pub mod Intake
 pub mod Lines
+pub mod LinesShow
 pub mod Links
 pub mod Machines
 pub mod Making

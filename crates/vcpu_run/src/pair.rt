@@ -203,6 +203,8 @@ impl Pair {
         ensures unfreed { FreesNoneAt self.old self.new }
         ensures queue { (side_of self.new.link false).registered
             ≡ (side_of self.old.link false).registered }
+        ensures sent { (side_of self.new.link true).queue.sent
+            ≡ (side_of self.old.link true).queue.sent }
         ensures linked { OnOk result (IsLinked server.old.units.items unit self.old →
             IsLinked server.new.units.items unit self.new) }
         ensures linked_else { (k : ℕ) (other : Pair) → k ≢ unit →

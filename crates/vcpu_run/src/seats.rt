@@ -104,7 +104,7 @@ pub(crate) fn step_at(
     ensures driven { AreDriven pairs.old pairs.new }
     ensures credit { StepsSeat pair line.now.verb (taken_in progress.old)
         (taken_in progress.new) pairs.old pairs.new result }
-    ensures said { SeatTold pair line.now.verb progress.old progress.new
+    ensures said { SeatTold pair line.now progress.old progress.new
         pairs.old pairs.new result }
     ensures out { SeatOut pair line.now.verb progress.old progress.new
         pairs.old pairs.new result }

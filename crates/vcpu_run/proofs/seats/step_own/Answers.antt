@@ -102,7 +102,7 @@ returns-in-Client-clause-said c =
     let here : slice_get c.args.seats.now c.args.line.now.unit ≡ Some (places.Client c.in-Client.pair) = c.seat_at.ensures ∙ ap Some c.in-Client.is in
     record {
       client = λ k at.
-          subst (λ n. SeatTold n c.args.line.now.verb c.args.progress.now c.step_at.new.progress c.args.pairs.now c.step_at.new.pairs c.step_at.result)
+          subst (λ n. SeatTold n c.args.line.now c.args.progress.now c.step_at.new.progress c.args.pairs.now c.step_at.new.pairs c.step_at.result)
           (client_is c.in-Client.pair k (sym here ∙ at)) c.step_at.ensures.said;
       port = λ at. absurd (no_port c.in-Client.pair (sym here ∙ at));
     }
