@@ -11,7 +11,7 @@ use Rattle.rdma_copy.specs.Copies.{side_of}
 use Rattle.rdma_copy.specs.Copy.{IsLawful, SideGrows}
 use Rattle.block_server.specs.Advances.{Advances, CopiesMore, IsOwnCopy, PutsMore}
 use Rattle.block_server.specs.Entries.{MayPut}
-use Rattle.block_server.specs.SiteState.{SiteState}
+use Rattle.block_server.specs.SiteState.{Lenders, SiteState}
 
 pub begins_same : {X : Type 0} (xs : List X) → Begins xs xs
 begins_same xs = ([], sym (append-nil xs))
@@ -86,6 +86,7 @@ advances_same site = record {
   own_place = refl;
   client_place = refl;
   shared = refl;
+  partner = λ plain. refl;
   values = λ e. later_same site.shared (site.client.values e);
   session = omega arith;
   taken = begins_same site.queue.taken;
@@ -106,6 +107,7 @@ advances_on old mid new first next = record {
   own_place = next.own_place ∙ first.own_place;
   client_place = next.client_place ∙ first.client_place;
   shared = next.shared ∙ first.shared;
+  partner = λ plain. next.partner (ap (λ (reached : Lenders). reached.link_shared) first.reached ∙ plain) ∙ first.partner plain;
   values = λ e. later_on old.shared (old.client.values e) (mid.client.values e) (new.client.values e) (first.values e)
       (subst (λ (shared : Bool). Later shared (mid.client.values e) (new.client.values e)) first.shared (next.values e));
   session = omega (arith, first.session, next.session);

@@ -29,13 +29,15 @@ use Rattle.block_server.proofs.Quieting.{lost_none}
 
 -- a call of the queue's end alone
 pub queue_call : (reached : Lenders) (own client : PortState) (shared : Bool) (copies : List CopyRecord) (old new : EndState) → new.place ≡ old.place → old.last_session ≤ new.last_session
-    → Begins old.taken new.taken → PutsMore old.sent new.sent → Advances (site reached old own client shared copies) (site reached new own client shared copies)
-queue_call reached own client shared copies old new place session taken put = record {
+    → Begins old.taken new.taken → PutsMore old.sent new.sent → (reached.link_shared ≡ false → new.counts.partner_session ≡ old.counts.partner_session)
+    → Advances (site reached old own client shared copies) (site reached new own client shared copies)
+queue_call reached own client shared copies old new place session taken put partner = record {
   reached = refl;
   queue_place = place;
   own_place = refl;
   client_place = refl;
   shared = refl;
+  partner = partner;
   values = λ e. later_same shared (client.values e);
   session = session;
   taken = taken;

@@ -81,6 +81,7 @@ windows_move reached queue own own' client client' shared copies copies' own_pla
   own_place = own_place;
   client_place = client_place;
   shared = refl;
+  partner = λ plain. refl;
   values = values;
   session = omega arith;
   taken = begins_same queue.taken;

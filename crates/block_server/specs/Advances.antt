@@ -48,6 +48,8 @@ pub record Advances (old new : SiteState) : Type 0 where
   pub own_place : new.own.place ≡ old.own.place
   pub client_place : new.client.place ≡ old.client.place
   pub shared : new.shared ≡ old.shared
+  -- where nobody else changes the link, the partner is in its session of before
+  pub partner : old.reached.link_shared ≡ false → new.queue.counts.partner_session ≡ old.queue.counts.partner_session
   pub values : (e : ℕ) → Later old.shared (old.client.values e) (new.client.values e)
   pub session : old.queue.last_session ≤ new.queue.last_session
   pub taken : Begins old.queue.taken new.queue.taken

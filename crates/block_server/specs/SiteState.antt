@@ -8,15 +8,18 @@ use Rattle.tce_window.specs.declared.answers.Right.{Right}
 use Rattle.rdma_copy.specs.declared.copy.CopyRecord.{CopyRecord}
 use Rattle.block_server.specs.Causes.{IsDenied}
 
--- the borrows through which the queue's end and the two windows are reached, by their ghost names
+-- the borrows through which the queue's end and the two windows are reached, by their ghost names, and whether others change the
+-- link of the queue
 pub record Lenders : Type 0 where
   pub queue : GName
   pub own : GName
   pub client : GName
   pub copies : GName
+  pub link_shared : Bool
 
-abbrev pub lenders : GName → GName → GName → GName → Lenders
-lenders queue own client copies = record { queue = queue; own = own; client = client; copies = copies }
+abbrev pub lenders : GName → GName → GName → GName → (link_shared : Bool) → Lenders
+lenders queue own client copies link_shared =
+    record { queue = queue; own = own; client = client; copies = copies; link_shared = link_shared }
 
 pub record SiteState : Type 0 where
   pub reached : Lenders

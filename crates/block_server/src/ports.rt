@@ -81,11 +81,13 @@ impl<C: CrqEnd, O: OwnerPort + GuestPort, R: GuestPort> Ports<'_, '_, '_, '_, C,
         ensures queue { C.state self.new.queue.now ≡ C.state self.old.queue.now }
         ensures advances { Advances
             (site (lenders self.old.queue.ghost_name self.old.own.ghost_name self.old.client.ghost_name
-            self.old.copies.ghost_name) (C.state self.old.queue.now) (O.state self.old.own.now)
-            (R.state self.old.client.now) R.is_shared self.old.copies.now.items)
+            self.old.copies.ghost_name C.is_shared) (C.state self.old.queue.now)
+            (O.state self.old.own.now) (R.state self.old.client.now) R.is_shared
+            self.old.copies.now.items)
             (site (lenders self.new.queue.ghost_name self.new.own.ghost_name self.new.client.ghost_name
-            self.new.copies.ghost_name) (C.state self.new.queue.now) (O.state self.new.own.now)
-            (R.state self.new.client.now) R.is_shared self.new.copies.now.items) }
+            self.new.copies.ghost_name C.is_shared) (C.state self.new.queue.now)
+            (O.state self.new.own.now) (R.state self.new.client.now) R.is_shared
+            self.new.copies.now.items) }
         ensures behind { 4096 ≤ at → FetchesNone (O.state self.old.own.now).place.unit
             self.old.copies.now.items self.new.copies.now.items }
         ensures made { OnOk result (MakesOne O.is_shared (R.state self.new.client.now)
@@ -120,11 +122,13 @@ impl<C: CrqEnd, O: OwnerPort + GuestPort, R: GuestPort> Ports<'_, '_, '_, '_, C,
         ensures queue { C.state self.new.queue.now ≡ C.state self.old.queue.now }
         ensures advances { Advances
             (site (lenders self.old.queue.ghost_name self.old.own.ghost_name self.old.client.ghost_name
-            self.old.copies.ghost_name) (C.state self.old.queue.now) (O.state self.old.own.now)
-            (R.state self.old.client.now) R.is_shared self.old.copies.now.items)
+            self.old.copies.ghost_name C.is_shared) (C.state self.old.queue.now)
+            (O.state self.old.own.now) (R.state self.old.client.now) R.is_shared
+            self.old.copies.now.items)
             (site (lenders self.new.queue.ghost_name self.new.own.ghost_name self.new.client.ghost_name
-            self.new.copies.ghost_name) (C.state self.new.queue.now) (O.state self.new.own.now)
-            (R.state self.new.client.now) R.is_shared self.new.copies.now.items) }
+            self.new.copies.ghost_name C.is_shared) (C.state self.new.queue.now)
+            (O.state self.new.own.now) (R.state self.new.client.now) R.is_shared
+            self.new.copies.now.items) }
         ensures behind { FetchesNone (O.state self.old.own.now).place.unit
             self.old.copies.now.items self.new.copies.now.items }
         ensures made { OnOk result (MakesOne R.is_shared (O.state self.new.own.now)
@@ -155,11 +159,13 @@ impl<C: CrqEnd, O: OwnerPort + GuestPort, R: GuestPort> Ports<'_, '_, '_, '_, C,
         ensures queue { C.state self.new.queue.now ≡ C.state self.old.queue.now }
         ensures advances { Advances
             (site (lenders self.old.queue.ghost_name self.old.own.ghost_name self.old.client.ghost_name
-            self.old.copies.ghost_name) (C.state self.old.queue.now) (O.state self.old.own.now)
-            (R.state self.old.client.now) R.is_shared self.old.copies.now.items)
+            self.old.copies.ghost_name C.is_shared) (C.state self.old.queue.now)
+            (O.state self.old.own.now) (R.state self.old.client.now) R.is_shared
+            self.old.copies.now.items)
             (site (lenders self.new.queue.ghost_name self.new.own.ghost_name self.new.client.ghost_name
-            self.new.copies.ghost_name) (C.state self.new.queue.now) (O.state self.new.own.now)
-            (R.state self.new.client.now) R.is_shared self.new.copies.now.items) }
+            self.new.copies.ghost_name C.is_shared) (C.state self.new.queue.now)
+            (O.state self.new.own.now) (R.state self.new.client.now) R.is_shared
+            self.new.copies.now.items) }
         ensures read { Reads (O.state self.new.own.now) at out.new }
         ensures own { OnlyReads O.is_shared (O.state self.old.own.now) (O.state self.new.own.now) }
         ensures client { R.state self.new.client.now ≡ R.state self.old.client.now }
@@ -177,11 +183,13 @@ impl<C: CrqEnd, O: OwnerPort + GuestPort, R: GuestPort> Ports<'_, '_, '_, '_, C,
         ensures queue { C.state self.new.queue.now ≡ C.state self.old.queue.now }
         ensures advances { Advances
             (site (lenders self.old.queue.ghost_name self.old.own.ghost_name self.old.client.ghost_name
-            self.old.copies.ghost_name) (C.state self.old.queue.now) (O.state self.old.own.now)
-            (R.state self.old.client.now) R.is_shared self.old.copies.now.items)
+            self.old.copies.ghost_name C.is_shared) (C.state self.old.queue.now)
+            (O.state self.old.own.now) (R.state self.old.client.now) R.is_shared
+            self.old.copies.now.items)
             (site (lenders self.new.queue.ghost_name self.new.own.ghost_name self.new.client.ghost_name
-            self.new.copies.ghost_name) (C.state self.new.queue.now) (O.state self.new.own.now)
-            (R.state self.new.client.now) R.is_shared self.new.copies.now.items) }
+            self.new.copies.ghost_name C.is_shared) (C.state self.new.queue.now)
+            (O.state self.new.own.now) (R.state self.new.client.now) R.is_shared
+            self.new.copies.now.items) }
         ensures own { OnlyWrites (O.state self.old.own.now) (O.state self.new.own.now) }
         ensures copies { self.new.copies.now.items ≡ self.old.copies.now.items }
         ensures client { R.state self.new.client.now ≡ R.state self.old.client.now }
@@ -202,7 +210,7 @@ impl<C: CrqEnd, O: OwnerPort + GuestPort, R: GuestPort> Site for Ports<'_, '_, '
 
     ghost link_shared = { C.is_shared };
 
-    ghost state = { λ ports. site (lenders ports.queue.ghost_name ports.own.ghost_name ports.client.ghost_name ports.copies.ghost_name) (C.state ports.queue.now) (O.state ports.own.now) (R.state ports.client.now) R.is_shared ports.copies.now.items };
+    ghost state = { λ ports. site (lenders ports.queue.ghost_name ports.own.ghost_name ports.client.ghost_name ports.copies.ghost_name C.is_shared) (C.state ports.queue.now) (O.state ports.own.now) (R.state ports.client.now) R.is_shared ports.copies.now.items };
 
     fn slots(&self) -> u32 {
         self.queue.slots()

@@ -116,6 +116,8 @@ impl<B: Blocks> Server<B> {
             record { partition = self.old.partition; unit = unit } }
         ensures goes { Goes (C.state crq.old) (C.state crq.new) (O.state own.old)
             (O.state own.new) (R.state client.old) (R.state client.new) }
+        ensures partner { C.is_shared ≡ false → (C.state crq.new).counts.partner_session ≡
+            (C.state crq.old).counts.partner_session }
         ensures copies { CopiesMore (O.state own.new) (R.state client.new)
             self.old.copies.items self.new.copies.items }
         ensures answers { ∥ AnswersItsRows (O.state own.old).place.unit

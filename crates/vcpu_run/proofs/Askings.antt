@@ -34,7 +34,7 @@ use Rattle.vcpu_run.specs.Replay.{Range, asks, lie_within, ranges_of}
 use Rattle.vcpu_run.specs.Sendings.{SaysSent, SaysWhy, says_as}
 use Rattle.vcpu_run.specs.Telling.{AgreesOn, AgreesTold, IsOf, IsToldAt, SameTold, Seated, StepsTold, at_rest, is_freed, login_after}
 use Rattle.vcpu_run.proofs.Driving.{some_is}
-use Rattle.vcpu_run.proofs.Sayings.{asked_why, credit_none, kept_login, one_asked, plain_login, plain_tags, said_by, is_logout, same_range, says_nothing, sent_login, under}
+use Rattle.vcpu_run.proofs.Sayings.{asked_why, credit_none, kept_login, one_asked, plain_login, plain_tags, said_by, is_logout, same_range, sent_login, under}
 use Rattle.vcpu_run.proofs.Tellings.{TagsWithin, agrees_fresh, agrees_same, ended, ends_told, same_of, still_open, waits_told}
 
 -- a line that asks takes nothing and resets nothing
@@ -416,13 +416,14 @@ pub record IsAside (verb : Verb) : Type 0 where
   pub no_reset : is_reset verb ≡ false
 
 pub aside_told : (pages : ℕ) (verb : Verb) (a b : Seated) (result : Result Step NoMemory) → IsAside verb → b.client ≡ a.client → b.progress ≡ a.progress → b.registered ≡ a.registered
-    → IsPlain result → StepsTold pages verb a b result
-aside_told pages verb a b (Ok (steps.Ends outcome)) aside client progress queue plain = λ of own told.
+    → IsPlain result → ((login : Option LoginNow) (outcome : Outcome) → result ≡ Ok (steps.Ends outcome) → IsSaid pages login verb outcome)
+    → StepsTold pages verb a b result
+aside_told pages verb a b (Ok (steps.Ends outcome)) aside client progress queue plain says = λ of own told.
     plain_ends pages verb outcome own a b aside.no_take aside.no_reset of plain queue (same_of a.client b.client client) told
-    (λ agrees. says_nothing pages (login_after None own) verb outcome aside.no_ask aside.no_logout)
-aside_told pages verb a b (Ok (steps.Waits did)) aside client progress queue plain = λ of.
+    (λ agrees. says (login_after None own) outcome refl)
+aside_told pages verb a b (Ok (steps.Waits did)) aside client progress queue plain says = λ of.
     (subst (IsOf verb) (sym progress) of, λ own told. waits_told pages own a b progress (same_of a.client b.client client) queue told)
-aside_told pages verb a b (Err memory) aside client progress queue plain = tt
+aside_told pages verb a b (Err memory) aside client progress queue plain says = tt
 
 pub told_as : (pages : ℕ) (verb verb' : Verb) (a b : Seated) (result : Result Step NoMemory) → verb ≡ verb' → StepsTold pages verb' a b result → StepsTold pages verb a b result
 told_as pages verb verb' a b result is told = subst (λ (v : Verb). StepsTold pages v a b result) (sym is) told

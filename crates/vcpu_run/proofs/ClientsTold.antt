@@ -2,18 +2,29 @@
 use Rattle.std.proofs.Common.{◌≡◌, ◌≢◌, ◌∙◌, ◌⊎◌, inl, inr, ℕ, List, Option, Some, None, IsSomeAnd, IfSome, length, slice_get, slice_set, refl, sym, ap, subst}
 use Rattle.std.proofs.lemmas.Option.{slice_get_within}
 use Rattle.vcpu_run.specs.declared.pair.Pair.{Pair}
+use Rattle.vcpu_run.specs.LinesShow.{seen_at}
 use Rattle.vcpu_run.specs.ScriptTold.{SameClient, SameClients}
+use Rattle.vcpu_run.proofs.LinesShown.{sees_on, sees_same}
 use Rattle.vcpu_run.proofs.Driving.{get_set_other, get_set_same, same_or, some_is}
 
+client_same : (pair : Pair) → SameClient pair pair
+client_same pair = record { driver = refl; pages = refl; queue = refl; unit = refl; sees = sees_same (seen_at pair) }
+
 pub clients_same : (pairs : List Pair) → SameClients pairs pairs
-clients_same pairs k after there = subst (λ (o : Option Pair). IsSomeAnd o (λ before. SameClient before after)) (sym there) (record { driver = refl; pages = refl; queue = refl })
+clients_same pairs k after there = subst (λ (o : Option Pair). IsSomeAnd o (λ before. SameClient before after)) (sym there) (client_same after)
 
 pub clients_on : (a b c : List Pair) → SameClients a b → SameClients b c → SameClients a c
 clients_on a b c first next k after there = at (slice_get b k) refl (next k after there)
   where
     last : (o : Option Pair) (mid : Pair) → IsSomeAnd o (λ before. SameClient before mid) → SameClient mid after → IsSomeAnd o (λ before. SameClient before after)
     last None mid x y = absurd x
-    last (Some before) mid x y = record { driver = y.driver ∙ x.driver; pages = y.pages ∙ x.pages; queue = y.queue ∙ x.queue }
+    last (Some before) mid x y = record {
+      driver = y.driver ∙ x.driver;
+      pages = y.pages ∙ x.pages;
+      queue = y.queue ∙ x.queue;
+      unit = y.unit ∙ x.unit;
+      sees = sees_on (seen_at before) (seen_at mid) (seen_at after) x.sees y.sees;
+    }
 
     at : (o : Option Pair) → slice_get b k ≡ o → IsSomeAnd o (λ before. SameClient before after) → IsSomeAnd (slice_get a k) (λ before. SameClient before after)
     at None e h = absurd h
@@ -26,4 +37,4 @@ clients_set pairs i old new here same k after there = at (same_or k i)
     at (inl e) =
         let now : after ≡ new = some_is after new (sym there ∙ (ap (slice_get (slice_set pairs i new)) e ∙ get_set_same pairs i new (slice_get_within pairs i old here))) in
         subst (λ (o : Option Pair). IsSomeAnd o (λ before. SameClient before after)) (sym (ap (slice_get pairs) e ∙ here)) (subst (SameClient old) (sym now) same)
-    at (inr apart) = subst (λ (o : Option Pair). IsSomeAnd o (λ before. SameClient before after)) (sym there ∙ get_set_other pairs i k new apart) (record { driver = refl; pages = refl; queue = refl })
+    at (inr apart) = subst (λ (o : Option Pair). IsSomeAnd o (λ before. SameClient before after)) (sym there ∙ get_set_other pairs i k new apart) (client_same after)

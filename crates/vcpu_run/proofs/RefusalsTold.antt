@@ -1,5 +1,5 @@
 -- The refusals of which a gathered trace tells have their causes.
-use Rattle.std.proofs.Common.{◌≡◌, ◌∙◌, ℕ, ◌==◌, Bool, true, false, List, MatchOption, Option, Some, None, IsSomeAnd, filter, length, slice_get, refl, sym, ap, subst, arith}
+use Rattle.std.proofs.Common.{◌≡◌, ◌∙◌, ℕ, ◌==◌, true, false, List, MatchOption, Option, Some, None, IsSomeAnd, filter, length, slice_get, sym, ap, subst, arith, All, Contains, IfSome, map, option_map, ◌≤◌}
 use Rattle.std.specs.List.{flat_map}
 use Rattle.std.proofs.lemmas.Bool.Decides.{nat_tests}
 use Rattle.vio_num.specs.declared.history.Grant.{Grant}
@@ -9,7 +9,7 @@ use Rattle.rdma_copy.specs.declared.copy.CopyRecord.{CopyRecord}
 use Rattle.lan_script.specs.Units.{LanValue}
 use Rattle.lan_script.specs.declared.rows.LanRows.{LanRows}
 use Rattle.boot_text.specs.declared.plan.Line.{Line}
-use Rattle.boot_text.specs.Sound.{unit_at}
+use Rattle.boot_text.specs.Sound.{IsClientOf, IsServer, unit_at}
 use Rattle.boot_text.specs.declared.plan.Partition.{Partition}
 use Rattle.boot_text.specs.declared.plan.UnitPlan.TheVariants as units
 use Rattle.vio_trace.specs.declared.rows.LogRow.{LogRow}
@@ -17,20 +17,40 @@ use Rattle.vcpu_run.specs.declared.driver.Driver.{Driver}
 use Rattle.vcpu_run.specs.declared.pair.Pair.{Pair}
 use Rattle.vcpu_run.specs.declared.script.Script.{Script}
 use Rattle.vcpu_run.specs.Credited.{ended_by}
-use Rattle.vcpu_run.specs.Gathered.{logs_of, trace_of}
+use Rattle.vcpu_run.specs.Gathered.{HasLawfulQueue, HasLawfulWindow, logs_of, queue_at, rows_if, sessions_at, trace_of, window_at}
 use Rattle.vcpu_run.specs.Machines.{AreScripts, HasNoClient, IsOfPlan, IsPlanned, IsPlannedClient}
 use Rattle.vcpu_run.specs.Ports.{unit_of}
 use Rattle.vcpu_run.specs.PortWords.{HasNoCall}
-use Rattle.vcpu_run.specs.Refusals.{HasCausesTold, RefusalsAreTold}
+use Rattle.vcpu_run.specs.Refusals.{HasCausesTold, RefusalsAreTold, seen_in}
 use Rattle.vcpu_run.specs.Scripts.{are_servers}
-use Rattle.vcpu_run.specs.ScriptTold.{AreTold}
+use Rattle.vcpu_run.specs.ScriptTold.{AreTold, IsScriptTold}
 use Rattle.vcpu_run.specs.Settled.{script_of}
-use Rattle.vcpu_run.specs.Shown.{pages_at, pages_if}
+use Rattle.vcpu_run.specs.Shown.{pages_at, pages_if, sessions_of, stroke_value, strokes_on, window_shown}
 use Rattle.vcpu_run.proofs.Listed.{held}
-use Rattle.vcpu_run.proofs.Parts.{found, in_slice}
-use Rattle.vcpu_run.proofs.Placing.{partitions_are}
+use Rattle.vcpu_run.proofs.Parts.{IsIn, each_in, found, in_slice}
+use Rattle.vcpu_run.proofs.Placing.{partitions_are, seats_ordered}
 use Rattle.vcpu_run.proofs.RecordLaws.{lines_in, partitions_apart, rows_told}
 use Rattle.vcpu_run.proofs.Settling.{no_servers, script_at}
+use Rattle.crq_ring.specs.Pipe.{IsLawfulPipe, PipeValue}
+use Rattle.crq_session.specs.PlainState.{side_of}
+use Rattle.tce_window.specs.PlainPort.{known_of}
+use Rattle.tce_window.specs.Window.{WindowValue, strokes_at}
+use Rattle.rdma_copy.specs.Copies.{side_of as side_at}
+use Rattle.rdma_copy.specs.Copy.{SideGrows}
+use Rattle.vio_trace.specs.declared.rows.QueueRow.{QueueRow}
+use Rattle.vcpu_run.specs.declared.unit_seat.Seat.TheVariants as sits
+use Rattle.vcpu_run.specs.declared.unit_seat.UnitSeat.{UnitSeat}
+use Rattle.vcpu_run.specs.CopyRows.{same_unit}
+use Rattle.vcpu_run.specs.LinesShow.{LinesShow, Sees, seen_at}
+use Rattle.vcpu_run.specs.Pairs.{AreOfOneHome, IsDriver}
+use Rattle.vcpu_run.specs.Sessions.{session_rows}
+use Rattle.vcpu_run.specs.Units.{seats_of, unit_seat}
+use Rattle.vcpu_run.proofs.Copied.{names_apart, windows_shown}
+use Rattle.vcpu_run.proofs.Following.{each_from_all}
+use Rattle.vcpu_run.proofs.LinesShown.{lines_more, put_shown, stroke_shown}
+use Rattle.vcpu_run.proofs.QueueLaws.{sessions_told}
+use Rattle.vcpu_run.proofs.Seated.{planned_in}
+use Rattle.vcpu_run.proofs.Sole.{same_refl}
 
 -- the window at which a client's driver sits has the pages of the plan
 client_pages : (partitions : List Partition) (k : ℕ) (id : UnitId) (pair : Pair) → IsPlanned partitions k pair → IsSomeAnd pair.driver (λ driver. driver.unit ≡ id)
@@ -51,10 +71,46 @@ own_records pairs scripts lan p script are e =
     found (λ (row : LogRow). row.partition == p) (λ (script : Script). script.partition == p) logs_of script hit scripts (in_slice scripts p script e)
     (rows_told pairs lan.seats scripts p are) (partitions_apart p 0 scripts (partitions_are pairs lan.seats scripts are))
 
+-- a client's window is that of its driver's unit
+window_is : (window : WindowValue) (slot : Option Driver) (id : UnitId) → IfSome slot (IsDriver window) → IsSomeAnd slot (λ driver. driver.unit ≡ id) → window.unit ≡ id
+window_is window None id is has = absurd has
+window_is window (Some driver) id is has = is.unit ∙ has
+
+-- what there is at a client's pair is shown by the trace
+trace_sees : (partitions : List Partition) (pairs : List Pair) (scripts : List Script) (lan : LanValue) (rows : LanRows) (history : List Served) (grants : List Grant) (copies : List CopyRecord)
+    (client server : UnitId) (pair : Pair) → AreOfOneHome copies pairs → AreScripts pairs lan.seats scripts → All (HasLawfulQueue pairs) (seats_of scripts)
+    → All (HasLawfulWindow pairs lan) (seats_of scripts) → IsOfPlan partitions pairs scripts lan.seats → IsClientOf partitions client server → slice_get pairs server.unit ≡ Some pair
+    → Sees (seen_at pair) (seen_in (trace_of pairs scripts lan rows history grants copies) client server)
+trace_sees partitions pairs scripts lan rows history grants copies client server pair home are lawful windows plan is there =
+    let trace = trace_of pairs scripts lan rows history grants copies in
+    let pipe : PipeValue = (side_of pair.link true).queue in
+    let seats = seats_of scripts in
+    let serves : IsServer partitions server = plan.sound.served client server is in
+    let seat : UnitSeat = unit_seat server.partition server.unit sits.Server in
+    let inside : IsIn seat seats = planned_in partitions pairs scripts lan.seats server (units.Server serves.0) are plan serves.1 in
+    let queue : queue_at pairs seat ≡ Some pipe = ap (option_map (λ (pair : Pair). (side_of pair.link true).queue)) there in
+    let laws : IsLawfulPipe pipe =
+    subst (λ slot. IfSome slot IsLawfulPipe) queue (each_in (HasLawfulQueue pairs) seat seats inside (each_from_all (HasLawfulQueue pairs) seats lawful)) in
+    let sessions : sessions_of trace server ≡ session_rows server pipe =
+    found (λ (row : QueueRow). same_unit row.unit server) (λ (other : UnitSeat). same_unit other.unit server) (sessions_at pairs) seat (same_refl server) seats inside
+    (sessions_told pairs server seats) (names_apart server seats (seats_ordered pairs lan.seats scripts are))
+    ∙ ap (rows_if (session_rows server)) queue in
+    let own : UnitSeat = unit_seat client.partition client.unit (sits.Client server.unit) in
+    let own_inside : IsIn own seats = planned_in partitions pairs scripts lan.seats client (units.Client server is.0 is.1) are plan is.2 in
+    let window : window_at pairs lan own ≡ Some pair.window = ap (option_map (λ (pair : Pair). pair.window)) there in
+    let grows : SideGrows (side_at (known_of pair.window)) (window_shown partitions trace client) =
+    windows_shown pairs scripts lan rows history grants copies partitions home are windows plan own pair.window own_inside window in
+    record {
+      strokes = λ page stroke on.
+          stroke_shown (pages_at partitions client) page stroke (strokes_at pair.window.pages page) (map stroke_value (strokes_on trace client page)) (grows.strokes page) on;
+      entries = λ entry put. subst (λ (sessions : List QueueRow). Contains (flat_map (λ row. row.sent) sessions) entry) (sym sessions) (put_shown server pipe entry laws.sent put);
+    }
+
 pub refusals_are : (pairs : List Pair) (scripts : List Script) (lan : LanValue) (lan_rows : LanRows) (history : List Served) (grants : List Grant) (copies : List CopyRecord) (partitions : List Partition)
-    → AreScripts pairs lan.seats scripts → IsOfPlan partitions pairs scripts lan.seats → AreTold pairs scripts
+    → AreOfOneHome copies pairs → AreScripts pairs lan.seats scripts → All (HasLawfulQueue pairs) (seats_of scripts) → All (HasLawfulWindow pairs lan) (seats_of scripts)
+    → IsOfPlan partitions pairs scripts lan.seats → AreTold pairs scripts
     → RefusalsAreTold partitions (trace_of pairs scripts lan lan_rows history grants copies)
-refusals_are pairs scripts lan lan_rows history grants copies partitions are of_plan told client server is none =
+refusals_are pairs scripts lan lan_rows history grants copies partitions home are lawful windows of_plan told client server is none =
     let p = client.partition in
     let at = script_at partitions pairs scripts lan.seats client (units.Client server is.0 is.1) of_plan is.2 in
     let script = at.0 in
@@ -67,8 +123,20 @@ refusals_are pairs scripts lan lan_rows history grants copies partitions are of_
     let size : pages_at partitions (unit_of script.partition client.unit) ≡ length pair.0.window.pages =
     client_pages partitions server.unit (unit_of script.partition client.unit) pair.0 (of_plan.pairs_are.each server.unit pair.0 pair.1) pair.2 in
     let pages : pages_at partitions client ≡ length pair.0.window.pages = ap (λ n. pages_at partitions (unit_of n client.unit)) (sym own.number) ∙ size in
-    let law : HasCausesTold (length pair.0.window.pages) (ended_by client.unit script.lines.now script.logs.items) =
-    (told p script at.1 (record { others = other; no_call = subst HasNoCall lines none })).law client.unit server.unit pair.0 at.2 pair.1 in
-    subst (λ n. HasCausesTold n (ended_by client.unit (script_of partitions p) (filter (λ (row : LogRow). row.partition == p) (flat_map logs_of scripts)))) (sym pages)
-    (subst (λ (ls : List Line). HasCausesTold (length pair.0.window.pages) (ended_by client.unit ls (filter (λ (row : LogRow). row.partition == p) (flat_map logs_of scripts)))) (sym lines)
-    (subst (λ (rows : List LogRow). HasCausesTold (length pair.0.window.pages) (ended_by client.unit script.lines.now rows)) (sym (own_records pairs scripts lan p script are at.1)) law))
+    let trace = trace_of pairs scripts lan lan_rows history grants copies in
+    let script_is : IsScriptTold pairs script = told p script at.1 (record { others = other; no_call = subst HasNoCall lines none }) in
+    let law : HasCausesTold (length pair.0.window.pages) (ended_by client.unit script.lines.now script.logs.items) = script_is.law client.unit server.unit pair.0 at.2 pair.1 in
+    let who : pair.0.window.unit ≡ client = window_is pair.0.window pair.0.driver (unit_of script.partition client.unit) (home.pairs_are server.unit pair.0 pair.1).driver pair.2 ∙ ap (λ n. unit_of n client.unit) own.number in
+    let sees : Sees (seen_at pair.0) (seen_in trace client server) =
+    trace_sees partitions pairs scripts lan lan_rows history grants copies client server pair.0 home are lawful windows of_plan is pair.1 in
+    let show : LinesShow (seen_in trace client server) client client.unit script.lines.now script.logs.items =
+    subst (λ (unit : UnitId). LinesShow (seen_in trace client server) unit client.unit script.lines.now script.logs.items) who
+    (lines_more (seen_at pair.0) (seen_in trace client server) pair.0.window.unit client.unit script.lines.now script.logs.items sees
+    (script_is.shown client.unit server.unit pair.0 at.2 pair.1)) in
+    record {
+      causes = subst (λ n. HasCausesTold n (ended_by client.unit (script_of partitions p) (filter (λ (row : LogRow). row.partition == p) (flat_map logs_of scripts)))) (sym pages)
+          (subst (λ (ls : List Line). HasCausesTold (length pair.0.window.pages) (ended_by client.unit ls (filter (λ (row : LogRow). row.partition == p) (flat_map logs_of scripts)))) (sym lines)
+          (subst (λ (rows : List LogRow). HasCausesTold (length pair.0.window.pages) (ended_by client.unit script.lines.now rows)) (sym (own_records pairs scripts lan p script are at.1)) law));
+      shown = subst (λ (ls : List Line). LinesShow (seen_in trace client server) client client.unit ls (filter (λ (row : LogRow). row.partition == p) (flat_map logs_of scripts))) (sym lines)
+          (subst (λ (rows : List LogRow). LinesShow (seen_in trace client server) client client.unit script.lines.now rows) (sym (own_records pairs scripts lan p script are at.1)) show);
+    }

@@ -29,6 +29,7 @@ told_else old new script same is = record {
   law = λ unit k pair at now. is.law unit k pair at (sym (same unit k at) ∙ now);
   fresh = is.fresh;
   told = λ line next ok unit k pair at now. is.told line next ok unit k pair at (sym (same unit k at) ∙ now);
+  shown = λ unit k pair at now. is.shown unit k pair at (sym (same unit k at) ∙ now);
 }
 
 out_else : (old new : List Pair) (script : Script) → SameSeats old new script → IsResetOut old script → IsResetOut new script

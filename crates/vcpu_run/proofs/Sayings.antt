@@ -94,6 +94,14 @@ abbrev pub is_logout : Verb → Bool
 is_logout verbs.Logout = true
 is_logout _ = false
 
+-- whether a line is one of the client's own region
+abbrev pub is_own : Verb → Bool
+is_own (verbs.Fill at len seed) = true
+is_own (verbs.Poke at bytes) = true
+is_own (verbs.Peek at len) = true
+is_own (verbs.Tce entry page readable writable) = true
+is_own _ = false
+
 -- what a line that asks says, and what its request leaves of a login
 pub said_by : (pages : ℕ) (login : Option LoginNow) (verb : Verb) (outcome : Outcome) → asks verb ≡ true
     → IsAsked login (told_refusal pages (ranges_of verb) login) outcome → IsSaid pages login verb outcome
@@ -123,31 +131,31 @@ said_by pages login (verbs.Hcall number arguments) outcome is h = absurd (cc)
 said_by pages login verbs.Fail outcome is h = absurd (cc)
 
 -- a line that neither asks nor logs out says nothing of requests
-pub says_nothing : (pages : ℕ) (login : Option LoginNow) (verb : Verb) (outcome : Outcome) → asks verb ≡ false → is_logout verb ≡ false → IsSaid pages login verb outcome
-says_nothing pages login verbs.Login outcome none is = tt
-says_nothing pages login verbs.Reset outcome none is = tt
-says_nothing pages login verbs.Logout outcome none is = absurd (cc)
-says_nothing pages login verbs.Tur outcome none is = absurd (cc)
-says_nothing pages login (verbs.Read lba blocks at pieces table) outcome none is = absurd (cc)
-says_nothing pages login (verbs.Write lba blocks at pieces table) outcome none is = absurd (cc)
-says_nothing pages login (verbs.Command cdb) outcome none is = absurd (cc)
-says_nothing pages login (verbs.CommandIn cdb at len pieces table) outcome none is = absurd (cc)
-says_nothing pages login (verbs.CommandOut cdb at len pieces table) outcome none is = absurd (cc)
-says_nothing pages login (verbs.Task function of) outcome none is = absurd (cc)
-says_nothing pages login (verbs.Take count) outcome none is = tt
-says_nothing pages login (verbs.Data of) outcome none is = tt
-says_nothing pages login verbs.Open outcome none is = tt
-says_nothing pages login verbs.Close outcome none is = tt
-says_nothing pages login (verbs.Post at len count) outcome none is = tt
-says_nothing pages login (verbs.Send to len seed at) outcome none is = tt
-says_nothing pages login (verbs.ChangeMac own) outcome none is = tt
-says_nothing pages login (verbs.Multicast control group) outcome none is = tt
-says_nothing pages login (verbs.Fill at len seed) outcome none is = tt
-says_nothing pages login (verbs.Poke at bytes) outcome none is = tt
-says_nothing pages login (verbs.Peek at len) outcome none is = tt
-says_nothing pages login (verbs.Tce entry page readable writable) outcome none is = tt
-says_nothing pages login (verbs.Hcall number arguments) outcome none is = tt
-says_nothing pages login verbs.Fail outcome none is = tt
+pub says_nothing : (pages : ℕ) (login : Option LoginNow) (verb : Verb) (outcome : Outcome) → asks verb ≡ false → is_logout verb ≡ false → is_own verb ≡ false → IsSaid pages login verb outcome
+says_nothing pages login verbs.Login outcome none is aside = tt
+says_nothing pages login verbs.Reset outcome none is aside = tt
+says_nothing pages login verbs.Logout outcome none is aside = absurd (cc)
+says_nothing pages login verbs.Tur outcome none is aside = absurd (cc)
+says_nothing pages login (verbs.Read lba blocks at pieces table) outcome none is aside = absurd (cc)
+says_nothing pages login (verbs.Write lba blocks at pieces table) outcome none is aside = absurd (cc)
+says_nothing pages login (verbs.Command cdb) outcome none is aside = absurd (cc)
+says_nothing pages login (verbs.CommandIn cdb at len pieces table) outcome none is aside = absurd (cc)
+says_nothing pages login (verbs.CommandOut cdb at len pieces table) outcome none is aside = absurd (cc)
+says_nothing pages login (verbs.Task function of) outcome none is aside = absurd (cc)
+says_nothing pages login (verbs.Take count) outcome none is aside = tt
+says_nothing pages login (verbs.Data of) outcome none is aside = tt
+says_nothing pages login verbs.Open outcome none is aside = tt
+says_nothing pages login verbs.Close outcome none is aside = tt
+says_nothing pages login (verbs.Post at len count) outcome none is aside = tt
+says_nothing pages login (verbs.Send to len seed at) outcome none is aside = tt
+says_nothing pages login (verbs.ChangeMac own) outcome none is aside = tt
+says_nothing pages login (verbs.Multicast control group) outcome none is aside = tt
+says_nothing pages login (verbs.Fill at len seed) outcome none is aside = absurd (cc)
+says_nothing pages login (verbs.Poke at bytes) outcome none is aside = absurd (cc)
+says_nothing pages login (verbs.Peek at len) outcome none is aside = absurd (cc)
+says_nothing pages login (verbs.Tce entry page readable writable) outcome none is aside = absurd (cc)
+says_nothing pages login (verbs.Hcall number arguments) outcome none is aside = tt
+says_nothing pages login verbs.Fail outcome none is aside = tt
 
 -- one request more under a login
 abbrev pub one_asked : (tag : ℕ) → LoginNow → LoginNow

@@ -5,6 +5,7 @@ use Rattle.std.proofs.lemmas.List.Elements.{All-nil}
 use Rattle.std.proofs.lemmas.Option.{slice_get_past}
 use Rattle.vio_num.specs.declared.hypervisor.Moved.{Moved}
 use Rattle.vio_num.specs.declared.hypervisor.Moved.TheVariants.{Quiet}
+use Rattle.vio_num.specs.declared.names.UnitId.{UnitId}
 use Rattle.boot_text.specs.declared.plan.Line.{Line}
 use Rattle.boot_text.specs.declared.verb.Verb.{Verb}
 use Rattle.boot_text.specs.declared.verb.Verb.TheVariants as verbs
@@ -25,19 +26,21 @@ use Rattle.vcpu_run.specs.declared.unit_seat.Seat.TheVariants as places
 use Rattle.vcpu_run.specs.Agreed.{AreLoggedOut, IsLoggedOut, OnDrivers, driver_in}
 use Rattle.vcpu_run.specs.Freeing.{is_reset}
 use Rattle.vcpu_run.specs.Credited.{Ended, ended_by, taken_in}
+use Rattle.vcpu_run.specs.LinesShow.{IsShown, LinesShow, Seen, requests, seen_at, written_by}
 use Rattle.vcpu_run.specs.Pairs.{AreDriven, Drives}
 use Rattle.vcpu_run.specs.Refusals.{HasCausesTold, tag_of, tags_told}
 use Rattle.vcpu_run.specs.Replay.{asks}
 use Rattle.vcpu_run.specs.Scripts.{AreSeats}
-use Rattle.vcpu_run.specs.ScriptTold.{AtSeats, IsResetOut, IsScriptTold, SameClient, SameClients, PairIsTold, own_of, progress_at, progress_by}
+use Rattle.vcpu_run.specs.ScriptTold.{AtSeats, IsResetOut, IsScriptTold, SameClient, SameClients, PairIsTold, PairShown, own_of, progress_at, progress_by}
 use Rattle.vcpu_run.specs.Suited.{suits}
 use Rattle.vcpu_run.specs.Telling.{IsOf, IsTold, LineOut, LineTold, PairTold, SeatTold, Seated, StepsOut, StepsTold, login_after, seated}
 use Rattle.vcpu_run.specs.Works.{fails}
 use Rattle.vcpu_run.proofs.Crediting.{ended_more, here_or, one_seat}
 use Rattle.vcpu_run.proofs.Askings.{plain_ends}
 use Rattle.vcpu_run.proofs.Driving.{client_is, driven_same, no_port, some_is}
+use Rattle.vcpu_run.proofs.LinesShown.{drives_sees, fail_shows, lines_more, lines_next, no_row, shows_none}
 use Rattle.vcpu_run.proofs.LoginsTold.{true_false}
-use Rattle.vcpu_run.proofs.Sayings.{is_logout, says_nothing}
+use Rattle.vcpu_run.proofs.Sayings.{is_logout, is_own, says_nothing}
 use Rattle.vcpu_run.proofs.Sole.{pairs_from_ordered}
 use Rattle.vcpu_run.proofs.TakesTold.{takes_none, took_told}
 use Rattle.vcpu_run.proofs.Tellings.{ended, ends_told, said_more, same_told, tags_more}
@@ -46,6 +49,7 @@ use Rattle.vcpu_run.proofs.Tellings.{ended, ends_told, said_more, same_told, tag
 pub record Before (old : List Pair) (k : ℕ) (after : Pair) : Type 0 where
   pub pair : Pair
   pub there : slice_get old k ≡ Some pair
+  pub drives : Drives pair after
   pub pages : length after.window.pages ≡ length pair.window.pages
   pub has : IsSomeAnd pair.driver (λ d. Unit {0})
 
@@ -57,13 +61,35 @@ before_of partition unit k seats old new after are driven sits there = at (slice
     some None h = absurd h
     some (Some d) h = tt
 
-    drives : (o : Option Pair) (pair : Pair) → o ≡ Some after → IsSomeAnd o (Drives pair) → length after.window.pages ≡ length pair.window.pages
+    drives : (o : Option Pair) (pair : Pair) → o ≡ Some after → IsSomeAnd o (Drives pair) → Drives pair after
     drives None pair is h = absurd h
-    drives (Some x) pair is h = subst (λ (y : Pair). length y.window.pages ≡ length pair.window.pages) (some_is x after is) h.pages
+    drives (Some x) pair is h = subst (Drives pair) (some_is x after is) h
 
     at : (o : Option Pair) → slice_get old k ≡ o → IsSomeAnd o (λ pair. IsSomeAnd pair.driver (λ d. d.unit ≡ record { partition = partition; unit = unit })) → Before old k after
     at None e h = absurd h
-    at (Some pair) e h = record { pair = pair; there = e; pages = drives (slice_get new k) pair there (driven.each k pair e); has = some pair.driver h }
+    at (Some pair) e h =
+        let is = drives (slice_get new k) pair there (driven.each k pair e) in
+        record { pair = pair; there = e; drives = is; pages = is.pages; has = some pair.driver h }
+
+-- what the lines that ended did is there still
+pub still_shown : (old new : List Pair) (script : Script) → AreSeats script.partition script.seats.items old → AreDriven old new
+    → AtSeats script.seats.items old (PairShown script) → AtSeats script.seats.items new (PairShown script)
+still_shown old new script are driven is unit k after at now =
+    let b = before_of script.partition unit k script.seats.items old new after are driven at now in
+    subst (λ who. LinesShow (seen_at after) who unit script.lines.now script.logs.items) (sym b.drives.unit)
+    (lines_more (seen_at b.pair) (seen_at after) b.pair.window.unit unit script.lines.now script.logs.items (drives_sees b.pair after b.drives) (is unit k b.pair at b.there))
+
+-- and what the line did that ended last
+ended_shown : (new : List Pair) (script done : Script) (line : Line) (row : LogRow) → slice_get script.lines.now script.at ≡ Some line → length script.logs.items ≡ script.at
+    → done.lines ≡ script.lines → done.seats ≡ script.seats → done.logs.items ≡ script.logs.items ++ row ∷ [] → AtSeats script.seats.items new (PairShown script)
+    → AtSeats script.seats.items new (λ unit pair. line.unit ≡ unit → IsShown (seen_at pair) pair.window.unit line.number line.verb row.outcome)
+    → AtSeats done.seats.items new (PairShown done)
+ended_shown new script done line row found many lines seats logs is last unit k after at now =
+    let here : slice_get script.seats.items unit ≡ Some (places.Client k) = subst (λ ss. slice_get ss.items unit ≡ Some (places.Client k)) seats at in
+    subst (λ ls. LinesShow (seen_at after) after.window.unit unit ls.now done.logs.items) (sym lines)
+    (subst (λ (rows : List LogRow). LinesShow (seen_at after) after.window.unit unit script.lines.now rows) (sym logs)
+    (lines_next (seen_at after) after.window.unit unit script.lines.now script.logs.items line row (ap (slice_get script.lines.now) many ∙ found)
+    (is unit k after here now) (last unit k after here now)))
 
 -- two units have two pairs
 apart_seats : (partition unit other k seat : ℕ) (seats : List Seat) (pairs : List Pair) → AreSeats partition seats pairs → slice_get seats other ≡ Some (places.Client seat)
@@ -155,13 +181,14 @@ current_of script line found fresh =
 -- the current line is to be gone on with, at the pair where its client sits
 pub client_waits : (old new : List Pair) (script : Script) (p' : Progress) (line : Line) (seat : ℕ) (here : Pair) (did : Moved)
     → slice_get script.lines.now script.at ≡ Some line → fails line.verb ≡ false → slice_get script.seats.items line.unit ≡ Some (places.Client seat) → slice_get new seat ≡ Some here
-    → AreSeats script.partition script.seats.items old → AreDriven old new → SeatTold seat line.verb script.progress p' old new (Ok (steps.Waits did))
+    → AreSeats script.partition script.seats.items old → AreDriven old new → SeatTold seat line script.progress p' old new (Ok (steps.Waits did))
     → IsScriptTold old script → IsScriptTold new (record script { progress = p' })
 client_waits old new script p' line seat here did found one sits there are driven step is = record {
   law = λ unit k after at now. let b = before_of script.partition unit k script.seats.items old new after are driven at now in
       subst (λ n. HasCausesTold n (own_of unit script)) (sym b.pages) (is.law unit k b.pair at b.there);
   fresh = subst (λ (o : Option Line). IfSome o (λ l. (k : ℕ) → slice_get script.seats.items l.unit ≡ Some (places.Client k) → IsOf l.verb p')) (sym found) (λ k at. (own line.unit here sits there (eq-eqb line.unit line.unit refl)).0);
   told = λ l next ok unit k after at now. by unit k after at now (here_or line.unit unit);
+  shown = still_shown old new script are driven is.shown;
 }
   where
     of : IsOf line.verb script.progress
@@ -191,7 +218,7 @@ client_waits old new script p' line seat here did found one sits there are drive
 pub client_ends : (old new : List Pair) (script done : Script) (line : Line) (row : LogRow) (seat : ℕ) (p' : Progress)
     → slice_get script.lines.now script.at ≡ Some line → fails line.verb ≡ false → slice_get script.seats.items line.unit ≡ Some (places.Client seat)
     → AreSeats script.partition script.seats.items old → AreDriven old new → length script.logs.items ≡ script.at
-    → SeatTold seat line.verb script.progress p' old new (Ok (steps.Ends row.outcome))
+    → SeatTold seat line script.progress p' old new (Ok (steps.Ends row.outcome))
     → done.lines ≡ script.lines → done.seats ≡ script.seats → done.logs.items ≡ script.logs.items ++ row ∷ [] → done.progress ≡ progress.Fresh
     → IsScriptTold old script → IsScriptTold new done
 client_ends old new script done line row seat p' found one sits are driven many step lines seats logs fresh is = record {
@@ -200,6 +227,9 @@ client_ends old new script done line row seat p' found one sits are driven many 
   told = λ l next ok unit k after at now. subst (λ (q : Progress). PairIsTold (own_of unit done) q after)
       (sym (ap (λ (p : Progress). progress_at unit p (slice_get done.lines.now done.at)) fresh ∙ fresh_at unit (slice_get done.lines.now done.at)))
       (each unit k after (back unit k at) now (here_or line.unit unit)).1;
+  shown = ended_shown new script done line row found many lines seats logs (still_shown old new script are driven is.shown)
+      (λ unit k after at now same.
+      step.shows after (ap (slice_get new) (client_is seat k (sym sits ∙ (ap (slice_get script.seats.items) same ∙ at))) ∙ now));
 }
   where
     of : IsOf line.verb script.progress
@@ -225,8 +255,8 @@ client_ends old new script done line row seat p' found one sits are driven many 
         let same_seat : seat ≡ k = client_is seat k (sym sits ∙ (ap (λ n. slice_get script.seats.items n) (eqb-true line.unit unit same) ∙ at)) in
         let b = before_of script.partition unit k script.seats.items old new after are driven at now in
         let told = subst (λ (q : Progress). PairIsTold (own_of unit script) q b.pair) (here_by unit script.progress line (slice_get script.lines.now script.at) found same) (is.told line found one unit k b.pair at b.there) in
-        let stepped : SeatTold k line.verb script.progress p' old new (Ok (steps.Ends row.outcome)) =
-        subst (λ n. SeatTold n line.verb script.progress p' old new (Ok (steps.Ends row.outcome))) same_seat step in
+        let stepped : SeatTold k line script.progress p' old new (Ok (steps.Ends row.outcome)) =
+        subst (λ n. SeatTold n line script.progress p' old new (Ok (steps.Ends row.outcome))) same_seat step in
         subst (λ (own : List Ended). HasCausesTold (length after.window.pages) own × PairIsTold own progress.Fresh after)
         (sym (records unit ∙ ap (λ t. cond t (own_of unit script ++ e ∷ []) (own_of unit script)) same))
         (ends_pair line.verb script.progress p' (own_of unit script) e b.pair after refl b.has b.pages of (stepped.here b.pair after b.there now) told)
@@ -273,6 +303,7 @@ port_waits_told pairs script p' line found one sits is = record {
   told = λ l next ok unit k pair at now. let other = not_port script line unit k sits at in
       subst (λ (q : Progress). PairIsTold (own_of unit script) q pair) (else_by unit script.progress line (slice_get script.lines.now script.at) found other
       ∙ sym (else_by unit p' line (slice_get script.lines.now script.at) found other)) (is.told line found one unit k pair at now);
+  shown = is.shown;
 }
 
 pub port_ends_told : (pairs : List Pair) (script done : Script) (line : Line) (row : LogRow) → slice_get script.lines.now script.at ≡ Some line → fails line.verb ≡ false
@@ -288,6 +319,8 @@ port_ends_told pairs script done line row found one sits many lines seats logs f
       (subst (λ (own : List Ended). PairIsTold own progress.Fresh pair) (sym (records unit k here))
       (subst (λ (q : Progress). PairIsTold (own_of unit script) q pair) (else_by unit script.progress line (slice_get script.lines.now script.at) found (not_port script line unit k sits here))
       (is.told line found one unit k pair here now)));
+  shown = ended_shown pairs script done line row found many lines seats logs is.shown
+      (λ unit k after at now same. absurd (no_port k (sym at ∙ (ap (slice_get script.seats.items) (sym same) ∙ sits))));
 }
   where
     e : Ended
@@ -341,6 +374,8 @@ new_told pairs script logs fresh out = record {
   told = λ l next ok unit k pair at now. subst (λ (own : List Ended). PairIsTold own (progress_by unit script) pair) (sym (none unit))
       (subst (λ (q : Progress). PairIsTold [] q pair) (sym (ap (λ (p : Progress). progress_at unit p (slice_get script.lines.now script.at)) fresh ∙ fresh_at unit (slice_get script.lines.now script.at)))
       (begun pair (subst (λ (o : Option Pair). IfSome (driver_in o) (λ d. d.client.granted ≡ None)) now (out unit k at))));
+  shown = λ unit k pair at now. subst (λ (rows : List LogRow). LinesShow (seen_at pair) pair.window.unit unit script.lines.now rows) (sym logs)
+      (λ i line row found there same. absurd (no_row row there));
 }
   where
     empty : (unit : ℕ) (lines : List Line) → ended_by unit lines [] ≡ []
@@ -413,6 +448,11 @@ waiting_pair p verb outcome pair ends out = at pair.driver out
     at None out = tt
     at (Some d) out = step d ends out
 
+waiting_shows : (p : Progress) (verb : Verb) (outcome : Outcome) (seen : Seen) (unit : UnitId) (mark : ℕ) → EndsWaiting p verb outcome → IsShown seen unit mark verb outcome
+waiting_shows p verb outcome seen unit mark (of_login v o) = shows_none seen unit mark verb outcome (ap requests v) (ap written_by v)
+waiting_shows p verb outcome seen unit mark (of_reset v o) = shows_none seen unit mark verb outcome (ap requests v) (ap written_by v)
+waiting_shows p verb outcome seen unit mark (of_take count v o) = shows_none seen unit mark verb outcome (ap requests v) (ap written_by v)
+
 pub waiting_told : (pairs : List Pair) (script done : Script) (line : Line) (row : LogRow) → slice_get script.lines.now script.at ≡ Some line
     → IsSomeAnd (slice_get script.seats.items line.unit) (suits line.verb) → AreSeats script.partition script.seats.items pairs → length script.logs.items ≡ script.at
     → EndsWaiting script.progress line.verb row.outcome
@@ -425,12 +465,13 @@ waiting_told pairs script done line row found suited are many ends lines seats l
         beside = λ j apart. refl;
         here = λ before after b a. subst (λ (x : Pair). PairTold line.verb script.progress script.progress before x (Ok (steps.Ends row.outcome)))
             (some_is before after (sym b ∙ a)) (waiting_pair script.progress line.verb row.outcome before ends (λ reset. out line k before found reset at b));
+        shows = λ after a. waiting_shows script.progress line.verb row.outcome (seen_at after) after.window.unit line.number ends;
       };
       port = λ at. refl;
     }) lines seats logs fresh is
 
 -- a line that fails the partition asks nothing
-fails_aside : (verb : Verb) → fails verb ≡ true → (asks verb ≡ false) × (is_logout verb ≡ false)
+fails_aside : (verb : Verb) → fails verb ≡ true → (asks verb ≡ false) × (is_logout verb ≡ false) × (is_own verb ≡ false)
 fails_aside verbs.Login is = absurd (cc)
 fails_aside verbs.Reset is = absurd (cc)
 fails_aside verbs.Logout is = absurd (cc)
@@ -454,13 +495,13 @@ fails_aside (verbs.Poke at bytes) is = absurd (cc)
 fails_aside (verbs.Peek at len) is = absurd (cc)
 fails_aside (verbs.Tce entry page readable writable) is = absurd (cc)
 fails_aside (verbs.Hcall number arguments) is = absurd (cc)
-fails_aside verbs.Fail is = (refl, refl)
+fails_aside verbs.Fail is = (refl, refl, refl)
 
 -- a line that tells of no tag
-quiet_more : (pages : ℕ) (own : List Ended) (verb : Verb) (outcome : Outcome) → HasCausesTold pages own → asks verb ≡ false → is_logout verb ≡ false → tag_of outcome ≡ []
+quiet_more : (pages : ℕ) (own : List Ended) (verb : Verb) (outcome : Outcome) → HasCausesTold pages own → asks verb ≡ false → is_logout verb ≡ false → is_own verb ≡ false → tag_of outcome ≡ []
     → HasCausesTold pages (own ++ ended verb outcome ∷ [])
-quiet_more pages own verb outcome law no_ask no_logout none = record {
-  refusals = said_more pages None own verb outcome law.refusals (says_nothing pages (login_after None own) verb outcome no_ask no_logout);
+quiet_more pages own verb outcome law no_ask no_logout no_own none = record {
+  refusals = said_more pages None own verb outcome law.refusals (says_nothing pages (login_after None own) verb outcome no_ask no_logout no_own);
   tags = subst (AllPairs (λ a b. a < b)) (sym (tags_more own verb outcome ∙ (ap (λ tags. tags_told own ++ tags) none ∙ append-nil (tags_told own)))) law.tags;
 }
 
@@ -478,6 +519,7 @@ fail_waits_told old new script line found failing are driven is = record {
   fresh = is.fresh;
   told = λ l next ok unit k pair at now.
       absurd (true_false (fails line.verb) failing (subst (λ (x : Line). fails x.verb ≡ false) (some_is l line (sym next ∙ found)) ok));
+  shown = still_shown old new script are driven is.shown;
 }
 
 -- it ended, and no line is left
@@ -489,6 +531,8 @@ fail_ends_told old new script done line row found failing are driven many quiet 
   law = λ unit k after at now. each unit after (law_on old new script are driven is unit k after (subst (λ ss. slice_get ss.items unit ≡ Some (places.Client k)) seats at) now) (here_or line.unit unit);
   fresh = subst (λ (o : Option Line). IfSome o (λ l. (k : ℕ) → slice_get done.seats.items l.unit ≡ Some (places.Client k) → IsOf l.verb done.progress)) (sym none) tt;
   told = λ l next ok unit k pair at now. absurd (some_none l (sym none ∙ next));
+  shown = ended_shown new script done line row found many lines seats logs (still_shown old new script are driven is.shown)
+      (λ unit k after at now same. fail_shows (seen_at after) after.window.unit line.number line.verb row.outcome failing);
 }
   where
     none : slice_get done.lines.now done.at ≡ None
@@ -509,7 +553,7 @@ fail_ends_told old new script done line row found failing are driven many quiet 
     each unit after law (inl same) =
         let aside = fails_aside line.verb failing in
         subst (HasCausesTold (length after.window.pages)) (sym (records unit ∙ ap (λ b. cond b (own_of unit script ++ e ∷ []) (own_of unit script)) same))
-        (quiet_more (length after.window.pages) (own_of unit script) line.verb row.outcome law aside.0 aside.1 quiet)
+        (quiet_more (length after.window.pages) (own_of unit script) line.verb row.outcome law aside.0 aside.1 aside.2 quiet)
     each unit after law (inr differ) =
         subst (HasCausesTold (length after.window.pages)) (sym (records unit ∙ ap (λ b. cond b (own_of unit script ++ e ∷ []) (own_of unit script)) differ)) law
 
@@ -520,6 +564,7 @@ over_told old new script none are driven is = record {
   law = law_on old new script are driven is;
   fresh = is.fresh;
   told = λ l next ok unit k pair at now. absurd (some_none l (sym none ∙ next));
+  shown = still_shown old new script are driven is.shown;
 }
   where
     some_none : (l : Line) → None ≡ Some l → ⊥
@@ -531,8 +576,15 @@ clients_told old new script same is = record {
   law = λ unit k after at now. law unit k after at (slice_get old k) refl (same k after now);
   fresh = is.fresh;
   told = λ l next ok unit k after at now. told l next ok unit k after at (slice_get old k) refl (same k after now);
+  shown = λ unit k after at now. shown unit k after at (slice_get old k) refl (same k after now);
 }
   where
+    shown : (unit k : ℕ) (after : Pair) → slice_get script.seats.items unit ≡ Some (places.Client k) → (o : Option Pair) → slice_get old k ≡ o
+        → IsSomeAnd o (λ before. SameClient before after) → PairShown script unit after
+    shown unit k after at None e h = absurd h
+    shown unit k after at (Some before) e h = subst (λ who. LinesShow (seen_at after) who unit script.lines.now script.logs.items) (sym h.unit)
+        (lines_more (seen_at before) (seen_at after) before.window.unit unit script.lines.now script.logs.items h.sees (is.shown unit k before at e))
+
     law : (unit k : ℕ) (after : Pair) → slice_get script.seats.items unit ≡ Some (places.Client k) → (o : Option Pair) → slice_get old k ≡ o
         → IsSomeAnd o (λ before. SameClient before after) → HasCausesTold (length after.window.pages) (own_of unit script)
     law unit k after at None e h = absurd h

@@ -1,6 +1,6 @@
 -- A gathered trace of idle units is settled: all entries of each server unit's last session were taken.
 use Rattle.std.proofs.Common.{◌≡◌, ◌∙◌, inl, inr, ℕ, ◌+◌, ◌<◌, ◌≤◌, zero, suc, Bool, true, false, List, [], ◌∷◌, All, Option, Some, None, IfNone, IfSome, IsSomeAnd, MatchOption, length, map, slice_get, option_map, refl, sym, ap, subst, arith}
-use Rattle.std.proofs.lemmas.Option.{slice_get-map, slice_get_within}
+use Rattle.std.proofs.lemmas.Option.{slice_get-map, slice_get_past, slice_get_within}
 use Rattle.vio_num.specs.declared.history.Grant.{Grant}
 use Rattle.vio_num.specs.declared.history.Served.{Served}
 use Rattle.vio_num.specs.declared.names.UnitId.{UnitId}
@@ -25,7 +25,10 @@ use Rattle.vcpu_run.specs.declared.unit_seat.UnitSeat.{UnitSeat}
 use Rattle.vcpu_run.specs.CopyRows.{same_unit}
 use Rattle.vcpu_run.specs.Gathered.{HasLawfulQueue, queue_at, rows_if, sessions_at, trace_of}
 use Rattle.vcpu_run.specs.Freed.{IsNotFreed}
-use Rattle.vcpu_run.specs.Freeing.{KeepQueues, NoneFrees}
+use Rattle.vcpu_run.specs.Freeing.{NoneBreaks}
+use Rattle.vcpu_run.specs.Holding.{KeepQueues}
+use Rattle.vcpu_run.specs.Lines.{IsOver}
+use Rattle.vcpu_run.proofs.Held.{over_held}
 use Rattle.vcpu_run.specs.Links.{AreIdle, AwaitsNone, ClientWaits, EventWaits, IsEmptied, IsFull, LinkState, link_state, links_of}
 use Rattle.vcpu_run.specs.Machines.{seat_of, AreScripts, HasNoClient, IsOfPlan, IsPlanned, IsPlannedClient, IsScriptFor}
 use Rattle.vcpu_run.specs.Scripts.{are_servers}
@@ -35,7 +38,7 @@ use Rattle.vcpu_run.specs.Shown.{sessions_of}
 use Rattle.vcpu_run.specs.Units.{seats_of, unit_seat}
 use Rattle.vcpu_run.proofs.Copied.{names_apart}
 use Rattle.vcpu_run.proofs.Following.{each_from_all}
-use Rattle.vcpu_run.proofs.Homes.{unit_found}
+use Rattle.vcpu_run.proofs.Homes.{all_at, unit_found}
 use Rattle.vcpu_run.proofs.Announcing.{both_bools}
 use Rattle.vcpu_run.proofs.Listed.{held, held_is, there_is}
 use Rattle.vcpu_run.proofs.Parts.{IsIn, each_in, found}
@@ -250,9 +253,9 @@ unfreed_taken unit pair kept waits = at (side_of pair.link false).queue.session 
         last_if (sessions_from unit pipe 1 pipe.session) (rows_taken unit pipe pipe.session refl some (all some))
 
 pub handed_are : (pairs : List Pair) (scripts : List Script) (lan : LanValue) (rows : LanRows) (history : List Served) (grants : List Grant) (copies : List CopyRecord) (partitions : List Partition) (servers : List Unit)
-    → AreScripts pairs lan.seats scripts → IsOfPlan partitions pairs scripts lan.seats → AreIdle servers pairs scripts → KeepQueues pairs scripts
+    → AreScripts pairs lan.seats scripts → IsOfPlan partitions pairs scripts lan.seats → AreIdle servers pairs scripts → KeepQueues pairs scripts → All IsOver scripts
     → ClientsAreSettled partitions (trace_of pairs scripts lan rows history grants copies)
-handed_are pairs scripts lan rows history grants copies partitions servers are plan idle keep client server is none =
+handed_are pairs scripts lan rows history grants copies partitions servers are plan idle keep over client server is none =
     let serves = plan.sound.served client server is in
     let there = held (λ (pair : Pair). pair.server ≡ server) (slice_get pairs server.unit) (plan.pairs_are.servers server serves) in
     let pair : Pair = there.0 in
@@ -261,7 +264,9 @@ handed_are pairs scripts lan rows history grants copies partitions servers are p
     let own = script_for partitions pairs scripts lan.seats client.partition at.0 plan at.1 in
     let lines : script_of partitions client.partition ≡ at.0.lines.now = ap script_in own.1 ∙ sym own.2.lines in
     let kept : IsNotFreed pair =
-    some_is_so IsNotFreed (slice_get pairs server.unit) pair there.1 (keep client.partition at.0 at.1 client.unit server.unit at.2 (subst (NoneFrees client.unit) lines none)) in
+    some_is_so IsNotFreed (slice_get pairs server.unit) pair there.1
+    (over_held pairs at.0 client.unit server.unit (slice_get_past at.0.lines.now at.0.at (all_at IsOver scripts client.partition at.0 over at.1)) (subst NoneBreaks lines none) at.2
+    (keep client.partition at.0 at.1)) in
     let waits : ClientWaits (link_state pair.link) =
     held_is ClientWaits (slice_get (links_of pairs) server.unit) (link_state pair.link) (link_at pairs server.unit pair there.1)
     (client_waits servers pairs scripts lan.seats partitions client server plan idle serves is).0 in

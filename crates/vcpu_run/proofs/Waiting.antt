@@ -1,5 +1,5 @@
 -- Why a server unit did nothing, as its link shows it; and that its queue is what it takes it for.
-use Rattle.std.proofs.Common.{◌≡◌, ◌∙◌, inl, inr, ℕ, ◌+◌, ◌<◌, ◌≤◌, zero, suc, Bool, true, false, List, [], ◌∷◌, Option, Some, None, IfNone, IfSome, length, min, slice_get, refl, sym, ap, ap₂, subst, arith}
+use Rattle.std.proofs.Common.{◌≡◌, ◌∙◌, inl, inr, ℕ, ◌+◌, ◌<◌, ◌≤◌, zero, suc, Bool, true, false, List, [], ◌∷◌, Option, Some, None, IfNone, IfSome, length, slice_get, refl, sym, ap, ap₂, subst, arith}
 use Rattle.std.specs.Borrow.{GName}
 use Rattle.std.proofs.lemmas.Option.{IfSome_then}
 use Rattle.crq_ring.specs.Sessions.{of_session}
@@ -14,7 +14,6 @@ use Rattle.block_server.specs.Turns.{IsStill}
 use Rattle.block_server.specs.declared.unit.Unit.{Unit}
 use Rattle.vcpu_run.specs.declared.driver.Driver.{Driver}
 use Rattle.vcpu_run.specs.declared.pair.Pair.{Pair}
-use Rattle.vcpu_run.specs.Answered.{IsBegun}
 use Rattle.vcpu_run.specs.Freed.{FreesNoneAt}
 use Rattle.vcpu_run.specs.Links.{AreClosed, AreLinked, IsEmptied, IsFull, IsShutAlone, ServerWaits, link_state}
 use Rattle.vcpu_run.specs.Pairs.{AreDriven, Drives, GoesOn}
@@ -91,24 +90,16 @@ serve_waits f g a b old new own own' window window' units unit is place less sti
     at2 : (P : Bool → Bool → Type 0) → f ≡ true → g ≡ true → P f g → P true true
     at2 P e e' p = subst (λ d. P true d) e' (subst (λ d. P d g) e p)
 
--- the client's queue over a turn of the server unit, with its first session begun or not
-pub serve_frees : (begun : ℕ) (f g : Bool) (a b : List GName) (old new : Pair) → f ≡ true → (end_of b new.link g).place ≡ (end_of a old.link f).place
-    → IsBegun begun (side_of old.link false).queue.session → IsBegun begun (end_of b new.link g).counts.partner_session → FreesNoneAt old new
-serve_frees begun f g a b old new is place was now = at f g is (ap (λ (p : EndPlace). p.first) place ∙ is) place now
+-- the client's queue over a turn of the server unit, in its session of before
+pub serve_frees : (f g : Bool) (a b : List GName) (old new : Pair) → f ≡ true → (end_of b new.link g).place ≡ (end_of a old.link f).place
+    → (end_of b new.link g).counts.partner_session ≡ (end_of a old.link f).counts.partner_session → FreesNoneAt old new
+serve_frees f g a b old new is place session = at f g is (ap (λ (p : EndPlace). p.first) place ∙ is) place session
   where
-    from : (n m : ℕ) → IsBegun begun n → IsBegun begun m → 1 ≤ m → 1 ≤ n
-    from zero m was now some = absurd (least m some (now ∙ sym was))
-      where
-        least : (m : ℕ) → 1 ≤ m → min m 1 ≡ min 0 1 → ⊥
-        least m some same = omega (arith, some, same)
-    from (suc n) m was now some = omega arith
-
     at : (d d' : Bool) → d ≡ true → d' ≡ true → (end_of b new.link d').place ≡ (end_of a old.link d).place
-        → IsBegun begun (end_of b new.link d').counts.partner_session → FreesNoneAt old new
-    at true true e e' place now = λ kept some.
-        ap (λ (p : EndPlace). p.partner_registered) place ∙ kept (from old.link.second.queue.session new.link.second.queue.session was now some)
-    at true false e e' place now = absurd (no_true e')
-    at false d' e e' place now = absurd (no_true e)
+        → (end_of b new.link d').counts.partner_session ≡ (end_of a old.link d).counts.partner_session → FreesNoneAt old new
+    at true true e e' place session = λ kept some. ap (λ (p : EndPlace). p.partner_registered) place ∙ kept (subst (λ (n : ℕ). 1 ≤ n) session some)
+    at true false e e' place session = absurd (no_true e')
+    at false d' e e' place session = absurd (no_true e)
 
 -- a turn of the server unit leaves the client's queue registered as it was
 pub serve_queue : (f g : Bool) (a b : List GName) (old new : Pair) → f ≡ true → (end_of b new.link g).place ≡ (end_of a old.link f).place
@@ -118,6 +109,17 @@ serve_queue f g a b old new is place = at f g is (ap (λ (p : EndPlace). p.first
     at : (d d' : Bool) → d ≡ true → d' ≡ true → (end_of b new.link d').place ≡ (end_of a old.link d).place
         → (side_of new.link false).registered ≡ (side_of old.link false).registered
     at true true e e' place = ap (λ (p : EndPlace). p.partner_registered) place
+    at true false e e' place = absurd (no_true e')
+    at false d' e e' place = absurd (no_true e)
+
+-- and nothing was put into the server unit's own queue
+pub serve_sent : (f g : Bool) (a b : List GName) (old new : Pair) → f ≡ true → (end_of b new.link g).place ≡ (end_of a old.link f).place
+    → (side_of new.link true).queue.sent ≡ (side_of old.link true).queue.sent
+serve_sent f g a b old new is place = at f g is (ap (λ (p : EndPlace). p.first) place ∙ is) place
+  where
+    at : (d d' : Bool) → d ≡ true → d' ≡ true → (end_of b new.link d').place ≡ (end_of a old.link d).place
+        → (side_of new.link true).queue.sent ≡ (side_of old.link true).queue.sent
+    at true true e e' place = ap (λ (p : EndPlace). p.received) place
     at true false e e' place = absurd (no_true e')
     at false d' e e' place = absurd (no_true e)
 

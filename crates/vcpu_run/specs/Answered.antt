@@ -1,5 +1,5 @@
 -- Which responses the queue of a pair's client got between turns, by the rows of its server unit (SRP, "SRP_RSP response").
-use Rattle.std.specs.Prelude.{◌≡◌, ◌≤◌, ℕ, false, true, All, List, Some, length, min, slice_get}
+use Rattle.std.specs.Prelude.{◌≡◌, ◌≤◌, ℕ, false, true, All, List, Some, length, slice_get}
 use Rattle.vio_num.specs.declared.history.Served.{Served}
 use Rattle.crq_ring.specs.declared.rows.PipeRow.{PipeRow}
 use Rattle.crq_session.specs.Answered.{received_now, taken_now}
@@ -11,10 +11,6 @@ use Rattle.vcpu_run.specs.declared.pair.Pair.{Pair}
 -- each row is of a session, which count from 1
 abbrev pub AreBegun : List PipeRow → Type 0
 AreBegun rows = All (λ row. 1 ≤ row.session) rows
-
--- a queue has begun a session where this number is 1, and none where it is 0
-abbrev pub IsBegun : ℕ → (session : ℕ) → Type 0
-IsBegun begun session = min session 1 ≡ begun
 
 -- of what was received in the session no more was taken
 abbrev pub IsBehind : EndState → Type 0

@@ -1,5 +1,6 @@
 -- The command that a line sends.
-use Rattle.std.specs.Prelude.{◌≡◌, ℕ, ◌*◌, Option, None}
+use Rattle.std.specs.Prelude.{◌≡◌, ℕ, ◌-◌, ◌*◌, ◌++◌, List, [], ◌∷◌, Option, None, length, replicate}
+use Rattle.byteorder.specs.Endian.{big_bytes}
 use Rattle.boot_text.specs.declared.verb.Verb.{Verb}
 use Rattle.boot_text.specs.declared.verb.Verb.TheVariants as verbs
 use Rattle.vscsi_client.specs.declared.op.Dir.{Dir}
@@ -28,3 +29,21 @@ IsOpOf (verbs.Command cdb) op = HasNoData op
 IsOpOf (verbs.CommandIn cdb at len pieces table) op = HasData dirs.In at len pieces table op
 IsOpOf (verbs.CommandOut cdb at len pieces table) op = HasData dirs.Out at len pieces table op
 IsOpOf _ op = ⊥
+
+-- a command descriptor block of ten bytes for blocks from a logical block address on, with zeros behind it up to 16 bytes (SBC,
+-- "READ (10) command", "WRITE (10) command")
+abbrev pub block_cdb : (code lba blocks : ℕ) → List ℕ
+block_cdb code lba blocks = code ∷ 0 ∷ (big_bytes 4 lba ++ 0 ∷ (big_bytes 2 blocks ++ replicate 7 0))
+
+-- the bytes that a line gives, with zeros behind them up to 16
+abbrev pub padded_cdb : List ℕ → List ℕ
+padded_cdb bytes = bytes ++ replicate (16 - length bytes) 0
+
+-- the command descriptor block of a line: of TEST UNIT READY, all is zero (SPC)
+abbrev pub cdb_of : Verb → List ℕ
+cdb_of (verbs.Read lba blocks at pieces table) = block_cdb 0x28 lba blocks
+cdb_of (verbs.Write lba blocks at pieces table) = block_cdb 0x2A lba blocks
+cdb_of (verbs.Command cdb) = padded_cdb cdb
+cdb_of (verbs.CommandIn cdb at len pieces table) = padded_cdb cdb
+cdb_of (verbs.CommandOut cdb at len pieces table) = padded_cdb cdb
+cdb_of _ = replicate 16 0

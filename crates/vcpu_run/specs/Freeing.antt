@@ -1,13 +1,10 @@
--- Which lines free a client's queue, and that the queues of the others' clients are not freed.
-use Rattle.std.specs.Prelude.{◌≡◌, ℕ, ◌==◌, ◌&&◌, ◌||◌, Bool, true, false, All, List, Some, IfSome, slice_get}
+-- Which lines free a client's queue, and which clients they spare.
+use Rattle.std.specs.Prelude.{◌≡◌, ℕ, ◌==◌, ◌&&◌, ◌||◌, Bool, true, false, All, List, Some, slice_get}
 use Rattle.boot_text.specs.declared.plan.Line.{Line}
 use Rattle.boot_text.specs.declared.verb.Verb.{Verb}
 use Rattle.boot_text.specs.declared.verb.Verb.TheVariants as verbs
-use Rattle.vcpu_run.specs.declared.pair.Pair.{Pair}
-use Rattle.vcpu_run.specs.declared.script.Script.{Script}
 use Rattle.vcpu_run.specs.declared.unit_seat.Seat.{Seat}
 use Rattle.vcpu_run.specs.declared.unit_seat.Seat.TheVariants as sits
-use Rattle.vcpu_run.specs.Freed.{IsNotFreed}
 use Rattle.vcpu_run.specs.Suited.{is_call}
 use Rattle.vcpu_run.specs.Works.{fails}
 
@@ -20,9 +17,13 @@ is_reset _ = false
 abbrev pub frees : (unit : ℕ) → Line → Bool
 frees unit line = (is_call line.verb || fails line.verb) || (is_reset line.verb && (line.unit == unit))
 
+-- whether a line may leave a queue free for good: it makes a raw hypervisor call, or fails the partition
+abbrev pub breaks : Verb → Bool
+breaks verb = is_call verb || fails verb
+
 -- none of these lines does
-abbrev pub NoneFrees : (unit : ℕ) → List Line → Type 0
-NoneFrees unit lines = All (λ line. frees unit line ≡ false) lines
+abbrev pub NoneBreaks : List Line → Type 0
+NoneBreaks lines = All (λ line. breaks line.verb ≡ false) lines
 
 -- P is so of the unit of each client of these seats that sits at the pair
 abbrev pub SitsWhere : List Seat → (P : ℕ → Type 0) → (k : ℕ) → Type 0
@@ -32,17 +33,6 @@ SitsWhere seats P k = (unit : ℕ) → slice_get seats unit ≡ Some (sits.Clien
 abbrev pub NoneSits : List Seat → (k : ℕ) → Type 0
 NoneSits seats = SitsWhere seats (λ unit. ⊥)
 
--- this line does not free the queue of the client that sits there; no line of the script does
+-- this line does not free the queue of the client that sits there
 abbrev pub IsSpared : List Seat → Line → (k : ℕ) → Type 0
 IsSpared seats line = SitsWhere seats (λ unit. frees unit line ≡ false)
-
-abbrev pub IsSparedBy : Script → (k : ℕ) → Type 0
-IsSparedBy script = SitsWhere script.seats.items (λ unit. NoneFrees unit script.lines.now)
-
--- the queue of each client that no line of its script frees is not freed
-abbrev pub KeepsQueues : List Pair → Script → Type 0
-KeepsQueues pairs script = (unit k : ℕ) → slice_get script.seats.items unit ≡ Some (sits.Client k) → NoneFrees unit script.lines.now
-    → IfSome (slice_get pairs k) IsNotFreed
-
-abbrev pub KeepQueues : List Pair → List Script → Type 0
-KeepQueues pairs scripts = (i : ℕ) (script : Script) → slice_get scripts i ≡ Some script → KeepsQueues pairs script

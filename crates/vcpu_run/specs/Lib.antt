@@ -11,8 +11,10 @@ pub mod Freed
 pub mod Freeing
 pub mod Gathered
 pub mod Heard
+pub mod Holding
 pub mod Intake
 pub mod Lines
+pub mod LinesShow
 pub mod Links
 pub mod Machines
 pub mod Making
@@ -22,6 +24,7 @@ pub mod Numbered
 pub mod OnDisk
 pub mod Pairs
 pub mod PlainClients
+pub mod PortReplays
 pub mod PortSteps
 pub mod PortWords
 pub mod Ports

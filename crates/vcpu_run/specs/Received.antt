@@ -1,5 +1,5 @@
 -- What each server unit took in between turns: its receipts, over its pair's windows and its own queue, and what became of each.
-use Rattle.std.specs.Prelude.{◌≡◌, ℕ, true, List, [], Some, slice_get}
+use Rattle.std.specs.Prelude.{◌≡◌, ℕ, true, All, List, [], Some, slice_get}
 use Rattle.vio_num.specs.declared.history.Grant.{Grant}
 use Rattle.vio_num.specs.declared.history.Served.{Served}
 use Rattle.crq_session.specs.PlainState.{end_of, side_of}
@@ -14,7 +14,8 @@ use Rattle.vcpu_run.specs.declared.pair.Pair.{Pair}
 use Rattle.vcpu_run.specs.declared.script.Script.{Script}
 use Rattle.vcpu_run.specs.Answered.{AreBegun, IsBehind}
 use Rattle.vcpu_run.specs.Heard.{AreHeard}
-use Rattle.vcpu_run.specs.Freeing.{KeepQueues}
+use Rattle.vcpu_run.specs.Holding.{KeepQueues}
+use Rattle.vcpu_run.specs.Lines.{IsOver}
 use Rattle.vcpu_run.specs.Links.{AreIdle}
 use Rattle.vcpu_run.specs.Machines.{server_id}
 
@@ -46,6 +47,7 @@ pub record AreAtRest (copies : List CopyRecord) (grants : List Grant) (history :
   pub units : List Unit
   pub idle : AreIdle units pairs scripts
   pub unfreed : KeepQueues pairs scripts
+  pub over : All IsOver scripts
   pub received : AreReceived units copies grants history pairs
   pub size : ℕ
   pub partition : ℕ

@@ -1,21 +1,28 @@
--- What the records of a client's lines say of requests that were not sent: each refusal by the records before it. (Of a client
--- whose partition makes no raw hypervisor call, plain or not.)
-use Rattle.std.specs.Prelude.{◌≡◌, ℕ, ◌+◌, ◌-◌, ◌<◌, ◌==◌, List, [], ◌∷◌, ◌++◌, MatchBool, MatchOption, Option, Some, None, min, not, ⊤, if◌then◌else◌}
+-- What the records of a client's lines say of requests that were not sent: each refusal by the records before it; and of its own
+-- region. (Of a client whose partition makes no raw hypervisor call, plain or not.)
+use Rattle.std.specs.Prelude.{◌≡◌, ℕ, ◌+◌, ◌-◌, ◌*◌, ◌<◌, ◌==◌, Bool, true, false, length, map, List, [], ◌∷◌, ◌++◌, MatchBool, MatchOption, Option, Some, None, min, not, ⊤, if◌then◌else◌}
 use Rattle.std.specs.List.{AllPairs, Contains}
 use Rattle.std.specs.Option.{option_map}
 use Rattle.boot_text.specs.Sound.{IsClientOf}
 use Rattle.boot_text.specs.declared.plan.Partition.{Partition}
 use Rattle.boot_text.specs.declared.verb.Verb.{Verb}
 use Rattle.boot_text.specs.declared.verb.Verb.TheVariants as verbs
+use Rattle.vio_num.specs.declared.hypervisor.Hrc.{Hrc}
+use Rattle.vio_num.specs.declared.hypervisor.Hrc.TheVariants as codes
 use Rattle.vio_num.specs.declared.names.UnitId.{UnitId}
+use Rattle.tce_window.specs.Puts.{takes}
+use Rattle.tce_window.specs.Region.{in_region}
+use Rattle.unit_region.specs.Answers.{tce_of}
 use Rattle.vio_trace.specs.declared.outcome.Outcome.{Outcome}
 use Rattle.vio_trace.specs.declared.outcome.Outcome.TheVariants as outcomes
 use Rattle.vio_trace.specs.declared.rows.Trace.{Trace}
+use Rattle.vcpu_run.specs.AnswersSent.{sent_to}
 use Rattle.vcpu_run.specs.Credited.{Ended, ended_by}
+use Rattle.vcpu_run.specs.LinesShow.{LinesShow, Seen}
 use Rattle.vcpu_run.specs.PortWords.{HasNoCall}
 use Rattle.vcpu_run.specs.Replay.{Range, asks, lie_within, ranges_of}
 use Rattle.vcpu_run.specs.Settled.{script_of}
-use Rattle.vcpu_run.specs.Shown.{pages_at, records_of}
+use Rattle.vcpu_run.specs.Shown.{pages_at, records_of, stroke_value, strokes_on}
 
 -- A login that is on by the records: what it grants, how many commands and tasks are outstanding, and the tags of those that were
 -- sent since it was granted.
@@ -79,9 +86,28 @@ abbrev pub IsLogout : Option LoginNow → Outcome → Type 0
 IsLogout None outcome = outcome ≡ outcomes.NotLoggedIn
 IsLogout (Some l) outcome = MatchBool (l.outstanding == 0) (IsTried [] outcome) ((tag : ℕ) × (outcome ≡ outcomes.Overlap tag) × Contains l.asked tag)
 
--- what a line says, if it sends
+-- A line in the client's own region says whether its bytes lie in it; one that shows them shows just as many.
+abbrev pub IsWritten : (lies : Bool) → Outcome → Type 0
+IsWritten lies outcome = outcome ≡ (if lies then outcomes.Done else outcomes.Range)
+
+abbrev pub IsShown : (lies : Bool) → (len : ℕ) → Outcome → Type 0
+IsShown true len (outcomes.Bytes shown) = length shown ≡ len
+IsShown false len outcomes.Range = ⊤
+IsShown _ len _ = ⊥
+
+-- what a line says that puts a value into an entry of the client's window, which takes it or does not
+abbrev pub code_if : (takes : Bool) → Hrc
+code_if true = codes.Success
+code_if false = codes.Parameter
+
+-- what a line says, if it sends, or if it is one of the client's own region
 abbrev pub IsSaid : (pages : ℕ) → Option LoginNow → Verb → Outcome → Type 0
 IsSaid pages login verbs.Logout outcome = IsLogout login outcome
+IsSaid pages login (verbs.Fill at len seed) outcome = IsWritten (in_region pages at len) outcome
+IsSaid pages login (verbs.Poke at bytes) outcome = IsWritten (in_region pages at (length bytes)) outcome
+IsSaid pages login (verbs.Peek at len) outcome = IsShown (in_region pages at len) len outcome
+IsSaid pages login (verbs.Tce entry page readable writable) outcome =
+    outcome ≡ outcomes.Code (code_if (takes pages (4096 * entry) (tce_of page readable writable)))
 IsSaid pages login verb outcome = MatchBool (asks verb) (IsAsked login (told_refusal pages (ranges_of verb) login) outcome) ⊤
 
 -- the same of lines one after the other
@@ -104,8 +130,18 @@ pub record HasCausesTold (pages : ℕ) (ended : List Ended) : Type 0 where
   pub refusals : AreSaid pages None ended
   pub tags : AllPairs (λ a b. a < b) (tags_told ended)
 
--- So is it of each client of a partition that makes no raw call.
+-- what a trace shows of a client's region, and of its server unit's queue
+abbrev pub seen_in : Trace → (client server : UnitId) → Seen
+seen_in trace client server = record {
+  stroke_at = λ page stroke. Contains (map stroke_value (strokes_on trace client page)) stroke;
+  entry_put = λ entry. Contains (sent_to trace server) entry;
+}
+
+-- So is it of each client of a partition that makes no raw call, and what its lines say that they sent or wrote is there.
+pub record IsClientTold (partitions : List Partition) (trace : Trace) (client server : UnitId) : Type 0 where
+  pub causes : HasCausesTold (pages_at partitions client) (ended_by client.unit (script_of partitions client.partition) (records_of trace client.partition))
+  pub shown : LinesShow (seen_in trace client server) client client.unit (script_of partitions client.partition) (records_of trace client.partition)
+
 abbrev pub RefusalsAreTold : List Partition → Trace → Type 0
 RefusalsAreTold partitions trace = (client server : UnitId) → IsClientOf partitions client server
-    → HasNoCall (script_of partitions client.partition)
-    → HasCausesTold (pages_at partitions client) (ended_by client.unit (script_of partitions client.partition) (records_of trace client.partition))
+    → HasNoCall (script_of partitions client.partition) → IsClientTold partitions trace client server

@@ -12,6 +12,7 @@ use Rattle.vcpu_run.specs.declared.unit_seat.Seat.TheVariants as sits
 use Rattle.vcpu_run.specs.Agreed.{IsLoggedOut}
 use Rattle.vcpu_run.specs.Freeing.{is_reset}
 use Rattle.vcpu_run.specs.Credited.{Ended, ended_by}
+use Rattle.vcpu_run.specs.LinesShow.{LinesShow, Sees, seen_at}
 use Rattle.vcpu_run.specs.PortWords.{HasNoCall}
 use Rattle.vcpu_run.specs.Refusals.{HasCausesTold}
 use Rattle.vcpu_run.specs.Scripts.{are_servers}
@@ -38,24 +39,31 @@ PairIsTold own p pair = IfSome pair.driver (λ driver. IsTold (length pair.windo
 abbrev pub AtSeats : List Seat → List Pair → (P : ℕ → Pair → Type 0) → Type 0
 AtSeats seats pairs P = (unit k : ℕ) (pair : Pair) → slice_get seats unit ≡ Some (sits.Client k) → slice_get pairs k ≡ Some pair → P unit pair
 
--- The refusals of each client have their causes; before a line that fails no partition each client agrees with its records.
+-- what the lines of a unit that ended show, at its pair
+abbrev pub PairShown : Script → (unit : ℕ) → Pair → Type 0
+PairShown script unit pair = LinesShow (seen_at pair) pair.window.unit unit script.lines.now script.logs.items
+
+-- The refusals of each client have their causes, and what its lines did is there; before a line that fails no partition each client agrees with its records.
 pub record IsScriptTold (pairs : List Pair) (script : Script) : Type 0 where
   pub law : AtSeats script.seats.items pairs (λ unit pair. HasCausesTold (length pair.window.pages) (own_of unit script))
   pub fresh : IfSome (slice_get script.lines.now script.at)
       (λ line. (k : ℕ) → slice_get script.seats.items line.unit ≡ Some (sits.Client k) → IsOf line.verb script.progress)
   pub told : (line : Line) → slice_get script.lines.now script.at ≡ Some line → fails line.verb ≡ false
       → AtSeats script.seats.items pairs (λ unit pair. PairIsTold (own_of unit script) (progress_by unit script) pair)
+  pub shown : AtSeats script.seats.items pairs (PairShown script)
 
 -- a reset that is the current line left its client without a login
 abbrev pub IsResetOut : List Pair → Script → Type 0
 IsResetOut pairs script = (line : Line) (k : ℕ) (pair : Pair) → slice_get script.lines.now script.at ≡ Some line → is_reset line.verb ≡ true
     → slice_get script.seats.items line.unit ≡ Some (sits.Client k) → slice_get pairs k ≡ Some pair → IsLoggedOut pair
 
--- The client of a pair, its window's length and whether its queue is registered are as before.
+-- The client of a pair, its window's unit and length and whether its queue is registered are as before, and what there was is there.
 pub record SameClient (old new : Pair) : Type 0 where
   pub driver : new.driver ≡ old.driver
   pub pages : length new.window.pages ≡ length old.window.pages
   pub queue : (side_of new.link false).registered ≡ (side_of old.link false).registered
+  pub unit : new.window.unit ≡ old.window.unit
+  pub sees : Sees (seen_at old) (seen_at new)
 
 -- the same of all pairs
 abbrev pub SameClients : List Pair → List Pair → Type 0

@@ -20,6 +20,7 @@ use Rattle.vcpu_run.specs.declared.taking.Took.{Took}
 use Rattle.vcpu_run.specs.declared.taking.Took.TheVariants as tooks
 use Rattle.vcpu_run.specs.Credited.{Ended, is_take, taken_in}
 use Rattle.vcpu_run.specs.Freeing.{is_reset}
+use Rattle.vcpu_run.specs.LinesShow.{PairShows}
 use Rattle.vcpu_run.specs.Refusals.{HasCausesTold, LoginNow, login_by, tags_told}
 
 -- the login that is on by records, one after the other
@@ -116,13 +117,14 @@ PairTold verb p p' old new result = OnDrivers old.driver new.driver (λ a b. Ste
     (seated a.client p (side_of old.link false).registered) (seated b.client p' (side_of new.link false).registered) result)
 
 -- A step of a line at one pair, and the others as they were.
-pub record SeatTold (seat : ℕ) (verb : Verb) (p p' : Progress) (old new : List Pair) (result : Result Step NoMemory) : Type 0 where
+pub record SeatTold (seat : ℕ) (line : Line) (p p' : Progress) (old new : List Pair) (result : Result Step NoMemory) : Type 0 where
   pub beside : SameBeside seat old new
-  pub here : (before after : Pair) → slice_get old seat ≡ Some before → slice_get new seat ≡ Some after → PairTold verb p p' before after result
+  pub here : (before after : Pair) → slice_get old seat ≡ Some before → slice_get new seat ≡ Some after → PairTold line.verb p p' before after result
+  pub shows : (after : Pair) → slice_get new seat ≡ Some after → PairShows line after result
 
 -- A step of a line at its unit: at the pair where a client sits, and at none where a port does.
 pub record LineTold (seats : List Seat) (line : Line) (p p' : Progress) (old new : List Pair) (result : Result Step NoMemory) : Type 0 where
-  pub client : (k : ℕ) → slice_get seats line.unit ≡ Some (sits.Client k) → SeatTold k line.verb p p' old new result
+  pub client : (k : ℕ) → slice_get seats line.unit ≡ Some (sits.Client k) → SeatTold k line p p' old new result
   pub port : slice_get seats line.unit ≡ Some sits.Port → new ≡ old
 
 -- a step that waits leaves no login on

@@ -8,8 +8,10 @@ ghost use Rattle.boot_text.specs.declared.verb.Verb.TheVariants as verbs;
 ghost use Rattle.vcpu_run.specs.Credited.{StepsAgreed, taken_in, uses_credit};
 ghost use Rattle.unit_region.specs.Steps.{IsPlain};
 ghost use Rattle.vcpu_run.specs.Freeing.{is_reset};
+ghost use Rattle.vcpu_run.specs.Holding.{EndsOpen, StepsOpen};
 ghost use Rattle.vcpu_run.specs.Sendings.{SaysSent, SaysTurned, SaysWhy};
-ghost use Rattle.vcpu_run.specs.Commands.{IsOpOf};
+ghost use Rattle.vcpu_run.specs.Commands.{IsOpOf, cdb_of};
+ghost use Rattle.vcpu_run.specs.LinesShow.{StepShows, seen_by};
 ghost use Rattle.vcpu_run.specs.Replay.{asks, ranges_of};
 ghost use Rattle.vcpu_run.specs.Telling.{LeavesOut, StepsOut, StepsTold, seated};
 ghost use Rattle.vcpu_run.specs.declared.script.Progress.{Progress as ProgressValue};
@@ -89,6 +91,7 @@ impl Driver {
             result }
         ensures out { (self.old.client.granted ≡ None)
             ⊎ ((C.state crq.old.end).registered ≡ false) → LeavesOut self.new.client result }
+        ensures registered { EndsOpen (C.state crq.new.end).registered result }
         ensures works { Works false C.is_shared O.is_shared
             (C.state crq.old.end) (C.state crq.new.end)
             (O.state own.old) (O.state own.new) self.old self.new }
@@ -116,6 +119,8 @@ impl Driver {
             (seated self.old.client progress.old (C.state crq.old.end).registered)
             (seated self.new.client progress.new (C.state crq.new.end).registered)
             result }
+        ensures registered { C.is_shared ≡ false → StepsOpen verbs.Reset progress.new
+            (C.state crq.new.end).registered result }
         ensures works { Works true C.is_shared O.is_shared
             (C.state crq.old.end) (C.state crq.new.end)
             (O.state own.old) (O.state own.new) self.old self.new }
@@ -175,6 +180,10 @@ impl Driver {
             (seated self.old.client p (C.state crq.old.end).registered)
             (seated self.new.client p (C.state crq.new.end).registered)
             result }
+        ensures shows { (verb : VerbValue) → IsOpOf verb op.now →
+            op.now.cdb ≡ cdb_of verb → StepShows
+            (seen_by C.is_shared (O.state own.new) (C.state crq.new.end))
+            (O.state own.old).place.unit line verb result }
         ensures works { Works false C.is_shared O.is_shared
             (C.state crq.old.end) (C.state crq.new.end)
             (O.state own.old) (O.state own.new) self.old self.new }
@@ -199,6 +208,9 @@ impl Driver {
             (seated self.old.client p (C.state crq.old.end).registered)
             (seated self.new.client p (C.state crq.new.end).registered)
             result }
+        ensures shows { StepShows
+            (seen_by C.is_shared (O.state own.new) (C.state crq.new.end))
+            (O.state own.old).place.unit line (verbs.Task function tag) result }
         ensures works { Works false C.is_shared O.is_shared
             (C.state crq.old.end) (C.state crq.new.end)
             (O.state own.old) (O.state own.new) self.old self.new }
@@ -220,6 +232,9 @@ impl Driver {
             (seated self.old.client p (C.state crq.old.end).registered)
             (seated self.new.client p (C.state crq.new.end).registered)
             result }
+        ensures shows { StepShows
+            (seen_by C.is_shared (O.state own.new) (C.state crq.new.end))
+            (O.state own.old).place.unit line verbs.Logout result }
         ensures works { Works false C.is_shared O.is_shared
             (C.state crq.old.end) (C.state crq.new.end)
             (O.state own.old) (O.state own.new) self.old self.new }
@@ -273,6 +288,11 @@ impl Driver {
             (seated self.old.client progress.old (C.state crq.old.end).registered)
             (seated self.new.client progress.new (C.state crq.new.end).registered)
             result }
+        ensures shows { StepShows
+            (seen_by C.is_shared (O.state own.new) (C.state crq.new.end))
+            (O.state own.old).place.unit line.now.number line.now.verb result }
+        ensures registered { C.is_shared ≡ false → StepsOpen line.now.verb progress.new
+            (C.state crq.new.end).registered result }
         ensures works { Works (is_reset line.now.verb) C.is_shared O.is_shared
             (C.state crq.old.end) (C.state crq.new.end)
             (O.state own.old) (O.state own.new) self.old self.new }
@@ -305,6 +325,11 @@ impl Driver {
             (seated self.old.client progress.old (C.state crq.old.end).registered)
             (seated self.new.client progress.new (C.state crq.new.end).registered)
             result }
+        ensures shows { StepShows
+            (seen_by C.is_shared (O.state own.new) (C.state crq.new.end))
+            (O.state own.old).place.unit line.now.number line.now.verb result }
+        ensures registered { C.is_shared ≡ false → StepsOpen line.now.verb progress.new
+            (C.state crq.new.end).registered result }
         ensures works { Works (is_reset line.now.verb) C.is_shared O.is_shared
             (C.state crq.old.end) (C.state crq.new.end)
             (O.state own.old) (O.state own.new) self.old self.new }

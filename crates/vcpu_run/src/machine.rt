@@ -8,7 +8,7 @@ ghost use Rattle.vcpu_run.specs.Caused.{IsShownAll, KeepsCaused, LeadsCaused};
 ghost use Rattle.vcpu_run.specs.Answered.{AreAnswered};
 ghost use Rattle.vcpu_run.specs.Heard.{AreHeard};
 ghost use Rattle.vcpu_run.specs.Lines.{IsOver};
-ghost use Rattle.vcpu_run.specs.Freeing.{KeepQueues};
+ghost use Rattle.vcpu_run.specs.Holding.{KeepQueues};
 ghost use Rattle.vcpu_run.specs.Links.{AreLinked};
 ghost use Rattle.vcpu_run.specs.Machines.{AreScripts, IsMachine, IsOfPlan};
 ghost use Rattle.vcpu_run.specs.OnDisk.{IsServed, LastsInRows, LeadsOn};

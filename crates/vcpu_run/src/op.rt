@@ -1,9 +1,9 @@
 // The commands that script lines send.
-ghost use Rattle.std.specs.Prelude.{◌≡◌, ◌≤◌, true, false, IfSome, MatchOption};
+ghost use Rattle.std.specs.Prelude.{◌≡◌, ◌≤◌, true, false, IfSome, MatchOption, length};
 ghost use Rattle.boot_text.specs.Sound.{IsInRange};
 ghost use Rattle.boot_text.specs.declared.transfer.TheConstants.{MOST_BLOCKS, MOST_LBA};
 ghost use Rattle.vscsi_client.specs.Units.{FitsOp};
-ghost use Rattle.vcpu_run.specs.Commands.{HasNoData, IsOpOf};
+ghost use Rattle.vcpu_run.specs.Commands.{HasNoData, IsOpOf, block_cdb, cdb_of, padded_cdb};
 ghost use Rattle.vcpu_run.specs.Works.{sends};
 
 use boot_text::Verb;
@@ -31,6 +31,7 @@ pub(crate) const TEST_UNIT_READY: Op = Op {
 fn without_data(cdb: [u8; 16]) -> Op
     ensures fits { FitsOp result }
     ensures none { HasNoData result }
+    ensures cdb { result.cdb ≡ cdb }
 {
     Op {
         cdb,
@@ -46,6 +47,7 @@ fn without_data(cdb: [u8; 16]) -> Op
 fn block_cdb(code: u8, lba: u64, blocks: u64) -> [u8; 16]
     requires lba { lba ≤ MOST_LBA }
     requires blocks { blocks ≤ MOST_BLOCKS }
+    ensures { result ≡ block_cdb code lba blocks }
 {
     let [a, b, c, d] = (lba as u32).to_be_bytes();
     let [high, low] = (blocks as u16).to_be_bytes();
@@ -53,11 +55,12 @@ fn block_cdb(code: u8, lba: u64, blocks: u64) -> [u8; 16]
 }
 
 // A block of up to 16 bytes, with zeros behind them.
-fn padded(bytes: &[u8]) -> [u8; 16] {
+fn padded(bytes: &[u8]) -> [u8; 16]
+    requires { length bytes.now ≤ 16 }
+    ensures { result ≡ padded_cdb bytes.now }
+{
     let mut cdb = [0; 16];
-    for (byte, given) in cdb.iter_mut().zip(bytes) {
-        *byte = *given;
-    }
+    cdb[..bytes.len()].copy_from_slice(bytes);
     cdb
 }
 
@@ -67,6 +70,7 @@ pub(crate) fn op_of(verb: &Verb) -> Option<Op>
     ensures fits { MatchOption result (sends verb.now ≡ false) FitsOp }
     ensures sends { IfSome result (λ _. sends verb.now ≡ true) }
     ensures command { IfSome result (IsOpOf verb.now) }
+    ensures cdb { IfSome result (λ op. op.cdb ≡ cdb_of verb.now) }
 {
     match verb {
         Verb::Tur => Some(TEST_UNIT_READY),

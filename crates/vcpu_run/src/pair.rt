@@ -4,7 +4,7 @@ ghost use Rattle.boot_text.specs.Sound.{IsFrom};
 ghost use Rattle.boot_text.specs.declared.statement.TheConstants.{MOST_QUEUE};
 ghost use Rattle.crq_session.specs.PlainState.{side_of, IsNewLink};
 ghost use Rattle.vcpu_run.specs.Agreed.{IsLoggedOut};
-ghost use Rattle.vcpu_run.specs.Answered.{IsAnswered, IsBegun};
+ghost use Rattle.vcpu_run.specs.Answered.{IsAnswered};
 ghost use Rattle.vcpu_run.specs.Freed.{FreesNoneAt};
 ghost use Rattle.block_server.specs.Causes.{Told};
 ghost use Rattle.block_server.specs.DiskLaw.{KeepsDiskBy};
@@ -203,6 +203,8 @@ impl Pair {
         ensures unfreed { FreesNoneAt self.old self.new }
         ensures queue { (side_of self.new.link false).registered
             ≡ (side_of self.old.link false).registered }
+        ensures sent { (side_of self.new.link true).queue.sent
+            ≡ (side_of self.old.link true).queue.sent }
         ensures linked { OnOk result (IsLinked server.old.units.items unit self.old →
             IsLinked server.new.units.items unit self.new) }
         ensures linked_else { (k : ℕ) (other : Pair) → k ≢ unit →
@@ -211,91 +213,7 @@ impl Pair {
             IsLinked server.old.units.items unit self.old →
             ServerWaits (slice_get server.new.units.items unit) (link_state self.new.link)) }
     {
-        if self.link.queue(false).session() == 0 {
-            self.serve_on::<Di, 0>(server, unit)
-        } else {
-            self.serve_on::<Di, 1>(server, unit)
-        }
-    }
-
-    // The same where the client's queue has begun a session, or none.
-    fn serve_on<Di: Blocks, const BEGUN: usize>(
-        &mut self,
-        server: &mut Server<Di>,
-        unit: u8,
-    ) -> Result<Moved, NoMemory>
-        requires begun { IsBegun BEGUN (side_of self.old.link false).queue.session }
-        requires unit { unit < vec_len server.old.units }
-        requires pair { IsPair server.old.partition server.old.copies.items unit self.old }
-        requires answered { IsAnswered server.old.records.history.items self.old }
-        requires received { IsReceived server.old.units.items server.old.copies.items
-            server.old.records.grants.items server.old.records.history.items unit self.old }
-        ensures pair { IsPair server.old.partition server.new.copies.items unit self.new }
-        ensures others { (k : ℕ) (other : Pair) → k ≢ unit →
-            ((id : UnitId) → HasWindow id self.old → HasWindow id other → ⊥) →
-            IsPair server.old.partition server.old.copies.items k other →
-            IsPair server.old.partition server.new.copies.items k other }
-        ensures stays { Stays self.old self.new }
-        ensures driver { self.new.driver ≡ self.old.driver }
-        ensures units { vec_len server.new.units ≡ vec_len server.old.units }
-        ensures partition { server.new.partition ≡ server.old.partition }
-        ensures answered { IsAnswered server.new.records.history.items self.new }
-        ensures elsewhere { (k : ℕ) (other : Pair) → k ≢ unit →
-            other.server ≡ server_id server.old.partition k →
-            IsAnswered server.old.records.history.items other →
-            IsAnswered server.new.records.history.items other }
-        ensures received { IsReceived server.new.units.items server.new.copies.items
-            server.new.records.grants.items server.new.records.history.items unit self.new }
-        ensures received_else { (k : ℕ) (other : Pair) → k ≢ unit →
-            other.own.unit ≡ server_id server.old.partition k →
-            IsReceived server.old.units.items server.old.copies.items
-            server.old.records.grants.items server.old.records.history.items k other →
-            IsReceived server.new.units.items server.new.copies.items
-            server.new.records.grants.items server.new.records.history.items k other }
-        ensures shows { ShowsMore server.old.copies.items server.new.copies.items
-            self.old self.new }
-        ensures own { self.new.own.unit ≡ self.old.own.unit }
-        ensures told { (told : Told → Bool) →
-            TellsPair told server.new.copies.items self.new →
-            AllGoBy told server.old.disk.count server.old.partition
-            server.old.units.items server.old.records →
-            AllGoBy told server.new.disk.count server.new.partition
-            server.new.units.items server.new.records }
-        ensures causes { (told : Told → Bool) →
-            TellsPair told server.new.copies.items self.new →
-            AreInOrder told server.old.disk.count server.old.partition
-            server.old.units.items server.old.records → KeepsDiskBy told
-            server.old.records.history.items server.new.records.history.items
-            (Di.state server.old.disk.image).blocks (Di.state server.new.disk.image).blocks }
-        ensures told_own { (told : Told → Bool) →
-            TellsPair told server.new.copies.items self.new →
-            AllGoBy told server.old.disk.count server.old.partition
-            server.old.units.items server.old.records →
-            UnitGoesBy told server.old.units.items server.old.records unit self.old →
-            UnitGoesBy told server.new.units.items server.new.records unit self.new }
-        ensures told_else { (told : Told → Bool) (k : ℕ) (other : Pair) → k ≢ unit →
-            other.own.unit ≡ server_id server.old.partition k →
-            AreInOrder told server.old.disk.count server.old.partition
-            server.old.units.items server.old.records →
-            UnitGoesBy told server.old.units.items server.old.records k other →
-            ∥ UnitGoesBy told server.new.units.items server.new.records k other ∥₁ }
-        ensures units_else { (k : ℕ) → k ≢ unit →
-            slice_get server.new.units.items k ≡ slice_get server.old.units.items k }
-        ensures disk { LastsOnDisk server.old.records.history.items
-            server.new.records.history.items (Di.state server.old.disk.image).blocks
-            (Di.state server.new.disk.image).blocks }
-        ensures unfreed { FreesNoneAt self.old self.new }
-        ensures queue { (side_of self.new.link false).registered
-            ≡ (side_of self.old.link false).registered }
-        ensures linked { OnOk result (IsLinked server.old.units.items unit self.old →
-            IsLinked server.new.units.items unit self.new) }
-        ensures linked_else { (k : ℕ) (other : Pair) → k ≢ unit →
-            IsLinked server.old.units.items k other → IsLinked server.new.units.items k other }
-        ensures quiet { IfOk result (λ moved. moved ≡ Moved.Quiet →
-            IsLinked server.old.units.items unit self.old →
-            ServerWaits (slice_get server.new.units.items unit) (link_state self.new.link)) }
-    {
-        let mut end = SessionEnd::<BEGUN> {
+        let mut end = SessionEnd {
             end: self.link.side(true),
         };
         server.turn(unit, &mut end, &mut self.own, &mut self.window)

@@ -19,7 +19,7 @@ ghost use Rattle.vcpu_run.specs.Lines.{IsOver, is_over};
 ghost use Rattle.vcpu_run.specs.Links.{AreIdle, AreIdleTo, AreLinked, AreOverTo, RestsAt};
 ghost use Rattle.vcpu_run.specs.Links.{SeatsRestWhole, ServerWaits, ServersWait, links_of};
 ghost use Rattle.vcpu_run.specs.Freed.{FreesNoneIf};
-ghost use Rattle.vcpu_run.specs.Freeing.{KeepQueues};
+ghost use Rattle.vcpu_run.specs.Holding.{KeepQueues};
 ghost use Rattle.vcpu_run.specs.ScriptTold.{AreOutIf, AreOutTo, AreTold, SameClients};
 ghost use Rattle.vcpu_run.specs.Machines.{AllRun, AllStay, AreScripts, IsMachine, IsServing};
 ghost use Rattle.vcpu_run.specs.Pairs.{ArePairs, AreDrivers};
@@ -60,7 +60,8 @@ pub(crate) fn run<Di: Blocks>(
         AreTold pairs.new scripts.new) }
     ensures told { OnOk result (PortsTell lan.old scripts.old →
         PortsTell lan.new scripts.new) }
-    ensures unfreed { KeepQueues pairs.old scripts.old → KeepQueues pairs.new scripts.new }
+    ensures unfreed { OnOk result (KeepQueues pairs.old scripts.old →
+        KeepQueues pairs.new scripts.new) }
     ensures over { OnOk result (All IsOver scripts.new) }
     ensures answered { AreAnswered server.new.records.history.items pairs.new }
     ensures received { AreReceived server.new.units.items server.new.copies.items
@@ -127,7 +128,8 @@ fn step<Di: Blocks>(
         AreTold pairs.new scripts.new) }
     ensures told { OnOk result (PortsTell lan.old scripts.old →
         PortsTell lan.new scripts.new) }
-    ensures unfreed { KeepQueues pairs.old scripts.old → KeepQueues pairs.new scripts.new }
+    ensures unfreed { OnOk result (KeepQueues pairs.old scripts.old →
+        KeepQueues pairs.new scripts.new) }
     ensures answered { AreAnswered server.new.records.history.items pairs.new }
     ensures received { AreReceived server.new.units.items server.new.copies.items
         server.new.records.grants.items server.new.records.history.items pairs.new }
@@ -148,7 +150,7 @@ fn step<Di: Blocks>(
 {
     match round(server, pairs, scripts, lan)? {
         Moved::Moved => Ok(Moved::Moved),
-        Moved::Quiet => end_lines(scripts),
+        Moved::Quiet => end_lines(scripts, pairs),
     }
 }
 
@@ -176,7 +178,8 @@ fn round<Di: Blocks>(
         AreTold pairs.new scripts.new) }
     ensures told { OnOk result (PortsTell lan.old scripts.old →
         PortsTell lan.new scripts.new) }
-    ensures unfreed { KeepQueues pairs.old scripts.old → KeepQueues pairs.new scripts.new }
+    ensures unfreed { OnOk result (KeepQueues pairs.old scripts.old →
+        KeepQueues pairs.new scripts.new) }
     ensures answered { AreAnswered server.new.records.history.items pairs.new }
     ensures received { AreReceived server.new.units.items server.new.copies.items
         server.new.records.grants.items server.new.records.history.items pairs.new }
@@ -231,7 +234,8 @@ fn turn_at<Di: Blocks>(
         AreTold pairs.new scripts.new) }
     ensures told { OnOk result (PortsTell lan.old scripts.old →
         PortsTell lan.new scripts.new) }
-    ensures unfreed { KeepQueues pairs.old scripts.old → KeepQueues pairs.new scripts.new }
+    ensures unfreed { OnOk result (KeepQueues pairs.old scripts.old →
+        KeepQueues pairs.new scripts.new) }
     ensures answered { AreAnswered server.new.records.history.items pairs.new }
     ensures received { AreReceived server.new.units.items server.new.copies.items
         server.new.records.grants.items server.new.records.history.items pairs.new }
@@ -366,7 +370,8 @@ fn run_script(
         AreTold pairs.new scripts.new) }
     ensures told { OnOk result (PortsTell lan.old scripts.old →
         PortsTell lan.new scripts.new) }
-    ensures unfreed { KeepQueues pairs.old scripts.old → KeepQueues pairs.new scripts.new }
+    ensures unfreed { OnOk result (KeepQueues pairs.old scripts.old →
+        KeepQueues pairs.new scripts.new) }
     ensures answered { (history : List Served) →
         AreAnswered history pairs.old → AreAnswered history pairs.new }
     ensures received { (units : List Unit) (copies : List CopyRecord) (grants : List Grant)
@@ -392,7 +397,7 @@ fn run_script(
 }
 
 // Ends the lines that wait.
-fn end_lines(scripts: &mut [Script<'_>]) -> Result<Moved, NoMemory>
+fn end_lines(scripts: &mut [Script<'_>], pairs: &[Pair]) -> Result<Moved, NoMemory>
     ensures scripts { (pairs : List Pair) (ports : List PortSeat) →
         AreScripts pairs ports scripts.old → AreScripts pairs ports scripts.new }
     ensures run { AllRun scripts.old scripts.new }
@@ -405,18 +410,21 @@ fn end_lines(scripts: &mut [Script<'_>]) -> Result<Moved, NoMemory>
     ensures told { OnOk result ((pairs : List Pair) (ports : List PortSeat) (lan : LanValue) →
         AreScripts pairs ports scripts.old → PortsTell lan scripts.old →
         PortsTell lan scripts.new) }
+    ensures unfreed { OnOk result ((ports : List PortSeat) →
+        AreScripts pairs.now ports scripts.old → KeepQueues pairs.now scripts.old →
+        KeepQueues pairs.now scripts.new) }
     ensures quiet { IfOk result (λ moved. moved ≡ Moved.Quiet → scripts.new ≡ scripts.old) }
 {
     let mut moved = Moved::Quiet;
     for number in 0..scripts.len() {
-        let turned = end_line_at(scripts, number)?;
+        let turned = end_line_at(scripts, pairs, number)?;
         moved = either(moved, turned);
     }
     Ok(moved)
 }
 
 // Ends the line of the partition with this place, if it waits.
-fn end_line_at(scripts: &mut [Script<'_>], number: usize) -> Result<Moved, NoMemory>
+fn end_line_at(scripts: &mut [Script<'_>], pairs: &[Pair], number: usize) -> Result<Moved, NoMemory>
     requires { number < length scripts.old }
     ensures scripts { (pairs : List Pair) (ports : List PortSeat) →
         AreScripts pairs ports scripts.old → AreScripts pairs ports scripts.new }
@@ -430,9 +438,12 @@ fn end_line_at(scripts: &mut [Script<'_>], number: usize) -> Result<Moved, NoMem
     ensures told { OnOk result ((pairs : List Pair) (ports : List PortSeat) (lan : LanValue) →
         AreScripts pairs ports scripts.old → PortsTell lan scripts.old →
         PortsTell lan scripts.new) }
+    ensures unfreed { OnOk result ((ports : List PortSeat) →
+        AreScripts pairs.now ports scripts.old → KeepQueues pairs.now scripts.old →
+        KeepQueues pairs.now scripts.new) }
     ensures quiet { IfOk result (λ moved. moved ≡ Moved.Quiet → scripts.new ≡ scripts.old) }
     ensures elsewhere { (i : ℕ) → i ≢ number →
         slice_get scripts.new i ≡ slice_get scripts.old i }
 {
-    scripts[number].end_waiting()
+    scripts[number].end_line(pairs)
 }

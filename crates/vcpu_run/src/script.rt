@@ -1,12 +1,12 @@
 // A partition: its script, and a turn of it.
-ghost use Rattle.std.specs.Prelude.{◌≡◌, ◌<◌, All, IfOk, List, Some, OnOk, false, length, slice_get, true};
+ghost use Rattle.std.specs.Prelude.{◌≡◌, ◌<◌, ℕ, All, IfOk, IfSome, List, Some, OnOk, false, length, slice_get, true};
 ghost use Rattle.std.specs.List.{AllPairs};
 ghost use Rattle.vcpu_run.specs.declared.pair.Pair.{Pair as PairValue};
 ghost use Rattle.vcpu_run.specs.Agreed.{AreLoggedOut, IsCredited, IsEnded, SameElse};
 ghost use Rattle.vcpu_run.specs.Credited.{taken_in};
 ghost use Rattle.vcpu_run.specs.Lines.{IsOver, is_over, place_behind};
-ghost use Rattle.vcpu_run.specs.Freed.{FreesNoneIf};
-ghost use Rattle.vcpu_run.specs.Freeing.{IsSparedBy};
+ghost use Rattle.vcpu_run.specs.Freeing.{is_reset};
+ghost use Rattle.vcpu_run.specs.Holding.{IsRegistered, IsResetOpen, KeepsQueues};
 ghost use Rattle.vcpu_run.specs.Links.{SeatsRest, SeatsRestWhole};
 ghost use Rattle.vcpu_run.specs.Pairs.{AreDriven, AreDrivers};
 ghost use Rattle.vcpu_run.specs.Quietly.{OnQuiet};
@@ -18,6 +18,7 @@ ghost use Rattle.vcpu_run.specs.Suited.{IsLineAt};
 ghost use Rattle.vcpu_run.specs.ScriptTold.{IsResetOut, IsScriptTold};
 ghost use Rattle.vcpu_run.specs.Scripts.{AreSeats, IsScript, OnlyRuns, are_servers};
 ghost use Rattle.vcpu_run.specs.Works.{fails};
+ghost use Rattle.vcpu_run.specs.declared.unit_seat.Seat.TheVariants as sits;
 
 use crate::pair::Pair;
 use crate::seats::{either, fail, push_events, step_unit, take_rest};
@@ -120,7 +121,8 @@ impl<'p> Script<'p> {
         ensures script { IsScript pairs.new self.new }
         ensures rest { OnlyRuns self.old self.new }
         ensures others { SameElse self.old.seats.items pairs.old pairs.new }
-        ensures stays { FreesNoneIf (IsSparedBy self.old) pairs.old pairs.new }
+        ensures unfreed { OnOk result (KeepsQueues pairs.old self.old →
+            KeepsQueues pairs.new self.new) }
         ensures lan { lan.new.seats ≡ lan.old.seats }
         ensures told { OnOk result (TellsPorts lan.old self.old →
             TellsPorts lan.new self.new) }
@@ -148,7 +150,8 @@ impl<'p> Script<'p> {
         ensures script { IsScript pairs.new self.new }
         ensures rest { OnlyRuns self.old self.new }
         ensures others { SameElse self.old.seats.items pairs.old pairs.new }
-        ensures stays { FreesNoneIf (IsSparedBy self.old) pairs.old pairs.new }
+        ensures unfreed { OnOk result (KeepsQueues pairs.old self.old →
+            KeepsQueues pairs.new self.new) }
         ensures lan { lan.new.seats ≡ lan.old.seats }
         ensures told { OnOk result (TellsPorts lan.old self.old →
             TellsPorts lan.new self.new) }
@@ -179,7 +182,8 @@ impl<'p> Script<'p> {
         ensures script { IsScript pairs.new self.new }
         ensures rest { OnlyRuns self.old self.new }
         ensures others { SameElse self.old.seats.items pairs.old pairs.new }
-        ensures stays { FreesNoneIf (IsSparedBy self.old) pairs.old pairs.new }
+        ensures unfreed { OnOk result (KeepsQueues pairs.old self.old →
+            KeepsQueues pairs.new self.new) }
         ensures lan { lan.new.seats ≡ lan.old.seats }
         ensures told { OnOk result (TellsPorts lan.old self.old →
             TellsPorts lan.new self.new) }
@@ -229,7 +233,8 @@ impl<'p> Script<'p> {
         ensures script { IsScript pairs.new self.new }
         ensures rest { OnlyRuns self.old self.new }
         ensures others { SameElse self.old.seats.items pairs.old pairs.new }
-        ensures stays { FreesNoneIf (IsSparedBy self.old) pairs.old pairs.new }
+        ensures unfreed { OnOk result (KeepsQueues pairs.old self.old →
+            KeepsQueues pairs.new self.new) }
         ensures lan { lan.new.seats ≡ lan.old.seats }
         ensures told { OnOk result (TellsPorts lan.old self.old →
             TellsPorts lan.new self.new) }
@@ -284,8 +289,18 @@ impl<'p> Script<'p> {
         self.at >= self.lines.len()
     }
 
+    // Whether the current line is a reset whose queue is not registered.
+    fn is_shut(&self, pairs: &[Pair]) -> bool
+        ensures { result ≡ false → IsResetOpen pairs.now self.now }
+    {
+        match self.lines.get(self.at) {
+            Some(line) => is_reset_shut(&self.seats, pairs, line),
+            None => false,
+        }
+    }
+
     /// Ends the current line if it waits for what does not come any more.
-    pub(crate) fn end_waiting(&mut self) -> Result<Moved, NoMemory>
+    pub(crate) fn end_line(&mut self, pairs: &[Pair]) -> Result<Moved, NoMemory>
         ensures script { (pairs : List PairValue) →
             IsScript pairs self.old → IsScript pairs self.new }
         ensures rest { OnlyRuns self.old self.new }
@@ -296,6 +311,32 @@ impl<'p> Script<'p> {
         ensures said { OnOk result ((pairs : List PairValue) → IsScript pairs self.old →
             IsResetOut pairs self.old → IsScriptTold pairs self.old →
             IsScriptTold pairs self.new) }
+        ensures unfreed { OnOk result (IsScript pairs.now self.old →
+            KeepsQueues pairs.now self.old → KeepsQueues pairs.now self.new) }
+        ensures quiet { OnQuiet result (self.new ≡ self.old) }
+    {
+        // Never met: a server unit finds no full queue of a client that is not registered, so it takes what its own queue
+        // holds, and the event of the registration has room before a round is quiet.
+        if self.is_shut(pairs) {
+            return Err(NoMemory);
+        }
+        self.end_waiting()
+    }
+
+    // Ends the current line if it waits.
+    fn end_waiting(&mut self) -> Result<Moved, NoMemory>
+        ensures script { (pairs : List PairValue) →
+            IsScript pairs self.old → IsScript pairs self.new }
+        ensures rest { OnlyRuns self.old self.new }
+        ensures credited { OnOk result ((pairs : List PairValue) → IsScript pairs self.old →
+            IsCredited pairs self.old → IsCredited pairs self.new) }
+        ensures told { OnOk result ((pairs : List PairValue) (lan : LanValue) →
+            IsScript pairs self.old → TellsPorts lan self.old → TellsPorts lan self.new) }
+        ensures said { OnOk result ((pairs : List PairValue) → IsScript pairs self.old →
+            IsResetOut pairs self.old → IsScriptTold pairs self.old →
+            IsScriptTold pairs self.new) }
+        ensures unfreed { OnOk result ((pairs : List PairValue) → IsScript pairs self.old →
+            IsResetOpen pairs self.old → KeepsQueues pairs self.old → KeepsQueues pairs self.new) }
         ensures quiet { OnQuiet result (self.new ≡ self.old) }
     {
         let lines = self.lines;
@@ -310,6 +351,35 @@ impl<'p> Script<'p> {
         };
         self.end(line, outcome)?;
         Ok(Moved::Moved)
+    }
+}
+
+// Whether this line is a reset of a unit whose queue is not registered.
+fn is_reset_shut(seats: &[Seat], pairs: &[Pair], line: &Line) -> bool
+    ensures { result ≡ false → is_reset line.now.verb ≡ true → (k : ℕ) →
+        slice_get seats.now line.now.unit ≡ Some (sits.Client k) →
+        IfSome (slice_get pairs.now k) IsRegistered }
+{
+    let Verb::Reset = line.verb else {
+        return false;
+    };
+    match seats.get(usize::from(line.unit)) {
+        Some(seat) => is_seat_shut(pairs, *seat),
+        None => false,
+    }
+}
+
+// Whether a client sits here, and its queue is not registered.
+fn is_seat_shut(pairs: &[Pair], seat: Seat) -> bool
+    ensures { result ≡ false → (k : ℕ) → seat ≡ sits.Client k →
+        IfSome (slice_get pairs.now k) IsRegistered }
+{
+    let Seat::Client(pair) = seat else {
+        return false;
+    };
+    match pairs.get(pair) {
+        Some(pair) => !pair.link.is_registered(false),
+        None => false,
     }
 }
 

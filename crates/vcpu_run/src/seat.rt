@@ -5,6 +5,8 @@ ghost use Rattle.vcpu_run.specs.Pairs.{Drives, IsDriver};
 ghost use Rattle.vcpu_run.specs.Credited.{StepsAgreed, taken_in};
 ghost use Rattle.vcpu_run.specs.Freed.{FreesNoneAt};
 ghost use Rattle.vcpu_run.specs.Freeing.{is_reset};
+ghost use Rattle.vcpu_run.specs.LinesShow.{PairShows};
+ghost use Rattle.vcpu_run.specs.Holding.{PairOpen};
 ghost use Rattle.vcpu_run.specs.Links.{ClientWaits, EventWaits, PairRests, link_state};
 ghost use Rattle.vcpu_run.specs.Agreed.{OnDrivers};
 ghost use Rattle.hcall_table.specs.Rows.{IsAnswer, may_answer};
@@ -54,7 +56,9 @@ pub(crate) fn step(pair: &mut Pair, line: &Line, progress: &mut Progress) -> Res
         StepsAgreed line.now.verb (taken_in progress.old) (taken_in progress.new)
         a.client b.client result) }
     ensures said { PairTold line.now.verb progress.old progress.new pair.old pair.new result }
+    ensures shows { PairShows line.now pair.new result }
     ensures out { PairOut line.now.verb progress.old progress.new pair.old pair.new result }
+    ensures registered { PairOpen line.now.verb progress.new pair.new result }
     ensures stays { is_reset line.now.verb ≡ false → FreesNoneAt pair.old pair.new }
 {
     let Some(driver) = &mut pair.driver else {

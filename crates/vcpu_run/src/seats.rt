@@ -1,13 +1,14 @@
 // What a partition does at its units, one after the other or at one of them.
-ghost use Rattle.std.specs.Prelude.{◌≡◌, ◌≢◌, ◌<◌, ◌≤◌, ◌∷◌, [], ⊤, ℕ, false, IfOk, IfSome, OnOk, Some, IsSomeAnd, length, slice_get};
+ghost use Rattle.std.specs.Prelude.{◌≡◌, ◌<◌, ◌≤◌, ◌∷◌, [], ⊤, ℕ, false, IfOk, IfSome, OnOk, Some, IsSomeAnd, length, slice_get};
 ghost use Rattle.vcpu_run.specs.Agreed.{AllSame, SameBeside, SameDrivers, SameElse, StepsLine, StepsSeat};
 ghost use Rattle.vcpu_run.specs.Credited.{taken_in};
 ghost use Rattle.vcpu_run.specs.Freed.{FreesNoneIf};
-ghost use Rattle.vcpu_run.specs.Freeing.{IsSpared, NoneSits, is_reset};
+ghost use Rattle.vcpu_run.specs.Freeing.{IsSpared, is_reset};
+ghost use Rattle.vcpu_run.specs.Holding.{LineOpen, SeatOpen};
 ghost use Rattle.vcpu_run.specs.Links.{ClientWaits, EventWaits, EventsWait, LinksRest, SeatsRest, links_of};
 ghost use Rattle.vcpu_run.specs.Pairs.{AreDriven, IsDriver};
 ghost use Rattle.vcpu_run.specs.Ports.{HavePorts, IsPortOf};
-ghost use Rattle.vcpu_run.specs.PortSteps.{AllIdle, AllTake, IsApart, IsBeside, TakesOn, TellsStep};
+ghost use Rattle.vcpu_run.specs.PortSteps.{AllSilent, AllTake, IsApart, IsBeside, TakesOn, TellsStep};
 ghost use Rattle.vcpu_run.specs.PortWords.{done_in};
 ghost use Rattle.vcpu_run.specs.Suited.{is_call, suits};
 ghost use Rattle.vcpu_run.specs.ScriptTold.{SameClients};
@@ -103,10 +104,11 @@ pub(crate) fn step_at(
     ensures driven { AreDriven pairs.old pairs.new }
     ensures credit { StepsSeat pair line.now.verb (taken_in progress.old)
         (taken_in progress.new) pairs.old pairs.new result }
-    ensures said { SeatTold pair line.now.verb progress.old progress.new
+    ensures said { SeatTold pair line.now progress.old progress.new
         pairs.old pairs.new result }
     ensures out { SeatOut pair line.now.verb progress.old progress.new
         pairs.old pairs.new result }
+    ensures registered { SeatOpen pair line.now.verb progress.new pairs.new result }
     ensures stays { FreesNoneIf (λ k. k ≡ pair → is_reset line.now.verb ≡ false)
         pairs.old pairs.new }
 {
@@ -142,6 +144,7 @@ fn step_own(
         pairs.old pairs.new result }
     ensures out { LineOut seats.now line.now progress.old progress.new
         pairs.old pairs.new result }
+    ensures registered { LineOpen seats.now line.now progress.new pairs.new result }
     ensures stays { FreesNoneIf (IsSpared seats.now line.now) pairs.old pairs.new }
     ensures others { SameElse seats.now pairs.old pairs.new }
     ensures lan { lan.new.seats ≡ lan.old.seats }
@@ -177,6 +180,8 @@ pub(crate) fn step_unit(
         LineTold seats.now line.now progress.old progress.new pairs.old pairs.new result }
     ensures out { is_call line.now.verb ≡ false →
         LineOut seats.now line.now progress.old progress.new pairs.old pairs.new result }
+    ensures registered { is_call line.now.verb ≡ false →
+        LineOpen seats.now line.now progress.new pairs.new result }
     ensures stays { FreesNoneIf (IsSpared seats.now line.now) pairs.old pairs.new }
     ensures others { SameElse seats.now pairs.old pairs.new }
     ensures lan { lan.new.seats ≡ lan.old.seats }
@@ -271,7 +276,6 @@ fn fail_of(pairs: &mut [Pair], pair: usize) -> Result<bool, NoMemory>
         (λ pair. IsSomeAnd pair.driver (IsDriver pair.window)) }
     ensures driven { AreDriven pairs.old pairs.new }
     ensures credit { AllSame pairs.old pairs.new }
-    ensures stays { FreesNoneIf (λ k. k ≢ pair) pairs.old pairs.new }
     ensures others { SameBeside pair pairs.old pairs.new }
 {
     seat::fail(&mut pairs[pair])
@@ -284,10 +288,10 @@ fn fail_at(unit: UnitId, seat: Seat, pairs: &mut [Pair], lan: &mut Lan) -> Resul
     requires port { seat ≡ sits.Port → IsPortOf lan.old.seats unit }
     ensures driven { AreDriven pairs.old pairs.new }
     ensures credit { AllSame pairs.old pairs.new }
-    ensures stays { FreesNoneIf (NoneSits (seat ∷ [])) pairs.old pairs.new }
     ensures others { SameElse (seat ∷ []) pairs.old pairs.new }
     ensures lan { lan.new.seats ≡ lan.old.seats }
-    ensures idle { AllIdle lan.old lan.new }
+    ensures idle { AllSilent lan.old lan.new }
+    ensures beside { IsBeside unit lan.old lan.new }
 {
     match seat {
         Seat::Client(pair) => fail_of(pairs, pair),
@@ -308,10 +312,10 @@ pub(crate) fn fail(
     requires few { length seats.now ≤ 8 }
     ensures driven { AreDriven pairs.old pairs.new }
     ensures credit { AllSame pairs.old pairs.new }
-    ensures stays { FreesNoneIf (NoneSits seats.now) pairs.old pairs.new }
     ensures others { SameElse seats.now pairs.old pairs.new }
     ensures lan { lan.new.seats ≡ lan.old.seats }
-    ensures idle { AllIdle lan.old lan.new }
+    ensures idle { AllSilent lan.old lan.new }
+    ensures apart { IsApart partition lan.old lan.new }
 {
     for k in 0..seats.len() {
         let unit = UnitId {

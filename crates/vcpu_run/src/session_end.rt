@@ -1,21 +1,19 @@
 // An end of a plain link that puts entries in sessions alone.
 ghost use Rattle.crq_session.specs.PlainState.{state_of};
-ghost use Rattle.vcpu_run.specs.Answered.{IsBegun, IsBehind, PutsInSessions};
+ghost use Rattle.vcpu_run.specs.Answered.{IsBehind, PutsInSessions};
 
 use crq_session::{CrqEnd, EventAnswer, FreeAnswer, PlainEnd, PollAnswer, RegAnswer, SendAnswer};
 use vio_num::{Entry, NoMemory};
 
-/// An end of a plain link, all whose entries were put in sessions of its partner's queue, which count from 1. The
-/// partner's queue has begun a session where BEGUN is 1, and none where it is 0.
+/// An end of a plain link, all whose entries were put in sessions of its partner's queue, which count from 1.
 #[derive(Drop)]
-pub(crate) struct SessionEnd<'a, const BEGUN: usize> {
+pub(crate) struct SessionEnd<'a> {
     pub(crate) end: PlainEnd<'a>,
     ghost puts: { PutsInSessions (state_of end) },
     ghost behind: { IsBehind (state_of end) },
-    ghost begun: { IsBegun BEGUN (state_of end).counts.partner_session },
 }
 
-impl<const BEGUN: usize> CrqEnd for SessionEnd<'_, BEGUN> {
+impl CrqEnd for SessionEnd<'_> {
     ghost use Rattle.std.specs.Prelude.{false};
     ghost use Rattle.crq_session.specs.PlainState.{state_of, heard_of};
 

@@ -66,7 +66,7 @@ returns-clause-settled c =
 pub returns-clause-handed : goal.returns-clause-handed
 returns-clause-handed c =
     from_rows c.args.pairs.items c.args.scripts.items c.args.lan c.args.history.items c.args.grants.items c.args.copies.items c.rows_of.result _ _ c.rows_of.ensures.trace c.rows_of.ensures.queues
-    (λ rows keeps ordered lawful partitions of_plan rests. handed_are c.args.pairs.items c.args.scripts.items c.args.lan rows c.args.history.items c.args.grants.items c.args.copies.items partitions rests.units c.requires.scripts of_plan rests.idle rests.unfreed)
+    (λ rows keeps ordered lawful partitions of_plan rests. handed_are c.args.pairs.items c.args.scripts.items c.args.lan rows c.args.history.items c.args.grants.items c.args.copies.items partitions rests.units c.requires.scripts of_plan rests.idle rests.unfreed rests.over)
 
 pub returns-clause-intake : goal.returns-clause-intake
 returns-clause-intake c =
@@ -102,8 +102,10 @@ returns-clause-told c =
 
 pub returns-clause-refusals : goal.returns-clause-refusals
 returns-clause-refusals c =
-    from_rows c.args.pairs.items c.args.scripts.items c.args.lan c.args.history.items c.args.grants.items c.args.copies.items c.rows_of.result _ _ c.rows_of.ensures.trace c.rows_of.ensures.queues
-    (λ rows keeps ordered lawful partitions of_plan told. refusals_are c.args.pairs.items c.args.scripts.items c.args.lan rows c.args.history.items c.args.grants.items c.args.copies.items partitions c.requires.scripts of_plan told)
+    from_rows c.args.pairs.items c.args.scripts.items c.args.lan c.args.history.items c.args.grants.items c.args.copies.items c.rows_of.result _ _ c.rows_of.ensures.trace
+    (ok_pair c.rows_of.result _ _ c.rows_of.ensures.queues c.rows_of.ensures.windows)
+    (λ rows keeps ordered lawful partitions of_plan told. refusals_are c.args.pairs.items c.args.scripts.items c.args.lan rows c.args.history.items c.args.grants.items c.args.copies.items partitions
+    c.requires.pairs c.requires.scripts lawful.0 lawful.1 of_plan told)
 
 pub returns-clause-copied : goal.returns-clause-copied
 returns-clause-copied c =

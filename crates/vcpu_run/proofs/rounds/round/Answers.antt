@@ -32,7 +32,7 @@ loop-number-preserved g c =
       told = λ tells. c.in_ok-turned.ensures.told (before.told tells);
       lan = after.lan ∙ before.lan;
       linked = λ are. c.in_ok-turned.ensures.linked (before.linked are);
-      unfreed = λ keep. after.unfreed (before.unfreed keep);
+      unfreed = λ keep. c.in_ok-turned.ensures.unfreed (before.unfreed keep);
       idle = λ is are.
           idle_next c.loop-number.number c.loop-number.server.units.items c.turn_at.new.server.units.items c.loop-number.pairs c.turn_at.new.pairs c.loop-number.scripts c.turn_at.new.scripts
           (omega (arith, before.run.count, after.run.count, c.loop-number-test.true)) after.elsewhere

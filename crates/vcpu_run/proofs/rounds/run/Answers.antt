@@ -29,7 +29,7 @@ loop-round-preserved g c =
       said = λ told. c.in_ok-moved.ensures.said (before.said told);
       told = λ tells. c.in_ok-moved.ensures.told (before.told tells);
       lan = after.lan ∙ before.lan;
-      unfreed = λ keep. after.unfreed (before.unfreed keep);
+      unfreed = λ keep. c.in_ok-moved.ensures.unfreed (before.unfreed keep);
       linked = λ are. c.in_ok-moved.ensures.linked (before.linked are);
     }
 

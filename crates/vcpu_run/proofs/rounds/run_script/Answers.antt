@@ -10,7 +10,7 @@ use Rattle.vcpu_run.proofs.Keeping.{driven_stay, drivers_driven, pairs_driven}
 use Rattle.vcpu_run.proofs.Receiving.{received_driven}
 use Rattle.vcpu_run.proofs.RoundsTold.{out_turned, told_turned}
 use Rattle.vcpu_run.proofs.Scripted.{run_one, script_turned}
-use Rattle.vcpu_run.proofs.Unfreed.{queues_turned}
+use Rattle.vcpu_run.proofs.Held.{queues_turned}
 use Rattle.vcpu_run.proofs.PortTurns.{ports_turned}
 use Rattle.vcpu_run.proofs.HeardTurns.{heard_driven, tells_driven}
 use Rattle.vcpu_run.proofs.rounds.run_script.Goals as goal
@@ -88,8 +88,10 @@ pub returns-clause-unfreed : goal.returns-clause-unfreed
 returns-clause-unfreed c =
     let scripts = c.args.scripts.now in
     let d = c.index-scripts-number.result in
-    queues_turned c.args.pairs.now c.turn.new.pairs c.args.lan.now.seats scripts c.args.number (slice_index_or scripts c.args.number d) c.turn.new.self
-    (slice_get-get_or scripts c.args.number d c.requires.there) c.requires.scripts c.turn.ensures.rest c.turn.ensures.stays
+    ok_then c.turn.result _ _
+    (λ kept. queues_turned c.args.pairs.now c.turn.new.pairs c.args.lan.now.seats scripts c.args.number (slice_index_or scripts c.args.number d) c.turn.new.self
+    (slice_get-get_or scripts c.args.number d c.requires.there) c.requires.scripts c.turn.ensures.others kept)
+    c.turn.ensures.unfreed
 
 pub returns-clause-told : goal.returns-clause-told
 returns-clause-told c =

@@ -13,6 +13,7 @@ use Rattle.vcpu_run.proofs.ClientsTold.{clients_set}
 use Rattle.vcpu_run.proofs.Agreeing.{set_same}
 use Rattle.vcpu_run.proofs.HeardTurns.{heard_set, tells_before}
 use Rattle.vcpu_run.proofs.Keeping.{stays_same}
+use Rattle.vcpu_run.proofs.LinesShown.{serve_sees}
 use Rattle.vcpu_run.proofs.Listed.{each_on, each_set}
 use Rattle.vcpu_run.proofs.PairNames.{apart_stays}
 use Rattle.vcpu_run.proofs.Unfreed.{frees_set}
@@ -120,7 +121,13 @@ returns-clause-clients g c =
     let pairs = c.args.pairs.now in
     clients_set pairs c.args.unit (slice_index_or pairs c.args.unit c.index-pairs-unit.result) c.serve.new.self
     (slice_get-get_or pairs c.args.unit c.index-pairs-unit.result c.requires.there)
-    (record { driver = c.serve.ensures.driver; pages = c.serve.ensures.stays.pages; queue = c.serve.ensures.queue })
+    (record {
+      driver = c.serve.ensures.driver;
+      pages = c.serve.ensures.stays.pages;
+      queue = c.serve.ensures.queue;
+      unit = c.serve.ensures.stays.client_unit;
+      sees = serve_sees (slice_index_or pairs c.args.unit c.index-pairs-unit.result) c.serve.new.self c.serve.ensures.shows.window c.serve.ensures.sent;
+    })
 
 pub returns-clause-heard : goal.returns-clause-heard
 returns-clause-heard g c =

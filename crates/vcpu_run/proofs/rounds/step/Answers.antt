@@ -5,7 +5,6 @@ use Rattle.vcpu_run.proofs.Crediting.{on_ok}
 use Rattle.std.proofs.Common.{List, length, subst, sym}
 use Rattle.vcpu_run.proofs.Elsewhere.{ok_then}
 use Rattle.vcpu_run.proofs.Scripted.{run_then}
-use Rattle.vcpu_run.proofs.Unfreed.{queues_run}
 use Rattle.vcpu_run.proofs.rounds.step.Goals as goal
 
 pub returns-in-Quiet-clause-machine : goal.returns-in-Quiet-clause-machine
@@ -36,7 +35,10 @@ returns-in-Quiet-clause-idle g c =
     c.end_lines.ensures.quiet
 
 pub returns-in-Quiet-clause-unfreed : goal.returns-in-Quiet-clause-unfreed
-returns-in-Quiet-clause-unfreed g c = λ keep. queues_run c.round.new.pairs c.round.new.scripts c.end_lines.new.scripts c.end_lines.ensures.run (c.round.ensures.unfreed keep)
+returns-in-Quiet-clause-unfreed g c =
+    ok_then c.end_lines.result _ _
+    (λ kept keep. kept c.round.new.lan.seats c.round.ensures.machine.scripts_are (c.in_ok-round.ensures.unfreed keep))
+    c.end_lines.ensures.unfreed
 
 pub returns-in-Quiet-clause-told : goal.returns-in-Quiet-clause-told
 returns-in-Quiet-clause-told g c =

@@ -8,7 +8,7 @@ use Rattle.vcpu_run.proofs.Keeping.{drivers_of}
 use Rattle.vcpu_run.proofs.Lasting.{serving_stays}
 use Rattle.vcpu_run.proofs.RoundsTold.{out_served, told_served}
 use Rattle.vcpu_run.proofs.Scripted.{run_same, scripts_stay}
-use Rattle.vcpu_run.proofs.Unfreed.{queues_served}
+use Rattle.vcpu_run.proofs.Held.{queues_served}
 use Rattle.vcpu_run.proofs.rounds.turn_at.Goals as goal
 
 pub run_script-requires-clause-drivers : goal.run_script-requires-clause-drivers
@@ -66,7 +66,8 @@ returns-else-is_of_servers-clause-idle g c =
     c.run_script.ensures.idle
 
 pub returns-then-is_of_servers-clause-unfreed : goal.returns-then-is_of_servers-clause-unfreed
-returns-then-is_of_servers-clause-unfreed g c = queues_served c.args.pairs.now c.serve.new.pairs c.args.scripts.now c.serve.ensures.stays
+returns-then-is_of_servers-clause-unfreed g c =
+    on_ok c.serve.result _ (λ keep. queues_served c.args.pairs.now c.serve.new.pairs c.args.scripts.now c.serve.ensures.stays keep)
 
 pub returns-then-is_of_servers-clause-told : goal.returns-then-is_of_servers-clause-told
 returns-then-is_of_servers-clause-told g c = on_ok c.serve.result _ (λ tells. tells)

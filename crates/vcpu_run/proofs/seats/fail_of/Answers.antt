@@ -1,7 +1,6 @@
 use Rattle.std.proofs.lemmas.Option.{slice_get-get_or}
 use Rattle.vcpu_run.proofs.Agreeing.{set_all, set_beside}
 use Rattle.vcpu_run.proofs.Driving.{driven_set, some_there}
-use Rattle.vcpu_run.proofs.Unfreed.{frees_other}
 use Rattle.vcpu_run.proofs.seats.fail_of.Goals as goal
 
 pub fail-requires : goal.fail-requires
@@ -12,9 +11,6 @@ returns-clause-driven c = driven_set c.args.pairs.now c.args.pair _ c.fail.new.p
 
 pub returns-clause-credit : goal.returns-clause-credit
 returns-clause-credit c = set_all c.args.pairs.now c.args.pair _ c.fail.new.pair (slice_get-get_or c.args.pairs.now c.args.pair _ c.requires.there) c.fail.ensures.credit
-
-pub returns-clause-stays : goal.returns-clause-stays
-returns-clause-stays c = frees_other c.args.pairs.now c.args.pair c.fail.new.pair
 
 pub returns-clause-others : goal.returns-clause-others
 returns-clause-others c = set_beside c.args.pairs.now c.args.pair c.fail.new.pair

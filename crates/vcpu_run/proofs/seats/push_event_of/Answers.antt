@@ -6,6 +6,7 @@ use Rattle.std.proofs.Common.{ap, length}
 use Rattle.vcpu_run.proofs.ClientsTold.{clients_set}
 use Rattle.vcpu_run.proofs.Agreeing.{set_beside, set_same}
 use Rattle.vcpu_run.proofs.Driving.{driven_set}
+use Rattle.vcpu_run.proofs.LinesShown.{drives_sees}
 use Rattle.vcpu_run.proofs.seats.push_event_of.Goals as goal
 
 pub returns-clause-driven : goal.returns-clause-driven
@@ -31,7 +32,13 @@ returns-clause-waits c =
 pub returns-clause-clients : goal.returns-clause-clients
 returns-clause-clients c =
     clients_set c.args.pairs.now c.args.pair _ c.push_event.new.pair (slice_get-get_or c.args.pairs.now c.args.pair _ c.requires)
-    (record { driver = c.push_event.ensures.driver; pages = ap (λ w. length w.pages) c.push_event.ensures.window; queue = c.push_event.ensures.queue })
+    (record {
+      driver = c.push_event.ensures.driver;
+      pages = ap (λ w. length w.pages) c.push_event.ensures.window;
+      queue = c.push_event.ensures.queue;
+      unit = ap (λ w. w.unit) c.push_event.ensures.window;
+      sees = drives_sees _ c.push_event.new.pair c.push_event.ensures.drives;
+    })
 
 pub returns-clause-others : goal.returns-clause-others
 returns-clause-others c = set_beside c.args.pairs.now c.args.pair c.push_event.new.pair

@@ -3,6 +3,7 @@ use Rattle.vcpu_run.proofs.Unfreed.{frees_set}
 use Rattle.std.proofs.lemmas.Option.{slice_get-get_or}
 use Rattle.vcpu_run.proofs.Agreeing.{set_credit, set_others}
 use Rattle.vcpu_run.proofs.Driving.{driven_set, some_there}
+use Rattle.vcpu_run.proofs.Opening.{set_open}
 use Rattle.vcpu_run.proofs.SeatsTold.{set_out, set_told}
 use Rattle.vcpu_run.proofs.seats.step_at.Goals as goal
 
@@ -24,10 +25,14 @@ returns-clause-stays c =
 
 pub returns-clause-said : goal.returns-clause-said
 returns-clause-said c =
-    set_told c.args.line.now.verb c.args.progress.now c.step.new.progress c.step.result c.args.pairs.now c.args.pair _ c.step.new.pair
-    (slice_get-get_or c.args.pairs.now c.args.pair _ c.requires.there) c.step.ensures.said
+    set_told c.args.line.now c.args.progress.now c.step.new.progress c.step.result c.args.pairs.now c.args.pair _ c.step.new.pair
+    (slice_get-get_or c.args.pairs.now c.args.pair _ c.requires.there) c.step.ensures.said c.step.ensures.shows
 
 pub returns-clause-out : goal.returns-clause-out
 returns-clause-out c =
     set_out c.args.line.now.verb c.args.progress.now c.step.new.progress c.step.result c.args.pairs.now c.args.pair _ c.step.new.pair
     (slice_get-get_or c.args.pairs.now c.args.pair _ c.requires.there) c.step.ensures.out
+
+pub returns-clause-registered : goal.returns-clause-registered
+returns-clause-registered c =
+    set_open c.args.line.now.verb c.step.new.progress c.step.result c.args.pairs.now c.args.pair c.step.new.pair c.requires.there c.step.ensures.registered

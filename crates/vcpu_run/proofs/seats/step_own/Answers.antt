@@ -4,6 +4,7 @@ use Rattle.vcpu_run.specs.Agreed.{StepsSeat}
 use Rattle.vcpu_run.specs.Credited.{taken_in}
 use Rattle.vcpu_run.specs.Suited.{suits}
 use Rattle.vcpu_run.specs.Telling.{SeatOut, SeatTold}
+use Rattle.vcpu_run.specs.Holding.{SeatOpen}
 use Rattle.vcpu_run.proofs.Driving.{client_is, driven_same, no_port, seat_within, some_there}
 use Rattle.vcpu_run.proofs.Unfreed.{frees_line, frees_same}
 use Rattle.vcpu_run.proofs.PortTurns.{client_told, idle_same, port_apart, port_told}
@@ -91,7 +92,7 @@ returns-in-Client-clause-apart c = on_ok c.step_at.result _ (λ unit _. idle_sam
 pub returns-in-Port-clause-told : goal.returns-in-Port-clause-told
 returns-in-Port-clause-told c =
     port_told c.args.partition c.args.seats.now c.args.line.now (done_in c.args.progress.now) (done_in c.step.new.progress) c.args.lan.now c.step.new.lan c.step.result
-    c.step.ensures.told c.step.ensures.beside
+    c.step.ensures.told c.step.ensures.replays c.step.ensures.beside
 
 pub returns-in-Port-clause-apart : goal.returns-in-Port-clause-apart
 returns-in-Port-clause-apart c = port_apart c.args.partition c.args.line.now.unit c.args.lan.now c.step.new.lan c.step.result c.step.ensures.beside
@@ -101,7 +102,7 @@ returns-in-Client-clause-said c =
     let here : slice_get c.args.seats.now c.args.line.now.unit ≡ Some (places.Client c.in-Client.pair) = c.seat_at.ensures ∙ ap Some c.in-Client.is in
     record {
       client = λ k at.
-          subst (λ n. SeatTold n c.args.line.now.verb c.args.progress.now c.step_at.new.progress c.args.pairs.now c.step_at.new.pairs c.step_at.result)
+          subst (λ n. SeatTold n c.args.line.now c.args.progress.now c.step_at.new.progress c.args.pairs.now c.step_at.new.pairs c.step_at.result)
           (client_is c.in-Client.pair k (sym here ∙ at)) c.step_at.ensures.said;
       port = λ at. absurd (no_port c.in-Client.pair (sym here ∙ at));
     }
@@ -122,6 +123,17 @@ returns-in-Client-clause-out c = λ k at.
 
 pub returns-in-Port-clause-out : goal.returns-in-Port-clause-out
 returns-in-Port-clause-out c = λ k at.
+    let here : slice_get c.args.seats.now c.args.line.now.unit ≡ Some places.Port = c.seat_at.ensures ∙ ap Some c.in-Port.is in
+    absurd (no_port k (sym at ∙ here))
+
+pub returns-in-Client-clause-registered : goal.returns-in-Client-clause-registered
+returns-in-Client-clause-registered c = λ k at.
+    let here : slice_get c.args.seats.now c.args.line.now.unit ≡ Some (places.Client c.in-Client.pair) = c.seat_at.ensures ∙ ap Some c.in-Client.is in
+    subst (λ n. SeatOpen n c.args.line.now.verb c.step_at.new.progress c.step_at.new.pairs c.step_at.result)
+    (client_is c.in-Client.pair k (sym here ∙ at)) c.step_at.ensures.registered
+
+pub returns-in-Port-clause-registered : goal.returns-in-Port-clause-registered
+returns-in-Port-clause-registered c = λ k at.
     let here : slice_get c.args.seats.now c.args.line.now.unit ≡ Some places.Port = c.seat_at.ensures ∙ ap Some c.in-Port.is in
     absurd (no_port k (sym at ∙ here))
 

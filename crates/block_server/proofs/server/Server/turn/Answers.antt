@@ -1,4 +1,4 @@
-use Rattle.std.proofs.Common.{◌≡◌, ◌∙◌, Bool, List, Some, ap, false, refl, true, slice_get, slice_set, subst, sym}
+use Rattle.std.proofs.Common.{◌∙◌, ◌≡◌, Bool, List, Some, ap, false, refl, slice_get, slice_set, subst, sym, true}
 use Rattle.std.proofs.Math.Logic.{∥∥₁_elim, ∥∥₁_map}
 use Rattle.std.proofs.lemmas.Option.{slice_get_read}
 use Rattle.vio_num.specs.declared.names.UnitId.{UnitId}
@@ -239,6 +239,12 @@ returns-clause-explains g c = λ told tells all since has.
     (refuses_turn told server.units.items c.args.unit c.index_mut.result.now c.turn.new.unit unit old (g.C.CrqEnd.state c.turn.new.site.queue.now) since _ _ there
     (subst (λ (id : UnitId). AreExplained told id since (basis_seen c.index_mut.result.now old server.records.grants.items)
     → AreExplained told id since (basis_seen c.turn.new.unit (g.C.CrqEnd.state c.turn.new.site.queue.now) c.turn.new.records.grants.items)) (is.id ∙ sym c.requires.named) step) has)
+
+pub returns-clause-partner : goal.returns-clause-partner
+returns-clause-partner g c =
+    let reached = ap (λ (lent : Lenders). lent.queue) c.turn.ensures.advances.reached in
+    subst (λ (queue : EndState). g.C.CrqEnd.is_shared ≡ false → queue.counts.partner_session ≡ (g.C.CrqEnd.state c.args.crq.now).counts.partner_session)
+    (sym (ap g.C.CrqEnd.state (c.crq-1.given.1 (sym reached)))) c.turn.ensures.advances.partner
 
 pub returns-clause-logins : goal.returns-clause-logins
 returns-clause-logins g c = λ told tells all since has.

@@ -3,6 +3,7 @@ use Rattle.vscsi_client.specs.Ports.{ports}
 use Rattle.vcpu_run.specs.Telling.{seated}
 use Rattle.vcpu_run.proofs.Askings.{asks_by, submit_told}
 use Rattle.vcpu_run.proofs.Credits.{submit_agreed}
+use Rattle.vcpu_run.proofs.LinesShown.{submit_shows}
 use Rattle.vcpu_run.proofs.Working.{submit_works}
 use Rattle.vcpu_run.proofs.driver.Driver.command.Goals as goal
 
@@ -28,3 +29,10 @@ returns-clause-told g c = λ verb p is.
     c.submit.result c.sent.result
     (record { asks_one = asks_by verb c.args.op.now is; progress = refl; queue = c.submit.ensures.crq_rest.registered })
     is c.sent.ensures.sent c.sent.ensures.why c.submit.ensures.refused c.submit.ensures.sent c.submit.ensures.why
+
+pub returns-clause-shows : goal.returns-clause-shows
+returns-clause-shows g c = λ verb is cdb.
+    submit_shows verb c.args.line c.args.op.now c.args.self.now.client c.submit.new.self
+    (ports g.C.CrqEnd.is_shared (g.C.CrqEnd.state c.args.crq.now.end) g.O.WindowPort.is_shared (g.O.WindowPort.state c.args.own.now))
+    (ports g.C.CrqEnd.is_shared (g.C.CrqEnd.state c.submit.new.crq.end) g.O.WindowPort.is_shared (g.O.WindowPort.state c.submit.new.own))
+    c.submit.result c.sent.result is cdb c.sent.ensures.sent c.submit.ensures.sent c.submit.ensures.crq_rest.place c.submit.ensures.own_rest.place

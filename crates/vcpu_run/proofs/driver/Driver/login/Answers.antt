@@ -3,6 +3,7 @@ use Rattle.vscsi_client.specs.Ports.{ports}
 use Rattle.vscsi_client.specs.Turned.{site}
 use Rattle.vcpu_run.proofs.LoginSteps.{login_out, login_told, reset_told, stays_open}
 use Rattle.vcpu_run.proofs.Credits.{turn_agreed}
+use Rattle.vcpu_run.proofs.Opening.{turn_open}
 use Rattle.vcpu_run.proofs.Working.{turn_works}
 use Rattle.vcpu_run.proofs.driver.Driver.login.Goals as goal
 
@@ -40,3 +41,7 @@ returns-clause-out g c = λ queue.
     let a = site c.args.self.now.client (ports g.C.CrqEnd.is_shared (g.C.CrqEnd.state c.args.crq.now.end) g.O.WindowPort.is_shared (g.O.WindowPort.state c.args.own.now)) in
     let b = site c.login_turn.new.self (ports g.C.CrqEnd.is_shared (g.C.CrqEnd.state c.login_turn.new.crq.end) g.O.WindowPort.is_shared (g.O.WindowPort.state c.login_turn.new.own)) in
     login_out c.args.line a b c.in_ok-turn.turn c.turned.result c.in_ok-turn.ensures.turned c.turned.ensures queue
+
+pub returns-clause-registered : goal.returns-clause-registered
+returns-clause-registered g c =
+    turn_open c.in_ok-turn.turn c.turned.result (g.C.CrqEnd.state c.login_turn.new.crq.end).registered c.turned.ensures c.in_ok-turn.ensures.registered

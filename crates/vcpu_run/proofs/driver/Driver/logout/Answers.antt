@@ -3,6 +3,7 @@ use Rattle.vscsi_client.specs.Ports.{ports}
 use Rattle.vcpu_run.specs.Telling.{seated}
 use Rattle.vcpu_run.proofs.Askings.{logout_told}
 use Rattle.vcpu_run.proofs.Credits.{logout_agreed}
+use Rattle.vcpu_run.proofs.LinesShown.{logout_shows}
 use Rattle.vcpu_run.proofs.Working.{logout_works}
 use Rattle.vcpu_run.proofs.driver.Driver.logout.Goals as goal
 
@@ -28,3 +29,10 @@ returns-clause-told g c = λ p.
     c.logout.result c.sent.result
     refl (c.logout.ensures.crq_rest.registered)
     c.sent.ensures.sent c.sent.ensures.why c.logout.ensures.refused c.logout.ensures.sent c.logout.ensures.why c.logout.ensures.same
+
+pub returns-clause-shows : goal.returns-clause-shows
+returns-clause-shows g c =
+    logout_shows c.args.line c.args.self.now.client c.logout.new.self
+    (ports g.C.CrqEnd.is_shared (g.C.CrqEnd.state c.args.crq.now.end) g.O.WindowPort.is_shared (g.O.WindowPort.state c.args.own.now))
+    (ports g.C.CrqEnd.is_shared (g.C.CrqEnd.state c.logout.new.crq.end) g.O.WindowPort.is_shared (g.O.WindowPort.state c.logout.new.own))
+    c.logout.result c.sent.result c.sent.ensures.sent c.logout.ensures.sent c.logout.ensures.crq_rest.place c.logout.ensures.own_rest.place

@@ -1,7 +1,10 @@
+use Rattle.std.proofs.Common.{rules, ◌≡◌, subst}
+use Rattle.vcpu_run.specs.LinesShow.{StepShows, seen_by}
 use Rattle.vcpu_run.specs.Credited.{taken_in}
 use Rattle.vcpu_run.specs.Telling.{seated}
 use Rattle.vcpu_run.proofs.Askings.{asks_by, asks_plain}
 use Rattle.vcpu_run.proofs.LoginSteps.{other_out}
+use Rattle.vcpu_run.proofs.Opening.{other_open}
 use Rattle.vcpu_run.proofs.Credits.{fresh_both, sends_one}
 use Rattle.vcpu_run.proofs.driver.Driver.step.Goals as goal
 
@@ -18,4 +21,15 @@ pub returns-in-Some-clause-out : goal.returns-in-Some-clause-out
 returns-in-Some-clause-out g c = λ alone.
     other_out c.args.line.now.verb (seated c.args.self.now.client c.args.progress.now (g.C.CrqEnd.state c.args.crq.now.end).registered)
     (seated c.command.new.self.client c.args.progress.now (g.C.CrqEnd.state c.command.new.crq.end).registered)
+    c.command.result (asks_plain c.args.line.now.verb (asks_by c.args.line.now.verb c.in-Some.op c.in-Some.ensures.command)).1
+
+pub returns-in-Some-clause-shows : goal.returns-in-Some-clause-shows
+returns-in-Some-clause-shows g c =
+    let mark : c.from.result ≡ c.args.line.now.number = search rules in
+    subst (λ n. StepShows (seen_by g.C.CrqEnd.is_shared (g.O.WindowPort.state c.command.new.own) (g.C.CrqEnd.state c.command.new.crq.end))
+    (g.O.WindowPort.state c.args.own.now).place.unit n c.args.line.now.verb c.command.result) mark (c.command.ensures.shows c.args.line.now.verb c.in-Some.ensures.command c.in-Some.ensures.cdb)
+
+pub returns-in-Some-clause-registered : goal.returns-in-Some-clause-registered
+returns-in-Some-clause-registered g c = λ alone.
+    other_open c.args.line.now.verb c.args.progress.now (g.C.CrqEnd.state c.command.new.crq.end).registered
     c.command.result (asks_plain c.args.line.now.verb (asks_by c.args.line.now.verb c.in-Some.op c.in-Some.ensures.command)).1

@@ -1,16 +1,31 @@
-use Rattle.std.proofs.Common.{ap, refl}
-use Rattle.vcpu_run.specs.Credited.{is_take, taken_in}
+use Rattle.std.proofs.Common.{rules, ◌≡◌, ℕ, List, IfOk, ap, refl, subst, sym}
+use Rattle.boot_text.specs.declared.verb.Verb.{Verb}
+use Rattle.boot_text.specs.declared.verb.Verb.TheVariants as verbs
+use Rattle.unit_region.specs.Pattern.{pattern}
+use Rattle.unit_region.specs.Answers.{AnswersWrite}
+use Rattle.vcpu_run.specs.Credited.{is_take, taken_in, uses_credit}
 use Rattle.vcpu_run.specs.Telling.{seated}
 use Rattle.vcpu_run.proofs.Askings.{aside_as, aside_told, told_as}
 use Rattle.vcpu_run.specs.Freeing.{is_reset}
+use Rattle.vcpu_run.specs.LinesShow.{IsPutBy, StepShows, requests, seen_by, written_by}
+use Rattle.vcpu_run.specs.Replay.{asks}
+use Rattle.vcpu_run.proofs.LinesShown.{step_none, write_shows}
+use Rattle.vcpu_run.proofs.OwnLines.{fill_says, peek_says, poke_says, tce_says}
+use Rattle.vcpu_run.proofs.Sayings.{is_logout, is_own, says_nothing}
 use Rattle.vcpu_run.proofs.LoginSteps.{other_out, out_as}
 use Rattle.vcpu_run.proofs.Credits.{fresh_both}
+use Rattle.vcpu_run.proofs.Opening.{open_as, other_open}
 use Rattle.vcpu_run.proofs.driver.Driver.step_other.Goals as goal
 
 pub returns-in-Login-clause-credit : goal.returns-in-Login-clause-credit
 returns-in-Login-clause-credit g c =
     fresh_both c.args.line.now.verb (taken_in c.args.progress.now) c.args.self.now.client c.login.new.self.client c.login.result (ap is_take c.in-Login.is)
     (c.login.ensures.credit c.args.line.now.verb)
+
+pub returns-in-Task-clause-credit : goal.returns-in-Task-clause-credit
+returns-in-Task-clause-credit g c =
+    fresh_both c.args.line.now.verb (taken_in c.args.progress.now) c.args.self.now.client c.task.new.self.client c.task.result (ap is_take c.in-Task.is)
+    (c.task.ensures.credit c.args.line.now.verb (ap uses_credit c.in-Task.is))
 
 pub returns-in-Login-clause-told : goal.returns-in-Login-clause-told
 returns-in-Login-clause-told g c =
@@ -53,6 +68,7 @@ returns-in-Data-clause-told g c =
     (seated c.args.self.now.client c.args.progress.now (g.C.CrqEnd.state c.args.crq.now.end).registered)
     (seated c.data.new.self.client c.args.progress.now (g.C.CrqEnd.state c.args.crq.now.end).registered)
     c.data.result (aside_as c.args.line.now.verb _ c.in-Data.is (record { no_ask = refl; no_logout = refl; no_take = refl; no_reset = refl })) c.data.ensures.client refl refl c.data.ensures.plain
+    (λ login outcome is. says_nothing (g.O.WindowPort.state c.args.own.now).place.size login c.args.line.now.verb outcome (ap asks c.in-Data.is) (ap is_logout c.in-Data.is) (ap is_own c.in-Data.is))
 
 pub returns-in-Fill-clause-told : goal.returns-in-Fill-clause-told
 returns-in-Fill-clause-told g c =
@@ -60,6 +76,7 @@ returns-in-Fill-clause-told g c =
     (seated c.args.self.now.client c.args.progress.now (g.C.CrqEnd.state c.args.crq.now.end).registered)
     (seated c.args.self.now.client c.args.progress.now (g.C.CrqEnd.state c.args.crq.now.end).registered)
     c.fill.result (aside_as c.args.line.now.verb _ c.in-Fill.is (record { no_ask = refl; no_logout = refl; no_take = refl; no_reset = refl })) refl refl refl c.fill.ensures.plain
+    (fill_says g.O.WindowPort.is_shared (g.O.WindowPort.state c.args.own.now) (g.O.WindowPort.state c.fill.new.own) c.in-Fill.at c.in-Fill.len c.in-Fill.seed _ c.args.line.now.verb c.fill.result c.in-Fill.is c.fill.ensures.answer)
 
 pub returns-in-Poke-clause-told : goal.returns-in-Poke-clause-told
 returns-in-Poke-clause-told g c =
@@ -67,6 +84,9 @@ returns-in-Poke-clause-told g c =
     (seated c.args.self.now.client c.args.progress.now (g.C.CrqEnd.state c.args.crq.now.end).registered)
     (seated c.args.self.now.client c.args.progress.now (g.C.CrqEnd.state c.args.crq.now.end).registered)
     c.poke.result (aside_as c.args.line.now.verb _ c.in-Poke.is (record { no_ask = refl; no_logout = refl; no_take = refl; no_reset = refl })) refl refl refl c.poke.ensures.plain
+    (poke_says g.O.WindowPort.is_shared (g.O.WindowPort.state c.args.own.now) (g.O.WindowPort.state c.poke.new.own) c.in-Poke.at c.in-Poke.bytes c.from-mark.result c.args.line.now.verb c.poke.result c.in-Poke.is
+    (subst (λ (bytes : List ℕ). IfOk c.poke.result (AnswersWrite g.O.WindowPort.is_shared (g.O.WindowPort.state c.args.own.now) (g.O.WindowPort.state c.poke.new.own) c.in-Poke.at bytes c.from-mark.result))
+    c.as_slice.ensures c.poke.ensures.answer))
 
 pub returns-in-Peek-clause-told : goal.returns-in-Peek-clause-told
 returns-in-Peek-clause-told g c =
@@ -74,6 +94,7 @@ returns-in-Peek-clause-told g c =
     (seated c.args.self.now.client c.args.progress.now (g.C.CrqEnd.state c.args.crq.now.end).registered)
     (seated c.args.self.now.client c.args.progress.now (g.C.CrqEnd.state c.args.crq.now.end).registered)
     c.peek.result (aside_as c.args.line.now.verb _ c.in-Peek.is (record { no_ask = refl; no_logout = refl; no_take = refl; no_reset = refl })) refl refl refl c.peek.ensures.plain
+    (peek_says (g.O.WindowPort.state c.args.own.now) (g.O.WindowPort.state c.peek.new.own) c.in-Peek.at c.in-Peek.len c.args.line.now.verb c.peek.result c.in-Peek.is c.peek.ensures.window.place c.peek.ensures.answer)
 
 pub returns-in-Tce-clause-told : goal.returns-in-Tce-clause-told
 returns-in-Tce-clause-told g c =
@@ -81,6 +102,7 @@ returns-in-Tce-clause-told g c =
     (seated c.args.self.now.client c.args.progress.now (g.C.CrqEnd.state c.args.crq.now.end).registered)
     (seated c.args.self.now.client c.args.progress.now (g.C.CrqEnd.state c.args.crq.now.end).registered)
     c.put_tce.result (aside_as c.args.line.now.verb _ c.in-Tce.is (record { no_ask = refl; no_logout = refl; no_take = refl; no_reset = refl })) refl refl refl c.put_tce.ensures.plain
+    (tce_says (g.O.WindowPort.state c.args.own.now) (g.O.WindowPort.state c.put_tce.new.own) c.in-Tce.entry c.in-Tce.page c.in-Tce.readable c.in-Tce.writable c.args.line.now.verb c.put_tce.result c.in-Tce.is c.put_tce.ensures.answer)
 
 pub returns-in-Login-clause-out : goal.returns-in-Login-clause-out
 returns-in-Login-clause-out g c = λ alone.
@@ -141,3 +163,109 @@ returns-in-Tce-clause-out g c = λ alone.
     other_out c.args.line.now.verb (seated c.args.self.now.client c.args.progress.now (g.C.CrqEnd.state c.args.crq.now.end).registered)
     (seated c.args.self.now.client c.args.progress.now (g.C.CrqEnd.state c.args.crq.now.end).registered)
     c.put_tce.result (ap is_reset c.in-Tce.is)
+
+pub returns-in-Login-clause-shows : goal.returns-in-Login-clause-shows
+returns-in-Login-clause-shows g c =
+    step_none (seen_by g.C.CrqEnd.is_shared (g.O.WindowPort.state c.login.new.own) (g.C.CrqEnd.state c.login.new.crq.end)) (g.O.WindowPort.state c.args.own.now).place.unit c.args.line.now.number c.args.line.now.verb
+    c.login.result (ap requests c.in-Login.is) (ap written_by c.in-Login.is)
+
+pub returns-in-Reset-clause-shows : goal.returns-in-Reset-clause-shows
+returns-in-Reset-clause-shows g c =
+    step_none (seen_by g.C.CrqEnd.is_shared (g.O.WindowPort.state c.reset.new.own) (g.C.CrqEnd.state c.reset.new.crq.end)) (g.O.WindowPort.state c.args.own.now).place.unit c.args.line.now.number c.args.line.now.verb
+    c.reset.result (ap requests c.in-Reset.is) (ap written_by c.in-Reset.is)
+
+pub returns-in-Take-clause-shows : goal.returns-in-Take-clause-shows
+returns-in-Take-clause-shows g c =
+    step_none (seen_by g.C.CrqEnd.is_shared (g.O.WindowPort.state c.take_on.new.own) (g.C.CrqEnd.state c.take_on.new.crq.end)) (g.O.WindowPort.state c.args.own.now).place.unit c.args.line.now.number c.args.line.now.verb
+    c.take_on.result (ap requests c.in-Take.is) (ap written_by c.in-Take.is)
+
+pub returns-in-Data-clause-shows : goal.returns-in-Data-clause-shows
+returns-in-Data-clause-shows g c =
+    step_none (seen_by g.C.CrqEnd.is_shared (g.O.WindowPort.state c.data.new.own) (g.C.CrqEnd.state c.args.crq.now.end)) (g.O.WindowPort.state c.args.own.now).place.unit c.args.line.now.number c.args.line.now.verb
+    c.data.result (ap requests c.in-Data.is) (ap written_by c.in-Data.is)
+
+pub returns-in-Peek-clause-shows : goal.returns-in-Peek-clause-shows
+returns-in-Peek-clause-shows g c =
+    step_none (seen_by g.C.CrqEnd.is_shared (g.O.WindowPort.state c.peek.new.own) (g.C.CrqEnd.state c.args.crq.now.end)) (g.O.WindowPort.state c.args.own.now).place.unit c.args.line.now.number c.args.line.now.verb
+    c.peek.result (ap requests c.in-Peek.is) (ap written_by c.in-Peek.is)
+
+pub returns-in-Tce-clause-shows : goal.returns-in-Tce-clause-shows
+returns-in-Tce-clause-shows g c =
+    step_none (seen_by g.C.CrqEnd.is_shared (g.O.WindowPort.state c.put_tce.new.own) (g.C.CrqEnd.state c.args.crq.now.end)) (g.O.WindowPort.state c.args.own.now).place.unit c.args.line.now.number c.args.line.now.verb
+    c.put_tce.result (ap requests c.in-Tce.is) (ap written_by c.in-Tce.is)
+
+pub returns-in-Logout-clause-shows : goal.returns-in-Logout-clause-shows
+returns-in-Logout-clause-shows g c =
+    let mark : c.from-mark.result ≡ c.args.line.now.number = search rules in
+    subst (λ (v : Verb). StepShows (seen_by g.C.CrqEnd.is_shared (g.O.WindowPort.state c.logout.new.own) (g.C.CrqEnd.state c.logout.new.crq.end))
+    (g.O.WindowPort.state c.args.own.now).place.unit c.args.line.now.number v c.logout.result) (sym c.in-Logout.is)
+    (subst (λ n. StepShows (seen_by g.C.CrqEnd.is_shared (g.O.WindowPort.state c.logout.new.own) (g.C.CrqEnd.state c.logout.new.crq.end))
+    (g.O.WindowPort.state c.args.own.now).place.unit n verbs.Logout c.logout.result) mark c.logout.ensures.shows)
+
+pub returns-in-Task-clause-shows : goal.returns-in-Task-clause-shows
+returns-in-Task-clause-shows g c =
+    let mark : c.from-mark.result ≡ c.args.line.now.number = search rules in
+    subst (λ (v : Verb). StepShows (seen_by g.C.CrqEnd.is_shared (g.O.WindowPort.state c.task.new.own) (g.C.CrqEnd.state c.task.new.crq.end))
+    (g.O.WindowPort.state c.args.own.now).place.unit c.args.line.now.number v c.task.result) (sym c.in-Task.is)
+    (subst (λ n. StepShows (seen_by g.C.CrqEnd.is_shared (g.O.WindowPort.state c.task.new.own) (g.C.CrqEnd.state c.task.new.crq.end))
+    (g.O.WindowPort.state c.args.own.now).place.unit n (verbs.Task c.in-Task.function c.in-Task.tag) c.task.result) mark c.task.ensures.shows)
+
+pub returns-in-Fill-clause-shows : goal.returns-in-Fill-clause-shows
+returns-in-Fill-clause-shows g c =
+    let mark : c.from-mark.result ≡ c.args.line.now.number = search rules in
+    write_shows g.O.WindowPort.is_shared (g.O.WindowPort.state c.args.own.now) (g.O.WindowPort.state c.fill.new.own) c.in-Fill.at c.args.line.now.number
+    (pattern c.in-Fill.seed c.in-Fill.len) (IsPutBy g.C.CrqEnd.is_shared (g.C.CrqEnd.state c.args.crq.now.end)) c.args.line.now.verb c.fill.result
+    (ap requests c.in-Fill.is) (ap written_by c.in-Fill.is)
+    (subst (λ n. IfOk c.fill.result (AnswersWrite g.O.WindowPort.is_shared (g.O.WindowPort.state c.args.own.now) (g.O.WindowPort.state c.fill.new.own) c.in-Fill.at
+    (pattern c.in-Fill.seed c.in-Fill.len) n)) mark c.fill.ensures.answer)
+
+pub returns-in-Poke-clause-shows : goal.returns-in-Poke-clause-shows
+returns-in-Poke-clause-shows g c =
+    let mark : c.from-mark.result ≡ c.args.line.now.number = search rules in
+    write_shows g.O.WindowPort.is_shared (g.O.WindowPort.state c.args.own.now) (g.O.WindowPort.state c.poke.new.own) c.in-Poke.at c.args.line.now.number
+    c.in-Poke.bytes (IsPutBy g.C.CrqEnd.is_shared (g.C.CrqEnd.state c.args.crq.now.end)) c.args.line.now.verb c.poke.result
+    (ap requests c.in-Poke.is) (ap written_by c.in-Poke.is)
+    (subst (λ n. IfOk c.poke.result (AnswersWrite g.O.WindowPort.is_shared (g.O.WindowPort.state c.args.own.now) (g.O.WindowPort.state c.poke.new.own) c.in-Poke.at
+    c.in-Poke.bytes n)) mark
+    (subst (λ (bytes : List ℕ). IfOk c.poke.result (AnswersWrite g.O.WindowPort.is_shared (g.O.WindowPort.state c.args.own.now) (g.O.WindowPort.state c.poke.new.own) c.in-Poke.at bytes c.from-mark.result))
+    c.as_slice.ensures c.poke.ensures.answer))
+
+pub returns-in-Login-clause-registered : goal.returns-in-Login-clause-registered
+returns-in-Login-clause-registered g c = λ alone.
+    other_open c.args.line.now.verb c.args.progress.now (g.C.CrqEnd.state c.login.new.crq.end).registered c.login.result (ap is_reset c.in-Login.is)
+
+pub returns-in-Reset-clause-registered : goal.returns-in-Reset-clause-registered
+returns-in-Reset-clause-registered g c = λ alone.
+    open_as c.args.line.now.verb _ c.reset.new.progress (g.C.CrqEnd.state c.reset.new.crq.end).registered c.reset.result c.in-Reset.is (c.reset.ensures.registered alone)
+
+pub returns-in-Logout-clause-registered : goal.returns-in-Logout-clause-registered
+returns-in-Logout-clause-registered g c = λ alone.
+    other_open c.args.line.now.verb c.args.progress.now (g.C.CrqEnd.state c.logout.new.crq.end).registered c.logout.result (ap is_reset c.in-Logout.is)
+
+pub returns-in-Task-clause-registered : goal.returns-in-Task-clause-registered
+returns-in-Task-clause-registered g c = λ alone.
+    other_open c.args.line.now.verb c.args.progress.now (g.C.CrqEnd.state c.task.new.crq.end).registered c.task.result (ap is_reset c.in-Task.is)
+
+pub returns-in-Take-clause-registered : goal.returns-in-Take-clause-registered
+returns-in-Take-clause-registered g c = λ alone.
+    other_open c.args.line.now.verb c.take_on.new.progress (g.C.CrqEnd.state c.take_on.new.crq.end).registered c.take_on.result (ap is_reset c.in-Take.is)
+
+pub returns-in-Data-clause-registered : goal.returns-in-Data-clause-registered
+returns-in-Data-clause-registered g c = λ alone.
+    other_open c.args.line.now.verb c.args.progress.now (g.C.CrqEnd.state c.args.crq.now.end).registered c.data.result (ap is_reset c.in-Data.is)
+
+pub returns-in-Fill-clause-registered : goal.returns-in-Fill-clause-registered
+returns-in-Fill-clause-registered g c = λ alone.
+    other_open c.args.line.now.verb c.args.progress.now (g.C.CrqEnd.state c.args.crq.now.end).registered c.fill.result (ap is_reset c.in-Fill.is)
+
+pub returns-in-Poke-clause-registered : goal.returns-in-Poke-clause-registered
+returns-in-Poke-clause-registered g c = λ alone.
+    other_open c.args.line.now.verb c.args.progress.now (g.C.CrqEnd.state c.args.crq.now.end).registered c.poke.result (ap is_reset c.in-Poke.is)
+
+pub returns-in-Peek-clause-registered : goal.returns-in-Peek-clause-registered
+returns-in-Peek-clause-registered g c = λ alone.
+    other_open c.args.line.now.verb c.args.progress.now (g.C.CrqEnd.state c.args.crq.now.end).registered c.peek.result (ap is_reset c.in-Peek.is)
+
+pub returns-in-Tce-clause-registered : goal.returns-in-Tce-clause-registered
+returns-in-Tce-clause-registered g c = λ alone.
+    other_open c.args.line.now.verb c.args.progress.now (g.C.CrqEnd.state c.args.crq.now.end).registered c.put_tce.result (ap is_reset c.in-Tce.is)

@@ -3,6 +3,7 @@ use Rattle.vscsi_client.specs.Ports.{ports}
 use Rattle.vcpu_run.specs.Telling.{seated}
 use Rattle.vcpu_run.proofs.Askings.{task_told}
 use Rattle.vcpu_run.proofs.Credits.{task_agreed}
+use Rattle.vcpu_run.proofs.LinesShown.{task_shows}
 use Rattle.vcpu_run.proofs.Working.{task_works}
 use Rattle.vcpu_run.proofs.driver.Driver.task.Goals as goal
 
@@ -28,3 +29,10 @@ returns-clause-told g c = λ verb p is none.
     c.task.result c.sent.result
     (record { asks_one = is; progress = refl; queue = c.task.ensures.crq_rest.registered }) none
     c.sent.ensures.sent c.sent.ensures.why c.task.ensures.refused c.task.ensures.sent c.task.ensures.why c.task.ensures.same
+
+pub returns-clause-shows : goal.returns-clause-shows
+returns-clause-shows g c =
+    task_shows c.args.line c.args.function c.args.tag c.args.self.now.client c.task.new.self
+    (ports g.C.CrqEnd.is_shared (g.C.CrqEnd.state c.args.crq.now.end) g.O.WindowPort.is_shared (g.O.WindowPort.state c.args.own.now))
+    (ports g.C.CrqEnd.is_shared (g.C.CrqEnd.state c.task.new.crq.end) g.O.WindowPort.is_shared (g.O.WindowPort.state c.task.new.own))
+    c.task.result c.sent.result c.sent.ensures.sent c.task.ensures.sent c.task.ensures.crq_rest.place c.task.ensures.own_rest.place

@@ -13,7 +13,7 @@ use Rattle.vcpu_run.proofs.Elsewhere.{credits_made}
 use Rattle.vcpu_run.proofs.Homes.{home_within}
 use Rattle.vcpu_run.proofs.Receiving.{received_fresh}
 use Rattle.vcpu_run.proofs.RoundsTold.{told_made}
-use Rattle.vcpu_run.proofs.Unfreed.{queues_fresh}
+use Rattle.vcpu_run.proofs.Held.{queues_fresh}
 use Rattle.vcpu_run.proofs.PortTurns.{ports_made}
 use Rattle.vcpu_run.proofs.HeardTurns.{heard_fresh}
 use Rattle.vcpu_run.proofs.machine.Machine.boot.Goals as goal

@@ -1,11 +1,12 @@
 use Rattle.vcpu_run.specs.Links.{AreIdle, AreLinked}
-use Rattle.std.proofs.Common.{rules, ◌≡◌, ◌++◌, All, List, refl, length, take, drop, ◌∙◌, ap, subst, sym}
+use Rattle.std.proofs.Common.{rules, ◌≡◌, ◌++◌, All, Err, List, Ok, OnOk, Result, refl, length, take, drop, ◌∙◌, ap, subst, sym}
 use Rattle.std.proofs.lemmas.Option.{IfSome_then}
+use Rattle.vio_num.specs.declared.memory.NoMemory.{NoMemory}
 use Rattle.vcpu_run.specs.declared.pair.Pair.{Pair}
 use Rattle.vcpu_run.specs.declared.script.Script.{Script}
 use Rattle.vcpu_run.specs.Agreed.{AreCredited}
 use Rattle.vcpu_run.specs.Answered.{AreAnswered}
-use Rattle.vcpu_run.specs.Freeing.{KeepQueues}
+use Rattle.vcpu_run.specs.Holding.{KeepQueues}
 use Rattle.vcpu_run.specs.Lines.{IsOver}
 use Rattle.vcpu_run.specs.Machines.{AllRun, AllStay, AreScripts, IsOfPlan}
 use Rattle.vcpu_run.specs.Pairs.{AreOfOneHome}
@@ -142,22 +143,23 @@ trace_of-trace-requires-clause-rests g c =
     let whole : KeepQueues c.deref_mut.result.now c.deref_mut-2.result.now =
     subst (λ (list : List Pair). KeepQueues list c.deref_mut-2.result.now) (sym c.deref_mut.ensures.value)
     (subst (λ (list : List Script). KeepQueues old.items list) (sym c.deref_mut-2.ensures.value) c.requires.unfreed) in
-    let unfreed : KeepQueues new new_scripts = c.run-run.ensures.unfreed whole in
     let received : AreReceived units' c.finish-image.result.copies.items c.finish-image.result.grants.items c.finish-image.result.history.items new =
     rw (c.finish-image.ensures.copies, c.finish-image.ensures.grants, c.finish-image.ensures.history) c.run-run.ensures.received in
     let rows : c.finish-image.result.history.items ≡ c.run-run.new.server.records.history.items = rw c.finish-image.ensures.history refl in
     let lines : c.finish-image.result.grants.items ≡ c.run-run.new.server.records.grants.items = rw c.finish-image.ensures.grants refl in
     let heard : AreHeard c.run-run.new.server.disk.count c.run-run.new.server.partition units' c.run-run.new.server.records c.finish-image.result.copies.items new =
     rw c.finish-image.ensures.copies c.run-run.ensures.heard in
-    ok_then c.run-run.result (AreLinked units c.deref_mut.result.now → AreIdle units' new new_scripts) _
-    (λ idle.
+    ok_then c.run-run.result
+    ((AreLinked units c.deref_mut.result.now → AreIdle units' new new_scripts) × (KeepQueues c.deref_mut.result.now c.deref_mut-2.result.now → KeepQueues new new_scripts) × All IsOver new_scripts) _
+    (λ told.
     subst (λ (list : List Pair). AreAtRest c.finish-image.result.copies.items c.finish-image.result.grants.items c.finish-image.result.history.items list (take old_scripts.len (new_scripts ++ drop (length new_scripts) old_scripts.items))) (sym pairs)
     (subst (λ (list : List Script). AreAtRest c.finish-image.result.copies.items c.finish-image.result.grants.items c.finish-image.result.history.items new list) (sym scripts)
     (record {
       units = units';
-      idle = idle before;
+      idle = told.0 before;
       received = received;
-      unfreed = unfreed;
+      unfreed = told.1 whole;
+      over = told.2;
       size = c.run-run.new.server.disk.count;
       partition = c.run-run.new.server.partition;
       records = c.run-run.new.server.records;
@@ -166,7 +168,11 @@ trace_of-trace-requires-clause-rests g c =
       names = λ k pair found. (c.run-run.ensures.machine.serving.pairs_are k pair found).own_unit ∙ (c.run-run.ensures.machine.serving.pairs_are k pair found).server;
       heard = heard;
     })))
-    c.run-run.ensures.idle
+    (all_ok c.run-run.result _ _ _ c.run-run.ensures.idle c.run-run.ensures.unfreed c.run-run.ensures.over)
+  where
+    all_ok : (r : Result Unit NoMemory) (P Q R : Type 0) → OnOk r P → OnOk r Q → OnOk r R → OnOk r (P × Q × R)
+    all_ok (Ok x) P Q R p q s = (p, q, s)
+    all_ok (Err e) P Q R p q s = tt
 
 pub run-run-requires-clause-received : goal.run-run-requires-clause-received
 run-run-requires-clause-received g c = rw c.deref_mut.ensures.value c.requires.received

@@ -9,9 +9,12 @@ use Rattle.vcpu_run.specs.Suited.{IsLineAt}
 use Rattle.vcpu_run.proofs.Crediting.{less_by, line_ends, lines_none}
 use Rattle.vcpu_run.proofs.Credits.{plain_fresh, takes_same, took_agreed}
 use Rattle.vcpu_run.proofs.ScriptsTold.{EndsWaiting, of_login, of_reset, of_take, waiting_told}
+use Rattle.vcpu_run.proofs.Held.{waited_held}
 use Rattle.vcpu_run.proofs.Logging.{all_at}
 use Rattle.vcpu_run.proofs.script.Script.end_waiting.Goals.{in-Login, in-Reset, in-Take}
-use Rattle.vcpu_run.proofs.PortTelling.{quiet_tells, taken_within, took_tells}
+use Rattle.vcpu_run.proofs.PortTelling.{taken_within}
+use Rattle.vcpu_run.proofs.PortsTelling.{quiet_tells, took_tells}
+use Rattle.lan_script.specs.Replayed.{is_replayed}
 use Rattle.vcpu_run.specs.PortWords.{done_in, frame_of}
 use Rattle.lan_script.specs.PortCounts.{counts, counts_by, counts_told}
 use Rattle.boot_text.specs.declared.verb.Verb.{Verb}
@@ -57,12 +60,12 @@ returns-clause-told c = λ pairs lan script tells.
     let rest = c.end.ensures.rest in
     let fresh = ap done_in c.in_ok-end.ensures.fresh in
     elim c.match-line.branch [
-      | in-Login w ↦ quiet_tells lan lan c.args.self.now c.end.new.self c.in-Some.line.now _ found reached rest.partition rest.lines rest.seats
+      | in-Login w ↦ quiet_tells lan c.args.self.now c.end.new.self c.in-Some.line.now _ found reached rest.partition rest.lines rest.seats
           c.in_ok-end.ensures.ended.logs fresh (ap frame_of w.outcome-is) (ap counts_told w.outcome-is)
-          (subst (λ (v : Verb). (d : ℕ) → counts_by v d ≡ counts 0 0) (sym w.in-Login.is) (λ d. refl)) (λ unit. record { frames = refl; counts = refl }) tells
-      | in-Reset w ↦ quiet_tells lan lan c.args.self.now c.end.new.self c.in-Some.line.now _ found reached rest.partition rest.lines rest.seats
+          (subst (λ (v : Verb). (d : ℕ) → counts_by v d ≡ counts 0 0) (sym w.in-Login.is) (λ d. refl)) (ap is_replayed w.in-Login.is) tells
+      | in-Reset w ↦ quiet_tells lan c.args.self.now c.end.new.self c.in-Some.line.now _ found reached rest.partition rest.lines rest.seats
           c.in_ok-end.ensures.ended.logs fresh (ap frame_of w.outcome-is) (ap counts_told w.outcome-is)
-          (subst (λ (v : Verb). (d : ℕ) → counts_by v d ≡ counts 0 0) (sym w.in-Reset.is) (λ d. refl)) (λ unit. record { frames = refl; counts = refl }) tells
+          (subst (λ (v : Verb). (d : ℕ) → counts_by v d ≡ counts 0 0) (sym w.in-Reset.is) (λ d. refl)) (ap is_replayed w.in-Reset.is) tells
       | in-Take w ↦ took_tells lan c.args.self.now c.end.new.self c.in-Some.line.now _ _ (taken_in c.args.self.now.progress) found reached rest.partition rest.lines rest.seats
           c.in_ok-end.ensures.ended.logs fresh (w.outcome-is ∙ ap (λ n. outcomes.Took n) w.taken.ensures) w.in-Take.is (taken_within c.args.self.now.progress) tells
     ]
@@ -85,3 +88,10 @@ returns-clause-said c = λ pairs script out is.
     found line.suited script.seats
     (script.logs.reached (slice_get_within c.args.self.now.lines.now c.args.self.now.at c.in-Some.line.now found)) ends
     c.end.ensures.rest.lines c.end.ensures.rest.seats c.in_ok-end.ensures.ended.logs c.in_ok-end.ensures.fresh out is
+
+pub returns-clause-unfreed : goal.returns-clause-unfreed
+returns-clause-unfreed c = λ pairs script opens keep.
+    let found : slice_get c.args.self.now.lines.now c.args.self.now.at ≡ Some c.in-Some.line.now =
+    slice_get_read c.args.self.now.lines.now (length c.args.self.now.lines.now) c.args.self.now.at c.in-Some.line.now refl
+    (less_by c.args.self.now.at (length c.args.self.now.lines.now) (sym c.in-Some.ensures.lookup.0)) c.in-Some.ensures.lookup.1 in
+    waited_held pairs c.args.self.now c.end.new.self c.in-Some.line.now c.match-line.outcome found script.seats opens c.end.ensures.rest.lines c.end.ensures.rest.seats keep

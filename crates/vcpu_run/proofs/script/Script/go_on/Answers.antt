@@ -8,9 +8,8 @@ use Rattle.vcpu_run.proofs.Driving.{clients_of}
 use Rattle.std.proofs.lemmas.Option.{slice_get_past}
 use Rattle.vcpu_run.proofs.ScriptsTold.{none_out, over_told}
 use Rattle.vcpu_run.proofs.Logging.{script_stays}
-use Rattle.vcpu_run.specs.Freeing.{IsSparedBy}
-use Rattle.vcpu_run.proofs.Unfreed.{frees_always}
-use Rattle.vcpu_run.proofs.PortTelling.{rest_tells}
+use Rattle.vcpu_run.proofs.Held.{turned_held}
+use Rattle.vcpu_run.proofs.PortsTelling.{rest_tells}
 use Rattle.vcpu_run.proofs.Elsewhere.{ok_then}
 use Rattle.vcpu_run.proofs.script.Script.go_on.Goals as goal
 
@@ -43,8 +42,9 @@ returns-in-None-clause-quiet c =
 pub returns-in-Some-clause-quiet : goal.returns-in-Some-clause-quiet
 returns-in-Some-clause-quiet c = ok_more c.step.result _ _ (λ moved left is over. absurd (left is over)) c.step.ensures.quiet
 
-pub returns-in-None-clause-stays : goal.returns-in-None-clause-stays
-returns-in-None-clause-stays c = frees_always (IsSparedBy c.args.self.now) c.args.pairs.now c.take_rest.new.pairs c.take_rest.ensures.stays
+pub returns-in-None-clause-unfreed : goal.returns-in-None-clause-unfreed
+returns-in-None-clause-unfreed c =
+    on_ok c.take_rest.result _ (λ keep. turned_held c.args.pairs.now c.take_rest.new.pairs c.args.self.now c.take_rest.ensures.stays keep)
 
 pub returns-in-None-clause-told : goal.returns-in-None-clause-told
 returns-in-None-clause-told c =

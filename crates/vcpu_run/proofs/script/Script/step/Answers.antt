@@ -2,8 +2,9 @@ use Rattle.vcpu_run.proofs.Resting.{not_quiet, ok_more}
 use Rattle.vcpu_run.specs.declared.unit_seat.Seat.{Seat}
 use Rattle.vcpu_run.specs.Freed.{FreesNoneIf}
 use Rattle.vcpu_run.specs.Freeing.{IsSpared}
-use Rattle.vcpu_run.proofs.Unfreed.{frees_by}
-use Rattle.std.proofs.Common.{rules, ap, false, ◌≡◌, ◌∙◌, List, Ok, length, refl, slice_get, subst, arith}
+use Rattle.vcpu_run.specs.Holding.{LineOpen}
+use Rattle.vcpu_run.proofs.Held.{ends_held, waits_held}
+use Rattle.std.proofs.Common.{rules, ap, false, ◌≡◌, ◌∙◌, List, Ok, refl, subst, arith}
 use Rattle.std.proofs.lemmas.Option.{slice_get_within}
 use Rattle.unit_region.specs.declared.step.Step.{Step}
 use Rattle.unit_region.specs.declared.step.Step.TheVariants as steps
@@ -19,7 +20,7 @@ use Rattle.vcpu_run.proofs.Driving.{clients_of}
 use Rattle.vcpu_run.proofs.Logging.{all_at, one_unit, script_steps}
 use Rattle.vcpu_run.specs.PortSteps.{TellsStep}
 use Rattle.vcpu_run.specs.PortWords.{done_in}
-use Rattle.vcpu_run.proofs.PortTelling.{port_waits, step_tells}
+use Rattle.vcpu_run.proofs.PortsTelling.{port_waits, step_tells}
 use Rattle.vcpu_run.proofs.script.Script.step.Goals as goal
 
 pub step_unit-requires : goal.step_unit-requires
@@ -45,8 +46,7 @@ returns-in_err-step c =
       script = script_steps c.args.pairs.now c.step_unit.new.pairs c.args.self.now c.step_unit.new.progress c.step_unit.ensures.driven c.requires.script;
       rest = record { partition = refl; lines = refl; seats = refl };
       others = subst (λ (seats : List Seat). SameElse seats c.args.pairs.now c.step_unit.new.pairs) c.deref.ensures.value c.step_unit.ensures.others;
-      stays = frees_by c.args.self.now c.args.self.now.at c.args.line.now c.args.pairs.now c.step_unit.new.pairs c.requires.line
-          (subst (λ (seats : List Seat). FreesNoneIf (IsSpared seats c.args.line.now) c.args.pairs.now c.step_unit.new.pairs) c.deref.ensures.value c.step_unit.ensures.stays);
+      unfreed = search rules;
       lan = c.step_unit.ensures.lan;
       credited = search rules;
       told = search rules;
@@ -65,8 +65,7 @@ returns-in_err-end-in-Ends c =
       script = c.end.ensures.script c.step_unit.new.pairs (script_steps c.args.pairs.now c.step_unit.new.pairs c.args.self.now c.step_unit.new.progress c.step_unit.ensures.driven c.requires.script);
       rest = record { partition = c.end.ensures.rest.partition; lines = c.end.ensures.rest.lines; seats = c.end.ensures.rest.seats };
       others = subst (λ (seats : List Seat). SameElse seats c.args.pairs.now c.step_unit.new.pairs) c.deref.ensures.value c.step_unit.ensures.others;
-      stays = frees_by c.args.self.now c.args.self.now.at c.args.line.now c.args.pairs.now c.step_unit.new.pairs c.requires.line
-          (subst (λ (seats : List Seat). FreesNoneIf (IsSpared seats c.args.line.now) c.args.pairs.now c.step_unit.new.pairs) c.deref.ensures.value c.step_unit.ensures.stays);
+      unfreed = search rules;
       lan = c.step_unit.ensures.lan;
       credited = search rules;
       told = search rules;
@@ -85,8 +84,14 @@ returns-in_ok-end-in-Ends c =
       script = c.end.ensures.script c.step_unit.new.pairs (script_steps c.args.pairs.now c.step_unit.new.pairs c.args.self.now c.step_unit.new.progress c.step_unit.ensures.driven c.requires.script);
       rest = record { partition = c.end.ensures.rest.partition; lines = c.end.ensures.rest.lines; seats = c.end.ensures.rest.seats };
       others = subst (λ (seats : List Seat). SameElse seats c.args.pairs.now c.step_unit.new.pairs) c.deref.ensures.value c.step_unit.ensures.others;
-      stays = frees_by c.args.self.now c.args.self.now.at c.args.line.now c.args.pairs.now c.step_unit.new.pairs c.requires.line
-          (subst (λ (seats : List Seat). FreesNoneIf (IsSpared seats c.args.line.now) c.args.pairs.now c.step_unit.new.pairs) c.deref.ensures.value c.step_unit.ensures.stays);
+      unfreed = λ keep.
+          ends_held c.args.pairs.now c.step_unit.new.pairs c.args.self.now c.end.new.self c.step_unit.new.progress c.args.line.now c.in-Ends.outcome
+          c.requires.line c.requires.script.seats
+          (subst (λ (seats : List Seat). FreesNoneIf (IsSpared seats c.args.line.now) c.args.pairs.now c.step_unit.new.pairs) c.deref.ensures.value c.step_unit.ensures.stays)
+          (λ no.
+          subst (λ (st : Step). LineOpen c.args.self.now.seats.items c.args.line.now c.step_unit.new.progress c.step_unit.new.pairs (Ok st)) c.in-Ends.is
+          (rw (← c.deref.ensures.value) (c.in_ok-step.ensures.registered no)))
+          c.end.ensures.rest.lines c.end.ensures.rest.seats keep;
       lan = c.step_unit.ensures.lan;
       credited = λ is.
           line_ends c.args.pairs.now c.step_unit.new.pairs c.args.self.now c.end.new.self c.args.line.now
@@ -126,8 +131,13 @@ returns-in-Waits c =
       script = script_steps c.args.pairs.now c.step_unit.new.pairs c.args.self.now c.step_unit.new.progress c.step_unit.ensures.driven c.requires.script;
       rest = record { partition = refl; lines = refl; seats = refl };
       others = subst (λ (seats : List Seat). SameElse seats c.args.pairs.now c.step_unit.new.pairs) c.deref.ensures.value c.step_unit.ensures.others;
-      stays = frees_by c.args.self.now c.args.self.now.at c.args.line.now c.args.pairs.now c.step_unit.new.pairs c.requires.line
-          (subst (λ (seats : List Seat). FreesNoneIf (IsSpared seats c.args.line.now) c.args.pairs.now c.step_unit.new.pairs) c.deref.ensures.value c.step_unit.ensures.stays);
+      unfreed = λ keep.
+          waits_held c.args.pairs.now c.step_unit.new.pairs c.args.self.now c.step_unit.new.progress c.args.line.now c.in-Waits.moved
+          c.requires.line c.requires.script.seats
+          (subst (λ (seats : List Seat). FreesNoneIf (IsSpared seats c.args.line.now) c.args.pairs.now c.step_unit.new.pairs) c.deref.ensures.value c.step_unit.ensures.stays)
+          (λ no.
+          subst (λ (st : Step). LineOpen c.args.self.now.seats.items c.args.line.now c.step_unit.new.progress c.step_unit.new.pairs (Ok st)) c.in-Waits.is
+          (rw (← c.deref.ensures.value) (c.in_ok-step.ensures.registered no))) keep;
       lan = c.step_unit.ensures.lan;
       credited = λ is.
           line_waits c.args.pairs.now c.step_unit.new.pairs c.args.self.now c.step_unit.new.progress c.args.line.now c.in-Waits.moved

@@ -1,4 +1,4 @@
-use Rattle.std.proofs.Common.{◌∙◌, List, subst}
+use Rattle.std.proofs.Common.{List, subst}
 use Rattle.vcpu_run.proofs.Crediting.{credited_same}
 use Rattle.vcpu_run.proofs.Driving.{clients_of, driven_on, still_drivers}
 use Rattle.vcpu_run.specs.Agreed.{SameElse}
@@ -6,10 +6,9 @@ use Rattle.vcpu_run.specs.declared.unit_seat.Seat.{Seat}
 use Rattle.vcpu_run.proofs.Elsewhere.{else_on}
 use Rattle.vcpu_run.proofs.ScriptsTold.{clients_told}
 use Rattle.vcpu_run.proofs.Logging.{script_stays}
-use Rattle.vcpu_run.specs.Freeing.{IsSparedBy}
 use Rattle.vcpu_run.specs.Links.{EventsWait}
+use Rattle.vcpu_run.proofs.Held.{turned_held}
 use Rattle.vcpu_run.proofs.Resting.{events_rest, rests_on}
-use Rattle.vcpu_run.proofs.Unfreed.{frees_always, frees_on}
 use Rattle.vcpu_run.proofs.script.Script.turn.Goals as goal
 
 pub push_events-requires : goal.push_events-requires
@@ -43,18 +42,9 @@ returns-clause-others c =
     else_on c.args.self.now.seats.items c.args.pairs.now c.push_events.new.pairs c.go_on.new.pairs
     (subst (λ (seats : List Seat). SameElse seats c.args.pairs.now c.push_events.new.pairs) c.deref.ensures.value c.push_events.ensures.others) c.go_on.ensures.others
 
-pub returns-in_err-pushed-clause-stays : goal.returns-in_err-pushed-clause-stays
-returns-in_err-pushed-clause-stays c = frees_always (IsSparedBy c.args.self.now) c.args.pairs.now c.push_events.new.pairs c.push_events.ensures.stays
-
-pub returns-in_err-moved-clause-stays : goal.returns-in_err-moved-clause-stays
-returns-in_err-moved-clause-stays c =
-    frees_on (IsSparedBy c.args.self.now) c.args.pairs.now c.push_events.new.pairs c.go_on.new.pairs
-    (frees_always (IsSparedBy c.args.self.now) c.args.pairs.now c.push_events.new.pairs c.push_events.ensures.stays) c.go_on.ensures.stays
-
-pub returns-clause-stays : goal.returns-clause-stays
-returns-clause-stays c =
-    frees_on (IsSparedBy c.args.self.now) c.args.pairs.now c.push_events.new.pairs c.go_on.new.pairs
-    (frees_always (IsSparedBy c.args.self.now) c.args.pairs.now c.push_events.new.pairs c.push_events.ensures.stays) c.go_on.ensures.stays
+pub returns-clause-unfreed : goal.returns-clause-unfreed
+returns-clause-unfreed c = λ keep.
+    c.in_ok-moved.ensures.unfreed (turned_held c.args.pairs.now c.push_events.new.pairs c.args.self.now c.push_events.ensures.stays keep)
 
 pub returns-clause-quiet : goal.returns-clause-quiet
 returns-clause-quiet c = λ is over.

@@ -3,6 +3,6 @@ use Rattle.vcpu_run.proofs.Losing.{behind_polls}
 use Rattle.vcpu_run.proofs.session_end.SessionEndCrqEnd.poll.Goals as goal
 
 pub invariant_of-self-clause-behind : goal.invariant_of-self-clause-behind
-invariant_of-self-clause-behind g c =
+invariant_of-self-clause-behind c =
     behind_polls (state_of c.args.self.now.end) (state_of c.poll.new.self) c.poll.result c.poll.ensures.rest c.poll.ensures.got c.poll.ensures.empty c.poll.ensures.refused
     c.args.self.now.behind

@@ -1,0 +1,567 @@
+-- What there is once a line said that it sent a request, or wrote into its region, and that it is there as long as the run goes on.
+use Rattle.std.proofs.Common.{◌≡◌, ◌≢◌, ◌∙◌, ◌⊎◌, inl, inr, ℕ, zero, suc, ◌+◌, ◌==◌, ◌<◌, ◌≤◌, ◌&&◌, All, filter, get_or, map, nat_le, nat_lt, cond, Bool, true, false, List, [], ◌∷◌, ◌++◌, Option, Some, None, Result, Ok, Err, Contains, IfErr, IfOk, IfSome, IsSome, IsTrue, MatchBool, length, refl, sym, ap, subst, arith, slice_get}
+use Rattle.std.specs.Borrow.{GName}
+use Rattle.std.specs.List.{flat_map}
+use Rattle.std.proofs.lemmas.Bool.{eq-eqb}
+use Rattle.std.proofs.lemmas.Bool.Decides.{nat_tests}
+use Rattle.std.proofs.lemmas.List.Elements.{Contains-append_left, Contains-append_right}
+use Rattle.vio_num.specs.Entry.{srp_entry}
+use Rattle.vio_num.specs.declared.memory.NoMemory.{NoMemory}
+use Rattle.vio_num.specs.declared.names.UnitId.{UnitId}
+use Rattle.vio_num.specs.declared.entry.Entry.{Entry}
+use Rattle.page_slots.specs.Stroke.{StrokeValue}
+use Rattle.page_slots.specs.declared.stroke.StrokeName.{StrokeName}
+use Rattle.crq_ring.specs.declared.rows.PipeRow.{PipeRow}
+use Rattle.crq_ring.specs.Pipe.{PipeValue}
+use Rattle.crq_ring.specs.Sessions.{AreRising}
+use Rattle.crq_session.specs.EndState.{EndPlace, EndState, OnlyReserves}
+use Rattle.crq_session.specs.PlainState.{end_of, side_of}
+use Rattle.rdma_copy.specs.Copies.{side_of as side_at}
+use Rattle.rdma_copy.specs.Copy.{SideGrows}
+use Rattle.tce_window.specs.PlainPort.{known_of}
+use Rattle.tce_window.specs.Port.{Grows}
+use Rattle.tce_window.specs.PortState.{PortPlace, PortState, Writes}
+use Rattle.tce_window.specs.Strokes.{with_strokes}
+use Rattle.tce_window.specs.Region.{end_page, first_page, stroke_on, touches, written}
+use Rattle.tce_window.specs.Window.{strokes_at}
+use Rattle.srp_iu.specs.declared.unit.Iu.{Iu}
+use Rattle.srp_iu.specs.declared.unit.Iu.TheVariants as units
+use Rattle.boot_text.specs.declared.plan.Line.{Line}
+use Rattle.boot_text.specs.declared.verb.Verb.{Verb}
+use Rattle.boot_text.specs.declared.verb.Verb.TheVariants as verbs
+use Rattle.vio_trace.specs.declared.outcome.Outcome.{Outcome}
+use Rattle.vio_trace.specs.declared.outcome.Outcome.TheVariants as outcomes
+use Rattle.vio_trace.specs.declared.rows.LogRow.{LogRow}
+use Rattle.vscsi_client.specs.Ports.{Ports, UnitPut}
+use Rattle.vscsi_client.specs.Sending.{IsReady, LoggedOut, Put, Submitted, Tasked, logout_unit, task_unit}
+use Rattle.vscsi_client.specs.State.{ClientState, IsNextSlot}
+use Rattle.vscsi_client.specs.Units.{IsCommand, slot_address, task_request}
+use Rattle.vscsi_client.specs.declared.TheConstants.{SLOTS}
+use Rattle.vscsi_client.specs.declared.answers.Refused.{Refused}
+use Rattle.vscsi_client.specs.declared.op.Op.{Op}
+use Rattle.unit_region.specs.Answers.{AnswersWrite}
+use Rattle.unit_region.specs.Kept.{LaysOwnOn}
+use Rattle.unit_region.specs.Steps.{IsPlain, is_plain}
+use Rattle.unit_region.specs.declared.step.Step.{Step}
+use Rattle.unit_region.specs.declared.step.Step.TheVariants as steps
+use Rattle.vcpu_run.specs.declared.pair.Pair.{Pair}
+use Rattle.vcpu_run.specs.Commands.{IsOpOf, cdb_of}
+use Rattle.vcpu_run.specs.LinesShow.{AreWritten, IsCommandOf, IsOn, IsPut, IsPutBy, IsSent, IsSentIf, IsShown, IsUnitOf, IsWrittenIf, LinesShow, PairShows, Placed, Seen, Sees, StepShows, requests, seen_at, seen_by, written_by}
+use Rattle.vcpu_run.specs.Pairs.{Drives}
+use Rattle.vcpu_run.specs.Sendings.{SaysSent}
+use Rattle.vcpu_run.specs.Sessions.{entries_of, session_rows, sessions_from}
+use Rattle.vcpu_run.specs.Works.{fails}
+use Rattle.vcpu_run.proofs.Driving.{same_or, some_is}
+
+-- all that there was is there still
+written_more : (a b : Seen) → Sees a b → (unit : UnitId) (mark at : ℕ) (bytes : List ℕ) → AreWritten a unit mark at bytes → AreWritten b unit mark at bytes
+written_more a b more unit mark at bytes is page here = more.strokes page (stroke_on (record { who = unit; mark = mark }) at bytes page) (is page here)
+
+sent_more : (a b : Seen) → Sees a b → (unit : UnitId) (mark : ℕ) (verb : Verb) (tag : ℕ) → IsSent a unit mark verb tag → IsSent b unit mark verb tag
+sent_more a b more unit mark verb tag is = record {
+  slot = is.slot;
+  within = is.within;
+  iu = is.iu;
+  of_line = is.of_line;
+  bytes = is.bytes;
+  canonical = is.canonical;
+  written = written_more a b more unit mark (slot_address is.slot) is.bytes is.written;
+  entry = more.entries _ is.entry;
+}
+
+sent_if_more : (a b : Seen) → Sees a b → (unit : UnitId) (mark : ℕ) (verb : Verb) (outcome : Outcome) → IsSentIf a unit mark verb outcome → IsSentIf b unit mark verb outcome
+sent_if_more a b more unit mark verb (outcomes.Granted credits) is = tt
+sent_if_more a b more unit mark verb (outcomes.Sent tag) is = sent_more a b more unit mark verb tag is
+sent_if_more a b more unit mark verb (outcomes.Took count) is = tt
+sent_if_more a b more unit mark verb outcomes.Lost is = tt
+sent_if_more a b more unit mark verb (outcomes.TookThenLost count) is = tt
+sent_if_more a b more unit mark verb (outcomes.Rejected reason) is = tt
+sent_if_more a b more unit mark verb outcomes.Unanswered is = tt
+sent_if_more a b more unit mark verb outcomes.Range is = tt
+sent_if_more a b more unit mark verb outcomes.NotLoggedIn is = tt
+sent_if_more a b more unit mark verb (outcomes.NoCredit limit) is = tt
+sent_if_more a b more unit mark verb (outcomes.Overlap tag) is = tt
+sent_if_more a b more unit mark verb outcomes.Closed is = tt
+sent_if_more a b more unit mark verb (outcomes.Dropped number held) is = tt
+sent_if_more a b more unit mark verb (outcomes.Data size sum) is = tt
+sent_if_more a b more unit mark verb (outcomes.Stale page) is = tt
+sent_if_more a b more unit mark verb outcomes.Unknown is = tt
+sent_if_more a b more unit mark verb (outcomes.Code code) is = tt
+sent_if_more a b more unit mark verb (outcomes.Value value) is = tt
+sent_if_more a b more unit mark verb (outcomes.Posted buffers code) is = tt
+sent_if_more a b more unit mark verb (outcomes.Frame code number) is = tt
+sent_if_more a b more unit mark verb outcomes.Done is = tt
+sent_if_more a b more unit mark verb (outcomes.Bytes shown) is = tt
+
+written_if_more : (P Q : Type 0) → (P → Q) → (outcome : Outcome) → IsWrittenIf outcome P → IsWrittenIf outcome Q
+written_if_more P Q more (outcomes.Granted credits) is = tt
+written_if_more P Q more (outcomes.Sent tag) is = tt
+written_if_more P Q more (outcomes.Took count) is = tt
+written_if_more P Q more outcomes.Lost is = tt
+written_if_more P Q more (outcomes.TookThenLost count) is = tt
+written_if_more P Q more (outcomes.Rejected reason) is = tt
+written_if_more P Q more outcomes.Unanswered is = tt
+written_if_more P Q more outcomes.Range is = tt
+written_if_more P Q more outcomes.NotLoggedIn is = tt
+written_if_more P Q more (outcomes.NoCredit limit) is = tt
+written_if_more P Q more (outcomes.Overlap tag) is = tt
+written_if_more P Q more outcomes.Closed is = tt
+written_if_more P Q more (outcomes.Dropped number held) is = tt
+written_if_more P Q more (outcomes.Data size sum) is = tt
+written_if_more P Q more (outcomes.Stale page) is = tt
+written_if_more P Q more outcomes.Unknown is = tt
+written_if_more P Q more (outcomes.Code code) is = tt
+written_if_more P Q more (outcomes.Value value) is = tt
+written_if_more P Q more (outcomes.Posted buffers code) is = tt
+written_if_more P Q more (outcomes.Frame code number) is = tt
+written_if_more P Q more outcomes.Done is = more is
+written_if_more P Q more (outcomes.Bytes shown) is = tt
+
+pub shown_more : (a b : Seen) → Sees a b → (unit : UnitId) (mark : ℕ) (verb : Verb) (outcome : Outcome) → IsShown a unit mark verb outcome → IsShown b unit mark verb outcome
+shown_more a b more unit mark verb outcome is = at (requests verb) (written_by verb) is
+  where
+    at : (asked : Bool) (o : Option Placed)
+        → MatchBool asked (IsSentIf a unit mark verb outcome) (IfSome o (λ placed. IsWrittenIf outcome (AreWritten a unit mark placed.at placed.bytes)))
+        → MatchBool asked (IsSentIf b unit mark verb outcome) (IfSome o (λ placed. IsWrittenIf outcome (AreWritten b unit mark placed.at placed.bytes)))
+    at true o is = sent_if_more a b more unit mark verb outcome is
+    at false None is = tt
+    at false (Some placed) is =
+        written_if_more (AreWritten a unit mark placed.at placed.bytes) (AreWritten b unit mark placed.at placed.bytes)
+        (written_more a b more unit mark placed.at placed.bytes) outcome is
+
+pub step_more : (a b : Seen) → Sees a b → (unit : UnitId) (mark : ℕ) (verb : Verb) (result : Result Step NoMemory) → StepShows a unit mark verb result → StepShows b unit mark verb result
+step_more a b more unit mark verb (Ok (steps.Ends outcome)) is = shown_more a b more unit mark verb outcome is
+step_more a b more unit mark verb (Ok (steps.Waits did)) is = tt
+step_more a b more unit mark verb (Err memory) is = tt
+
+-- a line that sends nothing and writes nothing
+pub shows_none : (seen : Seen) (unit : UnitId) (mark : ℕ) (verb : Verb) (outcome : Outcome) → requests verb ≡ false → written_by verb ≡ None → IsShown seen unit mark verb outcome
+shows_none seen unit mark verb outcome no_request no_bytes =
+    subst (λ b. MatchBool b (IsSentIf seen unit mark verb outcome) (IfSome (written_by verb) (λ placed. IsWrittenIf outcome (AreWritten seen unit mark placed.at placed.bytes)))) (sym no_request)
+    (subst (λ (o : Option Placed). IfSome o (λ placed. IsWrittenIf outcome (AreWritten seen unit mark placed.at placed.bytes))) (sym no_bytes) tt)
+
+pub step_none : (seen : Seen) (unit : UnitId) (mark : ℕ) (verb : Verb) (result : Result Step NoMemory) → requests verb ≡ false → written_by verb ≡ None → StepShows seen unit mark verb result
+step_none seen unit mark verb (Ok (steps.Ends outcome)) no_request no_bytes = shows_none seen unit mark verb outcome no_request no_bytes
+step_none seen unit mark verb (Ok (steps.Waits did)) no_request no_bytes = tt
+step_none seen unit mark verb (Err memory) no_request no_bytes = tt
+
+-- a command, and the unit that it sends
+op_requests : (verb : Verb) (op : Op) → IsOpOf verb op → requests verb ≡ true
+op_requests verbs.Login op is = absurd is
+op_requests verbs.Reset op is = absurd is
+op_requests verbs.Logout op is = absurd is
+op_requests verbs.Tur op is = refl
+op_requests (verbs.Read lba blocks at pieces table) op is = refl
+op_requests (verbs.Write lba blocks at pieces table) op is = refl
+op_requests (verbs.Command cdb) op is = refl
+op_requests (verbs.CommandIn cdb at len pieces table) op is = refl
+op_requests (verbs.CommandOut cdb at len pieces table) op is = refl
+op_requests (verbs.Task function of) op is = absurd is
+op_requests (verbs.Take count) op is = absurd is
+op_requests (verbs.Data of) op is = absurd is
+op_requests verbs.Open op is = absurd is
+op_requests verbs.Close op is = absurd is
+op_requests (verbs.Post at len count) op is = absurd is
+op_requests (verbs.Send to len seed at) op is = absurd is
+op_requests (verbs.ChangeMac own) op is = absurd is
+op_requests (verbs.Multicast control group) op is = absurd is
+op_requests (verbs.Fill at len seed) op is = absurd is
+op_requests (verbs.Poke at bytes) op is = absurd is
+op_requests (verbs.Peek at len) op is = absurd is
+op_requests (verbs.Tce entry page readable writable) op is = absurd is
+op_requests (verbs.Hcall number arguments) op is = absurd is
+op_requests verbs.Fail op is = absurd is
+
+op_unit : (verb : Verb) (op : Op) (tag : ℕ) (iu : Iu) → IsOpOf verb op → IsCommandOf verb tag iu → IsUnitOf verb tag iu
+op_unit verbs.Login op tag iu is unit = absurd is
+op_unit verbs.Reset op tag iu is unit = absurd is
+op_unit verbs.Logout op tag iu is unit = absurd is
+op_unit verbs.Tur op tag iu is unit = unit
+op_unit (verbs.Read lba blocks at pieces table) op tag iu is unit = unit
+op_unit (verbs.Write lba blocks at pieces table) op tag iu is unit = unit
+op_unit (verbs.Command cdb) op tag iu is unit = unit
+op_unit (verbs.CommandIn cdb at len pieces table) op tag iu is unit = unit
+op_unit (verbs.CommandOut cdb at len pieces table) op tag iu is unit = unit
+op_unit (verbs.Task function of) op tag iu is unit = absurd is
+op_unit (verbs.Take count) op tag iu is unit = absurd is
+op_unit (verbs.Data of) op tag iu is unit = absurd is
+op_unit verbs.Open op tag iu is unit = absurd is
+op_unit verbs.Close op tag iu is unit = absurd is
+op_unit (verbs.Post at len count) op tag iu is unit = absurd is
+op_unit (verbs.Send to len seed at) op tag iu is unit = absurd is
+op_unit (verbs.ChangeMac own) op tag iu is unit = absurd is
+op_unit (verbs.Multicast control group) op tag iu is unit = absurd is
+op_unit (verbs.Fill at len seed) op tag iu is unit = absurd is
+op_unit (verbs.Poke at bytes) op tag iu is unit = absurd is
+op_unit (verbs.Peek at len) op tag iu is unit = absurd is
+op_unit (verbs.Tce entry page readable writable) op tag iu is unit = absurd is
+op_unit (verbs.Hcall number arguments) op tag iu is unit = absurd is
+op_unit verbs.Fail op tag iu is unit = absurd is
+
+-- a line that fails its partition
+fail_is : (verb : Verb) → fails verb ≡ true → verb ≡ verbs.Fail
+fail_is verbs.Login is = absurd (cc)
+fail_is verbs.Reset is = absurd (cc)
+fail_is verbs.Logout is = absurd (cc)
+fail_is verbs.Tur is = absurd (cc)
+fail_is (verbs.Read lba blocks at pieces table) is = absurd (cc)
+fail_is (verbs.Write lba blocks at pieces table) is = absurd (cc)
+fail_is (verbs.Command cdb) is = absurd (cc)
+fail_is (verbs.CommandIn cdb at len pieces table) is = absurd (cc)
+fail_is (verbs.CommandOut cdb at len pieces table) is = absurd (cc)
+fail_is (verbs.Task function of) is = absurd (cc)
+fail_is (verbs.Take count) is = absurd (cc)
+fail_is (verbs.Data of) is = absurd (cc)
+fail_is verbs.Open is = absurd (cc)
+fail_is verbs.Close is = absurd (cc)
+fail_is (verbs.Post at len count) is = absurd (cc)
+fail_is (verbs.Send to len seed at) is = absurd (cc)
+fail_is (verbs.ChangeMac own) is = absurd (cc)
+fail_is (verbs.Multicast control group) is = absurd (cc)
+fail_is (verbs.Fill at len seed) is = absurd (cc)
+fail_is (verbs.Poke at bytes) is = absurd (cc)
+fail_is (verbs.Peek at len) is = absurd (cc)
+fail_is (verbs.Tce entry page readable writable) is = absurd (cc)
+fail_is (verbs.Hcall number arguments) is = absurd (cc)
+fail_is verbs.Fail is = refl
+
+pub fail_shows : (seen : Seen) (unit : UnitId) (mark : ℕ) (verb : Verb) (outcome : Outcome) → fails verb ≡ true → IsShown seen unit mark verb outcome
+fail_shows seen unit mark verb outcome failing =
+    let is = fail_is verb failing in
+    shows_none seen unit mark verb outcome (ap requests is) (ap written_by is)
+
+contains_first : {X : Type 0} (x : X) (rest : List X) → Contains (x ∷ rest) x
+contains_first x rest = (zero, omega arith, refl)
+
+-- a write of bytes lays a stroke on each page that they touch
+touched : (at len page : ℕ) → touches at len page ≡ true → (first_page at ≤ page) × (page < end_page at len)
+touched at len page h = both (nat_le (first_page at) page) (nat_lt page (end_page at len)) refl refl h
+  where
+    both : (a b : Bool) → nat_le (first_page at) page ≡ a → nat_lt page (end_page at len) ≡ b → (a && b) ≡ true → (first_page at ≤ page) × (page < end_page at len)
+    both true true e f h = (grind (arith, nat_tests, e), grind (arith, nat_tests, f))
+    both true false e f h = absurd (cc)
+    both false b e f h = absurd (cc)
+
+laid_there : (stroke : StrokeValue) (before after : Option (List StrokeValue)) → after ≡ with_strokes before (stroke ∷ []) → IsSome after → IsOn stroke after
+laid_there stroke None after e there = absurd (none after e there)
+  where
+    false_true : false ≡ true → ⊥
+    false_true e = cc
+
+    none : (o : Option (List StrokeValue)) → o ≡ None → IsSome o → ⊥
+    none o is some = let found : IsSome {T = List StrokeValue} None = subst (λ (x : Option (List StrokeValue)). IsSome x) is some in false_true found
+laid_there stroke (Some strokes) after e there =
+    subst (IsOn stroke) (sym e) (Contains-append_right strokes (stroke ∷ []) stroke (contains_first stroke []))
+
+pub write_there : (shared : Bool) (old new : PortState) (at mark : ℕ) (bytes : List ℕ) (entries : Entry → Type 0) → Writes shared old at bytes mark new
+    → AreWritten (record { stroke_at = λ page stroke. IsOn stroke (new.strokes page); entry_put = entries }) old.place.unit mark at bytes
+write_there shared old new at mark bytes entries is page here =
+    let name : StrokeName = record { who = old.place.unit; mark = mark } in
+    let stroke = stroke_on name at bytes page in
+    let w = is.strokes page in
+    let within = touched at (length bytes) page here in
+    laid_there stroke w.before (new.strokes page) (w.laid ∙ ap (λ b. cond b (with_strokes w.before (stroke ∷ [])) w.before) here) (is.there page within.0 within.1)
+
+-- a unit was written into its slot, and its entry put
+abbrev row_of : Ports → Entry → PipeRow
+row_of new entry = record { session = new.crq.counts.partner_session; entry = entry }
+
+next_within : (s : ClientState) (slot : ℕ) → IsNextSlot s slot → slot < SLOTS
+next_within s slot (inl is) = is.within
+next_within s slot (inr is) = is.within
+
+unit_sent : (line slot : ℕ) (bytes : List ℕ) (old before new : Ports) (s : ClientState) (verb : Verb) (tag : ℕ) (iu : Iu) → before.crq_shared ≡ old.crq_shared
+    → OnlyReserves old.crq before.crq → new.crq.place ≡ old.crq.place → new.own.place ≡ old.own.place → IsUnitOf verb tag iu → IsReady s iu slot bytes
+    → UnitPut line slot bytes before new → IsSent (seen_by old.crq_shared new.own new.crq) old.own.place.unit line verb tag
+unit_sent line slot bytes old before new s verb tag iu shared room place own is ready put = record {
+  slot = slot;
+  within = next_within s slot ready.1;
+  iu = iu;
+  of_line = is;
+  bytes = bytes;
+  canonical = ready.0;
+  written = subst (λ unit. AreWritten (seen_by old.crq_shared new.own new.crq) unit line (slot_address slot) bytes)
+      (ap (λ (p : PortPlace). p.unit) (sym put.laid.1.place ∙ own))
+      (write_there before.own_shared before.own new.own (slot_address slot) line bytes (IsPutBy old.crq_shared new.crq) put.laid.0);
+  entry = record {
+    there = subst (λ (rows : List PipeRow). Contains rows (row_of new (srp_entry (length bytes) (slot_address slot)))) (sym put.sent.puts.sent)
+        (Contains-append_right before.crq.sent (row_of new (srp_entry (length bytes) (slot_address slot)) ∷ []) (row_of new (srp_entry (length bytes) (slot_address slot)))
+        (contains_first (row_of new (srp_entry (length bytes) (slot_address slot))) []));
+    partner = λ alone. ap (λ (p : EndPlace). p.partner_registered) (place ∙ sym room.place) ∙ put.sent.puts.partner (shared ∙ alone);
+  };
+}
+
+-- an outcome that tells of no request
+plain_sent : (seen : Seen) (unit : UnitId) (mark : ℕ) (verb : Verb) (outcome : Outcome) → is_plain outcome ≡ true → IsSentIf seen unit mark verb outcome
+plain_sent seen unit mark verb (outcomes.Granted credits) plain = tt
+plain_sent seen unit mark verb (outcomes.Sent tag) plain = absurd (cc)
+plain_sent seen unit mark verb (outcomes.Took count) plain = tt
+plain_sent seen unit mark verb outcomes.Lost plain = tt
+plain_sent seen unit mark verb (outcomes.TookThenLost count) plain = tt
+plain_sent seen unit mark verb (outcomes.Rejected reason) plain = tt
+plain_sent seen unit mark verb outcomes.Unanswered plain = tt
+plain_sent seen unit mark verb outcomes.Range plain = tt
+plain_sent seen unit mark verb outcomes.NotLoggedIn plain = tt
+plain_sent seen unit mark verb (outcomes.NoCredit limit) plain = tt
+plain_sent seen unit mark verb (outcomes.Overlap tag) plain = tt
+plain_sent seen unit mark verb outcomes.Closed plain = tt
+plain_sent seen unit mark verb (outcomes.Dropped number held) plain = tt
+plain_sent seen unit mark verb (outcomes.Data size sum) plain = tt
+plain_sent seen unit mark verb (outcomes.Stale page) plain = tt
+plain_sent seen unit mark verb outcomes.Unknown plain = tt
+plain_sent seen unit mark verb (outcomes.Code code) plain = tt
+plain_sent seen unit mark verb (outcomes.Value value) plain = tt
+plain_sent seen unit mark verb (outcomes.Posted buffers code) plain = tt
+plain_sent seen unit mark verb (outcomes.Frame code number) plain = tt
+plain_sent seen unit mark verb outcomes.Done plain = tt
+plain_sent seen unit mark verb (outcomes.Bytes shown) plain = tt
+
+-- what a request that was sent says, and one that was not
+sent_as : (seen : Seen) (unit : UnitId) (mark : ℕ) (verb : Verb) (tag : ℕ) (result : Result Step NoMemory) → requests verb ≡ true → result ≡ Ok (steps.Ends (outcomes.Sent tag))
+    → IsSent seen unit mark verb tag → StepShows seen unit mark verb result
+sent_as seen unit mark verb tag result asked says is =
+    subst (StepShows seen unit mark verb) (sym says)
+    (subst (λ b. MatchBool b (IsSent seen unit mark verb tag) (IfSome (written_by verb) (λ placed. IsWrittenIf (outcomes.Sent tag) (AreWritten seen unit mark placed.at placed.bytes))))
+    (sym asked) is)
+
+not_sent : (seen : Seen) (unit : UnitId) (mark : ℕ) (verb : Verb) (result : Result Step NoMemory) → requests verb ≡ true → IsPlain result → StepShows seen unit mark verb result
+not_sent seen unit mark verb (Ok (steps.Ends outcome)) asked plain =
+    subst (λ b. MatchBool b (IsSentIf seen unit mark verb outcome) (IfSome (written_by verb) (λ placed. IsWrittenIf outcome (AreWritten seen unit mark placed.at placed.bytes)))) (sym asked)
+    (plain_sent seen unit mark verb outcome plain)
+not_sent seen unit mark verb (Ok (steps.Waits did)) asked plain = tt
+not_sent seen unit mark verb (Err memory) asked plain = tt
+
+pub submit_shows : (verb : Verb) (line : ℕ) (op : Op) (s s' : ClientState) (old new : Ports) (answer : Result ℕ Refused) (result : Result Step NoMemory) → IsOpOf verb op
+    → op.cdb ≡ cdb_of verb → SaysSent answer result → IfOk answer (Submitted line op s s' old new) → new.crq.place ≡ old.crq.place → new.own.place ≡ old.own.place
+    → StepShows (seen_by old.crq_shared new.own new.crq) old.own.place.unit line verb result
+submit_shows verb line op s s' old new (Ok tag) result is cdb says sent place own =
+    let put = sent.put in
+    sent_as (seen_by old.crq_shared new.own new.crq) old.own.place.unit line verb tag result (op_requests verb op is) says
+    (unit_sent line sent.slot put.0 old sent.before new s verb tag (units.Cmd sent.command) sent.ready.crq_shared sent.ready.crq place own
+    (op_unit verb op tag (units.Cmd sent.command) is
+    (record { op = op; of_line = is; cdb = cdb; command = sent.command; is = subst (λ t. IsCommand t op sent.command) (sym sent.tag_is) sent.is_command; unit_is = refl })) put.1 put.2)
+submit_shows verb line op s s' old new (Err why) result is cdb says sent place own =
+    not_sent (seen_by old.crq_shared new.own new.crq) old.own.place.unit line verb result (op_requests verb op is) says
+
+put_shows : (verb : Verb) (line slot tag : ℕ) (s : ClientState) (iu : Iu) (old new : Ports) (result : Result Step NoMemory) → requests verb ≡ true → IsUnitOf verb tag iu
+    → result ≡ Ok (steps.Ends (outcomes.Sent tag)) → Put line s iu slot old new → new.crq.place ≡ old.crq.place → new.own.place ≡ old.own.place
+    → StepShows (seen_by old.crq_shared new.own new.crq) old.own.place.unit line verb result
+put_shows verb line slot tag s iu old new result asked is says put place own =
+    sent_as (seen_by old.crq_shared new.own new.crq) old.own.place.unit line verb tag result asked says
+    (unit_sent line slot put.put.0 old put.before new s verb tag iu put.ready.crq_shared put.ready.crq place own is put.put.1 put.put.2)
+
+pub task_shows : (line function task : ℕ) (s s' : ClientState) (old new : Ports) (answer : Result ℕ Refused) (result : Result Step NoMemory) → SaysSent answer result
+    → IfOk answer (Tasked line function task s s' old new) → new.crq.place ≡ old.crq.place → new.own.place ≡ old.own.place
+    → StepShows (seen_by old.crq_shared new.own new.crq) old.own.place.unit line (verbs.Task function task) result
+task_shows line function task s s' old new (Ok tag) result says sent place own =
+    put_shows (verbs.Task function task) line sent.slot tag s (task_unit function task s) old new result refl
+    (ap (λ t. units.TskMgmt (task_request function task t)) (sym sent.tag_is)) says sent.put place own
+task_shows line function task s s' old new (Err why) result says sent place own =
+    not_sent (seen_by old.crq_shared new.own new.crq) old.own.place.unit line (verbs.Task function task) result refl says
+
+pub logout_shows : (line : ℕ) (s s' : ClientState) (old new : Ports) (answer : Result ℕ Refused) (result : Result Step NoMemory) → SaysSent answer result
+    → IfOk answer (LoggedOut line s s' old new) → new.crq.place ≡ old.crq.place → new.own.place ≡ old.own.place
+    → StepShows (seen_by old.crq_shared new.own new.crq) old.own.place.unit line verbs.Logout result
+logout_shows line s s' old new (Ok tag) result says sent place own =
+    put_shows verbs.Logout line sent.slot tag s (logout_unit s) old new result refl (ap (λ t. units.ILogout t) (sym sent.tag_is)) says sent.put place own
+logout_shows line s s' old new (Err why) result says sent place own =
+    not_sent (seen_by old.crq_shared new.own new.crq) old.own.place.unit line verbs.Logout result refl says
+
+-- a line that writes bytes into the region
+if_done : (shared : Bool) (old new : PortState) (at : ℕ) (bytes : List ℕ) (mark : ℕ) (P : Type 0) → (Writes shared old at bytes mark new → P) → (outcome : Outcome)
+    → AnswersWrite shared old new at bytes mark (steps.Ends outcome) → IsWrittenIf outcome P
+if_done shared old new at bytes mark P from (outcomes.Granted credits) answer = tt
+if_done shared old new at bytes mark P from (outcomes.Sent tag) answer = tt
+if_done shared old new at bytes mark P from (outcomes.Took count) answer = tt
+if_done shared old new at bytes mark P from outcomes.Lost answer = tt
+if_done shared old new at bytes mark P from (outcomes.TookThenLost count) answer = tt
+if_done shared old new at bytes mark P from (outcomes.Rejected reason) answer = tt
+if_done shared old new at bytes mark P from outcomes.Unanswered answer = tt
+if_done shared old new at bytes mark P from outcomes.Range answer = tt
+if_done shared old new at bytes mark P from outcomes.NotLoggedIn answer = tt
+if_done shared old new at bytes mark P from (outcomes.NoCredit limit) answer = tt
+if_done shared old new at bytes mark P from (outcomes.Overlap tag) answer = tt
+if_done shared old new at bytes mark P from outcomes.Closed answer = tt
+if_done shared old new at bytes mark P from (outcomes.Dropped number held) answer = tt
+if_done shared old new at bytes mark P from (outcomes.Data size sum) answer = tt
+if_done shared old new at bytes mark P from (outcomes.Stale page) answer = tt
+if_done shared old new at bytes mark P from outcomes.Unknown answer = tt
+if_done shared old new at bytes mark P from (outcomes.Code code) answer = tt
+if_done shared old new at bytes mark P from (outcomes.Value value) answer = tt
+if_done shared old new at bytes mark P from (outcomes.Posted buffers code) answer = tt
+if_done shared old new at bytes mark P from (outcomes.Frame code number) answer = tt
+if_done shared old new at bytes mark P from outcomes.Done answer = from answer
+if_done shared old new at bytes mark P from (outcomes.Bytes shown) answer = tt
+
+pub write_shows : (shared : Bool) (old new : PortState) (at mark : ℕ) (bytes : List ℕ) (entries : Entry → Type 0) (verb : Verb) (result : Result Step NoMemory) → requests verb ≡ false
+    → written_by verb ≡ Some (record { at = at; bytes = bytes }) → IfOk result (AnswersWrite shared old new at bytes mark)
+    → StepShows (record { stroke_at = λ page stroke. IsOn stroke (new.strokes page); entry_put = entries }) old.place.unit mark verb result
+write_shows shared old new at mark bytes entries verb (Ok (steps.Ends outcome)) no_request is answer =
+    let seen : Seen = record { stroke_at = λ page stroke. IsOn stroke (new.strokes page); entry_put = entries } in
+    let unit = old.place.unit in
+    subst (λ b. MatchBool b (IsSentIf seen unit mark verb outcome) (IfSome (written_by verb) (λ placed. IsWrittenIf outcome (AreWritten seen unit mark placed.at placed.bytes)))) (sym no_request)
+    (subst (λ (o : Option Placed). IfSome o (λ placed. IsWrittenIf outcome (AreWritten seen unit mark placed.at placed.bytes))) (sym is)
+    (if_done shared old new at bytes mark (AreWritten seen unit mark at bytes) (write_there shared old new at mark bytes entries) outcome answer))
+write_shows shared old new at mark bytes entries verb (Ok (steps.Waits did)) no_request is answer = tt
+write_shows shared old new at mark bytes entries verb (Err memory) no_request is answer = tt
+
+-- what a driver sees is there at its pair: an entry that was put in a registered queue was put in a session
+pub home_sees : (pair : Pair) (port : PortState) (end : EndState) → port.strokes ≡ strokes_at pair.window.pages → end.sent ≡ (side_of pair.link true).queue.sent
+    → end.counts.partner_session ≡ (side_of pair.link true).queue.session → end.place.partner_registered ≡ (side_of pair.link true).registered
+    → Sees (seen_by false port end) (seen_at pair)
+home_sees pair port end strokes sent session registered = record {
+  strokes = λ page stroke is. subst (λ (at : ℕ → Option (List StrokeValue)). IsOn stroke (at page)) strokes is;
+  entries = λ entry is. record {
+    row = record { session = end.counts.partner_session; entry = entry };
+    there = subst (λ (rows : List PipeRow). Contains rows (record { session = end.counts.partner_session; entry = entry })) sent is.there;
+    entry_is = refl;
+    begun = subst (λ n. 1 ≤ n) (sym session) ((side_of pair.link true).begun (sym registered ∙ is.partner refl));
+  };
+}
+
+more_on : (unit : UnitId) (stroke : StrokeValue) (old new : Option (List StrokeValue)) → LaysOwnOn unit old new → IsOn stroke old → IsOn stroke new
+more_on unit stroke None new lays is = absurd is
+more_on unit stroke (Some old) None lays is = absurd lays
+more_on unit stroke (Some old) (Some new) lays is =
+    subst (λ (strokes : List StrokeValue). Contains strokes stroke) (sym lays.is) (Contains-append_left old lays.more stroke is)
+
+more_put : (entry : Entry) (old rows new : List PipeRow) → new ≡ old ++ rows → IsPut entry old → IsPut entry new
+more_put entry old rows new e is = record {
+  row = is.row;
+  there = subst (λ (list : List PipeRow). Contains list is.row) (sym e) (Contains-append_left old rows is.row is.there);
+  entry_is = is.entry_is;
+  begun = is.begun;
+}
+
+-- what a client's part of a turn, and a turn of the server unit, leave of it
+pub drives_sees : (old new : Pair) → Drives old new → Sees (seen_at old) (seen_at new)
+drives_sees old new is = record {
+  strokes = λ page stroke there. more_on old.window.unit stroke (strokes_at old.window.pages page) (strokes_at new.window.pages page) (is.laid page) there;
+  entries = λ entry put. more_put entry (side_of old.link true).queue.sent is.puts.rows (side_of new.link true).queue.sent is.puts.sent put;
+}
+
+grown_on : (stroke : StrokeValue) (old new : Option (List StrokeValue)) → Grows true old new → IsOn stroke old → IsOn stroke new
+grown_on stroke None new grows is = absurd is
+grown_on stroke (Some old) None grows is = absurd grows
+grown_on stroke (Some old) (Some new) grows is =
+    subst (λ (strokes : List StrokeValue). Contains strokes stroke) (sym grows.1) (Contains-append_left old grows.0 stroke is)
+
+pub serve_sees : (old new : Pair) → SideGrows (side_at (known_of old.window)) (side_at (known_of new.window)) → (side_of new.link true).queue.sent ≡ (side_of old.link true).queue.sent
+    → Sees (seen_at old) (seen_at new)
+serve_sees old new grows sent = record {
+  strokes = λ page stroke there. grown_on stroke (strokes_at old.window.pages page) (strokes_at new.window.pages page) (grows.strokes page) there;
+  entries = λ entry put. subst (IsPut entry) (sym sent) put;
+}
+
+pub sees_same : (seen : Seen) → Sees seen seen
+sees_same seen = record { strokes = λ page stroke is. is; entries = λ entry is. is }
+
+pub sees_on : (a b c : Seen) → Sees a b → Sees b c → Sees a c
+sees_on a b c first next = record {
+  strokes = λ page stroke is. next.strokes page stroke (first.strokes page stroke is);
+  entries = λ entry is. next.entries entry (first.entries entry is);
+}
+
+-- of lines one after the other
+pub lines_more : (a b : Seen) (who : UnitId) (unit : ℕ) (lines : List Line) (rows : List LogRow) → Sees a b → LinesShow a who unit lines rows → LinesShow b who unit lines rows
+lines_more a b who unit lines rows more show i line row found at is = shown_more a b more who line.number line.verb row.outcome (show i line row found at is)
+
+pub no_row : (row : LogRow) → None ≡ Some row → ⊥
+no_row row e = cc
+
+row_at : (rows : List LogRow) (last row : LogRow) (i : ℕ) → slice_get (rows ++ last ∷ []) i ≡ Some row → (slice_get rows i ≡ Some row) ⊎ ((i ≡ length rows) × (row ≡ last))
+row_at [] last row zero e = inr (refl, some_is row last (sym e))
+row_at [] last row (suc i) e = absurd (no_row row e)
+row_at (first ∷ rows) last row zero e = inl e
+row_at (first ∷ rows) last row (suc i) e = at (row_at rows last row i e)
+  where
+    at : (slice_get rows i ≡ Some row) ⊎ ((i ≡ length rows) × (row ≡ last)) → (slice_get rows i ≡ Some row) ⊎ ((suc i ≡ suc (length rows)) × (row ≡ last))
+    at (inl h) = inl h
+    at (inr h) = inr (ap suc h.0, h.1)
+
+pub lines_next : (seen : Seen) (who : UnitId) (unit : ℕ) (lines : List Line) (rows : List LogRow) (line : Line) (row : LogRow) → slice_get lines (length rows) ≡ Some line
+    → LinesShow seen who unit lines rows → (line.unit ≡ unit → IsShown seen who line.number line.verb row.outcome) → LinesShow seen who unit lines (rows ++ row ∷ [])
+lines_next seen who unit lines rows line row found show last i l r there at is = by (row_at rows row r i at)
+  where
+    by : (slice_get rows i ≡ Some r) ⊎ ((i ≡ length rows) × (r ≡ row)) → IsShown seen who l.number l.verb r.outcome
+    by (inl h) = show i l r there h is
+    by (inr h) =
+        let same : l ≡ line = some_is l line (sym there ∙ (ap (slice_get lines) h.0 ∙ found)) in
+        subst (λ (x : LogRow). IsShown seen who l.number l.verb x.outcome) (sym h.1)
+        (subst (λ (x : Line). IsShown seen who x.number x.verb row.outcome) (sym same) (last (sym (ap (λ (x : Line). x.unit) same) ∙ is)))
+
+-- an entry that was put in a session is one of those that the trace shows
+no_element : {X : Type 0} (x : X) → Contains [] x → ⊥
+no_element x h = omega (arith, h.1)
+
+first_or : {X : Type 0} (first x : X) (xs : List X) → Contains (first ∷ xs) x → (first ≡ x) ⊎ Contains xs x
+first_or {X} first x xs h = at h.0 h.1 h.2
+  where
+    at : (k : ℕ) → k < length (first ∷ xs) → get_or (first ∷ xs) k x ≡ x → (first ≡ x) ⊎ Contains xs x
+    at zero within is = inl is
+    at (suc k) within is = inr (k, omega (arith, within), is)
+
+all_has : {X : Type 0} (P : X → Type 0) (xs : List X) (x : X) → All P xs → Contains xs x → P x
+all_has P xs x all has = subst P has.2 (all has.0 x has.1)
+
+behind_first : {X : Type 0} (first x : X) (xs : List X) → Contains xs x → Contains (first ∷ xs) x
+behind_first first x xs h = Contains-append_right (first ∷ []) xs x h
+
+in_session : (q : ℕ) (rows : List PipeRow) (row : PipeRow) → row.session ≡ q → Contains rows row → Contains (entries_of q rows) row.entry
+in_session q [] row same has = absurd (no_element row has)
+in_session q (first ∷ rows) row same has = by (in_session q rows row same) (first_or first row rows has)
+  where
+    rest : List PipeRow
+    rest = filter (λ r. r.session == q) rows
+
+    at : (b : Bool) → Contains (map (λ r. r.entry) rest) row.entry → Contains (map (λ r. r.entry) (cond b (first ∷ rest) rest)) row.entry
+    at true h = behind_first first.entry row.entry (map (λ r. r.entry) rest) h
+    at false h = h
+
+    by : (Contains rows row → Contains (map (λ r. r.entry) rest) row.entry) → (first ≡ row) ⊎ Contains rows row
+        → Contains (map (λ r. r.entry) (cond (first.session == q) (first ∷ rest) rest)) row.entry
+    by more (inl e) =
+        subst (λ b. Contains (map (λ r. r.entry) (cond b (first ∷ rest) rest)) row.entry) (sym (eq-eqb first.session q (ap (λ (r : PipeRow). r.session) e ∙ same)))
+        (subst (λ (entry : Entry). Contains (first.entry ∷ map (λ r. r.entry) rest) entry) (ap (λ (r : PipeRow). r.entry) e) (contains_first first.entry (map (λ r. r.entry) rest)))
+    by more (inr h) = at (first.session == q) (more h)
+
+in_sessions : (unit : UnitId) (pipe : PipeValue) (q n k : ℕ) (entry : Entry) → q ≤ k → k < q + n → Contains (entries_of k pipe.sent) entry
+    → Contains (flat_map (λ row. row.sent) (sessions_from unit pipe q n)) entry
+in_sessions unit pipe q zero k entry from below has = absurd (omega (arith, from, below))
+in_sessions unit pipe q (suc n) k entry from below has =
+    by (λ apart. in_sessions unit pipe (q + 1) n k entry (omega (arith, from, apart)) (omega (arith, below)) has) (same_or k q)
+  where
+    later : List Entry
+    later = flat_map (λ row. row.sent) (sessions_from unit pipe (q + 1) n)
+
+    by : (k ≢ q → Contains later entry) → (k ≡ q) ⊎ (k ≢ q) → Contains (entries_of q pipe.sent ++ later) entry
+    by more (inl e) = Contains-append_left (entries_of q pipe.sent) later entry (subst (λ m. Contains (entries_of m pipe.sent) entry) e has)
+    by more (inr apart) = Contains-append_right (entries_of q pipe.sent) later entry (more apart)
+
+pub put_shown : (unit : UnitId) (pipe : PipeValue) (entry : Entry) → AreRising pipe.session pipe.sent → IsPut entry pipe.sent
+    → Contains (flat_map (λ row. row.sent) (session_rows unit pipe)) entry
+put_shown unit pipe entry rising put =
+    let last : put.row.session ≤ pipe.session = all_has (λ (row : PipeRow). row.session ≤ pipe.session) pipe.sent put.row rising.none_later put.there in
+    in_sessions unit pipe 1 pipe.session put.row.session entry put.begun (omega (arith, last))
+    (subst (λ (e : Entry). Contains (entries_of put.row.session pipe.sent) e) put.entry_is (in_session put.row.session pipe.sent put.row refl put.there))
+
+-- a stroke of a page is one of those that the trace shows
+pub stroke_shown : (size page : ℕ) (stroke : StrokeValue) (strokes : Option (List StrokeValue)) (shown : List StrokeValue)
+    → Grows true strokes (cond (nat_lt page size) (Some shown) None) → IsOn stroke strokes → Contains shown stroke
+stroke_shown size page stroke strokes shown grows on = at (nat_lt page size) grows
+  where
+    at : (b : Bool) → Grows true strokes (cond b (Some shown) None) → Contains shown stroke
+    at true more = grown_on stroke strokes (Some shown) more on
+    at false more = absurd (grown_on stroke strokes None more on)
+
+-- a step at the pair where a client sits
+end_sees : (pair : Pair) (lenders : List GName) (first : Bool) → first ≡ false → Sees (seen_by false (known_of pair.window) (end_of lenders pair.link first)) (seen_at pair)
+end_sees pair lenders first is =
+    subst (λ b. Sees (seen_by false (known_of pair.window) (end_of lenders pair.link b)) (seen_at pair)) (sym is)
+    (home_sees pair (known_of pair.window) (end_of lenders pair.link false) refl refl refl refl)
+
+pub pair_shows : (pair : Pair) (lenders : List GName) (first : Bool) (who : UnitId) (line : Line) (result : Result Step NoMemory) → first ≡ false → pair.window.unit ≡ who
+    → StepShows (seen_by false (known_of pair.window) (end_of lenders pair.link first)) who line.number line.verb result → PairShows line pair result
+pair_shows pair lenders first who line result is same shows =
+    subst (λ unit. StepShows (seen_at pair) unit line.number line.verb result) (sym same)
+    (step_more (seen_by false (known_of pair.window) (end_of lenders pair.link first)) (seen_at pair) (end_sees pair lenders first is) who line.number line.verb result shows)

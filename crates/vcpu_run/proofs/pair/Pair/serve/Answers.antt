@@ -1,0 +1,277 @@
+use Rattle.vio_num.specs.declared.hypervisor.Moved.TheVariants.{Quiet}
+use Rattle.vcpu_run.specs.Links.{IsLinked, ServerWaits, link_state}
+use Rattle.vcpu_run.specs.Freed.{FreesNoneAt, IsNotFreed, NotFreed}
+use Rattle.vcpu_run.proofs.Waiting.{agrees_like, agrees_other, serve_frees, serve_queue, serve_sent, serve_waits}
+use Rattle.vcpu_run.proofs.Resting.{ok_both}
+use Rattle.vcpu_run.proofs.Crediting.{on_ok}
+use Rattle.std.proofs.Common.{rules, ◌≡◌, Bool, Contains, List, [], ◌∷◌, false, true, refl, sym, ◌∙◌, ap, subst, IfNone, ◌<◌, IfOk, OnOk, arith, length, slice_get}
+use Rattle.std.proofs.lemmas.List.Elements.{Contains-append_left}
+use Rattle.vio_num.specs.declared.names.UnitId.{UnitId}
+use Rattle.rdma_copy.specs.declared.copy.CopyRecord.{CopyRecord}
+use Rattle.block_server.specs.Causes.{Told}
+use Rattle.vcpu_run.specs.Heard.{AllGoBy, UnitGoesBy, TellsPair}
+use Rattle.vcpu_run.proofs.HeardTurns.{tells_turn, told_elsewhere, told_served}
+use Rattle.crq_session.specs.EndState.{EndPlace}
+use Rattle.crq_session.specs.declared.link.PlainLink.{PlainLink}
+use Rattle.crq_session.specs.PlainState.{partner_of, side_of, state_of}
+use Rattle.crq_session.specs.declared.side.PlainSide.{PlainSide}
+use Rattle.crq_ring.specs.declared.rows.PipeRow.{PipeRow}
+use Rattle.block_server.specs.Answering.{AnswersMore, OnlyRowsOf}
+use Rattle.vcpu_run.specs.declared.pair.Pair.{Pair}
+use Rattle.vcpu_run.specs.Answered.{AreBegun, IsAnswered}
+use Rattle.tce_window.specs.PlainPort.{known_of}
+use Rattle.tce_window.specs.PortState.{PortPlace}
+use Rattle.vcpu_run.specs.Named.{HasWindow}
+use Rattle.vcpu_run.specs.Pairs.{IsPair}
+use Rattle.vcpu_run.proofs.PairNames.{copies_beside, has_stays, names_beside}
+use Rattle.vcpu_run.proofs.Answering.{answered_elsewhere, answered_served}
+use Rattle.vcpu_run.specs.Received.{IsReceived}
+use Rattle.vcpu_run.proofs.Losing.{behind_back, sees_back, sees_lent}
+use Rattle.vcpu_run.proofs.Receiving.{received_elsewhere, received_served}
+use Rattle.vcpu_run.proofs.Keeping.{served}
+use Rattle.vcpu_run.proofs.pair.Pair.serve.Goals as goal
+
+pub returns-clause-pair : goal.returns-clause-pair
+returns-clause-pair g c =
+    let old = c.args.self.now in
+    let link = c.turn.new.crq.end.link.now in
+    let new : Pair = record { server = old.server; link = link; own = c.turn.new.own; window = c.turn.new.client; driver = old.driver } in
+    let goes = c.turn.ensures.goes in
+    let first : c.turn.new.crq.end.first ≡ true = ap (λ (place : EndPlace). place.first) goes.queue_place ∙ c.side.ensures.first in
+    let link_is : link ≡ c.self-1.given.0 = search rules in
+    subst (λ (l : PlainLink). IsPair c.args.server.now.partition c.turn.new.self.copies.items c.args.unit (record { server = old.server; link = l; own = c.turn.new.own; window = c.turn.new.client; driver = old.driver })) link_is
+    (served c.args.server.now.partition c.args.unit c.args.server.now.copies.items c.turn.new.self.copies.items old new refl refl goes.own_place goes.client_place
+    goes.own_grows goes.client_grows c.turn.ensures.ready
+    (λ event kept. c.turn.ensures.event event (ap (λ (b : Bool). (side_of link b).kept) first ∙ kept))
+    c.turn.ensures.copies c.turn.ensures.own_named (c.turn.ensures.named refl) c.requires.pair)
+
+pub returns-clause-others : goal.returns-clause-others
+returns-clause-others g c = λ k other distinct apart is.
+    let old = c.args.self.now in
+    let new : Pair = record { server = old.server; link = old.link; own = c.turn.new.own; window = c.turn.new.client; driver = old.driver } in
+    let own : new.own.unit ≡ old.own.unit = ap (λ (place : PortPlace). place.unit) c.turn.ensures.goes.own_place in
+    let window : new.window.unit ≡ old.window.unit = ap (λ (place : PortPlace). place.unit) c.turn.ensures.goes.client_place in
+    let apart_now : (unit : UnitId) → HasWindow unit new → HasWindow unit other → ⊥ = λ unit has. apart unit (has_stays unit old new own window has) in
+    record {
+      server = is.server;
+      own_unit = is.own_unit;
+      ready = is.ready;
+      event = is.event;
+      copies = copies_beside new other c.args.server.now.copies.items c.turn.new.self.copies.items apart_now is.own_unit c.turn.ensures.copies is.copies;
+      driver = is.driver;
+      names = names_beside new other c.args.server.now.copies.items c.turn.new.self.copies.items apart_now c.turn.ensures.copies is.names;
+      absent = is.absent;
+    }
+
+pub returns-clause-answered : goal.returns-clause-answered
+returns-clause-answered g c =
+    let old = c.args.self.now in
+    let history = c.args.server.now.records.history.items in
+    let history' = c.turn.new.self.records.history.items in
+    let link = c.turn.new.crq.end.link.now in
+    let new : Pair = record { server = old.server; link = link; own = c.turn.new.own; window = c.turn.new.client; driver = old.driver } in
+    let first : c.turn.new.crq.end.first ≡ true = ap (λ (place : EndPlace). place.first) c.turn.ensures.goes.queue_place ∙ c.side.ensures.first in
+    let before : (partner_of c.side.result.link.now c.side.result.first).queue.sent ≡ (side_of old.link false).queue.sent =
+    ap (λ (b : Bool). (partner_of c.side.result.link.now b).queue.sent) c.side.ensures.first ∙ ap (λ (l : PlainLink). (partner_of l true).queue.sent) c.side.ensures.link in
+    let after : (partner_of link c.turn.new.crq.end.first).queue.sent ≡ (side_of link false).queue.sent = ap (λ (b : Bool). (partner_of link b).queue.sent) first in
+    let more : ∥ AnswersMore old.own.unit (side_of old.link false).queue.sent (side_of link false).queue.sent history history' ∥₁ =
+    subst (λ (sent : List PipeRow). ∥ AnswersMore old.own.unit (side_of old.link false).queue.sent sent history history' ∥₁) after
+    (subst (λ (sent : List PipeRow). ∥ AnswersMore old.own.unit sent (partner_of link c.turn.new.crq.end.first).queue.sent history history' ∥₁) before c.turn.ensures.answers) in
+    let link_is : link ≡ c.self-1.given.0 = search rules in
+    subst (λ (l : PlainLink). IsAnswered history' (record { server = old.server; link = l; own = c.turn.new.own; window = c.turn.new.client; driver = old.driver })) link_is
+    (answered_served old.own.unit old new history history' c.requires.pair.own_unit refl more (subst AreBegun after c.turn.new.crq.puts.begun) c.requires.answered)
+
+pub returns-clause-elsewhere : goal.returns-clause-elsewhere
+returns-clause-elsewhere g c = λ k other apart server.
+    answered_elsewhere c.args.server.now.partition c.args.unit k other c.args.server.now.records.history.items c.turn.new.self.records.history.items
+    (λ same. apart (sym same)) server
+    (subst (λ (u : UnitId). ∥ OnlyRowsOf u c.args.server.now.records.history.items c.turn.new.self.records.history.items ∥₁)
+    (c.requires.pair.own_unit ∙ c.requires.pair.server) c.turn.ensures.others)
+
+pub returns-clause-disk : goal.returns-clause-disk
+returns-clause-disk g c = record { serves = c.turn.ensures.disk; tells = c.turn.ensures.tells }
+
+pub returns-clause-linked_else : goal.returns-clause-linked_else
+returns-clause-linked_else g c = λ k other apart is.
+    record { agrees = agrees_other _ _ k _ (c.turn.ensures.others_stay k apart) is.agrees; shut = is.shut }
+
+pub returns-clause-linked : goal.returns-clause-linked
+returns-clause-linked g c =
+    let old = c.args.self.now in
+    let link = c.turn.new.crq.end.link.now in
+    let units = c.turn.new.self.units.items in
+    let unit = c.args.unit in
+    let first : c.turn.new.crq.end.first ≡ true = ap (λ (place : EndPlace). place.first) c.turn.ensures.goes.queue_place ∙ c.side.ensures.first in
+    let before : (side_of c.side.result.link.now c.side.result.first).registered ≡ (side_of old.link true).registered =
+    ap (λ (b : Bool). (side_of c.side.result.link.now b).registered) c.side.ensures.first ∙ ap (λ (l : PlainLink). (side_of l true).registered) c.side.ensures.link in
+    let after : (side_of link true).registered ≡ (side_of link c.turn.new.crq.end.first).registered = ap (λ (b : Bool). (side_of link b).registered) (sym first) in
+    let client : (side_of link false).registered ≡ (side_of old.link false).registered =
+    ap (λ (b : Bool). (partner_of link b).registered) (sym first)
+    ∙ (ap (λ (place : EndPlace). place.partner_registered) c.turn.ensures.goes.queue_place
+    ∙ (ap (λ (b : Bool). (partner_of c.side.result.link.now b).registered) c.side.ensures.first ∙ ap (λ (l : PlainLink). (partner_of l true).registered) c.side.ensures.link)) in
+    let link_is : link ≡ c.self-1.given.0 = search rules in
+    subst (λ (l : PlainLink). OnOk c.turn.result (IsLinked c.args.server.now.units.items unit old
+    → IsLinked units unit (record { server = old.server; link = l; own = c.turn.new.own; window = c.turn.new.client; driver = old.driver }))) link_is
+    (on_ok c.turn.result _
+    (λ is. record {
+      agrees = agrees_like units unit _ _ after (c.turn.ensures.agrees (agrees_like c.args.server.now.units.items unit _ _ before is.agrees));
+      shut = subst (λ (b : Bool). IfNone old.driver (b ≡ false)) (sym client) is.shut;
+    }))
+
+pub returns-clause-quiet : goal.returns-clause-quiet
+returns-clause-quiet g c =
+    let old = c.args.self.now in
+    let link = c.turn.new.crq.end.link.now in
+    let units = c.turn.new.self.units.items in
+    let unit = c.args.unit in
+    let before : (side_of c.side.result.link.now c.side.result.first).registered ≡ (side_of old.link true).registered =
+    ap (λ (b : Bool). (side_of c.side.result.link.now b).registered) c.side.ensures.first ∙ ap (λ (l : PlainLink). (side_of l true).registered) c.side.ensures.link in
+    let link_is : link ≡ c.self-1.given.0 = search rules in
+    let less : unit < length units = omega (arith, c.requires.unit, c.turn.ensures.units) in
+    subst (λ (l : PlainLink). IfOk c.turn.result (λ moved. moved ≡ Quiet → IsLinked c.args.server.now.units.items unit old → ServerWaits (slice_get units unit) (link_state l))) link_is
+    (ok_both c.turn.result _ _ _
+    (λ moved still waits is linked.
+    serve_waits c.side.result.first c.turn.new.crq.end.first _ _ c.side.result.link.now link _ _ _ _ units unit c.side.ensures.first c.turn.ensures.goes.queue_place less (still is)
+    (waits is (agrees_like c.args.server.now.units.items unit _ _ before linked.agrees)))
+    c.turn.ensures.quiet c.turn.ensures.waits)
+
+pub returns-clause-received : goal.returns-clause-received
+returns-clause-received g c =
+    let old = c.args.self.now in
+    let server = c.args.server.now in
+    let server' = c.turn.new.self in
+    let link = c.turn.new.crq.end.link.now in
+    let new : Pair = record { server = old.server; link = link; own = c.turn.new.own; window = c.turn.new.client; driver = old.driver } in
+    let first : c.turn.new.crq.end.first ≡ true = ap (λ (place : EndPlace). place.first) c.turn.ensures.goes.queue_place ∙ c.side.ensures.first in
+    let before : side_of c.side.result.link.now c.side.result.first ≡ side_of old.link true =
+    ap (λ (b : Bool). side_of c.side.result.link.now b) c.side.ensures.first ∙ ap (λ (l : PlainLink). side_of l true) c.side.ensures.link in
+    let after : side_of link c.turn.new.crq.end.first ≡ side_of link true = ap (λ (b : Bool). side_of link b) first in
+    let link_is : link ≡ c.self-1.given.0 = search rules in
+    subst (λ (l : PlainLink). IsReceived server'.units.items server'.copies.items server'.records.grants.items server'.records.history.items c.args.unit
+    (record { server = old.server; link = l; own = c.turn.new.own; window = c.turn.new.client; driver = old.driver })) link_is
+    (received_served server.units.items server'.units.items c.args.unit old new (state_of c.side.result) (state_of c.turn.new.crq.end) server.copies.items server'.copies.items
+    server.records.grants.items server'.records.grants.items server.records.history.items server'.records.history.items
+    (ap (λ (side : PlainSide). side.queue.session) before) (ap (λ (side : PlainSide). side.queue.taken) before)
+    (ap (λ (side : PlainSide). side.queue.session) after) (ap (λ (side : PlainSide). side.queue.taken) after)
+    c.turn.ensures.judged (subst AreBegun (ap (λ (side : PlainSide). side.queue.taken) after) c.turn.new.crq.puts.took)
+    (behind_back c.turn.new.crq.end.first [] (c.turn.new.crq.end.link.ghost_name ∷ []) link first c.turn.new.crq.behind)
+    (sees_lent c.side.result.first [] _ old.link c.side.result.link.now c.side.ensures.first c.side.ensures.link)
+    (sees_back c.turn.new.crq.end.first [] _ link first) (ap (λ (place : PortPlace). place.unit) c.turn.ensures.goes.own_place) (c.turn.ensures.answered refl) c.requires.received)
+
+pub returns-clause-received_else : goal.returns-clause-received_else
+returns-clause-received_else g c = λ k other apart own.
+    let server = c.args.server.now in
+    let server' = c.turn.new.self in
+    received_elsewhere server.units.items server'.units.items k c.args.self.now.own.unit other (known_of c.turn.new.own) (known_of c.turn.new.client) server.copies.items server'.copies.items
+    server.records.grants.items server'.records.grants.items server.records.history.items server'.records.history.items
+    (λ e. apart (sym (ap (λ (u : UnitId). u.unit) (sym (c.requires.pair.own_unit ∙ c.requires.pair.server) ∙ (e ∙ own)))))
+    (c.turn.ensures.others_stay k apart) (ap (λ (place : PortPlace). place.unit) c.turn.ensures.goes.own_place) c.turn.ensures.copies
+    c.turn.ensures.lines c.turn.ensures.others
+
+pub returns-clause-unfreed : goal.returns-clause-unfreed
+returns-clause-unfreed g c =
+    let old = c.args.self.now in
+    let link = c.turn.new.crq.end.link.now in
+    let lent = c.side.result.link.now in
+    let link_is : link ≡ c.self-1.given.0 = search rules in
+    let before : (side_of lent false) ≡ (side_of old.link false) = ap (λ (l : PlainLink). side_of l false) c.side.ensures.link in
+    let was_kept : IsNotFreed old → IsNotFreed (record { server = old.server; link = lent; own = old.own; window = old.window; driver = old.driver }) =
+    subst (λ (side : PlainSide). NotFreed side.queue.session side.registered → NotFreed (side_of lent false).queue.session (side_of lent false).registered) before (λ kept. kept) in
+    subst (λ (l : PlainLink). FreesNoneAt old (record { server = old.server; link = l; own = c.turn.new.own; window = c.turn.new.client; driver = old.driver })) link_is
+    (λ kept.
+    serve_frees c.side.result.first c.turn.new.crq.end.first (c.side.result.link.ghost_name ∷ []) (c.turn.new.crq.end.link.ghost_name ∷ [])
+    (record { server = old.server; link = lent; own = old.own; window = old.window; driver = old.driver })
+    (record { server = old.server; link = link; own = c.turn.new.own; window = c.turn.new.client; driver = old.driver }) c.side.ensures.first c.turn.ensures.goes.queue_place
+    (c.turn.ensures.partner refl) (was_kept kept))
+
+pub returns-clause-queue : goal.returns-clause-queue
+returns-clause-queue g c =
+    let old = c.args.self.now in
+    let link = c.turn.new.crq.end.link.now in
+    let lent = c.side.result.link.now in
+    let link_is : link ≡ c.self-1.given.0 = search rules in
+    let before : (side_of lent false) ≡ (side_of old.link false) = ap (λ (l : PlainLink). side_of l false) c.side.ensures.link in
+    subst (λ (l : PlainLink). (side_of l false).registered ≡ (side_of old.link false).registered) link_is
+    (serve_queue c.side.result.first c.turn.new.crq.end.first (c.side.result.link.ghost_name ∷ []) (c.turn.new.crq.end.link.ghost_name ∷ [])
+    (record { server = old.server; link = lent; own = old.own; window = old.window; driver = old.driver })
+    (record { server = old.server; link = link; own = c.turn.new.own; window = c.turn.new.client; driver = old.driver }) c.side.ensures.first c.turn.ensures.goes.queue_place
+    ∙ ap (λ (side : PlainSide). side.registered) before)
+
+pub returns-clause-sent : goal.returns-clause-sent
+returns-clause-sent g c =
+    let old = c.args.self.now in
+    let link = c.turn.new.crq.end.link.now in
+    let lent = c.side.result.link.now in
+    let link_is : link ≡ c.self-1.given.0 = search rules in
+    let before : (side_of lent true) ≡ (side_of old.link true) = ap (λ (l : PlainLink). side_of l true) c.side.ensures.link in
+    subst (λ (l : PlainLink). (side_of l true).queue.sent ≡ (side_of old.link true).queue.sent) link_is
+    (serve_sent c.side.result.first c.turn.new.crq.end.first (c.side.result.link.ghost_name ∷ []) (c.turn.new.crq.end.link.ghost_name ∷ [])
+    (record { server = old.server; link = lent; own = old.own; window = old.window; driver = old.driver })
+    (record { server = old.server; link = link; own = c.turn.new.own; window = c.turn.new.client; driver = old.driver }) c.side.ensures.first c.turn.ensures.goes.queue_place
+    ∙ ap (λ (side : PlainSide). side.queue.sent) before)
+
+pub returns-clause-shows : goal.returns-clause-shows
+returns-clause-shows g c =
+    let goes = c.turn.ensures.goes in
+    let more = c.turn.ensures.copies in
+    record {
+      listed = λ copy listed.
+          subst (λ (list : List CopyRecord). Contains list copy) (sym more.made) (Contains-append_left c.args.server.now.copies.items more.more copy listed);
+      own = goes.own_grows;
+      window = goes.client_grows;
+      pages = ap (λ (place : PortPlace). place.size) goes.client_place;
+    }
+
+pub returns-clause-own : goal.returns-clause-own
+returns-clause-own g c = ap (λ (place : PortPlace). place.unit) c.turn.ensures.goes.own_place
+
+pub returns-clause-told : goal.returns-clause-told
+returns-clause-told g c = λ told tells is.
+    let old = c.args.self.now in
+    let goes = c.turn.ensures.goes in
+    let new : Pair = record { server = old.server; link = old.link; own = c.turn.new.own; window = c.turn.new.client; driver = old.driver } in
+    let all = tells_turn told c.args.server.now.copies.items c.turn.new.self.copies.items old new
+    (ap (λ (place : PortPlace). place.size) goes.client_place) (ap (λ (place : PortPlace). place.unit) goes.own_place) tells in
+    record { order = c.turn.ensures.order told all is.order; written = c.turn.ensures.written told all is.order is.written }
+
+pub returns-clause-told_own : goal.returns-clause-told_own
+returns-clause-told_own g c =
+    let old = c.args.self.now in
+    let server = c.args.server.now in
+    let server' = c.turn.new.self in
+    let goes = c.turn.ensures.goes in
+    let link = c.turn.new.crq.end.link.now in
+    let new : Pair = record { server = old.server; link = link; own = c.turn.new.own; window = c.turn.new.client; driver = old.driver } in
+    let name : new.own.unit ≡ old.own.unit = ap (λ (place : PortPlace). place.unit) goes.own_place in
+    let pages : length new.window.pages ≡ length old.window.pages = ap (λ (place : PortPlace). place.size) goes.client_place in
+    let first : c.turn.new.crq.end.first ≡ true = ap (λ (place : EndPlace). place.first) goes.queue_place ∙ c.side.ensures.first in
+    let before : side_of c.side.result.link.now c.side.result.first ≡ side_of old.link true =
+    ap (λ (b : Bool). side_of c.side.result.link.now b) c.side.ensures.first ∙ ap (λ (l : PlainLink). side_of l true) c.side.ensures.link in
+    let after : side_of link c.turn.new.crq.end.first ≡ side_of link true = ap (λ (b : Bool). side_of link b) first in
+    let link_is : link ≡ c.self-1.given.0 = search rules in
+    subst (λ (l : PlainLink). (told : Told → Bool) → TellsPair told server'.copies.items (record { server = old.server; link = l; own = c.turn.new.own; window = c.turn.new.client; driver = old.driver })
+    → AllGoBy told server.disk.count server.partition server.units.items server.records → UnitGoesBy told server.units.items server.records c.args.unit old
+    → UnitGoesBy told server'.units.items server'.records c.args.unit (record { server = old.server; link = l; own = c.turn.new.own; window = c.turn.new.client; driver = old.driver })) link_is
+    (λ told tells all is.
+    let news = tells_turn told server.copies.items server'.copies.items old new pages name tells in
+    told_served told server.units.items server'.units.items server.records server'.records c.args.unit old new (state_of c.side.result) (state_of c.turn.new.crq.end)
+    (ap (λ (side : PlainSide). side.queue.session) before) (ap (λ (side : PlainSide). side.queue.taken) before)
+    (ap (λ (side : PlainSide). side.queue.session) after) (ap (λ (side : PlainSide). side.queue.taken) after) name
+    (c.turn.ensures.carried told news all.order) (c.turn.ensures.explains told news all.order []) is)
+
+pub returns-clause-told_else : goal.returns-clause-told_else
+returns-clause-told_else g c = λ told k other apart own order is.
+    let server = c.args.server.now in
+    let server' = c.turn.new.self in
+    told_elsewhere told server.disk.count server.partition server.units.items server'.units.items server.records server'.records k c.args.self.now.own.unit other
+    (λ e. apart (sym (ap (λ (u : UnitId). u.unit) (sym (c.requires.pair.own_unit ∙ c.requires.pair.server) ∙ (e ∙ own)))))
+    own (c.turn.ensures.others_stay k apart) c.turn.ensures.lines c.turn.ensures.others order is
+
+pub returns-clause-causes : goal.returns-clause-causes
+returns-clause-causes g c = λ told tells order.
+    let old = c.args.self.now in
+    let goes = c.turn.ensures.goes in
+    let new : Pair = record { server = old.server; link = old.link; own = c.turn.new.own; window = c.turn.new.client; driver = old.driver } in
+    c.turn.ensures.causes told
+    (tells_turn told c.args.server.now.copies.items c.turn.new.self.copies.items old new
+    (ap (λ (place : PortPlace). place.size) goes.client_place) (ap (λ (place : PortPlace). place.unit) goes.own_place) tells) order

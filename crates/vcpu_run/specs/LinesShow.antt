@@ -1,0 +1,148 @@
+-- What is there once a client's line said that it sent a request, or wrote into its region: its strokes, and the entry that was put.
+use Rattle.std.specs.Prelude.{◌≡◌, ℕ, ◌<◌, ◌≤◌, Bool, true, false, List, IfSome, MatchBool, Option, Some, None, Result, Ok, Err, length, ⊤}
+use Rattle.std.specs.List.{Contains, slice_get}
+use Rattle.vio_num.specs.Entry.{srp_entry}
+use Rattle.vio_num.specs.declared.entry.Entry.{Entry}
+use Rattle.vio_num.specs.declared.memory.NoMemory.{NoMemory}
+use Rattle.vio_num.specs.declared.names.UnitId.{UnitId}
+use Rattle.crq_ring.specs.declared.rows.PipeRow.{PipeRow}
+use Rattle.crq_session.specs.EndState.{EndState}
+use Rattle.crq_session.specs.PlainState.{side_of}
+use Rattle.page_slots.specs.Stroke.{StrokeValue}
+use Rattle.tce_window.specs.PortState.{PortState}
+use Rattle.tce_window.specs.Region.{stroke_on, touches}
+use Rattle.tce_window.specs.Window.{strokes_at}
+use Rattle.srp_iu.specs.Grammar.{Canon}
+use Rattle.srp_iu.specs.declared.command.Cmd.{Cmd as Command}
+use Rattle.srp_iu.specs.declared.unit.Iu.{Iu}
+use Rattle.srp_iu.specs.declared.unit.Iu.TheVariants as units
+use Rattle.boot_text.specs.declared.plan.Line.{Line}
+use Rattle.boot_text.specs.declared.verb.Verb.{Verb}
+use Rattle.boot_text.specs.declared.verb.Verb.TheVariants as verbs
+use Rattle.vio_trace.specs.declared.outcome.Outcome.{Outcome}
+use Rattle.vio_trace.specs.declared.outcome.Outcome.TheVariants as outcomes
+use Rattle.vio_trace.specs.declared.rows.LogRow.{LogRow}
+use Rattle.vscsi_client.specs.Units.{IsCommand, slot_address, task_request}
+use Rattle.vscsi_client.specs.declared.TheConstants.{SLOTS}
+use Rattle.vscsi_client.specs.declared.op.Op.{Op}
+use Rattle.unit_region.specs.Pattern.{pattern}
+use Rattle.unit_region.specs.declared.step.Step.{Step}
+use Rattle.unit_region.specs.declared.step.Step.TheVariants as steps
+use Rattle.vcpu_run.specs.declared.pair.Pair.{Pair}
+use Rattle.vcpu_run.specs.Commands.{IsOpOf, cdb_of}
+use Rattle.vcpu_run.specs.Replay.{asks}
+
+-- What there is of a client's lines: the strokes on the pages of its region, and the entries in its server unit's queue.
+pub record Seen : Type 1 where
+  pub stroke_at : (page : ℕ) → StrokeValue → Type 0
+  pub entry_put : Entry → Type 0
+
+-- these bytes were written at an address, under a mark: one stroke on each page that they touch
+abbrev pub AreWritten : Seen → (unit : UnitId) → (mark at : ℕ) → List ℕ → Type 0
+AreWritten seen unit mark at bytes = (page : ℕ) → touches at (length bytes) page ≡ true
+    → seen.stroke_at page (stroke_on (record { who = unit; mark = mark }) at bytes page)
+
+-- A command's information unit: it is the command of the line, under this tag.
+pub record IsCommandOf (verb : Verb) (tag : ℕ) (iu : Iu) : Type 0 where
+  pub op : Op
+  pub of_line : IsOpOf verb op
+  pub cdb : op.cdb ≡ cdb_of verb
+  pub command : Command
+  pub is : IsCommand tag op command
+  pub unit_is : iu ≡ units.Cmd command
+
+-- the information unit that a line sends under a tag
+abbrev pub IsUnitOf : Verb → (tag : ℕ) → Iu → Type 0
+IsUnitOf verbs.Logout tag iu = iu ≡ units.ILogout tag
+IsUnitOf (verbs.Task function task) tag iu = iu ≡ units.TskMgmt (task_request function task tag)
+IsUnitOf verb tag iu = IsCommandOf verb tag iu
+
+-- A request was sent: the canonical bytes of its unit were written into one of the 200 slots of 256 bytes with which the region
+-- begins, under the line's number, and an entry of this length and this address was put.
+pub record IsSent (seen : Seen) (unit : UnitId) (mark : ℕ) (verb : Verb) (tag : ℕ) : Type 0 where
+  pub slot : ℕ
+  pub within : slot < SLOTS
+  pub iu : Iu
+  pub of_line : IsUnitOf verb tag iu
+  pub bytes : List ℕ
+  pub canonical : Canon bytes iu
+  pub written : AreWritten seen unit mark (slot_address slot) bytes
+  pub entry : seen.entry_put (srp_entry (length bytes) (slot_address slot))
+
+abbrev pub IsSentIf : Seen → UnitId → (mark : ℕ) → Verb → Outcome → Type 0
+IsSentIf seen unit mark verb (outcomes.Sent tag) = IsSent seen unit mark verb tag
+IsSentIf seen unit mark verb _ = ⊤
+
+abbrev pub IsWrittenIf : Outcome → Type 0 → Type 0
+IsWrittenIf outcomes.Done P = P
+IsWrittenIf _ P = ⊤
+
+-- whether a line sends a request
+abbrev pub requests : Verb → Bool
+requests verbs.Logout = true
+requests verb = asks verb
+
+-- bytes, and an address at which they are to lie
+pub record Placed : Type 0 where
+  pub at : ℕ
+  pub bytes : List ℕ
+
+-- what a line writes into its own region
+abbrev pub written_by : Verb → Option Placed
+written_by (verbs.Fill at len seed) = Some (record { at = at; bytes = pattern seed len })
+written_by (verbs.Poke at bytes) = Some (record { at = at; bytes = bytes })
+written_by _ = None
+
+-- what there is of a line that ended so
+abbrev pub IsShown : Seen → UnitId → (mark : ℕ) → Verb → Outcome → Type 0
+IsShown seen unit mark verb outcome = MatchBool (requests verb) (IsSentIf seen unit mark verb outcome)
+    (IfSome (written_by verb) (λ placed. IsWrittenIf outcome (AreWritten seen unit mark placed.at placed.bytes)))
+
+abbrev pub StepShows : Seen → UnitId → (mark : ℕ) → Verb → Result Step NoMemory → Type 0
+StepShows seen unit mark verb (Ok (steps.Ends outcome)) = IsShown seen unit mark verb outcome
+StepShows seen unit mark verb _ = ⊤
+
+-- the same of each line of a unit that has a record: the records are those of the first lines, in their order
+abbrev pub LinesShow : Seen → UnitId → (unit : ℕ) → List Line → List LogRow → Type 0
+LinesShow seen who unit lines rows = (i : ℕ) (line : Line) (row : LogRow) → slice_get lines i ≡ Some line → slice_get rows i ≡ Some row
+    → line.unit ≡ unit → IsShown seen who line.number line.verb row.outcome
+
+-- a stroke lies on a page that is in its place
+abbrev pub IsOn : StrokeValue → Option (List StrokeValue) → Type 0
+IsOn stroke (Some strokes) = Contains strokes stroke
+IsOn stroke None = ⊥
+
+-- An entry was put in a session, which count from 1.
+pub record IsPut (entry : Entry) (rows : List PipeRow) : Type 0 where
+  pub row : PipeRow
+  pub there : Contains rows row
+  pub entry_is : row.entry ≡ entry
+  pub begun : 1 ≤ row.session
+
+-- what there is at a client's pair
+abbrev pub seen_at : Pair → Seen
+seen_at pair = record {
+  stroke_at = λ page stroke. IsOn stroke (strokes_at pair.window.pages page);
+  entry_put = λ entry. IsPut entry (side_of pair.link true).queue.sent;
+}
+
+-- An entry was put by an end: in the present session of its partner's queue, which is registered where nobody else has a hand in it.
+pub record IsPutBy (shared : Bool) (end : EndState) (entry : Entry) : Type 0 where
+  pub there : Contains end.sent (record { session = end.counts.partner_session; entry = entry })
+  pub partner : shared ≡ false → end.place.partner_registered ≡ true
+
+-- what there is at a client's window and its end, as its driver sees them
+abbrev pub seen_by : (shared : Bool) → PortState → EndState → Seen
+seen_by shared port end = record {
+  stroke_at = λ page stroke. IsOn stroke (port.strokes page);
+  entry_put = IsPutBy shared end;
+}
+
+-- a step of a line shows what it says, at the pair where its client sits
+abbrev pub PairShows : Line → Pair → Result Step NoMemory → Type 0
+PairShows line pair result = StepShows (seen_at pair) pair.window.unit line.number line.verb result
+
+-- All that there was is there still.
+pub record Sees (old new : Seen) : Type 0 where
+  pub strokes : (page : ℕ) (stroke : StrokeValue) → old.stroke_at page stroke → new.stroke_at page stroke
+  pub entries : (entry : Entry) → old.entry_put entry → new.entry_put entry
