@@ -1,6 +1,7 @@
 -- What is so of each plan that a text says: its units and scripts keep the rules and ranges of boot texts.
-use Rattle.std.specs.Prelude.{◌≡◌, ℕ, ◌<◌, ◌≤◌, true, List, [], All, Option, Some, None, MatchOption, length, slice_get, ⊤}
+use Rattle.std.specs.Prelude.{◌≡◌, ℕ, ◌%◌, ◌<◌, ◌≤◌, true, List, [], All, Option, Some, None, MatchOption, length, replicate, slice_get, slice_index, ⊤}
 use Rattle.std.specs.List.{AllPairs, sum_by}
+use Rattle.vio_num.specs.declared.names.Mac.{Mac}
 use Rattle.vio_num.specs.declared.names.UnitId.{UnitId}
 use Rattle.boot_text.specs.SoFar.{is_server, has_server, ports_in, suits}
 use Rattle.boot_text.specs.declared.plan.Line.{Line}
@@ -63,11 +64,16 @@ pub record IsSoundLine (own : List UnitPlan) (line : Line) : Type 0 where
   pub suited : suits line.verb (slice_get own line.unit) ≡ true
   pub ranged : IsInRange line.verb
 
--- the sizes of a unit are within their ranges
+-- An address that a port may have of its own: not that of a group, and not zero.
+pub record IsPortMac (mac : Mac) : Type 0 where
+  pub one : ¬ (slice_index mac.bytes 0 % 2 ≡ 1)
+  pub some : ¬ (mac.bytes ≡ replicate 6 0)
+
+-- the sizes of a unit are within their ranges, and a port has an address that it may have
 abbrev pub IsSized : UnitPlan → Type 0
 IsSized (units.Server queue) = IsFrom 1 MOST_QUEUE queue
 IsSized (units.Client server pages queue) = IsFrom LEAST_CLIENT_PAGES MOST_UNIT_PAGES pages × IsFrom 1 MOST_QUEUE queue
-IsSized (units.Lan mac pages slots) = IsFrom 1 MOST_UNIT_PAGES pages × IsFrom 1 MOST_SLOTS slots
+IsSized (units.Lan mac pages slots) = IsFrom 1 MOST_UNIT_PAGES pages × IsFrom 1 MOST_SLOTS slots × IsPortMac mac
 
 -- A partition: 1 to 8 units, all of them server units or none, and a script in the order of its lines, which a partition of
 -- server units has not.

@@ -9,6 +9,7 @@ use Rattle.boot_text.specs.declared.plan.TheConstants.{MOST_UNITS}
 use Rattle.boot_text.specs.declared.plan.UnitPlan.{UnitPlan}
 use Rattle.boot_text.specs.declared.plan.UnitPlan.TheVariants as kinds
 use Rattle.lan_script.specs.Seats.{IsSizedSeat}
+use Rattle.lan_switch.specs.Calls.{IsOwnAddress}
 use Rattle.lan_switch.specs.Switch.{AreAscending, order_of}
 use Rattle.lan_script.specs.declared.seat.PortSeat.{PortSeat}
 use Rattle.vcpu_run.specs.Ports.{ports_from, ports_in, ports_of, unit_of}
@@ -82,7 +83,7 @@ in_sized p n (kinds.Server queue ∷ units) sized = in_sized p (n + 1) units (Al
 in_sized p n (kinds.Client server pages queue ∷ units) sized = in_sized p (n + 1) units (All-tail IsSized (kinds.Client server pages queue) units sized)
 in_sized p n (kinds.Lan mac pages slots ∷ units) sized =
     let own : IsSized (kinds.Lan mac pages slots) = All-head IsSized (kinds.Lan mac pages slots) units sized in (
-      own,
+      (own.0, own.1),
       in_sized p (n + 1) units (All-tail IsSized (kinds.Lan mac pages slots) units sized),
     )
 
@@ -95,3 +96,28 @@ from_sized n (first ∷ others) sound =
 
 pub ports_sized : (partitions : List Partition) → AreSound partitions → All IsSizedSeat (ports_of partitions)
 ports_sized partitions sound = all_from_each IsSizedSeat (ports_of partitions) (from_sized 0 partitions sound.each)
+
+-- their addresses
+
+abbrev pub IsOwnSeat : PortSeat → Type 0
+IsOwnSeat seat = IsOwnAddress seat.mac
+
+in_own : (p n : ℕ) (units : List UnitPlan) → All IsSized units → Each IsOwnSeat (ports_in p n units)
+in_own p n [] sized = tt
+in_own p n (kinds.Server queue ∷ units) sized = in_own p (n + 1) units (All-tail IsSized (kinds.Server queue) units sized)
+in_own p n (kinds.Client server pages queue ∷ units) sized = in_own p (n + 1) units (All-tail IsSized (kinds.Client server pages queue) units sized)
+in_own p n (kinds.Lan mac pages slots ∷ units) sized =
+    let own : IsSized (kinds.Lan mac pages slots) = All-head IsSized (kinds.Lan mac pages slots) units sized in (
+      record { one = own.2.one; some = own.2.some },
+      in_own p (n + 1) units (All-tail IsSized (kinds.Lan mac pages slots) units sized),
+    )
+
+from_own : (n : ℕ) (partitions : List Partition) → All IsSoundPartition partitions → Each IsOwnSeat (ports_from n partitions)
+from_own n [] sound = tt
+from_own n (first ∷ others) sound =
+    each_append IsOwnSeat (ports_in n 0 first.units) (ports_from (n + 1) others)
+    (in_own n 0 first.units (All-head IsSoundPartition first others sound).sized)
+    (from_own (n + 1) others (All-tail IsSoundPartition first others sound))
+
+pub ports_own : (partitions : List Partition) → AreSound partitions → All IsOwnSeat (ports_of partitions)
+ports_own partitions sound = all_from_each IsOwnSeat (ports_of partitions) (from_own 0 partitions sound.each)

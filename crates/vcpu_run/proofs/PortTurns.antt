@@ -59,6 +59,9 @@ idle_same lan unit = record { frames = refl; counts = refl; still = still_same l
 pub apart_on : (partition : ℕ) (old mid new : LanValue) → IsApart partition old mid → IsApart partition mid new → IsApart partition old new
 apart_on partition old mid new a b unit other = idle_then old mid new unit (a unit other) (b unit other)
 
+pub apart_as : (partition : ℕ) (old new new' : LanValue) → new' ≡ new → IsApart partition old new → IsApart partition old new'
+apart_as partition old new new' same apart = subst (λ (l : LanValue). IsApart partition old l) (sym same) apart
+
 pub takes_on : (partition : ℕ) (old mid new : LanValue) → AllTake partition old mid → AllTake partition mid new → AllTake partition old new
 takes_on partition old mid new a b u = record {
   frames = (b u).frames ∙ (a u).frames;

@@ -44,7 +44,7 @@ use Rattle.vcpu_run.proofs.Homes.{all_at, unit_found}
 use Rattle.vcpu_run.proofs.Listed.{held}
 use Rattle.vcpu_run.proofs.Parts.{found, in_slice}
 use Rattle.vcpu_run.proofs.Placing.{partitions_are}
-use Rattle.vcpu_run.proofs.PortOrder.{ports_sized}
+use Rattle.vcpu_run.proofs.PortOrder.{IsOwnSeat, ports_own, ports_sized}
 use Rattle.vcpu_run.proofs.RecordLaws.{lines_in, none_past, partitions_apart, rows_told}
 
 -- what is so of the rows that were counted
@@ -152,23 +152,24 @@ seat_head unit s ss e = rw e refl
 seat_tail : (unit : UnitId) (s : PortSeat) (ss : List PortSeat) → same_unit s.unit unit ≡ false → seat_at (s ∷ ss) unit ≡ seat_at ss unit
 seat_tail unit s ss e = rw e refl
 
--- the sizes of a seat among seats that have theirs
-seat_sized : (seats : List PortSeat) (unit : UnitId) (seat : PortSeat) → All IsSizedSeat seats → seat_at seats unit ≡ Some seat → IsSizedSeat seat
-seat_sized [] unit seat all at = absurd (some_none seat (sym at))
-seat_sized (s ∷ seats) unit seat all at =
-    by_bool (same_unit s.unit unit) (IsSizedSeat seat)
-    (λ e. subst IsSizedSeat (some_same s seat (sym (seat_head unit s seats e) ∙ at)) (All-head IsSizedSeat s seats all))
-    (λ e. seat_sized seats unit seat (All-tail IsSizedSeat s seats all) (sym (seat_tail unit s seats e) ∙ at))
+-- what is so of each seat is so of a unit's
+seat_has : (P : PortSeat → Type 0) (seats : List PortSeat) (unit : UnitId) (seat : PortSeat) → All P seats → seat_at seats unit ≡ Some seat → P seat
+seat_has P [] unit seat all at = absurd (some_none seat (sym at))
+seat_has P (s ∷ seats) unit seat all at =
+    by_bool (same_unit s.unit unit) (P seat)
+    (λ e. subst P (some_same s seat (sym (seat_head unit s seats e) ∙ at)) (All-head P s seats all))
+    (λ e. seat_has P seats unit seat (All-tail P s seats all) (sym (seat_tail unit s seats e) ∙ at))
 
 replayed_are : (pairs : List Pair) (scripts : List Script) (lan : LanValue) (rows : LanRows) (history : List Served) (grants : List Grant) (copies : List CopyRecord)
     (partitions : List Partition) → AreScripts pairs lan.seats scripts → IsOfPlan partitions pairs scripts lan.seats → All IsOver scripts → PortsTell lan scripts
     → PortsAreReplayed partitions (trace_of pairs scripts lan rows history grants copies)
-replayed_are pairs scripts lan rows history grants copies partitions are of_plan over tells unit seat there own plain = (
+replayed_are pairs scripts lan rows history grants copies partitions are of_plan over tells unit seat there plain = (
   replay_at lan (unit_of at.script.partition unit.unit),
   subst (λ ls. AreReplayed seat closed_replay (ended_by unit.unit ls logs) (replay_at lan (unit_of at.script.partition unit.unit))) (sym at.lines)
       (subst (λ l. AreReplayed seat closed_replay (ended_by unit.unit at.script.lines.now l) (replay_at lan (unit_of at.script.partition unit.unit))) (sym at.only)
       ((tells unit.partition at.script at.is).replay unit.unit (subst (IsPlainPort unit.unit) at.lines plain) at.sits seat seated
-      (seat_sized (ports_of partitions) unit seat (ports_sized partitions of_plan.sound) there) own).keeps.replayed),
+      (seat_has IsSizedSeat (ports_of partitions) unit seat (ports_sized partitions of_plan.sound) there)
+      (seat_has IsOwnSeat (ports_of partitions) unit seat (ports_own partitions of_plan.sound) there)).keeps.replayed),
 )
   where
     logs : List LogRow

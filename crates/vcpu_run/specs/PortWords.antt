@@ -77,7 +77,7 @@ WordsAreTold partitions trace = (unit : UnitId) → IsPortOf (ports_of partition
 
 -- the records of each plain port of a plan are what the replay of its lines says
 abbrev pub PortsAreReplayed : List Partition → Trace → Type 0
-PortsAreReplayed partitions trace = (unit : UnitId) (seat : PortSeat) → seat_at (ports_of partitions) unit ≡ Some seat → IsOwnAddress seat.mac
+PortsAreReplayed partitions trace = (unit : UnitId) (seat : PortSeat) → seat_at (ports_of partitions) unit ≡ Some seat
     → IsPlainPort unit.unit (script_of partitions unit.partition)
     → (left : PortReplay) × AreReplayed seat closed_replay (ended_by unit.unit (script_of partitions unit.partition) (records_of trace unit.partition)) left
 
