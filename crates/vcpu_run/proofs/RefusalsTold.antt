@@ -1,5 +1,5 @@
 -- The refusals of which a gathered trace tells have their causes.
-use Rattle.std.proofs.Common.{◌≡◌, ◌∙◌, ℕ, ◌==◌, true, false, List, MatchOption, Option, Some, None, IsSomeAnd, filter, length, slice_get, sym, ap, subst, arith, All, Contains, IfSome, map, option_map, ◌≤◌}
+use Rattle.std.proofs.Common.{◌≡◌, ◌∙◌, ℕ, ◌==◌, true, false, List, MatchOption, Option, Some, None, IsSomeAnd, filter, length, slice_get, sym, ap, subst, arith, All, Contains, IfSome, map, option_map}
 use Rattle.std.specs.List.{flat_map}
 use Rattle.std.proofs.lemmas.Bool.Decides.{nat_tests}
 use Rattle.vio_num.specs.declared.history.Grant.{Grant}

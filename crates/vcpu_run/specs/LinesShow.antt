@@ -1,5 +1,5 @@
 -- What is there once a client's line said that it sent a request, or wrote into its region: its strokes, and the entry that was put.
-use Rattle.std.specs.Prelude.{◌≡◌, ℕ, ◌<◌, ◌≤◌, Bool, true, false, List, IfSome, MatchBool, Option, Some, None, Result, Ok, Err, length, ⊤}
+use Rattle.std.specs.Prelude.{◌≡◌, ℕ, ◌<◌, ◌≤◌, Bool, true, false, List, IfSome, MatchBool, Option, Some, None, Result, Ok, length, ⊤}
 use Rattle.std.specs.List.{Contains, slice_get}
 use Rattle.vio_num.specs.Entry.{srp_entry}
 use Rattle.vio_num.specs.declared.entry.Entry.{Entry}
