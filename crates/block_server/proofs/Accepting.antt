@@ -18,6 +18,7 @@ use Rattle.block_server.proofs.Counting.{accepted_pass, limits_on, limits_to, lo
 use Rattle.block_server.proofs.Heard.{accepted_more, accepted_one}
 use Rattle.block_server.proofs.Lines.{lines_judged}
 use Rattle.block_server.proofs.Judging.{due_pass, served_due, served_more, served_other}
+use Rattle.block_server.proofs.Rising.{rising_later, rising_pushed}
 use Rattle.block_server.proofs.Keeping.{front_of, later_logins, later_pending}
 
 logins_push : (pending : List Request) (request : Request) → is_login request.order ≡ true → AreLogins pending → AreLogins (pending ++ request ∷ [])
@@ -137,6 +138,7 @@ keeps_asked books next' request receipt judged key row other under taking to cop
           (one_more 0 books.credits.outstanding _ (is.lines.counted on))) is.lines;
       idle = λ over. absurd (cc (over, to.going));
       numbers = is.numbers;
+      rising = rising_pushed books.id books.session books.next.number next'.number books.pending request books.grants (sym (sym to.number_is ∙ ap (λ k. k.number) key)) to.below is.rising;
       counted = record {
         row = is.counted.row;
         exact = λ on. counts books.credits.outstanding _ _ _ (is.counted.exact on) (accepted_one books.current judged j (eq-eqb books.current books.current refl));
@@ -209,6 +211,7 @@ keeps_unasked books next' taking' request receipt fate judged none has to number
       to.taken to.all to.session_is to.going to.up other refl off_is (counted_on books judged (record { receipt = receipt; fate = fate }) is) is.lines;
   idle = λ over. absurd (cc (over, to.going));
   numbers = is.numbers;
+  rising = rising_pushed books.id books.session books.next.number next'.number books.pending request books.grants (number ∙ to.number_is) to.below is.rising;
   counted = let is' = counted_pass books judged receipt fate taking' (books.pending ++ request ∷ []) none is (λ some off. out some (closes off)) in
       record { row = is'.row; exact = is'.exact; most = is'.most; limits = is'.limits; asked_out = is'.asked_out; none_later = is'.none_later };
 }
@@ -240,6 +243,7 @@ keeps_judged books next' receipt fate judged none has to other is = record {
       (counted_on books judged (record { receipt = receipt; fate = fate }) is) is.lines;
   idle = is.idle;
   numbers = is.numbers;
+  rising = rising_later books.id books.session books.next.number next'.number books.pending books.grants (below _ _ to.below) is.rising;
   counted = let is' = counted_pass books judged receipt fate books.taking books.pending none is is.counted.asked_out in
       record { row = is'.row; exact = is'.exact; most = is'.most; limits = is'.limits; asked_out = is'.asked_out; none_later = is'.none_later };
 }

@@ -15,7 +15,7 @@ use Rattle.block_server.specs.Answering.{OnlyRowsOf, StaysRow}
 use Rattle.block_server.specs.Books.{books_seen, is_up, next_of, number_of}
 use Rattle.block_server.specs.Judged.{AreCounted, AreKept, Books, Credits, IsAllServed, IsServedUnder, IsWorkDone, Judged, RowKey, due_under, has_row, is_under, keys_of, row_key, IsOpenRow, answered_under}
 use Rattle.block_server.specs.Closings.{HasCauses}
-use Rattle.block_server.specs.Numbers.{NameLogins}
+use Rattle.block_server.specs.Numbers.{NameLogins, Rise, granted_numbers}
 use Rattle.block_server.specs.Judges.{AreUnused, HasKept}
 use Rattle.block_server.specs.Makers.{same_unit}
 use Rattle.block_server.specs.Receipts.{LinesMore, is_ended, unit_of}
@@ -131,6 +131,7 @@ rows_kept books rows judged stay is = record {
   lines = is.lines;
   idle = is.idle;
   numbers = is.numbers;
+  rising = is.rising;
   counted = record {
     row = λ place in_service. stays (is.counted.row place in_service);
     exact = λ some. ap (λ (n : ℕ). books.credits.outstanding + n) (answered books.current) ∙ is.counted.exact some;
@@ -247,3 +248,11 @@ numbers_seen units unit u id queue history grants judged there has =
     let is : AreKept (books_seen u id queue history grants) judged =
     subst (λ (o : Option Unit). IfSome o (λ u. AreKept (books_seen u id queue history grants) judged)) there has in
     is.numbers.each
+
+-- In each session the numbers of the entries over which logins of a unit were granted rise.
+pub rising_seen : (units : List Unit) (unit : ℕ) (u : Unit) (id : UnitId) (queue : EndState) (history : List Served) (grants : List Grant) (judged : List Judged)
+    → slice_get units unit ≡ Some u → HasKept units unit id queue history grants judged → (session : ℕ) → Rise (granted_numbers id session grants)
+rising_seen units unit u id queue history grants judged there has =
+    let is : AreKept (books_seen u id queue history grants) judged =
+    subst (λ (o : Option Unit). IfSome o (λ u. AreKept (books_seen u id queue history grants) judged)) there has in
+    is.rising.each

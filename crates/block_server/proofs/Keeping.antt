@@ -3,6 +3,10 @@ use Rattle.std.proofs.Common.{◌≡◌, ◌⊎◌, inl, inr, ◌+◌, ◌==◌,
 use Rattle.std.proofs.lemmas.Bool.{eq-eqb, eqb-true, ne_eqb}
 use Rattle.std.proofs.lemmas.List.{length-map}
 use Rattle.std.proofs.lemmas.List.Elements.{All-append, All-nil, All-push, All-weaker, Contains-append_left, Contains-push}
+use Rattle.crq_ring.proofs.Sessions.{of_session-push}
+use Rattle.crq_ring.specs.Sessions.{of_session}
+use Rattle.crq_ring.specs.declared.rows.PipeRow.{PipeRow}
+use Rattle.vio_num.specs.declared.entry.Entry.{Entry}
 use Rattle.vio_num.specs.declared.history.Grant.{Grant}
 use Rattle.vio_num.specs.declared.history.Grant.TheVariants.{Granted, Lapsed}
 use Rattle.vio_num.specs.declared.history.Lapse.{Lapse}
@@ -22,6 +26,7 @@ use Rattle.block_server.specs.declared.service.Outcome.TheVariants as outcomes
 use Rattle.block_server.specs.declared.service.Stage.{Stage}
 use Rattle.block_server.specs.declared.service.Stage.TheVariants as stages
 use Rattle.block_server.proofs.Numbering.{numbers_begun, numbers_ended, numbers_granted}
+use Rattle.block_server.proofs.Rising.{rising_begun, rising_granted, rising_lapsed, rising_later, rising_none, rising_popped}
 use Rattle.block_server.proofs.Counting.{accepted_pass, answered_push, limits_on, limits_to, logout_rest, mark_all, mark_here, mark_other, mark_under, marked, none_answered, open_last, open_room, open_start, other_login, same_self}
 use Rattle.block_server.proofs.Lapsing.{lines_end, lines_out}
 use Rattle.block_server.proofs.Lines.{lines_granted, lines_session}
@@ -100,6 +105,7 @@ keeps_stage books stage' judged same placed at none is = record {
   lines = is.lines;
   idle = is.idle;
   numbers = is.numbers;
+  rising = is.rising;
   counted = record {
     row = λ place in_service. is.counted.row place (sym placed ∙ in_service);
     exact = is.counted.exact;
@@ -134,6 +140,7 @@ keeps_row books stage' front rest judged parts before after placed asks at none 
       lines = is.lines;
       idle = is.idle;
       numbers = is.numbers;
+      rising = is.rising;
       counted = record {
         row = λ place in_service. open_last books.id books.current books.rows (row_of_request books front) place (place_is place (sym in_service ∙ placed)) refl under.0 refl;
         exact = λ some. ap (λ (n : ℕ). books.credits.outstanding + n) (answered_push books.id books.current books.rows (row_of_request books front) refl) ∙ is.counted.exact some;
@@ -164,6 +171,7 @@ keeps_popped books front rest judged parts gone is = record {
   lines = is.lines;
   idle = λ over. absurd (no_cons front rest books.pending parts (is.idle over).0);
   numbers = is.numbers;
+  rising = rising_popped books.id books.session books.next.number books.pending rest front books.grants parts is.rising;
   counted = record {
     row = open_start books.id books.current books.rows;
     exact = is.counted.exact;
@@ -201,6 +209,7 @@ keeps_idle books judged none is = record {
   lines = is.lines;
   idle = λ over. (refl, (is.idle over).1);
   numbers = is.numbers;
+  rising = rising_none books.id books.session books.next.number books.pending books.grants is.rising;
   counted = record {
     row = open_start books.id books.current books.rows;
     exact = is.counted.exact;
@@ -312,6 +321,27 @@ more_accepted books next' ended' cause outstanding granted judged more login som
     by (inr (inr last)) = ap (λ (js : List Judged). accepted login (judged ++ js)) last.one
         ∙ accepted_pass login judged (record { receipt = last.receipt; fate = ends_it }) (other_login 0 login refl some)
 
+-- the entry that is judged next is then a later one
+end_most : (books : Books) (next' : Ahead) (ended' : Bool) (cause : Lapse) (outstanding granted : ℕ) (judged more : List Judged) → books.next.number ≤ length (of_session books.session books.next.taken)
+    → IsEnd books next' ended' cause outstanding granted judged more → books.next.number ≤ next'.number
+end_most books next' ended' cause outstanding granted judged more upto end = by end.why
+  where
+    from : next'.taken ≡ books.next.taken → books.next.number ≤ next'.number
+    from same = subst (λ (n : ℕ). books.next.number ≤ n) (sym (end.done ∙ ap (λ rows. length (of_session books.session rows)) same)) upto
+
+    one : (n : ℕ) (xs : List Entry) (x : Entry) → n ≤ length xs → n ≤ length (xs ++ x ∷ [])
+    one n xs x low = omega (arith, low, length-append xs (x ∷ []))
+
+    by : IsGone books next' ended' cause more ⊎ (IsTurnedDown books next' ended' cause more ⊎ IsJudgedLast books next' ended' cause outstanding granted judged more)
+        → books.next.number ≤ next'.number
+    by (inl gone) =
+        let row : PipeRow = record { session = books.session; entry = gone.event } in
+        subst (λ (n : ℕ). books.next.number ≤ n)
+        (sym (end.done ∙ ap (λ rows. length (of_session books.session rows)) gone.taken ∙ ap length (of_session-push row books.next.taken)))
+        (one books.next.number (of_session books.session books.next.taken) gone.event upto)
+    by (inr (inl down)) = from down.taken
+    by (inr (inr last)) = from last.taken
+
 -- The login that is on ended for another cause than its logout, and nothing is pending.
 pub keeps_ended : (books : Books) (next' : Ahead) (cause : Lapse) (outstanding granted : ℕ) (ended' up' : Bool) (credits' : Credits) (judged more : List Judged) → is_logout cause ≡ false
     → IsEnd books next' ended' cause outstanding granted judged more → AreKept books judged → AreKept (record books {
@@ -342,6 +372,9 @@ keeps_ended books next' cause outstanding granted ended' up' credits' judged mor
       lines = lines_end books next' up' credits' ended' cause outstanding granted judged more is.logins.on end is.lines;
       idle = λ over. (refl, refl);
       numbers = numbers_ended books.id books.session books.current books.last cause outstanding granted books.grants is.numbers;
+      rising = rising_lapsed books.id books.id books.session next'.number books.session books.current cause outstanding granted [] books.grants
+          (rising_later books.id books.session books.next.number next'.number [] books.grants (end_most books next' ended' cause outstanding granted judged more is.lines.upto end)
+          (rising_none books.id books.session books.next.number books.pending books.grants is.rising));
       counted = record {
         row = open_start books.id 0 books.rows;
         exact = λ some. absurd (zero_one some);
@@ -407,6 +440,8 @@ keeps_left books front rest outstanding granted credits' judged parts other none
           (going_on books judged front rest parts is) (are.0.last other none).0 (are.0.under other).1 is.logins.on is.lines;
       idle = λ over. absurd (no_cons front rest books.pending parts (is.idle over).0);
       numbers = numbers_ended books.id books.session books.current books.last lapses.Logout outstanding granted books.grants is.numbers;
+      rising = rising_lapsed books.id books.id books.session books.next.number books.session books.current lapses.Logout outstanding granted rest books.grants
+          (rising_popped books.id books.session books.next.number books.pending rest front books.grants parts is.rising);
       counted = record {
         row = open_start books.id 0 books.rows;
         exact = λ some. absurd (zero_one some);
@@ -416,6 +451,9 @@ keeps_left books front rest outstanding granted credits' judged parts other none
         none_later = is.counted.none_later;
       };
     }
+
+head_same : (x y : Request) (xs ys : List Request) → x ∷ xs ≡ y ∷ ys → x ≡ y
+head_same x y xs ys same = cc (same)
 
 -- A login began, for the oldest request.
 pub keeps_granted : (books : Books) (number : ℕ) (front : Request) (rest : List Request) (judged : List Judged) → books.pending ≡ front ∷ rest → IsGranting books.current number books.pending
@@ -458,6 +496,8 @@ keeps_granted books number front rest judged parts grants is =
           (going_on books judged front rest parts is) is.lines;
       idle = λ over. absurd (no_cons front rest books.pending parts (is.idle over).0);
       numbers = numbers_granted books.id books.session books.current books.last number books.credits.granted books.grants grants.none_on is.numbers;
+      rising = rising_granted books.id books.session books.next.number (books.last + 1) number books.credits.granted books.pending rest front books.grants parts
+          (ap (λ (r : Request). r.number) (head_same front grants.front rest grants.rest (sym parts ∙ grants.parts)) ∙ grants.number_is) is.rising;
       counted = record {
         row = open_start books.id (books.last + 1) books.rows;
         exact = λ some. zero_left _ (none_answered books.id (books.last + 1) books.rows
@@ -509,6 +549,7 @@ keeps_session books session' next' ended' up' judged later taken first none off 
   lines = lines_session books.id books.session session' books.next next' books.current books.taking books.up up' books.credits books.grants books.ended ended' judged later taken first off is.lines;
   idle = λ over. (none, off);
   numbers = numbers_begun books.id books.session session' books.current books.last books.grants off (is.lines.later session' later) is.numbers;
+  rising = rising_begun books.id books.session session' books.next.number next'.number books.pending books.grants none (is.lines.later session' later) is.rising;
   counted = record { row = is.counted.row; exact = is.counted.exact; most = is.counted.most; limits = is.counted.limits; asked_out = is.counted.asked_out; none_later = is.counted.none_later };
 }
   where
@@ -562,6 +603,7 @@ keeps_later books next' ended' up' judged most idle lines is = record {
   lines = lines;
   idle = idle;
   numbers = is.numbers;
+  rising = rising_later books.id books.session books.next.number next'.number books.pending books.grants most is.rising;
   counted = record { row = is.counted.row; exact = is.counted.exact; most = is.counted.most; limits = is.counted.limits; asked_out = is.counted.asked_out; none_later = is.counted.none_later };
 }
 
@@ -600,6 +642,7 @@ keeps_kept books kept' judged at is = record {
   lines = is.lines;
   idle = is.idle;
   numbers = is.numbers;
+  rising = is.rising;
   counted = record { row = is.counted.row; exact = is.counted.exact; most = is.counted.most; limits = is.counted.limits; asked_out = is.counted.asked_out; none_later = is.counted.none_later };
 }
 
@@ -706,6 +749,7 @@ keeps_answered books place row judged at there is =
       };
       idle = fin.idle;
       numbers = is.numbers;
+      rising = fin.rising;
       counted = record {
         row = open_start books.id books.current rows';
         exact = λ some. counts books.credits.outstanding _ _ (length (accepted books.current judged)) (mark_here books.id books.current books.rows place row there under unanswered)

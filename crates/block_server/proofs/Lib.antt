@@ -30,6 +30,7 @@ pub mod Offering
 pub mod Onces
 pub mod Serves
 pub mod Plains
+pub mod LoginPuts
 pub mod Stepping
 pub mod Units
 pub mod Making
@@ -50,6 +51,7 @@ pub mod Closing
 pub mod Lines
 pub mod Lapsing
 pub mod Numbering
+pub mod Rising
 pub mod Keeping
 pub mod Accepting
 pub mod Working
@@ -68,4 +70,6 @@ pub mod OwedLaws
 pub mod OwingTurn
 pub mod Counting
 pub mod Refusing
+pub mod Ledgers
+pub mod Settling
 pub mod RefusalLaws

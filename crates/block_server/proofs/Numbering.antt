@@ -21,7 +21,7 @@ names_push unit before (first ∷ lines) line all new =
     (all.0, names_push unit (before ++ first ∷ []) lines line all.1 (subst (λ (list : List Grant). NamesLogin unit list line) (sym (append_assoc before (first ∷ []) lines)) new))
 
 -- whether a line is of the unit and session that it names
-own_line : (unit : UnitId) (session : ℕ) → same_unit unit unit && (session == session) ≡ true
+pub own_line : (unit : UnitId) (session : ℕ) → same_unit unit unit && (session == session) ≡ true
 own_line unit session = both (same_unit unit unit) (session == session) (same_self unit) (eq-eqb session session refl)
   where
     both : (a b : Bool) → a ≡ true → b ≡ true → a && b ≡ true

@@ -3,7 +3,7 @@ use Rattle.std.proofs.Common.{◌≡◌, ◌++◌, ℕ, false, List, [], ◌∷�
 use Rattle.block_server.specs.Causes.{Hearing, told_to, units_at}
 use Rattle.block_server.specs.Causes.News.{delivered}
 use Rattle.block_server.specs.Ends.{IsGrantable}
-use Rattle.block_server.specs.Granting.{HasOffer, IsOffered}
+use Rattle.block_server.specs.Granting.{HasOffer, IsOffered, IsRejecting}
 use Rattle.block_server.specs.Serving.{Desk, Terms}
 use Rattle.block_server.specs.Stage.{is_answered}
 use Rattle.srp_iu.specs.declared.login.LoginReq.{LoginReq}
@@ -45,9 +45,20 @@ offered_pushed number credits answer pending new is = record {
   grants = is.grants;
 }
 
+rejecting_pushed : (answer : List ℕ) (pending : List Request) (new : Request) → IsRejecting answer pending → IsRejecting answer (pending ++ new ∷ [])
+rejecting_pushed answer pending new is = record {
+  front = is.front;
+  rest = is.rest ++ new ∷ [];
+  parts = ap (λ list. list ++ new ∷ []) is.parts;
+  asked = is.asked;
+  asks = is.asks;
+  current = is.current;
+  rejects = is.rejects;
+}
+
 pub offer_pushed : (Hears : Hearing) (stage : Stage) (credits : ℕ) (answer : List ℕ) (pending : List Request) (new : Request) → HasOffer Hears stage credits answer pending
     → HasOffer Hears stage credits answer (pending ++ new ∷ [])
-unfolding offered_pushed
+unfolding offered_pushed rejecting_pushed
 offer_pushed Hears Start credits answer pending new is = tt
 offer_pushed Hears OutTable credits answer pending new is = tt
 offer_pushed Hears InTable credits answer pending new is = tt
@@ -55,25 +66,29 @@ offer_pushed Hears (DataOut cursor) credits answer pending new is = tt
 offer_pushed Hears (Given row reply) credits answer pending new is = tt
 offer_pushed Hears (DataIn row reply cursor) credits answer pending new is = tt
 offer_pushed Hears (Answer (Granted number)) credits answer pending new is = offered_pushed number credits answer pending new is
-offer_pushed Hears (Answer Rejected) credits answer pending new is = tt
+offer_pushed Hears (Answer Rejected) credits answer pending new is = rejecting_pushed answer pending new is
 offer_pushed Hears (Answer (Served row)) credits answer pending new is = tt
 offer_pushed Hears (Entry (Granted number)) credits answer pending new is =
     record { offered = offered_pushed number credits answer pending new is.offered; written = is.written }
-offer_pushed Hears (Entry Rejected) credits answer pending new is = tt
+offer_pushed Hears (Entry Rejected) credits answer pending new is =
+    record { rejecting = rejecting_pushed answer pending new is.rejecting; written = is.written }
 offer_pushed Hears (Entry (Served row)) credits answer pending new is = tt
 
 -- its answer was copied over the request
 pub offer_copied : (Hears : Hearing) (outcome : Outcome) (credits : ℕ) (answer : List ℕ) (request : Request) (rest pending : List Request) → pending ≡ request ∷ rest
     → Hears (delivered units_at request.address request.tag answer) → HasOffer Hears (Answer outcome) credits answer pending → HasOffer Hears (Entry outcome) credits answer pending
-offer_copied Hears (Granted number) credits answer request rest pending front written is = record {
-  offered = is;
-  written = subst (λ (r : Request). Hears (delivered units_at r.address r.tag answer)) (head_is request is.front rest is.rest (sym front ∙ is.parts)) written;
-}
+offer_copied Hears outcome credits answer request rest pending front written is = at outcome is
   where
     head_is : (x y : Request) (xs ys : List Request) → x ∷ xs ≡ y ∷ ys → x ≡ y
     head_is x y xs ys same = cc (same)
-offer_copied Hears Rejected credits answer request rest pending front written is = tt
-offer_copied Hears (Served row) credits answer request rest pending front written is = tt
+
+    over : (other : Request) (others : List Request) → pending ≡ other ∷ others → Hears (delivered units_at other.address other.tag answer)
+    over other others parts = subst (λ (r : Request). Hears (delivered units_at r.address r.tag answer)) (head_is request other rest others (sym front ∙ parts)) written
+
+    at : (outcome : Outcome) → HasOffer Hears (Answer outcome) credits answer pending → HasOffer Hears (Entry outcome) credits answer pending
+    at (Granted number) is = record { offered = is; written = over is.front is.rest is.parts }
+    at Rejected is = record { rejecting = is; written = over is.front is.rest is.parts }
+    at (Served row) is = tt
 
 -- a login may be granted while this one is on, so none is
 pub may_first : (current : ℕ) (asked : LoginReq) → IsGrantable current asked → IsGrantable 0 asked

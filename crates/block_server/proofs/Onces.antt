@@ -120,22 +120,32 @@ pub once_disk : (d d' : Held) (a b : Desk) (s s' : List PipeRow) (h h' : List Se
     → IsServing d.terms a h → Once d d' a b s s' h h'
 once_disk d d' a b s s' h h' same once serving = subst (λ (x : Held). Once d x a b s s' h h') (sym same) (once d serving)
 
-pub responses_append : (xs ys : List PipeRow) → responses (xs ++ ys) ≡ responses xs ++ responses ys
-responses_append xs ys = ap (filter is_response) (map-append (λ (row : PipeRow). row.entry) xs ys) ∙ filter-append is_response (map (λ (row : PipeRow). row.entry) xs) (map (λ (row : PipeRow). row.entry) ys)
+-- the entries of some kind among those that were put
+abbrev pub put_by : (QueueEntry → Bool) → List PipeRow → List QueueEntry
+put_by P rows = filter P (map (λ (row : PipeRow). row.entry) rows)
+
+pub put_append : (P : QueueEntry → Bool) (xs ys : List PipeRow) → put_by P (xs ++ ys) ≡ put_by P xs ++ put_by P ys
+put_append P xs ys = ap (filter P) (map-append (λ (row : PipeRow). row.entry) xs ys) ∙ filter-append P (map (λ (row : PipeRow). row.entry) xs) (map (λ (row : PipeRow). row.entry) ys)
+
+-- an entry of another kind adds none, and one of the kind adds itself
+pub put_plain : (P : QueueEntry → Bool) (sent sent' : List PipeRow) (row : PipeRow) → P row.entry ≡ false → sent' ≡ sent ++ row ∷ [] → put_by P sent' ≡ put_by P sent
+put_plain P sent sent' row plain put = ap (put_by P) put ∙ put_append P sent (row ∷ []) ∙ ap (λ list. put_by P sent ++ list) (one plain) ∙ append-nil (put_by P sent)
+  where
+    one : P row.entry ≡ false → put_by P (row ∷ []) ≡ []
+    one e = rw e refl
+
+pub put_one : (P : QueueEntry → Bool) (sent sent' : List PipeRow) (row : PipeRow) → P row.entry ≡ true → sent' ≡ sent ++ row ∷ [] → put_by P sent' ≡ put_by P sent ++ row.entry ∷ []
+put_one P sent sent' row is put = ap (put_by P) put ∙ put_append P sent (row ∷ []) ∙ ap (λ list. put_by P sent ++ list) (one is)
+  where
+    one : P row.entry ≡ true → put_by P (row ∷ []) ≡ row.entry ∷ []
+    one e = rw e refl
 
 -- an entry that answers no request adds no response, and one that answers a command adds itself
 pub responses_plain : (sent sent' : List PipeRow) (row : PipeRow) → is_response row.entry ≡ false → sent' ≡ sent ++ row ∷ [] → responses sent' ≡ responses sent
-responses_plain sent sent' row plain put =
-    ap responses put ∙ responses_append sent (row ∷ []) ∙ ap (λ list. responses sent ++ list) (one plain) ∙ append-nil (responses sent)
-  where
-    one : is_response row.entry ≡ false → responses (row ∷ []) ≡ []
-    one e = rw e refl
+responses_plain = put_plain is_response
 
 pub responses_one : (sent sent' : List PipeRow) (row : PipeRow) → is_response row.entry ≡ true → sent' ≡ sent ++ row ∷ [] → responses sent' ≡ responses sent ++ row.entry ∷ []
-responses_one sent sent' row answers put = ap responses put ∙ responses_append sent (row ∷ []) ∙ ap (λ list. responses sent ++ list) (one answers)
-  where
-    one : is_response row.entry ≡ true → responses (row ∷ []) ≡ row.entry ∷ []
-    one e = rw e refl
+responses_one = put_one is_response
 
 -- the requests of a desk were brought, where they are these
 pub brought_at : (terms : Terms) (a b : Desk) (pending : List Request) → b.id ≡ a.id → b.pending ≡ pending → AreBrought (told_to terms.told a.id) pending
@@ -313,7 +323,7 @@ once_reply_kept a b s s' h entry id credits pending stage answer buffers kept pl
     some_is e other same = cc (same)
 
 -- the lengths of responses
-response_lens : (n : ℕ) → is_response_len n ≡ true → (n ≡ 36) ⊎ ((n ≡ 40) ⊎ (n ≡ 54))
+pub response_lens : (n : ℕ) → is_response_len n ≡ true → (n ≡ 36) ⊎ ((n ≡ 40) ⊎ (n ≡ 54))
 response_lens n is = by (n == 36) refl (n == 40) refl (n == 54) refl
   where
     by : (a : Bool) → (n == 36) ≡ a → (b : Bool) → (n == 40) ≡ b → (c : Bool) → (n == 54) ≡ c → (n ≡ 36) ⊎ ((n ≡ 40) ⊎ (n ≡ 54))

@@ -15,7 +15,7 @@ use Rattle.block_server.specs.Receipts.{LinesMore, unit_of}
 use Rattle.block_server.specs.Refusals.{AreExplained, IsExplained, HasExplained, IsNotRead, IsNotWritten, basis_seen}
 use Rattle.block_server.specs.declared.unit.Unit.{Unit}
 use Rattle.block_server.proofs.Agreeing.{if_at}
-use Rattle.block_server.proofs.Refusing.{explains_same}
+use Rattle.block_server.proofs.Refusing.{known_same}
 
 -- a line of another unit is no refusal of this
 other_line : (Hears : Hearing) (unit : UnitId) (taken : List PipeRow) (line : Grant) → same_unit (unit_of line) unit ≡ false → IsExplained Hears unit taken line
@@ -41,7 +41,7 @@ pub refusals_elsewhere : (told : Told → Bool) (units units' : List Unit) (n : 
 refusals_elsewhere told units units' n unit other queue queue' since grants grants' same session taken lines apart has = at (slice_get units n) refl has
   where
     step : (u : Unit) → AreExplained told unit since (basis_seen u queue grants) → AreExplained told unit since (basis_seen u queue' grants')
-    step u is = explains_same (basis_seen u queue grants') (basis_seen u queue' grants') session taken refl refl refl refl told unit since (record {
+    step u is = known_same (basis_seen u queue grants') (basis_seen u queue' grants') session taken refl refl refl refl told unit since (record {
       waits = is.waits;
       pending = is.pending;
       idle = is.idle;

@@ -1,7 +1,7 @@
 -- What the parts of a turn leave of why a unit's sessions end as refused.
 use Rattle.std.proofs.Common.{◌≡◌, ◌⊎◌, ◌==◌, ◌||◌, ◌++◌, ℕ, suc, zero, Bool, true, false, List, [], ◌∷◌, Option, Some, None, IfSome, All, length, drop, slice_get, slice_set, refl, sym, ◌∙◌, ap, subst, arith, append-nil, append_assoc, length-append, inl, inr}
 use Rattle.std.proofs.lemmas.List.{get_or_push}
-use Rattle.std.proofs.lemmas.List.Elements.{All-nil, All-cons, All-append, All-drop, All-head, All-push, All-weaker}
+use Rattle.std.proofs.lemmas.List.Elements.{All-nil, All-append, All-drop, All-head, All-push, All-weaker}
 use Rattle.std.proofs.lemmas.Option.{slice_get-get_or}
 use Rattle.crq_ring.specs.Sessions.{of_session}
 use Rattle.crq_ring.specs.declared.rows.PipeRow.{PipeRow}
@@ -15,58 +15,28 @@ use Rattle.vio_num.specs.declared.history.Grant.TheVariants.{Granted, Lapsed}
 use Rattle.vio_num.specs.declared.history.Lapse.{Lapse}
 use Rattle.vio_num.specs.declared.history.Lapse.TheVariants as lapses
 use Rattle.vio_num.specs.declared.names.UnitId.{UnitId}
-use Rattle.block_server.specs.Causes.{Hearing, Told, told_to, units_at}
-use Rattle.block_server.specs.Causes.News.{delivered, denied, fetched}
+use Rattle.block_server.specs.Causes.{Hearing, Told, told_to}
+use Rattle.block_server.specs.Causes.News.{denied}
 use Rattle.block_server.specs.Decided.{Decides, IsCause, StaysOn}
 use Rattle.block_server.specs.Entries.{is_answer_len, is_response_len, login_rej_len, login_rsp_len}
-use Rattle.block_server.specs.Granting.{HasOffer, IsGrantedOver, IsOfferedOver, IsSrpAt}
+use Rattle.block_server.specs.Granting.{IsSrpAt}
 use Rattle.block_server.specs.Heard.{TellsAll}
-use Rattle.block_server.specs.Moves.{Passes}
-use Rattle.block_server.specs.Receipts.{Standing, TakesEntry, standing_of}
+use Rattle.block_server.specs.Receipts.{TakesEntry}
 use Rattle.tce_window.specs.declared.answers.Right.TheVariants.{Read, Write}
-use Rattle.block_server.specs.Refusals.{AreExplained, Basis, DeniesAnswer, Explains, HasEntry, IsExplained, HasExplained, IsNotRead, IsNotWritten, ExplainNone, ExplainsOf, basis_of, basis_seen}
-use Rattle.block_server.specs.Orders.{IsOrder}
-use Rattle.block_server.specs.Serving.{AreBrought, Desk, Held, IsServing, Once, Terms}
+use Rattle.block_server.specs.Refusals.{AreExplained, Basis, DeniesAnswer, HasEntry, IsExplained, HasExplained, IsNotRead, IsNotWritten, ExplainNone, basis_seen}
 use Rattle.block_server.specs.SiteState.{IsDeniedBetween, SiteState}
 use Rattle.block_server.specs.Stage.{fits}
 use Rattle.block_server.specs.declared.intake.Verdict.{Verdict}
 use Rattle.block_server.specs.declared.intake.Verdict.TheVariants.{Fatal}
 use Rattle.block_server.specs.declared.logins.Logins.{Logins}
-use Rattle.block_server.specs.declared.records.Records.{Records}
 use Rattle.block_server.specs.declared.request.Arrival.{Arrival}
-use Rattle.block_server.specs.declared.request.Order.{Order}
 use Rattle.block_server.specs.declared.request.Request.{Request}
 use Rattle.block_server.specs.declared.service.Outcome.{Outcome}
 use Rattle.block_server.specs.declared.service.Outcome.TheVariants as outcomes
-use Rattle.block_server.specs.declared.service.Stage.{Stage}
-use Rattle.block_server.specs.declared.service.Stage.TheVariants as stages
 use Rattle.block_server.specs.declared.unit.Unit.{Unit}
-use Rattle.srp_iu.specs.Grammar.{Spells}
-use Rattle.srp_iu.specs.declared.unit.Iu.TheVariants as ius
-use Rattle.vio_num.specs.declared.history.Served.{Served}
 use Rattle.block_server.proofs.Agreeing.{if_at, some_at}
-use Rattle.block_server.proofs.Receiving.{session_more}
-use Rattle.block_server.proofs.Taking.{passed_session, passed_taken}
+use Rattle.block_server.proofs.LoginPuts.{granted_more, srp_more}
 use Rattle.block_server.proofs.Units.{get_set_same}
-
--- what was known of an entry stays known, as more is taken
-srp_more : (old new : List PipeRow) (session number : ℕ) (entry : Entry) → Begins old new → IsSrpAt old session number entry → IsSrpAt new session number entry
-srp_more old new session number entry more is = record { there = session_more session old new number entry more is.there; srp = is.srp }
-
-granted_more : (Hears : Hearing) (old new : List PipeRow) (session number credits : ℕ) → Begins old new → IsGrantedOver Hears old session number credits → IsGrantedOver Hears new session number credits
-granted_more Hears old new session number credits more is = record {
-  entry = is.entry;
-  at = srp_more old new session number is.entry more is.at;
-  bytes = is.bytes;
-  long = is.long;
-  brought = is.brought;
-  asked = is.asked;
-  asks = is.asks;
-  may = is.may;
-  answer = is.answer;
-  grants = is.grants;
-  written = is.written;
-}
 
 refusal_more : (Hears : Hearing) (unit : UnitId) (old new : List PipeRow) → Begins old new → (line : Grant) → IsExplained Hears unit old line → IsExplained Hears unit new line
 refusal_more Hears unit old new more (Granted of session login number credits) is = λ own. granted_more Hears old new session number credits more (is own)
@@ -90,31 +60,27 @@ refusal_more Hears unit old new more (Lapsed of session login lapses.Refused out
       told = write.told;
     })
 
+-- WHAT IS KEPT BETWEEN TURNS ----------------------------------------------------------------------
+
+-- it stays known, whatever was told
+abbrev Knows : (old new : Basis) → Type 0
+Knows old new = (told : Told → Bool) (unit : UnitId) (since : List Grant) → AreExplained told unit since old → AreExplained told unit since new
+
 -- Nothing of it changed.
-pub explains_same : (old new : Basis) → new.session ≡ old.session → new.taken ≡ old.taken → new.waiting ≡ old.waiting → new.pending ≡ old.pending → new.ended ≡ old.ended
-    → new.lines ≡ old.lines → Explains old new
-explains_same old new session taken waiting pending ended lines = λ told unit since is. subst (AreExplained told unit since) (sym same) is
+pub known_same : (old new : Basis) → new.session ≡ old.session → new.taken ≡ old.taken → new.waiting ≡ old.waiting → new.pending ≡ old.pending → new.ended ≡ old.ended
+    → new.lines ≡ old.lines → Knows old new
+known_same old new session taken waiting pending ended lines = λ told unit since is. subst (AreExplained told unit since) (sym same) is
   where
     same : new ≡ old
     same = λ i. record { session = session i; taken = taken i; waiting = waiting i; pending = pending i; ended = ended i; lines = lines i }
 
-pub explains_stands : (unit unit' : Unit) (old new : SiteState) (records records' : Records) → standing_of unit' ≡ standing_of unit → Passes old new
-    → unit'.pending.items ≡ unit.pending.items → records'.grants.items ≡ records.grants.items → Explains (basis_of unit old records) (basis_of unit' new records')
-explains_stands unit unit' old new records records' stands passes pending lines =
-    explains_same (basis_of unit old records) (basis_of unit' new records') (passed_session old new passes) (passed_taken old new passes) (ap (λ (s : Standing). s.waiting) stands) pending
-    (ap (λ (s : Standing). s.ended) stands) lines
-
--- One behind the other.
-pub explains_on : (a b c : Basis) → Explains a b → Explains b c → Explains a c
-explains_on a b c first next = λ told unit since is. next told unit since (first told unit since is)
-
 -- Some of the oldest requests are pending no more, and lines came that have their causes.
-pub explained_left : (told : Told → Bool) (unit : UnitId) (since : List Grant) (old new : Basis) (n : ℕ) (lines : List Grant) → new.session ≡ old.session → new.taken ≡ old.taken
+pub known_left : (told : Told → Bool) (unit : UnitId) (since : List Grant) (old new : Basis) (n : ℕ) (lines : List Grant) → new.session ≡ old.session → new.taken ≡ old.taken
     → new.waiting ≡ old.waiting → new.ended ≡ old.ended → new.pending ≡ drop n old.pending → new.lines ≡ old.lines ++ lines → All (IsExplained (told_to told unit) unit old.taken) lines
     → AreExplained told unit since old → AreExplained told unit since new
-explained_left told unit since old new n lines session taken waiting ended pending more causes is =
+known_left told unit since old new n lines session taken waiting ended pending more causes is =
     let mid = record old { pending = drop n old.pending; lines = old.lines ++ lines } in
-    explains_same mid new session taken waiting pending ended more told unit since (record {
+    known_same mid new session taken waiting pending ended more told unit since (record {
       waits = is.waits;
       pending = All-drop (HasEntry old.taken old.session) n old.pending is.pending;
       idle = λ over. ((is.idle over).0, drop_none n old.pending (is.idle over).1);
@@ -127,17 +93,11 @@ explained_left told unit since old new n lines session taken waiting ended pendi
     drop_none zero requests empty = empty
     drop_none (suc n) requests empty = ap (drop (suc n)) empty
 
--- The same where the lines have them whatever was told.
-pub explains_left : (old new : Basis) (n : ℕ) (lines : List Grant) → new.session ≡ old.session → new.taken ≡ old.taken → new.waiting ≡ old.waiting → new.ended ≡ old.ended
-    → new.pending ≡ drop n old.pending → new.lines ≡ old.lines ++ lines → ((Hears : Hearing) (unit : UnitId) → All (IsExplained Hears unit old.taken) lines) → Explains old new
-explains_left old new n lines session taken waiting ended pending more others = λ told unit since is.
-    explained_left told unit since old new n lines session taken waiting ended pending more (others (told_to told unit) unit) is
-
 -- The login ended, and a line says why.
-pub explained_ended : (told : Told → Bool) (unit : UnitId) (since : List Grant) (old new : Basis) (line : Grant) → new.session ≡ old.session → new.taken ≡ old.taken
+pub known_ended : (told : Told → Bool) (unit : UnitId) (since : List Grant) (old new : Basis) (line : Grant) → new.session ≡ old.session → new.taken ≡ old.taken
     → new.waiting ≡ None → new.pending ≡ [] → new.lines ≡ old.lines ++ line ∷ [] → IsExplained (told_to told unit) unit old.taken line
     → AreExplained told unit since old → AreExplained told unit since new
-explained_ended told unit since old new line session taken waiting pending more cause is = record {
+known_ended told unit since old new line session taken waiting pending more cause is = record {
   waits = subst (λ w. IfSome w (λ arrival. IsSrpAt new.taken new.session arrival.number arrival.entry)) (sym waiting) tt;
   pending = subst (All (HasEntry new.taken new.session)) (sym pending) (All-nil (HasEntry new.taken new.session));
   idle = λ over. (waiting, pending);
@@ -147,8 +107,8 @@ explained_ended told unit since old new line session taken waiting pending more 
 }
 
 -- A session begins, or ended before: nothing is pending.
-pub explains_begun : (old new : Basis) → old.ended ≡ true → new.taken ≡ old.taken → new.waiting ≡ old.waiting → new.pending ≡ old.pending → new.lines ≡ old.lines → Explains old new
-explains_begun old new over taken waiting pending lines = λ told unit since is.
+pub known_begun : (old new : Basis) → old.ended ≡ true → new.taken ≡ old.taken → new.waiting ≡ old.waiting → new.pending ≡ old.pending → new.lines ≡ old.lines → Knows old new
+known_begun old new over taken waiting pending lines = λ told unit since is.
     let none = is.idle over in
     let waits = waiting ∙ none.0 in
     let empty = pending ∙ none.1 in
@@ -162,10 +122,10 @@ explains_begun old new over taken waiting pending lines = λ told unit since is.
     }
 
 -- Entries were taken, and none of them waits.
-pub explains_taken : (old new : Basis) → new.session ≡ old.session → Begins old.taken new.taken → new.waiting ≡ old.waiting → new.pending ≡ old.pending → new.ended ≡ old.ended
-    → new.lines ≡ old.lines → Explains old new
-explains_taken old new session taken waiting pending ended lines = λ told unit since is.
-    explains_same (record old { taken = new.taken }) new session refl waiting pending ended lines told unit since (record {
+pub known_taken : (old new : Basis) → new.session ≡ old.session → Begins old.taken new.taken → new.waiting ≡ old.waiting → new.pending ≡ old.pending → new.ended ≡ old.ended
+    → new.lines ≡ old.lines → Knows old new
+known_taken old new session taken waiting pending ended lines = λ told unit since is.
+    known_same (record old { taken = new.taken }) new session refl waiting pending ended lines told unit since (record {
       waits = waits_more old.waiting is.waits;
       pending = All-weaker (HasEntry old.taken old.session) (HasEntry new.taken old.session)
           (λ request has. record { entry = has.entry; at = srp_more old.taken new.taken old.session request.number has.entry taken has.at; address = has.address; long = has.long }) old.pending is.pending;
@@ -181,13 +141,13 @@ explains_taken old new session taken waiting pending ended lines = λ told unit 
     waits_more (Some arrival) is = srp_more old.taken new.taken old.session arrival.number arrival.entry taken is
 
 -- An SRP entry was taken, and waits.
-pub explains_entry : (old new : Basis) (before after : SiteState) (arrival : Arrival) → TakesEntry before after arrival.number arrival.entry → is_srp_entry arrival.entry ≡ true
+pub known_entry : (old new : Basis) (before after : SiteState) (arrival : Arrival) → TakesEntry before after arrival.number arrival.entry → is_srp_entry arrival.entry ≡ true
     → old.session ≡ before.queue.last_session → old.taken ≡ before.queue.taken → old.ended ≡ false → new.session ≡ after.queue.last_session → new.taken ≡ after.queue.taken
-    → new.waiting ≡ Some arrival → new.pending ≡ old.pending → new.ended ≡ old.ended → new.lines ≡ old.lines → Explains old new
-explains_entry old new before after arrival taken srp was_session was_taken going session now_taken waits pending ended lines = λ told unit since is.
+    → new.waiting ≡ Some arrival → new.pending ≡ old.pending → new.ended ≡ old.ended → new.lines ≡ old.lines → Knows old new
+known_entry old new before after arrival taken srp was_session was_taken going session now_taken waits pending ended lines = λ told unit since is.
     let row : PipeRow = record { session = before.queue.last_session; entry = arrival.entry } in
     let grown : new.taken ≡ old.taken ++ row ∷ [] = now_taken ∙ taken.taken ∙ ap (λ front. front ++ row ∷ []) (sym was_taken) in
-    let all = explains_taken (record old { waiting = None }) (record new { waiting = None }) (session ∙ taken.session ∙ sym was_session) (row ∷ [], grown) refl pending ended lines told unit since
+    let all = known_taken (record old { waiting = None }) (record new { waiting = None }) (session ∙ taken.session ∙ sym was_session) (row ∷ [], grown) refl pending ended lines told unit since
     (record { waits = tt; pending = is.pending; idle = λ over. (refl, (is.idle over).1); more = is.more; lines = is.lines; each = is.each }) in
     let found : slice_get (of_session new.session new.taken) arrival.number ≡ Some arrival.entry =
     ap (λ n. slice_get (of_session n new.taken) arrival.number) (session ∙ taken.session)
@@ -209,60 +169,22 @@ explains_entry old new before after arrival taken srp was_session was_taken goin
     apart : (b : Bool) → b ≡ false → b ≡ true → ⊥
     apart b is other = cc (is, other)
 
--- The oldest request is pending no more, and no line came, or one that has its cause.
-pub explains_finished : (old new : Basis) → new.session ≡ old.session → new.taken ≡ old.taken → new.waiting ≡ old.waiting → new.ended ≡ old.ended
-    → new.pending ≡ drop 1 old.pending → new.lines ≡ old.lines → Explains old new
-explains_finished old new session taken waiting ended pending same =
-    explains_left old new 1 [] session taken waiting ended pending (same ∙ sym (append-nil old.lines)) (λ Hears unit. All-nil (IsExplained Hears unit old.taken))
-
-pub explains_settled : (old new : Basis) (line : Grant) → new.session ≡ old.session → new.taken ≡ old.taken → new.waiting ≡ old.waiting → new.ended ≡ old.ended
-    → new.pending ≡ drop 1 old.pending → new.lines ≡ old.lines ++ line ∷ [] → ((Hears : Hearing) (unit : UnitId) → IsExplained Hears unit old.taken line) → Explains old new
-explains_settled old new line session taken waiting ended pending more cause =
-    explains_left old new 1 (line ∷ []) session taken waiting ended pending more
-    (λ Hears unit. All-cons (IsExplained Hears unit old.taken) line [] (cause Hears unit) (All-nil (IsExplained Hears unit old.taken)))
-
--- The answer that grants a login was put over its request.
-granted_over : (terms : Terms) (desk : Desk) (history : List Served) (taken : List PipeRow) (session number : ℕ) → desk.stage ≡ stages.Entry (outcomes.Granted number)
-    → All (HasEntry taken session) desk.pending → IsServing terms desk history → IsGrantedOver (told_to terms.told desk.id) taken session number desk.credits
-granted_over terms desk history taken session number stage pending serving =
-    let Hears = told_to terms.told desk.id in
-    let over : IsOfferedOver Hears number desk.credits desk.answer desk.pending =
-    subst (λ (st : Stage). HasOffer Hears st desk.credits desk.answer desk.pending) stage serving.offer in
-    let offer = over.offered in
-    let has : HasEntry taken session offer.front = All-head (HasEntry taken session) offer.front offer.rest (subst (All (HasEntry taken session)) offer.parts pending) in
-    let brought : AreBrought Hears (offer.front ∷ offer.rest) = subst (AreBrought Hears) offer.parts serving.brought in
-    let spelled : Spells offer.front.unit.items (ius.LoginReq offer.asked) = subst (λ (order : Order). IsOrder order offer.front.unit.items) offer.asks offer.front.spelled in
-    record {
-      entry = has.entry;
-      at = subst (λ (n : ℕ). IsSrpAt taken session n has.entry) offer.number_is has.at;
-      bytes = offer.front.unit.items;
-      long = has.long;
-      brought = subst (λ (n : ℕ). Hears (fetched n units_at offer.front.unit.items)) has.address brought.0;
-      asked = offer.asked;
-      asks = spelled;
-      may = offer.may;
-      answer = desk.answer;
-      grants = offer.grants;
-      written = subst (λ (z : ℕ × ℕ). Hears (delivered units_at z.0 z.1 desk.answer)) (λ i. (has.address i, (offer.front.tagged ∙ sym spelled.unit.tag) i)) over.written;
-    }
-
--- It was put, and a line says so.
-pub explains_granted : (terms : Terms) (desk : Desk) (history : List Served) (old new : Basis) (login number credits : ℕ) → desk.stage ≡ stages.Entry (outcomes.Granted number)
-    → desk.pending ≡ old.pending → credits ≡ desk.credits → new.session ≡ old.session → new.taken ≡ old.taken → new.waiting ≡ old.waiting → new.ended ≡ old.ended → new.pending ≡ drop 1 old.pending
-    → new.lines ≡ old.lines ++ Granted desk.id old.session login number credits ∷ [] → ExplainsOf terms desk history old new
-explains_granted terms desk history old new login number credits stage requests same session taken waiting ended pending more = λ serving since is.
-    let P = IsExplained (told_to terms.told desk.id) desk.id old.taken in
-    let line = Granted desk.id old.session login number credits in
-    let over = granted_over terms desk history old.taken old.session number stage (subst (All (HasEntry old.taken old.session)) (sym requests) is.pending) serving in
-    explained_left terms.told desk.id since old new 1 (line ∷ []) session taken waiting ended pending more
-    (All-cons P line [] (λ own. subst (IsGrantedOver (told_to terms.told desk.id) old.taken old.session number) (sym same) over) (All-nil P)) is
-
--- A part of a turn behind another that left the desk in order.
-pub explained_then : (d d' : Held) (a b : Desk) (s s' : List PipeRow) (h h' : List Served) (since : List Grant) (x y z : Basis) → Once d d' a b s s' h h'
-    → (AreExplained d.terms.told a.id since x → AreExplained d.terms.told a.id since y) → ExplainsOf d'.terms b h' y z
-    → AreExplained d.terms.told a.id since x → AreExplained d.terms.told a.id since z
-explained_then d d' a b s s' h h' since x y z once first next is =
-    subst (λ (w : UnitId × Terms). AreExplained w.1.told w.0 since y → AreExplained w.1.told w.0 since z) (λ i. (once.id i, once.terms i)) (next once.serving since) (first is)
+-- A request that came by an entry is pending behind those that are.
+pub known_pushed : (old new : Basis) (request : Request) (entry : Entry) → old.ended ≡ false → IsSrpAt old.taken old.session request.number entry → request.address ≡ iu_address entry
+    → length request.unit.items ≡ iu_length entry → new.session ≡ old.session → new.taken ≡ old.taken → new.waiting ≡ old.waiting → new.ended ≡ old.ended → new.lines ≡ old.lines → new.pending ≡ old.pending ++ request ∷ []
+    → Knows old new
+known_pushed old new request entry going found at long session taken waiting ended lines pushed = λ told unit since is.
+    known_same (record old { pending = old.pending ++ request ∷ [] }) new session taken waiting pushed ended lines told unit since (record {
+      waits = is.waits;
+      pending = All-push (HasEntry old.taken old.session) old.pending request is.pending (record { entry = entry; at = found; address = at; long = long });
+      idle = λ over. absurd (apart old.ended going over);
+      more = is.more;
+      lines = is.lines;
+      each = is.each;
+    })
+  where
+    apart : (b : Bool) → b ≡ false → b ≡ true → ⊥
+    apart b is other = cc (is, other)
 
 -- what is copied as an answer has the length of one
 pub fits_answer : (outcome : Outcome) (n : ℕ) → fits outcome n ≡ true → is_answer_len n ≡ true
@@ -331,8 +253,8 @@ waits_open told unit since basis arrival waits is = by basis.ended (λ over. non
     by false none = refl
 
 -- It waits no more.
-pub explained_apart : (told : Told → Bool) (unit : UnitId) (since : List Grant) (basis : Basis) → AreExplained told unit since basis → AreExplained told unit since (record basis { waiting = None })
-explained_apart told unit since basis is =
+pub known_apart : (told : Told → Bool) (unit : UnitId) (since : List Grant) (basis : Basis) → AreExplained told unit since basis → AreExplained told unit since (record basis { waiting = None })
+known_apart told unit since basis is =
     record { waits = tt; pending = is.pending; idle = λ over. (refl, (is.idle over).1); more = is.more; lines = is.lines; each = is.each }
 
 -- The window denied to have the information unit of the entry that waits read.
@@ -347,23 +269,6 @@ denied_unit told unit since basis old new of session login address len arrival s
       fault = denies.fault;
       told = subst (λ (z : ℕ × ℕ). told_to told unit (denied Read z.0 z.1 denies.fault)) (λ i. (at i, long i)) (all (denied Read address len denies.fault) denies.denied_is);
     })
-
--- A request that came by an entry is pending behind those that are.
-pub explains_pushed : (old new : Basis) (request : Request) (entry : Entry) → old.ended ≡ false → IsSrpAt old.taken old.session request.number entry → request.address ≡ iu_address entry
-    → length request.unit.items ≡ iu_length entry → new.session ≡ old.session → new.taken ≡ old.taken → new.waiting ≡ old.waiting → new.ended ≡ old.ended → new.lines ≡ old.lines → new.pending ≡ old.pending ++ request ∷ []
-    → Explains old new
-explains_pushed old new request entry going found at long session taken waiting ended lines pushed = λ told unit since is.
-    explains_same (record old { pending = old.pending ++ request ∷ [] }) new session taken waiting pushed ended lines told unit since (record {
-      waits = is.waits;
-      pending = All-push (HasEntry old.taken old.session) old.pending request is.pending (record { entry = entry; at = found; address = at; long = long });
-      idle = λ over. absurd (apart old.ended going over);
-      more = is.more;
-      lines = is.lines;
-      each = is.each;
-    })
-  where
-    apart : (b : Bool) → b ≡ false → b ≡ true → ⊥
-    apart b is other = cc (is, other)
 
 -- A turn of the unit.
 pub refuses_turn : (told : Told → Bool) (units : List Unit) (n : ℕ) (u u' : Unit) (unit : UnitId) (queue queue' : EndState) (since grants grants' : List Grant) → slice_get units n ≡ Some u

@@ -485,14 +485,19 @@ none_next nexts.Service kept none still = none
 none_next nexts.End kept none still = absurd (still refl)
 
 -- where an entry was neither put nor found its slot full, nothing was put
+pub same_sent : (shared : Bool) (old new : EndState) (answer : SendAnswer) → ((number : ℕ) → answer ≡ sending.Success number → ⊥)
+    → ((number held : ℕ) → answer ≡ sending.Dropped number held → ⊥) → IfClosed answer (TurnsBack shared old new) → OnNotSent answer (OnlyReserves old new)
+    → new.sent ≡ old.sent
+same_sent shared old new (sending.Success number) success dropped closed refused = absurd (success number refl)
+same_sent shared old new (sending.Dropped number held) success dropped closed refused = absurd (dropped number held refl)
+same_sent shared old new (sending.Closed control) success dropped closed refused = closed.none.sent
+same_sent shared old new sending.Parameter success dropped closed refused = refused.sent
+same_sent shared old new sending.NotRegistered success dropped closed refused = refused.sent
+
 pub none_sent : (shared : Bool) (old new : EndState) (answer : SendAnswer) → ((number : ℕ) → answer ≡ sending.Success number → ⊥)
     → ((number held : ℕ) → answer ≡ sending.Dropped number held → ⊥) → IfClosed answer (TurnsBack shared old new) → OnNotSent answer (OnlyReserves old new)
     → responses new.sent ≡ responses old.sent
-none_sent shared old new (sending.Success number) success dropped closed refused = absurd (success number refl)
-none_sent shared old new (sending.Dropped number held) success dropped closed refused = absurd (dropped number held refl)
-none_sent shared old new (sending.Closed control) success dropped closed refused = ap responses closed.none.sent
-none_sent shared old new sending.Parameter success dropped closed refused = ap responses refused.sent
-none_sent shared old new sending.NotRegistered success dropped closed refused = ap responses refused.sent
+none_sent shared old new answer success dropped closed refused = ap responses (same_sent shared old new answer success dropped closed refused)
 
 -- the request that a list lends as its first is its first
 pub front_is : (items : List Request) (request : Request) → (0 < length items) × HoldsAt (λ (item : Request). request ≡ item) items 0

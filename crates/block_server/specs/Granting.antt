@@ -1,4 +1,5 @@
--- Which logins are granted: a copy wrote the response over the request of each (SRP, "SRP_LOGIN_RSP response").
+-- Which logins are granted or rejected: a copy wrote the answer over the request of each (SRP, "SRP_LOGIN_RSP response",
+-- "SRP_LOGIN_REJ response").
 use Rattle.std.specs.Prelude.{⊤, ◌≡◌, ℕ, true, List, ◌∷◌, Some, length}
 use Rattle.std.specs.List.{slice_get}
 use Rattle.crq_ring.specs.Sessions.{of_session}
@@ -10,11 +11,11 @@ use Rattle.vio_num.specs.Entry.{is_srp_entry, iu_address, iu_length}
 use Rattle.vio_num.specs.declared.entry.Entry.{Entry as QueueEntry}
 use Rattle.block_server.specs.Causes.{Hearing, units_at}
 use Rattle.block_server.specs.Causes.News.{delivered, fetched}
-use Rattle.block_server.specs.Ends.{IsGrantable}
+use Rattle.block_server.specs.Ends.{IsGrantable, IsRejection}
 use Rattle.block_server.specs.Responses.{GrantsLogin}
 use Rattle.block_server.specs.declared.request.Order.TheVariants as orders
 use Rattle.block_server.specs.declared.request.Request.{Request}
-use Rattle.block_server.specs.declared.service.Outcome.TheVariants.{Granted}
+use Rattle.block_server.specs.declared.service.Outcome.TheVariants.{Granted, Rejected}
 use Rattle.block_server.specs.declared.service.Stage.{Stage}
 use Rattle.block_server.specs.declared.service.Stage.TheVariants.{Answer, Entry}
 
@@ -39,6 +40,22 @@ pub record IsGrantedOver (Hears : Hearing) (taken : List PipeRow) (session numbe
   pub grants : GrantsLogin answer asked.tag credits
   pub written : Hears (delivered units_at (iu_address entry) asked.tag answer)
 
+-- A login was rejected over its request: the same of a request that asks for a login, and a copy wrote over it, under its tag,
+-- the rejection of the login for the first cause that stands.
+pub record IsRejectedOver (Hears : Hearing) (taken : List PipeRow) (session number : ℕ) : Type 0 where
+  pub entry : QueueEntry
+  pub at : IsSrpAt taken session number entry
+  pub bytes : List ℕ
+  pub long : length bytes ≡ iu_length entry
+  pub brought : Hears (fetched (iu_address entry) units_at bytes)
+  pub asked : LoginReq
+  pub asks : Spells bytes (units.LoginReq asked)
+  -- the login that was on, or 0
+  pub current : ℕ
+  pub answer : List ℕ
+  pub rejects : IsRejection current asked answer
+  pub written : Hears (delivered units_at (iu_address entry) asked.tag answer)
+
 -- KEPT BETWEEN TURNS -----------------------------------------------------------------------------
 
 -- The oldest request asks for a login that may be granted, and these bytes grant it so many requests.
@@ -57,8 +74,25 @@ pub record IsOfferedOver (Hears : Hearing) (number credits : ℕ) (answer : List
   pub offered : IsOffered number credits answer pending
   pub written : Hears (delivered units_at offered.front.address offered.front.tag answer)
 
--- What is so of a login that is to be granted, at each stage.
+-- The oldest request asks for a login, and these bytes reject it.
+pub record IsRejecting (answer : List ℕ) (pending : List Request) : Type 0 where
+  pub front : Request
+  pub rest : List Request
+  pub parts : pending ≡ front ∷ rest
+  pub asked : LoginReq
+  pub asks : front.order ≡ orders.Login asked
+  pub current : ℕ
+  pub rejects : IsRejection current asked answer
+
+-- The same, and a copy wrote them over the request.
+pub record IsRejectingOver (Hears : Hearing) (answer : List ℕ) (pending : List Request) : Type 0 where
+  pub rejecting : IsRejecting answer pending
+  pub written : Hears (delivered units_at rejecting.front.address rejecting.front.tag answer)
+
+-- What is so of a login that is to be granted or rejected, at each stage.
 abbrev pub HasOffer : Hearing → Stage → (credits : ℕ) → (answer : List ℕ) → List Request → Type 0
 HasOffer Hears (Answer (Granted number)) credits answer pending = IsOffered number credits answer pending
 HasOffer Hears (Entry (Granted number)) credits answer pending = IsOfferedOver Hears number credits answer pending
+HasOffer Hears (Answer Rejected) credits answer pending = IsRejecting answer pending
+HasOffer Hears (Entry Rejected) credits answer pending = IsRejectingOver Hears answer pending
 HasOffer Hears _ credits answer pending = ⊤

@@ -17,7 +17,7 @@ use Rattle.block_server.specs.Fates.Fate.{asked, asks_login, asks_logout, ends_i
 use Rattle.block_server.specs.Answering.{has_bytes}
 use Rattle.block_server.specs.Closings.{HasCauses, is_closing, heard, is_line, last_line, TakesNone}
 use Rattle.block_server.specs.Makers.{same_unit}
-use Rattle.block_server.specs.Numbers.{KeepsNumbers}
+use Rattle.block_server.specs.Numbers.{KeepsNumbers, KeepsRising}
 use Rattle.block_server.specs.Receipts.{EndedFor, Receipt}
 use Rattle.block_server.specs.declared.line.Kept.{Kept}
 use Rattle.block_server.specs.declared.line.Kept.TheVariants as keeps
@@ -346,6 +346,7 @@ pub record AreKept (books : Books) (judged : List Judged) : Type 0 where
   pub idle : books.ended ≡ true → (books.pending ≡ []) × (books.current ≡ 0)
   pub counted : AreCounted books judged
   pub numbers : KeepsNumbers books.id books.session books.current books.last books.grants
+  pub rising : KeepsRising books.id books.session books.next.number books.pending books.grants
 
 -- What a part of a turn that judges no entry leaves.
 abbrev pub Keeps : (books books' : Books) → Type 0

@@ -18,6 +18,7 @@ pub mod Granting
 pub mod Judged
 pub mod Judges
 pub mod Kept
+pub mod LoginAnswers
 pub mod Makers
 pub mod Moves
 pub mod Numbers

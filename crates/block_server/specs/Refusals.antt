@@ -18,6 +18,7 @@ use Rattle.block_server.specs.Causes.News.{denied}
 use Rattle.block_server.specs.Entries.{is_answer_len}
 use Rattle.block_server.specs.Granting.{IsGrantedOver, IsSrpAt}
 use Rattle.block_server.specs.Heard.{TellsAll}
+use Rattle.block_server.specs.LoginAnswers.{LoginsMore, login_answers}
 use Rattle.block_server.specs.Makers.{same_unit}
 use Rattle.block_server.specs.Receipts.{is_ended}
 use Rattle.block_server.specs.Serving.{Desk, IsServing, Terms}
@@ -55,7 +56,7 @@ IsExplained Hears unit taken (Lapsed of session login cause outstanding granted)
 
 -- KEPT BETWEEN TURNS -----------------------------------------------------------------------------
 
--- what a unit's refusals go by: its queue's session and what was taken, the entry that waits to be fetched, the requests that are
+-- what a unit's lines are explained by: its queue's session and what was taken, the entry that waits to be fetched, the requests that are
 -- pending, whether nothing more is taken in the session, and the lines
 pub record Basis : Type 0 where
   pub session : ℕ
@@ -64,19 +65,6 @@ pub record Basis : Type 0 where
   pub pending : List Request
   pub ended : Bool
   pub lines : List Grant
-
-abbrev pub basis_at : Unit → (session : ℕ) → List PipeRow → Records → Basis
-basis_at unit session taken records = record {
-  session = session;
-  taken = taken;
-  waiting = unit.waiting;
-  pending = unit.pending.items;
-  ended = is_ended unit.line;
-  lines = records.grants.items;
-}
-
-abbrev pub basis_of : Unit → SiteState → Records → Basis
-basis_of unit site records = basis_at unit site.queue.last_session site.queue.taken records
 
 -- The request came by an SRP entry that was taken in the session: its information unit has the length that this names, and
 -- is to be answered at the address.
@@ -95,22 +83,70 @@ pub record AreExplained (told : Told → Bool) (unit : UnitId) (since : List Gra
   pub lines : basis.lines ≡ since ++ more
   pub each : All (IsExplained (told_to told unit) unit basis.taken) more
 
+-- IN A TURN --------------------------------------------------------------------------------------
+
+-- the same between the steps of a turn, and the answers to requests to log in that were put
+pub record Ledger : Type 0 where
+  pub session : ℕ
+  pub taken : List PipeRow
+  pub waiting : Option Arrival
+  pub pending : List Request
+  pub ended : Bool
+  pub lines : List Grant
+  pub answers : List Entry
+
+abbrev pub basis_in : Ledger → Basis
+basis_in ledger = record {
+  session = ledger.session;
+  taken = ledger.taken;
+  waiting = ledger.waiting;
+  pending = ledger.pending;
+  ended = ledger.ended;
+  lines = ledger.lines;
+}
+
+abbrev pub ledger_at : Unit → (session : ℕ) → List PipeRow → (answers : List Entry) → Records → Ledger
+ledger_at unit session taken answers records = record {
+  session = session;
+  taken = taken;
+  waiting = unit.waiting;
+  pending = unit.pending.items;
+  ended = is_ended unit.line;
+  lines = records.grants.items;
+  answers = answers;
+}
+
+abbrev pub ledger_of : Unit → SiteState → Records → Ledger
+ledger_of unit site records = ledger_at unit site.queue.last_session site.queue.taken (login_answers site.queue.sent) records
+
+-- what stood as the turn began: the lines, and the answers that were put; and the lines behind which causes are asked
+pub record Front : Type 0 where
+  pub since : List Grant
+  pub lines : List Grant
+  pub answers : List Entry
+
+-- Each line behind these has its cause, and each answer to a request to log in that was put in the turn is its line's, or a
+-- rejection.
+pub record AreAccounted (told : Told → Bool) (unit : UnitId) (front : Front) (ledger : Ledger) : Type 0 where
+  pub known : AreExplained told unit front.since (basis_in ledger)
+  pub logins : LoginsMore (told_to told unit) ledger.taken front.answers ledger.answers front.lines ledger.lines
+
 -- This stays so, whatever was told.
-abbrev pub Explains : (old new : Basis) → Type 0
-Explains old new = (told : Told → Bool) (unit : UnitId) (since : List Grant) → AreExplained told unit since old → AreExplained told unit since new
+abbrev pub Explains : (old new : Ledger) → Type 0
+Explains old new = (told : Told → Bool) (unit : UnitId) (front : Front) → AreAccounted told unit front old → AreAccounted told unit front new
 
 -- It stays so where all that came between was told.
-abbrev pub ExplainsBy : (old new : SiteState) → (basis basis' : Basis) → Type 0
-ExplainsBy old new basis basis' =
-    (told : Told → Bool) (unit : UnitId) (since : List Grant) → TellsAll told unit old new → AreExplained told unit since basis → AreExplained told unit since basis'
+abbrev pub ExplainsBy : (old new : SiteState) → (ledger ledger' : Ledger) → Type 0
+ExplainsBy old new ledger ledger' =
+    (told : Told → Bool) (unit : UnitId) (front : Front) → TellsAll told unit old new → AreAccounted told unit front ledger → AreAccounted told unit front ledger'
 
 -- It stays so of a unit whose desk is in order, on these terms; and of one where all that came between was told to it.
-abbrev pub ExplainsOf : Terms → Desk → List Served → (old new : Basis) → Type 0
+abbrev pub ExplainsOf : Terms → Desk → List Served → (old new : Ledger) → Type 0
 ExplainsOf terms desk history old new =
-    IsServing terms desk history → (since : List Grant) → AreExplained terms.told desk.id since old → AreExplained terms.told desk.id since new
+    IsServing terms desk history → (front : Front) → AreAccounted terms.told desk.id front old → AreAccounted terms.told desk.id front new
 
-abbrev pub ExplainsOn : Terms → (old new : SiteState) → Desk → List Served → (basis basis' : Basis) → Type 0
-ExplainsOn terms old new desk history basis basis' = TellsAll terms.told desk.id old new → ExplainsOf terms desk history basis basis'
+abbrev pub ExplainsOn : Terms → (old new : SiteState) → Desk → List Served → (ledger ledger' : Ledger) → Type 0
+ExplainsOn terms old new desk history ledger ledger' = TellsAll terms.told desk.id old new → ExplainsOf terms desk history ledger ledger'
 
 -- The window denied to have an answer written over the oldest request.
 pub record DeniesAnswer (old new : SiteState) (pending : List Request) : Type 0 where
@@ -120,6 +156,8 @@ pub record DeniesAnswer (old new : SiteState) (pending : List Request) : Type 0 
   pub len : ℕ
   pub answers : is_answer_len len ≡ true
   pub denied_is : IsDeniedBetween old new Write front.address len
+
+-- BETWEEN TURNS -----------------------------------------------------------------------------------
 
 abbrev pub basis_seen : Unit → EndState → List Grant → Basis
 basis_seen unit queue grants = record {
@@ -138,3 +176,8 @@ HasExplained told units number unit queue since grants = IfSome (slice_get units
 -- Units of which nothing waits and nothing is pending, whatever their names are, over any queue and behind any lines.
 abbrev pub ExplainNone : List Unit → Type 0
 ExplainNone units = (told : Told → Bool) (number : ℕ) (unit : UnitId) (queue : EndState) (grants : List Grant) → HasExplained told units number unit queue grants grants
+
+-- What a turn of this unit of a server puts of answers to requests to log in.
+abbrev pub AnswersLogins : (told : Told → Bool) → UnitId → (queue queue' : EndState) → (records records' : Records) → Type 0
+AnswersLogins told unit queue queue' records records' =
+    LoginsMore (told_to told unit) queue'.taken (login_answers queue.sent) (login_answers queue'.sent) records.grants.items records'.grants.items

@@ -1,5 +1,5 @@
 // Answering: what is put into the client's queue, and what ends a login.
-ghost use Rattle.std.specs.Prelude.{◌≡◌, ◌≢◌, ◌⊎◌, ◌+◌, ◌<◌, ◌∷◌, ℕ, Bool, List, None, Some, IfOk, OnOk, drop, false, true};
+ghost use Rattle.std.specs.Prelude.{◌≡◌, ◌≢◌, ◌⊎◌, ◌+◌, ◌<◌, ◌∷◌, ◌++◌, ℕ, Bool, List, None, Some, IfOk, OnOk, drop, false, true};
 ghost use Rattle.block_server.specs.Advances.{Advances};
 ghost use Rattle.block_server.specs.Books.{books_at, books_of};
 ghost use Rattle.block_server.specs.Cargo.{KeepsCargo, cargo_at, cargo_of, is_loaded, rows_of};
@@ -7,16 +7,17 @@ ghost use Rattle.block_server.specs.declared.service.Service.{Service};
 ghost use Rattle.vio_num.specs.declared.names.UnitId.{UnitId};
 ghost use Rattle.block_server.specs.Ends.{EndsLogin};
 ghost use Rattle.block_server.specs.Entries.{IsPlain, MayPut, is_answer_len};
-ghost use Rattle.block_server.specs.Serving.{AnswersOnce, AnswersOnceBy, AsNone, IsServing, LeavesRow, SettlesRow, Terms, desk_of};
+ghost use Rattle.block_server.specs.Serving.{AnswersOnce, AnswersOnceBy, AsNone, IsAnswerKept, IsServing, LeavesRow, SettlesRow, Terms, desk_of};
 ghost use Rattle.crq_session.specs.EndState.{EndState};
 ghost use Rattle.block_server.specs.Decided.{EndsBooks};
 ghost use Rattle.block_server.specs.Judges.{Judges};
 ghost use Rattle.block_server.specs.Judged.{Ahead, Keeps, gets_row, is_login, is_logout, keys_of};
+ghost use Rattle.block_server.specs.LoginAnswers.{login_put};
 ghost use Rattle.block_server.specs.Moves.{Passes};
 ghost use Rattle.block_server.specs.Owed.{AreCutOff, HasAnswers, IsUp, KeepsAnswers, KeepsAnswersBy, row_states, owing_of};
 ghost use Rattle.block_server.specs.Receipts.{LinesMore, TakesIn, is_ended, standing_of};
 ghost use Rattle.block_server.specs.Ready.{MeetsFull};
-ghost use Rattle.block_server.specs.Refusals.{DeniesAnswer, Explains, ExplainsBy, ExplainsOf, ExplainsOn, basis_at, basis_of};
+ghost use Rattle.block_server.specs.Refusals.{DeniesAnswer, Explains, ExplainsBy, ExplainsOf, ExplainsOn, ledger_at, ledger_of};
 ghost use Rattle.crq_ring.specs.declared.rows.PipeRow.{PipeRow};
 ghost use Rattle.block_server.specs.Stage.{is_answered};
 ghost use Rattle.block_server.specs.Turns.{IfQuiet};
@@ -61,8 +62,8 @@ pub(crate) fn put_reply<S: Site>(unit: &mut Unit, site: &mut S, reply: Entry) ->
     ensures cargo { (records : Records) → cargo_of unit.new (S.state site.new) records ≡
         cargo_of unit.old (S.state site.old) records }
     ensures refuses { (records : Records) → Explains
-        (basis_of unit.old (S.state site.old) records)
-        (basis_of unit.new (S.state site.new) records) }
+        (ledger_of unit.old (S.state site.old) records)
+        (ledger_of unit.new (S.state site.new) records) }
 {
     match site.send(reply) {
         SendAnswer::Dropped { .. } => {
@@ -277,8 +278,9 @@ pub(crate) fn log_out(unit: &mut Unit, session: u64, records: &mut Records)
         is_loaded unit.old.service.stage ≡ false → KeepsCargo
         (cargo_at unit.old.id unit.old.service shown records.old.history.items)
         (cargo_at unit.new.id unit.new.service shown' records.new.history.items) }
-    ensures refuses { (queue : ℕ) → (taken : List PipeRow) → Explains
-        (basis_at unit.old queue taken records.old) (basis_at unit.new queue taken records.new) }
+    ensures refuses { (queue : ℕ) → (taken : List PipeRow) → (answers : List Entry) → Explains
+        (ledger_at unit.old queue taken answers records.old)
+        (ledger_at unit.new queue taken answers records.new) }
 {
     let login = unit.logins.end();
     records.grants.push_reserved(Grant::Lapsed {
@@ -327,8 +329,8 @@ pub(crate) fn answer<S: Site>(
         (cargo_of unit.new (S.state site.new) records.new) }
     ensures refuses { (terms : Terms) → ExplainsOn terms (S.state site.old) (S.state site.new)
         (desk_of unit.old) records.old.history.items
-        (basis_of unit.old (S.state site.old) records.old)
-        (basis_of unit.new (S.state site.new) records.new) }
+        (ledger_of unit.old (S.state site.old) records.old)
+        (ledger_of unit.new (S.state site.new) records.new) }
 {
     records.make_room()?;
     unit.logins.make_room()?;
@@ -376,8 +378,8 @@ fn copy_answer<S: Site>(
     ensures cargo { KeepsCargo (cargo_of unit.old (S.state site.old) records.old)
         (cargo_of unit.new (S.state site.new) records.new) }
     ensures refuses { ExplainsBy (S.state site.old) (S.state site.new)
-        (basis_of unit.old (S.state site.old) records.old)
-        (basis_of unit.new (S.state site.new) records.new) }
+        (ledger_of unit.old (S.state site.old) records.old)
+        (ledger_of unit.new (S.state site.new) records.new) }
 {
     let Stage::Answer(outcome) = unit.service.stage else {
         return Ok(());
@@ -464,8 +466,8 @@ fn put_answer<S: Site>(unit: &mut Unit, site: &mut S, records: &mut Records, out
         cargo_of unit.old (S.state site.old) records.old }
     ensures refuses { (terms : Terms) → ExplainsOf terms
         (desk_of unit.old) records.old.history.items
-        (basis_of unit.old (S.state site.old) records.old)
-        (basis_of unit.new (S.state site.new) records.new) }
+        (ledger_of unit.old (S.state site.old) records.old)
+        (ledger_of unit.new (S.state site.new) records.new) }
 {
     let Some(request) = unit.pending.front() else {
         return;
@@ -519,8 +521,8 @@ pub(crate) fn put_kept<S: Site>(
         cargo_of unit.old (S.state site.old) records.old }
     ensures refuses { (terms : Terms) → ExplainsOf terms
         (desk_of unit.old) records.old.history.items
-        (basis_of unit.old (S.state site.old) records.old)
-        (basis_of unit.new (S.state site.new) records.new) }
+        (ledger_of unit.old (S.state site.old) records.old)
+        (ledger_of unit.new (S.state site.new) records.new) }
 {
     let Some(kept) = unit.line.kept else {
         return Ok(Next::Entry);
@@ -570,11 +572,11 @@ fn settle(unit: &mut Unit, session: u64, records: &mut Records, outcome: Outcome
         is_ended unit.old.line ≡ false → IsUp q → HasAnswers (owing_of unit.old q records.old) →
         HasAnswers (owing_of unit.new q records.new) }
     ensures rows { rows_of records.new.history.items ≡ rows_of records.old.history.items }
-    ensures refuses { (terms : Terms) → (taken : List PipeRow) →
-        unit.old.service.stage ≡ Stage.Entry outcome →
+    ensures refuses { (terms : Terms) → (taken : List PipeRow) → (answers : List Entry) →
+        (entry : Entry) → IsAnswerKept (desk_of unit.old) entry outcome →
         ExplainsOf terms (desk_of unit.old) records.old.history.items
-        (basis_at unit.old session taken records.old)
-        (basis_at unit.new session taken records.new) }
+        (ledger_at unit.old session taken answers records.old)
+        (ledger_at unit.new session taken (answers ++ login_put entry) records.new) }
 {
     match outcome {
         Outcome::Granted { number } => {

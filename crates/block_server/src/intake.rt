@@ -3,7 +3,7 @@ ghost use Rattle.block_server.specs.Cargo.{KeepsCargo, cargo_at, cargo_of};
 ghost use Rattle.std.specs.Prelude.{◌≡◌, ◌⊎◌, ◌↔◌, ◌+◌, ◌<◌, ◌≤◌, ℕ, List, None, Some, IfOk, IsTrue, OnOk, false, true, length, slice_index};
 ghost use Rattle.std.specs.VecDeque.{deque_len, deque_capacity};
 ghost use Rattle.block_server.specs.Records.{HasLineRoom};
-ghost use Rattle.block_server.specs.Refusals.{Explains, ExplainsBy, basis_at, basis_of};
+ghost use Rattle.block_server.specs.Refusals.{Explains, ExplainsBy, ledger_at, ledger_of};
 ghost use Rattle.block_server.specs.Granting.{IsSrpAt};
 ghost use Rattle.crq_ring.specs.declared.rows.PipeRow.{PipeRow};
 ghost use Rattle.block_server.specs.Advances.{Advances};
@@ -11,6 +11,7 @@ ghost use Rattle.block_server.specs.Ready.{Idles};
 ghost use Rattle.block_server.specs.Turns.{IfQuiet, StaysMoved, under_way};
 ghost use Rattle.block_server.specs.Waits.{AsNext, EndsIntake, FindsNothing, MeetsUse, StaysAgreed};
 ghost use Rattle.block_server.specs.Serving.{AnswersOnceBy, AnswersOnceIf, AsNone, desk_of};
+ghost use Rattle.block_server.specs.LoginAnswers.{login_answers};
 ghost use Rattle.block_server.specs.Receipts.{LinesMore, MayTake, Receipt, TakesEntry, TakesIn, is_ended, standing_of};
 ghost use Rattle.block_server.specs.SiteState.{SiteState};
 ghost use Rattle.block_server.specs.Books.{books_at, books_of};
@@ -39,7 +40,7 @@ use arrayvec::ArrayVec;
 use crq_session::PollAnswer;
 use srp_credits::CreditFault;
 use srp_iu::{Iu, read_iu, spelled_bytes_are_read, tag_of};
-use vio_num::{Kind, Lapse, NoMemory};
+use vio_num::{Entry, Kind, Lapse, NoMemory};
 
 /// As many requests as a unit has pending.
 const MOST_PENDING: usize = 256;
@@ -117,8 +118,8 @@ pub(crate) fn take_in<S: Site>(
         (cargo_of unit.new (S.state site.new) records.new) }
     ensures refuses { is_ended unit.old.line ≡ false →
         ExplainsBy (S.state site.old) (S.state site.new)
-        (basis_of unit.old (S.state site.old) records.old)
-        (basis_of unit.new (S.state site.new) records.new) }
+        (ledger_of unit.old (S.state site.old) records.old)
+        (ledger_of unit.new (S.state site.new) records.new) }
 {
     let next = receive_waiting(unit, site, records)?;
     if next != Next::Entry {
@@ -169,8 +170,8 @@ fn receive_waiting<S: Site>(
     ensures cargo { KeepsCargo (cargo_of unit.old (S.state site.old) records.old)
         (cargo_of unit.new (S.state site.new) records.new) }
     ensures refuses { ExplainsBy (S.state site.old) (S.state site.new)
-        (basis_of unit.old (S.state site.old) records.old)
-        (basis_of unit.new (S.state site.new) records.new) }
+        (ledger_of unit.old (S.state site.old) records.old)
+        (ledger_of unit.new (S.state site.new) records.new) }
 {
     let Some(arrival) = unit.waiting else {
         return Ok(Next::Entry);
@@ -198,8 +199,9 @@ fn make_room(unit: &mut Unit, records: &mut Records) -> Result<(), NoMemory>
     ensures cargo { (shown : ℕ → ℕ) →
         cargo_at unit.new.id unit.new.service shown records.new.history.items ≡
         cargo_at unit.old.id unit.old.service shown records.old.history.items }
-    ensures refuses { (queue : ℕ) → (taken : List PipeRow) → Explains
-        (basis_at unit.old queue taken records.old) (basis_at unit.new queue taken records.new) }
+    ensures refuses { (queue : ℕ) → (taken : List PipeRow) → (answers : List Entry) → Explains
+        (ledger_at unit.old queue taken answers records.old)
+        (ledger_at unit.new queue taken answers records.new) }
 {
     unit.pending.reserve(1)?;
     records.make_room()
@@ -239,8 +241,8 @@ fn take_one<S: Site>(unit: &mut Unit, site: &mut S, records: &mut Records) -> Re
         (cargo_of unit.new (S.state site.new) records.new) }
     ensures refuses { MayTake (standing_of unit.old) →
         ExplainsBy (S.state site.old) (S.state site.new)
-        (basis_of unit.old (S.state site.old) records.old)
-        (basis_of unit.new (S.state site.new) records.new) }
+        (ledger_of unit.old (S.state site.old) records.old)
+        (ledger_of unit.new (S.state site.new) records.new) }
 {
     site.reserve(2)?;
     let PollAnswer::Got { number, entry } = site.poll() else {
@@ -304,9 +306,10 @@ fn take_command<S: Site>(
     ensures refuses { (before : SiteState) → MayTake (standing_of unit.old) →
         first_byte arrival.entry ≡ 0x80 →
         TakesEntry before (S.state site.old) arrival.number arrival.entry →
+        login_answers (S.state site.old).queue.sent ≡ login_answers before.queue.sent →
         ExplainsBy (S.state site.old) (S.state site.new)
-        (basis_of unit.old before records.old)
-        (basis_of unit.new (S.state site.new) records.new) }
+        (ledger_of unit.old before records.old)
+        (ledger_of unit.new (S.state site.new) records.new) }
 {
     match arrival.entry.format() {
         SRP => {
@@ -355,8 +358,8 @@ fn receive<S: Site>(
         (cargo_of unit.new (S.state site.new) records.new) }
     ensures refuses { unit.old.waiting ≡ Some arrival →
         ExplainsBy (S.state site.old) (S.state site.new)
-        (basis_of unit.old (S.state site.old) records.old)
-        (basis_of unit.new (S.state site.new) records.new) }
+        (ledger_of unit.old (S.state site.old) records.old)
+        (ledger_of unit.new (S.state site.new) records.new) }
 {
     let session = site.session();
     if !unit.line.is_up() {
@@ -413,11 +416,12 @@ fn judge(
     ensures cargo { (shown : ℕ → ℕ) → KeepsCargo
         (cargo_at unit.old.id unit.old.service shown records.old.history.items)
         (cargo_at unit.new.id unit.new.service shown records.new.history.items) }
-    ensures refuses { (queue : ℕ) → (taken : List PipeRow) →
+    ensures refuses { (queue : ℕ) → (taken : List PipeRow) → (answers : List Entry) →
         is_ended unit.old.line ≡ false → unit.old.waiting ≡ None →
         IsSrpAt taken queue arrival.number arrival.entry →
         length bytes.now ≡ iu_length arrival.entry → Explains
-        (basis_at unit.old queue taken records.old) (basis_at unit.new queue taken records.new) }
+        (ledger_at unit.old queue taken answers records.old)
+        (ledger_at unit.new queue taken answers records.new) }
 {
     match judge_unit(&mut unit.logins, bytes) {
         Verdict::Ignored => Next::Entry,

@@ -12,7 +12,7 @@ ghost use Rattle.block_server.specs.Makers.{AreNamed};
 ghost use Rattle.block_server.specs.Owed.{HaveAnswers, OweNone};
 ghost use Rattle.block_server.specs.Receipts.{AwaitNone, HasIntake, LinesMore, Receipt};
 ghost use Rattle.block_server.specs.Ready.{AgreesAt, AreDown, UnitWaits};
-ghost use Rattle.block_server.specs.Refusals.{HasExplained, ExplainNone};
+ghost use Rattle.block_server.specs.Refusals.{AnswersLogins, HasExplained, ExplainNone};
 ghost use Rattle.block_server.specs.Turns.{IsStill, way_of};
 ghost use Rattle.block_server.specs.SiteState.{AreReady};
 ghost use Rattle.block_server.specs.Serving.{Terms};
@@ -203,6 +203,14 @@ impl<B: Blocks> Server<B> {
             since self.old.records.grants.items → HasExplained
             told self.new.units.items unit (O.state own.old).place.unit (C.state crq.new)
             since self.new.records.grants.items }
+        ensures logins { (told : Told → Bool) → Tells told (O.state own.old).place.unit
+            R.is_shared (O.state own.new) (R.state client.old) (R.state client.new)
+            self.old.copies.items self.new.copies.items → AreInOrder told
+            self.old.disk.count self.old.partition self.old.units.items self.old.records →
+            (since : List Grant) → HasExplained
+            told self.old.units.items unit (O.state own.old).place.unit (C.state crq.old)
+            since self.old.records.grants.items → AnswersLogins told (O.state own.old).place.unit
+            (C.state crq.old) (C.state crq.new) self.old.records self.new.records }
     {
         let id = UnitId {
             partition: self.partition,

@@ -15,7 +15,7 @@ ghost use Rattle.block_server.specs.Receipts.{TakesIn, standing_of};
 ghost use Rattle.block_server.specs.Orders.{IsCauseOf, IsCodeOf};
 ghost use Rattle.block_server.specs.Records.{AddsRow};
 ghost use Rattle.block_server.specs.Responses.{GrantsLogin};
-ghost use Rattle.block_server.specs.Refusals.{ExplainsOn, basis_of};
+ghost use Rattle.block_server.specs.Refusals.{ExplainsOn, ledger_of};
 ghost use Rattle.block_server.specs.Serving.{AnswersOnce, AnswersOnceIf, AnswersOnceOn, IsServing, desk_at, desk_of, held, terms_of};
 ghost use Rattle.block_server.specs.Heard.{TellsAll, heard_between};
 ghost use Rattle.tce_window.specs.declared.answers.Right.TheVariants.{Write};
@@ -88,8 +88,8 @@ pub(crate) fn serve<S: Site, B: Blocks>(
         IsAccounted told (cargo_of unit.new (S.state site.new) records.new) }
     ensures refuses { (told : Told → Bool) → ExplainsOn (terms_of told disk.old.count)
         (S.state site.old) (S.state site.new) (desk_of unit.old) records.old.history.items
-        (basis_of unit.old (S.state site.old) records.old)
-        (basis_of unit.new (S.state site.new) records.new) }
+        (ledger_of unit.old (S.state site.old) records.old)
+        (ledger_of unit.new (S.state site.new) records.new) }
 {
     let Some(request) = unit.pending.front() else {
         return Ok(());

@@ -11,6 +11,7 @@ ghost use Rattle.block_server.specs.Answering.{responses};
 ghost use Rattle.block_server.specs.Cargo.{AreShown, FetchesPart, SendsPart, data_bytes};
 ghost use Rattle.block_server.specs.Delivers.{DeliversOne, FetchesTo};
 ghost use Rattle.block_server.specs.Entries.{MayPut};
+ghost use Rattle.block_server.specs.LoginAnswers.{login_answers};
 ghost use Rattle.block_server.specs.Moves.{FetchesOne, Passes};
 ghost use Rattle.block_server.specs.SiteState.{IsDeniedBetween, SiteState, SameWindows};
 ghost use Rattle.block_server.specs.Waits.{MeetsUse};
@@ -65,6 +66,8 @@ pub(crate) trait Site {
         ensures stands { OnNotRegistered result ((state self.old).queue.registered ≡ true) }
         ensures plain { responses (state self.new).queue.sent ≡
             responses (state self.old).queue.sent }
+        ensures logins { login_answers (state self.new).queue.sent ≡
+            login_answers (state self.old).queue.sent }
         ensures spare { (state self.old).queue.spare ≤ (state self.new).queue.spare + 1 }
         ensures rest { OnlyRegisters link_shared (state self.old).queue (state self.new).queue }
         ensures windows { SameWindows (state self.old) (state self.new) }
@@ -82,6 +85,8 @@ pub(crate) trait Site {
             (OnlyReserves (state self.old).queue (state self.new).queue) }
         ensures plain { responses (state self.new).queue.sent ≡
             responses (state self.old).queue.sent }
+        ensures logins { login_answers (state self.new).queue.sent ≡
+            login_answers (state self.old).queue.sent }
         ensures spare { (state self.old).queue.spare ≤ (state self.new).queue.spare + 1 }
         ensures rest { OnlyFrees link_shared (state self.old).queue (state self.new).queue }
         ensures windows { SameWindows (state self.old) (state self.new) }
@@ -135,6 +140,8 @@ pub(crate) trait Site {
             (StillKept link_shared (state self.old).queue (state self.new).queue) }
         ensures plain { responses (state self.new).queue.sent ≡
             responses (state self.old).queue.sent }
+        ensures logins { login_answers (state self.new).queue.sent ≡
+            login_answers (state self.old).queue.sent }
         ensures spare { (state self.old).queue.spare ≤ (state self.new).queue.spare + 1 }
         ensures rest { OnlyPushes link_shared (state self.old).queue (state self.new).queue }
         ensures windows { SameWindows (state self.old) (state self.new) }

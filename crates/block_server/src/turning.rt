@@ -12,7 +12,7 @@ ghost use Rattle.block_server.specs.Owed.{KeepsAnswers, KeepsAnswersAll};
 ghost use Rattle.block_server.specs.Receipts.{TakesIn, is_ended, standing_of};
 ghost use Rattle.block_server.specs.Heard.{TellsAll};
 ghost use Rattle.block_server.specs.Ready.{Agrees, Idles, MeetsFull, MeetsSender};
-ghost use Rattle.block_server.specs.Refusals.{Explains, ExplainsOn, basis_of};
+ghost use Rattle.block_server.specs.Refusals.{Explains, ExplainsOn, ledger_of};
 ghost use Rattle.block_server.specs.Turns.{IfQuiet, IsQuietTurn};
 ghost use Rattle.block_server.specs.Waits.{AsNext, IsIdle, PassesEvent, StandsOpen, StaysAgreed, StopsOpening};
 
@@ -67,8 +67,8 @@ pub(crate) fn turn<S: Site, B: Blocks>(
         IsAccounted told (cargo_of unit.new (S.state site.new) records.new) }
     ensures refuses { (told : Told → Bool) → ExplainsOn (terms_of told disk.old.count)
         (S.state site.old) (S.state site.new) (desk_of unit.old) records.old.history.items
-        (basis_of unit.old (S.state site.old) records.old)
-        (basis_of unit.new (S.state site.new) records.new) }
+        (ledger_of unit.old (S.state site.old) records.old)
+        (ledger_of unit.new (S.state site.new) records.new) }
 {
     unit.moved = false;
     steps(unit, site, records, disk)?;
@@ -115,8 +115,8 @@ fn steps<S: Site, B: Blocks>(
         IsAccounted told (cargo_of unit.new (S.state site.new) records.new) }
     ensures refuses { (told : Told → Bool) → ExplainsOn (terms_of told disk.old.count)
         (S.state site.old) (S.state site.new) (desk_of unit.old) records.old.history.items
-        (basis_of unit.old (S.state site.old) records.old)
-        (basis_of unit.new (S.state site.new) records.new) }
+        (ledger_of unit.old (S.state site.old) records.old)
+        (ledger_of unit.new (S.state site.new) records.new) }
 {
     if open_line(unit, site)? == Next::End {
         return Ok(());
@@ -159,8 +159,8 @@ fn open_line<S: Site>(unit: &mut Unit, site: &mut S) -> Result<Next, NoMemory>
     ensures cargo { (records : Records) → cargo_of unit.new (S.state site.new) records ≡
         cargo_of unit.old (S.state site.old) records }
     ensures refuses { (records : Records) → Explains
-        (basis_of unit.old (S.state site.old) records)
-        (basis_of unit.new (S.state site.new) records) }
+        (ledger_of unit.old (S.state site.old) records)
+        (ledger_of unit.new (S.state site.new) records) }
 {
     site.reserve(FIRST_CALLS)?;
     if push_event(unit, site) == Next::End {
@@ -199,8 +199,8 @@ fn push_event<S: Site>(unit: &mut Unit, site: &mut S) -> Next
     ensures cargo { (records : Records) → cargo_of unit.new (S.state site.new) records ≡
         cargo_of unit.old (S.state site.old) records }
     ensures refuses { (records : Records) → Explains
-        (basis_of unit.old (S.state site.old) records)
-        (basis_of unit.new (S.state site.new) records) }
+        (ledger_of unit.old (S.state site.old) records)
+        (ledger_of unit.new (S.state site.new) records) }
 {
     match site.push_event() {
         EventAnswer::Nothing => Next::Entry,
@@ -235,8 +235,8 @@ fn free_closed<S: Site>(unit: &mut Unit, site: &mut S) -> Next
     ensures cargo { (records : Records) → cargo_of unit.new (S.state site.new) records ≡
         cargo_of unit.old (S.state site.old) records }
     ensures refuses { (records : Records) → Explains
-        (basis_of unit.old (S.state site.old) records)
-        (basis_of unit.new (S.state site.new) records) }
+        (ledger_of unit.old (S.state site.old) records)
+        (ledger_of unit.new (S.state site.new) records) }
 {
     if !unit.line.closing {
         return Next::Entry;
@@ -270,8 +270,8 @@ fn free<S: Site>(unit: &mut Unit, site: &mut S) -> Next
     ensures cargo { (records : Records) → cargo_of unit.new (S.state site.new) records ≡
         cargo_of unit.old (S.state site.old) records }
     ensures refuses { (records : Records) → unit.old.line.closing ≡ true → Explains
-        (basis_of unit.old (S.state site.old) records)
-        (basis_of unit.new (S.state site.new) records) }
+        (ledger_of unit.old (S.state site.old) records)
+        (ledger_of unit.new (S.state site.new) records) }
 {
     match site.free() {
         FreeAnswer::Busy { .. } => Next::End,
@@ -314,8 +314,8 @@ fn register<S: Site>(unit: &mut Unit, site: &mut S)
     ensures cargo { (records : Records) → cargo_of unit.new (S.state site.new) records ≡
         cargo_of unit.old (S.state site.old) records }
     ensures refuses { (records : Records) → Explains
-        (basis_of unit.old (S.state site.old) records)
-        (basis_of unit.new (S.state site.new) records) }
+        (ledger_of unit.old (S.state site.old) records)
+        (ledger_of unit.new (S.state site.new) records) }
 {
     match site.register() {
         RegAnswer::Success => begin(unit, site),
@@ -346,8 +346,8 @@ fn begin<S: Site>(unit: &mut Unit, site: &mut S)
     ensures cargo { (records : Records) → cargo_of unit.new (S.state site.new) records ≡
         cargo_of unit.old (S.state site.old) records }
     ensures refuses { (records : Records) → is_ended unit.old.line ≡ true → Explains
-        (basis_of unit.old (S.state site.old) records)
-        (basis_of unit.new (S.state site.new) records) }
+        (ledger_of unit.old (S.state site.old) records)
+        (ledger_of unit.new (S.state site.new) records) }
 {
     unit.moved = true;
     if let Some(initialize) = reply_of(unit.line.handshake.registered()) {

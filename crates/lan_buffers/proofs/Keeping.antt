@@ -1,5 +1,5 @@
 -- What a post, a delivery, a harvest and a begin leave of what a port keeps.
-use Rattle.std.proofs.Common.{◌≡◌, ℕ, ◌+◌, ◌<◌, ◌==◌, Bool, List, [], ◌∷◌, ◌++◌, if◌then◌else◌, length, drop, filter, Some, None, slice_get, refl, sym, ◌∙◌, ap, subst, drop_of_length-le, le_refl}
+use Rattle.std.proofs.Common.{◌≡◌, ℕ, ◌+◌, ◌<◌, ◌≤◌, ◌==◌, Bool, List, [], ◌∷◌, ◌++◌, if◌then◌else◌, length, drop, filter, Some, None, slice_get, refl, sym, ◌∙◌, ap, subst, drop_of_length-le, le_refl}
 use Rattle.vio_num.specs.declared.entry.Entry.{Entry}
 use Rattle.lan_buffers.specs.declared.rows.PostRow.{PostRow}
 use Rattle.lan_buffers.specs.declared.rows.DeliverRow.{DeliverRow}
@@ -12,7 +12,7 @@ use Rattle.tce_window.specs.Held.{held_len}
 use Rattle.lan_buffers.specs.Calls.{pool, IsSmallest, Chooses}
 use Rattle.lan_buffers.specs.Present.{IsPresent, KeepsPort}
 use Rattle.lan_buffers.proofs.Pooling.{by_eqb}
-use Rattle.lan_buffers.proofs.Pushing.{own_row, other_row, present_push, present_begin}
+use Rattle.lan_buffers.proofs.Pushing.{begun_by, own_row, other_row, present_push, present_begin}
 use Rattle.lan_buffers.proofs.Lawful.{law_post, law_harvest, law_deliver, sizes_push, waits_post_own, waits_post_other, waits_deliver_own, waits_deliver_other, next_of, post_of, one_length}
 
 abbrev posts_in : ℕ → List PostRow → List PostRow
@@ -26,11 +26,11 @@ reads_in q reads = filter (λ row. row.session == q) reads
 
 -- a buffer was posted
 pub kept_post : (slots last : ℕ) (posts : List PostRow) (posts_from : ℕ) (rows : List DeliverRow) (rows_from : ℕ) (reads : List HarvestRow) (reads_from : ℕ) (pools pools' : PoolsValue) (post : PostRow)
-    → KeepsPort slots last posts posts_from rows rows_from reads reads_from pools → post.session ≡ last
+    → KeepsPort slots last posts posts_from rows rows_from reads reads_from pools → post.session ≡ last → 1 ≤ last
     → length (filter (λ row. row.session == last) posts) < length (filter (λ row. row.session == last) reads) + slots
     → Adds pools (post_len post) (length (filter (λ row. row.session == last) posts)) pools'
     → KeepsPort slots last (posts ++ post ∷ []) posts_from rows rows_from reads reads_from pools'
-kept_post slots last posts posts_from rows rows_from reads reads_from pools pools' post kept own room adds =
+kept_post slots last posts posts_from rows rows_from reads reads_from pools pools' post kept own begun room adds =
     let here : filter (λ row. row.session == last) (posts ++ post ∷ []) ≡ posts_in last posts ++ post ∷ [] = own_row (λ row. row.session) last posts post own in
     let law : IsLawfulSession slots (record { posts = posts_in last posts; deliveries = rows_in last rows; harvests = reads_in last reads }) = kept.sessions last in
     record {
@@ -41,7 +41,7 @@ kept_post slots last posts posts_from rows rows_from reads reads_from pools pool
           (law_post slots (posts_in last posts) (rows_in last rows) (reads_in last reads) post room law)))
           (λ e. subst (λ l. IsLawfulSession slots (record { posts = l; deliveries = rows_in q rows; harvests = reads_in q reads }))
           (sym (other_row (λ row. row.session) q posts post (λ f. e (sym own ∙ f)))) (kept.sessions q));
-      posts_at = present_push (λ row. row.session) last posts_from posts post own kept.posts_at;
+      posts_at = present_push (λ row. row.session) last posts_from posts post own begun kept.posts_at;
       rows_at = kept.rows_at;
       reads_at = kept.reads_at;
       pools_are = subst (λ l. KeepsPools pools' l (rows_in last rows)) (sym here) (record {
@@ -56,11 +56,11 @@ kept_post slots last posts posts_from rows rows_from reads reads_from pools pool
 
 -- a delivery took the oldest post of a length
 pub kept_deliver : (slots last : ℕ) (posts : List PostRow) (posts_from : ℕ) (rows : List DeliverRow) (rows_from : ℕ) (reads : List HarvestRow) (reads_from : ℕ) (pools pools' : PoolsValue) (size : ℕ) (row : DeliverRow)
-    → KeepsPort slots last posts posts_from rows rows_from reads reads_from pools → row.session ≡ last
+    → KeepsPort slots last posts posts_from rows rows_from reads reads_from pools → row.session ≡ last → 1 ≤ last
     → slice_get (waiting size (filter (λ row. row.session == last) posts) (filter (λ row. row.session == last) rows)) 0 ≡ Some row.post
     → Takes pools size pools'
     → KeepsPort slots last posts posts_from (rows ++ row ∷ []) rows_from reads reads_from pools'
-kept_deliver slots last posts posts_from rows rows_from reads reads_from pools pools' size row kept own oldest takes =
+kept_deliver slots last posts posts_from rows rows_from reads reads_from pools pools' size row kept own begun oldest takes =
     let here : filter (λ row. row.session == last) (rows ++ row ∷ []) ≡ rows_in last rows ++ row ∷ [] = own_row (λ row. row.session) last rows row own in
     let law : IsLawfulSession slots (record { posts = posts_in last posts; deliveries = rows_in last rows; harvests = reads_in last reads }) = kept.sessions last in
     let shown = next_of size (posts_in last posts) (rows_in last rows) row.post oldest in
@@ -74,7 +74,7 @@ kept_deliver slots last posts posts_from rows rows_from reads reads_from pools p
           (λ e. subst (λ l. IsLawfulSession slots (record { posts = posts_in q posts; deliveries = l; harvests = reads_in q reads }))
           (sym (other_row (λ row. row.session) q rows row (λ f. e (sym own ∙ f)))) (kept.sessions q));
       posts_at = kept.posts_at;
-      rows_at = present_push (λ row. row.session) last rows_from rows row own kept.rows_at;
+      rows_at = present_push (λ row. row.session) last rows_from rows row own begun kept.rows_at;
       reads_at = kept.reads_at;
       pools_are = subst (λ l. KeepsPools pools' (posts_in last posts) l) (sym here) (record {
         sizes = takes.sizes ∙ kept.pools_are.sizes;
@@ -104,7 +104,7 @@ kept_harvest slots last posts posts_from rows rows_from reads reads_from pools r
           (sym (other_row (λ row. row.session) q reads read (λ f. e (sym own ∙ f)))) (kept.sessions q));
       posts_at = kept.posts_at;
       rows_at = kept.rows_at;
-      reads_at = present_push (λ row. row.session) last reads_from reads read own kept.reads_at;
+      reads_at = present_push (λ row. row.session) last reads_from reads read own (begun_by (λ row. row.session) last (length (reads_in last reads)) rows row kept.rows_at.order.begun made) kept.reads_at;
       pools_are = kept.pools_are;
     }
 

@@ -1,8 +1,9 @@
 -- What a row that is put behind the others leaves of lists and of their fronts.
-use Rattle.std.proofs.Common.{◌≡◌, ℕ, ◌+◌, ◌<◌, ◌≤◌, ◌==◌, zero, suc, List, [], ◌∷◌, ◌++◌, length, drop, filter, All, Some, None, slice_get, append-nil, length-append, refl, sym, ◌∙◌, ap, arith, drop_of_length-le, le_refl}
-use Rattle.std.proofs.lemmas.Bool.{eq-eqb, ne_eqb}
+use Rattle.std.proofs.Common.{◌≡◌, ℕ, ◌+◌, ◌<◌, ◌≤◌, ◌==◌, zero, suc, Bool, true, false, cond, List, [], ◌∷◌, ◌++◌, length, drop, filter, All, Some, None, slice_get, append-nil, length-append, refl, sym, ◌∙◌, ap, subst, arith, drop_of_length-le, le_refl}
+use Rattle.std.proofs.lemmas.Bool.{eq-eqb, eqb-true, ne_eqb}
 use Rattle.std.proofs.lemmas.List.{append_assoc, drop-append-le, drop-drop}
 use Rattle.std.proofs.lemmas.List.Elements.{filter-append}
+use Rattle.std.proofs.lemmas.List.Quantifiers.{all_pairs_push}
 use Rattle.vio_num.specs.Words.{Begins}
 use Rattle.lan_buffers.specs.Present.{IsPresent}
 use Rattle.lan_buffers.proofs.Pooling.{all_push}
@@ -67,13 +68,33 @@ other_row {X} f q rows row other =
     none : filter (λ r. f r == q) (row ∷ []) ≡ []
     none = rw (ne_eqb (f row) q other) refl
 
-pub present_push : {X : Type 0} (f : X → ℕ) (last from : ℕ) (rows : List X) (row : X) → f row ≡ last
+pub present_push : {X : Type 0} (f : X → ℕ) (last from : ℕ) (rows : List X) (row : X) → f row ≡ last → 1 ≤ last
     → IsPresent f last from rows → IsPresent f last from (rows ++ row ∷ [])
-present_push f last from rows row own p = record {
+present_push f last from rows row own begun p = record {
   within = omega (arith, p.within, length-append rows (row ∷ []));
   present = own_row f last rows row own ∙ ap (λ l. l ++ row ∷ []) p.present ∙ sym (drop-append-le from rows (row ∷ []) p.within);
-  none_later = all_push (λ r. f r ≤ last) rows row p.none_later (omega (arith, own));
+  order = record {
+    begun = all_push (λ r. 1 ≤ f r) rows row p.order.begun (omega (arith, own, begun));
+    rising = all_pairs_push (λ a b. f a ≤ f b) rows row p.order.rising (λ k d lt. omega (arith, own, p.order.none_later k d lt));
+    none_later = all_push (λ r. f r ≤ last) rows row p.order.none_later (omega (arith, own));
+  };
 }
+
+-- a row of the last session says that there is one
+pub begun_by : {X : Type 0} (f : X → ℕ) (last n : ℕ) (rows : List X) (row : X) → All (λ r. 1 ≤ f r) rows
+    → slice_get (filter (λ r. f r == last) rows) n ≡ Some row → 1 ≤ last
+begun_by {X} f last n [] row begun has = absurd (slice_get_nothing n has)
+  where
+    slice_get_nothing : (n : ℕ) → slice_get {X = X} [] n ≡ Some row → ⊥
+    slice_get_nothing zero e = cc (e)
+    slice_get_nothing (suc n) e = slice_get_nothing n e
+begun_by {X} f last n (first ∷ rows) row begun has =
+    at (f first == last) refl (begun_by f last n rows row (λ k d lt. begun (suc k) d (omega (arith, lt)))) has
+  where
+    at : (b : Bool) → (f first == last) ≡ b → (slice_get (filter (λ r. f r == last) rows) n ≡ Some row → 1 ≤ last)
+        → slice_get (cond b (first ∷ filter (λ r. f r == last) rows) (filter (λ r. f r == last) rows)) n ≡ Some row → 1 ≤ last
+    at true e rest got = subst (λ k. 1 ≤ k) (eqb-true (f first) last e) (begun 0 first (omega arith))
+    at false e rest got = rest got
 
 no_rows : {X : Type 0} (f : X → ℕ) (q : ℕ) (rows : List X) → All (λ r. f r < q) rows → filter (λ r. f r == q) rows ≡ []
 no_rows f q [] before = refl
@@ -85,6 +106,6 @@ pub present_begin : {X : Type 0} (f : X → ℕ) (last from : ℕ) (rows : List 
     → IsPresent f last from rows → IsPresent f (last + 1) (length rows) rows
 present_begin f last from rows p = record {
   within = omega arith;
-  present = no_rows f (last + 1) rows (λ k d lt. omega (arith, p.none_later k d lt)) ∙ sym (drop_of_length-le rows (le_refl (length rows)));
-  none_later = λ k d lt. omega (arith, p.none_later k d lt);
+  present = no_rows f (last + 1) rows (λ k d lt. omega (arith, p.order.none_later k d lt)) ∙ sym (drop_of_length-le rows (le_refl (length rows)));
+  order = record { begun = p.order.begun; rising = p.order.rising; none_later = λ k d lt. omega (arith, p.order.none_later k d lt) };
 }

@@ -1,6 +1,7 @@
 -- A port of the logical LAN (LoPAR, "Logical LAN"): what it keeps of its sessions, and the port
 -- law.
 use Rattle.std.specs.Prelude.{ℕ, ◌+◌, ◌≤◌, ◌<◌, ◌==◌, List, [], ◌∷◌, All, Option, Some, None, length, map, filter, slice_get, if◌then◌else◌}
+use Rattle.std.specs.List.{AllPairs}
 use Rattle.vio_num.specs.declared.names.UnitId.{UnitId}
 use Rattle.vio_num.specs.declared.entry.Entry.{Entry}
 use Rattle.tce_window.specs.Held.{held_len}
@@ -27,6 +28,12 @@ pub record PortValue : Type 0 where
   pub drop_counts : List ℕ
   -- the begins, posts and harvests for which room is reserved
   pub spare : ℕ
+
+-- Rows stand by the sessions that they name, which count from 1 to the last.
+pub record StandBySession {X : Type 0} (session_of : X → ℕ) (last : ℕ) (rows : List X) : Type 0 where
+  pub begun : All (λ row. 1 ≤ session_of row) rows
+  pub rising : AllPairs (λ a b. session_of a ≤ session_of b) rows
+  pub none_later : All (λ row. session_of row ≤ last) rows
 
 -- the rows of one session
 pub record Session : Type 0 where

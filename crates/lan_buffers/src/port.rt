@@ -7,7 +7,7 @@ ghost use Rattle.lan_buffers.specs.Buffer.{IsBuffer, buffer_len};
 ghost use Rattle.lan_buffers.specs.Calls.{IsOpen, closed_port, CountsSession, IsFull, IsSmallest, IsTold, TakesBlank, drops_now, pool, BeginsSession, AcceptsTo, HasNoPlace, Posts, Reads, ReadsFrame, ReadsBlank, ReadsNothing, FindsBuffer, FindsNoSize, FindsNoBuffer, Delivers, OnlyDelivers, Drops, GivesBlank, FindsPageInUse, frame_address};
 ghost use Rattle.lan_buffers.specs.Kept.{Takes, waits};
 ghost use Rattle.lan_buffers.specs.Pools.{sizes_of};
-ghost use Rattle.lan_buffers.specs.Port.{IsLawfulPort, last_session, now};
+ghost use Rattle.lan_buffers.specs.Port.{IsLawfulPort, StandBySession, last_session, now};
 
 use crate::answers::{AddAnswer, Deliver, Harvest};
 use crate::buffer::{FRAME_OFFSET, buffer_address, buffer_len, frame_told, is_buffer, toggle_of};
@@ -488,21 +488,24 @@ impl PlainPort {
 
     /// The buffers that were posted, in the order of time.
     pub fn posts(&self) -> &[PostRow]
-        ensures { result.now ≡ self.now.posts }
+        ensures rows { result.now ≡ self.now.posts }
+        ensures order { StandBySession (λ (row : PostRow). row.session) (last_session self.now) result.now }
     {
         &self.posts
     }
 
     /// The frames and blanks that took a buffer, in the order of time.
     pub fn deliveries(&self) -> &[DeliverRow]
-        ensures { result.now ≡ self.now.deliveries }
+        ensures rows { result.now ≡ self.now.deliveries }
+        ensures order { StandBySession (λ (row : DeliverRow). row.session) (last_session self.now) result.now }
     {
         &self.deliveries
     }
 
     /// The receive entries that were read, in the order of time.
     pub fn harvests(&self) -> &[HarvestRow]
-        ensures { result.now ≡ self.now.harvests }
+        ensures rows { result.now ≡ self.now.harvests }
+        ensures order { StandBySession (λ (row : HarvestRow). row.session) (last_session self.now) result.now }
     {
         &self.harvests
     }

@@ -54,29 +54,6 @@ numbered_step make xs i x less is =
     ap (numbered make 1) more
     ∙ (numbered_more make 1 (take i xs) x ∙ ap (λ k. numbered make 1 (take i xs) ++ make k x ∷ []) long)
 
--- the rows of one session more
-sessions_more : (q n : ℕ) → sessions_from q (suc n) ≡ sessions_from q n ++ (q + n) ∷ []
-sessions_more q zero = ap (λ k. k ∷ []) (same q)
-  where
-    same : (k : ℕ) → k ≡ k + 0
-    same k = omega arith
-sessions_more q (suc n) = ap (λ l. q ∷ l) (sessions_more (q + 1) n ∙ ap (λ k. sessions_from (q + 1) n ++ k ∷ []) (same q n))
-  where
-    same : (k m : ℕ) → k + 1 + m ≡ k + suc m
-    same k m = omega arith
-
-pub sessions_step : {Row : Type 0} (f : ℕ → List Row) (n : ℕ)
-    → flat_map f (sessions_from 1 (n + 1)) ≡ flat_map f (sessions_from 1 n) ++ f (n + 1)
-sessions_step f n =
-    ap (λ k. flat_map f (sessions_from 1 k)) (sym (one_more n))
-    ∙ ap (flat_map f) (sessions_more 1 n)
-    ∙ flat_map-append f (sessions_from 1 n) ((1 + n) ∷ [])
-    ∙ ap (λ l. flat_map f (sessions_from 1 n) ++ l) (append-nil (f (1 + n)))
-    ∙ ap (λ k. flat_map f (sessions_from 1 n) ++ f k) (flip n)
-  where
-    flip : (k : ℕ) → 1 + k ≡ k + 1
-    flip k = omega arith
-
 -- the port of a seat that was read
 pub port_is : (ss : List Station) (seat : PortSeat) (port : PortValue) → port_of ss seat.unit ≡ Some port → port_in ss seat ≡ port
 port_is ss seat port e = ap (λ o. port_or seat.unit o) e

@@ -4,6 +4,7 @@ pub mod Balancing
 pub mod Begun
 pub mod Blocks
 pub mod Bringing
+pub mod BySession
 pub mod Called
 pub mod CarriedOn
 pub mod CarriedRows
@@ -39,6 +40,7 @@ pub mod ReplayedPosts
 pub mod ReplayedRegion
 pub mod ReplayedSends
 pub mod ReplayedSent
+pub mod ReplayedValues
 pub mod Replaying
 pub mod RowLaws
 pub mod Sent

@@ -15,4 +15,5 @@ pub mod RowsOf
 pub mod Seats
 pub mod Taking
 pub mod Units
+pub mod Values
 pub mod Windows

@@ -1,5 +1,5 @@
 -- The rows of a port, as a trace has them.
-use Rattle.std.specs.Prelude.{◌+◌, ◌==◌, ℕ, zero, suc, Bool, true, false, List, [], ◌∷◌, Option, Some, None, filter, length, map}
+use Rattle.std.specs.Prelude.{◌+◌, ◌==◌, ℕ, zero, suc, Bool, true, false, List, [], ◌∷◌, Option, Some, None, filter, length, map, if◌then◌else◌}
 use Rattle.std.specs.List.{flat_map}
 use Rattle.vio_num.specs.declared.names.UnitId.{UnitId}
 use Rattle.lan_buffers.specs.Calls.{closed_port}
@@ -22,6 +22,12 @@ use Rattle.lan_script.specs.Frames.{piece_row_of}
 abbrev pub numbered : {X Row : Type 0} → (ℕ → X → Row) → (n : ℕ) → List X → List Row
 numbered row n [] = []
 numbered row n (x ∷ xs) = row n x ∷ numbered row (n + 1) xs
+
+-- rows made of items and their numbers, which count from 0 in each session; the first is number n where it is of session s
+abbrev pub numbered_on : {X Row : Type 0} → (X → ℕ) → (ℕ → X → Row) → (s n : ℕ) → List X → List Row
+numbered_on session row s n [] = []
+numbered_on session row s n (x ∷ xs) =
+    row (if session x == s then n else 0) x ∷ numbered_on session row (session x) ((if session x == s then n else 0) + 1) xs
 
 -- the numbers of so many sessions, from q on
 abbrev pub sessions_from : (q count : ℕ) → List ℕ

@@ -1,5 +1,5 @@
 // Raw hypervisor calls on a LAN unit, each made once whatever it answers.
-ghost use Rattle.std.specs.Prelude.{◌≡◌, ◌↔◌, IfOk, IsSome, IsTrue, OnOk, true};
+ghost use Rattle.std.specs.Prelude.{◌≡◌, ◌↔◌, IfOk, IsSome, IsTrue, OnOk, false, true};
 ghost use Rattle.hcall_table.specs.Rows.{IsAnswer, may_answer};
 ghost use Rattle.hcall_table.specs.declared.hcall.Hcall.TheVariants as rows;
 ghost use Rattle.lan_switch.specs.Switch.{HasRoom};
@@ -10,6 +10,7 @@ ghost use Rattle.lan_script.specs.PortReplay.{MacSays, MulticastSays};
 ghost use Rattle.lan_script.specs.Replayed.{ClosesAt, OpensAt, ReplaysOn, SameBeside, SameReplays};
 ghost use Rattle.lan_script.specs.Seats.{seat_at};
 ghost use Rattle.lan_script.specs.Units.{IsOpenAt};
+ghost use Rattle.lan_script.specs.Values.{SameValues, SameValuesBeside, is_entry_call};
 
 use crate::lan::Lan;
 use hcall_table::Returned;
@@ -51,6 +52,7 @@ pub enum PortCall {
 
 impl Lan {
     /// Makes a call on a unit.
+    #[tactic(auto, using(crate::proofs::ReplayedValues::same_values, crate::proofs::ReplayedValues::same_beside, crate::proofs::ReplayedValues::values_beside_all))]
     pub fn call(&mut self, unit: UnitId, call: PortCall) -> Result<Returned, NoMemory>
         requires there { IsSome (seat_at self.old.seats unit) }
         ensures seats { self.new.seats ≡ self.old.seats }
@@ -60,6 +62,8 @@ impl Lan {
         ensures sends { IfOk result (λ returned.
             SendsCalled unit call returned.code self.old self.new) }
         ensures beside { OnOk result (SameBeside unit self.old self.new) }
+        ensures values { is_entry_call call ≡ false → OnOk result (SameValues self.old self.new) }
+        ensures others { OnOk result (SameValuesBeside unit self.old self.new) }
     {
         match call {
             PortCall::Entry(call) => self.entry_call(unit, call),
@@ -93,6 +97,7 @@ impl Lan {
         ensures counts { SameCounts self.old self.new }
         ensures answer { IfOk result (IsAnswer (port_row (PortCall.Entry call))) }
         ensures replays { SameReplays self.old self.new }
+        ensures others { SameValuesBeside unit self.old self.new }
     {
         let mut own = self.windows.take(unit);
         let returned = make_entry_call(self.alloc, &mut own, call);
@@ -117,6 +122,7 @@ impl Lan {
         ensures replays { IfOk result (λ code.
             OpensAt unit list queue filters mac code self.old self.new) }
         ensures beside { OnOk result (SameBeside unit self.old self.new) }
+        ensures places { self.new.places ≡ self.old.places }
     {
         self.make_room(unit)?;
         Ok(self.switch.register(unit, list, queue, filters, mac).code)
@@ -144,6 +150,7 @@ impl Lan {
         ensures counts { SameCounts self.old self.new }
         ensures code { may_answer rows.FreeLogicalLan result ≡ true }
         ensures replays { ClosesAt unit result self.old self.new }
+        ensures places { self.new.places ≡ self.old.places }
     {
         self.switch.free(unit).code
     }
@@ -157,6 +164,7 @@ impl Lan {
         ensures code { may_answer rows.MulticastCtrl result ≡ true }
         ensures replays { ReplaysOn unit (MulticastSays control mac (outcomes.Code result)) self.old
             self.new }
+        ensures places { self.new.places ≡ self.old.places }
     {
         self.switch.multicast(unit, control, mac).code
     }
@@ -169,6 +177,7 @@ impl Lan {
         ensures counts { SameCounts self.old self.new }
         ensures code { may_answer rows.ChangeLogicalLanMac result ≡ true }
         ensures replays { ReplaysOn unit (MacSays mac (outcomes.Code result)) self.old self.new }
+        ensures places { self.new.places ≡ self.old.places }
     {
         self.switch.change_mac(unit, mac).code
     }
@@ -181,6 +190,7 @@ impl Lan {
         ensures counts { SameCounts self.old self.new }
         ensures closed { IfOk result (λ closed. IsTrue closed ↔ (¬ IsOpenAt self.new unit)) }
         ensures beside { SameBeside unit self.old self.new }
+        ensures places { self.new.places ≡ self.old.places }
     {
         if !self.is_open(unit) {
             return Ok(true);

@@ -1,10 +1,11 @@
 // What a script line does at a LAN unit.
-ghost use Rattle.std.specs.Prelude.{◌≡◌, IfOk, IsSome, OnOk, true};
+ghost use Rattle.std.specs.Prelude.{◌≡◌, IfOk, IsSome, OnOk, false, true};
 ghost use Rattle.boot_text.specs.Sound.{IsInRange};
 ghost use Rattle.lan_script.specs.LineSays.{SendsAs, TellsNoFrame};
 ghost use Rattle.lan_script.specs.PortCounts.{CountsStep, SameCounts, TellsNoCount};
 ghost use Rattle.lan_script.specs.Replayed.{IsFirst, Replays, SameBeside, SameReplays};
 ghost use Rattle.lan_script.specs.Seats.{TellsOfPort, TellsOfRegion, is_for_port, is_in_region, seat_at};
+ghost use Rattle.lan_script.specs.Values.{SameValues, SameValuesBeside, is_put};
 ghost use Rattle.unit_region.specs.Kept.{KeepsWindow};
 
 use crate::lan::Lan;
@@ -71,6 +72,7 @@ impl PortStep {
 
 impl Lan {
     /// One step of a line at a unit. `done` is how far it came in earlier turns.
+    #[tactic(auto, using(crate::proofs::ReplayedValues::same_values, crate::proofs::ReplayedValues::same_beside, crate::proofs::ReplayedValues::values_beside_all))]
     pub fn step(&mut self, unit: UnitId, line: &Line, done: u64) -> Result<PortStep, NoMemory>
         requires there { IsSome (seat_at self.old.seats unit) }
         requires port { is_for_port line.now.verb ≡ true }
@@ -83,6 +85,8 @@ impl Lan {
         ensures replays { IsFirst line.now.verb done → IfOk result (λ step.
             Replays unit line.now.verb step self.old self.new) }
         ensures beside { OnOk result (SameBeside unit self.old self.new) }
+        ensures values { is_put line.now.verb ≡ false → OnOk result (SameValues self.old self.new) }
+        ensures others { OnOk result (SameValuesBeside unit self.old self.new) }
     {
         let mark = u64::from(line.number);
         match &line.verb {
@@ -111,6 +115,7 @@ impl Lan {
         ensures replays { IfOk result (λ step.
             Replays unit Verb.Open step self.old self.new) }
         ensures beside { OnOk result (SameBeside unit self.old self.new) }
+        ensures places { self.new.places ≡ self.old.places }
     {
         let seat = self.seat(unit);
         let code = self.register(unit, 0, seat.queue(), 0, seat.mac)?;
@@ -129,6 +134,8 @@ impl Lan {
         ensures none { IfOk result TellsNoFrame }
         ensures told { IfOk result TellsOfPort }
         ensures replays { SameReplays self.old self.new }
+        ensures values { is_put line.now.verb ≡ false → SameValues self.old self.new }
+        ensures others { SameValuesBeside unit self.old self.new }
     {
         let mut own = self.windows.take(unit);
         let step = step_in(self.alloc, &mut own, line);
@@ -142,6 +149,8 @@ fn step_in<O: OwnerPort>(alloc: Global, own: &mut O, line: &Line) -> Result<Step
     requires region { is_in_region line.now.verb ≡ true }
     requires ranged { IsInRange line.now.verb }
     ensures window { KeepsWindow O.is_shared (O.state own.old) (O.state own.new) }
+    ensures values { is_put line.now.verb ≡ false
+        → (O.state own.new).values ≡ (O.state own.old).values }
     ensures told { IfOk result TellsOfRegion }
 {
     let mark = u64::from(line.number);

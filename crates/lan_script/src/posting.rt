@@ -13,6 +13,7 @@ ghost use Rattle.lan_buffers.specs.Buffer.{IsBuffer, buffer_address, buffer_len,
 ghost use Rattle.lan_script.specs.PortReplay.{IsBufferLen};
 ghost use Rattle.lan_script.specs.Replayed.{AddSays, FitsOne, GrantsAll, HasPages, Replays, ReplaysOn, SameBeside};
 ghost use Rattle.lan_script.specs.Seats.{TellsOfPort, seat_at};
+ghost use Rattle.lan_script.specs.Values.{SameValues};
 
 use crate::lan::Lan;
 use crate::lines::PortStep;
@@ -49,6 +50,7 @@ impl Lan {
         ensures replays { done ≡ 0 → IfOk result (λ step.
             Replays unit (verbs.Post at len count) step self.old self.new) }
         ensures beside { OnOk result (SameBeside unit self.old self.new) }
+        ensures values { OnOk result (SameValues self.old self.new) }
     {
         for posted in done..count {
             match self.post_one(unit, buffer_at(at, len, posted), len, mark)? {
@@ -83,6 +85,7 @@ impl Lan {
         ensures fits { IfSome address (λ at. FitsOne self.old unit at len
             → IfOk result (λ code. code ≡ Hrc.Success)) }
         ensures grants { GrantsAll self.old unit → OnOk result (GrantsAll self.new unit) }
+        ensures values { OnOk result (SameValues self.old self.new) }
     {
         let Some(address) = address else {
             return Ok(Hrc::Parameter);
@@ -141,6 +144,7 @@ impl Lan {
             → FitsOne self.old unit (buffer_address descriptor) (buffer_len descriptor)
             → IfOk result (λ code. code ≡ Hrc.Success) }
         ensures grants { GrantsAll self.old unit → OnOk result (GrantsAll self.new unit) }
+        ensures values { OnOk result (SameValues self.old self.new) }
     {
         self.make_room(unit)?;
         let mut own = self.windows.take(unit);

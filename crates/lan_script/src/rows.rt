@@ -4,7 +4,7 @@ ghost use Rattle.std.specs.List.{flat_map};
 ghost use Rattle.lan_script.specs.Carried.{FramesAreCarried};
 ghost use Rattle.lan_script.specs.Invariant.{side_in};
 ghost use Rattle.lan_script.specs.PortLaw.{AreOrdered, PortsAreLawful};
-ghost use Rattle.lan_script.specs.Rows.{HasLawfulPort, deliver_rows, deliveries_in, harvest_rows, deliver_row_of, harvests_in, numbered, port_in, port_row_of, port_rows, post_rows, posts_in};
+ghost use Rattle.lan_script.specs.Rows.{HasLawfulPort, deliver_rows, harvest_rows, deliver_row_of, harvest_row_of, numbered, numbered_on, port_in, port_row_of, port_rows, post_row_of, post_rows};
 ghost use Rattle.lan_script.specs.RowsOf.{CountsRows, IsRowsOf};
 ghost use Rattle.lan_buffers.specs.Port.{IsLawfulPort};
 ghost use Rattle.lan_switch.specs.Switch.{IsPort};
@@ -178,38 +178,38 @@ fn put_posts_of(
     put_posts(rows, seat.unit, switch.port(seat.unit))
 }
 
-// Adds the posts of a port, session by session.
+// Adds the posts of a port.
 fn put_posts(rows: &mut Vec<PostRow>, unit: UnitId, port: &PlainPort) -> Result<(), NoMemory>
     ensures { OnOk result (rows.new.items ≡ rows.old.items
         ++ post_rows unit port.now) }
 {
-    for before in 0..port.drop_counts().len() {
-        put_posts_in(rows, unit, before as u64 + 1, port.posts())?;
-    }
-    Ok(())
+    put_each_post(rows, unit, port.posts())
 }
 
-// Adds the posts of one session, each with its number.
-fn put_posts_in(
+// Adds posts, which are numbered from 0 in each session.
+fn put_each_post(
     rows: &mut Vec<PostRow>,
     unit: UnitId,
-    session: u64,
     posts: &[lan_buffers::PostRow],
 ) -> Result<(), NoMemory>
-    ensures { OnOk result (rows.new.items ≡ rows.old.items ++ posts_in unit posts.now session) }
+    ensures { OnOk result (rows.new.items ≡ rows.old.items
+        ++ numbered_on (λ row. row.session) (post_row_of unit) 0 0 posts.now) }
 {
+    let mut session = 0;
     let mut number = 0;
     for post in posts {
-        if post.session == session {
-            rows.push(PostRow {
-                unit,
-                session,
-                number,
-                descriptor: post.descriptor,
-                correlator: post.correlator,
-            })?;
-            number += 1;
+        if post.session != session {
+            session = post.session;
+            number = 0;
         }
+        rows.push(PostRow {
+            unit,
+            session,
+            number,
+            descriptor: post.descriptor,
+            correlator: post.correlator,
+        })?;
+        number += 1;
     }
     Ok(())
 }
@@ -245,7 +245,7 @@ fn put_deliveries_of(
     put_deliveries(alloc, rows, seat.unit, switch.port(seat.unit))
 }
 
-// Adds the deliveries of a port, session by session.
+// Adds the deliveries of a port.
 fn put_deliveries(
     alloc: Global,
     rows: &mut Vec<DeliverRow>,
@@ -255,27 +255,21 @@ fn put_deliveries(
     ensures { OnOk result (rows.new.items ≡ rows.old.items
         ++ deliver_rows unit port.now) }
 {
-    for before in 0..port.drop_counts().len() {
-        put_deliveries_in(alloc, rows, unit, before as u64 + 1, port.deliveries())?;
-    }
-    Ok(())
+    put_each_delivery(alloc, rows, unit, port.deliveries())
 }
 
-// Adds the deliveries of one session.
-fn put_deliveries_in(
+// Adds deliveries.
+fn put_each_delivery(
     alloc: Global,
     rows: &mut Vec<DeliverRow>,
     unit: UnitId,
-    session: u64,
     deliveries: &[lan_buffers::DeliverRow],
 ) -> Result<(), NoMemory>
     ensures { OnOk result (rows.new.items ≡ rows.old.items
-        ++ deliveries_in unit deliveries.now session) }
+        ++ map (deliver_row_of unit) deliveries.now) }
 {
     for row in deliveries {
-        if row.session == session {
-            rows.push(deliver_row(alloc, unit, row)?)?;
-        }
+        rows.push(deliver_row(alloc, unit, row)?)?;
     }
     Ok(())
 }
@@ -333,36 +327,30 @@ fn put_harvests_of(
     put_harvests(rows, seat.unit, switch.port(seat.unit))
 }
 
-// Adds the receive entries of a port that were taken, session by session.
+// Adds the receive entries of a port that were taken.
 fn put_harvests(rows: &mut Vec<HarvestRow>, unit: UnitId, port: &PlainPort) -> Result<(), NoMemory>
     ensures { OnOk result (rows.new.items ≡ rows.old.items
         ++ harvest_rows unit port.now) }
 {
-    for before in 0..port.drop_counts().len() {
-        put_harvests_in(rows, unit, before as u64 + 1, port.harvests())?;
-    }
-    Ok(())
+    put_each_harvest(rows, unit, port.harvests())
 }
 
-// Adds the receive entries of one session that were taken.
-fn put_harvests_in(
+// Adds receive entries that were taken.
+fn put_each_harvest(
     rows: &mut Vec<HarvestRow>,
     unit: UnitId,
-    session: u64,
     harvests: &[lan_buffers::HarvestRow],
 ) -> Result<(), NoMemory>
     ensures { OnOk result (rows.new.items ≡ rows.old.items
-        ++ harvests_in unit harvests.now session) }
+        ++ map (harvest_row_of unit) harvests.now) }
 {
     for row in harvests {
-        if row.session == session {
-            rows.push(HarvestRow {
-                unit,
-                session,
-                high: row.high,
-                low: row.low,
-            })?;
-        }
+        rows.push(HarvestRow {
+            unit,
+            session: row.session,
+            high: row.high,
+            low: row.low,
+        })?;
     }
     Ok(())
 }

@@ -9,6 +9,7 @@ ghost use Rattle.tce_window.specs.Answers.{IfInUse};
 ghost use Rattle.lan_script.specs.Invariant.{Owes};
 ghost use Rattle.lan_script.specs.Replayed.{GoesOut, GrantsAll, HasPages, Replays, ReplaysOn, SameBeside, SameReplays, SentSays};
 ghost use Rattle.lan_script.specs.Seats.{TellsOfPort, seat_at};
+ghost use Rattle.lan_script.specs.Values.{SameValues};
 ghost use Rattle.lan_script.specs.LineFrame.{line_frame};
 ghost use Rattle.lan_script.specs.LineSays.{SaysSent, SendsAs, SentAs};
 ghost use Rattle.lan_script.specs.PortCounts.{SameCounts, TellsNoCount};
@@ -56,6 +57,7 @@ impl Lan {
         ensures replays { IfOk result (λ step.
             Replays unit (verbs.Send to len seed at) step self.old self.new) }
         ensures beside { OnOk result (SameBeside unit self.old self.new) }
+        ensures values { OnOk result (SameValues self.old self.new) }
     {
         if !self.has_range(unit, at, len) {
             return Ok(PortStep::Ends(Outcome::Range));
@@ -101,6 +103,7 @@ impl Lan {
             → at + length bytes.now ≤ 4096 * seat.pages → 1 ≤ length bytes.now
             → length bytes.now ≤ 65536 → ¬ IsErrOf result OwnFault.Range }
         ensures grants { GrantsAll self.old unit → GrantsAll self.new unit }
+        ensures values { SameValues self.old self.new }
     {
         let mut own = self.windows.take(unit);
         let answer = OwnerPort::write(&mut own, at, bytes, mark);
@@ -120,6 +123,7 @@ impl Lan {
             ReplaysOn unit (SentSays sent.code sent.number) self.old self.new) }
         ensures goes { IfOk result (λ sent.
             GoesOut self.old unit parts.now sent.code sent.number) }
+        ensures values { OnOk result (SameValues self.old self.new) }
     {
         if !self.whole {
             return Err(NoMemory);
@@ -141,6 +145,7 @@ impl Lan {
         ensures replays { OnOk result (SameReplays self.old self.new) }
         ensures goes { IfOk result (λ made.
             GoesOut self.old unit parts.now made.code made.frame) }
+        ensures values { OnOk result (SameValues self.old self.new) }
     {
         self.whole = false;
         let mut own = self.windows.take(unit);
@@ -162,6 +167,7 @@ impl Lan {
         ensures number { IfOk result (λ sent. sent.number ≡ made.frame) }
         ensures replays { IfOk result (λ sent.
             ReplaysOn unit (SentSays sent.code sent.number) self.old self.new) }
+        ensures places { self.new.places ≡ self.old.places }
     {
         let sent = Sent {
             code: made.code,

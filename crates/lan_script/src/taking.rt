@@ -41,6 +41,7 @@ impl Lan {
         ensures counts { IfOk result (λ step.
             CountsStep unit (verbs.Take count) done step self.old self.new) }
         ensures replays { OnOk result (SameReplays self.old self.new) }
+        ensures places { self.new.places ≡ self.old.places }
         ensures told { IfOk result TellsOfPort }
     {
         let mut done = done;
@@ -71,6 +72,7 @@ impl Lan {
         ensures frames { self.new.frames ≡ self.old.frames }
         ensures counts { OnOk result (TakesSome unit self.old self.new) }
         ensures replays { OnOk result (SameReplays self.old self.new) }
+        ensures places { self.new.places ≡ self.old.places }
     {
         let mut moved = Moved::Quiet;
         for _entry in 0..self.seat(unit).slots {
@@ -88,6 +90,7 @@ impl Lan {
         ensures seats { self.new.seats ≡ self.old.seats }
         ensures frames { self.new.frames ≡ self.old.frames }
         ensures replays { OnOk result (SameReplays self.old self.new) }
+        ensures places { self.new.places ≡ self.old.places }
         ensures counts { IfOk result (λ taken.
             CountsOn unit (counts 0 0) (taken_on taken) self.old self.new) }
     {

@@ -31,7 +31,7 @@ const OWN: Mac = Mac {
 };
 
 // A step of a partition, of a sender, or of whoever looks on.
-#[derive(Clone, Copy, Debug)]
+#[derive(Clone, Copy)]
 enum Step {
     // The partition posts a buffer of this many bytes at this address, which is its correlator.
     Post(u64, u64),
@@ -54,7 +54,7 @@ enum Step {
 }
 
 // What is seen of a step.
-#[derive(Clone, Copy, Debug, PartialEq, Eq)]
+#[derive(Clone, Copy, PartialEq, Eq)]
 enum Seen {
     Posted(AddAnswer),
     Read(Harvest),
@@ -163,16 +163,15 @@ fn buffer(len: u64, address: u64) -> u64 {
     0x8000_0000_0000_0000 | (len & 0xFF_FFFF) << 32 | (address & 0xFFFF_FFFF)
 }
 
-// Does the steps of the rows at a port of this many slots, and gives the first of which something else
-// is seen than its row says: its number, and what is seen.
-fn first_other(alloc: Global, slots: u32, rows: &[Row]) -> Result<Option<(usize, Seen)>, NoMemory>
+// Does the steps of the rows at a port of this many slots, and gives the number of the first of which something else
+// is seen than its row says.
+fn first_other(alloc: Global, slots: u32, rows: &[Row]) -> Result<Option<usize>, NoMemory>
     requires { (1 ≤ slots) × (slots ≤ 1024) }
 {
     let mut station = Station::open(alloc, slots)?;
     for (number, (step, want)) in rows.iter().enumerate() {
-        let seen = station.step(alloc, *step)?;
-        if seen != *want {
-            return Ok(Some((number, seen)));
+        if station.step(alloc, *step)? != *want {
+            return Ok(Some(number));
         }
     }
     Ok(None)

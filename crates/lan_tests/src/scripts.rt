@@ -4,7 +4,7 @@ ghost use Rattle.boot_text.specs.Sound.{IsInRange};
 ghost use Rattle.lan_script.specs.Seats.{is_for_port};
 
 use boot_text::{Line, Verb};
-use lan_script::{Lan, PortCall, PortSeat, PortStep};
+use lan_script::{Lan, LanRows, PortCall, PortSeat, PortStep};
 use std::alloc::Global;
 use vio_num::{Hrc, Mac, Moved, NoMemory, UnitId};
 use vio_trace::{FrameRow, HarvestRow, Outcome};
@@ -22,7 +22,7 @@ const GROUP: Mac = Mac {
 };
 
 // What a unit does.
-#[derive(Clone, Copy, Debug)]
+#[derive(Clone, Copy)]
 enum Does {
     Open,
     Close,
@@ -35,7 +35,7 @@ enum Does {
 }
 
 // What is seen of it.
-#[derive(Clone, Copy, Debug, PartialEq, Eq)]
+#[derive(Clone, Copy, PartialEq, Eq)]
 enum Seen {
     Code(Hrc),
     Posted(u32, Hrc),
@@ -157,28 +157,41 @@ fn fail(lan: &mut Lan, own: u8) -> Result<Option<bool>, NoMemory> {
     Ok(Some(lan.fail(unit(own))?))
 }
 
-// Does the lines of the rows, and gives the number of the first of which something else is seen than its row says, and
-// what is seen.
-fn first_other(alloc: Global, rows: &[Row]) -> Result<Option<(usize, Seen)>, NoMemory> {
-    let mut lan = open(alloc)?;
+// Does the lines of the rows, and gives the number of the first of which something else is seen than its row says.
+fn first_other_at(lan: &mut Lan, rows: &[Row]) -> Result<Option<usize>, NoMemory> {
     for (number, (own, does, want)) in rows.iter().enumerate() {
-        let seen = act(&mut lan, *own, *does)?;
-        if seen != *want {
-            return Ok(Some((number, seen)));
+        if act(lan, *own, *does)? != *want {
+            return Ok(Some(number));
         }
     }
     Ok(None)
 }
 
-// The code of the frame in this place, and the number of the pieces that were read.
-fn frame_at(frames: &[FrameRow], place: usize) -> Option<(Hrc, usize)> {
-    let frame = frames.get(place)?;
-    Some((frame.code, frame.from.as_slice().len()))
+// Does so at new units.
+fn first_other(alloc: Global, rows: &[Row]) -> Result<Option<usize>, NoMemory> {
+    let mut lan = open(alloc)?;
+    first_other_at(&mut lan, rows)
 }
 
-// What the first receive entry says.
-fn first_high(harvests: &[HarvestRow]) -> Option<u64> {
-    Some(harvests.first()?.high)
+// Tells whether there are two frames: one that was read in two pieces and taken, one in one piece and dropped.
+fn are_frames(frames: &[FrameRow]) -> bool {
+    match frames {
+        [first, second] => {
+            first.code == Hrc::Success
+                && first.from.as_slice().len() == 2
+                && second.code == Hrc::Dropped
+                && second.from.as_slice().len() == 1
+        }
+        _ => false,
+    }
+}
+
+// Tells whether the first receive entry says this.
+fn is_first_high(harvests: &[HarvestRow], high: u64) -> bool {
+    match harvests.first() {
+        Some(row) => row.high == high,
+        None => false,
+    }
 }
 
 static LINES_END_AS_THEIR_TABLE_SAYS: [Row; 19] = [
@@ -262,7 +275,7 @@ static LINES_END_AS_THEIR_TABLE_SAYS: [Row; 19] = [
 #[test]
 fn lines_end_as_their_table_says(rt: HostRuntime) -> Result<(), NoMemory> {
     let other = first_other(rt.alloc(), &LINES_END_AS_THEIR_TABLE_SAYS)?;
-    assert!(rt; other.is_none(), "{other:?}");
+    assert_eq!(rt; other, None);
     Ok(())
 }
 
@@ -328,35 +341,78 @@ static BLANKS_ARE_TAKEN_AND_NOT_COUNTED: [Row; 12] = [
 #[test]
 fn blanks_are_taken_and_not_counted(rt: HostRuntime) -> Result<(), NoMemory> {
     let other = first_other(rt.alloc(), &BLANKS_ARE_TAKEN_AND_NOT_COUNTED)?;
-    assert!(rt; other.is_none(), "{other:?}");
+    assert_eq!(rt; other, None);
     Ok(())
+}
+
+// Two frames are sent, of which the second names no station.
+static DONE: [Row; 4] = [
+    (0, Does::Open, Seen::Code(Hrc::Success)),
+    (1, Does::Open, Seen::Code(Hrc::Success)),
+    (1, Does::Post(4096, 100, 2), Seen::Posted(2, Hrc::Success)),
+    (
+        0,
+        Does::Send(
+            Mac {
+                bytes: [2, 0, 0, 0, 0, 2],
+            },
+            60,
+            1,
+            4090,
+        ),
+        Seen::Frame(Hrc::Success, 1),
+    ),
+];
+
+// Tells whether a raw call sends a frame that nobody takes.
+fn is_dropped(lan: &mut Lan) -> Result<bool, NoMemory> {
+    let parts = PortCall::Send {
+        descriptors: [0x8000_000E_0000_0000, 0, 0, 0, 0, 0],
+    };
+    Ok(call(lan, 0, parts)? == Some(Hrc::Dropped))
+}
+
+// Tells whether a queue's rest is taken at once.
+fn is_taken(lan: &mut Lan) -> Result<bool, NoMemory> {
+    let first = take_rest(lan, 1)?;
+    let second = take_rest(lan, 1)?;
+    Ok(first == Some(Moved::Moved) && second == Some(Moved::Quiet))
+}
+
+// Tells whether a port is closed, and stays so.
+fn is_failed(lan: &mut Lan) -> Result<bool, NoMemory> {
+    let first = fail(lan, 1)?;
+    let second = fail(lan, 1)?;
+    Ok(first == Some(true) && second == Some(true))
+}
+
+// Does the lines and calls, and gives the number of the first line of which something else is seen, and whether the
+// calls are answered so.
+fn done_at(lan: &mut Lan) -> Result<(Option<usize>, bool, bool, bool), NoMemory> {
+    let other = first_other_at(lan, &DONE)?;
+    Ok((other, is_dropped(lan)?, is_taken(lan)?, is_failed(lan)?))
+}
+
+// Tells whether the rows are those of what was done.
+fn are_rows(rows: &LanRows) -> bool {
+    are_frames(&rows.frames)
+        && rows.ports.len() == 2
+        && rows.posts.len() == 2
+        && rows.delivers.len() == 1
+        && is_first_high(&rows.harvests, 0xC000_0008_0000_003C)
+}
+
+// The same of new units, and whether their rows say so.
+fn done(alloc: Global) -> Result<((Option<usize>, bool, bool, bool), bool), NoMemory> {
+    let mut lan = open(alloc)?;
+    let done = done_at(&mut lan)?;
+    let rows = lan.into_rows(alloc)?;
+    Ok((done, are_rows(&rows)))
 }
 
 #[test]
 fn rows_are_what_was_done(rt: HostRuntime) -> Result<(), NoMemory> {
-    let mut lan = open(rt.alloc())?;
-    let done = Seen::Code(Hrc::Success);
-    assert_eq!(rt; act(&mut lan, 0, Does::Open)?, done);
-    assert_eq!(rt; act(&mut lan, 1, Does::Open)?, done);
-    let posted = Seen::Posted(2, Hrc::Success);
-    assert_eq!(rt; act(&mut lan, 1, Does::Post(4096, 100, 2))?, posted);
-    let sent = Seen::Frame(Hrc::Success, 1);
-    assert_eq!(rt; act(&mut lan, 0, Does::Send(mac(2, 2), 60, 1, 4090))?, sent);
-    let parts = PortCall::Send {
-        descriptors: [0x8000_000E_0000_0000, 0, 0, 0, 0, 0],
-    };
-    assert_eq!(rt; call(&mut lan, 0, parts)?, Some(Hrc::Dropped));
-    assert_eq!(rt; take_rest(&mut lan, 1)?, Some(Moved::Moved));
-    assert_eq!(rt; take_rest(&mut lan, 1)?, Some(Moved::Quiet));
-    assert_eq!(rt; fail(&mut lan, 1)?, Some(true));
-    assert_eq!(rt; fail(&mut lan, 1)?, Some(true));
-    let rows = lan.into_rows(rt.alloc())?;
-    assert_eq!(rt; rows.frames.len(), 2);
-    assert_eq!(rt; frame_at(&rows.frames, 0), Some((Hrc::Success, 2)));
-    assert_eq!(rt; frame_at(&rows.frames, 1), Some((Hrc::Dropped, 1)));
-    assert_eq!(rt; rows.ports.len(), 2);
-    assert_eq!(rt; rows.posts.len(), 2);
-    assert_eq!(rt; rows.delivers.len(), 1);
-    assert_eq!(rt; first_high(&rows.harvests), Some(0xC000_0008_0000_003C));
+    let want = ((None, true, true, true), true);
+    assert_eq!(rt; done(rt.alloc())?, want);
     Ok(())
 }

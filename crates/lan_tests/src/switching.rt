@@ -1,5 +1,5 @@
 // A switch of four units, in tables: each row is a step and what is seen of it.
-ghost use Rattle.std.specs.Prelude.{◌≡◌, ◌≤◌, OnOk, length};
+ghost use Rattle.std.specs.Prelude.{◌≡◌, ◌≤◌, OnOk, IfOk, length};
 ghost use Rattle.lan_switch.specs.Switch.{HasRoom, same_unit};
 
 mod calls;
@@ -55,7 +55,7 @@ const QUEUE: u64 = 0x8000_0040_0000_2000;
 const FRAME: u64 = 0x8000_003C_0000_1000;
 
 // A step of one of the units, or of whoever looks on.
-#[derive(Clone, Copy, Debug)]
+#[derive(Clone, Copy)]
 enum Step {
     // The unit is registered with this address.
     Open(UnitId, Mac),
@@ -79,7 +79,7 @@ enum Step {
 }
 
 // What is seen of a step.
-#[derive(Clone, Copy, Debug, PartialEq, Eq)]
+#[derive(Clone, Copy, PartialEq, Eq)]
 enum Seen {
     Code(Hrc, u64),
     Read(Harvest),
@@ -112,10 +112,7 @@ impl World {
             switch: open_switch(alloc)?,
             first: PlainWindow::open(alloc, A, 18)?,
             last: PlainWindow::open(alloc, D, 18)?,
-            others: Lan {
-                b: PlainWindow::open(alloc, B, 18)?,
-                c: PlainWindow::open(alloc, C, 18)?,
-            },
+            others: open_others(alloc)?,
         })
     }
 
@@ -200,6 +197,17 @@ impl World {
             )
         }
     }
+}
+
+// Opens the windows of B and of C.
+fn open_others(alloc: Global) -> Result<Lan, NoMemory>
+    ensures b { IfOk result (λ lan. lan.b.held_count ≡ 0) }
+    ensures c { IfOk result (λ lan. lan.c.held_count ≡ 0) }
+{
+    Ok(Lan {
+        b: PlainWindow::open(alloc, B, 18)?,
+        c: PlainWindow::open(alloc, C, 18)?,
+    })
 }
 
 // Opens a switch of four ports of 4 slots.
@@ -337,14 +345,12 @@ fn seen_of(record: &SendRecord) -> Seen {
     )
 }
 
-// Does the steps of the rows, and gives the first of which something else is seen than its row says: its
-// number, and what is seen.
-fn first_other(alloc: Global, rows: &[Row]) -> Result<Option<(usize, Seen)>, NoMemory> {
+// Does the steps of the rows, and gives the number of the first of which something else is seen than its row says.
+fn first_other(alloc: Global, rows: &[Row]) -> Result<Option<usize>, NoMemory> {
     let mut world = World::open(alloc)?;
     for (number, (step, want)) in rows.iter().enumerate() {
-        let seen = world.step(*step)?;
-        if seen != *want {
-            return Ok(Some((number, seen)));
+        if world.step(*step)? != *want {
+            return Ok(Some(number));
         }
     }
     Ok(None)

@@ -18,7 +18,7 @@ use Rattle.paprvio.specs.declared.request.Request.TheVariants.{Run, Generate, Su
 use Rattle.vio_io.specs.Image.{ImageState}
 use Rattle.paprvio.proofs.Endings.{asks_runs, done_asks, refused_runs}
 use Rattle.paprvio.specs.Ending.{Outside, EndsAs}
-use Rattle.paprvio.specs.Run.{AreRun, AsksFor, AsksForRun, GivesPlan, IsDone, IsDoneAs, IsGenerate, IsRefusedAs, IsRun, IsSummarize, RunsPlan, ReadWhole, ReadTooMuch, IsFaulty, IsRefused, Says, RunAnswer, RunEndsWith, IsOrStarved, MustEndAs}
+use Rattle.paprvio.specs.Run.{AreRun, AsksFor, AsksForRun, GivesPlan, IsDone, IsDoneAs, IsGenerate, IsRefusedAs, IsRun, IsSummarize, RunsPlan, ReadWhole, ReadTooMuch, IsFaulty, IsBootRefused, Says, RunAnswer, RunEndsWith, IsOrStarved, MustEndAs}
 use Rattle.paprvio.specs.Status.{status_code}
 
 -- a source that told its bytes and was read to its end gave them all
@@ -53,7 +53,7 @@ long_text text long =
 not_boot_refusal : (text out : List ℕ) (plan : Plan) → Says text plan → ¬ IsFaulty text out
 not_boot_refusal text out plan is faulty = not_faulty faulty.line faulty.cause (plan_of text) plan faulty.refusal is
 
-not_refused : (text out : List ℕ) (new : Option (List ℕ)) (plan : Plan) → Says text plan → ¬ IsRefused (Some text) new out
+not_refused : (text out : List ℕ) (new : Option (List ℕ)) (plan : Plan) → Says text plan → ¬ IsBootRefused (Some text) new out
 not_refused text out new plan is (inl short) =
     not_boot_refusal text out plan is (subst (λ (boot : List ℕ). IsFaulty boot out) (whole_text text short.boot new short.whole) short.refusal)
 not_refused text out new plan is (inr long) =
@@ -72,7 +72,7 @@ run_done (Some (Run workers)) left left' image image' text run done = done
 run_done (Some (Generate seed)) left left' image image' text run done = absurd run
 run_done (Some (Summarize seed workers)) left left' image image' text run done = absurd run
 
-run_refused : (request : Option Request) (left left' : Option (List ℕ)) (text : List ℕ) → IsRun request → IsRefusedAs request left left' text → IsRefused left left' text
+run_refused : (request : Option Request) (left left' : Option (List ℕ)) (text : List ℕ) → IsRun request → IsRefusedAs request left left' text → IsBootRefused left left' text
 run_refused None left left' text run told = absurd run
 run_refused (Some (Run workers)) left left' text run told = told
 run_refused (Some (Generate seed)) left left' text run told = absurd run

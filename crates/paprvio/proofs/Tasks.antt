@@ -16,7 +16,7 @@ use Rattle.paprvio.specs.declared.telling.Telling.{Telling}
 use Rattle.paprvio.specs.declared.telling.Telling.TheVariants as tellings
 use Rattle.paprvio.specs.Answer.{answer_status, answer_text, BootAnswer, BootTask, IsAnswerTo, IsToldOf, OwnTask, RequestAnswer, SourceAnswer, SourceTask, SumsUp, TellsOf, WordsTask}
 use Rattle.paprvio.specs.Generated.{generated}
-use Rattle.paprvio.specs.Run.{AreRun, GivesPlan, IsCounted, IsDoneAs, IsRefused, IsRefusedAs, IsRun, IsSummaryOf, RunAnswer, Says}
+use Rattle.paprvio.specs.Run.{AreRun, GivesPlan, IsCounted, IsDoneAs, IsBootRefused, IsRefusedAs, IsRun, IsSummaryOf, RunAnswer, Says}
 use Rattle.paprvio.specs.Words.{asked}
 use Rattle.paprvio.proofs.SeedRead.{never_refused, plan_is}
 
@@ -36,7 +36,7 @@ own_of_boot seed workers (tasks.Run plan tellings.Summary) boot = (boot.1, boot.
 own_of_boot seed workers (tasks.Tell answer) boot = boot_answer seed workers (answer_status answer) (answer_text answer) boot
 
 -- what the source gives belongs to words that ask for it
-run_refuses : (request : Option Request) (old new : Option (List ℕ)) (text : List ℕ) → IsRun request → IsRefused old new text → IsRefusedAs request old new text
+run_refuses : (request : Option Request) (old new : Option (List ℕ)) (text : List ℕ) → IsRun request → IsBootRefused old new text → IsRefusedAs request old new text
 run_refuses None old new text run told = absurd run
 run_refuses (Some (Run workers)) old new text run told = told
 run_refuses (Some (Generate seed)) old new text run told = absurd run

@@ -17,7 +17,7 @@ use Rattle.paprvio.specs.declared.stop.Stop.{Stop}
 use Rattle.paprvio.specs.declared.stop.Stop.TheVariants as stops
 use Rattle.paprvio.specs.declared.task.Task.{Task}
 use Rattle.paprvio.specs.declared.task.Task.TheVariants as tasks
-use Rattle.paprvio.specs.Run.{AreRun, GivesPlan, IsFaulty, IsRefused, IsRefusedAs, IsSummaryOf, IsTraceOf, RunAnswer, Says}
+use Rattle.paprvio.specs.Run.{AreRun, GivesPlan, IsFaulty, IsBootRefused, IsRefusedAs, IsSummaryOf, IsTraceOf, RunAnswer, Says}
 use Rattle.paprvio.specs.Texts.{summary_text, too_long_text, usage_text}
 use Rattle.vio_trace.specs.Form.{IsTextOf}
 use Rattle.vio_trace.specs.Text.{trace_text}
@@ -69,7 +69,7 @@ BootTask boot asked_telling (tasks.Tell answer) = BootAnswer boot (answer_status
 
 -- the text that belongs to what a source gave, where no plan is run
 abbrev pub SourceAnswer : Option (List ℕ) → Option (List ℕ) → Status → List ℕ → Type 0
-SourceAnswer old new Refused text = IsRefused old new text
+SourceAnswer old new Refused text = IsBootRefused old new text
 SourceAnswer old new _ text = ⊥
 
 -- what is to be done with what a source gave

@@ -120,8 +120,8 @@ pub record IsRefusedLong (old new : Option (List ℕ)) (text : List ℕ) : Type 
   pub long : ReadTooMuch old new
   pub told : text ≡ too_long_text
 
-abbrev pub IsRefused : Option (List ℕ) → Option (List ℕ) → List ℕ → Type 0
-IsRefused old new text = IsRefusedWhole old new text ⊎ IsRefusedLong old new text
+abbrev pub IsBootRefused : Option (List ℕ) → Option (List ℕ) → List ℕ → Type 0
+IsBootRefused old new text = IsRefusedWhole old new text ⊎ IsRefusedLong old new text
 
 -- the summary of such a trace
 pub record IsSummaryOf (plan : Plan) (image image' : ImageState) (text : List ℕ) : Type 0 where
@@ -145,7 +145,7 @@ IsDoneAs None old new image image' text = ⊥
 
 -- the refusal of the boot text that the source gave: that of a seed is never refused
 abbrev pub IsRefusedAs : Option Request → (old new : Option (List ℕ)) → List ℕ → Type 0
-IsRefusedAs (Some (Run workers)) old new text = IsRefused old new text
+IsRefusedAs (Some (Run workers)) old new text = IsBootRefused old new text
 IsRefusedAs _ old new text = ⊥
 
 -- the text that belongs to a run: the usage alone for words that ask for nothing

@@ -1,6 +1,7 @@
 // Lines that write, read and map a unit's own region.
 ghost use Rattle.std.specs.Prelude.{◌≡◌, ◌<◌, ◌≤◌, IfOk};
 ghost use Rattle.boot_text.specs.declared.common_script.TheConstants.{MOST_FILL, MOST_PAGE, MOST_PEEK};
+ghost use Rattle.tce_window.specs.PortState.{OnlyReads, OnlyWrites};
 ghost use Rattle.unit_region.specs.Answers.{AnswersPut, AnswersRead, AnswersWrite, tce_of};
 ghost use Rattle.unit_region.specs.Steps.{IsPlain};
 ghost use Rattle.unit_region.specs.Kept.{KeepsWindow};
@@ -31,6 +32,7 @@ pub fn fill<O: OwnerPort>(
 ) -> Result<Step, NoMemory>
     requires { len ≤ MOST_FILL }
     ensures window { KeepsWindow O.is_shared (O.state own.old) (O.state own.new) }
+    ensures rest { OnlyWrites (O.state own.old) (O.state own.new) }
     ensures plain { IsPlain result }
     ensures answer { IfOk result (AnswersWrite O.is_shared (O.state own.old) (O.state own.new) at
         (filling seed len) line) }
@@ -45,6 +47,7 @@ pub fn fill<O: OwnerPort>(
 /// Writes these bytes under the mark of a line.
 pub fn poke<O: OwnerPort>(own: &mut O, at: u64, bytes: &[u8], line: u64) -> Result<Step, NoMemory>
     ensures window { KeepsWindow O.is_shared (O.state own.old) (O.state own.new) }
+    ensures rest { OnlyWrites (O.state own.old) (O.state own.new) }
     ensures plain { IsPlain result }
     ensures answer { IfOk result (AnswersWrite O.is_shared (O.state own.old) (O.state own.new) at
         bytes.now line) }
@@ -62,6 +65,7 @@ pub fn peek<O: OwnerPort>(alloc: Global, own: &mut O, at: u64, len: u64) -> Resu
     requires some { 1 ≤ len }
     requires few { len ≤ MOST_PEEK }
     ensures window { KeepsWindow O.is_shared (O.state own.old) (O.state own.new) }
+    ensures rest { OnlyReads O.is_shared (O.state own.old) (O.state own.new) }
     ensures plain { IsPlain result }
     ensures answer { IfOk result (AnswersRead (O.state own.old) (O.state own.new) at len) }
 {

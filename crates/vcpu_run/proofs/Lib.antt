@@ -48,11 +48,13 @@ pub mod PairNames
 pub mod Parts
 pub mod Placing
 pub mod PortOrder
+pub mod PortReplaying
 pub mod PortRising
 pub mod PortTelling
 pub mod PortTurns
 pub mod PortsFound
 pub mod PortsFresh
+pub mod PortsTelling
 pub mod PortsTold
 pub mod QueueLaws
 pub mod RawCalling

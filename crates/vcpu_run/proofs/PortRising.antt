@@ -2,6 +2,7 @@
 use Rattle.std.proofs.Common.{◌≡◌, ◌≢◌, ℕ, ◌+◌, ◌≤◌, ◌==◌, cond, Bool, true, false, true≢false, List, [], ◌∷◌, ◌++◌, append-nil, Option, Some, None, map, refl, sym, ◌∙◌, ap, subst, arith}
 use Rattle.std.proofs.lemmas.List.{map-append}
 use Rattle.vio_num.specs.declared.hypervisor.Hrc.{Hrc}
+use Rattle.vio_num.specs.declared.hypervisor.Moved.{Moved}
 use Rattle.vio_num.specs.declared.names.UnitId.{UnitId}
 use Rattle.boot_text.specs.declared.verb.Verb.{Verb}
 use Rattle.lan_switch.specs.Switch.{same_unit}
@@ -16,11 +17,15 @@ use Rattle.lan_script.specs.declared.lines.PortStep.TheVariants as ports
 use Rattle.lan_script.specs.Invariant.{sent_by}
 use Rattle.lan_script.specs.LineSays.{SendsAs, SendsOne, SentAs}
 use Rattle.lan_script.specs.PortCounts.{CountsOn, CountsStep, PortCounts, SameCounts, SendsCalled, TakesSome, counts, counts_at}
+use Rattle.lan_script.specs.Replayed.{IsFirst, Replays, SameBeside, SameReplays}
 use Rattle.lan_script.specs.Units.{LanValue}
+use Rattle.lan_script.specs.Values.{SameValues, SameValuesBeside, is_put}
+use Rattle.lan_script.specs.Windows.{facts_in}
 use Rattle.lan_script.proofs.Blocks.{self}
 use Rattle.lan_script.proofs.Placing.{one_unit}
 use Rattle.vcpu_run.specs.Ports.{unit_of}
-use Rattle.vcpu_run.specs.PortSteps.{AllIdle, IsBeside, IsIdle, Rises, StepRises, TakesOn}
+use Rattle.vcpu_run.specs.PortSteps.{AllSilent, IsBeside, IsIdle, Rises, StepRises, TakesOn}
+use Rattle.vcpu_run.specs.PortReplays.{IsStill, StepReplays}
 use Rattle.vcpu_run.specs.PortWords.{FrameTold, frame_of, frame_told, frames_at}
 
 -- two units are not the same by their names
@@ -30,6 +35,23 @@ not_same a b apart = by (same_unit a b) refl
     by : (t : Bool) → same_unit a b ≡ t → same_unit a b ≡ false
     by true e = absurd (apart (one_unit a b e))
     by false e = e
+
+-- a port at which nothing was done
+still_beside : (unit : UnitId) (old new : LanValue) → new.seats ≡ old.seats → SameBeside unit old new → SameValuesBeside unit old new → (other : UnitId)
+    → other ≢ unit → IsStill old new other
+still_beside unit old new seats replays values other apart = record {
+  seats = seats;
+  replay = replays other (not_same other unit apart);
+  values = values other (not_same other unit apart);
+}
+
+-- one at which frames were taken
+pub still_all : (old new : LanValue) → new.seats ≡ old.seats → SameReplays old new → new.places ≡ old.places → (unit : UnitId) → IsStill old new unit
+still_all old new seats replays places unit = record {
+  seats = seats;
+  replay = replays unit;
+  values = λ e. ap (λ ps. (facts_in ps unit).values e) places;
+}
 
 -- What was sent of all frames: these by this unit, and none by others.
 pub record Sends (more : List FrameTold) (unit : UnitId) (old new : LanValue) : Type 0 where
@@ -103,28 +125,61 @@ step_ended unit verb done done' outcome old new seats h k = record {
 }
 
 pub step_beside : (unit : UnitId) (step : PortStep) (before after : PortCounts) (old new : LanValue) → new.seats ≡ old.seats → SendsAs unit step old new
-    → CountsOn unit before after old new → IsBeside unit old new
-step_beside unit step before after old new seats h k other apart = record {
+    → CountsOn unit before after old new → SameBeside unit old new → SameValuesBeside unit old new → IsBeside unit old new
+step_beside unit step before after old new seats h k replays values other apart = record {
   frames = (sent_step unit step old new seats h).others other apart;
   counts = k.others other (not_same other unit apart);
+  still = still_beside unit old new seats replays values other apart;
+}
+
+-- what it says of the replay
+pub replays_ended : (unit : UnitId) (verb : Verb) (done : ℕ) (outcome : Outcome) (old new : LanValue) → new.seats ≡ old.seats
+    → (is_put verb ≡ false → SameValues old new) → (IsFirst verb done → Replays unit verb (ports.Ends outcome) old new)
+    → StepReplays unit verb done old new (steps.Ends outcome)
+replays_ended unit verb done outcome old new seats values replays = record {
+  seats = seats;
+  values = λ none. values none unit;
+  says = λ first seat able. (replays first seat able).says;
+}
+
+pub replays_waits : (unit : UnitId) (verb : Verb) (done far : ℕ) (moved : Moved) (old new : LanValue) → new.seats ≡ old.seats
+    → (is_put verb ≡ false → SameValues old new) → (IsFirst verb done → Replays unit verb (ports.Waits moved far) old new)
+    → StepReplays unit verb done old new (steps.Waits moved)
+replays_waits unit verb done far moved old new seats values replays = record {
+  seats = seats;
+  values = λ none. values none unit;
+  says = λ first seat able. (replays first seat able).says;
 }
 
 -- where nothing was sent, posted or taken
-pub all_idle : (old new : LanValue) → new.seats ≡ old.seats → new.frames ≡ old.frames → SameCounts old new → AllIdle old new
-all_idle old new seats frames same unit = record { frames = same_frames old new unit seats frames; counts = same unit }
+pub all_silent : (old new : LanValue) → new.seats ≡ old.seats → new.frames ≡ old.frames → SameCounts old new → AllSilent old new
+all_silent old new seats frames same unit = record { frames = same_frames old new unit seats frames; counts = same unit }
+
+-- a port was closed
+pub closes_beside : (unit : UnitId) (old new : LanValue) → new.seats ≡ old.seats → new.frames ≡ old.frames → SameCounts old new → SameBeside unit old new
+    → new.places ≡ old.places → IsBeside unit old new
+closes_beside unit old new seats frames same replays places other apart = record {
+  frames = same_frames old new other seats frames;
+  counts = same other;
+  still = still_beside unit old new seats replays (λ v _ e. ap (λ ps. (facts_in ps v).values e) places) other apart;
+}
 
 -- where frames were taken
-pub takes_own : (unit : UnitId) (old new : LanValue) → new.seats ≡ old.seats → new.frames ≡ old.frames → TakesSome unit old new → TakesOn old new unit
-takes_own unit old new seats frames (n, h) = record {
+pub takes_own : (unit : UnitId) (old new : LanValue) → new.seats ≡ old.seats → new.frames ≡ old.frames → TakesSome unit old new → SameReplays old new
+    → new.places ≡ old.places → TakesOn old new unit
+takes_own unit old new seats frames (n, h) replays places = record {
   frames = same_frames old new unit seats frames;
   posts = omega (arith, h.posts);
   taken = omega (arith, h.taken);
+  still = still_all old new seats replays places unit;
 }
 
-pub takes_beside : (unit : UnitId) (old new : LanValue) → new.seats ≡ old.seats → new.frames ≡ old.frames → TakesSome unit old new → IsBeside unit old new
-takes_beside unit old new seats frames (n, h) other apart = record {
+pub takes_beside : (unit : UnitId) (old new : LanValue) → new.seats ≡ old.seats → new.frames ≡ old.frames → TakesSome unit old new → SameReplays old new
+    → new.places ≡ old.places → IsBeside unit old new
+takes_beside unit old new seats frames (n, h) replays places other apart = record {
   frames = same_frames old new other seats frames;
   counts = h.others other (not_same other unit apart);
+  still = still_all old new seats replays places other;
 }
 
 -- a raw call
@@ -144,8 +199,9 @@ frames_called unit (calls.Multicast control mac) code old new seats h other apar
 frames_called unit (calls.ChangeMac mac) code old new seats h other apart = same_frames old new other seats h
 
 pub call_beside : (unit : UnitId) (call : PortCall) (code : Hrc) (before after : PortCounts) (old new : LanValue) → new.seats ≡ old.seats
-    → SendsCalled unit call code old new → CountsOn unit before after old new → IsBeside unit old new
-call_beside unit call code before after old new seats h k other apart = record {
+    → SendsCalled unit call code old new → CountsOn unit before after old new → SameBeside unit old new → SameValuesBeside unit old new → IsBeside unit old new
+call_beside unit call code before after old new seats h k replays values other apart = record {
   frames = frames_called unit call code old new seats h other apart;
   counts = k.others other (not_same other unit apart);
+  still = still_beside unit old new seats replays values other apart;
 }

@@ -20,8 +20,8 @@ use Rattle.vcpu_run.specs.declared.unit_seat.Seat.{Seat}
 use Rattle.vcpu_run.specs.declared.unit_seat.Seat.TheVariants as sits
 use Rattle.vcpu_run.specs.Credited.{Ended, ended_by, taken_in}
 use Rattle.vcpu_run.specs.Ports.{unit_of}
-use Rattle.vcpu_run.specs.PortSteps.{AllIdle, AllTake, AreFresh, IsIdle, Rises, RisesIf, TakesOn, TellsStep}
-use Rattle.vcpu_run.specs.PortWords.{FrameTold, HasNoCall, TellsPort, TellsPorts, counts_now, counts_under, done_in, frame_of, frames_at, frames_told, posts_told, taken_told}
+use Rattle.vcpu_run.specs.PortSteps.{AllSilent, AllTake, AreFresh, IsIdle, IsSilent, Rises, RisesIf, TakesOn, TellsStep}
+use Rattle.vcpu_run.specs.PortWords.{FrameTold, HasNoCall, TellsPort, TellsWords, counts_now, counts_under, done_in, frame_of, frames_at, frames_told, posts_told, taken_told}
 use Rattle.vcpu_run.specs.Suited.{is_call}
 use Rattle.vcpu_run.specs.Works.{fails}
 use Rattle.vcpu_run.proofs.Crediting.{ended_more}
@@ -72,6 +72,15 @@ idle_takes lan lan' unit idle = record {
   frames = idle.frames;
   posts = ap (λ (c : PortCounts). c.posts) idle.counts;
   taken = omega (arith, ap (λ (c : PortCounts). c.taken) idle.counts);
+  still = idle.still;
+}
+
+tells_silent : (own : List Ended) (now : PortCounts) (lan lan' : LanValue) (unit : UnitId) → TellsPort own now lan unit → IsSilent lan lan' unit
+    → TellsPort own now lan' unit
+tells_silent own now lan lan' unit tells idle = record {
+  frames = tells.frames ∙ sym idle.frames;
+  posts = tells.posts ∙ sym (ap (λ (c : PortCounts). c.posts) idle.counts);
+  taken = omega (arith, tells.taken, ap (λ (c : PortCounts). c.taken) idle.counts);
 }
 
 tells_idle : (own : List Ended) (now : PortCounts) (lan lan' : LanValue) (unit : UnitId) → TellsPort own now lan unit → IsIdle lan lan' unit
@@ -99,11 +108,11 @@ no_call : (script : Script) (line : Line) → slice_get script.lines.now script.
 no_call script line found none = all_at (λ (l : Line). is_call l.verb ≡ false) script.lines.now script.at line found none
 
 -- the current line of a script waits
-pub port_waits : (lan lan' : LanValue) (script script' : Script) (line : Line) (moved : Moved) → slice_get script.lines.now script.at ≡ Some line
+pub words_wait : (lan lan' : LanValue) (script script' : Script) (line : Line) (moved : Moved) → slice_get script.lines.now script.at ≡ Some line
     → script' ≡ record script { progress = script'.progress }
     → (is_call line.verb ≡ false → TellsStep script.partition script.seats.items line (done_in script.progress) (done_in script'.progress) lan lan' (steps.Waits moved))
-    → TellsPorts lan script → TellsPorts lan' script'
-port_waits lan lan' script script' line moved found same step tells none unit sat =
+    → TellsWords lan script → TellsWords lan' script'
+words_wait lan lan' script script' line moved found same step tells none unit sat =
     let none' : HasNoCall script.lines.now = subst (λ (s : Script). HasNoCall s.lines.now) same none in
     let sat' : slice_get script.seats.items unit ≡ Some sits.Port = ap (λ (s : Script). slice_get s.seats.items unit) (sym same) ∙ sat in
     subst (λ (s : Script). TellsPort (ended_by unit s.lines.now s.logs.items) (counts_now unit s) lan' (unit_of s.partition unit)) (sym same)
@@ -115,30 +124,30 @@ port_waits lan lan' script script' line moved found same step tells none unit sa
     by : (b : Bool) → RisesIf b (unit_of script.partition unit) line.verb (done_in script.progress) (done_in script'.progress) lan lan' (steps.Waits moved)
         → TellsPort (ended_by unit script.lines.now script.logs.items) (cond b (counts_by line.verb (done_in script.progress)) (counts 0 0)) lan (unit_of script.partition unit)
         → TellsPort (ended_by unit script.lines.now script.logs.items) (cond b (counts_by line.verb (done_in script'.progress)) (counts 0 0)) lan' (unit_of script.partition unit)
-    by true rises is = tells_wait _ _ _ lan lan' _ is rises
+    by true rises is = tells_wait _ _ _ lan lan' _ is rises.0
     by false idle is = tells_idle _ _ lan lan' _ is idle
 
 -- What the end of a line says, in whatever way it is shown.
 abbrev pub EndsIf : (own : Bool) → Script → (unit : ℕ) → Line → LogRow → (lan lan' : LanValue) → Type 0
 EndsIf true script unit line row lan lan' = (es : List Ended) → TellsPort es (counts_by line.verb (done_in script.progress)) lan (unit_of script.partition unit)
     → TellsPort (es ++ record { verb = line.verb; outcome = row.outcome } ∷ []) (counts 0 0) lan' (unit_of script.partition unit)
-EndsIf false script unit line row lan lan' = IsIdle lan lan' (unit_of script.partition unit)
+EndsIf false script unit line row lan lan' = IsSilent lan lan' (unit_of script.partition unit)
 
 -- a step that ended its line
 pub step_ends : (lan lan' : LanValue) (script : Script) (line : Line) (row : LogRow) (done' unit : ℕ) (b : Bool)
     → RisesIf b (unit_of script.partition unit) line.verb (done_in script.progress) done' lan lan' (steps.Ends row.outcome)
     → EndsIf b script unit line row lan lan'
 step_ends lan lan' script line row done' unit true rises = λ es is.
-    tells_end es (record { verb = line.verb; outcome = row.outcome }) (counts_by line.verb (done_in script.progress)) lan lan' (unit_of script.partition unit) is rises
-step_ends lan lan' script line row done' unit false idle = idle
+    tells_end es (record { verb = line.verb; outcome = row.outcome }) (counts_by line.verb (done_in script.progress)) lan lan' (unit_of script.partition unit) is rises.0
+step_ends lan lan' script line row done' unit false idle = record { frames = idle.frames; counts = idle.counts }
 
 -- it ends
-pub port_ends : (lan lan' : LanValue) (script ended : Script) (line : Line) (row : LogRow) → slice_get script.lines.now script.at ≡ Some line
+pub words_end : (lan lan' : LanValue) (script ended : Script) (line : Line) (row : LogRow) → slice_get script.lines.now script.at ≡ Some line
     → length script.logs.items ≡ script.at → ended.partition ≡ script.partition → ended.lines ≡ script.lines → ended.seats ≡ script.seats
     → ended.logs.items ≡ script.logs.items ++ row ∷ [] → done_in ended.progress ≡ 0
     → (is_call line.verb ≡ false → (unit : ℕ) → slice_get script.seats.items unit ≡ Some sits.Port → EndsIf (line.unit == unit) script unit line row lan lan')
-    → TellsPorts lan script → TellsPorts lan' ended
-port_ends lan lan' script ended line row found reached partition lines seats logs fresh step tells none unit sat =
+    → TellsWords lan script → TellsWords lan' ended
+words_end lan lan' script ended line row found reached partition lines seats logs fresh step tells none unit sat =
     let none' : HasNoCall script.lines.now = subst (λ ls. HasNoCall ls.now) lines none in
     let sat' : slice_get script.seats.items unit ≡ Some sits.Port = ap (λ ss. slice_get ss.items unit) (sym seats) ∙ sat in
     subst (λ es. TellsPort es (counts_now unit ended) lan' (unit_of ended.partition unit)) (sym (records unit))
@@ -164,30 +173,30 @@ port_ends lan lan' script ended line row found reached partition lines seats log
         → TellsPort (before unit) (cond b (counts_by line.verb (done_in script.progress)) (counts 0 0)) lan (unit_of script.partition unit)
         → TellsPort (cond b (before unit ++ e ∷ []) (before unit)) (counts 0 0) lan' (unit_of script.partition unit)
     by unit true rises is = rises (before unit) is
-    by unit false idle is = tells_idle (before unit) (counts 0 0) lan lan' (unit_of script.partition unit) is idle
+    by unit false idle is = tells_silent (before unit) (counts 0 0) lan lan' (unit_of script.partition unit) is idle
 
 -- a step of the current line, which ended
-pub step_tells : (lan lan' : LanValue) (script ended : Script) (line : Line) (row : LogRow) (done' : ℕ) → slice_get script.lines.now script.at ≡ Some line
+pub step_words : (lan lan' : LanValue) (script ended : Script) (line : Line) (row : LogRow) (done' : ℕ) → slice_get script.lines.now script.at ≡ Some line
     → length script.logs.items ≡ script.at → ended.partition ≡ script.partition → ended.lines ≡ script.lines → ended.seats ≡ script.seats
     → ended.logs.items ≡ script.logs.items ++ row ∷ [] → done_in ended.progress ≡ 0
     → (is_call line.verb ≡ false → TellsStep script.partition script.seats.items line (done_in script.progress) done' lan lan' (steps.Ends row.outcome))
-    → TellsPorts lan script → TellsPorts lan' ended
-step_tells lan lan' script ended line row done' found reached partition lines seats logs fresh step =
-    port_ends lan lan' script ended line row found reached partition lines seats logs fresh
+    → TellsWords lan script → TellsWords lan' ended
+step_words lan lan' script ended line row done' found reached partition lines seats logs fresh step =
+    words_end lan lan' script ended line row found reached partition lines seats logs fresh
     (λ no unit sat. step_ends lan lan' script line row done' unit (line.unit == unit) (step no unit sat))
 
 -- a line that did nothing at any port, and tells of nothing
-pub quiet_tells : (lan lan' : LanValue) (script ended : Script) (line : Line) (row : LogRow) → slice_get script.lines.now script.at ≡ Some line
+pub quiet_words : (lan lan' : LanValue) (script ended : Script) (line : Line) (row : LogRow) → slice_get script.lines.now script.at ≡ Some line
     → length script.logs.items ≡ script.at → ended.partition ≡ script.partition → ended.lines ≡ script.lines → ended.seats ≡ script.seats
     → ended.logs.items ≡ script.logs.items ++ row ∷ [] → done_in ended.progress ≡ 0
-    → frame_of row.outcome ≡ [] → counts_told row.outcome ≡ counts 0 0 → ((d : ℕ) → counts_by line.verb d ≡ counts 0 0) → AllIdle lan lan'
-    → TellsPorts lan script → TellsPorts lan' ended
-quiet_tells lan lan' script ended line row found reached partition lines seats logs fresh no_frame none nothing idle =
-    port_ends lan lan' script ended line row found reached partition lines seats logs fresh
+    → frame_of row.outcome ≡ [] → counts_told row.outcome ≡ counts 0 0 → ((d : ℕ) → counts_by line.verb d ≡ counts 0 0) → AllSilent lan lan'
+    → TellsWords lan script → TellsWords lan' ended
+quiet_words lan lan' script ended line row found reached partition lines seats logs fresh no_frame none nothing idle =
+    words_end lan lan' script ended line row found reached partition lines seats logs fresh
     (λ no unit sat. by unit (line.unit == unit))
   where
     by : (unit : ℕ) (b : Bool) → EndsIf b script unit line row lan lan'
-    by unit true = step_ends lan lan' script line row 0 unit true (record {
+    by unit true = λ es is. tells_end es (record { verb = line.verb; outcome = row.outcome }) (counts_by line.verb (done_in script.progress)) lan lan' (unit_of script.partition unit) is (record {
       frames = (idle (unit_of script.partition unit)).frames ∙ sym (append-nil (frames_at lan (unit_of script.partition unit)))
           ∙ ap (λ l. frames_at lan (unit_of script.partition unit) ++ l) (sym no_frame);
       posts = ap (λ (c : PortCounts). (counts_at lan' (unit_of script.partition unit)).posts + c.posts) (nothing (done_in script.progress) ∙ sym none)
@@ -198,13 +207,13 @@ quiet_tells lan lan' script ended line row found reached partition lines seats l
     by unit false = idle (unit_of script.partition unit)
 
 -- a line of frames that waits and is ended: it tells of those that it took
-pub took_tells : (lan : LanValue) (script ended : Script) (line : Line) (row : LogRow) (count taken : ℕ) → slice_get script.lines.now script.at ≡ Some line
+pub took_words : (lan : LanValue) (script ended : Script) (line : Line) (row : LogRow) (count taken : ℕ) → slice_get script.lines.now script.at ≡ Some line
     → length script.logs.items ≡ script.at → ended.partition ≡ script.partition → ended.lines ≡ script.lines → ended.seats ≡ script.seats
     → ended.logs.items ≡ script.logs.items ++ row ∷ [] → done_in ended.progress ≡ 0
     → row.outcome ≡ outcomes.Took taken → line.verb ≡ verbs.Take count → taken ≤ done_in script.progress
-    → TellsPorts lan script → TellsPorts lan ended
-took_tells lan script ended line row count taken found reached partition lines seats logs fresh out verb few =
-    port_ends lan lan script ended line row found reached partition lines seats logs fresh
+    → TellsWords lan script → TellsWords lan ended
+took_words lan script ended line row count taken found reached partition lines seats logs fresh out verb few =
+    words_end lan lan script ended line row found reached partition lines seats logs fresh
     (λ no unit sat. by unit (line.unit == unit))
   where
     done : counts_by line.verb (done_in script.progress) ≡ counts 0 (done_in script.progress)
@@ -222,13 +231,19 @@ took_tells lan script ended line row count taken found reached partition lines s
     by unit false = record { frames = refl; counts = refl }
 
 -- nothing but frames was taken
-pub rest_tells : (lan lan' : LanValue) (script : Script) → AllTake script.partition lan lan' → TellsPorts lan script → TellsPorts lan' script
-rest_tells lan lan' script takes tells none unit sat =
+pub rest_words : (lan lan' : LanValue) (script : Script) → AllTake script.partition lan lan' → TellsWords lan script → TellsWords lan' script
+rest_words lan lan' script takes tells none unit sat =
     tells_take (ended_by unit script.lines.now script.logs.items) (counts_now unit script) lan lan' (unit_of script.partition unit) (tells none unit sat) (takes unit)
 
+-- nothing was done of which lines tell
+pub silent_words : (lan lan' : LanValue) (script : Script) → AllSilent lan lan' → TellsWords lan script → TellsWords lan' script
+silent_words lan lan' script silent tells none unit sat =
+    tells_silent (ended_by unit script.lines.now script.logs.items) (counts_now unit script) lan lan' (unit_of script.partition unit) (tells none unit sat)
+    (silent (unit_of script.partition unit))
+
 -- a script before its first line
-pub fresh_tells : (lan : LanValue) (script : Script) → script.logs.items ≡ [] → done_in script.progress ≡ 0 → AreFresh lan → TellsPorts lan script
-fresh_tells lan script logs progress fresh none unit sat =
+pub fresh_words : (lan : LanValue) (script : Script) → script.logs.items ≡ [] → done_in script.progress ≡ 0 → AreFresh lan → TellsWords lan script
+fresh_words lan script logs progress fresh none unit sat =
     subst (λ rows. TellsPort (ended_by unit script.lines.now rows) (counts_now unit script) lan (unit_of script.partition unit)) (sym logs)
     (subst (λ es. TellsPort es (counts_now unit script) lan (unit_of script.partition unit)) (sym (nothing script.lines.now))
     (subst (λ now. TellsPort [] now lan (unit_of script.partition unit)) (sym (none_under unit (done_in script.progress) (slice_get script.lines.now script.at) progress))

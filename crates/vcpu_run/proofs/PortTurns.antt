@@ -10,7 +10,9 @@ use Rattle.boot_text.specs.declared.verb.Verb.{Verb}
 use Rattle.hcall_table.specs.declared.returned.Returned.{Returned}
 use Rattle.unit_region.specs.declared.step.Step.{Step}
 use Rattle.lan_script.specs.PortCounts.{CountsOn, PortCounts, SendsCalled, TakesSome, counts, counts_called}
+use Rattle.lan_script.specs.Replayed.{SameBeside, SameReplays}
 use Rattle.lan_script.specs.Units.{LanValue}
+use Rattle.lan_script.specs.Values.{SameValuesBeside}
 use Rattle.lan_script.specs.declared.calls.PortCall.{PortCall}
 use Rattle.lan_script.specs.declared.seat.PortSeat.{PortSeat}
 use Rattle.vcpu_run.specs.declared.pair.Pair.{Pair}
@@ -20,20 +22,39 @@ use Rattle.vcpu_run.specs.declared.unit_seat.Seat.TheVariants as sits
 use Rattle.vcpu_run.specs.Machines.{AreScripts}
 use Rattle.vcpu_run.specs.Making.{AreMade, IsMade}
 use Rattle.vcpu_run.specs.Ports.{unit_of}
-use Rattle.vcpu_run.specs.PortSteps.{AllIdle, AllTake, AreFresh, IsApart, IsBeside, IsIdle, RisesIf, StepRises, TakesOn, TellsStep}
+use Rattle.vcpu_run.specs.PortSteps.{AllSilent, AllTake, AreFresh, IsApart, IsBeside, IsIdle, RisesIf, StepRises, TakesOn, TellsStep}
+use Rattle.vcpu_run.specs.PortReplays.{IsStill, StepReplays}
 use Rattle.vcpu_run.specs.PortWords.{PortsTell, TellsPorts}
 use Rattle.vcpu_run.proofs.Listed.{each_set, held}
 use Rattle.vcpu_run.proofs.PortRising.{call_beside, takes_beside, takes_own}
-use Rattle.vcpu_run.proofs.PortTelling.{idle_takes, rest_tells}
+use Rattle.vcpu_run.proofs.PortTelling.{idle_takes}
+use Rattle.vcpu_run.proofs.PortsTelling.{rest_tells}
+
+still_then : (old mid new : LanValue) (unit : UnitId) → IsStill old mid unit → IsStill mid new unit → IsStill old new unit
+still_then old mid new unit a b = record {
+  seats = b.seats ∙ a.seats;
+  replay = b.replay ∙ a.replay;
+  values = λ e. b.values e ∙ a.values e;
+}
+
+still_same : (lan : LanValue) (unit : UnitId) → IsStill lan lan unit
+still_same lan unit = record { seats = refl; replay = refl; values = λ e. refl }
 
 idle_then : (old mid new : LanValue) (unit : UnitId) → IsIdle old mid unit → IsIdle mid new unit → IsIdle old new unit
-idle_then old mid new unit a b = record { frames = b.frames ∙ a.frames; counts = b.counts ∙ a.counts }
+idle_then old mid new unit a b = record {
+  frames = b.frames ∙ a.frames;
+  counts = b.counts ∙ a.counts;
+  still = still_then old mid new unit a.still b.still;
+}
+
+pub silent_on : (old mid new : LanValue) → AllSilent old mid → AllSilent mid new → AllSilent old new
+silent_on old mid new a b unit = record { frames = (b unit).frames ∙ (a unit).frames; counts = (b unit).counts ∙ (a unit).counts }
+
+pub silent_same : (lan : LanValue) → AllSilent lan lan
+silent_same lan unit = record { frames = refl; counts = refl }
 
 pub idle_same : (lan : LanValue) (unit : UnitId) → IsIdle lan lan unit
-idle_same lan unit = record { frames = refl; counts = refl }
-
-pub idle_on : (old mid new : LanValue) → AllIdle old mid → AllIdle mid new → AllIdle old new
-idle_on old mid new a b unit = idle_then old mid new unit (a unit) (b unit)
+idle_same lan unit = record { frames = refl; counts = refl; still = still_same lan unit }
 
 pub apart_on : (partition : ℕ) (old mid new : LanValue) → IsApart partition old mid → IsApart partition mid new → IsApart partition old new
 apart_on partition old mid new a b unit other = idle_then old mid new unit (a unit other) (b unit other)
@@ -43,6 +64,7 @@ takes_on partition old mid new a b u = record {
   frames = (b u).frames ∙ (a u).frames;
   posts = (b u).posts ∙ (a u).posts;
   taken = omega (arith, (a u).taken, (b u).taken);
+  still = still_then old mid new (unit_of partition u) (a u).still (b u).still;
 }
 
 -- what is done at one port of a partition alone leaves those of others
@@ -64,12 +86,15 @@ one_takes partition k old new takes beside u = by (u == k) refl
 
 -- a step of a line at a port is one of it alone
 pub port_steps : (partition : ℕ) (seats : List Seat) (line : Line) (done done' : ℕ) (old new : LanValue) (step : Step)
-    → StepRises (unit_of partition line.unit) line.verb done done' old new step → IsBeside (unit_of partition line.unit) old new
-    → TellsStep partition seats line done done' old new step
-port_steps partition seats line done done' old new step rises beside u sat = by (line.unit == u) refl
+    → StepRises (unit_of partition line.unit) line.verb done done' old new step → StepReplays (unit_of partition line.unit) line.verb done old new step
+    → IsBeside (unit_of partition line.unit) old new → TellsStep partition seats line done done' old new step
+port_steps partition seats line done done' old new step rises replays beside u sat = by (line.unit == u) refl
   where
     by : (b : Bool) → (line.unit == u) ≡ b → RisesIf b (unit_of partition u) line.verb done done' old new step
-    by true e = subst (λ n. StepRises (unit_of partition n) line.verb done done' old new step) (same_of line.unit u e) rises
+    by true e = (
+      subst (λ n. StepRises (unit_of partition n) line.verb done done' old new step) (same_of line.unit u e) rises,
+      subst (λ n. StepReplays (unit_of partition n) line.verb done old new step) (same_of line.unit u e) replays,
+    )
     by false e = beside (unit_of partition u) (λ same. other_of partition line.unit u e (sym same))
 
 -- one at a client is one of no port
@@ -87,10 +112,12 @@ client_steps partition k seats line done done' lan step at u sat = by (line.unit
 -- a raw call at a port
 pub call_apart : (partition u : ℕ) (call : PortCall) (r : Result Returned NoMemory) (old new : LanValue) → new.seats ≡ old.seats
     → IfOk r (λ returned. CountsOn (unit_of partition u) (counts 0 0) (counts_called call returned.code) old new)
-    → IfOk r (λ returned. SendsCalled (unit_of partition u) call returned.code old new) → OnOk r (IsApart partition old new)
-call_apart partition u call (Ok returned) old new seats counted sent =
-    beside_apart partition u old new (call_beside (unit_of partition u) call returned.code (counts 0 0) (counts_called call returned.code) old new seats sent counted)
-call_apart partition u call (Err memory) old new seats counted sent = tt
+    → IfOk r (λ returned. SendsCalled (unit_of partition u) call returned.code old new) → OnOk r (SameBeside (unit_of partition u) old new)
+    → OnOk r (SameValuesBeside (unit_of partition u) old new) → OnOk r (IsApart partition old new)
+call_apart partition u call (Ok returned) old new seats counted sent replays values =
+    beside_apart partition u old new
+    (call_beside (unit_of partition u) call returned.code (counts 0 0) (counts_called call returned.code) old new seats sent counted replays values)
+call_apart partition u call (Err memory) old new seats counted sent replays values = tt
 
 -- the turn of one script
 turned : (lan lan' : LanValue) (pairs : List Pair) (ports : List PortSeat) (scripts : List Script) (i : ℕ) (script later : Script)
@@ -124,10 +151,10 @@ ports_made lan partitions scripts fresh made i script found =
 
 -- the same of results
 pub port_told : (partition : ℕ) (seats : List Seat) (line : Line) (done done' : ℕ) (old new : LanValue) (r : Result Step NoMemory)
-    → IfOk r (StepRises (unit_of partition line.unit) line.verb done done' old new) → OnOk r (IsBeside (unit_of partition line.unit) old new)
-    → IfOk r (TellsStep partition seats line done done' old new)
-port_told partition seats line done done' old new (Ok step) rises beside = port_steps partition seats line done done' old new step rises beside
-port_told partition seats line done done' old new (Err memory) rises beside = tt
+    → IfOk r (StepRises (unit_of partition line.unit) line.verb done done' old new) → IfOk r (StepReplays (unit_of partition line.unit) line.verb done old new)
+    → OnOk r (IsBeside (unit_of partition line.unit) old new) → IfOk r (TellsStep partition seats line done done' old new)
+port_told partition seats line done done' old new (Ok step) rises replays beside = port_steps partition seats line done done' old new step rises replays beside
+port_told partition seats line done done' old new (Err memory) rises replays beside = tt
 
 pub port_apart : (partition u : ℕ) (old new : LanValue) (r : Result Step NoMemory) → OnOk r (IsBeside (unit_of partition u) old new)
     → OnOk r (IsApart partition old new)
@@ -140,11 +167,11 @@ client_told partition k seats line done done' lan (Ok step) at = client_steps pa
 client_told partition k seats line done done' lan (Err memory) at = tt
 
 pub port_rest : (unit : UnitId) (r : Result Moved NoMemory) (old new : LanValue) → new.seats ≡ old.seats → new.frames ≡ old.frames
-    → OnOk r (TakesSome unit old new) → OnOk r (TakesOn old new unit)
-port_rest unit (Ok moved) old new seats frames taken = takes_own unit old new seats frames taken
-port_rest unit (Err memory) old new seats frames taken = tt
+    → OnOk r (TakesSome unit old new) → OnOk r (SameReplays old new) → new.places ≡ old.places → OnOk r (TakesOn old new unit)
+port_rest unit (Ok moved) old new seats frames taken replays places = takes_own unit old new seats frames taken replays places
+port_rest unit (Err memory) old new seats frames taken replays places = tt
 
 pub rest_beside : (unit : UnitId) (r : Result Moved NoMemory) (old new : LanValue) → new.seats ≡ old.seats → new.frames ≡ old.frames
-    → OnOk r (TakesSome unit old new) → OnOk r (IsBeside unit old new)
-rest_beside unit (Ok moved) old new seats frames taken = takes_beside unit old new seats frames taken
-rest_beside unit (Err memory) old new seats frames taken = tt
+    → OnOk r (TakesSome unit old new) → OnOk r (SameReplays old new) → new.places ≡ old.places → OnOk r (IsBeside unit old new)
+rest_beside unit (Ok moved) old new seats frames taken replays places = takes_beside unit old new seats frames taken replays places
+rest_beside unit (Err memory) old new seats frames taken replays places = tt

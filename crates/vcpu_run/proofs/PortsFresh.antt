@@ -1,15 +1,20 @@
 -- Units of the LAN that were opened did nothing yet.
-use Rattle.std.proofs.Common.{◌≡◌, Bool, true, false, List, [], ◌∷◌, map, Result, Ok, Err, IfOk, refl, sym, ◌∙◌, ap, subst}
+use Rattle.std.proofs.Common.{◌≡◌, ℕ, ◌+◌, ◌*◌, Bool, true, false, List, [], ◌∷◌, length, map, Result, Ok, Err, IfOk, refl, sym, ◌∙◌, ap, subst}
 use Rattle.vio_num.specs.declared.names.UnitId.{UnitId}
+use Rattle.tce_window.specs.Grant.{values_of}
 use Rattle.lan_switch.specs.Switch.{opened, port_of, same_unit}
 use Rattle.vio_trace.specs.declared.lan_rows.FrameRow.{FrameRow}
 use Rattle.lan_script.specs.Invariant.{sent_by}
-use Rattle.lan_script.specs.Opening.{fresh_lan, plan_of}
+use Rattle.lan_script.specs.Opening.{fresh_lan, plan_of, window_of}
+use Rattle.lan_script.specs.PortReplay.{closed_replay}
+use Rattle.lan_script.specs.Replayed.{replay_of}
+use Rattle.lan_script.specs.Windows.{facts_of, window_in}
+use Rattle.lan_script.specs.declared.windows.Place.{Place}
 use Rattle.lan_script.specs.PortCounts.{counts, counts_at, counts_in}
 use Rattle.lan_script.specs.Units.{LanValue}
 use Rattle.lan_script.specs.declared.seat.PortSeat.{PortSeat}
 use Rattle.lan_script.proofs.Keys.{port_head, port_tail}
-use Rattle.lan_script.proofs.Placing.{by_bool}
+use Rattle.lan_script.proofs.Placing.{by_bool, window_head, window_tail}
 use Rattle.vcpu_run.specs.PortSteps.{AreFresh}
 use Rattle.vcpu_run.specs.PortWords.{frame_told, frames_at}
 
@@ -28,8 +33,33 @@ none_counted (s ∷ seats) unit =
     (λ e. ap (λ o. counts_in unit o) (port_head unit (opened (plan_of s)) (map opened (map plan_of seats)) e))
     (λ e. ap (λ o. counts_in unit o) (port_tail unit (opened (plan_of s)) (map opened (map plan_of seats)) e) ∙ none_counted seats unit)
 
+none_replayed : (seats : List PortSeat) (unit : UnitId) → replay_of (port_of (map opened (map plan_of seats)) unit) 0 ≡ closed_replay
+none_replayed [] unit = refl
+none_replayed (s ∷ seats) unit =
+    by_bool (same_unit s.unit unit) (replay_of (port_of (map opened (map plan_of (s ∷ seats))) unit) 0 ≡ closed_replay)
+    (λ e. ap (λ o. replay_of o 0) (port_head unit (opened (plan_of s)) (map opened (map plan_of seats)) e))
+    (λ e. ap (λ o. replay_of o 0) (port_tail unit (opened (plan_of s)) (map opened (map plan_of seats)) e) ∙ none_replayed seats unit)
+
+-- an entry into which nothing was put
+no_puts : (e : ℕ) → values_of [] e ≡ (4096 * e + 3) ∷ []
+unfolding values_of
+no_puts e = refl
+
+none_put : (seats : List PortSeat) (unit : UnitId) (e : ℕ) (ps : List Place)
+    → (facts_of unit ps (window_in unit (map window_of seats))).values e ≡ (4096 * e + 3) ∷ []
+none_put [] unit e ps = refl
+none_put (s ∷ seats) unit e ps =
+    by_bool (same_unit s.unit unit) ((facts_of unit ps (window_in unit (map window_of (s ∷ seats)))).values e ≡ (4096 * e + 3) ∷ [])
+    (λ h. ap (λ o. (facts_of unit ps o).values e) (window_head unit (window_of s) (map window_of seats) h) ∙ no_puts e)
+    (λ h. ap (λ o. (facts_of unit ps o).values e) (window_tail unit (window_of s) (map window_of seats) h) ∙ none_put seats unit e ps)
+
 pub opened_fresh : (lan : LanValue) (seats : List PortSeat) → lan ≡ fresh_lan seats → AreFresh lan
-opened_fresh lan seats e = subst AreFresh (sym e) (λ unit. (ap (λ (l : List FrameRow). map frame_told l) (none_sent seats unit), none_counted seats unit))
+opened_fresh lan seats e = subst AreFresh (sym e) (λ unit. (
+  ap (λ (l : List FrameRow). map frame_told l) (none_sent seats unit),
+  none_counted seats unit,
+  ap (λ (l : List FrameRow). replay_of (port_of (map opened (map plan_of seats)) unit) (length l)) (none_sent seats unit) ∙ none_replayed seats unit,
+  λ k. none_put seats unit k (map window_of seats),
+))
 
 pub opened_ok : {E : Type 0} (r : Result LanValue E) (seats : List PortSeat) → IfOk r (λ lan. lan ≡ fresh_lan seats) → IfOk r AreFresh
 opened_ok (Ok lan) seats e = opened_fresh lan seats e

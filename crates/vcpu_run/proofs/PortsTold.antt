@@ -14,7 +14,14 @@ use Rattle.boot_text.specs.Sound.{unit_at, unit_in}
 use Rattle.boot_text.specs.declared.plan.UnitPlan.{UnitPlan}
 use Rattle.boot_text.specs.declared.plan.UnitPlan.TheVariants as units
 use Rattle.lan_script.specs.PortCounts.{PortCounts, counts, counts_at}
+use Rattle.lan_script.specs.PortReplay.{closed_replay}
+use Rattle.lan_script.specs.Replayed.{replay_at}
 use Rattle.lan_script.specs.RowsOf.{CountsRows}
+use Rattle.lan_script.specs.Seats.{IsSizedSeat, seat_at}
+use Rattle.lan_script.specs.declared.seat.PortSeat.{PortSeat}
+use Rattle.lan_script.proofs.Placing.{by_bool}
+use Rattle.lan_switch.specs.Switch.{same_unit}
+use Rattle.std.proofs.lemmas.List.Elements.{All-head, All-tail}
 use Rattle.lan_script.specs.Units.{LanValue}
 use Rattle.lan_script.specs.declared.rows.LanRows.{LanRows}
 use Rattle.vio_trace.specs.declared.lan_rows.FrameRow.{FrameRow}
@@ -29,13 +36,15 @@ use Rattle.vcpu_run.specs.Gathered.{IsGathered, logs_of, trace_of}
 use Rattle.vcpu_run.specs.Lines.{IsOver}
 use Rattle.vcpu_run.specs.Machines.{AreScripts, IsOfPlan, IsScriptFor, seat_of}
 use Rattle.vcpu_run.specs.Ports.{IsPortOf, ports_of, unit_of}
-use Rattle.vcpu_run.specs.PortWords.{HasNoCall, LinesTell, PortsAreTold, PortsTell, TellsPort, counts_now, counts_under, done_in, frame_told}
+use Rattle.vcpu_run.specs.PortReplays.{AreReplayed, IsPlainPort}
+use Rattle.vcpu_run.specs.PortWords.{HasNoCall, LinesTell, PortsAreReplayed, PortsAreTold, PortsTell, TellsPort, WordsAreTold, counts_now, counts_under, done_in, frame_told}
 use Rattle.vcpu_run.specs.Settled.{script_of}
 use Rattle.vcpu_run.proofs.FramesCarried.{IsPlannedPort, port_planned}
 use Rattle.vcpu_run.proofs.Homes.{all_at, unit_found}
 use Rattle.vcpu_run.proofs.Listed.{held}
 use Rattle.vcpu_run.proofs.Parts.{found, in_slice}
 use Rattle.vcpu_run.proofs.Placing.{partitions_are}
+use Rattle.vcpu_run.proofs.PortOrder.{ports_sized}
 use Rattle.vcpu_run.proofs.RecordLaws.{lines_in, none_past, partitions_apart, rows_told}
 
 -- what is so of the rows that were counted
@@ -64,10 +73,20 @@ told_rows own now lan unit pairs scripts rows history grants copies none counted
   taken = omega (arith, tells.taken, counted.taken unit, ap (λ (c : PortCounts). c.taken) none);
 }
 
-pub told_are : (pairs : List Pair) (scripts : List Script) (lan : LanValue) (rows : LanRows) (history : List Served) (grants : List Grant) (copies : List CopyRecord)
-    (partitions : List Partition) → AreScripts pairs lan.seats scripts → IsOfPlan partitions pairs scripts lan.seats → All IsOver scripts → PortsTell lan scripts
-    → CountsRows lan rows → PortsAreTold partitions (trace_of pairs scripts lan rows history grants copies)
-told_are pairs scripts lan rows history grants copies partitions are of_plan over tells counted unit there none = at (slice_get scripts unit.partition) refl
+-- What is known of the script of a port's partition, once a run is over.
+record IsScriptAt (scripts : List Script) (partitions : List Partition) (unit : UnitId) (logs : List LogRow) : Type 0 where
+  script : Script
+  is : slice_get scripts unit.partition ≡ Some script
+  lines : script_of partitions unit.partition ≡ script.lines.now
+  only : logs ≡ script.logs.items
+  sits : slice_get script.seats.items unit.unit ≡ Some sits.Port
+  named : unit_of script.partition unit.unit ≡ unit
+  ended : counts_now unit.unit script ≡ counts 0 0
+
+script_at : (pairs : List Pair) (scripts : List Script) (ports : List PortSeat) (partitions : List Partition) (unit : UnitId) → AreScripts pairs ports scripts
+    → IsOfPlan partitions pairs scripts ports → All IsOver scripts → IsPortOf (ports_of partitions) unit
+    → IsScriptAt scripts partitions unit (filter (λ (row : LogRow). row.partition == unit.partition) (flat_map logs_of scripts))
+script_at pairs scripts ports partitions unit are of_plan over there = at (slice_get scripts unit.partition) refl
   where
     p : ℕ
     p = unit.partition
@@ -92,26 +111,79 @@ told_are pairs scripts lan rows history grants copies partitions are of_plan ove
         ∙ (slice_get-map seat_of it.0.units unit.unit
         ∙ ap (option_map seat_of) (subst (λ (x : Partition). slice_get x.units unit.unit ≡ Some plan) (some_same one.0 it.0 (sym one.1 ∙ it.1)) one.2))
 
-    ended : (script : Script) → slice_get scripts p ≡ Some script → counts_now unit.unit script ≡ counts 0 0
-    ended script e =
-        ap (λ o. counts_under unit.unit (done_in script.progress) o) (none_left script.lines.now script.at (all_at IsOver scripts p script over e))
-
-    at : (slot : Option Script) → slice_get scripts p ≡ slot
-        → LinesTell (ended_by unit.unit (script_of partitions p) logs) (trace_of pairs scripts lan rows history grants copies) unit
+    at : (slot : Option Script) → slice_get scripts p ≡ slot → IsScriptAt scripts partitions unit logs
     at None e =
         let gone : slice_get partitions p ≡ None = slice_get_past partitions p (omega (arith, none_past scripts p e, of_plan.scripts_are.count)) in
         absurd (no_value (ap (λ o. unit_in o unit.unit) gone))
     at (Some script) e =
-        let own = are p script e in
-        let here : script.partition ≡ p = own.number in
+        let here : script.partition ≡ p = (are p script e).number in
         let hit : (script.partition == p) ≡ true = grind (arith, nat_tests, here) in
-        let only : logs ≡ script.logs.items =
-        found (λ (row : LogRow). row.partition == p) (λ (script : Script). script.partition == p) logs_of script hit scripts (in_slice scripts p script e)
-        (rows_told pairs lan.seats scripts p are) (partitions_apart p 0 scripts (partitions_are pairs lan.seats scripts are)) in
-        let lines : script_of partitions p ≡ script.lines.now = lines_in (slice_get partitions p) script (of_plan.scripts_are.each p script e) in
-        let told = tells p script e (subst HasNoCall lines none) unit.unit (sits_there script e) in
-        let same : unit_of script.partition unit.unit ≡ unit = ap (λ n. unit_of n unit.unit) here in
-        subst (λ ls. LinesTell (ended_by unit.unit ls logs) (trace_of pairs scripts lan rows history grants copies) unit) (sym lines)
-        (subst (λ l. LinesTell (ended_by unit.unit script.lines.now l) (trace_of pairs scripts lan rows history grants copies) unit) (sym only)
-        (told_rows (ended_by unit.unit script.lines.now script.logs.items) (counts_now unit.unit script) lan unit pairs scripts rows history grants copies
-        (ended script e) counted (subst (λ (id : UnitId). TellsPort (ended_by unit.unit script.lines.now script.logs.items) (counts_now unit.unit script) lan id) same told)))
+        record {
+          script = script;
+          is = e;
+          lines = lines_in (slice_get partitions p) script (of_plan.scripts_are.each p script e);
+          only = found (λ (row : LogRow). row.partition == p) (λ (script : Script). script.partition == p) logs_of script hit scripts (in_slice scripts p script e)
+              (rows_told pairs ports scripts p are) (partitions_apart p 0 scripts (partitions_are pairs ports scripts are));
+          sits = sits_there script e;
+          named = ap (λ n. unit_of n unit.unit) here;
+          ended = ap (λ o. counts_under unit.unit (done_in script.progress) o) (none_left script.lines.now script.at (all_at IsOver scripts p script over e));
+        }
+
+words_are : (pairs : List Pair) (scripts : List Script) (lan : LanValue) (rows : LanRows) (history : List Served) (grants : List Grant) (copies : List CopyRecord)
+    (partitions : List Partition) → AreScripts pairs lan.seats scripts → IsOfPlan partitions pairs scripts lan.seats → All IsOver scripts → PortsTell lan scripts
+    → CountsRows lan rows → WordsAreTold partitions (trace_of pairs scripts lan rows history grants copies)
+words_are pairs scripts lan rows history grants copies partitions are of_plan over tells counted unit there none =
+    subst (λ ls. LinesTell (ended_by unit.unit ls logs) (trace_of pairs scripts lan rows history grants copies) unit) (sym at.lines)
+    (subst (λ l. LinesTell (ended_by unit.unit at.script.lines.now l) (trace_of pairs scripts lan rows history grants copies) unit) (sym at.only)
+    (told_rows (ended_by unit.unit at.script.lines.now at.script.logs.items) (counts_now unit.unit at.script) lan unit pairs scripts rows history grants copies
+    at.ended counted
+    (subst (λ (id : UnitId). TellsPort (ended_by unit.unit at.script.lines.now at.script.logs.items) (counts_now unit.unit at.script) lan id) at.named
+    ((tells unit.partition at.script at.is).words (subst HasNoCall at.lines none) unit.unit at.sits))))
+  where
+    logs : List LogRow
+    logs = filter (λ (row : LogRow). row.partition == unit.partition) (flat_map logs_of scripts)
+
+    at : IsScriptAt scripts partitions unit logs
+    at = script_at pairs scripts lan.seats partitions unit are of_plan over there
+
+seat_head : (unit : UnitId) (s : PortSeat) (ss : List PortSeat) → same_unit s.unit unit ≡ true → seat_at (s ∷ ss) unit ≡ Some s
+seat_head unit s ss e = rw e refl
+
+seat_tail : (unit : UnitId) (s : PortSeat) (ss : List PortSeat) → same_unit s.unit unit ≡ false → seat_at (s ∷ ss) unit ≡ seat_at ss unit
+seat_tail unit s ss e = rw e refl
+
+-- the sizes of a seat among seats that have theirs
+seat_sized : (seats : List PortSeat) (unit : UnitId) (seat : PortSeat) → All IsSizedSeat seats → seat_at seats unit ≡ Some seat → IsSizedSeat seat
+seat_sized [] unit seat all at = absurd (some_none seat (sym at))
+seat_sized (s ∷ seats) unit seat all at =
+    by_bool (same_unit s.unit unit) (IsSizedSeat seat)
+    (λ e. subst IsSizedSeat (some_same s seat (sym (seat_head unit s seats e) ∙ at)) (All-head IsSizedSeat s seats all))
+    (λ e. seat_sized seats unit seat (All-tail IsSizedSeat s seats all) (sym (seat_tail unit s seats e) ∙ at))
+
+replayed_are : (pairs : List Pair) (scripts : List Script) (lan : LanValue) (rows : LanRows) (history : List Served) (grants : List Grant) (copies : List CopyRecord)
+    (partitions : List Partition) → AreScripts pairs lan.seats scripts → IsOfPlan partitions pairs scripts lan.seats → All IsOver scripts → PortsTell lan scripts
+    → PortsAreReplayed partitions (trace_of pairs scripts lan rows history grants copies)
+replayed_are pairs scripts lan rows history grants copies partitions are of_plan over tells unit seat there own plain = (
+  replay_at lan (unit_of at.script.partition unit.unit),
+  subst (λ ls. AreReplayed seat closed_replay (ended_by unit.unit ls logs) (replay_at lan (unit_of at.script.partition unit.unit))) (sym at.lines)
+      (subst (λ l. AreReplayed seat closed_replay (ended_by unit.unit at.script.lines.now l) (replay_at lan (unit_of at.script.partition unit.unit))) (sym at.only)
+      ((tells unit.partition at.script at.is).replay unit.unit (subst (IsPlainPort unit.unit) at.lines plain) at.sits seat seated
+      (seat_sized (ports_of partitions) unit seat (ports_sized partitions of_plan.sound) there) own).keeps.replayed),
+)
+  where
+    logs : List LogRow
+    logs = filter (λ (row : LogRow). row.partition == unit.partition) (flat_map logs_of scripts)
+
+    at : IsScriptAt scripts partitions unit logs
+    at = script_at pairs scripts lan.seats partitions unit are of_plan over (subst (λ (o : Option PortSeat). IsSome o) (sym there) refl)
+
+    seated : seat_at lan.seats (unit_of at.script.partition unit.unit) ≡ Some seat
+    seated = ap (λ u. seat_at lan.seats u) at.named ∙ (ap (λ ss. seat_at ss unit) of_plan.ports_are ∙ there)
+
+pub told_are : (pairs : List Pair) (scripts : List Script) (lan : LanValue) (rows : LanRows) (history : List Served) (grants : List Grant) (copies : List CopyRecord)
+    (partitions : List Partition) → AreScripts pairs lan.seats scripts → IsOfPlan partitions pairs scripts lan.seats → All IsOver scripts → PortsTell lan scripts
+    → CountsRows lan rows → PortsAreTold partitions (trace_of pairs scripts lan rows history grants copies)
+told_are pairs scripts lan rows history grants copies partitions are of_plan over tells counted = record {
+  words = words_are pairs scripts lan rows history grants copies partitions are of_plan over tells counted;
+  replayed = replayed_are pairs scripts lan rows history grants copies partitions are of_plan over tells;
+}

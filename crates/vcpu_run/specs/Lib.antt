@@ -24,6 +24,7 @@ pub mod Numbered
 pub mod OnDisk
 pub mod Pairs
 pub mod PlainClients
+pub mod PortReplays
 pub mod PortSteps
 pub mod PortWords
 pub mod Ports

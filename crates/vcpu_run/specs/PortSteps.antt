@@ -6,16 +6,25 @@ use Rattle.boot_text.specs.declared.verb.Verb.{Verb}
 use Rattle.unit_region.specs.declared.step.Step.{Step}
 use Rattle.unit_region.specs.declared.step.Step.TheVariants as steps
 use Rattle.lan_script.specs.PortCounts.{PortCounts, counts, counts_at, counts_by, counts_told}
+use Rattle.lan_script.specs.PortReplay.{closed_replay}
+use Rattle.lan_script.specs.Replayed.{GrantsAll, replay_at}
 use Rattle.lan_script.specs.Units.{LanValue}
 use Rattle.vcpu_run.specs.declared.unit_seat.Seat.{Seat}
 use Rattle.vcpu_run.specs.declared.unit_seat.Seat.TheVariants as sits
 use Rattle.vcpu_run.specs.Ports.{unit_of}
+use Rattle.vcpu_run.specs.PortReplays.{IsStill, StepReplays}
 use Rattle.vcpu_run.specs.PortWords.{FrameTold, frame_of, frames_at}
 
 -- A port did nothing of which lines tell.
+pub record IsSilent (old new : LanValue) (unit : UnitId) : Type 0 where
+  pub frames : frames_at new unit ≡ frames_at old unit
+  pub counts : counts_at new unit ≡ counts_at old unit
+
+-- It did nothing of which lines tell, nor a replay of them.
 pub record IsIdle (old new : LanValue) (unit : UnitId) : Type 0 where
   pub frames : frames_at new unit ≡ frames_at old unit
   pub counts : counts_at new unit ≡ counts_at old unit
+  pub still : IsStill old new unit
 
 -- It sent these frames more, and its counts rose by as much as from `before` to `after`.
 pub record Rises (more : List FrameTold) (before after : PortCounts) (old new : LanValue) (unit : UnitId) : Type 0 where
@@ -28,6 +37,7 @@ pub record TakesOn (old new : LanValue) (unit : UnitId) : Type 0 where
   pub frames : frames_at new unit ≡ frames_at old unit
   pub posts : (counts_at new unit).posts ≡ (counts_at old unit).posts
   pub taken : (counts_at old unit).taken ≤ (counts_at new unit).taken
+  pub still : IsStill old new unit
 
 -- no port of another partition did anything
 abbrev pub IsApart : (partition : ℕ) → (old new : LanValue) → Type 0
@@ -44,7 +54,7 @@ StepRises unit verb done done' old new (steps.Waits did) = Rises [] (counts_by v
 
 -- and of any port of its partition
 abbrev pub RisesIf : (own : Bool) → UnitId → Verb → (done done' : ℕ) → (old new : LanValue) → Step → Type 0
-RisesIf true unit verb done done' old new step = StepRises unit verb done done' old new step
+RisesIf true unit verb done done' old new step = StepRises unit verb done done' old new step × StepReplays unit verb done old new step
 RisesIf false unit verb done done' old new step = IsIdle old new unit
 
 abbrev pub TellsStep : (partition : ℕ) → List Seat → Line → (done done' : ℕ) → (old new : LanValue) → Step → Type 0
@@ -55,10 +65,10 @@ TellsStep partition seats line done done' old new step = (u : ℕ) → slice_get
 abbrev pub AllTake : (partition : ℕ) → (old new : LanValue) → Type 0
 AllTake partition old new = (u : ℕ) → TakesOn old new (unit_of partition u)
 
--- no port did anything
-abbrev pub AllIdle : (old new : LanValue) → Type 0
-AllIdle old new = (unit : UnitId) → IsIdle old new unit
+-- no port did anything of which lines tell
+abbrev pub AllSilent : (old new : LanValue) → Type 0
+AllSilent old new = (unit : UnitId) → IsSilent old new unit
 
 -- no port did anything yet
 abbrev pub AreFresh : LanValue → Type 0
-AreFresh lan = (unit : UnitId) → (frames_at lan unit ≡ []) × (counts_at lan unit ≡ counts 0 0)
+AreFresh lan = (unit : UnitId) → (frames_at lan unit ≡ []) × (counts_at lan unit ≡ counts 0 0) × (replay_at lan unit ≡ closed_replay) × GrantsAll lan unit

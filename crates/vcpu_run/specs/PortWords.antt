@@ -16,7 +16,11 @@ use Rattle.vio_trace.specs.declared.outcome.Outcome.TheVariants as outcomes
 use Rattle.vio_trace.specs.declared.rows.Trace.{Trace}
 use Rattle.lan_script.specs.Invariant.{sent_by}
 use Rattle.lan_script.specs.PortCounts.{PortCounts, counts, counts_at, counts_by, counts_told, is_frame}
+use Rattle.lan_script.specs.PortReplay.{PortReplay, closed_replay}
+use Rattle.lan_script.specs.Seats.{IsSizedSeat, seat_at}
 use Rattle.lan_script.specs.Units.{LanValue}
+use Rattle.lan_script.specs.declared.seat.PortSeat.{PortSeat}
+use Rattle.lan_switch.specs.Calls.{IsOwnAddress}
 use Rattle.vcpu_run.specs.declared.script.Progress.{Progress}
 use Rattle.vcpu_run.specs.declared.script.Progress.TheVariants as progress
 use Rattle.vcpu_run.specs.declared.script.Script.{Script}
@@ -24,6 +28,7 @@ use Rattle.vcpu_run.specs.declared.unit_seat.Seat.{Seat}
 use Rattle.vcpu_run.specs.declared.unit_seat.Seat.TheVariants as sits
 use Rattle.vcpu_run.specs.Credited.{Ended, ended_by}
 use Rattle.vcpu_run.specs.Ports.{IsPortOf, ports_of, unit_of}
+use Rattle.vcpu_run.specs.PortReplays.{AreReplayed, IsFirstOf, IsPlainPort, KeepsReplay}
 use Rattle.vcpu_run.specs.Settled.{script_of}
 use Rattle.vcpu_run.specs.Shown.{records_of}
 use Rattle.vcpu_run.specs.Suited.{is_call}
@@ -66,9 +71,20 @@ pub record LinesTell (own : List Ended) (trace : Trace) (unit : UnitId) : Type 0
   pub taken : taken_told own ≤ length (filter (λ row. is_frame row.high) (filter (λ row. same_unit row.unit unit) trace.harvests))
 
 -- the same of each port of a plan whose partition makes no raw call
-abbrev pub PortsAreTold : List Partition → Trace → Type 0
-PortsAreTold partitions trace = (unit : UnitId) → IsPortOf (ports_of partitions) unit → HasNoCall (script_of partitions unit.partition)
+abbrev pub WordsAreTold : List Partition → Trace → Type 0
+WordsAreTold partitions trace = (unit : UnitId) → IsPortOf (ports_of partitions) unit → HasNoCall (script_of partitions unit.partition)
     → LinesTell (ended_by unit.unit (script_of partitions unit.partition) (records_of trace unit.partition)) trace unit
+
+-- the records of each plain port of a plan are what the replay of its lines says
+abbrev pub PortsAreReplayed : List Partition → Trace → Type 0
+PortsAreReplayed partitions trace = (unit : UnitId) (seat : PortSeat) → seat_at (ports_of partitions) unit ≡ Some seat → IsOwnAddress seat.mac
+    → IsPlainPort unit.unit (script_of partitions unit.partition)
+    → (left : PortReplay) × AreReplayed seat closed_replay (ended_by unit.unit (script_of partitions unit.partition) (records_of trace unit.partition)) left
+
+-- What the records of a plan's ports tell.
+pub record PortsAreTold (partitions : List Partition) (trace : Trace) : Type 0 where
+  pub words : WordsAreTold partitions trace
+  pub replayed : PortsAreReplayed partitions trace
 
 -- the frames of a unit, while a run goes on
 abbrev pub frames_at : LanValue → UnitId → List FrameTold
@@ -94,9 +110,24 @@ pub record TellsPort (own : List Ended) (now : PortCounts) (lan : LanValue) (uni
   pub posts : posts_told own + now.posts ≡ (counts_at lan unit).posts
   pub taken : taken_told own + now.taken ≤ (counts_at lan unit).taken
 
-abbrev pub TellsPorts : LanValue → Script → Type 0
-TellsPorts lan script = HasNoCall script.lines.now → (unit : ℕ) → slice_get script.seats.items unit ≡ Some sits.Port
+abbrev pub TellsWords : LanValue → Script → Type 0
+TellsWords lan script = HasNoCall script.lines.now → (unit : ℕ) → slice_get script.seats.items unit ≡ Some sits.Port
     → TellsPort (ended_by unit script.lines.now script.logs.items) (counts_now unit script) lan (unit_of script.partition unit)
+
+-- The lines of a unit of a script keep its replay, and the current one has not got past its first step.
+pub record ReplaysOwn (lan : LanValue) (script : Script) (unit : ℕ) (seat : PortSeat) : Type 0 where
+  pub keeps : KeepsReplay seat (ended_by unit script.lines.now script.logs.items) lan (unit_of script.partition unit)
+  pub first : IsFirstOf unit (done_in script.progress) (slice_get script.lines.now script.at)
+
+-- the same of each plain port of a script
+abbrev pub TellsReplay : LanValue → Script → Type 0
+TellsReplay lan script = (unit : ℕ) → IsPlainPort unit script.lines.now → slice_get script.seats.items unit ≡ Some sits.Port → (seat : PortSeat)
+    → seat_at lan.seats (unit_of script.partition unit) ≡ Some seat → IsSizedSeat seat → IsOwnAddress seat.mac → ReplaysOwn lan script unit seat
+
+-- What the lines of a script tell of its ports.
+pub record TellsPorts (lan : LanValue) (script : Script) : Type 0 where
+  pub words : TellsWords lan script
+  pub replay : TellsReplay lan script
 
 -- the same of all scripts
 abbrev pub PortsTell : LanValue → List Script → Type 0

@@ -8,7 +8,7 @@ ghost use Rattle.vcpu_run.specs.Holding.{LineOpen, SeatOpen};
 ghost use Rattle.vcpu_run.specs.Links.{ClientWaits, EventWaits, EventsWait, LinksRest, SeatsRest, links_of};
 ghost use Rattle.vcpu_run.specs.Pairs.{AreDriven, IsDriver};
 ghost use Rattle.vcpu_run.specs.Ports.{HavePorts, IsPortOf};
-ghost use Rattle.vcpu_run.specs.PortSteps.{AllIdle, AllTake, IsApart, IsBeside, TakesOn, TellsStep};
+ghost use Rattle.vcpu_run.specs.PortSteps.{AllSilent, AllTake, IsApart, IsBeside, TakesOn, TellsStep};
 ghost use Rattle.vcpu_run.specs.PortWords.{done_in};
 ghost use Rattle.vcpu_run.specs.Suited.{is_call, suits};
 ghost use Rattle.vcpu_run.specs.ScriptTold.{SameClients};
@@ -290,7 +290,8 @@ fn fail_at(unit: UnitId, seat: Seat, pairs: &mut [Pair], lan: &mut Lan) -> Resul
     ensures credit { AllSame pairs.old pairs.new }
     ensures others { SameElse (seat ∷ []) pairs.old pairs.new }
     ensures lan { lan.new.seats ≡ lan.old.seats }
-    ensures idle { AllIdle lan.old lan.new }
+    ensures idle { AllSilent lan.old lan.new }
+    ensures beside { IsBeside unit lan.old lan.new }
 {
     match seat {
         Seat::Client(pair) => fail_of(pairs, pair),
@@ -313,7 +314,8 @@ pub(crate) fn fail(
     ensures credit { AllSame pairs.old pairs.new }
     ensures others { SameElse seats.now pairs.old pairs.new }
     ensures lan { lan.new.seats ≡ lan.old.seats }
-    ensures idle { AllIdle lan.old lan.new }
+    ensures idle { AllSilent lan.old lan.new }
+    ensures apart { IsApart partition lan.old lan.new }
 {
     for k in 0..seats.len() {
         let unit = UnitId {

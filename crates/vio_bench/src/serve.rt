@@ -8,7 +8,7 @@ ghost use Rattle.tce_window.specs.PlainPort.{known_of};
 use arrayvec::ArrayVec;
 use block_server::Server;
 use crq_session::{CrqEnd, PlainLink, PollAnswer};
-use srp_iu::{Buffer, Cmd, Iu, LoginReq, write_iu};
+use srp_iu::{BUFFER_FORMATS, Buffer, Cmd, Iu, LoginReq, write_iu};
 use std::alloc::Global;
 use tce_window::{OwnerPort, PlainWindow};
 use vio_io::SureBlocks;
@@ -134,7 +134,7 @@ fn login() -> ArrayVec<u8, 256> {
     write_iu(&Iu::LoginReq(LoginReq {
         tag: 1,
         iu_len: 256,
-        formats: 0x0006,
+        formats: BUFFER_FORMATS,
         flags: 0,
         initiator: [0; 16],
         target: [0; 16],

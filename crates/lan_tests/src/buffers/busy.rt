@@ -4,6 +4,7 @@ ghost use Rattle.tce_window.specs.declared.piece.Piece.{Piece};
 
 use super::{RECEIVER, SENDER, begin, buffer, post};
 use lan_buffers::{Deliver, PlainPort};
+use std::alloc::Global;
 use tce_window::{GuestPort, Held, HoldFault, PlainWindow, Right, WindowPort};
 use vio_num::NoMemory;
 
@@ -78,9 +79,16 @@ fn offer_to<G: GuestPort>(port: &mut PlainPort, window: &mut G) -> Deliver
     port.deliver(window, &[0x5A; 60], SENDER)
 }
 
-#[test]
-fn a_buffer_in_use_keeps_its_place_and_counts_no_drop(rt: HostRuntime) -> Result<(), NoMemory> {
-    let alloc = rt.alloc();
+// Offers a frame to a port whose window is in use, and then one to it over the window itself.
+fn offer_twice(port: &mut PlainPort, busy: &mut InUse<PlainWindow>) -> (Deliver, Deliver)
+    requires { busy.old.port.held_count ≡ 0 }
+{
+    let refused = offer_to(port, busy);
+    (refused, offer_to(port, &mut busy.port))
+}
+
+// The same of a new port, how often the buffer was in use, and how many frames were dropped.
+fn offered(alloc: Global) -> Result<((Deliver, Deliver), u64, u64), NoMemory> {
     let mut port = PlainPort::open(alloc, RECEIVER, 4)?;
     port.reserve(1)?;
     begin(&mut port);
@@ -89,10 +97,14 @@ fn a_buffer_in_use_keeps_its_place_and_counts_no_drop(rt: HostRuntime) -> Result
         port: PlainWindow::open(alloc, RECEIVER, 18)?,
         times: 0,
     };
-    let refused = offer_to(&mut port, &mut busy);
-    let taken = offer_to(&mut port, &mut busy.port);
-    assert_eq!(rt; refused, Deliver::InUse { page: 1, word: 77 });
-    assert_eq!(rt; taken, Deliver::Done { post: 0 });
-    assert_eq!(rt; (busy.times, port.drops()), (1, 0));
+    let answers = offer_twice(&mut port, &mut busy);
+    Ok((answers, busy.times, port.drops()))
+}
+
+#[test]
+fn a_buffer_in_use_keeps_its_place_and_counts_no_drop(rt: HostRuntime) -> Result<(), NoMemory> {
+    let refused = Deliver::InUse { page: 1, word: 77 };
+    let taken = Deliver::Done { post: 0 };
+    assert_eq!(rt; offered(rt.alloc())?, ((refused, taken), 1, 0));
     Ok(())
 }

@@ -1,6 +1,7 @@
 // Buffers, frames and receive entries, by their lengths and numbers.
-use super::{Row, Seen, Step, done, first_other, posted};
+use super::{Row, Seen, Station, Step, done, first_other, posted};
 use lan_buffers::{AddAnswer, Deliver, Harvest};
+use std::alloc::Global;
 use vio_num::NoMemory;
 
 // Tells that entry `number` has a frame of this length, in the buffer of this correlator.
@@ -121,15 +122,24 @@ fn buffers_have_their_lengths(rt: HostRuntime) -> Result<(), NoMemory> {
     Ok(())
 }
 
+// Tells what is seen of a frame of this length that comes to a new port: of a buffer for it, of the frame, and of the
+// next receive entry.
+fn seen_of_frame(alloc: Global, len: usize) -> Result<(Seen, Seen, Seen), NoMemory> {
+    let mut station = Station::open(alloc, 4)?;
+    let post = station.step(alloc, Step::Post(65_535, 4097))?;
+    let sent = station.step(alloc, Step::Send(len))?;
+    let read = station.step(alloc, Step::Harvest)?;
+    Ok((post, sent, read))
+}
+
 #[test]
 fn frames_of_every_length(rt: HostRuntime) -> Result<(), NoMemory> {
     for (len, number) in [(14, 14), (60, 60), (1_514, 1_514), (65_527, 65_527)] {
-        let rows = [
-            (Step::Post(65_535, 4097), posted(0)),
-            (Step::Send(len), done(0)),
-            (Step::Harvest, frame(0, number, 4097)),
-        ];
-        assert_eq!(rt; first_other(rt.alloc(), 4, &rows)?, None);
+        let seen = seen_of_frame(rt.alloc(), len)?;
+        assert!(rt;
+            seen == (posted(0), done(0), frame(0, number, 4097)),
+            "{len}"
+        );
     }
     Ok(())
 }

@@ -23,10 +23,14 @@ use Rattle.block_server.proofs.Owing.{owes_seen}
 use Rattle.block_server.proofs.OwingCalls.{owes_discarded, pending_going, seen_sends}
 use Rattle.block_server.specs.Cargo.{data_bytes, is_moving}
 use Rattle.block_server.proofs.Cargoes.{named_same, none_seen}
-use Rattle.block_server.proofs.Refusing.{explains_finished, explains_same, explains_stands}
+use Rattle.block_server.proofs.Ledgers.{explains_finished, explains_same}
 use Rattle.block_server.proofs.Taking.{ended_stands, passed_taken}
-use Rattle.block_server.specs.Refusals.{ExplainsOf, basis_at, basis_of}
+use Rattle.block_server.specs.Refusals.{AreAccounted, ledger_at, ledger_of}
 use Rattle.block_server.specs.Serving.{desk_of}
+use Rattle.std.proofs.Common.{◌++◌}
+use Rattle.block_server.specs.LoginAnswers.{login_answers, login_put}
+use Rattle.block_server.specs.Serving.{IsAnswerKept}
+use Rattle.block_server.proofs.LoginPuts.{logins_put, logins_same}
 use Rattle.block_server.proofs.answering.put_answer.Goals as goal
 
 pub returns-in_default-clause-once : goal.returns-in_default-clause-once
@@ -125,17 +129,35 @@ returns-in_default-send-clause-cargo g c =
     (none_seen _ _ _ _ _ _ _ (ap data_bytes c.send.ensures.windows.own) (ap is_moving c.requires.stage) (ap is_moving c.finish.ensures.stage) refl)
 
 pub returns-in-Success-clause-refuses : goal.returns-in-Success-clause-refuses
-returns-in-Success-clause-refuses g c = λ terms serving since is.
-    let taken = (g.S.Site.state c.send.new.self).queue.taken in
-    subst (λ (session : ℕ). ExplainsOf terms (desk_of c.args.unit.now) c.args.records.now.history.items (basis_at c.args.unit.now session taken c.args.records.now) (basis_at c.settle.new.unit session taken c.settle.new.records))
-    c.session.ensures (c.settle.ensures.refuses terms taken c.requires.stage) serving since
-    (explains_stands c.args.unit.now c.args.unit.now (g.S.Site.state c.args.site.now) (g.S.Site.state c.send.new.self) c.args.records.now c.args.records.now refl c.send.ensures.passes refl refl terms.told c.args.unit.now.id since is)
+returns-in-Success-clause-refuses g c = λ terms serving front is.
+    let unit = c.args.unit.now in
+    let first = front_is _ _ c.in-Some.ensures.item.3 in
+    let old = g.S.Site.state c.args.site.now in
+    let sent = g.S.Site.state c.send.new.self in
+    let answers = login_answers old.queue.sent in
+    let entry = c.answer_entry-entry.result in
+    let put = answers ++ login_put entry in
+    let kept : IsAnswerKept (desk_of unit) entry c.args.outcome = record {
+      request = c.in-Some.request.now;
+      rest = first.0;
+      front = first.1;
+      stage = c.requires.stage;
+      entry_is = c.answer_entry-entry.ensures.entry ∙ ap (λ n. srp_entry n c.in-Some.request.now.tag) (c.len.ensures ∙ unit.service.answer.ok.0);
+    } in
+    explains_same (ledger_at c.settle.new.unit sent.queue.last_session sent.queue.taken put c.settle.new.records) (ledger_of c.settle.new.unit sent c.settle.new.records)
+    refl refl refl refl refl refl (logins_put _ _ _ c.in-Success.ensures.success.puts.sent) terms.told unit.id front
+    (subst (λ (session : ℕ). AreAccounted terms.told unit.id front (ledger_at unit session sent.queue.taken answers c.args.records.now)
+    → AreAccounted terms.told unit.id front (ledger_at c.settle.new.unit session sent.queue.taken put c.settle.new.records))
+    c.session.ensures (c.settle.ensures.refuses terms sent.queue.taken answers entry kept serving front)
+    (explains_same (ledger_of unit old c.args.records.now) (ledger_at unit sent.queue.last_session sent.queue.taken answers c.args.records.now)
+    (passed_session _ _ c.send.ensures.passes) (passed_taken _ _ c.send.ensures.passes) refl refl refl refl refl terms.told unit.id front is))
 
 pub returns-in-Dropped-clause-refuses : goal.returns-in-Dropped-clause-refuses
-returns-in-Dropped-clause-refuses g c = λ terms serving since.
-    explains_same (basis_of c.args.unit.now (g.S.Site.state c.args.site.now) c.args.records.now) _ (passed_session _ _ c.send.ensures.passes) (passed_taken _ _ c.send.ensures.passes) refl refl refl refl terms.told c.args.unit.now.id since
+returns-in-Dropped-clause-refuses g c = λ terms serving front.
+    explains_same (ledger_of c.args.unit.now (g.S.Site.state c.args.site.now) c.args.records.now) _ (passed_session _ _ c.send.ensures.passes) (passed_taken _ _ c.send.ensures.passes) refl refl refl refl (ap login_answers c.in-Dropped.ensures.dropped.sent) terms.told c.args.unit.now.id front
 
 pub returns-in_default-send-clause-refuses : goal.returns-in_default-send-clause-refuses
-returns-in_default-send-clause-refuses g c = λ terms serving since.
-    explains_finished (basis_of c.args.unit.now (g.S.Site.state c.args.site.now) c.args.records.now) (basis_of c.finish.new.unit (g.S.Site.state c.send.new.self) c.args.records.now) (passed_session _ _ c.send.ensures.passes) (passed_taken _ _ c.send.ensures.passes)
-    (waiting_stands _ _ c.finish.ensures.stands) (ended_stands _ _ c.finish.ensures.stands) c.finish.ensures.pending refl terms.told c.args.unit.now.id since
+returns-in_default-send-clause-refuses g c = λ terms serving front.
+    explains_finished (ledger_of c.args.unit.now (g.S.Site.state c.args.site.now) c.args.records.now) (ledger_of c.finish.new.unit (g.S.Site.state c.send.new.self) c.args.records.now) (passed_session _ _ c.send.ensures.passes) (passed_taken _ _ c.send.ensures.passes)
+    (waiting_stands _ _ c.finish.ensures.stands) (ended_stands _ _ c.finish.ensures.stands) c.finish.ensures.pending refl
+    (logins_same _ _ _ _ c.in_default-send.not-Success c.in_default-send.not-Dropped c.send.ensures.closed c.send.ensures.refused) terms.told c.args.unit.now.id front

@@ -29,9 +29,13 @@ use Rattle.block_server.proofs.Owing.{owes_seen, seen_same}
 use Rattle.block_server.proofs.OwingCalls.{entry_going, owes_discarded, seen_on, seen_reserves, seen_sends}
 use Rattle.block_server.specs.Cargo.{data_bytes, is_moving, rows_of}
 use Rattle.block_server.proofs.Cargoes.{named_same, none_seen}
-use Rattle.block_server.proofs.Refusing.{explains_finished, explains_same, explains_stands}
+use Rattle.block_server.proofs.Ledgers.{explains_finished, explains_same, explains_stands}
 use Rattle.block_server.proofs.Taking.{ended_stands, passed_taken}
-use Rattle.block_server.specs.Refusals.{AreExplained, basis_at, basis_of}
+use Rattle.block_server.specs.Refusals.{AreAccounted, ledger_at, ledger_of}
+use Rattle.block_server.specs.Entries.{IsPlain}
+use Rattle.block_server.specs.LoginAnswers.{login_answers, login_put}
+use Rattle.block_server.specs.Serving.{IsAnswerKept}
+use Rattle.block_server.proofs.LoginPuts.{logins_plain, logins_put, logins_same}
 use Rattle.block_server.proofs.answering.put_kept.Goals as goal
 
 pub returns-in_default-clause-once : goal.returns-in_default-clause-once
@@ -214,40 +218,57 @@ returns-in-Answer-kept-clause-cargo g c = λ terms serving.
     (ap rows_of c.make_room.ensures.lists.history))
 
 pub returns-in_err-make_room-clause-refuses : goal.returns-in_err-make_room-clause-refuses
-returns-in_err-make_room-clause-refuses g c = λ terms serving since.
-    explains_stands c.args.unit.now c.args.unit.now (g.S.Site.state c.args.site.now) (g.S.Site.state c.args.site.now) c.args.records.now c.make_room.new.self refl refl refl c.make_room.ensures.lists.grants terms.told c.args.unit.now.id since
+returns-in_err-make_room-clause-refuses g c = λ terms serving front.
+    explains_stands c.args.unit.now c.args.unit.now (g.S.Site.state c.args.site.now) (g.S.Site.state c.args.site.now) c.args.records.now c.make_room.new.self refl refl refl c.make_room.ensures.lists.grants refl terms.told c.args.unit.now.id front
 
 pub returns-in_err-make_room-2-clause-refuses : goal.returns-in_err-make_room-2-clause-refuses
-returns-in_err-make_room-2-clause-refuses g c = λ terms serving since.
-    explains_stands c.args.unit.now c.args.unit.now (g.S.Site.state c.args.site.now) (g.S.Site.state c.args.site.now) c.args.records.now c.make_room.new.self refl refl refl c.make_room.ensures.lists.grants terms.told c.args.unit.now.id since
+returns-in_err-make_room-2-clause-refuses g c = λ terms serving front.
+    explains_stands c.args.unit.now c.args.unit.now (g.S.Site.state c.args.site.now) (g.S.Site.state c.args.site.now) c.args.records.now c.make_room.new.self refl refl refl c.make_room.ensures.lists.grants refl terms.told c.args.unit.now.id front
 
 pub returns-in_err-reserve-clause-refuses : goal.returns-in_err-reserve-clause-refuses
-returns-in_err-reserve-clause-refuses g c = λ terms serving since.
-    explains_stands c.args.unit.now c.args.unit.now (g.S.Site.state c.args.site.now) _ c.args.records.now c.make_room.new.self refl c.reserve.ensures.passes refl c.make_room.ensures.lists.grants terms.told c.args.unit.now.id since
+returns-in_err-reserve-clause-refuses g c = λ terms serving front.
+    explains_stands c.args.unit.now c.args.unit.now (g.S.Site.state c.args.site.now) _ c.args.records.now c.make_room.new.self refl c.reserve.ensures.passes refl c.make_room.ensures.lists.grants (ap login_answers c.reserve.ensures.rest.sent) terms.told c.args.unit.now.id front
 
 pub returns-in-Dropped-clause-refuses : goal.returns-in-Dropped-clause-refuses
-returns-in-Dropped-clause-refuses g c = λ terms serving since.
-    explains_stands c.args.unit.now c.args.unit.now (g.S.Site.state c.args.site.now) (g.S.Site.state c.send.new.self) c.args.records.now c.make_room.new.self refl (c.send.ensures.passes ∙ c.reserve.ensures.passes) refl c.make_room.ensures.lists.grants terms.told c.args.unit.now.id since
+returns-in-Dropped-clause-refuses g c = λ terms serving front.
+    explains_stands c.args.unit.now c.args.unit.now (g.S.Site.state c.args.site.now) (g.S.Site.state c.send.new.self) c.args.records.now c.make_room.new.self refl (c.send.ensures.passes ∙ c.reserve.ensures.passes) refl c.make_room.ensures.lists.grants
+    (ap login_answers (c.in-Dropped.ensures.dropped.sent ∙ c.reserve.ensures.rest.sent)) terms.told c.args.unit.now.id front
 
 pub returns-in_default-kept-clause-refuses : goal.returns-in_default-kept-clause-refuses
-returns-in_default-kept-clause-refuses g c = λ terms serving since.
-    explains_same (basis_of c.args.unit.now (g.S.Site.state c.args.site.now) c.args.records.now) _ (passed_session _ _ (c.send.ensures.passes ∙ c.reserve.ensures.passes)) (passed_taken _ _ (c.send.ensures.passes ∙ c.reserve.ensures.passes)) refl refl refl c.make_room.ensures.lists.grants terms.told c.args.unit.now.id since
+returns-in_default-kept-clause-refuses g c = λ terms serving front.
+    let is = serving.kept (keeps.Reply c.in_default-kept.field-0) (c.in-Some.is ∙ ap Some c.in_default-kept.is) in
+    explains_same (ledger_of c.args.unit.now (g.S.Site.state c.args.site.now) c.args.records.now) _ (passed_session _ _ (c.send.ensures.passes ∙ c.reserve.ensures.passes)) (passed_taken _ _ (c.send.ensures.passes ∙ c.reserve.ensures.passes)) refl refl refl c.make_room.ensures.lists.grants
+    (logins_plain _ _ _ (subst IsPlain (sym (c.entry.ensures ∙ ap kept_entry c.in_default-kept.is)) is) c.in-Success.ensures.success.puts.sent ∙ ap login_answers c.reserve.ensures.rest.sent) terms.told c.args.unit.now.id front
 
 pub returns-in_default-kept-2-clause-refuses : goal.returns-in_default-kept-2-clause-refuses
-returns-in_default-kept-2-clause-refuses g c = λ terms serving since.
-    explains_same (basis_of c.args.unit.now (g.S.Site.state c.args.site.now) c.args.records.now) _ (passed_session _ _ (c.send.ensures.passes ∙ c.reserve.ensures.passes)) (passed_taken _ _ (c.send.ensures.passes ∙ c.reserve.ensures.passes)) refl refl refl c.make_room.ensures.lists.grants terms.told c.args.unit.now.id since
+returns-in_default-kept-2-clause-refuses g c = λ terms serving front.
+    explains_same (ledger_of c.args.unit.now (g.S.Site.state c.args.site.now) c.args.records.now) _ (passed_session _ _ (c.send.ensures.passes ∙ c.reserve.ensures.passes)) (passed_taken _ _ (c.send.ensures.passes ∙ c.reserve.ensures.passes)) refl refl refl c.make_room.ensures.lists.grants
+    (logins_same _ _ _ _ c.in_default-send.not-Success c.in_default-send.not-Dropped c.send.ensures.closed c.send.ensures.refused ∙ ap login_answers c.reserve.ensures.rest.sent) terms.told c.args.unit.now.id front
 
 pub returns-in-Answer-clause-refuses : goal.returns-in-Answer-clause-refuses
-returns-in-Answer-clause-refuses g c = λ terms serving since is.
-    let taken = (g.S.Site.state c.send.new.self).queue.taken in
-    let kept = serving.kept (keeps.Answer c.in-Answer.entry c.in-Answer.outcome) (c.in-Some.is ∙ ap Some c.in-Answer.is) in
-    subst (λ (session : ℕ). AreExplained terms.told c.args.unit.now.id since (basis_at c.args.unit.now session taken c.make_room.new.self) → AreExplained terms.told c.args.unit.now.id since (basis_at c.settle.new.unit session taken c.settle.new.records))
+returns-in-Answer-clause-refuses g c = λ terms serving front is.
+    let unit = c.args.unit.now in
+    let old = g.S.Site.state c.args.site.now in
+    let sent = g.S.Site.state c.send.new.self in
+    let answers = login_answers old.queue.sent in
+    let has = serving.kept (keeps.Answer c.in-Answer.entry c.in-Answer.outcome) (c.in-Some.is ∙ ap Some c.in-Answer.is) in
+    let entry_is = c.entry.ensures ∙ ap kept_entry c.in-Answer.is in
+    let kept : IsAnswerKept (record (desk_of unit) { kept = None }) c.entry.result c.in-Answer.outcome =
+    record { request = has.request; rest = has.rest; front = has.front; stage = has.stage; entry_is = entry_is ∙ has.entry_is } in
+    let put = answers ++ login_put c.entry.result in
+    explains_same (ledger_at c.settle.new.unit sent.queue.last_session sent.queue.taken put c.settle.new.records) (ledger_of c.settle.new.unit sent c.settle.new.records)
+    refl refl refl refl refl refl (logins_put _ _ _ c.in-Success.ensures.success.puts.sent ∙ ap (λ rows. login_answers rows ++ login_put c.entry.result) c.reserve.ensures.rest.sent) terms.told unit.id front
+    (subst (λ (session : ℕ). AreAccounted terms.told unit.id front (ledger_at unit session sent.queue.taken answers c.make_room.new.self)
+    → AreAccounted terms.told unit.id front (ledger_at c.settle.new.unit session sent.queue.taken put c.settle.new.records))
     c.session.ensures
-    (c.settle.ensures.refuses terms taken kept.stage
-    (unkept terms (desk_of c.args.unit.now) _ (subst (IsServing terms (desk_of c.args.unit.now)) (sym c.make_room.ensures.lists.history) serving)) since)
-    (explains_stands c.args.unit.now c.args.unit.now (g.S.Site.state c.args.site.now) (g.S.Site.state c.send.new.self) c.args.records.now c.make_room.new.self refl (c.send.ensures.passes ∙ c.reserve.ensures.passes) refl c.make_room.ensures.lists.grants terms.told c.args.unit.now.id since is)
+    (c.settle.ensures.refuses terms sent.queue.taken answers c.entry.result kept
+    (unkept terms (desk_of unit) _ (subst (IsServing terms (desk_of unit)) (sym c.make_room.ensures.lists.history) serving)) front)
+    (explains_same (ledger_of unit old c.args.records.now) (ledger_at unit sent.queue.last_session sent.queue.taken answers c.make_room.new.self)
+    (passed_session _ _ (c.send.ensures.passes ∙ c.reserve.ensures.passes)) (passed_taken _ _ (c.send.ensures.passes ∙ c.reserve.ensures.passes)) refl refl refl
+    c.make_room.ensures.lists.grants refl terms.told unit.id front is))
 
 pub returns-in-Answer-kept-clause-refuses : goal.returns-in-Answer-kept-clause-refuses
-returns-in-Answer-kept-clause-refuses g c = λ terms serving since.
-    explains_finished (basis_of c.args.unit.now (g.S.Site.state c.args.site.now) c.args.records.now) (basis_of c.finish.new.unit (g.S.Site.state c.send.new.self) c.make_room.new.self) (passed_session _ _ (c.send.ensures.passes ∙ c.reserve.ensures.passes))
-    (passed_taken _ _ (c.send.ensures.passes ∙ c.reserve.ensures.passes)) (waiting_stands _ _ c.finish.ensures.stands) (ended_stands _ _ c.finish.ensures.stands) c.finish.ensures.pending c.make_room.ensures.lists.grants terms.told c.args.unit.now.id since
+returns-in-Answer-kept-clause-refuses g c = λ terms serving front.
+    explains_finished (ledger_of c.args.unit.now (g.S.Site.state c.args.site.now) c.args.records.now) (ledger_of c.finish.new.unit (g.S.Site.state c.send.new.self) c.make_room.new.self) (passed_session _ _ (c.send.ensures.passes ∙ c.reserve.ensures.passes))
+    (passed_taken _ _ (c.send.ensures.passes ∙ c.reserve.ensures.passes)) (waiting_stands _ _ c.finish.ensures.stands) (ended_stands _ _ c.finish.ensures.stands) c.finish.ensures.pending c.make_room.ensures.lists.grants
+    (logins_same _ _ _ _ c.in_default-send.not-Success c.in_default-send.not-Dropped c.send.ensures.closed c.send.ensures.refused ∙ ap login_answers c.reserve.ensures.rest.sent) terms.told c.args.unit.now.id front

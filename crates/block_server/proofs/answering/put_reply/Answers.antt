@@ -5,7 +5,10 @@ use Rattle.block_server.proofs.Onces.{once_reply_kept, once_same, responses_plai
 use Rattle.block_server.proofs.Serves.{none_sent}
 use Rattle.block_server.proofs.Keeping.{keeps_kept, moved_to}
 use Rattle.block_server.proofs.Booking.{passed_next}
-use Rattle.block_server.proofs.Taking.{passed_session}
+use Rattle.block_server.proofs.Taking.{passed_session, passed_taken}
+use Rattle.block_server.proofs.Ledgers.{explains_same}
+use Rattle.block_server.proofs.LoginPuts.{logins_plain}
+use Rattle.block_server.specs.Refusals.{ledger_of}
 use Rattle.std.proofs.Common.{Some, refl}
 use Rattle.block_server.specs.declared.line.Kept.TheVariants as keeps
 use Rattle.block_server.proofs.Owing.{owes_seen}
@@ -50,3 +53,8 @@ returns-in-Success-clause-answers g c = λ records alone has. owes_seen _ _ (see
 
 pub returns-in_default-clause-answers : goal.returns-in_default-clause-answers
 returns-in_default-clause-answers g c = λ records alone has. owes_seen _ _ (seen_sends _ _ _ c.send.ensures.rest) refl refl refl refl refl refl refl has
+
+pub returns-in-Success-clause-refuses : goal.returns-in-Success-clause-refuses
+returns-in-Success-clause-refuses g c = λ records.
+    explains_same (ledger_of c.args.unit.now (g.S.Site.state c.args.site.now) records) _ (passed_session _ _ c.send.ensures.passes) (passed_taken _ _ c.send.ensures.passes) refl refl refl refl
+    (logins_plain _ _ _ c.requires.plain c.in-Success.ensures.success.puts.sent)

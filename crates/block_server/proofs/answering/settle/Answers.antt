@@ -17,10 +17,14 @@ use Rattle.block_server.proofs.OwingCalls.{served_bytes}
 use Rattle.block_server.specs.Answering.{has_bytes}
 use Rattle.block_server.specs.Owed.{row_states, row_in}
 use Rattle.vio_num.specs.declared.history.Grant.TheVariants.{Granted}
-use Rattle.block_server.proofs.Refusing.{explains_finished, explains_granted}
+use Rattle.block_server.proofs.Settling.{explains_granted, explains_rejected, explains_served}
 use Rattle.block_server.proofs.Taking.{ended_stands, waiting_stands}
-use Rattle.block_server.specs.Refusals.{basis_at}
-use Rattle.block_server.specs.Serving.{desk_of}
+use Rattle.block_server.specs.Refusals.{ledger_at}
+use Rattle.block_server.specs.Serving.{IsAnswerKept, desk_of}
+use Rattle.std.proofs.Common.{length, subst, true, ◌≡◌}
+use Rattle.block_server.specs.Stage.{fits, has_answer}
+use Rattle.block_server.specs.declared.service.Outcome.{Outcome}
+use Rattle.block_server.specs.declared.service.Stage.{Stage}
 use Rattle.block_server.proofs.answering.settle.Goals as goal
 use Rattle.block_server.proofs.answering.settle.Goals.{in-Granted, in-Rejected, in-Served}
 
@@ -57,17 +61,26 @@ returns-clause-answers c = λ q stage going up has.
     ]
 
 pub returns-clause-refuses : goal.returns-clause-refuses
-returns-clause-refuses c = λ terms taken stage.
+returns-clause-refuses c = λ terms taken answers entry kept.
+    let desk = desk_of c.args.unit.now in
+    let bytes = c.args.unit.now.service.answer.items in
+    let old = ledger_at c.args.unit.now c.args.session taken answers c.args.records.now in
+    let fits_at : (outcome : Outcome) → c.args.outcome ≡ outcome → fits outcome (length bytes) ≡ true =
+    λ outcome is. subst (λ (stage : Stage). has_answer stage (length bytes) ≡ true) (kept.stage ∙ ap Entry is) c.args.unit.now.service.answered in
+    let kept_at : (outcome : Outcome) → c.args.outcome ≡ outcome → IsAnswerKept desk entry outcome =
+    λ outcome is. subst (IsAnswerKept desk entry) is kept in
     elim c.match-outcome.branch [
-      | in-Granted w ↦ explains_granted terms (desk_of c.args.unit.now) c.args.records.now.history.items (basis_at c.args.unit.now c.args.session taken c.args.records.now) _
-          w.begin-login.result w.in-Granted.number w.credits-credits.result (stage ∙ ap Entry w.in-Granted.is) refl w.credits-credits.ensures refl refl
+      | in-Granted w ↦ explains_granted terms desk c.args.records.now.history.items old _
+          w.begin-login.result w.in-Granted.number w.credits-credits.result entry (kept.stage ∙ ap Entry w.in-Granted.is) (kept_at _ w.in-Granted.is) (fits_at _ w.in-Granted.is) refl
+          w.credits-credits.ensures refl refl
           (waiting_stands _ _ c.finish.ensures.stands ∙ ap (λ (u : ServerUnit). u.waiting) w.unit-is) (ended_stands _ _ c.finish.ensures.stands ∙ ap (λ (u : ServerUnit). is_ended u.line) w.unit-is)
-          (c.finish.ensures.pending ∙ ap (λ (u : ServerUnit). drop 1 u.pending.items) w.unit-is) (ap (λ (r : Records). r.grants.items) w.records-is ∙ w.push_reserved.ensures.items)
-      | in-Rejected w ↦ λ serving since. explains_finished (basis_at c.args.unit.now c.args.session taken c.args.records.now) _ refl refl
+          (c.finish.ensures.pending ∙ ap (λ (u : ServerUnit). drop 1 u.pending.items) w.unit-is) (ap (λ (r : Records). r.grants.items) w.records-is ∙ w.push_reserved.ensures.items) refl
+      | in-Rejected w ↦ explains_rejected terms desk c.args.records.now.history.items old _ entry (kept.stage ∙ ap Entry w.in-Rejected.is) (kept_at _ w.in-Rejected.is) (fits_at _ w.in-Rejected.is)
+          refl refl refl
           (waiting_stands _ _ c.finish.ensures.stands ∙ ap (λ (u : ServerUnit). u.waiting) w.unit-is) (ended_stands _ _ c.finish.ensures.stands ∙ ap (λ (u : ServerUnit). is_ended u.line) w.unit-is)
-          (c.finish.ensures.pending ∙ ap (λ (u : ServerUnit). drop 1 u.pending.items) w.unit-is) (ap (λ (r : Records). r.grants.items) w.records-is) terms.told c.args.unit.now.id since
-      | in-Served w ↦ λ serving since. explains_finished (basis_at c.args.unit.now c.args.session taken c.args.records.now) _ refl refl
+          (c.finish.ensures.pending ∙ ap (λ (u : ServerUnit). drop 1 u.pending.items) w.unit-is) (ap (λ (r : Records). r.grants.items) w.records-is) refl
+      | in-Served w ↦ λ serving front. explains_served desk old _ entry w.in-Served.row (kept_at _ w.in-Served.is) (fits_at _ w.in-Served.is) refl refl
           (waiting_stands _ _ c.finish.ensures.stands ∙ ap (λ (u : ServerUnit). u.waiting) w.unit-is) (ended_stands _ _ c.finish.ensures.stands ∙ ap (λ (u : ServerUnit). is_ended u.line) w.unit-is)
           (c.finish.ensures.pending ∙ ap (λ (u : ServerUnit). drop 1 u.pending.items) w.unit-is)
-          (ap (λ (r : Records). r.grants.items) w.records-is ∙ ap (λ (v : Vec Grant Global). v.items) w.answer-in-Served.ensures.grants) terms.told c.args.unit.now.id since
+          (ap (λ (r : Records). r.grants.items) w.records-is ∙ ap (λ (v : Vec Grant Global). v.items) w.answer-in-Served.ensures.grants) refl terms.told c.args.unit.now.id front
     ]

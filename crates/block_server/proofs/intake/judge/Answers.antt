@@ -11,9 +11,10 @@ use Rattle.std.proofs.Common.{ap, length, ◌∙◌}
 use Rattle.block_server.proofs.Owing.{has_cut_of, owes_seen, seen_same}
 use Rattle.block_server.proofs.OwingCalls.{closing_ended, decides_current, decides_granted, fatal_other, owes_pushed}
 use Rattle.block_server.specs.Owed.{row_in}
-use Rattle.block_server.proofs.Refusing.{decided_cause, explained_ended, explains_pushed}
+use Rattle.block_server.proofs.Ledgers.{explained_ended, explains_pushed}
+use Rattle.block_server.proofs.Refusing.{decided_cause}
 use Rattle.vio_num.specs.declared.history.Grant.TheVariants.{Lapsed}
-use Rattle.block_server.specs.Refusals.{basis_at}
+use Rattle.block_server.specs.Refusals.{ledger_at}
 use Rattle.block_server.proofs.intake.judge.Goals as goal
 
 pub returns-in-Ignored-clause-once : goal.returns-in-Ignored-clause-once
@@ -73,15 +74,15 @@ pub returns-in-Fatal-clause-cargo : goal.returns-in-Fatal-clause-cargo
 returns-in-Fatal-clause-cargo c = λ shown. c.end_counted.ensures.cargo shown shown
 
 pub returns-in-Ignored-clause-refuses : goal.returns-in-Ignored-clause-refuses
-returns-in-Ignored-clause-refuses c = λ queue taken going none at long told unit since is. is
+returns-in-Ignored-clause-refuses c = λ queue taken answers going none at long told unit front is. is
 
 pub returns-in-Ok-clause-refuses : goal.returns-in-Ok-clause-refuses
-returns-in-Ok-clause-refuses c = λ queue taken going none at long.
-    explains_pushed (basis_at c.args.unit.now queue taken c.args.records.now) _ _ c.args.arrival.entry going at c.iu_address.ensures (ap length c.kept.ensures ∙ long) refl refl refl refl refl c.in-Ok.ensures.items
+returns-in-Ok-clause-refuses c = λ queue taken answers going none at long.
+    explains_pushed (ledger_at c.args.unit.now queue taken answers c.args.records.now) _ _ c.args.arrival.entry going at c.iu_address.ensures (ap length c.kept.ensures ∙ long) refl refl refl refl refl c.in-Ok.ensures.items refl
 
 pub returns-in-Fatal-clause-refuses : goal.returns-in-Fatal-clause-refuses
-returns-in-Fatal-clause-refuses c = λ queue taken going none at long told unit since.
-    explained_ended told unit since (basis_at c.args.unit.now queue taken c.args.records.now) (basis_at c.end_counted.new.unit queue taken c.end_counted.new.records)
+returns-in-Fatal-clause-refuses c = λ queue taken answers going none at long told unit front.
+    explained_ended told unit front (ledger_at c.args.unit.now queue taken answers c.args.records.now) (ledger_at c.end_counted.new.unit queue taken answers c.end_counted.new.records)
     (Lapsed c.args.unit.now.id c.args.session c.judge_unit.new.logins.current c.in-Fatal.cause c.in-Fatal.outstanding c.in-Fatal.granted) refl refl
     c.end_counted.ensures.ends.waiting c.end_counted.ensures.ends.pending c.end_counted.ensures.ends.line
-    (decided_cause (told_to told unit) unit c.args.unit.now.id taken c.args.session c.judge_unit.new.logins.current c.args.unit.now.logins c.judge_unit.new.logins _ c.judge_unit.result _ _ _ c.in-Fatal.is c.judge_unit.ensures.decides)
+    (decided_cause (told_to told unit) unit c.args.unit.now.id taken c.args.session c.judge_unit.new.logins.current c.args.unit.now.logins c.judge_unit.new.logins _ c.judge_unit.result _ _ _ c.in-Fatal.is c.judge_unit.ensures.decides) refl refl

@@ -12,6 +12,7 @@ use Rattle.block_server.proofs.Advancing.{advances_same}
 use Rattle.block_server.proofs.Jointly.{works, works_none, works_on, works_pass}
 use Rattle.block_server.specs.Owed.{HasAnswers, Owing}
 use Rattle.block_server.proofs.Hands.{keeps_on, keeps_same}
+use Rattle.block_server.specs.LoginAnswers.{login_answers}
 use Rattle.block_server.proofs.intake.receive_waiting.Goals as goal
 
 pub returns-in_default-clause-once : goal.returns-in_default-clause-once
@@ -78,8 +79,8 @@ pub returns-clause-cargo : goal.returns-clause-cargo
 returns-clause-cargo g c = keeps_on _ _ _ (keeps_same _ _ (c.make_room.ensures.cargo _)) c.receive.ensures.cargo
 
 pub returns-in_err-make_room-clause-refuses : goal.returns-in_err-make_room-clause-refuses
-returns-in_err-make_room-clause-refuses g c = λ told unit since all. c.make_room.ensures.refuses (g.S.Site.state c.args.site.now).queue.last_session (g.S.Site.state c.args.site.now).queue.taken told unit since
+returns-in_err-make_room-clause-refuses g c = λ told unit front all. c.make_room.ensures.refuses (g.S.Site.state c.args.site.now).queue.last_session (g.S.Site.state c.args.site.now).queue.taken (login_answers (g.S.Site.state c.args.site.now).queue.sent) told unit front
 
 pub returns-clause-refuses : goal.returns-clause-refuses
-returns-clause-refuses g c = λ told unit since all is.
-    c.receive.ensures.refuses (waiting_stands _ _ c.make_room.ensures.stands ∙ search rules) told unit since all (c.make_room.ensures.refuses (g.S.Site.state c.args.site.now).queue.last_session (g.S.Site.state c.args.site.now).queue.taken told unit since is)
+returns-clause-refuses g c = λ told unit front all is.
+    c.receive.ensures.refuses (waiting_stands _ _ c.make_room.ensures.stands ∙ search rules) told unit front all (c.make_room.ensures.refuses (g.S.Site.state c.args.site.now).queue.last_session (g.S.Site.state c.args.site.now).queue.taken (login_answers (g.S.Site.state c.args.site.now).queue.sent) told unit front is)

@@ -7,8 +7,8 @@ use Rattle.block_server.proofs.Taking.{lines_same, may_stands, takes_entry, take
 use Rattle.block_server.proofs.GoingOn.{command_no_event, command_no_handshake, not_format, srp_command}
 use Rattle.block_server.proofs.Jointly.{works, works_entry, works_none, works_on, works_other}
 use Rattle.block_server.specs.Books.{books_at, next_of}
-use Rattle.block_server.proofs.Refusing.{explains_entry, explains_taken}
-use Rattle.block_server.specs.Refusals.{basis_of}
+use Rattle.block_server.proofs.Ledgers.{explains_entry, explains_taken}
+use Rattle.block_server.specs.Refusals.{ledger_of}
 use Rattle.std.proofs.Common.{Some}
 use Rattle.block_server.proofs.intake.take_command.Goals as goal
 
@@ -89,16 +89,16 @@ pub returns-in_default-clause-answers : goal.returns-in_default-clause-answers
 returns-in_default-clause-answers g c = λ alone has. has
 
 pub returns-in-1-clause-refuses : goal.returns-in-1-clause-refuses
-returns-in-1-clause-refuses g c = λ before may first taken told unit since all is.
-    c.receive.ensures.refuses refl told unit since all
-    (explains_entry (basis_of c.args.unit.now before c.args.records.now) (basis_of (record c.args.unit.now { waiting = Some c.args.arrival }) (g.S.Site.state c.args.site.now) c.args.records.now) before (g.S.Site.state c.args.site.now) c.args.arrival taken
-    (srp_command c.args.arrival.entry first (search rules)) refl refl may.goes_on refl refl refl refl refl refl told unit since is)
+returns-in-1-clause-refuses g c = λ before may first taken answers told unit front all is.
+    c.receive.ensures.refuses refl told unit front all
+    (explains_entry (ledger_of c.args.unit.now before c.args.records.now) (ledger_of (record c.args.unit.now { waiting = Some c.args.arrival }) (g.S.Site.state c.args.site.now) c.args.records.now) before (g.S.Site.state c.args.site.now) c.args.arrival taken
+    (srp_command c.args.arrival.entry first (search rules)) refl refl may.goes_on refl refl refl refl refl refl answers told unit front is)
 
 pub returns-in-2-clause-refuses : goal.returns-in-2-clause-refuses
-returns-in-2-clause-refuses g c = λ before may first taken told unit since all is.
-    c.put_reply.ensures.refuses c.args.records.now told unit since
-    (explains_taken (basis_of c.args.unit.now before c.args.records.now) (basis_of c.args.unit.now (g.S.Site.state c.args.site.now) c.args.records.now) taken.session (_, taken.taken) refl refl refl refl told unit since is)
+returns-in-2-clause-refuses g c = λ before may first taken answers told unit front all is.
+    c.put_reply.ensures.refuses c.args.records.now told unit front
+    (explains_taken (ledger_of c.args.unit.now before c.args.records.now) (ledger_of c.args.unit.now (g.S.Site.state c.args.site.now) c.args.records.now) taken.session (_, taken.taken) refl refl refl refl answers told unit front is)
 
 pub returns-in_default-clause-refuses : goal.returns-in_default-clause-refuses
-returns-in_default-clause-refuses g c = λ before may first taken told unit since all.
-    explains_taken (basis_of c.args.unit.now before c.args.records.now) (basis_of c.args.unit.now (g.S.Site.state c.args.site.now) c.args.records.now) taken.session (_, taken.taken) refl refl refl refl told unit since
+returns-in_default-clause-refuses g c = λ before may first taken answers told unit front all.
+    explains_taken (ledger_of c.args.unit.now before c.args.records.now) (ledger_of c.args.unit.now (g.S.Site.state c.args.site.now) c.args.records.now) taken.session (_, taken.taken) refl refl refl refl answers told unit front

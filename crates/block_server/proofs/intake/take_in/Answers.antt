@@ -15,6 +15,7 @@ use Rattle.std.proofs.Common.{subst}
 use Rattle.block_server.specs.Owed.{HasAnswers, Owing}
 use Rattle.block_server.proofs.Hands.{keeps_on, keeps_same}
 use Rattle.block_server.proofs.Denying.{tells_first, tells_next}
+use Rattle.block_server.specs.LoginAnswers.{login_answers}
 use Rattle.block_server.proofs.intake.take_in.Goals as goal
 
 pub returns-in_err-next-clause-once : goal.returns-in_err-next-clause-once
@@ -89,11 +90,11 @@ loop-taken-preserved g c = record {
       (c.take_one.ensures.judges (may_stands _ _ c.make_room.ensures.stands (c.loop-taken.invariant.may on))))).judges;
   answers = λ alone has. c.take_one.ensures.answers alone (subst (λ (o : Owing). HasAnswers o) (sym (c.make_room.ensures.owing (g.S.Site.state c.loop-taken.site).queue)) (c.loop-taken.invariant.answers alone has));
   cargo = keeps_on _ _ _ (keeps_on _ _ _ c.loop-taken.invariant.cargo (keeps_same _ _ (c.make_room.ensures.cargo _))) c.take_one.ensures.cargo;
-  refuses = λ on told unit since all is.
-      c.take_one.ensures.refuses (may_stands _ _ c.make_room.ensures.stands (c.loop-taken.invariant.may on)) told unit since
+  refuses = λ on told unit front all is.
+      c.take_one.ensures.refuses (may_stands _ _ c.make_room.ensures.stands (c.loop-taken.invariant.may on)) told unit front
       (tells_next told unit (g.S.Site.state c.args.site.now) (g.S.Site.state c.loop-taken.site) (g.S.Site.state c.take_one.new.site) c.loop-taken.invariant.advances all)
-      (c.make_room.ensures.refuses (g.S.Site.state c.loop-taken.site).queue.last_session (g.S.Site.state c.loop-taken.site).queue.taken told unit since
-      (c.loop-taken.invariant.refuses on told unit since (tells_first told unit (g.S.Site.state c.args.site.now) (g.S.Site.state c.loop-taken.site) (g.S.Site.state c.take_one.new.site) c.take_one.ensures.advances all) is));
+      (c.make_room.ensures.refuses (g.S.Site.state c.loop-taken.site).queue.last_session (g.S.Site.state c.loop-taken.site).queue.taken (login_answers (g.S.Site.state c.loop-taken.site).queue.sent) told unit front
+      (c.loop-taken.invariant.refuses on told unit front (tells_first told unit (g.S.Site.state c.args.site.now) (g.S.Site.state c.loop-taken.site) (g.S.Site.state c.take_one.new.site) c.take_one.ensures.advances all) is));
   may = λ on. c.in_ok-next-2.ensures.goes_on (may_stands _ _ c.make_room.ensures.stands (c.loop-taken.invariant.may on)) (search rules);
 }
 
@@ -221,20 +222,20 @@ returns-then-ne-clause-refuses g c = λ on. c.receive_waiting.ensures.refuses
 
 pub returns-in_err-make_room-clause-refuses : goal.returns-in_err-make_room-clause-refuses
 returns-in_err-make_room-clause-refuses g c = λ on told unit since all is.
-    c.make_room.ensures.refuses (g.S.Site.state c.loop-taken.site).queue.last_session (g.S.Site.state c.loop-taken.site).queue.taken told unit since (c.loop-taken.invariant.refuses on told unit since all is)
+    c.make_room.ensures.refuses (g.S.Site.state c.loop-taken.site).queue.last_session (g.S.Site.state c.loop-taken.site).queue.taken (login_answers (g.S.Site.state c.loop-taken.site).queue.sent) told unit since (c.loop-taken.invariant.refuses on told unit since all is)
 
 pub returns-in_err-next-2-clause-refuses : goal.returns-in_err-next-2-clause-refuses
 returns-in_err-next-2-clause-refuses g c = λ on told unit since all is.
     c.take_one.ensures.refuses (may_stands _ _ c.make_room.ensures.stands (c.loop-taken.invariant.may on)) told unit since
     (tells_next told unit (g.S.Site.state c.args.site.now) (g.S.Site.state c.loop-taken.site) (g.S.Site.state c.take_one.new.site) c.loop-taken.invariant.advances all)
-    (c.make_room.ensures.refuses (g.S.Site.state c.loop-taken.site).queue.last_session (g.S.Site.state c.loop-taken.site).queue.taken told unit since
+    (c.make_room.ensures.refuses (g.S.Site.state c.loop-taken.site).queue.last_session (g.S.Site.state c.loop-taken.site).queue.taken (login_answers (g.S.Site.state c.loop-taken.site).queue.sent) told unit since
     (c.loop-taken.invariant.refuses on told unit since (tells_first told unit (g.S.Site.state c.args.site.now) (g.S.Site.state c.loop-taken.site) (g.S.Site.state c.take_one.new.site) c.take_one.ensures.advances all) is))
 
 pub returns-then-ne-2-clause-refuses : goal.returns-then-ne-2-clause-refuses
 returns-then-ne-2-clause-refuses g c = λ on told unit since all is.
     c.take_one.ensures.refuses (may_stands _ _ c.make_room.ensures.stands (c.loop-taken.invariant.may on)) told unit since
     (tells_next told unit (g.S.Site.state c.args.site.now) (g.S.Site.state c.loop-taken.site) (g.S.Site.state c.take_one.new.site) c.loop-taken.invariant.advances all)
-    (c.make_room.ensures.refuses (g.S.Site.state c.loop-taken.site).queue.last_session (g.S.Site.state c.loop-taken.site).queue.taken told unit since
+    (c.make_room.ensures.refuses (g.S.Site.state c.loop-taken.site).queue.last_session (g.S.Site.state c.loop-taken.site).queue.taken (login_answers (g.S.Site.state c.loop-taken.site).queue.sent) told unit since
     (c.loop-taken.invariant.refuses on told unit since (tells_first told unit (g.S.Site.state c.args.site.now) (g.S.Site.state c.loop-taken.site) (g.S.Site.state c.take_one.new.site) c.take_one.ensures.advances all) is))
 
 pub returns-after-loop-taken-clause-refuses : goal.returns-after-loop-taken-clause-refuses

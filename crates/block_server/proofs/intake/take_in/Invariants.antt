@@ -5,7 +5,7 @@ use Rattle.block_server.specs.Cargo.{KeepsCargo, cargo_of}
 use Rattle.block_server.specs.Judges.{Judges}
 use Rattle.block_server.specs.Owed.{KeepsAnswers}
 use Rattle.block_server.specs.Receipts.{MayTake, TakesIn, is_ended, standing_of}
-use Rattle.block_server.specs.Refusals.{ExplainsBy, basis_of}
+use Rattle.block_server.specs.Refusals.{ExplainsBy, ledger_of}
 use Rattle.block_server.specs.Serving.{AnswersOnceBy, desk_of}
 use Rattle.block_server.specs.Turns.{IfQuiet}
 use Rattle.block_server.specs.Waits.{StaysAgreed}
@@ -24,7 +24,7 @@ invariant-loop-taken g l = record {
   judges : is_ended l.fn.unit.line ≡ false → Judges (standing_of l.fn.unit) (standing_of l.unit) (g.S.Site.state l.fn.site) (g.S.Site.state l.site) (books_at l.fn.unit (g.S.Site.state l.fn.site) l.fn.records) (books_at l.unit (g.S.Site.state l.site) l.records);
   answers : KeepsAnswers g.S.Site.link_shared l.fn.unit l.unit (g.S.Site.state l.fn.site) (g.S.Site.state l.site) l.fn.records l.records;
   cargo : KeepsCargo (cargo_of l.fn.unit (g.S.Site.state l.fn.site) l.fn.records) (cargo_of l.unit (g.S.Site.state l.site) l.records);
-  refuses : is_ended l.fn.unit.line ≡ false → ExplainsBy (g.S.Site.state l.fn.site) (g.S.Site.state l.site) (basis_of l.fn.unit (g.S.Site.state l.fn.site) l.fn.records) (basis_of l.unit (g.S.Site.state l.site) l.records);
+  refuses : is_ended l.fn.unit.line ≡ false → ExplainsBy (g.S.Site.state l.fn.site) (g.S.Site.state l.site) (ledger_of l.fn.unit (g.S.Site.state l.fn.site) l.fn.records) (ledger_of l.unit (g.S.Site.state l.site) l.records);
   may : is_ended l.fn.unit.line ≡ false → MayTake (standing_of l.unit);
 }
 

@@ -18,10 +18,11 @@ use Rattle.block_server.specs.Owed.{row_in}
 use Rattle.block_server.specs.Cargo.{data_bytes}
 use Rattle.block_server.proofs.Cargoes.{shown_same}
 use Rattle.block_server.proofs.Hands.{keeps_on, keeps_same}
-use Rattle.block_server.proofs.Refusing.{explained_ended, explains_same, explains_stands, explains_taken}
+use Rattle.block_server.proofs.Ledgers.{explained_ended, explains_same, explains_stands, explains_taken}
 use Rattle.vio_num.specs.declared.history.Grant.TheVariants.{Lapsed}
 use Rattle.vio_num.specs.declared.history.Lapse.TheVariants.{Lost}
-use Rattle.block_server.specs.Refusals.{basis_of}
+use Rattle.block_server.specs.Refusals.{ledger_of}
+use Rattle.block_server.specs.LoginAnswers.{login_answers}
 use Rattle.block_server.proofs.intake.take_one.Goals as goal
 
 pub returns-in_err-reserve-clause-once : goal.returns-in_err-reserve-clause-once
@@ -383,53 +384,53 @@ pub returns-in-Event-clause-cargo : goal.returns-in-Event-clause-cargo
 returns-in-Event-clause-cargo g c = c.lose_partner.ensures.cargo _ _
 
 pub returns-in_err-reserve-clause-refuses : goal.returns-in_err-reserve-clause-refuses
-returns-in_err-reserve-clause-refuses g c = λ may told unit since all is.
-    (explains_stands c.args.unit.now c.args.unit.now (g.S.Site.state c.args.site.now) (g.S.Site.state c.reserve.new.self) c.args.records.now c.args.records.now refl c.reserve.ensures.passes refl refl told unit since is)
+returns-in_err-reserve-clause-refuses g c = λ may told unit front all is.
+    (explains_stands c.args.unit.now c.args.unit.now (g.S.Site.state c.args.site.now) (g.S.Site.state c.reserve.new.self) c.args.records.now c.args.records.now refl c.reserve.ensures.passes refl refl (ap login_answers c.reserve.ensures.rest.sent) told unit front is)
 
 pub returns-in_default-clause-refuses : goal.returns-in_default-clause-refuses
-returns-in_default-clause-refuses g c = λ may told unit since all is.
+returns-in_default-clause-refuses g c = λ may told unit front all is.
     let taken = poll_taken _ _ _ c.poll.result (λ number entry is. c.in_default.not-Got number entry is) c.poll.ensures.empty c.poll.ensures.refused in
-    explains_same (basis_of c.args.unit.now (g.S.Site.state c.reserve.new.self) c.args.records.now) _ c.poll.ensures.rest.last_session taken refl refl refl refl told unit since
-    (explains_stands c.args.unit.now c.args.unit.now (g.S.Site.state c.args.site.now) (g.S.Site.state c.reserve.new.self) c.args.records.now c.args.records.now refl c.reserve.ensures.passes refl refl told unit since is)
+    explains_same (ledger_of c.args.unit.now (g.S.Site.state c.reserve.new.self) c.args.records.now) _ c.poll.ensures.rest.last_session taken refl refl refl refl (ap login_answers c.poll.ensures.rest.sent) told unit front
+    (explains_stands c.args.unit.now c.args.unit.now (g.S.Site.state c.args.site.now) (g.S.Site.state c.reserve.new.self) c.args.records.now c.args.records.now refl c.reserve.ensures.passes refl refl (ap login_answers c.reserve.ensures.rest.sent) told unit front is)
 
 pub returns-in-Command-clause-refuses : goal.returns-in-Command-clause-refuses
-returns-in-Command-clause-refuses g c = λ may told unit since all is.
+returns-in-Command-clause-refuses g c = λ may told unit front all is.
     c.take_command.ensures.refuses (g.S.Site.state c.reserve.new.self) may (command_first c.in-Got.entry (search rules)) (record {
       number_is = c.in-Got.ensures.got.number_is;
       taken = c.in-Got.ensures.got.taken;
       session = c.poll.ensures.rest.last_session;
       windows = c.poll.ensures.windows;
       advances = c.poll.ensures.advances;
-    }) told unit since
+    }) (ap login_answers c.poll.ensures.rest.sent) told unit front
     (tells_next told unit (g.S.Site.state c.args.site.now) (g.S.Site.state c.poll.new.self) (g.S.Site.state c.take_command.new.site) (advances_on _ _ _ c.reserve.ensures.advances c.poll.ensures.advances) all)
-    (explains_stands c.args.unit.now c.args.unit.now (g.S.Site.state c.args.site.now) (g.S.Site.state c.reserve.new.self) c.args.records.now c.args.records.now refl c.reserve.ensures.passes refl refl told unit since is)
+    (explains_stands c.args.unit.now c.args.unit.now (g.S.Site.state c.args.site.now) (g.S.Site.state c.reserve.new.self) c.args.records.now c.args.records.now refl c.reserve.ensures.passes refl refl (ap login_answers c.reserve.ensures.rest.sent) told unit front is)
 
 pub returns-in-Some-clause-refuses : goal.returns-in-Some-clause-refuses
-returns-in-Some-clause-refuses g c = λ may told unit since all is.
-    c.put_reply.ensures.refuses c.args.records.now told unit since
-    (explains_taken (basis_of c.args.unit.now (g.S.Site.state c.reserve.new.self) c.args.records.now) (basis_of (record c.args.unit.now { line = record c.args.unit.now.line { handshake = c.got-step.new.self } }) (g.S.Site.state c.poll.new.self) c.args.records.now) c.poll.ensures.rest.last_session (_, c.in-Got.ensures.got.taken) refl refl
-    (got_ended _ _ _ c.in-Got.entry c.got-step.ensures.state) refl told unit since
-    (explains_stands c.args.unit.now c.args.unit.now (g.S.Site.state c.args.site.now) (g.S.Site.state c.reserve.new.self) c.args.records.now c.args.records.now refl c.reserve.ensures.passes refl refl told unit since is))
+returns-in-Some-clause-refuses g c = λ may told unit front all is.
+    c.put_reply.ensures.refuses c.args.records.now told unit front
+    (explains_taken (ledger_of c.args.unit.now (g.S.Site.state c.reserve.new.self) c.args.records.now) (ledger_of (record c.args.unit.now { line = record c.args.unit.now.line { handshake = c.got-step.new.self } }) (g.S.Site.state c.poll.new.self) c.args.records.now) c.poll.ensures.rest.last_session (_, c.in-Got.ensures.got.taken) refl refl
+    (got_ended _ _ _ c.in-Got.entry c.got-step.ensures.state) refl (ap login_answers c.poll.ensures.rest.sent) told unit front
+    (explains_stands c.args.unit.now c.args.unit.now (g.S.Site.state c.args.site.now) (g.S.Site.state c.reserve.new.self) c.args.records.now c.args.records.now refl c.reserve.ensures.passes refl refl (ap login_answers c.reserve.ensures.rest.sent) told unit front is))
 
 pub returns-in-None-clause-refuses : goal.returns-in-None-clause-refuses
-returns-in-None-clause-refuses g c = λ may told unit since all is.
-    explains_taken (basis_of c.args.unit.now (g.S.Site.state c.reserve.new.self) c.args.records.now) _ c.poll.ensures.rest.last_session (_, c.in-Got.ensures.got.taken) refl refl (got_ended _ _ _ c.in-Got.entry c.got-step.ensures.state) refl told unit since
-    (explains_stands c.args.unit.now c.args.unit.now (g.S.Site.state c.args.site.now) (g.S.Site.state c.reserve.new.self) c.args.records.now c.args.records.now refl c.reserve.ensures.passes refl refl told unit since is)
+returns-in-None-clause-refuses g c = λ may told unit front all is.
+    explains_taken (ledger_of c.args.unit.now (g.S.Site.state c.reserve.new.self) c.args.records.now) _ c.poll.ensures.rest.last_session (_, c.in-Got.ensures.got.taken) refl refl (got_ended _ _ _ c.in-Got.entry c.got-step.ensures.state) refl (ap login_answers c.poll.ensures.rest.sent) told unit front
+    (explains_stands c.args.unit.now c.args.unit.now (g.S.Site.state c.args.site.now) (g.S.Site.state c.reserve.new.self) c.args.records.now c.args.records.now refl c.reserve.ensures.passes refl refl (ap login_answers c.reserve.ensures.rest.sent) told unit front is)
 
 pub returns-in-Unused-clause-refuses : goal.returns-in-Unused-clause-refuses
-returns-in-Unused-clause-refuses g c = λ may told unit since all is.
-    explains_taken (basis_of c.args.unit.now (g.S.Site.state c.reserve.new.self) c.args.records.now) _ c.poll.ensures.rest.last_session (_, c.in-Got.ensures.got.taken) refl refl refl refl told unit since
-    (explains_stands c.args.unit.now c.args.unit.now (g.S.Site.state c.args.site.now) (g.S.Site.state c.reserve.new.self) c.args.records.now c.args.records.now refl c.reserve.ensures.passes refl refl told unit since is)
+returns-in-Unused-clause-refuses g c = λ may told unit front all is.
+    explains_taken (ledger_of c.args.unit.now (g.S.Site.state c.reserve.new.self) c.args.records.now) _ c.poll.ensures.rest.last_session (_, c.in-Got.ensures.got.taken) refl refl refl refl (ap login_answers c.poll.ensures.rest.sent) told unit front
+    (explains_stands c.args.unit.now c.args.unit.now (g.S.Site.state c.args.site.now) (g.S.Site.state c.reserve.new.self) c.args.records.now c.args.records.now refl c.reserve.ensures.passes refl refl (ap login_answers c.reserve.ensures.rest.sent) told unit front is)
 
 pub returns-in-Reserved-clause-refuses : goal.returns-in-Reserved-clause-refuses
-returns-in-Reserved-clause-refuses g c = λ may told unit since all is.
-    explains_taken (basis_of c.args.unit.now (g.S.Site.state c.reserve.new.self) c.args.records.now) _ c.poll.ensures.rest.last_session (_, c.in-Got.ensures.got.taken) refl refl refl refl told unit since
-    (explains_stands c.args.unit.now c.args.unit.now (g.S.Site.state c.args.site.now) (g.S.Site.state c.reserve.new.self) c.args.records.now c.args.records.now refl c.reserve.ensures.passes refl refl told unit since is)
+returns-in-Reserved-clause-refuses g c = λ may told unit front all is.
+    explains_taken (ledger_of c.args.unit.now (g.S.Site.state c.reserve.new.self) c.args.records.now) _ c.poll.ensures.rest.last_session (_, c.in-Got.ensures.got.taken) refl refl refl refl (ap login_answers c.poll.ensures.rest.sent) told unit front
+    (explains_stands c.args.unit.now c.args.unit.now (g.S.Site.state c.args.site.now) (g.S.Site.state c.reserve.new.self) c.args.records.now c.args.records.now refl c.reserve.ensures.passes refl refl (ap login_answers c.reserve.ensures.rest.sent) told unit front is)
 
 pub returns-in-Event-clause-refuses : goal.returns-in-Event-clause-refuses
-returns-in-Event-clause-refuses g c = λ may told unit since all is.
-    let at = basis_of (record c.args.unit.now { line = record c.args.unit.now.line { handshake = c.got-step-in-Event.new.self } }) (g.S.Site.state c.poll.new.self) c.args.records.now in
-    explained_ended told unit since at (basis_of c.lose_partner.new.unit (g.S.Site.state c.poll.new.self) c.lose_partner.new.records)
-    (Lapsed c.args.unit.now.id c.session.result c.args.unit.now.logins.current Lost 0 0) refl refl c.lose_partner.ensures.ends.waiting c.lose_partner.ensures.ends.pending c.lose_partner.ensures.ends.line tt
-    (explains_taken (basis_of c.args.unit.now (g.S.Site.state c.reserve.new.self) c.args.records.now) at c.poll.ensures.rest.last_session (_, c.in-Got.ensures.got.taken) refl refl (got_ended _ _ _ c.in-Got.entry c.got-step-in-Event.ensures.state) refl told unit since
-    (explains_stands c.args.unit.now c.args.unit.now (g.S.Site.state c.args.site.now) (g.S.Site.state c.reserve.new.self) c.args.records.now c.args.records.now refl c.reserve.ensures.passes refl refl told unit since is))
+returns-in-Event-clause-refuses g c = λ may told unit front all is.
+    let at = ledger_of (record c.args.unit.now { line = record c.args.unit.now.line { handshake = c.got-step-in-Event.new.self } }) (g.S.Site.state c.poll.new.self) c.args.records.now in
+    explained_ended told unit front at (ledger_of c.lose_partner.new.unit (g.S.Site.state c.poll.new.self) c.lose_partner.new.records)
+    (Lapsed c.args.unit.now.id c.session.result c.args.unit.now.logins.current Lost 0 0) refl refl c.lose_partner.ensures.ends.waiting c.lose_partner.ensures.ends.pending c.lose_partner.ensures.ends.line tt refl refl
+    (explains_taken (ledger_of c.args.unit.now (g.S.Site.state c.reserve.new.self) c.args.records.now) at c.poll.ensures.rest.last_session (_, c.in-Got.ensures.got.taken) refl refl (got_ended _ _ _ c.in-Got.entry c.got-step-in-Event.ensures.state) refl (ap login_answers c.poll.ensures.rest.sent) told unit front
+    (explains_stands c.args.unit.now c.args.unit.now (g.S.Site.state c.args.site.now) (g.S.Site.state c.reserve.new.self) c.args.records.now c.args.records.now refl c.reserve.ensures.passes refl refl (ap login_answers c.reserve.ensures.rest.sent) told unit front is))

@@ -3,7 +3,8 @@ use Rattle.block_server.specs.declared.service.Outcome.TheVariants.{Granted, Rej
 use Rattle.block_server.proofs.Serves.{once_judged}
 use Rattle.block_server.proofs.Offering.{may_first}
 use Rattle.block_server.proofs.Quieting.{on_ok}
-use Rattle.block_server.specs.Responses.{GrantsLogin}
+use Rattle.block_server.specs.Responses.{GrantsLogin, RejectsLogin}
+use Rattle.block_server.specs.Ends.{IsRejectedFor}
 use Rattle.block_server.proofs.Booking.{login_set}
 use Rattle.std.proofs.Common.{sym, ◌∙◌}
 use Rattle.block_server.proofs.Sendings.{set_unloaded}
@@ -11,7 +12,21 @@ use Rattle.block_server.proofs.serving.judge_login.Goals as goal
 
 pub returns-in-Some-clause-once : goal.returns-in-Some-clause-once
 returns-in-Some-clause-once c = λ id front rest number order q records disk serving.
-    once_judged _ _ _ _ Rejected c.set_answer.result refl refl refl refl (λ P. tt) c.set_answer.ensures.stage c.set_answer.ensures.err c.set_answer.ensures.same (λ i. record { outs = (c.set_answer.ensures.out i).list.items; inns = (c.set_answer.ensures.inn i).list.items; given = (c.set_answer.ensures.given i).items }) disk (on_ok c.set_answer.result _ _ (λ is. tt) c.set_answer.ensures.stage) serving
+    let same : c.deref.result.now ≡ c.login_rejected.result.items = search (rules, c.deref.ensures) in
+    once_judged _ _ _ _ Rejected c.set_answer.result refl refl refl refl (λ P. tt) c.set_answer.ensures.stage c.set_answer.ensures.err c.set_answer.ensures.same (λ i. record { outs = (c.set_answer.ensures.out i).list.items; inns = (c.set_answer.ensures.inn i).list.items; given = (c.set_answer.ensures.given i).items }) disk
+    (on_ok c.set_answer.result _ _ (λ bytes. record {
+      front = front;
+      rest = rest;
+      parts = refl;
+      asked = c.args.login.now;
+      asks = order;
+      current = c.args.logins.now.current;
+      rejects = record {
+        reason = c.in-Some.reason;
+        why = subst (λ (n : ℕ). IsRejectedFor n c.args.login.now c.in-Some.reason) c.current.ensures c.in-Some.ensures.why;
+        bytes_are = subst (λ (list : List ℕ). RejectsLogin list c.args.login.now.tag c.in-Some.reason) (sym (bytes ∙ same)) c.login_rejected.ensures.canonical;
+      };
+    }) c.set_answer.ensures.answer) serving
 
 pub returns-in-None-clause-once : goal.returns-in-None-clause-once
 returns-in-None-clause-once c = λ id front rest number order q records disk serving.

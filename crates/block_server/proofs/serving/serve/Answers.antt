@@ -34,9 +34,10 @@ use Rattle.block_server.proofs.Sendings.{other_unloaded}
 use Rattle.block_server.specs.Serving.{IsServing, terms_of}
 use Rattle.block_server.specs.Judged.{is_command}
 use Rattle.block_server.specs.Cargo.{IsAccounted}
-use Rattle.block_server.proofs.Refusing.{explained_then, explains_same}
-use Rattle.block_server.specs.Refusals.{basis_of}
+use Rattle.block_server.proofs.Ledgers.{explained_then, explains_same}
+use Rattle.block_server.specs.Refusals.{ledger_of}
 use Rattle.block_server.proofs.Taking.{ended_stands}
+use Rattle.block_server.specs.LoginAnswers.{login_answers}
 use Rattle.block_server.proofs.serving.serve.Goals as goal
 
 pub returns-clause-advances : goal.returns-clause-advances
@@ -297,24 +298,24 @@ returns-clause-cargo g c = λ told all serving hand.
     (c.prepare.ensures.cargo told (tells_first told unit.id (g.S.Site.state c.args.site.now) (g.S.Site.state c.prepare.new.site) (g.S.Site.state c.answer.new.site) c.answer.ensures.advances all) front.0 at hand))
 
 pub returns-in_default-clause-refuses : goal.returns-in_default-clause-refuses
-returns-in_default-clause-refuses g c = λ told all serving since is. is
+returns-in_default-clause-refuses g c = λ told all serving front is. is
 
 pub returns-in_err-make_room-clause-refuses : goal.returns-in_err-make_room-clause-refuses
-returns-in_err-make_room-clause-refuses g c = λ told all serving since is.
-    explains_same (basis_of c.args.unit.now (g.S.Site.state c.args.site.now) c.args.records.now) _ refl refl refl refl refl c.make_room.ensures.lists.grants told c.args.unit.now.id since is
+returns-in_err-make_room-clause-refuses g c = λ told all serving front is.
+    explains_same (ledger_of c.args.unit.now (g.S.Site.state c.args.site.now) c.args.records.now) _ refl refl refl refl refl c.make_room.ensures.lists.grants refl told c.args.unit.now.id front is
 
 pub returns-in-Logout-clause-refuses : goal.returns-in-Logout-clause-refuses
-returns-in-Logout-clause-refuses g c = λ told all serving since is.
-    c.log_out.ensures.refuses (g.S.Site.state c.args.site.now).queue.last_session (g.S.Site.state c.args.site.now).queue.taken told c.args.unit.now.id since
-    (explains_same (basis_of c.args.unit.now (g.S.Site.state c.args.site.now) c.args.records.now) (basis_of c.args.unit.now (g.S.Site.state c.args.site.now) c.make_room.new.self) refl refl refl refl refl c.make_room.ensures.lists.grants told c.args.unit.now.id since is)
+returns-in-Logout-clause-refuses g c = λ told all serving front is.
+    c.log_out.ensures.refuses (g.S.Site.state c.args.site.now).queue.last_session (g.S.Site.state c.args.site.now).queue.taken (login_answers (g.S.Site.state c.args.site.now).queue.sent) told c.args.unit.now.id front
+    (explains_same (ledger_of c.args.unit.now (g.S.Site.state c.args.site.now) c.args.records.now) (ledger_of c.args.unit.now (g.S.Site.state c.args.site.now) c.make_room.new.self) refl refl refl refl refl c.make_room.ensures.lists.grants refl told c.args.unit.now.id front is)
 
 pub returns-in_err-prepare-clause-refuses : goal.returns-in_err-prepare-clause-refuses
-returns-in_err-prepare-clause-refuses g c = λ told all serving since is.
-    explains_same (basis_of c.args.unit.now (g.S.Site.state c.args.site.now) c.args.records.now) _ (ap (λ (q : EndState). q.last_session) c.prepare.ensures.queue) (ap (λ (q : EndState). q.taken) c.prepare.ensures.queue) refl refl refl c.prepare.ensures.grants
-    told c.args.unit.now.id since is
+returns-in_err-prepare-clause-refuses g c = λ told all serving front is.
+    explains_same (ledger_of c.args.unit.now (g.S.Site.state c.args.site.now) c.args.records.now) _ (ap (λ (q : EndState). q.last_session) c.prepare.ensures.queue) (ap (λ (q : EndState). q.taken) c.prepare.ensures.queue) refl refl refl c.prepare.ensures.grants (ap (λ (q : EndState). login_answers q.sent) c.prepare.ensures.queue)
+    told c.args.unit.now.id front is
 
 pub returns-clause-refuses : goal.returns-clause-refuses
-returns-clause-refuses g c = λ told all serving since is.
+returns-clause-refuses g c = λ told all serving begun is.
     let unit = c.args.unit.now in
     let front = front_is _ _ c.in-Some.ensures.item.3 in
     let old = g.S.Site.state c.args.site.now in
@@ -325,10 +326,10 @@ returns-clause-refuses g c = λ told all serving since is.
     (desk_is unit.id unit.logins.granted unit.service None _ _ _ c.requires.none front.1)
     (c.note_stage.ensures.desk ∙ desk_is unit.id unit.logins.granted c.prepare.new.service None _ _ _ c.requires.none front.1)
     _ _ (c.prepare.ensures.once told (tells_first told unit.id old mid new c.answer.ensures.advances all) front.0) serving in
-    explained_then _ _ (desk_of unit) (desk_of c.note_stage.new.unit) _ _ _ _ since (basis_of unit old c.args.records.now) (basis_of c.note_stage.new.unit mid c.prepare.new.records) _ prepared
-    (explains_same (basis_of unit old c.args.records.now) (basis_of c.note_stage.new.unit mid c.prepare.new.records)
+    explained_then _ _ (desk_of unit) (desk_of c.note_stage.new.unit) _ _ _ _ begun (ledger_of unit old c.args.records.now) (ledger_of c.note_stage.new.unit mid c.prepare.new.records) _ prepared
+    (explains_same (ledger_of unit old c.args.records.now) (ledger_of c.note_stage.new.unit mid c.prepare.new.records)
     (ap (λ (q : EndState). q.last_session) c.prepare.ensures.queue) (ap (λ (q : EndState). q.taken) c.prepare.ensures.queue)
     (waiting_stands _ _ c.note_stage.ensures.stands) (ap (λ (way : UnderWay). way.pending) c.note_stage.ensures.way) (ended_stands _ _ c.note_stage.ensures.stands)
-    c.prepare.ensures.grants told unit.id since)
+    c.prepare.ensures.grants (ap (λ (q : EndState). login_answers q.sent) c.prepare.ensures.queue) told unit.id begun)
     (c.answer.ensures.refuses (terms_of told c.prepare.new.disk.count)
     (subst (λ (id : UnitId). TellsAll told id mid new) (sym (ap (λ (desk : Desk). desk.id) c.note_stage.ensures.desk)) (tells_next told unit.id old mid new c.prepare.ensures.advances all))) is

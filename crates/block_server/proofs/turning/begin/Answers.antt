@@ -7,8 +7,8 @@ use Rattle.block_server.proofs.Jointly.{keeps_opened}
 use Rattle.block_server.specs.Books.{books_at, is_up}
 use Rattle.block_server.proofs.Keeping.{moved_to}
 use Rattle.block_server.proofs.Owing.{owes_ended}
-use Rattle.block_server.proofs.Refusing.{explains_begun}
-use Rattle.block_server.specs.Refusals.{basis_of}
+use Rattle.block_server.proofs.Ledgers.{explains_begun}
+use Rattle.block_server.specs.Refusals.{ledger_of}
 use Rattle.block_server.proofs.turning.begin.Goals as goal
 
 pub returns-in-Some-clause-once : goal.returns-in-Some-clause-once
@@ -51,8 +51,8 @@ pub returns-in_default-clause-answers : goal.returns-in_default-clause-answers
 returns-in_default-clause-answers g c = λ records over alone has. owes_ended _ _ over refl refl refl refl refl refl has
 
 pub returns-in-Some-clause-refuses : goal.returns-in-Some-clause-refuses
-returns-in-Some-clause-refuses g c = λ records over told unit since is.
-    c.put_reply-next.ensures.refuses records told unit since (explains_begun (basis_of c.args.unit.now (g.S.Site.state c.args.site.now) records) _ over refl refl refl refl told unit since is)
+returns-in-Some-clause-refuses g c = λ records over told unit front is.
+    c.put_reply-next.ensures.refuses records told unit front (explains_begun (ledger_of c.args.unit.now (g.S.Site.state c.args.site.now) records) _ over refl refl refl refl refl told unit front is)
 
 pub returns-in_default-clause-refuses : goal.returns-in_default-clause-refuses
-returns-in_default-clause-refuses g c = λ records over. explains_begun _ _ over refl refl refl refl
+returns-in_default-clause-refuses g c = λ records over. explains_begun _ _ over refl refl refl refl refl

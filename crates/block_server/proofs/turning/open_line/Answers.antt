@@ -11,8 +11,9 @@ use Rattle.block_server.proofs.Jointly.{keeps_pass, works, works_none, works_on,
 use Rattle.block_server.specs.Books.{books_at}
 use Rattle.block_server.proofs.Owing.{owes_seen}
 use Rattle.block_server.proofs.OwingCalls.{seen_reserves}
-use Rattle.block_server.proofs.Refusing.{explains_on, explains_stands}
-use Rattle.block_server.specs.Refusals.{basis_of}
+use Rattle.block_server.proofs.Ledgers.{explains_on, explains_stands}
+use Rattle.block_server.specs.Refusals.{ledger_of}
+use Rattle.block_server.specs.LoginAnswers.{login_answers}
 use Rattle.block_server.proofs.turning.open_line.Goals as goal
 
 pub returns-in_err-reserve-clause-once : goal.returns-in_err-reserve-clause-once
@@ -208,24 +209,24 @@ returns-then-is_down-clause-judges g c = λ records. (works_on _ _ _ _ _ _ _ _ _
     (works _ _ _ _ _ _ refl refl (c.register.ensures.intake records.grants.items) (c.register.ensures.judges records))).judges
 
 pub returns-in_err-reserve-clause-refuses : goal.returns-in_err-reserve-clause-refuses
-returns-in_err-reserve-clause-refuses g c = λ records. explains_stands c.args.unit.now c.args.unit.now _ _ records records refl c.reserve.ensures.passes refl refl
+returns-in_err-reserve-clause-refuses g c = λ records. explains_stands c.args.unit.now c.args.unit.now _ _ records records refl c.reserve.ensures.passes refl refl (ap login_answers c.reserve.ensures.rest.sent)
 
 pub returns-then-eq-clause-refuses : goal.returns-then-eq-clause-refuses
 returns-then-eq-clause-refuses g c = λ records.
-    let pushed = explains_on (basis_of c.args.unit.now (g.S.Site.state c.args.site.now) records) (basis_of c.args.unit.now (g.S.Site.state c.reserve.new.self) records) _ (explains_stands c.args.unit.now c.args.unit.now _ _ records records refl c.reserve.ensures.passes refl refl) (c.push_event.ensures.refuses records) in
+    let pushed = explains_on (ledger_of c.args.unit.now (g.S.Site.state c.args.site.now) records) (ledger_of c.args.unit.now (g.S.Site.state c.reserve.new.self) records) _ (explains_stands c.args.unit.now c.args.unit.now _ _ records records refl c.reserve.ensures.passes refl refl (ap login_answers c.reserve.ensures.rest.sent)) (c.push_event.ensures.refuses records) in
     pushed
 
 pub returns-then-eq-2-clause-refuses : goal.returns-then-eq-2-clause-refuses
 returns-then-eq-2-clause-refuses g c = λ records.
-    let pushed = explains_on (basis_of c.args.unit.now (g.S.Site.state c.args.site.now) records) (basis_of c.args.unit.now (g.S.Site.state c.reserve.new.self) records) _ (explains_stands c.args.unit.now c.args.unit.now _ _ records records refl c.reserve.ensures.passes refl refl) (c.push_event.ensures.refuses records) in
+    let pushed = explains_on (ledger_of c.args.unit.now (g.S.Site.state c.args.site.now) records) (ledger_of c.args.unit.now (g.S.Site.state c.reserve.new.self) records) _ (explains_stands c.args.unit.now c.args.unit.now _ _ records records refl c.reserve.ensures.passes refl refl (ap login_answers c.reserve.ensures.rest.sent)) (c.push_event.ensures.refuses records) in
     explains_on _ _ _ pushed (c.free_closed.ensures.refuses records)
 
 pub returns-then-is_down-clause-refuses : goal.returns-then-is_down-clause-refuses
 returns-then-is_down-clause-refuses g c = λ records.
-    let pushed = explains_on (basis_of c.args.unit.now (g.S.Site.state c.args.site.now) records) (basis_of c.args.unit.now (g.S.Site.state c.reserve.new.self) records) _ (explains_stands c.args.unit.now c.args.unit.now _ _ records records refl c.reserve.ensures.passes refl refl) (c.push_event.ensures.refuses records) in
+    let pushed = explains_on (ledger_of c.args.unit.now (g.S.Site.state c.args.site.now) records) (ledger_of c.args.unit.now (g.S.Site.state c.reserve.new.self) records) _ (explains_stands c.args.unit.now c.args.unit.now _ _ records records refl c.reserve.ensures.passes refl refl (ap login_answers c.reserve.ensures.rest.sent)) (c.push_event.ensures.refuses records) in
     explains_on _ _ _ (explains_on _ _ _ pushed (c.free_closed.ensures.refuses records)) (c.register.ensures.refuses records)
 
 pub returns-clause-refuses : goal.returns-clause-refuses
 returns-clause-refuses g c = λ records.
-    let pushed = explains_on (basis_of c.args.unit.now (g.S.Site.state c.args.site.now) records) (basis_of c.args.unit.now (g.S.Site.state c.reserve.new.self) records) _ (explains_stands c.args.unit.now c.args.unit.now _ _ records records refl c.reserve.ensures.passes refl refl) (c.push_event.ensures.refuses records) in
+    let pushed = explains_on (ledger_of c.args.unit.now (g.S.Site.state c.args.site.now) records) (ledger_of c.args.unit.now (g.S.Site.state c.reserve.new.self) records) _ (explains_stands c.args.unit.now c.args.unit.now _ _ records records refl c.reserve.ensures.passes refl refl (ap login_answers c.reserve.ensures.rest.sent)) (c.push_event.ensures.refuses records) in
     explains_on _ _ _ pushed (c.free_closed.ensures.refuses records)

@@ -9,8 +9,8 @@ use Rattle.block_server.proofs.Taking.{lines_same, passes_windows, takes_none, t
 use Rattle.block_server.proofs.GoingOn.{down_ended, register_session}
 use Rattle.block_server.proofs.Jointly.{keeps_pass, keeps_registered}
 use Rattle.block_server.proofs.Owing.{owes_ended}
-use Rattle.block_server.proofs.Refusing.{explains_begun}
-use Rattle.block_server.specs.Refusals.{basis_of}
+use Rattle.block_server.proofs.Ledgers.{explains_begun}
+use Rattle.block_server.specs.Refusals.{ledger_of}
 use Rattle.block_server.proofs.turning.register.Goals as goal
 
 pub returns-in_default-clause-once : goal.returns-in_default-clause-once
@@ -103,14 +103,14 @@ returns-in-Closed-clause-judges g c = λ records.
     c.begin-in-Closed.ensures.passes (advances_on _ _ _ c.register.ensures.advances c.begin-in-Closed.ensures.advances) c.begin-in-Closed.ensures.waiting refl (returns-in-Closed-clause-books g c records)
 
 pub returns-in_default-clause-refuses : goal.returns-in_default-clause-refuses
-returns-in_default-clause-refuses g c = λ records. explains_begun _ _ (down_ended _ _ c.requires.down) c.register.ensures.rest.taken refl refl refl
+returns-in_default-clause-refuses g c = λ records. explains_begun _ _ (down_ended _ _ c.requires.down) c.register.ensures.rest.taken refl refl refl c.register.ensures.logins
 
 pub returns-in-Success-clause-refuses : goal.returns-in-Success-clause-refuses
-returns-in-Success-clause-refuses g c = λ records told unit since is.
-    c.begin.ensures.refuses records (down_ended _ _ c.requires.down) told unit since
-    (explains_begun (basis_of c.args.unit.now (g.S.Site.state c.args.site.now) records) (basis_of c.args.unit.now (g.S.Site.state c.register.new.self) records) (down_ended _ _ c.requires.down) c.register.ensures.rest.taken refl refl refl told unit since is)
+returns-in-Success-clause-refuses g c = λ records told unit front is.
+    c.begin.ensures.refuses records (down_ended _ _ c.requires.down) told unit front
+    (explains_begun (ledger_of c.args.unit.now (g.S.Site.state c.args.site.now) records) (ledger_of c.args.unit.now (g.S.Site.state c.register.new.self) records) (down_ended _ _ c.requires.down) c.register.ensures.rest.taken refl refl refl c.register.ensures.logins told unit front is)
 
 pub returns-in-Closed-clause-refuses : goal.returns-in-Closed-clause-refuses
-returns-in-Closed-clause-refuses g c = λ records told unit since is.
-    c.begin-in-Closed.ensures.refuses records (down_ended _ _ c.requires.down) told unit since
-    (explains_begun (basis_of c.args.unit.now (g.S.Site.state c.args.site.now) records) (basis_of c.args.unit.now (g.S.Site.state c.register.new.self) records) (down_ended _ _ c.requires.down) c.register.ensures.rest.taken refl refl refl told unit since is)
+returns-in-Closed-clause-refuses g c = λ records told unit front is.
+    c.begin-in-Closed.ensures.refuses records (down_ended _ _ c.requires.down) told unit front
+    (explains_begun (ledger_of c.args.unit.now (g.S.Site.state c.args.site.now) records) (ledger_of c.args.unit.now (g.S.Site.state c.register.new.self) records) (down_ended _ _ c.requires.down) c.register.ensures.rest.taken refl refl refl c.register.ensures.logins told unit front is)

@@ -9,7 +9,7 @@ use Rattle.block_server.proofs.Advancing.{advances_on}
 use Rattle.block_server.proofs.Quieting.{on_ok, quiet_on}
 use Rattle.block_server.proofs.Onces.{once_on, once_then}
 use Rattle.block_server.proofs.Taking.{ended_stands, takes_none, takes_on}
-use Rattle.block_server.proofs.Refusing.{explained_then}
+use Rattle.block_server.proofs.Ledgers.{explained_then}
 use Rattle.block_server.proofs.Jointly.{works, works_none, works_on}
 use Rattle.block_server.specs.Books.{books_at}
 use Rattle.block_server.specs.Receipts.{standing_of}
@@ -285,41 +285,41 @@ returns-clause-cargo g c = λ told all serving hand.
     (c.take_in.ensures.cargo told (keeps_same _ _ (c.put_kept.ensures.cargo _ first) told (keeps_same _ _ (c.open_line.ensures.cargo c.args.records.now) told hand)))
 
 pub returns-in_err-open_line-clause-refuses : goal.returns-in_err-open_line-clause-refuses
-returns-in_err-open_line-clause-refuses g c = λ told all serving since is. c.open_line.ensures.refuses c.args.records.now told c.args.unit.now.id since is
+returns-in_err-open_line-clause-refuses g c = λ told all serving front is. c.open_line.ensures.refuses c.args.records.now told c.args.unit.now.id front is
 
 pub returns-then-eq-clause-refuses : goal.returns-then-eq-clause-refuses
-returns-then-eq-clause-refuses g c = λ told all serving since is. c.open_line.ensures.refuses c.args.records.now told c.args.unit.now.id since is
+returns-then-eq-clause-refuses g c = λ told all serving front is. c.open_line.ensures.refuses c.args.records.now told c.args.unit.now.id front is
 
 pub returns-in_err-put_kept-clause-refuses : goal.returns-in_err-put_kept-clause-refuses
-returns-in_err-put_kept-clause-refuses g c = λ told all serving since.
+returns-in_err-put_kept-clause-refuses g c = λ told all serving front.
     let disk = held told c.args.disk.now.count None in
-    explained_then disk disk _ _ _ _ _ _ since _ _ _ (c.open_line.ensures.once c.args.records.now disk serving)
-    (c.open_line.ensures.refuses c.args.records.now told c.args.unit.now.id since) (c.put_kept.ensures.refuses disk.terms)
+    explained_then disk disk _ _ _ _ _ _ front _ _ _ (c.open_line.ensures.once c.args.records.now disk serving)
+    (c.open_line.ensures.refuses c.args.records.now told c.args.unit.now.id front) (c.put_kept.ensures.refuses disk.terms)
 
 pub returns-then-eq-2-clause-refuses : goal.returns-then-eq-2-clause-refuses
-returns-then-eq-2-clause-refuses g c = λ told all serving since.
+returns-then-eq-2-clause-refuses g c = λ told all serving front.
     let disk = held told c.args.disk.now.count None in
-    explained_then disk disk _ _ _ _ _ _ since _ _ _ (c.open_line.ensures.once c.args.records.now disk serving)
-    (c.open_line.ensures.refuses c.args.records.now told c.args.unit.now.id since) (c.put_kept.ensures.refuses disk.terms)
+    explained_then disk disk _ _ _ _ _ _ front _ _ _ (c.open_line.ensures.once c.args.records.now disk serving)
+    (c.open_line.ensures.refuses c.args.records.now told c.args.unit.now.id front) (c.put_kept.ensures.refuses disk.terms)
 
 pub returns-in_err-take_in-clause-refuses : goal.returns-in_err-take_in-clause-refuses
-returns-in_err-take_in-clause-refuses g c = λ told all serving since is.
+returns-in_err-take_in-clause-refuses g c = λ told all serving front is.
     let disk = held told c.args.disk.now.count None in
     let heard = tells_next told c.args.unit.now.id (g.S.Site.state c.args.site.now) (g.S.Site.state c.put_kept.new.site) (g.S.Site.state c.take_in.new.site) (advances_on _ _ _ c.open_line.ensures.advances c.put_kept.ensures.advances) all in
-    c.take_in.ensures.refuses (ended_stands _ _ c.put_kept.ensures.stands ∙ c.in_ok-open_line.ensures.goes_on (search rules)) told c.args.unit.now.id since heard
-    (explained_then disk disk _ _ _ _ _ _ since _ _ _ (c.open_line.ensures.once c.args.records.now disk serving)
-    (c.open_line.ensures.refuses c.args.records.now told c.args.unit.now.id since) (c.put_kept.ensures.refuses disk.terms) is)
+    c.take_in.ensures.refuses (ended_stands _ _ c.put_kept.ensures.stands ∙ c.in_ok-open_line.ensures.goes_on (search rules)) told c.args.unit.now.id front heard
+    (explained_then disk disk _ _ _ _ _ _ front _ _ _ (c.open_line.ensures.once c.args.records.now disk serving)
+    (c.open_line.ensures.refuses c.args.records.now told c.args.unit.now.id front) (c.put_kept.ensures.refuses disk.terms) is)
 
 pub returns-then-eq-3-clause-refuses : goal.returns-then-eq-3-clause-refuses
-returns-then-eq-3-clause-refuses g c = λ told all serving since is.
+returns-then-eq-3-clause-refuses g c = λ told all serving front is.
     let disk = held told c.args.disk.now.count None in
     let heard = tells_next told c.args.unit.now.id (g.S.Site.state c.args.site.now) (g.S.Site.state c.put_kept.new.site) (g.S.Site.state c.take_in.new.site) (advances_on _ _ _ c.open_line.ensures.advances c.put_kept.ensures.advances) all in
-    c.take_in.ensures.refuses (ended_stands _ _ c.put_kept.ensures.stands ∙ c.in_ok-open_line.ensures.goes_on (search rules)) told c.args.unit.now.id since heard
-    (explained_then disk disk _ _ _ _ _ _ since _ _ _ (c.open_line.ensures.once c.args.records.now disk serving)
-    (c.open_line.ensures.refuses c.args.records.now told c.args.unit.now.id since) (c.put_kept.ensures.refuses disk.terms) is)
+    c.take_in.ensures.refuses (ended_stands _ _ c.put_kept.ensures.stands ∙ c.in_ok-open_line.ensures.goes_on (search rules)) told c.args.unit.now.id front heard
+    (explained_then disk disk _ _ _ _ _ _ front _ _ _ (c.open_line.ensures.once c.args.records.now disk serving)
+    (c.open_line.ensures.refuses c.args.records.now told c.args.unit.now.id front) (c.put_kept.ensures.refuses disk.terms) is)
 
 pub returns-clause-refuses : goal.returns-clause-refuses
-returns-clause-refuses g c = λ told all serving since.
+returns-clause-refuses g c = λ told all serving front.
     let disk = held told c.args.disk.now.count None in
     let old = g.S.Site.state c.args.site.now in
     let put = g.S.Site.state c.put_kept.new.site in
@@ -331,9 +331,9 @@ returns-clause-refuses g c = λ told all serving since.
     let taken =
     once_by old put taken_in _ _ _ c.args.records.now c.put_kept.new.records c.take_in.new.records opened c.take_in.ensures.advances
     (λ disk heard. once_on _ _ _ _ _ _ _ _ _ (c.open_line.ensures.once c.args.records.now) c.put_kept.ensures.once disk) c.take_in.ensures.once disk heard serving in
-    explained_then disk disk _ _ _ _ _ _ since _ _ _ taken
-    (λ is. c.take_in.ensures.refuses (ended_stands _ _ c.put_kept.ensures.stands ∙ c.in_ok-open_line.ensures.goes_on (search rules)) told c.args.unit.now.id since (tells_next told c.args.unit.now.id old put taken_in opened heard)
-    (explained_then disk disk _ _ _ _ _ _ since _ _ _ (c.open_line.ensures.once c.args.records.now disk serving)
-    (c.open_line.ensures.refuses c.args.records.now told c.args.unit.now.id since) (c.put_kept.ensures.refuses disk.terms) is))
+    explained_then disk disk _ _ _ _ _ _ front _ _ _ taken
+    (λ is. c.take_in.ensures.refuses (ended_stands _ _ c.put_kept.ensures.stands ∙ c.in_ok-open_line.ensures.goes_on (search rules)) told c.args.unit.now.id front (tells_next told c.args.unit.now.id old put taken_in opened heard)
+    (explained_then disk disk _ _ _ _ _ _ front _ _ _ (c.open_line.ensures.once c.args.records.now disk serving)
+    (c.open_line.ensures.refuses c.args.records.now told c.args.unit.now.id front) (c.put_kept.ensures.refuses disk.terms) is))
     (c.serve.ensures.refuses told
     (tells_next told c.take_in.new.unit.id old taken_in new first (subst (λ (id : UnitId). TellsAll told id old new) (sym taken.id) all)))

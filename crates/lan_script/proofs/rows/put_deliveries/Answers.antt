@@ -1,11 +1,14 @@
-use Rattle.std.proofs.Common.{◌++◌, ◌+◌, ◌∙◌, sym, ap}
-use Rattle.std.specs.List.{flat_map}
-use Rattle.lan_script.specs.Rows.{deliveries_in, sessions_from}
-use Rattle.lan_script.proofs.Cuts.{behind, sessions_step}
+use Rattle.std.proofs.Common.{◌≡◌, ◌++◌, ◌∙◌, List, OnOk, length, map, ap, sym, subst}
+use Rattle.vio_trace.specs.declared.lan_rows.DeliverRow.{DeliverRow}
+use Rattle.lan_buffers.specs.Port.{StandBySession}
+use Rattle.lan_script.specs.Rows.{deliver_row_of}
+use Rattle.lan_script.proofs.BySession.{by_session}
 use Rattle.lan_script.proofs.rows.put_deliveries.Goals as goal
 
-pub loop-before-preserved : goal.loop-before-preserved
-loop-before-preserved c =
-    behind _ _ _ _ _ _ c.in_ok-put_deliveries_in.ensures c.loop-before.invariant
-    (sessions_step (deliveries_in c.args.unit c.args.port.now.deliveries) c.loop-before.before
-    ∙ ap (λ l. flat_map (deliveries_in c.args.unit c.args.port.now.deliveries) (sessions_from 1 c.loop-before.before) ++ deliveries_in c.args.unit l (c.loop-before.before + 1)) (sym c.deliveries.ensures))
+pub returns : goal.returns
+returns c =
+    subst (λ (l : List DeliverRow). OnOk c.put_each_delivery.result (c.put_each_delivery.new.rows.items ≡ c.args.rows.now.items ++ l))
+    (ap (map (deliver_row_of c.args.unit)) c.deliveries.ensures.rows
+    ∙ sym (by_session (λ row. row.session) (deliver_row_of c.args.unit) (length c.args.port.now.drop_counts) c.args.port.now.deliveries
+    (subst (StandBySession (λ row. row.session) (length c.args.port.now.drop_counts)) c.deliveries.ensures.rows c.deliveries.ensures.order)))
+    c.put_each_delivery.ensures

@@ -3,7 +3,7 @@ use Rattle.vcpu_run.specs.declared.unit_seat.Seat.TheVariants as places
 use Rattle.vcpu_run.proofs.Agreeing.{all_on}
 use Rattle.vcpu_run.proofs.Elsewhere.{else_on, else_within}
 use Rattle.vcpu_run.proofs.Driving.{driven_on, seat_of, still_clients}
-use Rattle.vcpu_run.proofs.PortTurns.{idle_on}
+use Rattle.vcpu_run.proofs.PortTurns.{apart_on, beside_apart, silent_on}
 use Rattle.vcpu_run.proofs.seats.fail.Goals as goal
 
 pub fail_at-requires-clause-client : goal.fail_at-requires-clause-client
@@ -30,7 +30,9 @@ loop-k-preserved c = record {
   clients = still_clients c.args.seats.now c.loop-k.pairs c.fail_at.new.pairs c.fail_at.ensures.driven c.loop-k.invariant.clients;
   ports = rw c.fail_at.ensures.lan c.loop-k.invariant.ports;
   lan = c.fail_at.ensures.lan ∙ c.loop-k.invariant.lan;
-  idle = idle_on c.args.lan.now c.loop-k.lan c.fail_at.new.lan c.loop-k.invariant.idle c.fail_at.ensures.idle;
+  idle = silent_on c.args.lan.now c.loop-k.lan c.fail_at.new.lan c.loop-k.invariant.idle c.fail_at.ensures.idle;
+  apart = apart_on c.args.partition c.args.lan.now c.loop-k.lan c.fail_at.new.lan c.loop-k.invariant.apart
+      (beside_apart c.args.partition c.loop-k.k c.loop-k.lan c.fail_at.new.lan c.fail_at.ensures.beside);
 }
 
 pub returns-in_err-fail_at-clause-credit : goal.returns-in_err-fail_at-clause-credit
@@ -40,10 +42,10 @@ pub returns-then-not-branch-clause-credit : goal.returns-then-not-branch-clause-
 returns-then-not-branch-clause-credit c = (all_on c.args.pairs.now c.loop-k.pairs c.fail_at.new.pairs c.loop-k.invariant.credit c.fail_at.ensures.credit)
 
 pub returns-in_err-fail_at-clause-idle : goal.returns-in_err-fail_at-clause-idle
-returns-in_err-fail_at-clause-idle c = idle_on c.args.lan.now c.loop-k.lan c.fail_at.new.lan c.loop-k.invariant.idle c.fail_at.ensures.idle
+returns-in_err-fail_at-clause-idle c = silent_on c.args.lan.now c.loop-k.lan c.fail_at.new.lan c.loop-k.invariant.idle c.fail_at.ensures.idle
 
 pub returns-then-not-branch-clause-idle : goal.returns-then-not-branch-clause-idle
-returns-then-not-branch-clause-idle c = idle_on c.args.lan.now c.loop-k.lan c.fail_at.new.lan c.loop-k.invariant.idle c.fail_at.ensures.idle
+returns-then-not-branch-clause-idle c = silent_on c.args.lan.now c.loop-k.lan c.fail_at.new.lan c.loop-k.invariant.idle c.fail_at.ensures.idle
 
 pub returns-in_err-fail_at-clause-others : goal.returns-in_err-fail_at-clause-others
 returns-in_err-fail_at-clause-others c =
@@ -56,3 +58,13 @@ returns-then-not-branch-clause-others c =
     else_on c.args.seats.now c.args.pairs.now c.loop-k.pairs c.fail_at.new.pairs c.loop-k.invariant.others
     (else_within c.args.seats.now c.loop-k.k (slice_index_or c.args.seats.now c.loop-k.k places.Server) c.loop-k.pairs c.fail_at.new.pairs
     (seat_of c.args.seats.now c.loop-k.k c.loop-k-test.true) c.fail_at.ensures.others)
+
+pub returns-in_err-fail_at-clause-apart : goal.returns-in_err-fail_at-clause-apart
+returns-in_err-fail_at-clause-apart c =
+    apart_on c.args.partition c.args.lan.now c.loop-k.lan c.fail_at.new.lan c.loop-k.invariant.apart
+    (beside_apart c.args.partition c.loop-k.k c.loop-k.lan c.fail_at.new.lan c.fail_at.ensures.beside)
+
+pub returns-then-not-branch-clause-apart : goal.returns-then-not-branch-clause-apart
+returns-then-not-branch-clause-apart c =
+    apart_on c.args.partition c.args.lan.now c.loop-k.lan c.fail_at.new.lan c.loop-k.invariant.apart
+    (beside_apart c.args.partition c.loop-k.k c.loop-k.lan c.fail_at.new.lan c.fail_at.ensures.beside)

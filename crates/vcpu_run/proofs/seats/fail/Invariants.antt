@@ -2,7 +2,7 @@ use Rattle.std.proofs.Common.{◌≡◌}
 use Rattle.vcpu_run.specs.Agreed.{AllSame, SameElse}
 use Rattle.vcpu_run.specs.Pairs.{AreDriven}
 use Rattle.vcpu_run.specs.Ports.{HavePorts}
-use Rattle.vcpu_run.specs.PortSteps.{AllIdle}
+use Rattle.vcpu_run.specs.PortSteps.{AllSilent, IsApart}
 use Rattle.vcpu_run.specs.Works.{HaveClients}
 use Rattle.vcpu_run.proofs.seats.fail.Given as goal
 
@@ -14,5 +14,6 @@ invariant-loop-k l = record {
   clients : HaveClients l.seats l.pairs;
   ports : HavePorts l.partition l.seats l.lan.seats;
   lan : l.lan.seats ≡ l.initial.lan.seats;
-  idle : AllIdle l.initial.lan l.lan;
+  idle : AllSilent l.initial.lan l.lan;
+  apart : IsApart l.partition l.initial.lan l.lan;
 }

@@ -1,7 +1,8 @@
 use Rattle.std.proofs.Common.{◌∷◌, [], Some, ap}
 use Rattle.vcpu_run.proofs.Driving.{seat_within}
 use Rattle.vcpu_run.proofs.Elsewhere.{else_one}
-use Rattle.vcpu_run.proofs.PortRising.{all_idle}
+use Rattle.vcpu_run.proofs.PortRising.{all_silent, closes_beside}
+use Rattle.vcpu_run.proofs.PortTurns.{idle_same}
 use Rattle.vcpu_run.proofs.seats.fail_at.Goals as goal
 
 pub fail_of-requires-clause-there : goal.fail_of-requires-clause-there
@@ -11,7 +12,17 @@ pub fail_of-requires-clause-client : goal.fail_of-requires-clause-client
 fail_of-requires-clause-client c = c.requires.client c.in-Client.pair c.in-Client.is
 
 pub returns-in-Port-clause-idle : goal.returns-in-Port-clause-idle
-returns-in-Port-clause-idle c = all_idle c.args.lan.now c.fail.new.self c.fail.ensures.seats c.fail.ensures.frames c.fail.ensures.counts
+returns-in-Port-clause-idle c = all_silent c.args.lan.now c.fail.new.self c.fail.ensures.seats c.fail.ensures.frames c.fail.ensures.counts
 
 pub returns-in-Client-clause-others : goal.returns-in-Client-clause-others
 returns-in-Client-clause-others c = else_one (c.args.seat ∷ []) 0 c.in-Client.pair c.args.pairs.now c.fail_of.new.pairs (ap Some c.in-Client.is) c.fail_of.ensures.others
+
+pub returns-in-Port-clause-beside : goal.returns-in-Port-clause-beside
+returns-in-Port-clause-beside c =
+    closes_beside c.args.unit c.args.lan.now c.fail.new.self c.fail.ensures.seats c.fail.ensures.frames c.fail.ensures.counts c.fail.ensures.beside c.fail.ensures.places
+
+pub returns-in-Client-clause-beside : goal.returns-in-Client-clause-beside
+returns-in-Client-clause-beside c = λ unit _. idle_same c.args.lan.now unit
+
+pub returns-in-Server-clause-beside : goal.returns-in-Server-clause-beside
+returns-in-Server-clause-beside c = λ unit _. idle_same c.args.lan.now unit

@@ -30,6 +30,8 @@ returns-in-Client-clause-waits c =
 
 pub returns-in-Port-clause-takes : goal.returns-in-Port-clause-takes
 returns-in-Port-clause-takes c = port_rest c.args.unit c.take_rest.result c.args.lan.now c.take_rest.new.self c.take_rest.ensures.seats c.take_rest.ensures.frames c.take_rest.ensures.counts
+    c.take_rest.ensures.replays c.take_rest.ensures.places
 
 pub returns-in-Port-clause-beside : goal.returns-in-Port-clause-beside
 returns-in-Port-clause-beside c = rest_beside c.args.unit c.take_rest.result c.args.lan.now c.take_rest.new.self c.take_rest.ensures.seats c.take_rest.ensures.frames c.take_rest.ensures.counts
+    c.take_rest.ensures.replays c.take_rest.ensures.places

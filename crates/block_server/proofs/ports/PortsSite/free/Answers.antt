@@ -1,6 +1,9 @@
+use Rattle.std.proofs.Common.{refl}
 use Rattle.block_server.proofs.FirstPages.{windows_stay}
 use Rattle.block_server.proofs.Sending.{free_puts, queue_call, same_session, same_taken}
 use Rattle.block_server.proofs.Plains.{free_plain}
+use Rattle.block_server.specs.Entries.{is_response}
+use Rattle.block_server.specs.LoginAnswers.{is_login_answer}
 use Rattle.block_server.proofs.ports.PortsSite.free.Goals as goal
 
 pub returns-clause-advances : goal.returns-clause-advances
@@ -13,7 +16,12 @@ returns-clause-advances g c =
 
 pub returns-clause-plain : goal.returns-clause-plain
 returns-clause-plain g c =
-    free_plain g.C.CrqEnd.is_shared (g.C.CrqEnd.state c.args.self.now.queue.now) (g.C.CrqEnd.state c.free.new.self) c.free.result
+    free_plain is_response refl g.C.CrqEnd.is_shared (g.C.CrqEnd.state c.args.self.now.queue.now) (g.C.CrqEnd.state c.free.new.self) c.free.result
+    c.free.ensures.success c.free.ensures.busy c.free.ensures.refused
+
+pub returns-clause-logins : goal.returns-clause-logins
+returns-clause-logins g c =
+    free_plain is_login_answer refl g.C.CrqEnd.is_shared (g.C.CrqEnd.state c.args.self.now.queue.now) (g.C.CrqEnd.state c.free.new.self) c.free.result
     c.free.ensures.success c.free.ensures.busy c.free.ensures.refused
 
 pub returns-clause-passes : goal.returns-clause-passes

@@ -1,6 +1,9 @@
+use Rattle.std.proofs.Common.{refl}
 use Rattle.block_server.proofs.FirstPages.{windows_stay}
 use Rattle.block_server.proofs.Sending.{push_puts, queue_call, same_session, same_taken}
 use Rattle.block_server.proofs.Plains.{push_plain}
+use Rattle.block_server.specs.Entries.{is_response}
+use Rattle.block_server.specs.LoginAnswers.{is_login_answer}
 use Rattle.block_server.proofs.ports.PortsSite.push_event.Goals as goal
 
 pub returns-clause-advances : goal.returns-clause-advances
@@ -13,7 +16,12 @@ returns-clause-advances g c =
 
 pub returns-clause-plain : goal.returns-clause-plain
 returns-clause-plain g c =
-    push_plain g.C.CrqEnd.is_shared (g.C.CrqEnd.state c.args.self.now.queue.now) (g.C.CrqEnd.state c.push_event.new.self) c.push_event.result
+    push_plain is_response refl g.C.CrqEnd.is_shared (g.C.CrqEnd.state c.args.self.now.queue.now) (g.C.CrqEnd.state c.push_event.new.self) c.push_event.result
+    c.args.self.now.event c.push_event.ensures.nothing c.push_event.ensures.put c.push_event.ensures.still
+
+pub returns-clause-logins : goal.returns-clause-logins
+returns-clause-logins g c =
+    push_plain is_login_answer refl g.C.CrqEnd.is_shared (g.C.CrqEnd.state c.args.self.now.queue.now) (g.C.CrqEnd.state c.push_event.new.self) c.push_event.result
     c.args.self.now.event c.push_event.ensures.nothing c.push_event.ensures.put c.push_event.ensures.still
 
 pub returns-clause-passes : goal.returns-clause-passes

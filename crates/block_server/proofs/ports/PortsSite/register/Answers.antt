@@ -1,7 +1,9 @@
-use Rattle.std.proofs.Common.{◌∙◌, subst, sym}
+use Rattle.std.proofs.Common.{◌∙◌, subst, sym, refl}
 use Rattle.crq_session.specs.Control.{IsQueueSize}
 use Rattle.block_server.proofs.Sending.{queue_call, register_puts, register_stands, same_taken}
 use Rattle.block_server.proofs.Plains.{register_plain}
+use Rattle.block_server.specs.Entries.{is_response}
+use Rattle.block_server.specs.LoginAnswers.{is_login_answer}
 use Rattle.block_server.proofs.ports.PortsSite.register.Goals as goal
 
 pub returns-clause-advances : goal.returns-clause-advances
@@ -14,7 +16,12 @@ returns-clause-advances g c =
 
 pub returns-clause-plain : goal.returns-clause-plain
 returns-clause-plain g c =
-    register_plain g.C.CrqEnd.is_shared (g.C.CrqEnd.state c.args.self.now.queue.now) (g.C.CrqEnd.state c.register.new.self) c.register.result
+    register_plain is_response refl g.C.CrqEnd.is_shared (g.C.CrqEnd.state c.args.self.now.queue.now) (g.C.CrqEnd.state c.register.new.self) c.register.result
+    c.args.self.now.event c.register.ensures.opened c.register.ensures.busy c.register.ensures.refused
+
+pub returns-clause-logins : goal.returns-clause-logins
+returns-clause-logins g c =
+    register_plain is_login_answer refl g.C.CrqEnd.is_shared (g.C.CrqEnd.state c.args.self.now.queue.now) (g.C.CrqEnd.state c.register.new.self) c.register.result
     c.args.self.now.event c.register.ensures.opened c.register.ensures.busy c.register.ensures.refused
 
 pub returns-clause-stands : goal.returns-clause-stands

@@ -10,7 +10,7 @@ use Rattle.block_server.specs.Serving.{held, terms_of}
 use Rattle.block_server.specs.SiteState.{Lenders}
 use Rattle.block_server.specs.Units.{AnswersItsRows, AreServing, ServesItsRows}
 use Rattle.block_server.proofs.Denying.{tells_turn}
-use Rattle.block_server.proofs.Agreeing.{agrees_turn, waits_turn}
+use Rattle.block_server.proofs.Agreeing.{agrees_turn, some_at, waits_turn}
 use Rattle.block_server.proofs.Readying.{idle_ready, if_ready}
 use Rattle.block_server.proofs.Units.{get_set_other, keeps_disk, tells_prop, units_on, way_quiet}
 use Rattle.block_server.proofs.Taking.{intake_turn}
@@ -20,7 +20,10 @@ use Rattle.block_server.proofs.OwingTurn.{answered_turn}
 use Rattle.block_server.specs.Cargo.{HasCargo}
 use Rattle.block_server.proofs.CargoLaws.{cargo_turn}
 use Rattle.block_server.proofs.Refusing.{refuses_turn}
-use Rattle.block_server.specs.Refusals.{AreExplained, HasExplained, basis_seen}
+use Rattle.block_server.specs.Refusals.{AnswersLogins, AreExplained, Front, HasExplained, basis_seen, ledger_at}
+use Rattle.block_server.specs.declared.unit.Unit.{Unit as ServerUnit}
+use Rattle.block_server.specs.LoginAnswers.{login_answers}
+use Rattle.block_server.proofs.Ledgers.{accounted_first}
 use Rattle.block_server.proofs.server.Server.turn.Goals as goal
 
 pub returns-clause-answers : goal.returns-clause-answers
@@ -220,13 +223,18 @@ returns-clause-explains g c = λ told tells all since has.
     let is = all c.args.unit c.index_mut.result.now there in
     let lent = c.turn.ensures.advances.reached in
     let unit = (g.O.WindowPort.state c.args.own.now).place.unit in
+    let old = g.C.CrqEnd.state c.args.crq.now in
     let queue = sym (ap g.C.CrqEnd.state (c.crq-1.given.1 (sym (ap (λ (lent : Lenders). lent.queue) lent)))) in
     let heard = tells_turn told _ _ _ _ _ _ _ _ _ _ (sym (is.id ∙ sym c.requires.named)) (sym (ap g.O.WindowPort.state (c.own-1.given.1 (sym (ap (λ (lent : Lenders). lent.own) lent)))))
     (sym (ap g.R.WindowPort.state (c.client-1.given.1 (sym (ap (λ (lent : Lenders). lent.client) lent))))) tells in
-    let step = c.turn.ensures.refuses told heard is.serving since in
+    let ledger = ledger_at c.index_mut.result.now old.last_session old.taken (login_answers old.sent) server.records in
+    let front : Front = record { since = since; lines = server.records.grants.items; answers = login_answers old.sent } in
+    let step : AreExplained told c.index_mut.result.now.id since (basis_seen c.index_mut.result.now old server.records.grants.items)
+    → AreExplained told c.index_mut.result.now.id since (basis_seen c.turn.new.unit (g.C.CrqEnd.state c.turn.new.site.queue.now) c.turn.new.records.grants.items) =
+    λ known. (c.turn.ensures.refuses told heard is.serving front (accounted_first told c.index_mut.result.now.id since ledger known)).known in
     subst (λ (q : EndState). HasExplained told (slice_set server.units.items c.args.unit c.turn.new.unit) c.args.unit unit q since c.turn.new.records.grants.items) queue
-    (refuses_turn told server.units.items c.args.unit c.index_mut.result.now c.turn.new.unit unit (g.C.CrqEnd.state c.args.crq.now) (g.C.CrqEnd.state c.turn.new.site.queue.now) since _ _ there
-    (subst (λ (id : UnitId). AreExplained told id since (basis_seen c.index_mut.result.now (g.C.CrqEnd.state c.args.crq.now) server.records.grants.items)
+    (refuses_turn told server.units.items c.args.unit c.index_mut.result.now c.turn.new.unit unit old (g.C.CrqEnd.state c.turn.new.site.queue.now) since _ _ there
+    (subst (λ (id : UnitId). AreExplained told id since (basis_seen c.index_mut.result.now old server.records.grants.items)
     → AreExplained told id since (basis_seen c.turn.new.unit (g.C.CrqEnd.state c.turn.new.site.queue.now) c.turn.new.records.grants.items)) (is.id ∙ sym c.requires.named) step) has)
 
 pub returns-clause-partner : goal.returns-clause-partner
@@ -234,3 +242,23 @@ returns-clause-partner g c =
     let reached = ap (λ (lent : Lenders). lent.queue) c.turn.ensures.advances.reached in
     subst (λ (queue : EndState). g.C.CrqEnd.is_shared ≡ false → queue.counts.partner_session ≡ (g.C.CrqEnd.state c.args.crq.now).counts.partner_session)
     (sym (ap g.C.CrqEnd.state (c.crq-1.given.1 (sym reached)))) c.turn.ensures.advances.partner
+
+pub returns-clause-logins : goal.returns-clause-logins
+returns-clause-logins g c = λ told tells all since has.
+    let server = c.args.self.now in
+    let there : slice_get server.units.items c.args.unit ≡ Some c.index_mut.result.now =
+    slice_get_read server.units.items _ c.args.unit _ server.units.ok.0 c.requires.unit c.index_mut.ensures.value in
+    let is = all c.args.unit c.index_mut.result.now there in
+    let lent = c.turn.ensures.advances.reached in
+    let unit = (g.O.WindowPort.state c.args.own.now).place.unit in
+    let old = g.C.CrqEnd.state c.args.crq.now in
+    let queue = sym (ap g.C.CrqEnd.state (c.crq-1.given.1 (sym (ap (λ (lent : Lenders). lent.queue) lent)))) in
+    let heard = tells_turn told _ _ _ _ _ _ _ _ _ _ (sym (is.id ∙ sym c.requires.named)) (sym (ap g.O.WindowPort.state (c.own-1.given.1 (sym (ap (λ (lent : Lenders). lent.own) lent)))))
+    (sym (ap g.R.WindowPort.state (c.client-1.given.1 (sym (ap (λ (lent : Lenders). lent.client) lent))))) tells in
+    let ledger = ledger_at c.index_mut.result.now old.last_session old.taken (login_answers old.sent) server.records in
+    let front : Front = record { since = since; lines = server.records.grants.items; answers = login_answers old.sent } in
+    let known = subst (λ (id : UnitId). AreExplained told id since (basis_seen c.index_mut.result.now old server.records.grants.items)) (sym (is.id ∙ sym c.requires.named))
+    (some_at (slice_get server.units.items c.args.unit) c.index_mut.result.now (λ (u : ServerUnit). AreExplained told unit since (basis_seen u old server.records.grants.items)) there has) in
+    subst (λ (q : EndState). AnswersLogins told unit old q server.records c.turn.new.records) queue
+    (subst (λ (id : UnitId). AnswersLogins told id old (g.C.CrqEnd.state c.turn.new.site.queue.now) server.records c.turn.new.records) (is.id ∙ sym c.requires.named)
+    (c.turn.ensures.refuses told heard is.serving front (accounted_first told c.index_mut.result.now.id since ledger known)).logins)

@@ -1,6 +1,6 @@
 use Rattle.std.proofs.Common.{◌≡◌, ◌≤◌, ℕ, List, length, slice_get, Some, false, refl, sym, ◌∙◌, ap, subst}
 use Rattle.lan_buffers.specs.Port.{PortValue, now, last_session}
-use Rattle.lan_buffers.specs.Calls.{pool, IsUngranted, IsPageInUse, FillsFrame}
+use Rattle.lan_buffers.specs.Calls.{IsOpen, pool, IsUngranted, IsPageInUse, FillsFrame}
 use Rattle.lan_buffers.proofs.Keeping.{kept_deliver, chooses, oldest_within}
 use Rattle.lan_buffers.proofs.Leaving.{only_blank, only_same}
 use Rattle.lan_buffers.proofs.port.PlainPort.offer.Goals as goal
@@ -27,6 +27,7 @@ pub invariant_of-self : goal.invariant_of-self
 invariant_of-self g c = rw (c.take_post.ensures.rows, c.write_frame.ensures.rows) (record {
   kept = kept_deliver _ _ _ _ _ _ _ _ _ _ c.args.size _ c.self.invariant.kept
       (c.session-session.ensures.session ∙ ap (λ (v : PortValue). last_session v) (sym c.self.view_is))
+      (c.self.invariant.begun (subst (λ (v : PortValue). IsOpen v) (sym c.self.view_is) c.requires.opened))
       (subst (λ (l : List ℕ). slice_get l 0 ≡ Some c.oldest-post.result) (c.self.invariant.kept.pools_are.waiting c.args.size) c.oldest-post.ensures)
       c.take_post.ensures.pools;
   begun = c.self.invariant.begun;

@@ -4,7 +4,7 @@ use Rattle.lan_buffers.specs.Buffer.{buffer_len}
 use Rattle.lan_buffers.specs.Pools.{has_size}
 use Rattle.lan_buffers.specs.Port.{PortValue, now, last_session}
 use Rattle.lan_buffers.specs.Kept.{Adds}
-use Rattle.lan_buffers.specs.Calls.{HasNoPlace}
+use Rattle.lan_buffers.specs.Calls.{HasNoPlace, IsOpen}
 use Rattle.lan_buffers.proofs.Keeping.{kept_post}
 use Rattle.lan_buffers.proofs.port.PlainPort.post.Goals as goal
 
@@ -28,7 +28,7 @@ invariant_of-self c =
     ap (λ (l : List PostRow). length l) c.posts_now.ensures ∙ ap (λ (v : PortValue). length (now v).posts) (sym c.self.view_is) in
     let place = subst (λ (v : PortValue). HasNoPlace v c.args.descriptor → ⊥) (sym c.self.view_is) c.requires.place in
     rw c.push_reserved.ensures.items (record {
-      kept = kept_post _ _ _ _ _ _ _ _ _ _ _ kept last
+      kept = kept_post _ _ _ _ _ _ _ _ _ _ _ kept last (c.self.invariant.begun (subst (λ (v : PortValue). IsOpen v) (sym c.self.view_is) c.requires.opened))
           (not_full _ _ _ (λ e. place (inl e)) (kept.sessions (length c.self.inside.drop_counts.items)).within)
           (subst (λ n. Adds c.self.inside.pools (buffer_len c.args.descriptor) n c.add.new.self) number
           (subst (λ n. Adds c.self.inside.pools n (length c.posts_now.result.now) c.add.new.self) c.buffer_len.ensures.length c.add.ensures));

@@ -15,6 +15,9 @@ use Rattle.lan_script.proofs.Replaying.{made_replays, replays_behind}
 use Rattle.lan_script.proofs.ReplayedFits.{fits_on, grants_on, made_fits}
 use Rattle.lan_script.proofs.ReplayedPosts.{adds_replay}
 use Rattle.lan_script.proofs.ReplayedRegion.{grants_back}
+use Rattle.lan_script.proofs.ReplayedValues.{put_back}
+use Rattle.lan_script.specs.Values.{KeepsValues}
+use Rattle.lan_script.specs.declared.windows.Place.{Place}
 use Rattle.lan_script.proofs.lan.Lan.add.Goals as goal
 
 abbrev none_found : ℕ → ℕ → Type 0
@@ -81,3 +84,9 @@ returns-clause-fits c = λ valid fit.
     (fits_on c.args.self.now c.make_room.new.self c.args.unit (buffer_address c.args.descriptor) (buffer_len c.args.descriptor)
     (c.make_room.ensures.replays c.args.unit) c.make_room.ensures.seats
     (grants_on c.args.self.now c.make_room.new.self c.args.unit c.make_room.ensures.places) fit)
+
+pub returns-clause-values : goal.returns-clause-values
+returns-clause-values c = λ v.
+    subst (λ (ps : List Place). KeepsValues v ps c.put.new.self) c.make_room.ensures.places
+    (put_back _ c.make_room.new.self c.args.unit c.take-own.new.self c.put.new.self c.take-own.result c.add-answer.new.window c.self.view_is
+    c.take-own.ensures.window c.take-own.ensures.rest c.put.ensures c.add-answer.ensures.window.rest.values v)

@@ -1,4 +1,5 @@
 use Rattle.lan_script.proofs.Lans.{lan_back, place_after, window_there}
+use Rattle.lan_script.proofs.ReplayedValues.{put_beside}
 use Rattle.lan_script.proofs.lan.Lan.entry_call.Goals as goal
 
 pub take-own-requires : goal.take-own-requires
@@ -12,3 +13,7 @@ pub invariant_of-self : goal.invariant_of-self
 invariant_of-self c =
     lan_back _ c.args.unit c.take-own.new.self c.put.new.self c.take-own.result c.make-returned.new.own c.self.invariant c.take-own.ensures.window
     c.take-own.ensures.unit c.take-own.ensures.rest c.put.ensures c.make-returned.ensures.window
+
+pub returns-clause-others : goal.returns-clause-others
+returns-clause-others c =
+    put_beside _ c.args.self.now c.args.unit c.take-own.new.self c.put.new.self c.make-returned.new.own c.self.view_is c.take-own.ensures.rest c.put.ensures

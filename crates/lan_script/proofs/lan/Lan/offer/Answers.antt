@@ -7,6 +7,7 @@ use Rattle.lan_script.proofs.Lans.{lending, lent_keys, others_free, owes_ok, pla
 use Rattle.lan_script.proofs.CountedSent.{sends_same}
 use Rattle.lan_script.proofs.ReplayedSent.{sends_stay}
 use Rattle.lan_script.proofs.ReplayedSends.{goes_all}
+use Rattle.lan_script.proofs.ReplayedValues.{sends_values}
 use Rattle.lan_script.proofs.lan.Lan.offer.Goals as goal
 
 abbrev none_found : ℕ → ℕ → Type 0
@@ -87,3 +88,18 @@ returns-clause-goes c =
     goes_all _ c.args.self.now c.args.unit c.send-answer.new.self c.args.parts.now none_found c.take-own.result c.send-answer.new.window
     (windows_of false facts_in FoundIn c.take-own.new.self c.send-answer.new.others) c.send-answer.result c.self.view_is c.self.invariant c.take-own.ensures.window
     c.send-answer.ensures.window.rest.values refl c.send-answer.ensures.sent
+
+pub returns-clause-values : goal.returns-clause-values
+returns-clause-values c =
+    sends_values _ c.args.self.now c.send-answer.new.self c.args.unit c.args.parts.now c.take-own.new.self c.send-answer.new.others c.put.new.self
+    c.take-own.result c.send-answer.new.window none_found c.send-answer.result c.self.view_is
+    (whole_sends _ c.args.self.now c.args.unit c.self.view_is c.self.invariant c.requires.whole c.requires.there)
+    (lending c.self.inside.windows c.args.unit c.take-own.new.self c.send-answer.new.others c.put.new.self c.take-own.result c.send-answer.new.window c.take-own.ensures.window
+    c.take-own.ensures.unit c.take-own.ensures.rest c.put.ensures
+    (place_lent c.args.unit c.self.inside.windows c.take-own.new.self c.send-answer.new.others c.take-own.result c.take-own.ensures.window
+    c.take-own.ensures.rest
+    (sent_untouched c.self.inside.switch c.send-answer.new.self c.args.unit c.args.parts.now false none_found (known_of c.take-own.result)
+    (known_of c.send-answer.new.window) (windows_of false facts_in FoundIn c.take-own.new.self c.send-answer.new.others) c.send-answer.result
+    c.send-answer.ensures.sent c.send-answer.ensures.failed))
+    (window_free _ c.args.self.now c.args.unit c.take-own.result c.self.view_is c.self.invariant c.requires.there c.take-own.ensures.window)
+    c.send-answer.ensures.window) c.send-answer.ensures.window.rest.values c.send-answer.ensures.sent

@@ -27,6 +27,7 @@ loop-posted-preserved c = record {
   grants = λ all. c.in_ok-code.ensures.grants (c.loop-posted.invariant.grants all);
   within = λ e. omega (arith, c.loop-posted-test.true);
   beside = λ other e. c.in_ok-code.ensures.replays.beside other e ∙ c.loop-posted.invariant.beside other e;
+  values = λ v e. c.in_ok-code.ensures.values v e ∙ c.loop-posted.invariant.values v e;
   counted = posted_more c.args.unit c.args.done c.args.count c.loop-posted.posted c.in_ok-code.code c.args.self.now c.loop-posted.self c.post_one.new.self
       c.in-Success.is c.loop-posted-test.true c.loop-posted.invariant.counted c.in_ok-code.ensures.counts;
 }
@@ -60,4 +61,8 @@ returns-in_default c =
           c.loop-posted.self is all c.loop-posted.invariant.seats c.loop-posted.invariant.grants (c.loop-posted.invariant.replays e) c.loop-posted-test.true
           c.buffer_at.ensures c.in_ok-code.ensures.fits);
       beside = λ other f. c.in_ok-code.ensures.replays.beside other f ∙ c.loop-posted.invariant.beside other f;
+      values = λ v e. c.in_ok-code.ensures.values v e ∙ c.loop-posted.invariant.values v e;
     }
+
+pub returns-in-Busy-clause-values : goal.returns-in-Busy-clause-values
+returns-in-Busy-clause-values c = λ v e. c.in_ok-code.ensures.values v e ∙ c.loop-posted.invariant.values v e

@@ -2,6 +2,7 @@ use Rattle.std.proofs.Common.{◌≡◌, ◌≤◌, min}
 use Rattle.lan_script.specs.PortCounts.{CountsOn, counts}
 use Rattle.lan_script.specs.PortReplay.{IsBufferLen, IsOn}
 use Rattle.lan_script.specs.Replayed.{GrantsAll, HasPosted, ReplaysOn, SameBeside, replay_at}
+use Rattle.lan_script.specs.Values.{SameValues}
 use Rattle.lan_script.proofs.lan.Lan.post_line.Given as goal
 
 abbrev pub invariant-loop-posted : goal.invariant-loop-posted
@@ -13,5 +14,6 @@ invariant-loop-posted l = record {
   grants : GrantsAll l.fn.self l.unit → GrantsAll l.self l.unit;
   within : l.done ≡ 0 → l.posted ≤ l.count;
   beside : SameBeside l.unit l.fn.self l.self;
+  values : SameValues l.fn.self l.self;
   counted : CountsOn l.unit (counts (min l.done l.count) 0) (counts (min l.posted l.count) 0) l.fn.self l.self;
 }

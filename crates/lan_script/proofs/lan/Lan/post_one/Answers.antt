@@ -2,6 +2,7 @@ use Rattle.std.proofs.Common.{◌≡◌, ℕ, IfOk, IfSome, Option, sym, subst}
 use Rattle.vio_num.specs.declared.hypervisor.Hrc.TheVariants.{Success}
 use Rattle.lan_script.specs.Replayed.{FitsOne}
 use Rattle.lan_script.proofs.ReplayedFits.{fits_tail}
+use Rattle.lan_script.proofs.ReplayedValues.{then_values}
 use Rattle.lan_script.proofs.lan.Lan.post_one.Goals as goal
 
 pub returns-in-Ok-clause-fits : goal.returns-in-Ok-clause-fits
@@ -9,3 +10,6 @@ returns-in-Ok-clause-fits c =
     subst (λ (o : Option ℕ). IfSome o (λ at. FitsOne c.args.self.now c.args.unit at c.args.len → IfOk c.add.result (λ code. code ≡ Success))) (sym c.in-Some.is)
     (fits_tail c.args.unit c.in-Some.address c.args.len c.descriptor.result c.add.result c.args.self.now c.write.new.self c.descriptor.ensures.valid
     c.descriptor.ensures.len c.descriptor.ensures.address c.write.ensures.replays c.write.ensures.seats c.write.ensures.grants c.add.ensures.fits)
+
+pub returns-in-Ok-clause-values : goal.returns-in-Ok-clause-values
+returns-in-Ok-clause-values c = then_values c.args.self.now c.write.new.self c.add.new.self c.add.result c.write.ensures.values c.add.ensures.values

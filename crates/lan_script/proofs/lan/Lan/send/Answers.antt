@@ -1,4 +1,5 @@
 use Rattle.lan_script.proofs.ReplayedSends.{goes_kept, send_behind}
+use Rattle.lan_script.proofs.ReplayedValues.{kept_values}
 use Rattle.lan_script.proofs.lan.Lan.send.Goals as goal
 
 pub returns-clause-replays : goal.returns-clause-replays
@@ -8,3 +9,7 @@ returns-clause-replays c =
 pub returns-clause-goes : goal.returns-clause-goes
 returns-clause-goes c =
     goes_kept c.args.self.now c.args.unit c.args.parts.now c.in_ok-made.made c.keep.result c.in_ok-made.ensures.goes c.keep.ensures.code c.keep.ensures.number
+
+pub returns-clause-values : goal.returns-clause-values
+returns-clause-values c =
+    kept_values c.args.self.now c.offer.new.self c.keep.new.self c.keep.result c.in_ok-made.ensures.values c.keep.ensures.places

@@ -1,4 +1,4 @@
-use Rattle.std.proofs.Common.{[], ◌∷◌}
+use Rattle.std.proofs.Common.{[], ◌∷◌, ◌∙◌}
 use Rattle.lan_script.proofs.ReplayedLines.{one_part, send_goes}
 use Rattle.lan_script.proofs.lan.Lan.send_line.Goals as goal
 
@@ -9,3 +9,6 @@ returns-clause-replays c =
     (one_part c.descriptor.result c.args.at c.args.len c.descriptor.ensures.valid c.descriptor.ensures.address c.descriptor.ensures.len c.requires.least
     c.requires.most) c.write.ensures.seats c.write.ensures.replays c.write.ensures.grants c.in_ok-sent.ensures.replays c.in_ok-sent.ensures.goes
     (record { sent = c.said.ensures.says; coded = c.said.ensures.coded })
+
+pub returns-clause-values : goal.returns-clause-values
+returns-clause-values c = λ v e. c.in_ok-sent.ensures.values v e ∙ c.write.ensures.values v e

@@ -1,4 +1,6 @@
+use Rattle.std.proofs.Common.{ℕ, List, ap}
 use Rattle.lan_script.proofs.Lans.{lan_back, place_after, window_there}
+use Rattle.lan_script.proofs.ReplayedValues.{put_back, put_beside}
 use Rattle.lan_script.proofs.lan.Lan.step_in_region.Goals as goal
 
 pub take-own-requires : goal.take-own-requires
@@ -17,3 +19,21 @@ pub invariant_of-self-2 : goal.invariant_of-self-2
 invariant_of-self-2 c =
     lan_back _ c.args.unit c.take-own.new.self c.put.new.self c.take-own.result c.step_in-step.new.own c.self.invariant c.take-own.ensures.window
     c.take-own.ensures.unit c.take-own.ensures.rest c.put.ensures c.step_in-step.ensures.window
+
+pub returns-clause-values : goal.returns-clause-values
+returns-clause-values c = λ e.
+    put_back _ c.args.self.now c.args.unit c.take-own.new.self c.put.new.self c.take-own.result c.step_in-step.new.own c.self.view_is c.take-own.ensures.window
+    c.take-own.ensures.rest c.put.ensures (λ k. ap (λ (v : ℕ → List ℕ). v k) (c.step_in-step.ensures.values e))
+
+pub returns-clause-others : goal.returns-clause-others
+returns-clause-others c =
+    put_beside _ c.args.self.now c.args.unit c.take-own.new.self c.put.new.self c.step_in-step.new.own c.self.view_is c.take-own.ensures.rest c.put.ensures
+
+pub returns-in_err-step-clause-values : goal.returns-in_err-step-clause-values
+returns-in_err-step-clause-values c = λ e.
+    put_back _ c.args.self.now c.args.unit c.take-own.new.self c.put.new.self c.take-own.result c.step_in-step.new.own c.self.view_is c.take-own.ensures.window
+    c.take-own.ensures.rest c.put.ensures (λ k. ap (λ (v : ℕ → List ℕ). v k) (c.step_in-step.ensures.values e))
+
+pub returns-in_err-step-clause-others : goal.returns-in_err-step-clause-others
+returns-in_err-step-clause-others c =
+    put_beside _ c.args.self.now c.args.unit c.take-own.new.self c.put.new.self c.step_in-step.new.own c.self.view_is c.take-own.ensures.rest c.put.ensures

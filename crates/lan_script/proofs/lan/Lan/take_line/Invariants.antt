@@ -8,6 +8,7 @@ invariant-loop-entry l = record {
   seats : l.self.seats ≡ l.fn.self.seats;
   frames : l.self.frames ≡ l.fn.self.frames;
   replays : SameReplays l.fn.self l.self;
+  places : l.self.places ≡ l.fn.self.places;
   counted : CountsOn l.unit (counts 0 l.fn.done) (counts 0 l.done) l.fn.self l.self;
   less : l.done < l.count;
 }

@@ -8,6 +8,7 @@ loop-entry-preserved c = record {
   seats = c.take_one.ensures.seats ∙ c.loop-entry.invariant.seats;
   frames = c.take_one.ensures.frames ∙ c.loop-entry.invariant.frames;
   replays = same_on c.args.self.now c.loop-entry.self c.take_one.new.self c.loop-entry.invariant.replays c.in_ok-take_one.ensures.replays;
+  places = c.take_one.ensures.places ∙ c.loop-entry.invariant.places;
   taken = takes_on c.args.unit c.in_ok-take_one.field-0 c.args.self.now c.loop-entry.self c.take_one.new.self c.loop-entry.invariant.taken
       c.in_ok-take_one.ensures.counts;
 }

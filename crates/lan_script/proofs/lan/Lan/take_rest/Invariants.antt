@@ -8,5 +8,6 @@ invariant-loop-entry l = record {
   seats : l.self.seats ≡ l.fn.self.seats;
   frames : l.self.frames ≡ l.fn.self.frames;
   replays : SameReplays l.fn.self l.self;
+  places : l.self.places ≡ l.fn.self.places;
   taken : TakesSome l.unit l.fn.self l.self;
 }

@@ -3,6 +3,7 @@ use Rattle.tce_window.specs.PlainPort.{known_of}
 use Rattle.unit_region.proofs.Growing.{keeps_write}
 use Rattle.lan_script.proofs.Lans.{lan_back, place_after, window_there}
 use Rattle.lan_script.proofs.ReplayedRegion.{grants_back, not_in_use, not_range}
+use Rattle.lan_script.proofs.ReplayedValues.{put_back}
 use Rattle.lan_script.proofs.lan.Lan.write.Goals as goal
 
 pub take-own-requires : goal.take-own-requires
@@ -34,3 +35,8 @@ returns-clause-grants c = λ grants e.
     grants_back _ c.args.self.now c.args.unit c.take-own.new.self c.put.new.self c.take-own.result c.write-answer.new.self c.self.view_is c.take-own.ensures.window
     c.take-own.ensures.rest c.put.ensures
     (λ k. ap (λ (v : ℕ → List ℕ). v k) c.write-answer.ensures.rest.values) grants e
+
+pub returns-clause-values : goal.returns-clause-values
+returns-clause-values c =
+    put_back _ c.args.self.now c.args.unit c.take-own.new.self c.put.new.self c.take-own.result c.write-answer.new.self c.self.view_is c.take-own.ensures.window
+    c.take-own.ensures.rest c.put.ensures (λ k. ap (λ (v : ℕ → List ℕ). v k) c.write-answer.ensures.rest.values)

@@ -12,7 +12,9 @@ use Rattle.vcpu_run.proofs.ScriptsTold.{EndsWaiting, of_login, of_reset, of_take
 use Rattle.vcpu_run.proofs.Held.{waited_held}
 use Rattle.vcpu_run.proofs.Logging.{all_at}
 use Rattle.vcpu_run.proofs.script.Script.end_waiting.Goals.{in-Login, in-Reset, in-Take}
-use Rattle.vcpu_run.proofs.PortTelling.{quiet_tells, taken_within, took_tells}
+use Rattle.vcpu_run.proofs.PortTelling.{taken_within}
+use Rattle.vcpu_run.proofs.PortsTelling.{quiet_tells, took_tells}
+use Rattle.lan_script.specs.Replayed.{is_replayed}
 use Rattle.vcpu_run.specs.PortWords.{done_in, frame_of}
 use Rattle.lan_script.specs.PortCounts.{counts, counts_by, counts_told}
 use Rattle.boot_text.specs.declared.verb.Verb.{Verb}
@@ -58,12 +60,12 @@ returns-clause-told c = λ pairs lan script tells.
     let rest = c.end.ensures.rest in
     let fresh = ap done_in c.in_ok-end.ensures.fresh in
     elim c.match-line.branch [
-      | in-Login w ↦ quiet_tells lan lan c.args.self.now c.end.new.self c.in-Some.line.now _ found reached rest.partition rest.lines rest.seats
+      | in-Login w ↦ quiet_tells lan c.args.self.now c.end.new.self c.in-Some.line.now _ found reached rest.partition rest.lines rest.seats
           c.in_ok-end.ensures.ended.logs fresh (ap frame_of w.outcome-is) (ap counts_told w.outcome-is)
-          (subst (λ (v : Verb). (d : ℕ) → counts_by v d ≡ counts 0 0) (sym w.in-Login.is) (λ d. refl)) (λ unit. record { frames = refl; counts = refl }) tells
-      | in-Reset w ↦ quiet_tells lan lan c.args.self.now c.end.new.self c.in-Some.line.now _ found reached rest.partition rest.lines rest.seats
+          (subst (λ (v : Verb). (d : ℕ) → counts_by v d ≡ counts 0 0) (sym w.in-Login.is) (λ d. refl)) (ap is_replayed w.in-Login.is) tells
+      | in-Reset w ↦ quiet_tells lan c.args.self.now c.end.new.self c.in-Some.line.now _ found reached rest.partition rest.lines rest.seats
           c.in_ok-end.ensures.ended.logs fresh (ap frame_of w.outcome-is) (ap counts_told w.outcome-is)
-          (subst (λ (v : Verb). (d : ℕ) → counts_by v d ≡ counts 0 0) (sym w.in-Reset.is) (λ d. refl)) (λ unit. record { frames = refl; counts = refl }) tells
+          (subst (λ (v : Verb). (d : ℕ) → counts_by v d ≡ counts 0 0) (sym w.in-Reset.is) (λ d. refl)) (ap is_replayed w.in-Reset.is) tells
       | in-Take w ↦ took_tells lan c.args.self.now c.end.new.self c.in-Some.line.now _ _ (taken_in c.args.self.now.progress) found reached rest.partition rest.lines rest.seats
           c.in_ok-end.ensures.ended.logs fresh (w.outcome-is ∙ ap (λ n. outcomes.Took n) w.taken.ensures) w.in-Take.is (taken_within c.args.self.now.progress) tells
     ]

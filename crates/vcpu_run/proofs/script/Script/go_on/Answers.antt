@@ -9,7 +9,7 @@ use Rattle.std.proofs.lemmas.Option.{slice_get_past}
 use Rattle.vcpu_run.proofs.ScriptsTold.{none_out, over_told}
 use Rattle.vcpu_run.proofs.Logging.{script_stays}
 use Rattle.vcpu_run.proofs.Held.{turned_held}
-use Rattle.vcpu_run.proofs.PortTelling.{rest_tells}
+use Rattle.vcpu_run.proofs.PortsTelling.{rest_tells}
 use Rattle.vcpu_run.proofs.Elsewhere.{ok_then}
 use Rattle.vcpu_run.proofs.script.Script.go_on.Goals as goal
 

@@ -5,7 +5,7 @@ use Rattle.vcpu_run.proofs.Crediting.{credited_new}
 use Rattle.vcpu_run.proofs.ScriptsTold.{new_told}
 use Rattle.vcpu_run.proofs.Logging.{logged_none}
 use Rattle.vcpu_run.specs.declared.script.Progress.TheVariants as progress
-use Rattle.vcpu_run.proofs.PortTelling.{fresh_tells}
+use Rattle.vcpu_run.proofs.PortsTelling.{fresh_tells}
 use Rattle.vcpu_run.proofs.script.Script.new.Goals as goal
 
 pub returns-clause-script : goal.returns-clause-script

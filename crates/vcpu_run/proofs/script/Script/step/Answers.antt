@@ -20,7 +20,7 @@ use Rattle.vcpu_run.proofs.Driving.{clients_of}
 use Rattle.vcpu_run.proofs.Logging.{all_at, one_unit, script_steps}
 use Rattle.vcpu_run.specs.PortSteps.{TellsStep}
 use Rattle.vcpu_run.specs.PortWords.{done_in}
-use Rattle.vcpu_run.proofs.PortTelling.{port_waits, step_tells}
+use Rattle.vcpu_run.proofs.PortsTelling.{port_waits, step_tells}
 use Rattle.vcpu_run.proofs.script.Script.step.Goals as goal
 
 pub step_unit-requires : goal.step_unit-requires

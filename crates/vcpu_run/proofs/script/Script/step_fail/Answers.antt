@@ -8,8 +8,7 @@ use Rattle.vcpu_run.proofs.ScriptsTold.{fail_ends_told, fail_out, fail_waits_tol
 use Rattle.vcpu_run.proofs.Logging.{script_stays}
 use Rattle.vcpu_run.specs.declared.unit_seat.Seat.{Seat}
 use Rattle.vcpu_run.proofs.Held.{fails_held}
-use Rattle.vcpu_run.proofs.PortTelling.{idle_takes, quiet_tells, rest_tells}
-use Rattle.vcpu_run.proofs.PortTelling.{fails_none}
+use Rattle.vcpu_run.proofs.PortsTelling.{failed_tells, failing_tells}
 use Rattle.vcpu_run.specs.PortWords.{done_in}
 use Rattle.vcpu_run.proofs.script.Script.step_fail.Goals as goal
 
@@ -77,20 +76,20 @@ returns-clause-unfreed c = λ keep. fails_held c.fail.new.pairs c.args.self.now 
 
 pub returns-then-branch-clause-told : goal.returns-then-branch-clause-told
 returns-then-branch-clause-told c = λ tells.
-    quiet_tells c.args.lan.now c.fail.new.lan c.args.self.now c.end.new.self c.args.line.now _ c.requires.line
+    failed_tells c.args.lan.now c.fail.new.lan c.args.self.now c.end.new.self c.args.line.now _ c.requires.line
     (c.requires.script.logs.reached (slice_get_within c.args.self.now.lines.now c.args.self.now.at c.args.line.now c.requires.line))
     c.end.ensures.rest.partition c.end.ensures.rest.lines c.end.ensures.rest.seats c.in_ok-end.ensures.ended.logs (ap done_in c.in_ok-end.ensures.fresh)
-    refl refl (fails_none c.args.line.now.verb c.requires.fails) c.fail.ensures.idle tells
+    refl refl c.requires.fails c.fail.ensures.idle tells
 
 pub returns-clause-told : goal.returns-clause-told
 returns-clause-told c = λ tells.
-    rest_tells c.args.lan.now c.fail.new.lan c.args.self.now (λ u. idle_takes c.args.lan.now c.fail.new.lan _ (c.fail.ensures.idle _)) tells
+    failing_tells c.args.lan.now c.fail.new.lan c.args.self.now c.args.line.now c.requires.line c.requires.fails c.fail.ensures.idle tells
 
 pub returns-then-branch-clause-apart : goal.returns-then-branch-clause-apart
-returns-then-branch-clause-apart c = λ unit _. c.fail.ensures.idle unit
+returns-then-branch-clause-apart c = c.fail.ensures.apart
 
 pub returns-clause-apart : goal.returns-clause-apart
-returns-clause-apart c = λ unit _. c.fail.ensures.idle unit
+returns-clause-apart c = c.fail.ensures.apart
 
 pub returns-then-branch-clause-said : goal.returns-then-branch-clause-said
 returns-then-branch-clause-said c = λ is.

@@ -1,0 +1,6 @@
+use Rattle.std.proofs.Common.{◌≡◌, ◌++◌, map, take}
+use Rattle.lan_script.specs.Rows.{deliver_row_of}
+use Rattle.lan_script.proofs.rows.put_each_delivery.Given as goal
+
+abbrev pub invariant-loop-row : goal.invariant-loop-row
+invariant-loop-row l = l.rows.items ≡ l.initial.rows.items ++ map (deliver_row_of l.unit) (take l.row-index l.deliveries)

@@ -1,0 +1,98 @@
+-- What the lines of a script tell of its ports, words and replay, as steps of lines go on.
+use Rattle.std.proofs.Common.{◌≡◌, ℕ, ◌==◌, ◌≤◌, Bool, false, true, List, [], ◌∷◌, ◌++◌, Some, length, refl, ap}
+use Rattle.std.specs.List.{slice_get}
+use Rattle.vio_num.specs.declared.hypervisor.Moved.{Moved}
+use Rattle.boot_text.specs.declared.plan.Line.{Line}
+use Rattle.boot_text.specs.declared.verb.Verb.TheVariants as verbs
+use Rattle.unit_region.specs.declared.step.Step.TheVariants as steps
+use Rattle.vio_trace.specs.declared.outcome.Outcome.TheVariants as outcomes
+use Rattle.vio_trace.specs.declared.rows.LogRow.{LogRow}
+use Rattle.lan_script.specs.PortCounts.{counts, counts_by, counts_told}
+use Rattle.lan_script.specs.Replayed.{is_replayed}
+use Rattle.lan_script.specs.Units.{LanValue}
+use Rattle.vcpu_run.specs.declared.script.Script.{Script}
+use Rattle.vcpu_run.specs.PortSteps.{AllSilent, AllTake, AreFresh, TellsStep}
+use Rattle.vcpu_run.specs.PortWords.{TellsPorts, done_in, frame_of}
+use Rattle.vcpu_run.specs.Suited.{is_call}
+use Rattle.vcpu_run.specs.Works.{fails}
+use Rattle.vcpu_run.proofs.PortReplaying.{failing_replay, fresh_replay, none_replay, replay_ends, replay_waits, rest_replay, step_replay}
+use Rattle.vcpu_run.proofs.PortTelling.{fails_none, fresh_words, quiet_words, rest_words, silent_words, step_words, took_words, words_wait}
+
+-- the current line waits
+pub port_waits : (lan lan' : LanValue) (script script' : Script) (line : Line) (moved : Moved) → slice_get script.lines.now script.at ≡ Some line
+    → script' ≡ record script { progress = script'.progress }
+    → (is_call line.verb ≡ false → TellsStep script.partition script.seats.items line (done_in script.progress) (done_in script'.progress) lan lan' (steps.Waits moved))
+    → TellsPorts lan script → TellsPorts lan' script'
+port_waits lan lan' script script' line moved found same step tells = record {
+  words = words_wait lan lan' script script' line moved found same step tells.words;
+  replay = replay_waits lan lan' script script' line moved found same step tells.replay;
+}
+
+-- it ends
+pub step_tells : (lan lan' : LanValue) (script ended : Script) (line : Line) (row : LogRow) (done' : ℕ) → slice_get script.lines.now script.at ≡ Some line
+    → length script.logs.items ≡ script.at → ended.partition ≡ script.partition → ended.lines ≡ script.lines → ended.seats ≡ script.seats
+    → ended.logs.items ≡ script.logs.items ++ row ∷ [] → done_in ended.progress ≡ 0
+    → (is_call line.verb ≡ false → TellsStep script.partition script.seats.items line (done_in script.progress) done' lan lan' (steps.Ends row.outcome))
+    → TellsPorts lan script → TellsPorts lan' ended
+step_tells lan lan' script ended line row done' found reached partition lines seats logs fresh step tells = record {
+  words = step_words lan lan' script ended line row done' found reached partition lines seats logs fresh step tells.words;
+  replay = replay_ends lan lan' script ended line row found reached partition lines seats logs fresh
+      (λ no going unit sat. step_replay lan lan' script line row done' unit (line.unit == unit) (step no unit sat)) tells.replay;
+}
+
+-- a line that did nothing and is none of a replay, nor of one that lines tell of
+pub quiet_tells : (lan : LanValue) (script ended : Script) (line : Line) (row : LogRow) → slice_get script.lines.now script.at ≡ Some line
+    → length script.logs.items ≡ script.at → ended.partition ≡ script.partition → ended.lines ≡ script.lines → ended.seats ≡ script.seats
+    → ended.logs.items ≡ script.logs.items ++ row ∷ [] → done_in ended.progress ≡ 0
+    → frame_of row.outcome ≡ [] → counts_told row.outcome ≡ counts 0 0 → ((d : ℕ) → counts_by line.verb d ≡ counts 0 0) → is_replayed line.verb ≡ false
+    → TellsPorts lan script → TellsPorts lan ended
+quiet_tells lan script ended line row found reached partition lines seats logs fresh no_frame none nothing other tells = record {
+  words = quiet_words lan lan script ended line row found reached partition lines seats logs fresh no_frame none nothing (λ unit. record { frames = refl; counts = refl }) tells.words;
+  replay = replay_ends lan lan script ended line row found reached partition lines seats logs fresh
+      (λ no going unit sat. none_replay lan script line row unit (line.unit == unit) other) tells.replay;
+}
+
+-- a line of frames that waits and is ended: it tells of those that it took
+pub took_tells : (lan : LanValue) (script ended : Script) (line : Line) (row : LogRow) (count taken : ℕ) → slice_get script.lines.now script.at ≡ Some line
+    → length script.logs.items ≡ script.at → ended.partition ≡ script.partition → ended.lines ≡ script.lines → ended.seats ≡ script.seats
+    → ended.logs.items ≡ script.logs.items ++ row ∷ [] → done_in ended.progress ≡ 0
+    → row.outcome ≡ outcomes.Took taken → line.verb ≡ verbs.Take count → taken ≤ done_in script.progress
+    → TellsPorts lan script → TellsPorts lan ended
+took_tells lan script ended line row count taken found reached partition lines seats logs fresh out verb few tells = record {
+  words = took_words lan script ended line row count taken found reached partition lines seats logs fresh out verb few tells.words;
+  replay = replay_ends lan lan script ended line row found reached partition lines seats logs fresh
+      (λ no going unit sat. none_replay lan script line row unit (line.unit == unit) (ap is_replayed verb)) tells.replay;
+}
+
+-- a line that failed the partition
+pub failed_tells : (lan lan' : LanValue) (script ended : Script) (line : Line) (row : LogRow) → slice_get script.lines.now script.at ≡ Some line
+    → length script.logs.items ≡ script.at → ended.partition ≡ script.partition → ended.lines ≡ script.lines → ended.seats ≡ script.seats
+    → ended.logs.items ≡ script.logs.items ++ row ∷ [] → done_in ended.progress ≡ 0
+    → frame_of row.outcome ≡ [] → counts_told row.outcome ≡ counts 0 0 → fails line.verb ≡ true → AllSilent lan lan'
+    → TellsPorts lan script → TellsPorts lan' ended
+failed_tells lan lan' script ended line row found reached partition lines seats logs fresh no_frame none failing silent tells = record {
+  words = quiet_words lan lan' script ended line row found reached partition lines seats logs fresh no_frame none (fails_none line.verb failing) silent tells.words;
+  replay = failing_replay lan' script ended line found failing lines;
+}
+
+-- one that fails it still
+pub failing_tells : (lan lan' : LanValue) (script : Script) (line : Line) → slice_get script.lines.now script.at ≡ Some line → fails line.verb ≡ true
+    → AllSilent lan lan' → TellsPorts lan script → TellsPorts lan' script
+failing_tells lan lan' script line found failing silent tells = record {
+  words = silent_words lan lan' script silent tells.words;
+  replay = failing_replay lan' script script line found failing refl;
+}
+
+-- nothing but frames was taken
+pub rest_tells : (lan lan' : LanValue) (script : Script) → AllTake script.partition lan lan' → TellsPorts lan script → TellsPorts lan' script
+rest_tells lan lan' script takes tells = record {
+  words = rest_words lan lan' script takes tells.words;
+  replay = rest_replay lan lan' script takes tells.replay;
+}
+
+-- a script before its first line
+pub fresh_tells : (lan : LanValue) (script : Script) → script.logs.items ≡ [] → done_in script.progress ≡ 0 → AreFresh lan → TellsPorts lan script
+fresh_tells lan script logs progress fresh = record {
+  words = fresh_words lan script logs progress fresh;
+  replay = fresh_replay lan script logs progress fresh;
+}
