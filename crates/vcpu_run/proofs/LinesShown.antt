@@ -1,5 +1,5 @@
 -- What there is once a line said that it sent a request, or wrote into its region, and that it is there as long as the run goes on.
-use Rattle.std.proofs.Common.{◌≡◌, ◌≢◌, ◌∙◌, ◌⊎◌, inl, inr, ℕ, zero, suc, ◌+◌, ◌==◌, ◌<◌, ◌≤◌, ◌&&◌, All, filter, get_or, map, nat_le, nat_lt, cond, Bool, true, false, List, [], ◌∷◌, ◌++◌, Option, Some, None, Result, Ok, Err, Contains, IfErr, IfOk, IfSome, IsSome, IsTrue, MatchBool, length, refl, sym, ap, subst, arith, slice_get}
+use Rattle.std.proofs.Common.{◌≡◌, ◌≢◌, ◌∙◌, ◌⊎◌, inl, inr, ℕ, zero, suc, ◌+◌, ◌==◌, ◌<◌, ◌≤◌, ◌&&◌, All, filter, get_or, map, nat_le, nat_lt, cond, Bool, true, false, List, [], ◌∷◌, ◌++◌, Option, Some, None, Result, Ok, Err, Contains, IfOk, IfSome, IsSome, MatchBool, length, refl, sym, ap, subst, arith, slice_get, append_assoc, append-nil}
 use Rattle.std.specs.Borrow.{GName}
 use Rattle.std.specs.List.{flat_map}
 use Rattle.std.proofs.lemmas.Bool.{eq-eqb}
@@ -20,7 +20,7 @@ use Rattle.rdma_copy.specs.Copies.{side_of as side_at}
 use Rattle.rdma_copy.specs.Copy.{SideGrows}
 use Rattle.tce_window.specs.PlainPort.{known_of}
 use Rattle.tce_window.specs.Port.{Grows}
-use Rattle.tce_window.specs.PortState.{PortPlace, PortState, Writes}
+use Rattle.tce_window.specs.PortState.{PortPlace, PortState, Reads, Writes}
 use Rattle.tce_window.specs.Strokes.{with_strokes}
 use Rattle.tce_window.specs.Region.{end_page, first_page, stroke_on, touches, written}
 use Rattle.tce_window.specs.Window.{strokes_at}
@@ -39,14 +39,14 @@ use Rattle.vscsi_client.specs.Units.{IsCommand, slot_address, task_request}
 use Rattle.vscsi_client.specs.declared.TheConstants.{SLOTS}
 use Rattle.vscsi_client.specs.declared.answers.Refused.{Refused}
 use Rattle.vscsi_client.specs.declared.op.Op.{Op}
-use Rattle.unit_region.specs.Answers.{AnswersWrite}
+use Rattle.unit_region.specs.Answers.{AnswersRead, AnswersWrite}
 use Rattle.unit_region.specs.Kept.{LaysOwnOn}
 use Rattle.unit_region.specs.Steps.{IsPlain, is_plain}
 use Rattle.unit_region.specs.declared.step.Step.{Step}
 use Rattle.unit_region.specs.declared.step.Step.TheVariants as steps
 use Rattle.vcpu_run.specs.declared.pair.Pair.{Pair}
 use Rattle.vcpu_run.specs.Commands.{IsOpOf, cdb_of}
-use Rattle.vcpu_run.specs.LinesShow.{AreWritten, IsCommandOf, IsOn, IsPut, IsPutBy, IsSent, IsSentIf, IsShown, IsUnitOf, IsWrittenIf, LinesShow, PairShows, Placed, Seen, Sees, StepShows, requests, seen_at, seen_by, written_by}
+use Rattle.vcpu_run.specs.LinesShow.{AreRead, AreWritten, IsCommandOf, IsFront, IsOn, IsPut, IsPutBy, IsSent, IsSentIf, IsReadIf, IsShown, IsUnitOf, IsWrittenIf, LinesShow, PairShows, Placed, RegionShows, Seen, Sees, StepShows, read_by, requests, seen_at, seen_by, written_by}
 use Rattle.vcpu_run.specs.Pairs.{Drives}
 use Rattle.vcpu_run.specs.Sendings.{SaysSent}
 use Rattle.vcpu_run.specs.Sessions.{entries_of, session_rows, sessions_from}
@@ -117,17 +117,49 @@ written_if_more P Q more (outcomes.Frame code number) is = tt
 written_if_more P Q more outcomes.Done is = more is
 written_if_more P Q more (outcomes.Bytes shown) is = tt
 
-pub shown_more : (a b : Seen) → Sees a b → (unit : UnitId) (mark : ℕ) (verb : Verb) (outcome : Outcome) → IsShown a unit mark verb outcome → IsShown b unit mark verb outcome
-shown_more a b more unit mark verb outcome is = at (requests verb) (written_by verb) is
+read_if_more : (a b : Seen) → Sees a b → (at : ℕ) (outcome : Outcome) → IsReadIf a at outcome → IsReadIf b at outcome
+read_if_more a b more at (outcomes.Granted credits) is = tt
+read_if_more a b more at (outcomes.Sent tag) is = tt
+read_if_more a b more at (outcomes.Took count) is = tt
+read_if_more a b more at outcomes.Lost is = tt
+read_if_more a b more at (outcomes.TookThenLost count) is = tt
+read_if_more a b more at (outcomes.Rejected reason) is = tt
+read_if_more a b more at outcomes.Unanswered is = tt
+read_if_more a b more at outcomes.Range is = tt
+read_if_more a b more at outcomes.NotLoggedIn is = tt
+read_if_more a b more at (outcomes.NoCredit limit) is = tt
+read_if_more a b more at (outcomes.Overlap tag) is = tt
+read_if_more a b more at outcomes.Closed is = tt
+read_if_more a b more at (outcomes.Dropped number held) is = tt
+read_if_more a b more at (outcomes.Data size sum) is = tt
+read_if_more a b more at (outcomes.Stale page) is = tt
+read_if_more a b more at outcomes.Unknown is = tt
+read_if_more a b more at (outcomes.Code code) is = tt
+read_if_more a b more at (outcomes.Value value) is = tt
+read_if_more a b more at (outcomes.Posted buffers code) is = tt
+read_if_more a b more at (outcomes.Frame code number) is = tt
+read_if_more a b more at outcomes.Done is = tt
+read_if_more a b more at (outcomes.Bytes shown) is = record { fronts = is.fronts; there = λ page here. more.fronts page (is.fronts page) (is.there page here); read = is.read }
+
+region_more : (a b : Seen) → Sees a b → (unit : UnitId) (mark : ℕ) (placed : Option Placed) (at : Option ℕ) (outcome : Outcome) → RegionShows a unit mark placed at outcome
+    → RegionShows b unit mark placed at outcome
+region_more a b more unit mark placed at outcome is = (wrote placed is.0, read at is.1)
   where
-    at : (asked : Bool) (o : Option Placed)
-        → MatchBool asked (IsSentIf a unit mark verb outcome) (IfSome o (λ placed. IsWrittenIf outcome (AreWritten a unit mark placed.at placed.bytes)))
-        → MatchBool asked (IsSentIf b unit mark verb outcome) (IfSome o (λ placed. IsWrittenIf outcome (AreWritten b unit mark placed.at placed.bytes)))
-    at true o is = sent_if_more a b more unit mark verb outcome is
-    at false None is = tt
-    at false (Some placed) is =
-        written_if_more (AreWritten a unit mark placed.at placed.bytes) (AreWritten b unit mark placed.at placed.bytes)
-        (written_more a b more unit mark placed.at placed.bytes) outcome is
+    wrote : (o : Option Placed) → IfSome o (λ p. IsWrittenIf outcome (AreWritten a unit mark p.at p.bytes)) → IfSome o (λ p. IsWrittenIf outcome (AreWritten b unit mark p.at p.bytes))
+    wrote None h = tt
+    wrote (Some p) h = written_if_more (AreWritten a unit mark p.at p.bytes) (AreWritten b unit mark p.at p.bytes) (written_more a b more unit mark p.at p.bytes) outcome h
+
+    read : (o : Option ℕ) → IfSome o (λ n. IsReadIf a n outcome) → IfSome o (λ n. IsReadIf b n outcome)
+    read None h = tt
+    read (Some n) h = read_if_more a b more n outcome h
+
+pub shown_more : (a b : Seen) → Sees a b → (unit : UnitId) (mark : ℕ) (verb : Verb) (outcome : Outcome) → IsShown a unit mark verb outcome → IsShown b unit mark verb outcome
+shown_more a b more unit mark verb outcome is = at (requests verb) is
+  where
+    at : (asked : Bool) → MatchBool asked (IsSentIf a unit mark verb outcome) (RegionShows a unit mark (written_by verb) (read_by verb) outcome)
+        → MatchBool asked (IsSentIf b unit mark verb outcome) (RegionShows b unit mark (written_by verb) (read_by verb) outcome)
+    at true is = sent_if_more a b more unit mark verb outcome is
+    at false is = region_more a b more unit mark (written_by verb) (read_by verb) outcome is
 
 pub step_more : (a b : Seen) → Sees a b → (unit : UnitId) (mark : ℕ) (verb : Verb) (result : Result Step NoMemory) → StepShows a unit mark verb result → StepShows b unit mark verb result
 step_more a b more unit mark verb (Ok (steps.Ends outcome)) is = shown_more a b more unit mark verb outcome is
@@ -135,15 +167,18 @@ step_more a b more unit mark verb (Ok (steps.Waits did)) is = tt
 step_more a b more unit mark verb (Err memory) is = tt
 
 -- a line that sends nothing and writes nothing
-pub shows_none : (seen : Seen) (unit : UnitId) (mark : ℕ) (verb : Verb) (outcome : Outcome) → requests verb ≡ false → written_by verb ≡ None → IsShown seen unit mark verb outcome
-shows_none seen unit mark verb outcome no_request no_bytes =
-    subst (λ b. MatchBool b (IsSentIf seen unit mark verb outcome) (IfSome (written_by verb) (λ placed. IsWrittenIf outcome (AreWritten seen unit mark placed.at placed.bytes)))) (sym no_request)
-    (subst (λ (o : Option Placed). IfSome o (λ placed. IsWrittenIf outcome (AreWritten seen unit mark placed.at placed.bytes))) (sym no_bytes) tt)
+pub shows_none : (seen : Seen) (unit : UnitId) (mark : ℕ) (verb : Verb) (outcome : Outcome) → requests verb ≡ false → written_by verb ≡ None → read_by verb ≡ None
+    → IsShown seen unit mark verb outcome
+shows_none seen unit mark verb outcome no_request no_bytes no_read =
+    subst (λ b. MatchBool b (IsSentIf seen unit mark verb outcome) (RegionShows seen unit mark (written_by verb) (read_by verb) outcome)) (sym no_request)
+    (subst (λ (o : Option Placed). RegionShows seen unit mark o (read_by verb) outcome) (sym no_bytes)
+    (subst (λ (o : Option ℕ). RegionShows seen unit mark None o outcome) (sym no_read) (tt, tt)))
 
-pub step_none : (seen : Seen) (unit : UnitId) (mark : ℕ) (verb : Verb) (result : Result Step NoMemory) → requests verb ≡ false → written_by verb ≡ None → StepShows seen unit mark verb result
-step_none seen unit mark verb (Ok (steps.Ends outcome)) no_request no_bytes = shows_none seen unit mark verb outcome no_request no_bytes
-step_none seen unit mark verb (Ok (steps.Waits did)) no_request no_bytes = tt
-step_none seen unit mark verb (Err memory) no_request no_bytes = tt
+pub step_none : (seen : Seen) (unit : UnitId) (mark : ℕ) (verb : Verb) (result : Result Step NoMemory) → requests verb ≡ false → written_by verb ≡ None → read_by verb ≡ None
+    → StepShows seen unit mark verb result
+step_none seen unit mark verb (Ok (steps.Ends outcome)) no_request no_bytes no_read = shows_none seen unit mark verb outcome no_request no_bytes no_read
+step_none seen unit mark verb (Ok (steps.Waits did)) no_request no_bytes no_read = tt
+step_none seen unit mark verb (Err memory) no_request no_bytes no_read = tt
 
 -- a command, and the unit that it sends
 op_requests : (verb : Verb) (op : Op) → IsOpOf verb op → requests verb ≡ true
@@ -228,7 +263,7 @@ fail_is verbs.Fail is = refl
 pub fail_shows : (seen : Seen) (unit : UnitId) (mark : ℕ) (verb : Verb) (outcome : Outcome) → fails verb ≡ true → IsShown seen unit mark verb outcome
 fail_shows seen unit mark verb outcome failing =
     let is = fail_is verb failing in
-    shows_none seen unit mark verb outcome (ap requests is) (ap written_by is)
+    shows_none seen unit mark verb outcome (ap requests is) (ap written_by is) (ap read_by is)
 
 contains_first : {X : Type 0} (x : X) (rest : List X) → Contains (x ∷ rest) x
 contains_first x rest = (zero, omega arith, refl)
@@ -253,8 +288,12 @@ laid_there stroke None after e there = absurd (none after e there)
 laid_there stroke (Some strokes) after e there =
     subst (IsOn stroke) (sym e) (Contains-append_right strokes (stroke ∷ []) stroke (contains_first stroke []))
 
+-- what there is in a window, with these entries
+abbrev pub seen_there : PortState → (Entry → Type 0) → Seen
+seen_there port entries = record { stroke_at = λ page stroke. IsOn stroke (port.strokes page); front_at = λ page front. IsFront front (port.strokes page); entry_put = entries }
+
 pub write_there : (shared : Bool) (old new : PortState) (at mark : ℕ) (bytes : List ℕ) (entries : Entry → Type 0) → Writes shared old at bytes mark new
-    → AreWritten (record { stroke_at = λ page stroke. IsOn stroke (new.strokes page); entry_put = entries }) old.place.unit mark at bytes
+    → AreWritten (seen_there new entries) old.place.unit mark at bytes
 write_there shared old new at mark bytes entries is page here =
     let name : StrokeName = record { who = old.place.unit; mark = mark } in
     let stroke = stroke_on name at bytes page in
@@ -321,12 +360,11 @@ sent_as : (seen : Seen) (unit : UnitId) (mark : ℕ) (verb : Verb) (tag : ℕ) (
     → IsSent seen unit mark verb tag → StepShows seen unit mark verb result
 sent_as seen unit mark verb tag result asked says is =
     subst (StepShows seen unit mark verb) (sym says)
-    (subst (λ b. MatchBool b (IsSent seen unit mark verb tag) (IfSome (written_by verb) (λ placed. IsWrittenIf (outcomes.Sent tag) (AreWritten seen unit mark placed.at placed.bytes))))
-    (sym asked) is)
+    (subst (λ b. MatchBool b (IsSent seen unit mark verb tag) (RegionShows seen unit mark (written_by verb) (read_by verb) (outcomes.Sent tag))) (sym asked) is)
 
 not_sent : (seen : Seen) (unit : UnitId) (mark : ℕ) (verb : Verb) (result : Result Step NoMemory) → requests verb ≡ true → IsPlain result → StepShows seen unit mark verb result
 not_sent seen unit mark verb (Ok (steps.Ends outcome)) asked plain =
-    subst (λ b. MatchBool b (IsSentIf seen unit mark verb outcome) (IfSome (written_by verb) (λ placed. IsWrittenIf outcome (AreWritten seen unit mark placed.at placed.bytes)))) (sym asked)
+    subst (λ b. MatchBool b (IsSentIf seen unit mark verb outcome) (RegionShows seen unit mark (written_by verb) (read_by verb) outcome)) (sym asked)
     (plain_sent seen unit mark verb outcome plain)
 not_sent seen unit mark verb (Ok (steps.Waits did)) asked plain = tt
 not_sent seen unit mark verb (Err memory) asked plain = tt
@@ -394,16 +432,65 @@ if_done shared old new at bytes mark P from outcomes.Done answer = from answer
 if_done shared old new at bytes mark P from (outcomes.Bytes shown) answer = tt
 
 pub write_shows : (shared : Bool) (old new : PortState) (at mark : ℕ) (bytes : List ℕ) (entries : Entry → Type 0) (verb : Verb) (result : Result Step NoMemory) → requests verb ≡ false
-    → written_by verb ≡ Some (record { at = at; bytes = bytes }) → IfOk result (AnswersWrite shared old new at bytes mark)
-    → StepShows (record { stroke_at = λ page stroke. IsOn stroke (new.strokes page); entry_put = entries }) old.place.unit mark verb result
-write_shows shared old new at mark bytes entries verb (Ok (steps.Ends outcome)) no_request is answer =
-    let seen : Seen = record { stroke_at = λ page stroke. IsOn stroke (new.strokes page); entry_put = entries } in
+    → written_by verb ≡ Some (record { at = at; bytes = bytes }) → read_by verb ≡ None → IfOk result (AnswersWrite shared old new at bytes mark)
+    → StepShows (seen_there new entries) old.place.unit mark verb result
+write_shows shared old new at mark bytes entries verb (Ok (steps.Ends outcome)) no_request is no_read answer =
+    let seen : Seen = seen_there new entries in
     let unit = old.place.unit in
-    subst (λ b. MatchBool b (IsSentIf seen unit mark verb outcome) (IfSome (written_by verb) (λ placed. IsWrittenIf outcome (AreWritten seen unit mark placed.at placed.bytes)))) (sym no_request)
-    (subst (λ (o : Option Placed). IfSome o (λ placed. IsWrittenIf outcome (AreWritten seen unit mark placed.at placed.bytes))) (sym is)
-    (if_done shared old new at bytes mark (AreWritten seen unit mark at bytes) (write_there shared old new at mark bytes entries) outcome answer))
-write_shows shared old new at mark bytes entries verb (Ok (steps.Waits did)) no_request is answer = tt
-write_shows shared old new at mark bytes entries verb (Err memory) no_request is answer = tt
+    subst (λ b. MatchBool b (IsSentIf seen unit mark verb outcome) (RegionShows seen unit mark (written_by verb) (read_by verb) outcome)) (sym no_request)
+    (subst (λ (o : Option Placed). RegionShows seen unit mark o (read_by verb) outcome) (sym is)
+    (subst (λ (o : Option ℕ). RegionShows seen unit mark (Some (record { at = at; bytes = bytes })) o outcome) (sym no_read)
+    (if_done shared old new at bytes mark (AreWritten seen unit mark at bytes) (write_there shared old new at mark bytes entries) outcome answer, tt)))
+write_shows shared old new at mark bytes entries verb (Ok (steps.Waits did)) no_request is no_read answer = tt
+write_shows shared old new at mark bytes entries verb (Err memory) no_request is no_read answer = tt
+
+-- a line that reads bytes of the region
+front_of : (strokes : Option (List StrokeValue)) → IsSome strokes → IsFront strokes strokes
+front_of None some = absurd (cc (some))
+front_of (Some strokes) some = ([], sym (append-nil strokes))
+
+read_there : (new : PortState) (at : ℕ) (shown : List ℕ) (entries : Entry → Type 0) → Reads new at shown → AreRead (seen_there new entries) at shown
+read_there new at shown entries is = record {
+  fronts = new.strokes;
+  there = λ page here. let within = touched at (length shown) page here in front_of (new.strokes page) (is.there page within.0 within.1);
+  read = is.bytes;
+}
+
+if_bytes : (seen : Seen) (at : ℕ) (new : PortState) (len : ℕ) (old : PortState) → ((shown : List ℕ) → Reads new at shown → AreRead seen at shown) → (outcome : Outcome)
+    → AnswersRead old new at len (steps.Ends outcome) → IsReadIf seen at outcome
+if_bytes seen at new len old from (outcomes.Granted credits) answer = tt
+if_bytes seen at new len old from (outcomes.Sent tag) answer = tt
+if_bytes seen at new len old from (outcomes.Took count) answer = tt
+if_bytes seen at new len old from outcomes.Lost answer = tt
+if_bytes seen at new len old from (outcomes.TookThenLost count) answer = tt
+if_bytes seen at new len old from (outcomes.Rejected reason) answer = tt
+if_bytes seen at new len old from outcomes.Unanswered answer = tt
+if_bytes seen at new len old from outcomes.Range answer = tt
+if_bytes seen at new len old from outcomes.NotLoggedIn answer = tt
+if_bytes seen at new len old from (outcomes.NoCredit limit) answer = tt
+if_bytes seen at new len old from (outcomes.Overlap tag) answer = tt
+if_bytes seen at new len old from outcomes.Closed answer = tt
+if_bytes seen at new len old from (outcomes.Dropped number held) answer = tt
+if_bytes seen at new len old from (outcomes.Data size sum) answer = tt
+if_bytes seen at new len old from (outcomes.Stale page) answer = tt
+if_bytes seen at new len old from outcomes.Unknown answer = tt
+if_bytes seen at new len old from (outcomes.Code code) answer = tt
+if_bytes seen at new len old from (outcomes.Value value) answer = tt
+if_bytes seen at new len old from (outcomes.Posted buffers code) answer = tt
+if_bytes seen at new len old from (outcomes.Frame code number) answer = tt
+if_bytes seen at new len old from outcomes.Done answer = tt
+if_bytes seen at new len old from (outcomes.Bytes shown) answer = from shown answer.read
+
+pub read_shows : (old new : PortState) (unit : UnitId) (at len mark : ℕ) (entries : Entry → Type 0) (verb : Verb) (result : Result Step NoMemory) → requests verb ≡ false
+    → written_by verb ≡ None → read_by verb ≡ Some at → IfOk result (AnswersRead old new at len) → StepShows (seen_there new entries) unit mark verb result
+read_shows old new unit at len mark entries verb (Ok (steps.Ends outcome)) no_request no_bytes is answer =
+    let seen : Seen = seen_there new entries in
+    subst (λ b. MatchBool b (IsSentIf seen unit mark verb outcome) (RegionShows seen unit mark (written_by verb) (read_by verb) outcome)) (sym no_request)
+    (subst (λ (o : Option Placed). RegionShows seen unit mark o (read_by verb) outcome) (sym no_bytes)
+    (subst (λ (o : Option ℕ). RegionShows seen unit mark None o outcome) (sym is)
+    (tt, if_bytes seen at new len old (λ shown. read_there new at shown entries) outcome answer)))
+read_shows old new unit at len mark entries verb (Ok (steps.Waits did)) no_request no_bytes is answer = tt
+read_shows old new unit at len mark entries verb (Err memory) no_request no_bytes is answer = tt
 
 -- what a driver sees is there at its pair: an entry that was put in a registered queue was put in a session
 pub home_sees : (pair : Pair) (port : PortState) (end : EndState) → port.strokes ≡ strokes_at pair.window.pages → end.sent ≡ (side_of pair.link true).queue.sent
@@ -411,6 +498,7 @@ pub home_sees : (pair : Pair) (port : PortState) (end : EndState) → port.strok
     → Sees (seen_by false port end) (seen_at pair)
 home_sees pair port end strokes sent session registered = record {
   strokes = λ page stroke is. subst (λ (at : ℕ → Option (List StrokeValue)). IsOn stroke (at page)) strokes is;
+  fronts = λ page front is. subst (λ (at : ℕ → Option (List StrokeValue)). IsFront front (at page)) strokes is;
   entries = λ entry is. record {
     row = record { session = end.counts.partner_session; entry = entry };
     there = subst (λ (rows : List PipeRow). Contains rows (record { session = end.counts.partner_session; entry = entry })) sent is.there;
@@ -425,6 +513,14 @@ more_on unit stroke (Some old) None lays is = absurd lays
 more_on unit stroke (Some old) (Some new) lays is =
     subst (λ (strokes : List StrokeValue). Contains strokes stroke) (sym lays.is) (Contains-append_left old lays.more stroke is)
 
+front_more : (front old new : Option (List StrokeValue)) → ((strokes : List StrokeValue) → old ≡ Some strokes → (more : List StrokeValue) × (new ≡ Some (strokes ++ more)))
+    → IsFront front old → IsFront front new
+front_more None old new grows is = absurd is
+front_more (Some front) None new grows is = absurd is
+front_more (Some front) (Some old) new grows is =
+    let more = grows old refl in
+    subst (IsFront (Some front)) (sym more.1) (is.0 ++ more.0, ap (λ (list : List StrokeValue). list ++ more.0) is.1 ∙ append_assoc front is.0 more.0)
+
 more_put : (entry : Entry) (old rows new : List PipeRow) → new ≡ old ++ rows → IsPut entry old → IsPut entry new
 more_put entry old rows new e is = record {
   row = is.row;
@@ -433,10 +529,32 @@ more_put entry old rows new e is = record {
   begun = is.begun;
 }
 
+laid_more : (unit : UnitId) (strokes : List StrokeValue) (old new : Option (List StrokeValue)) → old ≡ Some strokes → LaysOwnOn unit old new
+    → (more : List StrokeValue) × (new ≡ Some (strokes ++ more))
+laid_more unit strokes None new e lays = absurd (no_strokes strokes e)
+  where
+    no_strokes : (list : List StrokeValue) → None ≡ Some list → ⊥
+    no_strokes list e = cc
+laid_more unit strokes (Some old) None e lays = absurd lays
+laid_more unit strokes (Some old) (Some new) e lays =
+    (lays.more, ap Some (lays.is ∙ ap (λ (list : List StrokeValue). list ++ lays.more) (some_is old strokes e)))
+
+grown_more : (strokes : List StrokeValue) (old new : Option (List StrokeValue)) → old ≡ Some strokes → Grows true old new
+    → (more : List StrokeValue) × (new ≡ Some (strokes ++ more))
+grown_more strokes None new e grows = absurd (no_strokes strokes e)
+  where
+    no_strokes : (list : List StrokeValue) → None ≡ Some list → ⊥
+    no_strokes list e = cc
+grown_more strokes (Some old) None e grows = absurd grows
+grown_more strokes (Some old) (Some new) e grows =
+    (grows.0, ap Some (grows.1 ∙ ap (λ (list : List StrokeValue). list ++ grows.0) (some_is old strokes e)))
+
 -- what a client's part of a turn, and a turn of the server unit, leave of it
 pub drives_sees : (old new : Pair) → Drives old new → Sees (seen_at old) (seen_at new)
 drives_sees old new is = record {
   strokes = λ page stroke there. more_on old.window.unit stroke (strokes_at old.window.pages page) (strokes_at new.window.pages page) (is.laid page) there;
+  fronts = λ page front there. front_more front (strokes_at old.window.pages page) (strokes_at new.window.pages page)
+      (λ strokes e. laid_more old.window.unit strokes (strokes_at old.window.pages page) (strokes_at new.window.pages page) e (is.laid page)) there;
   entries = λ entry put. more_put entry (side_of old.link true).queue.sent is.puts.rows (side_of new.link true).queue.sent is.puts.sent put;
 }
 
@@ -450,15 +568,18 @@ pub serve_sees : (old new : Pair) → SideGrows (side_at (known_of old.window)) 
     → Sees (seen_at old) (seen_at new)
 serve_sees old new grows sent = record {
   strokes = λ page stroke there. grown_on stroke (strokes_at old.window.pages page) (strokes_at new.window.pages page) (grows.strokes page) there;
+  fronts = λ page front there. front_more front (strokes_at old.window.pages page) (strokes_at new.window.pages page)
+      (λ strokes e. grown_more strokes (strokes_at old.window.pages page) (strokes_at new.window.pages page) e (grows.strokes page)) there;
   entries = λ entry put. subst (IsPut entry) (sym sent) put;
 }
 
 pub sees_same : (seen : Seen) → Sees seen seen
-sees_same seen = record { strokes = λ page stroke is. is; entries = λ entry is. is }
+sees_same seen = record { strokes = λ page stroke is. is; fronts = λ page front is. is; entries = λ entry is. is }
 
 pub sees_on : (a b c : Seen) → Sees a b → Sees b c → Sees a c
 sees_on a b c first next = record {
   strokes = λ page stroke is. next.strokes page stroke (first.strokes page stroke is);
+  fronts = λ page front is. next.fronts page front (first.fronts page front is);
   entries = λ entry is. next.entries entry (first.entries entry is);
 }
 
@@ -565,3 +686,16 @@ pub pair_shows : (pair : Pair) (lenders : List GName) (first : Bool) (who : Unit
 pair_shows pair lenders first who line result is same shows =
     subst (λ unit. StepShows (seen_at pair) unit line.number line.verb result) (sym same)
     (step_more (seen_by false (known_of pair.window) (end_of lenders pair.link first)) (seen_at pair) (end_sees pair lenders first is) who line.number line.verb result shows)
+
+pub front_shown : (size page : ℕ) (front strokes : Option (List StrokeValue)) (shown : List StrokeValue)
+    → Grows true strokes (cond (nat_lt page size) (Some shown) None) → IsFront front strokes → IsFront front (Some shown)
+front_shown size page front strokes shown grows is = at (nat_lt page size) grows
+  where
+    none_front : (f o : Option (List StrokeValue)) → Grows true o None → IsFront f o → ⊥
+    none_front None o grows is = is
+    none_front (Some f) None grows is = is
+    none_front (Some f) (Some o) grows is = grows
+
+    at : (b : Bool) → Grows true strokes (cond b (Some shown) None) → IsFront front (Some shown)
+    at true more = front_more front strokes (Some shown) (λ list e. grown_more list strokes (Some shown) e more) is
+    at false more = absurd (none_front front strokes more is)

@@ -1,5 +1,5 @@
 -- The refusals of which a gathered trace tells have their causes.
-use Rattle.std.proofs.Common.{◌≡◌, ◌∙◌, ℕ, ◌==◌, true, false, List, MatchOption, Option, Some, None, IsSomeAnd, filter, length, slice_get, sym, ap, subst, arith, All, Contains, IfSome, map, option_map, ◌≤◌}
+use Rattle.std.proofs.Common.{◌≡◌, ◌∙◌, ℕ, ◌==◌, true, false, List, MatchOption, Option, Some, None, IsSomeAnd, filter, length, slice_get, sym, ap, subst, arith, All, Contains, IfSome, map, option_map}
 use Rattle.std.specs.List.{flat_map}
 use Rattle.std.proofs.lemmas.Bool.Decides.{nat_tests}
 use Rattle.vio_num.specs.declared.history.Grant.{Grant}
@@ -47,7 +47,7 @@ use Rattle.vcpu_run.specs.Sessions.{session_rows}
 use Rattle.vcpu_run.specs.Units.{seats_of, unit_seat}
 use Rattle.vcpu_run.proofs.Copied.{names_apart, windows_shown}
 use Rattle.vcpu_run.proofs.Following.{each_from_all}
-use Rattle.vcpu_run.proofs.LinesShown.{lines_more, put_shown, stroke_shown}
+use Rattle.vcpu_run.proofs.LinesShown.{front_shown, lines_more, put_shown, stroke_shown}
 use Rattle.vcpu_run.proofs.QueueLaws.{sessions_told}
 use Rattle.vcpu_run.proofs.Seated.{planned_in}
 use Rattle.vcpu_run.proofs.Sole.{same_refl}
@@ -103,6 +103,8 @@ trace_sees partitions pairs scripts lan rows history grants copies client server
     record {
       strokes = λ page stroke on.
           stroke_shown (pages_at partitions client) page stroke (strokes_at pair.window.pages page) (map stroke_value (strokes_on trace client page)) (grows.strokes page) on;
+      fronts = λ page front is.
+          front_shown (pages_at partitions client) page front (strokes_at pair.window.pages page) (map stroke_value (strokes_on trace client page)) (grows.strokes page) is;
       entries = λ entry put. subst (λ (sessions : List QueueRow). Contains (flat_map (λ row. row.sent) sessions) entry) (sym sessions) (put_shown server pipe entry laws.sent put);
     }
 

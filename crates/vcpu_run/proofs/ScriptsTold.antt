@@ -26,7 +26,7 @@ use Rattle.vcpu_run.specs.declared.unit_seat.Seat.TheVariants as places
 use Rattle.vcpu_run.specs.Agreed.{AreLoggedOut, IsLoggedOut, OnDrivers, driver_in}
 use Rattle.vcpu_run.specs.Freeing.{is_reset}
 use Rattle.vcpu_run.specs.Credited.{Ended, ended_by, taken_in}
-use Rattle.vcpu_run.specs.LinesShow.{IsShown, LinesShow, Seen, requests, seen_at, written_by}
+use Rattle.vcpu_run.specs.LinesShow.{IsShown, LinesShow, Seen, read_by, requests, seen_at, written_by}
 use Rattle.vcpu_run.specs.Pairs.{AreDriven, Drives}
 use Rattle.vcpu_run.specs.Refusals.{HasCausesTold, tag_of, tags_told}
 use Rattle.vcpu_run.specs.Replay.{asks}
@@ -449,9 +449,9 @@ waiting_pair p verb outcome pair ends out = at pair.driver out
     at (Some d) out = step d ends out
 
 waiting_shows : (p : Progress) (verb : Verb) (outcome : Outcome) (seen : Seen) (unit : UnitId) (mark : ℕ) → EndsWaiting p verb outcome → IsShown seen unit mark verb outcome
-waiting_shows p verb outcome seen unit mark (of_login v o) = shows_none seen unit mark verb outcome (ap requests v) (ap written_by v)
-waiting_shows p verb outcome seen unit mark (of_reset v o) = shows_none seen unit mark verb outcome (ap requests v) (ap written_by v)
-waiting_shows p verb outcome seen unit mark (of_take count v o) = shows_none seen unit mark verb outcome (ap requests v) (ap written_by v)
+waiting_shows p verb outcome seen unit mark (of_login v o) = shows_none seen unit mark verb outcome (ap requests v) (ap written_by v) (ap read_by v)
+waiting_shows p verb outcome seen unit mark (of_reset v o) = shows_none seen unit mark verb outcome (ap requests v) (ap written_by v) (ap read_by v)
+waiting_shows p verb outcome seen unit mark (of_take count v o) = shows_none seen unit mark verb outcome (ap requests v) (ap written_by v) (ap read_by v)
 
 pub waiting_told : (pairs : List Pair) (script done : Script) (line : Line) (row : LogRow) → slice_get script.lines.now script.at ≡ Some line
     → IsSomeAnd (slice_get script.seats.items line.unit) (suits line.verb) → AreSeats script.partition script.seats.items pairs → length script.logs.items ≡ script.at

@@ -1,5 +1,5 @@
 -- The command that a line sends.
-use Rattle.std.specs.Prelude.{◌≡◌, ℕ, ◌-◌, ◌*◌, ◌++◌, List, [], ◌∷◌, Option, None, length, replicate}
+use Rattle.std.specs.Prelude.{◌≡◌, ℕ, ◌-◌, ◌*◌, ◌++◌, List, ◌∷◌, Option, None, length, replicate}
 use Rattle.byteorder.specs.Endian.{big_bytes}
 use Rattle.boot_text.specs.declared.verb.Verb.{Verb}
 use Rattle.boot_text.specs.declared.verb.Verb.TheVariants as verbs

@@ -1,7 +1,8 @@
 -- What is there once a client's line said that it sent a request, or wrote into its region: its strokes, and the entry that was put.
-use Rattle.std.specs.Prelude.{◌≡◌, ℕ, ◌<◌, ◌≤◌, Bool, true, false, List, IfSome, MatchBool, Option, Some, None, Result, Ok, Err, length, ⊤}
+use Rattle.std.specs.Prelude.{◌≡◌, ℕ, ◌+◌, ◌<◌, ◌≤◌, slice_index, Bool, true, false, List, IfSome, MatchBool, Option, Some, None, Result, Ok, length, ⊤}
 use Rattle.std.specs.List.{Contains, slice_get}
 use Rattle.vio_num.specs.Entry.{srp_entry}
+use Rattle.vio_num.specs.Words.{Begins}
 use Rattle.vio_num.specs.declared.entry.Entry.{Entry}
 use Rattle.vio_num.specs.declared.memory.NoMemory.{NoMemory}
 use Rattle.vio_num.specs.declared.names.UnitId.{UnitId}
@@ -10,7 +11,7 @@ use Rattle.crq_session.specs.EndState.{EndState}
 use Rattle.crq_session.specs.PlainState.{side_of}
 use Rattle.page_slots.specs.Stroke.{StrokeValue}
 use Rattle.tce_window.specs.PortState.{PortState}
-use Rattle.tce_window.specs.Region.{stroke_on, touches}
+use Rattle.tce_window.specs.Region.{region_byte, stroke_on, touches}
 use Rattle.tce_window.specs.Window.{strokes_at}
 use Rattle.srp_iu.specs.Grammar.{Canon}
 use Rattle.srp_iu.specs.declared.command.Cmd.{Cmd as Command}
@@ -32,9 +33,11 @@ use Rattle.vcpu_run.specs.declared.pair.Pair.{Pair}
 use Rattle.vcpu_run.specs.Commands.{IsOpOf, cdb_of}
 use Rattle.vcpu_run.specs.Replay.{asks}
 
--- What there is of a client's lines: the strokes on the pages of its region, and the entries in its server unit's queue.
+-- What there is of a client's lines: the strokes on the pages of its region, which lists of them are a front of a page's, and the entries
+-- in its server unit's queue.
 pub record Seen : Type 1 where
   pub stroke_at : (page : ℕ) → StrokeValue → Type 0
+  pub front_at : (page : ℕ) → Option (List StrokeValue) → Type 0
   pub entry_put : Entry → Type 0
 
 -- these bytes were written at an address, under a mark: one stroke on each page that they touch
@@ -77,6 +80,16 @@ abbrev pub IsWrittenIf : Outcome → Type 0 → Type 0
 IsWrittenIf outcomes.Done P = P
 IsWrittenIf _ P = ⊤
 
+-- These bytes were read at an address: they are what the pages gave, each with a front of its strokes.
+pub record AreRead (seen : Seen) (at : ℕ) (bytes : List ℕ) : Type 0 where
+  pub fronts : ℕ → Option (List StrokeValue)
+  pub there : (page : ℕ) → touches at (length bytes) page ≡ true → seen.front_at page (fronts page)
+  pub read : (k : ℕ) → k < length bytes → slice_index bytes k ≡ region_byte fronts (at + k)
+
+abbrev pub IsReadIf : Seen → (at : ℕ) → Outcome → Type 0
+IsReadIf seen at (outcomes.Bytes shown) = AreRead seen at shown
+IsReadIf seen at _ = ⊤
+
 -- whether a line sends a request
 abbrev pub requests : Verb → Bool
 requests verbs.Logout = true
@@ -93,10 +106,20 @@ written_by (verbs.Fill at len seed) = Some (record { at = at; bytes = pattern se
 written_by (verbs.Poke at bytes) = Some (record { at = at; bytes = bytes })
 written_by _ = None
 
+-- where a line reads its own region
+abbrev pub read_by : Verb → Option ℕ
+read_by (verbs.Peek at len) = Some at
+read_by _ = None
+
+-- what there is of a line in its own region, by what it writes and where it reads
+abbrev pub RegionShows : Seen → UnitId → (mark : ℕ) → Option Placed → Option ℕ → Outcome → Type 0
+RegionShows seen unit mark placed at outcome =
+    IfSome placed (λ placed. IsWrittenIf outcome (AreWritten seen unit mark placed.at placed.bytes)) × IfSome at (λ at. IsReadIf seen at outcome)
+
 -- what there is of a line that ended so
 abbrev pub IsShown : Seen → UnitId → (mark : ℕ) → Verb → Outcome → Type 0
-IsShown seen unit mark verb outcome = MatchBool (requests verb) (IsSentIf seen unit mark verb outcome)
-    (IfSome (written_by verb) (λ placed. IsWrittenIf outcome (AreWritten seen unit mark placed.at placed.bytes)))
+IsShown seen unit mark verb outcome =
+    MatchBool (requests verb) (IsSentIf seen unit mark verb outcome) (RegionShows seen unit mark (written_by verb) (read_by verb) outcome)
 
 abbrev pub StepShows : Seen → UnitId → (mark : ℕ) → Verb → Result Step NoMemory → Type 0
 StepShows seen unit mark verb (Ok (steps.Ends outcome)) = IsShown seen unit mark verb outcome
@@ -112,6 +135,11 @@ abbrev pub IsOn : StrokeValue → Option (List StrokeValue) → Type 0
 IsOn stroke (Some strokes) = Contains strokes stroke
 IsOn stroke None = ⊥
 
+-- these strokes are a front of a page's
+abbrev pub IsFront : Option (List StrokeValue) → Option (List StrokeValue) → Type 0
+IsFront (Some front) (Some strokes) = Begins front strokes
+IsFront _ _ = ⊥
+
 -- An entry was put in a session, which count from 1.
 pub record IsPut (entry : Entry) (rows : List PipeRow) : Type 0 where
   pub row : PipeRow
@@ -123,6 +151,7 @@ pub record IsPut (entry : Entry) (rows : List PipeRow) : Type 0 where
 abbrev pub seen_at : Pair → Seen
 seen_at pair = record {
   stroke_at = λ page stroke. IsOn stroke (strokes_at pair.window.pages page);
+  front_at = λ page front. IsFront front (strokes_at pair.window.pages page);
   entry_put = λ entry. IsPut entry (side_of pair.link true).queue.sent;
 }
 
@@ -135,6 +164,7 @@ pub record IsPutBy (shared : Bool) (end : EndState) (entry : Entry) : Type 0 whe
 abbrev pub seen_by : (shared : Bool) → PortState → EndState → Seen
 seen_by shared port end = record {
   stroke_at = λ page stroke. IsOn stroke (port.strokes page);
+  front_at = λ page front. IsFront front (port.strokes page);
   entry_put = IsPutBy shared end;
 }
 
@@ -145,4 +175,5 @@ PairShows line pair result = StepShows (seen_at pair) pair.window.unit line.numb
 -- All that there was is there still.
 pub record Sees (old new : Seen) : Type 0 where
   pub strokes : (page : ℕ) (stroke : StrokeValue) → old.stroke_at page stroke → new.stroke_at page stroke
+  pub fronts : (page : ℕ) (front : Option (List StrokeValue)) → old.front_at page front → new.front_at page front
   pub entries : (entry : Entry) → old.entry_put entry → new.entry_put entry

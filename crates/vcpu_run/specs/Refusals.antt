@@ -18,7 +18,7 @@ use Rattle.vio_trace.specs.declared.outcome.Outcome.TheVariants as outcomes
 use Rattle.vio_trace.specs.declared.rows.Trace.{Trace}
 use Rattle.vcpu_run.specs.AnswersSent.{sent_to}
 use Rattle.vcpu_run.specs.Credited.{Ended, ended_by}
-use Rattle.vcpu_run.specs.LinesShow.{LinesShow, Seen}
+use Rattle.vcpu_run.specs.LinesShow.{IsFront, LinesShow, Seen}
 use Rattle.vcpu_run.specs.PortWords.{HasNoCall}
 use Rattle.vcpu_run.specs.Replay.{Range, asks, lie_within, ranges_of}
 use Rattle.vcpu_run.specs.Settled.{script_of}
@@ -134,6 +134,7 @@ pub record HasCausesTold (pages : ℕ) (ended : List Ended) : Type 0 where
 abbrev pub seen_in : Trace → (client server : UnitId) → Seen
 seen_in trace client server = record {
   stroke_at = λ page stroke. Contains (map stroke_value (strokes_on trace client page)) stroke;
+  front_at = λ page front. IsFront front (Some (map stroke_value (strokes_on trace client page)));
   entry_put = λ entry. Contains (sent_to trace server) entry;
 }
 

@@ -7,9 +7,9 @@ use Rattle.vcpu_run.specs.Credited.{is_take, taken_in, uses_credit}
 use Rattle.vcpu_run.specs.Telling.{seated}
 use Rattle.vcpu_run.proofs.Askings.{aside_as, aside_told, told_as}
 use Rattle.vcpu_run.specs.Freeing.{is_reset}
-use Rattle.vcpu_run.specs.LinesShow.{IsPutBy, StepShows, requests, seen_by, written_by}
+use Rattle.vcpu_run.specs.LinesShow.{IsPutBy, StepShows, read_by, requests, seen_by, written_by}
 use Rattle.vcpu_run.specs.Replay.{asks}
-use Rattle.vcpu_run.proofs.LinesShown.{step_none, write_shows}
+use Rattle.vcpu_run.proofs.LinesShown.{read_shows, step_none, write_shows}
 use Rattle.vcpu_run.proofs.OwnLines.{fill_says, peek_says, poke_says, tce_says}
 use Rattle.vcpu_run.proofs.Sayings.{is_logout, is_own, says_nothing}
 use Rattle.vcpu_run.proofs.LoginSteps.{other_out, out_as}
@@ -167,32 +167,33 @@ returns-in-Tce-clause-out g c = λ alone.
 pub returns-in-Login-clause-shows : goal.returns-in-Login-clause-shows
 returns-in-Login-clause-shows g c =
     step_none (seen_by g.C.CrqEnd.is_shared (g.O.WindowPort.state c.login.new.own) (g.C.CrqEnd.state c.login.new.crq.end)) (g.O.WindowPort.state c.args.own.now).place.unit c.args.line.now.number c.args.line.now.verb
-    c.login.result (ap requests c.in-Login.is) (ap written_by c.in-Login.is)
+    c.login.result (ap requests c.in-Login.is) (ap written_by c.in-Login.is) (ap read_by c.in-Login.is)
 
 pub returns-in-Reset-clause-shows : goal.returns-in-Reset-clause-shows
 returns-in-Reset-clause-shows g c =
     step_none (seen_by g.C.CrqEnd.is_shared (g.O.WindowPort.state c.reset.new.own) (g.C.CrqEnd.state c.reset.new.crq.end)) (g.O.WindowPort.state c.args.own.now).place.unit c.args.line.now.number c.args.line.now.verb
-    c.reset.result (ap requests c.in-Reset.is) (ap written_by c.in-Reset.is)
+    c.reset.result (ap requests c.in-Reset.is) (ap written_by c.in-Reset.is) (ap read_by c.in-Reset.is)
 
 pub returns-in-Take-clause-shows : goal.returns-in-Take-clause-shows
 returns-in-Take-clause-shows g c =
     step_none (seen_by g.C.CrqEnd.is_shared (g.O.WindowPort.state c.take_on.new.own) (g.C.CrqEnd.state c.take_on.new.crq.end)) (g.O.WindowPort.state c.args.own.now).place.unit c.args.line.now.number c.args.line.now.verb
-    c.take_on.result (ap requests c.in-Take.is) (ap written_by c.in-Take.is)
+    c.take_on.result (ap requests c.in-Take.is) (ap written_by c.in-Take.is) (ap read_by c.in-Take.is)
 
 pub returns-in-Data-clause-shows : goal.returns-in-Data-clause-shows
 returns-in-Data-clause-shows g c =
     step_none (seen_by g.C.CrqEnd.is_shared (g.O.WindowPort.state c.data.new.own) (g.C.CrqEnd.state c.args.crq.now.end)) (g.O.WindowPort.state c.args.own.now).place.unit c.args.line.now.number c.args.line.now.verb
-    c.data.result (ap requests c.in-Data.is) (ap written_by c.in-Data.is)
+    c.data.result (ap requests c.in-Data.is) (ap written_by c.in-Data.is) (ap read_by c.in-Data.is)
 
 pub returns-in-Peek-clause-shows : goal.returns-in-Peek-clause-shows
 returns-in-Peek-clause-shows g c =
-    step_none (seen_by g.C.CrqEnd.is_shared (g.O.WindowPort.state c.peek.new.own) (g.C.CrqEnd.state c.args.crq.now.end)) (g.O.WindowPort.state c.args.own.now).place.unit c.args.line.now.number c.args.line.now.verb
-    c.peek.result (ap requests c.in-Peek.is) (ap written_by c.in-Peek.is)
+    read_shows (g.O.WindowPort.state c.args.own.now) (g.O.WindowPort.state c.peek.new.own) (g.O.WindowPort.state c.args.own.now).place.unit c.in-Peek.at c.in-Peek.len c.args.line.now.number
+    (IsPutBy g.C.CrqEnd.is_shared (g.C.CrqEnd.state c.args.crq.now.end)) c.args.line.now.verb c.peek.result
+    (ap requests c.in-Peek.is) (ap written_by c.in-Peek.is) (ap read_by c.in-Peek.is) c.peek.ensures.answer
 
 pub returns-in-Tce-clause-shows : goal.returns-in-Tce-clause-shows
 returns-in-Tce-clause-shows g c =
     step_none (seen_by g.C.CrqEnd.is_shared (g.O.WindowPort.state c.put_tce.new.own) (g.C.CrqEnd.state c.args.crq.now.end)) (g.O.WindowPort.state c.args.own.now).place.unit c.args.line.now.number c.args.line.now.verb
-    c.put_tce.result (ap requests c.in-Tce.is) (ap written_by c.in-Tce.is)
+    c.put_tce.result (ap requests c.in-Tce.is) (ap written_by c.in-Tce.is) (ap read_by c.in-Tce.is)
 
 pub returns-in-Logout-clause-shows : goal.returns-in-Logout-clause-shows
 returns-in-Logout-clause-shows g c =
@@ -215,7 +216,7 @@ returns-in-Fill-clause-shows g c =
     let mark : c.from-mark.result ≡ c.args.line.now.number = search rules in
     write_shows g.O.WindowPort.is_shared (g.O.WindowPort.state c.args.own.now) (g.O.WindowPort.state c.fill.new.own) c.in-Fill.at c.args.line.now.number
     (pattern c.in-Fill.seed c.in-Fill.len) (IsPutBy g.C.CrqEnd.is_shared (g.C.CrqEnd.state c.args.crq.now.end)) c.args.line.now.verb c.fill.result
-    (ap requests c.in-Fill.is) (ap written_by c.in-Fill.is)
+    (ap requests c.in-Fill.is) (ap written_by c.in-Fill.is) (ap read_by c.in-Fill.is)
     (subst (λ n. IfOk c.fill.result (AnswersWrite g.O.WindowPort.is_shared (g.O.WindowPort.state c.args.own.now) (g.O.WindowPort.state c.fill.new.own) c.in-Fill.at
     (pattern c.in-Fill.seed c.in-Fill.len) n)) mark c.fill.ensures.answer)
 
@@ -224,7 +225,7 @@ returns-in-Poke-clause-shows g c =
     let mark : c.from-mark.result ≡ c.args.line.now.number = search rules in
     write_shows g.O.WindowPort.is_shared (g.O.WindowPort.state c.args.own.now) (g.O.WindowPort.state c.poke.new.own) c.in-Poke.at c.args.line.now.number
     c.in-Poke.bytes (IsPutBy g.C.CrqEnd.is_shared (g.C.CrqEnd.state c.args.crq.now.end)) c.args.line.now.verb c.poke.result
-    (ap requests c.in-Poke.is) (ap written_by c.in-Poke.is)
+    (ap requests c.in-Poke.is) (ap written_by c.in-Poke.is) (ap read_by c.in-Poke.is)
     (subst (λ n. IfOk c.poke.result (AnswersWrite g.O.WindowPort.is_shared (g.O.WindowPort.state c.args.own.now) (g.O.WindowPort.state c.poke.new.own) c.in-Poke.at
     c.in-Poke.bytes n)) mark
     (subst (λ (bytes : List ℕ). IfOk c.poke.result (AnswersWrite g.O.WindowPort.is_shared (g.O.WindowPort.state c.args.own.now) (g.O.WindowPort.state c.poke.new.own) c.in-Poke.at bytes c.from-mark.result))
