@@ -1,0 +1,188 @@
+-- The answers to requests to log in that a unit put: over its own turns, turns of others, before the first, and at rest.
+use Rattle.std.proofs.Common.{◌≡◌, ◌⊎◌, inl, inr, ◌∙◌, ◌++◌, ℕ, ◌≤◌, Bool, true, false, All, List, [], ◌∷◌, Option, Some, None, filter, refl, sym, ap, subst, append-nil, arith}
+use Rattle.std.specs.List.{filter_map, list_all}
+use Rattle.std.proofs.Math.Logic.{∥∥₁_elim}
+use Rattle.std.proofs.lemmas.List.{append_cancel_left}
+use Rattle.std.proofs.lemmas.List.Elements.{All-head, All-tail, All-weaker, filter-append}
+use Rattle.crq_ring.specs.declared.rows.PipeRow.{PipeRow}
+use Rattle.vio_num.specs.Words.{Begins}
+use Rattle.vio_num.specs.declared.entry.Entry.{Entry}
+use Rattle.vio_num.specs.declared.history.Grant.{Grant}
+use Rattle.vio_num.specs.declared.history.Grant.TheVariants.{Granted, Lapsed}
+use Rattle.vio_num.specs.declared.history.Served.{Served}
+use Rattle.vio_num.specs.declared.names.UnitId.{UnitId}
+use Rattle.crq_session.specs.EndState.{EndState}
+use Rattle.block_server.specs.Books.{books_seen}
+use Rattle.block_server.specs.Causes.{Hearing, Includes}
+use Rattle.block_server.specs.Dealt.{AreDealt, AsksNoLogin, IsLoginAnswered}
+use Rattle.block_server.specs.Granting.{IsRejectedOver}
+use Rattle.block_server.specs.Judged.{AreKept, Books, Judged}
+use Rattle.block_server.specs.LoginAnswers.{IsLoginAnswer, IsLoginPut, LoginAnswer, LoginsMore, grants_in, is_grant, line_of}
+use Rattle.block_server.specs.Makers.{same_unit}
+use Rattle.block_server.specs.Numbers.{login_on}
+use Rattle.block_server.specs.Receipts.{LinesMore, is_ended, unit_of}
+use Rattle.block_server.specs.declared.unit.Unit.{Unit}
+use Rattle.block_server.proofs.DealtLaws.{dealt_at_rest}
+use Rattle.block_server.proofs.LoginPuts.{logins_none, logins_on}
+use Rattle.vcpu_run.specs.LoginsSent.{AreLoginsAnswered, AreLoginsPut, lines_by}
+use Rattle.vcpu_run.proofs.RowCopies.{granted_more}
+use Rattle.vcpu_run.proofs.Sole.{same_refl}
+
+-- LINES ------------------------------------------------------------------------------------------
+
+-- whether a line is of the unit
+abbrev is_by : UnitId → Grant → Bool
+is_by unit line = same_unit (unit_of line) unit
+
+-- where a test holds of each nothing is left out, and where it fails of each nothing stays
+keeps_all : (test : Grant → Bool) (lines : List Grant) → list_all test lines ≡ true → filter test lines ≡ lines
+keeps_all test [] is = refl
+keeps_all test (line ∷ lines) is = at (test line) refl is
+  where
+    at : (b : Bool) → test line ≡ b → list_all test (line ∷ lines) ≡ true → filter test (line ∷ lines) ≡ line ∷ lines
+    at true e is = rw e (ap (λ (rest : List Grant). line ∷ rest) (keeps_all test lines (rw e at is)))
+    at false e is = absurd (cc (rw e at is))
+
+all_pass : (test : Grant → Bool) (lines : List Grant) → All (λ line. test line ≡ true) lines → list_all test lines ≡ true
+all_pass test [] all = refl
+all_pass test (line ∷ lines) all = rw (All-head (λ line. test line ≡ true) line lines all) (all_pass test lines (All-tail (λ line. test line ≡ true) line lines all))
+
+none_pass : (test : Grant → Bool) (lines : List Grant) → All (λ line. test line ≡ false) lines → filter test lines ≡ []
+none_pass test [] all = refl
+none_pass test (line ∷ lines) all = rw (All-head (λ line. test line ≡ false) line lines all) (none_pass test lines (All-tail (λ line. test line ≡ false) line lines all))
+
+-- two tests in either order
+either_order : (p q : Grant → Bool) (lines : List Grant) → filter p (filter q lines) ≡ filter q (filter p lines)
+either_order p q [] = refl
+either_order p q (line ∷ lines) = at (p line) refl (q line) refl
+  where
+    at : (a : Bool) → p line ≡ a → (b : Bool) → q line ≡ b → filter p (filter q (line ∷ lines)) ≡ filter q (filter p (line ∷ lines))
+    at true e true e' = rw (e', e) (rw (e, e') (ap (λ (rest : List Grant). line ∷ rest) (either_order p q lines)))
+    at true e false e' = rw (e', e) (rw e' (either_order p q lines))
+    at false e true e' = rw (e', e) (rw e (either_order p q lines))
+    at false e false e' = rw (e', e) (either_order p q lines)
+
+-- lines that grant a login, of a turn of the unit
+grants_own : (unit : UnitId) (lines lines' : List Grant) (more : List LoginAnswer) → LinesMore unit lines lines' → grants_in lines' ≡ grants_in lines ++ filter_map line_of more
+    → list_all (is_by unit) (filter_map line_of more) ≡ true
+grants_own unit lines lines' more came granted = subst (λ (list : List Grant). list_all (is_by unit) list ≡ true) same (own came.more came.of_unit)
+  where
+    same : grants_in came.more ≡ filter_map line_of more
+    same = append_cancel_left (grants_in lines) (grants_in came.more) (filter_map line_of more) (sym (filter-append is_grant lines came.more) ∙ (ap grants_in (sym came.added) ∙ granted))
+
+    by_name : (line : Grant) → unit_of line ≡ unit → is_by unit line ≡ true
+    by_name line of = ap (λ (id : UnitId). same_unit id unit) of ∙ same_refl unit
+
+    own : (list : List Grant) → All (λ line. unit_of line ≡ unit) list → list_all (is_by unit) (grants_in list) ≡ true
+    own [] all = refl
+    own (Granted of session login number credits ∷ list) all =
+        let line = Granted of session login number credits in
+        rw (by_name line (All-head (λ line. unit_of line ≡ unit) line list all)) (own list (All-tail (λ line. unit_of line ≡ unit) line list all))
+    own (Lapsed of session login cause outstanding granted ∷ list) all = own list (All-tail (λ line. unit_of line ≡ unit) (Lapsed of session login cause outstanding granted) list all)
+
+-- the same where it is only known that there are such lines
+grants_all : (unit : UnitId) (lines lines' : List Grant) (more : List LoginAnswer) → ∥ LinesMore unit lines lines' ∥₁ → grants_in lines' ≡ grants_in lines ++ filter_map line_of more
+    → list_all (is_by unit) (filter_map line_of more) ≡ true
+grants_all unit lines lines' more came granted = at (list_all (is_by unit) (filter_map line_of more)) refl
+  where
+    at : (b : Bool) → list_all (is_by unit) (filter_map line_of more) ≡ b → b ≡ true
+    at true e = refl
+    at false e = absurd (∥∥₁_elim came (λ a b i. absurd a) (λ came. cc (e, grants_own unit lines lines' more came granted)))
+
+-- those of the unit's lines
+own_grants : (unit : UnitId) (lines lines' : List Grant) (more : List LoginAnswer) → ∥ LinesMore unit lines lines' ∥₁ → grants_in lines' ≡ grants_in lines ++ filter_map line_of more
+    → grants_in (lines_by unit lines') ≡ grants_in (lines_by unit lines) ++ filter_map line_of more
+own_grants unit lines lines' more came granted =
+    either_order is_grant (is_by unit) lines'
+    ∙ (ap (filter (is_by unit)) granted
+    ∙ (filter-append (is_by unit) (grants_in lines) (filter_map line_of more)
+    ∙ (ap (λ (list : List Grant). list ++ filter (is_by unit) (filter_map line_of more)) (either_order (is_by unit) is_grant lines)
+    ∙ ap (λ (list : List Grant). grants_in (lines_by unit lines) ++ list) (keeps_all (is_by unit) (filter_map line_of more) (grants_all unit lines lines' more came granted)))))
+
+-- OVER TURNS -------------------------------------------------------------------------------------
+
+-- Over a turn of the unit.
+pub logins_served : (Hears : Hearing) (unit : UnitId) (taken taken' : List PipeRow) (answers answers' : List Entry) (lines lines' : List Grant) → Begins taken taken' → ∥ LinesMore unit lines lines' ∥₁
+    → LoginsMore Hears taken' answers answers' lines lines' → AreLoginsPut Hears unit taken answers lines → AreLoginsPut Hears unit taken' answers' lines'
+logins_served Hears unit taken taken' answers answers' lines lines' more came puts is =
+    logins_on Hears taken taken' [] answers answers' [] (lines_by unit lines) (lines_by unit lines') more is
+    (record { more = puts.more; put = puts.put; granted = own_grants unit lines lines' puts.more came puts.granted; each = puts.each })
+
+-- Over a turn of another unit.
+pub logins_elsewhere : (Hears : Hearing) (unit other : UnitId) (taken : List PipeRow) (answers : List Entry) (lines lines' : List Grant) → LinesMore other lines lines' → same_unit other unit ≡ false
+    → AreLoginsPut Hears unit taken answers lines → AreLoginsPut Hears unit taken answers lines'
+logins_elsewhere Hears unit other taken answers lines lines' came apart = subst (λ (list : List Grant). LoginsMore Hears taken [] answers [] list) (sym same)
+  where
+    same : lines_by unit lines' ≡ lines_by unit lines
+    same = ap (lines_by unit) came.added ∙ (filter-append (is_by unit) lines came.more
+        ∙ (ap (λ (list : List Grant). lines_by unit lines ++ list)
+        (none_pass (is_by unit) came.more
+        (All-weaker (λ line. unit_of line ≡ other) (λ line. is_by unit line ≡ false) (λ line of. ap (λ (id : UnitId). same_unit id unit) of ∙ apart) came.more came.of_unit))
+        ∙ append-nil (lines_by unit lines)))
+
+-- Before the first turn.
+pub logins_fresh : (Hears : Hearing) (unit : UnitId) (taken : List PipeRow) (answers : List Entry) (lines : List Grant) → answers ≡ [] → lines ≡ [] → AreLoginsPut Hears unit taken answers lines
+logins_fresh Hears unit taken answers lines none no_lines = logins_none Hears taken [] answers [] (lines_by unit lines) none (ap (λ (list : List Grant). grants_in (lines_by unit list)) no_lines)
+
+-- MORE IS HEARD ----------------------------------------------------------------------------------
+
+pub rejected_more : (Hears More : Hearing) → Includes Hears More → (taken : List PipeRow) (session number : ℕ) → IsRejectedOver Hears taken session number → IsRejectedOver More taken session number
+rejected_more Hears More more taken session number is = record {
+  entry = is.entry;
+  at = is.at;
+  bytes = is.bytes;
+  long = is.long;
+  brought = more _ is.brought;
+  asked = is.asked;
+  asks = is.asks;
+  current = is.current;
+  answer = is.answer;
+  rejects = is.rejects;
+  written = more _ is.written;
+}
+
+put_more : (Hears More : Hearing) → Includes Hears More → (taken : List PipeRow) (entry : Entry) (line : Option Grant) → IsLoginPut Hears taken entry line → IsLoginPut More taken entry line
+unfolding granted_more rejected_more
+put_more Hears More more taken entry (Some (Granted unit session login number credits)) is =
+    record { over = granted_more Hears More more taken session number credits is.over; entry_is = is.entry_is }
+put_more Hears More more taken entry (Some (Lapsed unit session login cause outstanding granted)) is = is
+put_more Hears More more taken entry None is =
+    record { session = is.session; number = is.number; over = rejected_more Hears More more taken is.session is.number is.over; entry_is = is.entry_is }
+
+pub logins_more : (Hears More : Hearing) → Includes Hears More → (unit : UnitId) (taken : List PipeRow) (answers : List Entry) (lines : List Grant) → AreLoginsPut Hears unit taken answers lines
+    → AreLoginsPut More unit taken answers lines
+logins_more Hears More more unit taken answers lines is = record {
+  more = is.more;
+  put = is.put;
+  granted = is.granted;
+  each = All-weaker (IsLoginAnswer Hears taken) (IsLoginAnswer More taken) (λ answer is. put_more Hears More more taken answer.entry answer.line is) is.more is.each;
+}
+
+-- of an entry that asked for no login, or whose login was answered
+answered_more : (Hears More : Hearing) → Includes Hears More → (session : ℕ) (taken : List PipeRow) (number : ℕ) (entry : Entry) → AsksNoLogin Hears entry ⊎ IsLoginAnswered Hears taken session number
+    → AsksNoLogin More entry ⊎ IsLoginAnswered More taken session number
+answered_more Hears More more session taken number entry (inl is) = inl (record { bytes = is.bytes; long = is.long; brought = more _ is.brought; none = is.none })
+answered_more Hears More more session taken number entry (inr (inl is)) = inr (inl (is.0, granted_more Hears More more taken session number is.0 is.1))
+answered_more Hears More more session taken number entry (inr (inr is)) = inr (inr (rejected_more Hears More more taken session number is))
+
+-- AT REST ----------------------------------------------------------------------------------------
+
+-- Where a login is on its session goes on.
+going_on : (books : Books) (judged : List Judged) → AreKept books judged → 1 ≤ login_on books.id books.session books.grants → books.ended ≡ false
+going_on books judged is on = at books.ended refl
+  where
+    some : 1 ≤ books.current
+    some = subst (λ (n : ℕ). 1 ≤ n) (sym is.numbers.on) on
+
+    at : (b : Bool) → books.ended ≡ b → b ≡ false
+    at false e = refl
+    at true e = let none : books.current ≡ 0 = (is.idle e).1 in absurd (omega (arith, some, none))
+
+-- Where nothing waits and nothing is pending, each request to log in was answered.
+pub logins_at_rest : (Hears More : Hearing) → Includes Hears More → (u : Unit) (unit : UnitId) (queue : EndState) (history : List Served) (grants : List Grant) (judged : List Judged)
+    → AreKept (books_seen u unit queue history grants) judged → u.waiting ≡ None → u.pending.items ≡ []
+    → AreDealt Hears queue.last_session queue.taken u.waiting u.pending.items (is_ended u.line) → AreLoginsAnswered More unit queue.last_session queue.taken grants
+logins_at_rest Hears More more u unit queue history grants judged kept waits pending dealt on quiet number entry at =
+    answered_more Hears More more queue.last_session queue.taken number entry
+    (dealt_at_rest Hears queue.last_session queue.taken u.waiting u.pending.items (is_ended u.line) dealt waits pending
+    (going_on (books_seen u unit queue history grants) judged kept on) quiet number entry at)
