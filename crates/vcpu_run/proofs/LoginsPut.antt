@@ -1,6 +1,6 @@
 -- The answers to requests to log in that a unit put: over its own turns, turns of others, before the first, and at rest.
-use Rattle.std.proofs.Common.{◌≡◌, ◌⊎◌, inl, inr, ◌∙◌, ◌++◌, ℕ, ◌≤◌, Bool, true, false, All, List, [], ◌∷◌, Option, Some, None, filter, refl, sym, ap, subst, append-nil, arith}
-use Rattle.std.specs.List.{filter_map, list_all}
+use Rattle.std.proofs.Common.{◌≡◌, ◌⊎◌, inl, inr, ◌∙◌, ◌++◌, ◌&&◌, ℕ, ◌≤◌, Bool, true, false, cond, All, List, [], ◌∷◌, Option, Some, None, filter, refl, sym, ap, subst, append-nil, arith}
+use Rattle.std.specs.List.{filter_map}
 use Rattle.std.proofs.Math.Logic.{∥∥₁_elim}
 use Rattle.std.proofs.lemmas.List.{append_cancel_left}
 use Rattle.std.proofs.lemmas.List.Elements.{All-head, All-tail, All-weaker, filter-append}
@@ -30,64 +30,83 @@ use Rattle.vcpu_run.proofs.Sole.{same_refl}
 
 -- LINES ------------------------------------------------------------------------------------------
 
--- whether a line is of the unit
+-- whether a line is of the unit, and whether all are
 abbrev is_by : UnitId → Grant → Bool
 is_by unit line = same_unit (unit_of line) unit
 
--- where a test holds of each nothing is left out, and where it fails of each nothing stays
-keeps_all : (test : Grant → Bool) (lines : List Grant) → list_all test lines ≡ true → filter test lines ≡ lines
-keeps_all test [] is = refl
-keeps_all test (line ∷ lines) is = at (test line) refl is
+abbrev all_by : UnitId → List Grant → Bool
+all_by unit [] = true
+all_by unit (line ∷ lines) = is_by unit line && all_by unit lines
+
+-- where each is nothing is left out, and where none is nothing stays
+keeps_all : (unit : UnitId) (lines : List Grant) → all_by unit lines ≡ true → filter (is_by unit) lines ≡ lines
+keeps_all unit [] is = refl
+keeps_all unit (line ∷ lines) is = at (is_by unit line) (keeps_all unit lines) is
   where
-    at : (b : Bool) → test line ≡ b → list_all test (line ∷ lines) ≡ true → filter test (line ∷ lines) ≡ line ∷ lines
-    at true e is = rw e (ap (λ (rest : List Grant). line ∷ rest) (keeps_all test lines (rw e at is)))
-    at false e is = absurd (cc (rw e at is))
+    at : (b : Bool) → (all_by unit lines ≡ true → filter (is_by unit) lines ≡ lines) → (b && all_by unit lines) ≡ true
+        → cond b (line ∷ filter (is_by unit) lines) (filter (is_by unit) lines) ≡ line ∷ lines
+    at true rest is = ap (λ (more : List Grant). line ∷ more) (rest is)
+    at false rest is = absurd (cc (is))
 
-all_pass : (test : Grant → Bool) (lines : List Grant) → All (λ line. test line ≡ true) lines → list_all test lines ≡ true
-all_pass test [] all = refl
-all_pass test (line ∷ lines) all = rw (All-head (λ line. test line ≡ true) line lines all) (all_pass test lines (All-tail (λ line. test line ≡ true) line lines all))
-
-none_pass : (test : Grant → Bool) (lines : List Grant) → All (λ line. test line ≡ false) lines → filter test lines ≡ []
-none_pass test [] all = refl
-none_pass test (line ∷ lines) all = rw (All-head (λ line. test line ≡ false) line lines all) (none_pass test lines (All-tail (λ line. test line ≡ false) line lines all))
+keeps_none : (unit : UnitId) (lines : List Grant) → All (λ line. is_by unit line ≡ false) lines → filter (is_by unit) lines ≡ []
+keeps_none unit [] all = refl
+keeps_none unit (line ∷ lines) all = at (is_by unit line) (All-head (λ line. is_by unit line ≡ false) line lines all) (keeps_none unit lines (All-tail (λ line. is_by unit line ≡ false) line lines all))
+  where
+    at : (b : Bool) → b ≡ false → filter (is_by unit) lines ≡ [] → cond b (line ∷ filter (is_by unit) lines) (filter (is_by unit) lines) ≡ []
+    at true e none = absurd (cc (e))
+    at false e none = none
 
 -- two tests in either order
+passes : (test : Grant → Bool) (line : Grant) (lines : List Grant) → test line ≡ true → filter test (line ∷ lines) ≡ line ∷ filter test lines
+passes test line lines e = ap (λ (b : Bool). cond b (line ∷ filter test lines) (filter test lines)) e
+
+skips : (test : Grant → Bool) (line : Grant) (lines : List Grant) → test line ≡ false → filter test (line ∷ lines) ≡ filter test lines
+skips test line lines e = ap (λ (b : Bool). cond b (line ∷ filter test lines) (filter test lines)) e
+
 either_order : (p q : Grant → Bool) (lines : List Grant) → filter p (filter q lines) ≡ filter q (filter p lines)
 either_order p q [] = refl
 either_order p q (line ∷ lines) = at (p line) refl (q line) refl
   where
-    at : (a : Bool) → p line ≡ a → (b : Bool) → q line ≡ b → filter p (filter q (line ∷ lines)) ≡ filter q (filter p (line ∷ lines))
-    at true e true e' = rw (e', e) (rw (e, e') (ap (λ (rest : List Grant). line ∷ rest) (either_order p q lines)))
-    at true e false e' = rw (e', e) (rw e' (either_order p q lines))
-    at false e true e' = rw (e', e) (rw e (either_order p q lines))
-    at false e false e' = rw (e', e) (either_order p q lines)
+    at : (a : Bool) → p line ≡ a → (b : Bool) → q line ≡ b → filter p (cond b (line ∷ filter q lines) (filter q lines)) ≡ filter q (cond a (line ∷ filter p lines) (filter p lines))
+    at true e true e' =
+        passes p line (filter q lines) e ∙ (ap (λ (more : List Grant). line ∷ more) (either_order p q lines) ∙ sym (passes q line (filter p lines) e'))
+    at true e false e' = either_order p q lines ∙ sym (skips q line (filter p lines) e')
+    at false e true e' = skips p line (filter q lines) e ∙ either_order p q lines
+    at false e false e' = either_order p q lines
 
 -- lines that grant a login, of a turn of the unit
 grants_own : (unit : UnitId) (lines lines' : List Grant) (more : List LoginAnswer) → LinesMore unit lines lines' → grants_in lines' ≡ grants_in lines ++ filter_map line_of more
-    → list_all (is_by unit) (filter_map line_of more) ≡ true
-grants_own unit lines lines' more came granted = subst (λ (list : List Grant). list_all (is_by unit) list ≡ true) same (own came.more came.of_unit)
+    → all_by unit (filter_map line_of more) ≡ true
+grants_own unit lines lines' more came granted = subst (λ (list : List Grant). all_by unit list ≡ true) same (own came.more came.of_unit)
   where
     same : grants_in came.more ≡ filter_map line_of more
     same = append_cancel_left (grants_in lines) (grants_in came.more) (filter_map line_of more) (sym (filter-append is_grant lines came.more) ∙ (ap grants_in (sym came.added) ∙ granted))
 
+    both : (a b : Bool) → a ≡ true → b ≡ true → (a && b) ≡ true
+    both a b x y = cc (x, y)
+
     by_name : (line : Grant) → unit_of line ≡ unit → is_by unit line ≡ true
     by_name line of = ap (λ (id : UnitId). same_unit id unit) of ∙ same_refl unit
 
-    own : (list : List Grant) → All (λ line. unit_of line ≡ unit) list → list_all (is_by unit) (grants_in list) ≡ true
+    own : (list : List Grant) → All (λ line. unit_of line ≡ unit) list → all_by unit (grants_in list) ≡ true
     own [] all = refl
     own (Granted of session login number credits ∷ list) all =
-        let line = Granted of session login number credits in
-        rw (by_name line (All-head (λ line. unit_of line ≡ unit) line list all)) (own list (All-tail (λ line. unit_of line ≡ unit) line list all))
+        both (is_by unit (Granted of session login number credits)) (all_by unit (grants_in list))
+        (by_name (Granted of session login number credits) (All-head (λ line. unit_of line ≡ unit) (Granted of session login number credits) list all))
+        (own list (All-tail (λ line. unit_of line ≡ unit) (Granted of session login number credits) list all))
     own (Lapsed of session login cause outstanding granted ∷ list) all = own list (All-tail (λ line. unit_of line ≡ unit) (Lapsed of session login cause outstanding granted) list all)
 
 -- the same where it is only known that there are such lines
 grants_all : (unit : UnitId) (lines lines' : List Grant) (more : List LoginAnswer) → ∥ LinesMore unit lines lines' ∥₁ → grants_in lines' ≡ grants_in lines ++ filter_map line_of more
-    → list_all (is_by unit) (filter_map line_of more) ≡ true
-grants_all unit lines lines' more came granted = at (list_all (is_by unit) (filter_map line_of more)) refl
+    → all_by unit (filter_map line_of more) ≡ true
+grants_all unit lines lines' more came granted = at (all_by unit (filter_map line_of more)) refl
   where
-    at : (b : Bool) → list_all (is_by unit) (filter_map line_of more) ≡ b → b ≡ true
+    differ : (b : Bool) → b ≡ false → b ≡ true → ⊥
+    differ b no is = cc (no, is)
+
+    at : (b : Bool) → all_by unit (filter_map line_of more) ≡ b → b ≡ true
     at true e = refl
-    at false e = absurd (∥∥₁_elim came (λ a b i. absurd a) (λ came. cc (e, grants_own unit lines lines' more came granted)))
+    at false e = absurd (∥∥₁_elim came (λ a b. absurd a) (λ came. differ (all_by unit (filter_map line_of more)) e (grants_own unit lines lines' more came granted)))
 
 -- those of the unit's lines
 own_grants : (unit : UnitId) (lines lines' : List Grant) (more : List LoginAnswer) → ∥ LinesMore unit lines lines' ∥₁ → grants_in lines' ≡ grants_in lines ++ filter_map line_of more
@@ -97,7 +116,7 @@ own_grants unit lines lines' more came granted =
     ∙ (ap (filter (is_by unit)) granted
     ∙ (filter-append (is_by unit) (grants_in lines) (filter_map line_of more)
     ∙ (ap (λ (list : List Grant). list ++ filter (is_by unit) (filter_map line_of more)) (either_order (is_by unit) is_grant lines)
-    ∙ ap (λ (list : List Grant). grants_in (lines_by unit lines) ++ list) (keeps_all (is_by unit) (filter_map line_of more) (grants_all unit lines lines' more came granted)))))
+    ∙ ap (λ (list : List Grant). grants_in (lines_by unit lines) ++ list) (keeps_all unit (filter_map line_of more) (grants_all unit lines lines' more came granted)))))
 
 -- OVER TURNS -------------------------------------------------------------------------------------
 
@@ -116,7 +135,7 @@ logins_elsewhere Hears unit other taken answers lines lines' came apart = subst 
     same : lines_by unit lines' ≡ lines_by unit lines
     same = ap (lines_by unit) came.added ∙ (filter-append (is_by unit) lines came.more
         ∙ (ap (λ (list : List Grant). lines_by unit lines ++ list)
-        (none_pass (is_by unit) came.more
+        (keeps_none unit came.more
         (All-weaker (λ line. unit_of line ≡ other) (λ line. is_by unit line ≡ false) (λ line of. ap (λ (id : UnitId). same_unit id unit) of ∙ apart) came.more came.of_unit))
         ∙ append-nil (lines_by unit lines)))
 

@@ -12,7 +12,7 @@ use Rattle.crq_ring.specs.declared.rows.PipeRow.{PipeRow}
 use Rattle.crq_session.specs.PlainState.{end_of, side_of}
 use Rattle.rdma_copy.specs.declared.copy.CopyRecord.{CopyRecord}
 use Rattle.block_server.specs.Books.{books_seen}
-use Rattle.block_server.specs.Causes.{Includes, Told, told_to}
+use Rattle.block_server.specs.Causes.{Hearing, Includes, Told, told_to}
 use Rattle.block_server.specs.Dealt.{AreDealt, HasDealt}
 use Rattle.block_server.specs.Judged.{AreKept, Judged}
 use Rattle.block_server.specs.LoginAnswers.{is_login_answer, login_answers}
@@ -77,12 +77,13 @@ logins_by : (told : Told → Bool) (partitions : List Partition) (trace : Trace)
     → UnitGoesBy told servers records server.unit pair → AreLoginsShown partitions trace server client
 logins_by told partitions trace server client servers records u pair judged there none own kept lines taken sessions sent shows is = record {
   put = logins_more (told_to told server) Shown shows server (entries_taken trace server) (logins_to trace client) trace.grants
-      (subst (λ (z : UnitId × List PipeRow × List Entry × List Grant). AreLoginsPut (told_to told z.0) z.0 z.1.0 z.1.1.0 z.1.1.1) (λ i. (own i, (taken i, (sent i, lines i)))) is.logins);
-  dealt = subst (λ (z : UnitId × ℕ × List PipeRow). AreLoginsAnswered Shown z.0 z.1.0 z.1.1 trace.grants) (λ i. (own i, (sessions i, taken i)))
+      (subst (λ (z : UnitId × List PipeRow × List Entry × List Grant). AreLoginsPut (told_to told z.0) z.0 z.1 z.2 z.3) (λ i. (own i, taken i, sent i, lines i)) is.logins);
+  dealt = subst (λ (z : UnitId × ℕ × List PipeRow). AreLoginsAnswered Shown z.0 z.1 z.2 trace.grants) (λ i. (own i, sessions i, taken i))
       (logins_at_rest (told_to told pair.own.unit) Shown (subst (λ (unit : UnitId). Includes (told_to told unit) Shown) (sym own) shows) u pair.own.unit (end_of [] pair.link true)
       trace.serves trace.grants judged kept none.waiting none.pending dealt);
 }
   where
+    Shown : Hearing
     Shown = shown_to partitions trace server client
 
     dealt : AreDealt (told_to told pair.own.unit) (side_of pair.link true).queue.session (side_of pair.link true).queue.taken u.waiting u.pending.items (is_ended u.line)
