@@ -65,14 +65,14 @@ skips test line lines e = ap (λ (b : Bool). cond b (line ∷ filter test lines)
 
 either_order : (p q : Grant → Bool) (lines : List Grant) → filter p (filter q lines) ≡ filter q (filter p lines)
 either_order p q [] = refl
-either_order p q (line ∷ lines) = at (p line) refl (q line) refl
+either_order p q (line ∷ lines) = at (p line) refl (q line) refl (either_order p q lines)
   where
-    at : (a : Bool) → p line ≡ a → (b : Bool) → q line ≡ b → filter p (cond b (line ∷ filter q lines) (filter q lines)) ≡ filter q (cond a (line ∷ filter p lines) (filter p lines))
-    at true e true e' =
-        passes p line (filter q lines) e ∙ (ap (λ (more : List Grant). line ∷ more) (either_order p q lines) ∙ sym (passes q line (filter p lines) e'))
-    at true e false e' = either_order p q lines ∙ sym (skips q line (filter p lines) e')
-    at false e true e' = skips p line (filter q lines) e ∙ either_order p q lines
-    at false e false e' = either_order p q lines
+    at : (a : Bool) → p line ≡ a → (b : Bool) → q line ≡ b → filter p (filter q lines) ≡ filter q (filter p lines)
+        → filter p (cond b (line ∷ filter q lines) (filter q lines)) ≡ filter q (cond a (line ∷ filter p lines) (filter p lines))
+    at true e true e' same = passes p line (filter q lines) e ∙ (ap (λ (more : List Grant). line ∷ more) same ∙ sym (passes q line (filter p lines) e'))
+    at true e false e' same = same ∙ sym (skips q line (filter p lines) e')
+    at false e true e' same = skips p line (filter q lines) e ∙ same
+    at false e false e' same = same
 
 -- lines that grant a login, of a turn of the unit
 grants_own : (unit : UnitId) (lines lines' : List Grant) (more : List LoginAnswer) → LinesMore unit lines lines' → grants_in lines' ≡ grants_in lines ++ filter_map line_of more
@@ -102,7 +102,7 @@ grants_all : (unit : UnitId) (lines lines' : List Grant) (more : List LoginAnswe
 grants_all unit lines lines' more came granted = at (all_by unit (filter_map line_of more)) refl
   where
     differ : (b : Bool) → b ≡ false → b ≡ true → ⊥
-    differ b no is = cc (no, is)
+    differ b off is = cc (off, is)
 
     at : (b : Bool) → all_by unit (filter_map line_of more) ≡ b → b ≡ true
     at true e = refl
@@ -161,9 +161,23 @@ rejected_more Hears More more taken session number is = record {
 }
 
 put_more : (Hears More : Hearing) → Includes Hears More → (taken : List PipeRow) (entry : Entry) (line : Option Grant) → IsLoginPut Hears taken entry line → IsLoginPut More taken entry line
-unfolding granted_more rejected_more
-put_more Hears More more taken entry (Some (Granted unit session login number credits)) is =
-    record { over = granted_more Hears More more taken session number credits is.over; entry_is = is.entry_is }
+unfolding rejected_more
+put_more Hears More more taken entry (Some (Granted unit session login number credits)) is = record {
+  over = record {
+    entry = is.over.entry;
+    at = is.over.at;
+    bytes = is.over.bytes;
+    long = is.over.long;
+    brought = more _ is.over.brought;
+    asked = is.over.asked;
+    asks = is.over.asks;
+    may = is.over.may;
+    answer = is.over.answer;
+    grants = is.over.grants;
+    written = more _ is.over.written;
+  };
+  entry_is = is.entry_is;
+}
 put_more Hears More more taken entry (Some (Lapsed unit session login cause outstanding granted)) is = is
 put_more Hears More more taken entry None is =
     record { session = is.session; number = is.number; over = rejected_more Hears More more taken is.session is.number is.over; entry_is = is.entry_is }

@@ -1,6 +1,6 @@
 -- A gathered trace shows the answers to requests to log in that each client's queue got, and that none of these was dropped where a
 -- login is on.
-use Rattle.std.proofs.Common.{◌≡◌, ◌∙◌, ℕ, ◌+◌, ◌≤◌, true, false, All, List, [], Option, Some, IfSome, filter, length, map, option_map, slice_get, zero, suc, refl, sym, ap, subst}
+use Rattle.std.proofs.Common.{◌≡◌, ◌∙◌, ℕ, ◌+◌, Bool, true, false, All, List, [], Option, Some, IfSome, filter, length, map, option_map, slice_get, zero, suc, refl, sym, ap, subst}
 use Rattle.std.specs.List.{flat_map}
 use Rattle.std.proofs.Math.Logic.{∥∥₁_map, ∥∥₁_map₂}
 use Rattle.vio_num.specs.declared.entry.Entry.{Entry}

@@ -16,6 +16,7 @@ use Rattle.crq_session.specs.PlainState.{side_of}
 use Rattle.rdma_copy.specs.declared.copy.CopyRecord.{CopyRecord}
 use Rattle.block_server.specs.Answering.{answers_of}
 use Rattle.block_server.specs.Entries.{is_response}
+use Rattle.boot_text.specs.Sound.{IsClientOf}
 use Rattle.boot_text.specs.declared.plan.Partition.{Partition}
 use Rattle.boot_text.specs.declared.plan.UnitPlan.TheVariants as units
 use Rattle.lan_script.specs.Units.{LanValue}
