@@ -3,8 +3,10 @@ use Rattle.std.proofs.Common.{◌≡◌, ◌≢◌, ◌∙◌, ℕ, ◌==◌, �
 use Rattle.std.proofs.Math.Logic.{∥∥₁_elim, ∥∥₁_map, ∥∥₁_map₂, ∥∥₁_prop}
 use Rattle.std.proofs.lemmas.Option.{IfSome_then, slice_get_within}
 use native.Mathlib.Decide.{ℕ_discrete}
+use Rattle.vio_num.specs.Words.{Begins}
 use Rattle.vio_num.specs.declared.history.Grant.{Grant}
 use Rattle.vio_num.specs.declared.names.UnitId.{UnitId}
+use Rattle.crq_ring.specs.declared.rows.PipeRow.{PipeRow}
 use Rattle.crq_session.specs.EndState.{EndState}
 use Rattle.crq_session.specs.PlainState.{end_of, side_of}
 use Rattle.tce_window.specs.PlainPort.{known_of}
@@ -13,26 +15,32 @@ use Rattle.rdma_copy.proofs.Laws.{side_same}
 use Rattle.rdma_copy.specs.Copies.{side_of as side_at}
 use Rattle.rdma_copy.specs.declared.copy.CopyRecord.{CopyRecord}
 use Rattle.block_server.proofs.CargoLaws.{cargo_elsewhere, cargo_unused}
+use Rattle.block_server.proofs.DealtLaws.{dealt_elsewhere, dealt_unused}
 use Rattle.block_server.proofs.RefusalLaws.{refusals_elsewhere}
 use Rattle.block_server.specs.Answering.{OnlyRowsOf}
 use Rattle.block_server.specs.Cargo.{AreIdle, HasCargo}
 use Rattle.block_server.specs.Causes.{Told, told_to}
+use Rattle.block_server.specs.Dealt.{HasDealt}
 use Rattle.block_server.specs.Heard.{Tells}
+use Rattle.block_server.specs.LoginAnswers.{login_answers}
 use Rattle.block_server.specs.Makers.{same_unit}
 use Rattle.block_server.specs.Receipts.{LinesMore, is_ended}
-use Rattle.block_server.specs.Refusals.{AreExplained, HasExplained, ExplainNone, basis_seen}
+use Rattle.block_server.specs.Refusals.{AnswersLogins, AreExplained, HasExplained, ExplainNone, basis_seen}
 use Rattle.block_server.specs.Units.{AreInOrder}
 use Rattle.block_server.specs.Written.{AreWritten}
 use Rattle.block_server.specs.declared.records.Records.{Records}
 use Rattle.block_server.specs.declared.unit.Unit.{Unit}
 use Rattle.vcpu_run.specs.declared.pair.Pair.{Pair}
 use Rattle.vcpu_run.specs.Heard.{AreHeard, AllGoBy, UnitGoesBy, ShowsMore, TellsPair, TellsPairs}
+use Rattle.vcpu_run.specs.LoginsSent.{AreLoginsPut}
 use Rattle.vcpu_run.specs.Machines.{server_id}
 use Rattle.vcpu_run.specs.Pairs.{AreDriven, Drives}
+use Rattle.vcpu_run.specs.Received.{AreFresh}
 use Rattle.vcpu_run.proofs.Driving.{get_set_other, get_set_same}
 use Rattle.vcpu_run.proofs.Hearings.{hearing_on, turn_shown}
 use Rattle.vcpu_run.proofs.Keeping.{own_stays}
 use Rattle.vcpu_run.proofs.Listed.{came_from, each_set, held, some_is}
+use Rattle.vcpu_run.proofs.LoginsPut.{logins_elsewhere, logins_fresh, logins_served}
 
 -- WHAT IS TOLD -----------------------------------------------------------------------------------
 
@@ -77,15 +85,31 @@ refusals_seen told units n unit queue queue' since grants session taken has =
 pub told_served : (told : Told → Bool) (units units' : List Unit) (records records' : Records) (k : ℕ) (old new : Pair) (queue queue' : EndState)
     → queue.last_session ≡ (side_of old.link true).queue.session → queue.taken ≡ (side_of old.link true).queue.taken
     → queue'.last_session ≡ (side_of new.link true).queue.session → queue'.taken ≡ (side_of new.link true).queue.taken → new.own.unit ≡ old.own.unit
+    → queue.sent ≡ (side_of old.link false).queue.sent → queue'.sent ≡ (side_of new.link false).queue.sent
+    → Begins queue.taken queue'.taken → ∥ LinesMore old.own.unit records.grants.items records'.grants.items ∥₁
     → (HasCargo told units k (known_of old.own) records → HasCargo told units' k (known_of new.own) records')
     → (HasExplained told units k old.own.unit queue [] records.grants.items → HasExplained told units' k old.own.unit queue' [] records'.grants.items)
+    → (HasExplained told units k old.own.unit queue [] records.grants.items → AnswersLogins told old.own.unit queue queue' records records')
+    → (HasExplained told units k old.own.unit queue [] records.grants.items → HasDealt told units k old.own.unit queue → HasDealt told units' k old.own.unit queue')
     → UnitGoesBy told units records k old → UnitGoesBy told units' records' k new
-told_served told units units' records records' k old new queue queue' session taken session' taken' name carried refuses is = record {
+told_served told units units' records records' k old new queue queue' session taken session' taken' name sent sent' more lines carried refuses answers deals is = record {
   cargo = carried is.cargo;
   explained = subst (λ (unit : UnitId). HasExplained told units' k unit (end_of [] new.link true) [] records'.grants.items) (sym name)
       (refusals_seen told units' k old.own.unit queue' (end_of [] new.link true) [] records'.grants.items (sym session') (sym taken')
-      (refuses (refusals_seen told units k old.own.unit (end_of [] old.link true) queue [] records.grants.items session taken is.explained)));
+      (refuses explained));
+  logins = subst (λ (z : UnitId × List PipeRow × List PipeRow). AreLoginsPut (told_to told z.0) z.0 z.1 (login_answers z.2) records'.grants.items)
+      (λ i. (sym name i, taken' i, sent' i))
+      (logins_served (told_to told old.own.unit) old.own.unit queue.taken queue'.taken (login_answers queue.sent) (login_answers queue'.sent) records.grants.items records'.grants.items more lines
+      (answers explained)
+      (subst (λ (z : List PipeRow × List PipeRow). AreLoginsPut (told_to told old.own.unit) old.own.unit z.0 (login_answers z.1) records.grants.items)
+      (λ i. (sym taken i, sym sent i)) is.logins));
+  deals = subst (λ (unit : UnitId). HasDealt told units' k unit (end_of [] new.link true)) (sym name)
+      (dealt_elsewhere told units' units' k old.own.unit queue' (end_of [] new.link true) refl (sym session') (sym taken')
+      (deals explained (dealt_elsewhere told units units k old.own.unit (end_of [] old.link true) queue refl session taken is.deals)));
 }
+  where
+    explained : HasExplained told units k old.own.unit queue [] records.grants.items
+    explained = refusals_seen told units k old.own.unit (end_of [] old.link true) queue [] records.grants.items session taken is.explained
 
 apart_is : (a b : UnitId) → a ≢ b → same_unit a b ≡ false
 apart_is a b apart = at (a.partition == b.partition) refl (a.unit == b.unit) refl
@@ -107,6 +131,9 @@ told_elsewhere told size partition units units' records records' k unit other ap
           (λ u there e. apart (sym e ∙ (order k u there).id ∙ sym name)) rows is.cargo;
       explained = refusals_elsewhere told units units' k other.own.unit unit (end_of [] other.link true) (end_of [] other.link true) [] records.grants.items records'.grants.items
           same refl refl lines (apart_is unit other.own.unit apart) is.explained;
+      logins = logins_elsewhere (told_to told other.own.unit) other.own.unit unit (side_of other.link true).queue.taken (login_answers (side_of other.link false).queue.sent)
+          records.grants.items records'.grants.items lines (apart_is unit other.own.unit apart) is.logins;
+      deals = dealt_elsewhere told units units' k other.own.unit (end_of [] other.link true) (end_of [] other.link true) same refl refl is.deals;
     })
 
 -- ALL UNITS --------------------------------------------------------------------------------------
@@ -172,6 +199,10 @@ told_driven told units records k old new d is = record {
   cargo = subst (λ (own : WindowValue). HasCargo told units k (known_of own) records) (sym d.own) is.cargo;
   explained = subst (λ (own : WindowValue). HasExplained told units k own.unit (end_of [] new.link true) [] records.grants.items) (sym d.own)
       (refusals_seen told units k old.own.unit (end_of [] old.link true) (end_of [] new.link true) [] records.grants.items d.server_session d.server_taken is.explained);
+  logins = subst (λ (z : WindowValue × List PipeRow × List PipeRow). AreLoginsPut (told_to told z.0.unit) z.0.unit z.1 (login_answers z.2) records.grants.items)
+      (λ i. (sym d.own i, sym d.server_taken i, sym d.got i)) is.logins;
+  deals = subst (λ (own : WindowValue). HasDealt told units k own.unit (end_of [] new.link true)) (sym d.own)
+      (dealt_elsewhere told units units k old.own.unit (end_of [] old.link true) (end_of [] new.link true) refl d.server_session d.server_taken is.deals);
 }
 
 pub heard_driven : (size partition : ℕ) (units : List Unit) (records : Records) (copies : List CopyRecord) (old new : List Pair) → AreDriven old new → AreHeard size partition units records copies old
@@ -185,12 +216,15 @@ heard_driven size partition units records copies old new driven are = record {
 
 -- Before the first turn.
 pub heard_fresh : (size partition : ℕ) (units : List Unit) (records : Records) (copies : List CopyRecord) (pairs : List Pair) → records.history.items ≡ [] → records.grants.items ≡ []
-    → ((told : Told → Bool) → AreInOrder told size partition units records) → AreIdle units → ExplainNone units → AreHeard size partition units records copies pairs
-heard_fresh size partition units records copies pairs no_rows no_lines order idle unrefused = record {
+    → ((told : Told → Bool) → AreInOrder told size partition units records) → AreIdle units → ExplainNone units → AreFresh pairs → AreHeard size partition units records copies pairs
+heard_fresh size partition units records copies pairs no_rows no_lines order idle unrefused fresh = record {
   all = λ told tells. record { order = order told; written = subst (AreWritten told) (sym no_rows) tt };
   each = λ told tells k pair found. ∣ record {
     cargo = cargo_unused told units k (known_of pair.own) records idle no_rows;
     explained = subst (λ (since : List Grant). HasExplained told units k pair.own.unit (end_of [] pair.link true) since records.grants.items) no_lines
         (unrefused told k pair.own.unit (end_of [] pair.link true) records.grants.items);
+    logins = logins_fresh (told_to told pair.own.unit) pair.own.unit (side_of pair.link true).queue.taken (login_answers (side_of pair.link false).queue.sent) records.grants.items
+        (ap login_answers (fresh k pair found).sent) no_lines;
+    deals = dealt_unused told units k pair.own.unit (end_of [] pair.link true) (fresh k pair found).taken;
   } ∣₁;
 }

@@ -34,6 +34,8 @@ pub mod LinesShown
 pub mod Listed
 pub mod Logging
 pub mod LoginSteps
+pub mod LoginsPut
+pub mod LoginsShown
 pub mod LoginsTold
 pub mod Losing
 pub mod Makers

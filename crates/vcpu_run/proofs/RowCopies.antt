@@ -75,7 +75,7 @@ either_more Hears More more taken session (inl is) = inl (record { number = is.n
 either_more Hears More more taken session (inr is) =
     inr (record { number = is.number; entry = is.entry; at = is.at; len = is.len; answers = is.answers; fault = is.fault; told = more _ is.told })
 
-granted_more : (Hears More : Hearing) → Includes Hears More → (taken : List PipeRow) (session number credits : ℕ) → IsGrantedOver Hears taken session number credits
+pub granted_more : (Hears More : Hearing) → Includes Hears More → (taken : List PipeRow) (session number credits : ℕ) → IsGrantedOver Hears taken session number credits
     → IsGrantedOver More taken session number credits
 granted_more Hears More more taken session number credits is = record {
   entry = is.entry;

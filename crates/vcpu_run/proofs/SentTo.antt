@@ -16,6 +16,7 @@ use Rattle.crq_session.specs.PlainState.{side_of}
 use Rattle.rdma_copy.specs.declared.copy.CopyRecord.{CopyRecord}
 use Rattle.block_server.specs.Answering.{answers_of}
 use Rattle.block_server.specs.Entries.{is_response}
+use Rattle.boot_text.specs.Sound.{IsClientOf}
 use Rattle.boot_text.specs.declared.plan.Partition.{Partition}
 use Rattle.boot_text.specs.declared.plan.UnitPlan.TheVariants as units
 use Rattle.lan_script.specs.Units.{LanValue}
@@ -74,18 +75,17 @@ all_sent unit pipe laws begun =
     ∙ ap (map (λ (row : PipeRow). row.entry)) (all_flat pipe.session pipe.sent (ordered_from (λ (a b : PipeRow). a.session ≤ b.session) pipe.sent laws.sent.in_order)
     (each_from_all (λ (row : PipeRow). 1 ≤ row.session) pipe.sent begun) (each_from_all (λ (row : PipeRow). row.session ≤ pipe.session) pipe.sent laws.sent.none_later))
 
-pub answers_are : (pairs : List Pair) (scripts : List Script) (lan : LanValue) (rows : LanRows) (history : List Served) (grants : List Grant) (copies : List CopyRecord) (partitions : List Partition)
-    → AreScripts pairs lan.seats scripts → All (HasLawfulQueue pairs) (seats_of scripts) → IsOfPlan partitions pairs scripts lan.seats → AreAnswered history pairs
-    → AnswersAreSent partitions (trace_of pairs scripts lan rows history grants copies)
-answers_are pairs scripts lan rows history grants copies partitions are lawful of_plan answered server client serves drives =
-    let there = held (λ (pair : Pair). pair.server ≡ server) (slice_get pairs server.unit) (of_plan.pairs_are.servers server serves) in
-    let pair : Pair = there.0 in
+-- what a client's queue was sent, as the trace shows it
+pub sent_shown : (pairs : List Pair) (scripts : List Script) (lan : LanValue) (rows : LanRows) (history : List Served) (grants : List Grant) (copies : List CopyRecord) (partitions : List Partition)
+    → AreScripts pairs lan.seats scripts → All (HasLawfulQueue pairs) (seats_of scripts) → IsOfPlan partitions pairs scripts lan.seats
+    → (server client : UnitId) → IsClientOf partitions client server → (pair : Pair) → slice_get pairs server.unit ≡ Some pair → AreBegun (side_of pair.link false).queue.sent
+    → sent_to (trace_of pairs scripts lan rows history grants copies) client ≡ map (λ row. row.entry) (side_of pair.link false).queue.sent
+sent_shown pairs scripts lan rows history grants copies partitions are lawful of_plan server client drives pair there begun =
     let pipe : PipeValue = (side_of pair.link false).queue in
     let seats = seats_of scripts in
     let seat : UnitSeat = unit_seat client.partition client.unit (sits.Client server.unit) in
     let inside : IsIn seat seats = planned_in partitions pairs scripts lan.seats client (units.Client server drives.0 drives.1) are of_plan drives.2 in
-    let is = answered server.unit pair there.1 in
-    let queue : queue_at pairs seat ≡ Some pipe = ap (option_map (λ (pair : Pair). (side_of pair.link false).queue)) there.1 in
+    let queue : queue_at pairs seat ≡ Some pipe = ap (option_map (λ (pair : Pair). (side_of pair.link false).queue)) there in
     let laws : IsLawfulPipe pipe =
     subst (λ slot. IfSome slot IsLawfulPipe) queue (each_in (HasLawfulQueue pairs) seat seats inside (each_from_all (HasLawfulQueue pairs) seats lawful)) in
     let trace = trace_of pairs scripts lan rows history grants copies in
@@ -93,6 +93,14 @@ answers_are pairs scripts lan rows history grants copies partitions are lawful o
     found (λ (row : QueueRow). same_unit row.unit client) (λ (other : UnitSeat). same_unit other.unit client) (sessions_at pairs) seat (same_refl client) seats inside
     (sessions_told pairs client seats) (names_apart client seats (seats_ordered pairs lan.seats scripts are))
     ∙ ap (rows_if (session_rows client)) queue in
-    let sent : sent_to trace client ≡ map (λ row. row.entry) pipe.sent =
-    ap (flat_map (λ (row : QueueRow). row.sent)) sessions ∙ all_sent client pipe laws is.begun in
+    ap (flat_map (λ (row : QueueRow). row.sent)) sessions ∙ all_sent client pipe laws begun
+
+pub answers_are : (pairs : List Pair) (scripts : List Script) (lan : LanValue) (rows : LanRows) (history : List Served) (grants : List Grant) (copies : List CopyRecord) (partitions : List Partition)
+    → AreScripts pairs lan.seats scripts → All (HasLawfulQueue pairs) (seats_of scripts) → IsOfPlan partitions pairs scripts lan.seats → AreAnswered history pairs
+    → AnswersAreSent partitions (trace_of pairs scripts lan rows history grants copies)
+answers_are pairs scripts lan rows history grants copies partitions are lawful of_plan answered server client serves drives =
+    let there = held (λ (pair : Pair). pair.server ≡ server) (slice_get pairs server.unit) (of_plan.pairs_are.servers server serves) in
+    let pair : Pair = there.0 in
+    let is = answered server.unit pair there.1 in
+    let sent = sent_shown pairs scripts lan rows history grants copies partitions are lawful of_plan server client drives pair there.1 is.begun in
     ∥∥₁_elim is.answers (entries_set _ _) (λ e. ap (filter is_response) sent ∙ (e ∙ ap (λ u. answers_of u history) there.2))

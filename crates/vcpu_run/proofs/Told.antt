@@ -15,6 +15,7 @@ use Rattle.vcpu_run.specs.AnswersSent.{AnswersAreGiven, AnswersAreSent}
 use Rattle.vcpu_run.specs.Agreed.{AreCredited}
 use Rattle.vcpu_run.specs.Lines.{IsOver}
 use Rattle.vcpu_run.specs.Intake.{EntriesAreFetched}
+use Rattle.vcpu_run.specs.LoginsSent.{LoginsAreAnswered, LoginsAreSent}
 use Rattle.vcpu_run.specs.Machines.{IsOfPlan}
 use Rattle.lan_script.specs.Units.{LanValue}
 use Rattle.vcpu_run.specs.PortWords.{PortsAreTold, PortsTell}
@@ -48,9 +49,12 @@ pub law_told : {E : Type 0} (r : Result Trace E) (o : Option Trace) (pairs : Lis
     → IfOk r (KeepsOnce (AreAtRest copies_made lines history pairs scripts) RequestsAreServed pairs scripts ports)
     → IfOk r (KeepsOnce (AreAtRest copies_made lines history pairs scripts) AnswersAreGiven pairs scripts ports)
     → IfOk r (KeepsOnce (AreAtRest copies_made lines history pairs scripts) RowsAreCopied pairs scripts ports)
-    → IfOk r (KeepsOnce (AreAtRest copies_made lines history pairs scripts) LinesAreExplained pairs scripts ports) → AreAtRest copies_made lines history pairs scripts
+    → IfOk r (KeepsOnce (AreAtRest copies_made lines history pairs scripts) LinesAreExplained pairs scripts ports)
+    → IfOk r (KeepsOnce (AreAnswered history pairs) (λ partitions trace. AreAtRest copies_made lines history pairs scripts → LoginsAreSent partitions trace) pairs scripts ports)
+    → IfOk r (KeepsOnce (AreAnswered history pairs) (λ partitions trace. AreAtRest copies_made lines history pairs scripts → LoginsAreAnswered partitions trace) pairs scripts ports)
+    → AreAtRest copies_made lines history pairs scripts
     → IfSome o (Keeps KeepsLawOf pairs scripts ports)
-law_told (Ok trace) o pairs scripts ports history copies_made lines e order queues copies records over credits are refusals said answers answered keeps lan words tells settled handed intake requests given copied explained rests =
+law_told (Ok trace) o pairs scripts ports history copies_made lines e order queues copies records over credits are refusals said answers answered keeps lan words tells settled handed intake requests given copied explained logins dealt rests =
     subst (λ (o : Option Trace). IfSome o (Keeps KeepsLawOf pairs scripts ports)) (sym e)
     (λ partitions of_plan. record {
       order = order;
@@ -69,8 +73,10 @@ law_told (Ok trace) o pairs scripts ports history copies_made lines e order queu
       given = given partitions of_plan rests;
       copied = copied partitions of_plan rests;
       explained = explained partitions of_plan rests;
+      logins = logins partitions of_plan answered rests;
+      dealt = dealt partitions of_plan answered rests;
     })
-law_told (Err error) o pairs scripts ports history copies_made lines e order queues copies records over credits are refusals said answers answered keeps lan words tells settled handed intake requests given copied explained rests =
+law_told (Err error) o pairs scripts ports history copies_made lines e order queues copies records over credits are refusals said answers answered keeps lan words tells settled handed intake requests given copied explained logins dealt rests =
     subst (λ (o : Option Trace). IfSome o (Keeps KeepsLawOf pairs scripts ports)) (sym e) tt
 
 -- the rows that were served

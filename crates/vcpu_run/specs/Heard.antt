@@ -1,18 +1,21 @@
 -- What the windows of each server unit told it, between turns, and what of its rows and its lines goes by that.
-use Rattle.std.specs.Prelude.{◌≡◌, ℕ, Bool, true, List, [], Some, Contains, length, slice_get}
-use Rattle.crq_session.specs.PlainState.{end_of}
+use Rattle.std.specs.Prelude.{◌≡◌, ℕ, Bool, true, false, List, [], Some, Contains, length, slice_get}
+use Rattle.crq_session.specs.PlainState.{end_of, side_of}
 use Rattle.tce_window.specs.PlainPort.{known_of}
 use Rattle.rdma_copy.specs.Copies.{side_of as side_at}
 use Rattle.rdma_copy.specs.Copy.{SideGrows}
 use Rattle.rdma_copy.specs.declared.copy.CopyRecord.{CopyRecord}
 use Rattle.block_server.specs.Cargo.{HasCargo}
 use Rattle.block_server.specs.Causes.{Hearing, Includes, Told, told_to}
+use Rattle.block_server.specs.Dealt.{HasDealt}
+use Rattle.block_server.specs.LoginAnswers.{login_answers}
 use Rattle.block_server.specs.Refusals.{HasExplained}
 use Rattle.block_server.specs.Units.{AreInOrder}
 use Rattle.block_server.specs.Written.{AreWritten}
 use Rattle.block_server.specs.declared.records.Records.{Records}
 use Rattle.block_server.specs.declared.unit.Unit.{Unit}
 use Rattle.vcpu_run.specs.declared.pair.Pair.{Pair}
+use Rattle.vcpu_run.specs.LoginsSent.{AreLoginsPut}
 use Rattle.vcpu_run.specs.News.{hearing}
 
 -- what the windows of a pair and the copies so far show
@@ -32,10 +35,13 @@ pub record AllGoBy (told : Told → Bool) (size partition : ℕ) (units : List U
   pub order : AreInOrder told size partition units records
   pub written : AreWritten told records.history.items
 
--- By that, server unit k has its data in hand, and its lines are explained.
+-- By that, server unit k has its data in hand, its lines are explained, the answers to requests to log in that were put into its client's
+-- queue are those of its lines, or rejections, and none of these requests was dropped.
 pub record UnitGoesBy (told : Told → Bool) (units : List Unit) (records : Records) (k : ℕ) (pair : Pair) : Type 0 where
   pub cargo : HasCargo told units k (known_of pair.own) records
   pub explained : HasExplained told units k pair.own.unit (end_of [] pair.link true) [] records.grants.items
+  pub logins : AreLoginsPut (told_to told pair.own.unit) pair.own.unit (side_of pair.link true).queue.taken (login_answers (side_of pair.link false).queue.sent) records.grants.items
+  pub deals : HasDealt told units k pair.own.unit (end_of [] pair.link true)
 
 -- This is so by whatever tells all that the pairs show.
 pub record AreHeard (size partition : ℕ) (units : List Unit) (records : Records) (copies : List CopyRecord) (pairs : List Pair) : Type 0 where

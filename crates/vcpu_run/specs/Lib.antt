@@ -16,6 +16,7 @@ pub mod Intake
 pub mod Lines
 pub mod LinesShow
 pub mod Links
+pub mod LoginsSent
 pub mod Machines
 pub mod Making
 pub mod Named

@@ -1,5 +1,5 @@
 -- What each server unit took in between turns: its receipts, over its pair's windows and its own queue, and what became of each.
-use Rattle.std.specs.Prelude.{◌≡◌, ℕ, true, All, List, [], Some, slice_get}
+use Rattle.std.specs.Prelude.{◌≡◌, ℕ, true, false, All, List, [], Some, slice_get}
 use Rattle.vio_num.specs.declared.history.Grant.{Grant}
 use Rattle.vio_num.specs.declared.history.Served.{Served}
 use Rattle.crq_session.specs.PlainState.{end_of, side_of}
@@ -35,9 +35,10 @@ pub record IsReceived (units : List Unit) (copies : List CopyRecord) (grants : L
 abbrev pub AreReceived : List Unit → List CopyRecord → List Grant → List Served → List Pair → Type 0
 AreReceived units copies grants history pairs = (k : ℕ) (pair : Pair) → slice_get pairs k ≡ Some pair → IsReceived units copies grants history k pair
 
--- nothing was taken from the server unit's queue
-abbrev pub IsFresh : Pair → Type 0
-IsFresh pair = (side_of pair.link true).queue.taken ≡ []
+-- Nothing was taken from the server unit's queue, and nothing was put into its client's.
+pub record IsFresh (pair : Pair) : Type 0 where
+  pub taken : (side_of pair.link true).queue.taken ≡ []
+  pub sent : (side_of pair.link false).queue.sent ≡ []
 
 abbrev pub AreFresh : List Pair → Type 0
 AreFresh pairs = (k : ℕ) (pair : Pair) → slice_get pairs k ≡ Some pair → IsFresh pair

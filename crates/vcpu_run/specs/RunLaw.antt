@@ -1,6 +1,6 @@
 -- The law of a run, so far as it is proved: what its trace says of its queues, its copies and windows, its
 -- records, the credits and the refusals that they tell of, the answers that were sent, its LAN ports and what is told of them, how it ends, what its server units took in,
--- which of it they served, that each of that has its answer, and which copies moved its answer and its data.
+-- which of it they served, that each of that has its answer, and which copies moved its answer and its data, and how its requests to log in were answered.
 use Rattle.std.specs.Prelude.{◌≡◌, ◌⊎◌, ℕ, ◌+◌, ◌*◌, ◌<◌, ◌≤◌, List, [], ◌∷◌, All, Option, Some, None, length, map, slice_get}
 use Rattle.std.specs.List.{AllPairs}
 use Rattle.vio_num.specs.Queue.{Handed, LawfulDrop}
@@ -26,6 +26,7 @@ use Rattle.vcpu_run.specs.CopyRows.{copy_row}
 use Rattle.vcpu_run.specs.Credited.{KeepsCredit, ended_by}
 use Rattle.vcpu_run.specs.Intake.{EntriesAreFetched}
 use Rattle.vcpu_run.specs.Lines.{numbers_to_fail}
+use Rattle.vcpu_run.specs.LoginsSent.{LoginsAreAnswered, LoginsAreSent}
 use Rattle.vcpu_run.specs.Ports.{ports_of}
 use Rattle.vcpu_run.specs.PortWords.{PortsAreTold}
 use Rattle.vcpu_run.specs.StrokeMakers.{StrokesAreMade}
@@ -129,6 +130,8 @@ pub record KeepsLawOf (partitions : List Partition) (trace : Trace) : Type 0 whe
   pub given : AnswersAreGiven partitions trace
   pub copied : RowsAreCopied partitions trace
   pub explained : LinesAreExplained partitions trace
+  pub logins : LoginsAreSent partitions trace
+  pub dealt : LoginsAreAnswered partitions trace
 
 abbrev pub KeepsLaw : Plan → Trace → Type 0
 KeepsLaw plan trace = KeepsLawOf plan.partitions trace

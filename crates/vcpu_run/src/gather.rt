@@ -10,6 +10,7 @@ ghost use Rattle.vcpu_run.specs.Caused.{IsShownAll};
 ghost use Rattle.vcpu_run.specs.Answered.{AreAnswered};
 ghost use Rattle.vcpu_run.specs.AnswersSent.{AnswersAreGiven, AnswersAreSent};
 ghost use Rattle.vcpu_run.specs.Lines.{IsOver};
+ghost use Rattle.vcpu_run.specs.LoginsSent.{LoginsAreAnswered, LoginsAreSent};
 ghost use Rattle.vcpu_run.specs.Machines.{AreScripts, IsOfPlan};
 ghost use Rattle.vcpu_run.specs.Intake.{EntriesAreFetched};
 ghost use Rattle.vcpu_run.specs.Pairs.{AreOfOneHome};
@@ -108,6 +109,16 @@ pub(crate) fn gather(
         IsOfPlan partitions pairs.items scripts.entry.items lan.seats →
         AreAtRest copies.items grants.items history.items pairs.items scripts.entry.items →
         LinesAreExplained partitions trace) }
+    ensures logins { IfOk result (λ trace. (partitions : List Partition) →
+        IsOfPlan partitions pairs.items scripts.entry.items lan.seats →
+        AreAnswered history.items pairs.items →
+        AreAtRest copies.items grants.items history.items pairs.items scripts.entry.items →
+        LoginsAreSent partitions trace) }
+    ensures dealt { IfOk result (λ trace. (partitions : List Partition) →
+        IsOfPlan partitions pairs.items scripts.entry.items lan.seats →
+        AreAnswered history.items pairs.items →
+        AreAtRest copies.items grants.items history.items pairs.items scripts.entry.items →
+        LoginsAreAnswered partitions trace) }
     ensures shown { IfOk result (λ trace. (partitions : List Partition) →
         IsOfPlan partitions pairs.items scripts.entry.items lan.seats →
         IsShownAll partitions trace copies.items pairs.items) }

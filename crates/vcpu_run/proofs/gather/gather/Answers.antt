@@ -5,6 +5,7 @@ use Rattle.vcpu_run.proofs.Fetching.{entries_are_fetched, ok_pair, requests_are_
 use Rattle.vcpu_run.proofs.FramesCarried.{ports_keep}
 use Rattle.vcpu_run.proofs.Freed.{few_seats, free_pairs, from_rows}
 use Rattle.vcpu_run.proofs.GivenAnswers.{answers_are_given}
+use Rattle.vcpu_run.proofs.LoginsShown.{logins_are_answered, logins_are_sent, logins_are_shown}
 use Rattle.vcpu_run.proofs.Ordering.{order_is}
 use Rattle.vcpu_run.proofs.PortsTold.{from_counts, told_are}
 use Rattle.vcpu_run.proofs.QueueLaws.{queues_are}
@@ -128,3 +129,19 @@ returns-clause-shown c =
     from_rows c.args.pairs.items c.args.scripts.items c.args.lan c.args.history.items c.args.grants.items c.args.copies.items c.rows_of.result _ _ c.rows_of.ensures.trace c.rows_of.ensures.windows
     (λ rows keeps ordered lawful partitions of_plan. shown_all c.args.pairs.items c.args.scripts.items c.args.lan rows c.args.history.items c.args.grants.items c.args.copies.items partitions
     c.requires.pairs c.requires.scripts lawful of_plan)
+
+pub returns-clause-logins : goal.returns-clause-logins
+returns-clause-logins c =
+    from_rows c.args.pairs.items c.args.scripts.items c.args.lan c.args.history.items c.args.grants.items c.args.copies.items c.rows_of.result _ _ c.rows_of.ensures.trace
+    (ok_pair c.rows_of.result _ _ c.rows_of.ensures.queues c.rows_of.ensures.windows)
+    (λ rows keeps ordered lawful partitions of_plan answered rests. logins_are_sent partitions _
+    (logins_are_shown c.args.pairs.items c.args.scripts.items c.args.lan rows c.args.history.items c.args.grants.items c.args.copies.items partitions
+    c.requires.pairs c.requires.scripts lawful.0 lawful.1 of_plan answered rests))
+
+pub returns-clause-dealt : goal.returns-clause-dealt
+returns-clause-dealt c =
+    from_rows c.args.pairs.items c.args.scripts.items c.args.lan c.args.history.items c.args.grants.items c.args.copies.items c.rows_of.result _ _ c.rows_of.ensures.trace
+    (ok_pair c.rows_of.result _ _ c.rows_of.ensures.queues c.rows_of.ensures.windows)
+    (λ rows keeps ordered lawful partitions of_plan answered rests. logins_are_answered partitions _
+    (logins_are_shown c.args.pairs.items c.args.scripts.items c.args.lan rows c.args.history.items c.args.grants.items c.args.copies.items partitions
+    c.requires.pairs c.requires.scripts lawful.0 lawful.1 of_plan answered rests))

@@ -119,4 +119,4 @@ pub returns-clause-heard : goal.returns-clause-heard
 returns-clause-heard g c =
     let server = c.in_ok-server in
     heard_fresh server.server.disk.count server.server.partition server.server.units.items server.server.records server.server.copies.items c.in-Ok.pairs.items
-    server.ensures.history server.ensures.lines server.ensures.order server.ensures.idle server.ensures.unrefused
+    server.ensures.history server.ensures.lines server.ensures.order server.ensures.idle server.ensures.unrefused c.in-Ok.ensures.fresh

@@ -248,6 +248,9 @@ returns-clause-told_own g c =
     let before : side_of c.side.result.link.now c.side.result.first ≡ side_of old.link true =
     ap (λ (b : Bool). side_of c.side.result.link.now b) c.side.ensures.first ∙ ap (λ (l : PlainLink). side_of l true) c.side.ensures.link in
     let after : side_of link c.turn.new.crq.end.first ≡ side_of link true = ap (λ (b : Bool). side_of link b) first in
+    let sent_before : (partner_of c.side.result.link.now c.side.result.first).queue.sent ≡ (side_of old.link false).queue.sent =
+    ap (λ (b : Bool). (partner_of c.side.result.link.now b).queue.sent) c.side.ensures.first ∙ ap (λ (l : PlainLink). (partner_of l true).queue.sent) c.side.ensures.link in
+    let sent_after : (partner_of link c.turn.new.crq.end.first).queue.sent ≡ (side_of link false).queue.sent = ap (λ (b : Bool). (partner_of link b).queue.sent) first in
     let link_is : link ≡ c.self-1.given.0 = search rules in
     subst (λ (l : PlainLink). (told : Told → Bool) → TellsPair told server'.copies.items (record { server = old.server; link = l; own = c.turn.new.own; window = c.turn.new.client; driver = old.driver })
     → AllGoBy told server.disk.count server.partition server.units.items server.records → UnitGoesBy told server.units.items server.records c.args.unit old
@@ -257,7 +260,9 @@ returns-clause-told_own g c =
     told_served told server.units.items server'.units.items server.records server'.records c.args.unit old new (state_of c.side.result) (state_of c.turn.new.crq.end)
     (ap (λ (side : PlainSide). side.queue.session) before) (ap (λ (side : PlainSide). side.queue.taken) before)
     (ap (λ (side : PlainSide). side.queue.session) after) (ap (λ (side : PlainSide). side.queue.taken) after) name
-    (c.turn.ensures.carried told news all.order) (c.turn.ensures.explains told news all.order []) is)
+    sent_before sent_after goes.taken c.turn.ensures.lines
+    (c.turn.ensures.carried told news all.order) (c.turn.ensures.explains told news all.order []) (c.turn.ensures.logins told news all.order [])
+    (c.turn.ensures.deals told news all.order []) is)
 
 pub returns-clause-told_else : goal.returns-clause-told_else
 returns-clause-told_else g c = λ told k other apart own order is.

@@ -1,0 +1,133 @@
+-- A gathered trace shows the answers to requests to log in that each client's queue got, and that none of these was dropped where a
+-- login is on.
+use Rattle.std.proofs.Common.{◌≡◌, ◌∙◌, ℕ, ◌+◌, Bool, true, false, All, List, [], Option, Some, IfSome, filter, length, map, option_map, slice_get, zero, suc, refl, sym, ap, subst}
+use Rattle.std.specs.List.{flat_map}
+use Rattle.std.proofs.Math.Logic.{∥∥₁_map, ∥∥₁_map₂}
+use Rattle.vio_num.specs.declared.entry.Entry.{Entry}
+use Rattle.vio_num.specs.declared.history.Grant.{Grant}
+use Rattle.vio_num.specs.declared.history.Served.{Served}
+use Rattle.vio_num.specs.declared.names.UnitId.{UnitId}
+use Rattle.crq_ring.specs.Pipe.{PipeValue, IsLawfulPipe}
+use Rattle.crq_ring.specs.declared.rows.PipeRow.{PipeRow}
+use Rattle.crq_session.specs.PlainState.{end_of, side_of}
+use Rattle.rdma_copy.specs.declared.copy.CopyRecord.{CopyRecord}
+use Rattle.block_server.specs.Books.{books_seen}
+use Rattle.block_server.specs.Causes.{Hearing, Includes, Told, told_to}
+use Rattle.block_server.specs.Dealt.{AreDealt, HasDealt}
+use Rattle.block_server.specs.Judged.{AreKept, Judged}
+use Rattle.block_server.specs.LoginAnswers.{is_login_answer, login_answers}
+use Rattle.block_server.specs.Ready.{HasNothing}
+use Rattle.block_server.specs.Receipts.{is_ended}
+use Rattle.block_server.specs.declared.records.Records.{Records}
+use Rattle.block_server.specs.declared.unit.Unit.{Unit}
+use Rattle.boot_text.specs.Sound.{IsClientOf, IsServer}
+use Rattle.boot_text.specs.declared.plan.Partition.{Partition}
+use Rattle.boot_text.specs.declared.plan.UnitPlan.TheVariants as units
+use Rattle.lan_script.specs.Units.{LanValue}
+use Rattle.lan_script.specs.declared.rows.LanRows.{LanRows}
+use Rattle.vio_trace.specs.declared.rows.QueueRow.{QueueRow}
+use Rattle.vio_trace.specs.declared.rows.Trace.{Trace}
+use Rattle.vcpu_run.specs.declared.pair.Pair.{Pair}
+use Rattle.vcpu_run.specs.declared.script.Script.{Script}
+use Rattle.vcpu_run.specs.declared.unit_seat.Seat.TheVariants as sits
+use Rattle.vcpu_run.specs.declared.unit_seat.UnitSeat.{UnitSeat}
+use Rattle.vcpu_run.specs.Answered.{AreAnswered}
+use Rattle.vcpu_run.specs.CopyRows.{same_unit}
+use Rattle.vcpu_run.specs.Gathered.{HasLawfulQueue, HasLawfulWindow, queue_at, rows_if, sessions_at, trace_of}
+use Rattle.vcpu_run.specs.Heard.{UnitGoesBy}
+use Rattle.vcpu_run.specs.Intake.{entries_taken, rows_taken}
+use Rattle.vcpu_run.specs.LoginsSent.{AreLoginsAnswered, AreLoginsPut, LoginsAreAnswered, LoginsAreSent, logins_to}
+use Rattle.vcpu_run.specs.Machines.{AreScripts, IsOfPlan}
+use Rattle.vcpu_run.specs.Pairs.{AreOfOneHome}
+use Rattle.vcpu_run.specs.Received.{AreAtRest}
+use Rattle.vcpu_run.specs.RowsCopied.{shown_to}
+use Rattle.vcpu_run.specs.Sessions.{session_rows, sessions_from}
+use Rattle.vcpu_run.specs.Shown.{sessions_of}
+use Rattle.vcpu_run.specs.Units.{seats_of, unit_seat}
+use Rattle.vcpu_run.proofs.Copied.{names_apart}
+use Rattle.vcpu_run.proofs.Fetching.{all_taken}
+use Rattle.vcpu_run.proofs.Following.{each_from_all}
+use Rattle.vcpu_run.proofs.Listed.{held}
+use Rattle.vcpu_run.proofs.LoginsPut.{logins_at_rest, logins_more}
+use Rattle.vcpu_run.proofs.Parts.{IsIn, each_in, found}
+use Rattle.vcpu_run.proofs.Placing.{seats_ordered}
+use Rattle.vcpu_run.proofs.QueueLaws.{sessions_told}
+use Rattle.vcpu_run.proofs.Seated.{planned_in}
+use Rattle.vcpu_run.proofs.SentTo.{sent_shown}
+use Rattle.vcpu_run.proofs.Settling.{emptied}
+use Rattle.vcpu_run.proofs.Sole.{same_refl}
+use Rattle.vcpu_run.proofs.ToldAll.{shown_all}
+
+-- a queue has as many sessions as its last one says
+sessions_count : (unit : UnitId) (pipe : PipeValue) (q n : ℕ) → length (sessions_from unit pipe q n) ≡ n
+sessions_count unit pipe q zero = refl
+sessions_count unit pipe q (suc n) = ap suc (sessions_count unit pipe (q + 1) n)
+
+-- what is so of the answers to one unit's requests to log in
+pub record AreLoginsShown (partitions : List Partition) (trace : Trace) (server client : UnitId) : Type 0 where
+  pub put : AreLoginsPut (shown_to partitions trace server client) server (entries_taken trace server) (logins_to trace client) trace.grants
+  pub dealt : AreLoginsAnswered (shown_to partitions trace server client) server (length (sessions_of trace server)) (entries_taken trace server) trace.grants
+
+-- by what was told
+logins_by : (told : Told → Bool) (partitions : List Partition) (trace : Trace) (server client : UnitId) (servers : List Unit) (records : Records) (u : Unit) (pair : Pair) (judged : List Judged)
+    → slice_get servers server.unit ≡ Some u → HasNothing u → pair.own.unit ≡ server
+    → AreKept (books_seen u pair.own.unit (end_of [] pair.link true) trace.serves trace.grants) judged → records.grants.items ≡ trace.grants
+    → (side_of pair.link true).queue.taken ≡ entries_taken trace server → (side_of pair.link true).queue.session ≡ length (sessions_of trace server)
+    → login_answers (side_of pair.link false).queue.sent ≡ logins_to trace client → Includes (told_to told server) (shown_to partitions trace server client)
+    → UnitGoesBy told servers records server.unit pair → AreLoginsShown partitions trace server client
+logins_by told partitions trace server client servers records u pair judged there none own kept lines taken sessions sent shows is = record {
+  put = logins_more (told_to told server) Shown shows server (entries_taken trace server) (logins_to trace client) trace.grants
+      (subst (λ (z : UnitId × List PipeRow × List Entry × List Grant). AreLoginsPut (told_to told z.0) z.0 z.1 z.2 z.3) (λ i. (own i, taken i, sent i, lines i)) is.logins);
+  dealt = subst (λ (z : UnitId × ℕ × List PipeRow). AreLoginsAnswered Shown z.0 z.1 z.2 trace.grants) (λ i. (own i, sessions i, taken i))
+      (logins_at_rest (told_to told pair.own.unit) Shown (subst (λ (unit : UnitId). Includes (told_to told unit) Shown) (sym own) shows) u pair.own.unit (end_of [] pair.link true)
+      trace.serves trace.grants judged kept none.waiting none.pending dealt);
+}
+  where
+    Shown : Hearing
+    Shown = shown_to partitions trace server client
+
+    dealt : AreDealt (told_to told pair.own.unit) (side_of pair.link true).queue.session (side_of pair.link true).queue.taken u.waiting u.pending.items (is_ended u.line)
+    dealt = subst (λ (o : Option Unit). IfSome o
+        (λ u. AreDealt (told_to told pair.own.unit) (side_of pair.link true).queue.session (side_of pair.link true).queue.taken u.waiting u.pending.items (is_ended u.line))) there is.deals
+
+pub logins_are_shown : (pairs : List Pair) (scripts : List Script) (lan : LanValue) (rows : LanRows) (history : List Served) (grants : List Grant) (copies : List CopyRecord) (partitions : List Partition)
+    → AreOfOneHome copies pairs → AreScripts pairs lan.seats scripts → All (HasLawfulQueue pairs) (seats_of scripts) → All (HasLawfulWindow pairs lan) (seats_of scripts)
+    → IsOfPlan partitions pairs scripts lan.seats → AreAnswered history pairs → AreAtRest copies grants history pairs scripts
+    → (server client : UnitId) → IsServer partitions server → IsClientOf partitions client server → ∥ AreLoginsShown partitions (trace_of pairs scripts lan rows history grants copies) server client ∥₁
+logins_are_shown pairs scripts lan rows history grants copies partitions home are lawful windows plan answered rests server client serves drives =
+    let trace = trace_of pairs scripts lan rows history grants copies in
+    let there = held (λ (pair : Pair). pair.server ≡ server) (slice_get pairs server.unit) (plan.pairs_are.servers server serves) in
+    let pair : Pair = there.0 in
+    let pipe : PipeValue = (side_of pair.link true).queue in
+    let seats = seats_of scripts in
+    let seat : UnitSeat = unit_seat server.partition server.unit sits.Server in
+    let inside : IsIn seat seats = planned_in partitions pairs scripts lan.seats server (units.Server serves.0) are plan serves.1 in
+    let queue : queue_at pairs seat ≡ Some pipe = ap (option_map (λ (pair : Pair). (side_of pair.link true).queue)) there.1 in
+    let laws : IsLawfulPipe pipe =
+    subst (λ slot. IfSome slot IsLawfulPipe) queue (each_in (HasLawfulQueue pairs) seat seats inside (each_from_all (HasLawfulQueue pairs) seats lawful)) in
+    let sessions : sessions_of trace server ≡ session_rows server pipe =
+    found (λ (row : QueueRow). same_unit row.unit server) (λ (other : UnitSeat). same_unit other.unit server) (sessions_at pairs) seat (same_refl server) seats inside
+    (sessions_told pairs server seats) (names_apart server seats (seats_ordered pairs lan.seats scripts are))
+    ∙ ap (rows_if (session_rows server)) queue in
+    let own : pair.own.unit ≡ server = (home.pairs_are server.unit pair there.1).own_unit ∙ there.2 in
+    let none = (emptied rests.units pairs scripts lan.seats partitions server pair are lawful plan rests.idle serves there.1 there.2).1 in
+    let u = held HasNothing (slice_get rests.units server.unit) none in
+    let received = rests.received server.unit pair there.1 in
+    let shown = shown_all pairs scripts lan rows history grants copies partitions home are windows plan in
+    let sent = sent_shown pairs scripts lan rows history grants copies partitions are lawful plan server client drives pair there.1 (answered server.unit pair there.1).begun in
+    ∥∥₁_map₂ received.judged (rests.heard.each shown.told shown.all server.unit pair there.1)
+    (λ has is.
+    let kept : AreKept (books_seen u.0 pair.own.unit (end_of [] pair.link true) history grants) has.0 =
+    subst (λ (o : Option Unit). IfSome o (λ unit. AreKept (books_seen unit pair.own.unit (end_of [] pair.link true) history grants) has.0)) u.1 has.1.kept in
+    logins_by shown.told partitions trace server client rests.units rests.records u.0 pair has.0 u.1 u.2 own kept rests.lines_are
+    (sym (ap (flat_map rows_taken) sessions ∙ all_taken server pipe laws received.begun))
+    (sym (ap length sessions ∙ sessions_count server pipe 1 pipe.session))
+    (sym (ap (filter is_login_answer) sent)) (shown.only server client serves drives) is)
+
+pub logins_are_sent : (partitions : List Partition) (trace : Trace)
+    → ((server client : UnitId) → IsServer partitions server → IsClientOf partitions client server → ∥ AreLoginsShown partitions trace server client ∥₁) → LoginsAreSent partitions trace
+logins_are_sent partitions trace shown server client serves drives = ∥∥₁_map (shown server client serves drives) (λ is. is.put)
+
+pub logins_are_answered : (partitions : List Partition) (trace : Trace)
+    → ((server client : UnitId) → IsServer partitions server → IsClientOf partitions client server → ∥ AreLoginsShown partitions trace server client ∥₁) → LoginsAreAnswered partitions trace
+logins_are_answered partitions trace shown server client serves drives = ∥∥₁_map (shown server client serves drives) (λ is. is.dealt)

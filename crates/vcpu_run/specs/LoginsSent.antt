@@ -1,0 +1,53 @@
+-- The answers to requests to log in of a run: which of them a client's queue got, by the lines of its server unit, and that none
+-- was dropped (SRP, "Login process").
+use Rattle.std.specs.Prelude.{◌⊎◌, ◌≤◌, ℕ, List, [], filter, length}
+use Rattle.crq_ring.specs.declared.rows.PipeRow.{PipeRow}
+use Rattle.vio_num.specs.declared.entry.Entry.{Entry}
+use Rattle.vio_num.specs.declared.history.Grant.{Grant}
+use Rattle.vio_num.specs.declared.names.UnitId.{UnitId}
+use Rattle.block_server.specs.Causes.{Hearing}
+use Rattle.block_server.specs.Dealt.{AsksNoLogin, IsLoginAnswered, TookNoEvent}
+use Rattle.block_server.specs.Granting.{IsSrpAt}
+use Rattle.block_server.specs.LoginAnswers.{LoginsMore, is_login_answer}
+use Rattle.block_server.specs.Makers.{same_unit}
+use Rattle.block_server.specs.Numbers.{login_on}
+use Rattle.block_server.specs.Receipts.{unit_of}
+use Rattle.boot_text.specs.Sound.{IsClientOf, IsServer}
+use Rattle.boot_text.specs.declared.plan.Partition.{Partition}
+use Rattle.vio_trace.specs.declared.rows.Trace.{Trace}
+use Rattle.vcpu_run.specs.AnswersSent.{sent_to}
+use Rattle.vcpu_run.specs.Intake.{entries_taken}
+use Rattle.vcpu_run.specs.RowsCopied.{shown_to}
+use Rattle.vcpu_run.specs.Shown.{sessions_of}
+
+-- the lines of a unit
+abbrev pub lines_by : UnitId → List Grant → List Grant
+lines_by unit lines = filter (λ line. same_unit (unit_of line) unit) lines
+
+-- These answers to requests to log in were put by a unit, each a grant or a rejection; and the unit's lines that grant a login are
+-- those of the answers that do, one each, in their order.
+abbrev pub AreLoginsPut : (Hears : Hearing) → UnitId → (taken : List PipeRow) → (answers : List Entry) → (lines : List Grant) → Type 0
+AreLoginsPut Hears unit taken answers lines = LoginsMore Hears taken [] answers [] (lines_by unit lines)
+
+-- the answers to requests to log in among what a trace shows as sent to a unit's queue
+abbrev pub logins_to : Trace → UnitId → List Entry
+logins_to trace unit = filter is_login_answer (sent_to trace unit)
+
+-- So it is of the entries of the lengths of such answers that were sent to the queue of each server unit's client.
+abbrev pub LoginsAreSent : List Partition → Trace → Type 0
+LoginsAreSent partitions trace =
+    (server client : UnitId) → IsServer partitions server → IsClientOf partitions client server
+    → ∥ AreLoginsPut (shown_to partitions trace server client) server (entries_taken trace server) (logins_to trace client) trace.grants ∥₁
+
+-- Where a login is on in a session at its end, and no event was taken in it, no request to log in was dropped: each SRP entry that was
+-- taken in it asked for no login, or a copy of the answer over its request granted or rejected it.
+abbrev pub AreLoginsAnswered : (Hears : Hearing) → UnitId → (session : ℕ) → (taken : List PipeRow) → (lines : List Grant) → Type 0
+AreLoginsAnswered Hears unit session taken lines =
+    1 ≤ login_on unit session lines → TookNoEvent session taken
+    → (number : ℕ) (entry : Entry) → IsSrpAt taken session number entry → AsksNoLogin Hears entry ⊎ IsLoginAnswered Hears taken session number
+
+-- So it is of the last session of each server unit that has a client.
+abbrev pub LoginsAreAnswered : List Partition → Trace → Type 0
+LoginsAreAnswered partitions trace =
+    (server client : UnitId) → IsServer partitions server → IsClientOf partitions client server
+    → ∥ AreLoginsAnswered (shown_to partitions trace server client) server (length (sessions_of trace server)) (entries_taken trace server) trace.grants ∥₁
