@@ -8,3 +8,4 @@ pub mod Linked
 pub mod Standing
 pub mod Steps
 pub mod Sounds
+pub mod Laws

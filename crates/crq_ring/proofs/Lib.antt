@@ -17,3 +17,4 @@ pub mod SharedPasses
 pub mod Windows
 pub mod Sessions
 pub mod Values
+pub mod SessionLaws

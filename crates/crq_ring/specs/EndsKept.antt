@@ -1,5 +1,6 @@
 -- What the ends of a ring and their notes keep of their seats.
 use Rattle.std.specs.Prelude.{◌≡◌, ℕ, ◌%◌, ◌<◌, ◌≤◌, Bool, true, false, List, [], length}
+use Rattle.crq_ring.specs.declared.TheConstants.{MAX_SLOTS}
 use Rattle.atomic_table.specs.declared.shared.Seat.{Seat}
 use Rattle.crq_ring.specs.declared.rows.PipeRow.{PipeRow}
 use Rattle.crq_ring.specs.declared.view.RingView.{RingView}
@@ -17,7 +18,7 @@ pub record IsEnd (role : Role) (seat : RingSeat) (next session from : ℕ) (rows
   pub role_is : seat.me.0.role ≡ role
   pub words : seat.table_id.words ≡ words_of seat.me.0.slots
   pub some_slots : 0 < seat.me.0.slots
-  pub few_slots : seat.me.0.slots ≤ 4096
+  pub few_slots : seat.me.0.slots ≤ MAX_SLOTS
   pub within : next < seat.me.0.slots
   pub next_is : next ≡ length (own_now seat.me) % seat.me.0.slots
   pub session_is : session ≡ seat.me.0.session

@@ -1,5 +1,6 @@
 -- What contracts see of a plain pipe, and what its calls leave of it.
 use Rattle.std.specs.Prelude.{◌≡◌, ℕ, ◌+◌, ◌^◌, ◌<◌, ◌≤◌, List, [], ◌∷◌, ◌++◌, length, Some}
+use Rattle.crq_ring.specs.declared.TheConstants.{MAX_SLOTS}
 use Rattle.std.specs.List.{slice_get}
 use Rattle.vio_num.specs.declared.entry.Entry.{Entry}
 use Rattle.vio_num.specs.Counts.{Rose}
@@ -54,7 +55,7 @@ pub record IsEmptyPipe (pipe : PipeValue) (n q : ℕ) : Type 0 where
 -- rising order of their sessions.
 pub record IsLawfulPipe (pipe : PipeValue) : Type 0 where
   pub some_slots : 1 ≤ pipe.slots
-  pub few_slots : pipe.slots ≤ 4096
+  pub few_slots : pipe.slots ≤ MAX_SLOTS
   pub few_sessions : pipe.session < 2 ^ 60
   pub handed : (q : ℕ) → Handed (of_session q pipe.sent) (of_session q pipe.taken) pipe.slots
   pub dropped : LawfulDrops pipe.sent pipe.drops pipe.slots

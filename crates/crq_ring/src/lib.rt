@@ -2,6 +2,9 @@
 // its plain form, which keeps lists and serves one thread; and a ring that two threads share without a lock.
 #![tactic(auto)]
 
+/// The slots of the largest queue, which has 16 pages.
+pub const MAX_SLOTS: u32 = 4096;
+
 mod control;
 mod ends;
 pub mod laws;

@@ -1,6 +1,7 @@
 // A queue of one direction as lists: what was put, what was taken, and what found its slot full. The
 // queue law and the drop law hold of each of its sessions.
 ghost use Rattle.std.specs.Prelude.{◌≡◌, ◌+◌, ◌^◌, ◌<◌, ◌≤◌, ℕ, IfOk, OnOk, length};
+ghost use Rattle.crq_ring.specs.declared.TheConstants.{MAX_SLOTS};
 ghost use Rattle.std.specs.List.{slice_get};
 ghost use Rattle.vio_num.specs.Queue.{Handed};
 ghost use Rattle.crq_ring.specs.Answers.{IfDone, IfDropped, IfGot, IfEmpty};
@@ -39,6 +40,7 @@ impl Model for PlainPipe {
     ghost use Rattle.std.specs.Prelude.{◌+◌, ◌-◌, ◌^◌, ◌<◌, ◌≤◌, min, vec_len, vec_capacity};
     ghost use Rattle.crq_ring.specs.Pipe.{PipeValue};
     ghost use Rattle.crq_ring.specs.Kept.{Present, HandsOver, KeepsDrops};
+    ghost use Rattle.crq_ring.specs.declared.TheConstants.{MAX_SLOTS};
 
     ghost Value = { PipeValue };
 
@@ -58,7 +60,7 @@ impl Model for PlainPipe {
     } };
 
     ghost invariant = { λ pipe. record {
-      sized : (1 ≤ pipe.slots) × (pipe.slots ≤ 4096);
+      sized : (1 ≤ pipe.slots) × (pipe.slots ≤ MAX_SLOTS);
       counted : pipe.session + pipe.renewals < 2 ^ 60;
       hands_over : HandsOver pipe.sent.items pipe.taken.items pipe.slots;
       sending : Present pipe.session pipe.sent_from pipe.sent.items;
@@ -70,7 +72,7 @@ impl Model for PlainPipe {
 impl PlainPipe {
     /// A pipe of 1 to 4,096 slots in session 1, with no room reserved.
     pub fn open(alloc: Global, slots: u32) -> Result<PlainPipe, NoMemory>
-        requires { (1 ≤ slots) × (slots ≤ 4096) }
+        requires { (1 ≤ slots) × (slots ≤ MAX_SLOTS) }
         ensures { IfOk result (λ pipe. IsEmptyPipe pipe slots 1) }
     {
         Ok(PlainPipe::in_session(alloc, slots, 1))
@@ -78,7 +80,7 @@ impl PlainPipe {
 
     /// A pipe of 1 to 4,096 slots in session 0, which has no entries before its first renewal.
     pub fn closed(alloc: Global, slots: u32) -> Result<PlainPipe, NoMemory>
-        requires { (1 ≤ slots) × (slots ≤ 4096) }
+        requires { (1 ≤ slots) × (slots ≤ MAX_SLOTS) }
         ensures { IfOk result (λ pipe. IsEmptyPipe pipe slots 0) }
     {
         Ok(PlainPipe::in_session(alloc, slots, 0))
@@ -86,7 +88,7 @@ impl PlainPipe {
 
     // Makes a pipe of this many slots, in session 0 or 1.
     fn in_session(alloc: Global, slots: u32, session: u64) -> PlainPipe
-        requires slots { (1 ≤ slots) × (slots ≤ 4096) }
+        requires slots { (1 ≤ slots) × (slots ≤ MAX_SLOTS) }
         requires session { session ≤ 1 }
         ensures { IsEmptyPipe result slots session }
     {

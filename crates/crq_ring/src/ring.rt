@@ -1,6 +1,7 @@
 // A queue of one direction that two threads share, its sender and its receiver each with an end of their
 // own: no call takes a lock.
 ghost use Rattle.std.specs.Prelude.{◌≡◌, ◌+◌, ◌%◌, ◌^◌, ◌<◌, ◌≤◌, true, false, IfOk};
+ghost use Rattle.crq_ring.specs.declared.TheConstants.{MAX_SLOTS};
 ghost use Rattle.crq_ring.specs.Control.{control_word};
 ghost use Rattle.crq_ring.specs.Answers.{IfDone, IfDropped, IfGot, IfEmpty};
 ghost use Rattle.crq_ring.specs.Ring.{Opens, EndPuts, EndFindsFull, KeepsSending};
@@ -39,6 +40,7 @@ impl Model for Ring {
     ghost use Rattle.std.specs.Prelude.{◌≡◌, ◌<◌, ◌≤◌};
     ghost use Rattle.crq_ring.specs.Ends.{RingValue};
     ghost use Rattle.crq_ring.specs.Window.{words_of};
+    ghost use Rattle.crq_ring.specs.declared.TheConstants.{MAX_SLOTS};
 
     ghost Value = { RingValue };
 
@@ -46,7 +48,7 @@ impl Model for Ring {
 
     ghost invariant = { λ ring. record {
       some_slots : 0 < ring.slots;
-      few_slots : ring.slots ≤ 4096;
+      few_slots : ring.slots ≤ MAX_SLOTS;
       key : ring.table.shared.key.slots ≡ ring.slots;
       words : ring.table.shared.table_id.words ≡ words_of ring.slots;
       no_homes : ring.table.shared.table_id.slots ≡ 0;
@@ -64,7 +66,7 @@ pub struct OpenedRing {
 impl Ring {
     /// A ring of 1 to 4,096 slots in session 1, with its sender inside and no room reserved at its ends.
     pub fn open(alloc: Global, slots: u32) -> Result<OpenedRing, NoMemory>
-        requires { (1 ≤ slots) × (slots ≤ 4096) }
+        requires { (1 ≤ slots) × (slots ≤ MAX_SLOTS) }
         ensures { IfOk result (λ opened. Opens true slots opened.ring opened.send opened.recv) }
     {
         Ring::with_key(alloc, slots as usize, true)
@@ -72,7 +74,7 @@ impl Ring {
 
     /// A ring of 1 to 4,096 slots that is closed: its control word is 0, and no session has begun.
     pub fn closed(alloc: Global, slots: u32) -> Result<OpenedRing, NoMemory>
-        requires { (1 ≤ slots) × (slots ≤ 4096) }
+        requires { (1 ≤ slots) × (slots ≤ MAX_SLOTS) }
         ensures { IfOk result (λ opened. Opens false slots opened.ring opened.send opened.recv) }
     {
         Ring::with_key(alloc, slots as usize, false)
@@ -80,7 +82,7 @@ impl Ring {
 
     // Makes a ring, begun or closed, and its ends.
     fn with_key(alloc: Global, slots: usize, begun: bool) -> Result<OpenedRing, NoMemory>
-        requires { (1 ≤ slots) × (slots ≤ 4096) }
+        requires { (1 ≤ slots) × (slots ≤ MAX_SLOTS) }
         ensures { IfOk result (λ opened. Opens begun slots opened.ring opened.send opened.recv) }
     {
         let session = session_of(begun);

@@ -3,7 +3,7 @@ use Rattle.std.proofs.Common.{◌≡◌, List, sym, ap, subst}
 use Rattle.vio_num.specs.Words.{Begins}
 use Rattle.crq_ring.specs.declared.rows.PipeRow.{PipeRow}
 use Rattle.crq_ring.specs.Sessions.{of_session}
-use Rattle.crq_ring.proofs.Fronts.{begins_self}
+use Rattle.crq_ring.proofs.SessionLaws.{begins_self}
 use Rattle.crq_session.specs.EndState.{EndState}
 use Rattle.crq_session.specs.Heard.{HearsOn}
 

@@ -5,7 +5,7 @@ use Rattle.vio_num.specs.declared.entry.Entry.{Entry}
 use Rattle.crq_ring.specs.Ends.{taken_now}
 use Rattle.crq_ring.specs.Later.{IsLater}
 use Rattle.crq_ring.specs.RingSessions.{BeginsSession, EndsSession}
-use Rattle.crq_ring.proofs.Freed.{later_begun}
+use Rattle.crq_ring.proofs.SessionLaws.{later_begun}
 use Rattle.crq_session.specs.declared.seat.LinkSeat.{LinkSeat}
 use Rattle.crq_session.specs.declared.shared_link.Link.{Link}
 use Rattle.crq_session.specs.Answered.{Puts, Loses, FindsFull, FindsClosed, Sends, TurnsBack, Opens, Settles}

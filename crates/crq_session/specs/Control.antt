@@ -1,7 +1,8 @@
 -- What a queue is by its numbers (LoPAR, "H_REG_CRQ"): its pages and its slots.
 use Rattle.std.specs.Prelude.{◌≡◌, ℕ, ◌*◌, ◌/◌, ◌%◌, ◌≤◌, ◌==◌, ◌&&◌, Bool}
 use Rattle.vio_num.specs.declared.TheConstants.{PAGE_BYTES}
-use Rattle.crq_session.specs.declared.TheConstants.{PAGE_SLOTS, MAX_SLOTS}
+use Rattle.crq_ring.specs.declared.TheConstants.{MAX_SLOTS}
+use Rattle.crq_session.specs.declared.TheConstants.{PAGE_SLOTS}
 
 -- a number of slots that is whole pages, of which there are 1 to 16
 pub record IsQueueSize (slots : ℕ) : Type 0 where

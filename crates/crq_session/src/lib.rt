@@ -5,9 +5,6 @@
 /// The slots of a queue page, each for an entry of 16 bytes.
 pub const PAGE_SLOTS: u32 = 256;
 
-/// The slots of the largest queue, which has 16 pages.
-pub const MAX_SLOTS: u32 = 4096;
-
 mod answers;
 mod end;
 mod handshake;
@@ -20,6 +17,7 @@ mod shared_link;
 mod side;
 
 pub use answers::{EventAnswer, FreeAnswer, PollAnswer, RegAnswer, SendAnswer};
+pub use crq_ring::MAX_SLOTS;
 pub use end::CrqEnd;
 pub use handshake::{Handshake, Step};
 pub use link::PlainLink;

@@ -21,7 +21,7 @@ use Rattle.tce_window.specs.declared.answers.TceRow.{TceRow}
 use Rattle.entry_slots.specs.declared.view.EntryView.{EntryView}
 use Rattle.entry_slots.proofs.EntryPins.{pins_set, pins_few, shares_set, own_pins, pins_once, pins_tell, Continues, pinning_here, pinning_else, unpinning_here, unpinning_else}
 use Rattle.entry_slots.proofs.EntryKeeps.{Table, seats_stay, all_pins, moved}
-use Rattle.tce_window.proofs.Values.{values_of-own, values_of-other}
+use Rattle.tce_window.proofs.Laws.{values_of-own, values_of-other}
 use Rattle.entry_slots.proofs.EntryWords.{shown_pins, shown_code, shown_version, one_more, one_less}
 
 pub begins_self : {A : Type 0} (xs : List A) → Begins xs xs

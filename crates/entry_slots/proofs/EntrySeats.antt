@@ -21,7 +21,7 @@ use Rattle.entry_slots.specs.declared.view.EntryView.{EntryView}
 use Rattle.entry_slots.proofs.EntryPins.{pins_tell, pins_once, pins_set, shares_set}
 use Rattle.entry_slots.proofs.EntryKeeps.{Table, seats_stay, shows_same}
 use Rattle.entry_slots.proofs.EntryAllows.{begins_self}
-use Rattle.tce_window.proofs.Values.{values_of-none}
+use Rattle.tce_window.proofs.Laws.{values_of-none}
 
 -- a list with one more at its end
 at_snoc : {A : Type 0} (l : List A) (a b : A) (j : ℕ) → get_elem? (l ++ a ∷ []) j ≡ some b → (get_elem? l j ≡ some b) ⊎ ((j ≡ length l) × (a ≡ b))

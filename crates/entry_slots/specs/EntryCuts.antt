@@ -1,5 +1,6 @@
 -- How the seats at entries part and join, and the words at the start.
 use Rattle.std.specs.Prelude.{◌≡◌, ℕ, ◌+◌, ◌*◌, ◌-◌, ◌<◌, List, [], ◌∷◌, ◌++◌, length, map, slice_index, true, false}
+use Rattle.vio_num.specs.declared.TheConstants.{PAGE_BYTES}
 use Rattle.std.specs.List.{All}
 use Rattle.atomic_table.specs.Seated.{TableId}
 use Rattle.atomic_table.specs.declared.shared.Seat.{Seat}
@@ -25,7 +26,7 @@ spent = record { entries = 0; share = 0; owns = false; rows = []; told = []; hel
 
 -- the word of entry e at the start: the page of its own number, with both rights
 abbrev pub first_word : ℕ → ℕ
-first_word e = entry_word 0 (code_of (4096 * e + 3)) 0
+first_word e = entry_word 0 (code_of (PAGE_BYTES * e + 3)) 0
 
 -- so many entries, each as at the start
 pub record AreFirst (n : ℕ) (words : List ℕ) : Type 0 where

@@ -1,6 +1,7 @@
 -- The rule of a table of translation entries: what its words and what its seats know have to meet, at every
 -- moment. An entry's word has the number of its pins, its version and what a device may do.
 use Rattle.std.specs.Prelude.{◌≡◌, ℕ, ◌+◌, ◌/◌, ◌<◌, ◌≤◌, ◌&&◌, IsTrue, nat_le, nat_lt, if◌then◌else◌, true, List, [], ◌∷◌, length, slice_index}
+use Rattle.vio_num.specs.declared.TheConstants.{PAGE_BYTES}
 use Rattle.std.specs.List.{All}
 use mathlib.Core.Option.{some}
 use lib.ListN.{get_elem?}
@@ -44,7 +45,7 @@ all_shares (v ∷ vs) = v.share + all_shares vs
 
 -- of each value that was put and has a right, the page is one of n
 abbrev pub ArePages : ℕ → List TceRow → Type 0
-ArePages n rows = All (λ row. IsTrue (has_right row.value) → row.value / 4096 < n) rows
+ArePages n rows = All (λ row. IsTrue (has_right row.value) → row.value / PAGE_BYTES < n) rows
 
 -- a seat knows that there are n entries
 abbrev pub HasSize : ℕ → EntryView → Type 0

@@ -1,6 +1,7 @@
 // The entries of a window that several threads share, each a word: its pins, its version, and what its
 // value grants (LoPAR, "Translation Control Entry"). No call takes a lock.
 ghost use Rattle.std.specs.Prelude.{◌≡◌, ◌+◌, ◌*◌, ◌/◌, ◌^◌, IsTrue, ◌<◌, ◌≤◌, true, [], All, length, vec_capacity, IfOk};
+ghost use Rattle.vio_num.specs.declared.TheConstants.{PAGE_BYTES};
 ghost use Rattle.entry_slots.specs.EntryCuts.{AreFirst, IsUnopened, OpensEntries, AreGuests, StandsFor};
 ghost use Rattle.entry_slots.specs.Words.{code_of, entry_word, told_in, HasRoom};
 ghost use Rattle.tce_window.specs.Grant.{has_right};
@@ -158,7 +159,7 @@ impl Entries {
         requires next { IsNext seat.old entry }
         ensures pins { PinsEntry seat.old entry result.bits seat.new }
         ensures page { IsTrue (has_right (told_in result.bits))
-            → told_in result.bits / 4096 < self.now.count }
+            → told_in result.bits / PAGE_BYTES < self.now.count }
     {
         let shared = &self.table.shared;
         let bits = shared.fetch_add::<Pin>(&mut seat.seat, entry as usize, 1);
@@ -185,7 +186,7 @@ impl Entries {
         requires within { row.entry < self.now.count }
         requires version { (1 ≤ row.version) × (row.version < 2 ^ 31) }
         requires last { HasRoom last }
-        requires page { IsTrue (has_right row.value) → row.value / 4096 < self.now.count }
+        requires page { IsTrue (has_right row.value) → row.value / PAGE_BYTES < self.now.count }
         ensures done { IfDone result (PutsRow seat.old row seat.new) }
         ensures refused { IfRefused result (λ word.
             RefusesRow seat.old last row word.bits seat.new) }

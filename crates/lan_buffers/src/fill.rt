@@ -1,6 +1,7 @@
 // A frame's way into a buffer: its bytes are held for writing, memory is taken, and then they are
 // written.
 ghost use Rattle.std.specs.Prelude.{◌≡◌, ◌<◌, ◌≤◌, ℕ, ◌∷◌, All, length, vec_len, vec_capacity};
+ghost use Rattle.tce_window.specs.declared.piece.TheConstants.{MOST_BYTES};
 ghost use Rattle.lan_buffers.specs.Calls.{FillsFrame, IsUngranted, IsPageInUse};
 ghost use Rattle.lan_buffers.specs.Filling.{IfWritten, IfInUse, IfRefused, OnRoom, LeavesFilled};
 
@@ -33,7 +34,7 @@ pub fn write_frame<G: GuestPort>(
     frame: &[u8],
     name: StrokeName,
 ) -> Fill
-    requires some { (1 ≤ length frame.now) × (length frame.now ≤ 65536) }
+    requires some { (1 ≤ length frame.now) × (length frame.now ≤ MOST_BYTES) }
     requires free { (G.state window.old).held_count ≡ 0 }
     ensures written { IfWritten result (FillsFrame G.is_shared (G.state window.old)
         (G.state window.new) at name frame.now) }

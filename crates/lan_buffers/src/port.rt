@@ -489,7 +489,8 @@ impl PlainPort {
     /// The buffers that were posted, in the order of time.
     pub fn posts(&self) -> &[PostRow]
         ensures rows { result.now ≡ self.now.posts }
-        ensures order { StandBySession (λ (row : PostRow). row.session) (last_session self.now) result.now }
+        ensures order { StandBySession (λ (row : PostRow). row.session) (last_session self.now)
+            result.now }
     {
         &self.posts
     }
@@ -497,7 +498,8 @@ impl PlainPort {
     /// The frames and blanks that took a buffer, in the order of time.
     pub fn deliveries(&self) -> &[DeliverRow]
         ensures rows { result.now ≡ self.now.deliveries }
-        ensures order { StandBySession (λ (row : DeliverRow). row.session) (last_session self.now) result.now }
+        ensures order { StandBySession (λ (row : DeliverRow). row.session) (last_session self.now)
+            result.now }
     {
         &self.deliveries
     }
@@ -505,7 +507,8 @@ impl PlainPort {
     /// The receive entries that were read, in the order of time.
     pub fn harvests(&self) -> &[HarvestRow]
         ensures rows { result.now ≡ self.now.harvests }
-        ensures order { StandBySession (λ (row : HarvestRow). row.session) (last_session self.now) result.now }
+        ensures order { StandBySession (λ (row : HarvestRow). row.session) (last_session self.now)
+            result.now }
     {
         &self.harvests
     }

@@ -1,6 +1,7 @@
 -- What the calls on a port of a switch ask, and what they leave of it (LoPAR, "H_REGISTER_LOGICAL_LAN",
 -- "H_FREE_LOGICAL_LAN", "H_CHANGE_LOGICAL_LAN_MAC", "H_MULTICAST_CTRL", "H_ADD_LOGICAL_LAN_BUFFER").
 use Rattle.std.specs.Prelude.{◌≡◌, ◌↔◌, ℕ, ◌*◌, ◌%◌, ◌≤◌, ◌⊎◌, ◌∷◌, ◌++◌, [], Bool, true, List, Option, Some, None, IfSome, OnOk, Result, length}
+use Rattle.vio_num.specs.declared.TheConstants.{PAGE_BYTES}
 use Rattle.std.specs.List.{Contains}
 use Rattle.std.specs.Option.{unwrap_or}
 use Rattle.byteorder.specs.Endian.{big_number}
@@ -41,8 +42,8 @@ pub record IsOwnAddress (mac : Mac) : Type 0 where
 -- A registration may be made at this port, if it is not registered: its pages lie at the begin of a page, and its
 -- receive queue has an entry of 16 bytes for each slot.
 pub record IsRegistration (list queue filters : ℕ) (mac : Mac) (port : PortValue) : Type 0 where
-  pub list_at : list % 4096 ≡ 0
-  pub filters_at : filters % 4096 ≡ 0
+  pub list_at : list % PAGE_BYTES ≡ 0
+  pub filters_at : filters % PAGE_BYTES ≡ 0
   pub valid : is_valid queue ≡ true
   pub long : buffer_len queue ≡ 16 * port.slots
   pub own : IsOwnAddress mac

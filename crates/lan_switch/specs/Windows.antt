@@ -1,5 +1,6 @@
 -- Two plain windows as a map of windows.
 use Rattle.std.specs.Prelude.{◌≡◌, ℕ, ◌+◌, ◌*◌, ◌∷◌, [], Bool, true, false, Some, length, slice_get, if◌then◌else◌}
+use Rattle.vio_num.specs.declared.TheConstants.{PAGE_BYTES}
 use Rattle.std.proofs.Common.{refl}
 use Rattle.vio_num.specs.declared.names.UnitId.{UnitId}
 use Rattle.tce_window.specs.Grant.{values_of}
@@ -34,7 +35,7 @@ plain_facts unit window = record {
 
 -- a unit without a window
 abbrev pub no_window : UnitId → WindowFacts
-no_window unit = record (none_beside unit) { values = λ e. (4096 * e + 3) ∷ [] }
+no_window unit = record (none_beside unit) { values = λ e. (PAGE_BYTES * e + 3) ∷ [] }
 
 -- which of the two it is, if any
 abbrev pub facts_at : (is_b is_c : Bool) → UnitId → WindowValue → WindowValue → WindowFacts
@@ -65,13 +66,13 @@ pub named_by : (b c : WindowValue) (unit : UnitId) → (facts_by b c unit).unit 
 named_by b c unit = named_at (same_unit unit unit_b) (same_unit unit unit_c) unit b c
 
 begins_at : (is_b is_c : Bool) (unit : UnitId) (b c : WindowValue) (e : ℕ)
-    → slice_get ((facts_at is_b is_c unit b c).values e) 0 ≡ Some (4096 * e + 3)
+    → slice_get ((facts_at is_b is_c unit b c).values e) 0 ≡ Some (PAGE_BYTES * e + 3)
 begins_at true is_c unit b c e = plain_begins b e
 begins_at false true unit b c e = plain_begins c e
 begins_at false false unit b c e = refl
 
 pub begins_by : (b c : WindowValue) (unit : UnitId) (e : ℕ)
-    → slice_get ((facts_by b c unit).values e) 0 ≡ Some (4096 * e + 3)
+    → slice_get ((facts_by b c unit).values e) 0 ≡ Some (PAGE_BYTES * e + 3)
 begins_by b c unit e = begins_at (same_unit unit unit_b) (same_unit unit unit_c) unit b c e
 
 written_at : (is_b is_c : Bool) (b c : WindowValue) (old new : HeldValue)

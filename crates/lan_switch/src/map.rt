@@ -1,5 +1,7 @@
 // The windows of the units of a switch, of which each is lent while a frame is delivered to its unit.
 ghost use Rattle.std.specs.Prelude.{◌≡◌, ℕ, ◌+◌, ◌*◌, ◌≤◌, Bool, Some, slice_get, IfOk, IfErr, OnErr};
+ghost use Rattle.tce_window.specs.declared.piece.TheConstants.{MOST_BYTES};
+ghost use Rattle.vio_num.specs.declared.TheConstants.{PAGE_BYTES};
 ghost use Rattle.vio_num.specs.declared.names.UnitId.{UnitId};
 ghost use Rattle.tce_window.specs.Held.{HeldValue, held_strokes, either};
 ghost use Rattle.tce_window.specs.Moved.{Follows};
@@ -30,12 +32,12 @@ pub trait PortMap {
     ghost named: { (map : Self) (unit : UnitId) → (state map unit).unit ≡ unit };
 
     ghost begins: { (map : Self) (unit : UnitId) (e : ℕ)
-        → slice_get ((state map unit).values e) 0 ≡ Some (4096 * e + 3) };
+        → slice_get ((state map unit).values e) 0 ≡ Some (PAGE_BYTES * e + 3) };
 
     /// Holds a range of the unit's window, as `GuestPort::hold` does.
     fn hold(&mut self, unit: UnitId, ioba: u64, len: u32, right: Right) -> Result<Held, HoldFault>
         requires free { (Self.state self.old unit).held_count ≡ 0 }
-        requires len { (1 ≤ len) × (len ≤ 65536) }
+        requires len { (1 ≤ len) × (len ≤ MOST_BYTES) }
         ensures ok { IfOk result (Holds Self.is_shared (port_at (Self.state self.old unit)) ioba len
             right (port_at (Self.state self.new unit))) }
         ensures fits { IfOk result (λ held. fits self.new unit held) }

@@ -1,5 +1,6 @@
 // The parts of a frame in its sender's window: each is read once, one behind the other.
 ghost use Rattle.std.specs.Prelude.{◌≡◌, ◌↔◌, ◌≤◌, ◌<◌, ◌+◌, IfOk, IfErr, OnOk, OnErr, length, take};
+ghost use Rattle.tce_window.specs.declared.piece.TheConstants.{MOST_BYTES};
 ghost use Rattle.arrayvec.specs.ArrayVec.{array_vec_len};
 ghost use Rattle.tce_window.specs.Port.{CountsHold};
 ghost use Rattle.lan_buffers.specs.Buffer.{buffer_address, buffer_len};
@@ -118,7 +119,7 @@ pub fn read_range<G: GuestPort>(
     bytes: &mut [u8],
 ) -> Result<ArrayVec<Piece, 17>, HoldFault>
     requires free { (G.state window.old).held_count ≡ 0 }
-    requires len { (1 ≤ length bytes.old) × (length bytes.old ≤ 65536) }
+    requires len { (1 ≤ length bytes.old) × (length bytes.old ≤ MOST_BYTES) }
     ensures read { IfOk result (λ pieces. Reads (G.state window.old) (G.state window.new) at
         pieces.items bytes.new) }
     ensures refused { IfErr result

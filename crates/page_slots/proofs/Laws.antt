@@ -4,7 +4,8 @@ use Rattle.std.proofs.Math.Seq.{take-append_seam}
 use Rattle.page_slots.specs.Stroke.{StrokeValue}
 use Rattle.page_slots.specs.Page.{zeros, covered, left_by, bytes_at, ShowLast, AreWithinPage}
 use Rattle.page_slots.proofs.Bytes.{size, byte}
-use Rattle.page_slots.proofs.Strokes.{length-zeros, byte-zeros}
+use Rattle.page_slots.proofs.Strokes.{byte-zeros}
+pub use Rattle.page_slots.proofs.Strokes.{left_by-push, length-zeros}
 
 -- a page has 4,096 bytes
 pub page_size : (strokes : List StrokeValue) → AreWithinPage strokes → length (left_by strokes) ≡ 4096

@@ -1,5 +1,6 @@
 -- A page: its strokes, and the bytes that they leave.
 use Rattle.std.specs.Prelude.{ℕ, ◌≡◌, ◌<◌, ◌+◌, ◌-◌, ◌&&◌, nat_le, nat_lt, slice_index, if◌then◌else◌, List, [], ◌∷◌, ◌++◌, length, take, drop, replicate, fold}
+use Rattle.vio_num.specs.declared.TheConstants.{PAGE_BYTES}
 use Rattle.page_slots.specs.Stroke.{StrokeValue, IsWithinPage}
 
 pub record PageValue : Type 0 where
@@ -18,7 +19,7 @@ overwritten page stroke = replaced page stroke.offset stroke.bytes
 
 -- the bytes of a page with no stroke
 unfoldable pub zeros : List ℕ
-zeros = replicate 4096 0
+zeros = replicate PAGE_BYTES 0
 
 -- what these strokes leave, in their order, on zeros
 abbrev pub left_by : List StrokeValue → List ℕ
@@ -41,7 +42,7 @@ byte_left_by k strokes = fold (covered k) 0 strokes
 
 -- each byte that these strokes leave is the one that the last stroke over it wrote, or 0
 abbrev pub ShowLast : List StrokeValue → Type 0
-ShowLast strokes = (k : ℕ) → k < 4096 → slice_index (left_by strokes) k ≡ byte_left_by k strokes
+ShowLast strokes = (k : ℕ) → k < PAGE_BYTES → slice_index (left_by strokes) k ≡ byte_left_by k strokes
 
 -- each of these strokes lies inside the page
 abbrev pub AreWithinPage : List StrokeValue → Type 0

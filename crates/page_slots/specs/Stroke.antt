@@ -1,5 +1,6 @@
 -- A stroke: one write to a page.
 use Rattle.std.specs.Prelude.{ℕ, ◌+◌, ◌≤◌, List, length}
+use Rattle.vio_num.specs.declared.TheConstants.{PAGE_BYTES}
 use Rattle.page_slots.specs.declared.stroke.StrokeName.{StrokeName}
 
 pub record StrokeValue : Type 0 where
@@ -16,4 +17,4 @@ stroke_at name offset bytes = record { name = name; offset = offset; bytes = byt
 
 -- the stroke lies inside a page of 4,096 bytes
 abbrev pub IsWithinPage : StrokeValue → Type 0
-IsWithinPage stroke = stroke.offset + length stroke.bytes ≤ 4096
+IsWithinPage stroke = stroke.offset + length stroke.bytes ≤ PAGE_BYTES

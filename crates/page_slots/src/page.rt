@@ -1,5 +1,6 @@
 // A page: 4,096 bytes, kept beside the list of strokes that made them.
 ghost use Rattle.std.specs.Prelude.{◌≡◌, ℕ, [], ◌∷◌, ◌++◌, ◌+◌, ◌^◌, ◌<◌, ◌≤◌, max, length, take, drop, IsOk, IsErr, IfOk, OnOk, OnErr};
+ghost use Rattle.vio_num.specs.declared.TheConstants.{PAGE_BYTES};
 ghost use Rattle.page_slots.specs.Page.{left_by, replaced, AreWithinPage};
 
 use crate::stroke::Stroke;
@@ -19,6 +20,7 @@ pub struct Page {
 impl Model for Page {
     ghost use Rattle.std.specs.Prelude.{◌≡◌, ◌+◌, ◌^◌, ◌<◌, ◌≤◌, length, vec_capacity, vec_len};
     ghost use Rattle.page_slots.specs.Page.{PageValue, left_by, AreWithinPage};
+    ghost use Rattle.vio_num.specs.declared.TheConstants.{PAGE_BYTES};
 
     ghost Value = { PageValue };
 
@@ -26,7 +28,7 @@ impl Model for Page {
 
     ghost invariant = { λ page. record {
       kept : page.bytes.items ≡ left_by page.strokes.items;
-      size : vec_len page.bytes ≡ 4096;
+      size : vec_len page.bytes ≡ PAGE_BYTES;
       room : vec_len page.strokes + page.spare ≤ vec_capacity page.strokes;
       few : vec_len page.strokes + page.spare < 2 ^ 32;
       within : AreWithinPage page.strokes.items;
@@ -84,7 +86,7 @@ impl Page {
 
     /// Copies the page's bytes from `offset` on, as many as `out` has.
     pub fn read(&self, offset: u16, out: &mut [u8])
-        requires { offset + length out.old ≤ 4096 }
+        requires { offset + length out.old ≤ PAGE_BYTES }
         ensures { out.new ≡ take (length out.old) (drop offset (left_by self.now.strokes)) }
     {
         let start = offset as usize;
@@ -94,7 +96,7 @@ impl Page {
     /// The page's 4,096 bytes, lent.
     pub fn bytes(&self) -> &[u8]
         ensures bytes { result.now ≡ left_by self.now.strokes }
-        ensures size { length result.now ≡ 4096 }
+        ensures size { length result.now ≡ PAGE_BYTES }
     {
         self.bytes.as_slice()
     }

@@ -1,5 +1,6 @@
 // A stroke: one write to a page, with its writer's name.
 ghost use Rattle.std.specs.Prelude.{◌≡◌, ◌+◌, ◌≤◌, length, IfOk};
+ghost use Rattle.vio_num.specs.declared.TheConstants.{PAGE_BYTES};
 ghost use Rattle.page_slots.specs.Stroke.{IsWithinPage, stroke_at};
 
 use std::alloc::Global;
@@ -39,7 +40,7 @@ impl Stroke {
         offset: u16,
         bytes: &[u8],
     ) -> Result<Stroke, NoMemory>
-        requires { offset + length bytes.now ≤ 4096 }
+        requires { offset + length bytes.now ≤ PAGE_BYTES }
         ensures { IfOk result (λ stroke. stroke ≡ stroke_at name offset bytes.now) }
     {
         let bytes = Bytes::from_slice(alloc, bytes)?;
@@ -48,7 +49,7 @@ impl Stroke {
 
     /// A write of bytes that were gathered before, from `offset` on. It takes no memory.
     pub fn from_bytes(name: StrokeName, offset: u16, bytes: Bytes) -> Stroke
-        requires { offset + length bytes ≤ 4096 }
+        requires { offset + length bytes ≤ PAGE_BYTES }
         ensures { result ≡ stroke_at name offset bytes }
     {
         Stroke {

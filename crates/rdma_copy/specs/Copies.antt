@@ -1,6 +1,7 @@
 -- What a copy leaves, of the two windows between which it is made.
 use Rattle.std.specs.Prelude.{◌≡◌, ℕ, ◌≤◌, Bool, All, List, length}
 use Rattle.std.specs.List.{flat_map}
+use Rattle.tce_window.specs.declared.piece.TheConstants.{MOST_BYTES}
 use Rattle.page_slots.specs.declared.stroke.StrokeName.{StrokeName}
 use Rattle.tce_window.specs.declared.answers.HoldFault.{HoldFault}
 use Rattle.tce_window.specs.declared.answers.Right.{Right}
@@ -72,7 +73,7 @@ MayHold port right ioba len = IsUsable port.values right port.place.size ioba le
 -- A range of 1 to 65,536 bytes is refused for this entry of it.
 pub record RefusesRange (port : PortState) (right : Right) (ioba len : ℕ) (fault : HoldFault) : Type 0 where
   pub some : 1 ≤ len
-  pub few : len ≤ 65536
+  pub few : len ≤ MOST_BYTES
   pub of_entry : IsOfEntry fault
   pub refused : IsRefused port.values right port.place.size ioba len fault
 

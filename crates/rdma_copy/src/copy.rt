@@ -11,11 +11,8 @@ ghost use Rattle.rdma_copy.specs.Answers.{IfCopied, IsCopied, OnHeld, OnRefused,
 use arrayvec::ArrayVec;
 use page_slots::StrokeName;
 use std::alloc::Global;
-use tce_window::{GuestPort, Held, HoldFault, Piece, Right};
+use tce_window::{GuestPort, Held, HoldFault, MOST_BYTES, Piece, Right};
 use vio_num::NoMemory;
-
-/// As many bytes as one copy moves.
-const MOST_BYTES: u64 = 65_536;
 
 /// A copy that was made.
 #[derive(Debug, PartialEq, Eq, Drop)]
@@ -116,7 +113,7 @@ fn copy_held<D: GuestPort>(
     name: StrokeName,
 ) -> CopyAnswer
     requires free { (D.state dst.old).held_count ≡ 0 }
-    requires some { (1 ≤ len) × (len ≤ 65536) }
+    requires some { (1 ≤ len) × (len ≤ MOST_BYTES) }
     requires source { held_len source.now.pieces ≡ len }
     ensures copied { IfCopied result
         (Fills D.is_shared source.now (D.state dst.old) (D.state dst.new) d_ioba len name) }

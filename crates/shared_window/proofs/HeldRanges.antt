@@ -20,10 +20,7 @@ use Rattle.tce_window.specs.Pieces.{on_page, HasStrokes, Touches, LieFrom, IsUsa
 use Rattle.tce_window.specs.Port.{Grows, TakenOver}
 use Rattle.tce_window.specs.PortState.{Holds, OnlyHolds}
 use Rattle.tce_window.specs.Window.{strokes_at}
-use Rattle.tce_window.proofs.Laws.{kept_length, kept_len, kept_all, kept_touches, kept_granted, kept_last, touched_lie, touched_some}
-use Rattle.tce_window.proofs.Holding.{page_within}
-use Rattle.tce_window.proofs.Piecing.{own_page}
-use Rattle.tce_window.proofs.Reading.{touched_len}
+use Rattle.tce_window.proofs.Laws.{page_within, own_page, touched_len, kept_length, kept_len, kept_all, kept_touches, kept_granted, kept_last, touched_lie, touched_some}
 use Rattle.shared_window.specs.Hand.{TakesPages, BeginsIn}
 use Rattle.shared_window.specs.Pinning.{PinsRange}
 use Rattle.shared_window.specs.Ranges.{HoldsRange}

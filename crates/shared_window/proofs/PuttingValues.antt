@@ -9,8 +9,7 @@ use Rattle.tce_window.specs.Grant.{values_of}
 use Rattle.tce_window.specs.PortState.{Puts}
 use Rattle.tce_window.specs.Puts.{put_into, put_by}
 use Rattle.tce_window.specs.Table.{TableValue}
-use Rattle.tce_window.proofs.Values.{values_of-other}
-use Rattle.tce_window.proofs.Putting.{rows_next, values_told}
+use Rattle.tce_window.proofs.Laws.{values_of-other, rows_next, values_told}
 use Rattle.entry_slots.specs.Entries.{EntriesValue, EntrySeatValue, IsPinned}
 use Rattle.shared_window.specs.Opening.{OwnerValue, IsOwnerAt}
 use Rattle.shared_window.specs.Putting.{IsTableOf, PutsUpTo, PutsValue, PutsList}

@@ -15,7 +15,7 @@ use Rattle.tce_window.specs.declared.piece.Piece.{Piece}
 use Rattle.tce_window.specs.Grant.{values_of}
 use Rattle.tce_window.specs.Pieces.{on_page, Touches, IsGranted, IsLast, IsRefused, IsOfRange, IsOfEntry, IsUsable}
 use Rattle.tce_window.specs.Port.{NamesFound}
-use Rattle.tce_window.proofs.Holding.{page_within}
+use Rattle.tce_window.proofs.Laws.{page_within}
 use Rattle.entry_slots.specs.Entries.{EntrySeatValue}
 use Rattle.shared_window.specs.Counting.{CountsFault}
 use Rattle.shared_window.specs.Hand.{FindsOneInUse}

@@ -12,7 +12,7 @@ use Rattle.tce_window.specs.Pieces.{on_page}
 use Rattle.tce_window.specs.Window.{strokes_at}
 use Rattle.shared_window.specs.declared.hand.FoundInUse.{FoundInUse}
 use Rattle.shared_window.specs.Hand.{is_below, IsFirstOn, IsEmptyFor, TakesPages, TakesOne, FindsOne, GivesHand, HasInHand, given, released, places_behind, BeginsIn}
-use Rattle.tce_window.proofs.Holding.{page_within}
+use Rattle.tce_window.proofs.Laws.{page_within}
 use Rattle.shared_window.proofs.Nearest.{below_is, below_not, below_less, below_on}
 
 pub begins_self : {X : Type 0} (xs : List X) → Begins xs xs

@@ -1,5 +1,6 @@
 -- A guest of a shared window as a port.
 use Rattle.std.specs.Prelude.{◌≡◌, ℕ, ◌+◌, ◌*◌, ◌++◌, true, List, ◌∷◌, Option, Some, None, is_some, slice_get, refl}
+use Rattle.vio_num.specs.declared.TheConstants.{PAGE_BYTES}
 use Rattle.std.proofs.Common.{sym, ap, ◌∙◌, subst}
 use Rattle.std.proofs.lemmas.List.{append_assoc}
 use Rattle.page_slots.specs.Stroke.{StrokeValue}
@@ -23,7 +24,7 @@ abbrev pub guest_found : SharedGuest → ℕ → ℕ → Type 0
 guest_found port = FoundBy port.guest.now
 
 -- version 0 of each entry
-pub guest_begins : (port : SharedGuest) (e : ℕ) → slice_get ((guest_state port).values e) 0 ≡ Some (4096 * e + 3)
+pub guest_begins : (port : SharedGuest) (e : ℕ) → slice_get ((guest_state port).values e) 0 ≡ Some (PAGE_BYTES * e + 3)
 unfolding values_of
 guest_begins port e = refl
 

@@ -1,5 +1,6 @@
 -- The owner of a shared window as a port.
 use Rattle.std.specs.Prelude.{◌≡◌, ℕ, ◌+◌, ◌*◌, ◌∷◌, Some, slice_get, refl}
+use Rattle.vio_num.specs.declared.TheConstants.{PAGE_BYTES}
 use Rattle.tce_window.specs.Grant.{values_of}
 use Rattle.tce_window.specs.PortState.{PortState}
 use Rattle.shared_window.specs.declared.owner.SharedOwner.{SharedOwner}
@@ -12,6 +13,6 @@ abbrev pub owner_spare : SharedOwner → ℕ
 owner_spare port = port.owner.now.spare
 
 -- version 0 of each entry
-pub owner_begins : (port : SharedOwner) (e : ℕ) → slice_get ((owner_state port).values e) 0 ≡ Some (4096 * e + 3)
+pub owner_begins : (port : SharedOwner) (e : ℕ) → slice_get ((owner_state port).values e) 0 ≡ Some (PAGE_BYTES * e + 3)
 unfolding values_of
 owner_begins port e = refl

@@ -1,5 +1,6 @@
 -- The entries of a range, pinned by a seat in rising order, and released.
 use Rattle.std.specs.Prelude.{◌≡◌, ℕ, zero, suc, ◌+◌, ◌/◌, ◌<◌, ◌≤◌, ◌==◌, if◌then◌else◌, true, All, List, [], ◌∷◌, ◌++◌, length, map}
+use Rattle.vio_num.specs.declared.TheConstants.{PAGE_BYTES}
 use Rattle.vio_num.specs.declared.names.UnitId.{UnitId}
 use Rattle.vio_num.specs.Words.{Begins}
 use Rattle.tce_window.specs.declared.answers.HoldFault.{HoldFault}
@@ -26,12 +27,12 @@ pub record PinsOne (old : EntrySeatValue) (e : ℕ) (new : EntrySeatValue) : Typ
 -- The entry of this address, one of n, is held too, and is the entry of the piece with which a range of `left` bytes
 -- begins. Its last value grants the right.
 pub record PinsPiece (unit : UnitId) (n : ℕ) (right : Right) (address left : ℕ) (old : EntrySeatValue) (piece : Piece) (new : EntrySeatValue) : Type 0 where
-  pub pin : PinsOne old (address / 4096) new
+  pub pin : PinsOne old (address / PAGE_BYTES) new
   pub piece_is : IsPieceAt unit address (address + left) piece
   pub granted : IsGranted (values_of new.rows) right piece
   pub last : IsLast (values_of new.rows) piece
-  pub usable : MayUse (values_of new.rows) right (address / 4096)
-  pub inside : address / 4096 < n
+  pub usable : MayUse (values_of new.rows) right (address / PAGE_BYTES)
+  pub inside : address / PAGE_BYTES < n
   pub page : piece.page < n
 
 -- how many entries more are held where an entry was refused: one that lacks the right was pinned to see it
@@ -45,8 +46,8 @@ PinsFor _ old e new = new ≡ old
 
 -- The entry of this address is past the window or lacks the right.
 pub record RefusesPiece (n : ℕ) (right : Right) (address : ℕ) (old : EntrySeatValue) (fault : HoldFault) (new : EntrySeatValue) : Type 0 where
-  pub cause : IsRefusedAt (values_of new.rows) right n (address / 4096) fault
-  pub pins : PinsFor fault old (address / 4096) new
+  pub cause : IsRefusedAt (values_of new.rows) right n (address / PAGE_BYTES) fault
+  pub pins : PinsFor fault old (address / PAGE_BYTES) new
 
 -- The seat held nothing, and holds so many entries, from this one on. One that puts values knew all of them.
 pub record PinsUpTo (old : EntrySeatValue) (first count : ℕ) (new : EntrySeatValue) : Type 0 where
@@ -59,14 +60,14 @@ pub record PinsUpTo (old : EntrySeatValue) (first count : ℕ) (new : EntrySeatV
 
 -- A range of `len` bytes is held: its pieces, granted at the last values of their entries, which the seat knows.
 pub record PinsRange (unit : UnitId) (n : ℕ) (right : Right) (ioba len : ℕ) (old : EntrySeatValue) (pieces : List Piece) (new : EntrySeatValue) : Type 0 where
-  pub pins : PinsUpTo old (ioba / 4096) (length pieces) new
+  pub pins : PinsUpTo old (ioba / PAGE_BYTES) (length pieces) new
   pub touched : Touches unit ioba (ioba + len) pieces
   pub granted : All (IsGranted (values_of new.rows) right) pieces
   pub last : All (IsLast (values_of new.rows)) pieces
   pub usable : IsUsable (values_of new.rows) right n ioba len
   pub pages : All (λ piece. piece.page < n) pieces
   pub some : 1 ≤ length pieces
-  pub inside : ioba / 4096 + length pieces ≤ n
+  pub inside : ioba / PAGE_BYTES + length pieces ≤ n
 
 -- The range is refused, and nothing is held.
 pub record RefusesRange (n : ℕ) (right : Right) (ioba len : ℕ) (old : EntrySeatValue) (fault : HoldFault) (new : EntrySeatValue) : Type 0 where

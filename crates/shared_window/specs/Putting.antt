@@ -1,5 +1,6 @@
 -- Values that the owner of a shared window puts.
 use Rattle.std.specs.Prelude.{◌≡◌, ◌↔◌, ℕ, ◌+◌, ◌/◌, ◌<◌, ◌≤◌, true, false, List, [], ◌∷◌, ◌++◌, length}
+use Rattle.vio_num.specs.declared.TheConstants.{PAGE_BYTES}
 use Rattle.vio_num.specs.Words.{ReadsWord}
 use Rattle.tce_window.specs.declared.answers.TceAnswer.{TceAnswer}
 use Rattle.tce_window.specs.declared.answers.TceAnswer.TheVariants.{Parameter}
@@ -64,8 +65,8 @@ pub record PutsEach (old : EntrySeatValue) (before : TableValue) (first : ℕ) (
 -- value, and nothing else changes.
 pub record PutsList (window : SharedWindowValue) (old : OwnerValue) (ioba : ℕ) (list : List ℕ) (answer : TceAnswer) (new : OwnerValue) : Type 0 where
   pub parameter : (answer ≡ Parameter) ↔ (takes_all window.pages.count ioba list ≡ false)
-  pub busy : IfBusy answer (FindsPins old.seat.entries (ioba / 4096) list new.seat.entries)
-  pub rows : new.rows ≡ put_rows old.rows (ioba / 4096) (put_by answer list)
+  pub busy : IfBusy answer (FindsPins old.seat.entries (ioba / PAGE_BYTES) list new.seat.entries)
+  pub rows : new.rows ≡ put_rows old.rows (ioba / PAGE_BYTES) (put_by answer list)
   pub held : (e : ℕ) → IsPinned old.seat.entries e → values_of new.rows e ≡ values_of old.rows e
   pub spare : new.spare + length (put_by answer list) ≡ old.spare
   pub in_use : new.seat.in_use ≡ times_in_use answer old.seat.in_use

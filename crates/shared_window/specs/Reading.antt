@@ -1,5 +1,6 @@
 -- What the owner's reads of its region leave of its seat, as a port that it may be.
 use Rattle.std.specs.Prelude.{◌≡◌, ℕ, ◌+◌, ◌%◌, ◌^◌, ◌≤◌, true, false, IsTrue, List, Option}
+use Rattle.tce_window.specs.declared.piece.TheConstants.{MOST_BYTES}
 use Rattle.std.specs.Borrow.{GName}
 use Rattle.vio_num.specs.Counts.{risen}
 use Rattle.vio_num.specs.Words.{ReadsWord}
@@ -71,7 +72,7 @@ RefusesNamed window old name at len new (Stale page found) = FindsStaleAt window
 pub record TakesRange (window : SharedWindowValue) (old : WindowSeatValue) (at len : ℕ) (pieces : List Piece) (new : WindowSeatValue) : Type 0 where
   pub inside : IsTrue (in_region window.pages.count at len)
   pub some : 1 ≤ len
-  pub few : len ≤ 65536
+  pub few : len ≤ MOST_BYTES
   pub near : at + len ≤ 2 ^ 20
   pub lie : LieOver at (at + len) pieces
   pub takes : TakesPages window.pages old.pages (touches at len) new.pages new.region

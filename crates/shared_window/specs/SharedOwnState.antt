@@ -1,5 +1,6 @@
 -- A window with its owner and a guest as a port: what the owner's seat knows and holds.
 use Rattle.std.specs.Prelude.{◌≡◌, ℕ, ◌+◌, ◌*◌, ◌∷◌, Some, slice_get, refl}
+use Rattle.vio_num.specs.declared.TheConstants.{PAGE_BYTES}
 use Rattle.tce_window.specs.Grant.{values_of}
 use Rattle.tce_window.specs.Held.{HeldValue}
 use Rattle.tce_window.specs.Moved.{Follows}
@@ -21,7 +22,7 @@ abbrev pub own_spare : SharedOwn → ℕ
 own_spare port = port.owner.now.spare
 
 -- version 0 of each entry
-pub own_begins : (port : SharedOwn) (e : ℕ) → slice_get ((own_state port).values e) 0 ≡ Some (4096 * e + 3)
+pub own_begins : (port : SharedOwn) (e : ℕ) → slice_get ((own_state port).values e) 0 ≡ Some (PAGE_BYTES * e + 3)
 unfolding values_of
 own_begins port e = refl
 

@@ -1,5 +1,6 @@
 // Pages of a shared window, taken into the hand of a seat in rising order, each once, and given back.
 ghost use Rattle.std.specs.Prelude.{◌≡◌, ℕ, ◌<◌, ◌≤◌, ◌&&◌, nat_le, nat_lt, All, true, is_some, IsErr, OnErr, OnOk, IfErr, if◌then◌else◌};
+ghost use Rattle.tce_window.specs.declared.piece.TheConstants.{MOST_BYTES};
 ghost use Rattle.page_slots.specs.Seats.{holds};
 ghost use Rattle.tce_window.specs.Pieces.{on_page};
 ghost use Rattle.tce_window.specs.Window.{strokes_at};
@@ -30,7 +31,7 @@ fn nearer(nearest: u32, page: u16, from: u32) -> u32
 
 // Finds the first page, from `from` to before `to`, on which one of the pieces lies.
 fn next_page(pieces: &[Piece], from: u32, to: u32) -> Option<u16>
-    requires { to ≤ 65536 }
+    requires { to ≤ MOST_BYTES }
     ensures { IsNextOn pieces.now from to result }
 {
     let mut nearest = to;
@@ -111,7 +112,7 @@ fn give_page(pages: &Pages, seat: &mut PageSeat, region: &mut Region, number: u1
 fn give_below(pages: &Pages, seat: &mut PageSeat, region: &mut Region, pieces: &[Piece], to: u32)
     requires hand { HasInHand pages.now seat.old region.old }
     requires pieces { (p : ℕ) → is_some (strokes_at region.old p) ≡ is_below pieces.now to p }
-    requires near { to ≤ 65536 }
+    requires near { to ≤ MOST_BYTES }
     ensures given { GivesHand seat.old (strokes_at region.old) seat.new }
     ensures empty { IsEmptyFor pages.now region.new }
     ensures within { SawWithin seat.old → SawWithin seat.new }

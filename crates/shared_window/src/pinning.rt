@@ -1,5 +1,7 @@
 // The entries of a range, pinned by a seat in rising order, and released.
 ghost use Rattle.std.specs.Prelude.{◌≡◌, ◌+◌, ◌/◌, ◌<◌, ◌≤◌, IfOk, IfErr};
+ghost use Rattle.tce_window.specs.declared.piece.TheConstants.{MOST_BYTES};
+ghost use Rattle.vio_num.specs.declared.TheConstants.{PAGE_BYTES};
 ghost use Rattle.tce_window.specs.Grant.{grants};
 ghost use Rattle.entry_slots.specs.Entries.{IsNext};
 ghost use Rattle.shared_window.specs.Pinning.{PinsPiece, RefusesPiece, pinned_by, PinsRange, RefusesRange, Releases};
@@ -21,7 +23,7 @@ pub(crate) fn pin_range(
 ) -> Result<ArrayVec<Piece, MOST_PIECES>, HoldFault>
     requires ours { seat.old.entries ≡ entries.now.id }
     requires free { seat.old.held_count ≡ 0 }
-    requires len { (1 ≤ len) × (len ≤ 65536) }
+    requires len { (1 ≤ len) × (len ≤ MOST_BYTES) }
     ensures ok { IfOk result (λ pieces.
         PinsRange unit entries.now.count right ioba len seat.old pieces.items seat.new) }
     ensures err { IfErr result (λ fault.
@@ -61,7 +63,7 @@ fn pin_piece(
     right: Right,
 ) -> Result<Piece, HoldFault>
     requires ours { seat.old.entries ≡ entries.now.id }
-    requires next { IsNext seat.old (address / 4096) }
+    requires next { IsNext seat.old (address / PAGE_BYTES) }
     requires some { 1 ≤ left }
     ensures ok { IfOk result (λ piece.
         PinsPiece unit entries.now.count right address left seat.old piece seat.new) }

@@ -1,6 +1,7 @@
 // The values of a shared window that its owner puts and gets (LoPAR, "H_PUT_TCE", "H_STUFF_TCE",
 // "H_PUT_TCE_INDIRECT", "H_GET_TCE"). An entry with pins keeps its value.
 ghost use Rattle.std.specs.Prelude.{◌≡◌, ◌*◌, ◌/◌, ◌<◌, ◌≤◌, [], ◌∷◌, IsTrue, OnOk, OnErr, length, max, replicate};
+ghost use Rattle.vio_num.specs.declared.TheConstants.{PAGE_BYTES};
 ghost use Rattle.tce_window.specs.Answers.{gives, times_in_use};
 ghost use Rattle.tce_window.specs.Grant.{has_right, values_of};
 ghost use Rattle.tce_window.specs.Puts.{takes_each};
@@ -115,7 +116,7 @@ fn put_each(
     list: &[u64],
 ) -> TceAnswer
     requires table { IsTableOf entries.now seat.old table.old }
-    requires good { IsTrue (takes_each entries.now.count (first * 4096) list.now) }
+    requires good { IsTrue (takes_each entries.now.count (first * PAGE_BYTES) list.now) }
     requires spare { length list.now ≤ table.old.spare }
     requires few { length list.now ≤ 512 }
     ensures { PutsEach seat.old table.old first list.now result seat.new table.new }
@@ -145,7 +146,7 @@ fn put_value(
     requires table { IsTableOf entries.now seat.old table.old }
     requires entry { entry < entries.now.count }
     requires spare { 1 ≤ table.old.spare }
-    requires page { IsTrue (has_right tce) → tce / 4096 < entries.now.count }
+    requires page { IsTrue (has_right tce) → tce / PAGE_BYTES < entries.now.count }
     ensures done { IfDone result (PutsValue seat.old table.old entry tce seat.new table.new) }
     ensures refused { IfRefused result (λ word. MeetsWord seat.old entry word.bits seat.new) }
     ensures same { IfRefused result (λ _. table.new ≡ table.old) }

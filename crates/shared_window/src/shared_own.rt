@@ -1,6 +1,7 @@
 // A window with its owner and one guest, as a unit that serves from its own window needs it: a port of both
 // kinds.
 ghost use Rattle.std.specs.Prelude.{◌≡◌, ◌≤◌, IfOk, IfErr};
+ghost use Rattle.tce_window.specs.declared.piece.TheConstants.{MOST_BYTES};
 ghost use Rattle.shared_window.specs.Opening.{IsOwnerAt, IsOwnerAt-prop};
 ghost use Rattle.shared_window.specs.Ranges.{HoldsRange, RefusesHold, GivesRange};
 ghost use Rattle.shared_window.specs.SharedWindow.{IsIdleAt, IsOutWith};
@@ -37,7 +38,7 @@ impl Window {
     ) -> Result<Held, HoldFault>
         requires at { IsOwnerAt self.now owner.old }
         requires free { owner.old.seat.entries.held_count ≡ 0 }
-        requires len { (1 ≤ len) × (len ≤ 65536) }
+        requires len { (1 ≤ len) × (len ≤ MOST_BYTES) }
         ensures at { IsOwnerAt self.now owner.new }
         ensures ok { IfOk result
             (HoldsRange self.now owner.old.seat ioba len right owner.new.seat) }

@@ -1,6 +1,7 @@
 // A window that an owner and guests in several threads share (LoPAR, "Translation Control Entry"): its pages
 // by turns, its entries by pins. No call takes a lock.
 ghost use Rattle.std.specs.Prelude.{◌≡◌, ◌≤◌, IfOk, IfErr, length};
+ghost use Rattle.tce_window.specs.declared.piece.TheConstants.{MOST_BYTES};
 ghost use Rattle.shared_window.specs.Hand.{SawWithin};
 ghost use Rattle.shared_window.specs.Pinning.{KeepsOwn, Releases};
 ghost use Rattle.shared_window.specs.SharedWindow.{IsSeatAt, IsOutWith};
@@ -54,7 +55,7 @@ impl Window {
     ) -> Result<Held, HoldFault>
         requires at { IsSeatAt self.now seat.old }
         requires free { seat.old.entries.held_count ≡ 0 }
-        requires len { (1 ≤ len) × (len ≤ 65536) }
+        requires len { (1 ≤ len) × (len ≤ MOST_BYTES) }
         ensures at { IsSeatAt self.now seat.new }
         ensures ok { IfOk result (HoldsRange self.now seat.old ioba len right seat.new) }
         ensures err { IfErr result (RefusesHold self.now seat.old ioba len right seat.new) }
@@ -128,7 +129,7 @@ impl Window {
     ) -> Result<Held, HoldFault>
         requires at { IsSeatAt self.now guest.old }
         requires free { guest.old.entries.held_count ≡ 0 }
-        requires len { (1 ≤ len) × (len ≤ 65536) }
+        requires len { (1 ≤ len) × (len ≤ MOST_BYTES) }
         ensures at { IsSeatAt self.now guest.new }
         ensures ok { IfOk result (HoldsRange self.now guest.old ioba len right guest.new) }
         ensures err { IfErr result (RefusesHold self.now guest.old ioba len right guest.new) }

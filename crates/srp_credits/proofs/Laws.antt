@@ -3,6 +3,7 @@ use Rattle.std.proofs.Common.{◌≡◌, ◌↔◌, ℕ, ◌+◌, ◌≤◌, tru
 use Rattle.std.proofs.lemmas.Int.{ints}
 use Rattle.srp_credits.specs.History.{Event, is_on, outstanding, limit, granted, IsProper, IsLawful, IsWithinGrant, GrantsOneEach, times_sent, times_answered, times_outstanding}
 use Rattle.srp_credits.proofs.Kept.{IsKept, kept, granted_whole, no_login, grant_kept, balance, once}
+pub use Rattle.srp_credits.proofs.Lists.{length-without}
 
 -- An initiator that sends only above limit 0 never takes its limit below 0, and limit and outstanding
 -- requests stay at most 200 together.

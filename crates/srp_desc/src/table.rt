@@ -1,5 +1,6 @@
 // The pieces that the bytes of a table name.
 ghost use Rattle.std.specs.Prelude.{◌≡◌, ◌≤◌, ◌+◌, ◌%◌, IfOk, IfErr, drop, length};
+ghost use Rattle.srp_desc.specs.declared.pieces.TheConstants.{MAX_TABLE_LEN};
 ghost use Rattle.srp_iu.specs.Buffer.{desc_of};
 ghost use Rattle.srp_desc.specs.Pieces.{descs_in, named, refused, sum_of, summing_to};
 
@@ -12,7 +13,7 @@ use srp_iu::Desc;
 /// They are refused where they do not. Keys are not looked at.
 pub fn read_table(bytes: &[u8], total: u32) -> Result<ArrayVec<Desc, 256>, DescFault>
     requires some { 16 ≤ length bytes.now }
-    requires few { length bytes.now ≤ 4096 }
+    requires few { length bytes.now ≤ MAX_TABLE_LEN }
     requires evenly { length bytes.now % 16 ≡ 0 }
     ensures ok { IfOk result (λ list. summing_to total (descs_in bytes.now) ≡ named list.items) }
     ensures items { IfOk result (λ list. list.items ≡ descs_in bytes.now) }

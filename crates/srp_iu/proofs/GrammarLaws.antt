@@ -8,7 +8,8 @@ use Rattle.srp_iu.specs.Grammar.{Spells, Canon, IsWritable}
 use Rattle.srp_iu.proofs.Refusals.{unrefused}
 use Rattle.srp_iu.proofs.Accepted.{unrefused_spell}
 use Rattle.srp_iu.proofs.Unique.{unique}
-use Rattle.srp_iu.proofs.Writables.{writable}
+pub use Rattle.srp_iu.proofs.Descriptors.{descs_of-push}
+pub use Rattle.srp_iu.proofs.Writables.{writable}
 
 -- A unit has one list of canonical bytes. (Of numbers above 255 there would be more.)
 pub canonical_bytes_are_one : (xs ys : List ℕ) (iu : Iu) → IsBytes xs → IsBytes ys → Canon xs iu → Canon ys iu → xs ≡ ys

@@ -15,7 +15,14 @@ pub use Rattle.tce_window.proofs.Values.{by_number}
 use Rattle.tce_window.specs.Pieces.{IsPieceAt, Touches, IsGranted, IsLast, HasStrokes, LieFrom}
 use Rattle.tce_window.specs.Moved.{piece_strokes, strokes_on, stroke_count, numbered, unplaced, left_at, read_bytes, stroke_of, IsNamed, bytes_of, AreApart, IsReadFrom, IsWrittenTo}
 use Rattle.tce_window.proofs.Piecing.{there_of}
-use Rattle.tce_window.proofs.Reading.{touched_len}
+pub use Rattle.tce_window.proofs.Gathering.{on_ok_map}
+pub use Rattle.tce_window.proofs.Growing.{not_none}
+pub use Rattle.tce_window.proofs.Holding.{page_within}
+pub use Rattle.tce_window.proofs.Pages.{get-set_other, get-set_same}
+pub use Rattle.tce_window.proofs.Piecing.{bytes_aligned, of_entry, own_page, piece_bytes, piece_len, refused_at, touches_more, usable_more}
+pub use Rattle.tce_window.proofs.Putting.{entry_address, good_here, good_next, rows_next, values_told}
+pub use Rattle.tce_window.proofs.Reading.{touched_len}
+pub use Rattle.tce_window.proofs.Values.{values_of-none, values_of-other, values_of-own}
 
 -- the counts behind a stroke on this piece's page
 abbrev pub counted : (ℕ → ℕ) → Piece → ℕ → ℕ

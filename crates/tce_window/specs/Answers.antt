@@ -1,5 +1,7 @@
 -- What is said of each answer of a window.
-use Rattle.std.specs.Prelude.{◌≡◌, ℕ, ◌+◌, ◌-◌, ◌/◌, ◌%◌, ◌^◌, ◌==◌, ◌&&◌, nat_lt, Bool, false, IsTrue, List, Option, Result, Err, min, max}
+use Rattle.std.specs.Prelude.{◌≡◌, ℕ, ◌/◌, ◌%◌, ◌==◌, ◌&&◌, nat_lt, Bool, false, IsTrue, List, Option, Result, Err}
+use Rattle.vio_num.specs.Counts.{risen}
+use Rattle.vio_num.specs.declared.TheConstants.{PAGE_BYTES}
 use Rattle.tce_window.specs.declared.answers.TceAnswer.{TceAnswer}
 use Rattle.tce_window.specs.declared.answers.TceAnswer.TheVariants.{Busy}
 use Rattle.tce_window.specs.declared.answers.OwnFault.{OwnFault}
@@ -11,10 +13,6 @@ use Rattle.tce_window.specs.declared.answers.GetTce.{GetTce}
 use Rattle.tce_window.specs.declared.answers.GetTce.TheVariants.{Value, Parameter as NoEntry}
 use Rattle.tce_window.specs.Grant.{IsCurrent}
 
--- a count that rises by one, up to its last value
-abbrev pub risen : ℕ → ℕ
-risen n = max n (min (n + 1) (2 ^ 64 - 1))
-
 -- how often words were read in use, once a put has this answer
 abbrev pub times_in_use : TceAnswer → ℕ → ℕ
 times_in_use (Busy entry pins done) n = risen n
@@ -22,11 +20,11 @@ times_in_use _ n = n
 
 -- whether the address is that of an entry of n
 abbrev pub is_entry : ℕ → ℕ → Bool
-is_entry n ioba = ioba % 4096 == 0 && nat_lt (ioba / 4096) n
+is_entry n ioba = ioba % PAGE_BYTES == 0 && nat_lt (ioba / PAGE_BYTES) n
 
 -- the value of the entry at this address, or that it is of none of n entries
 abbrev pub gives : ℕ → (ℕ → List ℕ) → ℕ → GetTce → Type 0
-gives n values ioba (Value tce) = IsTrue (is_entry n ioba) × ((version : ℕ) × IsCurrent values (ioba / 4096) version tce)
+gives n values ioba (Value tce) = IsTrue (is_entry n ioba) × ((version : ℕ) × IsCurrent values (ioba / PAGE_BYTES) version tce)
 gives n values ioba NoEntry = is_entry n ioba ≡ false
 
 -- P of the page and the word that a read or write of the owner found in use

@@ -1,6 +1,7 @@
 -- Translation entries and what they grant (LoPAR, "Translation Control Entry"): bit 0x1 of a value lets the
 -- device read, bit 0x2 lets it write; the page is the value divided by 4,096.
 use Rattle.std.specs.Prelude.{◌≡◌, ℕ, ◌+◌, ◌*◌, ◌/◌, ◌%◌, ◌<◌, ◌==◌, not, Bool, List, [], ◌∷◌, ◌++◌, length, map, filter, Some, slice_get, if◌then◌else◌}
+use Rattle.vio_num.specs.declared.TheConstants.{PAGE_BYTES}
 use Rattle.tce_window.specs.declared.answers.TceRow.{TceRow}
 use Rattle.tce_window.specs.declared.answers.Right.{Right}
 use Rattle.tce_window.specs.declared.answers.Right.TheVariants.{Read, Write}
@@ -16,11 +17,11 @@ has_right tce = not (tce % 4 == 0)
 
 -- the value as a refusal tells it: its page and its rights alone, or 0 where it has no right
 abbrev pub told : ℕ → ℕ
-told tce = if has_right tce then tce / 4096 * 4096 + tce % 4 else 0
+told tce = if has_right tce then tce / PAGE_BYTES * PAGE_BYTES + tce % 4 else 0
 
 -- the values of entry e where these were put, version 0 first
 unfoldable pub values_of : List TceRow → ℕ → List ℕ
-values_of rows e = (4096 * e + 3) ∷ map (λ row. row.value) (filter (λ row. row.entry == e) rows)
+values_of rows e = (PAGE_BYTES * e + 3) ∷ map (λ row. row.value) (filter (λ row. row.entry == e) rows)
 
 -- this version is the last of entry e, and has this value
 pub record IsCurrent (values : ℕ → List ℕ) (e version value : ℕ) : Type 0 where

@@ -1,6 +1,7 @@
 -- How strokes are laid on pages, one after another.
 use Rattle.std.specs.Prelude.{ℕ, suc, ◌+◌, ◌-◌, ◌/◌, ◌%◌, ◌≡◌, ◌<◌, ◌≤◌, ◌==◌, min, List, [], ◌∷◌, ◌++◌, Option, Some, None, is_some, if◌then◌else◌}
 use Rattle.std.specs.List.{count_by}
+use Rattle.vio_num.specs.declared.TheConstants.{PAGE_BYTES}
 use Rattle.page_slots.specs.Stroke.{StrokeValue}
 use Rattle.page_slots.specs.Page.{AreWithinPage}
 use Rattle.tce_window.specs.declared.piece.Piece.{Piece}
@@ -55,4 +56,4 @@ with_more stroke None = None
 abbrev pub LieOver : (from to : ℕ) → List Piece → Type 0
 LieOver from to [] = from ≡ to
 LieOver from to (piece ∷ pieces) =
-    (from < to) × (piece.page ≡ from / 4096) × (piece.offset ≡ from % 4096) × (piece.len ≡ min (to - from) (4096 - from % 4096)) × LieOver (from + piece.len) to pieces
+    (from < to) × (piece.page ≡ from / PAGE_BYTES) × (piece.offset ≡ from % PAGE_BYTES) × (piece.len ≡ min (to - from) (PAGE_BYTES - from % PAGE_BYTES)) × LieOver (from + piece.len) to pieces

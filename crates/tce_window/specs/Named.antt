@@ -1,6 +1,7 @@
 -- What one name wrote last on a page.
 use Rattle.std.specs.Prelude.{◌≡◌, ℕ, ◌+◌, ◌-◌, ◌*◌, ◌<◌, ◌≤◌, ◌==◌, ◌&&◌, nat_le, nat_lt, Bool, true, false, List, [], ◌∷◌, ◌++◌, Option, Some, None, length, fold, min, if◌then◌else◌}
 use Rattle.std.specs.List.{list_any}
+use Rattle.vio_num.specs.declared.TheConstants.{PAGE_BYTES}
 use Rattle.page_slots.specs.Stroke.{StrokeValue}
 use Rattle.page_slots.specs.declared.stroke.StrokeName.{StrokeName}
 
@@ -41,10 +42,10 @@ IsStale name from to found None = ⊥
 
 -- the places of page p in a range of addresses, from the first to behind the last
 abbrev pub from_place : ℕ → ℕ → ℕ
-from_place at p = at - 4096 * p
+from_place at p = at - PAGE_BYTES * p
 
 abbrev pub to_place : ℕ → ℕ → ℕ → ℕ
-to_place at len p = min (at + len - 4096 * p) 4096
+to_place at len p = min (at + len - PAGE_BYTES * p) PAGE_BYTES
 
 -- so it is on each of these pages, for the places of a range of addresses
 abbrev pub AreFresh : StrokeName → ℕ → ℕ → (ℕ → Option (List StrokeValue)) → ℕ → ℕ → Type 0

@@ -1,6 +1,7 @@
 -- Ranges of a window's addresses as pieces, one for each entry that they touch, and what grants them.
 use Rattle.std.specs.Prelude.{◌≡◌, ℕ, ◌+◌, ◌-◌, ◌/◌, ◌%◌, ◌<◌, ◌≤◌, ◌==◌, Bool, true, false, IsTrue, List, [], ◌∷◌, Option, Some, None, length, slice_get, min}
 use Rattle.std.specs.List.{list_any}
+use Rattle.vio_num.specs.declared.TheConstants.{PAGE_BYTES}
 use Rattle.vio_num.specs.declared.names.UnitId.{UnitId}
 use Rattle.page_slots.specs.Stroke.{StrokeValue}
 use Rattle.tce_window.specs.declared.piece.Piece.{Piece}
@@ -12,9 +13,9 @@ use Rattle.tce_window.specs.Grant.{grants, told, IsCurrent}
 -- the piece with which the range from..to begins: it ends with the range or with its entry
 pub record IsPieceAt (unit : UnitId) (from to : ℕ) (piece : Piece) : Type 0 where
   pub unit_is : piece.unit ≡ unit
-  pub entry : piece.entry ≡ from / 4096
-  pub offset : piece.offset ≡ from % 4096
-  pub len : piece.len ≡ min (to - from) (4096 - from % 4096)
+  pub entry : piece.entry ≡ from / PAGE_BYTES
+  pub offset : piece.offset ≡ from % PAGE_BYTES
+  pub len : piece.len ≡ min (to - from) (PAGE_BYTES - from % PAGE_BYTES)
 
 -- the pieces touch the consecutive addresses from..to of the unit's window
 abbrev pub Touches : UnitId → ℕ → ℕ → List Piece → Type 0
@@ -27,7 +28,7 @@ pub record IsGranted (values : ℕ → List ℕ) (right : Right) (piece : Piece)
   pub value : ℕ
   pub shown : slice_get (values piece.entry) piece.version ≡ Some value
   pub granted : IsTrue (grants right value)
-  pub page : piece.page ≡ value / 4096
+  pub page : piece.page ≡ value / PAGE_BYTES
 
 -- no later value of the piece's entry is known
 abbrev pub IsLast : (ℕ → List ℕ) → Piece → Type 0
@@ -54,7 +55,7 @@ pub record NamesPage (values : ℕ → List ℕ) (e page : ℕ) : Type 0 where
   pub version : ℕ
   pub value : ℕ
   pub current : IsCurrent values e version value
-  pub named : value / 4096 ≡ page
+  pub named : value / PAGE_BYTES ≡ page
 
 -- of a window of n entries, each entry from `first` to before `entry` grants the right
 abbrev pub AreUsable : (ℕ → List ℕ) → Right → ℕ → ℕ → ℕ → Type 0
@@ -67,23 +68,23 @@ Lacks values right entry version tce =
 
 -- the entry behind the last one that a range touches
 abbrev pub end_entry : ℕ → ℕ → ℕ
-end_entry ioba len = (ioba + len + 4095) / 4096
+end_entry ioba len = (ioba + len + 4095) / PAGE_BYTES
 
 -- each entry that the range touches is one of n, and grants the right
 abbrev pub IsUsable : (ℕ → List ℕ) → Right → (n ioba len : ℕ) → Type 0
-IsUsable values right n ioba len = AreUsable values right n (ioba / 4096) (end_entry ioba len)
+IsUsable values right n ioba len = AreUsable values right n (ioba / PAGE_BYTES) (end_entry ioba len)
 
 -- an entry that the range touches names the page
 abbrev pub IsOfRange : (ℕ → List ℕ) → (ioba len page : ℕ) → Type 0
-IsOfRange values ioba len page = (e : ℕ) × (ioba / 4096 ≤ e) × (e < end_entry ioba len) × NamesPage values e page
+IsOfRange values ioba len page = (e : ℕ) × (ioba / PAGE_BYTES ≤ e) × (e < end_entry ioba len) × NamesPage values e page
 
 -- why a range of a window of n entries is not held: its first entry that is past the window or lacks the
 -- right; or all its entries may be used, and the page of one is in use
 abbrev pub IsRefused : (ℕ → List ℕ) → Right → (n ioba len : ℕ) → HoldFault → Type 0
 IsRefused values right n ioba len (Past entry) =
-    (ioba / 4096 ≤ entry) × (entry < end_entry ioba len) × (n ≤ entry) × AreUsable values right n (ioba / 4096) entry
+    (ioba / PAGE_BYTES ≤ entry) × (entry < end_entry ioba len) × (n ≤ entry) × AreUsable values right n (ioba / PAGE_BYTES) entry
 IsRefused values right n ioba len (NotGranted entry version tce) =
-    (ioba / 4096 ≤ entry) × (entry < end_entry ioba len) × (entry < n) × Lacks values right entry version tce × AreUsable values right n (ioba / 4096) entry
+    (ioba / PAGE_BYTES ≤ entry) × (entry < end_entry ioba len) × (entry < n) × Lacks values right entry version tce × AreUsable values right n (ioba / PAGE_BYTES) entry
 IsRefused values right n ioba len (InUse page word) =
     (page < n) × IsOfRange values ioba len page × IsUsable values right n ioba len
 

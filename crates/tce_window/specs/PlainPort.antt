@@ -1,5 +1,6 @@
 -- A plain window as a port.
 use Rattle.std.specs.Prelude.{◌≡◌, ℕ, ◌+◌, ◌*◌, ◌/◌, ◌<◌, ◌≤◌, All, List, [], Some, length, refl, slice_get}
+use Rattle.vio_num.specs.declared.TheConstants.{PAGE_BYTES}
 use Rattle.tce_window.specs.declared.answers.Right.{Right}
 use Rattle.tce_window.specs.declared.piece.Piece.{Piece}
 use Rattle.tce_window.specs.Grant.{values_of}
@@ -26,7 +27,7 @@ known_of window = record {
 }
 
 -- version 0 of each entry
-pub plain_begins : (window : WindowValue) (e : ℕ) → slice_get ((known_of window).values e) 0 ≡ Some (4096 * e + 3)
+pub plain_begins : (window : WindowValue) (e : ℕ) → slice_get ((known_of window).values e) 0 ≡ Some (PAGE_BYTES * e + 3)
 unfolding values_of
 plain_begins window e = refl
 
@@ -36,8 +37,8 @@ pub record MayTake (port : PortState) (right : Right) (address left : ℕ) (piec
   pub granted : IsGranted port.values right piece
   pub last : IsLast port.values piece
   pub strokes : HasStrokes piece (port.strokes piece.page)
-  pub usable : MayUse port.values right (address / 4096)
-  pub inside : address / 4096 < port.place.size
+  pub usable : MayUse port.values right (address / PAGE_BYTES)
+  pub inside : address / PAGE_BYTES < port.place.size
 
 -- The pieces of a range, each of which may be used.
 pub record MayTakeEach (port : PortState) (right : Right) (ioba len : ℕ) (pieces : List Piece) : Type 0 where
@@ -46,5 +47,5 @@ pub record MayTakeEach (port : PortState) (right : Right) (ioba len : ℕ) (piec
   pub last : All (IsLast port.values) pieces
   pub strokes : All (λ piece. HasStrokes piece (port.strokes piece.page)) pieces
   pub usable : IsUsable port.values right port.place.size ioba len
-  pub inside : ioba / 4096 + length pieces ≤ port.place.size
+  pub inside : ioba / PAGE_BYTES + length pieces ≤ port.place.size
   pub some : 1 ≤ length pieces

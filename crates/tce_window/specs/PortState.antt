@@ -2,6 +2,7 @@
 -- have put more values and laid more strokes.
 use Rattle.std.specs.Prelude.{◌≡◌, ℕ, ◌+◌, ◌-◌, ◌/◌, ◌<◌, ◌≤◌, ◌++◌, ◌&&◌, nat_le, nat_lt, if◌then◌else◌, Bool, true, false, All, IsTrue, IsSome, List, [], ◌∷◌, Option, None, is_some, length}
 use Rattle.std.specs.Borrow.{GName}
+use Rattle.vio_num.specs.declared.TheConstants.{PAGE_BYTES}
 use Rattle.vio_num.specs.declared.names.UnitId.{UnitId}
 use Rattle.page_slots.specs.Stroke.{StrokeValue}
 use Rattle.page_slots.specs.declared.stroke.StrokeName.{StrokeName}
@@ -141,13 +142,13 @@ IsHeldEntry port e = (port.held_from ≤ e) × (e < port.held_from + port.held_c
 
 -- A list was put into the entries from this address on, up to the first one that is held.
 pub record Puts (old : PortState) (ioba : ℕ) (put : List ℕ) (new : PortState) : Type 0 where
-  pub values : (e : ℕ) → new.values e ≡ old.values e ++ put_into (ioba / 4096) put e
+  pub values : (e : ℕ) → new.values e ≡ old.values e ++ put_into (ioba / PAGE_BYTES) put e
   pub held : (e : ℕ) → IsHeldEntry old e → new.values e ≡ old.values e
 
 -- Of a list that is put from this address on, the value at `done` met an entry with pins: where nobody else has
 -- a hand in the window, one that the port itself holds.
 pub record MeetsPins (is_shared : Bool) (old : PortState) (ioba : ℕ) (list : List ℕ) (entry pins done : ℕ) : Type 0 where
-  pub busy : IsBusy (ioba / 4096) list entry pins done
+  pub busy : IsBusy (ioba / PAGE_BYTES) list entry pins done
   pub held : is_shared ≡ false → IsHeldEntry old entry
 
 -- A range of `len` bytes from this address on is held: its pieces, what they are granted, and the pages that the
@@ -163,7 +164,7 @@ pub record Holds (is_shared : Bool) (old : PortState) (ioba len : ℕ) (right : 
   pub taken : (p : ℕ) → TakenOver is_shared (old.strokes p) (held_strokes held.pages p) (new.strokes p)
   pub pages : (p : ℕ) → is_some (held_strokes held.pages p) ≡ on_page held.pieces p
   pub count : new.held_count ≡ length held.pieces
-  pub from : new.held_from ≡ ioba / 4096
+  pub from : new.held_from ≡ ioba / PAGE_BYTES
   pub inside : All (λ piece. piece.page < old.place.size) held.pieces
   pub counted : Counts is_shared new held
 

@@ -1,5 +1,6 @@
 -- Values that are put into consecutive entries (LoPAR, "H_PUT_TCE", "H_STUFF_TCE", "H_PUT_TCE_INDIRECT").
 use Rattle.std.specs.Prelude.{ℕ, ◌+◌, ◌/◌, ◌%◌, ◌==◌, ◌&&◌, ◌||◌, not, nat_le, nat_lt, Bool, true, List, [], ◌∷◌, ◌++◌, length, take, if◌then◌else◌}
+use Rattle.vio_num.specs.declared.TheConstants.{PAGE_BYTES}
 use Rattle.tce_window.specs.declared.answers.TceRow.{TceRow}
 use Rattle.tce_window.specs.declared.answers.TceAnswer.{TceAnswer}
 use Rattle.tce_window.specs.declared.answers.TceAnswer.TheVariants.{Done, Parameter, Busy}
@@ -9,12 +10,12 @@ use Rattle.tce_window.specs.Grant.{values_of, has_right}
 -- entry, and where the value has a right its page is one of the region
 abbrev pub takes : ℕ → ℕ → ℕ → Bool
 takes n ioba tce =
-    ioba % 4096 == 0 && nat_lt (ioba / 4096) n && (not (has_right tce) || nat_lt (tce / 4096) n)
+    ioba % PAGE_BYTES == 0 && nat_lt (ioba / PAGE_BYTES) n && (not (has_right tce) || nat_lt (tce / PAGE_BYTES) n)
 
 -- whether it takes each of these values, from this address on
 abbrev pub takes_each : ℕ → ℕ → List ℕ → Bool
 takes_each n ioba [] = true
-takes_each n ioba (tce ∷ list) = takes n ioba tce && takes_each n (ioba + 4096) list
+takes_each n ioba (tce ∷ list) = takes n ioba tce && takes_each n (ioba + PAGE_BYTES) list
 
 -- at most 512 values at once, each of which is taken
 abbrev pub takes_all : ℕ → ℕ → List ℕ → Bool

@@ -1,5 +1,7 @@
 -- The owner's region: its pages, one behind the other, and ranges of its addresses.
 use Rattle.std.specs.Prelude.{◌≡◌, ℕ, ◌+◌, ◌-◌, ◌*◌, ◌/◌, ◌%◌, ◌<◌, ◌≤◌, ◌&&◌, nat_le, nat_lt, if◌then◌else◌, Bool, false, IsTrue, List, [], ◌∷◌, Option, Some, None, IsSome, length, slice_range, slice_index, min}
+use Rattle.vio_num.specs.declared.TheConstants.{PAGE_BYTES}
+use Rattle.tce_window.specs.declared.piece.TheConstants.{MOST_BYTES}
 use Rattle.page_slots.specs.Stroke.{StrokeValue}
 use Rattle.page_slots.specs.Page.{left_by}
 use Rattle.page_slots.specs.declared.stroke.StrokeName.{StrokeName}
@@ -7,14 +9,14 @@ use Rattle.tce_window.specs.Strokes.{with_strokes}
 
 -- whether a range of 1 to 65,536 bytes lies inside a region of n pages
 abbrev pub in_region : ℕ → ℕ → ℕ → Bool
-in_region n at len = nat_le 1 len && nat_le len 65536 && nat_le (at + len) (4096 * n)
+in_region n at len = nat_le 1 len && nat_le len MOST_BYTES && nat_le (at + len) (PAGE_BYTES * n)
 
 -- the pages that a range touches: from this one on, up to that one
 abbrev pub first_page : ℕ → ℕ
-first_page at = at / 4096
+first_page at = at / PAGE_BYTES
 
 abbrev pub end_page : ℕ → ℕ → ℕ
-end_page at len = (at + len + 4095) / 4096
+end_page at len = (at + len + 4095) / PAGE_BYTES
 
 -- each page that the range touches is in its place
 abbrev pub AreThere : (ℕ → Option (List StrokeValue)) → ℕ → ℕ → Type 0
@@ -31,7 +33,7 @@ byte_in None k = 0
 
 -- the byte at this address of a region whose pages have these strokes
 abbrev pub region_byte : (ℕ → Option (List StrokeValue)) → ℕ → ℕ
-region_byte strokes a = byte_in (strokes (a / 4096)) (a % 4096)
+region_byte strokes a = byte_in (strokes (a / PAGE_BYTES)) (a % PAGE_BYTES)
 
 -- the first page of the range that is held
 pub record IsFirstHeld (strokes : ℕ → Option (List StrokeValue)) (first end page : ℕ) : Type 0 where
@@ -62,8 +64,8 @@ pub record IsAwayFirst (strokes : ℕ → Option (List StrokeValue)) (n at len p
 abbrev pub stroke_on : StrokeName → ℕ → List ℕ → ℕ → StrokeValue
 stroke_on name at bytes p = record {
   name = name;
-  offset = at - 4096 * p;
-  bytes = slice_range bytes (4096 * p - at) (min (4096 * (p + 1) - at) (length bytes));
+  offset = at - PAGE_BYTES * p;
+  bytes = slice_range bytes (PAGE_BYTES * p - at) (min (PAGE_BYTES * (p + 1) - at) (length bytes));
 }
 
 -- whether the range touches page p

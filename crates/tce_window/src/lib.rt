@@ -18,7 +18,7 @@ mod window;
 pub use answers::{GetTce, HoldFault, NamedFault, OwnFault, Right, TceAnswer, TceRow};
 pub use held::Held;
 pub use held_pages::{HeldPage, HeldPages};
-pub use piece::{MOST_PIECES, Piece};
+pub use piece::{MOST_BYTES, MOST_PIECES, Piece};
 pub use port::{GuestPort, OwnerPort, WindowPort};
 pub use region::{Region, pieces_over};
 pub use table::{Current, TceTable};

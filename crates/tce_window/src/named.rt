@@ -34,8 +34,8 @@ fn run_start(strokes: &[Stroke], name: StrokeName) -> usize
 
 // Marks the places that the stroke covers.
 fn mark(covered: &mut [bool], stroke: &Stroke)
-    requires { length covered.old ≡ 4096 }
-    ensures { (k : ℕ) (d : Bool) → k < 4096
+    requires { length covered.old ≡ PAGE_BYTES }
+    ensures { (k : ℕ) (d : Bool) → k < PAGE_BYTES
         → slice_index_or covered.new k d ≡ (slice_index_or covered.old k d || covers k stroke.now) }
 {
     let start = stroke.offset() as usize;
@@ -69,7 +69,7 @@ fn is_over(stroke: &Stroke, from: usize, to: usize) -> bool
 
 // Tells whether the strokes cover the places of their page from `from` to before `to`.
 fn is_covered(run: &[Stroke], from: usize, to: usize) -> bool
-    requires { to ≤ 4096 }
+    requires { to ≤ PAGE_BYTES }
     ensures covered { IsTrue result → IsCovered run.now from to }
     ensures gap { result ≡ false → IsUncovered run.now from to }
 {
@@ -101,7 +101,7 @@ pub(crate) fn stale(
     from: usize,
     to: usize,
 ) -> Option<Option<StrokeName>>
-    requires { to ≤ 4096 }
+    requires { to ≤ PAGE_BYTES }
     ensures fresh { IfNone result (IsFresh name from to (Some strokes.now)) }
     ensures stale { IfSome result (λ found. IsStale name from to found (Some strokes.now)) }
 {

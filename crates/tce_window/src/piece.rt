@@ -1,9 +1,13 @@
 // A part of a held range that lies in one entry.
 ghost use Rattle.std.specs.Prelude.{◌≡◌, ◌+◌, ◌≤◌};
+ghost use Rattle.vio_num.specs.declared.TheConstants.{PAGE_BYTES};
 
 use vio_num::UnitId;
 
-/// As many entries as a range of at most 65,536 bytes touches.
+/// The bytes of the longest range that is held, read or written at once.
+pub const MOST_BYTES: u64 = 65_536;
+
+/// As many entries as a range of at most `MOST_BYTES` touches.
 pub const MOST_PIECES: usize = 17;
 
 /// A part of a held range that lies in one entry: it ends at byte 4,096 of its page at most.
@@ -23,7 +27,7 @@ pub struct Piece {
     pub len: u16,
     /// The number of strokes on the page as it was taken; after a write, the index of the piece's stroke.
     pub at: u32,
-    ghost inside: { offset + len ≤ 4096 },
+    ghost inside: { offset + len ≤ PAGE_BYTES },
 }
 
 impl Piece {

@@ -1,5 +1,7 @@
 // The calls of a window, of its owner and of a guest, of which the plain and the shared form are kinds.
 ghost use Rattle.std.specs.Prelude.{◌≡◌, ◌↔◌, ℕ, ◌+◌, ◌*◌, ◌<◌, ◌≤◌, [], ◌∷◌, All, Bool, false, Some, length, replicate, slice_get, IsTrue, IfOk, IfErr, IsErrOf, OnOk, OnErr};
+ghost use Rattle.vio_num.specs.declared.TheConstants.{PAGE_BYTES};
+ghost use Rattle.tce_window.specs.declared.piece.TheConstants.{MOST_BYTES};
 ghost use Rattle.tce_window.specs.PortState.{PortState, HasAllPages, contains, AreInPlace, Holds, Reads, Writes, Puts, MeetsPins, FindsInUse, FindsStale, LaysNone, LaysNothing, HoldsNone, Lays, places_since, OnlyPuts, OnlyReads, OnlyWrites, OnlyHolds, OnlyGivesBack};
 ghost use Rattle.tce_window.specs.Port.{CountsPut, CountsOwn, CountsNamed, CountsHold, NamesFound};
 ghost use Rattle.tce_window.specs.Puts.{takes, takes_all, put_by};
@@ -26,7 +28,7 @@ pub trait WindowPort {
     ghost state: { Self → PortState };
 
     // Version 0 of entry e grants all that may be done with page e.
-    ghost begins: { (port : Self) (e : ℕ) → slice_get ((state port).values e) 0 ≡ Some (4096 * e + 3) };
+    ghost begins: { (port : Self) (e : ℕ) → slice_get ((state port).values e) 0 ≡ Some (PAGE_BYTES * e + 3) };
 }
 
 /// The owner of a window and of the region behind it.
@@ -164,7 +166,7 @@ pub trait GuestPort: WindowPort {
     /// held.
     fn hold(&mut self, ioba: u64, len: u32, right: Right) -> Result<Held, HoldFault>
         requires free { (Self.state self.old).held_count ≡ 0 }
-        requires len { (1 ≤ len) × (len ≤ 65536) }
+        requires len { (1 ≤ len) × (len ≤ MOST_BYTES) }
         ensures ok { IfOk result (Holds Self.is_shared (Self.state self.old) ioba len right
             (Self.state self.new)) }
         ensures fits { IfOk result (λ held. fits self.new held) }

@@ -13,7 +13,7 @@ ghost use Rattle.tce_window.specs.Moved.{stroke_count};
 use crate::held_pages::{HeldPage, HeldPages};
 use crate::laying::{PageSet, lay, strokes_over};
 use crate::named::stale;
-use crate::piece::{MOST_PIECES, Piece};
+use crate::piece::{MOST_BYTES, MOST_PIECES, Piece};
 use arrayvec::ArrayVec;
 use page_slots::{Page, Stroke, StrokeName};
 use std::alloc::Global;
@@ -22,9 +22,6 @@ use vio_num::{NoMemory, UnitId};
 
 /// The bytes of a page.
 const PAGE_BYTES: usize = vio_num::PAGE_BYTES as usize;
-
-/// As many bytes as one call moves.
-const MOST_BYTES: usize = 65536;
 
 /// The pages of a region, each with its number, but those that are held.
 #[derive(Debug, Drop)]
@@ -110,7 +107,7 @@ impl Region {
         ensures inside { result ≡ in_region (length self.now) at len }
     {
         let bytes = self.size() as u64 * vio_num::PAGE_BYTES;
-        1 <= len && len <= MOST_BYTES && at <= bytes && len as u64 <= bytes - at
+        1 <= len && len as u64 <= MOST_BYTES && at <= bytes && len as u64 <= bytes - at
     }
 
     /// The first page that the range touches which is held.
@@ -149,8 +146,8 @@ impl Region {
 
     // Copies bytes of one page.
     fn read_page(&self, address: usize, out: &mut [u8])
-        requires there { IsSome (strokes_at self.now (address / 4096)) }
-        requires inside { address % 4096 + length out.old ≤ 4096 }
+        requires there { IsSome (strokes_at self.now (address / PAGE_BYTES)) }
+        requires inside { address % PAGE_BYTES + length out.old ≤ PAGE_BYTES }
         ensures { (k : ℕ) → k < length out.old
             → slice_index out.new k ≡ region_byte (strokes_at self.now) (address + k) }
     {
@@ -211,7 +208,7 @@ impl Region {
     ) -> Result<(), NoMemory>
         requires some { 1 ≤ length bytes.now }
         requires near { at + length bytes.now ≤ 2 ^ 20 }
-        requires few { length bytes.now ≤ 65536 }
+        requires few { length bytes.now ≤ MOST_BYTES }
         requires there { IsInPlace (strokes_at self.old) at (length bytes.now) }
         ensures strokes { OnOk result ((p : ℕ)
             → strokes_at self.new p ≡ written name at bytes.now p (strokes_at self.old p)) }
@@ -253,7 +250,7 @@ impl Region {
 /// A range of at most 65,536 bytes as pieces of the unit's region, one on each page that it touches.
 pub fn pieces_over(unit: UnitId, at: usize, len: usize) -> ArrayVec<Piece, MOST_PIECES>
     requires near { at + len ≤ 2 ^ 20 }
-    requires few { len ≤ 65536 }
+    requires few { len ≤ MOST_BYTES }
     ensures { LieOver at (at + len) result.items }
 {
     let mut pieces = ArrayVec::new();

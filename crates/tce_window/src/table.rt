@@ -49,7 +49,7 @@ impl Model for TceTable {
 }
 
 impl TceTable {
-    /// A table in which entry i has the value `i * 4096 + 3`.
+    /// A table in which entry i has the value `i * PAGE_BYTES + 3`.
     pub fn open(alloc: Global, entries: u16) -> Result<TceTable, NoMemory>
         requires { (1 ≤ entries) × (entries ≤ 256) }
         ensures { IfOk result (λ table. table ≡ record { size = entries; rows = []; spare = 0 }) }
@@ -88,7 +88,7 @@ impl TceTable {
     pub fn put(&mut self, entry: usize, tce: u64)
         requires entry { entry < self.old.size }
         requires spare { 1 ≤ self.old.spare }
-        requires page { IsTrue (has_right tce) → tce / 4096 < self.old.size }
+        requires page { IsTrue (has_right tce) → tce / PAGE_BYTES < self.old.size }
         ensures rows { self.new.rows ≡ self.old.rows ++ record
             { entry = entry; version = length (values_of self.old.rows entry); value = tce } ∷ [] }
         ensures size { self.new.size ≡ self.old.size }
@@ -111,7 +111,7 @@ impl TceTable {
     pub fn current(&self, entry: usize) -> Current
         requires { entry < self.now.size }
         ensures current { IsCurrent (values_of self.now.rows) entry result.version result.value }
-        ensures page { IsTrue (has_right result.value) → result.value / 4096 < self.now.size }
+        ensures page { IsTrue (has_right result.value) → result.value / PAGE_BYTES < self.now.size }
         ensures few { length self.now.rows + self.now.spare < 2 ^ 31 }
     {
         self.current[entry]
@@ -183,10 +183,10 @@ impl TceTable {
 fn first_of(entry: u16) -> Current
     requires { entry < 256 }
     ensures version { result.version ≡ 0 }
-    ensures value { result.value ≡ 4096 * entry + 3 }
+    ensures value { result.value ≡ PAGE_BYTES * entry + 3 }
 {
     Current {
         version: 0,
-        value: u64::from(entry) * 4096 + 3,
+        value: u64::from(entry) * PAGE_BYTES + 3,
     }
 }

@@ -1,6 +1,7 @@
 // The plain form of a window: its table of values, the pages of its region, and the range that is held
 // (LoPAR, "H_PUT_TCE", "H_STUFF_TCE", "H_PUT_TCE_INDIRECT", "H_GET_TCE").
 ghost use Rattle.std.specs.Prelude.{◌≡◌, ◌↔◌, ℕ, ◌+◌, ◌-◌, ◌*◌, ◌/◌, ◌%◌, ◌^◌, ◌<◌, ◌≤◌, All, Some, None, IsSome, IsTrue, false, true, IfOk, IfErr, IsErrOf, OnOk, OnErr, [], ◌∷◌, max, min, length, replicate, slice_get, slice_index, is_some, if◌then◌else◌};
+ghost use Rattle.tce_window.specs.declared.piece.TheConstants.{MOST_BYTES};
 ghost use Rattle.tce_window.specs.Answers.{IfInUse, IfNamedInUse, IfStale, times_in_use, times_own, times_named, gives};
 ghost use Rattle.tce_window.specs.Grant.{AreNumbered, grants, told, values_of};
 ghost use Rattle.tce_window.specs.Held.{held_len, held_strokes, either};
@@ -64,7 +65,7 @@ impl Model for PlainWindow {
 }
 
 impl PlainWindow {
-    /// A window of 1 to 256 pages of zeros, in which entry i has the value `i * 4096 + 3`.
+    /// A window of 1 to 256 pages of zeros, in which entry i has the value `i * PAGE_BYTES + 3`.
     pub fn open(alloc: Global, unit: UnitId, pages: u16) -> Result<PlainWindow, NoMemory>
         requires { (1 ≤ pages) × (pages ≤ 256) }
         ensures { IfOk result (λ window. window ≡ record {
@@ -157,8 +158,8 @@ impl PlainWindow {
         ensures parameter { takes (length self.old.pages) ioba tce ≡ false
             → result ≡ TceAnswer.Parameter }
         ensures answer { IsTrue (takes (length self.old.pages) ioba tce)
-            → result ≡ put_answer (holds self.old) (ioba / 4096) 0 (tce ∷ []) }
-        ensures rows { self.new.rows ≡ put_rows self.old.rows (ioba / 4096)
+            → result ≡ put_answer (holds self.old) (ioba / PAGE_BYTES) 0 (tce ∷ []) }
+        ensures rows { self.new.rows ≡ put_rows self.old.rows (ioba / PAGE_BYTES)
             (put_by result (tce ∷ [])) }
         ensures spare { self.new.spare + length (put_by result (tce ∷ [])) ≡ self.old.spare }
         ensures in_use { self.new.in_use ≡ times_in_use result self.old.in_use }
@@ -175,8 +176,8 @@ impl PlainWindow {
         ensures parameter { takes_all (length self.old.pages) ioba (replicate count tce) ≡ false
             → result ≡ TceAnswer.Parameter }
         ensures answer { IsTrue (takes_all (length self.old.pages) ioba (replicate count tce))
-            → result ≡ put_answer (holds self.old) (ioba / 4096) 0 (replicate count tce) }
-        ensures rows { self.new.rows ≡ put_rows self.old.rows (ioba / 4096)
+            → result ≡ put_answer (holds self.old) (ioba / PAGE_BYTES) 0 (replicate count tce) }
+        ensures rows { self.new.rows ≡ put_rows self.old.rows (ioba / PAGE_BYTES)
             (put_by result (replicate count tce)) }
         ensures spare { self.new.spare + length
             (put_by result (replicate count tce)) ≡ self.old.spare }
@@ -198,8 +199,8 @@ impl PlainWindow {
         ensures parameter { takes_all (length self.old.pages) ioba list.now ≡ false
             → result ≡ TceAnswer.Parameter }
         ensures answer { IsTrue (takes_all (length self.old.pages) ioba list.now)
-            → result ≡ put_answer (holds self.old) (ioba / 4096) 0 list.now }
-        ensures rows { self.new.rows ≡ put_rows self.old.rows (ioba / 4096)
+            → result ≡ put_answer (holds self.old) (ioba / PAGE_BYTES) 0 list.now }
+        ensures rows { self.new.rows ≡ put_rows self.old.rows (ioba / PAGE_BYTES)
             (put_by result list.now) }
         ensures spare { self.new.spare + length (put_by result list.now) ≡ self.old.spare }
         ensures in_use { self.new.in_use ≡ times_in_use result self.old.in_use }
@@ -233,7 +234,7 @@ impl PlainWindow {
     // Puts good values into the entries from `first` on, up to the first one that is held.
     fn put_each(&mut self, first: usize, list: &[u64]) -> TceAnswer
         requires entry { first < length self.old.pages }
-        requires good { IsTrue (takes_each (length self.old.pages) (first * 4096) list.now) }
+        requires good { IsTrue (takes_each (length self.old.pages) (first * PAGE_BYTES) list.now) }
         requires spare { length list.now ≤ self.old.spare }
         requires few { length list.now ≤ 512 }
         ensures answer { result ≡ put_answer (holds self.old) first 0 list.now }
@@ -279,7 +280,7 @@ impl PlainWindow {
         ensures inside { OnOk result (IsTrue (in_region (length self.old.pages) at len)) }
         ensures there { OnOk result (IsInPlace (strokes_at self.old.pages) at len) }
         ensures near { OnOk result (at + len ≤ 2 ^ 20) }
-        ensures few { OnOk result (len ≤ 65536) }
+        ensures few { OnOk result (len ≤ MOST_BYTES) }
         ensures range { IsErrOf result OwnFault.Range ↔
             (in_region (length self.old.pages) at len ≡ false) }
         ensures in_use { IfInUse result
@@ -400,7 +401,7 @@ impl PlainWindow {
         ensures ok { IfOk result (MayTake (known_of self.now) right address left) }
         ensures near { OnOk result (address < 2 ^ 20) }
         ensures cause { IfErr result
-            (IsRefusedAt (values_of self.now.rows) right (length self.now.pages) (address / 4096)) }
+            (IsRefusedAt (values_of self.now.rows) right (length self.now.pages) (address / PAGE_BYTES)) }
     {
         let entry = address / PAGE_BYTES;
         if entry >= u64::from(self.pages()) {
@@ -435,7 +436,7 @@ impl PlainWindow {
         right: Right,
     ) -> Result<ArrayVec<Piece, MOST_PIECES>, HoldFault>
         requires free { self.now.held_count ≡ 0 }
-        requires len { (1 ≤ len) × (len ≤ 65536) }
+        requires len { (1 ≤ len) × (len ≤ MOST_BYTES) }
         ensures ok { IfOk result (λ pieces.
             MayTakeEach (known_of self.now) right ioba len pieces.items) }
         ensures cause { IfErr result (λ fault. IsRefused (values_of self.now.rows) right
@@ -456,7 +457,7 @@ impl PlainWindow {
     /// in the holder's hand, until it is given back. Where it refuses, the window is as before.
     pub fn hold(&mut self, ioba: u64, len: u32, right: Right) -> Result<Held, HoldFault>
         requires free { self.old.held_count ≡ 0 }
-        requires len { (1 ≤ len) × (len ≤ 65536) }
+        requires len { (1 ≤ len) × (len ≤ MOST_BYTES) }
         ensures ok { IfOk result
             (Holds false (known_of self.old) ioba len right (known_of self.new)) }
         ensures lent { IfOk result (λ held. IsLentBy self.new held) }

@@ -1,5 +1,6 @@
 // Raw calls on the translation entries of a unit's own window.
 ghost use Rattle.std.specs.Prelude.{◌≡◌, ◌↔◌, ◌≤◌, ◌*◌, true, false, ◌+◌, IfErr, IfOk, IsTrue, length};
+ghost use Rattle.vio_num.specs.declared.TheConstants.{PAGE_BYTES};
 ghost use Rattle.tce_window.specs.Answers.{gives};
 ghost use Rattle.tce_window.specs.Puts.{takes};
 ghost use Rattle.vio_num.specs.declared.hypervisor.Hrc.TheVariants as codes;
@@ -142,7 +143,7 @@ fn put_values<O: OwnerPort>(
     address: u64,
     bytes: &[u8],
 ) -> Result<Hrc, NoMemory>
-    requires { length bytes.now ≤ 4096 }
+    requires { length bytes.now ≤ PAGE_BYTES }
     ensures window { KeepsWindow O.is_shared (O.state own.old) (O.state own.new) }
     ensures code { IfOk result (λ code. may_answer rows.PutTceIndirect code ≡ true) }
 {
@@ -154,7 +155,7 @@ fn put_values<O: OwnerPort>(
 // Whether a list of this many values from the address on lies in the region.
 fn is_inside<O: OwnerPort>(own: &O, list: u64, count: u64) -> bool
     requires { count ≤ 512 }
-    ensures { IsTrue result ↔ (list + 8 * count ≤ 4096 * (O.state own.now).place.size) }
+    ensures { IsTrue result ↔ (list + 8 * count ≤ PAGE_BYTES * (O.state own.now).place.size) }
 {
     let size = PAGE_BYTES * u64::from(own.pages());
     list <= size && 8 * count <= size - list

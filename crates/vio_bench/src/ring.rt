@@ -1,5 +1,6 @@
 // Entries that pass over a ring, on one thread and from one thread to another.
 ghost use Rattle.std.specs.Prelude.{◌+◌, ◌^◌, ◌<◌, ◌≤◌, IfOk};
+ghost use Rattle.crq_ring.specs.declared.TheConstants.{MAX_SLOTS};
 ghost use Rattle.crq_ring.specs.Ends.{MayPut, MayPoll};
 
 use crq_ring::{OpenedRing, Poll, Put, RecvEnd, Ring, SendEnd};
@@ -135,7 +136,7 @@ pub fn two_threads<R: Threads + Sync>(
     slots: u32,
     count: u32,
 ) -> Result<u32, NoMemory>
-    requires { (1 ≤ slots) × (slots ≤ 4096) }
+    requires { (1 ≤ slots) × (slots ≤ MAX_SLOTS) }
     ensures { IfOk result (λ done. done ≤ count) }
 {
     let OpenedRing {

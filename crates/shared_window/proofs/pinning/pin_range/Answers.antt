@@ -7,7 +7,7 @@ use Rattle.tce_window.specs.declared.answers.TceRow.{TceRow}
 use Rattle.tce_window.specs.declared.piece.Piece.{Piece}
 use Rattle.tce_window.specs.Pieces.{Touches, IsGranted, IsLast, MayUse, AreUsable, IsRefused}
 use Rattle.tce_window.specs.Grant.{values_of}
-use Rattle.tce_window.proofs.Piecing.{refused_at, of_entry, touches_more, usable_more, piece_bytes, piece_len, bytes_aligned}
+use Rattle.tce_window.proofs.Laws.{refused_at, of_entry, touches_more, usable_more, piece_bytes, piece_len, bytes_aligned}
 use Rattle.shared_window.specs.Pinning.{PinsPiece, RefusesPiece, PinsUpTo, pinned_by}
 use Rattle.shared_window.proofs.Pins.{pins_none, is_next, pins_more, pins_for, kept_all, granted_still, last_still, usable_still, inside_more, cause_of}
 use Rattle.shared_window.proofs.pinning.pin_range.Goals as goal

@@ -1,6 +1,6 @@
 -- Each step puts the next value, or finds its entry with pins.
 use Rattle.std.proofs.Common.{rules, ◌+◌, ◌<◌, length, get_or, arith}
-use Rattle.tce_window.proofs.Putting.{good_here, good_next}
+use Rattle.tce_window.proofs.Laws.{good_here, good_next}
 use Rattle.shared_window.specs.Putting.{PutsValue}
 use Rattle.shared_window.proofs.PuttingValues.{table_stays, one_more}
 use Rattle.shared_window.proofs.putting.put_each.Goals as goal

@@ -1,5 +1,5 @@
 use Rattle.std.proofs.Common.{arith, add-one, length-append}
-use Rattle.srp_iu.proofs.Descriptors.{descs_of-push}
+use Rattle.srp_iu.proofs.GrammarLaws.{descs_of-push}
 use Rattle.srp_desc.proofs.table.read_table.Goals as goal
 
 pub loop-n-preserved : goal.loop-n-preserved

@@ -1,6 +1,6 @@
 use Rattle.std.proofs.Common.{rules, true, false, sym, refl, ap, ◌∙◌, subst, arith, true≢false}
 use Rattle.crq_ring.specs.RingSessions.{EndsSession}
-use Rattle.crq_ring.proofs.Freed.{later_ended}
+use Rattle.crq_ring.proofs.SessionLaws.{later_ended}
 use Rattle.crq_ring.specs.Later.{IsLater}
 use Rattle.crq_session.specs.Answers.{OnNothing, OnPut, IfKept}
 use Rattle.crq_session.specs.Answered.{Puts, Loses, FindsFull}

@@ -1,7 +1,7 @@
 -- Where the list has a value, the first one shows that the address is that of an entry.
 use Rattle.std.proofs.Common.{rules, ◌≡◌, ◌*◌, ◌/◌, ◌<◌, true, length, subst}
 use Rattle.tce_window.specs.Puts.{takes_each}
-use Rattle.tce_window.proofs.Putting.{entry_address}
+use Rattle.tce_window.proofs.Laws.{entry_address}
 use Rattle.shared_window.proofs.window.Window.put_tce_indirect.Goals as goal
 
 pub put_each-answer-requires-clause-good : goal.put_each-answer-requires-clause-good
