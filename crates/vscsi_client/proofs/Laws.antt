@@ -24,7 +24,8 @@ use Rattle.vscsi_client.specs.Login.{found_by}
 use Rattle.vscsi_client.specs.Turned.{Site, LoginStep, Registered, Took, TookNone, Looked, Began, Wrote, NotWritten, Put, RanOut, Runs, Steps, is_dropped, sent_by, sent_stage}
 use Rattle.vscsi_client.specs.Credits.{IsGranted, Lives, taken_events, step_events, turn_events}
 use Rattle.vscsi_client.proofs.Requests.{tags-without}
-use Rattle.vscsi_client.proofs.Allowing.{not_range}
+pub use Rattle.vscsi_client.proofs.Allowing.{not_range}
+pub use Rattle.vscsi_client.proofs.Fits.{logged_out_fits, submitted_fits, taken_fits, tasked_fits, turned_fits}
 
 -- credits speak of what is granted and of what is outstanding alone
 lives_same : (es : List Event) (s s' : ClientState) → s'.granted ≡ s.granted → s'.outgoing ≡ s.outgoing → Lives es s → Lives es s'

@@ -7,7 +7,7 @@ use Rattle.std.proofs.lemmas.List.Elements.{All-head, All-tail, All-cons}
 use Rattle.std.proofs.lemmas.List.Quantifiers.{position-Some}
 use Rattle.srp_credits.specs.History.{without}
 use Rattle.srp_credits.specs.Initiator.{InitiatorCredits, HasHistory, IsCapped}
-use Rattle.srp_credits.proofs.Lists.{length-without}
+use Rattle.srp_credits.proofs.Laws.{length-without}
 use Rattle.vscsi_client.specs.declared.outgoing.Outgoing.{Outgoing}
 use Rattle.vscsi_client.specs.State.{tags_of, granted_of}
 use Rattle.vscsi_client.specs.Taking.{slot_of, without_tag}

@@ -10,7 +10,7 @@ use Rattle.crq_session.specs.declared.answers.RegAnswer.{RegAnswer}
 use Rattle.crq_session.specs.declared.answers.RegAnswer.TheVariants as reg
 use Rattle.crq_session.specs.declared.answers.SendAnswer.{SendAnswer}
 use Rattle.crq_session.specs.declared.answers.SendAnswer.TheVariants as send
-use Rattle.crq_session.specs.EndState.{EndState, OnlyReserves}
+use Rattle.crq_session.specs.EndState.{EndState, OnlyRegisters, OnlyReserves, OnlySends, OnlyTakes}
 use Rattle.crq_session.specs.Answered.{Sends, TurnsBack, FindsFull, FindsNone, FindsClosed, MeetsOpen, Opens, HoldsUp, Takes}
 use Rattle.srp_iu.specs.declared.unit.Iu.TheVariants.{LoginReq}
 use Rattle.srp_iu.specs.Grammar.{Canon}
@@ -82,6 +82,7 @@ RegistersAs shared s s' old new reg.Parameter = ⊥
 pub record Registers (shared : Bool) (s s' : ClientState) (old new : EndState) (answer : RegAnswer) : Type 0 where
   pub room : EndState
   pub ready : OnlyReserves old room
+  pub rest : OnlyRegisters shared room new
   pub registers : RegistersAs shared s s' room new answer
 
 -- the next entry of the own queue was taken, and is held
@@ -92,6 +93,7 @@ pub record TakesNext (shared : Bool) (s s' : ClientState) (old new : EndState) :
   pub number : ℕ
   pub entry : Entry
   pub taken : Takes shared room new number entry
+  pub rest : OnlyTakes shared room new
   pub client : s' ≡ record s { held = Some entry }
 
 -- the own queue was polled, and had none
@@ -100,6 +102,7 @@ pub record PollsNone (shared : Bool) (s s' : ClientState) (old new : EndState) :
   pub ready : OnlyReserves old room
   pub number : ℕ
   pub none : FindsNone shared room new number ⊎ ((room.registered ≡ false) × OnlyReserves room new)
+  pub rest : OnlyTakes shared room new
   pub client : s' ≡ s
 
 -- the entry that is held was looked at
@@ -205,6 +208,7 @@ pub record Puts (shared : Bool) (s s' : ClientState) (old new : EndState) (due :
   pub room : EndState
   pub ready : OnlyReserves old room
   pub sent : SentAs shared room entry new answer
+  pub rest : OnlySends shared room new
   pub client : s' ≡ sent_by due others answer s
 
 -- the end, or the window, is as before

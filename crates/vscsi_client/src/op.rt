@@ -1,5 +1,6 @@
 // A command as its caller names it.
 ghost use Rattle.std.specs.Prelude.{◌≡◌, ◌+◌, ◌*◌, ◌<◌, ◌≤◌, ◌^◌, ◌++◌, None, length};
+ghost use Rattle.srp_desc.specs.declared.pieces.TheConstants.{MAX_TABLE_LEN};
 ghost use Rattle.arrayvec.specs.ArrayVec.{array_vec_len};
 ghost use Rattle.vscsi_client.specs.declared.row.Row.TheVariants as rows;
 ghost use Rattle.vscsi_client.specs.Spans.{in_range, op_in_range, table_in_range, data_span, table_span, span_of};
@@ -220,7 +221,7 @@ impl Op {
 
 // Writes bytes behind those of a table, which are at most 4,096.
 fn put(table: &mut ArrayVec<u8, 4096>, bytes: &[u8])
-    requires { array_vec_len table.old + length bytes.now ≤ 4096 }
+    requires { array_vec_len table.old + length bytes.now ≤ MAX_TABLE_LEN }
     ensures { table.new.items ≡ table.old.items ++ bytes.now }
 {
     match table.try_extend_from_slice(bytes) {
