@@ -6,7 +6,7 @@ use Rattle.crq_ring.specs.Sessions.{of_session}
 use Rattle.vio_num.specs.declared.history.Grant.TheVariants.{Granted}
 use Rattle.block_server.specs.Receipts.{Receipt}
 use Rattle.block_server.specs.Closings.{TakesNone}
-use Rattle.block_server.specs.Judged.{Ahead, AreCounted, AreKept, AreLogins, HasLogout, ArePending, Asks, Books, Fate, HasFate, HasFront, HasGrant, IsAtStage, Judged, accepted, gets_row, has_row, is_login, login_of, receipt_key, request_key}
+use Rattle.block_server.specs.Judged.{Ahead, AreCounted, AreKept, AreLogins, HasLogout, ArePending, Asks, Books, Fate, HasFate, HasFront, HasGrant, IsAtStage, Judged, accepted, gets_row, has_row, is_login, login_of, due, receipt_key, request_key}
 use Rattle.block_server.specs.Fates.Fate.{asked, ends_it}
 use Rattle.block_server.specs.declared.request.Request.{Request}
 use Rattle.block_server.specs.declared.service.Outcome.TheVariants as outcomes
@@ -19,6 +19,7 @@ use Rattle.block_server.proofs.Heard.{accepted_more, accepted_one}
 use Rattle.block_server.proofs.Lines.{lines_judged}
 use Rattle.block_server.proofs.Judging.{due_pass, served_due, served_more, served_other}
 use Rattle.block_server.proofs.Rising.{rising_later, rising_pushed}
+use Rattle.block_server.proofs.RowsRising.{rows_later, rows_pushed}
 use Rattle.block_server.proofs.Keeping.{front_of, later_logins, later_pending}
 
 logins_push : (pending : List Request) (request : Request) → is_login request.order ≡ true → AreLogins pending → AreLogins (pending ++ request ∷ [])
@@ -139,6 +140,7 @@ keeps_asked books next' request receipt judged key row other under taking to cop
       idle = λ over. absurd (cc (over, to.going));
       numbers = is.numbers;
       rising = rising_pushed books.id books.session books.next.number next'.number books.pending request books.grants (sym (sym to.number_is ∙ ap (λ k. k.number) key)) to.below is.rising;
+      rows = rows_pushed books.id books.session books.next.number next'.number (has_row books.stage) books.pending request books.rows (sym (sym to.number_is ∙ ap (λ k. k.number) key)) to.below is.rows;
       counted = record {
         row = is.counted.row;
         exact = λ on. counts books.credits.outstanding _ _ _ (is.counted.exact on) (accepted_one books.current judged j (eq-eqb books.current books.current refl));
@@ -212,6 +214,7 @@ keeps_unasked books next' taking' request receipt fate judged none has to number
   idle = λ over. absurd (cc (over, to.going));
   numbers = is.numbers;
   rising = rising_pushed books.id books.session books.next.number next'.number books.pending request books.grants (number ∙ to.number_is) to.below is.rising;
+  rows = rows_pushed books.id books.session books.next.number next'.number (has_row books.stage) books.pending request books.rows (number ∙ to.number_is) to.below is.rows;
   counted = let is' = counted_pass books judged receipt fate taking' (books.pending ++ request ∷ []) none is (λ some off. out some (closes off)) in
       record { row = is'.row; exact = is'.exact; most = is'.most; limits = is'.limits; asked_out = is'.asked_out; none_later = is'.none_later };
 }
@@ -244,6 +247,7 @@ keeps_judged books next' receipt fate judged none has to other is = record {
   idle = is.idle;
   numbers = is.numbers;
   rising = rising_later books.id books.session books.next.number next'.number books.pending books.grants (below _ _ to.below) is.rising;
+  rows = rows_later books.id books.session books.next.number next'.number (due (has_row books.stage) books.pending) books.rows (below _ _ to.below) is.rows;
   counted = let is' = counted_pass books judged receipt fate books.taking books.pending none is is.counted.asked_out in
       record { row = is'.row; exact = is'.exact; most = is'.most; limits = is'.limits; asked_out = is'.asked_out; none_later = is'.none_later };
 }

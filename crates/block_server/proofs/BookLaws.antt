@@ -6,14 +6,14 @@ use Rattle.std.proofs.lemmas.Bool.{eqb-true}
 use Rattle.std.proofs.lemmas.Option.{IfSome_then}
 use Rattle.std.proofs.lemmas.List.Elements.{All-cons, All-head, All-tail, All-weaker}
 use Rattle.crq_ring.specs.Sessions.{of_session}
-use Rattle.crq_ring.proofs.Sessions.{of_session-nil}
+use Rattle.crq_ring.proofs.SessionLaws.{of_session-nil}
 use Rattle.crq_session.specs.EndState.{EndState}
 use Rattle.vio_num.specs.declared.history.Grant.{Grant}
 use Rattle.vio_num.specs.declared.history.Served.{Served}
 use Rattle.vio_num.specs.declared.names.UnitId.{UnitId}
 use Rattle.block_server.specs.Answering.{OnlyRowsOf, StaysRow}
 use Rattle.block_server.specs.Books.{books_seen, is_up, next_of, number_of}
-use Rattle.block_server.specs.Judged.{AreCounted, AreKept, Books, Credits, IsAllServed, IsServedUnder, IsWorkDone, Judged, RowKey, due_under, has_row, is_under, keys_of, row_key, IsOpenRow, answered_under}
+use Rattle.block_server.specs.Judged.{AreCounted, AreKept, Books, Credits, IsAllServed, IsServedUnder, IsWorkDone, Judged, RowKey, due, due_under, has_row, is_under, keys_of, row_key, row_number, row_numbers, IsOpenRow, answered_under}
 use Rattle.block_server.specs.Closings.{HasCauses}
 use Rattle.block_server.specs.Numbers.{NameLogins, Rise, granted_numbers}
 use Rattle.block_server.specs.Judges.{AreUnused, HasKept}
@@ -27,6 +27,7 @@ use Rattle.block_server.specs.declared.unit.Unit.{Unit}
 use Rattle.block_server.proofs.Bystanding.{fresh_books, keeps_lines, kept_new}
 use Rattle.block_server.proofs.Judging.{filter_first, filter_pass}
 use Rattle.block_server.proofs.Keeping.{moved_to}
+use Rattle.block_server.proofs.RowsRising.{rows_first, rows_passed, rows_to}
 
 -- names that are apart
 pub apart_is : (a b : UnitId) → a ≢ b → same_unit a b ≡ false
@@ -58,14 +59,21 @@ no_row unit other login row apart is = and_false (same_unit row.unit unit) (row.
     and_false : (a b : Bool) → a ≡ false → (a && b) ≡ false
     and_false a b is = cc (is)
 
+no_number : (unit other : UnitId) (q : ℕ) (row : Served) → other ≢ unit → row.unit ≡ other → row_number unit q (row_key row) ≡ None
+no_number unit other q row apart is = rw (and_false (same_unit row.unit unit) (row.session == q) (apart_is row.unit unit (λ e. apart (sym is ∙ e)))) refl
+  where
+    and_false : (a b : Bool) → a ≡ false → (a && b) ≡ false
+    and_false a b is = cc (is)
+
 -- Of another unit's rows none is of this one, and those of this one stay.
 record Stay (unit : UnitId) (keys keys' : List RowKey) : Type 0 where
   same : (login : ℕ) → filter (is_under unit login) keys' ≡ filter (is_under unit login) keys
   under : All (λ (row : RowKey). same_unit row.unit unit ≡ true → 1 ≤ row.login) keys → All (λ (row : RowKey). same_unit row.unit unit ≡ true → 1 ≤ row.login) keys'
   place : (i : ℕ) (row : RowKey) → slice_get keys i ≡ Some row → same_unit row.unit unit ≡ true → slice_get keys' i ≡ Some row
+  numbers : (q : ℕ) → row_numbers unit q keys' ≡ row_numbers unit q keys
 
 apart_rows : (unit other : UnitId) (rows : List Served) → other ≢ unit → All (λ row. row.unit ≡ other) rows → Stay unit [] (keys_of rows)
-apart_rows unit other [] apart all = record { same = λ login. refl; under = λ none. none; place = λ i row there. absurd (cc (there)) }
+apart_rows unit other [] apart all = record { same = λ login. refl; under = λ none. none; place = λ i row there. absurd (cc (there)); numbers = λ q. refl }
 apart_rows unit other (row ∷ rows) apart all =
     let is : row.unit ≡ other = All-head (λ (r : Served). r.unit ≡ other) row rows all in
     let rest = apart_rows unit other rows apart (All-tail (λ (r : Served). r.unit ≡ other) row rows all) in
@@ -74,6 +82,7 @@ apart_rows unit other (row ∷ rows) apart all =
       under = λ none. All-cons (λ (r : RowKey). same_unit r.unit unit ≡ true → 1 ≤ r.login) (row_key row) (keys_of rows)
           (λ own. absurd (cc (own, apart_is row.unit unit (λ e. apart (sym is ∙ e))))) (rest.under none);
       place = λ i row there. absurd (cc (there));
+      numbers = λ q. rows_passed unit q (row_key row) (keys_of rows) (no_number unit other q row apart is) ∙ rest.numbers q;
     }
 
 rows_stay : (unit other : UnitId) (rows news : List Served) → other ≢ unit → OnlyRowsOf other rows news → Stay unit (keys_of rows) (keys_of news)
@@ -108,6 +117,8 @@ rows_stay unit other (row ∷ rows) (new ∷ news) apart only = by (rows_stay un
           (All-head (λ (k : RowKey). same_unit k.unit unit ≡ true → 1 ≤ k.login) (row_key row) (keys_of rows) all)
           (rest.under (All-tail (λ (k : RowKey). same_unit k.unit unit ≡ true → 1 ≤ k.login) (row_key row) (keys_of rows) all)));
       place = kept_place rest same;
+      numbers = λ q. subst (λ (r : Served). row_numbers unit q (keys_of (r ∷ news)) ≡ row_numbers unit q (keys_of (row ∷ rows))) (sym same)
+          (rows_first unit q (row_key row) (keys_of rows) (keys_of news) (rest.numbers q));
     }
     by rest (inr both) = record {
       same = λ login. filter_pass (is_under unit login) (row_key new) (keys_of news) (no_row unit other login new apart both.1) ∙ rest.same login
@@ -116,6 +127,8 @@ rows_stay unit other (row ∷ rows) (new ∷ news) apart only = by (rows_stay un
           (λ own. absurd (cc (own, apart_is new.unit unit (λ e. apart (sym both.1 ∙ e)))))
           (rest.under (All-tail (λ (k : RowKey). same_unit k.unit unit ≡ true → 1 ≤ k.login) (row_key row) (keys_of rows) all));
       place = other_place rest both.0;
+      numbers = λ q. rows_passed unit q (row_key new) (keys_of news) (no_number unit other q new apart both.1) ∙ rest.numbers q
+          ∙ sym (rows_passed unit q (row_key row) (keys_of rows) (no_number unit other q row apart both.0));
     }
 
 -- the books over them
@@ -132,6 +145,7 @@ rows_kept books rows judged stay is = record {
   idle = is.idle;
   numbers = is.numbers;
   rising = is.rising;
+  rows = rows_to books.id books.session books.next.number (due (has_row books.stage) books.pending) (due (has_row books.stage) books.pending) books.rows rows refl stay.numbers is.rows;
   counted = record {
     row = λ place in_service. stays (is.counted.row place in_service);
     exact = λ some. ap (λ (n : ℕ). books.credits.outstanding + n) (answered books.current) ∙ is.counted.exact some;
@@ -164,9 +178,9 @@ rows_kept books rows judged stay is = record {
     }
 
 -- A turn of another unit: only rows and lines of its own came, or changed.
-pub kept_elsewhere : (units units' : List Unit) (unit : ℕ) (other id : UnitId) (queue queue' : EndState) (history history' : List Served) (grants grants' : List Grant) (judged : List Judged)
+pub kept_elsewhere : {granted : ℕ} (units units' : List Unit) (unit : ℕ) (other id : UnitId) (queue queue' : EndState) (history history' : List Served) (grants grants' : List Grant) (judged : List Judged)
     → other ≢ id → slice_get units' unit ≡ slice_get units unit → queue'.last_session ≡ queue.last_session → queue'.taken ≡ queue.taken
-    → OnlyRowsOf other history history' → LinesMore other grants grants'
+    → OnlyRowsOf other history history' → LinesMore other granted grants grants'
     → HasKept units unit id queue history grants judged → HasKept units' unit id queue' history' grants' judged
 kept_elsewhere units units' unit other id queue queue' history history' grants grants' judged apart same session taken rows lines has =
     kept_seen units units' unit id queue queue' history' grants' judged same session taken
@@ -256,3 +270,11 @@ rising_seen units unit u id queue history grants judged there has =
     let is : AreKept (books_seen u id queue history grants) judged =
     subst (λ (o : Option Unit). IfSome o (λ u. AreKept (books_seen u id queue history grants) judged)) there has in
     is.rising.each
+
+-- And so do those of the entries of its rows.
+pub rows_seen : (units : List Unit) (unit : ℕ) (u : Unit) (id : UnitId) (queue : EndState) (history : List Served) (grants : List Grant) (judged : List Judged)
+    → slice_get units unit ≡ Some u → HasKept units unit id queue history grants judged → (session : ℕ) → Rise (row_numbers id session (keys_of history))
+rows_seen units unit u id queue history grants judged there has =
+    let is : AreKept (books_seen u id queue history grants) judged =
+    subst (λ (o : Option Unit). IfSome o (λ u. AreKept (books_seen u id queue history grants) judged)) there has in
+    is.rows.each

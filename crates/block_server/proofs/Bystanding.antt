@@ -2,6 +2,7 @@
 use Rattle.vio_num.specs.declared.history.Lapse.TheVariants as lapses
 use Rattle.block_server.proofs.Numbering.{numbers_new, numbers_others}
 use Rattle.block_server.proofs.Rising.{rising_new, rising_others}
+use Rattle.block_server.proofs.RowsRising.{rows_new}
 use Rattle.block_server.proofs.Counting.{open_start}
 use Rattle.std.proofs.Common.{◌≡◌, ◌⊎◌, inl, ◌==◌, ◌&&◌, ◌++◌, ◌≤◌, ℕ, Bool, true, false, All, List, [], ◌∷◌, None, filter, refl, sym, ◌∙◌, ap, subst, arith, append-nil}
 use Rattle.std.proofs.lemmas.List.Elements.{Contains-append_left, All-head, All-nil, All-tail, All-weaker, filter-append, All-append}
@@ -79,6 +80,7 @@ keeps_lines books lines judged apart is = record {
   idle = is.idle;
   numbers = numbers_others books.id books.session books.current books.last books.grants lines apart is.numbers;
   rising = rising_others books.id books.session books.next.number books.pending books.grants lines apart is.rising;
+  rows = is.rows;
   counted = record {
     row = is.counted.row;
     exact = is.counted.exact;
@@ -146,6 +148,7 @@ kept_new id session next ended up credits none zero = record {
   idle = λ over. (refl, refl);
   numbers = numbers_new id session;
   rising = rising_new id session next.number;
+  rows = rows_new id session next.number;
   counted = record {
     row = open_start id 0 [];
     exact = λ some. absurd (no_one some);

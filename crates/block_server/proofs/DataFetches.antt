@@ -10,7 +10,7 @@ use Rattle.vio_num.specs.declared.names.UnitId.{UnitId}
 use Rattle.page_slots.specs.Page.{left_by}
 use Rattle.page_slots.specs.Stroke.{StrokeValue}
 use Rattle.page_slots.specs.declared.stroke.StrokeName.{StrokeName}
-use Rattle.page_slots.proofs.Strokes.{left_by-push}
+use Rattle.page_slots.proofs.Laws.{left_by-push}
 use Rattle.tce_window.specs.Moved.{IsLaid, IsNamed, piece_strokes, stroke_of, strokes_on}
 use Rattle.tce_window.specs.Pieces.{IsGranted, IsLast, Touches}
 use Rattle.tce_window.specs.Region.{byte_in, region_byte}

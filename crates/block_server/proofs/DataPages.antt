@@ -8,7 +8,7 @@ use Rattle.vio_num.specs.declared.names.UnitId.{UnitId}
 use Rattle.page_slots.specs.Page.{left_by, overwritten, zeros}
 use Rattle.page_slots.specs.Stroke.{StrokeValue}
 use Rattle.page_slots.specs.declared.stroke.StrokeName.{StrokeName}
-use Rattle.page_slots.proofs.Strokes.{left_by-push, length-zeros}
+use Rattle.page_slots.proofs.Laws.{left_by-push, length-zeros}
 use Rattle.tce_window.specs.Moved.{left_at, read_bytes}
 use Rattle.tce_window.specs.Pieces.{HasStrokes, IsGranted, IsLast, Touches}
 use Rattle.tce_window.specs.Port.{IsWritten}
@@ -17,7 +17,7 @@ use Rattle.tce_window.specs.Region.{byte_in, region_byte, stroke_on, touches}
 use Rattle.tce_window.specs.Strokes.{with_strokes}
 use Rattle.tce_window.specs.declared.answers.Right.{Right}
 use Rattle.tce_window.specs.declared.piece.Piece.{Piece}
-use Rattle.tce_window.proofs.Growing.{not_none}
+use Rattle.tce_window.proofs.Laws.{not_none}
 use Rattle.std.specs.Prelude.{slice_index}
 use Rattle.block_server.specs.Cargo.{AreShown, data_bytes}
 use Rattle.block_server.proofs.FirstPages.{entry_page}

@@ -3,7 +3,7 @@ use Rattle.std.proofs.Common.{◌≡◌, ◌⊎◌, inl, inr, ◌++◌, ◌∙�
 use Rattle.std.proofs.lemmas.List.Elements.{filter-append}
 use Rattle.crq_ring.specs.Sessions.{of_session}
 use Rattle.crq_ring.specs.declared.rows.PipeRow.{PipeRow}
-use Rattle.crq_ring.proofs.Sessions.{of_session-nil, of_session-push}
+use Rattle.crq_ring.proofs.SessionLaws.{of_session-nil, of_session-push}
 use Rattle.srp_iu.specs.Grammar.{Spells}
 use Rattle.srp_iu.specs.declared.login.LoginReq.{LoginReq}
 use Rattle.srp_iu.specs.declared.unit.Iu.{Iu}

@@ -36,7 +36,7 @@ on_before unit login old more on = front (filter (ends unit login) old) (filter 
     front [] ys none = refl
     front (x ∷ xs) ys none = absurd (cc (none))
 
-in_time_before : (unit : UnitId) (old new : List Grant) → LinesMore unit old new → (judged : List Judged) → All (IsInTime unit new) judged → All (IsInTime unit old) judged
+in_time_before : {granted : ℕ} (unit : UnitId) (old new : List Grant) → LinesMore unit granted old new → (judged : List Judged) → All (IsInTime unit new) judged → All (IsInTime unit old) judged
 in_time_before unit old new lines judged all = All-weaker (IsInTime unit new) (IsInTime unit old)
     (λ j is some. on_before unit (login_of j.fate) old lines.more (subst (IsOn unit (login_of j.fate)) lines.added (is some))) judged all
 
@@ -68,9 +68,9 @@ judges_idle unit unit' old new books books' still waits keeps = record {
 
 -- Nothing was taken and fetched either.
 pub judges_none : (unit unit' : Standing) (old new : SiteState) (books books' : Books) → unit' ≡ unit → Advances old new → Passes old new
-    → LinesMore unit.id books.grants books'.grants → Keeps books books' → Judges unit unit' old new books books'
+    → LinesMore unit.id unit.granted books.grants books'.grants → Keeps books books' → Judges unit unit' old new books books'
 judges_none unit unit' old new books books' same advances passes lines keeps = judges_still unit unit' old new books books'
-    (λ receipts is. intake_stays (intake_of unit old books.grants) (intake_of unit' new books'.grants) receipts (grown_of unit unit' old new books.grants books'.grants unit.id advances lines)
+    (λ receipts is. intake_stays (intake_of unit old books.grants) (intake_of unit' new books'.grants) receipts (grown_of unit unit' old new books.grants books'.grants unit.id unit.granted advances lines)
     (passed_session old new passes) (passed_taken old new passes) (passed_copies old new passes) (ap (λ s. s.waiting) same) (ap (λ s. s.ended) same) is) keeps
 
 -- One part of a turn behind another.
@@ -87,13 +87,13 @@ judges_on u0 u1 u2 s0 s1 s2 b0 b1 b2 takes named same first next = record {
         kept = subst (AreKept b2) (append_assoc judged one.more other.more) other.kept;
         in_time = All-append (IsInTime b2.id b0.grants) one.more other.more
             (subst (λ (unit : UnitId). All (IsInTime unit b0.grants) one.more) (sym same) one.in_time)
-            (in_time_before b2.id b0.grants b1.grants (subst (λ (unit : UnitId). LinesMore unit b0.grants b1.grants) (sym (same ∙ named)) takes.lines) other.more other.in_time);
+            (in_time_before b2.id b0.grants b1.grants (subst (λ (unit : UnitId). LinesMore unit u0.granted b0.grants b1.grants) (sym (same ∙ named)) takes.lines) other.more other.in_time);
       };
 }
 
 -- A part that ends the session for such a cause: the entry that waits, if one does, ended it.
 pub judges_ended : (unit unit' : Standing) (old new : SiteState) (books books' : Books) (next' : Ahead) (cause : Lapse) (outstanding granted : ℕ) → unit'.id ≡ unit.id → unit'.waiting ≡ None → unit'.ended ≡ true
-    → books'.id ≡ unit.id → EndedFor unit.id old.queue.last_session books'.grants → Advances old new → Passes old new → LinesMore unit.id books.grants books'.grants
+    → books'.id ≡ unit.id → EndedFor unit.id old.queue.last_session books'.grants → Advances old new → Passes old new → LinesMore unit.id unit.granted books.grants books'.grants
     → books.session ≡ old.queue.last_session → next'.taken ≡ books.next.taken → next'.number ≡ length (of_session books.session next'.taken) → is_fatal cause ≡ true → is_limit cause ≡ false
     → (unit.waiting ≡ None → cause ≡ lapses.Refused)
     → ((receipts : List Receipt) (judged : List Judged) → IsIntake (intake_of unit old books.grants) receipts → AreKept books judged → books.ended ≡ false)
@@ -104,7 +104,7 @@ pub judges_ended : (unit unit' : Standing) (old new : SiteState) (books books' :
 judges_ended unit unit' old new books books' next' cause outstanding granted id none over named ended advances passes lines session taken done fatal limited down going gives keeps = record {
   more = λ own receipts judged intake is.
       at (intake_of unit old books.grants) (intake_of unit' new books'.grants) receipts judged
-      (grown_of unit unit' old new books.grants books'.grants unit.id advances lines) (passed_session old new passes) (passed_taken old new passes) (passed_copies old new passes)
+      (grown_of unit unit' old new books.grants books'.grants unit.id unit.granted advances lines) (passed_session old new passes) (passed_taken old new passes) (passed_copies old new passes)
       (subst (λ (u : UnitId). EndedFor u old.queue.last_session books'.grants) (own ∙ sym advances.own.unit) ended)
       none over intake
       (λ waits. keeps judged [] (record {
@@ -175,7 +175,7 @@ one_more old new copy made is place =
 -- A part that fetches the information unit of the entry that waits, and judges it.
 pub judges_fetched : (unit unit' : Standing) (old new : SiteState) (books books' : Books) (arrival : Arrival) (address : ℕ) (bytes : List ℕ)
     → unit.waiting ≡ Some arrival → unit'.waiting ≡ None → unit'.id ≡ unit.id → address ≡ iu_address arrival.entry → FetchesOne old new address bytes → length bytes ≡ iu_length arrival.entry
-    → new.queue ≡ old.queue → Advances old new → LinesMore unit.id books.grants books'.grants
+    → new.queue ≡ old.queue → Advances old new → LinesMore unit.id unit.granted books.grants books'.grants
     → books.session ≡ old.queue.last_session → books.next ≡ next_of (Some arrival) old.queue → books.ended ≡ unit.ended → books'.id ≡ books.id → books.up ≡ true
     → ((receipt : Receipt) → IsToJudge books old.queue.last_session (next_of None old.queue) arrival.number bytes receipt → JudgesOne books books' receipt)
     → Judges unit unit' old new books books'
@@ -199,7 +199,7 @@ judges_fetched unit unit' old new books books' arrival address bytes waits none 
       let done : Judged = record { receipt = receipt; fate = made.fate } in
       record {
         more = done ∷ [];
-        received = intake_fetches before (intake_of unit' new books'.grants) receipts arrival one.copy bytes (grown_of unit unit' old new books.grants books'.grants unit.id advances lines)
+        received = intake_fetches before (intake_of unit' new books'.grants) receipts arrival one.copy bytes (grown_of unit unit' old new books.grants books'.grants unit.id unit.granted advances lines)
             (ap (λ q. q.last_session) queue) (ap (λ q. q.taken) queue) (one_more old new one.copy one.made one.is_unit advances.own_place)
             long
             (subst (λ (z : ℕ × ℕ). Fetches new.own new.client z.0 0 z.1 bytes one.copy) (λ i. (at i, long i)) one.fetched) waits none intake;
@@ -215,7 +215,7 @@ pub judges_entry : (unit unit' : Standing) (old new : SiteState) (books books' :
     → unit'.waiting ≡ Some arrival → unit'.ended ≡ unit.ended → books'.grants ≡ books.grants → Keeps books books' → Judges unit unit' old new books books'
 judges_entry unit unit' old new books books' number entry arrival may taken srp at of advances waits ended same keeps = judges_still unit unit' old new books books'
     (λ receipts is. intake_takes (intake_of unit old books.grants) (intake_of unit' new books'.grants) receipts number entry arrival
-    (grown_of unit unit' old new books.grants books'.grants unit.id advances (lines_same unit.id _ _ same))
+    (grown_of unit unit' old new books.grants books'.grants unit.id unit.granted advances (lines_same unit.id unit.granted _ _ same))
     taken.session taken.number_is taken.taken srp (window_copies old new taken.windows) may.none waits at of (ended ∙ may.goes_on) may.goes_on is) keeps
 
 -- A part that takes another entry.
@@ -224,7 +224,7 @@ pub judges_other : (unit unit' : Standing) (old new : SiteState) (books books' :
     → Judges unit unit' old new books books'
 judges_other unit unit' old new books books' number entry may taken other advances none same keeps = judges_still unit unit' old new books books'
     (λ receipts is. intake_passes (intake_of unit old books.grants) (intake_of unit' new books'.grants) receipts entry
-    (grown_of unit unit' old new books.grants books'.grants unit.id advances (lines_same unit.id _ _ same))
+    (grown_of unit unit' old new books.grants books'.grants unit.id unit.granted advances (lines_same unit.id unit.granted _ _ same))
     taken.session taken.taken other (window_copies old new taken.windows) may.none none may.goes_on is) keeps
 
 -- A part in which a session begins.
@@ -233,7 +233,7 @@ pub judges_session : (unit unit' : Standing) (old mid new : SiteState) (books bo
     → unit'.waiting ≡ unit.waiting → books'.grants ≡ books.grants → (unit.waiting ≡ None → Keeps books books') → Judges unit unit' old new books books'
 judges_session unit unit' old mid new books books' ended session taken windows passes advances waiting same keeps = judges_idle unit unit' old new books books'
     (λ receipts is. intake_begins (intake_of unit old books.grants) (intake_of unit' new books'.grants) receipts
-    (grown_of unit unit' old new books.grants books'.grants unit.id advances (lines_same unit.id _ _ same))
+    (grown_of unit unit' old new books.grants books'.grants unit.id unit.granted advances (lines_same unit.id unit.granted _ _ same))
     (later _ _ _ session (passed_session mid new passes)) (passed_taken mid new passes ∙ taken) (passed_copies mid new passes ∙ window_copies old mid windows)
     waiting ended is) (λ receipts is. is.idle ended) keeps
   where

@@ -8,7 +8,7 @@ use Rattle.tce_window.specs.declared.piece.Piece.{Piece}
 use Rattle.tce_window.specs.declared.answers.Right.{Right}
 use Rattle.tce_window.specs.Pieces.{IsGranted, IsLast, Touches}
 use Rattle.tce_window.specs.PortState.{PortPlace, PortState}
-use Rattle.tce_window.proofs.Gathering.{on_ok_map}
+use Rattle.tce_window.proofs.Laws.{on_ok_map}
 use Rattle.rdma_copy.specs.declared.copy.CopyRecord.{CopyRecord}
 use Rattle.rdma_copy.specs.declared.copy.CopyAnswer.{CopyAnswer}
 use Rattle.rdma_copy.specs.declared.copy.CopyAnswer.TheVariants as copies

@@ -223,4 +223,4 @@ command_no_handshake entry first = no_handshake entry (λ init. absurd (cc (ap k
 
 -- an entry that came leaves the unit's standing
 pub stands_got : (unit : Unit) (h : Handshake) → is_ended (record unit.line { handshake = h }) ≡ is_ended unit.line → standing_of (record unit { line = record unit.line { handshake = h } }) ≡ standing_of unit
-stands_got unit h ended = λ i. record { id = unit.id; waiting = unit.waiting; ended = ended i }
+stands_got unit h ended = λ i. record { id = unit.id; granted = unit.logins.granted; waiting = unit.waiting; ended = ended i }

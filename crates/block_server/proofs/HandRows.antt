@@ -3,7 +3,7 @@ use Rattle.std.proofs.Common.{◌≡◌, ◌≢◌, ◌⊎◌, inl, inr, ◌<◌
 use Rattle.std.proofs.lemmas.List.{map-append, map-set}
 use Rattle.std.proofs.lemmas.Option.{slice_get-map}
 use Rattle.std.proofs.lemmas.Bool.{eqb-true, eqb-false}
-use Rattle.tce_window.proofs.Pages.{get-set_other, get-set_same}
+use Rattle.tce_window.proofs.Laws.{get-set_other, get-set_same}
 use Rattle.vio_num.specs.declared.history.Served.{Served}
 use Rattle.block_server.specs.Cargo.{rows_of, unanswered}
 use Rattle.block_server.specs.Records.{FillsRow}

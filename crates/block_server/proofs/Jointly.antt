@@ -12,7 +12,7 @@ use Rattle.vio_num.specs.declared.history.Lapse.{Lapse}
 use Rattle.vio_num.specs.declared.history.Lapse.TheVariants as lapses
 use Rattle.crq_session.specs.declared.handshake.Handshake.{Handshake}
 use Rattle.crq_ring.specs.declared.rows.PipeRow.{PipeRow}
-use Rattle.crq_ring.proofs.Sessions.{of_session-push}
+use Rattle.crq_ring.proofs.SessionLaws.{of_session-push}
 use Rattle.vio_num.specs.declared.names.UnitId.{UnitId}
 use Rattle.block_server.specs.Advances.{Advances}
 use Rattle.block_server.specs.Books.{books_at, books_of, books_seen, is_up, next_of, number_of}
@@ -63,7 +63,7 @@ works unit unit' old new books books' named named' takes judges = record { takes
 
 -- A part that takes nothing, fetches nothing, and leaves the unit as it stands.
 pub works_none : (unit unit' : Standing) (old new : SiteState) (books books' : Books) → unit' ≡ unit → books.id ≡ unit.id → books'.id ≡ unit'.id → Advances old new → Passes old new
-    → LinesMore unit.id books.grants books'.grants → Keeps books books' → Works unit unit' old new books books'
+    → LinesMore unit.id unit.granted books.grants books'.grants → Keeps books books' → Works unit unit' old new books books'
 works_none unit unit' old new books books' same named named' advances passes lines keeps = record {
   takes = takes_none unit unit' old new books.grants books'.grants same advances passes lines;
   judges = judges_none unit unit' old new books books' same advances passes lines keeps;
@@ -80,7 +80,7 @@ next_passed None old new passes = λ i. record { number = length (of_session (pa
 pub works_pass : (unit : Unit) (records : Records) (old new : SiteState) → Advances old new → Passes old new
     → Works (standing_of unit) (standing_of unit) old new (books_at unit old records) (books_at unit new records)
 works_pass unit records old new advances passes = works_none (standing_of unit) (standing_of unit) old new (books_at unit old records) (books_at unit new records) refl refl refl advances passes
-    (lines_same unit.id records.grants.items records.grants.items refl)
+    (lines_same unit.id unit.logins.granted records.grants.items records.grants.items refl)
     (λ judged is. moved_to (books_at unit old records) (books_at unit new records) judged refl (passed_session old new passes) (next_passed unit.waiting old new passes)
     refl refl refl refl refl refl refl refl refl refl refl is)
 
@@ -98,13 +98,13 @@ all_taken old books session next =
 
 -- A part that takes an SRP entry, which waits to be fetched.
 pub works_entry : (unit unit' : Standing) (old new : SiteState) (books books' : Books) (number : ℕ) (entry : Entry) (arrival : Arrival) → MayTake unit
-    → TakesEntry old new number entry → is_srp_entry entry ≡ true → arrival.number ≡ number → arrival.entry ≡ entry → books.id ≡ unit.id → unit'.id ≡ unit.id
+    → TakesEntry old new number entry → is_srp_entry entry ≡ true → arrival.number ≡ number → arrival.entry ≡ entry → books.id ≡ unit.id → unit'.id ≡ unit.id → unit'.granted ≡ unit.granted
     → unit'.waiting ≡ Some arrival → unit'.ended ≡ unit.ended → books.session ≡ old.queue.last_session → books.next ≡ next_of None old.queue
     → books'.session ≡ new.queue.last_session → books'.next ≡ next_of (Some arrival) new.queue → books'.ended ≡ books.ended → books'.id ≡ books.id
     → books'.current ≡ books.current → books'.last ≡ books.last → books'.taking ≡ books.taking → books'.stage ≡ books.stage → books'.kept ≡ books.kept
     → books'.pending ≡ books.pending → books'.rows ≡ books.rows → books'.grants ≡ books.grants → books'.up ≡ books.up → books'.credits ≡ books.credits → Works unit unit' old new books books'
-works_entry unit unit' old new books books' number entry arrival may taken srp at of named id waits ended session next session' next' over same current last taking stage kept pending rows grants up credits = record {
-  takes = takes_entry unit unit' old new books.grants books'.grants number entry arrival may taken srp at of taken.advances id waits ended grants;
+works_entry unit unit' old new books books' number entry arrival may taken srp at of named id granted waits ended session next session' next' over same current last taking stage kept pending rows grants up credits = record {
+  takes = takes_entry unit unit' old new books.grants books'.grants number entry arrival may taken srp at of taken.advances id granted waits ended grants;
   judges = judges_entry unit unit' old new books books' number entry arrival may taken srp at of taken.advances waits ended grants
       (λ judged is. moved_to (record books { next = behind books entry books.next.number }) books' judged same (session' ∙ taken.session ∙ sym session)
       (next' ∙ (λ i. record { number = (at ∙ taken.number_is ∙ sym (ap (λ (n : Ahead). n.number) next)) i; taken = (taken_row old new books number entry taken session next) i }))
@@ -118,13 +118,13 @@ works_entry unit unit' old new books books' number entry arrival may taken srp a
 
 -- A part that takes another entry.
 pub works_other : (unit unit' : Standing) (old new : SiteState) (books books' : Books) (number : ℕ) (entry : Entry) → MayTake unit
-    → TakesEntry old new number entry → is_srp_entry entry ≡ false → is_event entry ≡ false → (books.ended ≡ false → books'.up ≡ false → (books.up ≡ false) × (is_handshake entry ≡ false)) → books.id ≡ unit.id → unit'.id ≡ unit.id
+    → TakesEntry old new number entry → is_srp_entry entry ≡ false → is_event entry ≡ false → (books.ended ≡ false → books'.up ≡ false → (books.up ≡ false) × (is_handshake entry ≡ false)) → books.id ≡ unit.id → unit'.id ≡ unit.id → unit'.granted ≡ unit.granted
     → unit'.waiting ≡ None → books.session ≡ old.queue.last_session → books.next ≡ next_of None old.queue
     → books'.session ≡ new.queue.last_session → books'.next ≡ next_of None new.queue → books'.ended ≡ books.ended → books'.id ≡ books.id
     → books'.current ≡ books.current → books'.last ≡ books.last → books'.taking ≡ books.taking → books'.stage ≡ books.stage → books'.kept ≡ books.kept
     → books'.pending ≡ books.pending → books'.rows ≡ books.rows → books'.grants ≡ books.grants → books'.credits ≡ books.credits → Works unit unit' old new books books'
-works_other unit unit' old new books books' number entry may taken other event heard named id none session next session' next' over same current last taking stage kept pending rows grants credits = record {
-  takes = takes_other unit unit' old new books.grants books'.grants number entry may taken other taken.advances id none grants;
+works_other unit unit' old new books books' number entry may taken other event heard named id granted none session next session' next' over same current last taking stage kept pending rows grants credits = record {
+  takes = takes_other unit unit' old new books.grants books'.grants number entry may taken other taken.advances id granted none grants;
   judges = judges_other unit unit' old new books books' number entry may taken other taken.advances none grants
       (λ judged is. moved_to (record books { next = behind books entry (books.next.number + 1); up = books'.up }) books' judged same (session' ∙ taken.session ∙ sym session)
       (next' ∙ (λ i. record { number = longer i; taken = (taken_row old new books number entry taken session next) i }))
@@ -178,15 +178,15 @@ keeps_gone unit h unit' old new records records' session number entry may taken 
 
 -- A part that takes such an event.
 pub judges_gone : (unit unit' : Unit) (old new : SiteState) (records records' : Records) (number : ℕ) (entry : Entry) → MayTake (standing_of unit) → TakesEntry old new number entry → is_srp_entry entry ≡ false
-    → standing_of unit' ≡ standing_of unit → LinesMore unit.id records.grants.items records'.grants.items → Keeps (books_at unit old records) (books_at unit' new records')
+    → standing_of unit' ≡ standing_of unit → LinesMore unit.id unit.logins.granted records.grants.items records'.grants.items → Keeps (books_at unit old records) (books_at unit' new records')
     → Judges (standing_of unit) (standing_of unit') old new (books_at unit old records) (books_at unit' new records')
 judges_gone unit unit' old new records records' number entry may taken other stands lines keeps =
     judges_still (standing_of unit) (standing_of unit') old new (books_at unit old records) (books_at unit' new records')
     (λ receipts is. intake_stays (intake_of (standing_of unit) new records.grants.items) (intake_of (standing_of unit') new records'.grants.items) receipts
-    (grown_of (standing_of unit) (standing_of unit') new new records.grants.items records'.grants.items unit.id (advances_same new) lines)
+    (grown_of (standing_of unit) (standing_of unit') new new records.grants.items records'.grants.items unit.id unit.logins.granted (advances_same new) lines)
     refl refl refl (ap (λ s. s.waiting) stands) (ap (λ s. s.ended) stands)
     (intake_passes (intake_of (standing_of unit) old records.grants.items) (intake_of (standing_of unit) new records.grants.items) receipts entry
-    (grown_of (standing_of unit) (standing_of unit) old new records.grants.items records.grants.items unit.id taken.advances (lines_same unit.id _ _ refl))
+    (grown_of (standing_of unit) (standing_of unit) old new records.grants.items records.grants.items unit.id unit.logins.granted taken.advances (lines_same unit.id unit.logins.granted _ _ refl))
     taken.session taken.taken other (window_copies old new taken.windows) may.none may.none may.goes_on is)) keeps
 
 -- A part that ends the session for such a cause.
@@ -222,7 +222,7 @@ judges_over unit unit' old new records records' session cause outstanding grante
 -- A part that fetches the information unit of the entry that waits, and judges it.
 pub judges_received : (unit unit' : Unit) (records records' : Records) (old new : SiteState) (arrival : Arrival) (session address : ℕ) (bytes : List ℕ) → unit.waiting ≡ Some arrival → unit'.waiting ≡ None
     → unit'.id ≡ unit.id → address ≡ iu_address arrival.entry → FetchesOne old new address bytes → length bytes ≡ iu_length arrival.entry → new.queue ≡ old.queue → Advances old new
-    → LinesMore unit.id records.grants.items records'.grants.items → session ≡ old.queue.last_session
+    → LinesMore unit.id unit.logins.granted records.grants.items records'.grants.items → session ≡ old.queue.last_session
     → is_up unit.line.handshake ≡ true → ((next next' : Ahead) → (receipt : Receipt) → IsToJudge (books_of unit session next records) session next' arrival.number bytes receipt
     → JudgesOne (books_of unit session next records) (books_of unit' session next' records') receipt)
     → Judges (standing_of unit) (standing_of unit') old new (books_at unit old records) (books_at unit' new records')

@@ -1,11 +1,8 @@
 -- What the parts of a turn leave of what a unit's books say.
-use Rattle.std.proofs.Common.{◌≡◌, ◌⊎◌, inl, inr, ◌+◌, ◌==◌, ◌&&◌, ◌++◌, ◌<◌, ◌≤◌, ℕ, Bool, true, false, All, Contains, List, [], ◌∷◌, Option, Some, None, drop, length, suc, ◌-◌, slice_get, slice_set, map, filter, refl, sym, ◌∙◌, ap, subst, arith, append-nil, length-append}
+use Rattle.std.proofs.Common.{◌≡◌, ◌⊎◌, inl, inr, ◌+◌, ◌==◌, ◌&&◌, ◌++◌, ◌<◌, ◌≤◌, ℕ, Bool, true, false, All, List, [], ◌∷◌, Option, Some, None, drop, length, suc, ◌-◌, slice_get, slice_set, map, filter, refl, sym, ◌∙◌, ap, subst, arith, length-append}
 use Rattle.std.proofs.lemmas.Bool.{eq-eqb, eqb-true, ne_eqb}
 use Rattle.std.proofs.lemmas.List.{length-map}
-use Rattle.std.proofs.lemmas.List.Elements.{All-append, All-nil, All-push, All-weaker, Contains-append_left, Contains-push}
-use Rattle.crq_ring.proofs.Sessions.{of_session-push}
-use Rattle.crq_ring.specs.Sessions.{of_session}
-use Rattle.crq_ring.specs.declared.rows.PipeRow.{PipeRow}
+use Rattle.std.proofs.lemmas.List.Elements.{All-push, All-weaker, Contains-append_left, Contains-push}
 use Rattle.vio_num.specs.declared.entry.Entry.{Entry}
 use Rattle.vio_num.specs.declared.history.Grant.{Grant}
 use Rattle.vio_num.specs.declared.history.Grant.TheVariants.{Granted, Lapsed}
@@ -14,8 +11,7 @@ use Rattle.vio_num.specs.declared.history.Lapse.TheVariants as lapses
 use Rattle.vio_num.specs.declared.names.UnitId.{UnitId}
 use Rattle.block_server.specs.Makers.{same_unit}
 use Rattle.block_server.specs.Receipts.{Receipt}
-use Rattle.block_server.specs.Decided.{IsEnd, IsGone, IsJudgedLast, IsTurnedDown}
-use Rattle.block_server.specs.Judged.{Ahead, AreKept, AreLogins, ArePending, Books, Credits, Fate, HasLimit, HasLogout, IsOpenRow, Key, KeepsLines, accepted, answered_under, is_command, is_limit, row_in, is_under, HasFate, HasFront, HasGrant, IsAtStage, IsGranting, IsKeptAt, IsOn, IsOutcome, IsServedUnder, Judged, KeepsLogins, RowKey, due_under, ends, gets_row, has_row, is_login, is_logout, request_key}
+use Rattle.block_server.specs.Judged.{Ahead, AreKept, AreLogins, ArePending, Books, Credits, Fate, HasLimit, HasLogout, IsOpenRow, Key, KeepsLines, KeepsRowsRising, accepted, answered_under, is_command, row_in, is_under, HasFate, HasFront, HasGrant, IsAtStage, IsGranting, IsKeptAt, IsOn, IsOutcome, IsServedUnder, Judged, KeepsLogins, RowKey, due, due_under, ends, gets_row, has_row, is_login, request_key}
 use Rattle.block_server.specs.Fates.Fate.{ends_it, ignored, asks_login, asks_logout, asked}
 use Rattle.block_server.specs.declared.line.Kept.{Kept}
 use Rattle.block_server.specs.declared.request.Request.{Request}
@@ -27,10 +23,11 @@ use Rattle.block_server.specs.declared.service.Stage.{Stage}
 use Rattle.block_server.specs.declared.service.Stage.TheVariants as stages
 use Rattle.block_server.proofs.Numbering.{numbers_begun, numbers_ended, numbers_granted}
 use Rattle.block_server.proofs.Rising.{rising_begun, rising_granted, rising_lapsed, rising_later, rising_none, rising_popped}
-use Rattle.block_server.proofs.Counting.{accepted_pass, answered_push, limits_on, limits_to, logout_rest, mark_all, mark_here, mark_other, mark_under, marked, none_answered, open_last, open_room, open_start, other_login, same_self}
-use Rattle.block_server.proofs.Lapsing.{lines_end, lines_out}
+use Rattle.block_server.proofs.RowsRising.{rows_added, rows_begun, rows_later, rows_marked, rows_none, rows_popped, rows_to}
+use Rattle.block_server.proofs.Counting.{answered_push, limits_on, limits_to, logout_rest, mark_all, mark_here, mark_other, mark_under, marked, none_answered, open_last, open_room, open_start, same_self}
+use Rattle.block_server.proofs.Lapsing.{lines_out}
 use Rattle.block_server.proofs.Lines.{lines_granted, lines_session}
-use Rattle.block_server.proofs.Judging.{all_logins, due_popped, filter_left, login_no_row, row_no_login, served_due, served_ended, served_granted, served_left, served_other, served_row}
+use Rattle.block_server.proofs.Judging.{all_logins, due_popped, filter_left, login_no_row, row_no_login, served_due, served_granted, served_left, served_row}
 
 command_gets : (order : Order) → is_command order ≡ true → gets_row order ≡ true
 command_gets (orders.Login request) is = absurd (cc (is))
@@ -63,7 +60,7 @@ no_cons request requests pending some none = absurd (cc (some, none))
 none_one : (n : ℕ) → n ≡ 0 → 1 ≤ n → ⊥
 none_one n none some = absurd (omega (arith, none, some))
 
-zero_one : 1 ≤ 0 → ⊥
+pub zero_one : 1 ≤ 0 → ⊥
 zero_one some = absurd (omega (arith, some))
 
 -- lines more leave each entry its fate
@@ -106,6 +103,7 @@ keeps_stage books stage' judged same placed at none is = record {
   idle = is.idle;
   numbers = is.numbers;
   rising = is.rising;
+  rows = subst (λ (has : Bool). KeepsRowsRising books.id books.session books.next.number (due has books.pending) books.rows) (sym same) is.rows;
   counted = record {
     row = λ place in_service. is.counted.row place (sym placed ∙ in_service);
     exact = is.counted.exact;
@@ -141,6 +139,11 @@ keeps_row books stage' front rest judged parts before after placed asks at none 
       idle = is.idle;
       numbers = is.numbers;
       rising = is.rising;
+      rows = subst (λ (has : Bool). KeepsRowsRising books.id books.session books.next.number (due has books.pending) (books.rows ++ row_of_request books front ∷ [])) (sym after)
+          (subst (λ (pending : List Request). KeepsRowsRising books.id books.session books.next.number (due true pending) (books.rows ++ row_of_request books front ∷ [])) (sym parts)
+          (rows_added books.id books.session books.next.number front rest books.rows (row_of_request books front) refl refl refl
+          (subst (λ (pending : List Request). KeepsRowsRising books.id books.session books.next.number pending books.rows) parts
+          (subst (λ (has : Bool). KeepsRowsRising books.id books.session books.next.number (due has books.pending) books.rows) before is.rows))));
       counted = record {
         row = λ place in_service. open_last books.id books.current books.rows (row_of_request books front) place (place_is place (sym in_service ∙ placed)) refl under.0 refl;
         exact = λ some. ap (λ (n : ℕ). books.credits.outstanding + n) (answered_push books.id books.current books.rows (row_of_request books front) refl) ∙ is.counted.exact some;
@@ -172,6 +175,7 @@ keeps_popped books front rest judged parts gone is = record {
   idle = λ over. absurd (no_cons front rest books.pending parts (is.idle over).0);
   numbers = is.numbers;
   rising = rising_popped books.id books.session books.next.number books.pending rest front books.grants parts is.rising;
+  rows = rows_popped books.id books.session books.next.number (has_row books.stage) books.pending rest front books.rows parts is.rows;
   counted = record {
     row = open_start books.id books.current books.rows;
     exact = is.counted.exact;
@@ -210,6 +214,7 @@ keeps_idle books judged none is = record {
   idle = λ over. (refl, (is.idle over).1);
   numbers = is.numbers;
   rising = rising_none books.id books.session books.next.number books.pending books.grants is.rising;
+  rows = rows_none books.id books.session books.next.number (due (has_row books.stage) books.pending) books.rows is.rows;
   counted = record {
     row = open_start books.id books.current books.rows;
     exact = is.counted.exact;
@@ -259,7 +264,7 @@ later_on unit current last session cause outstanding granted grants most none n 
     second true b is = is
     second false b is = refl
 
-off_logins : (unit : UnitId) (session next current last of : ℕ) (session' next' : ℕ) (taking : Bool) (cause : Lapse) (outstanding granted : ℕ) (grants : List Grant)
+pub off_logins : (unit : UnitId) (session next current last of : ℕ) (session' next' : ℕ) (taking : Bool) (cause : Lapse) (outstanding granted : ℕ) (grants : List Grant)
     → KeepsLogins unit session next current last taking grants
     → KeepsLogins unit session' next' 0 last false (grants ++ Lapsed unit of current cause outstanding granted ∷ [])
 off_logins unit session next current last of session' next' taking cause outstanding granted grants is = record {
@@ -269,140 +274,6 @@ off_logins unit session next current last of session' next' taking cause outstan
   granted = λ some. absurd (zero_one some);
   takes = λ some. absurd (cc (some));
 }
-
--- the fate of the entry that ended its session, by the line on that
-more_fates : (books : Books) (next' : Ahead) (ended' : Bool) (cause : Lapse) (outstanding granted : ℕ) (judged more : List Judged) → IsEnd books next' ended' cause outstanding granted judged more
-    → All (λ j. HasFate books.id (books.grants ++ Lapsed books.id books.session books.current cause outstanding granted ∷ []) j.receipt j.fate) more
-more_fates books next' ended' cause outstanding granted judged more end = by end.why
-  where
-    line : Grant
-    line = Lapsed books.id books.session books.current cause outstanding granted
-
-    Has : Judged → Type 0
-    Has j = HasFate books.id (books.grants ++ line ∷ []) j.receipt j.fate
-
-    by : IsGone books next' ended' cause more ⊎ (IsTurnedDown books next' ended' cause more ⊎ IsJudgedLast books next' ended' cause outstanding granted judged more) → All Has more
-    by (inl gone) = subst (All Has) (sym gone.none) (All-nil Has)
-    by (inr (inl down)) = subst (All Has) (sym down.none) (All-nil Has)
-    by (inr (inr last)) = subst (All Has) (sym last.one) (All-push Has [] (record { receipt = last.receipt; fate = ends_it }) (All-nil Has) (record {
-      login = books.current;
-      cause = cause;
-      outstanding = outstanding;
-      granted = granted;
-      listed = subst (λ (n : ℕ). Contains (books.grants ++ line ∷ []) (Lapsed books.id n books.current cause outstanding granted)) (sym last.session_is) (Contains-push books.grants line);
-      fatal = last.fatal;
-    }))
-
-more_served : (books : Books) (next' : Ahead) (ended' : Bool) (cause : Lapse) (outstanding granted : ℕ) (judged more : List Judged) (grants : List Grant) (login : ℕ) → 1 ≤ login
-    → IsEnd books next' ended' cause outstanding granted judged more → IsServedUnder books.id books.session judged books.rows grants stages.Start [] login
-    → IsServedUnder books.id books.session (judged ++ more) books.rows grants stages.Start [] login
-more_served books next' ended' cause outstanding granted judged more grants login some end is = by end.why
-  where
-    Is : List Judged → Type 0
-    Is js = IsServedUnder books.id books.session (judged ++ js) books.rows grants stages.Start [] login
-
-    by : IsGone books next' ended' cause more ⊎ (IsTurnedDown books next' ended' cause more ⊎ IsJudgedLast books next' ended' cause outstanding granted judged more) → Is more
-    by (inl gone) = subst Is (sym gone.none) (subst (λ (js : List Judged). IsServedUnder books.id books.session js books.rows grants stages.Start [] login) (sym (append-nil judged)) is)
-    by (inr (inl down)) = subst Is (sym down.none) (subst (λ (js : List Judged). IsServedUnder books.id books.session js books.rows grants stages.Start [] login) (sym (append-nil judged)) is)
-    by (inr (inr last)) = subst Is (sym last.one) (served_other books.id books.session judged books.rows grants stages.Start [] last.receipt ends_it login refl some is)
-
--- the entry that ended its session is no request of a login
-more_accepted : (books : Books) (next' : Ahead) (ended' : Bool) (cause : Lapse) (outstanding granted : ℕ) (judged more : List Judged) (login : ℕ) → 1 ≤ login
-    → IsEnd books next' ended' cause outstanding granted judged more → accepted login (judged ++ more) ≡ accepted login judged
-more_accepted books next' ended' cause outstanding granted judged more login some end = by end.why
-  where
-    none : more ≡ [] → accepted login (judged ++ more) ≡ accepted login judged
-    none empty = ap (λ (js : List Judged). accepted login (judged ++ js)) empty ∙ ap (accepted login) (append-nil judged)
-
-    by : IsGone books next' ended' cause more ⊎ (IsTurnedDown books next' ended' cause more ⊎ IsJudgedLast books next' ended' cause outstanding granted judged more)
-        → accepted login (judged ++ more) ≡ accepted login judged
-    by (inl gone) = none gone.none
-    by (inr (inl down)) = none down.none
-    by (inr (inr last)) = ap (λ (js : List Judged). accepted login (judged ++ js)) last.one
-        ∙ accepted_pass login judged (record { receipt = last.receipt; fate = ends_it }) (other_login 0 login refl some)
-
--- the entry that is judged next is then a later one
-end_most : (books : Books) (next' : Ahead) (ended' : Bool) (cause : Lapse) (outstanding granted : ℕ) (judged more : List Judged) → books.next.number ≤ length (of_session books.session books.next.taken)
-    → IsEnd books next' ended' cause outstanding granted judged more → books.next.number ≤ next'.number
-end_most books next' ended' cause outstanding granted judged more upto end = by end.why
-  where
-    from : next'.taken ≡ books.next.taken → books.next.number ≤ next'.number
-    from same = subst (λ (n : ℕ). books.next.number ≤ n) (sym (end.done ∙ ap (λ rows. length (of_session books.session rows)) same)) upto
-
-    one : (n : ℕ) (xs : List Entry) (x : Entry) → n ≤ length xs → n ≤ length (xs ++ x ∷ [])
-    one n xs x low = omega (arith, low, length-append xs (x ∷ []))
-
-    by : IsGone books next' ended' cause more ⊎ (IsTurnedDown books next' ended' cause more ⊎ IsJudgedLast books next' ended' cause outstanding granted judged more)
-        → books.next.number ≤ next'.number
-    by (inl gone) =
-        let row : PipeRow = record { session = books.session; entry = gone.event } in
-        subst (λ (n : ℕ). books.next.number ≤ n)
-        (sym (end.done ∙ ap (λ rows. length (of_session books.session rows)) gone.taken ∙ ap length (of_session-push row books.next.taken)))
-        (one books.next.number (of_session books.session books.next.taken) gone.event upto)
-    by (inr (inl down)) = from down.taken
-    by (inr (inr last)) = from last.taken
-
--- The login that is on ended for another cause than its logout, and nothing is pending.
-pub keeps_ended : (books : Books) (next' : Ahead) (cause : Lapse) (outstanding granted : ℕ) (ended' up' : Bool) (credits' : Credits) (judged more : List Judged) → is_logout cause ≡ false
-    → IsEnd books next' ended' cause outstanding granted judged more → AreKept books judged → AreKept (record books {
-      next = next';
-      current = 0;
-      taking = false;
-      stage = stages.Start;
-      kept = None;
-      pending = [];
-      grants = books.grants ++ Lapsed books.id books.session books.current cause outstanding granted ∷ [];
-      ended = ended';
-      up = up';
-      credits = credits';
-    }) (judged ++ more)
-keeps_ended books next' cause outstanding granted ended' up' credits' judged more other end is =
-    let line = Lapsed books.id books.session books.current cause outstanding granted in
-    record {
-      fates = All-append (λ j. HasFate books.id (books.grants ++ line ∷ []) j.receipt j.fate) judged more (fate_grows books.id books.grants (line ∷ []) judged is.fates)
-          (more_fates books next' ended' cause outstanding granted judged more end);
-      served = λ login some. more_served books next' ended' cause outstanding granted judged more (books.grants ++ line ∷ []) login some end
-          (served_ended books.id books.session books.session books.session judged books.rows books.grants books.stage books.pending books.current books.next.number login books.taking
-          cause outstanding granted other is.pending (is.served login some));
-      logins = off_logins books.id books.session books.next.number books.current books.last books.session books.session next'.number books.taking cause outstanding granted books.grants is.logins;
-      pending = tt;
-      stage = tt;
-      kept = tt;
-      under = is.under;
-      lines = lines_end books next' up' credits' ended' cause outstanding granted judged more is.logins.on end is.lines;
-      idle = λ over. (refl, refl);
-      numbers = numbers_ended books.id books.session books.current books.last cause outstanding granted books.grants is.numbers;
-      rising = rising_lapsed books.id books.id books.session next'.number books.session books.current cause outstanding granted [] books.grants
-          (rising_later books.id books.session books.next.number next'.number [] books.grants (end_most books next' ended' cause outstanding granted judged more is.lines.upto end)
-          (rising_none books.id books.session books.next.number books.pending books.grants is.rising));
-      counted = record {
-        row = open_start books.id 0 books.rows;
-        exact = λ some. absurd (zero_one some);
-        most = λ some. absurd (zero_one some);
-        limits = All-push (HasLimit books.id books.rows (judged ++ more)) books.grants line
-            (limits_to books.id books.rows books.rows judged (judged ++ more) books.grants (λ login some. (refl, ap length (more_accepted books next' ended' cause outstanding granted judged more login some end))) is.counted.limits)
-            (limit cause refl);
-        asked_out = λ some. absurd (zero_one some);
-        none_later = λ login high. more_accepted books next' ended' cause outstanding granted judged more login (above books.last login high) end ∙ is.counted.none_later login high;
-      };
-    }
-  where
-    above : (a b : ℕ) → a < b → 1 ≤ b
-    above a b high = omega (arith, high)
-
-    limit : (c : Lapse) → cause ≡ c → HasLimit books.id books.rows (judged ++ more) (Lapsed books.id books.session books.current c outstanding granted)
-    limit lapses.Logout same = tt
-    limit lapses.Lost same = tt
-    limit lapses.Early same = tt
-    limit lapses.BadIu same = tt
-    limit lapses.NotLogin same = tt
-    limit lapses.Refused same = tt
-    limit lapses.OverLimit same = λ own.
-        let full = end.full (ap is_limit same) in (
-          full.0,
-          ap (λ (n : ℕ). n + answered_under books.id books.current books.rows) full.1 ∙ is.counted.exact full.0
-              ∙ sym (ap length (more_accepted books next' ended' cause outstanding granted judged more books.current full.0 end)),
-        )
 
 -- While a request is pending the session goes on.
 pub going_on : (books : Books) (judged : List Judged) (front : Request) (rest : List Request) → books.pending ≡ front ∷ rest → AreKept books judged → books.ended ≡ false
@@ -442,6 +313,7 @@ keeps_left books front rest outstanding granted credits' judged parts other none
       numbers = numbers_ended books.id books.session books.current books.last lapses.Logout outstanding granted books.grants is.numbers;
       rising = rising_lapsed books.id books.id books.session books.next.number books.session books.current lapses.Logout outstanding granted rest books.grants
           (rising_popped books.id books.session books.next.number books.pending rest front books.grants parts is.rising);
+      rows = rows_popped books.id books.session books.next.number (has_row books.stage) books.pending rest front books.rows parts is.rows;
       counted = record {
         row = open_start books.id 0 books.rows;
         exact = λ some. absurd (zero_one some);
@@ -498,6 +370,7 @@ keeps_granted books number front rest judged parts grants is =
       numbers = numbers_granted books.id books.session books.current books.last number books.credits.granted books.grants grants.none_on is.numbers;
       rising = rising_granted books.id books.session books.next.number (books.last + 1) number books.credits.granted books.pending rest front books.grants parts
           (ap (λ (r : Request). r.number) (head_same front grants.front rest grants.rest (sym parts ∙ grants.parts)) ∙ grants.number_is) is.rising;
+      rows = rows_popped books.id books.session books.next.number (has_row books.stage) books.pending rest front books.rows parts is.rows;
       counted = record {
         row = open_start books.id (books.last + 1) books.rows;
         exact = λ some. zero_left _ (none_answered books.id (books.last + 1) books.rows
@@ -550,9 +423,15 @@ keeps_session books session' next' ended' up' judged later taken first none off 
   idle = λ over. (none, off);
   numbers = numbers_begun books.id books.session session' books.current books.last books.grants off (is.lines.later session' later) is.numbers;
   rising = rising_begun books.id books.session session' books.next.number next'.number books.pending books.grants none (is.lines.later session' later) is.rising;
+  rows = rows_begun books.id books.session session' books.next.number next'.number (due (has_row books.stage) books.pending) books.rows
+      (ap (due (has_row books.stage)) none ∙ none_due (has_row books.stage)) later is.rows;
   counted = record { row = is.counted.row; exact = is.counted.exact; most = is.counted.most; limits = is.counted.limits; asked_out = is.counted.asked_out; none_later = is.counted.none_later };
 }
   where
+    none_due : (has : Bool) → due has [] ≡ []
+    none_due true = refl
+    none_due false = refl
+
     nothing : (session login : ℕ) (has : Bool) → due_under session login has [] ≡ []
     nothing session login true = refl
     nothing session login false = refl
@@ -604,6 +483,7 @@ keeps_later books next' ended' up' judged most idle lines is = record {
   idle = idle;
   numbers = is.numbers;
   rising = rising_later books.id books.session books.next.number next'.number books.pending books.grants most is.rising;
+  rows = rows_later books.id books.session books.next.number next'.number (due (has_row books.stage) books.pending) books.rows most is.rows;
   counted = record { row = is.counted.row; exact = is.counted.exact; most = is.counted.most; limits = is.counted.limits; asked_out = is.counted.asked_out; none_later = is.counted.none_later };
 }
 
@@ -643,6 +523,7 @@ keeps_kept books kept' judged at is = record {
   idle = is.idle;
   numbers = is.numbers;
   rising = is.rising;
+  rows = is.rows;
   counted = record { row = is.counted.row; exact = is.counted.exact; most = is.counted.most; limits = is.counted.limits; asked_out = is.counted.asked_out; none_later = is.counted.none_later };
 }
 
@@ -750,6 +631,8 @@ keeps_answered books place row judged at there is =
       idle = fin.idle;
       numbers = is.numbers;
       rising = fin.rising;
+      rows = rows_to books.id books.session books.next.number (drop 1 books.pending) (drop 1 books.pending) books.rows rows' refl
+          (λ q. rows_marked books.id q books.rows place row there) fin.rows;
       counted = record {
         row = open_start books.id books.current rows';
         exact = λ some. counts books.credits.outstanding _ _ (length (accepted books.current judged)) (mark_here books.id books.current books.rows place row there under unanswered)

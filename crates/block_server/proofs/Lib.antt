@@ -52,7 +52,9 @@ pub mod Lines
 pub mod Lapsing
 pub mod Numbering
 pub mod Rising
+pub mod RowsRising
 pub mod Keeping
+pub mod Ended
 pub mod Accepting
 pub mod Working
 pub mod Booking
@@ -75,3 +77,4 @@ pub mod Ledgers
 pub mod Settling
 pub mod DealtLaws
 pub mod RefusalLaws
+pub mod Laws

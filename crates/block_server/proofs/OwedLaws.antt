@@ -96,8 +96,8 @@ stays owing rows more stay has = record {
     })
 
 -- A turn of another unit: only rows and lines of its own came, or changed.
-pub answers_elsewhere : (units units' : List Unit) (unit : ℕ) (other id : UnitId) (queue queue' : EndState) (history history' : List Served) (grants grants' : List Grant)
-    → other ≢ id → slice_get units' unit ≡ slice_get units unit → SeesAnswers queue queue' → OnlyRowsOf other history history' → LinesMore other grants grants'
+pub answers_elsewhere : {granted : ℕ} (units units' : List Unit) (unit : ℕ) (other id : UnitId) (queue queue' : EndState) (history history' : List Served) (grants grants' : List Grant)
+    → other ≢ id → slice_get units' unit ≡ slice_get units unit → SeesAnswers queue queue' → OnlyRowsOf other history history' → LinesMore other granted grants grants'
     → HaveAnswers units unit id queue history grants → HaveAnswers units' unit id queue' history' grants'
 answers_elsewhere units units' unit other id queue queue' history history' grants grants' apart same sees rows lines has =
     answers_seen units units' unit id queue queue' history' grants' same sees

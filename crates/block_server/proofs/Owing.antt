@@ -10,7 +10,7 @@ use Rattle.vio_num.specs.declared.names.UnitId.{UnitId}
 use Rattle.vio_num.specs.declared.entry.Entry.{Entry as QueueEntry}
 use Rattle.vio_num.specs.Entry.{first_byte}
 use Rattle.crq_ring.specs.Sessions.{of_session}
-use Rattle.crq_ring.proofs.Sessions.{of_session-push}
+use Rattle.crq_ring.proofs.SessionLaws.{of_session-push}
 use Rattle.crq_session.specs.EndState.{EndPlace, EndState, OnlyTakes}
 use Rattle.crq_session.specs.Answered.{Takes, received_now, taken_now}
 use Rattle.block_server.specs.Judged.{is_logout}

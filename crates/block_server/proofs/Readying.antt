@@ -1,5 +1,5 @@
 -- Why a turn did nothing, step by step.
-use Rattle.std.proofs.Common.{◌≡◌, ◌≢◌, ◌⊎◌, inl, inr, ℕ, ◌≤◌, Bool, true, false, List, [], ◌∷◌, Option, Some, None, Result, Ok, Err, OnOk, IfOk, refl, sym, ◌∙◌, ap, subst, arith}
+use Rattle.std.proofs.Common.{◌≡◌, ◌≢◌, ◌⊎◌, ◌||◌, inl, inr, ℕ, ◌≤◌, Bool, true, false, List, [], ◌∷◌, Option, Some, None, Result, Ok, Err, OnOk, IfOk, refl, sym, ◌∙◌, ap, ap₂, subst, arith}
 use Rattle.vio_num.specs.Counts.{Rose}
 use Rattle.vio_num.specs.declared.entry.Entry.{Entry}
 use Rattle.vio_num.specs.declared.hypervisor.Moved.{Moved}
@@ -18,6 +18,7 @@ use Rattle.crq_session.specs.Answered.{FindsFull, FindsInUse, FindsNone, HoldsUp
 use Rattle.crq_session.specs.EndState.{EndCounts, EndState, OnlyPushes, OnlyReserves, OnlySends, OnlyTakes, Rises}
 use Rattle.block_server.specs.Advances.{Advances}
 use Rattle.block_server.specs.Ready.{Agrees, Idles, MeetsEmpty, MeetsFull, MeetsSender}
+use Rattle.block_server.specs.Receipts.{is_down, is_ended}
 use Rattle.block_server.specs.SiteState.{SiteState}
 use Rattle.block_server.specs.Waits.{AsNext, EndsIntake, FindsNothing, IsHeldUp, IsIdle, IsPending, MeetsUse, PassesKept, StandsOpen, StopsIntake, StopsOpening}
 use Rattle.block_server.specs.declared.fetching.Progress.{Progress}
@@ -204,10 +205,13 @@ idle_intake shared old opened passed ended u1 u2 u3 first opens passes line idle
         found.1,
         (
           idles.kept (passes.idles.kept opens.passes.none),
-          record { waiting = waiting; pending = empty; kept = ap (λ l. l.kept) line ∙ passes.none },
+          record { waiting = waiting; pending = empty; kept = ap (λ l. l.kept) line ∙ passes.none; going = ap is_ended line ∙ (goes ∙ opens.going) },
         ),
       ),
     ))))
+  where
+    goes : is_ended u2.line ≡ is_ended u1.line
+    goes = ap₂ (λ closing handshake. closing || is_down handshake) passes.closing passes.handshake
 idle_intake shared old opened passed ended u1 u2 u3 first opens passes line idles empty (inr (inr (waiting, inr unregistered))) =
     inl (λ is. off (is.on (λ down. opens.on (sym passes.handshake ∙ sym (ap (λ l. l.handshake) line) ∙ down))))
   where

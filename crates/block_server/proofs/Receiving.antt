@@ -7,7 +7,7 @@ use Rattle.std.proofs.lemmas.List.Quantifiers.{all_pairs_push}
 use Rattle.std.proofs.lemmas.Option.{slice_get_within, slice_get-get_or, get_or_from_slice_get}
 use Rattle.crq_ring.specs.Sessions.{of_session}
 use Rattle.crq_ring.specs.declared.rows.PipeRow.{PipeRow}
-use Rattle.crq_ring.proofs.Sessions.{of_session-append, of_session-push}
+use Rattle.crq_ring.proofs.SessionLaws.{of_session-append, of_session-push}
 use Rattle.rdma_copy.proofs.Laws.{read_stays, written_stays}
 use Rattle.rdma_copy.specs.Copies.{side_of}
 use Rattle.rdma_copy.specs.Copy.{SideGrows}

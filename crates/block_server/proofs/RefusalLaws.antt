@@ -35,8 +35,8 @@ other_line Hears unit taken (Lapsed of session login lapses.Refused outstanding 
     apart b is other = cc (is, other)
 
 -- A unit's refusals are explained behind a turn of another, and over another end of the same queue.
-pub refusals_elsewhere : (told : Told → Bool) (units units' : List Unit) (n : ℕ) (unit other : UnitId) (queue queue' : EndState) (since grants grants' : List Grant)
-    → slice_get units' n ≡ slice_get units n → queue'.last_session ≡ queue.last_session → queue'.taken ≡ queue.taken → LinesMore other grants grants' → same_unit other unit ≡ false
+pub refusals_elsewhere : {granted : ℕ} (told : Told → Bool) (units units' : List Unit) (n : ℕ) (unit other : UnitId) (queue queue' : EndState) (since grants grants' : List Grant)
+    → slice_get units' n ≡ slice_get units n → queue'.last_session ≡ queue.last_session → queue'.taken ≡ queue.taken → LinesMore other granted grants grants' → same_unit other unit ≡ false
     → HasExplained told units n unit queue since grants → HasExplained told units' n unit queue' since grants'
 refusals_elsewhere told units units' n unit other queue queue' since grants grants' same session taken lines apart has = at (slice_get units n) refl has
   where

@@ -5,7 +5,7 @@ use Rattle.std.proofs.lemmas.List.Elements.{All-nil, All-cons, All-append, All-d
 use Rattle.std.proofs.lemmas.Option.{slice_get-get_or}
 use Rattle.crq_ring.specs.Sessions.{of_session}
 use Rattle.crq_ring.specs.declared.rows.PipeRow.{PipeRow}
-use Rattle.crq_ring.proofs.Sessions.{of_session-push}
+use Rattle.crq_ring.proofs.SessionLaws.{of_session-push}
 use Rattle.crq_session.specs.EndState.{EndState}
 use Rattle.vio_num.specs.Entry.{is_srp_entry, iu_address, iu_length}
 use Rattle.vio_num.specs.Words.{Begins}

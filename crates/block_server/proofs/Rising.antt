@@ -21,11 +21,11 @@ above_without : (n : ℕ) (xs : List ℕ) (m : ℕ) (ys : List ℕ) → AreAbove
 above_without n [] m ys is = is.1
 above_without n (x ∷ xs) m ys is = (is.0, above_without n xs m ys is.1)
 
-rise_without : (xs : List ℕ) (m : ℕ) (ys : List ℕ) → Rise (xs ++ m ∷ ys) → Rise (xs ++ ys)
+pub rise_without : (xs : List ℕ) (m : ℕ) (ys : List ℕ) → Rise (xs ++ m ∷ ys) → Rise (xs ++ ys)
 rise_without [] m ys is = is.1
 rise_without (x ∷ xs) m ys is = (above_without x xs m ys is.0, rise_without xs m ys is.1)
 
-below_without : (n : ℕ) (xs : List ℕ) (m : ℕ) (ys : List ℕ) → AreBelow n (xs ++ m ∷ ys) → AreBelow n (xs ++ ys)
+pub below_without : (n : ℕ) (xs : List ℕ) (m : ℕ) (ys : List ℕ) → AreBelow n (xs ++ m ∷ ys) → AreBelow n (xs ++ ys)
 below_without n [] m ys is = is.1
 below_without n (x ∷ xs) m ys is = (is.0, below_without n xs m ys is.1)
 
@@ -33,11 +33,11 @@ above_front : (n : ℕ) (xs ys : List ℕ) → AreAbove n (xs ++ ys) → AreAbov
 above_front n [] ys is = tt
 above_front n (x ∷ xs) ys is = (is.0, above_front n xs ys is.1)
 
-rise_front : (xs ys : List ℕ) → Rise (xs ++ ys) → Rise xs
+pub rise_front : (xs ys : List ℕ) → Rise (xs ++ ys) → Rise xs
 rise_front [] ys is = tt
 rise_front (x ∷ xs) ys is = (above_front x xs ys is.0, rise_front xs ys is.1)
 
-below_front : (n : ℕ) (xs ys : List ℕ) → AreBelow n (xs ++ ys) → AreBelow n xs
+pub below_front : (n : ℕ) (xs ys : List ℕ) → AreBelow n (xs ++ ys) → AreBelow n xs
 below_front n [] ys is = tt
 below_front n (x ∷ xs) ys is = (is.0, below_front n xs ys is.1)
 
@@ -45,15 +45,15 @@ above_push : (n : ℕ) (xs : List ℕ) (m : ℕ) → n < m → AreAbove n xs →
 above_push n [] m low is = (low, tt)
 above_push n (x ∷ xs) m low is = (is.0, above_push n xs m low is.1)
 
-rise_push : (xs : List ℕ) (m : ℕ) → AreBelow m xs → Rise xs → Rise (xs ++ m ∷ [])
+pub rise_push : (xs : List ℕ) (m : ℕ) → AreBelow m xs → Rise xs → Rise (xs ++ m ∷ [])
 rise_push [] m low is = (tt, tt)
 rise_push (x ∷ xs) m low is = (above_push x xs m low.0 is.0, rise_push xs m low.1 is.1)
 
-below_push : (n : ℕ) (xs : List ℕ) (m : ℕ) → m < n → AreBelow n xs → AreBelow n (xs ++ m ∷ [])
+pub below_push : (n : ℕ) (xs : List ℕ) (m : ℕ) → m < n → AreBelow n xs → AreBelow n (xs ++ m ∷ [])
 below_push n [] m low is = (low, tt)
 below_push n (x ∷ xs) m low is = (is.0, below_push n xs m low is.1)
 
-below_more : (n n' : ℕ) (xs : List ℕ) → n ≤ n' → AreBelow n xs → AreBelow n' xs
+pub below_more : (n n' : ℕ) (xs : List ℕ) → n ≤ n' → AreBelow n xs → AreBelow n' xs
 below_more n n' [] most is = tt
 below_more n n' (x ∷ xs) most is = (less x n n' is.0 most, below_more n n' xs most is.1)
   where

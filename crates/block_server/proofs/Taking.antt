@@ -1,5 +1,5 @@
 -- What the parts of a turn do to a unit's intake, one behind the other.
-use Rattle.std.proofs.Common.{◌≡◌, ◌+◌, ◌++◌, ◌<◌, ℕ, zero, suc, true, false, Contains, IfSome, List, [], ◌∷◌, Option, Some, None, length, filter, slice_get, slice_set, refl, sym, ◌∙◌, ap, ap₂, subst, arith, append-nil, append_assoc}
+use Rattle.std.proofs.Common.{◌≡◌, ◌+◌, ◌++◌, ◌<◌, ℕ, zero, suc, true, false, Contains, IfSome, List, [], ◌∷◌, Option, Some, None, length, filter, slice_get, slice_set, refl, sym, ◌∙◌, ap, ap₂, subst, arith, append-nil, append_assoc, All}
 use Rattle.std.proofs.lemmas.List.Elements.{All-nil, All-cons, All-append, All-weaker, Contains-push, filter-append}
 use Rattle.crq_session.specs.EndState.{EndState}
 use Rattle.rdma_copy.specs.declared.copy.CopyRecord.{CopyRecord}
@@ -13,7 +13,7 @@ use Rattle.vio_num.specs.declared.names.UnitId.{UnitId}
 use Rattle.block_server.specs.Advances.{Advances}
 use Rattle.block_server.specs.Ends.{EndsLogin}
 use Rattle.block_server.specs.Moves.{Fetches, FetchesOne, Passes, is_intake, taken_so_far}
-use Rattle.block_server.specs.Receipts.{AwaitNone, EndedFor, HasIntake, Intake, IsIntake, LinesMore, MayTake, Receipt, ReceivesMore, Standing, TakesEntry, TakesIn, intake_of, is_ended, is_fatal, standing_of, unit_of}
+use Rattle.block_server.specs.Receipts.{AwaitNone, EndedFor, HasIntake, Intake, IsIntake, GrantsMany, LinesMore, MayTake, Receipt, ReceivesMore, Standing, TakesEntry, TakesIn, intake_of, is_ended, is_fatal, standing_of, unit_of}
 use Rattle.block_server.specs.SiteState.{SameWindows, SiteState}
 use Rattle.block_server.specs.declared.line.Line.{Line}
 use Rattle.block_server.specs.declared.records.Records.{Records}
@@ -32,18 +32,15 @@ waiting_stands unit unit' same = ap (λ s. s.waiting) same
 pub ended_stands : (unit unit' : Standing) → unit' ≡ unit → unit'.ended ≡ unit.ended
 ended_stands unit unit' same = ap (λ s. s.ended) same
 
-pub stands_line : (unit unit' : Unit) → unit'.id ≡ unit.id → unit'.waiting ≡ unit.waiting → unit'.line.closing ≡ unit.line.closing
+pub stands : (unit unit' : Standing) → unit'.id ≡ unit.id → unit'.granted ≡ unit.granted → unit'.waiting ≡ unit.waiting → unit'.ended ≡ unit.ended → unit' ≡ unit
+stands unit unit' id granted waiting ended = λ i. record { id = id i; granted = granted i; waiting = waiting i; ended = ended i }
+
+pub stands_line : (unit unit' : Unit) → unit'.id ≡ unit.id → unit'.logins.granted ≡ unit.logins.granted → unit'.waiting ≡ unit.waiting → unit'.line.closing ≡ unit.line.closing
     → unit'.line.handshake ≡ unit.line.handshake → standing_of unit' ≡ standing_of unit
-stands_line unit unit' id waiting closing handshake = stands (standing_of unit) (standing_of unit') id waiting (ended_same unit.line unit'.line closing handshake)
+stands_line unit unit' id granted waiting closing handshake = stands (standing_of unit) (standing_of unit') id granted waiting (ended_same unit.line unit'.line closing handshake)
   where
     ended_same : (line line' : Line) → line'.closing ≡ line.closing → line'.handshake ≡ line.handshake → is_ended line' ≡ is_ended line
     ended_same line line' closing handshake = cc (closing, handshake)
-
-    stands : (unit unit' : Standing) → unit'.id ≡ unit.id → unit'.waiting ≡ unit.waiting → unit'.ended ≡ unit.ended → unit' ≡ unit
-    stands unit unit' id waiting ended = λ i. record { id = id i; waiting = waiting i; ended = ended i }
-
-pub stands : (unit unit' : Standing) → unit'.id ≡ unit.id → unit'.waiting ≡ unit.waiting → unit'.ended ≡ unit.ended → unit' ≡ unit
-stands unit unit' id waiting ended = λ i. record { id = id i; waiting = waiting i; ended = ended i }
 
 pub may_stands : (unit unit' : Standing) → unit' ≡ unit → MayTake unit → MayTake unit'
 may_stands unit unit' same may = subst MayTake (sym same) may
@@ -69,27 +66,34 @@ unfolding taken_so_far
 passes_windows old new session taken same = cc (session, taken, window_copies old new same)
 
 -- lines on logins
-pub lines_same : (unit : UnitId) (old new : List Grant) → new ≡ old → LinesMore unit old new
-lines_same unit old new same = record { more = []; added = same ∙ sym (append-nil old); of_unit = All-nil (λ line. unit_of line ≡ unit) }
+pub lines_same : (unit : UnitId) (granted : ℕ) (old new : List Grant) → new ≡ old → LinesMore unit granted old new
+lines_same unit granted old new same =
+    record { more = []; added = same ∙ sym (append-nil old); of_unit = All-nil (λ line. unit_of line ≡ unit); many = All-nil (GrantsMany granted) }
 
-pub lines_one : (unit : UnitId) (old new : List Grant) (line : Grant) → unit_of line ≡ unit → new ≡ old ++ line ∷ [] → LinesMore unit old new
-lines_one unit old new line of added =
-    record { more = line ∷ []; added = added; of_unit = All-cons (λ line. unit_of line ≡ unit) line [] of (All-nil (λ line. unit_of line ≡ unit)) }
+pub lines_one : (unit : UnitId) (granted : ℕ) (old new : List Grant) (line : Grant) → unit_of line ≡ unit → GrantsMany granted line → new ≡ old ++ line ∷ [] → LinesMore unit granted old new
+lines_one unit granted old new line of many added = record {
+  more = line ∷ [];
+  added = added;
+  of_unit = All-cons (λ line. unit_of line ≡ unit) line [] of (All-nil (λ line. unit_of line ≡ unit));
+  many = All-cons (GrantsMany granted) line [] many (All-nil (GrantsMany granted));
+}
 
-pub lines_pushed : (unit : UnitId) (old new : List Grant) (line : Grant) → new ≡ old ++ line ∷ [] → unit_of line ≡ unit → LinesMore unit old new
-lines_pushed unit old new line added of = lines_one unit old new line of added
+pub lines_pushed : (unit : UnitId) (granted : ℕ) (old new : List Grant) (line : Grant) → new ≡ old ++ line ∷ [] → unit_of line ≡ unit → GrantsMany granted line → LinesMore unit granted old new
+lines_pushed unit granted old new line added of many = lines_one unit granted old new line of many added
 
-pub lines_on : (unit unit' : UnitId) (old mid new : List Grant) → unit' ≡ unit → LinesMore unit old mid → LinesMore unit' mid new → LinesMore unit old new
-lines_on unit unit' old mid new same first next = record {
+pub lines_on : (unit unit' : UnitId) (granted granted' : ℕ) (old mid new : List Grant) → unit' ≡ unit → granted' ≡ granted → LinesMore unit granted old mid → LinesMore unit' granted' mid new
+    → LinesMore unit granted old new
+lines_on unit unit' granted granted' old mid new same many first next = record {
   more = first.more ++ next.more;
   added = next.added ∙ ap (λ front. front ++ next.more) first.added ∙ append_assoc old first.more next.more;
   of_unit = All-append (λ line. unit_of line ≡ unit) first.more next.more first.of_unit
       (All-weaker (λ line. unit_of line ≡ unit') (λ line. unit_of line ≡ unit) (λ line of. of ∙ same) next.more next.of_unit);
+  many = All-append (GrantsMany granted) first.more next.more first.many (subst (λ (n : ℕ). All (GrantsMany n) next.more) many next.many);
 }
 
-pub grown_of : (unit unit' : Standing) (old new : SiteState) (grants grants' : List Grant) (id : UnitId) → Advances old new → LinesMore id grants grants'
+pub grown_of : (unit unit' : Standing) (old new : SiteState) (grants grants' : List Grant) (id : UnitId) (granted : ℕ) → Advances old new → LinesMore id granted grants grants'
     → Grown (intake_of unit old grants) (intake_of unit' new grants')
-grown_of unit unit' old new grants grants' id advances lines =
+grown_of unit unit' old new grants grants' id granted advances lines =
     record { own = advances.own; client = advances.client; taken = advances.taken; grants = (lines.more, lines.added) }
 
 no_more : (intake : Intake) (receipts : List Receipt) → IsIntake intake receipts → ReceivesMore intake receipts
@@ -99,8 +103,9 @@ no_more intake receipts is = record { more = []; is = subst (IsIntake intake) (s
 pub takes_on : (u0 u1 u2 : Standing) (s0 s1 s2 : SiteState) (r0 r1 r2 : List Grant) → TakesIn u0 u1 s0 s1 r0 r1 → TakesIn u1 u2 s1 s2 r1 r2 → TakesIn u0 u2 s0 s2 r0 r2
 takes_on u0 u1 u2 s0 s1 s2 r0 r1 r2 first next = record {
   id = next.id ∙ first.id;
+  granted = next.granted ∙ first.granted;
   place = next.place ∙ first.place;
-  lines = lines_on u0.id u1.id _ _ _ first.id first.lines next.lines;
+  lines = lines_on u0.id u1.id u0.granted u1.granted _ _ _ first.id first.granted first.lines next.lines;
   receipts = λ own receipts is.
       let one = first.receipts own receipts is in
       let other = next.receipts (first.id ∙ own ∙ sym first.place) (receipts ++ one.more) one.is in
@@ -109,21 +114,22 @@ takes_on u0 u1 u2 s0 s1 s2 r0 r1 r2 first next = record {
 
 -- A part that takes nothing, fetches nothing, and leaves the unit as it stands.
 pub takes_none : (unit unit' : Standing) (old new : SiteState) (grants grants' : List Grant) → unit' ≡ unit → Advances old new → Passes old new
-    → LinesMore unit.id grants grants' → TakesIn unit unit' old new grants grants'
+    → LinesMore unit.id unit.granted grants grants' → TakesIn unit unit' old new grants grants'
 takes_none unit unit' old new grants grants' same advances passes lines = record {
   id = ap (λ s. s.id) same;
+  granted = ap (λ s. s.granted) same;
   place = advances.own.unit;
   lines = lines;
   receipts = λ own receipts is. no_more (intake_of unit' new grants') receipts
-      (intake_stays (intake_of unit old grants) (intake_of unit' new grants') receipts (grown_of unit unit' old new grants grants' unit.id advances lines)
+      (intake_stays (intake_of unit old grants) (intake_of unit' new grants') receipts (grown_of unit unit' old new grants grants' unit.id unit.granted advances lines)
       (passed_session old new passes) (passed_taken old new passes) (passed_copies old new passes) (ap (λ s. s.waiting) same) (ap (λ s. s.ended) same) is);
 }
 
 -- the unit's lines on the end of a session
 pub ends_line : (unit unit' : Unit) (records records' : Records) (session : ℕ) (cause : Lapse) (outstanding granted : ℕ)
-    → EndsLogin unit unit' records records' session cause outstanding granted → LinesMore unit.id records.grants.items records'.grants.items
+    → EndsLogin unit unit' records records' session cause outstanding granted → LinesMore unit.id unit.logins.granted records.grants.items records'.grants.items
 ends_line unit unit' records records' session cause outstanding granted is =
-    lines_one unit.id _ _ (Lapsed unit.id session unit.logins.current cause outstanding granted) refl is.line
+    lines_one unit.id unit.logins.granted _ _ (Lapsed unit.id session unit.logins.current cause outstanding granted) refl tt is.line
 
 pub ends_for : (unit unit' : Unit) (records records' : Records) (session : ℕ) (cause : Lapse) (outstanding granted : ℕ)
     → EndsLogin unit unit' records records' session cause outstanding granted → is_fatal cause ≡ true → EndedFor unit.id session records'.grants.items
@@ -146,11 +152,12 @@ pub takes_ended : (unit unit' : Unit) (old new : SiteState) (records records' : 
 takes_ended unit unit' old new records records' session cause outstanding granted is id closing fatal session_is advances passes =
     let lines = ends_line unit unit' records records' session cause outstanding granted is in
     let over : is_ended unit'.line ≡ true = closes unit'.line closing in
-    let grown = grown_of (standing_of unit) (standing_of unit') old new records.grants.items records'.grants.items unit.id advances lines in
+    let grown = grown_of (standing_of unit) (standing_of unit') old new records.grants.items records'.grants.items unit.id unit.logins.granted advances lines in
     let before = intake_of (standing_of unit) old records.grants.items in
     let after = intake_of (standing_of unit') new records'.grants.items in
     record {
       id = id;
+      granted = is.as_many;
       place = advances.own.unit;
       lines = lines;
       receipts = λ own receipts intake.
@@ -176,15 +183,16 @@ takes_ended unit unit' old new records records' session cause outstanding grante
 
 -- A part that fetches the information unit of the entry that waits.
 pub takes_fetched : (unit unit' : Standing) (old new : SiteState) (grants grants' : List Grant) (arrival : Arrival) (address : ℕ) (bytes : List ℕ)
-    → unit.waiting ≡ Some arrival → unit'.waiting ≡ None → unit'.id ≡ unit.id → address ≡ iu_address arrival.entry → FetchesOne old new address bytes → length bytes ≡ iu_length arrival.entry
-    → new.queue ≡ old.queue → Advances old new → LinesMore unit.id grants grants' → TakesIn unit unit' old new grants grants'
-takes_fetched unit unit' old new grants grants' arrival address bytes waits none id at one long queue advances lines = record {
+    → unit.waiting ≡ Some arrival → unit'.waiting ≡ None → unit'.id ≡ unit.id → unit'.granted ≡ unit.granted → address ≡ iu_address arrival.entry → FetchesOne old new address bytes → length bytes ≡ iu_length arrival.entry
+    → new.queue ≡ old.queue → Advances old new → LinesMore unit.id unit.granted grants grants' → TakesIn unit unit' old new grants grants'
+takes_fetched unit unit' old new grants grants' arrival address bytes waits none id granted at one long queue advances lines = record {
   id = id;
+  granted = granted;
   place = advances.own.unit;
   lines = lines;
   receipts = λ own receipts is. record {
     more = receipt_of (intake_of unit old grants) arrival (Some one.copy) bytes ∷ [];
-    is = intake_fetches (intake_of unit old grants) (intake_of unit' new grants') receipts arrival one.copy bytes (grown_of unit unit' old new grants grants' unit.id advances lines)
+    is = intake_fetches (intake_of unit old grants) (intake_of unit' new grants') receipts arrival one.copy bytes (grown_of unit unit' old new grants grants' unit.id unit.granted advances lines)
         (ap (λ q. q.last_session) queue) (ap (λ q. q.taken) queue) (one_more old new one.copy one.made one.is_unit advances.own_place)
         long
         (subst (λ (z : ℕ × ℕ). Fetches new.own new.client z.0 0 z.1 bytes one.copy) (λ i. (at i, long i)) one.fetched) waits none is;
@@ -204,45 +212,48 @@ takes_fetched unit unit' old new grants grants' arrival address bytes waits none
 -- A part that takes an SRP entry, which waits to be fetched.
 pub takes_entry : (unit unit' : Standing) (old new : SiteState) (grants grants' : List Grant) (number : ℕ) (entry : Entry) (arrival : Arrival) → MayTake unit
     → TakesEntry old new number entry → is_srp_entry entry ≡ true → arrival.number ≡ number → arrival.entry ≡ entry → Advances old new
-    → unit'.id ≡ unit.id → unit'.waiting ≡ Some arrival → unit'.ended ≡ unit.ended → grants' ≡ grants → TakesIn unit unit' old new grants grants'
-takes_entry unit unit' old new grants grants' number entry arrival may taken srp at of advances id waits ended same =
-    let lines = lines_same unit.id _ _ same in
+    → unit'.id ≡ unit.id → unit'.granted ≡ unit.granted → unit'.waiting ≡ Some arrival → unit'.ended ≡ unit.ended → grants' ≡ grants → TakesIn unit unit' old new grants grants'
+takes_entry unit unit' old new grants grants' number entry arrival may taken srp at of advances id granted waits ended same =
+    let lines = lines_same unit.id unit.granted _ _ same in
     record {
       id = id;
+      granted = granted;
       place = advances.own.unit;
       lines = lines;
       receipts = λ own receipts is. no_more (intake_of unit' new grants') receipts
-          (intake_takes (intake_of unit old grants) (intake_of unit' new grants') receipts number entry arrival (grown_of unit unit' old new grants grants' unit.id advances lines)
+          (intake_takes (intake_of unit old grants) (intake_of unit' new grants') receipts number entry arrival (grown_of unit unit' old new grants grants' unit.id unit.granted advances lines)
           taken.session taken.number_is taken.taken srp (window_copies old new taken.windows) may.none waits at of (ended ∙ may.goes_on) may.goes_on is);
     }
 
 -- A part that takes another entry.
 pub takes_other : (unit unit' : Standing) (old new : SiteState) (grants grants' : List Grant) (number : ℕ) (entry : Entry) → MayTake unit
     → TakesEntry old new number entry → is_srp_entry entry ≡ false → Advances old new
-    → unit'.id ≡ unit.id → unit'.waiting ≡ None → grants' ≡ grants → TakesIn unit unit' old new grants grants'
-takes_other unit unit' old new grants grants' number entry may taken other advances id none same =
-    let lines = lines_same unit.id _ _ same in
+    → unit'.id ≡ unit.id → unit'.granted ≡ unit.granted → unit'.waiting ≡ None → grants' ≡ grants → TakesIn unit unit' old new grants grants'
+takes_other unit unit' old new grants grants' number entry may taken other advances id granted none same =
+    let lines = lines_same unit.id unit.granted _ _ same in
     record {
       id = id;
+      granted = granted;
       place = advances.own.unit;
       lines = lines;
       receipts = λ own receipts is. no_more (intake_of unit' new grants') receipts
-          (intake_passes (intake_of unit old grants) (intake_of unit' new grants') receipts entry (grown_of unit unit' old new grants grants' unit.id advances lines)
+          (intake_passes (intake_of unit old grants) (intake_of unit' new grants') receipts entry (grown_of unit unit' old new grants grants' unit.id unit.granted advances lines)
           taken.session taken.taken other (window_copies old new taken.windows) may.none none may.goes_on is);
     }
 
 -- A part in which a session begins.
 pub takes_session : (unit unit' : Standing) (old mid new : SiteState) (grants grants' : List Grant) → unit.ended ≡ true
     → mid.queue.last_session ≡ old.queue.last_session + 1 → mid.queue.taken ≡ old.queue.taken → SameWindows old mid → Passes mid new → Advances old new
-    → unit'.id ≡ unit.id → unit'.waiting ≡ unit.waiting → grants' ≡ grants → TakesIn unit unit' old new grants grants'
-takes_session unit unit' old mid new grants grants' ended session taken windows passes advances id waiting same =
-    let lines = lines_same unit.id _ _ same in
+    → unit'.id ≡ unit.id → unit'.granted ≡ unit.granted → unit'.waiting ≡ unit.waiting → grants' ≡ grants → TakesIn unit unit' old new grants grants'
+takes_session unit unit' old mid new grants grants' ended session taken windows passes advances id granted waiting same =
+    let lines = lines_same unit.id unit.granted _ _ same in
     record {
       id = id;
+      granted = granted;
       place = advances.own.unit;
       lines = lines;
       receipts = λ own receipts is. no_more (intake_of unit' new grants') receipts
-          (intake_begins (intake_of unit old grants) (intake_of unit' new grants') receipts (grown_of unit unit' old new grants grants' unit.id advances lines)
+          (intake_begins (intake_of unit old grants) (intake_of unit' new grants') receipts (grown_of unit unit' old new grants grants' unit.id unit.granted advances lines)
           (later _ _ _ session (passed_session mid new passes)) (passed_taken mid new passes ∙ taken) (passed_copies mid new passes ∙ window_copies old mid windows)
           waiting ended is);
     }

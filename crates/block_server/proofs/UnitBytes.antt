@@ -6,7 +6,7 @@ use Rattle.std.proofs.lemmas.List.{ext_get_or, get_or_append_left, take_all}
 use Rattle.page_slots.specs.Page.{left_by}
 use Rattle.page_slots.specs.Stroke.{StrokeValue}
 use Rattle.page_slots.specs.declared.stroke.StrokeName.{StrokeName}
-use Rattle.page_slots.proofs.Strokes.{left_by-push}
+use Rattle.page_slots.proofs.Laws.{left_by-push}
 use Rattle.tce_window.specs.declared.piece.Piece.{Piece}
 use Rattle.tce_window.specs.Moved.{IsLaid, IsReadFrom, IsWrittenTo, piece_strokes}
 use Rattle.tce_window.specs.declared.answers.Right.TheVariants.{Write}
@@ -14,7 +14,7 @@ use Rattle.tce_window.specs.Pieces.{IsGranted, IsLast, Touches}
 use Rattle.tce_window.specs.PortState.{LaysNone, OnlyReads, PortState, Reads}
 use Rattle.tce_window.specs.Region.{byte_in}
 use Rattle.tce_window.specs.Strokes.{with_strokes}
-use Rattle.tce_window.proofs.Growing.{not_none}
+use Rattle.tce_window.proofs.Laws.{not_none}
 use Rattle.rdma_copy.proofs.Laws.{learns_grows, same_grows, same_later, written_stays}
 use Rattle.rdma_copy.specs.Copies.{Copies, OnlyCopies}
 use Rattle.rdma_copy.specs.declared.copy.CopyRecord.{CopyRecord}

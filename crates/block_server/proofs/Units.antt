@@ -1,10 +1,13 @@
 -- The units of a server, as one of them takes its turn.
-use Rattle.std.proofs.Common.{◌≡◌, ◌≢◌, ◌==◌, ◌++◌, ℕ, zero, suc, Bool, true, false, List, [], ◌∷◌, length, Some, None, slice_get, slice_set, refl, sym, ◌∙◌, ap, subst}
+use Rattle.std.proofs.Common.{◌≡◌, ◌≢◌, ◌==◌, ◌++◌, ℕ, zero, suc, Bool, true, false, List, [], ◌∷◌, length, Some, None, slice_get, slice_set, refl, sym, ◌∙◌, ap, subst, All}
 use Rattle.std.proofs.lemmas.Bool.{eq-eqb, eqb-true}
+use Rattle.std.proofs.lemmas.List.Elements.{All-append, All-cons, All-head, All-tail}
 use Rattle.vio_num.specs.declared.names.UnitId.{UnitId}
 use Rattle.vio_num.specs.declared.history.Served.{Served as ServedRow}
 use Rattle.crq_ring.specs.declared.rows.PipeRow.{PipeRow}
 use Rattle.block_server.specs.Answering.{OnlyRowsOf}
+use Rattle.block_server.specs.Receipts.{GrantsMany, LinesMore}
+use Rattle.vio_num.specs.declared.history.Grant.{Grant}
 use Rattle.std.proofs.Common.{Option, IfSome}
 use Rattle.std.proofs.lemmas.Option.{IfSome_then}
 use Rattle.std.specs.Prelude.{IsSome, option_map}
@@ -18,7 +21,7 @@ use Rattle.block_server.specs.Turns.{IsQuietTurn, under_way, way_of}
 use Rattle.block_server.specs.DiskLaw.{KeepsDiskBy, ServeBy}
 use Rattle.block_server.proofs.DiskLaws.{serve_size}
 use Rattle.block_server.specs.Serving.{Desk, Held, ServeFrom, StaysServed, IsServed, IsServing, Once, Place, Terms, desk_of, place_of}
-use Rattle.block_server.specs.Units.{AreServing, IsUnitOf}
+use Rattle.block_server.specs.Units.{AreGranting, AreServing, GrantEach, IsUnitOf}
 use Rattle.block_server.specs.declared.service.Stage.TheVariants.{Start}
 use Rattle.block_server.specs.declared.unit.Unit.{Unit}
 use Rattle.block_server.proofs.AnswerLaws.{in_service_stays}
@@ -56,6 +59,32 @@ get_set_other (unit ∷ units) zero zero new apart = absurd (apart refl)
 get_set_other (unit ∷ units) zero (suc j) new apart = refl
 get_set_other (unit ∷ units) (suc i) zero new apart = refl
 get_set_other (unit ∷ units) (suc i) (suc j) new apart = get_set_other units i j new (λ same. apart (ap suc same))
+
+-- One unit took its turn, and its logins grant as many as before: so does each.
+units_granting : (granted : ℕ) (units : List Unit) (i : ℕ) (unit unit' : Unit) → slice_get units i ≡ Some unit → unit'.logins.granted ≡ unit.logins.granted
+    → AreGranting granted units → AreGranting granted (slice_set units i unit') × (unit.logins.granted ≡ granted)
+units_granting granted [] i unit unit' there same all = absurd (cc (there))
+units_granting granted (first ∷ units) zero unit unit' there same all =
+    let P : Unit → Type 0 = λ unit. unit.logins.granted ≡ granted in
+    let own : unit.logins.granted ≡ granted = subst P (some_unit first unit there) (All-head P first units all) in
+    (All-cons P unit' units (same ∙ own) (All-tail P first units all), own)
+  where
+    some_unit : (a b : Unit) → Some a ≡ Some b → a ≡ b
+    some_unit a b same = cc (same)
+units_granting granted (first ∷ units) (suc i) unit unit' there same all =
+    let P : Unit → Type 0 = λ unit. unit.logins.granted ≡ granted in
+    let rest = units_granting granted units i unit unit' there same (All-tail P first units all) in
+    (All-cons P first (slice_set units i unit') (All-head P first units all) rest.0, rest.1)
+
+pub granting_on : (granted : ℕ) (units : List Unit) (lines lines' : List Grant) (i : ℕ) (unit unit' : Unit) → slice_get units i ≡ Some unit → unit'.logins.granted ≡ unit.logins.granted
+    → LinesMore unit.id unit.logins.granted lines lines' → GrantEach granted units lines → GrantEach granted (slice_set units i unit') lines'
+granting_on granted units lines lines' i unit unit' there same more is =
+    let on = units_granting granted units i unit unit' there same is.each in
+    record {
+      each = on.0;
+      said = subst (All (GrantsMany granted)) (sym more.added)
+          (All-append (GrantsMany granted) lines more.more is.said (subst (λ (n : ℕ). All (GrantsMany n) more.more) on.1 more.many));
+    }
 
 -- One unit took its turn: each unit is in order still.
 pub units_on : (d d' : Held) (partition number : ℕ) (units : List Unit) (unit unit' : Unit) (s s' : List PipeRow) (h h' : List ServedRow) → slice_get units number ≡ Some unit

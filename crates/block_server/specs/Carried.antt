@@ -1,6 +1,7 @@
 -- Which copies moved the data of a command: byte by byte, the part in which a byte was copied, and its I/O address (SRP,
 -- "Data buffer descriptor formats").
 use Rattle.std.specs.Prelude.{◌≡◌, ◌⊎◌, ◌+◌, ◌-◌, ◌*◌, ◌<◌, ◌≤◌, ℕ, Bool, List, [], ◌∷◌, Option, Some, None, if◌then◌else◌, length, nat_lt, slice_index}
+use Rattle.tce_window.specs.declared.piece.TheConstants.{MOST_BYTES}
 use Rattle.vio_num.specs.declared.TheConstants.{PAGE_BYTES}
 use Rattle.vio_num.specs.declared.history.Served.{Served}
 use Rattle.srp_iu.specs.Grammar.{Spells}
@@ -31,7 +32,7 @@ pub record IsCarried (Carries : Copying) (pieces : List Desc) (k value : ℕ) : 
   pub address : ℕ
   pub part : List ℕ
   pub carried : Carries (data_at + at) address part
-  pub few : length part ≤ 65536
+  pub few : length part ≤ MOST_BYTES
   pub from : at ≤ k
   pub to : k < at + length part
   pub there : address_of pieces k ≡ Some (address + (k - at))

@@ -16,6 +16,7 @@ pub record EndsLogin (unit unit' : Unit) (records records' : Records) (session :
   pub pending : unit'.pending.items ≡ []
   pub waiting : unit'.waiting ≡ None
   pub kept : unit'.line.kept ≡ None
+  pub as_many : unit'.logins.granted ≡ unit.logins.granted
   pub line : records'.grants.items ≡ records.grants.items ++ Lapsed unit.id session unit.logins.current cause outstanding granted ∷ []
 
 -- A login may be granted for what its request asks, while this one is on (0: none).

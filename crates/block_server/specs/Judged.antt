@@ -1,5 +1,6 @@
 -- What became of each SRP entry that a server unit took, and that each request has one row, in order (SRP, "Flow control").
-use Rattle.std.specs.Prelude.{◌≡◌, ◌⊎◌, ◌==◌, ◌&&◌, ◌+◌, ◌<◌, ◌≤◌, ◌++◌, ℕ, Bool, true, false, ⊤, All, List, [], ◌∷◌, Option, Some, None, IsSome, length, map, filter, slice_get, take}
+use Rattle.std.specs.Prelude.{◌≡◌, ◌⊎◌, ◌==◌, ◌&&◌, ◌+◌, ◌<◌, ◌≤◌, ◌++◌, ℕ, Bool, true, false, ⊤, All, List, [], ◌∷◌, Option, Some, None, IsSome, length, map, filter, slice_get, take, if◌then◌else◌}
+use Rattle.std.specs.List.{filter_map}
 use Rattle.crq_ring.specs.Sessions.{of_session}
 use Rattle.crq_ring.specs.declared.rows.PipeRow.{PipeRow}
 use Rattle.srp_iu.specs.Grammar.{Spells}
@@ -17,7 +18,7 @@ use Rattle.block_server.specs.Fates.Fate.{asked, asks_login, asks_logout, ends_i
 use Rattle.block_server.specs.Answering.{has_bytes}
 use Rattle.block_server.specs.Closings.{HasCauses, is_closing, heard, is_line, last_line, TakesNone}
 use Rattle.block_server.specs.Makers.{same_unit}
-use Rattle.block_server.specs.Numbers.{KeepsNumbers, KeepsRising}
+use Rattle.block_server.specs.Numbers.{AreBelow, KeepsNumbers, KeepsRising, Rise, numbers_of}
 use Rattle.block_server.specs.Receipts.{EndedFor, Receipt}
 use Rattle.block_server.specs.declared.line.Kept.{Kept}
 use Rattle.block_server.specs.declared.line.Kept.TheVariants as keeps
@@ -140,6 +141,21 @@ is_due login request = gets_row request.order && (request.login == login)
 
 abbrev pub due_under : (session login : ℕ) → Bool → List Request → List Key
 due_under session login has pending = map (request_key session) (filter (is_due login) (due has pending))
+
+-- the number of the entry of a row of this unit and session, if it is one; and those of rows, in their order
+abbrev pub row_number : UnitId → (session : ℕ) → RowKey → Option ℕ
+row_number unit session row = if same_unit row.unit unit && (row.key.session == session) then Some row.key.number else None
+
+abbrev pub row_numbers : UnitId → (session : ℕ) → List RowKey → List ℕ
+row_numbers unit session rows = filter_map (row_number unit session) rows
+
+-- In each session the numbers of the entries of a unit's rows rise. In the present one those of the requests that are due follow, and
+-- the entry that is judged next is behind them all; of later ones there are none.
+pub record KeepsRowsRising (unit : UnitId) (session next : ℕ) (requests : List Request) (rows : List RowKey) : Type 0 where
+  pub each : (q : ℕ) → Rise (row_numbers unit q rows)
+  pub now : Rise (row_numbers unit session rows ++ numbers_of requests)
+  pub below : AreBelow next (row_numbers unit session rows ++ numbers_of requests)
+  pub later : (q : ℕ) → session < q → row_numbers unit q rows ≡ []
 
 -- Of a login the rows are the first of its requests, each once and in order. Until it ends the others are due; one that is not
 -- served by then is dropped, and a line says so. The client's own logout drops none.
@@ -347,6 +363,7 @@ pub record AreKept (books : Books) (judged : List Judged) : Type 0 where
   pub counted : AreCounted books judged
   pub numbers : KeepsNumbers books.id books.session books.current books.last books.grants
   pub rising : KeepsRising books.id books.session books.next.number books.pending books.grants
+  pub rows : KeepsRowsRising books.id books.session books.next.number (due (has_row books.stage) books.pending) books.rows
 
 -- What a part of a turn that judges no entry leaves.
 abbrev pub Keeps : (books books' : Books) → Type 0

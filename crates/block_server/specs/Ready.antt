@@ -7,6 +7,7 @@ use Rattle.crq_session.specs.EndState.{EndState, Rises}
 use Rattle.crq_session.specs.Answered.{FindsFull, FindsInUse, FindsNone}
 use Rattle.tce_window.specs.PortState.{PortState}
 use Rattle.block_server.specs.declared.unit.Unit.{Unit}
+use Rattle.block_server.specs.Receipts.{is_ended}
 use Rattle.block_server.specs.Turns.{IsStill}
 
 -- At the queue's end nothing was done: it is still, no entry found its slot full, no count fell, and no event is kept anew.
@@ -46,11 +47,12 @@ pub record FindsUse (shared : Bool) (own own' client client' : PortState) : Type
   pub shared_is : shared ≡ true
   pub rose : Rose own.in_use own'.in_use ⊎ Rose client.in_use client'.in_use
 
--- The unit has nothing to do: no entry waits to be fetched or put, and no request is pending.
+-- The unit has nothing to do: no entry waits to be fetched or put, no request is pending, and its session goes on.
 pub record HasNothing (unit : Unit) : Type 0 where
   pub waiting : unit.waiting ≡ None
   pub pending : unit.pending.items ≡ []
   pub kept : unit.line.kept ≡ None
+  pub going : is_ended unit.line ≡ false
 
 -- The unit takes its queue for registered exactly where it is.
 pub record Agrees (handshake : Handshake) (queue : EndState) : Type 0 where

@@ -1,5 +1,5 @@
 -- Intake: each SRP entry that a unit took has one copy that fetched its information unit, or ended its session.
-use Rattle.std.specs.Prelude.{◌≡◌, ◌<◌, ◌≤◌, ◌||◌, ◌++◌, ℕ, Bool, true, false, All, List, [], ◌∷◌, Option, Some, None, IfSome, MatchOption, length, map, filter}
+use Rattle.std.specs.Prelude.{◌≡◌, ◌<◌, ◌≤◌, ◌||◌, ◌++◌, ℕ, Bool, true, false, All, List, [], ◌∷◌, Option, Some, None, IfSome, MatchOption, length, map, filter, ⊤}
 use Rattle.std.specs.List.{AllPairs, Contains, filter_map, slice_get}
 use Rattle.crq_ring.specs.Sessions.{of_session}
 use Rattle.crq_ring.specs.declared.rows.PipeRow.{PipeRow}
@@ -63,11 +63,13 @@ is_ended line = line.closing || is_down line.handshake
 -- what of a unit its intake goes by
 pub record Standing : Type 0 where
   pub id : UnitId
+  -- how many requests a login grants
+  pub granted : ℕ
   pub waiting : Option Arrival
   pub ended : Bool
 
 abbrev pub standing_of : Unit → Standing
-standing_of unit = record { id = unit.id; waiting = unit.waiting; ended = is_ended unit.line }
+standing_of unit = record { id = unit.id; granted = unit.logins.granted; waiting = unit.waiting; ended = is_ended unit.line }
 
 -- what a unit's intake is judged by
 pub record Intake : Type 0 where
@@ -139,11 +141,17 @@ abbrev pub unit_of : Grant → UnitId
 unit_of (Granted unit session login number credits) = unit
 unit_of (Lapsed unit session login cause outstanding granted) = unit
 
--- Lines came behind those that were, each of this unit.
-pub record LinesMore (unit : UnitId) (old new : List Grant) : Type 0 where
+-- A line that grants a login grants so many requests.
+abbrev pub GrantsMany : ℕ → Grant → Type 0
+GrantsMany granted (Granted unit session login number credits) = credits ≡ granted
+GrantsMany granted (Lapsed unit session login cause outstanding most) = ⊤
+
+-- Lines came behind those that were, each of this unit, whose logins grant so many requests.
+pub record LinesMore (unit : UnitId) (granted : ℕ) (old new : List Grant) : Type 0 where
   pub more : List Grant
   pub added : new ≡ old ++ more
   pub of_unit : All (λ line. unit_of line ≡ unit) more
+  pub many : All (GrantsMany granted) more
 
 -- The unit of this number has these receipts.
 abbrev pub HasIntake : List Unit → (unit : ℕ) → (own client : PortState) → EndState → List CopyRecord → List Grant → List Receipt → Type 0
@@ -161,8 +169,9 @@ HasIntake units unit own client queue copies grants receipts =
 -- What a part of a turn does to a unit's intake.
 pub record TakesIn (unit unit' : Standing) (old new : SiteState) (grants grants' : List Grant) : Type 0 where
   pub id : unit'.id ≡ unit.id
+  pub granted : unit'.granted ≡ unit.granted
   pub place : new.own.place.unit ≡ old.own.place.unit
-  pub lines : LinesMore unit.id grants grants'
+  pub lines : LinesMore unit.id unit.granted grants grants'
   pub receipts : unit.id ≡ old.own.place.unit → (receipts : List Receipt) → IsIntake (intake_of unit old grants) receipts
       → ReceivesMore (intake_of unit' new grants') receipts
 

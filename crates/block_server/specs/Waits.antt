@@ -6,6 +6,7 @@ use Rattle.block_server.specs.declared.intake.Next.{Next}
 use Rattle.block_server.specs.declared.intake.Next.TheVariants.{Entry, Service, End}
 use Rattle.block_server.specs.declared.unit.Unit.{Unit}
 use Rattle.block_server.specs.Ready.{Agrees, FindsUse, Idles, MeetsEmpty, MeetsFull, MeetsSender, NothingReady}
+use Rattle.block_server.specs.Receipts.{is_ended}
 use Rattle.block_server.specs.SiteState.{SiteState}
 use Rattle.block_server.specs.Stage.{is_entry}
 
@@ -44,6 +45,7 @@ pub record PassesKept (shared : Bool) (unit unit' : Unit) (old new : EndState) :
   pub idles : Idles shared old new
   pub none : unit'.line.kept ≡ None
   pub handshake : unit'.line.handshake ≡ unit.line.handshake
+  pub closing : unit'.line.closing ≡ unit.line.closing
 
 -- No event is kept, any more, and nothing else was done.
 pub record PassesEvent (shared : Bool) (old new : EndState) : Type 0 where
@@ -56,10 +58,11 @@ pub record EndsIntake (shared : Bool) (unit unit' : Unit) (old new : SiteState) 
   pub line : unit'.line ≡ unit.line
   pub stops : StopsIntake shared unit' old new
 
--- The queue's end stands, and the unit takes it for registered.
+-- The queue's end stands, the unit takes it for registered, and the session goes on.
 pub record StandsOpen (shared : Bool) (unit' : Unit) (old new : EndState) : Type 0 where
   pub passes : PassesEvent shared old new
   pub on : unit'.line.handshake ≢ Down
+  pub going : is_ended unit'.line ≡ false
 
 -- The first calls of a turn stopped at a full slot, at a sender, or at a registration that the unit does not know of.
 abbrev pub StopsOpening : (shared : Bool) → Unit → EndState → EndState → Type 0

@@ -264,7 +264,7 @@ pub(crate) fn log_out(unit: &mut Unit, session: u64, records: &mut Records)
     ensures handshake { unit.new.line.handshake ≡ unit.old.line.handshake }
     ensures moved { unit.new.moved ≡ true }
     ensures stands { standing_of unit.new ≡ standing_of unit.old }
-    ensures lines { LinesMore unit.old.id
+    ensures lines { LinesMore unit.old.id unit.old.logins.granted
         records.old.grants.items records.new.grants.items }
     ensures books { (next : Ahead) → (front : Request) → (rest : List Request) →
         unit.old.pending.items ≡ front ∷ rest → is_login front.order ≡ false →
@@ -457,7 +457,7 @@ fn put_answer<S: Site>(unit: &mut Unit, site: &mut S, records: &mut Records, out
     ensures advances { Advances (S.state site.old) (S.state site.new) }
     ensures stands { standing_of unit.new ≡ standing_of unit.old }
     ensures passes { Passes (S.state site.old) (S.state site.new) }
-    ensures lines { LinesMore unit.old.id
+    ensures lines { LinesMore unit.old.id unit.old.logins.granted
         records.old.grants.items records.new.grants.items }
     ensures books { Keeps (books_at unit.old (S.state site.old) records.old)
         (books_at unit.new (S.state site.new) records.new) }
@@ -510,7 +510,7 @@ pub(crate) fn put_kept<S: Site>(
     ensures advances { Advances (S.state site.old) (S.state site.new) }
     ensures stands { standing_of unit.new ≡ standing_of unit.old }
     ensures passes { Passes (S.state site.old) (S.state site.new) }
-    ensures lines { LinesMore unit.old.id
+    ensures lines { LinesMore unit.old.id unit.old.logins.granted
         records.old.grants.items records.new.grants.items }
     ensures books { Keeps (books_at unit.old (S.state site.old) records.old)
         (books_at unit.new (S.state site.new) records.new) }
@@ -565,7 +565,7 @@ fn settle(unit: &mut Unit, session: u64, records: &mut Records, outcome: Outcome
     ensures handshake { unit.new.line.handshake ≡ unit.old.line.handshake }
     ensures moved { unit.new.moved ≡ true }
     ensures stands { standing_of unit.new ≡ standing_of unit.old }
-    ensures lines { LinesMore unit.old.id
+    ensures lines { LinesMore unit.old.id unit.old.logins.granted
         records.old.grants.items records.new.grants.items }
     ensures books { (next : Ahead) → unit.old.service.stage ≡ Stage.Entry outcome →
         unit.old.line.kept ≡ None → Keeps (books_of unit.old session next records.old)

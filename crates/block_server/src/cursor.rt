@@ -1,5 +1,6 @@
 // A place in the data that pieces name, as the copies between the windows pass over them.
 ghost use Rattle.std.specs.Prelude.{◌≡◌, ◌+◌, ◌-◌, ◌^◌, ◌<◌, ◌≤◌, None, IfSome, length, min};
+ghost use Rattle.srp_desc.specs.declared.pieces.TheConstants.{MAX_DATA_LEN};
 ghost use Rattle.srp_desc.specs.Pieces.{sum_of};
 ghost use Rattle.block_server.specs.Parts.{IsPlacedAt, LiesAt, LiesIn};
 
@@ -52,7 +53,7 @@ impl Cursor {
 
     /// The next run of the pieces' data, of which `limit` bytes are copied in all; none where they were.
     pub(crate) fn next(self, pieces: &[Desc], limit: u32) -> Option<Part>
-        requires { limit ≤ 131072 }
+        requires { limit ≤ MAX_DATA_LEN }
         ensures len { IfSome result (λ part. (1 ≤ part.len) × (part.len ≤ MOST_BYTES)) }
         ensures at { IfSome result (λ part. part.at ≡ self.done) }
         ensures end { IfSome result (λ part. part.end.done ≡ part.at + part.len) }

@@ -1,5 +1,6 @@
 // The pieces of the data of one direction.
 ghost use Rattle.std.specs.Prelude.{◌≡◌, ◌≤◌, [], length};
+ghost use Rattle.srp_desc.specs.declared.pieces.TheConstants.{MAX_DATA_LEN};
 ghost use Rattle.srp_desc.specs.Pieces.{sum_of};
 
 use arrayvec::ArrayVec;
@@ -11,7 +12,7 @@ pub(crate) struct DataPieces {
     list: ArrayVec<Desc, 256>,
     total: u32,
     ghost summed: { sum_of list.items ≡ total },
-    ghost small: { total ≤ 131072 },
+    ghost small: { total ≤ MAX_DATA_LEN },
 }
 
 impl DataPieces {
@@ -39,7 +40,7 @@ impl DataPieces {
     pub(crate) fn set(&mut self, list: &[Desc], total: u32)
         requires few { length list.now ≤ 256 }
         requires summed { sum_of list.now ≡ total }
-        requires small { total ≤ 131072 }
+        requires small { total ≤ MAX_DATA_LEN }
         ensures list { self.new.list.items ≡ list.now }
         ensures total { self.new.total ≡ total }
     {
@@ -60,7 +61,7 @@ impl DataPieces {
     /// The number of their bytes.
     pub(crate) fn total(&self) -> u32
         ensures total { result ≡ self.now.total }
-        ensures small { result ≤ 131072 }
+        ensures small { result ≤ MAX_DATA_LEN }
     {
         self.total
     }

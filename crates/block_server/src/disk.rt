@@ -1,5 +1,6 @@
 // The disk that a server serves: an image with the number of its blocks, and room for the data of one command.
 ghost use Rattle.std.specs.Prelude.{◌≡◌, ◌≤◌, IfOk, IfErr, length, option_map, take};
+ghost use Rattle.srp_desc.specs.declared.pieces.TheConstants.{MAX_DATA_LEN};
 ghost use Rattle.block_disk.specs.Cdb.{command_of};
 ghost use Rattle.block_disk.specs.Disk.{MakesCalls, device_calls, reply_to, step};
 ghost use Rattle.block_disk.specs.Steps.{StepOn, made_step};
@@ -17,7 +18,7 @@ pub(crate) struct Disk<B: Blocks> {
     count: u64,
     given: Vec<u8>,
     ghost sized: { count ≡ (B.state image).size },
-    ghost room: { length given.items ≡ 131072 },
+    ghost room: { length given.items ≡ MAX_DATA_LEN },
 }
 
 impl<B: Blocks> Disk<B> {
@@ -48,7 +49,7 @@ impl<B: Blocks> Disk<B> {
         ensures image { (B.state self.new.image).blocks ≡
             option_map (λ all. (step all lun cdb.now data_out.now result.fault).blocks)
             (B.state self.old.image).blocks }
-        ensures room { result.in_len ≤ 131072 }
+        ensures room { result.in_len ≤ MAX_DATA_LEN }
         ensures used { result.out_used ≤ length data_out.now }
         ensures count { self.new.count ≡ self.old.count }
         ensures device { MakesCalls (command_of cdb.now)
@@ -67,7 +68,7 @@ impl<B: Blocks> Disk<B> {
 
     /// The first bytes of the data-in that the last command gave.
     pub(crate) fn given(&self, len: usize) -> &[u8]
-        requires { len ≤ 131072 }
+        requires { len ≤ MAX_DATA_LEN }
         ensures { result.now ≡ take len self.now.given.items }
     {
         &self.given[..len]
@@ -96,14 +97,14 @@ fn execute_into<B: Blocks>(
     given: &mut [u8],
 ) -> ScsiReply
     requires count { count ≡ (B.state image.old).size }
-    requires room { length given.old ≡ 131072 }
+    requires room { length given.old ≡ MAX_DATA_LEN }
     ensures reply { result ≡ reply_to count lun cdb.now (length data_out.now) result.fault }
     ensures step { StepOn (B.state image.old).blocks
         (made_step lun cdb.now data_out.now result given.new) (B.state image.new).blocks }
     ensures image { (B.state image.new).blocks ≡
         option_map (λ all. (step all lun cdb.now data_out.now result.fault).blocks)
         (B.state image.old).blocks }
-    ensures room { result.in_len ≤ 131072 }
+    ensures room { result.in_len ≤ MAX_DATA_LEN }
     ensures used { result.out_used ≤ length data_out.now }
     ensures device { MakesCalls (command_of cdb.now)
         (device_calls count lun cdb.now (length data_out.now)) result.fault

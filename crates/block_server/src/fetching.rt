@@ -1,5 +1,6 @@
 // What a command brings: the tables of its descriptors, and its data-out.
 ghost use Rattle.block_server.specs.Cargo.{IsAccounted, IsFetchedAll, KeepsCargo, cargo_at, data_bytes};
+ghost use Rattle.srp_desc.specs.declared.pieces.TheConstants.{MAX_DATA_LEN};
 ghost use Rattle.block_server.specs.Parts.{IsPlacedAt};
 ghost use Rattle.vio_num.specs.declared.history.Served.{Served};
 ghost use Rattle.std.specs.Prelude.{◌≡◌, ◌⊎◌, ◌%◌, ◌≤◌, ℕ, Bool, IfOk, List, false, true};
@@ -250,7 +251,7 @@ fn fetch_table<S: Site>(
     requires some { 16 ≤ table.len }
     requires few { table.len ≤ MAX_TABLE_LEN }
     requires evenly { table.len % 16 ≡ 0 }
-    requires small { total ≤ 131072 }
+    requires small { total ≤ MAX_DATA_LEN }
     ensures read { IfDone result
         (IsRead (heard_between (S.state site.old) (S.state site.new)) table total
         pieces.new.list.items) }

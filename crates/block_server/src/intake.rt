@@ -402,7 +402,8 @@ fn judge(
     ensures handshake { unit.new.line.handshake ≡ unit.old.line.handshake }
     ensures moved { StaysMoved unit.old unit.new }
     ensures id { unit.new.id ≡ unit.old.id }
-    ensures lines { LinesMore unit.old.id
+    ensures granted { unit.new.logins.granted ≡ unit.old.logins.granted }
+    ensures lines { LinesMore unit.old.id unit.old.logins.granted
         records.old.grants.items records.new.grants.items }
     ensures waiting { unit.old.waiting ≡ None → unit.new.waiting ≡ None }
     ensures goes_on { result ≡ Next.Entry → unit.new.line ≡ unit.old.line }
@@ -451,6 +452,7 @@ fn judge(
 // Says what becomes of an information unit.
 fn judge_unit(logins: &mut Logins, bytes: &[u8]) -> Verdict
     ensures tagged { IsTagged result bytes.now }
+    ensures granted { logins.new.granted ≡ logins.old.granted }
     ensures decides { Decides logins.old logins.new bytes.now result }
 {
     match read_iu(bytes) {
@@ -497,6 +499,7 @@ fn fatal(cause: Lapse) -> Verdict
 
 // Accepts a command or a task under the login that is on.
 fn accept(logins: &mut Logins, tag: u64, order: Order) -> Verdict
+    ensures granted { logins.new.granted ≡ logins.old.granted }
     ensures tagged { (bytes : List ℕ) → tag ≡ field 8 8 bytes → IsOrder order bytes →
         IsTagged result bytes }
     ensures decides { (bytes : List ℕ) → Asks bytes → gets_row order ≡ true →
@@ -535,6 +538,7 @@ fn past_limit(fault: CreditFault) -> Verdict
 fn unreadable(logins: &mut Logins, bytes: &[u8]) -> Verdict
     requires { (iu : Iu) → ¬ Spells bytes.now iu }
     ensures tagged { IsTagged result bytes.now }
+    ensures granted { logins.new.granted ≡ logins.old.granted }
     ensures decides { Decides logins.old logins.new bytes.now result }
 {
     let Some(tag) = tag_of(bytes) else {

@@ -1,5 +1,7 @@
 // The three ports of a unit's turn as one site.
 ghost use Rattle.std.specs.Prelude.{◌≡◌, ◌+◌, ◌<◌, ◌≤◌, ◌++◌, [], false, IsErrOf, OnErr, OnOk, length, vec_len, vec_capacity};
+ghost use Rattle.tce_window.specs.declared.piece.TheConstants.{MOST_BYTES};
+ghost use Rattle.vio_num.specs.declared.TheConstants.{PAGE_BYTES};
 ghost use Rattle.tce_window.specs.declared.answers.Right.TheVariants.{Read, Write};
 ghost use Rattle.tce_window.specs.PortState.{LaysNone, OnlyReads, OnlyWrites, Reads, Writes};
 ghost use Rattle.rdma_copy.specs.Copies.{OnlyCopies};
@@ -71,7 +73,7 @@ impl<C: CrqEnd, O: OwnerPort + GuestPort, R: GuestPort> Ports<'_, '_, '_, '_, C,
     // Copies from the client's window to a place of the own region.
     fn copy_in(&mut self, address: u64, at: u64, len: u64) -> Result<(), Halt>
         requires some { 1 ≤ len }
-        requires few { len ≤ 65536 }
+        requires few { len ≤ MOST_BYTES }
         requires inside { at + len ≤ 139264 }
         ensures refused { IsErrOf result Halt.Refused → IsDenied R.is_shared
             (R.state self.old.client.now) (R.state self.new.client.now) Read address len }
@@ -88,7 +90,7 @@ impl<C: CrqEnd, O: OwnerPort + GuestPort, R: GuestPort> Ports<'_, '_, '_, '_, C,
             self.new.copies.ghost_name C.is_shared) (C.state self.new.queue.now)
             (O.state self.new.own.now) (R.state self.new.client.now) R.is_shared
             self.new.copies.now.items) }
-        ensures behind { 4096 ≤ at → FetchesNone (O.state self.old.own.now).place.unit
+        ensures behind { PAGE_BYTES ≤ at → FetchesNone (O.state self.old.own.now).place.unit
             self.old.copies.now.items self.new.copies.now.items }
         ensures made { OnOk result (MakesOne O.is_shared (R.state self.new.client.now)
             (O.state self.old.own.now) (O.state self.new.own.now) address at len
@@ -112,7 +114,7 @@ impl<C: CrqEnd, O: OwnerPort + GuestPort, R: GuestPort> Ports<'_, '_, '_, '_, C,
     // Copies from a place of the own region to the client's window.
     fn copy_out(&mut self, at: u64, address: u64, len: u64, mark: u64) -> Result<(), Halt>
         requires some { 1 ≤ len }
-        requires few { len ≤ 65536 }
+        requires few { len ≤ MOST_BYTES }
         requires inside { at + len ≤ 139264 }
         ensures refused { IsErrOf result Halt.Refused → IsDenied R.is_shared
             (R.state self.old.client.now) (R.state self.new.client.now) Write address len }
@@ -154,7 +156,7 @@ impl<C: CrqEnd, O: OwnerPort + GuestPort, R: GuestPort> Ports<'_, '_, '_, '_, C,
     // Reads from a place of the own region.
     fn read_own(&mut self, at: u64, out: &mut [u8])
         requires some { 1 ≤ length out.old }
-        requires few { length out.old ≤ 65536 }
+        requires few { length out.old ≤ MOST_BYTES }
         requires inside { at + length out.old ≤ 139264 }
         ensures queue { C.state self.new.queue.now ≡ C.state self.old.queue.now }
         ensures advances { Advances

@@ -17,7 +17,7 @@ ghost use Rattle.block_server.specs.Refusals.{AnswersLogins, HasExplained, Expla
 ghost use Rattle.block_server.specs.Turns.{IsStill, way_of};
 ghost use Rattle.block_server.specs.SiteState.{AreReady};
 ghost use Rattle.block_server.specs.Serving.{Terms};
-ghost use Rattle.block_server.specs.Units.{AnswersItsRows, AreInOrder, AreServing, ServesItsRows};
+ghost use Rattle.block_server.specs.Units.{AnswersItsRows, AreGranting, AreInOrder, AreServing, GrantEach, ServesItsRows, grant_of};
 ghost use Rattle.block_server.specs.Written.{AreWritten};
 
 use crate::disk::Disk;
@@ -79,6 +79,8 @@ impl<B: Blocks> Server<B> {
         ensures order { IfOk result (λ server. (told : Told → Bool) →
             AreInOrder told server.disk.count server.partition server.units.items server.records) }
         ensures lines { IfOk result (λ server. server.records.grants.items ≡ []) }
+        ensures grants { IfOk result (λ server.
+            GrantEach grant server.units.items server.records.grants.items) }
         ensures copies { IfOk result (λ server. server.copies.items ≡ []) }
         ensures down { IfOk result (λ server. AreDown server.units.items) }
         ensures none { IfOk result (λ server. AwaitNone server.units.items) }
@@ -180,7 +182,11 @@ impl<B: Blocks> Server<B> {
             (O.state own.new) (R.state client.new) (C.state crq.new)
             self.new.copies.items self.new.records.grants.items (receipts ++ more)) ∥₁ }
         ensures lines { ∥ LinesMore (O.state own.old).place.unit
+            (grant_of self.old.units.items unit)
             self.old.records.grants.items self.new.records.grants.items ∥₁ }
+        ensures grants { (granted : ℕ) →
+            GrantEach granted self.old.units.items self.old.records.grants.items →
+            GrantEach granted self.new.units.items self.new.records.grants.items }
         ensures judged { (judged : List Judged) → HasJudged self.old.units.items unit
             (O.state own.old) (R.state client.old) (C.state crq.old) self.old.copies.items
             self.old.records.history.items self.old.records.grants.items judged →
@@ -279,6 +285,7 @@ fn make_units(alloc: Global, partition: u8, grant: u8, count: u8) -> Result<Vec<
     requires some { 1 ≤ grant }
     requires few { grant ≤ 200 }
     ensures units { IfOk result (λ units. vec_len units ≡ count) }
+    ensures grants { IfOk result (λ units. AreGranting grant units.items) }
     ensures down { IfOk result (λ units. AreDown units.items) }
     ensures serving { IfOk result (λ units. (terms : Terms) →
         (rows : List Served) → AreServing terms partition units.items rows) }

@@ -1,5 +1,6 @@
 // The request that is in service, and how far its service has come.
 ghost use Rattle.std.specs.Prelude.{◌≡◌, ◌+◌, ◌≤◌, [], ◌++◌, true, OnErr, OnOk, length, take, vec_len, vec_capacity};
+ghost use Rattle.srp_desc.specs.declared.pieces.TheConstants.{MAX_DATA_LEN};
 ghost use Rattle.block_server.specs.Stage.{fits, has_answer, how_far, is_answered, is_before_step};
 
 use crate::cursor::Cursor;
@@ -102,12 +103,13 @@ pub(crate) struct Service {
     pub(crate) given: Vec<u8>,
     /// The information unit of the answer.
     pub(crate) answer: Vec<u8>,
-    ghost few: { length given.items ≤ 131072 },
+    ghost few: { length given.items ≤ MAX_DATA_LEN },
     ghost answered: { has_answer stage (length answer.items) ≡ true },
 }
 
 impl Service {
     ghost use Rattle.block_server.specs.Service.{IsReset};
+    ghost use Rattle.srp_desc.specs.declared.pieces.TheConstants.{MAX_DATA_LEN};
 
     /// No service has begun.
     pub(crate) fn idle(alloc: Global) -> Service
@@ -169,7 +171,7 @@ impl Service {
     pub(crate) fn keep(&mut self, given: &[u8])
         requires empty { vec_len self.old.given ≡ 0 }
         requires room { length given.now ≤ vec_capacity self.old.given }
-        requires few { length given.now ≤ 131072 }
+        requires few { length given.now ≤ MAX_DATA_LEN }
         ensures given { self.new.given.items ≡ self.old.given.items ++ given.now }
         ensures stage { self.new.stage ≡ self.old.stage }
         ensures out { self.new.out ≡ self.old.out }

@@ -1,5 +1,6 @@
 // The service of the oldest request: what it asks is done, and then it is answered.
 ghost use Rattle.block_server.specs.Cargo.{AreShown, HasTag, IsAccounted, IsFetchedAll, IsSentAll, KeepsCargo, cargo_at, cargo_of, data_bytes, is_loaded};
+ghost use Rattle.srp_desc.specs.declared.pieces.TheConstants.{MAX_DATA_LEN};
 ghost use Rattle.block_server.specs.Parts.{IsPlacedAt};
 ghost use Rattle.std.specs.Prelude.{◌≡◌, ◌≢◌, ◌⊎◌, ◌∷◌, ◌<◌, ◌≤◌, ℕ, Bool, List, Option, Some, None, [], IfOk, IfSome, OnOk, false, true, length};
 ghost use Rattle.block_server.specs.Advances.{Advances};
@@ -529,7 +530,7 @@ fn make_step<S: Site, B: Blocks>(
 
 // Reads the data-out that were copied, as many bytes as there is room for.
 fn read_out<S: Site>(site: &mut S, room: Vec<u8>) -> Vec<u8>
-    requires { length room.items ≤ 131072 }
+    requires { length room.items ≤ MAX_DATA_LEN }
     ensures len { length result.items ≡ length room.items }
     ensures queue { (S.state site.new).queue ≡ (S.state site.old).queue }
     ensures advances { Advances (S.state site.old) (S.state site.new) }

@@ -1,5 +1,9 @@
 // What a server unit does with its queue and with the two windows.
 ghost use Rattle.std.specs.Prelude.{◌≡◌, ◌↔◌, ◌+◌, ◌<◌, ◌≤◌, Bool, IsErrOf, OnErr, OnOk, false, length, true};
+ghost use Rattle.crq_ring.specs.declared.TheConstants.{MAX_SLOTS};
+ghost use Rattle.tce_window.specs.declared.piece.TheConstants.{MOST_BYTES};
+ghost use Rattle.vio_num.specs.declared.TheConstants.{PAGE_BYTES};
+ghost use Rattle.srp_desc.specs.declared.pieces.TheConstants.{MAX_DATA_LEN, MAX_TABLE_LEN};
 ghost use Rattle.tce_window.specs.declared.answers.Right.TheVariants.{Read, Write};
 ghost use Rattle.crq_session.specs.declared.answers.FreeAnswer.TheVariants as freeing;
 ghost use Rattle.crq_session.specs.declared.answers.PollAnswer.TheVariants as polling;
@@ -40,7 +44,7 @@ pub(crate) trait Site {
     /// The number of slots of the own queue.
     fn slots(&self) -> u32
         ensures some { 1 ≤ result }
-        ensures few { result ≤ 4096 };
+        ensures few { result ≤ MAX_SLOTS };
 
     /// The number of the own queue's last session.
     fn session(&self) -> u64
@@ -167,7 +171,7 @@ pub(crate) trait Site {
     /// Copies a table of 1 to 4,096 bytes from this address of the client's window to page 1, and reads it.
     fn fetch_table(&mut self, address: u64, out: &mut [u8]) -> Result<(), Halt>
         requires some { 1 ≤ length out.old }
-        requires few { length out.old ≤ 4096 }
+        requires few { length out.old ≤ MAX_TABLE_LEN }
         ensures refused { IsErrOf result Halt.Refused →
             IsDeniedBetween (state self.old) (state self.new) Read address (length out.old) }
         ensures busy { IsErrOf result Halt.Busy →
@@ -176,7 +180,7 @@ pub(crate) trait Site {
         ensures advances { Advances (state self.old) (state self.new) }
         ensures passes { Passes (state self.old) (state self.new) }
         ensures fetched { OnOk result
-            (FetchesTo (state self.old) (state self.new) address 4096 out.new) }
+            (FetchesTo (state self.old) (state self.new) address PAGE_BYTES out.new) }
         ensures none { OnErr result ((state self.new).copies ≡ (state self.old).copies) };
 
     /// Writes an information unit of 1 to 256 bytes to page 0, and copies it over this address of the client's
@@ -199,8 +203,8 @@ pub(crate) trait Site {
     /// Copies data from this address of the client's window to a place of the data's pages.
     fn fetch_data(&mut self, at: u32, address: u64, len: u32) -> Result<(), Halt>
         requires some { 1 ≤ len }
-        requires few { len ≤ 65536 }
-        requires inside { at + len ≤ 131072 }
+        requires few { len ≤ MOST_BYTES }
+        requires inside { at + len ≤ MAX_DATA_LEN }
         ensures refused { IsErrOf result Halt.Refused →
             IsDeniedBetween (state self.old) (state self.new) Read address len }
         ensures busy { IsErrOf result Halt.Busy →
@@ -216,7 +220,7 @@ pub(crate) trait Site {
 
     /// Reads the first bytes of the data's pages.
     fn read_data(&mut self, out: &mut [u8])
-        requires { length out.old ≤ 131072 }
+        requires { length out.old ≤ MAX_DATA_LEN }
         ensures queue { (state self.new).queue ≡ (state self.old).queue }
         ensures advances { Advances (state self.old) (state self.new) }
         ensures passes { Passes (state self.old) (state self.new) }
@@ -226,7 +230,7 @@ pub(crate) trait Site {
 
     /// Writes the first bytes of the data's pages.
     fn write_data(&mut self, bytes: &[u8], mark: u64) -> Result<(), NoMemory>
-        requires { length bytes.now ≤ 131072 }
+        requires { length bytes.now ≤ MAX_DATA_LEN }
         ensures queue { (state self.new).queue ≡ (state self.old).queue }
         ensures advances { Advances (state self.old) (state self.new) }
         ensures passes { Passes (state self.old) (state self.new) }
@@ -236,8 +240,8 @@ pub(crate) trait Site {
     /// Copies data from a place of the data's pages to this address of the client's window.
     fn deliver_data(&mut self, at: u32, address: u64, len: u32, mark: u64) -> Result<(), Halt>
         requires some { 1 ≤ len }
-        requires few { len ≤ 65536 }
-        requires inside { at + len ≤ 131072 }
+        requires few { len ≤ MOST_BYTES }
+        requires inside { at + len ≤ MAX_DATA_LEN }
         ensures refused { IsErrOf result Halt.Refused →
             IsDeniedBetween (state self.old) (state self.new) Write address len }
         ensures busy { IsErrOf result Halt.Busy →

@@ -335,6 +335,7 @@ fn begin<S: Site>(unit: &mut Unit, site: &mut S)
     ensures agrees { Agrees unit.new.line.handshake (S.state site.new).queue }
     ensures advances { Advances (S.state site.old) (S.state site.new) }
     ensures id { unit.new.id ≡ unit.old.id }
+    ensures granted { unit.new.logins.granted ≡ unit.old.logins.granted }
     ensures waiting { unit.new.waiting ≡ unit.old.waiting }
     ensures passes { Passes (S.state site.old) (S.state site.new) }
     ensures books { (records : Records) → unit.old.pending.items ≡ [] →

@@ -40,6 +40,7 @@ impl Unit {
         ensures handshake { result.line.handshake ≡ Down }
         ensures waiting { result.waiting ≡ None }
         ensures pending { result.pending.items ≡ [] }
+        ensures granted { result.logins.granted ≡ grant }
         ensures current { result.logins.current ≡ 0 }
         ensures last { result.logins.last ≡ 0 }
         ensures taking { result.logins.taking ≡ false }

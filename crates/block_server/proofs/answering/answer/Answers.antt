@@ -98,22 +98,22 @@ returns-in_default-clause-waits g c = λ moved pending answered.
     c.reserve.ensures.advances (λ outcome is. c.in_default.not-Entry outcome is) (c.in_ok-copy_answer.ensures.waits moved pending answered)
 
 pub returns-in_err-make_room-clause-intake : goal.returns-in_err-make_room-clause-intake
-returns-in_err-make_room-clause-intake g c = takes_none _ _ _ _ _ _ refl (advances_same _) refl (lines_same _ _ _ c.make_room.ensures.lists.grants)
+returns-in_err-make_room-clause-intake g c = takes_none _ _ _ _ _ _ refl (advances_same _) refl (lines_same _ _ _ _ c.make_room.ensures.lists.grants)
 
 pub returns-in_err-make_room-2-clause-intake : goal.returns-in_err-make_room-2-clause-intake
-returns-in_err-make_room-2-clause-intake g c = takes_none _ _ _ _ _ _ refl (advances_same _) refl (lines_same _ _ _ c.make_room.ensures.lists.grants)
+returns-in_err-make_room-2-clause-intake g c = takes_none _ _ _ _ _ _ refl (advances_same _) refl (lines_same _ _ _ _ c.make_room.ensures.lists.grants)
 
 pub returns-in_err-reserve-clause-intake : goal.returns-in_err-reserve-clause-intake
-returns-in_err-reserve-clause-intake g c = takes_none _ _ _ _ _ _ refl c.reserve.ensures.advances c.reserve.ensures.passes (lines_same _ _ _ c.make_room.ensures.lists.grants)
+returns-in_err-reserve-clause-intake g c = takes_none _ _ _ _ _ _ refl c.reserve.ensures.advances c.reserve.ensures.passes (lines_same _ _ _ _ c.make_room.ensures.lists.grants)
 
 pub returns-in_err-copy_answer-clause-intake : goal.returns-in_err-copy_answer-clause-intake
-returns-in_err-copy_answer-clause-intake g c = takes_on _ _ _ _ _ _ _ _ _ (takes_none _ _ _ _ _ _ refl c.reserve.ensures.advances c.reserve.ensures.passes (lines_same _ _ _ c.make_room.ensures.lists.grants)) c.copy_answer.ensures.intake
+returns-in_err-copy_answer-clause-intake g c = takes_on _ _ _ _ _ _ _ _ _ (takes_none _ _ _ _ _ _ refl c.reserve.ensures.advances c.reserve.ensures.passes (lines_same _ _ _ _ c.make_room.ensures.lists.grants)) c.copy_answer.ensures.intake
 
 pub returns-in_default-clause-intake : goal.returns-in_default-clause-intake
-returns-in_default-clause-intake g c = takes_on _ _ _ _ _ _ _ _ _ (takes_none _ _ _ _ _ _ refl c.reserve.ensures.advances c.reserve.ensures.passes (lines_same _ _ _ c.make_room.ensures.lists.grants)) c.copy_answer.ensures.intake
+returns-in_default-clause-intake g c = takes_on _ _ _ _ _ _ _ _ _ (takes_none _ _ _ _ _ _ refl c.reserve.ensures.advances c.reserve.ensures.passes (lines_same _ _ _ _ c.make_room.ensures.lists.grants)) c.copy_answer.ensures.intake
 
 pub returns-in-Entry-clause-intake : goal.returns-in-Entry-clause-intake
-returns-in-Entry-clause-intake g c = takes_on _ _ _ _ _ _ _ _ _ (takes_on _ _ _ _ _ _ _ _ _ (takes_none _ _ _ _ _ _ refl c.reserve.ensures.advances c.reserve.ensures.passes (lines_same _ _ _ c.make_room.ensures.lists.grants)) c.copy_answer.ensures.intake)
+returns-in-Entry-clause-intake g c = takes_on _ _ _ _ _ _ _ _ _ (takes_on _ _ _ _ _ _ _ _ _ (takes_none _ _ _ _ _ _ refl c.reserve.ensures.advances c.reserve.ensures.passes (lines_same _ _ _ _ c.make_room.ensures.lists.grants)) c.copy_answer.ensures.intake)
     (takes_none _ _ _ _ _ _ c.put_answer.ensures.stands c.put_answer.ensures.advances c.put_answer.ensures.passes c.put_answer.ensures.lines)
 
 pub returns-in_err-make_room-clause-books : goal.returns-in_err-make_room-clause-books
@@ -176,29 +176,29 @@ returns-in-Entry-clause-answers g c = λ judged is alone has.
     (c.copy_answer.ensures.answers alone (owes_seen _ _ (seen_reserves _ _ c.reserve.ensures.rest) refl refl refl refl refl (ap row_states c.make_room.ensures.lists.history) c.make_room.ensures.lists.grants has))
 
 pub returns-in_err-make_room-clause-judges : goal.returns-in_err-make_room-clause-judges
-returns-in_err-make_room-clause-judges g c = (works_none _ _ _ _ _ _ refl refl refl (advances_same _) refl (lines_same _ _ _ c.make_room.ensures.lists.grants) (returns-in_err-make_room-clause-books g c)).judges
+returns-in_err-make_room-clause-judges g c = (works_none _ _ _ _ _ _ refl refl refl (advances_same _) refl (lines_same _ _ _ _ c.make_room.ensures.lists.grants) (returns-in_err-make_room-clause-books g c)).judges
 
 pub returns-in_err-make_room-2-clause-judges : goal.returns-in_err-make_room-2-clause-judges
-returns-in_err-make_room-2-clause-judges g c = (works_none _ _ _ _ _ _ refl refl refl (advances_same _) refl (lines_same _ _ _ c.make_room.ensures.lists.grants) (returns-in_err-make_room-2-clause-books g c)).judges
+returns-in_err-make_room-2-clause-judges g c = (works_none _ _ _ _ _ _ refl refl refl (advances_same _) refl (lines_same _ _ _ _ c.make_room.ensures.lists.grants) (returns-in_err-make_room-2-clause-books g c)).judges
 
 pub returns-in_err-reserve-clause-judges : goal.returns-in_err-reserve-clause-judges
-returns-in_err-reserve-clause-judges g c = (works_none _ _ _ _ _ _ refl refl refl c.reserve.ensures.advances c.reserve.ensures.passes (lines_same _ _ _ c.make_room.ensures.lists.grants) (returns-in_err-reserve-clause-books g c)).judges
+returns-in_err-reserve-clause-judges g c = (works_none _ _ _ _ _ _ refl refl refl c.reserve.ensures.advances c.reserve.ensures.passes (lines_same _ _ _ _ c.make_room.ensures.lists.grants) (returns-in_err-reserve-clause-books g c)).judges
 
 pub returns-in_err-copy_answer-clause-judges : goal.returns-in_err-copy_answer-clause-judges
 returns-in_err-copy_answer-clause-judges g c = (works_on _ _ _ _ _ _ _ _ _
-    (works_none _ _ _ _ _ (books_at c.args.unit.now (g.S.Site.state c.reserve.new.self) c.make_room.new.self) refl refl refl c.reserve.ensures.advances c.reserve.ensures.passes (lines_same _ _ _ c.make_room.ensures.lists.grants)
+    (works_none _ _ _ _ _ (books_at c.args.unit.now (g.S.Site.state c.reserve.new.self) c.make_room.new.self) refl refl refl c.reserve.ensures.advances c.reserve.ensures.passes (lines_same _ _ _ _ c.make_room.ensures.lists.grants)
     (λ judged is. moved_to _ _ judged refl (passed_session _ _ c.reserve.ensures.passes) (passed_next c.args.unit.now.waiting c.args.unit.now.waiting _ _ refl c.reserve.ensures.passes) refl refl refl refl refl refl (ap keys_of c.make_room.ensures.lists.history) c.make_room.ensures.lists.grants refl refl refl is))
     (works _ _ _ _ _ _ refl refl c.copy_answer.ensures.intake c.copy_answer.ensures.judges)).judges
 
 pub returns-in_default-clause-judges : goal.returns-in_default-clause-judges
 returns-in_default-clause-judges g c = (works_on _ _ _ _ _ _ _ _ _
-    (works_none _ _ _ _ _ (books_at c.args.unit.now (g.S.Site.state c.reserve.new.self) c.make_room.new.self) refl refl refl c.reserve.ensures.advances c.reserve.ensures.passes (lines_same _ _ _ c.make_room.ensures.lists.grants)
+    (works_none _ _ _ _ _ (books_at c.args.unit.now (g.S.Site.state c.reserve.new.self) c.make_room.new.self) refl refl refl c.reserve.ensures.advances c.reserve.ensures.passes (lines_same _ _ _ _ c.make_room.ensures.lists.grants)
     (λ judged is. moved_to _ _ judged refl (passed_session _ _ c.reserve.ensures.passes) (passed_next c.args.unit.now.waiting c.args.unit.now.waiting _ _ refl c.reserve.ensures.passes) refl refl refl refl refl refl (ap keys_of c.make_room.ensures.lists.history) c.make_room.ensures.lists.grants refl refl refl is))
     (works _ _ _ _ _ _ refl refl c.copy_answer.ensures.intake c.copy_answer.ensures.judges)).judges
 
 pub returns-in-Entry-clause-judges : goal.returns-in-Entry-clause-judges
 returns-in-Entry-clause-judges g c = (works_on _ _ _ _ _ _ _ _ _ (works_on _ _ _ _ _ _ _ _ _
-    (works_none _ _ _ _ _ (books_at c.args.unit.now (g.S.Site.state c.reserve.new.self) c.make_room.new.self) refl refl refl c.reserve.ensures.advances c.reserve.ensures.passes (lines_same _ _ _ c.make_room.ensures.lists.grants)
+    (works_none _ _ _ _ _ (books_at c.args.unit.now (g.S.Site.state c.reserve.new.self) c.make_room.new.self) refl refl refl c.reserve.ensures.advances c.reserve.ensures.passes (lines_same _ _ _ _ c.make_room.ensures.lists.grants)
     (λ judged is. moved_to _ _ judged refl (passed_session _ _ c.reserve.ensures.passes) (passed_next c.args.unit.now.waiting c.args.unit.now.waiting _ _ refl c.reserve.ensures.passes) refl refl refl refl refl refl (ap keys_of c.make_room.ensures.lists.history) c.make_room.ensures.lists.grants refl refl refl is))
     (works _ _ _ _ _ _ refl refl c.copy_answer.ensures.intake c.copy_answer.ensures.judges))
     (works_none _ _ _ _ _ _ c.put_answer.ensures.stands refl refl c.put_answer.ensures.advances c.put_answer.ensures.passes c.put_answer.ensures.lines c.put_answer.ensures.books)).judges

@@ -43,19 +43,19 @@ pub returns-in-Busy-clause-waits : goal.returns-in-Busy-clause-waits
 returns-in-Busy-clause-waits g c = λ moved pending answered. inl (c.in_ok-deliver.ensures.busy c.in-Busy.is pending)
 
 pub returns-in_default-clause-intake : goal.returns-in_default-clause-intake
-returns-in_default-clause-intake g c = takes_none _ _ _ _ _ _ refl (advances_same _) refl (lines_same _ _ _ refl)
+returns-in_default-clause-intake g c = takes_none _ _ _ _ _ _ refl (advances_same _) refl (lines_same _ _ _ _ refl)
 
 pub returns-in_err-deliver-clause-intake : goal.returns-in_err-deliver-clause-intake
-returns-in_err-deliver-clause-intake g c = takes_none _ _ _ _ _ _ c.deliver.ensures.stands c.deliver.ensures.advances c.deliver.ensures.passes (lines_same _ _ _ refl)
+returns-in_err-deliver-clause-intake g c = takes_none _ _ _ _ _ _ c.deliver.ensures.stands c.deliver.ensures.advances c.deliver.ensures.passes (lines_same _ _ _ _ refl)
 
 pub returns-in-Done-clause-intake : goal.returns-in-Done-clause-intake
-returns-in-Done-clause-intake g c = takes_none _ _ _ _ _ _ c.deliver.ensures.stands c.deliver.ensures.advances c.deliver.ensures.passes (lines_same _ _ _ refl)
+returns-in-Done-clause-intake g c = takes_none _ _ _ _ _ _ c.deliver.ensures.stands c.deliver.ensures.advances c.deliver.ensures.passes (lines_same _ _ _ _ refl)
 
 pub returns-in-Busy-clause-intake : goal.returns-in-Busy-clause-intake
-returns-in-Busy-clause-intake g c = takes_none _ _ _ _ _ _ c.deliver.ensures.stands c.deliver.ensures.advances c.deliver.ensures.passes (lines_same _ _ _ refl)
+returns-in-Busy-clause-intake g c = takes_none _ _ _ _ _ _ c.deliver.ensures.stands c.deliver.ensures.advances c.deliver.ensures.passes (lines_same _ _ _ _ refl)
 
 pub returns-in-Refused-clause-intake : goal.returns-in-Refused-clause-intake
-returns-in-Refused-clause-intake g c = takes_on _ _ _ _ _ _ _ _ _ (takes_none _ _ _ _ _ _ c.deliver.ensures.stands c.deliver.ensures.advances c.deliver.ensures.passes (lines_same _ _ _ refl))
+returns-in-Refused-clause-intake g c = takes_on _ _ _ _ _ _ _ _ _ (takes_none _ _ _ _ _ _ c.deliver.ensures.stands c.deliver.ensures.advances c.deliver.ensures.passes (lines_same _ _ _ _ refl))
     (takes_ended _ _ _ _ _ _ _ Refused 0 0 c.end_session.ensures.ends c.end_session.ensures.id c.end_session.ensures.closing refl c.session.ensures (advances_same _) refl)
 
 pub returns-in_default-clause-books : goal.returns-in_default-clause-books
@@ -75,21 +75,21 @@ returns-in-Refused-clause-books g c = λ judged is. keeps_refused c.deliver.new.
     (c.in_ok-deliver.ensures.stays c.in-Refused.is) c.end_session.ensures.books judged (c.deliver.ensures.books c.args.records.now judged is)
 
 pub returns-in_default-clause-judges : goal.returns-in_default-clause-judges
-returns-in_default-clause-judges g c = (works_none _ _ _ _ _ _ refl refl refl (advances_same _) refl (lines_same _ _ _ refl) (λ judged is. is)).judges
+returns-in_default-clause-judges g c = (works_none _ _ _ _ _ _ refl refl refl (advances_same _) refl (lines_same _ _ _ _ refl) (λ judged is. is)).judges
 
 pub returns-in_err-deliver-clause-judges : goal.returns-in_err-deliver-clause-judges
-returns-in_err-deliver-clause-judges g c = (works_none _ _ _ _ _ _ c.deliver.ensures.stands refl refl c.deliver.ensures.advances c.deliver.ensures.passes (lines_same _ _ _ refl) (c.deliver.ensures.books c.args.records.now)).judges
+returns-in_err-deliver-clause-judges g c = (works_none _ _ _ _ _ _ c.deliver.ensures.stands refl refl c.deliver.ensures.advances c.deliver.ensures.passes (lines_same _ _ _ _ refl) (c.deliver.ensures.books c.args.records.now)).judges
 
 pub returns-in-Done-clause-judges : goal.returns-in-Done-clause-judges
-returns-in-Done-clause-judges g c = (works_none _ _ _ _ _ _ c.deliver.ensures.stands refl refl c.deliver.ensures.advances c.deliver.ensures.passes (lines_same _ _ _ refl) (c.deliver.ensures.books c.args.records.now)).judges
+returns-in-Done-clause-judges g c = (works_none _ _ _ _ _ _ c.deliver.ensures.stands refl refl c.deliver.ensures.advances c.deliver.ensures.passes (lines_same _ _ _ _ refl) (c.deliver.ensures.books c.args.records.now)).judges
 
 pub returns-in-Busy-clause-judges : goal.returns-in-Busy-clause-judges
-returns-in-Busy-clause-judges g c = (works_none _ _ _ _ _ _ c.deliver.ensures.stands refl refl c.deliver.ensures.advances c.deliver.ensures.passes (lines_same _ _ _ refl) (c.deliver.ensures.books c.args.records.now)).judges
+returns-in-Busy-clause-judges g c = (works_none _ _ _ _ _ _ c.deliver.ensures.stands refl refl c.deliver.ensures.advances c.deliver.ensures.passes (lines_same _ _ _ _ refl) (c.deliver.ensures.books c.args.records.now)).judges
 
 pub returns-in-Refused-clause-judges : goal.returns-in-Refused-clause-judges
 returns-in-Refused-clause-judges g c =
     (works_on _ _ _ _ _ _ _ _ _
-    (works_none _ _ _ _ _ _ c.deliver.ensures.stands refl refl c.deliver.ensures.advances c.deliver.ensures.passes (lines_same _ _ _ refl) (c.deliver.ensures.books c.args.records.now))
+    (works_none _ _ _ _ _ _ c.deliver.ensures.stands refl refl c.deliver.ensures.advances c.deliver.ensures.passes (lines_same _ _ _ _ refl) (c.deliver.ensures.books c.args.records.now))
     (works _ _ _ _ _ _ refl refl (takes_ended _ _ _ _ _ _ _ Refused 0 0 c.end_session.ensures.ends c.end_session.ensures.id c.end_session.ensures.closing refl c.session.ensures (advances_same _) refl)
     (judges_over c.deliver.new.unit c.end_session.new.unit (g.S.Site.state c.deliver.new.site) (g.S.Site.state c.deliver.new.site) c.args.records.now c.end_session.new.records _ Refused 0 0 c.end_session.ensures.ends c.end_session.ensures.id c.end_session.ensures.closing refl refl c.session.ensures (advances_same _) refl
     c.end_session.ensures.books (λ waits. refl) (λ receipts judged intake is. answer_going (books_at c.deliver.new.unit (g.S.Site.state c.deliver.new.site) c.args.records.now) judged _ is (c.in_ok-deliver.ensures.stays c.in-Refused.is)) (λ arrival waits judged going is. refl)))).judges

@@ -2,7 +2,8 @@ use Rattle.std.proofs.Common.{refl, rules, ap, ◌∙◌, ◌++◌, Global, Vec}
 use Rattle.vio_num.specs.declared.history.Grant.{Grant}
 use Rattle.block_server.specs.declared.logins.Logins.{Logins}
 use Rattle.block_server.proofs.Booking.{line_same}
-use Rattle.block_server.proofs.Keeping.{keeps_ended, moved_to}
+use Rattle.block_server.proofs.Keeping.{moved_to}
+use Rattle.block_server.proofs.Ended.{keeps_ended}
 use Rattle.block_server.proofs.Onces.{once_broken}
 use Rattle.block_server.proofs.Owing.{cut_all}
 use Rattle.block_server.proofs.answering.end_login.Goals as goal

@@ -25,7 +25,7 @@ returns-clause-once c = λ q disk serving.
     once_cleared _ _ q.sent q.sent _ _ c.finish.ensures.id c.finish.ensures.stage (c.finish.ensures.kept ∙ c.requires.none) refl refl disk c.finish.ensures.pending serving
 
 pub returns-clause-lines : goal.returns-clause-lines
-returns-clause-lines c = lines_pushed _ _ _ _ c.push_reserved.ensures.items refl
+returns-clause-lines c = lines_pushed _ _ _ _ _ c.push_reserved.ensures.items refl tt
 
 pub returns-clause-books : goal.returns-clause-books
 returns-clause-books c = λ next front rest parts other none judged is.

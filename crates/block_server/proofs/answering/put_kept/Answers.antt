@@ -115,7 +115,7 @@ pub returns-in_default-kept-2-clause-agrees : goal.returns-in_default-kept-2-cla
 returns-in_default-kept-2-clause-agrees g c = agrees_same _ _ _ _ refl (c.send.ensures.rest.registered ∙ c.reserve.ensures.rest.registered)
 
 pub returns-in_default-clause-waits : goal.returns-in_default-clause-waits
-returns-in_default-clause-waits g c = λ moved. record { idles = idles_same _ _; none = search rules; handshake = refl }
+returns-in_default-clause-waits g c = λ moved. record { idles = idles_same _ _; none = search rules; handshake = refl; closing = refl }
 
 pub returns-in-Dropped-clause-waits : goal.returns-in-Dropped-clause-waits
 returns-in-Dropped-clause-waits g c = λ moved.
@@ -127,6 +127,7 @@ returns-in_default-kept-2-clause-waits g c = λ moved. record {
       (send_idles _ _ _ c.send.result c.in_default-send.not-Success c.in_default-send.not-Dropped c.send.ensures.closed c.send.ensures.refused c.send.ensures.rest);
   none = refl;
   handshake = refl;
+  closing = refl;
 }
 
 pub returns-in_default-clause-books : goal.returns-in_default-clause-books

@@ -1,3 +1,4 @@
+use Rattle.block_server.specs.Receipts.{LinesMore}
 use Rattle.std.proofs.Common.{List, ℕ, subst, sym}
 use Rattle.block_server.specs.Causes.{told_to, units_at}
 use Rattle.block_server.specs.Causes.News.{fetched}
@@ -35,13 +36,15 @@ returns-in-Fatal-clause-once c = λ q disk heard.
     (c.end_counted.ensures.once q disk)
 
 pub returns-in-Ignored-clause-lines : goal.returns-in-Ignored-clause-lines
-returns-in-Ignored-clause-lines c = lines_same _ _ _ refl
+returns-in-Ignored-clause-lines c = lines_same _ _ _ _ refl
 
 pub returns-in-Ok-clause-lines : goal.returns-in-Ok-clause-lines
-returns-in-Ok-clause-lines c = lines_same _ _ _ refl
+returns-in-Ok-clause-lines c = lines_same _ _ _ _ refl
 
 pub returns-in-Fatal-clause-lines : goal.returns-in-Fatal-clause-lines
-returns-in-Fatal-clause-lines c = ends_line _ _ _ _ _ _ _ _ c.end_counted.ensures.ends
+returns-in-Fatal-clause-lines c =
+    subst (λ (n : ℕ). LinesMore c.args.unit.now.id n c.args.records.now.grants.items c.end_counted.new.records.grants.items) c.judge_unit.ensures.granted
+    (ends_line _ _ _ _ _ _ _ _ c.end_counted.ensures.ends)
 
 pub returns-in-Ignored-clause-judged : goal.returns-in-Ignored-clause-judged
 returns-in-Ignored-clause-judged c = λ next next' receipt to.

@@ -37,6 +37,7 @@ returns-in-Cmd-clause-decides c =
 pub returns-in_default : goal.returns-in_default
 returns-in_default c = record {
   tagged = tt;
+  granted = refl;
   decides = (
     record { current = refl; last = refl; taking = refl; granted = refl; outstanding = refl },
     (

@@ -72,15 +72,15 @@ returns-in-Err-Refused-clause-intake g c = λ waits.
 
 pub returns-in-Err-Busy-clause-intake : goal.returns-in-Err-Busy-clause-intake
 returns-in-Err-Busy-clause-intake g c = λ waits.
-    let failed : IsErrOf c.fetch_unit.result halts.Busy = cc (c.in-Err-Busy.is, c.in-Err-Busy.field-0-is) in takes_none _ _ _ _ _ _ refl c.fetch_unit.ensures.advances (missed_is c.fetch_unit.result halts.Busy _ failed c.fetch_unit.ensures.missed) (lines_same _ _ _ refl)
+    let failed : IsErrOf c.fetch_unit.result halts.Busy = cc (c.in-Err-Busy.is, c.in-Err-Busy.field-0-is) in takes_none _ _ _ _ _ _ refl c.fetch_unit.ensures.advances (missed_is c.fetch_unit.result halts.Busy _ failed c.fetch_unit.ensures.missed) (lines_same _ _ _ _ refl)
 
 pub returns-in-Err-NoMemory-clause-intake : goal.returns-in-Err-NoMemory-clause-intake
 returns-in-Err-NoMemory-clause-intake g c = λ waits.
-    let failed : IsErrOf c.fetch_unit.result halts.NoMemory = cc (c.in-Err-NoMemory.is, c.in-Err-NoMemory.field-0-is) in takes_none _ _ _ _ _ _ refl c.fetch_unit.ensures.advances (missed_is c.fetch_unit.result halts.NoMemory _ failed c.fetch_unit.ensures.missed) (lines_same _ _ _ refl)
+    let failed : IsErrOf c.fetch_unit.result halts.NoMemory = cc (c.in-Err-NoMemory.is, c.in-Err-NoMemory.field-0-is) in takes_none _ _ _ _ _ _ refl c.fetch_unit.ensures.advances (missed_is c.fetch_unit.result halts.NoMemory _ failed c.fetch_unit.ensures.missed) (lines_same _ _ _ _ refl)
 
 pub returns-in-Ok-clause-intake : goal.returns-in-Ok-clause-intake
 returns-in-Ok-clause-intake g c = λ waits.
-    takes_fetched _ _ _ _ _ _ c.args.arrival _ _ waits (c.judge.ensures.waiting refl) c.judge.ensures.id c.iu_address.ensures c.in-Ok.ensures.fetched (search rules)
+    takes_fetched _ _ _ _ _ _ c.args.arrival _ _ waits (c.judge.ensures.waiting refl) c.judge.ensures.id c.judge.ensures.granted c.iu_address.ensures c.in-Ok.ensures.fetched (search rules)
     c.fetch_unit.ensures.queue c.fetch_unit.ensures.advances c.judge.ensures.lines
 
 pub returns-in-Ok-clause-goes_on : goal.returns-in-Ok-clause-goes_on

@@ -36,16 +36,16 @@ pub returns-clause-waits : goal.returns-clause-waits
 returns-clause-waits g c = if_service c.receive.result _ _ _ c.receive.ensures.waits
 
 pub returns-in_default-clause-intake : goal.returns-in_default-clause-intake
-returns-in_default-clause-intake g c = takes_none _ _ _ _ _ _ refl (advances_same _) refl (lines_same _ _ _ refl)
+returns-in_default-clause-intake g c = takes_none _ _ _ _ _ _ refl (advances_same _) refl (lines_same _ _ _ _ refl)
 
 pub returns-in_default-clause-goes_on : goal.returns-in_default-clause-goes_on
 returns-in_default-clause-goes_on g c = λ on same. record { none = search rules; goes_on = on }
 
 pub returns-in_err-make_room-clause-intake : goal.returns-in_err-make_room-clause-intake
-returns-in_err-make_room-clause-intake g c = takes_none _ _ _ _ _ _ c.make_room.ensures.stands (advances_same _) refl (lines_same _ _ _ c.make_room.ensures.grants)
+returns-in_err-make_room-clause-intake g c = takes_none _ _ _ _ _ _ c.make_room.ensures.stands (advances_same _) refl (lines_same _ _ _ _ c.make_room.ensures.grants)
 
 pub returns-clause-intake : goal.returns-clause-intake
-returns-clause-intake g c = takes_on _ _ _ _ _ _ _ _ _ (takes_none _ _ _ _ _ _ c.make_room.ensures.stands (advances_same _) refl (lines_same _ _ _ c.make_room.ensures.grants))
+returns-clause-intake g c = takes_on _ _ _ _ _ _ _ _ _ (takes_none _ _ _ _ _ _ c.make_room.ensures.stands (advances_same _) refl (lines_same _ _ _ _ c.make_room.ensures.grants))
     (c.receive.ensures.intake (waiting_stands _ _ c.make_room.ensures.stands ∙ search rules))
 
 pub returns-clause-goes_on : goal.returns-clause-goes_on
@@ -56,13 +56,13 @@ returns-in_default-clause-judges g c = (works_pass c.args.unit.now c.args.record
 
 pub returns-in_err-make_room-clause-judges : goal.returns-in_err-make_room-clause-judges
 returns-in_err-make_room-clause-judges g c =
-    (works_none _ _ _ _ _ _ c.make_room.ensures.stands refl refl (advances_same _) refl (lines_same _ _ _ c.make_room.ensures.grants) (c.make_room.ensures.books (g.S.Site.state c.args.site.now))).judges
+    (works_none _ _ _ _ _ _ c.make_room.ensures.stands refl refl (advances_same _) refl (lines_same _ _ _ _ c.make_room.ensures.grants) (c.make_room.ensures.books (g.S.Site.state c.args.site.now))).judges
 
 pub returns-clause-judges : goal.returns-clause-judges
 returns-clause-judges g c =
     let waits = waiting_stands _ _ c.make_room.ensures.stands ∙ search rules in
     (works_on _ _ _ _ _ _ _ _ _
-    (works_none _ _ _ _ _ _ c.make_room.ensures.stands refl refl (advances_same _) refl (lines_same _ _ _ c.make_room.ensures.grants) (c.make_room.ensures.books (g.S.Site.state c.args.site.now)))
+    (works_none _ _ _ _ _ _ c.make_room.ensures.stands refl refl (advances_same _) refl (lines_same _ _ _ _ c.make_room.ensures.grants) (c.make_room.ensures.books (g.S.Site.state c.args.site.now)))
     (works _ _ _ _ _ _ refl refl (c.receive.ensures.intake waits) (c.receive.ensures.judges waits))).judges
 
 pub returns-in_default-clause-answers : goal.returns-in_default-clause-answers

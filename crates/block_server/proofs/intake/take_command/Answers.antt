@@ -37,7 +37,7 @@ returns-in_default-clause-agrees g c = λ is. is
 pub returns-in-1-clause-intake : goal.returns-in-1-clause-intake
 returns-in-1-clause-intake g c = λ before may first taken.
     takes_on _ _ _ _ _ _ _ _ _ (takes_entry _ _ _ _ _ _ c.args.arrival.number c.args.arrival.entry c.args.arrival may taken
-    (srp_command c.args.arrival.entry first (search rules)) refl refl taken.advances refl refl refl refl) (c.receive.ensures.intake refl)
+    (srp_command c.args.arrival.entry first (search rules)) refl refl taken.advances refl refl refl refl refl) (c.receive.ensures.intake refl)
 
 pub returns-in-1-clause-goes_on : goal.returns-in-1-clause-goes_on
 returns-in-1-clause-goes_on g c = λ may. c.receive.ensures.goes_on may.goes_on
@@ -45,8 +45,8 @@ returns-in-1-clause-goes_on g c = λ may. c.receive.ensures.goes_on may.goes_on
 pub returns-in-2-clause-intake : goal.returns-in-2-clause-intake
 returns-in-2-clause-intake g c = λ before may first taken.
     takes_on _ _ _ _ _ _ _ _ _ (takes_other _ _ _ _ _ _ c.args.arrival.number c.args.arrival.entry may taken
-    (not_format c.args.arrival.entry (λ one. search rules)) taken.advances refl may.none refl)
-    (takes_none _ _ _ _ _ _ c.put_reply.ensures.stands c.put_reply.ensures.advances c.put_reply.ensures.passes (lines_same _ _ _ refl))
+    (not_format c.args.arrival.entry (λ one. search rules)) taken.advances refl refl may.none refl)
+    (takes_none _ _ _ _ _ _ c.put_reply.ensures.stands c.put_reply.ensures.advances c.put_reply.ensures.passes (lines_same _ _ _ _ refl))
 
 pub returns-in-2-clause-goes_on : goal.returns-in-2-clause-goes_on
 returns-in-2-clause-goes_on g c = λ may same. may_stands _ _ c.put_reply.ensures.stands may
@@ -54,14 +54,14 @@ returns-in-2-clause-goes_on g c = λ may same. may_stands _ _ c.put_reply.ensure
 pub returns-in_default-clause-intake : goal.returns-in_default-clause-intake
 returns-in_default-clause-intake g c = λ before may first taken.
     takes_other _ _ _ _ _ _ c.args.arrival.number c.args.arrival.entry may taken
-    (not_format c.args.arrival.entry (λ one. search rules)) taken.advances refl may.none refl
+    (not_format c.args.arrival.entry (λ one. search rules)) taken.advances refl refl may.none refl
 
 pub returns-in-1-clause-judges : goal.returns-in-1-clause-judges
 returns-in-1-clause-judges g c = λ before may first taken.
     let next = ap (λ w. next_of w before.queue) may.none in
     (works_on _ _ _ _ _ _ _ _ _
     (works_entry _ _ _ _ (books_at c.args.unit.now before c.args.records.now) _ c.args.arrival.number c.args.arrival.entry c.args.arrival may taken
-    (srp_command c.args.arrival.entry first (search rules)) refl refl refl refl refl refl refl next refl refl refl refl refl refl refl refl refl refl refl refl refl refl)
+    (srp_command c.args.arrival.entry first (search rules)) refl refl refl refl refl refl refl refl next refl refl refl refl refl refl refl refl refl refl refl refl refl refl)
     (works _ _ _ _ _ _ refl refl (c.receive.ensures.intake refl) (c.receive.ensures.judges refl))).judges
 
 pub returns-in-2-clause-judges : goal.returns-in-2-clause-judges
@@ -70,15 +70,15 @@ returns-in-2-clause-judges g c = λ before may first taken.
     let next' = ap (λ w. next_of w (g.S.Site.state c.args.site.now).queue) may.none in
     (works_on _ _ _ _ _ _ _ _ _
     (works_other _ _ _ _ (books_at c.args.unit.now before c.args.records.now) (books_at c.args.unit.now (g.S.Site.state c.args.site.now) c.args.records.now) c.args.arrival.number c.args.arrival.entry may taken
-    (not_format c.args.arrival.entry (λ one. search rules)) (command_no_event c.args.arrival.entry first) (λ on down. (down, command_no_handshake c.args.arrival.entry first)) refl refl may.none refl next refl next' refl refl refl refl refl refl refl refl refl refl refl)
-    (works_none _ _ _ _ _ _ c.put_reply.ensures.stands refl refl c.put_reply.ensures.advances c.put_reply.ensures.passes (lines_same _ _ _ refl) (c.put_reply.ensures.books c.args.records.now))).judges
+    (not_format c.args.arrival.entry (λ one. search rules)) (command_no_event c.args.arrival.entry first) (λ on down. (down, command_no_handshake c.args.arrival.entry first)) refl refl refl may.none refl next refl next' refl refl refl refl refl refl refl refl refl refl refl)
+    (works_none _ _ _ _ _ _ c.put_reply.ensures.stands refl refl c.put_reply.ensures.advances c.put_reply.ensures.passes (lines_same _ _ _ _ refl) (c.put_reply.ensures.books c.args.records.now))).judges
 
 pub returns-in_default-clause-judges : goal.returns-in_default-clause-judges
 returns-in_default-clause-judges g c = λ before may first taken.
     let next = ap (λ w. next_of w before.queue) may.none in
     let next' = ap (λ w. next_of w (g.S.Site.state c.args.site.now).queue) may.none in
     (works_other _ _ _ _ (books_at c.args.unit.now before c.args.records.now) (books_at c.args.unit.now (g.S.Site.state c.args.site.now) c.args.records.now) c.args.arrival.number c.args.arrival.entry may taken
-    (not_format c.args.arrival.entry (λ one. search rules)) (command_no_event c.args.arrival.entry first) (λ on down. (down, command_no_handshake c.args.arrival.entry first)) refl refl may.none refl next refl next' refl refl refl refl refl refl refl refl refl refl refl).judges
+    (not_format c.args.arrival.entry (λ one. search rules)) (command_no_event c.args.arrival.entry first) (λ on down. (down, command_no_handshake c.args.arrival.entry first)) refl refl refl may.none refl next refl next' refl refl refl refl refl refl refl refl refl refl refl).judges
 
 pub returns-in-1-clause-answers : goal.returns-in-1-clause-answers
 returns-in-1-clause-answers g c = λ alone has. c.receive.ensures.answers alone has

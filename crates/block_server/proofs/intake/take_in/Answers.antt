@@ -83,9 +83,9 @@ loop-taken-preserved g c = record {
       c.take_one.ensures.once;
   agrees = agrees_on _ _ _ (agrees_on _ _ _ c.loop-taken.invariant.agrees (agrees_same _ _ _ _ (ap (λ (line : Line). line.handshake) c.make_room.ensures.line) refl)) c.take_one.ensures.agrees;
   waits = λ moved. absurd (next_entry c.in_ok-next-2.next _ _ (search rules) (c.in_ok-next-2.ensures.waits moved));
-  intake = λ on. takes_on _ _ _ _ _ _ _ _ _ (takes_on _ _ _ _ _ _ _ _ _ (c.loop-taken.invariant.intake on) (takes_none _ _ _ _ _ _ c.make_room.ensures.stands (advances_same _) refl (lines_same _ _ _ c.make_room.ensures.grants)))
+  intake = λ on. takes_on _ _ _ _ _ _ _ _ _ (takes_on _ _ _ _ _ _ _ _ _ (c.loop-taken.invariant.intake on) (takes_none _ _ _ _ _ _ c.make_room.ensures.stands (advances_same _) refl (lines_same _ _ _ _ c.make_room.ensures.grants)))
       (c.take_one.ensures.intake (may_stands _ _ c.make_room.ensures.stands (c.loop-taken.invariant.may on)));
-  judges = λ on. (works_on _ _ _ _ _ _ _ _ _ (works_on _ _ _ _ _ _ _ _ _ (works _ _ _ _ _ _ refl refl (c.loop-taken.invariant.intake on) (c.loop-taken.invariant.judges on)) (works_none _ _ _ _ _ _ c.make_room.ensures.stands refl refl (advances_same _) refl (lines_same _ _ _ c.make_room.ensures.grants) (c.make_room.ensures.books (g.S.Site.state c.loop-taken.site))))
+  judges = λ on. (works_on _ _ _ _ _ _ _ _ _ (works_on _ _ _ _ _ _ _ _ _ (works _ _ _ _ _ _ refl refl (c.loop-taken.invariant.intake on) (c.loop-taken.invariant.judges on)) (works_none _ _ _ _ _ _ c.make_room.ensures.stands refl refl (advances_same _) refl (lines_same _ _ _ _ c.make_room.ensures.grants) (c.make_room.ensures.books (g.S.Site.state c.loop-taken.site))))
       (works _ _ _ _ _ _ refl refl (c.take_one.ensures.intake (may_stands _ _ c.make_room.ensures.stands (c.loop-taken.invariant.may on)))
       (c.take_one.ensures.judges (may_stands _ _ c.make_room.ensures.stands (c.loop-taken.invariant.may on))))).judges;
   answers = λ alone has. c.take_one.ensures.answers alone (subst (λ (o : Owing). HasAnswers o) (sym (c.make_room.ensures.owing (g.S.Site.state c.loop-taken.site).queue)) (c.loop-taken.invariant.answers alone has));
@@ -147,14 +147,14 @@ pub returns-then-ne-clause-intake : goal.returns-then-ne-clause-intake
 returns-then-ne-clause-intake g c = λ on. c.receive_waiting.ensures.intake
 
 pub returns-in_err-make_room-clause-intake : goal.returns-in_err-make_room-clause-intake
-returns-in_err-make_room-clause-intake g c = λ on. takes_on _ _ _ _ _ _ _ _ _ (c.loop-taken.invariant.intake on) (takes_none _ _ _ _ _ _ c.make_room.ensures.stands (advances_same _) refl (lines_same _ _ _ c.make_room.ensures.grants))
+returns-in_err-make_room-clause-intake g c = λ on. takes_on _ _ _ _ _ _ _ _ _ (c.loop-taken.invariant.intake on) (takes_none _ _ _ _ _ _ c.make_room.ensures.stands (advances_same _) refl (lines_same _ _ _ _ c.make_room.ensures.grants))
 
 pub returns-in_err-next-2-clause-intake : goal.returns-in_err-next-2-clause-intake
-returns-in_err-next-2-clause-intake g c = λ on. takes_on _ _ _ _ _ _ _ _ _ (takes_on _ _ _ _ _ _ _ _ _ (c.loop-taken.invariant.intake on) (takes_none _ _ _ _ _ _ c.make_room.ensures.stands (advances_same _) refl (lines_same _ _ _ c.make_room.ensures.grants)))
+returns-in_err-next-2-clause-intake g c = λ on. takes_on _ _ _ _ _ _ _ _ _ (takes_on _ _ _ _ _ _ _ _ _ (c.loop-taken.invariant.intake on) (takes_none _ _ _ _ _ _ c.make_room.ensures.stands (advances_same _) refl (lines_same _ _ _ _ c.make_room.ensures.grants)))
     (c.take_one.ensures.intake (may_stands _ _ c.make_room.ensures.stands (c.loop-taken.invariant.may on)))
 
 pub returns-then-ne-2-clause-intake : goal.returns-then-ne-2-clause-intake
-returns-then-ne-2-clause-intake g c = λ on. takes_on _ _ _ _ _ _ _ _ _ (takes_on _ _ _ _ _ _ _ _ _ (c.loop-taken.invariant.intake on) (takes_none _ _ _ _ _ _ c.make_room.ensures.stands (advances_same _) refl (lines_same _ _ _ c.make_room.ensures.grants)))
+returns-then-ne-2-clause-intake g c = λ on. takes_on _ _ _ _ _ _ _ _ _ (takes_on _ _ _ _ _ _ _ _ _ (c.loop-taken.invariant.intake on) (takes_none _ _ _ _ _ _ c.make_room.ensures.stands (advances_same _) refl (lines_same _ _ _ _ c.make_room.ensures.grants)))
     (c.take_one.ensures.intake (may_stands _ _ c.make_room.ensures.stands (c.loop-taken.invariant.may on)))
 
 pub returns-after-loop-taken-clause-intake : goal.returns-after-loop-taken-clause-intake
@@ -167,15 +167,15 @@ pub returns-then-ne-clause-judges : goal.returns-then-ne-clause-judges
 returns-then-ne-clause-judges g c = λ on. c.receive_waiting.ensures.judges
 
 pub returns-in_err-make_room-clause-judges : goal.returns-in_err-make_room-clause-judges
-returns-in_err-make_room-clause-judges g c = λ on. (works_on _ _ _ _ _ _ _ _ _ (works _ _ _ _ _ _ refl refl (c.loop-taken.invariant.intake on) (c.loop-taken.invariant.judges on)) (works_none _ _ _ _ _ _ c.make_room.ensures.stands refl refl (advances_same _) refl (lines_same _ _ _ c.make_room.ensures.grants) (c.make_room.ensures.books (g.S.Site.state c.loop-taken.site)))).judges
+returns-in_err-make_room-clause-judges g c = λ on. (works_on _ _ _ _ _ _ _ _ _ (works _ _ _ _ _ _ refl refl (c.loop-taken.invariant.intake on) (c.loop-taken.invariant.judges on)) (works_none _ _ _ _ _ _ c.make_room.ensures.stands refl refl (advances_same _) refl (lines_same _ _ _ _ c.make_room.ensures.grants) (c.make_room.ensures.books (g.S.Site.state c.loop-taken.site)))).judges
 
 pub returns-in_err-next-2-clause-judges : goal.returns-in_err-next-2-clause-judges
-returns-in_err-next-2-clause-judges g c = λ on. (works_on _ _ _ _ _ _ _ _ _ (works_on _ _ _ _ _ _ _ _ _ (works _ _ _ _ _ _ refl refl (c.loop-taken.invariant.intake on) (c.loop-taken.invariant.judges on)) (works_none _ _ _ _ _ _ c.make_room.ensures.stands refl refl (advances_same _) refl (lines_same _ _ _ c.make_room.ensures.grants) (c.make_room.ensures.books (g.S.Site.state c.loop-taken.site))))
+returns-in_err-next-2-clause-judges g c = λ on. (works_on _ _ _ _ _ _ _ _ _ (works_on _ _ _ _ _ _ _ _ _ (works _ _ _ _ _ _ refl refl (c.loop-taken.invariant.intake on) (c.loop-taken.invariant.judges on)) (works_none _ _ _ _ _ _ c.make_room.ensures.stands refl refl (advances_same _) refl (lines_same _ _ _ _ c.make_room.ensures.grants) (c.make_room.ensures.books (g.S.Site.state c.loop-taken.site))))
     (works _ _ _ _ _ _ refl refl (c.take_one.ensures.intake (may_stands _ _ c.make_room.ensures.stands (c.loop-taken.invariant.may on)))
     (c.take_one.ensures.judges (may_stands _ _ c.make_room.ensures.stands (c.loop-taken.invariant.may on))))).judges
 
 pub returns-then-ne-2-clause-judges : goal.returns-then-ne-2-clause-judges
-returns-then-ne-2-clause-judges g c = λ on. (works_on _ _ _ _ _ _ _ _ _ (works_on _ _ _ _ _ _ _ _ _ (works _ _ _ _ _ _ refl refl (c.loop-taken.invariant.intake on) (c.loop-taken.invariant.judges on)) (works_none _ _ _ _ _ _ c.make_room.ensures.stands refl refl (advances_same _) refl (lines_same _ _ _ c.make_room.ensures.grants) (c.make_room.ensures.books (g.S.Site.state c.loop-taken.site))))
+returns-then-ne-2-clause-judges g c = λ on. (works_on _ _ _ _ _ _ _ _ _ (works_on _ _ _ _ _ _ _ _ _ (works _ _ _ _ _ _ refl refl (c.loop-taken.invariant.intake on) (c.loop-taken.invariant.judges on)) (works_none _ _ _ _ _ _ c.make_room.ensures.stands refl refl (advances_same _) refl (lines_same _ _ _ _ c.make_room.ensures.grants) (c.make_room.ensures.books (g.S.Site.state c.loop-taken.site))))
     (works _ _ _ _ _ _ refl refl (c.take_one.ensures.intake (may_stands _ _ c.make_room.ensures.stands (c.loop-taken.invariant.may on)))
     (c.take_one.ensures.judges (may_stands _ _ c.make_room.ensures.stands (c.loop-taken.invariant.may on))))).judges
 

@@ -122,17 +122,17 @@ pub returns-in-Some-clause-line : goal.returns-in-Some-clause-line
 returns-in-Some-clause-line g c = λ moved. not_moved _ _ (stays_moved _ _ _ _ c.put_reply.ensures.quiet refl) moved
 
 pub returns-in_err-reserve-clause-intake : goal.returns-in_err-reserve-clause-intake
-returns-in_err-reserve-clause-intake g c = λ may. takes_none _ _ _ _ _ _ refl c.reserve.ensures.advances c.reserve.ensures.passes (lines_same _ _ _ refl)
+returns-in_err-reserve-clause-intake g c = λ may. takes_none _ _ _ _ _ _ refl c.reserve.ensures.advances c.reserve.ensures.passes (lines_same _ _ _ _ refl)
 
 pub returns-in_default-clause-intake : goal.returns-in_default-clause-intake
 returns-in_default-clause-intake g c = λ may.
     let taken = poll_taken _ _ _ c.poll.result (λ number entry is. c.in_default.not-Got number entry is) c.poll.ensures.empty c.poll.ensures.refused in
     takes_none _ _ _ _ _ _ refl (advances_on _ _ _ c.reserve.ensures.advances c.poll.ensures.advances)
-    (passes_windows _ _ c.poll.ensures.rest.last_session taken c.poll.ensures.windows ∙ c.reserve.ensures.passes) (lines_same _ _ _ refl)
+    (passes_windows _ _ c.poll.ensures.rest.last_session taken c.poll.ensures.windows ∙ c.reserve.ensures.passes) (lines_same _ _ _ _ refl)
 
 pub returns-in-Command-clause-intake : goal.returns-in-Command-clause-intake
 returns-in-Command-clause-intake g c = λ may.
-    takes_on _ _ _ _ _ _ _ _ _ (takes_none _ _ _ _ _ _ refl c.reserve.ensures.advances c.reserve.ensures.passes (lines_same _ _ _ refl))
+    takes_on _ _ _ _ _ _ _ _ _ (takes_none _ _ _ _ _ _ refl c.reserve.ensures.advances c.reserve.ensures.passes (lines_same _ _ _ _ refl))
     (c.take_command.ensures.intake (g.S.Site.state c.reserve.new.self) may (command_first c.in-Got.entry (search rules)) (record {
       number_is = c.in-Got.ensures.got.number_is;
       taken = c.in-Got.ensures.got.taken;
@@ -146,7 +146,7 @@ returns-in-Command-clause-goes_on g c = λ may. c.take_command.ensures.goes_on m
 
 pub returns-in-Some-clause-intake : goal.returns-in-Some-clause-intake
 returns-in-Some-clause-intake g c = λ may.
-    takes_on _ _ _ _ _ _ _ _ _ (takes_on _ _ _ _ _ _ _ _ _ (takes_none _ _ _ _ _ _ refl c.reserve.ensures.advances c.reserve.ensures.passes (lines_same _ _ _ refl))
+    takes_on _ _ _ _ _ _ _ _ _ (takes_on _ _ _ _ _ _ _ _ _ (takes_none _ _ _ _ _ _ refl c.reserve.ensures.advances c.reserve.ensures.passes (lines_same _ _ _ _ refl))
     (takes_other _ _ _ _ _ _ c.in-Got.number c.in-Got.entry may (record {
       number_is = c.in-Got.ensures.got.number_is;
       taken = c.in-Got.ensures.got.taken;
@@ -154,8 +154,8 @@ returns-in-Some-clause-intake g c = λ may.
       windows = c.poll.ensures.windows;
       advances = c.poll.ensures.advances;
     })
-    (not_command c.in-Got.entry (λ is. search rules)) c.poll.ensures.advances refl may.none refl))
-    (takes_none _ _ _ _ _ _ c.put_reply.ensures.stands c.put_reply.ensures.advances c.put_reply.ensures.passes (lines_same _ _ _ refl))
+    (not_command c.in-Got.entry (λ is. search rules)) c.poll.ensures.advances refl refl may.none refl))
+    (takes_none _ _ _ _ _ _ c.put_reply.ensures.stands c.put_reply.ensures.advances c.put_reply.ensures.passes (lines_same _ _ _ _ refl))
 
 pub returns-in-Some-clause-goes_on : goal.returns-in-Some-clause-goes_on
 returns-in-Some-clause-goes_on g c = λ may same. record {
@@ -165,7 +165,7 @@ returns-in-Some-clause-goes_on g c = λ may same. record {
 
 pub returns-in-None-clause-intake : goal.returns-in-None-clause-intake
 returns-in-None-clause-intake g c = λ may.
-    takes_on _ _ _ _ _ _ _ _ _ (takes_none _ _ _ _ _ _ refl c.reserve.ensures.advances c.reserve.ensures.passes (lines_same _ _ _ refl))
+    takes_on _ _ _ _ _ _ _ _ _ (takes_none _ _ _ _ _ _ refl c.reserve.ensures.advances c.reserve.ensures.passes (lines_same _ _ _ _ refl))
     (takes_other _ _ _ _ _ _ c.in-Got.number c.in-Got.entry may (record {
       number_is = c.in-Got.ensures.got.number_is;
       taken = c.in-Got.ensures.got.taken;
@@ -173,14 +173,14 @@ returns-in-None-clause-intake g c = λ may.
       windows = c.poll.ensures.windows;
       advances = c.poll.ensures.advances;
     })
-    (not_command c.in-Got.entry (λ is. search rules)) c.poll.ensures.advances refl may.none refl)
+    (not_command c.in-Got.entry (λ is. search rules)) c.poll.ensures.advances refl refl may.none refl)
 
 pub returns-in-None-clause-goes_on : goal.returns-in-None-clause-goes_on
 returns-in-None-clause-goes_on g c = λ may same. record { none = may.none; goes_on = got_ended _ _ _ c.in-Got.entry c.got-step.ensures.state ∙ may.goes_on }
 
 pub returns-in-Event-clause-intake : goal.returns-in-Event-clause-intake
 returns-in-Event-clause-intake g c = λ may.
-    takes_on _ _ _ _ _ _ _ _ _ (takes_on _ _ _ _ _ _ _ _ _ (takes_none _ _ _ _ _ _ refl c.reserve.ensures.advances c.reserve.ensures.passes (lines_same _ _ _ refl))
+    takes_on _ _ _ _ _ _ _ _ _ (takes_on _ _ _ _ _ _ _ _ _ (takes_none _ _ _ _ _ _ refl c.reserve.ensures.advances c.reserve.ensures.passes (lines_same _ _ _ _ refl))
     (takes_other _ _ _ _ _ _ c.in-Got.number c.in-Got.entry may (record {
       number_is = c.in-Got.ensures.got.number_is;
       taken = c.in-Got.ensures.got.taken;
@@ -188,7 +188,7 @@ returns-in-Event-clause-intake g c = λ may.
       windows = c.poll.ensures.windows;
       advances = c.poll.ensures.advances;
     })
-    (not_command c.in-Got.entry (λ is. search rules)) c.poll.ensures.advances refl may.none refl))
+    (not_command c.in-Got.entry (λ is. search rules)) c.poll.ensures.advances refl refl may.none refl))
     (takes_none _ _ _ _ _ _ (c.lose_partner.ensures.stands may.none) (advances_same _) refl (ends_line _ _ _ _ _ _ _ _ c.lose_partner.ensures.ends))
 
 pub returns-in-Event-clause-goes_on : goal.returns-in-Event-clause-goes_on
@@ -199,7 +199,7 @@ returns-in-Event-clause-goes_on g c = λ may same. record {
 
 pub returns-in-Unused-clause-intake : goal.returns-in-Unused-clause-intake
 returns-in-Unused-clause-intake g c = λ may.
-    takes_on _ _ _ _ _ _ _ _ _ (takes_none _ _ _ _ _ _ refl c.reserve.ensures.advances c.reserve.ensures.passes (lines_same _ _ _ refl))
+    takes_on _ _ _ _ _ _ _ _ _ (takes_none _ _ _ _ _ _ refl c.reserve.ensures.advances c.reserve.ensures.passes (lines_same _ _ _ _ refl))
     (takes_other _ _ _ _ _ _ c.in-Got.number c.in-Got.entry may (record {
       number_is = c.in-Got.ensures.got.number_is;
       taken = c.in-Got.ensures.got.taken;
@@ -207,11 +207,11 @@ returns-in-Unused-clause-intake g c = λ may.
       windows = c.poll.ensures.windows;
       advances = c.poll.ensures.advances;
     })
-    (not_command c.in-Got.entry (λ is. search rules)) c.poll.ensures.advances refl may.none refl)
+    (not_command c.in-Got.entry (λ is. search rules)) c.poll.ensures.advances refl refl may.none refl)
 
 pub returns-in-Reserved-clause-intake : goal.returns-in-Reserved-clause-intake
 returns-in-Reserved-clause-intake g c = λ may.
-    takes_on _ _ _ _ _ _ _ _ _ (takes_none _ _ _ _ _ _ refl c.reserve.ensures.advances c.reserve.ensures.passes (lines_same _ _ _ refl))
+    takes_on _ _ _ _ _ _ _ _ _ (takes_none _ _ _ _ _ _ refl c.reserve.ensures.advances c.reserve.ensures.passes (lines_same _ _ _ _ refl))
     (takes_other _ _ _ _ _ _ c.in-Got.number c.in-Got.entry may (record {
       number_is = c.in-Got.ensures.got.number_is;
       taken = c.in-Got.ensures.got.taken;
@@ -219,7 +219,7 @@ returns-in-Reserved-clause-intake g c = λ may.
       windows = c.poll.ensures.windows;
       advances = c.poll.ensures.advances;
     })
-    (not_command c.in-Got.entry (λ is. search rules)) c.poll.ensures.advances refl may.none refl)
+    (not_command c.in-Got.entry (λ is. search rules)) c.poll.ensures.advances refl refl may.none refl)
 
 pub returns-in_err-reserve-clause-judges : goal.returns-in_err-reserve-clause-judges
 returns-in_err-reserve-clause-judges g c = λ may. (works_pass c.args.unit.now c.args.records.now _ _ c.reserve.ensures.advances c.reserve.ensures.passes).judges
@@ -263,8 +263,8 @@ returns-in-Some-clause-judges g c = λ may.
       windows = c.poll.ensures.windows;
       advances = c.poll.ensures.advances;
     })
-    (not_command c.in-Got.entry (λ is. search rules)) (no_event c.in-Got.entry (λ is. search rules)) (λ on down. up_got _ _ _ c.in-Got.entry c.got-step.ensures.state (λ is. search rules) on down) refl refl may.none refl next refl next' (got_ended _ _ _ c.in-Got.entry c.got-step.ensures.state) refl refl refl refl refl refl refl refl refl refl))
-    (works_none _ _ _ _ _ _ c.put_reply.ensures.stands refl refl c.put_reply.ensures.advances c.put_reply.ensures.passes (lines_same _ _ _ refl) (c.put_reply.ensures.books c.args.records.now))).judges
+    (not_command c.in-Got.entry (λ is. search rules)) (no_event c.in-Got.entry (λ is. search rules)) (λ on down. up_got _ _ _ c.in-Got.entry c.got-step.ensures.state (λ is. search rules) on down) refl refl refl may.none refl next refl next' (got_ended _ _ _ c.in-Got.entry c.got-step.ensures.state) refl refl refl refl refl refl refl refl refl refl))
+    (works_none _ _ _ _ _ _ c.put_reply.ensures.stands refl refl c.put_reply.ensures.advances c.put_reply.ensures.passes (lines_same _ _ _ _ refl) (c.put_reply.ensures.books c.args.records.now))).judges
 
 pub returns-in-None-clause-judges : goal.returns-in-None-clause-judges
 returns-in-None-clause-judges g c = λ may.
@@ -280,7 +280,7 @@ returns-in-None-clause-judges g c = λ may.
       windows = c.poll.ensures.windows;
       advances = c.poll.ensures.advances;
     })
-    (not_command c.in-Got.entry (λ is. search rules)) (no_event c.in-Got.entry (λ is. search rules)) (λ on down. up_got _ _ _ c.in-Got.entry c.got-step.ensures.state (λ is. search rules) on down) refl refl may.none refl next refl next' (got_ended _ _ _ c.in-Got.entry c.got-step.ensures.state) refl refl refl refl refl refl refl refl refl refl)).judges
+    (not_command c.in-Got.entry (λ is. search rules)) (no_event c.in-Got.entry (λ is. search rules)) (λ on down. up_got _ _ _ c.in-Got.entry c.got-step.ensures.state (λ is. search rules) on down) refl refl refl may.none refl next refl next' (got_ended _ _ _ c.in-Got.entry c.got-step.ensures.state) refl refl refl refl refl refl refl refl refl refl)).judges
 
 pub returns-in-Event-clause-judges : goal.returns-in-Event-clause-judges
 returns-in-Event-clause-judges g c = λ may.
@@ -297,7 +297,7 @@ returns-in-Event-clause-judges g c = λ may.
     (works (standing_of c.args.unit.now) (standing_of c.lose_partner.new.unit) (g.S.Site.state c.reserve.new.self) (g.S.Site.state c.poll.new.self)
     (books_at c.args.unit.now (g.S.Site.state c.reserve.new.self) c.args.records.now) (books_at c.lose_partner.new.unit (g.S.Site.state c.poll.new.self) c.lose_partner.new.records) refl refl
     (takes_on _ _ _ _ _ _ _ _ _
-    (takes_other _ _ _ _ _ _ c.in-Got.number c.in-Got.entry may taken (not_command c.in-Got.entry (λ is. search rules)) c.poll.ensures.advances refl may.none refl)
+    (takes_other _ _ _ _ _ _ c.in-Got.number c.in-Got.entry may taken (not_command c.in-Got.entry (λ is. search rules)) c.poll.ensures.advances refl refl may.none refl)
     (takes_none _ _ _ _ _ _ stands (advances_same _) refl (ends_line _ _ _ _ _ _ _ _ c.lose_partner.ensures.ends)))
     (judges_gone c.args.unit.now c.lose_partner.new.unit (g.S.Site.state c.reserve.new.self) (g.S.Site.state c.poll.new.self) c.args.records.now c.lose_partner.new.records c.in-Got.number c.in-Got.entry may taken
     (not_command c.in-Got.entry (λ is. search rules)) (stands ∙ stands_got c.args.unit.now c.got-step-in-Event.new.self ended) (ends_line _ _ _ _ _ _ _ _ c.lose_partner.ensures.ends)
@@ -319,7 +319,7 @@ returns-in-Unused-clause-judges g c = λ may.
       windows = c.poll.ensures.windows;
       advances = c.poll.ensures.advances;
     })
-    (not_command c.in-Got.entry (λ is. search rules)) (no_event c.in-Got.entry (λ is. search rules)) (λ on down. (down, no_handshake c.in-Got.entry (λ is. search rules))) refl refl may.none refl next refl next' refl refl refl refl refl refl refl refl refl refl refl)).judges
+    (not_command c.in-Got.entry (λ is. search rules)) (no_event c.in-Got.entry (λ is. search rules)) (λ on down. (down, no_handshake c.in-Got.entry (λ is. search rules))) refl refl refl may.none refl next refl next' refl refl refl refl refl refl refl refl refl refl refl)).judges
 
 pub returns-in-Reserved-clause-judges : goal.returns-in-Reserved-clause-judges
 returns-in-Reserved-clause-judges g c = λ may.
@@ -335,7 +335,7 @@ returns-in-Reserved-clause-judges g c = λ may.
       windows = c.poll.ensures.windows;
       advances = c.poll.ensures.advances;
     })
-    (not_command c.in-Got.entry (λ is. search rules)) (no_event c.in-Got.entry (λ is. search rules)) (λ on down. (down, no_handshake c.in-Got.entry (λ is. search rules))) refl refl may.none refl next refl next' refl refl refl refl refl refl refl refl refl refl refl)).judges
+    (not_command c.in-Got.entry (λ is. search rules)) (no_event c.in-Got.entry (λ is. search rules)) (λ on down. (down, no_handshake c.in-Got.entry (λ is. search rules))) refl refl refl may.none refl next refl next' refl refl refl refl refl refl refl refl refl refl refl)).judges
 
 pub returns-in_err-reserve-clause-answers : goal.returns-in_err-reserve-clause-answers
 returns-in_err-reserve-clause-answers g c = λ alone has. owes_seen _ _ (seen_reserves _ _ c.reserve.ensures.rest) refl refl refl refl refl refl refl has

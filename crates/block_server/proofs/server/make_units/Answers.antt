@@ -1,8 +1,9 @@
 use Rattle.block_server.specs.Cargo.{AreIdle, is_moving}
 use Rattle.block_server.proofs.CargoLaws.{more_idle, none_idle}
-use Rattle.std.proofs.Common.{ap, ◌∙◌, arith, List, sym, subst}
+use Rattle.std.proofs.Common.{◌≡◌, ap, ◌∙◌, arith, List, sym, subst}
+use Rattle.std.proofs.lemmas.List.Elements.{All-nil, All-push}
 use Rattle.block_server.specs.Ready.{AreDown}
-use Rattle.block_server.specs.Units.{AreServing}
+use Rattle.block_server.specs.Units.{AreGranting, AreServing}
 use Rattle.block_server.specs.declared.unit.Unit.{Unit}
 use Rattle.block_server.proofs.Agreeing.{more_down, none_down}
 use Rattle.block_server.proofs.Units.{units_more, units_none}
@@ -17,11 +18,13 @@ use Rattle.block_server.specs.Refusals.{ExplainNone}
 use Rattle.block_server.proofs.server.make_units.Goals as goal
 
 pub loop-unit-init : goal.loop-unit-init
-loop-unit-init c = record { count = c.new-units.ensures.len; down = none_down _ c.new-units.ensures.items; none = none_wait _ c.new-units.ensures.items; unused = none_unused _ c.new-units.ensures.items; unanswered = none_owe _ c.new-units.ensures.items; idle = none_idle _ c.new-units.ensures.items; unrefused = none_refuse _ c.new-units.ensures.items; serving = λ terms rows. units_none terms _ _ rows c.new-units.ensures.items }
+loop-unit-init c = record { count = c.new-units.ensures.len; grants = subst (AreGranting c.args.grant) (sym c.new-units.ensures.items) (All-nil (λ (unit : Unit). unit.logins.granted ≡ c.args.grant)); down = none_down _ c.new-units.ensures.items; none = none_wait _ c.new-units.ensures.items; unused = none_unused _ c.new-units.ensures.items; unanswered = none_owe _ c.new-units.ensures.items; idle = none_idle _ c.new-units.ensures.items; unrefused = none_refuse _ c.new-units.ensures.items; serving = λ terms rows. units_none terms _ _ rows c.new-units.ensures.items }
 
 pub loop-unit-preserved : goal.loop-unit-preserved
 loop-unit-preserved c = record {
   count = omega (arith, c.in_ok-push.ensures.len);
+  grants = subst (AreGranting c.args.grant) (sym c.in_ok-push.ensures.items)
+      (All-push (λ (unit : Unit). unit.logins.granted ≡ c.args.grant) c.loop-unit.units.items c.new.result c.loop-unit.invariant.grants c.new.ensures.granted);
   down = subst AreDown (sym c.in_ok-push.ensures.items) (more_down c.loop-unit.units.items c.new.result c.loop-unit.invariant.down c.new.ensures.handshake);
   none = subst AwaitNone (sym c.in_ok-push.ensures.items) (more_wait c.loop-unit.units.items c.new.result c.loop-unit.invariant.none c.new.ensures.waiting);
   unused = subst AreUnused (sym c.in_ok-push.ensures.items) (more_unused c.loop-unit.units.items c.new.result c.loop-unit.invariant.unused c.new.ensures.current c.new.ensures.last c.new.ensures.taking

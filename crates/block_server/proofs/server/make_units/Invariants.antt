@@ -8,12 +8,13 @@ use Rattle.block_server.specs.Owed.{OweNone}
 use Rattle.block_server.specs.Receipts.{AwaitNone}
 use Rattle.block_server.specs.Refusals.{ExplainNone}
 use Rattle.block_server.specs.Serving.{Terms}
-use Rattle.block_server.specs.Units.{AreServing}
+use Rattle.block_server.specs.Units.{AreGranting, AreServing}
 use Rattle.block_server.proofs.server.make_units.Given as goal
 
 abbrev pub invariant-loop-unit : goal.invariant-loop-unit
 invariant-loop-unit l = record {
   count : vec_len l.units ≡ l.unit;
+  grants : AreGranting l.grant l.units.items;
   down : AreDown l.units.items;
   none : AwaitNone l.units.items;
   unused : AreUnused l.units.items;

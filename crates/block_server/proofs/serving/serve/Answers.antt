@@ -132,20 +132,20 @@ returns-clause-waits g c =
     c.answer.ensures.waits
 
 pub returns-in_default-clause-intake : goal.returns-in_default-clause-intake
-returns-in_default-clause-intake g c = takes_none _ _ _ _ _ _ refl (advances_same _) refl (lines_same _ _ _ refl)
+returns-in_default-clause-intake g c = takes_none _ _ _ _ _ _ refl (advances_same _) refl (lines_same _ _ _ _ refl)
 
 pub returns-in_err-make_room-clause-intake : goal.returns-in_err-make_room-clause-intake
-returns-in_err-make_room-clause-intake g c = takes_none _ _ _ _ _ _ refl (advances_same _) refl (lines_same _ _ _ c.make_room.ensures.lists.grants)
+returns-in_err-make_room-clause-intake g c = takes_none _ _ _ _ _ _ refl (advances_same _) refl (lines_same _ _ _ _ c.make_room.ensures.lists.grants)
 
 pub returns-in-Logout-clause-intake : goal.returns-in-Logout-clause-intake
 returns-in-Logout-clause-intake g c = takes_none _ _ _ _ _ _ c.log_out.ensures.stands (advances_same _) refl
-    (lines_on _ _ _ _ _ refl (lines_same _ _ _ c.make_room.ensures.lists.grants) c.log_out.ensures.lines)
+    (lines_on _ _ _ _ _ _ _ refl refl (lines_same _ _ _ _ c.make_room.ensures.lists.grants) c.log_out.ensures.lines)
 
 pub returns-in_err-prepare-clause-intake : goal.returns-in_err-prepare-clause-intake
-returns-in_err-prepare-clause-intake g c = takes_none _ _ _ _ _ _ refl c.prepare.ensures.advances c.prepare.ensures.passes (lines_same _ _ _ c.prepare.ensures.grants)
+returns-in_err-prepare-clause-intake g c = takes_none _ _ _ _ _ _ refl c.prepare.ensures.advances c.prepare.ensures.passes (lines_same _ _ _ _ c.prepare.ensures.grants)
 
 pub returns-clause-intake : goal.returns-clause-intake
-returns-clause-intake g c = takes_on _ _ _ _ _ _ _ _ _ (takes_none _ _ _ _ _ _ c.note_stage.ensures.stands c.prepare.ensures.advances c.prepare.ensures.passes (lines_same _ _ _ c.prepare.ensures.grants))
+returns-clause-intake g c = takes_on _ _ _ _ _ _ _ _ _ (takes_none _ _ _ _ _ _ c.note_stage.ensures.stands c.prepare.ensures.advances c.prepare.ensures.passes (lines_same _ _ _ _ c.prepare.ensures.grants))
     c.answer.ensures.intake
 
 pub returns-in_default-clause-books : goal.returns-in_default-clause-books
@@ -238,17 +238,17 @@ returns-clause-answers g c = λ judged is alone has.
     refl refl refl refl c.prepare.ensures.queue c.prepare.ensures.grants has))
 
 pub returns-in_default-clause-judges : goal.returns-in_default-clause-judges
-returns-in_default-clause-judges g c = (works_none _ _ _ _ _ _ refl refl refl (advances_same _) refl (lines_same _ _ _ refl) (λ judged is. is)).judges
+returns-in_default-clause-judges g c = (works_none _ _ _ _ _ _ refl refl refl (advances_same _) refl (lines_same _ _ _ _ refl) (λ judged is. is)).judges
 
 pub returns-in_err-make_room-clause-judges : goal.returns-in_err-make_room-clause-judges
-returns-in_err-make_room-clause-judges g c = (works_none _ _ _ _ _ _ refl refl refl (advances_same _) refl (lines_same _ _ _ c.make_room.ensures.lists.grants) (returns-in_err-make_room-clause-books g c)).judges
+returns-in_err-make_room-clause-judges g c = (works_none _ _ _ _ _ _ refl refl refl (advances_same _) refl (lines_same _ _ _ _ c.make_room.ensures.lists.grants) (returns-in_err-make_room-clause-books g c)).judges
 
 pub returns-in-Logout-clause-judges : goal.returns-in-Logout-clause-judges
 returns-in-Logout-clause-judges g c = (works_none _ _ _ _ _ _ c.log_out.ensures.stands refl refl (advances_same _) refl
-    (lines_on _ _ _ _ _ refl (lines_same _ _ _ c.make_room.ensures.lists.grants) c.log_out.ensures.lines) (returns-in-Logout-clause-books g c)).judges
+    (lines_on _ _ _ _ _ _ _ refl refl (lines_same _ _ _ _ c.make_room.ensures.lists.grants) c.log_out.ensures.lines) (returns-in-Logout-clause-books g c)).judges
 
 pub returns-in_err-prepare-clause-judges : goal.returns-in_err-prepare-clause-judges
-returns-in_err-prepare-clause-judges g c = (works_none _ _ _ _ _ _ refl refl refl c.prepare.ensures.advances c.prepare.ensures.passes (lines_same _ _ _ c.prepare.ensures.grants) (returns-in_err-prepare-clause-books g c)).judges
+returns-in_err-prepare-clause-judges g c = (works_none _ _ _ _ _ _ refl refl refl c.prepare.ensures.advances c.prepare.ensures.passes (lines_same _ _ _ _ c.prepare.ensures.grants) (returns-in_err-prepare-clause-books g c)).judges
 
 pub returns-clause-judges : goal.returns-clause-judges
 returns-clause-judges g c =
@@ -258,7 +258,7 @@ returns-clause-judges g c =
     record { id_is = refl; session_is = refl; rest = front.0; front = front.1; none = c.requires.none } in
     let queue = (g.S.Site.state c.prepare.new.site).queue in
     (works_on _ _ _ _ _ _ _ _ _
-    (works_none _ _ _ _ _ (books_at c.note_stage.new.unit (g.S.Site.state c.prepare.new.site) c.prepare.new.records) c.note_stage.ensures.stands refl refl c.prepare.ensures.advances c.prepare.ensures.passes (lines_same _ _ _ c.prepare.ensures.grants)
+    (works_none _ _ _ _ _ (books_at c.note_stage.new.unit (g.S.Site.state c.prepare.new.site) c.prepare.new.records) c.note_stage.ensures.stands refl refl c.prepare.ensures.advances c.prepare.ensures.passes (lines_same _ _ _ _ c.prepare.ensures.grants)
     (λ judged is. subst (λ (b : Books). AreKept b judged) (sym (c.note_stage.ensures.books queue.last_session (next_of c.note_stage.new.unit.waiting queue) c.prepare.new.records))
     (moved_to _ _ judged refl (ap (λ (q : EndState). q.last_session) c.prepare.ensures.queue) (ap (λ w. next_of w queue) (waiting_stands _ _ c.note_stage.ensures.stands) ∙ ap (next_of c.args.unit.now.waiting) c.prepare.ensures.queue) refl refl refl refl refl refl refl c.prepare.ensures.grants refl refl refl
     (c.prepare.ensures.books books for refl judged is))))

@@ -42,10 +42,10 @@ returns-in-Parameter-clause-agrees g c = λ is.
     is_down _ _ c.freed-in-Parameter.ensures.handshake (c.in-Parameter.ensures.refused.registered ∙ c.free.ensures.parameter.0 c.in-Parameter.is)
 
 pub returns-in-Success-clause-stands : goal.returns-in-Success-clause-stands
-returns-in-Success-clause-stands g c = λ closing. stands _ _ refl refl (freed_ended _ _ _ _ closing c.freed.ensures.handshake)
+returns-in-Success-clause-stands g c = λ closing. stands _ _ refl refl refl (freed_ended _ _ _ _ closing c.freed.ensures.handshake)
 
 pub returns-in-Parameter-clause-stands : goal.returns-in-Parameter-clause-stands
-returns-in-Parameter-clause-stands g c = λ closing. stands _ _ refl refl (freed_ended _ _ _ _ closing c.freed-in-Parameter.ensures.handshake)
+returns-in-Parameter-clause-stands g c = λ closing. stands _ _ refl refl refl (freed_ended _ _ _ _ closing c.freed-in-Parameter.ensures.handshake)
 
 pub returns-in-Busy-clause-goes_on : goal.returns-in-Busy-clause-goes_on
 returns-in-Busy-clause-goes_on g c = λ apart. absurd (apart refl)

@@ -112,30 +112,31 @@ returns-clause-waits g c = λ moved.
         none = free.kept event.none;
       };
       on = λ down. search rules;
+      going = open_goes_on _ _ (c.free_closed.ensures.goes_on (search rules)) (λ down. search rules);
     }
 
 pub returns-in_err-reserve-clause-intake : goal.returns-in_err-reserve-clause-intake
-returns-in_err-reserve-clause-intake g c = λ records. takes_none _ _ _ _ _ _ refl c.reserve.ensures.advances c.reserve.ensures.passes (lines_same _ _ _ refl)
+returns-in_err-reserve-clause-intake g c = λ records. takes_none _ _ _ _ _ _ refl c.reserve.ensures.advances c.reserve.ensures.passes (lines_same _ _ _ _ refl)
 
 pub returns-then-eq-clause-intake : goal.returns-then-eq-clause-intake
 returns-then-eq-clause-intake g c = λ records. takes_none _ _ _ _ _ _ c.push_event.ensures.stands (advances_on _ _ _ c.reserve.ensures.advances c.push_event.ensures.advances)
-    (c.push_event.ensures.passes ∙ c.reserve.ensures.passes) (lines_same _ _ _ refl)
+    (c.push_event.ensures.passes ∙ c.reserve.ensures.passes) (lines_same _ _ _ _ refl)
 
 pub returns-then-eq-2-clause-intake : goal.returns-then-eq-2-clause-intake
 returns-then-eq-2-clause-intake g c = λ records. takes_none _ _ _ _ _ _ (c.free_closed.ensures.stands ∙ c.push_event.ensures.stands)
     (advances_on _ _ _ (advances_on _ _ _ c.reserve.ensures.advances c.push_event.ensures.advances) c.free_closed.ensures.advances)
-    (c.free_closed.ensures.passes ∙ c.push_event.ensures.passes ∙ c.reserve.ensures.passes) (lines_same _ _ _ refl)
+    (c.free_closed.ensures.passes ∙ c.push_event.ensures.passes ∙ c.reserve.ensures.passes) (lines_same _ _ _ _ refl)
 
 pub returns-then-is_down-clause-intake : goal.returns-then-is_down-clause-intake
 returns-then-is_down-clause-intake g c = λ records. takes_on _ _ _ _ _ _ _ _ _ (takes_none _ _ _ _ _ _ (c.free_closed.ensures.stands ∙ c.push_event.ensures.stands)
     (advances_on _ _ _ (advances_on _ _ _ c.reserve.ensures.advances c.push_event.ensures.advances) c.free_closed.ensures.advances)
-    (c.free_closed.ensures.passes ∙ c.push_event.ensures.passes ∙ c.reserve.ensures.passes) (lines_same _ _ _ refl))
+    (c.free_closed.ensures.passes ∙ c.push_event.ensures.passes ∙ c.reserve.ensures.passes) (lines_same _ _ _ _ refl))
     (c.register.ensures.intake records)
 
 pub returns-clause-intake : goal.returns-clause-intake
 returns-clause-intake g c = λ records. takes_none _ _ _ _ _ _ (c.free_closed.ensures.stands ∙ c.push_event.ensures.stands)
     (advances_on _ _ _ (advances_on _ _ _ c.reserve.ensures.advances c.push_event.ensures.advances) c.free_closed.ensures.advances)
-    (c.free_closed.ensures.passes ∙ c.push_event.ensures.passes ∙ c.reserve.ensures.passes) (lines_same _ _ _ refl)
+    (c.free_closed.ensures.passes ∙ c.push_event.ensures.passes ∙ c.reserve.ensures.passes) (lines_same _ _ _ _ refl)
 
 pub returns-clause-goes_on : goal.returns-clause-goes_on
 returns-clause-goes_on g c = λ apart. open_goes_on _ _ (c.free_closed.ensures.goes_on (search rules)) (λ down. search rules)
@@ -188,23 +189,23 @@ returns-in_err-reserve-clause-judges g c = λ records. (works_pass c.args.unit.n
 
 pub returns-then-eq-clause-judges : goal.returns-then-eq-clause-judges
 returns-then-eq-clause-judges g c = λ records. (works_none _ _ _ _ _ _ c.push_event.ensures.stands refl refl (advances_on _ _ _ c.reserve.ensures.advances c.push_event.ensures.advances)
-    (c.push_event.ensures.passes ∙ c.reserve.ensures.passes) (lines_same _ _ _ refl)
+    (c.push_event.ensures.passes ∙ c.reserve.ensures.passes) (lines_same _ _ _ _ refl)
     (λ judged is. c.push_event.ensures.books records judged (keeps_pass c.args.unit.now records _ _ c.reserve.ensures.passes judged is))).judges
 
 pub returns-then-eq-2-clause-judges : goal.returns-then-eq-2-clause-judges
 returns-then-eq-2-clause-judges g c = λ records. (works_none _ _ _ _ _ _ (c.free_closed.ensures.stands ∙ c.push_event.ensures.stands) refl refl (advances_on _ _ _ (advances_on _ _ _ c.reserve.ensures.advances c.push_event.ensures.advances) c.free_closed.ensures.advances)
-    (c.free_closed.ensures.passes ∙ c.push_event.ensures.passes ∙ c.reserve.ensures.passes) (lines_same _ _ _ refl)
+    (c.free_closed.ensures.passes ∙ c.push_event.ensures.passes ∙ c.reserve.ensures.passes) (lines_same _ _ _ _ refl)
     (λ judged is. c.free_closed.ensures.books records judged (c.push_event.ensures.books records judged (keeps_pass c.args.unit.now records _ _ c.reserve.ensures.passes judged is)))).judges
 
 pub returns-clause-judges : goal.returns-clause-judges
 returns-clause-judges g c = λ records. (works_none _ _ _ _ _ _ (c.free_closed.ensures.stands ∙ c.push_event.ensures.stands) refl refl (advances_on _ _ _ (advances_on _ _ _ c.reserve.ensures.advances c.push_event.ensures.advances) c.free_closed.ensures.advances)
-    (c.free_closed.ensures.passes ∙ c.push_event.ensures.passes ∙ c.reserve.ensures.passes) (lines_same _ _ _ refl)
+    (c.free_closed.ensures.passes ∙ c.push_event.ensures.passes ∙ c.reserve.ensures.passes) (lines_same _ _ _ _ refl)
     (λ judged is. c.free_closed.ensures.books records judged (c.push_event.ensures.books records judged (keeps_pass c.args.unit.now records _ _ c.reserve.ensures.passes judged is)))).judges
 
 pub returns-then-is_down-clause-judges : goal.returns-then-is_down-clause-judges
 returns-then-is_down-clause-judges g c = λ records. (works_on _ _ _ _ _ _ _ _ _
     (works_none _ _ _ _ _ (books_at c.free_closed.new.unit (g.S.Site.state c.free_closed.new.site) records) (c.free_closed.ensures.stands ∙ c.push_event.ensures.stands) refl refl (advances_on _ _ _ (advances_on _ _ _ c.reserve.ensures.advances c.push_event.ensures.advances) c.free_closed.ensures.advances)
-    (c.free_closed.ensures.passes ∙ c.push_event.ensures.passes ∙ c.reserve.ensures.passes) (lines_same _ _ _ refl)
+    (c.free_closed.ensures.passes ∙ c.push_event.ensures.passes ∙ c.reserve.ensures.passes) (lines_same _ _ _ _ refl)
     (λ judged is. c.free_closed.ensures.books records judged (c.push_event.ensures.books records judged (keeps_pass c.args.unit.now records _ _ c.reserve.ensures.passes judged is))))
     (works _ _ _ _ _ _ refl refl (c.register.ensures.intake records.grants.items) (c.register.ensures.judges records))).judges
 

@@ -51,17 +51,17 @@ returns-in-Closed-clause-agrees g c = λ is. c.begin-in-Closed.ensures.agrees
 pub returns-in_default-clause-intake : goal.returns-in_default-clause-intake
 returns-in_default-clause-intake g c = λ records.
     let session = register_session _ _ _ c.register.result (λ is. c.in_default.not-Success is) (λ control is. c.in_default.not-Closed control is) c.register.ensures.busy c.register.ensures.refused in
-    takes_none _ _ _ _ _ _ refl c.register.ensures.advances (passes_windows _ _ session c.register.ensures.rest.taken c.register.ensures.windows) (lines_same _ _ _ refl)
+    takes_none _ _ _ _ _ _ refl c.register.ensures.advances (passes_windows _ _ session c.register.ensures.rest.taken c.register.ensures.windows) (lines_same _ _ _ _ refl)
 
 pub returns-in-Success-clause-intake : goal.returns-in-Success-clause-intake
 returns-in-Success-clause-intake g c = λ records.
     takes_session _ _ _ _ _ _ _ (down_ended _ _ c.requires.down) c.in-Success.ensures.opened.session c.register.ensures.rest.taken c.register.ensures.windows
-    c.begin.ensures.passes (advances_on _ _ _ c.register.ensures.advances c.begin.ensures.advances) c.begin.ensures.id c.begin.ensures.waiting refl
+    c.begin.ensures.passes (advances_on _ _ _ c.register.ensures.advances c.begin.ensures.advances) c.begin.ensures.id c.begin.ensures.granted c.begin.ensures.waiting refl
 
 pub returns-in-Closed-clause-intake : goal.returns-in-Closed-clause-intake
 returns-in-Closed-clause-intake g c = λ records.
     takes_session _ _ _ _ _ _ _ (down_ended _ _ c.requires.down) c.in-Closed.ensures.opened.session c.register.ensures.rest.taken c.register.ensures.windows
-    c.begin-in-Closed.ensures.passes (advances_on _ _ _ c.register.ensures.advances c.begin-in-Closed.ensures.advances) c.begin-in-Closed.ensures.id
+    c.begin-in-Closed.ensures.passes (advances_on _ _ _ c.register.ensures.advances c.begin-in-Closed.ensures.advances) c.begin-in-Closed.ensures.id c.begin-in-Closed.ensures.granted
     c.begin-in-Closed.ensures.waiting refl
 
 pub returns-in_default-clause-books : goal.returns-in_default-clause-books

@@ -1,5 +1,5 @@
 use Rattle.std.proofs.Common.{arith}
-use Rattle.tce_window.proofs.Gathering.{on_ok_map}
+use Rattle.tce_window.proofs.Laws.{on_ok_map}
 use Rattle.block_server.proofs.DataCopies.{sends_part}
 use Rattle.block_server.proofs.DataPages.{none_data}
 use Rattle.block_server.proofs.FirstPages.{queue_stays}

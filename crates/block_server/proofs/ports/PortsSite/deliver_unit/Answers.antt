@@ -1,6 +1,6 @@
 use Rattle.block_server.proofs.DataPages.{first_data, none_data}
 use Rattle.std.proofs.Common.{arith}
-use Rattle.tce_window.proofs.Gathering.{on_ok_map}
+use Rattle.tce_window.proofs.Laws.{on_ok_map}
 use Rattle.block_server.proofs.DeliveredBytes.{delivers_one}
 use Rattle.std.proofs.Common.{◌∙◌}
 use Rattle.block_server.proofs.FirstPages.{fetches_same, none_behind, queue_stays}

@@ -1,4 +1,4 @@
-use Rattle.tce_window.proofs.Gathering.{on_ok_map}
+use Rattle.tce_window.proofs.Laws.{on_ok_map}
 use Rattle.block_server.proofs.DataFetches.{fetches_part, on_err_map}
 use Rattle.block_server.proofs.DataPages.{none_data}
 use Rattle.std.proofs.Common.{arith}

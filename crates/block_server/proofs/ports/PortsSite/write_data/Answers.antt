@@ -1,6 +1,6 @@
 use Rattle.std.proofs.Common.{◌∙◌, ◌++◌, ap₂, sym, List, ℕ}
 use Rattle.std.proofs.lemmas.List.{take-append-drop}
-use Rattle.tce_window.proofs.Gathering.{on_ok_map}
+use Rattle.tce_window.proofs.Laws.{on_ok_map}
 use Rattle.block_server.proofs.DataPages.{data_shown, data_shown_two}
 use Rattle.block_server.proofs.FirstPages.{fetches_same, queue_stays}
 use Rattle.block_server.proofs.Advancing.{advances_on}

@@ -1,4 +1,4 @@
-use Rattle.std.proofs.Common.{◌∙◌, ◌≡◌, Bool, List, Some, ap, false, refl, slice_get, slice_set, subst, sym, true}
+use Rattle.std.proofs.Common.{◌∙◌, ◌≡◌, Bool, List, Option, Some, ap, false, refl, slice_get, slice_set, subst, sym, true}
 use Rattle.std.proofs.Math.Logic.{∥∥₁_elim, ∥∥₁_map}
 use Rattle.std.proofs.lemmas.Option.{slice_get_read}
 use Rattle.vio_num.specs.declared.names.UnitId.{UnitId}
@@ -8,11 +8,11 @@ use Rattle.tce_window.specs.PortState.{PortState}
 use Rattle.block_server.specs.Ready.{AgreesAt, NothingReady}
 use Rattle.block_server.specs.Serving.{held, terms_of}
 use Rattle.block_server.specs.SiteState.{Lenders}
-use Rattle.block_server.specs.Units.{AnswersItsRows, AreServing, ServesItsRows}
+use Rattle.block_server.specs.Units.{AnswersItsRows, AreServing, ServesItsRows, grant_of, granted_by}
 use Rattle.block_server.proofs.Denying.{tells_turn}
 use Rattle.block_server.proofs.Agreeing.{agrees_turn, some_at, waits_turn}
 use Rattle.block_server.proofs.Readying.{idle_ready, if_ready}
-use Rattle.block_server.proofs.Units.{get_set_other, keeps_disk, tells_prop, units_on, way_quiet}
+use Rattle.block_server.proofs.Units.{get_set_other, granting_on, keeps_disk, tells_prop, units_on, way_quiet}
 use Rattle.block_server.proofs.Taking.{intake_turn}
 use Rattle.block_server.specs.Receipts.{LinesMore}
 use Rattle.block_server.proofs.Jointly.{judged_turn}
@@ -176,7 +176,16 @@ returns-clause-lines g c =
     slice_get_read server.units.items _ c.args.unit _ server.units.ok.0 c.requires.unit c.index_mut.ensures.value in
     ∥∥₁_map server.serving (λ (all : AreServing (terms_of anything server.disk.count) server.partition server.units.items server.records.history.items).
     let is = all c.args.unit c.index_mut.result.now there in
-    subst (λ (id : UnitId). LinesMore id server.records.grants.items c.turn.new.records.grants.items) (is.id ∙ sym c.requires.named) c.turn.ensures.intake.lines)
+    subst (λ (id : UnitId). LinesMore id (grant_of server.units.items c.args.unit) server.records.grants.items c.turn.new.records.grants.items) (is.id ∙ sym c.requires.named) (subst (λ (o : Option ServerUnit). LinesMore c.index_mut.result.now.id (granted_by o) server.records.grants.items c.turn.new.records.grants.items) (sym there)
+    c.turn.ensures.intake.lines))
+
+pub returns-clause-grants : goal.returns-clause-grants
+returns-clause-grants g c = λ granted is.
+    let server = c.args.self.now in
+    let there : slice_get server.units.items c.args.unit ≡ Some c.index_mut.result.now =
+    slice_get_read server.units.items _ c.args.unit _ server.units.ok.0 c.requires.unit c.index_mut.ensures.value in
+    granting_on granted server.units.items server.records.grants.items c.turn.new.records.grants.items c.args.unit c.index_mut.result.now c.turn.new.unit there
+    c.turn.ensures.intake.granted c.turn.ensures.intake.lines is
 
 pub returns-clause-judged : goal.returns-clause-judged
 returns-clause-judged g c = λ judged has.
