@@ -23,7 +23,7 @@ use Rattle.lan_script.proofs.Gains.{apart_from}
 use Rattle.lan_script.proofs.Keys.{port_head, port_tail}
 use Rattle.lan_script.proofs.Order.{Each}
 use Rattle.lan_script.proofs.Placing.{by_bool, flip, none_some, one_unit, same_some}
-use Rattle.unit_region.proofs.Growing.{own_same}
+use Rattle.unit_region.proofs.Laws.{own_same}
 
 -- The unit's port was offered the frame.
 pub record IsOffer (o : Offering) (old new : List Station) (v : UnitId) : Type 0 where

@@ -7,7 +7,7 @@ use Rattle.tce_window.specs.PortState.{PortState}
 use Rattle.tce_window.specs.Window.{WindowValue}
 use Rattle.rdma_copy.proofs.Laws.{later_begins, learns_grows, side_same}
 use Rattle.rdma_copy.specs.Copy.{Side, SideGrows, side}
-use Rattle.unit_region.proofs.Growing.{own_same}
+use Rattle.unit_region.proofs.Laws.{own_same}
 use Rattle.unit_region.specs.Kept.{KeepsWindow, LaysOwnAll, LaysOwnOn}
 use Rattle.lan_buffers.specs.Port.{PortValue}
 use Rattle.lan_switch.specs.Source.{OnlyReadThrough}

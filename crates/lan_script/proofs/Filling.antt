@@ -12,7 +12,7 @@ use Rattle.tce_window.specs.Strokes.{with_strokes}
 use Rattle.tce_window.specs.declared.piece.Piece.{Piece}
 use Rattle.rdma_copy.specs.Copy.{Side, SideGrows, side}
 use Rattle.rdma_copy.proofs.Laws.{later_begins, learns_grows}
-use Rattle.unit_region.proofs.Growing.{own_same}
+use Rattle.unit_region.proofs.Laws.{own_same}
 use Rattle.unit_region.specs.Kept.{LaysOwnAll, LaysOwnOn}
 use Rattle.lan_buffers.specs.Buffer.{buffer_address, frame_offset}
 use Rattle.lan_buffers.specs.Calls.{descriptor_of, one_more}

@@ -1,9 +1,12 @@
 -- The rows of all units keep the law of ports, and stand in a trace's order.
-use Rattle.std.proofs.Common.{◌≡◌, ◌+◌, ◌^◌, ◌<◌, ℕ, arith, Bool, true, false, All, List, [], ◌∷◌, ◌++◌, inl, Option, Some, None, IsSome, filter, if◌then◌else◌, length, map, refl, sym, ◌∙◌, ap, subst}
+use Rattle.std.proofs.Common.{◌≡◌, ◌==◌, ◌+◌, ◌^◌, ◌<◌, ◌≤◌, ℕ, suc, arith, Bool, true, false, All, List, [], ◌∷◌, ◌++◌, inl, Option, Some, None, IfSome, IsSome, filter, if◌then◌else◌, length, map, refl, sym, ◌∙◌, ap, subst}
 use Rattle.std.specs.List.{flat_map}
 use Rattle.std.proofs.lemmas.List.Elements.{All-weaker}
 use Rattle.vio_num.specs.declared.names.UnitId.{UnitId}
+use Rattle.lan_buffers.specs.Calls.{IsOpen}
 use Rattle.lan_buffers.specs.Port.{PortValue}
+use Rattle.lan_buffers.specs.declared.rows.DeliverRow.{DeliverRow as Delivery}
+use Rattle.lan_buffers.specs.declared.rows.HarvestRow.{HarvestRow as Harvest}
 use Rattle.lan_switch.specs.declared.station.Station.{Station}
 use Rattle.lan_switch.specs.Switch.{IsPort, port_of, same_unit}
 use Rattle.vio_trace.specs.Form.{Ascend, DeliverBefore, FrameBefore, HarvestBefore, IsOfferOf, PortBefore, PostBefore, UnitBefore}
@@ -15,15 +18,18 @@ use Rattle.vio_trace.specs.declared.lan_rows.PostRow.{PostRow}
 use Rattle.lan_script.specs.declared.rows.LanRows.{LanRows}
 use Rattle.lan_script.specs.declared.seat.PortSeat.{PortSeat}
 use Rattle.lan_script.specs.Delivered.{drops_counted, drops_to, given, taken}
-use Rattle.lan_script.specs.Invariant.{IsLan, all_of, drops_at, drops_by, rows_at, rows_in, sent_by, total}
+use Rattle.lan_script.specs.Invariant.{HaveBegun, IsLan, all_of, drops_at, drops_by, rows_at, rows_in, sent_by, total}
 use Rattle.lan_script.specs.PortLaw.{AreOrdered, IsOfPort, PortsAreLawful}
-use Rattle.lan_script.specs.Rows.{HasLawfulPort, deliver_rows, harvest_rows, port_in, port_or, port_rows, post_rows}
+use Rattle.lan_script.specs.Rows.{HasLawfulPort, deliver_row_of, deliver_rows, harvest_row_of, harvest_rows, numbered, port_in, port_or, port_row_of, port_rows, post_rows}
 use Rattle.lan_script.specs.PortCounts.{counts_in, is_frame}
-use Rattle.lan_script.specs.RowsOf.{CountsRows, IsRowsOf}
+use Rattle.lan_script.specs.Resting.{HasReadAll}
+use Rattle.lan_script.specs.RowsOf.{CountsRows, IsRowsOf, sessions_by}
 use Rattle.lan_script.specs.Seats.{seat_at}
 use Rattle.lan_script.specs.Units.{AreFrames, HavePorts, IsLawfulOffer, LanValue, PortKey, port_key}
 use Rattle.lan_script.proofs.Blocks.{all_from_each, before_other, both_each, each_from_all, of_seats, seats_ordered, self, sole_block}
-use Rattle.lan_script.proofs.Found.{at_unit, counted_total, filter_unit, found, no_port, pick}
+use Rattle.lan_script.proofs.Bringing.{begun_at}
+use Rattle.lan_script.proofs.Found.{IsFound, at_unit, counted_total, filter_unit, found, no_port, pick}
+use Rattle.lan_script.proofs.LastSession.{of_session}
 use Rattle.lan_script.proofs.Order.{Each, Ordered, ascends, each_append, each_weaker, ordered_flat}
 use Rattle.lan_script.proofs.Placing.{by_bool}
 use Rattle.lan_script.proofs.RowLaws.{IsFrom, deliveries_are, frames_named, frames_ordered, harvests_are, ports_named, ports_ordered, posts_are}
@@ -417,6 +423,59 @@ taken_found whole ss seats frames u have own (Some seat) at =
     ap (λ o. length (filter (λ (row : HarvestRow). is_frame row.high) (harvest_rows seat.unit (port_or seat.unit o)))) is.holds.is
     ∙ sym (ap (λ o. (counts_in seat.unit o).taken) is.holds.is) ∙ ap (λ v. (counts_in v (port_of ss v)).taken) is.unit_is
 
+numbered_long : {X Row : Type 0} (row : ℕ → X → Row) (n : ℕ) (xs : List X) → length (numbered row n xs) ≡ length xs
+numbered_long row n [] = refl
+numbered_long row n (x ∷ xs) = ap suc (numbered_long row (n + 1) xs)
+
+-- the sessions of a unit's port
+sessions_found : (whole : Bool) (ss : List Station) (seats : List PortSeat) (frames : List (List FrameRow)) (u : UnitId)
+    → HavePorts whole seats (map port_key ss) frames → Each (HasOwn ss) seats → (o : Option PortSeat) → at_unit unit_in u seats ≡ o
+    → length (found (ports_by ss) o) ≡ sessions_by (port_of ss u)
+sessions_found whole ss seats frames u have own None at = sym (ap sessions_by (no_port whole u seats ss frames have at))
+sessions_found whole ss seats frames u have own (Some seat) at =
+    let is = pick unit_in (HasOwn ss) u seat seats own at in
+    numbered_long (port_row_of seat.unit (port_in ss seat).slots) 1 (port_in ss seat).drop_counts
+    ∙ ap (λ o. length (port_or seat.unit o).drop_counts) is.holds.is ∙ sym (ap sessions_by is.holds.is)
+    ∙ ap (λ v. sessions_by (port_of ss v)) is.unit_is
+
+-- an open port from which nothing is left to take has as many harvests as deliveries in its last session
+last_port : (unit : UnitId) (port : PortValue) → 1 ≤ length port.drop_counts → IsOpen port → HasReadAll port
+    → length (filter (λ (row : HarvestRow). row.session == length port.drop_counts) (harvest_rows unit port))
+    ≡ length (filter (λ (row : DeliverRow). row.session == length port.drop_counts) (deliver_rows unit port))
+last_port unit port begun opened read =
+    of_session (λ (r : Harvest). r.session) (harvest_row_of unit) (λ (r : HarvestRow). r.session) port.harvests (length port.drop_counts) 1 (length port.drop_counts)
+    (λ x. refl) begun (omega arith)
+    ∙ read opened
+    ∙ sym (of_session (λ (r : Delivery). r.session) (deliver_row_of unit) (λ (r : DeliverRow). r.session) port.deliveries (length port.drop_counts) 1 (length port.drop_counts)
+    (λ x. refl) begun (omega arith))
+
+last_found : (ss : List Station) (seats : List PortSeat) (u : UnitId) → HaveBegun ss → Each (HasOwn ss) seats → IfSome (port_of ss u) IsOpen
+    → IfSome (port_of ss u) HasReadAll → (o : Option PortSeat) → at_unit unit_in u seats ≡ o
+    → length (filter (λ (row : HarvestRow). row.session == sessions_by (port_of ss u)) (found (harvests_by ss) o))
+    ≡ length (filter (λ (row : DeliverRow). row.session == sessions_by (port_of ss u)) (found (delivers_by ss) o))
+last_found ss seats u begun own opened read None at = refl
+last_found ss seats u begun own opened read (Some seat) at =
+    subst (λ (v : UnitId). length (filter (λ (row : HarvestRow). row.session == sessions_by (port_of ss v)) (harvests_by ss seat))
+    ≡ length (filter (λ (row : DeliverRow). row.session == sessions_by (port_of ss v)) (delivers_by ss seat))) is.unit_is
+    (subst (λ (o : Option PortValue). length (filter (λ (row : HarvestRow). row.session == sessions_by o) (harvest_rows seat.unit (port_or seat.unit o)))
+    ≡ length (filter (λ (row : DeliverRow). row.session == sessions_by o) (deliver_rows seat.unit (port_or seat.unit o)))) (sym here)
+    (last_port seat.unit port (begun_at ss seat.unit port begun here at_open) at_open (subst (λ (o : Option PortValue). IfSome o HasReadAll) (there) read)))
+  where
+    is : IsFound unit_in (HasOwn ss) u seat
+    is = pick unit_in (HasOwn ss) u seat seats own at
+
+    port : PortValue
+    port = is.holds.port
+
+    here : port_of ss seat.unit ≡ Some port
+    here = is.holds.is
+
+    there : port_of ss u ≡ Some port
+    there = ap (λ v. port_of ss v) (sym is.unit_is) ∙ here
+
+    at_open : IsOpen port
+    at_open = subst (λ (o : Option PortValue). IfSome o IsOpen) there opened
+
 counts_rows : (lan : LanValue) (rows : LanRows) → IsLan lan → lan.whole ≡ true → IsRowsOf lan rows → CountsRows lan rows
 counts_rows lan rows is whole exact =
     let ss = lan.stations in
@@ -436,6 +495,19 @@ counts_rows lan rows is whole exact =
           (ap (λ l. filter (λ (row : HarvestRow). same_unit row.unit unit) l) exact.harvests
           ∙ filter_unit unit_in (λ (row : HarvestRow). row.unit) (harvests_by ss) unit seats (harvests_own ss seats) order)
           ∙ taken_found true ss seats lan.frames unit have own (at_unit unit_in unit seats) refl;
+      sessions = λ unit.
+          ap (λ l. length l)
+          (ap (λ l. filter (λ (row : PortRow). same_unit row.unit unit) l) exact.ports
+          ∙ filter_unit unit_in (λ (row : PortRow). row.unit) (ports_by ss) unit seats (ports_own ss seats) order)
+          ∙ sessions_found true ss seats lan.frames unit have own (at_unit unit_in unit seats) refl;
+      last = λ unit opened read.
+          ap (λ l. length (filter (λ (row : HarvestRow). row.session == sessions_by (port_of ss unit)) l))
+          (ap (λ l. filter (λ (row : HarvestRow). same_unit row.unit unit) l) exact.harvests
+          ∙ filter_unit unit_in (λ (row : HarvestRow). row.unit) (harvests_by ss) unit seats (harvests_own ss seats) order)
+          ∙ last_found ss seats unit is.begun own opened read (at_unit unit_in unit seats) refl
+          ∙ sym (ap (λ l. length (filter (λ (row : DeliverRow). row.session == sessions_by (port_of ss unit)) l))
+          (ap (λ l. filter (λ (row : DeliverRow). same_unit row.unit unit) l) exact.delivers
+          ∙ filter_unit unit_in (λ (row : DeliverRow). row.unit) (delivers_by ss) unit seats (delivers_own ss seats) order));
     }
 
 -- What is so of rows that were gathered list by list.

@@ -14,12 +14,15 @@ use Rattle.lan_script.specs.Invariant.{IsLan, side_in}
 use Rattle.lan_script.specs.PortLaw.{AreOfSeats}
 use Rattle.lan_script.specs.Seats.{seat_at}
 use Rattle.lan_script.specs.Units.{LanValue, window_at}
-use Rattle.lan_script.proofs.Blocks.{all_from_each, self}
+use Rattle.lan_script.proofs.Blocks.{all_from_each}
 use Rattle.lan_script.proofs.CarriedOn.{side_there}
 use Rattle.lan_script.proofs.Carrying.{carried_on, read_on}
 use Rattle.lan_script.proofs.Keys.{WindowOf, window_of}
 use Rattle.lan_script.proofs.Order.{Each, each_weaker}
-use Rattle.lan_script.proofs.Placing.{by_bool}
+pub use Rattle.lan_script.proofs.Blocks.{self}
+pub use Rattle.lan_script.proofs.Keys.{port_head, port_tail}
+pub use Rattle.lan_script.proofs.Placing.{by_bool, one_unit, window_head, window_tail}
+pub use Rattle.lan_script.proofs.Resting.{on_open, ports_on, still_taken}
 
 -- Each seat has its window: of its pages, and with nothing held.
 pub seat_has_window : (lan : LanValue) (unit : UnitId) (seat : PortSeat) → IsLan lan → seat_at lan.seats unit ≡ Some seat

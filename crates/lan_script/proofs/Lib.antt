@@ -23,6 +23,7 @@ pub mod Kept
 pub mod Keys
 pub mod Lans
 pub mod Lawful
+pub mod LastSession
 pub mod Laws
 pub mod Lent
 pub mod Mapped
@@ -32,6 +33,7 @@ pub mod Opened
 pub mod Order
 pub mod Placing
 pub mod Posted
+pub mod RegionShown
 pub mod ReplayedCalls
 pub mod ReplayedFilters
 pub mod ReplayedFits
@@ -40,8 +42,10 @@ pub mod ReplayedPosts
 pub mod ReplayedRegion
 pub mod ReplayedSends
 pub mod ReplayedSent
+pub mod ReplayedShown
 pub mod ReplayedValues
 pub mod Replaying
+pub mod Resting
 pub mod RowLaws
 pub mod Sent
 pub mod SessionCounts

@@ -1,5 +1,5 @@
 -- What the calls of a port say in its replay.
-use Rattle.std.proofs.Common.{◌≡◌, ◌⊎◌, ◌*◌, inl, inr, ℕ, IsSome, [], ◌∷◌, Option, Some, None, Result, length, map, refl, sym, ◌∙◌, ap, subst}
+use Rattle.std.proofs.Common.{◌≡◌, ◌⊎◌, ◌*◌, inl, inr, ℕ, IsSome, [], ◌∷◌, Option, Some, None, Result, length, map, refl, sym, ◌∙◌, ap, subst, List}
 use Rattle.std.specs.List.{Contains}
 use Rattle.std.specs.Option.{option_map}
 use Rattle.std.proofs.lemmas.List.Elements.{All-cons, All-contains, All-nil}
@@ -45,7 +45,7 @@ pub codes_as : (code code' : Hrc) (left old new : PortReplay) → code ≡ code'
 codes_as code code' left old new e is = record { outcome_is = ap (λ (x : Hrc). outcomes.Code x) e; left_is = is }
 
 -- a session that begins has no post
-begun_replay : (before after : PortValue) (mac : Mac) (n : ℕ) → BeginsSession before mac after
+begun_replay : (before after : PortValue) (mac : Mac) (n : List (List ℕ)) → BeginsSession before mac after
     → replay_of (Some after) n ≡ record { settings = Some (first_settings mac); lengths = []; frames = n }
 begun_replay before after mac n h =
     ap (λ s. replay_with s after.posts (length after.drop_counts) n) h.opened
@@ -68,7 +68,7 @@ registers_replay list queue filters mac seat answer before after slots may h = r
     by_unit (inr (inl e)) = ap (λ (p : PortValue). p.unit) (h.refused (λ f. cc (e, f)))
     by_unit (inr (inr e)) = ap (λ (p : PortValue). p.unit) (h.refused (λ f. cc (e, f)))
 
-    by : (n : ℕ) (o : Option Settings) → before.settings ≡ o → OpenSays mac o (outcomes.Code answer.code) (replay_of (Some before) n) (replay_of (Some after) n)
+    by : (n : List (List ℕ)) (o : Option Settings) → before.settings ≡ o → OpenSays mac o (outcomes.Code answer.code) (replay_of (Some before) n) (replay_of (Some after) n)
     by n None e = closed (one_of3 Success Parameter Resource answer.code h.plain.code)
       where
         closed : (answer.code ≡ Success) ⊎ ((answer.code ≡ Parameter) ⊎ (answer.code ≡ Resource))
@@ -84,10 +84,10 @@ pub frees_replay : (answer : LanAnswer) (before after : PortValue) → Frees ans
     → Moves (λ old new. CloseSays old.settings (outcomes.Code answer.code) old new) before after
 frees_replay answer before after h = record { unit = ap (λ (p : PortValue). p.unit) h.done; says = λ n. by n before.settings refl }
   where
-    left : (n : ℕ) → replay_of (Some after) n ≡ record (replay_of (Some before) n) { settings = None }
+    left : (n : List (List ℕ)) → replay_of (Some after) n ≡ record (replay_of (Some before) n) { settings = None }
     left n = ap (λ (p : PortValue). replay_of (Some p) n) h.done
 
-    by : (n : ℕ) (o : Option Settings) → before.settings ≡ o → CloseSays o (outcomes.Code answer.code) (replay_of (Some before) n) (replay_of (Some after) n)
+    by : (n : List (List ℕ)) (o : Option Settings) → before.settings ≡ o → CloseSays o (outcomes.Code answer.code) (replay_of (Some before) n) (replay_of (Some after) n)
     by n None e = record {
       outcome_is = ap (λ (x : Hrc). outcomes.Code x) (h.parameter.1 e);
       left_is = left n ∙ ap (λ s. replay_with s before.posts (length before.drop_counts) n) (sym e);

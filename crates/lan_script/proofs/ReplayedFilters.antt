@@ -47,7 +47,7 @@ stable_some : (o : Option Settings) → ((IsSome o → ⊥) → ⊥) → IsSome 
 stable_some (Some settings) not = refl
 stable_some None not = absurd (not (λ is. cc (is)))
 
-may_control : (control : ℕ) (mac : Mac) (port : PortValue) (n : ℕ) → ((IsMulticast control mac port → ⊥) → ⊥) → MayControl control mac (replay_of (Some port) n)
+may_control : (control : ℕ) (mac : Mac) (port : PortValue) (n : List (List ℕ)) → ((IsMulticast control mac port → ⊥) → ⊥) → MayControl control mac (replay_of (Some port) n)
 may_control control mac port n not = record {
   opened = stable_some port.settings (λ none. not (λ may. none may.opened));
   word = stable_nat _ _ (λ none. not (λ may. none may.word));
@@ -68,10 +68,10 @@ pub multicasts_replay : (control : ℕ) (mac : Mac) (answer : LanAnswer) (before
     → Moves (λ old new. MulticastSays control mac (outcomes.Code answer.code) old new) before after
 multicasts_replay control mac answer before after h = by (one_of4 Success Parameter Resource NotFound answer.code h.plain.code)
   where
-    to_port : (n : ℕ) → MayControl control mac (replay_of (Some before) n) → IsMulticast control mac before
+    to_port : (n : List (List ℕ)) → MayControl control mac (replay_of (Some before) n) → IsMulticast control mac before
     to_port n may = record { opened = may.opened; word = may.word; group = may.group }
 
-    may : (n : ℕ) → (answer.code ≡ Parameter → ⊥) → MayControl control mac (replay_of (Some before) n)
+    may : (n : List (List ℕ)) → (answer.code ≡ Parameter → ⊥) → MayControl control mac (replay_of (Some before) n)
     may n not = may_control control mac before n (λ none. not (h.parameter.1 none))
 
     made : answer.code ≡ Success → SetsControlled control mac before after

@@ -17,9 +17,9 @@ use Rattle.lan_switch.specs.Calls.{Adds, IsUnread}
 use Rattle.lan_switch.specs.declared.station.Station.{Station}
 use Rattle.lan_switch.specs.Switch.{MadeAt}
 use Rattle.lan_script.specs.declared.seat.PortSeat.{PortSeat}
-use Rattle.lan_script.specs.Invariant.{IsLan, sent_by}
+use Rattle.lan_script.specs.Invariant.{IsLan}
 use Rattle.lan_script.specs.PortReplay.{FitsAll, IsOn, PortReplay, different, different_with, with_posted}
-use Rattle.lan_script.specs.Replayed.{FitsOne, GrantsAll, HasPosted, IsReplayable, ReplaysOn, SameReplays, replay_at, replay_of}
+use Rattle.lan_script.specs.Replayed.{FitsOne, GrantsAll, HasPosted, IsReplayable, ReplaysOn, SameReplays, bytes_sent, replay_at, replay_of}
 use Rattle.lan_script.specs.Seats.{seat_at}
 use Rattle.lan_script.specs.Units.{LanValue}
 use Rattle.lan_script.specs.Windows.{facts_in, facts_of, window_in}
@@ -114,8 +114,8 @@ made_fits lan now unit ss answer descriptor Found own own' same is there at valu
     let fit : FitsOne lan unit (buffer_address descriptor) (buffer_len descriptor) =
     subst (λ (l : LanValue). FitsOne l unit (buffer_address descriptor) (buffer_len descriptor)) (sym same) fit' in
     let made = h.made (port_there lan now unit same is there) in
-    let shown : replay_at lan unit ≡ replay_of (Some made.before) (length (sent_by lan.seats lan.frames unit)) =
-    ap (λ o. replay_of o (length (sent_by lan.seats lan.frames unit))) made.was in
+    let shown : replay_at lan unit ≡ replay_of (Some made.before) (bytes_sent lan unit) =
+    ap (λ o. replay_of o (bytes_sent lan unit)) made.was in
     let pages : length own.pages ≡ fit.seat.pages = seat_pages lan lan unit fit.seat own refl is fit.seat_is at in
     adds_fit descriptor fit.seat.slots Found own own' answer made.before made.after made.done
     (subst (λ (a : PortReplay). IsOn a) shown fit.opened)

@@ -1,5 +1,6 @@
 -- What steps of lines say in the replay of their port.
-use Rattle.std.proofs.Common.{◌≡◌, ◌+◌, ◌*◌, ◌≤◌, ◌<◌, inl, inr, ℕ, arith, true, false, IsSome, List, [], ◌∷◌, min, Option, Some, None, refl, sym, ◌∙◌, ap, subst}
+use Rattle.std.proofs.Common.{◌≡◌, ◌+◌, ◌-◌, ◌*◌, ◌%◌, ◌≤◌, ◌<◌, ◌++◌, get_or, length, slice_index, take, inl, inr, ℕ, arith, true, false, IsSome, List, [], ◌∷◌, min, Option, Some, None, refl, sym, ◌∙◌, ap, subst}
+use Rattle.std.proofs.lemmas.List.{append_assoc, append_cancel_left}
 use Rattle.vio_num.specs.declared.hypervisor.Hrc.{Hrc}
 use Rattle.vio_num.specs.declared.hypervisor.Hrc.TheVariants.{Success, Busy}
 use Rattle.vio_num.specs.declared.names.Mac.{Mac}
@@ -8,6 +9,8 @@ use Rattle.boot_text.specs.declared.verb.Verb.{Verb}
 use Rattle.boot_text.specs.declared.verb.Verb.TheVariants as verbs
 use Rattle.vio_trace.specs.declared.outcome.Outcome.{Outcome}
 use Rattle.vio_trace.specs.declared.outcome.Outcome.TheVariants as outcomes
+use Rattle.unit_region.specs.Pattern.{pattern}
+use Rattle.lan_frame.specs.Station.{IsGroup, destination_of}
 use Rattle.lan_buffers.specs.Buffer.{buffer_address, buffer_len, is_valid}
 use Rattle.lan_switch.specs.Source.{parts_of}
 use Rattle.lan_buffers.specs.declared.settings.Settings.{Settings}
@@ -15,8 +18,9 @@ use Rattle.lan_switch.specs.Calls.{IsOwnAddress}
 use Rattle.lan_script.specs.declared.lines.PortStep.{PortStep}
 use Rattle.lan_script.specs.declared.lines.PortStep.TheVariants as steps
 use Rattle.lan_script.specs.declared.seat.PortSeat.{PortSeat}
-use Rattle.lan_script.specs.PortReplay.{CloseSays, FitsAll, IsBufferLen, IsOn, LineSays, MacSays, MulticastSays, OpenSays, PortReplay, SendsFrom}
-use Rattle.lan_script.specs.Replayed.{AddSays, ClosesAt, GoesOut, GrantsAll, HasPosted, IsOnePart, IsReplayable, MayGoOut, OpensAt, Replays, ReplaysOn, SameBeside, SameReplays, SentSays, StepSays, is_replayed, replay_at}
+use Rattle.lan_script.specs.PortReplay.{CloseSays, FitsAll, IsBufferLen, IsOn, LineSays, MacSays, MulticastSays, OpenSays, PortReplay, SendsFrom, SendsNext}
+use Rattle.lan_script.specs.Replayed.{AddSays, ClosesAt, GoesOut, GrantsAll, HasPosted, IsOnePart, IsReplayable, MayGoOut, OpensAt, Replays, ReplaysOn, SameBeside, SameReplays, SendsFrame, SendsShown, SentSays, Shows, StepSays, is_replayed, replay_at}
+use Rattle.lan_script.specs.LineFrame.{line_frame}
 use Rattle.lan_script.specs.LineSays.{SaysSent}
 use Rattle.lan_switch.specs.Switch.{same_unit}
 use Rattle.lan_script.specs.Seats.{is_in_region, seat_at}
@@ -181,23 +185,65 @@ pub record SaysCall (code : Hrc) (number : Option ℕ) (step : PortStep) : Type 
   pub sent : SaysSent code number step
   pub coded : number ≡ None → (code ≡ Busy → ⊥) → step ≡ steps.Ends (outcomes.Code code)
 
+-- What a line wrote before it sent: the frame, from the present address of the port.
+pub record WritesLine (unit : UnitId) (to from : Mac) (len seed at : ℕ) (bytes : List ℕ) (old mid : LanValue) : Type 0 where
+  pub few : length to.bytes ≡ 6
+  pub long : length bytes ≡ len
+  pub bytes_are : bytes ≡ line_frame to from (len - 14) seed
+  pub present : (settings : Settings) → (replay_at old unit).settings ≡ Some settings → from ≡ settings.mac
+  pub shown : Shows mid.places unit at bytes
+
+first_of : (to : List ℕ) (more : List ℕ) → length to ≡ 6 → slice_index (take 6 (to ++ more)) 0 ≡ slice_index to 0
+first_of [] more few = absurd (omega (arith, few))
+first_of (b ∷ to) more few = refl
+
+-- whom the frame of a line is for
+for_group : (to from : Mac) (len seed : ℕ) → length to.bytes ≡ 6 → IsGroup to → IsGroup (record { bytes = destination_of (line_frame to from len seed) })
+for_group to from len seed few group =
+    ap (λ (l : List ℕ). slice_index (take 6 l) 0 % 2)
+    (append_assoc (to.bytes ++ from.bytes) (0x88 ∷ 0xB5 ∷ []) (pattern seed len) ∙ append_assoc to.bytes from.bytes ((0x88 ∷ 0xB5 ∷ []) ++ pattern seed len))
+    ∙ ap (λ (n : ℕ). n % 2) (first_of to.bytes (from.bytes ++ ((0x88 ∷ 0xB5 ∷ []) ++ pattern seed len)) few) ∙ group
+
+same_last : (front : List (List ℕ)) (a b : List ℕ) → front ++ a ∷ [] ≡ front ++ b ∷ [] → a ≡ b
+same_last front a b e = ap (λ (l : List (List ℕ)). get_or l 0 a) (append_cancel_left front (a ∷ []) (b ∷ []) e)
+
+-- a frame that was sent, and has the bytes that the line wrote, is that of the line
+sends_next : (settings : Settings) (to from : Mac) (len seed : ℕ) (bytes : List ℕ) (code : Hrc) (n : ℕ) (old mid new : PortReplay) → mid ≡ old
+    → length to.bytes ≡ 6 → bytes ≡ line_frame to from (len - 14) seed → from ≡ settings.mac → SendsFrame code n mid new → new.frames ≡ mid.frames ++ bytes ∷ []
+    → SendsNext settings to len seed (outcomes.Frame code n) old new
+sends_next settings to from len seed bytes code n old mid new same few is own h grown =
+    let line : bytes ≡ line_frame to settings.mac (len - 14) seed = is ∙ ap (λ (m : Mac). line_frame to m (len - 14) seed) own in
+    record {
+      code = code;
+      outcome_is = ap (λ m. outcomes.Frame code m) (h.number_is ∙ ap (λ (a : PortReplay). length a.frames + 1) same);
+      left_is = h.left_is ∙ ap (λ (l : List (List ℕ)). record mid { frames = l }) (ap (λ (a : PortReplay). a.frames) (sym h.left_is) ∙ grown)
+          ∙ ap (λ (a : PortReplay). record a { frames = a.frames ++ bytes ∷ [] }) same
+          ∙ ap (λ (b : List ℕ). record old { frames = old.frames ++ b ∷ [] }) line;
+      code_is = h.code_is;
+      group = λ group. h.group (subst (λ (b : List ℕ). IsGroup (record { bytes = destination_of b })) (sym (bytes_are h ∙ is)) (for_group to from (len - 14) seed few group));
+    }
+  where
+    bytes_are : (k : SendsFrame code n mid new) → k.bytes ≡ bytes
+    bytes_are k = same_last mid.frames k.bytes bytes (ap (λ (a : PortReplay). a.frames) (sym k.left_is) ∙ grown)
+
 -- a line whose frame was written, and was given to the switch
-pub send_goes : (unit : UnitId) (mac : Mac) (len seed at : ℕ) (parts : List ℕ) (code : Hrc) (number : Option ℕ) (step : PortStep) (old mid new : LanValue)
-    → ((seat : PortSeat) → seat_at old.seats unit ≡ Some seat → at + len ≤ 4096 * seat.pages) → IsOnePart at len parts → mid.seats ≡ old.seats
-    → SameReplays old mid → (GrantsAll old unit → GrantsAll mid unit) → ReplaysOn unit (SentSays code number) mid new → GoesOut mid unit parts code number
-    → SaysCall code number step → Replays unit (verbs.Send mac len seed at) step old new
-send_goes unit mac len seed at parts code number step old mid new inside part seats same grants sent goes says seat is =
+pub send_goes : (unit : UnitId) (to from : Mac) (len seed at : ℕ) (bytes : List ℕ) (parts : List ℕ) (code : Hrc) (number : Option ℕ) (step : PortStep)
+    (old mid new : LanValue) → ((seat : PortSeat) → seat_at old.seats unit ≡ Some seat → at + len ≤ 4096 * seat.pages) → IsOnePart at len parts
+    → mid.seats ≡ old.seats → SameReplays old mid → (GrantsAll old unit → GrantsAll mid unit) → WritesLine unit to from len seed at bytes old mid
+    → ReplaysOn unit (SentSays code number) mid new → SendsShown unit parts number mid new → GoesOut mid unit parts code number
+    → SaysCall code number step → Replays unit (verbs.Send to len seed at) step old new
+send_goes unit to from len seed at bytes parts code number step old mid new inside part seats same grants wrote sent shown goes says seat is =
     by (replay_at old unit).settings refl
   where
     beside : (other : UnitId) → same_unit other unit ≡ false → replay_at new other ≡ replay_at old other
     beside other e = sent.beside other e ∙ same other
 
-    shown : (replay_at mid unit).settings ≡ (replay_at old unit).settings
-    shown = ap (λ (a : PortReplay). a.settings) (same unit)
+    open_still : (replay_at mid unit).settings ≡ (replay_at old unit).settings
+    open_still = ap (λ (a : PortReplay). a.settings) (same unit)
 
-    from : (outcome : Outcome) → SendsFrom (replay_at old unit).settings outcome (replay_at old unit) (replay_at new unit) → step ≡ steps.Ends outcome
-        → ReplaysOn unit (StepSays seat (verbs.Send mac len seed at) step) old new
-    from outcome h e = ends_on unit seat (verbs.Send mac len seed at) step outcome old new e (record { says = inr (inside seat is.is, h); beside = beside })
+    ends : (outcome : Outcome) → SendsFrom (replay_at old unit).settings to len seed outcome (replay_at old unit) (replay_at new unit) → step ≡ steps.Ends outcome
+        → ReplaysOn unit (StepSays seat (verbs.Send to len seed at) step) old new
+    ends outcome h e = ends_on unit seat (verbs.Send to len seed at) step outcome old new e (record { says = inr (inside seat is.is, h); beside = beside })
 
     closed : (number : Option ℕ) → number ≡ None → SentSays code number (replay_at mid unit) (replay_at new unit) → replay_at new unit ≡ replay_at old unit
     closed None e h = h ∙ same unit
@@ -205,7 +251,7 @@ send_goes unit mac len seed at parts code number step old mid new inside part se
 
     going : (settings : Settings) → (replay_at old unit).settings ≡ Some settings → MayGoOut mid unit parts
     going settings e = record {
-      opened = subst (λ (o : Option Settings). IsSome o) (sym (shown ∙ e)) refl;
+      opened = subst (λ (o : Option Settings). IsSome o) (sym (open_still ∙ e)) refl;
       grants = grants is.grants;
       seat = seat;
       seat_is = ap (λ l. seat_at l unit) seats ∙ is.is;
@@ -216,27 +262,22 @@ send_goes unit mac len seed at parts code number step old mid new inside part se
     }
 
     goes_as : (settings : Settings) → (replay_at old unit).settings ≡ Some settings → (o : Option ℕ) → number ≡ o → IsSome o
-        → ReplaysOn unit (StepSays seat (verbs.Send mac len seed at) step) old new
+        → ReplaysOn unit (StepSays seat (verbs.Send to len seed at) step) old new
     goes_as settings e None f some = absurd (cc (some))
     goes_as settings e (Some n) f some =
-        let h : SentSays code (Some n) (replay_at mid unit) (replay_at new unit) =
-        subst (λ (o : Option ℕ). SentSays code o (replay_at mid unit) (replay_at new unit)) f sent.says in
-        let frames : (replay_at mid unit).frames ≡ (replay_at old unit).frames = ap (λ (a : PortReplay). a.frames) (same unit) in
-        from (outcomes.Frame code n)
-        (subst (λ (o : Option Settings). SendsFrom o (outcomes.Frame code n) (replay_at old unit) (replay_at new unit)) (sym e)
-        (record {
-          code = code;
-          outcome_is = ap (λ m. outcomes.Frame code m) (h.0 ∙ ap (λ m. m + 1) frames);
-          left_is = h.2 ∙ ap (λ (a : PortReplay). record a { frames = a.frames + 1 }) (same unit);
-          code_is = h.1;
-        }))
+        ends (outcomes.Frame code n)
+        (subst (λ (o : Option Settings). SendsFrom o to len seed (outcomes.Frame code n) (replay_at old unit) (replay_at new unit)) (sym e)
+        (sends_next settings to from len seed bytes code n (replay_at old unit) (replay_at mid unit) (replay_at new unit) (same unit) wrote.few wrote.bytes_are
+        (wrote.present settings e)
+        (subst (λ (o : Option ℕ). SentSays code o (replay_at mid unit) (replay_at new unit)) f sent.says)
+        (shown (subst (λ (o : Option ℕ). IsSome o) (sym f) some) at bytes (subst (λ (l : ℕ). IsOnePart at l parts) (sym wrote.long) part) (grants is.grants) wrote.shown)))
         (subst (λ (o : Option ℕ). SaysSent code o step) f says.sent)
 
-    by : (o : Option Settings) → (replay_at old unit).settings ≡ o → ReplaysOn unit (StepSays seat (verbs.Send mac len seed at) step) old new
+    by : (o : Option Settings) → (replay_at old unit).settings ≡ o → ReplaysOn unit (StepSays seat (verbs.Send to len seed at) step) old new
     by None e =
-        let k = goes.closed (shown ∙ e) in
-        from (outcomes.Code code)
-        (subst (λ (o : Option Settings). SendsFrom o (outcomes.Code code) (replay_at old unit) (replay_at new unit)) (sym e)
+        let k = goes.closed (open_still ∙ e) in
+        ends (outcomes.Code code)
+        (subst (λ (o : Option Settings). SendsFrom o to len seed (outcomes.Code code) (replay_at old unit) (replay_at new unit)) (sym e)
         (record { outcome_is = ap (λ (x : Hrc). outcomes.Code x) k.0; left_is = closed number k.1 sent.says }))
         (says.coded k.1 (λ busy. cc (busy, k.0)))
     by (Some settings) e = goes_as settings e number refl (goes.numbered (going settings e))

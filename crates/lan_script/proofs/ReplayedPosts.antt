@@ -37,7 +37,7 @@ lengths_more posts row session own =
     one true e = rw e refl
     one false e = absurd (cc (e, eq-eqb row.session session own))
 
-posted_replay : (before after : PortValue) (descriptor correlator number n : ℕ) → Posts before descriptor correlator after number
+posted_replay : (before after : PortValue) (descriptor correlator number : ℕ) (n : List (List ℕ)) → Posts before descriptor correlator after number
     → HasPosted (buffer_len descriptor) 1 (replay_of (Some before) n) (replay_of (Some after) n)
 posted_replay before after descriptor correlator number n h =
     ap (λ s. replay_with s after.posts (length after.drop_counts) n) (ap (λ (p : PortValue). p.settings) h.rest)
@@ -65,7 +65,7 @@ adds_replay descriptor Found window window' answer before after h = by_code answ
     Goal : Type 0
     Goal = Moves (AddSays (buffer_len descriptor) (IsBuffer descriptor) answer.code) before after
 
-    may : (n : ℕ) → ((IsOn (replay_of (Some before) n) × IsBuffer descriptor) → ⊥) → answer.code ≡ Parameter
+    may : (n : List (List ℕ)) → ((IsOn (replay_of (Some before) n) × IsBuffer descriptor) → ⊥) → answer.code ≡ Parameter
     may n not = (h.parameter (λ m. not (m.opened, m.buffer))).0
 
     ends : answer.code ≡ Busy → ⊥

@@ -1,7 +1,7 @@
 -- What a frame that is sent says in its port's replay.
-use Rattle.std.proofs.Common.{◌≡◌, ◌==◌, ◌&&◌, ◌⊎◌, ◌+◌, ◌*◌, ◌/◌, ◌%◌, ◌<◌, ◌≤◌, inl, inr, ℕ, zero, suc, arith, Bool, true, false, IfOk, IfSome, IsSome, List, [], ◌∷◌, ◌++◌, Option, Some, None, Result, Ok, Err, length, length-append, slice_get, slice_index, if◌then◌else◌, refl, sym, ◌∙◌, ap, subst}
+use Rattle.std.proofs.Common.{◌≡◌, ◌==◌, ◌&&◌, ◌⊎◌, ◌+◌, ◌*◌, ◌/◌, ◌%◌, ◌<◌, ◌≤◌, inl, inr, ℕ, zero, suc, arith, Bool, true, false, IfOk, IfSome, IsSome, List, [], ◌∷◌, ◌++◌, Option, Some, None, Result, Ok, Err, length, map, slice_get, slice_index, if◌then◌else◌, refl, sym, ◌∙◌, ap, subst}
 use Rattle.std.proofs.lemmas.Bool.{eq-eqb, eqb-false, eqb-true}
-use Rattle.std.proofs.lemmas.List.{append-nil}
+use Rattle.std.proofs.lemmas.List.{append-nil, length-map}
 use Rattle.vio_num.specs.declared.hypervisor.Hrc.{Hrc}
 use Rattle.vio_num.specs.declared.hypervisor.Hrc.TheVariants.{Success, Parameter, Dropped}
 use Rattle.vio_num.specs.declared.names.UnitId.{UnitId}
@@ -32,15 +32,13 @@ use Rattle.vio_num.specs.declared.memory.NoMemory.{NoMemory}
 use Rattle.lan_script.specs.declared.sending.Sent.{Sent}
 use Rattle.lan_script.specs.LineSays.{SendsOne, SentAs}
 use Rattle.lan_script.specs.PortReplay.{IsOn, PortReplay}
-use Rattle.lan_script.specs.Replayed.{GoesOut, MayGoOut, ReplaysOn, SameReplays, SentSays, replay_at, replay_of}
+use Rattle.lan_script.specs.Replayed.{AddsBytes, GoesOut, MayGoOut, ReplaysOn, SameReplays, SentSays, bytes_sent, replay_at, replay_of}
 use Rattle.lan_script.specs.Windows.{facts_of, window_in}
 use Rattle.lan_script.specs.Units.{HavePorts, IsLawfulFrame, LanValue, PortKey, is_done, one_code as code_of, to_of}
+use Rattle.lan_script.proofs.Blocks.{self}
 use Rattle.lan_script.proofs.Keys.{WindowOf, window_of}
 use Rattle.lan_script.proofs.Tallies.{shut}
 use Rattle.lan_script.proofs.Placing.{by_bool, one_unit, same_some}
-
-same_self : (u : UnitId) → same_unit u u ≡ true
-same_self u = ap (λ b. b && (u.unit == u.unit)) (eq-eqb u.partition u.partition refl) ∙ eq-eqb u.unit u.unit refl
 
 -- the number of a unit's frames is that of its port
 pub count_frames : (unit : UnitId) (seats : List PortSeat) (keys : List PortKey) (frames : List (List FrameRow)) → HavePorts true seats keys frames
@@ -94,39 +92,42 @@ frame_code unit n frame h = by (one_of_two frame.offers)
         decide x f g = by_bool (x == 1) ((frame.code ≡ Success) ⊎ (frame.code ≡ Dropped)) (λ e. f (eqb-true x 1 e)) (λ e. g (λ same. eqb-false x 1 e same))
 
 -- a frame that is kept is the next of its unit
-pub keeps_replay : (unit : UnitId) (made : SendRecord) (n : ℕ) (now new : LanValue) → Owes now unit made → made.frame ≡ Some n → new.stations ≡ now.stations
-    → SendsOne unit made.code n now new → new.seats ≡ now.seats → ReplaysOn unit (SentSays made.code (Some n)) now new
-keeps_replay unit made n now new owes numbered stations one seats = record {
-  says = (
-    subst (λ (x : Option ℕ). IfSome x (λ m. m ≡ count_in unit owes.keys + 1)) numbered owes.next
-        ∙ ap (λ m. m + 1) (count_frames unit now.seats owes.keys now.frames owes.kept),
-    frame_code unit n (frame_row_of unit n made) (subst (λ (x : Option ℕ). IfSome x (λ m. IsLawfulFrame unit m (frame_row_of unit m made))) numbered owes.lawful),
-    ap (λ l. replay_of (port_of l unit) (length (sent_by new.seats new.frames unit))) stations
-        ∙ ap (λ m. replay_of (port_of now.stations unit) m)
-        (ap (λ l. length (sent_by l new.frames unit)) seats ∙ ap (λ l. length l) (one.sent unit) ∙ ap (λ l. length (sent_by now.seats now.frames unit ++ l)) (own (same_unit unit unit) refl)
-        ∙ length-append (sent_by now.seats now.frames unit) (one.row ∷ [])),
-  );
+keeps_replay : (unit : UnitId) (made : SendRecord) (n : ℕ) (now new : LanValue) → Owes now unit made → made.frame ≡ Some n → new.stations ≡ now.stations
+    → SendsOne unit made.code n now new → new.seats ≡ now.seats → AddsBytes unit (Some n) made.bytes now new
+    → ReplaysOn unit (SentSays made.code (Some n)) now new
+keeps_replay unit made n now new owes numbered stations one seats adds = record {
+  says = record {
+    number_is = subst (λ (x : Option ℕ). IfSome x (λ m. m ≡ count_in unit owes.keys + 1)) numbered owes.next
+        ∙ ap (λ m. m + 1) (count_frames unit now.seats owes.keys now.frames owes.kept
+        ∙ sym (length-map (sent_by now.seats now.frames unit) (λ (r : FrameRow). r.bytes)));
+    code_is = frame_code unit n (frame_row_of unit n made) lawful;
+    bytes = made.bytes;
+    left_is = ap (λ l. replay_of (port_of l unit) (bytes_sent new unit)) stations ∙ ap (λ m. replay_of (port_of now.stations unit) m) (adds refl);
+    group = lawful.many;
+  };
   beside = λ v other.
-      ap (λ l. replay_of (port_of l v) (length (sent_by new.seats new.frames v))) stations
+      ap (λ l. replay_of (port_of l v) (bytes_sent new v)) stations
       ∙ ap (λ m. replay_of (port_of now.stations v) m)
-      (ap (λ l. length (sent_by l new.frames v)) seats ∙ ap (λ l. length l) (one.sent v) ∙ ap (λ l. length (sent_by now.seats now.frames v ++ l)) (none v (same_unit unit v) refl other)
-      ∙ ap (λ l. length l) (append-nil (sent_by now.seats now.frames v)));
+      (ap (λ l. map (λ (r : FrameRow). r.bytes) (sent_by l new.frames v)) seats ∙ ap (λ l. map (λ (r : FrameRow). r.bytes) l) (one.sent v)
+      ∙ ap (λ l. map (λ (r : FrameRow). r.bytes) (sent_by now.seats now.frames v ++ l)) (none v (same_unit unit v) refl other)
+      ∙ ap (λ l. map (λ (r : FrameRow). r.bytes) l) (append-nil (sent_by now.seats now.frames v)));
 }
   where
-    own : (b : Bool) → same_unit unit unit ≡ b → (if same_unit unit unit then one.row ∷ [] else []) ≡ one.row ∷ []
-    own true e = rw e refl
-    own false e = absurd (cc (e, same_self unit))
+    lawful : IsLawfulFrame unit n (frame_row_of unit n made)
+    lawful = subst (λ (x : Option ℕ). IfSome x (λ m. IsLawfulFrame unit m (frame_row_of unit m made))) numbered owes.lawful
 
     none : (v : UnitId) (b : Bool) → same_unit unit v ≡ b → same_unit v unit ≡ false → (if same_unit unit v then one.row ∷ [] else []) ≡ []
     none v false e other = rw e refl
-    none v true e other = absurd (cc (other, subst (λ (u : UnitId). same_unit u unit ≡ true) (one_unit unit v e) (same_self unit)))
+    none v true e other = absurd (cc (other, subst (λ (u : UnitId). same_unit u unit ≡ true) (one_unit unit v e) (self unit)))
 
 -- the same by the record of the frame
 pub kept_replay : (unit : UnitId) (made : SendRecord) (n : ℕ) (now new : LanValue) → Owes now unit made → made.frame ≡ Some n → new.stations ≡ now.stations
-    → SentAs unit made.code made.frame now new → new.seats ≡ now.seats → ReplaysOn unit (SentSays made.code made.frame) now new
-kept_replay unit made n now new owes numbered stations sent seats =
+    → SentAs unit made.code made.frame now new → new.seats ≡ now.seats → AddsBytes unit made.frame made.bytes now new
+    → ReplaysOn unit (SentSays made.code made.frame) now new
+kept_replay unit made n now new owes numbered stations sent seats adds =
     subst (λ (o : Option ℕ). ReplaysOn unit (SentSays made.code o) now new) (sym numbered)
-    (keeps_replay unit made n now new owes numbered stations (subst (λ (o : Option ℕ). SentAs unit made.code o now new) numbered sent) seats)
+    (keeps_replay unit made n now new owes numbered stations (subst (λ (o : Option ℕ). SentAs unit made.code o now new) numbered sent) seats
+    (subst (λ (o : Option ℕ). AddsBytes unit o made.bytes now new) numbered adds))
 
 -- where no page is found in use, and no turn is taken, a frame that is offered has a number
 one_numbered : (o : Offering) (s n : Station) (answer : Deliver) → o.windows.is_shared ≡ false → Takes o s n answer → is_numbered (code_after answer) ≡ true
@@ -166,7 +167,7 @@ reads_granted values n at len (NotGranted entry version tce) all inside shared r
         by (suc v) e = cc (e)
 
 -- an open port is registered
-registered : (ss : List Station) (unit : UnitId) (n : ℕ) → IsOn (replay_of (port_of ss unit) n) → IsRegistered ss unit
+registered : (ss : List Station) (unit : UnitId) (n : List (List ℕ)) → IsOn (replay_of (port_of ss unit) n) → IsRegistered ss unit
 registered ss unit n on = by (port_of ss unit) refl on
   where
     by : (o : Option PortValue) → port_of ss unit ≡ o → IsOn (replay_of o n) → IsRegistered ss unit
@@ -174,7 +175,7 @@ registered ss unit n on = by (port_of ss unit) refl on
     by None e is = absurd (cc (is))
 
 -- one whose port is registered is not closed
-not_closed : (ss : List Station) (unit : UnitId) (n : ℕ) → IsRegistered ss unit → (replay_of (port_of ss unit) n).settings ≡ None → ⊥
+not_closed : (ss : List Station) (unit : UnitId) (n : List (List ℕ)) → IsRegistered ss unit → (replay_of (port_of ss unit) n).settings ≡ None → ⊥
 not_closed ss unit n h e =
     shut h.port.settings (subst (λ (o : Option PortValue). (replay_of o n).settings ≡ None) h.here e) h.opened
 
@@ -196,8 +197,8 @@ pub goes_out : (lan now : LanValue) (unit : UnitId) (ss : List Station) (parts :
 goes_out lan now unit ss parts Found own own' windows r same is at values plain h =
     subst (λ (l : LanValue). GoesOut l unit parts r.code r.frame) same (record { closed = λ e. closed e h; numbered = λ m. numbered m h })
   where
-    count : ℕ
-    count = length (sent_by lan.seats lan.frames unit)
+    count : List (List ℕ)
+    count = bytes_sent lan unit
 
     closed : (replay_at lan unit).settings ≡ None → IsSent lan.stations ss unit parts false Found (known_of own) (known_of own') windows r
         → (r.code ≡ Parameter) × (r.frame ≡ None)

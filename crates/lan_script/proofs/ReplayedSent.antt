@@ -11,8 +11,7 @@ use Rattle.lan_switch.specs.declared.station.Station.{Station}
 use Rattle.lan_switch.specs.Sending.{AreOffered, IsOfferedAt, IsSent, LanWindows, Offering, Takes, is_numbered, next_number, with_frames}
 use Rattle.lan_switch.specs.Switch.{port_of, same_unit, unit_of}
 use Rattle.vio_num.specs.declared.memory.NoMemory.{NoMemory}
-use Rattle.lan_script.specs.Invariant.{sent_by}
-use Rattle.lan_script.specs.Replayed.{SameReplays, replay_at, replay_of}
+use Rattle.lan_script.specs.Replayed.{SameReplays, bytes_sent, replay_at, replay_of}
 use Rattle.lan_script.specs.Units.{LanValue}
 use Rattle.lan_script.proofs.Balancing.{numbered_port}
 use Rattle.lan_script.proofs.Replaying.{Stays, stays_with}
@@ -42,7 +41,7 @@ offered_stays o unit old new (sent.Closed control) h not =
 offered_stays o unit old new sent.NoMemory h not = absurd (not refl)
 
 -- lists that begin with stations of one unit and the same replay, and go on with the same
-same_lists : (s n : Station) (olds news : List Station) (v : UnitId) (k : ℕ) → unit_of n ≡ unit_of s → replay_of (Some n.port) k ≡ replay_of (Some s.port) k
+same_lists : (s n : Station) (olds news : List Station) (v : UnitId) (k : List (List ℕ)) → unit_of n ≡ unit_of s → replay_of (Some n.port) k ≡ replay_of (Some s.port) k
     → replay_of (port_of news v) k ≡ replay_of (port_of olds v) k → replay_of (port_of (n ∷ news) v) k ≡ replay_of (port_of (s ∷ olds) v) k
 same_lists s n olds news v k unit head tail =
     by_bool (same_unit (unit_of s) v) (replay_of (port_of (n ∷ news) v) k ≡ replay_of (port_of (s ∷ olds) v) k)
@@ -53,10 +52,10 @@ same_lists s n olds news v k unit head tail =
     ap (λ o. replay_of o k) (port_tail v n news (ap (λ (u : UnitId). same_unit u v) unit ∙ e)) ∙ tail
     ∙ sym (ap (λ o. replay_of o k) (port_tail v s olds e)))
 
-took : (o : Offering) (s n : Station) (answer : Deliver) (v : UnitId) (k : ℕ) → Takes o s n answer → replay_of (Some n.port) k ≡ replay_of (Some s.port) k
+took : (o : Offering) (s n : Station) (answer : Deliver) (v : UnitId) (k : List (List ℕ)) → Takes o s n answer → replay_of (Some n.port) k ≡ replay_of (Some s.port) k
 took o s n answer v k h = (offered_stays o (unit_of s) s.port n.port answer h.offered h.memory).says k
 
-offered_replays : (o : Offering) (all : Bool) (old new : List Station) (offers : List Offer) → AreOffered o all old new offers → (v : UnitId) (k : ℕ)
+offered_replays : (o : Offering) (all : Bool) (old new : List Station) (offers : List Offer) → AreOffered o all old new offers → (v : UnitId) (k : List (List ℕ))
     → replay_of (port_of new v) k ≡ replay_of (port_of old v) k
 offered_replays o all [] [] offers h v k = refl
 offered_replays o all [] (n ∷ news) offers h v k = absurd h
@@ -70,7 +69,7 @@ offered_replays o all (s ∷ olds) (n ∷ news) offers (inr (passed, rest)) v k 
     (offered_replays o all olds news offers rest v k)
 
 pub sent_replays : (ss ss' : List Station) (unit : UnitId) (parts : List ℕ) (is_shared : Bool) (Found : ℕ → ℕ → Type 0) (window window' : PortState)
-    (windows : LanWindows) (r : SendRecord) → IsSent ss ss' unit parts is_shared Found window window' windows r → (v : UnitId) (k : ℕ)
+    (windows : LanWindows) (r : SendRecord) → IsSent ss ss' unit parts is_shared Found window window' windows r → (v : UnitId) (k : List (List ℕ))
     → replay_of (port_of ss' v) k ≡ replay_of (port_of ss v) k
 sent_replays ss ss' unit parts is_shared Found window window' windows r (inl (h, beside)) v k = ap (λ l. replay_of (port_of l v) k) h.stays
 sent_replays ss ss' unit parts is_shared Found window window' windows r (inr (inl (h, beside))) v k = ap (λ l. replay_of (port_of l v) k) h.stays
@@ -88,6 +87,6 @@ pub sends_stay : (lan now : LanValue) (ss : List Station) (unit : UnitId) (parts
     (windows : LanWindows) (r : Result SendRecord NoMemory) → lan ≡ now → IfOk r (IsSent lan.stations ss unit parts is_shared Found window window' windows)
     → OnOk r (SameReplays now (record lan { stations = ss }))
 sends_stay lan now ss unit parts is_shared Found window window' windows (Ok made) same sent = λ v.
-    sent_replays lan.stations ss unit parts is_shared Found window window' windows made sent v (length (sent_by lan.seats lan.frames v))
+    sent_replays lan.stations ss unit parts is_shared Found window window' windows made sent v (bytes_sent lan v)
     ∙ ap (λ (l : LanValue). replay_at l v) same
 sends_stay lan now ss unit parts is_shared Found window window' windows (Err memory) same sent = tt

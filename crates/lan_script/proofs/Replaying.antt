@@ -8,9 +8,9 @@ use Rattle.lan_buffers.specs.Port.{PortValue}
 use Rattle.lan_switch.specs.declared.answers.LanAnswer.{LanAnswer}
 use Rattle.lan_switch.specs.declared.station.Station.{Station}
 use Rattle.lan_switch.specs.Switch.{AtPort, MadeAt, port_of, same_unit, with_port}
-use Rattle.lan_script.specs.Invariant.{IsLan, sent_by}
+use Rattle.lan_script.specs.Invariant.{IsLan}
 use Rattle.lan_script.specs.PortReplay.{PortReplay}
-use Rattle.lan_script.specs.Replayed.{ReplaysOn, SameBeside, SameReplays, replay_at, replay_of}
+use Rattle.lan_script.specs.Replayed.{ReplaysOn, SameBeside, SameReplays, bytes_sent, replay_at, replay_of}
 use Rattle.lan_script.specs.Seats.{seat_at}
 use Rattle.lan_script.specs.Units.{LanValue}
 use Rattle.lan_script.proofs.CarriedOn.{Changed, changed}
@@ -23,19 +23,19 @@ use Rattle.lan_script.specs.declared.seat.PortSeat.{PortSeat}
 -- a port that is moved in its replay so
 pub record Moves (Says : (old new : PortReplay) → Type 0) (before after : PortValue) : Type 0 where
   pub unit : after.unit ≡ before.unit
-  pub says : (n : ℕ) → Says (replay_of (Some before) n) (replay_of (Some after) n)
+  pub says : (n : List (List ℕ)) → Says (replay_of (Some before) n) (replay_of (Some after) n)
 
 -- a port that stands in its replay as it did
 abbrev pub Stays : (before after : PortValue) → Type 0
 Stays before after = Moves (λ old new. new ≡ old) before after
 
 -- the replay of a port with these
-abbrev pub replay_with : Option Settings → List Post → (session n : ℕ) → PortReplay
+abbrev pub replay_with : Option Settings → List Post → (session : ℕ) → (n : List (List ℕ)) → PortReplay
 replay_with settings posts session n =
     record { settings = settings; lengths = map post_len (filter (λ row. row.session == session) posts); frames = n }
 
 pub replay_same : (before after : PortValue) → after.settings ≡ before.settings → after.posts ≡ before.posts
-    → length after.drop_counts ≡ length before.drop_counts → (n : ℕ) → replay_of (Some after) n ≡ replay_of (Some before) n
+    → length after.drop_counts ≡ length before.drop_counts → (n : List (List ℕ)) → replay_of (Some after) n ≡ replay_of (Some before) n
 replay_same before after settings posts long n =
     ap (λ s. replay_with s after.posts (length after.drop_counts) n) settings
     ∙ ap (λ l. replay_with before.settings l (length after.drop_counts) n) posts
@@ -63,7 +63,7 @@ pub at_now : (old : List Station) (unit : UnitId) (new : List Station) (P : Port
     → h.after.unit ≡ h.before.unit → port_of new unit ≡ Some h.after
 at_now old unit new P h same = ap (λ l. port_of l unit) h.rest ∙ port_with unit old h.before h.after h.was same
 
-pub at_says : (old : List Station) (unit : UnitId) (new : List Station) (P : PortValue → PortValue → Type 0) (Says : (old new : PortReplay) → Type 0) (n : ℕ)
+pub at_says : (old : List Station) (unit : UnitId) (new : List Station) (P : PortValue → PortValue → Type 0) (Says : (old new : PortReplay) → Type 0) (n : List (List ℕ))
     → ((before after : PortValue) → port_of old unit ≡ Some before → P before after → Moves Says before after) → AtPort old unit new P
     → Says (replay_of (port_of old unit) n) (replay_of (port_of new unit) n)
 at_says old unit new P Says n moves h =
@@ -79,9 +79,9 @@ pub port_replays : (lan now : LanValue) (unit : UnitId) (ss : List Station) (P :
 port_replays lan now unit ss P Says same h moves =
     subst (λ (l : LanValue). ReplaysOn unit Says l (record lan { stations = ss })) same
     (record {
-      says = at_says lan.stations unit ss P Says (length (sent_by lan.seats lan.frames unit)) moves h;
+      says = at_says lan.stations unit ss P Says (bytes_sent lan unit) moves h;
       beside = λ v other.
-          ap (λ o. replay_of o (length (sent_by lan.seats lan.frames v))) (at_beside lan.stations unit ss P h (moves h.before h.after h.was h.done).unit v other);
+          ap (λ o. replay_of o (bytes_sent lan v)) (at_beside lan.stations unit ss P h (moves h.before h.after h.was h.done).unit v other);
     })
 
 pub made_replays : (lan now : LanValue) (unit : UnitId) (ss : List Station) (answer : LanAnswer) (P : PortValue → PortValue → Type 0)

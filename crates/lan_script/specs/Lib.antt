@@ -10,6 +10,7 @@ pub mod PortLaw
 pub mod PortReplay
 pub mod PortRows
 pub mod Replayed
+pub mod Resting
 pub mod Rows
 pub mod RowsOf
 pub mod Seats

@@ -1,6 +1,6 @@
 -- What the lines of a LAN unit say of their own records. A replay goes over the lines, one after the other, and keeps the settings of
--- the port, the lengths that were posted since it opened, and the number of its frames. It knows no delivery and no other unit.
-use Rattle.std.specs.Prelude.{◌≡◌, ◌⊎◌, ◌++◌, ◌+◌, ◌*◌, ◌≤◌, ℕ, List, [], ◌∷◌, Option, Some, None, IfSome, IsSome, length, zero, suc}
+-- the port, the lengths that were posted since it opened, and its frames. It knows no delivery and no other unit.
+use Rattle.std.specs.Prelude.{◌≡◌, ◌⊎◌, ◌++◌, ◌+◌, ◌*◌, ◌-◌, ◌≤◌, ℕ, List, [], ◌∷◌, Option, Some, None, IfSome, IsSome, length, zero, suc}
 use Rattle.std.specs.Option.{option_map}
 use Rattle.vio_num.specs.declared.hypervisor.Hrc.{Hrc}
 use Rattle.vio_num.specs.declared.hypervisor.Hrc.TheVariants.{Success, Parameter, NotFound, Dropped, Resource}
@@ -17,6 +17,7 @@ use Rattle.lan_buffers.specs.Calls.{first_settings}
 use Rattle.lan_buffers.specs.Pools.{with_size}
 use Rattle.lan_buffers.specs.declared.settings.Settings.{Settings}
 use Rattle.lan_switch.specs.Calls.{Asks, Controls, FindsNoFilter, HasNoFilter, IsOwnAddress, NamesGroup, action_in}
+use Rattle.lan_script.specs.LineFrame.{line_frame}
 use Rattle.lan_script.specs.declared.seat.PortSeat.{PortSeat}
 
 -- What the lines so far leave of a port.
@@ -25,12 +26,12 @@ pub record PortReplay : Type 0 where
   pub settings : Option Settings
   -- the lengths that were posted since it opened
   pub lengths : List ℕ
-  -- the number of its frames
-  pub frames : ℕ
+  -- the bytes of each of its frames
+  pub frames : List (List ℕ)
 
 -- before the first line
 abbrev pub closed_replay : PortReplay
-closed_replay = record { settings = None; lengths = []; frames = 0 }
+closed_replay = record { settings = None; lengths = []; frames = [] }
 
 abbrev pub IsOn : PortReplay → Type 0
 IsOn now = IsSome now.settings
@@ -123,12 +124,14 @@ pub record PostSays (seat : PortSeat) (at len count : ℕ) (outcome : Outcome) (
 abbrev pub IsFrameCode : Hrc → Type 0
 IsFrameCode code = (code ≡ Success) ⊎ (code ≡ Dropped)
 
--- `send` of an open port gives its frame the next number
-pub record SendsNext (outcome : Outcome) (old new : PortReplay) : Type 0 where
+-- `send` of an open port gives its frame the next number. The frame is that of the line, from the port's present address; one for
+-- a group succeeds.
+pub record SendsNext (settings : Settings) (to : Mac) (len seed : ℕ) (outcome : Outcome) (old new : PortReplay) : Type 0 where
   pub code : Hrc
-  pub outcome_is : outcome ≡ outcomes.Frame code (old.frames + 1)
-  pub left_is : new ≡ record old { frames = old.frames + 1 }
+  pub outcome_is : outcome ≡ outcomes.Frame code (length old.frames + 1)
+  pub left_is : new ≡ record old { frames = old.frames ++ line_frame to settings.mac (len - 14) seed ∷ [] }
   pub code_is : IsFrameCode code
+  pub group : IsGroup to → code ≡ Success
 
 pub record PassesRegion (seat : PortSeat) (at len : ℕ) (outcome : Outcome) (old new : PortReplay) : Type 0 where
   pub passes : ¬ (at + len ≤ 4096 * seat.pages)
@@ -136,14 +139,14 @@ pub record PassesRegion (seat : PortSeat) (at len : ℕ) (outcome : Outcome) (ol
   pub left_is : new ≡ old
 
 -- where the frame passes the region it is not written; where the port is closed it is, and goes nowhere
-abbrev pub SendsFrom : Option Settings → Outcome → (old new : PortReplay) → Type 0
-SendsFrom None outcome old new = Codes Parameter old outcome new
-SendsFrom (Some settings) outcome old new = SendsNext outcome old new
+abbrev pub SendsFrom : Option Settings → Mac → (len seed : ℕ) → Outcome → (old new : PortReplay) → Type 0
+SendsFrom None to len seed outcome old new = Codes Parameter old outcome new
+SendsFrom (Some settings) to len seed outcome old new = SendsNext settings to len seed outcome old new
 
-abbrev pub SendSays : PortSeat → (at len : ℕ) → Outcome → (old new : PortReplay) → Type 0
-SendSays seat at len outcome old new =
+abbrev pub SendSays : PortSeat → Mac → (len seed at : ℕ) → Outcome → (old new : PortReplay) → Type 0
+SendSays seat to len seed at outcome old new =
     PassesRegion seat at len outcome old new
-    ⊎ ((at + len ≤ 4096 * seat.pages) × SendsFrom old.settings outcome old new)
+    ⊎ ((at + len ≤ 4096 * seat.pages) × SendsFrom old.settings to len seed outcome old new)
 
 -- what a line of a plain port's own tells, and what it leaves
 abbrev pub LineSays : PortSeat → Verb → Outcome → (old new : PortReplay) → Type 0
@@ -152,5 +155,5 @@ LineSays seat verbs.Close outcome old new = CloseSays old.settings outcome old n
 LineSays seat (verbs.ChangeMac mac) outcome old new = MacSays mac outcome old new
 LineSays seat (verbs.Multicast control mac) outcome old new = MulticastSays control mac outcome old new
 LineSays seat (verbs.Post at len count) outcome old new = PostSays seat at len count outcome old new
-LineSays seat (verbs.Send mac len seed at) outcome old new = SendSays seat at len outcome old new
+LineSays seat (verbs.Send to len seed at) outcome old new = SendSays seat to len seed at outcome old new
 LineSays seat verb outcome old new = new ≡ old

@@ -1,9 +1,11 @@
 -- The replay of a port of a run, as the port is, and what steps of lines make of it.
-use Rattle.std.specs.Prelude.{◌≡◌, ◌⊎◌, ◌+◌, ◌*◌, ◌≤◌, ℕ, Bool, true, false, List, [], ◌∷◌, Option, Some, None, IfSome, IsSome, length, map}
+use Rattle.std.specs.Prelude.{◌≡◌, ◌+◌, ◌*◌, ◌/◌, ◌<◌, ◌≤◌, ◌++◌, ℕ, Bool, true, false, List, [], ◌∷◌, Option, Some, None, IfSome, IsSome, length, map, slice_index}
 use Rattle.vio_num.specs.declared.names.UnitId.{UnitId}
 use Rattle.vio_num.specs.declared.hypervisor.Hrc.{Hrc}
-use Rattle.vio_num.specs.declared.hypervisor.Hrc.TheVariants.{Success, Busy, Parameter, Dropped}
+use Rattle.vio_num.specs.declared.hypervisor.Hrc.TheVariants.{Success, Busy, Parameter}
+use Rattle.tce_window.specs.Region.{region_byte}
 use Rattle.tce_window.specs.Window.{AllThere}
+use Rattle.lan_frame.specs.Station.{IsGroup, destination_of}
 use Rattle.vio_trace.specs.declared.outcome.Outcome.TheVariants as outcomes
 use Rattle.boot_text.specs.declared.verb.Verb.{Verb}
 use Rattle.boot_text.specs.declared.verb.Verb.TheVariants as verbs
@@ -18,13 +20,14 @@ use Rattle.lan_switch.specs.Source.{parts_of}
 use Rattle.lan_switch.specs.Switch.{port_of, same_unit}
 use Rattle.vio_num.specs.declared.names.Mac.{Mac}
 use Rattle.lan_script.specs.Invariant.{sent_by}
-use Rattle.lan_script.specs.PortReplay.{CloseSays, IsBufferLen, IsOn, LineSays, OpenSays, PortReplay, different, with_posted}
+use Rattle.lan_script.specs.PortReplay.{CloseSays, IsBufferLen, IsFrameCode, IsOn, LineSays, OpenSays, PortReplay, different, with_posted}
 use Rattle.lan_script.specs.Seats.{IsSizedSeat, seat_at}
 use Rattle.lan_script.specs.Units.{LanValue, window_at}
 use Rattle.lan_script.specs.Windows.{facts_in}
 use Rattle.lan_script.specs.declared.lines.PortStep.{PortStep}
 use Rattle.lan_script.specs.declared.lines.PortStep.TheVariants as steps
 use Rattle.lan_script.specs.declared.seat.PortSeat.{PortSeat}
+use Rattle.lan_script.specs.declared.windows.Place.{Place}
 
 -- the settings of a port, and the lengths that were posted in its last session
 abbrev pub settings_of : Option PortValue → Option Settings
@@ -35,12 +38,16 @@ abbrev pub lengths_of : Option PortValue → List ℕ
 lengths_of None = []
 lengths_of (Some port) = map post_len (now port).posts
 
--- what a port shows of its replay, with the number of its frames
-abbrev pub replay_of : Option PortValue → (frames : ℕ) → PortReplay
+-- the bytes of each frame of a unit
+abbrev pub bytes_sent : LanValue → UnitId → List (List ℕ)
+bytes_sent lan unit = map (λ row. row.bytes) (sent_by lan.seats lan.frames unit)
+
+-- what a port shows of its replay, with the bytes of its frames
+abbrev pub replay_of : Option PortValue → (frames : List (List ℕ)) → PortReplay
 replay_of port frames = record { settings = settings_of port; lengths = lengths_of port; frames = frames }
 
 abbrev pub replay_at : LanValue → UnitId → PortReplay
-replay_at lan unit = replay_of (port_of lan.stations unit) (length (sent_by lan.seats lan.frames unit))
+replay_at lan unit = replay_of (port_of lan.stations unit) (bytes_sent lan unit)
 
 -- every port stands in its replay as it did
 abbrev pub SameReplays : (old new : LanValue) → Type 0
@@ -118,11 +125,23 @@ HasPosted len count old new = new ≡ record old { lengths = with_posted len cou
 abbrev pub HasPages : LanValue → UnitId → Type 0
 HasPages lan unit = IfSome (window_at lan unit) (λ window. AllThere window.pages)
 
--- a call that sends says this: a frame that has a number has the next one
+-- A frame was sent: it has the next number, and these bytes; one for a group succeeds.
+pub record SendsFrame (code : Hrc) (number : ℕ) (old new : PortReplay) : Type 0 where
+  pub number_is : number ≡ length old.frames + 1
+  pub code_is : IsFrameCode code
+  pub bytes : List ℕ
+  pub left_is : new ≡ record old { frames = old.frames ++ bytes ∷ [] }
+  pub group : IsGroup (record { bytes = destination_of bytes }) → code ≡ Success
+
+-- a call that sends says this of a frame that has a number
 abbrev pub SentSays : Hrc → (number : Option ℕ) → (old new : PortReplay) → Type 0
 SentSays code None old new = new ≡ old
-SentSays code (Some number) old new =
-    (number ≡ old.frames + 1) × ((code ≡ Success) ⊎ (code ≡ Dropped)) × (new ≡ record old { frames = old.frames + 1 })
+SentSays code (Some number) old new = SendsFrame code number old new
+
+-- The region of a unit shows these bytes from this address on.
+pub record Shows (places : List Place) (unit : UnitId) (at : ℕ) (bytes : List ℕ) : Type 0 where
+  pub there : (k : ℕ) → k < length bytes → IsSome ((facts_in places unit).strokes ((at + k) / 4096))
+  pub each : (k : ℕ) → k < length bytes → region_byte (facts_in places unit).strokes (at + k) ≡ slice_index bytes k
 
 -- A frame of one part, of this address and length, which is that of a frame.
 pub record IsOnePart (at len : ℕ) (descriptors : List ℕ) : Type 0 where
@@ -147,6 +166,20 @@ pub record MayGoOut (lan : LanValue) (unit : UnitId) (descriptors : List ℕ) : 
 pub record GoesOut (lan : LanValue) (unit : UnitId) (descriptors : List ℕ) (code : Hrc) (number : Option ℕ) : Type 0 where
   pub closed : (replay_at lan unit).settings ≡ None → (code ≡ Parameter) × (number ≡ None)
   pub numbered : MayGoOut lan unit descriptors → IsSome number
+
+-- A frame of one part, of a window that grants it, has the bytes that the region shows there.
+abbrev pub HasShown : LanValue → UnitId → (descriptors : List ℕ) → (frame : List ℕ) → Type 0
+HasShown lan unit descriptors frame = (at : ℕ) (bytes : List ℕ) → IsOnePart at (length bytes) descriptors → GrantsAll lan unit → Shows lan.places unit at bytes
+    → frame ≡ bytes
+
+-- the same of a frame that was sent, if it has a number
+abbrev pub SendsShown : UnitId → (descriptors : List ℕ) → (number : Option ℕ) → (old new : LanValue) → Type 0
+SendsShown unit descriptors number old new = IsSome number → (at : ℕ) (bytes : List ℕ) → IsOnePart at (length bytes) descriptors → GrantsAll old unit
+    → Shows old.places unit at bytes → (replay_at new unit).frames ≡ (replay_at old unit).frames ++ bytes ∷ []
+
+-- a frame that has a number is the last that the unit sent, and has these bytes
+abbrev pub AddsBytes : UnitId → (number : Option ℕ) → (bytes : List ℕ) → (old new : LanValue) → Type 0
+AddsBytes unit number bytes old new = IsSome number → bytes_sent new unit ≡ bytes_sent old unit ++ bytes ∷ []
 
 -- A buffer of this address and length has a place at the unit's port even if no frame came, and its window grants the buffer.
 pub record FitsOne (lan : LanValue) (unit : UnitId) (at len : ℕ) : Type 0 where

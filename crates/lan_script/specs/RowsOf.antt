@@ -1,13 +1,15 @@
 -- The rows that a trace has of LAN units, exactly.
-use Rattle.std.specs.Prelude.{◌≡◌, filter, length}
+use Rattle.std.specs.Prelude.{◌≡◌, ◌==◌, ℕ, Option, Some, None, filter, length}
 use Rattle.std.specs.List.{flat_map}
 use Rattle.vio_num.specs.declared.names.UnitId.{UnitId}
-use Rattle.lan_switch.specs.Switch.{same_unit}
+use Rattle.lan_buffers.specs.Port.{PortValue}
+use Rattle.lan_switch.specs.Switch.{port_of, same_unit}
 use Rattle.lan_script.specs.declared.rows.LanRows.{LanRows}
 use Rattle.lan_script.specs.Invariant.{sent_by}
 use Rattle.lan_script.specs.PortCounts.{counts_at, is_frame}
+use Rattle.lan_script.specs.Resting.{IsAllTaken}
 use Rattle.lan_script.specs.Rows.{deliver_rows, harvest_rows, port_in, port_rows, post_rows}
-use Rattle.lan_script.specs.Units.{LanValue}
+use Rattle.lan_script.specs.Units.{IsOpenAt, LanValue}
 
 -- The rows are all that the units keep: their frames, and of their ports the sessions, posts, deliveries and harvests, in the
 -- order of the seats.
@@ -18,9 +20,19 @@ pub record IsRowsOf (lan : LanValue) (rows : LanRows) : Type 0 where
   pub delivers : rows.delivers.items ≡ flat_map (λ seat. deliver_rows seat.unit (port_in lan.stations seat)) lan.seats
   pub harvests : rows.harvests.items ≡ flat_map (λ seat. harvest_rows seat.unit (port_in lan.stations seat)) lan.seats
 
--- Of each unit the rows have its frames, as many posts as it made, and of its harvests as many of frames as it took.
+-- the sessions of a port so far
+abbrev pub sessions_by : Option PortValue → ℕ
+sessions_by None = 0
+sessions_by (Some port) = length port.drop_counts
+
+-- Of each unit the rows have its frames, as many posts as it made, of its harvests as many of frames as it took, and one of each
+-- session. Where nothing is left to take of a port that is open, its last session has as many harvests as deliveries.
 pub record CountsRows (lan : LanValue) (rows : LanRows) : Type 0 where
   pub frames : (unit : UnitId) → filter (λ row. same_unit row.unit unit) rows.frames.items ≡ sent_by lan.seats lan.frames unit
   pub posts : (unit : UnitId) → length (filter (λ row. same_unit row.unit unit) rows.posts.items) ≡ (counts_at lan unit).posts
   pub taken : (unit : UnitId) → length (filter (λ row. is_frame row.high) (filter (λ row. same_unit row.unit unit) rows.harvests.items))
       ≡ (counts_at lan unit).taken
+  pub sessions : (unit : UnitId) → length (filter (λ row. same_unit row.unit unit) rows.ports.items) ≡ sessions_by (port_of lan.stations unit)
+  pub last : (unit : UnitId) → IsOpenAt lan unit → IsAllTaken lan unit
+      → length (filter (λ row. row.session == sessions_by (port_of lan.stations unit)) (filter (λ row. same_unit row.unit unit) rows.harvests.items))
+      ≡ length (filter (λ row. row.session == sessions_by (port_of lan.stations unit)) (filter (λ row. same_unit row.unit unit) rows.delivers.items))

@@ -8,6 +8,7 @@ ghost use Rattle.lan_script.specs.PortRows.{port_row};
 ghost use Rattle.vio_trace.specs.declared.outcome.Outcome.TheVariants as outcomes;
 ghost use Rattle.lan_script.specs.PortReplay.{MacSays, MulticastSays};
 ghost use Rattle.lan_script.specs.Replayed.{ClosesAt, OpensAt, ReplaysOn, SameBeside, SameReplays};
+ghost use Rattle.lan_script.specs.Resting.{SamePorts};
 ghost use Rattle.lan_script.specs.Seats.{seat_at};
 ghost use Rattle.lan_script.specs.Units.{IsOpenAt};
 ghost use Rattle.lan_script.specs.Values.{SameValues, SameValuesBeside, is_entry_call};
@@ -137,6 +138,7 @@ impl Lan {
         ensures room { OnOk result (HasRoom self.new.stations unit) }
         ensures opened { IsOpenAt self.old unit → IsOpenAt self.new unit }
         ensures replays { SameReplays self.old self.new }
+        ensures still { SamePorts self.old self.new }
         ensures places { self.new.places ≡ self.old.places }
     {
         self.switch.reserve(unit, 1)

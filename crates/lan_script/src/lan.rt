@@ -102,6 +102,17 @@ impl Lan {
         self.windows.at(unit)
     }
 
+    // Gives the slots of the unit's receive queue, one at least.
+    pub(crate) fn slots(&self, unit: UnitId) -> u16
+        requires there { IsSome (seat_at self.now.seats unit) }
+        ensures least { 1 ≤ result }
+    {
+        let Some(seat) = seat_of(&self.seats, unit) else {
+            unreachable!();
+        };
+        seat.slots
+    }
+
     // Gives the unit's seat.
     pub(crate) fn seat(&self, unit: UnitId) -> PortSeat
         requires there { IsSome (seat_at self.now.seats unit) }

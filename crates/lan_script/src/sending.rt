@@ -2,12 +2,13 @@
 ghost use Rattle.std.specs.Prelude.{◌≡◌, ◌≤◌, ◌-◌, IfOk, IsSome, OnOk, ◌^◌, ◌*◌, ◌+◌, false, length, IsErrOf, None, Some, true};
 ghost use Rattle.boot_text.specs.declared.port_script.TheConstants.{LEAST_FRAME, MOST_FRAME};
 ghost use Rattle.boot_text.specs.declared.verb.Verb.TheVariants as verbs;
+ghost use Rattle.lan_buffers.specs.declared.settings.Settings.{Settings};
 ghost use Rattle.lan_script.specs.declared.seat.PortSeat.{PortSeat};
 ghost use Rattle.hcall_table.specs.Rows.{may_answer};
 ghost use Rattle.hcall_table.specs.declared.hcall.Hcall.TheVariants as rows;
 ghost use Rattle.tce_window.specs.Answers.{IfInUse};
 ghost use Rattle.lan_script.specs.Invariant.{Owes};
-ghost use Rattle.lan_script.specs.Replayed.{GoesOut, GrantsAll, HasPages, Replays, ReplaysOn, SameBeside, SameReplays, SentSays};
+ghost use Rattle.lan_script.specs.Replayed.{AddsBytes, GoesOut, GrantsAll, HasPages, HasShown, Replays, ReplaysOn, SameBeside, SameReplays, SendsShown, SentSays, Shows, replay_at};
 ghost use Rattle.lan_script.specs.Seats.{TellsOfPort, seat_at};
 ghost use Rattle.lan_script.specs.Values.{SameValues};
 ghost use Rattle.lan_script.specs.LineFrame.{line_frame};
@@ -77,6 +78,8 @@ impl Lan {
     // Gives the present address of the unit: its port's, or that of its seat where the port is closed.
     fn present(&self, unit: UnitId) -> Mac
         requires there { IsSome (seat_at self.now.seats unit) }
+        ensures opened { (settings : Settings) → (replay_at self.now unit).settings ≡ Some settings
+            → result ≡ settings.mac }
     {
         match self.switch.settings(unit) {
             Some(settings) => settings.mac,
@@ -104,6 +107,7 @@ impl Lan {
             → length bytes.now ≤ 65536 → ¬ IsErrOf result OwnFault.Range }
         ensures grants { GrantsAll self.old unit → GrantsAll self.new unit }
         ensures values { SameValues self.old self.new }
+        ensures shown { OnOk result (Shows self.new.places unit at bytes.now) }
     {
         let mut own = self.windows.take(unit);
         let answer = OwnerPort::write(&mut own, at, bytes, mark);
@@ -124,6 +128,8 @@ impl Lan {
         ensures goes { IfOk result (λ sent.
             GoesOut self.old unit parts.now sent.code sent.number) }
         ensures values { OnOk result (SameValues self.old self.new) }
+        ensures shown { IfOk result (λ sent.
+            SendsShown unit parts.now sent.number self.old self.new) }
     {
         if !self.whole {
             return Err(NoMemory);
@@ -146,6 +152,8 @@ impl Lan {
         ensures goes { IfOk result (λ made.
             GoesOut self.old unit parts.now made.code made.frame) }
         ensures values { OnOk result (SameValues self.old self.new) }
+        ensures shown { IfOk result (λ made.
+            IsSome made.frame → HasShown self.old unit parts.now made.bytes) }
     {
         self.whole = false;
         let mut own = self.windows.take(unit);
@@ -167,6 +175,7 @@ impl Lan {
         ensures number { IfOk result (λ sent. sent.number ≡ made.frame) }
         ensures replays { IfOk result (λ sent.
             ReplaysOn unit (SentSays sent.code sent.number) self.old self.new) }
+        ensures adds { OnOk result (AddsBytes unit made.frame made.bytes self.old self.new) }
         ensures places { self.new.places ≡ self.old.places }
     {
         let sent = Sent {

@@ -6,6 +6,7 @@ ghost use Rattle.lan_script.specs.LineSays.{TellsNoFrame};
 ghost use Rattle.lan_script.specs.PortCounts.{CountsOn, CountsStep, TakesSome, counts};
 ghost use Rattle.lan_script.specs.Taking.{harvested_on, taken_on};
 ghost use Rattle.lan_script.specs.Replayed.{SameReplays};
+ghost use Rattle.lan_script.specs.Resting.{IsNoHarvest, OnNothing, OnQuiet};
 ghost use Rattle.lan_script.specs.Seats.{TellsOfPort, seat_at};
 
 use crate::lan::Lan;
@@ -72,10 +73,11 @@ impl Lan {
         ensures frames { self.new.frames ≡ self.old.frames }
         ensures counts { OnOk result (TakesSome unit self.old self.new) }
         ensures replays { OnOk result (SameReplays self.old self.new) }
+        ensures nothing { IfOk result (λ moved. OnQuiet unit moved self.old self.new) }
         ensures places { self.new.places ≡ self.old.places }
     {
         let mut moved = Moved::Quiet;
-        for _entry in 0..self.seat(unit).slots {
+        for _entry in 0..self.slots(unit) {
             match self.take_one(unit)? {
                 Taken::Frame | Taken::Blank => moved = Moved::Moved,
                 Taken::Nothing => return Ok(moved),
@@ -90,6 +92,7 @@ impl Lan {
         ensures seats { self.new.seats ≡ self.old.seats }
         ensures frames { self.new.frames ≡ self.old.frames }
         ensures replays { OnOk result (SameReplays self.old self.new) }
+        ensures nothing { IfOk result (λ taken. OnNothing unit taken self.old self.new) }
         ensures places { self.new.places ≡ self.old.places }
         ensures counts { IfOk result (λ taken.
             CountsOn unit (counts 0 0) (taken_on taken) self.old self.new) }
@@ -105,6 +108,7 @@ impl Lan {
 // Says what a harvest found.
 fn kind_of(harvest: Harvest) -> Taken
     ensures found { taken_on result ≡ harvested_on harvest }
+    ensures nothing { result ≡ Taken.Nothing → IsNoHarvest harvest }
     ensures short { IfFrame harvest (λ number len correlator. len < 2 ^ 32) }
 {
     match harvest {

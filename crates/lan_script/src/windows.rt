@@ -1,5 +1,6 @@
 // The windows of the units, one for each seat. A sender's window is away while its frame is offered to the others.
 ghost use Rattle.std.specs.Prelude.{◌≡◌, ◌≤◌, All, Some, None, IfSome, IfNone, IsSome, IsSomeAnd, IfOk, length};
+ghost use Rattle.tce_window.specs.declared.piece.TheConstants.{MOST_BYTES};
 ghost use Rattle.tce_window.specs.Lent.{IsLentBy};
 ghost use Rattle.lan_switch.specs.Switch.{same_unit};
 ghost use Rattle.lan_script.specs.Windows.{GivesWindow, HasPlace, HasWindow, HoldsWindow, IsOwn, Turns, TurnsAt, fresh_place, place_in, window_in, with_window};
@@ -106,7 +107,7 @@ impl Windows {
     ) -> Result<Held, HoldFault>
         requires there { HasWindow self.old unit place }
         requires free { IsSomeAnd (window_in unit self.old) (λ window. window.held_count ≡ 0) }
-        requires len { (1 ≤ len) × (len ≤ 65536) }
+        requires len { (1 ≤ len) × (len ≤ MOST_BYTES) }
         ensures { TurnsAt unit self.old self.new (λ a b. HoldsWindow a b ioba len right result) }
     {
         hold_in(&mut self.places[place].window, ioba, len, right)
@@ -163,7 +164,7 @@ fn hold_in(
     right: Right,
 ) -> Result<Held, HoldFault>
     requires free { IsSomeAnd window.old (λ window. window.held_count ≡ 0) }
-    requires len { (1 ≤ len) × (len ≤ 65536) }
+    requires len { (1 ≤ len) × (len ≤ MOST_BYTES) }
     ensures { Turns window.old window.new (λ a b. HoldsWindow a b ioba len right result) }
 {
     match window {

@@ -4,7 +4,7 @@ use Rattle.lan_script.specs.Seats.{seat_place}
 use Rattle.lan_script.proofs.Keeping.{map_long}
 use Rattle.lan_script.proofs.Kept.{kept_in, short_in}
 use Rattle.lan_script.proofs.Lans.{frames_within}
-use Rattle.lan_script.proofs.Telling.{keeps_sent}
+use Rattle.lan_script.proofs.Telling.{keeps_bytes, keeps_sent}
 use Rattle.lan_script.specs.Units.{LanValue}
 use Rattle.lan_script.proofs.ReplayedSends.{kept_replay}
 use Rattle.lan_script.proofs.lan.Lan.keep.Goals as goal
@@ -47,7 +47,18 @@ returns-clause-sends c =
       map_long (λ rows. rows.items) c.self.inside.frames.items,
     )) c.index_mut.ensures.value c.in_ok-push.ensures.items refl
 
+pub returns-clause-adds : goal.returns-clause-adds
+returns-clause-adds c =
+    let at = c.place_of-place.ensures.place ∙ ap (λ (l : List PortSeat). seat_place c.args.unit l) c.deref.ensures.value in
+    keeps_bytes (λ rows. rows.items) _ c.args.self.now c.self.inside.frames.items c.args.unit c.args.made c.in-Some.number c.in_ok-row.row
+    c.place_of-place.result c.index_mut.result.now c.push.new.self _ _ c.self.view_is c.self.invariant c.requires.there refl c.in_ok-row.ensures at
+    (omega (
+      arith,
+      frames_within _ c.args.self.now c.args.unit c.place_of-place.result c.self.view_is c.self.invariant c.requires.there at,
+      map_long (λ rows. rows.items) c.self.inside.frames.items,
+    )) c.index_mut.ensures.value c.in_ok-push.ensures.items refl (ap (λ (l : LanValue). l.seats) c.self.view_is)
+
 pub returns-clause-replays : goal.returns-clause-replays
 returns-clause-replays c =
     kept_replay c.args.unit c.args.made c.in-Some.number c.args.self.now _ c.requires.owes c.in-Some.is (ap (λ (l : LanValue). l.stations) c.self.view_is)
-    (returns-clause-sends c) (ap (λ (l : LanValue). l.seats) c.self.view_is)
+    (returns-clause-sends c) (ap (λ (l : LanValue). l.seats) c.self.view_is) (returns-clause-adds c)

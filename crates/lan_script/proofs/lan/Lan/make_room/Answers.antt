@@ -9,6 +9,7 @@ use Rattle.lan_script.proofs.CountedCalls.{reserves_rows}
 use Rattle.lan_script.proofs.CountsKept.{port_counts}
 use Rattle.lan_script.proofs.ReplayedCalls.{reserves_stay}
 use Rattle.lan_script.proofs.Replaying.{port_replays, stays_all}
+use Rattle.lan_script.proofs.Resting.{port_rests, reserves_rest}
 use Rattle.lan_script.proofs.lan.Lan.make_room.Goals as goal
 
 pub reserve-requires : goal.reserve-requires
@@ -37,3 +38,8 @@ returns-clause-replays c =
     stays_all c.args.unit c.args.self.now _
     (port_replays _ c.args.self.now c.args.unit c.reserve.new.self (Reserves 1 c.reserve.result) (λ a b. b ≡ a) c.self.view_is c.reserve.ensures
     (λ before after was h. reserves_stay 1 c.reserve.result before after h))
+
+pub returns-clause-still : goal.returns-clause-still
+returns-clause-still c =
+    port_rests _ c.args.self.now c.args.unit c.reserve.new.self (Reserves 1 c.reserve.result) c.self.view_is c.reserve.ensures
+    (λ before after h. reserves_rest 1 c.reserve.result before after h)

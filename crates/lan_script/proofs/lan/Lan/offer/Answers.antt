@@ -7,6 +7,7 @@ use Rattle.lan_script.proofs.Lans.{lending, lent_keys, others_free, owes_ok, pla
 use Rattle.lan_script.proofs.CountedSent.{sends_same}
 use Rattle.lan_script.proofs.ReplayedSent.{sends_stay}
 use Rattle.lan_script.proofs.ReplayedSends.{goes_all}
+use Rattle.lan_script.proofs.ReplayedShown.{sends_shown}
 use Rattle.lan_script.proofs.ReplayedValues.{sends_values}
 use Rattle.lan_script.proofs.lan.Lan.offer.Goals as goal
 
@@ -103,3 +104,9 @@ returns-clause-values c =
     c.send-answer.ensures.sent c.send-answer.ensures.failed))
     (window_free _ c.args.self.now c.args.unit c.take-own.result c.self.view_is c.self.invariant c.requires.there c.take-own.ensures.window)
     c.send-answer.ensures.window) c.send-answer.ensures.window.rest.values c.send-answer.ensures.sent
+
+pub returns-clause-shown : goal.returns-clause-shown
+returns-clause-shown c =
+    sends_shown _ c.args.self.now c.args.unit c.send-answer.new.self c.args.parts.now none_found c.take-own.result c.send-answer.new.window
+    (windows_of false facts_in FoundIn c.take-own.new.self c.send-answer.new.others) c.send-answer.result c.self.view_is c.take-own.ensures.window
+    c.send-answer.ensures.window c.send-answer.ensures.sent

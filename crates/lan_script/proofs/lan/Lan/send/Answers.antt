@@ -1,4 +1,5 @@
 use Rattle.lan_script.proofs.ReplayedSends.{goes_kept, send_behind}
+use Rattle.lan_script.proofs.ReplayedShown.{kept_shown}
 use Rattle.lan_script.proofs.ReplayedValues.{kept_values}
 use Rattle.lan_script.proofs.lan.Lan.send.Goals as goal
 
@@ -13,3 +14,8 @@ returns-clause-goes c =
 pub returns-clause-values : goal.returns-clause-values
 returns-clause-values c =
     kept_values c.args.self.now c.offer.new.self c.keep.new.self c.keep.result c.in_ok-made.ensures.values c.keep.ensures.places
+
+pub returns-clause-shown : goal.returns-clause-shown
+returns-clause-shown c =
+    kept_shown c.args.unit c.args.parts.now c.in_ok-made.made c.keep.result c.args.self.now c.offer.new.self c.keep.new.self c.in_ok-made.ensures.replays
+    c.in_ok-made.ensures.shown c.keep.ensures.number c.keep.ensures.adds

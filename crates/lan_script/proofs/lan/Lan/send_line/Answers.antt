@@ -1,13 +1,29 @@
-use Rattle.std.proofs.Common.{[], ◌∷◌, ◌∙◌}
+use Rattle.std.proofs.Common.{ℕ, List, [], ◌∷◌, ◌∙◌, OnOk, arith, subst}
+use Rattle.lan_script.specs.Replayed.{Shows}
 use Rattle.lan_script.proofs.ReplayedLines.{one_part, send_goes}
+use Rattle.lan_script.proofs.Telling.{sends_said, sent_behind}
 use Rattle.lan_script.proofs.lan.Lan.send_line.Goals as goal
+
+pub returns-clause-sends : goal.returns-clause-sends
+returns-clause-sends c =
+    sends_said c.args.unit c.in_ok-sent.sent.code c.in_ok-sent.sent.number c.said.result c.args.self.now c.send.new.self c.said.ensures.says
+    (sent_behind c.args.unit c.in_ok-sent.sent.code c.in_ok-sent.sent.number c.args.self.now c.write.new.self c.send.new.self c.write.ensures.seats
+    c.write.ensures.frames c.in_ok-sent.ensures.sends)
 
 pub returns-clause-replays : goal.returns-clause-replays
 returns-clause-replays c =
-    send_goes c.args.unit c.args.to c.args.len c.args.seed c.args.at (c.descriptor.result ∷ 0 ∷ 0 ∷ 0 ∷ 0 ∷ 0 ∷ []) c.in_ok-sent.sent.code c.in_ok-sent.sent.number
+    send_goes c.args.unit c.args.to c.present-from.result c.args.len c.args.seed c.args.at c.in_ok-frame.frame.items (c.descriptor.result ∷ 0 ∷ 0 ∷ 0 ∷ 0 ∷ 0 ∷ []) c.in_ok-sent.sent.code c.in_ok-sent.sent.number
     c.said.result c.args.self.now c.write.new.self c.send.new.self (λ seat at. (c.has_range.ensures.range seat at).0 c.if-not-has_range.false)
     (one_part c.descriptor.result c.args.at c.args.len c.descriptor.ensures.valid c.descriptor.ensures.address c.descriptor.ensures.len c.requires.least
-    c.requires.most) c.write.ensures.seats c.write.ensures.replays c.write.ensures.grants c.in_ok-sent.ensures.replays c.in_ok-sent.ensures.goes
+    c.requires.most) c.write.ensures.seats c.write.ensures.replays c.write.ensures.grants
+    (record {
+      few = omega arith;
+      long = c.in_ok-frame.ensures.len;
+      bytes_are = c.in_ok-frame.ensures.bytes;
+      present = c.present-from.ensures.opened;
+      shown = subst (λ (bytes : List ℕ). Shows c.write.new.self.places c.args.unit c.args.at bytes) c.deref.ensures.value
+          (subst (λ r. OnOk r (Shows c.write.new.self.places c.args.unit c.args.at c.deref.result.now)) c.in-Ok.is c.write.ensures.shown);
+    }) c.in_ok-sent.ensures.replays c.in_ok-sent.ensures.shown c.in_ok-sent.ensures.goes
     (record { sent = c.said.ensures.says; coded = c.said.ensures.coded })
 
 pub returns-clause-values : goal.returns-clause-values

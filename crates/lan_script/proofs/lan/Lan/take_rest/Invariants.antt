@@ -1,6 +1,8 @@
 use Rattle.std.proofs.Common.{◌≡◌}
+use Rattle.vio_num.specs.declared.hypervisor.Moved.TheVariants.{Quiet}
 use Rattle.lan_script.specs.PortCounts.{TakesSome}
 use Rattle.lan_script.specs.Replayed.{SameReplays}
+use Rattle.lan_script.specs.Resting.{SamePorts}
 use Rattle.lan_script.proofs.lan.Lan.take_rest.Given as goal
 
 abbrev pub invariant-loop-entry : goal.invariant-loop-entry
@@ -10,4 +12,6 @@ invariant-loop-entry l = record {
   replays : SameReplays l.fn.self l.self;
   places : l.self.places ≡ l.fn.self.places;
   taken : TakesSome l.unit l.fn.self l.self;
+  still : l.moved ≡ Quiet → SamePorts l.fn.self l.self;
+  first : l.moved ≡ Quiet → l._entry ≡ 0;
 }

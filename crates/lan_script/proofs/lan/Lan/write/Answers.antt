@@ -1,8 +1,9 @@
 use Rattle.std.proofs.Common.{ℕ, false, List, ap, length}
 use Rattle.tce_window.specs.PlainPort.{known_of}
-use Rattle.unit_region.proofs.Growing.{keeps_write}
+use Rattle.unit_region.proofs.Laws.{keeps_write}
 use Rattle.lan_script.proofs.Lans.{lan_back, place_after, window_there}
 use Rattle.lan_script.proofs.ReplayedRegion.{grants_back, not_in_use, not_range}
+use Rattle.lan_script.proofs.ReplayedShown.{write_shown}
 use Rattle.lan_script.proofs.ReplayedValues.{put_back}
 use Rattle.lan_script.proofs.lan.Lan.write.Goals as goal
 
@@ -40,3 +41,8 @@ pub returns-clause-values : goal.returns-clause-values
 returns-clause-values c =
     put_back _ c.args.self.now c.args.unit c.take-own.new.self c.put.new.self c.take-own.result c.write-answer.new.self c.self.view_is c.take-own.ensures.window
     c.take-own.ensures.rest c.put.ensures (λ k. ap (λ (v : ℕ → List ℕ). v k) c.write-answer.ensures.rest.values)
+
+pub returns-clause-shown : goal.returns-clause-shown
+returns-clause-shown c =
+    write_shown c.self.inside.windows c.take-own.new.self c.put.new.self c.args.unit c.take-own.result c.write-answer.new.self c.args.at c.args.mark
+    c.args.bytes.now c.write-answer.result c.take-own.ensures.window c.take-own.ensures.rest c.put.ensures c.write-answer.ensures.ok
