@@ -24,7 +24,7 @@ use Rattle.vscsi_client.specs.Ports.{Ports, WhyNotPut, WhyNotWritten, Write}
 use Rattle.vscsi_client.specs.Sending.{LoggedOut, Submitted, Tasked, WhyNotSent, WhyNotSubmitted, command_refusal, logout_refusal, logout_refused_by, logout_unit, refused_by, request_of, table_writes, task_of, task_refusal, task_unit, waits_for}
 use Rattle.vscsi_client.specs.Spans.{data_span, first_sharing, op_in_range, shares, table_span}
 use Rattle.vscsi_client.specs.State.{ClientState, next_tag}
-use Rattle.vscsi_client.proofs.Allowing.{not_range}
+use Rattle.vscsi_client.proofs.Laws.{not_range}
 use Rattle.vcpu_run.specs.declared.script.Progress.{Progress}
 use Rattle.vcpu_run.specs.Commands.{IsOpOf}
 use Rattle.vcpu_run.specs.Credited.{Ended, is_take, taken_in}

@@ -6,7 +6,7 @@ use Rattle.vio_num.specs.declared.names.UnitId.{UnitId}
 use Rattle.page_slots.specs.Stroke.{StrokeValue}
 use Rattle.crq_ring.specs.Pipe.{PipeValue}
 use Rattle.tce_window.specs.Grant.{AreNumbered, values_of}
-use Rattle.tce_window.proofs.Values.{values_of-own, values_of-other, values_of-none}
+use Rattle.tce_window.proofs.Laws.{values_of-own, values_of-other, values_of-none}
 use Rattle.tce_window.specs.declared.answers.TceRow.{TceRow}
 use Rattle.vio_trace.specs.Form.{QueueBefore, StrokeBefore, TceValueBefore}
 use Rattle.vio_trace.specs.declared.rows.QueueRow.{QueueRow}

@@ -7,7 +7,7 @@ use Rattle.srp_iu.specs.declared.response.Rsp.{Rsp as Response}
 use Rattle.srp_iu.specs.declared.unit.Iu.{Iu}
 use Rattle.srp_iu.specs.declared.unit.Iu.TheVariants as units
 use Rattle.srp_iu.specs.Response.{FitsRsp}
-use Rattle.srp_iu.proofs.Writables.{writable}
+use Rattle.srp_iu.proofs.GrammarLaws.{writable}
 use Rattle.vscsi_client.specs.declared.answers.LoginTurn.{LoginTurn}
 use Rattle.vscsi_client.specs.declared.answers.Refused.{Refused}
 use Rattle.vscsi_client.specs.declared.answers.Refused.TheVariants as whys
@@ -25,8 +25,8 @@ use Rattle.vscsi_client.specs.declared.found.Found.TheVariants.{Granted, Rejecte
 use Rattle.crq_session.specs.declared.answers.RegAnswer.TheVariants as reg
 use Rattle.vscsi_client.specs.Turned.{Site, LoginStep, Registered, Took, TookNone, Looked, Began, Wrote, NotWritten, Put, RanOut, Steps, Runs, Turned, Ends, EndsWith, NoneEnds, ends_turn}
 use Rattle.vscsi_client.specs.Units.{FitsOp}
-use Rattle.vscsi_client.proofs.Fits.{submitted_fits, tasked_fits, logged_out_fits, taken_fits, turned_fits}
-use Rattle.unit_region.proofs.Growing.{StrokesGrow, strokes_same, strokes_on, strokes_none, strokes_read, strokes_written}
+use Rattle.vscsi_client.proofs.Laws.{submitted_fits, tasked_fits, logged_out_fits, taken_fits, turned_fits}
+use Rattle.unit_region.proofs.Laws.{StrokesGrow, strokes_same, strokes_on, strokes_none, strokes_read, strokes_written}
 
 -- writes of bytes
 laid : (shared : Bool) (mark : ℕ) (write : Write) (old new : PortState) → Lays shared mark write old new → StrokesGrow shared old new

@@ -8,7 +8,7 @@ use Rattle.vcpu_run.proofs.LinesShown.{sees_on, sees_same}
 use Rattle.vcpu_run.proofs.Driving.{get_set_other, get_set_same, same_or, some_is}
 
 client_same : (pair : Pair) → SameClient pair pair
-client_same pair = record { driver = refl; pages = refl; queue = refl; unit = refl; sees = sees_same (seen_at pair) }
+client_same pair = record { driver = refl; pages = refl; queue = refl; taken = refl; unit = refl; sees = sees_same (seen_at pair) }
 
 pub clients_same : (pairs : List Pair) → SameClients pairs pairs
 clients_same pairs k after there = subst (λ (o : Option Pair). IsSomeAnd o (λ before. SameClient before after)) (sym there) (client_same after)
@@ -22,6 +22,7 @@ clients_on a b c first next k after there = at (slice_get b k) refl (next k afte
       driver = y.driver ∙ x.driver;
       pages = y.pages ∙ x.pages;
       queue = y.queue ∙ x.queue;
+      taken = y.taken ∙ x.taken;
       unit = y.unit ∙ x.unit;
       sees = sees_on (seen_at before) (seen_at mid) (seen_at after) x.sees y.sees;
     }

@@ -31,7 +31,7 @@ use Rattle.vscsi_client.specs.Spans.{op_in_range, first_sharing}
 use Rattle.vscsi_client.specs.State.{ClientState}
 use Rattle.vscsi_client.specs.Taking.{TakesEntry, without_tag}
 use Rattle.vscsi_client.specs.Turned.{Site, LoginStep, Registered, Took, TookNone, Looked, Began, Wrote, NotWritten, Put, RanOut, Steps, Runs, Turned, NoneEnds, Ends, ends_turn, is_dropped, sent_by, sent_stage, unlinked}
-use Rattle.vscsi_client.proofs.Allowing.{not_range}
+use Rattle.vscsi_client.proofs.Laws.{not_range}
 use Rattle.unit_region.specs.declared.step.Step.{Step}
 use Rattle.unit_region.specs.declared.step.Step.TheVariants as steps
 use Rattle.vcpu_run.specs.Credited.{Credit, IsWithin, uses_credit, one_more, gives_back, credit_by, Agrees, KeepsAgreed, StepsAgreed, is_take}

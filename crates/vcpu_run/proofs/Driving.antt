@@ -11,7 +11,7 @@ use Rattle.crq_session.specs.PlainState.{end_of, side_of as link_side}
 use Rattle.rdma_copy.specs.Copies.{side_of}
 use Rattle.rdma_copy.proofs.Laws.{side_same, side_on}
 use Rattle.unit_region.specs.Kept.{LaysOwnOn}
-use Rattle.unit_region.proofs.Growing.{own_same, own_then}
+use Rattle.unit_region.proofs.Laws.{own_same, own_then}
 use Rattle.vcpu_run.specs.declared.driver.Driver.{Driver}
 use Rattle.vcpu_run.specs.declared.pair.Pair.{Pair}
 use Rattle.vcpu_run.specs.declared.unit_seat.Seat.{Seat}

@@ -24,7 +24,7 @@ use Rattle.rdma_copy.specs.declared.copy.CopyRecord.{CopyRecord}
 use Rattle.block_server.proofs.BookLaws.{served_at_rest}
 use Rattle.block_server.specs.Books.{books_seen}
 use Rattle.block_server.specs.Closings.{HasCauses}
-use Rattle.block_server.specs.Judged.{AreKept, HasLimit, IsWorkDone, Judged, RowKey, keys_of}
+use Rattle.block_server.specs.Judged.{AreKept, HasLimit, IsWorkDone, Judged, RowKey, keys_of, row_numbers}
 use Rattle.block_server.specs.Makers.{same_unit as same_name}
 use Rattle.block_server.specs.Numbers.{NameLogins, Rise, granted_numbers}
 use Rattle.block_server.specs.Ready.{HasNothing}
@@ -248,8 +248,9 @@ served_in_at : (partitions : List Partition) (trace : Trace) (server client : Un
     → map (λ (j : Judged). j.receipt) judged ≡ taken.receipts → id ≡ server → IsWorkDone id trace.serves trace.grants judged
     → All (λ (row : RowKey). same_name row.unit id ≡ true → 1 ≤ row.login) (keys_of trace.serves)
     → HasCauses id (entries_taken trace server) judged trace.grants → All (HasLimit id (keys_of trace.serves) judged) trace.grants
-    → NameLogins id [] trace.grants → ((session : ℕ) → Rise (granted_numbers id session trace.grants)) → IsServedIn partitions trace server client
-served_in_at partitions trace server client id judged taken receipts name done under causes limits numbers rising = record {
+    → NameLogins id [] trace.grants → ((session : ℕ) → Rise (granted_numbers id session trace.grants)) → ((session : ℕ) → Rise (row_numbers id session (keys_of trace.serves)))
+    → IsServedIn partitions trace server client
+served_in_at partitions trace server client id judged taken receipts name done under causes limits numbers rising rows = record {
   judged = judged;
   taken = taken;
   receipts = receipts;
@@ -259,6 +260,7 @@ served_in_at partitions trace server client id judged taken receipts name done u
   limits = subst (λ (name : UnitId). All (HasLimit name (keys_of trace.serves) judged) trace.grants) name limits;
   numbers = subst (λ (name : UnitId). NameLogins name [] trace.grants) name numbers;
   rising = subst (λ (name : UnitId). (session : ℕ) → Rise (granted_numbers name session trace.grants)) name rising;
+  rows = subst (λ (name : UnitId). (session : ℕ) → Rise (row_numbers name session (keys_of trace.serves))) name rows;
 }
 
 pub requests_are_served : (pairs : List Pair) (scripts : List Script) (lan : LanValue) (rows : LanRows) (history : List Served) (grants : List Grant) (copies : List CopyRecord) (partitions : List Partition)
@@ -301,7 +303,7 @@ requests_are_served pairs scripts lan rows history grants copies partitions home
     served_in_at partitions trace server client pair.own.unit has.0 taken.0 (sym taken.1) own
     (served_at_rest rests.units server.unit u.0 pair.own.unit (end_of [] pair.link true) history grants has.0 u.1 u.2.pending has.1.kept) kept.under
     (subst (λ (rows : List PipeRow). HasCauses pair.own.unit rows has.0 trace.grants)
-    (sym (ap (flat_map rows_taken) sessions ∙ all_taken server pipe laws received.begun)) kept.lines.causes) kept.counted.limits kept.numbers.each kept.rising.each)
+    (sym (ap (flat_map rows_taken) sessions ∙ all_taken server pipe laws received.begun)) kept.lines.causes) kept.counted.limits kept.numbers.each kept.rising.each kept.rows.each)
 
 pub entries_are_fetched : (partitions : List Partition) (trace : Trace) → RequestsAreServed partitions trace → EntriesAreFetched partitions trace
 entries_are_fetched partitions trace served server client serves drives = ∥∥₁_map (served server client serves drives) (λ is. is.taken)

@@ -82,11 +82,11 @@ refusals_seen told units n unit queue queue' since grants session taken has =
     }
 
 -- A turn of the unit, over an end of its link that sees the queue as the pair does.
-pub told_served : (told : Told → Bool) (units units' : List Unit) (records records' : Records) (k : ℕ) (old new : Pair) (queue queue' : EndState)
+pub told_served : {granted : ℕ} (told : Told → Bool) (units units' : List Unit) (records records' : Records) (k : ℕ) (old new : Pair) (queue queue' : EndState)
     → queue.last_session ≡ (side_of old.link true).queue.session → queue.taken ≡ (side_of old.link true).queue.taken
     → queue'.last_session ≡ (side_of new.link true).queue.session → queue'.taken ≡ (side_of new.link true).queue.taken → new.own.unit ≡ old.own.unit
     → queue.sent ≡ (side_of old.link false).queue.sent → queue'.sent ≡ (side_of new.link false).queue.sent
-    → Begins queue.taken queue'.taken → ∥ LinesMore old.own.unit records.grants.items records'.grants.items ∥₁
+    → Begins queue.taken queue'.taken → ∥ LinesMore old.own.unit granted records.grants.items records'.grants.items ∥₁
     → (HasCargo told units k (known_of old.own) records → HasCargo told units' k (known_of new.own) records')
     → (HasExplained told units k old.own.unit queue [] records.grants.items → HasExplained told units' k old.own.unit queue' [] records'.grants.items)
     → (HasExplained told units k old.own.unit queue [] records.grants.items → AnswersLogins told old.own.unit queue queue' records records')
@@ -120,9 +120,9 @@ apart_is a b apart = at (a.partition == b.partition) refl (a.unit == b.unit) ref
     at true p_is false u_is = refl
 
 -- A turn of another unit: only rows and lines of its own came, or changed.
-pub told_elsewhere : (told : Told → Bool) (size partition : ℕ) (units units' : List Unit) (records records' : Records) (k : ℕ) (unit : UnitId) (other : Pair)
+pub told_elsewhere : {granted : ℕ} (told : Told → Bool) (size partition : ℕ) (units units' : List Unit) (records records' : Records) (k : ℕ) (unit : UnitId) (other : Pair)
     → unit ≢ other.own.unit → other.own.unit ≡ server_id partition k → slice_get units' k ≡ slice_get units k
-    → ∥ LinesMore unit records.grants.items records'.grants.items ∥₁ → ∥ OnlyRowsOf unit records.history.items records'.history.items ∥₁
+    → ∥ LinesMore unit granted records.grants.items records'.grants.items ∥₁ → ∥ OnlyRowsOf unit records.history.items records'.history.items ∥₁
     → AreInOrder told size partition units records → UnitGoesBy told units records k other → ∥ UnitGoesBy told units' records' k other ∥₁
 told_elsewhere told size partition units units' records records' k unit other apart name same lines rows order is =
     ∥∥₁_map₂ lines rows

@@ -16,7 +16,7 @@ use Rattle.rdma_copy.proofs.Laws.{side_same}
 use Rattle.rdma_copy.specs.declared.copy.CopyRecord.{CopyRecord}
 use Rattle.block_server.specs.Advances.{CopiesMore, IsOwnCopy}
 use Rattle.block_server.specs.SiteState.{AreReady}
-use Rattle.block_server.proofs.Advancing.{copy_stays}
+use Rattle.block_server.proofs.Laws.{copy_stays}
 use Rattle.vscsi_client.specs.Transferred.{FitRows}
 use Rattle.vscsi_client.specs.declared.TheConstants.{MIN_PAGES}
 use Rattle.vcpu_run.specs.declared.driver.Driver.{Driver}

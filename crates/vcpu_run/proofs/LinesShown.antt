@@ -6,6 +6,7 @@ use Rattle.std.proofs.lemmas.Bool.{eq-eqb}
 use Rattle.std.proofs.lemmas.Bool.Decides.{nat_tests}
 use Rattle.std.proofs.lemmas.List.Elements.{Contains-append_left, Contains-append_right}
 use Rattle.vio_num.specs.Entry.{srp_entry}
+use Rattle.vio_num.specs.Words.{Begins}
 use Rattle.vio_num.specs.declared.memory.NoMemory.{NoMemory}
 use Rattle.vio_num.specs.declared.names.UnitId.{UnitId}
 use Rattle.vio_num.specs.declared.entry.Entry.{Entry}
@@ -46,12 +47,13 @@ use Rattle.unit_region.specs.declared.step.Step.{Step}
 use Rattle.unit_region.specs.declared.step.Step.TheVariants as steps
 use Rattle.vcpu_run.specs.declared.pair.Pair.{Pair}
 use Rattle.vcpu_run.specs.Commands.{IsOpOf, cdb_of}
-use Rattle.vcpu_run.specs.LinesShow.{AreRead, AreWritten, IsCommandOf, IsFront, IsOn, IsPut, IsPutBy, IsSent, IsSentIf, IsReadIf, IsShown, IsUnitOf, IsWrittenIf, LinesShow, PairShows, Placed, RegionShows, Seen, Sees, StepShows, read_by, requests, seen_at, seen_by, written_by}
+use Rattle.vcpu_run.specs.LinesShow.{AreRead, AreWritten, IsCommandOf, IsFront, IsOn, IsPut, IsPutBy, IsSent, IsFurtherShown, IsSentIf, IsReadIf, IsShown, IsUnitOf, IsWrittenIf, LinesShow, PairShows, Placed, RegionShows, Seen, Sees, StepShows, further_of, read_by, requests, seen_at, seen_by, written_by}
 use Rattle.vcpu_run.specs.Pairs.{Drives}
 use Rattle.vcpu_run.specs.Sendings.{SaysSent}
 use Rattle.vcpu_run.specs.Sessions.{entries_of, session_rows, sessions_from}
 use Rattle.vcpu_run.specs.Works.{fails}
 use Rattle.vcpu_run.proofs.Driving.{same_or, some_is}
+use Rattle.vcpu_run.proofs.FurtherKept.{asks_apart, further_more, no_further}
 
 -- all that there was is there still
 written_more : (a b : Seen) → Sees a b → (unit : UnitId) (mark at : ℕ) (bytes : List ℕ) → AreWritten a unit mark at bytes → AreWritten b unit mark at bytes
@@ -154,7 +156,7 @@ region_more a b more unit mark placed at outcome is = (wrote placed is.0, read a
     read (Some n) h = read_if_more a b more n outcome h
 
 pub shown_more : (a b : Seen) → Sees a b → (unit : UnitId) (mark : ℕ) (verb : Verb) (outcome : Outcome) → IsShown a unit mark verb outcome → IsShown b unit mark verb outcome
-shown_more a b more unit mark verb outcome is = at (requests verb) is
+shown_more a b more unit mark verb outcome is = (at (requests verb) is.0, further_more a b more (further_of verb) outcome is.1)
   where
     at : (asked : Bool) → MatchBool asked (IsSentIf a unit mark verb outcome) (RegionShows a unit mark (written_by verb) (read_by verb) outcome)
         → MatchBool asked (IsSentIf b unit mark verb outcome) (RegionShows b unit mark (written_by verb) (read_by verb) outcome)
@@ -168,17 +170,20 @@ step_more a b more unit mark verb (Err memory) is = tt
 
 -- a line that sends nothing and writes nothing
 pub shows_none : (seen : Seen) (unit : UnitId) (mark : ℕ) (verb : Verb) (outcome : Outcome) → requests verb ≡ false → written_by verb ≡ None → read_by verb ≡ None
-    → IsShown seen unit mark verb outcome
-shows_none seen unit mark verb outcome no_request no_bytes no_read =
-    subst (λ b. MatchBool b (IsSentIf seen unit mark verb outcome) (RegionShows seen unit mark (written_by verb) (read_by verb) outcome)) (sym no_request)
-    (subst (λ (o : Option Placed). RegionShows seen unit mark o (read_by verb) outcome) (sym no_bytes)
-    (subst (λ (o : Option ℕ). RegionShows seen unit mark None o outcome) (sym no_read) (tt, tt)))
+    → IsFurtherShown seen (further_of verb) outcome → IsShown seen unit mark verb outcome
+shows_none seen unit mark verb outcome no_request no_bytes no_read login = (
+  subst (λ b. MatchBool b (IsSentIf seen unit mark verb outcome) (RegionShows seen unit mark (written_by verb) (read_by verb) outcome)) (sym no_request)
+      (subst (λ (o : Option Placed). RegionShows seen unit mark o (read_by verb) outcome) (sym no_bytes)
+      (subst (λ (o : Option ℕ). RegionShows seen unit mark None o outcome) (sym no_read) (tt, tt))),
+  login,
+)
 
 pub step_none : (seen : Seen) (unit : UnitId) (mark : ℕ) (verb : Verb) (result : Result Step NoMemory) → requests verb ≡ false → written_by verb ≡ None → read_by verb ≡ None
-    → StepShows seen unit mark verb result
-step_none seen unit mark verb (Ok (steps.Ends outcome)) no_request no_bytes no_read = shows_none seen unit mark verb outcome no_request no_bytes no_read
-step_none seen unit mark verb (Ok (steps.Waits did)) no_request no_bytes no_read = tt
-step_none seen unit mark verb (Err memory) no_request no_bytes no_read = tt
+    → further_of verb ≡ None → StepShows seen unit mark verb result
+step_none seen unit mark verb (Ok (steps.Ends outcome)) no_request no_bytes no_read none =
+    shows_none seen unit mark verb outcome no_request no_bytes no_read (no_further seen (further_of verb) outcome none)
+step_none seen unit mark verb (Ok (steps.Waits did)) no_request no_bytes no_read none = tt
+step_none seen unit mark verb (Err memory) no_request no_bytes no_read none = tt
 
 -- a command, and the unit that it sends
 op_requests : (verb : Verb) (op : Op) → IsOpOf verb op → requests verb ≡ true
@@ -263,9 +268,9 @@ fail_is verbs.Fail is = refl
 pub fail_shows : (seen : Seen) (unit : UnitId) (mark : ℕ) (verb : Verb) (outcome : Outcome) → fails verb ≡ true → IsShown seen unit mark verb outcome
 fail_shows seen unit mark verb outcome failing =
     let is = fail_is verb failing in
-    shows_none seen unit mark verb outcome (ap requests is) (ap written_by is) (ap read_by is)
+    shows_none seen unit mark verb outcome (ap requests is) (ap written_by is) (ap read_by is) (no_further seen (further_of verb) outcome (ap further_of is))
 
-contains_first : {X : Type 0} (x : X) (rest : List X) → Contains (x ∷ rest) x
+pub contains_first : {X : Type 0} (x : X) (rest : List X) → Contains (x ∷ rest) x
 contains_first x rest = (zero, omega arith, refl)
 
 -- a write of bytes lays a stroke on each page that they touch
@@ -290,7 +295,7 @@ laid_there stroke (Some strokes) after e there =
 
 -- what there is in a window, with these entries
 abbrev pub seen_there : PortState → (Entry → Type 0) → Seen
-seen_there port entries = record { stroke_at = λ page stroke. IsOn stroke (port.strokes page); front_at = λ page front. IsFront front (port.strokes page); entry_put = entries }
+seen_there port entries = record { stroke_at = λ page stroke. IsOn stroke (port.strokes page); front_at = λ page front. IsFront front (port.strokes page); value_at = λ entry value. Contains (port.values entry) value; entry_put = entries }
 
 pub write_there : (shared : Bool) (old new : PortState) (at mark : ℕ) (bytes : List ℕ) (entries : Entry → Type 0) → Writes shared old at bytes mark new
     → AreWritten (seen_there new entries) old.place.unit mark at bytes
@@ -359,13 +364,17 @@ plain_sent seen unit mark verb (outcomes.Bytes shown) plain = tt
 sent_as : (seen : Seen) (unit : UnitId) (mark : ℕ) (verb : Verb) (tag : ℕ) (result : Result Step NoMemory) → requests verb ≡ true → result ≡ Ok (steps.Ends (outcomes.Sent tag))
     → IsSent seen unit mark verb tag → StepShows seen unit mark verb result
 sent_as seen unit mark verb tag result asked says is =
-    subst (StepShows seen unit mark verb) (sym says)
-    (subst (λ b. MatchBool b (IsSent seen unit mark verb tag) (RegionShows seen unit mark (written_by verb) (read_by verb) (outcomes.Sent tag))) (sym asked) is)
+    subst (StepShows seen unit mark verb) (sym says) (
+      subst (λ b. MatchBool b (IsSent seen unit mark verb tag) (RegionShows seen unit mark (written_by verb) (read_by verb) (outcomes.Sent tag))) (sym asked) is,
+      no_further seen (further_of verb) (outcomes.Sent tag) (asks_apart verb asked),
+    )
 
 not_sent : (seen : Seen) (unit : UnitId) (mark : ℕ) (verb : Verb) (result : Result Step NoMemory) → requests verb ≡ true → IsPlain result → StepShows seen unit mark verb result
-not_sent seen unit mark verb (Ok (steps.Ends outcome)) asked plain =
-    subst (λ b. MatchBool b (IsSentIf seen unit mark verb outcome) (RegionShows seen unit mark (written_by verb) (read_by verb) outcome)) (sym asked)
-    (plain_sent seen unit mark verb outcome plain)
+not_sent seen unit mark verb (Ok (steps.Ends outcome)) asked plain = (
+  subst (λ b. MatchBool b (IsSentIf seen unit mark verb outcome) (RegionShows seen unit mark (written_by verb) (read_by verb) outcome)) (sym asked)
+      (plain_sent seen unit mark verb outcome plain),
+  no_further seen (further_of verb) outcome (asks_apart verb asked),
+)
 not_sent seen unit mark verb (Ok (steps.Waits did)) asked plain = tt
 not_sent seen unit mark verb (Err memory) asked plain = tt
 
@@ -432,24 +441,26 @@ if_done shared old new at bytes mark P from outcomes.Done answer = from answer
 if_done shared old new at bytes mark P from (outcomes.Bytes shown) answer = tt
 
 pub write_shows : (shared : Bool) (old new : PortState) (at mark : ℕ) (bytes : List ℕ) (entries : Entry → Type 0) (verb : Verb) (result : Result Step NoMemory) → requests verb ≡ false
-    → written_by verb ≡ Some (record { at = at; bytes = bytes }) → read_by verb ≡ None → IfOk result (AnswersWrite shared old new at bytes mark)
+    → written_by verb ≡ Some (record { at = at; bytes = bytes }) → read_by verb ≡ None → further_of verb ≡ None → IfOk result (AnswersWrite shared old new at bytes mark)
     → StepShows (seen_there new entries) old.place.unit mark verb result
-write_shows shared old new at mark bytes entries verb (Ok (steps.Ends outcome)) no_request is no_read answer =
+write_shows shared old new at mark bytes entries verb (Ok (steps.Ends outcome)) no_request is no_read none answer =
     let seen : Seen = seen_there new entries in
-    let unit = old.place.unit in
-    subst (λ b. MatchBool b (IsSentIf seen unit mark verb outcome) (RegionShows seen unit mark (written_by verb) (read_by verb) outcome)) (sym no_request)
-    (subst (λ (o : Option Placed). RegionShows seen unit mark o (read_by verb) outcome) (sym is)
-    (subst (λ (o : Option ℕ). RegionShows seen unit mark (Some (record { at = at; bytes = bytes })) o outcome) (sym no_read)
-    (if_done shared old new at bytes mark (AreWritten seen unit mark at bytes) (write_there shared old new at mark bytes entries) outcome answer, tt)))
-write_shows shared old new at mark bytes entries verb (Ok (steps.Waits did)) no_request is no_read answer = tt
-write_shows shared old new at mark bytes entries verb (Err memory) no_request is no_read answer = tt
+    let unit = old.place.unit in (
+      subst (λ b. MatchBool b (IsSentIf seen unit mark verb outcome) (RegionShows seen unit mark (written_by verb) (read_by verb) outcome)) (sym no_request)
+          (subst (λ (o : Option Placed). RegionShows seen unit mark o (read_by verb) outcome) (sym is)
+          (subst (λ (o : Option ℕ). RegionShows seen unit mark (Some (record { at = at; bytes = bytes })) o outcome) (sym no_read)
+          (if_done shared old new at bytes mark (AreWritten seen unit mark at bytes) (write_there shared old new at mark bytes entries) outcome answer, tt))),
+      no_further seen (further_of verb) outcome none,
+    )
+write_shows shared old new at mark bytes entries verb (Ok (steps.Waits did)) no_request is no_read none answer = tt
+write_shows shared old new at mark bytes entries verb (Err memory) no_request is no_read none answer = tt
 
 -- a line that reads bytes of the region
 front_of : (strokes : Option (List StrokeValue)) → IsSome strokes → IsFront strokes strokes
 front_of None some = absurd (cc (some))
 front_of (Some strokes) some = ([], sym (append-nil strokes))
 
-read_there : (new : PortState) (at : ℕ) (shown : List ℕ) (entries : Entry → Type 0) → Reads new at shown → AreRead (seen_there new entries) at shown
+pub read_there : (new : PortState) (at : ℕ) (shown : List ℕ) (entries : Entry → Type 0) → Reads new at shown → AreRead (seen_there new entries) at shown
 read_there new at shown entries is = record {
   fronts = new.strokes;
   there = λ page here. let within = touched at (length shown) page here in front_of (new.strokes page) (is.there page within.0 within.1);
@@ -482,23 +493,26 @@ if_bytes seen at new len old from outcomes.Done answer = tt
 if_bytes seen at new len old from (outcomes.Bytes shown) answer = from shown answer.read
 
 pub read_shows : (old new : PortState) (unit : UnitId) (at len mark : ℕ) (entries : Entry → Type 0) (verb : Verb) (result : Result Step NoMemory) → requests verb ≡ false
-    → written_by verb ≡ None → read_by verb ≡ Some at → IfOk result (AnswersRead old new at len) → StepShows (seen_there new entries) unit mark verb result
-read_shows old new unit at len mark entries verb (Ok (steps.Ends outcome)) no_request no_bytes is answer =
-    let seen : Seen = seen_there new entries in
-    subst (λ b. MatchBool b (IsSentIf seen unit mark verb outcome) (RegionShows seen unit mark (written_by verb) (read_by verb) outcome)) (sym no_request)
-    (subst (λ (o : Option Placed). RegionShows seen unit mark o (read_by verb) outcome) (sym no_bytes)
-    (subst (λ (o : Option ℕ). RegionShows seen unit mark None o outcome) (sym is)
-    (tt, if_bytes seen at new len old (λ shown. read_there new at shown entries) outcome answer)))
-read_shows old new unit at len mark entries verb (Ok (steps.Waits did)) no_request no_bytes is answer = tt
-read_shows old new unit at len mark entries verb (Err memory) no_request no_bytes is answer = tt
+    → written_by verb ≡ None → read_by verb ≡ Some at → further_of verb ≡ None → IfOk result (AnswersRead old new at len) → StepShows (seen_there new entries) unit mark verb result
+read_shows old new unit at len mark entries verb (Ok (steps.Ends outcome)) no_request no_bytes is none answer =
+    let seen : Seen = seen_there new entries in (
+      subst (λ b. MatchBool b (IsSentIf seen unit mark verb outcome) (RegionShows seen unit mark (written_by verb) (read_by verb) outcome)) (sym no_request)
+          (subst (λ (o : Option Placed). RegionShows seen unit mark o (read_by verb) outcome) (sym no_bytes)
+          (subst (λ (o : Option ℕ). RegionShows seen unit mark None o outcome) (sym is)
+          (tt, if_bytes seen at new len old (λ shown. read_there new at shown entries) outcome answer))),
+      no_further seen (further_of verb) outcome none,
+    )
+read_shows old new unit at len mark entries verb (Ok (steps.Waits did)) no_request no_bytes is none answer = tt
+read_shows old new unit at len mark entries verb (Err memory) no_request no_bytes is none answer = tt
 
 -- what a driver sees is there at its pair: an entry that was put in a registered queue was put in a session
-pub home_sees : (pair : Pair) (port : PortState) (end : EndState) → port.strokes ≡ strokes_at pair.window.pages → end.sent ≡ (side_of pair.link true).queue.sent
+pub home_sees : (pair : Pair) (port : PortState) (end : EndState) → port.strokes ≡ strokes_at pair.window.pages → port.values ≡ (known_of pair.window).values → end.sent ≡ (side_of pair.link true).queue.sent
     → end.counts.partner_session ≡ (side_of pair.link true).queue.session → end.place.partner_registered ≡ (side_of pair.link true).registered
     → Sees (seen_by false port end) (seen_at pair)
-home_sees pair port end strokes sent session registered = record {
+home_sees pair port end strokes values sent session registered = record {
   strokes = λ page stroke is. subst (λ (at : ℕ → Option (List StrokeValue)). IsOn stroke (at page)) strokes is;
   fronts = λ page front is. subst (λ (at : ℕ → Option (List StrokeValue)). IsFront front (at page)) strokes is;
+  values = λ entry value is. subst (λ (at : ℕ → List ℕ). Contains (at entry) value) values is;
   entries = λ entry is. record {
     row = record { session = end.counts.partner_session; entry = entry };
     there = subst (λ (rows : List PipeRow). Contains rows (record { session = end.counts.partner_session; entry = entry })) sent is.there;
@@ -549,12 +563,16 @@ grown_more strokes (Some old) None e grows = absurd grows
 grown_more strokes (Some old) (Some new) e grows =
     (grows.0, ap Some (grows.1 ∙ ap (λ (list : List StrokeValue). list ++ grows.0) (some_is old strokes e)))
 
+pub begins_has : (old new : List ℕ) (value : ℕ) → Begins old new → Contains old value → Contains new value
+begins_has old new value begins has = subst (λ (list : List ℕ). Contains list value) (sym begins.1) (Contains-append_left old begins.0 value has)
+
 -- what a client's part of a turn, and a turn of the server unit, leave of it
 pub drives_sees : (old new : Pair) → Drives old new → Sees (seen_at old) (seen_at new)
 drives_sees old new is = record {
   strokes = λ page stroke there. more_on old.window.unit stroke (strokes_at old.window.pages page) (strokes_at new.window.pages page) (is.laid page) there;
   fronts = λ page front there. front_more front (strokes_at old.window.pages page) (strokes_at new.window.pages page)
       (λ strokes e. laid_more old.window.unit strokes (strokes_at old.window.pages page) (strokes_at new.window.pages page) e (is.laid page)) there;
+  values = λ entry value there. begins_has ((known_of old.window).values entry) ((known_of new.window).values entry) value (is.grows.values entry) there;
   entries = λ entry put. more_put entry (side_of old.link true).queue.sent is.puts.rows (side_of new.link true).queue.sent is.puts.sent put;
 }
 
@@ -570,16 +588,18 @@ serve_sees old new grows sent = record {
   strokes = λ page stroke there. grown_on stroke (strokes_at old.window.pages page) (strokes_at new.window.pages page) (grows.strokes page) there;
   fronts = λ page front there. front_more front (strokes_at old.window.pages page) (strokes_at new.window.pages page)
       (λ strokes e. grown_more strokes (strokes_at old.window.pages page) (strokes_at new.window.pages page) e (grows.strokes page)) there;
+  values = λ entry value there. begins_has ((known_of old.window).values entry) ((known_of new.window).values entry) value (grows.values entry) there;
   entries = λ entry put. subst (IsPut entry) (sym sent) put;
 }
 
 pub sees_same : (seen : Seen) → Sees seen seen
-sees_same seen = record { strokes = λ page stroke is. is; fronts = λ page front is. is; entries = λ entry is. is }
+sees_same seen = record { strokes = λ page stroke is. is; fronts = λ page front is. is; values = λ entry value is. is; entries = λ entry is. is }
 
 pub sees_on : (a b c : Seen) → Sees a b → Sees b c → Sees a c
 sees_on a b c first next = record {
   strokes = λ page stroke is. next.strokes page stroke (first.strokes page stroke is);
   fronts = λ page front is. next.fronts page front (first.fronts page front is);
+  values = λ entry value is. next.values entry value (first.values entry value is);
   entries = λ entry is. next.entries entry (first.entries entry is);
 }
 
@@ -590,7 +610,7 @@ lines_more a b who unit lines rows more show i line row found at is = shown_more
 pub no_row : (row : LogRow) → None ≡ Some row → ⊥
 no_row row e = cc
 
-row_at : (rows : List LogRow) (last row : LogRow) (i : ℕ) → slice_get (rows ++ last ∷ []) i ≡ Some row → (slice_get rows i ≡ Some row) ⊎ ((i ≡ length rows) × (row ≡ last))
+pub row_at : (rows : List LogRow) (last row : LogRow) (i : ℕ) → slice_get (rows ++ last ∷ []) i ≡ Some row → (slice_get rows i ≡ Some row) ⊎ ((i ≡ length rows) × (row ≡ last))
 row_at [] last row zero e = inr (refl, some_is row last (sym e))
 row_at [] last row (suc i) e = absurd (no_row row e)
 row_at (first ∷ rows) last row zero e = inl e
@@ -679,7 +699,7 @@ stroke_shown size page stroke strokes shown grows on = at (nat_lt page size) gro
 end_sees : (pair : Pair) (lenders : List GName) (first : Bool) → first ≡ false → Sees (seen_by false (known_of pair.window) (end_of lenders pair.link first)) (seen_at pair)
 end_sees pair lenders first is =
     subst (λ b. Sees (seen_by false (known_of pair.window) (end_of lenders pair.link b)) (seen_at pair)) (sym is)
-    (home_sees pair (known_of pair.window) (end_of lenders pair.link false) refl refl refl refl)
+    (home_sees pair (known_of pair.window) (end_of lenders pair.link false) refl refl refl refl refl)
 
 pub pair_shows : (pair : Pair) (lenders : List GName) (first : Bool) (who : UnitId) (line : Line) (result : Result Step NoMemory) → first ≡ false → pair.window.unit ≡ who
     → StepShows (seen_by false (known_of pair.window) (end_of lenders pair.link first)) who line.number line.verb result → PairShows line pair result

@@ -107,6 +107,7 @@ script_stays old new script driven is = record {
   in_order = is.in_order;
   at = is.at;
   logs = is.logs;
+  called = is.called;
 }
 
 pub script_steps : (old new : List Pair) (script : Script) (progress : Progress) → AreDriven old new → IsScript old script
@@ -117,6 +118,7 @@ script_steps old new script progress driven is = record {
   in_order = is.in_order;
   at = is.at;
   logs = is.logs;
+  called = is.called;
 }
 
 -- the current line

@@ -167,6 +167,24 @@ freed_out verb a b (Ok (steps.Waits Quiet)) is h = λ reset queue. h (at queue)
 freed_out verb a b (Ok (steps.Ends outcome)) is h = tt
 freed_out verb a b (Err memory) is h = tt
 
+-- a reset that finds its queue free goes on as one that freed it
+as_freed : (pages : ℕ) (own : List Ended) (s : ClientState) (p : Progress) (r r' : Bool) → r' ≡ false → IsToldAt pages own (seated s p r) → IsToldAt pages own (seated s progress.Freed r')
+as_freed pages own s p r r' none told = record {
+  law = told.law;
+  below = told.below;
+  agrees = λ going. absurd (true_false true refl going);
+  queue = inr none;
+}
+
+freed_is : IsOf verbs.Reset progress.Freed
+freed_is = record { take = λ other. refl; reset = λ other. absurd (true_false true refl other) }
+
+pub begins_freed : (pages : ℕ) (s : ClientState) (p : Progress) (r r' : Bool) (b : Seated) (result : Result Step NoMemory) → r' ≡ false
+    → StepsTold pages verbs.Reset (seated s progress.Freed r') b result → StepsTold pages verbs.Reset (seated s p r) b result
+begins_freed pages s p r r' b (Ok (steps.Ends outcome)) none is = λ of own told. is freed_is own (as_freed pages own s p r r' none told)
+begins_freed pages s p r r' b (Ok (steps.Waits did)) none is = λ of. let next = is freed_is in (next.0, λ own told. next.1 own (as_freed pages own s p r r' none told))
+begins_freed pages s p r r' b (Err memory) none is = tt
+
 -- a line that is no reset
 pub other_out : (verb : Verb) (a b : Seated) (result : Result Step NoMemory) → is_reset verb ≡ false → StepsOut verb a b result
 other_out verb a b (Ok (steps.Waits Moves)) other = tt

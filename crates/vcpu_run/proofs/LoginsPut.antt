@@ -1,5 +1,5 @@
 -- The answers to requests to log in that a unit put: over its own turns, turns of others, before the first, and at rest.
-use Rattle.std.proofs.Common.{◌≡◌, ◌⊎◌, inl, inr, ◌∙◌, ◌++◌, ◌&&◌, ℕ, ◌≤◌, Bool, true, false, cond, All, List, [], ◌∷◌, Option, Some, None, filter, refl, sym, ap, subst, append-nil, arith}
+use Rattle.std.proofs.Common.{◌≡◌, ◌⊎◌, inl, inr, ◌∙◌, ◌++◌, ◌&&◌, ℕ, Bool, true, false, cond, All, List, [], ◌∷◌, Option, Some, None, filter, refl, sym, ap, subst, append-nil}
 use Rattle.std.specs.List.{filter_map}
 use Rattle.std.proofs.Math.Logic.{∥∥₁_elim}
 use Rattle.std.proofs.lemmas.List.{append_cancel_left}
@@ -9,21 +9,18 @@ use Rattle.vio_num.specs.Words.{Begins}
 use Rattle.vio_num.specs.declared.entry.Entry.{Entry}
 use Rattle.vio_num.specs.declared.history.Grant.{Grant}
 use Rattle.vio_num.specs.declared.history.Grant.TheVariants.{Granted, Lapsed}
-use Rattle.vio_num.specs.declared.history.Served.{Served}
 use Rattle.vio_num.specs.declared.names.UnitId.{UnitId}
 use Rattle.crq_session.specs.EndState.{EndState}
-use Rattle.block_server.specs.Books.{books_seen}
 use Rattle.block_server.specs.Causes.{Hearing, Includes}
 use Rattle.block_server.specs.Dealt.{AreDealt, AsksNoLogin, IsLoginAnswered}
 use Rattle.block_server.specs.Granting.{IsRejectedOver}
-use Rattle.block_server.specs.Judged.{AreKept, Books, Judged}
 use Rattle.block_server.specs.LoginAnswers.{IsLoginAnswer, IsLoginPut, LoginAnswer, LoginsMore, grants_in, is_grant, line_of}
 use Rattle.block_server.specs.Makers.{same_unit}
-use Rattle.block_server.specs.Numbers.{login_on}
+use Rattle.block_server.specs.Ready.{HasNothing}
 use Rattle.block_server.specs.Receipts.{LinesMore, is_ended, unit_of}
 use Rattle.block_server.specs.declared.unit.Unit.{Unit}
 use Rattle.block_server.proofs.DealtLaws.{dealt_at_rest}
-use Rattle.block_server.proofs.LoginPuts.{logins_none, logins_on}
+use Rattle.block_server.proofs.Laws.{logins_none, logins_on}
 use Rattle.vcpu_run.specs.LoginsSent.{AreLoginsAnswered, AreLoginsPut, lines_by}
 use Rattle.vcpu_run.proofs.RowCopies.{granted_more}
 use Rattle.vcpu_run.proofs.Sole.{same_refl}
@@ -75,7 +72,7 @@ either_order p q (line ∷ lines) = at (p line) refl (q line) refl (either_order
     at false e false e' same = same
 
 -- lines that grant a login, of a turn of the unit
-grants_own : (unit : UnitId) (lines lines' : List Grant) (more : List LoginAnswer) → LinesMore unit lines lines' → grants_in lines' ≡ grants_in lines ++ filter_map line_of more
+grants_own : {granted : ℕ} (unit : UnitId) (lines lines' : List Grant) (more : List LoginAnswer) → LinesMore unit granted lines lines' → grants_in lines' ≡ grants_in lines ++ filter_map line_of more
     → all_by unit (filter_map line_of more) ≡ true
 grants_own unit lines lines' more came granted = subst (λ (list : List Grant). all_by unit list ≡ true) same (own came.more came.of_unit)
   where
@@ -97,7 +94,7 @@ grants_own unit lines lines' more came granted = subst (λ (list : List Grant). 
     own (Lapsed of session login cause outstanding granted ∷ list) all = own list (All-tail (λ line. unit_of line ≡ unit) (Lapsed of session login cause outstanding granted) list all)
 
 -- the same where it is only known that there are such lines
-grants_all : (unit : UnitId) (lines lines' : List Grant) (more : List LoginAnswer) → ∥ LinesMore unit lines lines' ∥₁ → grants_in lines' ≡ grants_in lines ++ filter_map line_of more
+grants_all : {granted : ℕ} (unit : UnitId) (lines lines' : List Grant) (more : List LoginAnswer) → ∥ LinesMore unit granted lines lines' ∥₁ → grants_in lines' ≡ grants_in lines ++ filter_map line_of more
     → all_by unit (filter_map line_of more) ≡ true
 grants_all unit lines lines' more came granted = at (all_by unit (filter_map line_of more)) refl
   where
@@ -109,7 +106,7 @@ grants_all unit lines lines' more came granted = at (all_by unit (filter_map lin
     at false e = absurd (∥∥₁_elim came (λ a b. absurd a) (λ came. differ (all_by unit (filter_map line_of more)) e (grants_own unit lines lines' more came granted)))
 
 -- those of the unit's lines
-own_grants : (unit : UnitId) (lines lines' : List Grant) (more : List LoginAnswer) → ∥ LinesMore unit lines lines' ∥₁ → grants_in lines' ≡ grants_in lines ++ filter_map line_of more
+own_grants : {granted : ℕ} (unit : UnitId) (lines lines' : List Grant) (more : List LoginAnswer) → ∥ LinesMore unit granted lines lines' ∥₁ → grants_in lines' ≡ grants_in lines ++ filter_map line_of more
     → grants_in (lines_by unit lines') ≡ grants_in (lines_by unit lines) ++ filter_map line_of more
 own_grants unit lines lines' more came granted =
     either_order is_grant (is_by unit) lines'
@@ -121,14 +118,14 @@ own_grants unit lines lines' more came granted =
 -- OVER TURNS -------------------------------------------------------------------------------------
 
 -- Over a turn of the unit.
-pub logins_served : (Hears : Hearing) (unit : UnitId) (taken taken' : List PipeRow) (answers answers' : List Entry) (lines lines' : List Grant) → Begins taken taken' → ∥ LinesMore unit lines lines' ∥₁
+pub logins_served : {granted : ℕ} (Hears : Hearing) (unit : UnitId) (taken taken' : List PipeRow) (answers answers' : List Entry) (lines lines' : List Grant) → Begins taken taken' → ∥ LinesMore unit granted lines lines' ∥₁
     → LoginsMore Hears taken' answers answers' lines lines' → AreLoginsPut Hears unit taken answers lines → AreLoginsPut Hears unit taken' answers' lines'
 logins_served Hears unit taken taken' answers answers' lines lines' more came puts is =
     logins_on Hears taken taken' [] answers answers' [] (lines_by unit lines) (lines_by unit lines') more is
     (record { more = puts.more; put = puts.put; granted = own_grants unit lines lines' puts.more came puts.granted; each = puts.each })
 
 -- Over a turn of another unit.
-pub logins_elsewhere : (Hears : Hearing) (unit other : UnitId) (taken : List PipeRow) (answers : List Entry) (lines lines' : List Grant) → LinesMore other lines lines' → same_unit other unit ≡ false
+pub logins_elsewhere : {granted : ℕ} (Hears : Hearing) (unit other : UnitId) (taken : List PipeRow) (answers : List Entry) (lines lines' : List Grant) → LinesMore other granted lines lines' → same_unit other unit ≡ false
     → AreLoginsPut Hears unit taken answers lines → AreLoginsPut Hears unit taken answers lines'
 logins_elsewhere Hears unit other taken answers lines lines' came apart = subst (λ (list : List Grant). LoginsMore Hears taken [] answers [] list) (sym same)
   where
@@ -200,22 +197,9 @@ answered_more Hears More more session taken number entry (inr (inr is)) = inr (i
 
 -- AT REST ----------------------------------------------------------------------------------------
 
--- Where a login is on its session goes on.
-going_on : (books : Books) (judged : List Judged) → AreKept books judged → 1 ≤ login_on books.id books.session books.grants → books.ended ≡ false
-going_on books judged is on = at books.ended refl
-  where
-    some : 1 ≤ books.current
-    some = subst (λ (n : ℕ). 1 ≤ n) (sym is.numbers.on) on
-
-    at : (b : Bool) → books.ended ≡ b → b ≡ false
-    at false e = refl
-    at true e = let none : books.current ≡ 0 = (is.idle e).1 in absurd (omega (arith, some, none))
-
--- Where nothing waits and nothing is pending, each request to log in was answered.
-pub logins_at_rest : (Hears More : Hearing) → Includes Hears More → (u : Unit) (unit : UnitId) (queue : EndState) (history : List Served) (grants : List Grant) (judged : List Judged)
-    → AreKept (books_seen u unit queue history grants) judged → u.waiting ≡ None → u.pending.items ≡ []
-    → AreDealt Hears queue.last_session queue.taken u.waiting u.pending.items (is_ended u.line) → AreLoginsAnswered More unit queue.last_session queue.taken grants
-logins_at_rest Hears More more u unit queue history grants judged kept waits pending dealt on quiet number entry at =
+-- Where nothing waits and nothing is pending in a session that goes on, each request to log in was answered.
+pub logins_at_rest : (Hears More : Hearing) → Includes Hears More → (u : Unit) (queue : EndState) → HasNothing u
+    → AreDealt Hears queue.last_session queue.taken u.waiting u.pending.items (is_ended u.line) → AreLoginsAnswered More queue.last_session queue.taken
+logins_at_rest Hears More more u queue none dealt quiet number entry at =
     answered_more Hears More more queue.last_session queue.taken number entry
-    (dealt_at_rest Hears queue.last_session queue.taken u.waiting u.pending.items (is_ended u.line) dealt waits pending
-    (going_on (books_seen u unit queue history grants) judged kept on) quiet number entry at)
+    (dealt_at_rest Hears queue.last_session queue.taken u.waiting u.pending.items (is_ended u.line) dealt none.waiting none.pending none.going quiet number entry at)

@@ -1,8 +1,7 @@
--- A gathered trace shows the answers to requests to log in that each client's queue got, and that none of these was dropped where a
--- login is on.
+-- A gathered trace shows the answers to requests to log in that each client's queue got, and that none of these was dropped.
 use Rattle.std.proofs.Common.{◌≡◌, ◌∙◌, ℕ, ◌+◌, Bool, true, false, All, List, [], Option, Some, IfSome, filter, length, map, option_map, slice_get, zero, suc, refl, sym, ap, subst}
 use Rattle.std.specs.List.{flat_map}
-use Rattle.std.proofs.Math.Logic.{∥∥₁_map, ∥∥₁_map₂}
+use Rattle.std.proofs.Math.Logic.{∥∥₁_map}
 use Rattle.vio_num.specs.declared.entry.Entry.{Entry}
 use Rattle.vio_num.specs.declared.history.Grant.{Grant}
 use Rattle.vio_num.specs.declared.history.Served.{Served}
@@ -11,10 +10,8 @@ use Rattle.crq_ring.specs.Pipe.{PipeValue, IsLawfulPipe}
 use Rattle.crq_ring.specs.declared.rows.PipeRow.{PipeRow}
 use Rattle.crq_session.specs.PlainState.{end_of, side_of}
 use Rattle.rdma_copy.specs.declared.copy.CopyRecord.{CopyRecord}
-use Rattle.block_server.specs.Books.{books_seen}
 use Rattle.block_server.specs.Causes.{Hearing, Includes, Told, told_to}
-use Rattle.block_server.specs.Dealt.{AreDealt, HasDealt}
-use Rattle.block_server.specs.Judged.{AreKept, Judged}
+use Rattle.block_server.specs.Dealt.{AreDealt}
 use Rattle.block_server.specs.LoginAnswers.{is_login_answer, login_answers}
 use Rattle.block_server.specs.Ready.{HasNothing}
 use Rattle.block_server.specs.Receipts.{is_ended}
@@ -66,21 +63,20 @@ sessions_count unit pipe q (suc n) = ap suc (sessions_count unit pipe (q + 1) n)
 -- what is so of the answers to one unit's requests to log in
 pub record AreLoginsShown (partitions : List Partition) (trace : Trace) (server client : UnitId) : Type 0 where
   pub put : AreLoginsPut (shown_to partitions trace server client) server (entries_taken trace server) (logins_to trace client) trace.grants
-  pub dealt : AreLoginsAnswered (shown_to partitions trace server client) server (length (sessions_of trace server)) (entries_taken trace server) trace.grants
+  pub dealt : AreLoginsAnswered (shown_to partitions trace server client) (length (sessions_of trace server)) (entries_taken trace server)
 
 -- by what was told
-logins_by : (told : Told → Bool) (partitions : List Partition) (trace : Trace) (server client : UnitId) (servers : List Unit) (records : Records) (u : Unit) (pair : Pair) (judged : List Judged)
+logins_by : (told : Told → Bool) (partitions : List Partition) (trace : Trace) (server client : UnitId) (servers : List Unit) (records : Records) (u : Unit) (pair : Pair)
     → slice_get servers server.unit ≡ Some u → HasNothing u → pair.own.unit ≡ server
-    → AreKept (books_seen u pair.own.unit (end_of [] pair.link true) trace.serves trace.grants) judged → records.grants.items ≡ trace.grants
+    → records.grants.items ≡ trace.grants
     → (side_of pair.link true).queue.taken ≡ entries_taken trace server → (side_of pair.link true).queue.session ≡ length (sessions_of trace server)
     → login_answers (side_of pair.link false).queue.sent ≡ logins_to trace client → Includes (told_to told server) (shown_to partitions trace server client)
     → UnitGoesBy told servers records server.unit pair → AreLoginsShown partitions trace server client
-logins_by told partitions trace server client servers records u pair judged there none own kept lines taken sessions sent shows is = record {
+logins_by told partitions trace server client servers records u pair there none own lines taken sessions sent shows is = record {
   put = logins_more (told_to told server) Shown shows server (entries_taken trace server) (logins_to trace client) trace.grants
       (subst (λ (z : UnitId × List PipeRow × List Entry × List Grant). AreLoginsPut (told_to told z.0) z.0 z.1 z.2 z.3) (λ i. (own i, taken i, sent i, lines i)) is.logins);
-  dealt = subst (λ (z : UnitId × ℕ × List PipeRow). AreLoginsAnswered Shown z.0 z.1 z.2 trace.grants) (λ i. (own i, sessions i, taken i))
-      (logins_at_rest (told_to told pair.own.unit) Shown (subst (λ (unit : UnitId). Includes (told_to told unit) Shown) (sym own) shows) u pair.own.unit (end_of [] pair.link true)
-      trace.serves trace.grants judged kept none.waiting none.pending dealt);
+  dealt = subst (λ (z : ℕ × List PipeRow). AreLoginsAnswered Shown z.0 z.1) (λ i. (sessions i, taken i))
+      (logins_at_rest (told_to told pair.own.unit) Shown (subst (λ (unit : UnitId). Includes (told_to told unit) Shown) (sym own) shows) u (end_of [] pair.link true) none dealt);
 }
   where
     Shown : Hearing
@@ -115,11 +111,9 @@ logins_are_shown pairs scripts lan rows history grants copies partitions home ar
     let received = rests.received server.unit pair there.1 in
     let shown = shown_all pairs scripts lan rows history grants copies partitions home are windows plan in
     let sent = sent_shown pairs scripts lan rows history grants copies partitions are lawful plan server client drives pair there.1 (answered server.unit pair there.1).begun in
-    ∥∥₁_map₂ received.judged (rests.heard.each shown.told shown.all server.unit pair there.1)
-    (λ has is.
-    let kept : AreKept (books_seen u.0 pair.own.unit (end_of [] pair.link true) history grants) has.0 =
-    subst (λ (o : Option Unit). IfSome o (λ unit. AreKept (books_seen unit pair.own.unit (end_of [] pair.link true) history grants) has.0)) u.1 has.1.kept in
-    logins_by shown.told partitions trace server client rests.units rests.records u.0 pair has.0 u.1 u.2 own kept rests.lines_are
+    ∥∥₁_map (rests.heard.each shown.told shown.all server.unit pair there.1)
+    (λ is.
+    logins_by shown.told partitions trace server client rests.units rests.records u.0 pair u.1 u.2 own rests.lines_are
     (sym (ap (flat_map rows_taken) sessions ∙ all_taken server pipe laws received.begun))
     (sym (ap length sessions ∙ sessions_count server pipe 1 pipe.session))
     (sym (ap (filter is_login_answer) sent)) (shown.only server client serves drives) is)

@@ -118,7 +118,7 @@ runs_tags line [] a b runs = (same_of a.client b.client (ap (λ (t : Site). t.cl
 runs_tags line (step ∷ steps) a b runs = let before = runs_tags line steps a runs.0 runs.1 in let now = any_tags line step runs.0 b runs.2 in omega (arith, before, now)
 
 -- the registration is the first step
-split_runs : (line : ℕ) (answer : RegAnswer) (later : List LoginStep) (a c : Site) → Runs line (later ++ Registered answer ∷ []) a c
+pub split_runs : (line : ℕ) (answer : RegAnswer) (later : List LoginStep) (a c : Site) → Runs line (later ++ Registered answer ∷ []) a c
     → (b : Site) × Steps line (Registered answer) a b × Runs line later b c
 split_runs line answer [] a c runs = (c, subst (λ t. Steps line (Registered answer) t c) runs.1 runs.2, refl)
 split_runs line answer (step ∷ later) a c runs =
@@ -132,7 +132,7 @@ none_front (x ∷ xs) ys e = let both = first_of (changes x) (list_any changes (
     at true e later = absurd (cc)
     at false e later = later
 
-reached : (steps : List LoginStep) → 1 ≤ part_after 1 steps
+pub reached : (steps : List LoginStep) → 1 ≤ part_after 1 steps
 reached [] = omega arith
 reached (Registered answer ∷ steps) = omega arith
 reached (Took ∷ steps) = omega arith

@@ -1,5 +1,5 @@
 -- A pair before any turn.
-use Rattle.std.proofs.Common.{◌≡◌, ◌≢◌, ℕ, zero, suc, ◌+◌, ◌*◌, ◌≤◌, true, [], ◌∷◌, All, Option, Some, None, IfNone, IfSome, length, replicate, refl, sym, ◌∙◌, ap, subst, arith}
+use Rattle.std.proofs.Common.{◌≡◌, ◌≢◌, ℕ, zero, suc, ◌+◌, ◌*◌, ◌≤◌, true, false, [], ◌∷◌, All, Option, Some, None, IfNone, IfSome, length, replicate, refl, sym, ◌∙◌, ap, subst, arith}
 use Rattle.std.proofs.lemmas.List.{length-replicate}
 use Rattle.std.proofs.lemmas.List.Elements.{All-nil}
 use Rattle.vio_num.specs.declared.entry.Entry.{Entry}
@@ -20,6 +20,8 @@ use Rattle.page_slots.specs.Stroke.{StrokeValue}
 use Rattle.rdma_copy.specs.Copies.{side_of as side_at}
 use Rattle.vcpu_run.specs.Named.{HasNames, WritesNone, absent_unit}
 use Rattle.vcpu_run.specs.Pairs.{IsCopyOf, IsDriver, IsPair}
+use Rattle.vcpu_run.specs.TakenScripts.{IsUntaken}
+use Rattle.vcpu_run.specs.Takings.{waiting}
 
 -- a window of so many pages, before any call
 abbrev pub new_window : UnitId → ℕ → WindowValue
@@ -83,6 +85,18 @@ names_new pair server pages client own window = record {
   own = named_new server 34 pair.own own;
   client = named_new client pages pair.window window;
   foreign = All-nil (λ copy. copy.name.who ≢ pair.server → WritesNone pair copy);
+}
+
+-- a client that has sent nothing and has taken no answer
+pub untaken_new : (unit server : UnitId) (slots_a slots_b : ℕ) (link : PlainLink) (driver : Driver) → driver.answers.items ≡ [] → driver.client ≡ new_client unit server
+    → IsNewLink link slots_a slots_b → IsUntaken (side_of link false).queue.taken driver
+untaken_new unit server slots_a slots_b link driver answers client new = record {
+  answers = answers;
+  rows = ap (λ (s : ClientState). s.rows) client;
+  outgoing = ap (λ (s : ClientState). s.outgoing) client;
+  kept = ap (λ (s : ClientState). s.kept) client;
+  rest = ap waiting client;
+  none = new.second.queue.taken;
 }
 
 -- A server unit, with this client or none.

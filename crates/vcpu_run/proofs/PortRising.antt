@@ -21,8 +21,7 @@ use Rattle.lan_script.specs.Replayed.{IsFirst, Replays, SameBeside, SameReplays}
 use Rattle.lan_script.specs.Units.{LanValue}
 use Rattle.lan_script.specs.Values.{SameValues, SameValuesBeside, is_put}
 use Rattle.lan_script.specs.Windows.{facts_in}
-use Rattle.lan_script.proofs.Blocks.{self}
-use Rattle.lan_script.proofs.Placing.{one_unit}
+use Rattle.lan_script.proofs.Laws.{self, one_unit}
 use Rattle.vcpu_run.specs.Ports.{unit_of}
 use Rattle.vcpu_run.specs.PortSteps.{AllSilent, IsBeside, IsIdle, Rises, StepRises, TakesOn}
 use Rattle.vcpu_run.specs.PortReplays.{IsStill, StepReplays}

@@ -13,8 +13,7 @@ use Rattle.lan_script.specs.declared.windows.Place.{Place}
 use Rattle.lan_script.specs.PortCounts.{counts, counts_at, counts_in}
 use Rattle.lan_script.specs.Units.{LanValue}
 use Rattle.lan_script.specs.declared.seat.PortSeat.{PortSeat}
-use Rattle.lan_script.proofs.Keys.{port_head, port_tail}
-use Rattle.lan_script.proofs.Placing.{by_bool, window_head, window_tail}
+use Rattle.lan_script.proofs.Laws.{port_head, port_tail, by_bool, window_head, window_tail}
 use Rattle.vcpu_run.specs.PortSteps.{AreFresh}
 use Rattle.vcpu_run.specs.PortWords.{frame_told, frames_at}
 
@@ -33,12 +32,12 @@ none_counted (s ∷ seats) unit =
     (λ e. ap (λ o. counts_in unit o) (port_head unit (opened (plan_of s)) (map opened (map plan_of seats)) e))
     (λ e. ap (λ o. counts_in unit o) (port_tail unit (opened (plan_of s)) (map opened (map plan_of seats)) e) ∙ none_counted seats unit)
 
-none_replayed : (seats : List PortSeat) (unit : UnitId) → replay_of (port_of (map opened (map plan_of seats)) unit) 0 ≡ closed_replay
+none_replayed : (seats : List PortSeat) (unit : UnitId) → replay_of (port_of (map opened (map plan_of seats)) unit) [] ≡ closed_replay
 none_replayed [] unit = refl
 none_replayed (s ∷ seats) unit =
-    by_bool (same_unit s.unit unit) (replay_of (port_of (map opened (map plan_of (s ∷ seats))) unit) 0 ≡ closed_replay)
-    (λ e. ap (λ o. replay_of o 0) (port_head unit (opened (plan_of s)) (map opened (map plan_of seats)) e))
-    (λ e. ap (λ o. replay_of o 0) (port_tail unit (opened (plan_of s)) (map opened (map plan_of seats)) e) ∙ none_replayed seats unit)
+    by_bool (same_unit s.unit unit) (replay_of (port_of (map opened (map plan_of (s ∷ seats))) unit) [] ≡ closed_replay)
+    (λ e. ap (λ o. replay_of o []) (port_head unit (opened (plan_of s)) (map opened (map plan_of seats)) e))
+    (λ e. ap (λ o. replay_of o []) (port_tail unit (opened (plan_of s)) (map opened (map plan_of seats)) e) ∙ none_replayed seats unit)
 
 -- an entry into which nothing was put
 no_puts : (e : ℕ) → values_of [] e ≡ (4096 * e + 3) ∷ []
@@ -57,7 +56,7 @@ pub opened_fresh : (lan : LanValue) (seats : List PortSeat) → lan ≡ fresh_la
 opened_fresh lan seats e = subst AreFresh (sym e) (λ unit. (
   ap (λ (l : List FrameRow). map frame_told l) (none_sent seats unit),
   none_counted seats unit,
-  ap (λ (l : List FrameRow). replay_of (port_of (map opened (map plan_of seats)) unit) (length l)) (none_sent seats unit) ∙ none_replayed seats unit,
+  ap (λ (l : List FrameRow). replay_of (port_of (map opened (map plan_of seats)) unit) (map (λ (r : FrameRow). r.bytes) l)) (none_sent seats unit) ∙ none_replayed seats unit,
   λ k. none_put seats unit k (map window_of seats),
 ))
 

@@ -1,30 +1,35 @@
 -- What the lines of LAN units tell is what a gathered trace shows of their ports.
 use Rattle.std.proofs.Common.{◌≡◌, ◌∙◌, ℕ, ◌+◌, ◌==◌, ◌<◌, ◌≤◌, Bool, true, false, All, List, [], ◌∷◌, Option, Some, None, Result, Ok, Err, IfOk, IsSome, IsSomeAnd, filter, length, map, option_map, refl, slice_get, sym, ap, subst, arith}
 use Rattle.std.specs.List.{flat_map}
-use Rattle.std.proofs.lemmas.Option.{slice_get_past, slice_get-map}
+use Rattle.std.proofs.lemmas.Option.{slice_get_past, slice_get_within, slice_get-map}
 use Rattle.std.proofs.lemmas.Bool.Decides.{nat_tests}
 use Rattle.vio_num.specs.declared.history.Grant.{Grant}
 use Rattle.vio_num.specs.declared.history.Served.{Served}
 use Rattle.vio_num.specs.declared.memory.NoMemory.{NoMemory}
+use Rattle.vio_num.specs.declared.names.Mac.{Mac}
 use Rattle.vio_num.specs.declared.names.UnitId.{UnitId}
 use Rattle.rdma_copy.specs.declared.copy.CopyRecord.{CopyRecord}
 use Rattle.boot_text.specs.declared.plan.Line.{Line}
 use Rattle.boot_text.specs.declared.plan.Partition.{Partition}
-use Rattle.boot_text.specs.Sound.{unit_at, unit_in}
+use Rattle.boot_text.specs.SoFar.{has_server, is_server}
+use Rattle.boot_text.specs.Sound.{IsSoundPartition, unit_at, unit_in}
 use Rattle.boot_text.specs.declared.plan.UnitPlan.{UnitPlan}
 use Rattle.boot_text.specs.declared.plan.UnitPlan.TheVariants as units
 use Rattle.lan_script.specs.PortCounts.{PortCounts, counts, counts_at}
-use Rattle.lan_script.specs.PortReplay.{closed_replay}
-use Rattle.lan_script.specs.Replayed.{replay_at}
+use Rattle.lan_script.specs.PortReplay.{IsOn, PortReplay, closed_replay}
+use Rattle.lan_script.specs.Replayed.{bytes_sent, replay_at}
+use Rattle.lan_script.specs.Resting.{IsAllTaken}
 use Rattle.lan_script.specs.RowsOf.{CountsRows}
 use Rattle.lan_script.specs.Seats.{IsSizedSeat, seat_at}
 use Rattle.lan_script.specs.declared.seat.PortSeat.{PortSeat}
-use Rattle.lan_script.proofs.Placing.{by_bool}
+use Rattle.lan_script.proofs.Laws.{by_bool, on_open}
 use Rattle.lan_switch.specs.Switch.{same_unit}
 use Rattle.std.proofs.lemmas.List.Elements.{All-head, All-tail}
-use Rattle.lan_script.specs.Units.{LanValue}
+use Rattle.lan_script.specs.Units.{IsOpenAt, LanValue}
 use Rattle.lan_script.specs.declared.rows.LanRows.{LanRows}
+use Rattle.vio_trace.specs.declared.lan_rows.DeliverRow.{DeliverRow}
 use Rattle.vio_trace.specs.declared.lan_rows.FrameRow.{FrameRow}
+use Rattle.vio_trace.specs.declared.lan_rows.HarvestRow.{HarvestRow}
 use Rattle.vio_trace.specs.declared.rows.LogRow.{LogRow}
 use Rattle.vio_trace.specs.declared.rows.Trace.{Trace}
 use Rattle.vcpu_run.specs.declared.pair.Pair.{Pair}
@@ -38,6 +43,8 @@ use Rattle.vcpu_run.specs.Machines.{AreScripts, IsOfPlan, IsScriptFor, seat_of}
 use Rattle.vcpu_run.specs.Ports.{IsPortOf, ports_of, unit_of}
 use Rattle.vcpu_run.specs.PortReplays.{AreReplayed, IsPlainPort}
 use Rattle.vcpu_run.specs.PortWords.{HasNoCall, LinesTell, PortsAreReplayed, PortsAreTold, PortsTell, TellsPort, WordsAreTold, counts_now, counts_under, done_in, frame_told}
+use Rattle.vcpu_run.specs.PortsRest.{PortsEnd}
+use Rattle.vcpu_run.specs.Scripts.{are_servers}
 use Rattle.vcpu_run.specs.Settled.{script_of}
 use Rattle.vcpu_run.proofs.FramesCarried.{IsPlannedPort, port_planned}
 use Rattle.vcpu_run.proofs.Homes.{all_at, unit_found}
@@ -82,6 +89,19 @@ record IsScriptAt (scripts : List Script) (partitions : List Partition) (unit : 
   sits : slice_get script.seats.items unit.unit ≡ Some sits.Port
   named : unit_of script.partition unit.unit ≡ unit
   ended : counts_now unit.unit script ≡ counts 0 0
+  others : are_servers script.seats.items ≡ false
+
+-- units of which one is a port have no server unit first
+none_serves : (plans : List UnitPlan) (n : ℕ) (mac : Mac) (pages slots : ℕ) → (has_server plans ≡ true → All (λ unit. is_server unit ≡ true) plans)
+    → slice_get plans n ≡ Some (units.Lan mac pages slots) → are_servers (map seat_of plans) ≡ false
+none_serves [] n mac pages slots alone there = refl
+none_serves (units.Client server own queue ∷ plans) n mac pages slots alone there = refl
+none_serves (units.Lan m own s ∷ plans) n mac pages slots alone there = refl
+none_serves (units.Server queue ∷ plans) n mac pages slots alone there =
+    absurd (no_server (all_at (λ unit. is_server unit ≡ true) (units.Server queue ∷ plans) n (units.Lan mac pages slots) (alone refl) there))
+  where
+    no_server : is_server (units.Lan mac pages slots) ≡ true → ⊥
+    no_server e = cc (e)
 
 script_at : (pairs : List Pair) (scripts : List Script) (ports : List PortSeat) (partitions : List Partition) (unit : UnitId) → AreScripts pairs ports scripts
     → IsOfPlan partitions pairs scripts ports → All IsOver scripts → IsPortOf (ports_of partitions) unit
@@ -111,6 +131,16 @@ script_at pairs scripts ports partitions unit are of_plan over there = at (slice
         ∙ (slice_get-map seat_of it.0.units unit.unit
         ∙ ap (option_map seat_of) (subst (λ (x : Partition). slice_get x.units unit.unit ≡ Some plan) (some_same one.0 it.0 (sym one.1 ∙ it.1)) one.2))
 
+    -- its partition has no server unit
+    other_seats : (script : Script) → slice_get scripts p ≡ Some script → are_servers script.seats.items ≡ false
+    other_seats script e =
+        let one = unit_found (slice_get partitions p) unit.unit plan planned.planned in
+        let it = held (λ partition. IsScriptFor partition script) (slice_get partitions p) (of_plan.scripts_are.each p script e) in
+        ap are_servers it.2.seats
+        ∙ none_serves it.0.units unit.unit planned.mac planned.pages planned.slots
+        (all_at IsSoundPartition partitions p it.0 of_plan.sound.each it.1).alone
+        (subst (λ (x : Partition). slice_get x.units unit.unit ≡ Some plan) (some_same one.0 it.0 (sym one.1 ∙ it.1)) one.2)
+
     at : (slot : Option Script) → slice_get scripts p ≡ slot → IsScriptAt scripts partitions unit logs
     at None e =
         let gone : slice_get partitions p ≡ None = slice_get_past partitions p (omega (arith, none_past scripts p e, of_plan.scripts_are.count)) in
@@ -126,6 +156,7 @@ script_at pairs scripts ports partitions unit are of_plan over there = at (slice
               (rows_told pairs ports scripts p are) (partitions_apart p 0 scripts (partitions_are pairs ports scripts are));
           sits = sits_there script e;
           named = ap (λ n. unit_of n unit.unit) here;
+          others = other_seats script e;
           ended = ap (λ o. counts_under unit.unit (done_in script.progress) o) (none_left script.lines.now script.at (all_at IsOver scripts p script over e));
         }
 
@@ -161,16 +192,21 @@ seat_has P (s ∷ seats) unit seat all at =
     (λ e. seat_has P seats unit seat (All-tail P s seats all) (sym (seat_tail unit s seats e) ∙ at))
 
 replayed_are : (pairs : List Pair) (scripts : List Script) (lan : LanValue) (rows : LanRows) (history : List Served) (grants : List Grant) (copies : List CopyRecord)
-    (partitions : List Partition) → AreScripts pairs lan.seats scripts → IsOfPlan partitions pairs scripts lan.seats → All IsOver scripts → PortsTell lan scripts
-    → PortsAreReplayed partitions (trace_of pairs scripts lan rows history grants copies)
-replayed_are pairs scripts lan rows history grants copies partitions are of_plan over tells unit seat there plain = (
-  replay_at lan (unit_of at.script.partition unit.unit),
-  subst (λ ls. AreReplayed seat closed_replay (ended_by unit.unit ls logs) (replay_at lan (unit_of at.script.partition unit.unit))) (sym at.lines)
+    (partitions : List Partition) → AreScripts pairs lan.seats scripts → IsOfPlan partitions pairs scripts lan.seats → All IsOver scripts → PortsEnd lan scripts
+    → CountsRows lan rows → PortsAreReplayed partitions (trace_of pairs scripts lan rows history grants copies)
+replayed_are pairs scripts lan rows history grants copies partitions are of_plan over ends counted unit seat there plain = record {
+  left = replay_at lan (unit_of at.script.partition unit.unit);
+  replayed = subst (λ ls. AreReplayed seat closed_replay (ended_by unit.unit ls logs) (replay_at lan (unit_of at.script.partition unit.unit))) (sym at.lines)
       (subst (λ l. AreReplayed seat closed_replay (ended_by unit.unit at.script.lines.now l) (replay_at lan (unit_of at.script.partition unit.unit))) (sym at.only)
-      ((tells unit.partition at.script at.is).replay unit.unit (subst (IsPlainPort unit.unit) at.lines plain) at.sits seat seated
+      ((ends.told unit.partition at.script at.is).replay unit.unit (subst (IsPlainPort unit.unit) at.lines plain) at.sits seat seated
       (seat_has IsSizedSeat (ports_of partitions) unit seat (ports_sized partitions of_plan.sound) there)
-      (seat_has IsOwnSeat (ports_of partitions) unit seat (ports_own partitions of_plan.sound) there)).keeps.replayed),
-)
+      (seat_has IsOwnSeat (ports_of partitions) unit seat (ports_own partitions of_plan.sound) there)).keeps.replayed);
+  frames = ap (λ (l : List FrameRow). map (λ (r : FrameRow). r.bytes) l) (counted.frames unit) ∙ sym (ap (λ (id : UnitId). bytes_sent lan id) at.named);
+  harvested = λ on.
+      subst (λ (q : ℕ). length (filter (λ (row : HarvestRow). row.session == q) (filter (λ (row : HarvestRow). same_unit row.unit unit) rows.harvests.items))
+      ≡ length (filter (λ (row : DeliverRow). row.session == q) (filter (λ (row : DeliverRow). same_unit row.unit unit) rows.delivers.items)))
+      (sym (counted.sessions unit)) (counted.last unit (opened on) taken);
+}
   where
     logs : List LogRow
     logs = filter (λ (row : LogRow). row.partition == unit.partition) (flat_map logs_of scripts)
@@ -181,10 +217,20 @@ replayed_are pairs scripts lan rows history grants copies partitions are of_plan
     seated : seat_at lan.seats (unit_of at.script.partition unit.unit) ≡ Some seat
     seated = ap (λ u. seat_at lan.seats u) at.named ∙ (ap (λ ss. seat_at ss unit) of_plan.ports_are ∙ there)
 
+    named : replay_at lan (unit_of at.script.partition unit.unit) ≡ replay_at lan unit
+    named = ap (λ (id : UnitId). replay_at lan id) at.named
+
+    opened : IsOn (replay_at lan (unit_of at.script.partition unit.unit)) → IsOpenAt lan unit
+    opened on = on_open lan unit (subst (λ (r : PortReplay). IsOn r) named on)
+
+    taken : IsAllTaken lan unit
+    taken = subst (λ (id : UnitId). IsAllTaken lan id) at.named
+        (ends.taken unit.partition at.script (slice_get_within scripts unit.partition at.script at.is) at.is at.others unit.unit at.sits)
+
 pub told_are : (pairs : List Pair) (scripts : List Script) (lan : LanValue) (rows : LanRows) (history : List Served) (grants : List Grant) (copies : List CopyRecord)
-    (partitions : List Partition) → AreScripts pairs lan.seats scripts → IsOfPlan partitions pairs scripts lan.seats → All IsOver scripts → PortsTell lan scripts
+    (partitions : List Partition) → AreScripts pairs lan.seats scripts → IsOfPlan partitions pairs scripts lan.seats → All IsOver scripts → PortsEnd lan scripts
     → CountsRows lan rows → PortsAreTold partitions (trace_of pairs scripts lan rows history grants copies)
-told_are pairs scripts lan rows history grants copies partitions are of_plan over tells counted = record {
-  words = words_are pairs scripts lan rows history grants copies partitions are of_plan over tells counted;
-  replayed = replayed_are pairs scripts lan rows history grants copies partitions are of_plan over tells;
+told_are pairs scripts lan rows history grants copies partitions are of_plan over ends counted = record {
+  words = words_are pairs scripts lan rows history grants copies partitions are of_plan over ends.told counted;
+  replayed = replayed_are pairs scripts lan rows history grants copies partitions are of_plan over ends counted;
 }

@@ -135,8 +135,8 @@ received_served units units' unit old new queue queue' copies copies' grants gra
 }
 
 -- A turn of another server unit.
-pub received_elsewhere : (units units' : List Unit) (k : ℕ) (unit : UnitId) (other : Pair) (own client : PortState) (copies copies' : List CopyRecord) (grants grants' : List Grant) (history history' : List Served)
-    → unit ≢ other.own.unit → slice_get units' k ≡ slice_get units k → own.place.unit ≡ unit → CopiesMore own client copies copies' → ∥ LinesMore unit grants grants' ∥₁ → ∥ OnlyRowsOf unit history history' ∥₁
+pub received_elsewhere : {granted : ℕ} (units units' : List Unit) (k : ℕ) (unit : UnitId) (other : Pair) (own client : PortState) (copies copies' : List CopyRecord) (grants grants' : List Grant) (history history' : List Served)
+    → unit ≢ other.own.unit → slice_get units' k ≡ slice_get units k → own.place.unit ≡ unit → CopiesMore own client copies copies' → ∥ LinesMore unit granted grants grants' ∥₁ → ∥ OnlyRowsOf unit history history' ∥₁
     → IsReceived units copies grants history k other → IsReceived units' copies' grants' history' k other
 received_elsewhere units units' k unit other own client copies copies' grants grants' history history' apart same own_is more lines rows is = record {
   judged = ∥∥₁_elim rows ∥∥₁_prop

@@ -16,6 +16,7 @@ use Rattle.vio_trace.specs.declared.rows.LogRow.{LogRow}
 use Rattle.vcpu_run.specs.declared.driver.Driver.{Driver}
 use Rattle.vcpu_run.specs.declared.pair.Pair.{Pair}
 use Rattle.vcpu_run.specs.declared.script.Script.{Script}
+use Rattle.vcpu_run.specs.AnswersTaken.{AreAnswersTaken}
 use Rattle.vcpu_run.specs.Credited.{ended_by}
 use Rattle.vcpu_run.specs.Gathered.{HasLawfulQueue, HasLawfulWindow, logs_of, queue_at, rows_if, sessions_at, trace_of, window_at}
 use Rattle.vcpu_run.specs.Machines.{AreScripts, HasNoClient, IsOfPlan, IsPlanned, IsPlannedClient}
@@ -25,7 +26,8 @@ use Rattle.vcpu_run.specs.Refusals.{HasCausesTold, RefusalsAreTold, seen_in}
 use Rattle.vcpu_run.specs.Scripts.{are_servers}
 use Rattle.vcpu_run.specs.ScriptTold.{AreTold, IsScriptTold}
 use Rattle.vcpu_run.specs.Settled.{script_of}
-use Rattle.vcpu_run.specs.Shown.{pages_at, pages_if, sessions_of, stroke_value, strokes_on, window_shown}
+use Rattle.vcpu_run.specs.Shown.{pages_at, pages_if, sessions_of, stroke_value, strokes_on, window_shown, values_shown}
+use Rattle.vcpu_run.proofs.AnswersFound.{client_takes}
 use Rattle.vcpu_run.proofs.Listed.{held}
 use Rattle.vcpu_run.proofs.Parts.{IsIn, each_in, found, in_slice}
 use Rattle.vcpu_run.proofs.Placing.{partitions_are, seats_ordered}
@@ -47,7 +49,7 @@ use Rattle.vcpu_run.specs.Sessions.{session_rows}
 use Rattle.vcpu_run.specs.Units.{seats_of, unit_seat}
 use Rattle.vcpu_run.proofs.Copied.{names_apart, windows_shown}
 use Rattle.vcpu_run.proofs.Following.{each_from_all}
-use Rattle.vcpu_run.proofs.LinesShown.{front_shown, lines_more, put_shown, stroke_shown}
+use Rattle.vcpu_run.proofs.LinesShown.{begins_has, front_shown, lines_more, put_shown, stroke_shown}
 use Rattle.vcpu_run.proofs.QueueLaws.{sessions_told}
 use Rattle.vcpu_run.proofs.Seated.{planned_in}
 use Rattle.vcpu_run.proofs.Sole.{same_refl}
@@ -105,6 +107,7 @@ trace_sees partitions pairs scripts lan rows history grants copies client server
           stroke_shown (pages_at partitions client) page stroke (strokes_at pair.window.pages page) (map stroke_value (strokes_on trace client page)) (grows.strokes page) on;
       fronts = λ page front is.
           front_shown (pages_at partitions client) page front (strokes_at pair.window.pages page) (map stroke_value (strokes_on trace client page)) (grows.strokes page) is;
+      values = λ entry value is. begins_has ((known_of pair.window).values entry) (values_shown trace client entry) value (grows.values entry) is;
       entries = λ entry put. subst (λ (sessions : List QueueRow). Contains (flat_map (λ row. row.sent) sessions) entry) (sym sessions) (put_shown server pipe entry laws.sent put);
     }
 
@@ -135,10 +138,15 @@ refusals_are pairs scripts lan lan_rows history grants copies partitions home ar
     subst (λ (unit : UnitId). LinesShow (seen_in trace client server) unit client.unit script.lines.now script.logs.items) who
     (lines_more (seen_at pair.0) (seen_in trace client server) pair.0.window.unit client.unit script.lines.now script.logs.items sees
     (script_is.shown client.unit server.unit pair.0 at.2 pair.1)) in
+    let takes : AreAnswersTaken trace client (ended_by client.unit script.lines.now script.logs.items) =
+    client_takes partitions pairs scripts lan lan_rows history grants copies client server (ended_by client.unit script.lines.now script.logs.items) pair.0
+    (λ driver. driver.unit ≡ unit_of script.partition client.unit) are lawful of_plan is pair.1 pair.2 (script_is.taken.kept client.unit server.unit pair.0 at.2 pair.1) in
     record {
       causes = subst (λ n. HasCausesTold n (ended_by client.unit (script_of partitions p) (filter (λ (row : LogRow). row.partition == p) (flat_map logs_of scripts)))) (sym pages)
           (subst (λ (ls : List Line). HasCausesTold (length pair.0.window.pages) (ended_by client.unit ls (filter (λ (row : LogRow). row.partition == p) (flat_map logs_of scripts)))) (sym lines)
           (subst (λ (rows : List LogRow). HasCausesTold (length pair.0.window.pages) (ended_by client.unit script.lines.now rows)) (sym (own_records pairs scripts lan p script are at.1)) law));
       shown = subst (λ (ls : List Line). LinesShow (seen_in trace client server) client client.unit ls (filter (λ (row : LogRow). row.partition == p) (flat_map logs_of scripts))) (sym lines)
           (subst (λ (rows : List LogRow). LinesShow (seen_in trace client server) client client.unit script.lines.now rows) (sym (own_records pairs scripts lan p script are at.1)) show);
+      takes = subst (λ (ls : List Line). AreAnswersTaken trace client (ended_by client.unit ls (filter (λ (row : LogRow). row.partition == p) (flat_map logs_of scripts)))) (sym lines)
+          (subst (λ (rows : List LogRow). AreAnswersTaken trace client (ended_by client.unit script.lines.now rows)) (sym (own_records pairs scripts lan p script are at.1)) takes);
     }

@@ -14,6 +14,7 @@ use Rattle.vcpu_run.specs.Making.{AreMade, IsMade}
 use Rattle.vcpu_run.specs.PortWords.{HasNoCall}
 use Rattle.vcpu_run.specs.Scripts.{OnlyRuns, are_servers}
 use Rattle.vcpu_run.specs.ScriptTold.{AreOutIf, AreOutTo, AreTold, IsResetOut, IsScriptTold, MakesNoCall, SameClient, SameClients}
+use Rattle.vcpu_run.specs.TakenScripts.{AreUntaken}
 use Rattle.vcpu_run.proofs.Driving.{same_or, some_is}
 use Rattle.vcpu_run.proofs.Elsewhere.{all_out}
 use Rattle.vcpu_run.proofs.Listed.{each_set, held}
@@ -21,7 +22,7 @@ use Rattle.vcpu_run.proofs.Scripted.{seats_apart}
 use Rattle.vcpu_run.proofs.ScriptsTold.{clients_told}
 
 -- the pairs of a script's clients are as before
-abbrev SameSeats : List Pair → List Pair → Script → Type 0
+abbrev pub SameSeats : List Pair → List Pair → Script → Type 0
 SameSeats old new script = (unit k : ℕ) → slice_get script.seats.items unit ≡ Some (places.Client k) → slice_get new k ≡ slice_get old k
 
 told_else : (old new : List Pair) (script : Script) → SameSeats old new script → IsScriptTold old script → IsScriptTold new script
@@ -30,13 +31,18 @@ told_else old new script same is = record {
   fresh = is.fresh;
   told = λ line next ok unit k pair at now. is.told line next ok unit k pair at (sym (same unit k at) ∙ now);
   shown = λ unit k pair at now. is.shown unit k pair at (sym (same unit k at) ∙ now);
+  taken = record {
+    kept = λ unit k pair at now. is.taken.kept unit k pair at (sym (same unit k at) ∙ now);
+    up_to = is.taken.up_to;
+    agrees = λ line next ok unit k pair at now. is.taken.agrees line next ok unit k pair at (sym (same unit k at) ∙ now);
+  };
 }
 
 out_else : (old new : List Pair) (script : Script) → SameSeats old new script → IsResetOut old script → IsResetOut new script
 out_else old new script same out line k pair found reset at now = out line k pair found reset at (sym (same line.unit k at) ∙ now)
 
 -- a turn of one script leaves the clients of another
-others_same : (old new : List Pair) (ports : List PortSeat) (scripts : List Script) (i j : ℕ) (script other : Script) → slice_get scripts i ≡ Some script
+pub others_same : (old new : List Pair) (ports : List PortSeat) (scripts : List Script) (i j : ℕ) (script other : Script) → slice_get scripts i ≡ Some script
     → slice_get scripts j ≡ Some other → j ≢ i → AreScripts old ports scripts → SameElse script.seats.items old new → SameSeats old new other
 others_same old new ports scripts i j script other found there apart are others unit k at =
     others k (λ v too. apart (seats_apart old ports scripts are j i unit v k other script there found at too).0)
@@ -113,6 +119,6 @@ out_next pairs scripts now n rest out j script is found without =
     out j script (slice_get_within scripts j script there) there without
 
 -- before the first turn
-pub told_made : (partitions : List Partition) (pairs : List Pair) (scripts : List Script) → AreMade partitions scripts → AreAllOut pairs → AreTold pairs scripts
-told_made partitions pairs scripts made out i script found without =
-    (held (λ partition. IsMade partition i script) (slice_get partitions i) (made.each i script found)).2.said pairs (λ unit k sits. all_out (slice_get pairs k) (out k))
+pub told_made : (partitions : List Partition) (pairs : List Pair) (scripts : List Script) → AreMade partitions scripts → AreAllOut pairs → AreUntaken pairs → AreTold pairs scripts
+told_made partitions pairs scripts made out untaken i script found without =
+    (held (λ partition. IsMade partition i script) (slice_get partitions i) (made.each i script found)).2.said pairs (λ unit k sits. all_out (slice_get pairs k) (out k)) untaken

@@ -29,6 +29,7 @@ script_stays old new script stay is = record {
   in_order = is.in_order;
   at = is.at;
   logs = is.logs;
+  called = is.called;
 }
 
 numbered_stays : (old new : List Pair) (ports : List PortSeat) (i : ℕ) (script : Script) → AllStay old new → IsNumbered old ports i script → IsNumbered new ports i script

@@ -25,51 +25,33 @@ use Rattle.vcpu_run.specs.declared.unit_seat.Seat.{Seat}
 use Rattle.vcpu_run.specs.declared.unit_seat.Seat.TheVariants as places
 use Rattle.vcpu_run.specs.Agreed.{AreLoggedOut, IsLoggedOut, OnDrivers, driver_in}
 use Rattle.vcpu_run.specs.Freeing.{is_reset}
-use Rattle.vcpu_run.specs.Credited.{Ended, ended_by, taken_in}
-use Rattle.vcpu_run.specs.LinesShow.{IsShown, LinesShow, Seen, read_by, requests, seen_at, written_by}
+use Rattle.vcpu_run.specs.Credited.{Ended, ended_by, is_take, taken_in}
+use Rattle.vcpu_run.specs.LinesShow.{IsShown, LinesShow, Seen, read_by, requests, seen_at, written_by, further_of}
 use Rattle.vcpu_run.specs.Pairs.{AreDriven, Drives}
 use Rattle.vcpu_run.specs.Refusals.{HasCausesTold, tag_of, tags_told}
 use Rattle.vcpu_run.specs.Replay.{asks}
 use Rattle.vcpu_run.specs.Scripts.{AreSeats}
 use Rattle.vcpu_run.specs.ScriptTold.{AtSeats, IsResetOut, IsScriptTold, SameClient, SameClients, PairIsTold, PairShown, own_of, progress_at, progress_by}
 use Rattle.vcpu_run.specs.Suited.{suits}
+use Rattle.vcpu_run.specs.TakenScripts.{AllGive, AreUntaken, PairTakes}
+use Rattle.vcpu_run.specs.Takings.{StepsTaken}
 use Rattle.vcpu_run.specs.Telling.{IsOf, IsTold, LineOut, LineTold, PairTold, SeatTold, Seated, StepsOut, StepsTold, login_after, seated}
 use Rattle.vcpu_run.specs.Works.{fails}
 use Rattle.vcpu_run.proofs.Crediting.{ended_more, here_or, one_seat}
+use Rattle.vcpu_run.proofs.AnswersCounted.{is_data, plain_taken}
 use Rattle.vcpu_run.proofs.Askings.{plain_ends}
 use Rattle.vcpu_run.proofs.Driving.{client_is, driven_same, no_port, some_is}
+use Rattle.vcpu_run.proofs.GivesAll.{all_give_same}
+use Rattle.vcpu_run.proofs.FurtherKept.{no_further, unanswered}
 use Rattle.vcpu_run.proofs.LinesShown.{drives_sees, fail_shows, lines_more, lines_next, no_row, shows_none}
 use Rattle.vcpu_run.proofs.LoginsTold.{true_false}
 use Rattle.vcpu_run.proofs.Sayings.{is_logout, is_own, says_nothing}
+use Rattle.vcpu_run.proofs.ScriptsTaken.{clients_taken, ends_taken, fail_ends_taken, fail_waits_taken, new_taken, over_taken, port_ends_taken, port_waits_taken, waits_taken}
+use Rattle.vcpu_run.proofs.SeatPairs.{after_of, apart_seats, before_of, else_by, fresh_at, here_by, not_port, same_pair}
 use Rattle.vcpu_run.proofs.Sole.{pairs_from_ordered}
 use Rattle.vcpu_run.proofs.TakesTold.{takes_none, took_told}
+use Rattle.vcpu_run.proofs.TakingTurns.{took_taken}
 use Rattle.vcpu_run.proofs.Tellings.{ended, ends_told, said_more, same_told, tags_more}
-
--- a pair with a driver, behind the turn of its client's partition
-pub record Before (old : List Pair) (k : ℕ) (after : Pair) : Type 0 where
-  pub pair : Pair
-  pub there : slice_get old k ≡ Some pair
-  pub drives : Drives pair after
-  pub pages : length after.window.pages ≡ length pair.window.pages
-  pub has : IsSomeAnd pair.driver (λ d. Unit {0})
-
-before_of : (partition unit k : ℕ) (seats : List Seat) (old new : List Pair) (after : Pair) → AreSeats partition seats old → AreDriven old new
-    → slice_get seats unit ≡ Some (places.Client k) → slice_get new k ≡ Some after → Before old k after
-before_of partition unit k seats old new after are driven sits there = at (slice_get old k) refl (are unit k sits)
-  where
-    some : (o : Option Driver) → IsSomeAnd o (λ d. d.unit ≡ record { partition = partition; unit = unit }) → IsSomeAnd o (λ d. Unit {0})
-    some None h = absurd h
-    some (Some d) h = tt
-
-    drives : (o : Option Pair) (pair : Pair) → o ≡ Some after → IsSomeAnd o (Drives pair) → Drives pair after
-    drives None pair is h = absurd h
-    drives (Some x) pair is h = subst (Drives pair) (some_is x after is) h
-
-    at : (o : Option Pair) → slice_get old k ≡ o → IsSomeAnd o (λ pair. IsSomeAnd pair.driver (λ d. d.unit ≡ record { partition = partition; unit = unit })) → Before old k after
-    at None e h = absurd h
-    at (Some pair) e h =
-        let is = drives (slice_get new k) pair there (driven.each k pair e) in
-        record { pair = pair; there = e; drives = is; pages = is.pages; has = some pair.driver h }
 
 -- what the lines that ended did is there still
 pub still_shown : (old new : List Pair) (script : Script) → AreSeats script.partition script.seats.items old → AreDriven old new
@@ -90,22 +72,6 @@ ended_shown new script done line row found many lines seats logs is last unit k 
     (subst (λ (rows : List LogRow). LinesShow (seen_at after) after.window.unit unit script.lines.now rows) (sym logs)
     (lines_next (seen_at after) after.window.unit unit script.lines.now script.logs.items line row (ap (slice_get script.lines.now) many ∙ found)
     (is unit k after here now) (last unit k after here now)))
-
--- two units have two pairs
-apart_seats : (partition unit other k seat : ℕ) (seats : List Seat) (pairs : List Pair) → AreSeats partition seats pairs → slice_get seats other ≡ Some (places.Client seat)
-    → slice_get seats unit ≡ Some (places.Client k) → (other == unit) ≡ false → k ≢ seat
-apart_seats partition unit other k seat seats pairs are sits at differ is =
-    both (other == unit) differ (ap (λ n. n == unit) (one_seat partition other unit k seats pairs are (sits ∙ ap (λ n. Some (places.Client n)) (sym is)) at) ∙ itself unit)
-  where
-    itself : (n : ℕ) → (n == n) ≡ true
-    itself n = eq-eqb n n refl
-
-    both : (t : Bool) → t ≡ false → t ≡ true → ⊥
-    both t x y = cc
-
--- a pair that is as it was
-same_pair : (old new : List Pair) (k : ℕ) (after pair : Pair) → slice_get new k ≡ slice_get old k → slice_get new k ≡ Some after → slice_get old k ≡ Some pair → after ≡ pair
-same_pair old new k after pair same there here = some_is after pair (sym there ∙ (same ∙ here))
 
 -- a step of the pair's own line that waits
 waits_pair : (verb : Verb) (p p' : Progress) (own : List Ended) (before after : Pair) (did : Moved) → IsSomeAnd before.driver (λ d. Unit {0}) → length after.window.pages ≡ length before.window.pages
@@ -157,21 +123,6 @@ ends_pair verb p p' own e before after is has pages of step told = at before.dri
         (subst (λ (x : Ended). IsTold (length before.window.pages) (own ++ x ∷ []) progress.Fresh r' b.client) e_is (step of own told)) in
         (kept.law, kept)
 
--- what a line's progress is to a unit
-here_by : (unit : ℕ) (p : Progress) (line : Line) (o : Option Line) → o ≡ Some line → (line.unit == unit) ≡ true → progress_at unit p o ≡ p
-here_by unit p line o found is = ap (progress_at unit p) found ∙ ap (λ b. cond b p progress.Fresh) is
-
-else_by : (unit : ℕ) (p : Progress) (line : Line) (o : Option Line) → o ≡ Some line → (line.unit == unit) ≡ false → progress_at unit p o ≡ progress.Fresh
-else_by unit p line o found is = ap (progress_at unit p) found ∙ ap (λ b. cond b p progress.Fresh) is
-
-fresh_at : (unit : ℕ) (o : Option Line) → progress_at unit progress.Fresh o ≡ progress.Fresh
-fresh_at unit None = refl
-fresh_at unit (Some line) = at (line.unit == unit)
-  where
-    at : (b : Bool) → cond b progress.Fresh progress.Fresh ≡ progress.Fresh
-    at true = refl
-    at false = refl
-
 current_of : (script : Script) (line : Line) → slice_get script.lines.now script.at ≡ Some line
     → IfSome (slice_get script.lines.now script.at) (λ l. (k : ℕ) → slice_get script.seats.items l.unit ≡ Some (places.Client k) → IsOf l.verb script.progress)
     → (k : ℕ) → slice_get script.seats.items line.unit ≡ Some (places.Client k) → IsOf line.verb script.progress
@@ -189,6 +140,7 @@ client_waits old new script p' line seat here did found one sits there are drive
   fresh = subst (λ (o : Option Line). IfSome o (λ l. (k : ℕ) → slice_get script.seats.items l.unit ≡ Some (places.Client k) → IsOf l.verb p')) (sym found) (λ k at. (own line.unit here sits there (eq-eqb line.unit line.unit refl)).0);
   told = λ l next ok unit k after at now. by unit k after at now (here_or line.unit unit);
   shown = still_shown old new script are driven is.shown;
+  taken = waits_taken old new script p' line seat here did found one sits there are driven step is.taken;
 }
   where
     of : IsOf line.verb script.progress
@@ -230,6 +182,7 @@ client_ends old new script done line row seat p' found one sits are driven many 
   shown = ended_shown new script done line row found many lines seats logs (still_shown old new script are driven is.shown)
       (λ unit k after at now same.
       step.shows after (ap (slice_get new) (client_is seat k (sym sits ∙ (ap (slice_get script.seats.items) same ∙ at))) ∙ now));
+  taken = ends_taken old new script done line row seat p' found one sits are driven many step lines seats logs fresh is.taken;
 }
   where
     of : IsOf line.verb script.progress
@@ -270,29 +223,6 @@ client_ends old new script done line row seat p' found one sits are driven many 
           subst (PairIsTold (own_of unit script) progress.Fresh) (sym (same_pair old new k after b.pair (step.beside k apart) now b.there)) told,
         )
 
--- the pair of a seat behind a turn
-after_of : (partition unit k : ℕ) (seats : List Seat) (old new : List Pair) → AreSeats partition seats old → AreDriven old new → slice_get seats unit ≡ Some (places.Client k)
-    → (after : Pair) × (slice_get new k ≡ Some after)
-after_of partition unit k seats old new are driven sits = at (slice_get old k) refl (are unit k sits)
-  where
-    some : (o : Option Pair) (pair : Pair) → slice_get new k ≡ o → IsSomeAnd o (Drives pair) → (after : Pair) × (slice_get new k ≡ Some after)
-    some None pair e h = absurd h
-    some (Some after) pair e h = (after, e)
-
-    at : (o : Option Pair) → slice_get old k ≡ o → IsSomeAnd o (λ pair. IsSomeAnd pair.driver (λ d. d.unit ≡ record { partition = partition; unit = unit }))
-        → (after : Pair) × (slice_get new k ≡ Some after)
-    at None e h = absurd h
-    at (Some pair) e h = some (slice_get new k) pair refl (driven.each k pair e)
-
--- a client's unit is none at which a port sits
-not_port : (script : Script) (line : Line) (unit k : ℕ) → slice_get script.seats.items line.unit ≡ Some places.Port → slice_get script.seats.items unit ≡ Some (places.Client k)
-    → (line.unit == unit) ≡ false
-not_port script line unit k sits at = by (here_or line.unit unit)
-  where
-    by : ((line.unit == unit) ≡ true) ⊎ ((line.unit == unit) ≡ false) → (line.unit == unit) ≡ false
-    by (inl e) = absurd (no_port k (sym at ∙ (ap (λ n. slice_get script.seats.items n) (sym (eqb-true line.unit unit e)) ∙ sits)))
-    by (inr e) = e
-
 -- the current line is a port's
 pub port_waits_told : (pairs : List Pair) (script : Script) (p' : Progress) (line : Line) → slice_get script.lines.now script.at ≡ Some line → fails line.verb ≡ false
     → slice_get script.seats.items line.unit ≡ Some places.Port → IsScriptTold pairs script → IsScriptTold pairs (record script { progress = p' })
@@ -304,6 +234,7 @@ port_waits_told pairs script p' line found one sits is = record {
       subst (λ (q : Progress). PairIsTold (own_of unit script) q pair) (else_by unit script.progress line (slice_get script.lines.now script.at) found other
       ∙ sym (else_by unit p' line (slice_get script.lines.now script.at) found other)) (is.told line found one unit k pair at now);
   shown = is.shown;
+  taken = port_waits_taken pairs script p' line found one sits is.taken;
 }
 
 pub port_ends_told : (pairs : List Pair) (script done : Script) (line : Line) (row : LogRow) → slice_get script.lines.now script.at ≡ Some line → fails line.verb ≡ false
@@ -321,6 +252,7 @@ port_ends_told pairs script done line row found one sits many lines seats logs f
       (is.told line found one unit k pair here now)));
   shown = ended_shown pairs script done line row found many lines seats logs is.shown
       (λ unit k after at now same. absurd (no_port k (sym at ∙ (ap (slice_get script.seats.items) (sym same) ∙ sits))));
+  taken = port_ends_taken pairs script done line row found one sits many lines seats logs fresh is.taken;
 }
   where
     e : Ended
@@ -367,8 +299,9 @@ line_ends_told old new script done line row p' found one suited are driven many 
         subst (λ pairs. IsScriptTold pairs done) (sym (step.port e)) (port_ends_told old script done line row found one e many lines seats logs fresh is)
 
 -- before the first line
-pub new_told : (pairs : List Pair) (script : Script) → script.logs.items ≡ [] → script.progress ≡ progress.Fresh → AreLoggedOut script.seats.items pairs → IsScriptTold pairs script
-new_told pairs script logs fresh out = record {
+pub new_told : (pairs : List Pair) (script : Script) → script.logs.items ≡ [] → script.progress ≡ progress.Fresh → AreLoggedOut script.seats.items pairs → AreUntaken pairs
+    → IsScriptTold pairs script
+new_told pairs script logs fresh out untaken = record {
   law = λ unit k pair at now. subst (HasCausesTold (length pair.window.pages)) (sym (none unit)) (nothing (length pair.window.pages));
   fresh = first (slice_get script.lines.now script.at);
   told = λ l next ok unit k pair at now. subst (λ (own : List Ended). PairIsTold own (progress_by unit script) pair) (sym (none unit))
@@ -376,6 +309,7 @@ new_told pairs script logs fresh out = record {
       (begun pair (subst (λ (o : Option Pair). IfSome (driver_in o) (λ d. d.client.granted ≡ None)) now (out unit k at))));
   shown = λ unit k pair at now. subst (λ (rows : List LogRow). LinesShow (seen_at pair) pair.window.unit unit script.lines.now rows) (sym logs)
       (λ i line row found there same. absurd (no_row row there));
+  taken = new_taken pairs script logs fresh untaken;
 }
   where
     empty : (unit : ℕ) (lines : List Line) → ended_by unit lines [] ≡ []
@@ -448,10 +382,36 @@ waiting_pair p verb outcome pair ends out = at pair.driver out
     at None out = tt
     at (Some d) out = step d ends out
 
+-- of the answers such a line says how many it took
+waiting_takes : (p : Progress) (verb : Verb) (outcome : Outcome) (pair : Pair) → EndsWaiting p verb outcome → PairTakes verb p p pair pair (Ok (steps.Ends outcome))
+waiting_takes p verb outcome pair ends = at pair.driver
+  where
+    none : (v : Verb) (d : Driver) → is_take v ≡ false → is_data v ≡ false → StepsTaken v (taken_in p) (taken_in p) d d (Ok (steps.Ends outcomes.Unanswered))
+    none v d no_take no_data =
+        plain_taken v (taken_in p) d d (Ok (steps.Ends outcomes.Unanswered)) no_take no_data (record { answers = refl; rows = refl; outgoing = refl }) refl
+
+    took : (count : ℕ) (d : Driver) → StepsTaken (verbs.Take count) (taken_in p) (taken_in p) d d (Ok (steps.Ends (outcomes.Took (taken_in p))))
+    took count d = λ up_to. took_taken count (taken_in p) (taken_in p) d d up_to (λ now agrees. agrees) up_to
+
+    taken_by : (d : Driver) (v : Verb) (o : Outcome) → verb ≡ v → outcome ≡ o → StepsTaken v (taken_in p) (taken_in p) d d (Ok (steps.Ends o))
+        → StepsTaken verb (taken_in p) (taken_in p) d d (Ok (steps.Ends outcome))
+    taken_by d v o vs os is = subst (λ (w : Verb). StepsTaken w (taken_in p) (taken_in p) d d (Ok (steps.Ends outcome))) (sym vs)
+        (subst (λ (q : Outcome). StepsTaken v (taken_in p) (taken_in p) d d (Ok (steps.Ends q))) (sym os) is)
+
+    step : (d : Driver) → EndsWaiting p verb outcome → StepsTaken verb (taken_in p) (taken_in p) d d (Ok (steps.Ends outcome))
+    step d (of_login v o) = taken_by d verbs.Login outcomes.Unanswered v o (none verbs.Login d refl refl)
+    step d (of_reset v o) = taken_by d verbs.Reset outcomes.Unanswered v o (none verbs.Reset d refl refl)
+    step d (of_take count v o) = taken_by d (verbs.Take count) (outcomes.Took (taken_in p)) v o (took count d)
+
+    at : (o : Option Driver) → OnDrivers o o (λ a b. StepsTaken verb (taken_in p) (taken_in p) a b (Ok (steps.Ends outcome)))
+    at None = tt
+    at (Some d) = step d ends
+
 waiting_shows : (p : Progress) (verb : Verb) (outcome : Outcome) (seen : Seen) (unit : UnitId) (mark : ℕ) → EndsWaiting p verb outcome → IsShown seen unit mark verb outcome
-waiting_shows p verb outcome seen unit mark (of_login v o) = shows_none seen unit mark verb outcome (ap requests v) (ap written_by v) (ap read_by v)
-waiting_shows p verb outcome seen unit mark (of_reset v o) = shows_none seen unit mark verb outcome (ap requests v) (ap written_by v) (ap read_by v)
-waiting_shows p verb outcome seen unit mark (of_take count v o) = shows_none seen unit mark verb outcome (ap requests v) (ap written_by v) (ap read_by v)
+waiting_shows p verb outcome seen unit mark (of_login v o) = shows_none seen unit mark verb outcome (ap requests v) (ap written_by v) (ap read_by v) (unanswered seen (further_of verb) outcome o)
+waiting_shows p verb outcome seen unit mark (of_reset v o) = shows_none seen unit mark verb outcome (ap requests v) (ap written_by v) (ap read_by v) (unanswered seen (further_of verb) outcome o)
+waiting_shows p verb outcome seen unit mark (of_take count v o) =
+    shows_none seen unit mark verb outcome (ap requests v) (ap written_by v) (ap read_by v) (no_further seen (further_of verb) outcome (ap further_of v))
 
 pub waiting_told : (pairs : List Pair) (script done : Script) (line : Line) (row : LogRow) → slice_get script.lines.now script.at ≡ Some line
     → IsSomeAnd (slice_get script.seats.items line.unit) (suits line.verb) → AreSeats script.partition script.seats.items pairs → length script.logs.items ≡ script.at
@@ -465,6 +425,9 @@ waiting_told pairs script done line row found suited are many ends lines seats l
         beside = λ j apart. refl;
         here = λ before after b a. subst (λ (x : Pair). PairTold line.verb script.progress script.progress before x (Ok (steps.Ends row.outcome)))
             (some_is before after (sym b ∙ a)) (waiting_pair script.progress line.verb row.outcome before ends (λ reset. out line k before found reset at b));
+        takes = λ before after b a. subst (λ (x : Pair). PairTakes line.verb script.progress script.progress before x (Ok (steps.Ends row.outcome)))
+            (some_is before after (sym b ∙ a)) (waiting_takes script.progress line.verb row.outcome before ends);
+        gives = all_give_same pairs;
         shows = λ after a. waiting_shows script.progress line.verb row.outcome (seen_at after) after.window.unit line.number ends;
       };
       port = λ at. refl;
@@ -513,26 +476,28 @@ law_on old new script are driven is unit k after at now =
 
 -- the line that fails the partition is to be gone on with
 pub fail_waits_told : (old new : List Pair) (script : Script) (line : Line) → slice_get script.lines.now script.at ≡ Some line → fails line.verb ≡ true
-    → AreSeats script.partition script.seats.items old → AreDriven old new → IsScriptTold old script → IsScriptTold new script
-fail_waits_told old new script line found failing are driven is = record {
+    → AreSeats script.partition script.seats.items old → AreDriven old new → AllGive old new → IsScriptTold old script → IsScriptTold new script
+fail_waits_told old new script line found failing are driven gives is = record {
   law = law_on old new script are driven is;
   fresh = is.fresh;
   told = λ l next ok unit k pair at now.
       absurd (true_false (fails line.verb) failing (subst (λ (x : Line). fails x.verb ≡ false) (some_is l line (sym next ∙ found)) ok));
   shown = still_shown old new script are driven is.shown;
+  taken = fail_waits_taken old new script line found failing gives is.taken;
 }
 
 -- it ended, and no line is left
 pub fail_ends_told : (old new : List Pair) (script done : Script) (line : Line) (row : LogRow) → slice_get script.lines.now script.at ≡ Some line → fails line.verb ≡ true
-    → AreSeats script.partition script.seats.items old → AreDriven old new → length script.logs.items ≡ script.at → tag_of row.outcome ≡ []
+    → AreSeats script.partition script.seats.items old → AreDriven old new → AllGive old new → length script.logs.items ≡ script.at → row.outcome ≡ outcomes.Done
     → done.lines ≡ script.lines → done.seats ≡ script.seats → done.logs.items ≡ script.logs.items ++ row ∷ [] → done.at ≡ length done.lines.now
     → IsScriptTold old script → IsScriptTold new done
-fail_ends_told old new script done line row found failing are driven many quiet lines seats logs over is = record {
+fail_ends_told old new script done line row found failing are driven gives many done_is lines seats logs over is = record {
   law = λ unit k after at now. each unit after (law_on old new script are driven is unit k after (subst (λ ss. slice_get ss.items unit ≡ Some (places.Client k)) seats at) now) (here_or line.unit unit);
   fresh = subst (λ (o : Option Line). IfSome o (λ l. (k : ℕ) → slice_get done.seats.items l.unit ≡ Some (places.Client k) → IsOf l.verb done.progress)) (sym none) tt;
   told = λ l next ok unit k pair at now. absurd (some_none l (sym none ∙ next));
   shown = ended_shown new script done line row found many lines seats logs (still_shown old new script are driven is.shown)
       (λ unit k after at now same. fail_shows (seen_at after) after.window.unit line.number line.verb row.outcome failing);
+  taken = fail_ends_taken old new script done line row found failing gives many done_is lines seats logs over is.taken;
 }
   where
     none : slice_get done.lines.now done.at ≡ None
@@ -553,18 +518,19 @@ fail_ends_told old new script done line row found failing are driven many quiet 
     each unit after law (inl same) =
         let aside = fails_aside line.verb failing in
         subst (HasCausesTold (length after.window.pages)) (sym (records unit ∙ ap (λ b. cond b (own_of unit script ++ e ∷ []) (own_of unit script)) same))
-        (quiet_more (length after.window.pages) (own_of unit script) line.verb row.outcome law aside.0 aside.1 aside.2 quiet)
+        (quiet_more (length after.window.pages) (own_of unit script) line.verb row.outcome law aside.0 aside.1 aside.2 (ap tag_of done_is))
     each unit after law (inr differ) =
         subst (HasCausesTold (length after.window.pages)) (sym (records unit ∙ ap (λ b. cond b (own_of unit script ++ e ∷ []) (own_of unit script)) differ)) law
 
 -- no line is left, and a turn was had
 pub over_told : (old new : List Pair) (script : Script) → slice_get script.lines.now script.at ≡ None
-    → AreSeats script.partition script.seats.items old → AreDriven old new → IsScriptTold old script → IsScriptTold new script
-over_told old new script none are driven is = record {
+    → AreSeats script.partition script.seats.items old → AreDriven old new → AllGive old new → IsScriptTold old script → IsScriptTold new script
+over_told old new script none are driven gives is = record {
   law = law_on old new script are driven is;
   fresh = is.fresh;
   told = λ l next ok unit k pair at now. absurd (some_none l (sym none ∙ next));
   shown = still_shown old new script are driven is.shown;
+  taken = over_taken old new script none gives is.taken;
 }
   where
     some_none : (l : Line) → None ≡ Some l → ⊥
@@ -577,6 +543,7 @@ clients_told old new script same is = record {
   fresh = is.fresh;
   told = λ l next ok unit k after at now. told l next ok unit k after at (slice_get old k) refl (same k after now);
   shown = λ unit k after at now. shown unit k after at (slice_get old k) refl (same k after now);
+  taken = clients_taken old new script same is.taken;
 }
   where
     shown : (unit k : ℕ) (after : Pair) → slice_get script.seats.items unit ≡ Some (places.Client k) → (o : Option Pair) → slice_get old k ≡ o

@@ -26,7 +26,7 @@ use Rattle.vcpu_run.specs.CopyRows.{same_unit}
 use Rattle.vcpu_run.specs.Gathered.{HasLawfulQueue, queue_at, rows_if, sessions_at, trace_of}
 use Rattle.vcpu_run.specs.Freed.{IsNotFreed}
 use Rattle.vcpu_run.specs.Freeing.{NoneBreaks}
-use Rattle.vcpu_run.specs.Holding.{KeepQueues}
+use Rattle.vcpu_run.specs.Holding.{IsBehindServers, KeepQueues}
 use Rattle.vcpu_run.specs.Lines.{IsOver}
 use Rattle.vcpu_run.proofs.Held.{over_held}
 use Rattle.vcpu_run.specs.Links.{AreIdle, AwaitsNone, ClientWaits, EventWaits, IsEmptied, IsFull, LinkState, link_state, links_of}
@@ -252,6 +252,19 @@ unfreed_taken unit pair kept waits = at (side_of pair.link false).queue.session 
         let some : 1 ≤ pipe.session = omega (arith, is) in
         last_if (sessions_from unit pipe 1 pipe.session) (rows_taken unit pipe pipe.session refl some (all some))
 
+-- the script of a client comes behind that of its server unit
+behind_servers : (pairs : List Pair) (scripts : List Script) (ports : List PortSeat) (partitions : List Partition) (client server : UnitId) (pair : Pair)
+    → IsOfPlan partitions pairs scripts ports → IsServer partitions server → IsClientOf partitions client server → slice_get pairs server.unit ≡ Some pair
+    → (script : Script) → slice_get scripts client.partition ≡ Some script → IsBehindServers client.partition script scripts
+behind_servers pairs scripts ports partitions client server pair plan serves is there script found =
+    let behind : server.partition < client.partition = plan.sound.earlier client server is in
+    let at = script_at partitions pairs scripts ports server (units.Server serves.0) plan serves.1 in
+    let of : are_servers at.0.seats.items ≡ true = home_serves partitions pairs scripts ports server pair at.0 plan serves there at.1 in
+    record {
+      others = no_servers partitions pairs scripts ports server client.partition script plan serves found behind;
+      servers = (server.partition, behind, subst (λ o. IsSomeAnd o (λ (script : Script). are_servers script.seats.items ≡ true)) (sym at.1) of);
+    }
+
 pub handed_are : (pairs : List Pair) (scripts : List Script) (lan : LanValue) (rows : LanRows) (history : List Served) (grants : List Grant) (copies : List CopyRecord) (partitions : List Partition) (servers : List Unit)
     → AreScripts pairs lan.seats scripts → IsOfPlan partitions pairs scripts lan.seats → AreIdle servers pairs scripts → KeepQueues pairs scripts → All IsOver scripts
     → ClientsAreSettled partitions (trace_of pairs scripts lan rows history grants copies)
@@ -266,7 +279,7 @@ handed_are pairs scripts lan rows history grants copies partitions servers are p
     let kept : IsNotFreed pair =
     some_is_so IsNotFreed (slice_get pairs server.unit) pair there.1
     (over_held pairs at.0 client.unit server.unit (slice_get_past at.0.lines.now at.0.at (all_at IsOver scripts client.partition at.0 over at.1)) (subst NoneBreaks lines none) at.2
-    (keep client.partition at.0 at.1)) in
+    (keep client.partition at.0 at.1 (behind_servers pairs scripts lan.seats partitions client server pair plan serves is there.1 at.0 at.1))) in
     let waits : ClientWaits (link_state pair.link) =
     held_is ClientWaits (slice_get (links_of pairs) server.unit) (link_state pair.link) (link_at pairs server.unit pair there.1)
     (client_waits servers pairs scripts lan.seats partitions client server plan idle serves is).0 in

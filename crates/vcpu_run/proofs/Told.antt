@@ -1,5 +1,5 @@
 -- The trace of a run, where there is one, keeps the law of the plan's runs.
-use Rattle.std.proofs.Common.{◌≡◌, All, List, Option, Result, Ok, Err, IfOk, IfSome, sym, subst}
+use Rattle.std.proofs.Common.{◌≡◌, All, List, None, Option, Result, Some, Ok, Err, IfOk, IfSome, sym, subst}
 use Rattle.std.specs.Result.{result_ok}
 use Rattle.boot_text.specs.declared.plan.Partition.{Partition}
 use Rattle.lan_script.specs.declared.seat.PortSeat.{PortSeat}
@@ -13,18 +13,22 @@ use Rattle.vio_num.specs.declared.history.Served.{Served}
 use Rattle.vcpu_run.specs.Answered.{AreAnswered}
 use Rattle.vcpu_run.specs.AnswersSent.{AnswersAreGiven, AnswersAreSent}
 use Rattle.vcpu_run.specs.Agreed.{AreCredited}
+use Rattle.vcpu_run.specs.CallsShown.{CallsAreSaid}
 use Rattle.vcpu_run.specs.Lines.{IsOver}
 use Rattle.vcpu_run.specs.Intake.{EntriesAreFetched}
 use Rattle.vcpu_run.specs.LoginsSent.{LoginsAreAnswered, LoginsAreSent}
 use Rattle.vcpu_run.specs.Machines.{IsOfPlan}
 use Rattle.lan_script.specs.Units.{LanValue}
-use Rattle.vcpu_run.specs.PortWords.{PortsAreTold, PortsTell}
+use Rattle.vcpu_run.specs.PortWords.{PortsAreTold}
+use Rattle.vcpu_run.specs.PortsRest.{PortsEnd}
 use Rattle.vcpu_run.specs.Received.{AreAtRest}
 use Rattle.vcpu_run.specs.Refusals.{RefusalsAreTold}
 use Rattle.vcpu_run.specs.Requests.{RequestsAreServed}
 use Rattle.vcpu_run.specs.ScriptTold.{AreTold}
 use Rattle.vcpu_run.specs.Settled.{ClientsAreSettled, ServersAreSettled}
-use Rattle.vcpu_run.specs.RunLaw.{CopiesAreLawful, CreditsAreKept, KeepsLawOf, PortsKeepLaw, QueuesAreLawful, RecordsAreOfLines}
+use Rattle.vcpu_run.specs.RunLaw.{CopiesAreLawful, CreditsAreKept, KeepsLawOf, PortsKeepLaw, QueuesAreLawful, RecordsAreOfLines, KeepsLaw}
+use Rattle.boot_text.specs.declared.plan.Plan.{Plan}
+use Rattle.block_server.specs.Receipts.{GrantsMany}
 use Rattle.vcpu_run.specs.RowsCopied.{LinesAreExplained, RowsAreCopied}
 
 -- a law of traces is kept over each plan that this is the machine of
@@ -42,7 +46,7 @@ pub law_told : {E : Type 0} (r : Result Trace E) (o : Option Trace) (pairs : Lis
     → IfOk r (KeepsOnce (AreTold pairs scripts) RefusalsAreTold pairs scripts ports) → AreTold pairs scripts
     → IfOk r (KeepsOnce (AreAnswered history pairs) AnswersAreSent pairs scripts ports) → AreAnswered history pairs
     → IfOk r (Keeps PortsKeepLaw pairs scripts ports) → (lan : LanValue)
-    → IfOk r (KeepsOnce (All IsOver scripts) (λ partitions trace. PortsTell lan scripts → PortsAreTold partitions trace) pairs scripts ports) → PortsTell lan scripts
+    → IfOk r (KeepsOnce (All IsOver scripts) (λ partitions trace. PortsEnd lan scripts → PortsAreTold partitions trace) pairs scripts ports) → PortsEnd lan scripts
     → IfOk r (KeepsOnce (AreAtRest copies_made lines history pairs scripts) ServersAreSettled pairs scripts ports)
     → IfOk r (KeepsOnce (AreAtRest copies_made lines history pairs scripts) ClientsAreSettled pairs scripts ports)
     → IfOk r (KeepsOnce (AreAtRest copies_made lines history pairs scripts) EntriesAreFetched pairs scripts ports)
@@ -52,15 +56,17 @@ pub law_told : {E : Type 0} (r : Result Trace E) (o : Option Trace) (pairs : Lis
     → IfOk r (KeepsOnce (AreAtRest copies_made lines history pairs scripts) LinesAreExplained pairs scripts ports)
     → IfOk r (KeepsOnce (AreAnswered history pairs) (λ partitions trace. AreAtRest copies_made lines history pairs scripts → LoginsAreSent partitions trace) pairs scripts ports)
     → IfOk r (KeepsOnce (AreAnswered history pairs) (λ partitions trace. AreAtRest copies_made lines history pairs scripts → LoginsAreAnswered partitions trace) pairs scripts ports)
+    → IfOk r (Keeps CallsAreSaid pairs scripts ports)
     → AreAtRest copies_made lines history pairs scripts
     → IfSome o (Keeps KeepsLawOf pairs scripts ports)
-law_told (Ok trace) o pairs scripts ports history copies_made lines e order queues copies records over credits are refusals said answers answered keeps lan words tells settled handed intake requests given copied explained logins dealt rests =
+law_told (Ok trace) o pairs scripts ports history copies_made lines e order queues copies records over credits are refusals said answers answered keeps lan words tells settled handed intake requests given copied explained logins dealt called rests =
     subst (λ (o : Option Trace). IfSome o (Keeps KeepsLawOf pairs scripts ports)) (sym e)
     (λ partitions of_plan. record {
       order = order;
       queues = queues partitions of_plan;
       copies = copies partitions of_plan;
       records = records partitions of_plan over;
+      called = called partitions of_plan;
       credits = credits partitions of_plan are;
       refusals = refusals partitions of_plan said;
       answers = answers partitions of_plan answered;
@@ -76,7 +82,7 @@ law_told (Ok trace) o pairs scripts ports history copies_made lines e order queu
       logins = logins partitions of_plan answered rests;
       dealt = dealt partitions of_plan answered rests;
     })
-law_told (Err error) o pairs scripts ports history copies_made lines e order queues copies records over credits are refusals said answers answered keeps lan words tells settled handed intake requests given copied explained logins dealt rests =
+law_told (Err error) o pairs scripts ports history copies_made lines e order queues copies records over credits are refusals said answers answered keeps lan words tells settled handed intake requests given copied explained logins dealt called rests =
     subst (λ (o : Option Trace). IfSome o (Keeps KeepsLawOf pairs scripts ports)) (sym e) tt
 
 -- the rows that were served
@@ -89,3 +95,8 @@ served_told (Err error) o rows e is = subst (λ (o : Option Trace). IfSome o (λ
 pub said_told : {E : Type 0} (r : Result Trace E) (o : Option Trace) (P : Trace → Type 0) → o ≡ result_ok r → IfOk r P → IfSome o P
 said_told (Ok told) o P e is = subst (λ (o : Option Trace). IfSome o P) (sym e) is
 said_told (Err error) o P e is = subst (λ (o : Option Trace). IfSome o P) (sym e) tt
+
+-- the law of a run of a plan
+pub law_of_plan : (o : Option Trace) (plan : Plan) → IfSome o (KeepsLawOf plan.partitions) → IfSome o (λ trace. All (GrantsMany plan.grant) trace.grants) → IfSome o (KeepsLaw plan)
+law_of_plan None plan law grants = tt
+law_of_plan (Some trace) plan law grants = record { law = law; grants = grants }

@@ -25,7 +25,7 @@ use Rattle.vcpu_run.proofs.Announcing.{frees_none, puts_freed, puts_none, puts_o
 use Rattle.vcpu_run.proofs.Calls.{submit_grows, submit_fits, task_grows, task_fits, logout_grows, logout_fits, turn_grows, turn_fits, take_fits}
 use Rattle.vcpu_run.proofs.Announcing.{both_bools}
 use Rattle.vcpu_run.proofs.Requesting.{logout_more, puts_sends, submit_more, task_more}
-use Rattle.unit_region.proofs.Growing.{keeps_on, keeps_reads, keeps_same, keeps_writes}
+use Rattle.unit_region.proofs.Laws.{keeps_on, keeps_reads, keeps_same, keeps_writes}
 
 pub works_same : (mf cs shared : Bool) (end : EndState) (own : PortState) (driver : Driver) → Works mf cs shared end end own own driver driver
 works_same mf cs shared end own driver = record { place = refl; session = λ alone. refl; stays = λ none kept. kept; puts = λ alone. puts_same end; window = keeps_same shared own; unit = refl; rows = λ fit. fit }

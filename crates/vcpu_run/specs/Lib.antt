@@ -2,7 +2,10 @@ pub mod Agreed
 pub mod Announces
 pub mod Answered
 pub mod AnswersSent
+pub mod AnswersTaken
 pub mod CallRows
+pub mod CallsSaid
+pub mod CallsShown
 pub mod Caused
 pub mod Commands
 pub mod CopyRows
@@ -10,6 +13,7 @@ pub mod Credited
 pub mod Freed
 pub mod Freeing
 pub mod Gathered
+pub mod Grants
 pub mod Heard
 pub mod Holding
 pub mod Intake
@@ -29,6 +33,7 @@ pub mod PortReplays
 pub mod PortSteps
 pub mod PortWords
 pub mod Ports
+pub mod PortsRest
 pub mod Quietly
 pub mod RawCalls
 pub mod Received
@@ -45,6 +50,8 @@ pub mod Settled
 pub mod Shown
 pub mod StrokeMakers
 pub mod Suited
+pub mod TakenScripts
+pub mod Takings
 pub mod Telling
 pub mod Units
 pub mod Windows

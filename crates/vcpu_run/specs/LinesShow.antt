@@ -4,17 +4,21 @@ use Rattle.std.specs.List.{Contains, slice_get}
 use Rattle.vio_num.specs.Entry.{srp_entry}
 use Rattle.vio_num.specs.Words.{Begins}
 use Rattle.vio_num.specs.declared.entry.Entry.{Entry}
+use Rattle.vio_num.specs.declared.hypervisor.Hrc.TheVariants as codes
 use Rattle.vio_num.specs.declared.memory.NoMemory.{NoMemory}
 use Rattle.vio_num.specs.declared.names.UnitId.{UnitId}
 use Rattle.crq_ring.specs.declared.rows.PipeRow.{PipeRow}
 use Rattle.crq_session.specs.EndState.{EndState}
 use Rattle.crq_session.specs.PlainState.{side_of}
 use Rattle.page_slots.specs.Stroke.{StrokeValue}
+use Rattle.tce_window.specs.PlainPort.{known_of}
 use Rattle.tce_window.specs.PortState.{PortState}
 use Rattle.tce_window.specs.Region.{region_byte, stroke_on, touches}
 use Rattle.tce_window.specs.Window.{strokes_at}
-use Rattle.srp_iu.specs.Grammar.{Canon}
+use Rattle.srp_iu.specs.Grammar.{Canon, Spells}
 use Rattle.srp_iu.specs.declared.command.Cmd.{Cmd as Command}
+use Rattle.srp_iu.specs.declared.login.LoginRej.{LoginRej as Rejection}
+use Rattle.srp_iu.specs.declared.login.LoginRsp.{LoginRsp as LoginResponse}
 use Rattle.srp_iu.specs.declared.unit.Iu.{Iu}
 use Rattle.srp_iu.specs.declared.unit.Iu.TheVariants as units
 use Rattle.boot_text.specs.declared.plan.Line.{Line}
@@ -26,6 +30,7 @@ use Rattle.vio_trace.specs.declared.rows.LogRow.{LogRow}
 use Rattle.vscsi_client.specs.Units.{IsCommand, slot_address, task_request}
 use Rattle.vscsi_client.specs.declared.TheConstants.{SLOTS}
 use Rattle.vscsi_client.specs.declared.op.Op.{Op}
+use Rattle.unit_region.specs.Answers.{tce_of}
 use Rattle.unit_region.specs.Pattern.{pattern}
 use Rattle.unit_region.specs.declared.step.Step.{Step}
 use Rattle.unit_region.specs.declared.step.Step.TheVariants as steps
@@ -33,11 +38,12 @@ use Rattle.vcpu_run.specs.declared.pair.Pair.{Pair}
 use Rattle.vcpu_run.specs.Commands.{IsOpOf, cdb_of}
 use Rattle.vcpu_run.specs.Replay.{asks}
 
--- What there is of a client's lines: the strokes on the pages of its region, which lists of them are a front of a page's, and the entries
--- in its server unit's queue.
+-- What there is of a client's lines: the strokes on the pages of its region, which lists of them are a front of a page's, the values of
+-- its window's entries, and the entries in its server unit's queue.
 pub record Seen : Type 1 where
   pub stroke_at : (page : ℕ) → StrokeValue → Type 0
   pub front_at : (page : ℕ) → Option (List StrokeValue) → Type 0
+  pub value_at : (entry value : ℕ) → Type 0
   pub entry_put : Entry → Type 0
 
 -- these bytes were written at an address, under a mark: one stroke on each page that they touch
@@ -116,10 +122,54 @@ abbrev pub RegionShows : Seen → UnitId → (mark : ℕ) → Option Placed → 
 RegionShows seen unit mark placed at outcome =
     IfSome placed (λ placed. IsWrittenIf outcome (AreWritten seen unit mark placed.at placed.bytes)) × IfSome at (λ at. IsReadIf seen at outcome)
 
+-- what else there is of a line: the answer to its login, or the value that it put into an entry of its window
+pub data Further : Type 0 where
+  LogsIn : Further
+  PutsValue : (entry value : ℕ) → Further
+
+abbrev pub further_of : Verb → Option Further
+further_of verbs.Login = Some LogsIn
+further_of verbs.Reset = Some LogsIn
+further_of (verbs.Tce entry page readable writable) = Some (PutsValue entry (tce_of page readable writable))
+further_of _ = None
+
+-- A unit was read in a slot of the region: its bytes are what the pages gave, each with a front of its strokes.
+pub record IsUnitRead (seen : Seen) (iu : Iu) : Type 0 where
+  pub slot : ℕ
+  pub bytes : List ℕ
+  pub spells : Spells bytes iu
+  pub read : AreRead seen (slot_address slot) bytes
+
+-- a response that was read grants these credits, or a rejection says this reason
+abbrev pub IsGrantRead : Seen → (credits : ℕ) → Type 0
+IsGrantRead seen credits = (response : LoginResponse) × (response.delta ≡ credits) × IsUnitRead seen (units.LoginRsp response)
+
+abbrev pub IsRejectionRead : Seen → (reason : ℕ) → Type 0
+IsRejectionRead seen reason = (rejection : Rejection) × (rejection.reason ≡ reason) × IsUnitRead seen (units.LoginRej rejection)
+
+-- what there is of the answer to a login
+abbrev pub IsAnswerRead : Seen → Outcome → Type 0
+IsAnswerRead seen (outcomes.Granted credits) = IsGrantRead seen credits
+IsAnswerRead seen (outcomes.Rejected reason) = IsRejectionRead seen reason
+IsAnswerRead seen _ = ⊤
+
+-- a value is one of its entry, where the line says that it was put
+abbrev pub IsValuePut : Seen → (entry value : ℕ) → Outcome → Type 0
+IsValuePut seen entry value (outcomes.Code codes.Success) = seen.value_at entry value
+IsValuePut seen entry value _ = ⊤
+
+abbrev pub FurtherShows : Seen → Further → Outcome → Type 0
+FurtherShows seen LogsIn outcome = IsAnswerRead seen outcome
+FurtherShows seen (PutsValue entry value) outcome = IsValuePut seen entry value outcome
+
+abbrev pub IsFurtherShown : Seen → Option Further → Outcome → Type 0
+IsFurtherShown seen further outcome = IfSome further (λ further. FurtherShows seen further outcome)
+
 -- what there is of a line that ended so
 abbrev pub IsShown : Seen → UnitId → (mark : ℕ) → Verb → Outcome → Type 0
 IsShown seen unit mark verb outcome =
     MatchBool (requests verb) (IsSentIf seen unit mark verb outcome) (RegionShows seen unit mark (written_by verb) (read_by verb) outcome)
+    × IsFurtherShown seen (further_of verb) outcome
 
 abbrev pub StepShows : Seen → UnitId → (mark : ℕ) → Verb → Result Step NoMemory → Type 0
 StepShows seen unit mark verb (Ok (steps.Ends outcome)) = IsShown seen unit mark verb outcome
@@ -152,6 +202,7 @@ abbrev pub seen_at : Pair → Seen
 seen_at pair = record {
   stroke_at = λ page stroke. IsOn stroke (strokes_at pair.window.pages page);
   front_at = λ page front. IsFront front (strokes_at pair.window.pages page);
+  value_at = λ entry value. Contains ((known_of pair.window).values entry) value;
   entry_put = λ entry. IsPut entry (side_of pair.link true).queue.sent;
 }
 
@@ -165,6 +216,7 @@ abbrev pub seen_by : (shared : Bool) → PortState → EndState → Seen
 seen_by shared port end = record {
   stroke_at = λ page stroke. IsOn stroke (port.strokes page);
   front_at = λ page front. IsFront front (port.strokes page);
+  value_at = λ entry value. Contains (port.values entry) value;
   entry_put = IsPutBy shared end;
 }
 
@@ -176,4 +228,5 @@ PairShows line pair result = StepShows (seen_at pair) pair.window.unit line.numb
 pub record Sees (old new : Seen) : Type 0 where
   pub strokes : (page : ℕ) (stroke : StrokeValue) → old.stroke_at page stroke → new.stroke_at page stroke
   pub fronts : (page : ℕ) (front : Option (List StrokeValue)) → old.front_at page front → new.front_at page front
+  pub values : (entry value : ℕ) → old.value_at entry value → new.value_at entry value
   pub entries : (entry : Entry) → old.entry_put entry → new.entry_put entry

@@ -1,6 +1,6 @@
 -- The answers to requests to log in of a run: which of them a client's queue got, by the lines of its server unit, and that none
 -- was dropped (SRP, "Login process").
-use Rattle.std.specs.Prelude.{◌⊎◌, ◌≤◌, ℕ, List, [], filter, length}
+use Rattle.std.specs.Prelude.{◌⊎◌, ℕ, List, [], filter, length}
 use Rattle.crq_ring.specs.declared.rows.PipeRow.{PipeRow}
 use Rattle.vio_num.specs.declared.entry.Entry.{Entry}
 use Rattle.vio_num.specs.declared.history.Grant.{Grant}
@@ -10,7 +10,6 @@ use Rattle.block_server.specs.Dealt.{AsksNoLogin, IsLoginAnswered, TookNoEvent}
 use Rattle.block_server.specs.Granting.{IsSrpAt}
 use Rattle.block_server.specs.LoginAnswers.{LoginsMore, is_login_answer}
 use Rattle.block_server.specs.Makers.{same_unit}
-use Rattle.block_server.specs.Numbers.{login_on}
 use Rattle.block_server.specs.Receipts.{unit_of}
 use Rattle.boot_text.specs.Sound.{IsClientOf, IsServer}
 use Rattle.boot_text.specs.declared.plan.Partition.{Partition}
@@ -39,15 +38,14 @@ LoginsAreSent partitions trace =
     (server client : UnitId) → IsServer partitions server → IsClientOf partitions client server
     → ∥ AreLoginsPut (shown_to partitions trace server client) server (entries_taken trace server) (logins_to trace client) trace.grants ∥₁
 
--- Where a login is on in a session at its end, and no event was taken in it, no request to log in was dropped: each SRP entry that was
--- taken in it asked for no login, or a copy of the answer over its request granted or rejected it.
-abbrev pub AreLoginsAnswered : (Hears : Hearing) → UnitId → (session : ℕ) → (taken : List PipeRow) → (lines : List Grant) → Type 0
-AreLoginsAnswered Hears unit session taken lines =
-    1 ≤ login_on unit session lines → TookNoEvent session taken
-    → (number : ℕ) (entry : Entry) → IsSrpAt taken session number entry → AsksNoLogin Hears entry ⊎ IsLoginAnswered Hears taken session number
+-- Where no event was taken in a session no request to log in was dropped: each SRP entry that was taken in it asked for no login, or a
+-- copy of the answer over its request granted or rejected it.
+abbrev pub AreLoginsAnswered : (Hears : Hearing) → (session : ℕ) → (taken : List PipeRow) → Type 0
+AreLoginsAnswered Hears session taken =
+    TookNoEvent session taken → (number : ℕ) (entry : Entry) → IsSrpAt taken session number entry → AsksNoLogin Hears entry ⊎ IsLoginAnswered Hears taken session number
 
 -- So it is of the last session of each server unit that has a client.
 abbrev pub LoginsAreAnswered : List Partition → Trace → Type 0
 LoginsAreAnswered partitions trace =
     (server client : UnitId) → IsServer partitions server → IsClientOf partitions client server
-    → ∥ AreLoginsAnswered (shown_to partitions trace server client) server (length (sessions_of trace server)) (entries_taken trace server) trace.grants ∥₁
+    → ∥ AreLoginsAnswered (shown_to partitions trace server client) (length (sessions_of trace server)) (entries_taken trace server) ∥₁

@@ -16,6 +16,7 @@ use Rattle.vcpu_run.specs.PortSteps.{AreFresh}
 use Rattle.vcpu_run.specs.PortWords.{TellsPorts}
 use Rattle.vcpu_run.specs.Scripts.{AreSeats, IsScript}
 use Rattle.vcpu_run.specs.ScriptTold.{IsScriptTold}
+use Rattle.vcpu_run.specs.TakenScripts.{AreUntaken}
 
 -- the seat's unit is a client of this server unit, of the seat's sizes
 abbrev pub IsSeatOf : List Partition → UnitId → ClientSeat → Type 0
@@ -49,7 +50,7 @@ pub record IsMade (partition : Partition) (number : ℕ) (script : Script) : Typ
   pub for_it : IsScriptFor partition script
   pub whole : (pairs : List Pair) → AreSeats number script.seats.items pairs → IsScript pairs script
   pub credited : (pairs : List Pair) → AreLoggedOut script.seats.items pairs → IsCredited pairs script
-  pub said : (pairs : List Pair) → AreLoggedOut script.seats.items pairs → IsScriptTold pairs script
+  pub said : (pairs : List Pair) → AreLoggedOut script.seats.items pairs → AreUntaken pairs → IsScriptTold pairs script
   pub told : (lan : LanValue) → AreFresh lan → TellsPorts lan script
 
 -- The scripts were made for the partitions.

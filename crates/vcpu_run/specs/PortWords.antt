@@ -16,7 +16,7 @@ use Rattle.vio_trace.specs.declared.outcome.Outcome.TheVariants as outcomes
 use Rattle.vio_trace.specs.declared.rows.Trace.{Trace}
 use Rattle.lan_script.specs.Invariant.{sent_by}
 use Rattle.lan_script.specs.PortCounts.{PortCounts, counts, counts_at, counts_by, counts_told, is_frame}
-use Rattle.lan_script.specs.PortReplay.{PortReplay, closed_replay}
+use Rattle.lan_script.specs.PortReplay.{IsOn, PortReplay, closed_replay}
 use Rattle.lan_script.specs.Seats.{IsSizedSeat, seat_at}
 use Rattle.lan_script.specs.Units.{LanValue}
 use Rattle.lan_script.specs.declared.seat.PortSeat.{PortSeat}
@@ -75,11 +75,25 @@ abbrev pub WordsAreTold : List Partition → Trace → Type 0
 WordsAreTold partitions trace = (unit : UnitId) → IsPortOf (ports_of partitions) unit → HasNoCall (script_of partitions unit.partition)
     → LinesTell (ended_by unit.unit (script_of partitions unit.partition) (records_of trace unit.partition)) trace unit
 
--- the records of each plain port of a plan are what the replay of its lines says
+-- how many sessions a trace shows of a port
+abbrev pub sessions_shown : Trace → UnitId → ℕ
+sessions_shown trace unit = length (filter (λ row. same_unit row.unit unit) trace.ports)
+
+-- The records of a port are what the replay of its lines says, and its frames have the bytes of those of the replay. Where it leaves the
+-- port open, all deliveries of the last session were harvested.
+pub record IsPortReplayed (seat : PortSeat) (own : List Ended) (trace : Trace) (unit : UnitId) : Type 0 where
+  pub left : PortReplay
+  pub replayed : AreReplayed seat closed_replay own left
+  pub frames : map (λ row. row.bytes) (filter (λ row. same_unit row.unit unit) trace.frames) ≡ left.frames
+  pub harvested : IsOn left
+      → length (filter (λ row. row.session == sessions_shown trace unit) (filter (λ row. same_unit row.unit unit) trace.harvests))
+      ≡ length (filter (λ row. row.session == sessions_shown trace unit) (filter (λ row. same_unit row.unit unit) trace.delivers))
+
+-- the same of each plain port of a plan
 abbrev pub PortsAreReplayed : List Partition → Trace → Type 0
 PortsAreReplayed partitions trace = (unit : UnitId) (seat : PortSeat) → seat_at (ports_of partitions) unit ≡ Some seat
     → IsPlainPort unit.unit (script_of partitions unit.partition)
-    → (left : PortReplay) × AreReplayed seat closed_replay (ended_by unit.unit (script_of partitions unit.partition) (records_of trace unit.partition)) left
+    → IsPortReplayed seat (ended_by unit.unit (script_of partitions unit.partition) (records_of trace unit.partition)) trace unit
 
 -- What the records of a plan's ports tell.
 pub record PortsAreTold (partitions : List Partition) (trace : Trace) : Type 0 where

@@ -18,6 +18,7 @@ use Rattle.vcpu_run.specs.Holding.{KeepQueues}
 use Rattle.vcpu_run.specs.Lines.{IsOver}
 use Rattle.vcpu_run.specs.Links.{AreIdle}
 use Rattle.vcpu_run.specs.Machines.{server_id}
+use Rattle.vcpu_run.specs.TakenScripts.{PairUntaken}
 
 -- these are the entries that server unit k took, each with its receipt and its fate
 abbrev pub HasEntries : List Unit → List CopyRecord → List Grant → List Served → (k : ℕ) → Pair → List Judged → Type 0
@@ -35,10 +36,11 @@ pub record IsReceived (units : List Unit) (copies : List CopyRecord) (grants : L
 abbrev pub AreReceived : List Unit → List CopyRecord → List Grant → List Served → List Pair → Type 0
 AreReceived units copies grants history pairs = (k : ℕ) (pair : Pair) → slice_get pairs k ≡ Some pair → IsReceived units copies grants history k pair
 
--- Nothing was taken from the server unit's queue, and nothing was put into its client's.
+-- Nothing was taken from the server unit's queue, nothing was put into its client's, and the client has sent and taken nothing.
 pub record IsFresh (pair : Pair) : Type 0 where
   pub taken : (side_of pair.link true).queue.taken ≡ []
   pub sent : (side_of pair.link false).queue.sent ≡ []
+  pub untaken : PairUntaken pair
 
 abbrev pub AreFresh : List Pair → Type 0
 AreFresh pairs = (k : ℕ) (pair : Pair) → slice_get pairs k ≡ Some pair → IsFresh pair

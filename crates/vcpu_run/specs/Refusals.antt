@@ -17,12 +17,13 @@ use Rattle.vio_trace.specs.declared.outcome.Outcome.{Outcome}
 use Rattle.vio_trace.specs.declared.outcome.Outcome.TheVariants as outcomes
 use Rattle.vio_trace.specs.declared.rows.Trace.{Trace}
 use Rattle.vcpu_run.specs.AnswersSent.{sent_to}
+use Rattle.vcpu_run.specs.AnswersTaken.{AreAnswersTaken}
 use Rattle.vcpu_run.specs.Credited.{Ended, ended_by}
 use Rattle.vcpu_run.specs.LinesShow.{IsFront, LinesShow, Seen}
 use Rattle.vcpu_run.specs.PortWords.{HasNoCall}
 use Rattle.vcpu_run.specs.Replay.{Range, asks, lie_within, ranges_of}
 use Rattle.vcpu_run.specs.Settled.{script_of}
-use Rattle.vcpu_run.specs.Shown.{pages_at, records_of, stroke_value, strokes_on}
+use Rattle.vcpu_run.specs.Shown.{pages_at, records_of, stroke_value, strokes_on, values_shown}
 
 -- A login that is on by the records: what it grants, how many commands and tasks are outstanding, and the tags of those that were
 -- sent since it was granted.
@@ -135,13 +136,16 @@ abbrev pub seen_in : Trace → (client server : UnitId) → Seen
 seen_in trace client server = record {
   stroke_at = λ page stroke. Contains (map stroke_value (strokes_on trace client page)) stroke;
   front_at = λ page front. IsFront front (Some (map stroke_value (strokes_on trace client page)));
+  value_at = λ entry value. Contains (values_shown trace client entry) value;
   entry_put = λ entry. Contains (sent_to trace server) entry;
 }
 
--- So is it of each client of a partition that makes no raw call, and what its lines say that they sent or wrote is there.
+-- So is it of each client of a partition that makes no raw call; what its lines say that they sent or wrote is there, and what they say of
+-- the answers that it took is so.
 pub record IsClientTold (partitions : List Partition) (trace : Trace) (client server : UnitId) : Type 0 where
   pub causes : HasCausesTold (pages_at partitions client) (ended_by client.unit (script_of partitions client.partition) (records_of trace client.partition))
   pub shown : LinesShow (seen_in trace client server) client client.unit (script_of partitions client.partition) (records_of trace client.partition)
+  pub takes : AreAnswersTaken trace client (ended_by client.unit (script_of partitions client.partition) (records_of trace client.partition))
 
 abbrev pub RefusalsAreTold : List Partition → Trace → Type 0
 RefusalsAreTold partitions trace = (client server : UnitId) → IsClientOf partitions client server

@@ -3,7 +3,7 @@
 use Rattle.std.specs.Prelude.{◌≡◌, ◌≤◌, ℕ, true, All, List, [], map}
 use Rattle.vio_num.specs.declared.names.UnitId.{UnitId}
 use Rattle.block_server.specs.Closings.{HasCauses}
-use Rattle.block_server.specs.Judged.{HasLimit, IsWorkDone, Judged, keys_of}
+use Rattle.block_server.specs.Judged.{HasLimit, IsWorkDone, Judged, keys_of, row_numbers}
 use Rattle.block_server.specs.Makers.{same_unit}
 use Rattle.block_server.specs.Numbers.{NameLogins, Rise, granted_numbers}
 use Rattle.boot_text.specs.Sound.{IsClientOf, IsServer}
@@ -17,7 +17,8 @@ use Rattle.vcpu_run.specs.Intake.{IsTakenIn, entries_taken}
 -- unless a line ends the login for another cause than its client's logout. No row is of no login. And each line on its logins has
 -- the cause that it says, in what the unit took and in these fates; one that says more was outstanding than granted says exactly how
 -- many of the login's commands and tasks had no answer. The logins that its lines grant have the numbers from 1, in their order, each line that
--- ends one names the login that is on; and in each session the numbers of the entries over which logins were granted rise.
+-- ends one names the login that is on; and in each session the numbers of the entries over which logins were granted rise, and those of
+-- the entries that have rows.
 pub record IsServedIn (partitions : List Partition) (trace : Trace) (server client : UnitId) : Type 0 where
   pub judged : List Judged
   pub taken : IsTakenIn partitions trace server client
@@ -28,6 +29,7 @@ pub record IsServedIn (partitions : List Partition) (trace : Trace) (server clie
   pub limits : All (HasLimit server (keys_of trace.serves) judged) trace.grants
   pub numbers : NameLogins server [] trace.grants
   pub rising : (session : ℕ) → Rise (granted_numbers server session trace.grants)
+  pub rows : (session : ℕ) → Rise (row_numbers server session (keys_of trace.serves))
 
 -- of each server unit that has a client
 abbrev pub RequestsAreServed : List Partition → Trace → Type 0

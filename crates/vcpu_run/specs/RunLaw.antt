@@ -7,6 +7,7 @@ use Rattle.vio_num.specs.Queue.{Handed, LawfulDrop}
 use Rattle.vio_num.specs.declared.names.UnitId.{UnitId}
 use Rattle.rdma_copy.specs.Copy.{IsLawful}
 use Rattle.rdma_copy.specs.declared.copy.CopyRecord.{CopyRecord}
+use Rattle.block_server.specs.Receipts.{GrantsMany}
 use Rattle.boot_text.specs.Sound.{unit_at, IsClientOf, IsServer}
 use Rattle.boot_text.specs.declared.plan.Line.{Line}
 use Rattle.boot_text.specs.declared.plan.Partition.{Partition}
@@ -22,6 +23,7 @@ use Rattle.vio_trace.specs.declared.window_rows.TceValueRow.{TceValueRow}
 use Rattle.lan_script.specs.Carried.{FramesAreCarried}
 use Rattle.lan_script.specs.PortLaw.{PortsAreLawful}
 use Rattle.vcpu_run.specs.AnswersSent.{AnswersAreGiven, AnswersAreSent}
+use Rattle.vcpu_run.specs.CallsShown.{CallsAreSaid}
 use Rattle.vcpu_run.specs.CopyRows.{copy_row}
 use Rattle.vcpu_run.specs.Credited.{KeepsCredit, ended_by}
 use Rattle.vcpu_run.specs.Intake.{EntriesAreFetched}
@@ -118,6 +120,7 @@ pub record KeepsLawOf (partitions : List Partition) (trace : Trace) : Type 0 whe
   pub queues : QueuesAreLawful partitions trace
   pub copies : CopiesAreLawful partitions trace
   pub records : RecordsAreOfLines partitions trace
+  pub called : CallsAreSaid partitions trace
   pub credits : CreditsAreKept partitions trace
   pub refusals : RefusalsAreTold partitions trace
   pub answers : AnswersAreSent partitions trace
@@ -133,5 +136,7 @@ pub record KeepsLawOf (partitions : List Partition) (trace : Trace) : Type 0 whe
   pub logins : LoginsAreSent partitions trace
   pub dealt : LoginsAreAnswered partitions trace
 
-abbrev pub KeepsLaw : Plan → Trace → Type 0
-KeepsLaw plan trace = KeepsLawOf plan.partitions trace
+-- And each login that a line says was granted grants as many requests as the plan says.
+pub record KeepsLaw (plan : Plan) (trace : Trace) : Type 0 where
+  pub law : KeepsLawOf plan.partitions trace
+  pub grants : All (GrantsMany plan.grant) trace.grants

@@ -11,11 +11,13 @@ use Rattle.vcpu_run.specs.declared.unit_seat.Seat.{Seat}
 use Rattle.vcpu_run.specs.declared.unit_seat.Seat.TheVariants as sits
 use Rattle.vcpu_run.specs.Agreed.{IsLoggedOut}
 use Rattle.vcpu_run.specs.Freeing.{is_reset}
-use Rattle.vcpu_run.specs.Credited.{Ended, ended_by}
+use Rattle.vcpu_run.specs.Credited.{Ended, ended_by, taken_in}
 use Rattle.vcpu_run.specs.LinesShow.{LinesShow, Sees, seen_at}
 use Rattle.vcpu_run.specs.PortWords.{HasNoCall}
 use Rattle.vcpu_run.specs.Refusals.{HasCausesTold}
 use Rattle.vcpu_run.specs.Scripts.{are_servers}
+use Rattle.vcpu_run.specs.TakenScripts.{PairAgrees, PairTaken}
+use Rattle.vcpu_run.specs.Takings.{IsTakenUpTo}
 use Rattle.vcpu_run.specs.Telling.{IsOf, IsTold}
 use Rattle.vcpu_run.specs.Works.{fails}
 
@@ -43,6 +45,15 @@ AtSeats seats pairs P = (unit k : ℕ) (pair : Pair) → slice_get seats unit �
 abbrev pub PairShown : Script → (unit : ℕ) → Pair → Type 0
 PairShown script unit pair = LinesShow (seen_at pair) pair.window.unit unit script.lines.now script.logs.items
 
+-- The answers of each client are as its records say, and stand in order among what it took; before a line that fails no partition they are
+-- as many as the records and the current line tell, which took no more than it says.
+pub record IsScriptTaken (pairs : List Pair) (script : Script) : Type 0 where
+  pub kept : AtSeats script.seats.items pairs (λ unit pair. PairTaken (own_of unit script) pair)
+  pub up_to : IfSome (slice_get script.lines.now script.at)
+      (λ line. (k : ℕ) → slice_get script.seats.items line.unit ≡ Some (sits.Client k) → IsTakenUpTo line.verb (taken_in script.progress))
+  pub agrees : (line : Line) → slice_get script.lines.now script.at ≡ Some line → fails line.verb ≡ false
+      → AtSeats script.seats.items pairs (λ unit pair. PairAgrees (own_of unit script) (progress_by unit script) pair)
+
 -- The refusals of each client have their causes, and what its lines did is there; before a line that fails no partition each client agrees with its records.
 pub record IsScriptTold (pairs : List Pair) (script : Script) : Type 0 where
   pub law : AtSeats script.seats.items pairs (λ unit pair. HasCausesTold (length pair.window.pages) (own_of unit script))
@@ -51,17 +62,19 @@ pub record IsScriptTold (pairs : List Pair) (script : Script) : Type 0 where
   pub told : (line : Line) → slice_get script.lines.now script.at ≡ Some line → fails line.verb ≡ false
       → AtSeats script.seats.items pairs (λ unit pair. PairIsTold (own_of unit script) (progress_by unit script) pair)
   pub shown : AtSeats script.seats.items pairs (PairShown script)
+  pub taken : IsScriptTaken pairs script
 
 -- a reset that is the current line left its client without a login
 abbrev pub IsResetOut : List Pair → Script → Type 0
 IsResetOut pairs script = (line : Line) (k : ℕ) (pair : Pair) → slice_get script.lines.now script.at ≡ Some line → is_reset line.verb ≡ true
     → slice_get script.seats.items line.unit ≡ Some (sits.Client k) → slice_get pairs k ≡ Some pair → IsLoggedOut pair
 
--- The client of a pair, its window's unit and length and whether its queue is registered are as before, and what there was is there.
+-- The client of a pair, its window's unit and length, whether its queue is registered and what it took are as before, and what there was is there.
 pub record SameClient (old new : Pair) : Type 0 where
   pub driver : new.driver ≡ old.driver
   pub pages : length new.window.pages ≡ length old.window.pages
   pub queue : (side_of new.link false).registered ≡ (side_of old.link false).registered
+  pub taken : (side_of new.link false).queue.taken ≡ (side_of old.link false).queue.taken
   pub unit : new.window.unit ≡ old.window.unit
   pub sees : Sees (seen_at old) (seen_at new)
 

@@ -1,5 +1,5 @@
 -- A client and the records of its lines, between the steps of its lines: what its refusals are judged by.
-use Rattle.std.specs.Prelude.{◌≡◌, ◌≢◌, ◌⊎◌, ℕ, ◌+◌, ◌≤◌, ◌<◌, Bool, true, false, not, All, List, [], ◌∷◌, ◌++◌, MatchOption, Option, Some, None, Result, Ok, Err, length, min, ⊤}
+use Rattle.std.specs.Prelude.{◌≡◌, ◌≢◌, ◌⊎◌, ℕ, ◌+◌, ◌≤◌, ◌<◌, Bool, true, false, not, All, List, [], ◌∷◌, ◌++◌, MatchOption, OnOk, Option, Some, None, Result, Ok, Err, length, min, ⊤}
 use Rattle.std.specs.List.{Contains, slice_get}
 use Rattle.vio_num.specs.declared.hypervisor.Moved.TheVariants.{Quiet}
 use Rattle.vio_num.specs.declared.memory.NoMemory.{NoMemory}
@@ -22,6 +22,7 @@ use Rattle.vcpu_run.specs.Credited.{Ended, is_take, taken_in}
 use Rattle.vcpu_run.specs.Freeing.{is_reset}
 use Rattle.vcpu_run.specs.LinesShow.{PairShows}
 use Rattle.vcpu_run.specs.Refusals.{HasCausesTold, LoginNow, login_by, tags_told}
+use Rattle.vcpu_run.specs.TakenScripts.{AllGive, PairTakes}
 
 -- the login that is on by records, one after the other
 abbrev pub login_after : Option LoginNow → List Ended → Option LoginNow
@@ -120,6 +121,8 @@ PairTold verb p p' old new result = OnDrivers old.driver new.driver (λ a b. Ste
 pub record SeatTold (seat : ℕ) (line : Line) (p p' : Progress) (old new : List Pair) (result : Result Step NoMemory) : Type 0 where
   pub beside : SameBeside seat old new
   pub here : (before after : Pair) → slice_get old seat ≡ Some before → slice_get new seat ≡ Some after → PairTold line.verb p p' before after result
+  pub takes : (before after : Pair) → slice_get old seat ≡ Some before → slice_get new seat ≡ Some after → PairTakes line.verb p p' before after result
+  pub gives : OnOk result (AllGive old new)
   pub shows : (after : Pair) → slice_get new seat ≡ Some after → PairShows line after result
 
 -- A step of a line at its unit: at the pair where a client sits, and at none where a port does.

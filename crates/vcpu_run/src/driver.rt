@@ -1,8 +1,9 @@
 // A client unit's driver, with the answers that it took.
-ghost use Rattle.std.specs.Prelude.{◌≡◌, [], IfOk};
+ghost use Rattle.std.specs.Prelude.{◌≡◌, [], IfOk, OnOk};
 ghost use Rattle.srp_iu.specs.Response.{FitsRsp};
 ghost use Rattle.vscsi_client.specs.State.{new_client};
 ghost use Rattle.vscsi_client.specs.Turned.{unlinked};
+ghost use Rattle.vcpu_run.specs.Takings.{Notes};
 
 use srp_iu::{Iu, Rsp, write_iu};
 use std::alloc::Global;
@@ -38,6 +39,7 @@ impl Driver {
     pub(crate) fn freed(&mut self)
         ensures unit { self.new.unit ≡ self.old.unit }
         ensures client { self.new.client ≡ unlinked self.old.client }
+        ensures answers { self.new.answers ≡ self.old.answers }
     {
         self.client.freed();
     }
@@ -47,6 +49,7 @@ impl Driver {
         requires { FitsRsp rsp }
         ensures unit { self.new.unit ≡ self.old.unit }
         ensures client { self.new.client ≡ self.old.client }
+        ensures notes { OnOk result (Notes tag rsp self.old.answers.items self.new.answers.items) }
     {
         let bytes = write_iu(&Iu::Rsp(rsp));
         self.answers.push(AnswerRow {

@@ -9,12 +9,14 @@ ghost use Rattle.vcpu_run.specs.Agreed.{AreCredited};
 ghost use Rattle.vcpu_run.specs.Caused.{IsShownAll};
 ghost use Rattle.vcpu_run.specs.Answered.{AreAnswered};
 ghost use Rattle.vcpu_run.specs.AnswersSent.{AnswersAreGiven, AnswersAreSent};
+ghost use Rattle.vcpu_run.specs.CallsShown.{CallsAreSaid};
 ghost use Rattle.vcpu_run.specs.Lines.{IsOver};
 ghost use Rattle.vcpu_run.specs.LoginsSent.{LoginsAreAnswered, LoginsAreSent};
 ghost use Rattle.vcpu_run.specs.Machines.{AreScripts, IsOfPlan};
 ghost use Rattle.vcpu_run.specs.Intake.{EntriesAreFetched};
 ghost use Rattle.vcpu_run.specs.Pairs.{AreOfOneHome};
-ghost use Rattle.vcpu_run.specs.PortWords.{PortsAreTold, PortsTell};
+ghost use Rattle.vcpu_run.specs.PortWords.{PortsAreTold};
+ghost use Rattle.vcpu_run.specs.PortsRest.{PortsEnd};
 ghost use Rattle.vcpu_run.specs.Received.{AreAtRest};
 ghost use Rattle.vcpu_run.specs.Refusals.{RefusalsAreTold};
 ghost use Rattle.vcpu_run.specs.Requests.{RequestsAreServed};
@@ -56,6 +58,7 @@ pub(crate) fn gather(
         history.items grants.items copies.items) }
     ensures order { IfOk result IsInOrder }
     ensures serves { IfOk result (λ trace. trace.serves ≡ history.items) }
+    ensures grants { IfOk result (λ trace. trace.grants ≡ grants.items) }
     ensures queues { IfOk result (λ trace. (partitions : List Partition) →
         IsOfPlan partitions pairs.items scripts.entry.items lan.seats →
         QueuesAreLawful partitions trace) }
@@ -65,6 +68,9 @@ pub(crate) fn gather(
     ensures records { IfOk result (λ trace. (partitions : List Partition) →
         IsOfPlan partitions pairs.items scripts.entry.items lan.seats →
         All IsOver scripts.entry.items → RecordsAreOfLines partitions trace) }
+    ensures called { IfOk result (λ trace. (partitions : List Partition) →
+        IsOfPlan partitions pairs.items scripts.entry.items lan.seats →
+        CallsAreSaid partitions trace) }
     ensures credits { IfOk result (λ trace. (partitions : List Partition) →
         IsOfPlan partitions pairs.items scripts.entry.items lan.seats →
         AreCredited pairs.items scripts.entry.items → CreditsAreKept partitions trace) }
@@ -79,7 +85,7 @@ pub(crate) fn gather(
         PortsKeepLaw partitions trace) }
     ensures told { IfOk result (λ trace. (partitions : List Partition) →
         IsOfPlan partitions pairs.items scripts.entry.items lan.seats →
-        All IsOver scripts.entry.items → PortsTell lan scripts.entry.items →
+        All IsOver scripts.entry.items → PortsEnd lan scripts.entry.items →
         PortsAreTold partitions trace) }
     ensures settled { IfOk result (λ trace. (partitions : List Partition) →
         IsOfPlan partitions pairs.items scripts.entry.items lan.seats →

@@ -1,5 +1,5 @@
 // What a script line does at its client unit.
-ghost use Rattle.std.specs.Prelude.{◌≡◌, ◌⊎◌, ◌≤◌, [], IfErr, None, true, false};
+ghost use Rattle.std.specs.Prelude.{◌≡◌, ◌⊎◌, ◌≤◌, [], IfErr, None, OnOk, true, false, ℕ, Some};
 ghost use Rattle.vscsi_client.specs.declared.TheConstants.{MIN_PAGES};
 ghost use Rattle.vscsi_client.specs.Transferred.{FitRows};
 ghost use Rattle.vscsi_client.specs.Units.{FitsOp};
@@ -8,11 +8,13 @@ ghost use Rattle.boot_text.specs.declared.verb.Verb.TheVariants as verbs;
 ghost use Rattle.vcpu_run.specs.Credited.{StepsAgreed, taken_in, uses_credit};
 ghost use Rattle.unit_region.specs.Steps.{IsPlain};
 ghost use Rattle.vcpu_run.specs.Freeing.{is_reset};
-ghost use Rattle.vcpu_run.specs.Holding.{EndsOpen, StepsOpen};
+ghost use Rattle.vcpu_run.specs.Holding.{IsHeldOff, StepsOpen, TurnsOpen, link_seen};
 ghost use Rattle.vcpu_run.specs.Sendings.{SaysSent, SaysTurned, SaysWhy};
 ghost use Rattle.vcpu_run.specs.Commands.{IsOpOf, cdb_of};
-ghost use Rattle.vcpu_run.specs.LinesShow.{StepShows, seen_by};
+ghost use Rattle.vcpu_run.specs.LinesShow.{LogsIn, StepShows, further_of, read_by, requests, seen_by, written_by};
+ghost use Rattle.vio_num.specs.declared.names.UnitId.{UnitId as UnitValue};
 ghost use Rattle.vcpu_run.specs.Replay.{asks, ranges_of};
+ghost use Rattle.vcpu_run.specs.Takings.{Gives, StepsTaken};
 ghost use Rattle.vcpu_run.specs.Telling.{LeavesOut, StepsOut, StepsTold, seated};
 ghost use Rattle.vcpu_run.specs.declared.script.Progress.{Progress as ProgressValue};
 ghost use Rattle.vcpu_run.specs.declared.script.Progress.TheVariants as stages;
@@ -91,7 +93,17 @@ impl Driver {
             result }
         ensures out { (self.old.client.granted ≡ None)
             ⊎ ((C.state crq.old.end).registered ≡ false) → LeavesOut self.new.client result }
-        ensures registered { EndsOpen (C.state crq.new.end).registered result }
+        ensures shows { (unit : UnitValue) (mark : ℕ) (verb : VerbValue) →
+            requests verb ≡ false → written_by verb ≡ None → read_by verb ≡ None →
+            further_of verb ≡ Some LogsIn → StepShows
+            (seen_by C.is_shared (O.state own.new) (C.state crq.new.end)) unit mark verb result }
+        ensures registered { C.is_shared ≡ false → TurnsOpen
+            (IsHeldOff (link_seen (C.state crq.old.end)))
+            (C.state crq.new.end).registered result }
+        ensures takes { StepsTaken verbs.Login 0 0 self.old self.new result }
+        ensures retakes { StepsTaken verbs.Reset 0 0 self.old self.new result }
+        ensures gives { OnOk result (Gives self.old self.new
+            (C.state crq.old.end) (C.state crq.new.end)) }
         ensures works { Works false C.is_shared O.is_shared
             (C.state crq.old.end) (C.state crq.new.end)
             (O.state own.old) (O.state own.new) self.old self.new }
@@ -119,13 +131,22 @@ impl Driver {
             (seated self.old.client progress.old (C.state crq.old.end).registered)
             (seated self.new.client progress.new (C.state crq.new.end).registered)
             result }
+        ensures shows { (unit : UnitValue) (mark : ℕ) (verb : VerbValue) →
+            requests verb ≡ false → written_by verb ≡ None → read_by verb ≡ None →
+            further_of verb ≡ Some LogsIn → StepShows
+            (seen_by C.is_shared (O.state own.new) (C.state crq.new.end)) unit mark verb result }
         ensures registered { C.is_shared ≡ false → StepsOpen verbs.Reset progress.new
+            (IsHeldOff (link_seen (C.state crq.old.end)))
             (C.state crq.new.end).registered result }
         ensures works { Works true C.is_shared O.is_shared
             (C.state crq.old.end) (C.state crq.new.end)
             (O.state own.old) (O.state own.new) self.old self.new }
         ensures credit { StepsAgreed verbs.Reset (taken_in progress.old) (taken_in progress.new)
             self.old.client self.new.client result }
+        ensures takes { StepsTaken verbs.Reset (taken_in progress.old) (taken_in progress.new)
+            self.old self.new result }
+        ensures gives { OnOk result (Gives self.old self.new
+            (C.state crq.old.end) (C.state crq.new.end)) }
     {
         if *progress == Progress::Freed {
             return self.login(crq, own, line);
@@ -152,6 +173,8 @@ impl Driver {
         ensures unit { self.new.unit ≡ self.old.unit }
         ensures client { self.new.client ≡ self.old.client }
         ensures plain { IsPlain result }
+        ensures answers { self.new.answers ≡ self.old.answers }
+        ensures takes { StepsTaken (verbs.Data tag) 0 0 self.old self.new result }
     {
         match self.client.data_of(own, tag) {
             Ok(bytes) => Ok(Step::Ends(Outcome::Data {
@@ -189,6 +212,10 @@ impl Driver {
             (O.state own.old) (O.state own.new) self.old self.new }
         ensures credit { (verb : VerbValue) → uses_credit verb ≡ true →
             StepsAgreed verb 0 0 self.old.client self.new.client result }
+        ensures takes { (verb : VerbValue) → IsOpOf verb op.now →
+            StepsTaken verb 0 0 self.old self.new result }
+        ensures gives { OnOk result (Gives self.old self.new
+            (C.state crq.old.end) (C.state crq.new.end)) }
     {
         sent(self.client.submit(crq, own, op, line))
     }
@@ -216,6 +243,9 @@ impl Driver {
             (O.state own.old) (O.state own.new) self.old self.new }
         ensures credit { (verb : VerbValue) → uses_credit verb ≡ true →
             StepsAgreed verb 0 0 self.old.client self.new.client result }
+        ensures takes { StepsTaken (verbs.Task function tag) 0 0 self.old self.new result }
+        ensures gives { OnOk result (Gives self.old self.new
+            (C.state crq.old.end) (C.state crq.new.end)) }
     {
         sent(self.client.task(crq, own, function, tag, line))
     }
@@ -240,6 +270,9 @@ impl Driver {
             (O.state own.old) (O.state own.new) self.old self.new }
         ensures credit { (verb : VerbValue) → uses_credit verb ≡ false →
             StepsAgreed verb 0 0 self.old.client self.new.client result }
+        ensures takes { StepsTaken verbs.Logout 0 0 self.old self.new result }
+        ensures gives { OnOk result (Gives self.old self.new
+            (C.state crq.old.end) (C.state crq.new.end)) }
     {
         sent(self.client.logout(crq, own, line))
     }
@@ -262,6 +295,10 @@ impl Driver {
             result }
         ensures credit { StepsAgreed (verbs.Take count) (taken_in progress.old)
             (taken_in progress.new) self.old.client self.new.client result }
+        ensures takes { StepsTaken (verbs.Take count) (taken_in progress.old)
+            (taken_in progress.new) self.old self.new result }
+        ensures gives { OnOk result (Gives self.old self.new
+            (C.state crq.old.end) (C.state crq.new.end)) }
     {
         let mut taken = progress.taken();
         let step = self.take(crq, own, count, &mut taken)?;
@@ -292,12 +329,17 @@ impl Driver {
             (seen_by C.is_shared (O.state own.new) (C.state crq.new.end))
             (O.state own.old).place.unit line.now.number line.now.verb result }
         ensures registered { C.is_shared ≡ false → StepsOpen line.now.verb progress.new
+            (IsHeldOff (link_seen (C.state crq.old.end)))
             (C.state crq.new.end).registered result }
         ensures works { Works (is_reset line.now.verb) C.is_shared O.is_shared
             (C.state crq.old.end) (C.state crq.new.end)
             (O.state own.old) (O.state own.new) self.old self.new }
         ensures credit { StepsAgreed line.now.verb (taken_in progress.old)
             (taken_in progress.new) self.old.client self.new.client result }
+        ensures takes { StepsTaken line.now.verb (taken_in progress.old)
+            (taken_in progress.new) self.old self.new result }
+        ensures gives { OnOk result (Gives self.old self.new
+            (C.state crq.old.end) (C.state crq.new.end)) }
     {
         match op_of(&line.verb) {
             Some(op) => self.command(crq, own, &op, u64::from(line.number)),
@@ -329,12 +371,17 @@ impl Driver {
             (seen_by C.is_shared (O.state own.new) (C.state crq.new.end))
             (O.state own.old).place.unit line.now.number line.now.verb result }
         ensures registered { C.is_shared ≡ false → StepsOpen line.now.verb progress.new
+            (IsHeldOff (link_seen (C.state crq.old.end)))
             (C.state crq.new.end).registered result }
         ensures works { Works (is_reset line.now.verb) C.is_shared O.is_shared
             (C.state crq.old.end) (C.state crq.new.end)
             (O.state own.old) (O.state own.new) self.old self.new }
         ensures credit { StepsAgreed line.now.verb (taken_in progress.old)
             (taken_in progress.new) self.old.client self.new.client result }
+        ensures takes { StepsTaken line.now.verb (taken_in progress.old)
+            (taken_in progress.new) self.old self.new result }
+        ensures gives { OnOk result (Gives self.old self.new
+            (C.state crq.old.end) (C.state crq.new.end)) }
     {
         let mark = u64::from(line.number);
         match &line.verb {

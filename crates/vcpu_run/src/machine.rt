@@ -2,10 +2,12 @@
 ghost use Rattle.std.specs.Prelude.{◌≡◌, [], All, IfErr, IfOk, IfSome, IsSome, List, OnOk, vec_len};
 ghost use Rattle.boot_text.specs.Sound.{AreSound, IsSound};
 ghost use Rattle.boot_text.specs.declared.plan.Partition.{Partition};
+ghost use Rattle.block_server.specs.Units.{GrantEach};
 ghost use Rattle.block_server.specs.DiskLaw.{KeepsDisk};
 ghost use Rattle.vcpu_run.specs.Agreed.{AreCredited};
 ghost use Rattle.vcpu_run.specs.Caused.{IsShownAll, KeepsCaused, LeadsCaused};
 ghost use Rattle.vcpu_run.specs.Answered.{AreAnswered};
+ghost use Rattle.vcpu_run.specs.Grants.{TellsGrants};
 ghost use Rattle.vcpu_run.specs.Heard.{AreHeard};
 ghost use Rattle.vcpu_run.specs.Lines.{IsOver};
 ghost use Rattle.vcpu_run.specs.Holding.{KeepQueues};
@@ -16,6 +18,7 @@ ghost use Rattle.vcpu_run.specs.Pairs.{AreOfOneHome};
 ghost use Rattle.vcpu_run.specs.Ports.{ports_of};
 ghost use Rattle.vcpu_run.specs.PortSteps.{AreFresh};
 ghost use Rattle.vcpu_run.specs.PortWords.{PortsTell};
+ghost use Rattle.vcpu_run.specs.PortsRest.{PortsEnd};
 ghost use Rattle.vcpu_run.specs.Received.{AreAtRest, AreReceived};
 ghost use Rattle.vcpu_run.specs.RunLaw.{KeepsLaw, KeepsLawOf};
 ghost use Rattle.vcpu_run.specs.ScriptTold.{AreTold};
@@ -79,6 +82,8 @@ impl<'p, Di: Blocks> Machine<'p, Di> {
             AreHeard machine.server.disk.count machine.server.partition
             machine.server.units.items machine.server.records
             machine.server.copies.items machine.pairs.items) }
+        ensures grants { IfOk result (λ machine. GrantEach plan.now.grant
+            machine.server.units.items machine.server.records.grants.items) }
         ensures none { IfOk result (λ machine. machine.server.records.history.items ≡ []) }
         ensures linked { IfOk result (λ machine.
             AreLinked machine.server.units.items machine.pairs.items) }
@@ -133,6 +138,8 @@ impl<'p, Di: Blocks> Machine<'p, Di> {
         ensures law { IfSome result.trace (λ trace. (partitions : List Partition) →
             IsOfPlan partitions self.entry.pairs.items self.entry.scripts.items
             self.entry.lan.seats → KeepsLawOf partitions trace) }
+        ensures grants { TellsGrants self.entry.server.units.items
+            self.entry.server.records.grants.items result.trace }
         ensures caused { IfSome result.trace (λ trace. (partitions : List Partition) →
             IsOfPlan partitions self.entry.pairs.items self.entry.scripts.items
             self.entry.lan.seats → KeepsCaused partitions trace
@@ -206,12 +213,13 @@ fn trace_of(
     requires scripts { AreScripts pairs.items lan.seats scripts.items }
     requires credited { OnOk run (AreCredited pairs.items scripts.items) }
     requires said { OnOk run (AreTold pairs.items scripts.items) }
-    requires told { OnOk run (PortsTell lan scripts.items) }
+    requires told { OnOk run (PortsEnd lan scripts.items) }
     requires over { OnOk run (All IsOver scripts.items) }
     requires answered { AreAnswered history.items pairs.items }
     requires rests { OnOk run (AreAtRest copies.items grants.items history.items
         pairs.items scripts.items) }
     ensures serves { IfSome result (λ trace. trace.serves ≡ history.items) }
+    ensures grants { IfSome result (λ trace. trace.grants ≡ grants.items) }
     ensures shown { IfSome result (λ trace. (partitions : List Partition) →
         IsOfPlan partitions pairs.items scripts.entry.items lan.seats →
         IsShownAll partitions trace copies.items pairs.items) }

@@ -9,6 +9,7 @@ ghost use Rattle.vcpu_run.specs.Freed.{FreesNoneAt};
 ghost use Rattle.block_server.specs.Causes.{Told};
 ghost use Rattle.block_server.specs.DiskLaw.{KeepsDiskBy};
 ghost use Rattle.block_server.specs.Units.{AreInOrder};
+ghost use Rattle.vcpu_run.specs.Grants.{KeepsGrants};
 ghost use Rattle.vcpu_run.specs.Heard.{AllGoBy, UnitGoesBy, ShowsMore, TellsPair};
 ghost use Rattle.vcpu_run.specs.Links.{IsClosed, IsLinked, ServerWaits, link_state};
 ghost use Rattle.vcpu_run.specs.Machines.{FitsSeat, HasSeat, SitsAt, Stays, server_id};
@@ -197,6 +198,8 @@ impl Pair {
             ∥ UnitGoesBy told server.new.units.items server.new.records k other ∥₁ }
         ensures units_else { (k : ℕ) → k ≢ unit →
             slice_get server.new.units.items k ≡ slice_get server.old.units.items k }
+        ensures grants { KeepsGrants server.old.units.items server.new.units.items
+            server.old.records.grants.items server.new.records.grants.items }
         ensures disk { LastsOnDisk server.old.records.history.items
             server.new.records.history.items (Di.state server.old.disk.image).blocks
             (Di.state server.new.disk.image).blocks }
@@ -205,6 +208,8 @@ impl Pair {
             ≡ (side_of self.old.link false).registered }
         ensures sent { (side_of self.new.link true).queue.sent
             ≡ (side_of self.old.link true).queue.sent }
+        ensures taken { (side_of self.new.link false).queue.taken
+            ≡ (side_of self.old.link false).queue.taken }
         ensures linked { OnOk result (IsLinked server.old.units.items unit self.old →
             IsLinked server.new.units.items unit self.new) }
         ensures linked_else { (k : ℕ) (other : Pair) → k ≢ unit →

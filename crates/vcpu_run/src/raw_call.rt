@@ -1,16 +1,20 @@
 // A line that makes a raw hypervisor call.
-ghost use Rattle.std.specs.Prelude.{◌≡◌, true, false, None, IfOk, IfSome, IfNone, OnOk};
+ghost use Rattle.std.specs.Prelude.{◌≡◌, true, false, None, IfOk, IfSome, IfNone, OnOk, length};
+ghost use Rattle.boot_text.specs.declared.verb.Verb.TheVariants as verbs;
 ghost use Rattle.vio_num.specs.declared.hypervisor.Hrc.TheVariants as codes;
+ghost use Rattle.hcall_table.specs.Asked.{bare};
+ghost use Rattle.hcall_table.specs.Named.{unit_of};
 ghost use Rattle.hcall_table.specs.Rows.{IsAnswer, row_of};
 ghost use Rattle.vcpu_run.specs.Agreed.{SameDrivers, SameElse};
 ghost use Rattle.vcpu_run.specs.CallRows.{EndsCall, gives, says};
+ghost use Rattle.vcpu_run.specs.CallsSaid.{EndsAsParameter};
 ghost use Rattle.vcpu_run.specs.Credited.{is_take};
 ghost use Rattle.unit_region.specs.Steps.{IsPlain, is_plain};
 ghost use Rattle.vcpu_run.specs.Freed.{FreesNoneIf};
 ghost use Rattle.vcpu_run.specs.Freeing.{NoneSits};
 ghost use Rattle.vcpu_run.specs.Pairs.{AreDriven};
 ghost use Rattle.vcpu_run.specs.PortSteps.{IsApart};
-ghost use Rattle.vcpu_run.specs.RawCalls.{MakesCall};
+ghost use Rattle.vcpu_run.specs.RawCalls.{MakesCall, place_of, units_at};
 ghost use Rattle.vcpu_run.specs.Suited.{is_call};
 
 use crate::pair::Pair;
@@ -37,6 +41,8 @@ impl RawCall {
         ensures some { IfSome result (λ _. is_take verb.now ≡ false) }
         ensures call { IfSome result (λ _. is_call verb.now ≡ true) }
         ensures none { IfNone result (is_call verb.now ≡ false) }
+        ensures of_line { IfSome result (λ raw.
+            verb.now ≡ verbs.Hcall raw.number raw.arguments) }
     {
         match verb {
             Verb::Hcall { number, arguments } => Some(RawCall {
@@ -66,6 +72,9 @@ pub(crate) fn make_call(
     ensures apart { OnOk result (IsApart partition lan.old lan.new) }
     ensures plain { IsPlain result }
     ensures said { IfOk result (EndsCall raw.now.number) }
+    ensures elsewhere { IfSome (row_of raw.now.number) (λ row.
+        unit_of (units_at partition seats.now (length pairs.old) lan.old.seats) row
+        raw.now.arguments ≡ None → IfOk result EndsAsParameter) }
 {
     let mut units = PartitionUnits {
         alloc,
@@ -87,6 +96,9 @@ fn call_units(
     ensures units { MakesCall units.old units.new result }
     ensures function { row_of number ≡ None → IfOk result (λ r. r.code ≡ codes.Function) }
     ensures answer { IfSome (row_of number) (λ row. IfOk result (IsAnswer row)) }
+    ensures elsewhere { IfSome (row_of number) (λ row.
+        unit_of (place_of units.old) row arguments.now ≡ None →
+        IfOk result (λ r. r ≡ bare codes.Parameter)) }
 {
     call(units, number, arguments)
 }

@@ -1,5 +1,5 @@
 // The turns of a round: one of each partition, in their order.
-ghost use Rattle.std.specs.Prelude.{◌≡◌, ◌≢◌, ◌+◌, ◌<◌, ⊤, ℕ, All, Bool, IfOk, IsSomeAnd, IsTrue, List, OnOk};
+ghost use Rattle.std.specs.Prelude.{◌≡◌, ◌≢◌, ◌+◌, ◌<◌, ⊤, ℕ, All, Bool, IfOk, IsSomeAnd, IsTrue, List, OnOk, false};
 ghost use Rattle.std.specs.Prelude.{length, slice_get, vec_len};
 ghost use Rattle.block_server.specs.Causes.{Told};
 ghost use Rattle.block_server.specs.declared.unit.Unit.{Unit};
@@ -19,11 +19,14 @@ ghost use Rattle.vcpu_run.specs.Lines.{IsOver, is_over};
 ghost use Rattle.vcpu_run.specs.Links.{AreIdle, AreIdleTo, AreLinked, AreOverTo, RestsAt};
 ghost use Rattle.vcpu_run.specs.Links.{SeatsRestWhole, ServerWaits, ServersWait, links_of};
 ghost use Rattle.vcpu_run.specs.Freed.{FreesNoneIf};
-ghost use Rattle.vcpu_run.specs.Holding.{KeepQueues};
+ghost use Rattle.vcpu_run.specs.Grants.{KeepsGrants};
+ghost use Rattle.vcpu_run.specs.Holding.{AreOpenIf, AreOpenTo, IsOpenUpTo, KeepQueues};
 ghost use Rattle.vcpu_run.specs.ScriptTold.{AreOutIf, AreOutTo, AreTold, SameClients};
+ghost use Rattle.vcpu_run.specs.Scripts.{are_servers};
 ghost use Rattle.vcpu_run.specs.Machines.{AllRun, AllStay, AreScripts, IsMachine, IsServing};
 ghost use Rattle.vcpu_run.specs.Pairs.{ArePairs, AreDrivers};
 ghost use Rattle.vcpu_run.specs.PortWords.{PortsTell};
+ghost use Rattle.vcpu_run.specs.PortsRest.{AreTakenTo, TurnRests};
 ghost use Rattle.vcpu_run.specs.Received.{AreReceived};
 ghost use Rattle.vio_num.specs.declared.history.Grant.{Grant};
 
@@ -60,14 +63,16 @@ pub(crate) fn run<Di: Blocks>(
         AreTold pairs.new scripts.new) }
     ensures told { OnOk result (PortsTell lan.old scripts.old →
         PortsTell lan.new scripts.new) }
-    ensures unfreed { OnOk result (KeepQueues pairs.old scripts.old →
-        KeepQueues pairs.new scripts.new) }
+    ensures unfreed { OnOk result (AreLinked server.old.units.items pairs.old →
+        KeepQueues pairs.old scripts.old → KeepQueues pairs.new scripts.new) }
     ensures over { OnOk result (All IsOver scripts.new) }
     ensures answered { AreAnswered server.new.records.history.items pairs.new }
     ensures received { AreReceived server.new.units.items server.new.copies.items
         server.new.records.grants.items server.new.records.history.items pairs.new }
     ensures heard { AreHeard server.new.disk.count server.new.partition
         server.new.units.items server.new.records server.new.copies.items pairs.new }
+    ensures grants { KeepsGrants server.old.units.items server.new.units.items
+        server.old.records.grants.items server.new.records.grants.items }
     ensures disk { LastsOnDisk server.old.records.history.items server.new.records.history.items
         (Di.state server.old.disk.image).blocks (Di.state server.new.disk.image).blocks }
     ensures causes { LastsBy server.old.copies.items server.new.copies.items
@@ -76,6 +81,7 @@ pub(crate) fn run<Di: Blocks>(
     ensures lan { lan.new.seats ≡ lan.old.seats }
     ensures idle { OnOk result (AreLinked server.old.units.items pairs.old →
         AreIdle server.new.units.items pairs.new scripts.new) }
+    ensures ports { OnOk result (AreTakenTo (length scripts.new) lan.new scripts.new) }
 {
     for _round in 0..u64::MAX {
         let moved = step(server, pairs, scripts, lan)?;
@@ -128,13 +134,15 @@ fn step<Di: Blocks>(
         AreTold pairs.new scripts.new) }
     ensures told { OnOk result (PortsTell lan.old scripts.old →
         PortsTell lan.new scripts.new) }
-    ensures unfreed { OnOk result (KeepQueues pairs.old scripts.old →
-        KeepQueues pairs.new scripts.new) }
+    ensures unfreed { OnOk result (AreLinked server.old.units.items pairs.old →
+        KeepQueues pairs.old scripts.old → KeepQueues pairs.new scripts.new) }
     ensures answered { AreAnswered server.new.records.history.items pairs.new }
     ensures received { AreReceived server.new.units.items server.new.copies.items
         server.new.records.grants.items server.new.records.history.items pairs.new }
     ensures heard { AreHeard server.new.disk.count server.new.partition
         server.new.units.items server.new.records server.new.copies.items pairs.new }
+    ensures grants { KeepsGrants server.old.units.items server.new.units.items
+        server.old.records.grants.items server.new.records.grants.items }
     ensures disk { LastsOnDisk server.old.records.history.items server.new.records.history.items
         (Di.state server.old.disk.image).blocks (Di.state server.new.disk.image).blocks }
     ensures causes { LastsBy server.old.copies.items server.new.copies.items
@@ -147,10 +155,13 @@ fn step<Di: Blocks>(
         AreLinked server.old.units.items pairs.old →
         AreOverTo (length scripts.new) scripts.new →
         AreIdleTo (length scripts.new) server.new.units.items pairs.new scripts.new) }
+    ensures ports { IfOk result (λ moved. moved ≡ Moved.Quiet →
+        AreOverTo (length scripts.new) scripts.new →
+        AreTakenTo (length scripts.new) lan.new scripts.new) }
 {
     match round(server, pairs, scripts, lan)? {
         Moved::Moved => Ok(Moved::Moved),
-        Moved::Quiet => end_lines(scripts, pairs),
+        Moved::Quiet => end_lines(scripts),
     }
 }
 
@@ -180,11 +191,16 @@ fn round<Di: Blocks>(
         PortsTell lan.new scripts.new) }
     ensures unfreed { OnOk result (KeepQueues pairs.old scripts.old →
         KeepQueues pairs.new scripts.new) }
+    ensures opened { IfOk result (λ moved. moved ≡ Moved.Quiet →
+        AreLinked server.old.units.items pairs.old →
+        AreOpenTo (length scripts.new) pairs.new scripts.new) }
     ensures answered { AreAnswered server.new.records.history.items pairs.new }
     ensures received { AreReceived server.new.units.items server.new.copies.items
         server.new.records.grants.items server.new.records.history.items pairs.new }
     ensures heard { AreHeard server.new.disk.count server.new.partition
         server.new.units.items server.new.records server.new.copies.items pairs.new }
+    ensures grants { KeepsGrants server.old.units.items server.new.units.items
+        server.old.records.grants.items server.new.records.grants.items }
     ensures disk { LastsOnDisk server.old.records.history.items server.new.records.history.items
         (Di.state server.old.disk.image).blocks (Di.state server.new.disk.image).blocks }
     ensures out { IfOk result (λ moved. moved ≡ Moved.Quiet → AreTold pairs.old scripts.old →
@@ -199,6 +215,9 @@ fn round<Di: Blocks>(
         AreLinked server.old.units.items pairs.old →
         AreOverTo (length scripts.new) scripts.new →
         AreIdleTo (length scripts.new) server.new.units.items pairs.new scripts.new) }
+    ensures ports { IfOk result (λ moved. moved ≡ Moved.Quiet →
+        AreOverTo (length scripts.new) scripts.new →
+        AreTakenTo (length scripts.new) lan.new scripts.new) }
 {
     let mut moved = Moved::Quiet;
     for number in 0..scripts.len() {
@@ -236,11 +255,16 @@ fn turn_at<Di: Blocks>(
         PortsTell lan.new scripts.new) }
     ensures unfreed { OnOk result (KeepQueues pairs.old scripts.old →
         KeepQueues pairs.new scripts.new) }
+    ensures opened { IfOk result (λ moved. moved ≡ Moved.Quiet →
+        AreLinked server.old.units.items pairs.old → IsOpenUpTo number pairs.old scripts.old →
+        IsOpenUpTo (number + 1) pairs.new scripts.new) }
     ensures answered { AreAnswered server.new.records.history.items pairs.new }
     ensures received { AreReceived server.new.units.items server.new.copies.items
         server.new.records.grants.items server.new.records.history.items pairs.new }
     ensures heard { AreHeard server.new.disk.count server.new.partition
         server.new.units.items server.new.records server.new.copies.items pairs.new }
+    ensures grants { KeepsGrants server.old.units.items server.new.units.items
+        server.old.records.grants.items server.new.records.grants.items }
     ensures disk { LastsOnDisk server.old.records.history.items server.new.records.history.items
         (Di.state server.old.disk.image).blocks (Di.state server.new.disk.image).blocks }
     ensures out { IfOk result (λ moved. moved ≡ Moved.Quiet → AreTold pairs.old scripts.old →
@@ -256,6 +280,9 @@ fn turn_at<Di: Blocks>(
         IsSomeAnd (slice_get scripts.new number) IsOver →
         RestsAt number scripts.new server.old.units.items server.new.units.items
         pairs.old pairs.new) }
+    ensures ports { IfOk result (λ moved. moved ≡ Moved.Quiet →
+        IsSomeAnd (slice_get scripts.new number) IsOver →
+        IsSomeAnd (slice_get scripts.new number) (λ script. TurnRests script lan.old lan.new)) }
     ensures elsewhere { (i : ℕ) → i ≢ number →
         slice_get scripts.new i ≡ slice_get scripts.old i }
 {
@@ -286,6 +313,8 @@ fn serve<Di: Blocks>(server: &mut Server<Di>, pairs: &mut [Pair]) -> Result<Move
         server.new.records.grants.items server.new.records.history.items pairs.new }
     ensures heard { AreHeard server.new.disk.count server.new.partition
         server.new.units.items server.new.records server.new.copies.items pairs.new }
+    ensures grants { KeepsGrants server.old.units.items server.new.units.items
+        server.old.records.grants.items server.new.records.grants.items }
     ensures disk { LastsOnDisk server.old.records.history.items server.new.records.history.items
         (Di.state server.old.disk.image).blocks (Di.state server.new.disk.image).blocks }
     ensures causes { LastsBy server.old.copies.items server.new.copies.items
@@ -330,6 +359,8 @@ fn serve_at<Di: Blocks>(
         server.new.records.grants.items server.new.records.history.items pairs.new }
     ensures heard { AreHeard server.new.disk.count server.new.partition
         server.new.units.items server.new.records server.new.copies.items pairs.new }
+    ensures grants { KeepsGrants server.old.units.items server.new.units.items
+        server.old.records.grants.items server.new.records.grants.items }
     ensures disk { LastsOnDisk server.old.records.history.items server.new.records.history.items
         (Di.state server.old.disk.image).blocks (Di.state server.new.disk.image).blocks }
     ensures causes { LastsBy server.old.copies.items server.new.copies.items
@@ -372,6 +403,9 @@ fn run_script(
         PortsTell lan.new scripts.new) }
     ensures unfreed { OnOk result (KeepQueues pairs.old scripts.old →
         KeepQueues pairs.new scripts.new) }
+    ensures opened { IfOk result (λ moved. moved ≡ Moved.Quiet →
+        IsSomeAnd (slice_get scripts.old number) (λ script. are_servers script.seats.items ≡ false) →
+        IsOpenUpTo number pairs.old scripts.old → IsOpenUpTo (number + 1) pairs.new scripts.new) }
     ensures answered { (history : List Served) →
         AreAnswered history pairs.old → AreAnswered history pairs.new }
     ensures received { (units : List Unit) (copies : List CopyRecord) (grants : List Grant)
@@ -390,6 +424,9 @@ fn run_script(
         IsSomeAnd (slice_get scripts.new number) IsOver →
         IsSomeAnd (slice_get scripts.new number)
         (λ script. SeatsRestWhole script.seats.items pairs.old pairs.new)) }
+    ensures ports { IfOk result (λ moved. moved ≡ Moved.Quiet →
+        IsSomeAnd (slice_get scripts.new number) IsOver →
+        IsSomeAnd (slice_get scripts.new number) (λ script. TurnRests script lan.old lan.new)) }
     ensures elsewhere { (i : ℕ) → i ≢ number →
         slice_get scripts.new i ≡ slice_get scripts.old i }
 {
@@ -397,7 +434,7 @@ fn run_script(
 }
 
 // Ends the lines that wait.
-fn end_lines(scripts: &mut [Script<'_>], pairs: &[Pair]) -> Result<Moved, NoMemory>
+fn end_lines(scripts: &mut [Script<'_>]) -> Result<Moved, NoMemory>
     ensures scripts { (pairs : List Pair) (ports : List PortSeat) →
         AreScripts pairs ports scripts.old → AreScripts pairs ports scripts.new }
     ensures run { AllRun scripts.old scripts.new }
@@ -410,21 +447,21 @@ fn end_lines(scripts: &mut [Script<'_>], pairs: &[Pair]) -> Result<Moved, NoMemo
     ensures told { OnOk result ((pairs : List Pair) (ports : List PortSeat) (lan : LanValue) →
         AreScripts pairs ports scripts.old → PortsTell lan scripts.old →
         PortsTell lan scripts.new) }
-    ensures unfreed { OnOk result ((ports : List PortSeat) →
-        AreScripts pairs.now ports scripts.old → KeepQueues pairs.now scripts.old →
-        KeepQueues pairs.now scripts.new) }
+    ensures unfreed { OnOk result ((pairs : List Pair) (ports : List PortSeat) →
+        AreScripts pairs ports scripts.old → AreOpenTo (length scripts.old) pairs scripts.old →
+        KeepQueues pairs scripts.old → KeepQueues pairs scripts.new) }
     ensures quiet { IfOk result (λ moved. moved ≡ Moved.Quiet → scripts.new ≡ scripts.old) }
 {
     let mut moved = Moved::Quiet;
     for number in 0..scripts.len() {
-        let turned = end_line_at(scripts, pairs, number)?;
+        let turned = end_line_at(scripts, number)?;
         moved = either(moved, turned);
     }
     Ok(moved)
 }
 
 // Ends the line of the partition with this place, if it waits.
-fn end_line_at(scripts: &mut [Script<'_>], pairs: &[Pair], number: usize) -> Result<Moved, NoMemory>
+fn end_line_at(scripts: &mut [Script<'_>], number: usize) -> Result<Moved, NoMemory>
     requires { number < length scripts.old }
     ensures scripts { (pairs : List Pair) (ports : List PortSeat) →
         AreScripts pairs ports scripts.old → AreScripts pairs ports scripts.new }
@@ -438,12 +475,12 @@ fn end_line_at(scripts: &mut [Script<'_>], pairs: &[Pair], number: usize) -> Res
     ensures told { OnOk result ((pairs : List Pair) (ports : List PortSeat) (lan : LanValue) →
         AreScripts pairs ports scripts.old → PortsTell lan scripts.old →
         PortsTell lan scripts.new) }
-    ensures unfreed { OnOk result ((ports : List PortSeat) →
-        AreScripts pairs.now ports scripts.old → KeepQueues pairs.now scripts.old →
-        KeepQueues pairs.now scripts.new) }
+    ensures unfreed { OnOk result ((pairs : List Pair) (ports : List PortSeat) →
+        AreScripts pairs ports scripts.old → AreOpenIf (λ i. i ≡ number) pairs scripts.old →
+        KeepQueues pairs scripts.old → KeepQueues pairs scripts.new) }
     ensures quiet { IfOk result (λ moved. moved ≡ Moved.Quiet → scripts.new ≡ scripts.old) }
     ensures elsewhere { (i : ℕ) → i ≢ number →
         slice_get scripts.new i ≡ slice_get scripts.old i }
 {
-    scripts[number].end_line(pairs)
+    scripts[number].end_waiting()
 }

@@ -3,10 +3,10 @@ ghost use Rattle.std.specs.Prelude.{◌≡◌, ◌<◌, ℕ, All, IfOk, IfSome, 
 ghost use Rattle.std.specs.List.{AllPairs};
 ghost use Rattle.vcpu_run.specs.declared.pair.Pair.{Pair as PairValue};
 ghost use Rattle.vcpu_run.specs.Agreed.{AreLoggedOut, IsCredited, IsEnded, SameElse};
+ghost use Rattle.vcpu_run.specs.CallsSaid.{IsSaidOf, place_at};
 ghost use Rattle.vcpu_run.specs.Credited.{taken_in};
 ghost use Rattle.vcpu_run.specs.Lines.{IsOver, is_over, place_behind};
-ghost use Rattle.vcpu_run.specs.Freeing.{is_reset};
-ghost use Rattle.vcpu_run.specs.Holding.{IsRegistered, IsResetOpen, KeepsQueues};
+ghost use Rattle.vcpu_run.specs.Holding.{LeavesResetOpen, IsResetOpen, KeepsQueues};
 ghost use Rattle.vcpu_run.specs.Links.{SeatsRest, SeatsRestWhole};
 ghost use Rattle.vcpu_run.specs.Pairs.{AreDriven, AreDrivers};
 ghost use Rattle.vcpu_run.specs.Quietly.{OnQuiet};
@@ -14,11 +14,12 @@ ghost use Rattle.lan_script.specs.Units.{LanValue};
 ghost use Rattle.vcpu_run.specs.Ports.{HasPorts};
 ghost use Rattle.vcpu_run.specs.PortSteps.{AreFresh, IsApart};
 ghost use Rattle.vcpu_run.specs.PortWords.{HasNoCall, TellsPorts, done_in};
+ghost use Rattle.vcpu_run.specs.PortsRest.{PortsRest};
 ghost use Rattle.vcpu_run.specs.Suited.{IsLineAt};
 ghost use Rattle.vcpu_run.specs.ScriptTold.{IsResetOut, IsScriptTold};
 ghost use Rattle.vcpu_run.specs.Scripts.{AreSeats, IsScript, OnlyRuns, are_servers};
+ghost use Rattle.vcpu_run.specs.TakenScripts.{AreUntaken};
 ghost use Rattle.vcpu_run.specs.Works.{fails};
-ghost use Rattle.vcpu_run.specs.declared.unit_seat.Seat.TheVariants as sits;
 
 use crate::pair::Pair;
 use crate::seats::{either, fail, push_events, step_unit, take_rest};
@@ -94,7 +95,7 @@ impl<'p> Script<'p> {
         ensures credited { (pairs : List PairValue) → AreLoggedOut seats.items pairs →
             IsCredited pairs result }
         ensures said { (pairs : List PairValue) → AreLoggedOut seats.items pairs →
-            IsScriptTold pairs result }
+            AreUntaken pairs → IsScriptTold pairs result }
         ensures told { (lan : LanValue) → AreFresh lan → TellsPorts lan result }
         ensures partition { result.partition ≡ partition }
         ensures lines { result.lines.now ≡ lines.now }
@@ -133,8 +134,12 @@ impl<'p> Script<'p> {
             IsScriptTold pairs.old self.old → IsScriptTold pairs.new self.new) }
         ensures out { IfOk result (λ moved. moved ≡ Moved.Quiet → HasNoCall self.old.lines.now →
             IsScriptTold pairs.old self.old → IsResetOut pairs.new self.new) }
+        ensures opened { IfOk result (λ moved. moved ≡ Moved.Quiet →
+            LeavesResetOpen pairs.old pairs.new self.new) }
         ensures quiet { IfOk result (λ moved. moved ≡ Moved.Quiet → IsOver self.new →
             SeatsRestWhole self.old.seats.items pairs.old pairs.new) }
+        ensures ports { IfOk result (λ moved. moved ≡ Moved.Quiet → IsOver self.new →
+            PortsRest self.old.partition self.old.seats.items lan.old lan.new) }
     {
         let pushed = push_events(&self.seats, pairs)?;
         let moved = self.go_on(pairs, lan)?;
@@ -162,8 +167,12 @@ impl<'p> Script<'p> {
             IsScriptTold pairs.old self.old → IsScriptTold pairs.new self.new) }
         ensures out { IfOk result (λ moved. moved ≡ Moved.Quiet → HasNoCall self.old.lines.now →
             IsScriptTold pairs.old self.old → IsResetOut pairs.new self.new) }
+        ensures opened { IfOk result (λ moved. moved ≡ Moved.Quiet →
+            LeavesResetOpen pairs.old pairs.new self.new) }
         ensures quiet { IfOk result (λ moved. moved ≡ Moved.Quiet → IsOver self.new →
             SeatsRest self.old.seats.items pairs.old pairs.new) }
+        ensures ports { IfOk result (λ moved. moved ≡ Moved.Quiet → IsOver self.new →
+            PortsRest self.old.partition self.old.seats.items lan.old lan.new) }
     {
         let lines = self.lines;
         match lines.get(self.at) {
@@ -194,6 +203,8 @@ impl<'p> Script<'p> {
             IsScriptTold pairs.old self.old → IsScriptTold pairs.new self.new) }
         ensures out { IfOk result (λ moved. moved ≡ Moved.Quiet → HasNoCall self.old.lines.now →
             IsScriptTold pairs.old self.old → IsResetOut pairs.new self.new) }
+        ensures opened { IfOk result (λ moved. moved ≡ Moved.Quiet →
+            LeavesResetOpen pairs.old pairs.new self.new) }
         ensures quiet { IfOk result (λ moved. moved ≡ Moved.Quiet → ¬ (IsOver self.new)) }
     {
         if let Verb::Fail = line.verb {
@@ -245,6 +256,8 @@ impl<'p> Script<'p> {
             IsScriptTold pairs.new self.new) }
         ensures out { IfOk result (λ moved. moved ≡ Moved.Quiet →
             IsResetOut pairs.new self.new) }
+        ensures opened { IfOk result (λ moved. moved ≡ Moved.Quiet →
+            LeavesResetOpen pairs.old pairs.new self.new) }
         ensures quiet { IfOk result (λ moved. moved ≡ Moved.Quiet → ¬ (IsOver self.new)) }
     {
         if fail(self.partition, &self.seats, pairs, lan)? {
@@ -257,6 +270,8 @@ impl<'p> Script<'p> {
     // Logs how the current line ended, and goes to the next, if one comes behind it.
     fn end(&mut self, line: &Line, outcome: Outcome) -> Result<(), NoMemory>
         requires line { slice_get self.old.lines.now self.old.at ≡ Some line.now }
+        requires called { IsSaidOf (place_at self.old.partition self.old.seats.items)
+            line.now.verb outcome }
         ensures script { (pairs : List PairValue) →
             IsScript pairs self.old → IsScript pairs self.new }
         ensures rest { OnlyRuns self.old self.new }
@@ -289,42 +304,8 @@ impl<'p> Script<'p> {
         self.at >= self.lines.len()
     }
 
-    // Whether the current line is a reset whose queue is not registered.
-    fn is_shut(&self, pairs: &[Pair]) -> bool
-        ensures { result ≡ false → IsResetOpen pairs.now self.now }
-    {
-        match self.lines.get(self.at) {
-            Some(line) => is_reset_shut(&self.seats, pairs, line),
-            None => false,
-        }
-    }
-
     /// Ends the current line if it waits for what does not come any more.
-    pub(crate) fn end_line(&mut self, pairs: &[Pair]) -> Result<Moved, NoMemory>
-        ensures script { (pairs : List PairValue) →
-            IsScript pairs self.old → IsScript pairs self.new }
-        ensures rest { OnlyRuns self.old self.new }
-        ensures credited { OnOk result ((pairs : List PairValue) → IsScript pairs self.old →
-            IsCredited pairs self.old → IsCredited pairs self.new) }
-        ensures told { OnOk result ((pairs : List PairValue) (lan : LanValue) →
-            IsScript pairs self.old → TellsPorts lan self.old → TellsPorts lan self.new) }
-        ensures said { OnOk result ((pairs : List PairValue) → IsScript pairs self.old →
-            IsResetOut pairs self.old → IsScriptTold pairs self.old →
-            IsScriptTold pairs self.new) }
-        ensures unfreed { OnOk result (IsScript pairs.now self.old →
-            KeepsQueues pairs.now self.old → KeepsQueues pairs.now self.new) }
-        ensures quiet { OnQuiet result (self.new ≡ self.old) }
-    {
-        // Never met: a server unit finds no full queue of a client that is not registered, so it takes what its own queue
-        // holds, and the event of the registration has room before a round is quiet.
-        if self.is_shut(pairs) {
-            return Err(NoMemory);
-        }
-        self.end_waiting()
-    }
-
-    // Ends the current line if it waits.
-    fn end_waiting(&mut self) -> Result<Moved, NoMemory>
+    pub(crate) fn end_waiting(&mut self) -> Result<Moved, NoMemory>
         ensures script { (pairs : List PairValue) →
             IsScript pairs self.old → IsScript pairs self.new }
         ensures rest { OnlyRuns self.old self.new }
@@ -351,35 +332,6 @@ impl<'p> Script<'p> {
         };
         self.end(line, outcome)?;
         Ok(Moved::Moved)
-    }
-}
-
-// Whether this line is a reset of a unit whose queue is not registered.
-fn is_reset_shut(seats: &[Seat], pairs: &[Pair], line: &Line) -> bool
-    ensures { result ≡ false → is_reset line.now.verb ≡ true → (k : ℕ) →
-        slice_get seats.now line.now.unit ≡ Some (sits.Client k) →
-        IfSome (slice_get pairs.now k) IsRegistered }
-{
-    let Verb::Reset = line.verb else {
-        return false;
-    };
-    match seats.get(usize::from(line.unit)) {
-        Some(seat) => is_seat_shut(pairs, *seat),
-        None => false,
-    }
-}
-
-// Whether a client sits here, and its queue is not registered.
-fn is_seat_shut(pairs: &[Pair], seat: Seat) -> bool
-    ensures { result ≡ false → (k : ℕ) → seat ≡ sits.Client k →
-        IfSome (slice_get pairs.now k) IsRegistered }
-{
-    let Seat::Client(pair) = seat else {
-        return false;
-    };
-    match pairs.get(pair) {
-        Some(pair) => !pair.link.is_registered(false),
-        None => false,
     }
 }
 

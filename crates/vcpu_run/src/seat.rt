@@ -1,5 +1,5 @@
 // What a client partition does at one of its pairs.
-ghost use Rattle.std.specs.Prelude.{◌≡◌, true, false, IfOk, IsSomeAnd};
+ghost use Rattle.std.specs.Prelude.{◌≡◌, true, false, IfOk, IsSomeAnd, OnOk};
 ghost use Rattle.crq_session.specs.PlainState.{side_of};
 ghost use Rattle.vcpu_run.specs.Pairs.{Drives, IsDriver};
 ghost use Rattle.vcpu_run.specs.Credited.{StepsAgreed, taken_in};
@@ -12,6 +12,7 @@ ghost use Rattle.vcpu_run.specs.Agreed.{OnDrivers};
 ghost use Rattle.hcall_table.specs.Rows.{IsAnswer, may_answer};
 ghost use Rattle.vcpu_run.specs.CallRows.{queue_row, row_for};
 ghost use Rattle.vcpu_run.specs.Sendings.{SameCredits};
+ghost use Rattle.vcpu_run.specs.TakenScripts.{PairGives, PairTakes};
 ghost use Rattle.vcpu_run.specs.Telling.{PairOut, PairTold};
 ghost use Rattle.vcpu_run.specs.Works.{IsUnitVerb};
 
@@ -35,6 +36,8 @@ pub(crate) fn push_event(pair: &mut Pair) -> Result<Moved, NoMemory>
     ensures window { pair.new.window ≡ pair.old.window }
     ensures queue { (side_of pair.new.link false).registered
         ≡ (side_of pair.old.link false).registered }
+    ensures taken { (side_of pair.new.link false).queue.taken
+        ≡ (side_of pair.old.link false).queue.taken }
     ensures quiet { IfOk result (λ moved. moved ≡ Moved.Quiet → PairRests pair.old pair.new) }
     ensures waits { IfOk result (λ moved. moved ≡ Moved.Quiet → EventWaits pair.new) }
 {
@@ -55,10 +58,13 @@ pub(crate) fn step(pair: &mut Pair, line: &Line, progress: &mut Progress) -> Res
     ensures credit { OnDrivers pair.old.driver pair.new.driver (λ a b.
         StepsAgreed line.now.verb (taken_in progress.old) (taken_in progress.new)
         a.client b.client result) }
+    ensures takes { PairTakes line.now.verb progress.old progress.new
+        pair.old pair.new result }
+    ensures gives { OnOk result (PairGives pair.old pair.new) }
     ensures said { PairTold line.now.verb progress.old progress.new pair.old pair.new result }
     ensures shows { PairShows line.now pair.new result }
     ensures out { PairOut line.now.verb progress.old progress.new pair.old pair.new result }
-    ensures registered { PairOpen line.now.verb progress.new pair.new result }
+    ensures registered { PairOpen line.now.verb progress.new pair.old pair.new result }
     ensures stays { is_reset line.now.verb ≡ false → FreesNoneAt pair.old pair.new }
 {
     let Some(driver) = &mut pair.driver else {
@@ -75,6 +81,7 @@ pub(crate) fn step(pair: &mut Pair, line: &Line, progress: &mut Progress) -> Res
 pub(crate) fn take_rest(pair: &mut Pair) -> Result<Moved, NoMemory>
     requires { IsSomeAnd pair.old.driver (IsDriver pair.old.window) }
     ensures drives { Drives pair.old pair.new }
+    ensures gives { OnOk result (PairGives pair.old pair.new) }
     ensures stays { FreesNoneAt pair.old pair.new }
     ensures quiet { IfOk result (λ moved. moved ≡ Moved.Quiet → PairRests pair.old pair.new) }
     ensures waits { IfOk result (λ moved. moved ≡ Moved.Quiet →
@@ -94,6 +101,7 @@ pub(crate) fn take_rest(pair: &mut Pair) -> Result<Moved, NoMemory>
 pub(crate) fn fail(pair: &mut Pair) -> Result<bool, NoMemory>
     requires { IsSomeAnd pair.old.driver (IsDriver pair.old.window) }
     ensures drives { Drives pair.old pair.new }
+    ensures gives { OnOk result (PairGives pair.old pair.new) }
     ensures credit { OnDrivers pair.old.driver pair.new.driver (λ a b.
         SameCredits a.client b.client) }
 {
@@ -113,6 +121,7 @@ pub(crate) fn fail(pair: &mut Pair) -> Result<bool, NoMemory>
 fn freed(pair: &mut Pair)
     requires { IsSomeAnd pair.old.driver (IsDriver pair.old.window) }
     ensures drives { Drives pair.old pair.new }
+    ensures gives { PairGives pair.old pair.new }
     ensures credit { OnDrivers pair.old.driver pair.new.driver (λ a b.
         SameCredits a.client b.client) }
 {

@@ -1,6 +1,7 @@
 // What a partition does at its units, one after the other or at one of them.
 ghost use Rattle.std.specs.Prelude.{◌≡◌, ◌<◌, ◌≤◌, ◌∷◌, [], ⊤, ℕ, false, IfOk, IfSome, OnOk, Some, IsSomeAnd, length, slice_get};
 ghost use Rattle.vcpu_run.specs.Agreed.{AllSame, SameBeside, SameDrivers, SameElse, StepsLine, StepsSeat};
+ghost use Rattle.vcpu_run.specs.CallsSaid.{StepSaid, place_at};
 ghost use Rattle.vcpu_run.specs.Credited.{taken_in};
 ghost use Rattle.vcpu_run.specs.Freed.{FreesNoneIf};
 ghost use Rattle.vcpu_run.specs.Freeing.{IsSpared, is_reset};
@@ -10,8 +11,10 @@ ghost use Rattle.vcpu_run.specs.Pairs.{AreDriven, IsDriver};
 ghost use Rattle.vcpu_run.specs.Ports.{HavePorts, IsPortOf};
 ghost use Rattle.vcpu_run.specs.PortSteps.{AllSilent, AllTake, IsApart, IsBeside, TakesOn, TellsStep};
 ghost use Rattle.vcpu_run.specs.PortWords.{done_in};
+ghost use Rattle.vcpu_run.specs.PortsRest.{PortsRest, SeatTaken};
 ghost use Rattle.vcpu_run.specs.Suited.{is_call, suits};
 ghost use Rattle.vcpu_run.specs.ScriptTold.{SameClients};
+ghost use Rattle.vcpu_run.specs.TakenScripts.{AllGive};
 ghost use Rattle.vcpu_run.specs.Telling.{LineOut, LineTold, SeatOut, SeatTold};
 ghost use Rattle.vcpu_run.specs.Works.{HaveClients, IsLineVerb, IsPortVerb, IsUnitVerb};
 ghost use Rattle.vcpu_run.specs.declared.unit_seat.Seat.TheVariants as sits;
@@ -108,7 +111,8 @@ pub(crate) fn step_at(
         pairs.old pairs.new result }
     ensures out { SeatOut pair line.now.verb progress.old progress.new
         pairs.old pairs.new result }
-    ensures registered { SeatOpen pair line.now.verb progress.new pairs.new result }
+    ensures registered { SeatOpen pair line.now.verb progress.new
+        pairs.old pairs.new result }
     ensures stays { FreesNoneIf (λ k. k ≡ pair → is_reset line.now.verb ≡ false)
         pairs.old pairs.new }
 {
@@ -144,7 +148,8 @@ fn step_own(
         pairs.old pairs.new result }
     ensures out { LineOut seats.now line.now progress.old progress.new
         pairs.old pairs.new result }
-    ensures registered { LineOpen seats.now line.now progress.new pairs.new result }
+    ensures registered { LineOpen seats.now line.now progress.new
+        pairs.old pairs.new result }
     ensures stays { FreesNoneIf (IsSpared seats.now line.now) pairs.old pairs.new }
     ensures others { SameElse seats.now pairs.old pairs.new }
     ensures lan { lan.new.seats ≡ lan.old.seats }
@@ -181,7 +186,7 @@ pub(crate) fn step_unit(
     ensures out { is_call line.now.verb ≡ false →
         LineOut seats.now line.now progress.old progress.new pairs.old pairs.new result }
     ensures registered { is_call line.now.verb ≡ false →
-        LineOpen seats.now line.now progress.new pairs.new result }
+        LineOpen seats.now line.now progress.new pairs.old pairs.new result }
     ensures stays { FreesNoneIf (IsSpared seats.now line.now) pairs.old pairs.new }
     ensures others { SameElse seats.now pairs.old pairs.new }
     ensures lan { lan.new.seats ≡ lan.old.seats }
@@ -189,6 +194,7 @@ pub(crate) fn step_unit(
         TellsStep partition seats.now line.now
         (done_in progress.old) (done_in progress.new) lan.old lan.new step) }
     ensures apart { OnOk result (IsApart partition lan.old lan.new) }
+    ensures called { IfOk result (StepSaid (place_at partition seats.now) line.now.verb) }
 {
     match RawCall::of(&line.verb) {
         Some(raw) => make_call(alloc, partition, seats, pairs, lan, &raw),
@@ -202,6 +208,7 @@ fn take_rest_of(pairs: &mut [Pair], pair: usize) -> Result<Moved, NoMemory>
     requires client { IsSomeAnd (slice_get pairs.old pair)
         (λ pair. IsSomeAnd pair.driver (IsDriver pair.window)) }
     ensures driven { AreDriven pairs.old pairs.new }
+    ensures gives { OnOk result (AllGive pairs.old pairs.new) }
     ensures others { SameBeside pair pairs.old pairs.new }
     ensures stays { FreesNoneIf (λ _. ⊤) pairs.old pairs.new }
     ensures still { IfOk result (λ moved. moved ≡ Moved.Quiet → LinksRest pairs.old pairs.new) }
@@ -222,6 +229,7 @@ fn take_rest_at(
         (λ pair. IsSomeAnd pair.driver (IsDriver pair.window)) }
     requires port { seat ≡ sits.Port → IsPortOf lan.old.seats unit }
     ensures driven { AreDriven pairs.old pairs.new }
+    ensures gives { OnOk result (AllGive pairs.old pairs.new) }
     ensures others { SameElse (seat ∷ []) pairs.old pairs.new }
     ensures lan { lan.new.seats ≡ lan.old.seats }
     ensures takes { OnOk result (TakesOn lan.old lan.new unit) }
@@ -230,6 +238,8 @@ fn take_rest_at(
     ensures still { IfOk result (λ moved. moved ≡ Moved.Quiet → LinksRest pairs.old pairs.new) }
     ensures waits { IfOk result (λ moved. moved ≡ Moved.Quiet → (k : ℕ) → seat ≡ sits.Client k →
         IsSomeAnd (slice_get (links_of pairs.new) k) ClientWaits) }
+    ensures ports { IfOk result (λ moved. moved ≡ Moved.Quiet →
+        SeatTaken unit seat lan.old lan.new) }
 {
     match seat {
         Seat::Client(pair) => take_rest_of(pairs, pair),
@@ -249,6 +259,7 @@ pub(crate) fn take_rest(
     requires ports { HavePorts partition seats.now lan.old.seats }
     requires few { length seats.now ≤ 8 }
     ensures driven { AreDriven pairs.old pairs.new }
+    ensures gives { OnOk result (AllGive pairs.old pairs.new) }
     ensures others { SameElse seats.now pairs.old pairs.new }
     ensures lan { lan.new.seats ≡ lan.old.seats }
     ensures takes { OnOk result (AllTake partition lan.old lan.new) }
@@ -256,6 +267,8 @@ pub(crate) fn take_rest(
     ensures stays { FreesNoneIf (λ _. ⊤) pairs.old pairs.new }
     ensures quiet { IfOk result (λ moved. moved ≡ Moved.Quiet →
         SeatsRest seats.now pairs.old pairs.new) }
+    ensures ports { IfOk result (λ moved. moved ≡ Moved.Quiet →
+        PortsRest partition seats.now lan.old lan.new) }
 {
     let mut moved = Moved::Quiet;
     for k in 0..seats.len() {
@@ -276,6 +289,7 @@ fn fail_of(pairs: &mut [Pair], pair: usize) -> Result<bool, NoMemory>
         (λ pair. IsSomeAnd pair.driver (IsDriver pair.window)) }
     ensures driven { AreDriven pairs.old pairs.new }
     ensures credit { AllSame pairs.old pairs.new }
+    ensures gives { OnOk result (AllGive pairs.old pairs.new) }
     ensures others { SameBeside pair pairs.old pairs.new }
 {
     seat::fail(&mut pairs[pair])
@@ -288,6 +302,7 @@ fn fail_at(unit: UnitId, seat: Seat, pairs: &mut [Pair], lan: &mut Lan) -> Resul
     requires port { seat ≡ sits.Port → IsPortOf lan.old.seats unit }
     ensures driven { AreDriven pairs.old pairs.new }
     ensures credit { AllSame pairs.old pairs.new }
+    ensures gives { OnOk result (AllGive pairs.old pairs.new) }
     ensures others { SameElse (seat ∷ []) pairs.old pairs.new }
     ensures lan { lan.new.seats ≡ lan.old.seats }
     ensures idle { AllSilent lan.old lan.new }
@@ -312,6 +327,7 @@ pub(crate) fn fail(
     requires few { length seats.now ≤ 8 }
     ensures driven { AreDriven pairs.old pairs.new }
     ensures credit { AllSame pairs.old pairs.new }
+    ensures gives { OnOk result (AllGive pairs.old pairs.new) }
     ensures others { SameElse seats.now pairs.old pairs.new }
     ensures lan { lan.new.seats ≡ lan.old.seats }
     ensures idle { AllSilent lan.old lan.new }

@@ -1,10 +1,11 @@
 // Taking answers.
-ghost use Rattle.std.specs.Prelude.{◌≡◌, ◌≤◌, IfOk, false};
+ghost use Rattle.std.specs.Prelude.{◌≡◌, ◌≤◌, IfOk, OnOk, false};
 ghost use Rattle.boot_text.specs.declared.verb.Verb.TheVariants as verbs;
 ghost use Rattle.vscsi_client.specs.declared.TheConstants.{MIN_PAGES};
 ghost use Rattle.vcpu_run.specs.Credited.{StepsAgreed, taken_in};
 ghost use Rattle.vcpu_run.specs.Links.{EndRests};
 ghost use Rattle.vcpu_run.specs.Sendings.{TookOf};
+ghost use Rattle.vcpu_run.specs.Takings.{Gives, StepsTaken, TookTaken};
 ghost use Rattle.vcpu_run.specs.Telling.{StepsTold, TookTold, seated};
 ghost use Rattle.vcpu_run.specs.declared.script.Progress.{Progress as ProgressValue};
 ghost use Rattle.vcpu_run.specs.declared.script.Progress.TheVariants as stages;
@@ -42,6 +43,9 @@ impl Driver {
             (O.state own.old) (O.state own.new) self.old self.new }
         ensures took { IfOk result (λ took. TookOf took self.old.client self.new.client) }
         ensures told { IfOk result (λ took. TookTold took self.old.client self.new.client) }
+        ensures takes { IfOk result (λ took. TookTaken took self.old self.new) }
+        ensures gives { OnOk result (Gives self.old self.new
+            (C.state crq.old.end) (C.state crq.new.end)) }
         ensures queue { (C.state crq.new.end).registered ≡ (C.state crq.old.end).registered }
         ensures none { IfOk result (λ took. C.is_shared ≡ false → took ≡ Took.Nothing →
             EndRests (C.state crq.old.end) (C.state crq.new.end)) }
@@ -69,6 +73,8 @@ impl Driver {
         ensures works { Works false C.is_shared O.is_shared
             (C.state crq.old.end) (C.state crq.new.end)
             (O.state own.old) (O.state own.new) self.old self.new }
+        ensures gives { OnOk result (Gives self.old self.new
+            (C.state crq.old.end) (C.state crq.new.end)) }
         ensures quiet { IfOk result (λ moved. C.is_shared ≡ false → moved ≡ Moved.Quiet →
             EndRests (C.state crq.old.end) (C.state crq.new.end)) }
     {
@@ -103,6 +109,10 @@ impl Driver {
             result }
         ensures credit { StepsAgreed (verbs.Take count) taken.old taken.new
             self.old.client self.new.client result }
+        ensures takes { StepsTaken (verbs.Take count) taken.old taken.new
+            self.old self.new result }
+        ensures gives { OnOk result (Gives self.old self.new
+            (C.state crq.old.end) (C.state crq.new.end)) }
     {
         if *taken >= count {
             return Ok(Step::Ends(Outcome::Took(*taken)));

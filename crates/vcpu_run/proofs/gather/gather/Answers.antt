@@ -1,5 +1,6 @@
 -- The trace is the one of the machine's parts, which keeps the law.
 use Rattle.vio_trace.specs.Form.{IsInOrder}
+use Rattle.vcpu_run.proofs.CallsGathered.{calls_are}
 use Rattle.vcpu_run.proofs.Copied.{copies_are}
 use Rattle.vcpu_run.proofs.Fetching.{entries_are_fetched, ok_pair, requests_are_served}
 use Rattle.vcpu_run.proofs.FramesCarried.{ports_keep}
@@ -38,6 +39,11 @@ pub returns-clause-records : goal.returns-clause-records
 returns-clause-records c =
     from_rows c.args.pairs.items c.args.scripts.items c.args.lan c.args.history.items c.args.grants.items c.args.copies.items c.rows_of.result _ _ c.rows_of.ensures.trace c.rows_of.ensures.queues
     (λ rows keeps ordered lawful partitions of_plan over. records_are c.args.pairs.items c.args.scripts.items c.args.lan rows c.args.history.items c.args.grants.items c.args.copies.items partitions c.requires.scripts over of_plan)
+
+pub returns-clause-called : goal.returns-clause-called
+returns-clause-called c =
+    from_rows c.args.pairs.items c.args.scripts.items c.args.lan c.args.history.items c.args.grants.items c.args.copies.items c.rows_of.result _ _ c.rows_of.ensures.trace c.rows_of.ensures.queues
+    (λ rows keeps ordered lawful partitions of_plan. calls_are c.args.pairs.items c.args.scripts.items c.args.lan rows c.args.history.items c.args.grants.items c.args.copies.items partitions c.requires.scripts of_plan)
 
 pub returns-clause-copies : goal.returns-clause-copies
 returns-clause-copies c =

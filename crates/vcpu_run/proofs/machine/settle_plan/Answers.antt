@@ -6,11 +6,19 @@ use Rattle.vcpu_run.specs.OnDisk.{IsServed, LastsInRows}
 use Rattle.vcpu_run.specs.Machines.{IsOfPlan}
 use Rattle.vcpu_run.proofs.Causings.{caused_of_plan}
 use Rattle.vcpu_run.proofs.Disks.{served_from, served_same, served_somehow, told_same}
+use Rattle.std.proofs.lemmas.Option.{IfSome_then}
+use Rattle.vcpu_run.proofs.Told.{law_of_plan}
 use Rattle.vcpu_run.proofs.machine.settle_plan.Goals as goal
 
 pub settle-requires-clause-answered : goal.settle-requires-clause-answered
 settle-requires-clause-answered g c =
     subst (λ (rows : List Served). AreAnswered rows c.in-Ok.machine.pairs.items) (sym c.in-Ok.ensures.none) c.in-Ok.ensures.answered
+
+pub returns-in-Ok-clause-law : goal.returns-in-Ok-clause-law
+returns-in-Ok-clause-law g c =
+    law_of_plan c.settle.result.trace c.args.plan.now
+    (IfSome_then c.settle.result.trace c.settle.ensures.law (λ trace keeps. keeps c.args.plan.now.partitions c.in-Ok.ensures.of_plan))
+    (IfSome_then c.settle.result.trace c.settle.ensures.grants (λ trace grants. grants c.args.plan.now.grant c.in-Ok.ensures.grants))
 
 pub returns-in-Ok-clause-disk : goal.returns-in-Ok-clause-disk
 returns-in-Ok-clause-disk g c =

@@ -1,7 +1,7 @@
 use Rattle.std.proofs.Common.{All, OnOk, subst}
 use Rattle.vcpu_run.specs.Agreed.{AreCredited}
 use Rattle.vcpu_run.specs.Lines.{IsOver}
-use Rattle.vcpu_run.specs.PortWords.{PortsTell}
+use Rattle.vcpu_run.specs.PortsRest.{PortsEnd}
 use Rattle.vcpu_run.specs.Received.{AreAtRest}
 use Rattle.vcpu_run.specs.ScriptTold.{AreTold}
 use Rattle.vcpu_run.proofs.Told.{law_told, served_told, said_told}
@@ -12,14 +12,17 @@ returns-in-Ok-clause-law c =
     let told = c.gather.ensures in
     let credited = subst (λ r. OnOk r (AreCredited c.args.pairs.items c.args.scripts.items)) c.in-Ok.is c.requires.credited in
     let said = subst (λ r. OnOk r (AreTold c.args.pairs.items c.args.scripts.items)) c.in-Ok.is c.requires.said in
-    let tells = subst (λ r. OnOk r (PortsTell c.args.lan c.args.scripts.items)) c.in-Ok.is c.requires.told in
+    let tells = subst (λ r. OnOk r (PortsEnd c.args.lan c.args.scripts.items)) c.in-Ok.is c.requires.told in
     let over = subst (λ r. OnOk r (All IsOver c.args.scripts.items)) c.in-Ok.is c.requires.over in
     let rests = subst (λ r. OnOk r (AreAtRest c.args.copies.items c.args.grants.items c.args.history.items c.args.pairs.items c.args.scripts.items)) c.in-Ok.is c.requires.rests in
     law_told c.gather.result c.ok.result c.args.pairs.items c.args.scripts.items c.args.lan.seats c.args.history.items c.args.copies.items c.args.grants.items c.ok.ensures.value
-    told.order told.queues told.copies told.records over told.credits credited told.refusals said told.answers c.requires.answered told.ports c.args.lan told.told tells told.settled told.handed told.intake told.requests told.given told.copied told.explained told.logins told.dealt rests
+    told.order told.queues told.copies told.records over told.credits credited told.refusals said told.answers c.requires.answered told.ports c.args.lan told.told tells told.settled told.handed told.intake told.requests told.given told.copied told.explained told.logins told.dealt told.called rests
 
 pub returns-in-Ok-clause-serves : goal.returns-in-Ok-clause-serves
 returns-in-Ok-clause-serves c = served_told c.gather.result c.ok.result c.args.history.items c.ok.ensures.value c.gather.ensures.serves
 
 pub returns-in-Ok-clause-shown : goal.returns-in-Ok-clause-shown
 returns-in-Ok-clause-shown c = said_told c.gather.result c.ok.result _ c.ok.ensures.value c.gather.ensures.shown
+
+pub returns-in-Ok-clause-grants : goal.returns-in-Ok-clause-grants
+returns-in-Ok-clause-grants c = said_told c.gather.result c.ok.result _ c.ok.ensures.value c.gather.ensures.grants

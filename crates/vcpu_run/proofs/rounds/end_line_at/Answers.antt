@@ -1,5 +1,5 @@
 use Rattle.vcpu_run.proofs.Resting.{quiet_set}
-use Rattle.std.proofs.Common.{slice_index_or}
+use Rattle.std.proofs.Common.{refl, slice_index_or}
 use Rattle.std.proofs.lemmas.Option.{slice_get-get_or}
 use Rattle.vcpu_run.proofs.Elsewhere.{credits_turned, else_none, ok_then}
 use Rattle.vcpu_run.proofs.Keeping.{all_same}
@@ -16,15 +16,15 @@ returns-clause-scripts c pairs ports are =
     let d = c.index-scripts-number.result in
     let old = slice_index_or scripts c.args.number d in
     let found = slice_get-get_or scripts c.args.number d c.requires in
-    script_turned pairs pairs ports scripts c.args.number old c.end_line.new.self found
-    (all_same pairs) c.end_line.ensures.rest (c.end_line.ensures.script pairs (are c.args.number old found).script_is) are
+    script_turned pairs pairs ports scripts c.args.number old c.end_waiting.new.self found
+    (all_same pairs) c.end_waiting.ensures.rest (c.end_waiting.ensures.script pairs (are c.args.number old found).script_is) are
 
 pub returns-clause-run : goal.returns-clause-run
 returns-clause-run c =
     let scripts = c.args.scripts.now in
     let d = c.index-scripts-number.result in
-    run_one scripts c.args.number (slice_index_or scripts c.args.number d) c.end_line.new.self
-    (slice_get-get_or scripts c.args.number d c.requires) c.end_line.ensures.rest
+    run_one scripts c.args.number (slice_index_or scripts c.args.number d) c.end_waiting.new.self
+    (slice_get-get_or scripts c.args.number d c.requires) c.end_waiting.ensures.rest
 
 pub returns-clause-credited : goal.returns-clause-credited
 returns-clause-credited c =
@@ -32,18 +32,18 @@ returns-clause-credited c =
     let d = c.index-scripts-number.result in
     let old = slice_index_or scripts c.args.number d in
     let found = slice_get-get_or scripts c.args.number d c.requires in
-    ok_then c.end_line.result _ _
+    ok_then c.end_waiting.result _ _
     (λ kept pairs ports scripts_are are.
-    credits_turned pairs pairs ports scripts c.args.number old c.end_line.new.self found scripts_are (else_none old.seats.items pairs) are
+    credits_turned pairs pairs ports scripts c.args.number old c.end_waiting.new.self found scripts_are (else_none old.seats.items pairs) are
     (kept pairs (scripts_are c.args.number old found).script_is (are c.args.number old found)))
-    c.end_line.ensures.credited
+    c.end_waiting.ensures.credited
 
 pub returns-clause-quiet : goal.returns-clause-quiet
 returns-clause-quiet c =
     let scripts = c.args.scripts.now in
     let d = c.index-scripts-number.result in
-    quiet_set scripts c.args.number (slice_index_or scripts c.args.number d) c.end_line.new.self c.end_line.result
-    (slice_get-get_or scripts c.args.number d c.requires) c.end_line.ensures.quiet
+    quiet_set scripts c.args.number (slice_index_or scripts c.args.number d) c.end_waiting.new.self c.end_waiting.result
+    (slice_get-get_or scripts c.args.number d c.requires) c.end_waiting.ensures.quiet
 
 pub returns-clause-told : goal.returns-clause-told
 returns-clause-told c =
@@ -51,10 +51,10 @@ returns-clause-told c =
     let d = c.index-scripts-number.result in
     let old = slice_index_or scripts c.args.number d in
     let found = slice_get-get_or scripts c.args.number d c.requires in
-    ok_then c.end_line.result _ _
+    ok_then c.end_waiting.result _ _
     (λ kept pairs ports lan scripts_are tells.
-    ports_ended lan scripts c.args.number c.end_line.new.self tells (kept pairs lan (scripts_are c.args.number old found).script_is (tells c.args.number old found)))
-    c.end_line.ensures.told
+    ports_ended lan scripts c.args.number c.end_waiting.new.self tells (kept pairs lan (scripts_are c.args.number old found).script_is (tells c.args.number old found)))
+    c.end_waiting.ensures.told
 
 pub returns-clause-said : goal.returns-clause-said
 returns-clause-said c =
@@ -62,10 +62,10 @@ returns-clause-said c =
     let d = c.index-scripts-number.result in
     let old = slice_index_or scripts c.args.number d in
     let found = slice_get-get_or scripts c.args.number d c.requires in
-    ok_then c.end_line.result _ _
+    ok_then c.end_waiting.result _ _
     (λ kept pairs ports scripts_are out told.
-    told_ended pairs scripts c.args.number old c.end_line.new.self found c.end_line.ensures.rest (kept pairs (scripts_are c.args.number old found).script_is) out told)
-    c.end_line.ensures.said
+    told_ended pairs scripts c.args.number old c.end_waiting.new.self found c.end_waiting.ensures.rest (kept pairs (scripts_are c.args.number old found).script_is) out told)
+    c.end_waiting.ensures.said
 
 pub returns-clause-unfreed : goal.returns-clause-unfreed
 returns-clause-unfreed c =
@@ -73,11 +73,11 @@ returns-clause-unfreed c =
     let d = c.index-scripts-number.result in
     let old = slice_index_or scripts c.args.number d in
     let found = slice_get-get_or scripts c.args.number d c.requires in
-    ok_then c.end_line.result _ _
-    (λ kept ports scripts_are.
-    queues_turned c.args.pairs.now c.args.pairs.now ports scripts c.args.number old c.end_line.new.self found scripts_are (else_none old.seats.items c.args.pairs.now)
-    (kept (scripts_are c.args.number old found).script_is))
-    c.end_line.ensures.unfreed
+    ok_then c.end_waiting.result _ _
+    (λ kept pairs ports scripts_are opens.
+    queues_turned pairs pairs ports scripts c.args.number old c.end_waiting.new.self found scripts_are (else_none old.seats.items pairs) c.end_waiting.ensures.rest
+    (λ behind. kept pairs (scripts_are c.args.number old found).script_is (opens c.args.number old refl found behind)))
+    c.end_waiting.ensures.unfreed
 
 pub returns-clause-elsewhere : goal.returns-clause-elsewhere
-returns-clause-elsewhere c = λ i apart. get_set_other c.args.scripts.now c.args.number i c.end_line.new.self apart
+returns-clause-elsewhere c = λ i apart. get_set_other c.args.scripts.now c.args.number i c.end_waiting.new.self apart

@@ -1,10 +1,11 @@
 use Rattle.std.proofs.Common.{◌∙◌, arith, refl}
+use Rattle.vcpu_run.proofs.OpenRounds.{open_next}
 use Rattle.vcpu_run.proofs.RoundsTold.{out_next}
 use Rattle.vcpu_run.proofs.Scripted.{run_same, run_then}
 use Rattle.vcpu_run.proofs.rounds.end_lines.Goals as goal
 
 pub loop-number-init : goal.loop-number-init
-loop-number-init c = record { scripts = λ pairs ports are. are; run = run_same c.args.scripts.now; credited = λ pairs ports scripts_are are. are; said = λ pairs ports scripts_are out are. are; rest = λ i more. refl; told = λ pairs ports lan scripts_are tells. tells; same = λ is. refl; unfreed = λ ports scripts_are keep. keep }
+loop-number-init c = record { scripts = λ pairs ports are. are; run = run_same c.args.scripts.now; credited = λ pairs ports scripts_are are. are; said = λ pairs ports scripts_are out are. are; rest = λ i more. refl; told = λ pairs ports lan scripts_are tells. tells; same = λ is. refl; unfreed = λ pairs ports scripts_are opens keep. keep }
 
 pub loop-number-preserved : goal.loop-number-preserved
 loop-number-preserved c =
@@ -19,8 +20,9 @@ loop-number-preserved c =
           (out_next pairs c.args.scripts.now c.loop-number.scripts c.loop-number.number before.rest out) (before.said pairs ports scripts_are out are);
       rest = λ i more. after.elsewhere i (λ same. omega (arith, more, same)) ∙ before.rest i (omega (arith, more));
       told = λ pairs ports lan scripts_are tells. c.in_ok-turned.ensures.told pairs ports lan (before.scripts pairs ports scripts_are) (before.told pairs ports lan scripts_are tells);
-      unfreed = λ ports scripts_are keep.
-          c.in_ok-turned.ensures.unfreed ports (before.scripts c.args.pairs.now ports scripts_are) (before.unfreed ports scripts_are keep);
+      unfreed = λ pairs ports scripts_are opens keep.
+          c.in_ok-turned.ensures.unfreed pairs ports (before.scripts pairs ports scripts_are)
+          (open_next pairs c.args.scripts.now c.loop-number.scripts c.loop-number.number before.rest before.run opens) (before.unfreed pairs ports scripts_are opens keep);
       same = λ is. c.in_ok-turned.ensures.quiet (c.either-moved.ensures.other is) ∙ before.same (c.either-moved.ensures.one is);
     }
 

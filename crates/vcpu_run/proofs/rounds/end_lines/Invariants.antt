@@ -4,7 +4,7 @@ use Rattle.lan_script.specs.Units.{LanValue}
 use Rattle.lan_script.specs.declared.seat.PortSeat.{PortSeat}
 use Rattle.vcpu_run.specs.declared.pair.Pair.{Pair}
 use Rattle.vcpu_run.specs.Agreed.{AreCredited}
-use Rattle.vcpu_run.specs.Holding.{KeepQueues}
+use Rattle.vcpu_run.specs.Holding.{AreOpenTo, KeepQueues}
 use Rattle.vcpu_run.specs.Machines.{AllRun, AreScripts}
 use Rattle.vcpu_run.specs.PortWords.{PortsTell}
 use Rattle.vcpu_run.specs.ScriptTold.{AreOutTo, AreTold}
@@ -18,6 +18,7 @@ invariant-loop-number l = record {
   said : (pairs : List Pair) (ports : List PortSeat) → AreScripts pairs ports l.initial.scripts → AreOutTo (length l.initial.scripts) pairs l.initial.scripts → AreTold pairs l.initial.scripts → AreTold pairs l.scripts;
   rest : (i : ℕ) → l.number ≤ i → slice_get l.scripts i ≡ slice_get l.initial.scripts i;
   told : (pairs : List Pair) (ports : List PortSeat) (lan : LanValue) → AreScripts pairs ports l.initial.scripts → PortsTell lan l.initial.scripts → PortsTell lan l.scripts;
-  unfreed : (ports : List PortSeat) → AreScripts l.pairs ports l.initial.scripts → KeepQueues l.pairs l.initial.scripts → KeepQueues l.pairs l.scripts;
+  unfreed : (pairs : List Pair) (ports : List PortSeat) → AreScripts pairs ports l.initial.scripts → AreOpenTo (length l.initial.scripts) pairs l.initial.scripts
+      → KeepQueues pairs l.initial.scripts → KeepQueues pairs l.scripts;
   same : l.moved ≡ Quiet → l.scripts ≡ l.initial.scripts;
 }

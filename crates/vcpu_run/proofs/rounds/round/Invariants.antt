@@ -2,8 +2,9 @@ use Rattle.std.proofs.Common.{◌≡◌, vec_len}
 use Rattle.vcpu_run.specs.Agreed.{AreCredited}
 use Rattle.vcpu_run.specs.Answered.{AreAnswered}
 use Rattle.vio_num.specs.declared.hypervisor.Moved.TheVariants.{Quiet}
-use Rattle.vcpu_run.specs.Holding.{KeepQueues}
+use Rattle.vcpu_run.specs.Holding.{IsOpenUpTo, KeepQueues}
 use Rattle.vcpu_run.specs.Caused.{LastsBy}
+use Rattle.vcpu_run.specs.Grants.{KeepsGrants}
 use Rattle.vcpu_run.specs.Heard.{AreHeard}
 use Rattle.vcpu_run.specs.Links.{AreIdleTo, AreLinked, AreOverTo}
 use Rattle.vcpu_run.specs.PortWords.{PortsTell}
@@ -11,6 +12,7 @@ use Rattle.vcpu_run.specs.Received.{AreReceived}
 use Rattle.vcpu_run.specs.ScriptTold.{AreOutTo, AreTold}
 use Rattle.vcpu_run.specs.OnDisk.{LastsOnDisk}
 use Rattle.vcpu_run.specs.Machines.{AllRun, AllStay, IsMachine}
+use Rattle.vcpu_run.specs.PortsRest.{AreTakenTo}
 use Rattle.vcpu_run.proofs.rounds.round.Given as goal
 
 abbrev pub invariant-loop-number : goal.invariant-loop-number
@@ -21,6 +23,7 @@ invariant-loop-number g l = record {
   answered : AreAnswered l.server.records.history.items l.pairs;
   received : AreReceived l.server.units.items l.server.copies.items l.server.records.grants.items l.server.records.history.items l.pairs;
   heard : AreHeard l.server.disk.count l.server.partition l.server.units.items l.server.records l.server.copies.items l.pairs;
+  grants : KeepsGrants l.initial.server.units.items l.server.units.items l.initial.server.records.grants.items l.server.records.grants.items;
   disk : LastsOnDisk l.initial.server.records.history.items l.server.records.history.items
       (g.Di.Blocks.state l.initial.server.disk.image).blocks (g.Di.Blocks.state l.server.disk.image).blocks;
   causes : LastsBy l.initial.server.copies.items l.server.copies.items l.initial.pairs l.pairs l.initial.server.records.history.items l.server.records.history.items
@@ -31,6 +34,8 @@ invariant-loop-number g l = record {
   told : PortsTell l.initial.lan l.initial.scripts → PortsTell l.lan l.scripts;
   lan : l.lan.seats ≡ l.initial.lan.seats;
   unfreed : KeepQueues l.initial.pairs l.initial.scripts → KeepQueues l.pairs l.scripts;
+  opened : l.moved ≡ Quiet → AreLinked l.initial.server.units.items l.initial.pairs → IsOpenUpTo l.number l.pairs l.scripts;
   linked : AreLinked l.initial.server.units.items l.initial.pairs → AreLinked l.server.units.items l.pairs;
   idle : l.moved ≡ Quiet → AreLinked l.initial.server.units.items l.initial.pairs → AreOverTo l.number l.scripts → AreIdleTo l.number l.server.units.items l.pairs l.scripts;
+  taken : l.moved ≡ Quiet → AreOverTo l.number l.scripts → AreTakenTo l.number l.lan l.scripts;
 }

@@ -7,7 +7,7 @@ use Rattle.vcpu_run.proofs.Causings.{causes_same, causes_then}
 use Rattle.vcpu_run.proofs.rounds.run.Goals as goal
 
 pub loop-round-init : goal.loop-round-init
-loop-round-init g c = record { said = λ told. told; told = λ tells. tells; machine = c.requires.machine; stay = all_same c.args.pairs.now; run = run_same c.args.scripts.now; answered = c.requires.answered; received = c.requires.received; heard = c.requires.heard; disk = lasts_same c.args.server.now.records.history.items (g.Di.Blocks.state c.args.server.now.disk.image).blocks; causes = causes_same c.args.server.now.copies.items c.args.pairs.now c.args.server.now.records.history.items (g.Di.Blocks.state c.args.server.now.disk.image).blocks; credited = λ are. are; lan = refl; unfreed = λ keep. keep; linked = λ are. are }
+loop-round-init g c = record { said = λ told. told; told = λ tells. tells; machine = c.requires.machine; stay = all_same c.args.pairs.now; run = run_same c.args.scripts.now; answered = c.requires.answered; received = c.requires.received; heard = c.requires.heard; grants = λ granted is. is; disk = lasts_same c.args.server.now.records.history.items (g.Di.Blocks.state c.args.server.now.disk.image).blocks; causes = causes_same c.args.server.now.copies.items c.args.pairs.now c.args.server.now.records.history.items (g.Di.Blocks.state c.args.server.now.disk.image).blocks; credited = λ are. are; lan = refl; unfreed = λ linked keep. keep; linked = λ are. are }
 
 pub loop-round-preserved : goal.loop-round-preserved
 loop-round-preserved g c =
@@ -20,6 +20,7 @@ loop-round-preserved g c =
       answered = after.answered;
       received = after.received;
       heard = after.heard;
+      grants = λ granted is. c.step.ensures.grants granted (c.loop-round.invariant.grants granted is);
       disk = lasts_then c.args.server.now.records.history.items c.loop-round.server.records.history.items c.step.new.server.records.history.items
           (g.Di.Blocks.state c.args.server.now.disk.image).blocks (g.Di.Blocks.state c.loop-round.server.disk.image).blocks (g.Di.Blocks.state c.step.new.server.disk.image).blocks c.loop-round.invariant.disk c.step.ensures.disk;
       causes = causes_then c.args.server.now.copies.items c.loop-round.server.copies.items c.step.new.server.copies.items c.args.pairs.now c.loop-round.pairs c.step.new.pairs
@@ -29,7 +30,7 @@ loop-round-preserved g c =
       said = λ told. c.in_ok-moved.ensures.said (before.said told);
       told = λ tells. c.in_ok-moved.ensures.told (before.told tells);
       lan = after.lan ∙ before.lan;
-      unfreed = λ keep. c.in_ok-moved.ensures.unfreed (before.unfreed keep);
+      unfreed = λ linked keep. c.in_ok-moved.ensures.unfreed (before.linked linked) (before.unfreed linked keep);
       linked = λ are. c.in_ok-moved.ensures.linked (before.linked are);
     }
 
@@ -87,3 +88,17 @@ returns-then-is_end-clause-causes g c =
     causes_then c.args.server.now.copies.items c.loop-round.server.copies.items c.step.new.server.copies.items c.args.pairs.now c.loop-round.pairs c.step.new.pairs
     c.args.server.now.records.history.items c.loop-round.server.records.history.items c.step.new.server.records.history.items
     (g.Di.Blocks.state c.args.server.now.disk.image).blocks (g.Di.Blocks.state c.loop-round.server.disk.image).blocks (g.Di.Blocks.state c.step.new.server.disk.image).blocks c.loop-round.invariant.causes c.step.ensures.causes
+
+pub returns-then-is_end-clause-unfreed : goal.returns-then-is_end-clause-unfreed
+returns-then-is_end-clause-unfreed g c = λ linked keep.
+    c.in_ok-moved.ensures.unfreed (c.loop-round.invariant.linked linked) (c.loop-round.invariant.unfreed linked keep)
+
+pub returns-then-is_end-clause-ports : goal.returns-then-is_end-clause-ports
+returns-then-is_end-clause-ports g c =
+    c.in_ok-moved.ensures.ports (c.is_end.ensures.quiet c.if-is_end.true) (over_all c.step.new.scripts (c.is_end.ensures.over c.if-is_end.true))
+
+pub returns-in_err-moved-clause-grants : goal.returns-in_err-moved-clause-grants
+returns-in_err-moved-clause-grants g c = λ granted is. c.step.ensures.grants granted (c.loop-round.invariant.grants granted is)
+
+pub returns-then-is_end-clause-grants : goal.returns-then-is_end-clause-grants
+returns-then-is_end-clause-grants g c = λ granted is. c.step.ensures.grants granted (c.loop-round.invariant.grants granted is)

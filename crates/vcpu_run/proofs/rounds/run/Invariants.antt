@@ -3,6 +3,7 @@ use Rattle.vcpu_run.specs.Agreed.{AreCredited}
 use Rattle.vcpu_run.specs.Answered.{AreAnswered}
 use Rattle.vcpu_run.specs.Holding.{KeepQueues}
 use Rattle.vcpu_run.specs.Caused.{LastsBy}
+use Rattle.vcpu_run.specs.Grants.{KeepsGrants}
 use Rattle.vcpu_run.specs.Heard.{AreHeard}
 use Rattle.vcpu_run.specs.Links.{AreLinked}
 use Rattle.vcpu_run.specs.PortWords.{PortsTell}
@@ -20,6 +21,7 @@ invariant-loop-round g l = record {
   answered : AreAnswered l.server.records.history.items l.pairs;
   received : AreReceived l.server.units.items l.server.copies.items l.server.records.grants.items l.server.records.history.items l.pairs;
   heard : AreHeard l.server.disk.count l.server.partition l.server.units.items l.server.records l.server.copies.items l.pairs;
+  grants : KeepsGrants l.initial.server.units.items l.server.units.items l.initial.server.records.grants.items l.server.records.grants.items;
   disk : LastsOnDisk l.initial.server.records.history.items l.server.records.history.items
       (g.Di.Blocks.state l.initial.server.disk.image).blocks (g.Di.Blocks.state l.server.disk.image).blocks;
   causes : LastsBy l.initial.server.copies.items l.server.copies.items l.initial.pairs l.pairs l.initial.server.records.history.items l.server.records.history.items
@@ -28,6 +30,6 @@ invariant-loop-round g l = record {
   said : AreTold l.initial.pairs l.initial.scripts → AreTold l.pairs l.scripts;
   told : PortsTell l.initial.lan l.initial.scripts → PortsTell l.lan l.scripts;
   lan : l.lan.seats ≡ l.initial.lan.seats;
-  unfreed : KeepQueues l.initial.pairs l.initial.scripts → KeepQueues l.pairs l.scripts;
+  unfreed : AreLinked l.initial.server.units.items l.initial.pairs → KeepQueues l.initial.pairs l.initial.scripts → KeepQueues l.pairs l.scripts;
   linked : AreLinked l.initial.server.units.items l.initial.pairs → AreLinked l.server.units.items l.pairs;
 }

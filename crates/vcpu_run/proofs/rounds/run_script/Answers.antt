@@ -2,7 +2,7 @@ use Rattle.vcpu_run.proofs.Waiting.{linked_driven}
 use Rattle.vcpu_run.proofs.Resting.{ok_more}
 use Rattle.vcpu_run.proofs.Idling.{set_rests}
 use Rattle.vcpu_run.proofs.Driving.{get_set_other}
-use Rattle.std.proofs.Common.{slice_index_or, refl}
+use Rattle.std.proofs.Common.{◌≡◌, IsSomeAnd, false, slice_index_or, refl, subst}
 use Rattle.std.proofs.lemmas.Option.{slice_get-get_or}
 use Rattle.vcpu_run.proofs.Answering.{answered_driven}
 use Rattle.vcpu_run.proofs.Elsewhere.{credits_turned, ok_then}
@@ -10,9 +10,12 @@ use Rattle.vcpu_run.proofs.Keeping.{driven_stay, drivers_driven, pairs_driven}
 use Rattle.vcpu_run.proofs.Receiving.{received_driven}
 use Rattle.vcpu_run.proofs.RoundsTold.{out_turned, told_turned}
 use Rattle.vcpu_run.proofs.Scripted.{run_one, script_turned}
+use Rattle.vcpu_run.specs.Scripts.{are_servers}
 use Rattle.vcpu_run.proofs.Held.{queues_turned}
+use Rattle.vcpu_run.proofs.OpenRounds.{open_turned}
 use Rattle.vcpu_run.proofs.PortTurns.{ports_turned}
 use Rattle.vcpu_run.proofs.HeardTurns.{heard_driven, tells_driven}
+use Rattle.vcpu_run.proofs.PortsResting.{set_ports}
 use Rattle.vcpu_run.proofs.rounds.run_script.Goals as goal
 
 pub turn-requires-clause-script : goal.turn-requires-clause-script
@@ -90,8 +93,20 @@ returns-clause-unfreed c =
     let d = c.index-scripts-number.result in
     ok_then c.turn.result _ _
     (λ kept. queues_turned c.args.pairs.now c.turn.new.pairs c.args.lan.now.seats scripts c.args.number (slice_index_or scripts c.args.number d) c.turn.new.self
-    (slice_get-get_or scripts c.args.number d c.requires.there) c.requires.scripts c.turn.ensures.others kept)
+    (slice_get-get_or scripts c.args.number d c.requires.there) c.requires.scripts c.turn.ensures.others c.turn.ensures.rest (λ behind. kept))
     c.turn.ensures.unfreed
+
+pub returns-clause-opened : goal.returns-clause-opened
+returns-clause-opened c =
+    let scripts = c.args.scripts.now in
+    let d = c.index-scripts-number.result in
+    let old = slice_index_or scripts c.args.number d in
+    let found = slice_get-get_or scripts c.args.number d c.requires.there in
+    ok_more c.turn.result _ _
+    (λ moved held is plain before.
+    open_turned c.args.pairs.now c.turn.new.pairs c.args.lan.now.seats scripts c.args.number old c.turn.new.self found c.requires.scripts c.turn.ensures.others c.turn.ensures.rest
+    (subst (λ o. IsSomeAnd o (λ script. are_servers script.seats.items ≡ false)) found plain) (held is) before)
+    c.turn.ensures.opened
 
 pub returns-clause-told : goal.returns-clause-told
 returns-clause-told c =
@@ -129,3 +144,13 @@ returns-clause-heard c size partition units records copies = heard_driven size p
 
 pub returns-clause-tells : goal.returns-clause-tells
 returns-clause-tells c copies told = tells_driven told copies c.args.pairs.now c.turn.new.pairs c.turn.ensures.driven
+
+pub returns-clause-ports : goal.returns-clause-ports
+returns-clause-ports c =
+    let scripts = c.args.scripts.now in
+    let old = slice_index_or scripts c.args.number c.index-scripts-number.result in
+    ok_more c.turn.result _ _
+    (λ moved rests is over.
+    set_ports scripts c.args.number c.turn.new.self old.partition old.seats.items c.args.lan.now c.turn.new.lan c.requires.there
+    (rw c.turn.ensures.rest.partition refl) (rw c.turn.ensures.rest.seats refl) (rests is) over)
+    c.turn.ensures.ports

@@ -8,7 +8,7 @@ use Rattle.vcpu_run.proofs.ClientsTold.{clients_on, clients_same}
 use Rattle.vcpu_run.proofs.rounds.serve.Goals as goal
 
 pub loop-unit-init : goal.loop-unit-init
-loop-unit-init g c = record { serving = c.requires.serving; stay = all_same c.args.pairs.now; drivers = λ k. refl; clients = clients_same c.args.pairs.now; answered = c.requires.answered; received = c.requires.received; heard = c.requires.heard; disk = lasts_same c.args.server.now.records.history.items (g.Di.Blocks.state c.args.server.now.disk.image).blocks; causes = causes_same c.args.server.now.copies.items c.args.pairs.now c.args.server.now.records.history.items (g.Di.Blocks.state c.args.server.now.disk.image).blocks; linked = λ are. are; stays = frees_same _ c.args.pairs.now; wait = λ is are k link less found. absurd (omega (arith, less)) }
+loop-unit-init g c = record { serving = c.requires.serving; stay = all_same c.args.pairs.now; drivers = λ k. refl; clients = clients_same c.args.pairs.now; answered = c.requires.answered; received = c.requires.received; heard = c.requires.heard; grants = λ granted is. is; disk = lasts_same c.args.server.now.records.history.items (g.Di.Blocks.state c.args.server.now.disk.image).blocks; causes = causes_same c.args.server.now.copies.items c.args.pairs.now c.args.server.now.records.history.items (g.Di.Blocks.state c.args.server.now.disk.image).blocks; linked = λ are. are; stays = frees_same _ c.args.pairs.now; wait = λ is are k link less found. absurd (omega (arith, less)) }
 
 pub loop-unit-preserved : goal.loop-unit-preserved
 loop-unit-preserved g c = record {
@@ -19,6 +19,7 @@ loop-unit-preserved g c = record {
   answered = c.serve_at.ensures.answered;
   received = c.serve_at.ensures.received;
   heard = c.serve_at.ensures.heard;
+  grants = λ granted is. c.serve_at.ensures.grants granted (c.loop-unit.invariant.grants granted is);
   disk = lasts_then c.args.server.now.records.history.items c.loop-unit.server.records.history.items c.serve_at.new.server.records.history.items
       (g.Di.Blocks.state c.args.server.now.disk.image).blocks (g.Di.Blocks.state c.loop-unit.server.disk.image).blocks (g.Di.Blocks.state c.serve_at.new.server.disk.image).blocks c.loop-unit.invariant.disk c.serve_at.ensures.disk;
   causes = causes_then c.args.server.now.copies.items c.loop-unit.server.copies.items c.serve_at.new.server.copies.items c.args.pairs.now c.loop-unit.pairs c.serve_at.new.pairs
@@ -60,3 +61,6 @@ returns-in_err-turned-clause-causes g c =
     causes_then c.args.server.now.copies.items c.loop-unit.server.copies.items c.serve_at.new.server.copies.items c.args.pairs.now c.loop-unit.pairs c.serve_at.new.pairs
     c.args.server.now.records.history.items c.loop-unit.server.records.history.items c.serve_at.new.server.records.history.items
     (g.Di.Blocks.state c.args.server.now.disk.image).blocks (g.Di.Blocks.state c.loop-unit.server.disk.image).blocks (g.Di.Blocks.state c.serve_at.new.server.disk.image).blocks c.loop-unit.invariant.causes c.serve_at.ensures.causes
+
+pub returns-in_err-turned-clause-grants : goal.returns-in_err-turned-clause-grants
+returns-in_err-turned-clause-grants g c = λ granted is. c.serve_at.ensures.grants granted (c.loop-unit.invariant.grants granted is)

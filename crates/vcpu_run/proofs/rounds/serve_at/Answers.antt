@@ -125,6 +125,7 @@ returns-clause-clients g c =
       driver = c.serve.ensures.driver;
       pages = c.serve.ensures.stays.pages;
       queue = c.serve.ensures.queue;
+      taken = c.serve.ensures.taken;
       unit = c.serve.ensures.stays.client_unit;
       sees = serve_sees (slice_index_or pairs c.args.unit c.index-pairs-unit.result) c.serve.new.self c.serve.ensures.shows.window c.serve.ensures.sent;
     })

@@ -5,6 +5,7 @@ use Rattle.vcpu_run.proofs.Crediting.{on_ok}
 use Rattle.std.proofs.Common.{List, length, subst, sym}
 use Rattle.vcpu_run.proofs.Elsewhere.{ok_then}
 use Rattle.vcpu_run.proofs.Scripted.{run_then}
+use Rattle.vcpu_run.specs.PortsRest.{AreTakenTo}
 use Rattle.vcpu_run.proofs.rounds.step.Goals as goal
 
 pub returns-in-Quiet-clause-machine : goal.returns-in-Quiet-clause-machine
@@ -37,7 +38,8 @@ returns-in-Quiet-clause-idle g c =
 pub returns-in-Quiet-clause-unfreed : goal.returns-in-Quiet-clause-unfreed
 returns-in-Quiet-clause-unfreed g c =
     ok_then c.end_lines.result _ _
-    (λ kept keep. kept c.round.new.lan.seats c.round.ensures.machine.scripts_are (c.in_ok-round.ensures.unfreed keep))
+    (λ kept linked keep.
+    kept c.round.new.pairs c.round.new.lan.seats c.round.ensures.machine.scripts_are (c.in_ok-round.ensures.opened c.in-Quiet.is linked) (c.in_ok-round.ensures.unfreed keep))
     c.end_lines.ensures.unfreed
 
 pub returns-in-Quiet-clause-told : goal.returns-in-Quiet-clause-told
@@ -51,3 +53,11 @@ returns-in-Quiet-clause-said g c =
     ok_then c.end_lines.result _ _
     (λ kept told. kept c.round.new.pairs c.round.new.lan.seats c.round.ensures.machine.scripts_are (c.in_ok-round.ensures.out c.in-Quiet.is told) (c.in_ok-round.ensures.said told))
     c.end_lines.ensures.said
+
+pub returns-in-Quiet-clause-ports : goal.returns-in-Quiet-clause-ports
+returns-in-Quiet-clause-ports g c =
+    ok_more c.end_lines.result _ _
+    (λ moved same is.
+    subst (λ (scripts : List Script). AreOverTo (length scripts) scripts → AreTakenTo (length scripts) c.round.new.lan scripts) (sym (same is))
+    (c.in_ok-round.ensures.ports c.in-Quiet.is))
+    c.end_lines.ensures.quiet

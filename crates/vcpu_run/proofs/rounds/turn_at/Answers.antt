@@ -1,7 +1,8 @@
 use Rattle.vcpu_run.proofs.Resting.{ok_more}
 use Rattle.vcpu_run.proofs.Idling.{rests_clients, rests_servers}
 use Rattle.std.proofs.lemmas.Option.{slice_get-get_or}
-use Rattle.std.proofs.Common.{vec_len, ◌∙◌, slice_index_or, sym}
+use Rattle.std.proofs.Common.{◌≡◌, IsSomeAnd, false, subst, vec_len, ◌∙◌, slice_index_or, sym}
+use Rattle.vcpu_run.specs.Scripts.{are_servers}
 use Rattle.vcpu_run.proofs.Crediting.{on_ok}
 use Rattle.vcpu_run.proofs.Elsewhere.{credits_served}
 use Rattle.vcpu_run.proofs.Keeping.{drivers_of}
@@ -9,6 +10,8 @@ use Rattle.vcpu_run.proofs.Lasting.{serving_stays}
 use Rattle.vcpu_run.proofs.RoundsTold.{out_served, told_served}
 use Rattle.vcpu_run.proofs.Scripted.{run_same, scripts_stay}
 use Rattle.vcpu_run.proofs.Held.{queues_served}
+use Rattle.vcpu_run.proofs.OpenRounds.{open_served}
+use Rattle.vcpu_run.proofs.PortsResting.{ok_any, servers_rest}
 use Rattle.vcpu_run.proofs.rounds.turn_at.Goals as goal
 
 pub run_script-requires-clause-drivers : goal.run_script-requires-clause-drivers
@@ -69,6 +72,26 @@ pub returns-then-is_of_servers-clause-unfreed : goal.returns-then-is_of_servers-
 returns-then-is_of_servers-clause-unfreed g c =
     on_ok c.serve.result _ (λ keep. queues_served c.args.pairs.now c.serve.new.pairs c.args.scripts.now c.serve.ensures.stays keep)
 
+pub returns-then-is_of_servers-clause-opened : goal.returns-then-is_of_servers-clause-opened
+returns-then-is_of_servers-clause-opened g c =
+    let scripts = c.args.scripts.now in
+    let d = c.index-scripts-number.result in
+    ok_more c.serve.result _ _
+    (λ moved wait is linked before. open_served c.serve.new.server.units.items c.args.pairs.now c.serve.new.pairs scripts c.args.number (slice_index_or scripts c.args.number d)
+    (slice_get-get_or scripts c.args.number d c.requires.there) (sym c.is_of_servers.ensures ∙ c.if-is_of_servers.true) c.serve.ensures.clients (wait is linked) before)
+    c.serve.ensures.wait
+
+pub returns-else-is_of_servers-clause-opened : goal.returns-else-is_of_servers-clause-opened
+returns-else-is_of_servers-clause-opened g c =
+    let scripts = c.args.scripts.now in
+    let d = c.index-scripts-number.result in
+    let old = slice_index_or scripts c.args.number d in
+    let plain : are_servers old.seats.items ≡ false = sym c.is_of_servers.ensures ∙ c.if-is_of_servers.false in
+    ok_more c.run_script.result _ _
+    (λ moved opens is linked before.
+    opens is (subst (λ o. IsSomeAnd o (λ script. are_servers script.seats.items ≡ false)) (sym (slice_get-get_or scripts c.args.number d c.requires.there)) plain) before)
+    c.run_script.ensures.opened
+
 pub returns-then-is_of_servers-clause-told : goal.returns-then-is_of_servers-clause-told
 returns-then-is_of_servers-clause-told g c = on_ok c.serve.result _ (λ tells. tells)
 
@@ -92,3 +115,14 @@ returns-else-is_of_servers-clause-heard g c =
 
 pub returns-else-is_of_servers-clause-causes : goal.returns-else-is_of_servers-clause-causes
 returns-else-is_of_servers-clause-causes g c = λ told tells. (c.run_script.ensures.tells c.args.server.now.copies.items told tells, λ before serve. serve)
+
+pub returns-then-is_of_servers-clause-ports : goal.returns-then-is_of_servers-clause-ports
+returns-then-is_of_servers-clause-ports g c =
+    let scripts = c.args.scripts.now in
+    let d = c.index-scripts-number.result in
+    ok_any c.serve.result _
+    (λ moved is over. servers_rest scripts c.args.number (slice_index_or scripts c.args.number d) c.args.lan.now
+    (slice_get-get_or scripts c.args.number d c.requires.there) (sym c.is_of_servers.ensures ∙ c.if-is_of_servers.true))
+
+pub returns-else-is_of_servers-clause-ports : goal.returns-else-is_of_servers-clause-ports
+returns-else-is_of_servers-clause-ports g c = c.run_script.ensures.ports

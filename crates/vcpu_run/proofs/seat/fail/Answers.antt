@@ -1,8 +1,10 @@
-use Rattle.std.proofs.Common.{◌∙◌, false, refl, ap}
+use Rattle.std.proofs.Common.{◌∙◌, ◌∷◌, [], false, refl, ap}
 use Rattle.vio_num.specs.Entry.{partner_failed}
 use Rattle.crq_session.specs.EndState.{EndCounts}
+use Rattle.vcpu_run.specs.declared.pair.Pair.{Pair}
 use Rattle.vcpu_run.proofs.Announcing.{puts_frees, puts_ready, puts_reserves}
 use Rattle.vcpu_run.proofs.Driving.{drives_link, drives_on, some_none}
+use Rattle.vcpu_run.proofs.GivesAll.{gives_kept, gives_next, link_taken}
 use Rattle.vcpu_run.proofs.seat.fail.Goals as goal
 
 pub returns-in_err-reserve-clause-drives : goal.returns-in_err-reserve-clause-drives
@@ -39,3 +41,33 @@ returns-in-Busy-clause-drives c =
     (rest.place ∙ room.place) (rest.counts.same_session refl ∙ ap (λ (counts : EndCounts). counts.partner_session) room.counts)
     (puts_ready _ _ _ room (rest.counts.same_session refl) (puts_frees false _ _ partner_failed c.fail.result refl refl c.fail.ensures.success c.fail.ensures.busy c.fail.ensures.refused))
     (some_none _ c.args.pair.now.driver _ c.requires)
+
+pub returns-in-Success-clause-gives : goal.returns-in-Success-clause-gives
+returns-in-Success-clause-gives c =
+    let old = c.args.pair.now in
+    let room = c.in_ok-reserve.ensures.rest in
+    let rest = c.fail.ensures.rest in
+    let mid : Pair = record { server = old.server; link = c.fail.new.self.link.now; own = old.own; window = old.window; driver = old.driver } in
+    gives_next old mid c.freed.new.pair
+    (gives_kept old.driver old.link mid.link
+    (link_taken c.side-end.result.first c.fail.new.self.first (c.side-end.result.link.ghost_name ∷ []) (c.fail.new.self.link.ghost_name ∷ []) c.side-end.result.link.now old.link mid.link
+    c.side-end.ensures.link c.side-end.ensures.first (rest.place ∙ room.place) (rest.taken ∙ room.taken)))
+    c.freed.ensures.gives
+
+pub returns-in-Parameter-clause-gives : goal.returns-in-Parameter-clause-gives
+returns-in-Parameter-clause-gives c =
+    let old = c.args.pair.now in
+    let room = c.in_ok-reserve.ensures.rest in
+    let rest = c.fail.ensures.rest in
+    gives_kept old.driver old.link c.fail.new.self.link.now
+    (link_taken c.side-end.result.first c.fail.new.self.first (c.side-end.result.link.ghost_name ∷ []) (c.fail.new.self.link.ghost_name ∷ []) c.side-end.result.link.now old.link c.fail.new.self.link.now
+    c.side-end.ensures.link c.side-end.ensures.first (rest.place ∙ room.place) (rest.taken ∙ room.taken))
+
+pub returns-in-Busy-clause-gives : goal.returns-in-Busy-clause-gives
+returns-in-Busy-clause-gives c =
+    let old = c.args.pair.now in
+    let room = c.in_ok-reserve.ensures.rest in
+    let rest = c.fail.ensures.rest in
+    gives_kept old.driver old.link c.fail.new.self.link.now
+    (link_taken c.side-end.result.first c.fail.new.self.first (c.side-end.result.link.ghost_name ∷ []) (c.fail.new.self.link.ghost_name ∷ []) c.side-end.result.link.now old.link c.fail.new.self.link.now
+    c.side-end.ensures.link c.side-end.ensures.first (rest.place ∙ room.place) (rest.taken ∙ room.taken))

@@ -4,6 +4,7 @@ use Rattle.vcpu_run.proofs.Agreeing.{all_on}
 use Rattle.vcpu_run.proofs.Elsewhere.{else_on, else_within}
 use Rattle.vcpu_run.proofs.Driving.{driven_on, seat_of, still_clients}
 use Rattle.vcpu_run.proofs.PortTurns.{apart_on, beside_apart, silent_on}
+use Rattle.vcpu_run.proofs.GivesAll.{all_give_on}
 use Rattle.vcpu_run.proofs.seats.fail.Goals as goal
 
 pub fail_at-requires-clause-client : goal.fail_at-requires-clause-client
@@ -23,6 +24,7 @@ returns-then-not-branch-clause-driven c = driven_on c.args.pairs.now c.loop-k.pa
 pub loop-k-preserved : goal.loop-k-preserved
 loop-k-preserved c = record {
   driven = driven_on c.args.pairs.now c.loop-k.pairs c.fail_at.new.pairs c.loop-k.invariant.driven c.fail_at.ensures.driven;
+  gives = all_give_on c.args.pairs.now c.loop-k.pairs c.fail_at.new.pairs c.loop-k.invariant.gives c.in_ok-fail_at.ensures.gives;
   others = else_on c.args.seats.now c.args.pairs.now c.loop-k.pairs c.fail_at.new.pairs c.loop-k.invariant.others
       (else_within c.args.seats.now c.loop-k.k (slice_index_or c.args.seats.now c.loop-k.k places.Server) c.loop-k.pairs c.fail_at.new.pairs
       (seat_of c.args.seats.now c.loop-k.k c.loop-k-test.true) c.fail_at.ensures.others);
@@ -68,3 +70,7 @@ pub returns-then-not-branch-clause-apart : goal.returns-then-not-branch-clause-a
 returns-then-not-branch-clause-apart c =
     apart_on c.args.partition c.args.lan.now c.loop-k.lan c.fail_at.new.lan c.loop-k.invariant.apart
     (beside_apart c.args.partition c.loop-k.k c.loop-k.lan c.fail_at.new.lan c.fail_at.ensures.beside)
+
+pub returns-then-not-branch-clause-gives : goal.returns-then-not-branch-clause-gives
+returns-then-not-branch-clause-gives c =
+    all_give_on c.args.pairs.now c.loop-k.pairs c.fail_at.new.pairs c.loop-k.invariant.gives c.in_ok-fail_at.ensures.gives

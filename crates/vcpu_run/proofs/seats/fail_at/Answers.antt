@@ -3,6 +3,8 @@ use Rattle.vcpu_run.proofs.Driving.{seat_within}
 use Rattle.vcpu_run.proofs.Elsewhere.{else_one}
 use Rattle.vcpu_run.proofs.PortRising.{all_silent, closes_beside}
 use Rattle.vcpu_run.proofs.PortTurns.{idle_same}
+use Rattle.vcpu_run.proofs.Crediting.{on_ok}
+use Rattle.vcpu_run.proofs.GivesAll.{all_give_same}
 use Rattle.vcpu_run.proofs.seats.fail_at.Goals as goal
 
 pub fail_of-requires-clause-there : goal.fail_of-requires-clause-there
@@ -26,3 +28,9 @@ returns-in-Client-clause-beside c = λ unit _. idle_same c.args.lan.now unit
 
 pub returns-in-Server-clause-beside : goal.returns-in-Server-clause-beside
 returns-in-Server-clause-beside c = λ unit _. idle_same c.args.lan.now unit
+
+pub returns-in-Port-clause-gives : goal.returns-in-Port-clause-gives
+returns-in-Port-clause-gives c = on_ok c.fail.result _ (all_give_same c.args.pairs.now)
+
+pub returns-in-Server-clause-gives : goal.returns-in-Server-clause-gives
+returns-in-Server-clause-gives c = all_give_same c.args.pairs.now

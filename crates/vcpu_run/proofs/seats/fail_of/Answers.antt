@@ -1,6 +1,7 @@
 use Rattle.std.proofs.lemmas.Option.{slice_get-get_or}
 use Rattle.vcpu_run.proofs.Agreeing.{set_all, set_beside}
 use Rattle.vcpu_run.proofs.Driving.{driven_set, some_there}
+use Rattle.vcpu_run.proofs.GivesAll.{all_give_ok}
 use Rattle.vcpu_run.proofs.seats.fail_of.Goals as goal
 
 pub fail-requires : goal.fail-requires
@@ -14,3 +15,7 @@ returns-clause-credit c = set_all c.args.pairs.now c.args.pair _ c.fail.new.pair
 
 pub returns-clause-others : goal.returns-clause-others
 returns-clause-others c = set_beside c.args.pairs.now c.args.pair c.fail.new.pair
+
+pub returns-clause-gives : goal.returns-clause-gives
+returns-clause-gives c =
+    all_give_ok c.fail.result c.args.pairs.now c.args.pair _ c.fail.new.pair (slice_get-get_or c.args.pairs.now c.args.pair _ c.requires.there) c.fail.ensures.gives

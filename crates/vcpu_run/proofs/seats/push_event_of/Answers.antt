@@ -36,6 +36,7 @@ returns-clause-clients c =
       driver = c.push_event.ensures.driver;
       pages = ap (λ w. length w.pages) c.push_event.ensures.window;
       queue = c.push_event.ensures.queue;
+      taken = c.push_event.ensures.taken;
       unit = ap (λ w. w.unit) c.push_event.ensures.window;
       sees = drives_sees _ c.push_event.new.pair c.push_event.ensures.drives;
     })

@@ -129,7 +129,7 @@ returns-in-Port-clause-out c = λ k at.
 pub returns-in-Client-clause-registered : goal.returns-in-Client-clause-registered
 returns-in-Client-clause-registered c = λ k at.
     let here : slice_get c.args.seats.now c.args.line.now.unit ≡ Some (places.Client c.in-Client.pair) = c.seat_at.ensures ∙ ap Some c.in-Client.is in
-    subst (λ n. SeatOpen n c.args.line.now.verb c.step_at.new.progress c.step_at.new.pairs c.step_at.result)
+    subst (λ n. SeatOpen n c.args.line.now.verb c.step_at.new.progress c.args.pairs.now c.step_at.new.pairs c.step_at.result)
     (client_is c.in-Client.pair k (sym here ∙ at)) c.step_at.ensures.registered
 
 pub returns-in-Port-clause-registered : goal.returns-in-Port-clause-registered

@@ -8,6 +8,9 @@ use Rattle.vcpu_run.proofs.Elsewhere.{else_none, else_on, else_within}
 use Rattle.vcpu_run.specs.declared.unit_seat.Seat.TheVariants as places
 use Rattle.vcpu_run.proofs.PortTurns.{apart_on, beside_apart, idle_same, one_takes, takes_on}
 use Rattle.vcpu_run.proofs.PortTelling.{idle_takes}
+use Rattle.vcpu_run.proofs.GivesAll.{all_give_on, all_give_same}
+use Rattle.vcpu_run.proofs.PortsResting.{ports_same, taken_all, taken_next}
+use Rattle.lan_script.proofs.Laws.{ports_on}
 use Rattle.vcpu_run.proofs.seats.take_rest.Goals as goal
 
 pub take_rest_at-requires-clause-client : goal.take_rest_at-requires-clause-client
@@ -30,6 +33,7 @@ returns-in_err-here-clause-others c =
 pub loop-k-preserved : goal.loop-k-preserved
 loop-k-preserved c = record {
   driven = driven_on c.args.pairs.now c.loop-k.pairs c.take_rest_at.new.pairs c.loop-k.invariant.driven c.take_rest_at.ensures.driven;
+  gives = all_give_on c.args.pairs.now c.loop-k.pairs c.take_rest_at.new.pairs c.loop-k.invariant.gives c.in_ok-here.ensures.gives;
   others = else_on c.args.seats.now c.args.pairs.now c.loop-k.pairs c.take_rest_at.new.pairs c.loop-k.invariant.others
       (else_within c.args.seats.now c.loop-k.k (slice_index_or c.args.seats.now c.loop-k.k places.Server) c.loop-k.pairs c.take_rest_at.new.pairs
       (seat_of c.args.seats.now c.loop-k.k c.loop-k-test.true) c.take_rest_at.ensures.others);
@@ -41,6 +45,12 @@ loop-k-preserved c = record {
   apart = apart_on c.args.partition c.args.lan.now c.loop-k.lan c.take_rest_at.new.lan c.loop-k.invariant.apart
       (beside_apart c.args.partition c.loop-k.k c.loop-k.lan c.take_rest_at.new.lan c.in_ok-here.ensures.beside);
   stays = frees_on _ c.args.pairs.now c.loop-k.pairs c.take_rest_at.new.pairs c.loop-k.invariant.stays c.take_rest_at.ensures.stays;
+  still = λ is.
+      ports_on c.args.lan.now c.loop-k.lan c.take_rest_at.new.lan (c.loop-k.invariant.still (c.either-moved.ensures.one is))
+      (c.in_ok-here.ensures.ports (c.either-moved.ensures.other is)).still;
+  taken = λ is.
+      taken_next c.args.partition c.loop-k.k _ c.args.seats.now c.loop-k.lan c.take_rest_at.new.lan (seat_of c.args.seats.now c.loop-k.k c.loop-k-test.true)
+      (c.in_ok-here.ensures.ports (c.either-moved.ensures.other is)) (c.loop-k.invariant.taken (c.either-moved.ensures.one is));
   rest = λ is.
       rests_on c.args.pairs.now c.loop-k.pairs c.take_rest_at.new.pairs (c.loop-k.invariant.rest (c.either-moved.ensures.one is)) (c.in_ok-here.ensures.still (c.either-moved.ensures.other is));
   wait = λ is.
@@ -59,6 +69,7 @@ returns-clause-quiet c = λ is. record {
 pub loop-k-init : goal.loop-k-init
 loop-k-init c = record {
   driven = driven_same c.args.pairs.now;
+  gives = all_give_same c.args.pairs.now;
   others = else_none c.args.seats.now c.args.pairs.now;
   clients = c.requires.clients;
   ports = c.requires.ports;
@@ -66,9 +77,16 @@ loop-k-init c = record {
   takes = λ u. idle_takes c.args.lan.now c.args.lan.now _ (idle_same c.args.lan.now _);
   apart = λ unit _. idle_same c.args.lan.now unit;
   stays = frees_same _ c.args.pairs.now;
+  still = λ is. ports_same c.args.lan.now;
+  taken = λ is u below sat. absurd (omega (arith, below));
   rest = λ is. rests_same c.args.pairs.now;
   wait = λ is u k less found. absurd (omega (arith, less));
 }
 
 pub returns-in_err-here-clause-stays : goal.returns-in_err-here-clause-stays
 returns-in_err-here-clause-stays c = frees_on _ c.args.pairs.now c.loop-k.pairs c.take_rest_at.new.pairs c.loop-k.invariant.stays c.take_rest_at.ensures.stays
+
+pub returns-clause-ports : goal.returns-clause-ports
+returns-clause-ports c = λ is.
+    taken_all c.args.partition c.loop-k.k c.args.seats.now c.args.lan.now c.loop-k.lan (omega (arith, c.loop-k-test.false)) (c.loop-k.invariant.still is)
+    (c.loop-k.invariant.taken is)

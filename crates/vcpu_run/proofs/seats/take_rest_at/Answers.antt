@@ -7,6 +7,8 @@ use Rattle.vcpu_run.proofs.Elsewhere.{else_none, else_one}
 use Rattle.vcpu_run.proofs.PortTurns.{port_rest, rest_beside, idle_same}
 use Rattle.vcpu_run.proofs.PortTelling.{idle_takes}
 use Rattle.vcpu_run.proofs.Crediting.{on_ok}
+use Rattle.vcpu_run.proofs.GivesAll.{all_give_same}
+use Rattle.vcpu_run.proofs.PortsResting.{ok_any, seat_none, seat_port}
 use Rattle.vcpu_run.proofs.seats.take_rest_at.Goals as goal
 
 pub take_rest_of-requires-clause-there : goal.take_rest_of-requires-clause-there
@@ -35,3 +37,20 @@ returns-in-Port-clause-takes c = port_rest c.args.unit c.take_rest.result c.args
 pub returns-in-Port-clause-beside : goal.returns-in-Port-clause-beside
 returns-in-Port-clause-beside c = rest_beside c.args.unit c.take_rest.result c.args.lan.now c.take_rest.new.self c.take_rest.ensures.seats c.take_rest.ensures.frames c.take_rest.ensures.counts
     c.take_rest.ensures.replays c.take_rest.ensures.places
+
+pub returns-in-Port-clause-gives : goal.returns-in-Port-clause-gives
+returns-in-Port-clause-gives c = on_ok c.take_rest.result _ (all_give_same c.args.pairs.now)
+
+pub returns-in-Server-clause-gives : goal.returns-in-Server-clause-gives
+returns-in-Server-clause-gives c = all_give_same c.args.pairs.now
+
+pub returns-in-Client-clause-ports : goal.returns-in-Client-clause-ports
+returns-in-Client-clause-ports c =
+    ok_any c.take_rest_of.result _ (λ moved is. seat_none c.args.unit c.args.seat c.args.lan.now (λ e. cc (c.in-Client.is, e)))
+
+pub returns-in-Port-clause-ports : goal.returns-in-Port-clause-ports
+returns-in-Port-clause-ports c =
+    ok_more c.take_rest.result _ _ (λ moved found is. seat_port c.args.unit c.args.seat c.args.lan.now c.take_rest.new.self (found is)) c.take_rest.ensures.nothing
+
+pub returns-in-Server-clause-ports : goal.returns-in-Server-clause-ports
+returns-in-Server-clause-ports c = λ is. seat_none c.args.unit c.args.seat c.args.lan.now (λ e. cc (c.in-Server.is, e))

@@ -4,6 +4,7 @@ use Rattle.vcpu_run.proofs.Unfreed.{frees_set}
 use Rattle.std.proofs.lemmas.Option.{slice_get-get_or}
 use Rattle.vcpu_run.proofs.Agreeing.{set_beside}
 use Rattle.vcpu_run.proofs.Driving.{driven_set, some_there}
+use Rattle.vcpu_run.proofs.GivesAll.{all_give_ok}
 use Rattle.vcpu_run.proofs.seats.take_rest_of.Goals as goal
 
 pub take_rest-requires : goal.take_rest-requires
@@ -30,3 +31,7 @@ returns-clause-waits c =
 pub returns-clause-stays : goal.returns-clause-stays
 returns-clause-stays c =
     frees_set _ c.args.pairs.now c.args.pair _ c.take_rest.new.pair (slice_get-get_or c.args.pairs.now c.args.pair _ c.requires.there) (λ always. c.take_rest.ensures.stays)
+
+pub returns-clause-gives : goal.returns-clause-gives
+returns-clause-gives c =
+    all_give_ok c.take_rest.result c.args.pairs.now c.args.pair _ c.take_rest.new.pair (slice_get-get_or c.args.pairs.now c.args.pair _ c.requires.there) c.take_rest.ensures.gives

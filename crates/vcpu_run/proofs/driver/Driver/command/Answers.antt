@@ -5,6 +5,8 @@ use Rattle.vcpu_run.proofs.Askings.{asks_by, submit_told}
 use Rattle.vcpu_run.proofs.Credits.{submit_agreed}
 use Rattle.vcpu_run.proofs.LinesShown.{submit_shows}
 use Rattle.vcpu_run.proofs.Working.{submit_works}
+use Rattle.vcpu_run.proofs.Giving.{asks_gives, submit_kept}
+use Rattle.vcpu_run.proofs.TakingCalls.{submit_taken}
 use Rattle.vcpu_run.proofs.driver.Driver.command.Goals as goal
 
 pub returns-clause-works : goal.returns-clause-works
@@ -36,3 +38,18 @@ returns-clause-shows g c = λ verb is cdb.
     (ports g.C.CrqEnd.is_shared (g.C.CrqEnd.state c.args.crq.now.end) g.O.WindowPort.is_shared (g.O.WindowPort.state c.args.own.now))
     (ports g.C.CrqEnd.is_shared (g.C.CrqEnd.state c.submit.new.crq.end) g.O.WindowPort.is_shared (g.O.WindowPort.state c.submit.new.own))
     c.submit.result c.sent.result is cdb c.sent.ensures.sent c.submit.ensures.sent c.submit.ensures.crq_rest.place c.submit.ensures.own_rest.place
+
+pub returns-clause-takes : goal.returns-clause-takes
+returns-clause-takes g c = λ verb is.
+    submit_taken verb c.args.line c.args.op.now c.args.self.now (record c.args.self.now { client = c.submit.new.self }) c.submit.new.self
+    (ports g.C.CrqEnd.is_shared (g.C.CrqEnd.state c.args.crq.now.end) g.O.WindowPort.is_shared (g.O.WindowPort.state c.args.own.now))
+    (ports g.C.CrqEnd.is_shared (g.C.CrqEnd.state c.submit.new.crq.end) g.O.WindowPort.is_shared (g.O.WindowPort.state c.submit.new.own))
+    c.submit.result c.sent.result is refl refl c.sent.ensures.sent c.submit.ensures.refused c.submit.ensures.sent c.submit.ensures.why
+
+pub returns-clause-gives : goal.returns-clause-gives
+returns-clause-gives g c =
+    asks_gives c.args.self.now c.submit.new.self c.sent.result g.C.CrqEnd.is_shared (g.C.CrqEnd.state c.args.crq.now.end) (g.C.CrqEnd.state c.submit.new.crq.end)
+    (submit_kept c.args.line c.args.op.now c.args.self.now.client c.submit.new.self
+    (ports g.C.CrqEnd.is_shared (g.C.CrqEnd.state c.args.crq.now.end) g.O.WindowPort.is_shared (g.O.WindowPort.state c.args.own.now))
+    (ports g.C.CrqEnd.is_shared (g.C.CrqEnd.state c.submit.new.crq.end) g.O.WindowPort.is_shared (g.O.WindowPort.state c.submit.new.own))
+    c.submit.result c.submit.ensures.refused c.submit.ensures.sent c.submit.ensures.why) c.submit.ensures.crq_rest

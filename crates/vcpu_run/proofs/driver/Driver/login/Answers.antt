@@ -1,10 +1,15 @@
 use Rattle.std.proofs.Common.{refl}
+use Rattle.boot_text.specs.declared.verb.Verb.TheVariants as verbs
 use Rattle.vscsi_client.specs.Ports.{ports}
 use Rattle.vscsi_client.specs.Turned.{site}
 use Rattle.vcpu_run.proofs.LoginSteps.{login_out, login_told, reset_told, stays_open}
 use Rattle.vcpu_run.proofs.Credits.{turn_agreed}
+use Rattle.vcpu_run.proofs.Giving.{turn_gives}
+use Rattle.vcpu_run.specs.LinesShow.{IsPutBy}
+use Rattle.vcpu_run.proofs.FurtherShown.{login_shows}
 use Rattle.vcpu_run.proofs.Opening.{turn_open}
 use Rattle.vcpu_run.proofs.Working.{turn_works}
+use Rattle.vcpu_run.proofs.TakingTurns.{tags_runs, turned_taken}
 use Rattle.vcpu_run.proofs.driver.Driver.login.Goals as goal
 
 pub returns-in_err-turn-clause-works : goal.returns-in_err-turn-clause-works
@@ -43,5 +48,34 @@ returns-clause-out g c = λ queue.
     login_out c.args.line a b c.in_ok-turn.turn c.turned.result c.in_ok-turn.ensures.turned c.turned.ensures queue
 
 pub returns-clause-registered : goal.returns-clause-registered
-returns-clause-registered g c =
-    turn_open c.in_ok-turn.turn c.turned.result (g.C.CrqEnd.state c.login_turn.new.crq.end).registered c.turned.ensures c.in_ok-turn.ensures.registered
+returns-clause-registered g c = λ alone.
+    let a = site c.args.self.now.client (ports g.C.CrqEnd.is_shared (g.C.CrqEnd.state c.args.crq.now.end) g.O.WindowPort.is_shared (g.O.WindowPort.state c.args.own.now)) in
+    let b = site c.login_turn.new.self (ports g.C.CrqEnd.is_shared (g.C.CrqEnd.state c.login_turn.new.crq.end) g.O.WindowPort.is_shared (g.O.WindowPort.state c.login_turn.new.own)) in
+    turn_open c.args.line a b c.in_ok-turn.turn c.turned.result c.turned.ensures c.in_ok-turn.ensures.registered c.in_ok-turn.ensures.turned c.login_turn.ensures.crq_rest alone
+
+pub returns-clause-gives : goal.returns-clause-gives
+returns-clause-gives g c =
+    let a = site c.args.self.now.client (ports g.C.CrqEnd.is_shared (g.C.CrqEnd.state c.args.crq.now.end) g.O.WindowPort.is_shared (g.O.WindowPort.state c.args.own.now)) in
+    let b = site c.login_turn.new.self (ports g.C.CrqEnd.is_shared (g.C.CrqEnd.state c.login_turn.new.crq.end) g.O.WindowPort.is_shared (g.O.WindowPort.state c.login_turn.new.own)) in
+    turn_gives c.args.self.now c.login_turn.new.self c.args.line a b c.in_ok-turn.turn refl refl c.in_ok-turn.ensures.turned
+
+pub returns-clause-takes : goal.returns-clause-takes
+returns-clause-takes g c =
+    let a = site c.args.self.now.client (ports g.C.CrqEnd.is_shared (g.C.CrqEnd.state c.args.crq.now.end) g.O.WindowPort.is_shared (g.O.WindowPort.state c.args.own.now)) in
+    let b = site c.login_turn.new.self (ports g.C.CrqEnd.is_shared (g.C.CrqEnd.state c.login_turn.new.crq.end) g.O.WindowPort.is_shared (g.O.WindowPort.state c.login_turn.new.own)) in
+    turned_taken verbs.Login c.args.self.now (record c.args.self.now { client = c.login_turn.new.self }) c.in_ok-turn.turn c.turned.result refl refl refl
+    (tags_runs c.args.line c.in_ok-turn.ensures.turned.steps a b c.in_ok-turn.ensures.turned.runs) c.turned.ensures
+
+pub returns-clause-retakes : goal.returns-clause-retakes
+returns-clause-retakes g c =
+    let a = site c.args.self.now.client (ports g.C.CrqEnd.is_shared (g.C.CrqEnd.state c.args.crq.now.end) g.O.WindowPort.is_shared (g.O.WindowPort.state c.args.own.now)) in
+    let b = site c.login_turn.new.self (ports g.C.CrqEnd.is_shared (g.C.CrqEnd.state c.login_turn.new.crq.end) g.O.WindowPort.is_shared (g.O.WindowPort.state c.login_turn.new.own)) in
+    turned_taken verbs.Reset c.args.self.now (record c.args.self.now { client = c.login_turn.new.self }) c.in_ok-turn.turn c.turned.result refl refl refl
+    (tags_runs c.args.line c.in_ok-turn.ensures.turned.steps a b c.in_ok-turn.ensures.turned.runs) c.turned.ensures
+
+pub returns-clause-shows : goal.returns-clause-shows
+returns-clause-shows g c = λ unit mark verb no_request no_bytes no_read logs.
+    let a = site c.args.self.now.client (ports g.C.CrqEnd.is_shared (g.C.CrqEnd.state c.args.crq.now.end) g.O.WindowPort.is_shared (g.O.WindowPort.state c.args.own.now)) in
+    let b = site c.login_turn.new.self (ports g.C.CrqEnd.is_shared (g.C.CrqEnd.state c.login_turn.new.crq.end) g.O.WindowPort.is_shared (g.O.WindowPort.state c.login_turn.new.own)) in
+    login_shows c.args.line a b c.in_ok-turn.turn c.turned.result (IsPutBy g.C.CrqEnd.is_shared (g.C.CrqEnd.state c.login_turn.new.crq.end)) unit mark verb no_request no_bytes no_read logs
+    c.in_ok-turn.ensures.turned c.turned.ensures

@@ -5,6 +5,8 @@ use Rattle.vcpu_run.proofs.Askings.{logout_told}
 use Rattle.vcpu_run.proofs.Credits.{logout_agreed}
 use Rattle.vcpu_run.proofs.LinesShown.{logout_shows}
 use Rattle.vcpu_run.proofs.Working.{logout_works}
+use Rattle.vcpu_run.proofs.Giving.{asks_gives, logout_kept}
+use Rattle.vcpu_run.proofs.TakingCalls.{logout_taken}
 use Rattle.vcpu_run.proofs.driver.Driver.logout.Goals as goal
 
 pub returns-clause-works : goal.returns-clause-works
@@ -36,3 +38,18 @@ returns-clause-shows g c =
     (ports g.C.CrqEnd.is_shared (g.C.CrqEnd.state c.args.crq.now.end) g.O.WindowPort.is_shared (g.O.WindowPort.state c.args.own.now))
     (ports g.C.CrqEnd.is_shared (g.C.CrqEnd.state c.logout.new.crq.end) g.O.WindowPort.is_shared (g.O.WindowPort.state c.logout.new.own))
     c.logout.result c.sent.result c.sent.ensures.sent c.logout.ensures.sent c.logout.ensures.crq_rest.place c.logout.ensures.own_rest.place
+
+pub returns-clause-takes : goal.returns-clause-takes
+returns-clause-takes g c =
+    logout_taken c.args.line c.args.self.now (record c.args.self.now { client = c.logout.new.self }) c.logout.new.self
+    (ports g.C.CrqEnd.is_shared (g.C.CrqEnd.state c.args.crq.now.end) g.O.WindowPort.is_shared (g.O.WindowPort.state c.args.own.now))
+    (ports g.C.CrqEnd.is_shared (g.C.CrqEnd.state c.logout.new.crq.end) g.O.WindowPort.is_shared (g.O.WindowPort.state c.logout.new.own))
+    c.logout.result c.sent.result refl refl c.sent.ensures.sent c.logout.ensures.sent c.logout.ensures.same
+
+pub returns-clause-gives : goal.returns-clause-gives
+returns-clause-gives g c =
+    asks_gives c.args.self.now c.logout.new.self c.sent.result g.C.CrqEnd.is_shared (g.C.CrqEnd.state c.args.crq.now.end) (g.C.CrqEnd.state c.logout.new.crq.end)
+    (logout_kept c.args.line c.args.self.now.client c.logout.new.self
+    (ports g.C.CrqEnd.is_shared (g.C.CrqEnd.state c.args.crq.now.end) g.O.WindowPort.is_shared (g.O.WindowPort.state c.args.own.now))
+    (ports g.C.CrqEnd.is_shared (g.C.CrqEnd.state c.logout.new.crq.end) g.O.WindowPort.is_shared (g.O.WindowPort.state c.logout.new.own))
+    c.logout.result c.logout.ensures.sent c.logout.ensures.same) c.logout.ensures.crq_rest

@@ -1,10 +1,19 @@
-use Rattle.std.proofs.Common.{refl, rules}
+use Rattle.std.proofs.Common.{◌∙◌, ap, refl, rules, subst}
 use Rattle.boot_text.specs.declared.verb.Verb.TheVariants as verbs
+use Rattle.vscsi_client.specs.Turned.{unlinked}
+use Rattle.vcpu_run.specs.Takings.{AgreesTaken}
 use Rattle.vcpu_run.specs.Credited.{taken_in}
 use Rattle.vcpu_run.proofs.Credits.{fresh_both, fresh_from}
 use Rattle.vcpu_run.specs.declared.script.Progress.TheVariants as progress
-use Rattle.vcpu_run.proofs.Opening.{freed_open}
+use Rattle.crq_session.specs.EndState.{OnlyReserves}
+use Rattle.vcpu_run.specs.Holding.{IsHeldOff, link_seen}
+use Rattle.vcpu_run.proofs.Opening.{freed_open, moved_open, off_by, turns_by}
+use Rattle.vcpu_run.specs.Telling.{seated}
+use Rattle.vcpu_run.proofs.LoginSteps.{begins_freed}
 use Rattle.vcpu_run.proofs.Working.{works_freed, works_on, works_ready}
+use Rattle.vcpu_run.proofs.Giving.{gives_freed, gives_on, gives_ready}
+use Rattle.vcpu_run.proofs.AnswersCounted.{from_taken, none_taken, same_agrees}
+use Rattle.vcpu_run.proofs.TakingCalls.{tags_still}
 use Rattle.vcpu_run.proofs.driver.Driver.reset.Goals as goal
 
 pub returns-then-eq-clause-credit : goal.returns-then-eq-clause-credit
@@ -26,8 +35,50 @@ returns-in-Success-clause-works g c =
 
 pub returns-then-eq-clause-registered : goal.returns-then-eq-clause-registered
 returns-then-eq-clause-registered g c = λ alone.
-    freed_open verbs.Reset c.args.progress.now (g.C.CrqEnd.state c.login.new.crq.end).registered c.login.result (search rules) c.login.ensures.registered
+    freed_open verbs.Reset c.args.progress.now (IsHeldOff (link_seen (g.C.CrqEnd.state c.args.crq.now.end)))
+    (g.C.CrqEnd.state c.login.new.crq.end).registered c.login.result (search rules) (c.login.ensures.registered alone)
 
 pub returns-in-Parameter-clause-registered : goal.returns-in-Parameter-clause-registered
 returns-in-Parameter-clause-registered g c = λ alone.
-    freed_open verbs.Reset progress.Freed (g.C.CrqEnd.state c.login-in-Parameter.new.crq.end).registered c.login-in-Parameter.result refl c.login-in-Parameter.ensures.registered
+    let ready : OnlyReserves (g.C.CrqEnd.state c.args.crq.now.end) (g.C.CrqEnd.state c.reserve.new.self.end) = c.in_ok-reserve.ensures.rest in
+    let still : OnlyReserves (g.C.CrqEnd.state c.reserve.new.self.end) (g.C.CrqEnd.state c.free.new.self.end) = c.in-Parameter.ensures.refused in
+    freed_open verbs.Reset progress.Freed (IsHeldOff (link_seen (g.C.CrqEnd.state c.args.crq.now.end)))
+    (g.C.CrqEnd.state c.login-in-Parameter.new.crq.end).registered c.login-in-Parameter.result refl
+    (turns_by (IsHeldOff (link_seen (g.C.CrqEnd.state c.free.new.self.end))) (IsHeldOff (link_seen (g.C.CrqEnd.state c.args.crq.now.end)))
+    (g.C.CrqEnd.state c.login-in-Parameter.new.crq.end).registered c.login-in-Parameter.result
+    (λ off. off_by _ _ ready (off_by _ _ still off)) (c.login-in-Parameter.ensures.registered alone))
+
+pub returns-in-Success-clause-registered : goal.returns-in-Success-clause-registered
+returns-in-Success-clause-registered g c = λ alone reset.
+    moved_open (IsHeldOff (link_seen (g.C.CrqEnd.state c.args.crq.now.end))) (g.C.CrqEnd.state c.free.new.self.end).registered
+
+pub returns-then-eq-clause-takes : goal.returns-then-eq-clause-takes
+returns-then-eq-clause-takes g c =
+    none_taken verbs.Reset (taken_in c.args.progress.now) c.args.self.now c.login.new.self c.login.result refl c.login.ensures.retakes
+
+pub returns-in-Parameter-clause-takes : goal.returns-in-Parameter-clause-takes
+returns-in-Parameter-clause-takes g c =
+    from_taken verbs.Reset (taken_in c.args.progress.now) c.args.self.now c.login-in-Parameter.new.self c.login-in-Parameter.result refl c.login-in-Parameter.ensures.retakes
+
+pub returns-in-Success-clause-takes : goal.returns-in-Success-clause-takes
+returns-in-Success-clause-takes g c = λ up_to. (
+  refl,
+  λ now agrees.
+      same_agrees 0 now c.args.self.now c.freed.new.self
+      (tags_still c.args.self.now c.freed.new.self (unlinked c.args.self.now.client) (ap (λ xs. xs.items) c.freed.ensures.answers) c.freed.ensures.client refl refl)
+      (subst (λ n. AgreesTaken n now c.args.self.now) up_to agrees),
+)
+
+pub returns-in-Success-clause-gives : goal.returns-in-Success-clause-gives
+returns-in-Success-clause-gives g c =
+    gives_on c.args.self.now c.args.self.now c.freed.new.self (g.C.CrqEnd.state c.args.crq.now.end) (g.C.CrqEnd.state c.reserve.new.self.end) (g.C.CrqEnd.state c.free.new.self.end)
+    (gives_ready c.args.self.now (g.C.CrqEnd.state c.args.crq.now.end) (g.C.CrqEnd.state c.reserve.new.self.end) c.in_ok-reserve.ensures.rest)
+    (gives_freed g.C.CrqEnd.is_shared c.args.self.now c.freed.new.self (g.C.CrqEnd.state c.reserve.new.self.end) (g.C.CrqEnd.state c.free.new.self.end)
+    c.in-Success.ensures.success c.free.ensures.rest c.freed.ensures.answers c.freed.ensures.client)
+
+pub returns-in-Parameter-clause-told : goal.returns-in-Parameter-clause-told
+returns-in-Parameter-clause-told g c =
+    begins_freed (g.O.WindowPort.state c.args.own.now).place.size c.args.self.now.client c.args.progress.now (g.C.CrqEnd.state c.args.crq.now.end).registered
+    (g.C.CrqEnd.state c.free.new.self.end).registered
+    (seated c.login-in-Parameter.new.self.client progress.Freed (g.C.CrqEnd.state c.login-in-Parameter.new.crq.end).registered) c.login-in-Parameter.result
+    (c.in-Parameter.ensures.refused.registered ∙ c.free.ensures.parameter.0 c.in-Parameter.is) c.login-in-Parameter.ensures.renewed

@@ -4,8 +4,10 @@ use Rattle.vcpu_run.specs.Credited.{taken_in}
 use Rattle.vcpu_run.specs.Telling.{seated}
 use Rattle.vcpu_run.proofs.Askings.{asks_by, asks_plain}
 use Rattle.vcpu_run.proofs.LoginSteps.{other_out}
+use Rattle.vcpu_run.specs.Holding.{IsHeldOff, link_seen}
 use Rattle.vcpu_run.proofs.Opening.{other_open}
 use Rattle.vcpu_run.proofs.Credits.{fresh_both, sends_one}
+use Rattle.vcpu_run.proofs.AnswersCounted.{none_taken}
 use Rattle.vcpu_run.proofs.driver.Driver.step.Goals as goal
 
 pub returns-in-Some-clause-credit : goal.returns-in-Some-clause-credit
@@ -31,5 +33,10 @@ returns-in-Some-clause-shows g c =
 
 pub returns-in-Some-clause-registered : goal.returns-in-Some-clause-registered
 returns-in-Some-clause-registered g c = λ alone.
-    other_open c.args.line.now.verb c.args.progress.now (g.C.CrqEnd.state c.command.new.crq.end).registered
+    other_open c.args.line.now.verb c.args.progress.now (IsHeldOff (link_seen (g.C.CrqEnd.state c.args.crq.now.end))) (g.C.CrqEnd.state c.command.new.crq.end).registered
     c.command.result (asks_plain c.args.line.now.verb (asks_by c.args.line.now.verb c.in-Some.op c.in-Some.ensures.command)).1
+
+pub returns-in-Some-clause-takes : goal.returns-in-Some-clause-takes
+returns-in-Some-clause-takes g c =
+    none_taken c.args.line.now.verb (taken_in c.args.progress.now) c.args.self.now c.command.new.self c.command.result (sends_one c.args.line.now.verb c.in-Some.ensures.sends).1
+    (c.command.ensures.takes c.args.line.now.verb c.in-Some.ensures.command)

@@ -2,25 +2,35 @@ use Rattle.std.proofs.Common.{rules, ◌≡◌, ℕ, List, IfOk, ap, refl, subst
 use Rattle.boot_text.specs.declared.verb.Verb.{Verb}
 use Rattle.boot_text.specs.declared.verb.Verb.TheVariants as verbs
 use Rattle.unit_region.specs.Pattern.{pattern}
-use Rattle.unit_region.specs.Answers.{AnswersWrite}
+use Rattle.unit_region.specs.Answers.{AnswersWrite, tce_of}
 use Rattle.vcpu_run.specs.Credited.{is_take, taken_in, uses_credit}
 use Rattle.vcpu_run.specs.Telling.{seated}
 use Rattle.vcpu_run.proofs.Askings.{aside_as, aside_told, told_as}
 use Rattle.vcpu_run.specs.Freeing.{is_reset}
-use Rattle.vcpu_run.specs.LinesShow.{IsPutBy, StepShows, read_by, requests, seen_by, written_by}
+use Rattle.vcpu_run.specs.LinesShow.{IsPutBy, StepShows, further_of, read_by, requests, seen_by, written_by}
 use Rattle.vcpu_run.specs.Replay.{asks}
+use Rattle.vcpu_run.proofs.FurtherShown.{puts_shows}
 use Rattle.vcpu_run.proofs.LinesShown.{read_shows, step_none, write_shows}
 use Rattle.vcpu_run.proofs.OwnLines.{fill_says, peek_says, poke_says, tce_says}
 use Rattle.vcpu_run.proofs.Sayings.{is_logout, is_own, says_nothing}
 use Rattle.vcpu_run.proofs.LoginSteps.{other_out, out_as}
 use Rattle.vcpu_run.proofs.Credits.{fresh_both}
+use Rattle.vcpu_run.specs.Holding.{IsHeldOff, link_seen}
 use Rattle.vcpu_run.proofs.Opening.{open_as, other_open}
+use Rattle.vcpu_run.proofs.Giving.{gives_ok, gives_same}
+use Rattle.vcpu_run.proofs.AnswersCounted.{is_data, none_taken}
+use Rattle.vcpu_run.proofs.TakingEach.{data_step, own_step, taken_verb}
 use Rattle.vcpu_run.proofs.driver.Driver.step_other.Goals as goal
 
 pub returns-in-Login-clause-credit : goal.returns-in-Login-clause-credit
 returns-in-Login-clause-credit g c =
     fresh_both c.args.line.now.verb (taken_in c.args.progress.now) c.args.self.now.client c.login.new.self.client c.login.result (ap is_take c.in-Login.is)
     (c.login.ensures.credit c.args.line.now.verb)
+
+pub returns-in-Logout-clause-credit : goal.returns-in-Logout-clause-credit
+returns-in-Logout-clause-credit g c =
+    fresh_both c.args.line.now.verb (taken_in c.args.progress.now) c.args.self.now.client c.logout.new.self.client c.logout.result (ap is_take c.in-Logout.is)
+    (c.logout.ensures.credit c.args.line.now.verb (ap uses_credit c.in-Logout.is))
 
 pub returns-in-Task-clause-credit : goal.returns-in-Task-clause-credit
 returns-in-Task-clause-credit g c =
@@ -166,34 +176,33 @@ returns-in-Tce-clause-out g c = λ alone.
 
 pub returns-in-Login-clause-shows : goal.returns-in-Login-clause-shows
 returns-in-Login-clause-shows g c =
-    step_none (seen_by g.C.CrqEnd.is_shared (g.O.WindowPort.state c.login.new.own) (g.C.CrqEnd.state c.login.new.crq.end)) (g.O.WindowPort.state c.args.own.now).place.unit c.args.line.now.number c.args.line.now.verb
-    c.login.result (ap requests c.in-Login.is) (ap written_by c.in-Login.is) (ap read_by c.in-Login.is)
+    c.login.ensures.shows (g.O.WindowPort.state c.args.own.now).place.unit c.args.line.now.number c.args.line.now.verb (ap requests c.in-Login.is) (ap written_by c.in-Login.is) (ap read_by c.in-Login.is) (ap further_of c.in-Login.is)
 
 pub returns-in-Reset-clause-shows : goal.returns-in-Reset-clause-shows
 returns-in-Reset-clause-shows g c =
-    step_none (seen_by g.C.CrqEnd.is_shared (g.O.WindowPort.state c.reset.new.own) (g.C.CrqEnd.state c.reset.new.crq.end)) (g.O.WindowPort.state c.args.own.now).place.unit c.args.line.now.number c.args.line.now.verb
-    c.reset.result (ap requests c.in-Reset.is) (ap written_by c.in-Reset.is) (ap read_by c.in-Reset.is)
+    c.reset.ensures.shows (g.O.WindowPort.state c.args.own.now).place.unit c.args.line.now.number c.args.line.now.verb (ap requests c.in-Reset.is) (ap written_by c.in-Reset.is) (ap read_by c.in-Reset.is) (ap further_of c.in-Reset.is)
 
 pub returns-in-Take-clause-shows : goal.returns-in-Take-clause-shows
 returns-in-Take-clause-shows g c =
     step_none (seen_by g.C.CrqEnd.is_shared (g.O.WindowPort.state c.take_on.new.own) (g.C.CrqEnd.state c.take_on.new.crq.end)) (g.O.WindowPort.state c.args.own.now).place.unit c.args.line.now.number c.args.line.now.verb
-    c.take_on.result (ap requests c.in-Take.is) (ap written_by c.in-Take.is) (ap read_by c.in-Take.is)
+    c.take_on.result (ap requests c.in-Take.is) (ap written_by c.in-Take.is) (ap read_by c.in-Take.is) (ap further_of c.in-Take.is)
 
 pub returns-in-Data-clause-shows : goal.returns-in-Data-clause-shows
 returns-in-Data-clause-shows g c =
     step_none (seen_by g.C.CrqEnd.is_shared (g.O.WindowPort.state c.data.new.own) (g.C.CrqEnd.state c.args.crq.now.end)) (g.O.WindowPort.state c.args.own.now).place.unit c.args.line.now.number c.args.line.now.verb
-    c.data.result (ap requests c.in-Data.is) (ap written_by c.in-Data.is) (ap read_by c.in-Data.is)
+    c.data.result (ap requests c.in-Data.is) (ap written_by c.in-Data.is) (ap read_by c.in-Data.is) (ap further_of c.in-Data.is)
 
 pub returns-in-Peek-clause-shows : goal.returns-in-Peek-clause-shows
 returns-in-Peek-clause-shows g c =
     read_shows (g.O.WindowPort.state c.args.own.now) (g.O.WindowPort.state c.peek.new.own) (g.O.WindowPort.state c.args.own.now).place.unit c.in-Peek.at c.in-Peek.len c.args.line.now.number
     (IsPutBy g.C.CrqEnd.is_shared (g.C.CrqEnd.state c.args.crq.now.end)) c.args.line.now.verb c.peek.result
-    (ap requests c.in-Peek.is) (ap written_by c.in-Peek.is) (ap read_by c.in-Peek.is) c.peek.ensures.answer
+    (ap requests c.in-Peek.is) (ap written_by c.in-Peek.is) (ap read_by c.in-Peek.is) (ap further_of c.in-Peek.is) c.peek.ensures.answer
 
 pub returns-in-Tce-clause-shows : goal.returns-in-Tce-clause-shows
 returns-in-Tce-clause-shows g c =
-    step_none (seen_by g.C.CrqEnd.is_shared (g.O.WindowPort.state c.put_tce.new.own) (g.C.CrqEnd.state c.args.crq.now.end)) (g.O.WindowPort.state c.args.own.now).place.unit c.args.line.now.number c.args.line.now.verb
-    c.put_tce.result (ap requests c.in-Tce.is) (ap written_by c.in-Tce.is) (ap read_by c.in-Tce.is)
+    puts_shows (g.O.WindowPort.state c.args.own.now) (g.O.WindowPort.state c.put_tce.new.own) (g.O.WindowPort.state c.args.own.now).place.unit c.args.line.now.number
+    c.in-Tce.entry (tce_of c.in-Tce.page c.in-Tce.readable c.in-Tce.writable) (IsPutBy g.C.CrqEnd.is_shared (g.C.CrqEnd.state c.args.crq.now.end)) c.args.line.now.verb c.put_tce.result
+    (ap requests c.in-Tce.is) (ap written_by c.in-Tce.is) (ap read_by c.in-Tce.is) (ap further_of c.in-Tce.is) c.put_tce.ensures.answer
 
 pub returns-in-Logout-clause-shows : goal.returns-in-Logout-clause-shows
 returns-in-Logout-clause-shows g c =
@@ -216,7 +225,7 @@ returns-in-Fill-clause-shows g c =
     let mark : c.from-mark.result ≡ c.args.line.now.number = search rules in
     write_shows g.O.WindowPort.is_shared (g.O.WindowPort.state c.args.own.now) (g.O.WindowPort.state c.fill.new.own) c.in-Fill.at c.args.line.now.number
     (pattern c.in-Fill.seed c.in-Fill.len) (IsPutBy g.C.CrqEnd.is_shared (g.C.CrqEnd.state c.args.crq.now.end)) c.args.line.now.verb c.fill.result
-    (ap requests c.in-Fill.is) (ap written_by c.in-Fill.is) (ap read_by c.in-Fill.is)
+    (ap requests c.in-Fill.is) (ap written_by c.in-Fill.is) (ap read_by c.in-Fill.is) (ap further_of c.in-Fill.is)
     (subst (λ n. IfOk c.fill.result (AnswersWrite g.O.WindowPort.is_shared (g.O.WindowPort.state c.args.own.now) (g.O.WindowPort.state c.fill.new.own) c.in-Fill.at
     (pattern c.in-Fill.seed c.in-Fill.len) n)) mark c.fill.ensures.answer)
 
@@ -225,7 +234,7 @@ returns-in-Poke-clause-shows g c =
     let mark : c.from-mark.result ≡ c.args.line.now.number = search rules in
     write_shows g.O.WindowPort.is_shared (g.O.WindowPort.state c.args.own.now) (g.O.WindowPort.state c.poke.new.own) c.in-Poke.at c.args.line.now.number
     c.in-Poke.bytes (IsPutBy g.C.CrqEnd.is_shared (g.C.CrqEnd.state c.args.crq.now.end)) c.args.line.now.verb c.poke.result
-    (ap requests c.in-Poke.is) (ap written_by c.in-Poke.is) (ap read_by c.in-Poke.is)
+    (ap requests c.in-Poke.is) (ap written_by c.in-Poke.is) (ap read_by c.in-Poke.is) (ap further_of c.in-Poke.is)
     (subst (λ n. IfOk c.poke.result (AnswersWrite g.O.WindowPort.is_shared (g.O.WindowPort.state c.args.own.now) (g.O.WindowPort.state c.poke.new.own) c.in-Poke.at
     c.in-Poke.bytes n)) mark
     (subst (λ (bytes : List ℕ). IfOk c.poke.result (AnswersWrite g.O.WindowPort.is_shared (g.O.WindowPort.state c.args.own.now) (g.O.WindowPort.state c.poke.new.own) c.in-Poke.at bytes c.from-mark.result))
@@ -233,40 +242,100 @@ returns-in-Poke-clause-shows g c =
 
 pub returns-in-Login-clause-registered : goal.returns-in-Login-clause-registered
 returns-in-Login-clause-registered g c = λ alone.
-    other_open c.args.line.now.verb c.args.progress.now (g.C.CrqEnd.state c.login.new.crq.end).registered c.login.result (ap is_reset c.in-Login.is)
+    other_open c.args.line.now.verb c.args.progress.now (IsHeldOff (link_seen (g.C.CrqEnd.state c.args.crq.now.end))) (g.C.CrqEnd.state c.login.new.crq.end).registered c.login.result (ap is_reset c.in-Login.is)
 
 pub returns-in-Reset-clause-registered : goal.returns-in-Reset-clause-registered
 returns-in-Reset-clause-registered g c = λ alone.
-    open_as c.args.line.now.verb _ c.reset.new.progress (g.C.CrqEnd.state c.reset.new.crq.end).registered c.reset.result c.in-Reset.is (c.reset.ensures.registered alone)
+    open_as c.args.line.now.verb _ c.reset.new.progress (IsHeldOff (link_seen (g.C.CrqEnd.state c.args.crq.now.end))) (g.C.CrqEnd.state c.reset.new.crq.end).registered c.reset.result c.in-Reset.is (c.reset.ensures.registered alone)
 
 pub returns-in-Logout-clause-registered : goal.returns-in-Logout-clause-registered
 returns-in-Logout-clause-registered g c = λ alone.
-    other_open c.args.line.now.verb c.args.progress.now (g.C.CrqEnd.state c.logout.new.crq.end).registered c.logout.result (ap is_reset c.in-Logout.is)
+    other_open c.args.line.now.verb c.args.progress.now (IsHeldOff (link_seen (g.C.CrqEnd.state c.args.crq.now.end))) (g.C.CrqEnd.state c.logout.new.crq.end).registered c.logout.result (ap is_reset c.in-Logout.is)
 
 pub returns-in-Task-clause-registered : goal.returns-in-Task-clause-registered
 returns-in-Task-clause-registered g c = λ alone.
-    other_open c.args.line.now.verb c.args.progress.now (g.C.CrqEnd.state c.task.new.crq.end).registered c.task.result (ap is_reset c.in-Task.is)
+    other_open c.args.line.now.verb c.args.progress.now (IsHeldOff (link_seen (g.C.CrqEnd.state c.args.crq.now.end))) (g.C.CrqEnd.state c.task.new.crq.end).registered c.task.result (ap is_reset c.in-Task.is)
 
 pub returns-in-Take-clause-registered : goal.returns-in-Take-clause-registered
 returns-in-Take-clause-registered g c = λ alone.
-    other_open c.args.line.now.verb c.take_on.new.progress (g.C.CrqEnd.state c.take_on.new.crq.end).registered c.take_on.result (ap is_reset c.in-Take.is)
+    other_open c.args.line.now.verb c.take_on.new.progress (IsHeldOff (link_seen (g.C.CrqEnd.state c.args.crq.now.end))) (g.C.CrqEnd.state c.take_on.new.crq.end).registered c.take_on.result (ap is_reset c.in-Take.is)
 
 pub returns-in-Data-clause-registered : goal.returns-in-Data-clause-registered
 returns-in-Data-clause-registered g c = λ alone.
-    other_open c.args.line.now.verb c.args.progress.now (g.C.CrqEnd.state c.args.crq.now.end).registered c.data.result (ap is_reset c.in-Data.is)
+    other_open c.args.line.now.verb c.args.progress.now (IsHeldOff (link_seen (g.C.CrqEnd.state c.args.crq.now.end))) (g.C.CrqEnd.state c.args.crq.now.end).registered c.data.result (ap is_reset c.in-Data.is)
 
 pub returns-in-Fill-clause-registered : goal.returns-in-Fill-clause-registered
 returns-in-Fill-clause-registered g c = λ alone.
-    other_open c.args.line.now.verb c.args.progress.now (g.C.CrqEnd.state c.args.crq.now.end).registered c.fill.result (ap is_reset c.in-Fill.is)
+    other_open c.args.line.now.verb c.args.progress.now (IsHeldOff (link_seen (g.C.CrqEnd.state c.args.crq.now.end))) (g.C.CrqEnd.state c.args.crq.now.end).registered c.fill.result (ap is_reset c.in-Fill.is)
 
 pub returns-in-Poke-clause-registered : goal.returns-in-Poke-clause-registered
 returns-in-Poke-clause-registered g c = λ alone.
-    other_open c.args.line.now.verb c.args.progress.now (g.C.CrqEnd.state c.args.crq.now.end).registered c.poke.result (ap is_reset c.in-Poke.is)
+    other_open c.args.line.now.verb c.args.progress.now (IsHeldOff (link_seen (g.C.CrqEnd.state c.args.crq.now.end))) (g.C.CrqEnd.state c.args.crq.now.end).registered c.poke.result (ap is_reset c.in-Poke.is)
 
 pub returns-in-Peek-clause-registered : goal.returns-in-Peek-clause-registered
 returns-in-Peek-clause-registered g c = λ alone.
-    other_open c.args.line.now.verb c.args.progress.now (g.C.CrqEnd.state c.args.crq.now.end).registered c.peek.result (ap is_reset c.in-Peek.is)
+    other_open c.args.line.now.verb c.args.progress.now (IsHeldOff (link_seen (g.C.CrqEnd.state c.args.crq.now.end))) (g.C.CrqEnd.state c.args.crq.now.end).registered c.peek.result (ap is_reset c.in-Peek.is)
 
 pub returns-in-Tce-clause-registered : goal.returns-in-Tce-clause-registered
 returns-in-Tce-clause-registered g c = λ alone.
-    other_open c.args.line.now.verb c.args.progress.now (g.C.CrqEnd.state c.args.crq.now.end).registered c.put_tce.result (ap is_reset c.in-Tce.is)
+    other_open c.args.line.now.verb c.args.progress.now (IsHeldOff (link_seen (g.C.CrqEnd.state c.args.crq.now.end))) (g.C.CrqEnd.state c.args.crq.now.end).registered c.put_tce.result (ap is_reset c.in-Tce.is)
+
+pub returns-in-Login-clause-takes : goal.returns-in-Login-clause-takes
+returns-in-Login-clause-takes g c =
+    none_taken c.args.line.now.verb (taken_in c.args.progress.now) c.args.self.now c.login.new.self c.login.result (ap is_take c.in-Login.is)
+    (taken_verb c.args.line.now.verb _ 0 0 c.args.self.now c.login.new.self c.login.result c.in-Login.is c.login.ensures.takes)
+
+pub returns-in-Logout-clause-takes : goal.returns-in-Logout-clause-takes
+returns-in-Logout-clause-takes g c =
+    none_taken c.args.line.now.verb (taken_in c.args.progress.now) c.args.self.now c.logout.new.self c.logout.result (ap is_take c.in-Logout.is)
+    (taken_verb c.args.line.now.verb _ 0 0 c.args.self.now c.logout.new.self c.logout.result c.in-Logout.is c.logout.ensures.takes)
+
+pub returns-in-Task-clause-takes : goal.returns-in-Task-clause-takes
+returns-in-Task-clause-takes g c =
+    none_taken c.args.line.now.verb (taken_in c.args.progress.now) c.args.self.now c.task.new.self c.task.result (ap is_take c.in-Task.is)
+    (taken_verb c.args.line.now.verb _ 0 0 c.args.self.now c.task.new.self c.task.result c.in-Task.is c.task.ensures.takes)
+
+pub returns-in-Reset-clause-takes : goal.returns-in-Reset-clause-takes
+returns-in-Reset-clause-takes g c =
+    taken_verb c.args.line.now.verb _ (taken_in c.args.progress.now) (taken_in c.reset.new.progress) c.args.self.now c.reset.new.self c.reset.result c.in-Reset.is c.reset.ensures.takes
+
+pub returns-in-Take-clause-takes : goal.returns-in-Take-clause-takes
+returns-in-Take-clause-takes g c =
+    taken_verb c.args.line.now.verb _ (taken_in c.args.progress.now) (taken_in c.take_on.new.progress) c.args.self.now c.take_on.new.self c.take_on.result c.in-Take.is c.take_on.ensures.takes
+
+pub returns-in-Data-clause-takes : goal.returns-in-Data-clause-takes
+returns-in-Data-clause-takes g c =
+    none_taken c.args.line.now.verb (taken_in c.args.progress.now) c.args.self.now c.data.new.self c.data.result (ap is_take c.in-Data.is)
+    (taken_verb c.args.line.now.verb _ 0 0 c.args.self.now c.data.new.self c.data.result c.in-Data.is c.data.ensures.takes)
+
+pub returns-in-Data-clause-gives : goal.returns-in-Data-clause-gives
+returns-in-Data-clause-gives g c =
+    data_step c.args.self.now c.data.new.self (g.C.CrqEnd.state c.args.crq.now.end) c.data.result c.data.ensures.answers c.data.ensures.client
+
+pub returns-in-Fill-clause-takes : goal.returns-in-Fill-clause-takes
+returns-in-Fill-clause-takes g c =
+    own_step c.args.line.now.verb (taken_in c.args.progress.now) c.args.self.now c.fill.result (ap is_take c.in-Fill.is) (ap is_data c.in-Fill.is) c.fill.ensures.plain
+
+pub returns-in-Fill-clause-gives : goal.returns-in-Fill-clause-gives
+returns-in-Fill-clause-gives g c = gives_ok c.args.self.now c.args.self.now (g.C.CrqEnd.state c.args.crq.now.end) (g.C.CrqEnd.state c.args.crq.now.end) c.fill.result (gives_same c.args.self.now (g.C.CrqEnd.state c.args.crq.now.end))
+
+pub returns-in-Poke-clause-takes : goal.returns-in-Poke-clause-takes
+returns-in-Poke-clause-takes g c =
+    own_step c.args.line.now.verb (taken_in c.args.progress.now) c.args.self.now c.poke.result (ap is_take c.in-Poke.is) (ap is_data c.in-Poke.is) c.poke.ensures.plain
+
+pub returns-in-Poke-clause-gives : goal.returns-in-Poke-clause-gives
+returns-in-Poke-clause-gives g c = gives_ok c.args.self.now c.args.self.now (g.C.CrqEnd.state c.args.crq.now.end) (g.C.CrqEnd.state c.args.crq.now.end) c.poke.result (gives_same c.args.self.now (g.C.CrqEnd.state c.args.crq.now.end))
+
+pub returns-in-Peek-clause-takes : goal.returns-in-Peek-clause-takes
+returns-in-Peek-clause-takes g c =
+    own_step c.args.line.now.verb (taken_in c.args.progress.now) c.args.self.now c.peek.result (ap is_take c.in-Peek.is) (ap is_data c.in-Peek.is) c.peek.ensures.plain
+
+pub returns-in-Peek-clause-gives : goal.returns-in-Peek-clause-gives
+returns-in-Peek-clause-gives g c = gives_ok c.args.self.now c.args.self.now (g.C.CrqEnd.state c.args.crq.now.end) (g.C.CrqEnd.state c.args.crq.now.end) c.peek.result (gives_same c.args.self.now (g.C.CrqEnd.state c.args.crq.now.end))
+
+pub returns-in-Tce-clause-takes : goal.returns-in-Tce-clause-takes
+returns-in-Tce-clause-takes g c =
+    own_step c.args.line.now.verb (taken_in c.args.progress.now) c.args.self.now c.put_tce.result (ap is_take c.in-Tce.is) (ap is_data c.in-Tce.is) c.put_tce.ensures.plain
+
+pub returns-in-Tce-clause-gives : goal.returns-in-Tce-clause-gives
+returns-in-Tce-clause-gives g c = gives_ok c.args.self.now c.args.self.now (g.C.CrqEnd.state c.args.crq.now.end) (g.C.CrqEnd.state c.args.crq.now.end) c.put_tce.result (gives_same c.args.self.now (g.C.CrqEnd.state c.args.crq.now.end))

@@ -10,6 +10,9 @@ use Rattle.vcpu_run.proofs.Credits.{TakesOn, takes_answer, takes_on, takes_other
 use Rattle.tce_window.specs.PortState.{PortPlace}
 use Rattle.vscsi_client.specs.declared.TheConstants.{MIN_PAGES}
 use Rattle.vcpu_run.proofs.Working.{works_on}
+use Rattle.vcpu_run.specs.Takings.{TookTaken}
+use Rattle.vcpu_run.proofs.Giving.{gives_on}
+use Rattle.vcpu_run.proofs.TakingTurns.{TakesThem, lost_taken, them_none, them_one, took_taken, waits_taken}
 use Rattle.vcpu_run.proofs.driver.Driver.take.Goals.{in-Answer+else-taken-count-2, in-Other}
 use Rattle.vcpu_run.proofs.driver.Driver.take.Goals as goal
 
@@ -59,7 +62,8 @@ returns-clause-credit g c =
 
 pub loop-entry-preserved : goal.loop-entry-preserved
 loop-entry-preserved g c =
-    let next : TakesOn c.args.taken.now c.match-branch-2.taken c.args.self.now.client c.take_one.new.self.client × (c.match-branch-2.taken < c.args.count) × TakesSo c.args.taken.now c.match-branch-2.taken c.args.self.now.client c.take_one.new.self.client =
+    let next : TakesOn c.args.taken.now c.match-branch-2.taken c.args.self.now.client c.take_one.new.self.client × (c.match-branch-2.taken < c.args.count) × TakesSo c.args.taken.now c.match-branch-2.taken c.args.self.now.client c.take_one.new.self.client
+    × TakesThem c.args.taken.now c.match-branch-2.taken c.args.self.now c.take_one.new.self =
     elim c.match-branch-2.branch [
       | in-Answer+else-taken-count-2 w ↦ (
         subst (λ n. TakesOn c.args.taken.now n c.args.self.now.client c.take_one.new.self.client) (sym w.taken-is)
@@ -71,6 +75,10 @@ loop-entry-preserved g c =
             (takes_one c.args.taken.now c.loop-entry.taken w.saturating_add.result c.args.self.now.client c.loop-entry.self.client c.take_one.new.self.client c.loop-entry.invariant.so
             (omega (arith, w.saturating_add.ensures, c.loop-entry.invariant.less, c.ranges.count.fits))
             (subst (λ (t : Took). TookTold t c.loop-entry.self.client c.take_one.new.self.client) w.in-Answer.is c.in_ok-take_one.ensures.told)),
+        subst (λ n. TakesThem c.args.taken.now n c.args.self.now c.take_one.new.self) (sym w.taken-is)
+            (them_one c.args.taken.now c.loop-entry.taken w.saturating_add.result c.args.self.now c.loop-entry.self c.take_one.new.self c.loop-entry.invariant.them
+            (omega (arith, w.saturating_add.ensures, c.loop-entry.invariant.less, c.ranges.count.fits))
+            (subst (λ (t : Took). TookTaken t c.loop-entry.self c.take_one.new.self) w.in-Answer.is c.in_ok-take_one.ensures.takes)),
       )
       | in-Other w ↦ (
         subst (λ n. TakesOn c.args.taken.now n c.args.self.now.client c.take_one.new.self.client) (sym w.taken-is)
@@ -80,6 +88,9 @@ loop-entry-preserved g c =
         subst (λ n. TakesSo c.args.taken.now n c.args.self.now.client c.take_one.new.self.client) (sym w.taken-is)
             (takes_same c.args.taken.now c.loop-entry.taken c.args.self.now.client c.loop-entry.self.client c.take_one.new.self.client c.loop-entry.invariant.so
             (subst (λ (t : Took). TookTold t c.loop-entry.self.client c.take_one.new.self.client) w.in-Other.is c.in_ok-take_one.ensures.told)),
+        subst (λ n. TakesThem c.args.taken.now n c.args.self.now c.take_one.new.self) (sym w.taken-is)
+            (them_none c.args.taken.now c.loop-entry.taken c.args.self.now c.loop-entry.self c.take_one.new.self c.loop-entry.invariant.them
+            (subst (λ (t : Took). TookTaken t c.loop-entry.self c.take_one.new.self) w.in-Other.is c.in_ok-take_one.ensures.takes)),
       )
     ] in
     record {
@@ -89,6 +100,9 @@ loop-entry-preserved g c =
       so = next.2;
       queue = c.take_one.ensures.queue ∙ c.loop-entry.invariant.queue;
       less = next.1;
+      them = next.3;
+      gives = gives_on c.args.self.now c.loop-entry.self c.take_one.new.self (g.C.CrqEnd.state c.args.crq.now.end) (g.C.CrqEnd.state c.loop-entry.crq.end) (g.C.CrqEnd.state c.take_one.new.crq.end)
+          c.loop-entry.invariant.gives c.in_ok-take_one.ensures.gives;
     }
 
 pub returns-then-taken-count-clause-told : goal.returns-then-taken-count-clause-told
@@ -130,3 +144,66 @@ pub returns-clause-told : goal.returns-clause-told
 returns-clause-told g c = λ p is.
     waits_takes_told (g.O.WindowPort.state c.args.own.now).place.size c.args.count p c.args.taken.now c.loop-entry.taken c.args.self.now.client c.loop-entry.self.client (g.C.CrqEnd.state c.args.crq.now.end).registered (g.C.CrqEnd.state c.loop-entry.crq.end).registered DidMove
     (is, c.loop-entry.invariant.so, c.loop-entry.invariant.queue)
+
+pub returns-then-taken-count-clause-takes : goal.returns-then-taken-count-clause-takes
+returns-then-taken-count-clause-takes g c = λ up_to. took_taken c.args.count c.args.taken.now c.args.taken.now c.args.self.now c.args.self.now up_to (λ now agrees. agrees) up_to
+
+pub returns-then-taken-count-2-clause-takes : goal.returns-then-taken-count-2-clause-takes
+returns-then-taken-count-2-clause-takes g c =
+    let more : c.saturating_add.result ≡ c.loop-entry.taken + 1 = omega (arith, c.saturating_add.ensures, c.loop-entry.invariant.less, c.ranges.count.fits) in
+    took_taken c.args.count c.args.taken.now c.saturating_add.result c.args.self.now c.take_one.new.self (let less = c.loop-entry.invariant.less in omega (arith, less, more))
+    (them_one c.args.taken.now c.loop-entry.taken c.saturating_add.result c.args.self.now c.loop-entry.self c.take_one.new.self c.loop-entry.invariant.them more
+    (subst (λ (t : Took). TookTaken t c.loop-entry.self c.take_one.new.self) c.in-Answer.is c.in_ok-take_one.ensures.takes))
+
+pub returns-in-Lost-clause-takes : goal.returns-in-Lost-clause-takes
+returns-in-Lost-clause-takes g c =
+    lost_taken c.args.count c.args.taken.now c.loop-entry.taken c.args.self.now c.take_one.new.self (let less = c.loop-entry.invariant.less in omega (arith, less))
+    (them_none c.args.taken.now c.loop-entry.taken c.args.self.now c.loop-entry.self c.take_one.new.self c.loop-entry.invariant.them
+    (subst (λ (t : Took). TookTaken t c.loop-entry.self c.take_one.new.self) c.in-Lost.is c.in_ok-take_one.ensures.takes))
+
+pub returns-in-InUse-clause-takes : goal.returns-in-InUse-clause-takes
+returns-in-InUse-clause-takes g c =
+    waits_taken c.args.count c.args.taken.now c.loop-entry.taken c.args.self.now c.take_one.new.self c.moved.result (let less = c.loop-entry.invariant.less in omega (arith, less))
+    (them_none c.args.taken.now c.loop-entry.taken c.args.self.now c.loop-entry.self c.take_one.new.self c.loop-entry.invariant.them
+    (subst (λ (t : Took). TookTaken t c.loop-entry.self c.take_one.new.self) c.in-InUse.is c.in_ok-take_one.ensures.takes))
+
+pub returns-then-is_empty-clause-takes : goal.returns-then-is_empty-clause-takes
+returns-then-is_empty-clause-takes g c =
+    took_taken c.args.count c.args.taken.now c.loop-entry.taken c.args.self.now c.take_one.new.self (let less = c.loop-entry.invariant.less in omega (arith, less))
+    (them_none c.args.taken.now c.loop-entry.taken c.args.self.now c.loop-entry.self c.take_one.new.self c.loop-entry.invariant.them
+    (subst (λ (t : Took). TookTaken t c.loop-entry.self c.take_one.new.self) c.in-Nothing.is c.in_ok-take_one.ensures.takes))
+
+pub returns-in-Nothing-clause-takes : goal.returns-in-Nothing-clause-takes
+returns-in-Nothing-clause-takes g c =
+    waits_taken c.args.count c.args.taken.now c.loop-entry.taken c.args.self.now c.take_one.new.self c.moved-in-Nothing.result (let less = c.loop-entry.invariant.less in omega (arith, less))
+    (them_none c.args.taken.now c.loop-entry.taken c.args.self.now c.loop-entry.self c.take_one.new.self c.loop-entry.invariant.them
+    (subst (λ (t : Took). TookTaken t c.loop-entry.self c.take_one.new.self) c.in-Nothing.is c.in_ok-take_one.ensures.takes))
+
+pub returns-clause-takes : goal.returns-clause-takes
+returns-clause-takes g c =
+    waits_taken c.args.count c.args.taken.now c.loop-entry.taken c.args.self.now c.loop-entry.self DidMove (let less = c.loop-entry.invariant.less in omega (arith, less)) c.loop-entry.invariant.them
+
+pub returns-then-taken-count-2-clause-gives : goal.returns-then-taken-count-2-clause-gives
+returns-then-taken-count-2-clause-gives g c =
+    gives_on c.args.self.now c.loop-entry.self c.take_one.new.self (g.C.CrqEnd.state c.args.crq.now.end) (g.C.CrqEnd.state c.loop-entry.crq.end) (g.C.CrqEnd.state c.take_one.new.crq.end)
+    c.loop-entry.invariant.gives c.in_ok-take_one.ensures.gives
+
+pub returns-in-Lost-clause-gives : goal.returns-in-Lost-clause-gives
+returns-in-Lost-clause-gives g c =
+    gives_on c.args.self.now c.loop-entry.self c.take_one.new.self (g.C.CrqEnd.state c.args.crq.now.end) (g.C.CrqEnd.state c.loop-entry.crq.end) (g.C.CrqEnd.state c.take_one.new.crq.end)
+    c.loop-entry.invariant.gives c.in_ok-take_one.ensures.gives
+
+pub returns-in-InUse-clause-gives : goal.returns-in-InUse-clause-gives
+returns-in-InUse-clause-gives g c =
+    gives_on c.args.self.now c.loop-entry.self c.take_one.new.self (g.C.CrqEnd.state c.args.crq.now.end) (g.C.CrqEnd.state c.loop-entry.crq.end) (g.C.CrqEnd.state c.take_one.new.crq.end)
+    c.loop-entry.invariant.gives c.in_ok-take_one.ensures.gives
+
+pub returns-then-is_empty-clause-gives : goal.returns-then-is_empty-clause-gives
+returns-then-is_empty-clause-gives g c =
+    gives_on c.args.self.now c.loop-entry.self c.take_one.new.self (g.C.CrqEnd.state c.args.crq.now.end) (g.C.CrqEnd.state c.loop-entry.crq.end) (g.C.CrqEnd.state c.take_one.new.crq.end)
+    c.loop-entry.invariant.gives c.in_ok-take_one.ensures.gives
+
+pub returns-in-Nothing-clause-gives : goal.returns-in-Nothing-clause-gives
+returns-in-Nothing-clause-gives g c =
+    gives_on c.args.self.now c.loop-entry.self c.take_one.new.self (g.C.CrqEnd.state c.args.crq.now.end) (g.C.CrqEnd.state c.loop-entry.crq.end) (g.C.CrqEnd.state c.take_one.new.crq.end)
+    c.loop-entry.invariant.gives c.in_ok-take_one.ensures.gives

@@ -2,7 +2,9 @@ use Rattle.std.proofs.Common.{◌≡◌, ◌≤◌, ◌<◌, false}
 use Rattle.vscsi_client.specs.declared.TheConstants.{MIN_PAGES}
 use Rattle.vcpu_run.specs.Works.{Works}
 use Rattle.vcpu_run.proofs.Credits.{TakesOn}
+use Rattle.vcpu_run.specs.Takings.{Gives}
 use Rattle.vcpu_run.proofs.TakesTold.{TakesSo}
+use Rattle.vcpu_run.proofs.TakingTurns.{TakesThem}
 use Rattle.vcpu_run.proofs.driver.Driver.take.Given as goal
 
 abbrev pub invariant-loop-entry : goal.invariant-loop-entry
@@ -13,4 +15,6 @@ invariant-loop-entry g l = record {
   so : TakesSo l.initial.taken l.taken l.initial.self.client l.self.client;
   queue : (g.C.CrqEnd.state l.crq.end).registered ≡ (g.C.CrqEnd.state l.initial.crq.end).registered;
   less : l.taken < l.count;
+  them : TakesThem l.initial.taken l.taken l.initial.self l.self;
+  gives : Gives l.initial.self l.self (g.C.CrqEnd.state l.initial.crq.end) (g.C.CrqEnd.state l.crq.end);
 }

@@ -1,4 +1,5 @@
 use Rattle.std.proofs.Common.{refl, sym, subst}
+use Rattle.vscsi_client.specs.declared.answers.Taken.TheVariants as takens
 use Rattle.vscsi_client.specs.Ports.{ports}
 use Rattle.vscsi_client.specs.State.{ClientState}
 use Rattle.vscsi_client.specs.Taking.{TakesEntry}
@@ -7,6 +8,9 @@ use Rattle.vcpu_run.specs.Sendings.{AnswersOne}
 use Rattle.vcpu_run.proofs.Credits.{took_by}
 use Rattle.vcpu_run.proofs.TakesTold.{again_told, answer_told, empty_told, lost_told, other_told, stray_told}
 use Rattle.vcpu_run.proofs.Working.{take_works}
+use Rattle.vcpu_run.proofs.Giving.{answer_gives, other_gives}
+use Rattle.vcpu_run.proofs.TakeOrder.{takes_in}
+use Rattle.vcpu_run.proofs.TakingTurns.{answer_taken, other_taken, tags_taken_as}
 use Rattle.vcpu_run.proofs.driver.Driver.take_one.Goals as goal
 
 pub returns-in_err-note-in-Answer-clause-works : goal.returns-in_err-note-in-Answer-clause-works
@@ -95,3 +99,99 @@ returns-in-Empty-clause-told g c =
     (ports g.C.CrqEnd.is_shared (g.C.CrqEnd.state c.args.crq.now.end) g.O.WindowPort.is_shared (g.O.WindowPort.state c.args.own.now))
     (ports g.C.CrqEnd.is_shared (g.C.CrqEnd.state c.take_answer.new.crq.end) g.O.WindowPort.is_shared (g.O.WindowPort.state c.take_answer.new.own)) c.in-Empty.number
     (subst (TakesEntry c.args.self.now.client c.take_answer.new.self (ports g.C.CrqEnd.is_shared (g.C.CrqEnd.state c.args.crq.now.end) g.O.WindowPort.is_shared (g.O.WindowPort.state c.args.own.now)) (ports g.C.CrqEnd.is_shared (g.C.CrqEnd.state c.take_answer.new.crq.end) g.O.WindowPort.is_shared (g.O.WindowPort.state c.take_answer.new.own))) c.in-Empty.is c.in_ok-tag.ensures.taken)
+
+pub returns-in_ok-note-in-Answer-clause-takes : goal.returns-in_ok-note-in-Answer-clause-takes
+returns-in_ok-note-in-Answer-clause-takes g c = λ taken now.
+    answer_taken c.in-Answer.tag c.in-Answer.rsp c.args.self.now c.note.new.self c.take_answer.new.self
+    (ports g.C.CrqEnd.is_shared (g.C.CrqEnd.state c.args.crq.now.end) g.O.WindowPort.is_shared (g.O.WindowPort.state c.args.own.now))
+    (ports g.C.CrqEnd.is_shared (g.C.CrqEnd.state c.take_answer.new.crq.end) g.O.WindowPort.is_shared (g.O.WindowPort.state c.take_answer.new.own))
+    taken now (subst (TakesEntry c.args.self.now.client c.take_answer.new.self (ports g.C.CrqEnd.is_shared (g.C.CrqEnd.state c.args.crq.now.end) g.O.WindowPort.is_shared (g.O.WindowPort.state c.args.own.now)) (ports g.C.CrqEnd.is_shared (g.C.CrqEnd.state c.take_answer.new.crq.end) g.O.WindowPort.is_shared (g.O.WindowPort.state c.take_answer.new.own))) c.in-Answer.is c.in_ok-tag.ensures.taken) c.in_ok-note-in-Answer.ensures.notes c.note.ensures.client
+
+pub returns-in_ok-note-in-Answer-clause-gives : goal.returns-in_ok-note-in-Answer-clause-gives
+returns-in_ok-note-in-Answer-clause-gives g c =
+    let entry = (subst (TakesEntry c.args.self.now.client c.take_answer.new.self (ports g.C.CrqEnd.is_shared (g.C.CrqEnd.state c.args.crq.now.end) g.O.WindowPort.is_shared (g.O.WindowPort.state c.args.own.now)) (ports g.C.CrqEnd.is_shared (g.C.CrqEnd.state c.take_answer.new.crq.end) g.O.WindowPort.is_shared (g.O.WindowPort.state c.take_answer.new.own))) c.in-Answer.is c.in_ok-tag.ensures.taken) in
+    answer_gives c.in-Answer.tag c.in-Answer.rsp c.args.self.now c.note.new.self c.take_answer.new.self (g.C.CrqEnd.state c.args.crq.now.end) (g.C.CrqEnd.state c.take_answer.new.crq.end) entry.judged.judged.1 c.in_ok-note-in-Answer.ensures.notes c.note.ensures.client
+    (takes_in (takens.Answer c.in-Answer.tag c.in-Answer.rsp) c.args.self.now.client c.take_answer.new.self
+    (ports g.C.CrqEnd.is_shared (g.C.CrqEnd.state c.args.crq.now.end) g.O.WindowPort.is_shared (g.O.WindowPort.state c.args.own.now))
+    (ports g.C.CrqEnd.is_shared (g.C.CrqEnd.state c.take_answer.new.crq.end) g.O.WindowPort.is_shared (g.O.WindowPort.state c.take_answer.new.own))
+    entry c.take_answer.ensures.crq_rest)
+
+pub returns-in-Stray-clause-takes : goal.returns-in-Stray-clause-takes
+returns-in-Stray-clause-takes g c = λ taken now.
+    other_taken c.args.self.now (record c.args.self.now { client = c.take_answer.new.self }) c.take_answer.new.self taken now refl refl
+    (tags_taken_as (takens.Stray c.in-Stray.field-0) c.args.self.now.client c.take_answer.new.self
+    (ports g.C.CrqEnd.is_shared (g.C.CrqEnd.state c.args.crq.now.end) g.O.WindowPort.is_shared (g.O.WindowPort.state c.args.own.now))
+    (ports g.C.CrqEnd.is_shared (g.C.CrqEnd.state c.take_answer.new.crq.end) g.O.WindowPort.is_shared (g.O.WindowPort.state c.take_answer.new.own))
+    tt (subst (TakesEntry c.args.self.now.client c.take_answer.new.self (ports g.C.CrqEnd.is_shared (g.C.CrqEnd.state c.args.crq.now.end) g.O.WindowPort.is_shared (g.O.WindowPort.state c.args.own.now)) (ports g.C.CrqEnd.is_shared (g.C.CrqEnd.state c.take_answer.new.crq.end) g.O.WindowPort.is_shared (g.O.WindowPort.state c.take_answer.new.own))) c.in-Stray.is c.in_ok-tag.ensures.taken))
+
+pub returns-in-Stray-clause-gives : goal.returns-in-Stray-clause-gives
+returns-in-Stray-clause-gives g c =
+    other_gives (takens.Stray c.in-Stray.field-0) c.args.self.now (record c.args.self.now { client = c.take_answer.new.self }) c.take_answer.new.self (g.C.CrqEnd.state c.args.crq.now.end) (g.C.CrqEnd.state c.take_answer.new.crq.end) (λ tags. refl) refl refl
+    (takes_in (takens.Stray c.in-Stray.field-0) c.args.self.now.client c.take_answer.new.self
+    (ports g.C.CrqEnd.is_shared (g.C.CrqEnd.state c.args.crq.now.end) g.O.WindowPort.is_shared (g.O.WindowPort.state c.args.own.now))
+    (ports g.C.CrqEnd.is_shared (g.C.CrqEnd.state c.take_answer.new.crq.end) g.O.WindowPort.is_shared (g.O.WindowPort.state c.take_answer.new.own))
+    (subst (TakesEntry c.args.self.now.client c.take_answer.new.self (ports g.C.CrqEnd.is_shared (g.C.CrqEnd.state c.args.crq.now.end) g.O.WindowPort.is_shared (g.O.WindowPort.state c.args.own.now)) (ports g.C.CrqEnd.is_shared (g.C.CrqEnd.state c.take_answer.new.crq.end) g.O.WindowPort.is_shared (g.O.WindowPort.state c.take_answer.new.own))) c.in-Stray.is c.in_ok-tag.ensures.taken) c.take_answer.ensures.crq_rest)
+
+pub returns-in-Other-clause-takes : goal.returns-in-Other-clause-takes
+returns-in-Other-clause-takes g c = λ taken now.
+    other_taken c.args.self.now (record c.args.self.now { client = c.take_answer.new.self }) c.take_answer.new.self taken now refl refl
+    (tags_taken_as takens.Other c.args.self.now.client c.take_answer.new.self
+    (ports g.C.CrqEnd.is_shared (g.C.CrqEnd.state c.args.crq.now.end) g.O.WindowPort.is_shared (g.O.WindowPort.state c.args.own.now))
+    (ports g.C.CrqEnd.is_shared (g.C.CrqEnd.state c.take_answer.new.crq.end) g.O.WindowPort.is_shared (g.O.WindowPort.state c.take_answer.new.own))
+    tt (subst (TakesEntry c.args.self.now.client c.take_answer.new.self (ports g.C.CrqEnd.is_shared (g.C.CrqEnd.state c.args.crq.now.end) g.O.WindowPort.is_shared (g.O.WindowPort.state c.args.own.now)) (ports g.C.CrqEnd.is_shared (g.C.CrqEnd.state c.take_answer.new.crq.end) g.O.WindowPort.is_shared (g.O.WindowPort.state c.take_answer.new.own))) c.in-Other.is c.in_ok-tag.ensures.taken))
+
+pub returns-in-Other-clause-gives : goal.returns-in-Other-clause-gives
+returns-in-Other-clause-gives g c =
+    other_gives takens.Other c.args.self.now (record c.args.self.now { client = c.take_answer.new.self }) c.take_answer.new.self (g.C.CrqEnd.state c.args.crq.now.end) (g.C.CrqEnd.state c.take_answer.new.crq.end) (λ tags. refl) refl refl
+    (takes_in takens.Other c.args.self.now.client c.take_answer.new.self
+    (ports g.C.CrqEnd.is_shared (g.C.CrqEnd.state c.args.crq.now.end) g.O.WindowPort.is_shared (g.O.WindowPort.state c.args.own.now))
+    (ports g.C.CrqEnd.is_shared (g.C.CrqEnd.state c.take_answer.new.crq.end) g.O.WindowPort.is_shared (g.O.WindowPort.state c.take_answer.new.own))
+    (subst (TakesEntry c.args.self.now.client c.take_answer.new.self (ports g.C.CrqEnd.is_shared (g.C.CrqEnd.state c.args.crq.now.end) g.O.WindowPort.is_shared (g.O.WindowPort.state c.args.own.now)) (ports g.C.CrqEnd.is_shared (g.C.CrqEnd.state c.take_answer.new.crq.end) g.O.WindowPort.is_shared (g.O.WindowPort.state c.take_answer.new.own))) c.in-Other.is c.in_ok-tag.ensures.taken) c.take_answer.ensures.crq_rest)
+
+pub returns-in-Lost-clause-takes : goal.returns-in-Lost-clause-takes
+returns-in-Lost-clause-takes g c = λ taken now.
+    other_taken c.args.self.now (record c.args.self.now { client = c.take_answer.new.self }) c.take_answer.new.self taken now refl refl
+    (tags_taken_as takens.Lost c.args.self.now.client c.take_answer.new.self
+    (ports g.C.CrqEnd.is_shared (g.C.CrqEnd.state c.args.crq.now.end) g.O.WindowPort.is_shared (g.O.WindowPort.state c.args.own.now))
+    (ports g.C.CrqEnd.is_shared (g.C.CrqEnd.state c.take_answer.new.crq.end) g.O.WindowPort.is_shared (g.O.WindowPort.state c.take_answer.new.own))
+    tt (subst (TakesEntry c.args.self.now.client c.take_answer.new.self (ports g.C.CrqEnd.is_shared (g.C.CrqEnd.state c.args.crq.now.end) g.O.WindowPort.is_shared (g.O.WindowPort.state c.args.own.now)) (ports g.C.CrqEnd.is_shared (g.C.CrqEnd.state c.take_answer.new.crq.end) g.O.WindowPort.is_shared (g.O.WindowPort.state c.take_answer.new.own))) c.in-Lost.is c.in_ok-tag.ensures.taken))
+
+pub returns-in-Lost-clause-gives : goal.returns-in-Lost-clause-gives
+returns-in-Lost-clause-gives g c =
+    other_gives takens.Lost c.args.self.now (record c.args.self.now { client = c.take_answer.new.self }) c.take_answer.new.self (g.C.CrqEnd.state c.args.crq.now.end) (g.C.CrqEnd.state c.take_answer.new.crq.end) (λ tags. refl) refl refl
+    (takes_in takens.Lost c.args.self.now.client c.take_answer.new.self
+    (ports g.C.CrqEnd.is_shared (g.C.CrqEnd.state c.args.crq.now.end) g.O.WindowPort.is_shared (g.O.WindowPort.state c.args.own.now))
+    (ports g.C.CrqEnd.is_shared (g.C.CrqEnd.state c.take_answer.new.crq.end) g.O.WindowPort.is_shared (g.O.WindowPort.state c.take_answer.new.own))
+    (subst (TakesEntry c.args.self.now.client c.take_answer.new.self (ports g.C.CrqEnd.is_shared (g.C.CrqEnd.state c.args.crq.now.end) g.O.WindowPort.is_shared (g.O.WindowPort.state c.args.own.now)) (ports g.C.CrqEnd.is_shared (g.C.CrqEnd.state c.take_answer.new.crq.end) g.O.WindowPort.is_shared (g.O.WindowPort.state c.take_answer.new.own))) c.in-Lost.is c.in_ok-tag.ensures.taken) c.take_answer.ensures.crq_rest)
+
+pub returns-in-Again-clause-takes : goal.returns-in-Again-clause-takes
+returns-in-Again-clause-takes g c = λ taken now.
+    other_taken c.args.self.now (record c.args.self.now { client = c.take_answer.new.self }) c.take_answer.new.self taken now refl refl
+    (tags_taken_as (takens.Again c.in-Again.page c.in-Again.word) c.args.self.now.client c.take_answer.new.self
+    (ports g.C.CrqEnd.is_shared (g.C.CrqEnd.state c.args.crq.now.end) g.O.WindowPort.is_shared (g.O.WindowPort.state c.args.own.now))
+    (ports g.C.CrqEnd.is_shared (g.C.CrqEnd.state c.take_answer.new.crq.end) g.O.WindowPort.is_shared (g.O.WindowPort.state c.take_answer.new.own))
+    tt (subst (TakesEntry c.args.self.now.client c.take_answer.new.self (ports g.C.CrqEnd.is_shared (g.C.CrqEnd.state c.args.crq.now.end) g.O.WindowPort.is_shared (g.O.WindowPort.state c.args.own.now)) (ports g.C.CrqEnd.is_shared (g.C.CrqEnd.state c.take_answer.new.crq.end) g.O.WindowPort.is_shared (g.O.WindowPort.state c.take_answer.new.own))) c.in-Again.is c.in_ok-tag.ensures.taken))
+
+pub returns-in-Again-clause-gives : goal.returns-in-Again-clause-gives
+returns-in-Again-clause-gives g c =
+    other_gives (takens.Again c.in-Again.page c.in-Again.word) c.args.self.now (record c.args.self.now { client = c.take_answer.new.self }) c.take_answer.new.self (g.C.CrqEnd.state c.args.crq.now.end) (g.C.CrqEnd.state c.take_answer.new.crq.end) (λ tags. refl) refl refl
+    (takes_in (takens.Again c.in-Again.page c.in-Again.word) c.args.self.now.client c.take_answer.new.self
+    (ports g.C.CrqEnd.is_shared (g.C.CrqEnd.state c.args.crq.now.end) g.O.WindowPort.is_shared (g.O.WindowPort.state c.args.own.now))
+    (ports g.C.CrqEnd.is_shared (g.C.CrqEnd.state c.take_answer.new.crq.end) g.O.WindowPort.is_shared (g.O.WindowPort.state c.take_answer.new.own))
+    (subst (TakesEntry c.args.self.now.client c.take_answer.new.self (ports g.C.CrqEnd.is_shared (g.C.CrqEnd.state c.args.crq.now.end) g.O.WindowPort.is_shared (g.O.WindowPort.state c.args.own.now)) (ports g.C.CrqEnd.is_shared (g.C.CrqEnd.state c.take_answer.new.crq.end) g.O.WindowPort.is_shared (g.O.WindowPort.state c.take_answer.new.own))) c.in-Again.is c.in_ok-tag.ensures.taken) c.take_answer.ensures.crq_rest)
+
+pub returns-in-Empty-clause-takes : goal.returns-in-Empty-clause-takes
+returns-in-Empty-clause-takes g c = λ taken now.
+    other_taken c.args.self.now (record c.args.self.now { client = c.take_answer.new.self }) c.take_answer.new.self taken now refl refl
+    (tags_taken_as (takens.Empty c.in-Empty.number) c.args.self.now.client c.take_answer.new.self
+    (ports g.C.CrqEnd.is_shared (g.C.CrqEnd.state c.args.crq.now.end) g.O.WindowPort.is_shared (g.O.WindowPort.state c.args.own.now))
+    (ports g.C.CrqEnd.is_shared (g.C.CrqEnd.state c.take_answer.new.crq.end) g.O.WindowPort.is_shared (g.O.WindowPort.state c.take_answer.new.own))
+    tt (subst (TakesEntry c.args.self.now.client c.take_answer.new.self (ports g.C.CrqEnd.is_shared (g.C.CrqEnd.state c.args.crq.now.end) g.O.WindowPort.is_shared (g.O.WindowPort.state c.args.own.now)) (ports g.C.CrqEnd.is_shared (g.C.CrqEnd.state c.take_answer.new.crq.end) g.O.WindowPort.is_shared (g.O.WindowPort.state c.take_answer.new.own))) c.in-Empty.is c.in_ok-tag.ensures.taken))
+
+pub returns-in-Empty-clause-gives : goal.returns-in-Empty-clause-gives
+returns-in-Empty-clause-gives g c =
+    other_gives (takens.Empty c.in-Empty.number) c.args.self.now (record c.args.self.now { client = c.take_answer.new.self }) c.take_answer.new.self (g.C.CrqEnd.state c.args.crq.now.end) (g.C.CrqEnd.state c.take_answer.new.crq.end) (λ tags. refl) refl refl
+    (takes_in (takens.Empty c.in-Empty.number) c.args.self.now.client c.take_answer.new.self
+    (ports g.C.CrqEnd.is_shared (g.C.CrqEnd.state c.args.crq.now.end) g.O.WindowPort.is_shared (g.O.WindowPort.state c.args.own.now))
+    (ports g.C.CrqEnd.is_shared (g.C.CrqEnd.state c.take_answer.new.crq.end) g.O.WindowPort.is_shared (g.O.WindowPort.state c.take_answer.new.own))
+    (subst (TakesEntry c.args.self.now.client c.take_answer.new.self (ports g.C.CrqEnd.is_shared (g.C.CrqEnd.state c.args.crq.now.end) g.O.WindowPort.is_shared (g.O.WindowPort.state c.args.own.now)) (ports g.C.CrqEnd.is_shared (g.C.CrqEnd.state c.take_answer.new.crq.end) g.O.WindowPort.is_shared (g.O.WindowPort.state c.take_answer.new.own))) c.in-Empty.is c.in_ok-tag.ensures.taken) c.take_answer.ensures.crq_rest)

@@ -5,6 +5,7 @@ use Rattle.std.proofs.Common.{◌≤◌, sym, subst}
 use Rattle.tce_window.specs.PortState.{PortPlace}
 use Rattle.vscsi_client.specs.declared.TheConstants.{MIN_PAGES}
 use Rattle.vcpu_run.proofs.Working.{works_on}
+use Rattle.vcpu_run.proofs.Giving.{gives_on}
 use Rattle.vcpu_run.proofs.driver.Driver.take_rest.Goals as goal
 
 pub returns-in_err-take_one-clause-works : goal.returns-in_err-take_one-clause-works
@@ -17,6 +18,8 @@ pub loop-taken-preserved : goal.loop-taken-preserved
 loop-taken-preserved g c = record {
   works = works_on _ _ _ _ _ _ _ _ _ _ _ _ c.loop-taken.invariant.works c.take_one.ensures.works;
   pages = subst (λ (place : PortPlace). MIN_PAGES ≤ place.size) (sym c.take_one.ensures.works.window.place) c.loop-taken.invariant.pages;
+  gives = gives_on c.args.self.now c.loop-taken.self c.take_one.new.self (g.C.CrqEnd.state c.args.crq.now.end) (g.C.CrqEnd.state c.loop-taken.crq.end) (g.C.CrqEnd.state c.take_one.new.crq.end)
+      c.loop-taken.invariant.gives c.in_ok-take_one.ensures.gives;
   fresh = λ is. absurd (not_quiet is);
 }
 
@@ -32,3 +35,13 @@ returns-clause-quiet g c = λ alone is. absurd (not_quiet is)
 pub returns-in-Nothing-clause-quiet : goal.returns-in-Nothing-clause-quiet
 returns-in-Nothing-clause-quiet g c = λ alone is.
     subst (λ (end : EndState). EndRests end (g.C.CrqEnd.state c.take_one.new.crq.end)) (c.loop-taken.invariant.fresh is) (c.in_ok-take_one.ensures.none alone c.in-Nothing.is)
+
+pub returns-in-Nothing-clause-gives : goal.returns-in-Nothing-clause-gives
+returns-in-Nothing-clause-gives g c =
+    gives_on c.args.self.now c.loop-taken.self c.take_one.new.self (g.C.CrqEnd.state c.args.crq.now.end) (g.C.CrqEnd.state c.loop-taken.crq.end) (g.C.CrqEnd.state c.take_one.new.crq.end)
+    c.loop-taken.invariant.gives c.in_ok-take_one.ensures.gives
+
+pub returns-in-InUse-clause-gives : goal.returns-in-InUse-clause-gives
+returns-in-InUse-clause-gives g c =
+    gives_on c.args.self.now c.loop-taken.self c.take_one.new.self (g.C.CrqEnd.state c.args.crq.now.end) (g.C.CrqEnd.state c.loop-taken.crq.end) (g.C.CrqEnd.state c.take_one.new.crq.end)
+    c.loop-taken.invariant.gives c.in_ok-take_one.ensures.gives

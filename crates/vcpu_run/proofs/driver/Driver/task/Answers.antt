@@ -5,6 +5,8 @@ use Rattle.vcpu_run.proofs.Askings.{task_told}
 use Rattle.vcpu_run.proofs.Credits.{task_agreed}
 use Rattle.vcpu_run.proofs.LinesShown.{task_shows}
 use Rattle.vcpu_run.proofs.Working.{task_works}
+use Rattle.vcpu_run.proofs.Giving.{asks_gives, task_kept}
+use Rattle.vcpu_run.proofs.TakingCalls.{task_taken}
 use Rattle.vcpu_run.proofs.driver.Driver.task.Goals as goal
 
 pub returns-clause-works : goal.returns-clause-works
@@ -36,3 +38,18 @@ returns-clause-shows g c =
     (ports g.C.CrqEnd.is_shared (g.C.CrqEnd.state c.args.crq.now.end) g.O.WindowPort.is_shared (g.O.WindowPort.state c.args.own.now))
     (ports g.C.CrqEnd.is_shared (g.C.CrqEnd.state c.task.new.crq.end) g.O.WindowPort.is_shared (g.O.WindowPort.state c.task.new.own))
     c.task.result c.sent.result c.sent.ensures.sent c.task.ensures.sent c.task.ensures.crq_rest.place c.task.ensures.own_rest.place
+
+pub returns-clause-takes : goal.returns-clause-takes
+returns-clause-takes g c =
+    task_taken c.args.line c.args.function c.args.tag c.args.self.now (record c.args.self.now { client = c.task.new.self }) c.task.new.self
+    (ports g.C.CrqEnd.is_shared (g.C.CrqEnd.state c.args.crq.now.end) g.O.WindowPort.is_shared (g.O.WindowPort.state c.args.own.now))
+    (ports g.C.CrqEnd.is_shared (g.C.CrqEnd.state c.task.new.crq.end) g.O.WindowPort.is_shared (g.O.WindowPort.state c.task.new.own))
+    c.task.result c.sent.result refl refl c.sent.ensures.sent c.task.ensures.sent c.task.ensures.same
+
+pub returns-clause-gives : goal.returns-clause-gives
+returns-clause-gives g c =
+    asks_gives c.args.self.now c.task.new.self c.sent.result g.C.CrqEnd.is_shared (g.C.CrqEnd.state c.args.crq.now.end) (g.C.CrqEnd.state c.task.new.crq.end)
+    (task_kept c.args.line c.args.function c.args.tag c.args.self.now.client c.task.new.self
+    (ports g.C.CrqEnd.is_shared (g.C.CrqEnd.state c.args.crq.now.end) g.O.WindowPort.is_shared (g.O.WindowPort.state c.args.own.now))
+    (ports g.C.CrqEnd.is_shared (g.C.CrqEnd.state c.task.new.crq.end) g.O.WindowPort.is_shared (g.O.WindowPort.state c.task.new.own))
+    c.task.result c.task.ensures.sent c.task.ensures.same) c.task.ensures.crq_rest

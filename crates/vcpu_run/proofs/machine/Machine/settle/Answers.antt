@@ -4,6 +4,7 @@ use Rattle.std.proofs.lemmas.Option.{IfSome_then}
 use Rattle.vio_num.specs.declared.memory.NoMemory.{NoMemory}
 use Rattle.vcpu_run.specs.declared.pair.Pair.{Pair}
 use Rattle.vcpu_run.specs.declared.script.Script.{Script}
+use Rattle.block_server.specs.Receipts.{GrantsMany}
 use Rattle.vcpu_run.specs.Agreed.{AreCredited}
 use Rattle.vcpu_run.specs.Answered.{AreAnswered}
 use Rattle.vcpu_run.specs.Holding.{KeepQueues}
@@ -16,6 +17,7 @@ use Rattle.vcpu_run.proofs.Disks.{disk_told, lasts_somehow, tells_told}
 use Rattle.vcpu_run.proofs.Elsewhere.{ok_then}
 use Rattle.vcpu_run.proofs.Lasting.{lent, plan_lasts}
 use Rattle.vcpu_run.specs.PortWords.{PortsTell}
+use Rattle.vcpu_run.specs.PortsRest.{AreTakenTo, PortsEnd}
 use Rattle.vcpu_run.specs.Heard.{AreHeard}
 use Rattle.vcpu_run.proofs.Causings.{caused_told}
 use Rattle.vcpu_run.proofs.machine.Machine.settle.Goals as goal
@@ -150,7 +152,7 @@ trace_of-trace-requires-clause-rests g c =
     let heard : AreHeard c.run-run.new.server.disk.count c.run-run.new.server.partition units' c.run-run.new.server.records c.finish-image.result.copies.items new =
     rw c.finish-image.ensures.copies c.run-run.ensures.heard in
     ok_then c.run-run.result
-    ((AreLinked units c.deref_mut.result.now → AreIdle units' new new_scripts) × (KeepQueues c.deref_mut.result.now c.deref_mut-2.result.now → KeepQueues new new_scripts) × All IsOver new_scripts) _
+    ((AreLinked units c.deref_mut.result.now → AreIdle units' new new_scripts) × (AreLinked units c.deref_mut.result.now → KeepQueues c.deref_mut.result.now c.deref_mut-2.result.now → KeepQueues new new_scripts) × All IsOver new_scripts) _
     (λ told.
     subst (λ (list : List Pair). AreAtRest c.finish-image.result.copies.items c.finish-image.result.grants.items c.finish-image.result.history.items list (take old_scripts.len (new_scripts ++ drop (length new_scripts) old_scripts.items))) (sym pairs)
     (subst (λ (list : List Script). AreAtRest c.finish-image.result.copies.items c.finish-image.result.grants.items c.finish-image.result.history.items new list) (sym scripts)
@@ -158,7 +160,7 @@ trace_of-trace-requires-clause-rests g c =
       units = units';
       idle = told.0 before;
       received = received;
-      unfreed = told.1 whole;
+      unfreed = told.1 before whole;
       over = told.2;
       size = c.run-run.new.server.disk.count;
       partition = c.run-run.new.server.partition;
@@ -186,9 +188,14 @@ trace_of-trace-requires-clause-told g c =
     lent old_scripts.len old_scripts.items new_scripts size_scripts (c.run-run.ensures.run.count ∙ ap length c.deref_mut-2.ensures.value) in
     let before : PortsTell c.args.self.lan c.deref_mut-2.result.now =
     subst (λ (list : List Script). PortsTell c.args.self.lan list) (sym c.deref_mut-2.ensures.value) c.requires.told in
-    ok_then c.run-run.result (PortsTell c.args.self.lan c.deref_mut-2.result.now → PortsTell c.run-run.new.lan new_scripts) _
-    (λ kept. subst (λ (list : List Script). PortsTell c.run-run.new.lan list) (sym scripts) (kept before))
-    c.run-run.ensures.told
+    ends c.run-run.result (PortsTell c.args.self.lan c.deref_mut-2.result.now → PortsTell c.run-run.new.lan new_scripts)
+    (AreTakenTo (length new_scripts) c.run-run.new.lan new_scripts) _
+    (λ kept taken. subst (λ (list : List Script). PortsEnd c.run-run.new.lan list) (sym scripts) (record { told = kept before; taken = taken }))
+    c.run-run.ensures.told c.run-run.ensures.ports
+  where
+    ends : (r : Result Unit NoMemory) (P Q R : Type 0) → (P → Q → R) → OnOk r P → OnOk r Q → OnOk r R
+    ends (Ok x) P Q R f p q = f p q
+    ends (Err e) P Q R f p q = tt
 
 pub trace_of-trace-requires-clause-said : goal.trace_of-trace-requires-clause-said
 trace_of-trace-requires-clause-said g c =
@@ -213,6 +220,12 @@ trace_of-trace-requires-clause-said g c =
 
 pub run-run-requires-clause-heard : goal.run-run-requires-clause-heard
 run-run-requires-clause-heard g c = rw c.deref_mut.ensures.value c.requires.heard
+
+pub returns-clause-grants : goal.returns-clause-grants
+returns-clause-grants g c =
+    let lines : c.finish-image.result.grants.items ≡ c.run-run.new.server.records.grants.items = rw c.finish-image.ensures.grants refl in
+    IfSome_then c.trace_of-trace.result c.trace_of-trace.ensures.grants
+    (λ trace same granted is. subst (All (GrantsMany granted)) (sym (same ∙ lines)) (c.run-run.ensures.grants granted is).said)
 
 pub returns-clause-caused : goal.returns-clause-caused
 returns-clause-caused g c =

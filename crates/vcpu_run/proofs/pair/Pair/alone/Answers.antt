@@ -15,3 +15,8 @@ returns-clause-pair c =
 
 pub returns-clause-answered : goal.returns-clause-answered
 returns-clause-answered c = answered_new _ (256 * c.args.queue) (256 * 1) c.in_ok-open_link.ensures
+
+pub returns-clause-fresh : goal.returns-clause-fresh
+returns-clause-fresh c =
+    let new = c.in_ok-open_link.ensures in
+    record { taken = new.first.queue.taken; sent = new.second.queue.sent; untaken = tt }

@@ -1,7 +1,7 @@
 use Rattle.vio_num.specs.declared.hypervisor.Moved.TheVariants.{Quiet}
 use Rattle.vcpu_run.specs.Links.{IsLinked, ServerWaits, link_state}
 use Rattle.vcpu_run.specs.Freed.{FreesNoneAt, IsNotFreed, NotFreed}
-use Rattle.vcpu_run.proofs.Waiting.{agrees_like, agrees_other, serve_frees, serve_queue, serve_sent, serve_waits}
+use Rattle.vcpu_run.proofs.Waiting.{agrees_like, agrees_other, serve_frees, serve_queue, serve_sent, serve_taken, serve_waits}
 use Rattle.vcpu_run.proofs.Resting.{ok_both}
 use Rattle.vcpu_run.proofs.Crediting.{on_ok}
 use Rattle.std.proofs.Common.{rules, ◌≡◌, Bool, Contains, List, [], ◌∷◌, false, true, refl, sym, ◌∙◌, ap, subst, IfNone, ◌<◌, IfOk, OnOk, arith, length, slice_get}
@@ -209,6 +209,19 @@ returns-clause-sent g c =
     (record { server = old.server; link = lent; own = old.own; window = old.window; driver = old.driver })
     (record { server = old.server; link = link; own = c.turn.new.own; window = c.turn.new.client; driver = old.driver }) c.side.ensures.first c.turn.ensures.goes.queue_place
     ∙ ap (λ (side : PlainSide). side.queue.sent) before)
+
+pub returns-clause-taken : goal.returns-clause-taken
+returns-clause-taken g c =
+    let old = c.args.self.now in
+    let link = c.turn.new.crq.end.link.now in
+    let lent = c.side.result.link.now in
+    let link_is : link ≡ c.self-1.given.0 = search rules in
+    let before : (side_of lent false) ≡ (side_of old.link false) = ap (λ (l : PlainLink). side_of l false) c.side.ensures.link in
+    subst (λ (l : PlainLink). (side_of l false).queue.taken ≡ (side_of old.link false).queue.taken) link_is
+    (serve_taken c.side.result.first c.turn.new.crq.end.first (c.side.result.link.ghost_name ∷ []) (c.turn.new.crq.end.link.ghost_name ∷ [])
+    (record { server = old.server; link = lent; own = old.own; window = old.window; driver = old.driver })
+    (record { server = old.server; link = link; own = c.turn.new.own; window = c.turn.new.client; driver = old.driver }) c.side.ensures.first c.turn.ensures.goes.queue_place
+    ∙ ap (λ (side : PlainSide). side.queue.taken) before)
 
 pub returns-clause-shows : goal.returns-clause-shows
 returns-clause-shows g c =

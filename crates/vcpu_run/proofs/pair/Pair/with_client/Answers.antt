@@ -1,7 +1,7 @@
 use Rattle.std.proofs.Common.{◌*◌, Some, ap, arith}
 use Rattle.vscsi_client.specs.State.{ClientState}
 use Rattle.vcpu_run.proofs.Answering.{answered_new}
-use Rattle.vcpu_run.proofs.Opened.{driver_new, pair_new}
+use Rattle.vcpu_run.proofs.Opened.{driver_new, pair_new, untaken_new}
 use Rattle.vcpu_run.proofs.pair.Pair.with_client.Goals as goal
 
 pub returns-clause-pair : goal.returns-clause-pair
@@ -18,3 +18,13 @@ returns-clause-out c = ap (λ (s : ClientState). s.granted) c.in_ok-open-3.ensur
 
 pub returns-clause-answered : goal.returns-clause-answered
 returns-clause-answered c = answered_new _ (256 * c.args.queue) (256 * c.args.seat.queue) c.in_ok-open_link.ensures
+
+pub returns-clause-fresh : goal.returns-clause-fresh
+returns-clause-fresh c =
+    let driver = c.in_ok-open-3 in
+    let new = c.in_ok-open_link.ensures in
+    record {
+      taken = new.first.queue.taken;
+      sent = new.second.queue.sent;
+      untaken = untaken_new c.args.seat.unit c.args.server (256 * c.args.queue) (256 * c.args.seat.queue) c.in_ok-open_link.field-0 driver.field-0 driver.ensures.answers driver.ensures.client new;
+    }

@@ -5,7 +5,9 @@ use Rattle.vio_trace.specs.declared.outcome.Outcome.TheVariants as outcomes
 use Rattle.vscsi_client.specs.State.{ClientState}
 use Rattle.unit_region.specs.declared.step.Step.TheVariants as steps
 use Rattle.vcpu_run.specs.Credited.{StepsAgreed, grants, is_take, taken_in}
-use Rattle.vcpu_run.specs.Suited.{IsLineAt}
+use Rattle.vcpu_run.specs.CallsSaid.{place_at}
+use Rattle.vcpu_run.specs.Suited.{IsLineAt, is_call}
+use Rattle.vcpu_run.proofs.CallsKept.{says_none}
 use Rattle.vcpu_run.proofs.Crediting.{less_by, line_ends, lines_none}
 use Rattle.vcpu_run.proofs.Credits.{plain_fresh, takes_same, took_agreed}
 use Rattle.vcpu_run.proofs.ScriptsTold.{EndsWaiting, of_login, of_reset, of_take, waiting_told}
@@ -19,6 +21,16 @@ use Rattle.vcpu_run.specs.PortWords.{done_in, frame_of}
 use Rattle.lan_script.specs.PortCounts.{counts, counts_by, counts_told}
 use Rattle.boot_text.specs.declared.verb.Verb.{Verb}
 use Rattle.vcpu_run.proofs.script.Script.end_waiting.Goals as goal
+
+pub end-requires-clause-called : goal.end-requires-clause-called
+end-requires-clause-called c =
+    let other : is_call c.in-Some.line.now.verb ≡ false =
+    elim c.match-line.branch [
+      | in-Login w ↦ ap is_call w.in-Login.is
+      | in-Reset w ↦ ap is_call w.in-Reset.is
+      | in-Take w ↦ ap is_call w.in-Take.is
+    ] in
+    says_none (place_at c.args.self.now.partition c.args.self.now.seats.items) c.in-Some.line.now.verb c.match-line.outcome other
 
 pub returns-clause-credited : goal.returns-clause-credited
 returns-clause-credited c = λ pairs script is.

@@ -8,9 +8,10 @@ use Rattle.vcpu_run.proofs.Driving.{clients_of}
 use Rattle.std.proofs.lemmas.Option.{slice_get_past}
 use Rattle.vcpu_run.proofs.ScriptsTold.{none_out, over_told}
 use Rattle.vcpu_run.proofs.Logging.{script_stays}
-use Rattle.vcpu_run.proofs.Held.{turned_held}
+use Rattle.vcpu_run.proofs.Held.{none_held, turned_held}
 use Rattle.vcpu_run.proofs.PortsTelling.{rest_tells}
 use Rattle.vcpu_run.proofs.Elsewhere.{ok_then}
+use Rattle.vcpu_run.specs.PortsRest.{PortsRest}
 use Rattle.vcpu_run.proofs.script.Script.go_on.Goals as goal
 
 pub take_rest-requires-clause-few : goal.take_rest-requires-clause-few
@@ -53,8 +54,9 @@ returns-in-None-clause-told c =
 pub returns-in-None-clause-said : goal.returns-in-None-clause-said
 returns-in-None-clause-said c =
     let over : length c.args.self.now.lines.now ≤ c.args.self.now.at = over_by c.args.self.now.at (length c.args.self.now.lines.now) (sym c.get.ensures.lookup.0 ∙ ap is_some c.in-None.is) in
-    on_ok c.take_rest.result _ (λ no is.
-    over_told c.args.pairs.now c.take_rest.new.pairs c.args.self.now (slice_get_past c.args.self.now.lines.now c.args.self.now.at over) c.requires.script.seats c.take_rest.ensures.driven is)
+    ok_then c.take_rest.result _ _ (λ gives no is.
+    over_told c.args.pairs.now c.take_rest.new.pairs c.args.self.now (slice_get_past c.args.self.now.lines.now c.args.self.now.at over) c.requires.script.seats c.take_rest.ensures.driven gives is)
+    c.take_rest.ensures.gives
 
 pub returns-in-None-clause-out : goal.returns-in-None-clause-out
 returns-in-None-clause-out c =
@@ -62,3 +64,20 @@ returns-in-None-clause-out c =
     ok_more c.take_rest.result _ _
     (λ moved rests is no told. none_out c.take_rest.new.pairs c.args.self.now (slice_get_past c.args.self.now.lines.now c.args.self.now.at over))
     c.take_rest.ensures.quiet
+
+pub returns-in-None-clause-opened : goal.returns-in-None-clause-opened
+returns-in-None-clause-opened c =
+    let over : length c.args.self.now.lines.now ≤ c.args.self.now.at = over_by c.args.self.now.at (length c.args.self.now.lines.now) (sym c.get.ensures.lookup.0 ∙ ap is_some c.in-None.is) in
+    ok_more c.take_rest.result _ _
+    (λ moved rests is. none_held c.args.pairs.now c.take_rest.new.pairs c.args.self.now (slice_get_past c.args.self.now.lines.now c.args.self.now.at over))
+    c.take_rest.ensures.quiet
+
+pub returns-in-None-clause-ports : goal.returns-in-None-clause-ports
+returns-in-None-clause-ports c =
+    ok_more c.take_rest.result _ _
+    (λ moved rests is over.
+    subst (λ (seats : List Seat). PortsRest c.args.self.now.partition seats c.args.lan.now c.take_rest.new.lan) c.deref.ensures.value (rests is))
+    c.take_rest.ensures.ports
+
+pub returns-in-Some-clause-ports : goal.returns-in-Some-clause-ports
+returns-in-Some-clause-ports c = ok_more c.step.result _ _ (λ moved left is over. absurd (left is over)) c.step.ensures.quiet

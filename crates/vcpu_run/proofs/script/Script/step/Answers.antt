@@ -3,12 +3,13 @@ use Rattle.vcpu_run.specs.declared.unit_seat.Seat.{Seat}
 use Rattle.vcpu_run.specs.Freed.{FreesNoneIf}
 use Rattle.vcpu_run.specs.Freeing.{IsSpared}
 use Rattle.vcpu_run.specs.Holding.{LineOpen}
-use Rattle.vcpu_run.proofs.Held.{ends_held, waits_held}
+use Rattle.vcpu_run.proofs.Held.{ends_held, waits_held, waits_open}
 use Rattle.std.proofs.Common.{rules, ap, false, ◌≡◌, ◌∙◌, List, Ok, refl, subst, arith}
 use Rattle.std.proofs.lemmas.Option.{slice_get_within}
 use Rattle.unit_region.specs.declared.step.Step.{Step}
 use Rattle.unit_region.specs.declared.step.Step.TheVariants as steps
 use Rattle.vcpu_run.specs.Agreed.{SameElse, StepsLine}
+use Rattle.vcpu_run.specs.CallsSaid.{StepSaid, place_at}
 use Rattle.vcpu_run.specs.Credited.{taken_in}
 use Rattle.vcpu_run.specs.Suited.{IsLineAt}
 use Rattle.boot_text.specs.declared.plan.Line.{Line}
@@ -37,6 +38,11 @@ step_unit-requires c =
       };
     }
 
+pub end-requires-clause-called : goal.end-requires-clause-called
+end-requires-clause-called c =
+    subst (λ (st : Step). StepSaid (place_at c.args.self.now.partition c.args.self.now.seats.items) c.args.line.now.verb st) c.in-Ends.is
+    (rw (← c.deref.ensures.value) c.in_ok-step.ensures.called)
+
 pub returns-in_err-step : goal.returns-in_err-step
 returns-in_err-step c =
     let line : IsLineAt c.args.self.now.seats.items c.args.line.now =
@@ -53,6 +59,7 @@ returns-in_err-step c =
       apart = search rules;
       said = search rules;
       out = search rules;
+      opened = search rules;
       quiet = search rules;
     }
 
@@ -72,6 +79,7 @@ returns-in_err-end-in-Ends c =
       apart = search rules;
       said = search rules;
       out = search rules;
+      opened = search rules;
       quiet = search rules;
     }
 
@@ -89,7 +97,7 @@ returns-in_ok-end-in-Ends c =
           c.requires.line c.requires.script.seats
           (subst (λ (seats : List Seat). FreesNoneIf (IsSpared seats c.args.line.now) c.args.pairs.now c.step_unit.new.pairs) c.deref.ensures.value c.step_unit.ensures.stays)
           (λ no.
-          subst (λ (st : Step). LineOpen c.args.self.now.seats.items c.args.line.now c.step_unit.new.progress c.step_unit.new.pairs (Ok st)) c.in-Ends.is
+          subst (λ (st : Step). LineOpen c.args.self.now.seats.items c.args.line.now c.step_unit.new.progress c.args.pairs.now c.step_unit.new.pairs (Ok st)) c.in-Ends.is
           (rw (← c.deref.ensures.value) (c.in_ok-step.ensures.registered no)))
           c.end.ensures.rest.lines c.end.ensures.rest.seats keep;
       lan = c.step_unit.ensures.lan;
@@ -119,6 +127,7 @@ returns-in_ok-end-in-Ends c =
           (rw (← c.deref.ensures.value) (c.in_ok-step.ensures.said (all_at (λ (l : Line). is_call l.verb ≡ false) c.args.self.now.lines.now c.args.self.now.at c.args.line.now c.requires.line no))))
           c.end.ensures.rest.lines c.end.ensures.rest.seats c.in_ok-end-in-Ends.ensures.ended.logs c.in_ok-end-in-Ends.ensures.fresh is;
       out = λ is. absurd (not_quiet is);
+      opened = λ is. absurd (not_quiet is);
       quiet = λ is. absurd (not_quiet is);
     }
 
@@ -136,7 +145,7 @@ returns-in-Waits c =
           c.requires.line c.requires.script.seats
           (subst (λ (seats : List Seat). FreesNoneIf (IsSpared seats c.args.line.now) c.args.pairs.now c.step_unit.new.pairs) c.deref.ensures.value c.step_unit.ensures.stays)
           (λ no.
-          subst (λ (st : Step). LineOpen c.args.self.now.seats.items c.args.line.now c.step_unit.new.progress c.step_unit.new.pairs (Ok st)) c.in-Waits.is
+          subst (λ (st : Step). LineOpen c.args.self.now.seats.items c.args.line.now c.step_unit.new.progress c.args.pairs.now c.step_unit.new.pairs (Ok st)) c.in-Waits.is
           (rw (← c.deref.ensures.value) (c.in_ok-step.ensures.registered no))) keep;
       lan = c.step_unit.ensures.lan;
       credited = λ is.
@@ -160,6 +169,12 @@ returns-in-Waits c =
           (subst (λ (st : Step). LineOut c.args.self.now.seats.items c.args.line.now c.args.self.now.progress c.step_unit.new.progress c.args.pairs.now c.step_unit.new.pairs (Ok st))
           (c.in-Waits.is ∙ ap (λ m. steps.Waits m) is)
           (rw (← c.deref.ensures.value) (c.in_ok-step.ensures.out (all_at (λ (l : Line). is_call l.verb ≡ false) c.args.self.now.lines.now c.args.self.now.at c.args.line.now c.requires.line no)))) told;
+      opened = λ is.
+          waits_open c.args.pairs.now c.step_unit.new.pairs c.args.self.now c.step_unit.new.progress c.args.line.now c.requires.line
+          (λ no.
+          subst (λ (st : Step). LineOpen c.args.self.now.seats.items c.args.line.now c.step_unit.new.progress c.args.pairs.now c.step_unit.new.pairs (Ok st))
+          (c.in-Waits.is ∙ ap (λ m. steps.Waits m) is)
+          (rw (← c.deref.ensures.value) (c.in_ok-step.ensures.registered no)));
       quiet = λ is over. let less = slice_get_within c.args.self.now.lines.now c.args.self.now.at c.args.line.now c.requires.line in omega (arith, less, over);
     }
 

@@ -7,7 +7,7 @@ use Rattle.vcpu_run.proofs.Elsewhere.{else_on}
 use Rattle.vcpu_run.proofs.ScriptsTold.{clients_told}
 use Rattle.vcpu_run.proofs.Logging.{script_stays}
 use Rattle.vcpu_run.specs.Links.{EventsWait}
-use Rattle.vcpu_run.proofs.Held.{turned_held}
+use Rattle.vcpu_run.proofs.Held.{still_held, turned_held}
 use Rattle.vcpu_run.proofs.Resting.{events_rest, rests_on}
 use Rattle.vcpu_run.proofs.script.Script.turn.Goals as goal
 
@@ -69,3 +69,11 @@ returns-clause-said c = λ no is.
 pub returns-clause-out : goal.returns-clause-out
 returns-clause-out c = λ is no told.
     c.in_ok-moved.ensures.out (c.either.ensures.other is) no (clients_told c.args.pairs.now c.push_events.new.pairs c.args.self.now c.push_events.ensures.clients told)
+
+pub returns-clause-opened : goal.returns-clause-opened
+returns-clause-opened c = λ is.
+    let rest = c.in_ok-pushed.ensures.quiet (c.either.ensures.one is) in
+    still_held c.args.pairs.now c.push_events.new.pairs c.go_on.new.pairs c.go_on.new.self rest.still (c.in_ok-moved.ensures.opened (c.either.ensures.other is))
+
+pub returns-clause-ports : goal.returns-clause-ports
+returns-clause-ports c = λ is over. c.in_ok-moved.ensures.ports (c.either.ensures.other is) over

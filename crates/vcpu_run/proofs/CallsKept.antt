@@ -1,0 +1,205 @@
+-- What the records of raw calls say, as a line ends, and where a call names no unit of the partition.
+use Rattle.std.proofs.Common.{◌≡◌, ◌∙◌, ◌⊎◌, inl, inr, ℕ, ◌<◌, nat_lt, Bool, true, false, cond, List, [], ◌∷◌, ◌++◌, Option, Some, None, Result, Ok, Err, IfOk, IfSome, IsSome, IsSomeAnd, length, slice_get, refl, sym, ap, subst, arith}
+use Rattle.std.proofs.lemmas.Bool.Decides.{nat_tests}
+use Rattle.std.proofs.lemmas.Option.{slice_get_within}
+use Rattle.vio_num.specs.declared.hypervisor.Hrc.{Hrc}
+use Rattle.vio_num.specs.declared.hypervisor.Hrc.TheVariants as codes
+use Rattle.vio_num.specs.declared.memory.NoMemory.{NoMemory}
+use Rattle.boot_text.specs.declared.plan.Line.{Line}
+use Rattle.boot_text.specs.declared.verb.Verb.{Verb}
+use Rattle.boot_text.specs.declared.verb.Verb.TheVariants as verbs
+use Rattle.hcall_table.specs.Asked.{Refuses, bare}
+use Rattle.hcall_table.specs.Named.{Place, unit_of}
+use Rattle.hcall_table.specs.Rows.{gives_value, row_of}
+use Rattle.hcall_table.specs.declared.hcall.Hcall.{Hcall}
+use Rattle.hcall_table.specs.declared.hcall.Hcall.TheVariants as rows
+use Rattle.hcall_table.specs.declared.kind.UnitKind.{UnitKind}
+use Rattle.hcall_table.specs.declared.returned.Returned.{Returned}
+use Rattle.lan_script.specs.Seats.{seat_at}
+use Rattle.lan_script.specs.declared.seat.PortSeat.{PortSeat}
+use Rattle.vio_trace.specs.declared.outcome.Outcome.{Outcome}
+use Rattle.vio_trace.specs.declared.outcome.Outcome.TheVariants as outcomes
+use Rattle.vio_trace.specs.declared.rows.LogRow.{LogRow}
+use Rattle.unit_region.specs.declared.step.Step.{Step}
+use Rattle.unit_region.specs.declared.step.Step.TheVariants as steps
+use Rattle.vcpu_run.specs.declared.pair.Pair.{Pair}
+use Rattle.vcpu_run.specs.declared.partition_units.PartitionUnits.{PartitionUnits}
+use Rattle.vcpu_run.specs.declared.unit_seat.Seat.{Seat}
+use Rattle.vcpu_run.specs.declared.unit_seat.Seat.TheVariants as sits
+use Rattle.vcpu_run.specs.CallRows.{EndsCall, gives, says}
+use Rattle.vcpu_run.specs.CallsSaid.{CallsSaid, EndsAsParameter, IsSaidOf, StepSaid, place_at}
+use Rattle.vcpu_run.specs.Pairs.{IsDriver}
+use Rattle.vcpu_run.specs.Ports.{HavePorts, IsPortOf, unit_of as unit_id}
+use Rattle.vcpu_run.specs.RawCalls.{kind_of, place_of, port_if, seat_among, seat_by, units_at}
+use Rattle.vcpu_run.specs.Suited.{is_call}
+use Rattle.vcpu_run.specs.Works.{HaveClients, fails}
+use Rattle.vcpu_run.proofs.Driving.{some_is}
+use Rattle.vcpu_run.proofs.LinesShown.{no_row, row_at}
+
+-- a line that makes no raw call
+pub says_none : (place : Place) (verb : Verb) (outcome : Outcome) → is_call verb ≡ false → IsSaidOf place verb outcome
+says_none place verbs.Login outcome is = tt
+says_none place verbs.Reset outcome is = tt
+says_none place verbs.Logout outcome is = tt
+says_none place verbs.Tur outcome is = tt
+says_none place (verbs.Read lba blocks at pieces table) outcome is = tt
+says_none place (verbs.Write lba blocks at pieces table) outcome is = tt
+says_none place (verbs.Command cdb) outcome is = tt
+says_none place (verbs.CommandIn cdb at len pieces table) outcome is = tt
+says_none place (verbs.CommandOut cdb at len pieces table) outcome is = tt
+says_none place (verbs.Task function of) outcome is = tt
+says_none place (verbs.Take count) outcome is = tt
+says_none place (verbs.Data of) outcome is = tt
+says_none place verbs.Open outcome is = tt
+says_none place verbs.Close outcome is = tt
+says_none place (verbs.Post at len count) outcome is = tt
+says_none place (verbs.Send to len seed at) outcome is = tt
+says_none place (verbs.ChangeMac own) outcome is = tt
+says_none place (verbs.Multicast control group) outcome is = tt
+says_none place (verbs.Fill at len seed) outcome is = tt
+says_none place (verbs.Poke at bytes) outcome is = tt
+says_none place (verbs.Peek at len) outcome is = tt
+says_none place (verbs.Tce entry page readable writable) outcome is = tt
+says_none place (verbs.Hcall number args) outcome is = absurd (cc)
+says_none place verbs.Fail outcome is = tt
+
+-- one that fails the partition makes none
+pub fails_no_call : (verb : Verb) → fails verb ≡ true → is_call verb ≡ false
+fails_no_call verbs.Login is = refl
+fails_no_call verbs.Reset is = refl
+fails_no_call verbs.Logout is = refl
+fails_no_call verbs.Tur is = refl
+fails_no_call (verbs.Read lba blocks at pieces table) is = refl
+fails_no_call (verbs.Write lba blocks at pieces table) is = refl
+fails_no_call (verbs.Command cdb) is = refl
+fails_no_call (verbs.CommandIn cdb at len pieces table) is = refl
+fails_no_call (verbs.CommandOut cdb at len pieces table) is = refl
+fails_no_call (verbs.Task function of) is = refl
+fails_no_call (verbs.Take count) is = refl
+fails_no_call (verbs.Data of) is = refl
+fails_no_call verbs.Open is = refl
+fails_no_call verbs.Close is = refl
+fails_no_call (verbs.Post at len count) is = refl
+fails_no_call (verbs.Send to len seed at) is = refl
+fails_no_call (verbs.ChangeMac own) is = refl
+fails_no_call (verbs.Multicast control group) is = refl
+fails_no_call (verbs.Fill at len seed) is = refl
+fails_no_call (verbs.Poke at bytes) is = refl
+fails_no_call (verbs.Peek at len) is = refl
+fails_no_call (verbs.Tce entry page readable writable) is = refl
+fails_no_call (verbs.Hcall number args) is = absurd (cc)
+fails_no_call verbs.Fail is = refl
+
+-- the records before the first line, and one more, of the line that ended
+pub called_none : (place : Place) (lines : List Line) → CallsSaid place lines []
+called_none place lines i line row found at = absurd (no_row row at)
+
+pub called_one : (place : Place) (lines : List Line) (records : List LogRow) (line : Line) (row : LogRow) → slice_get lines (length records) ≡ Some line
+    → CallsSaid place lines records → IsSaidOf place line.verb row.outcome → CallsSaid place lines (records ++ row ∷ [])
+called_one place lines records line row found said last i l r there at = by (row_at records row r i at)
+  where
+    by : (slice_get records i ≡ Some r) ⊎ ((i ≡ length records) × (r ≡ row)) → IsSaidOf place l.verb r.outcome
+    by (inl h) = said i l r there h
+    by (inr h) =
+        let same : l ≡ line = some_is l line (sym there ∙ (ap (slice_get lines) h.0 ∙ found)) in
+        subst (λ (x : LogRow). IsSaidOf place l.verb x.outcome) (sym h.1) (subst (λ (x : Line). IsSaidOf place x.verb row.outcome) (sym same) last)
+
+-- no row gives a value with Parameter
+no_value : (row : Hcall) → gives_value row codes.Parameter ≡ false
+no_value rows.GetTce = refl
+no_value rows.PutTce = refl
+no_value rows.StuffTce = refl
+no_value rows.PutTceIndirect = refl
+no_value rows.RegCrq = refl
+no_value rows.FreeCrq = refl
+no_value rows.SendCrq = refl
+no_value rows.EnableCrq = refl
+no_value rows.CopyRdma = refl
+no_value rows.RegisterLogicalLan = refl
+no_value rows.FreeLogicalLan = refl
+no_value rows.AddLogicalLanBuffer = refl
+no_value rows.SendLogicalLan = refl
+no_value rows.MulticastCtrl = refl
+no_value rows.ChangeLogicalLanMac = refl
+
+pub gives_none : (row : Option Hcall) → gives row codes.Parameter ≡ false
+gives_none None = refl
+gives_none (Some row) = no_value row
+
+-- each client of a partition has its pair, and each port is there: its units are where they sit
+among_same : (partition : ℕ) (seats : List Seat) (pairs : List Pair) (ports : List PortSeat) (unit : ℕ) → HaveClients seats pairs → HavePorts partition seats ports
+    → (o : Option Seat) → slice_get seats unit ≡ o → seat_among partition unit (length pairs) ports o ≡ o
+among_same partition seats pairs ports unit clients have None e = refl
+among_same partition seats pairs ports unit clients have (Some sits.Server) e = refl
+among_same partition seats pairs ports unit clients have (Some (sits.Client k)) e =
+    let less : nat_lt k (length pairs) ≡ true = below (slice_get pairs k) refl (clients unit k e) in
+    ap (λ b. cond b (Some (sits.Client k)) None) less
+  where
+    within : (pair : Pair) → slice_get pairs k ≡ Some pair → nat_lt k (length pairs) ≡ true
+    within pair there = let less : k < length pairs = slice_get_within pairs k pair there in grind (arith, nat_tests, less)
+
+    below : (o : Option Pair) → slice_get pairs k ≡ o → IsSomeAnd o (λ pair. IsSomeAnd pair.driver (IsDriver pair.window)) → nat_lt k (length pairs) ≡ true
+    below None there h = absurd h
+    below (Some pair) there h = within pair there
+among_same partition seats pairs ports unit clients have (Some sits.Port) e = there (seat_at ports (unit_id partition unit)) (have unit e)
+  where
+    there : (o : Option PortSeat) → IsSome o → port_if o ≡ Some sits.Port
+    there None h = absurd (cc (h))
+    there (Some seat) h = refl
+
+pub place_same : (partition : ℕ) (seats : List Seat) (pairs : List Pair) (ports : List PortSeat) → HaveClients seats pairs → HavePorts partition seats ports
+    → units_at partition seats (length pairs) ports ≡ place_at partition seats
+place_same partition seats pairs ports clients have =
+    let each : (unit : ℕ) → kind_of (seat_by partition seats (length pairs) ports unit) ≡ kind_of (slice_get seats unit) =
+    λ unit. ap kind_of (among_same partition seats pairs ports unit clients have (slice_get seats unit) refl) in
+    let kinds : (λ (unit : ℕ). kind_of (seat_by partition seats (length pairs) ports unit)) ≡ (λ (unit : ℕ). kind_of (slice_get seats unit)) = λ i unit. each unit i in
+    let make : (ℕ → Option UnitKind) → Place = λ kind. record { partition = partition; kind = kind } in
+    ap make kinds
+
+-- the table of calls refuses a unit of another partition, or of another kind
+refused_by : (old new : PartitionUnits) (result : Result Returned NoMemory) → Refuses PartitionUnits codes.Parameter old new result → IfOk result (λ r. r ≡ bare codes.Parameter)
+refused_by old new (Ok r) refuses = refuses.answer
+refused_by old new (Err memory) refuses = tt
+
+pub parameter_told : (old new : PartitionUnits) (number : ℕ) (args : List ℕ) (result : Result Returned NoMemory)
+    → IfSome (row_of number) (λ row. unit_of (place_of old) row args ≡ None → Refuses PartitionUnits codes.Parameter old new result)
+    → IfSome (row_of number) (λ row. unit_of (place_of old) row args ≡ None → IfOk result (λ r. r ≡ bare codes.Parameter))
+parameter_told old new number args result refuses = at (row_of number) refuses
+  where
+    at : (o : Option Hcall) → IfSome o (λ row. unit_of (place_of old) row args ≡ None → Refuses PartitionUnits codes.Parameter old new result)
+        → IfSome o (λ row. unit_of (place_of old) row args ≡ None → IfOk result (λ r. r ≡ bare codes.Parameter))
+    at None h = tt
+    at (Some row) h = λ none. refused_by old new result (h none)
+
+-- what a call's record says of it
+pub parameter_says : (number : ℕ) (returned : Returned) → returned ≡ bare codes.Parameter → says number returned ≡ outcomes.Code codes.Parameter
+parameter_says number returned is =
+    ap (says number) is ∙ ap (λ b. cond b (outcomes.Value 0) (outcomes.Code codes.Parameter)) (gives_none (row_of number))
+
+-- a call that ended its line
+pub call_said : (place other : Place) (number : ℕ) (args : List ℕ) (step : Step) → other ≡ place → EndsCall number step
+    → IfSome (row_of number) (λ row. unit_of other row args ≡ None → EndsAsParameter step) → StepSaid place (verbs.Hcall number args) step
+call_said place other number args (steps.Ends outcome) same said elsewhere = record {
+  row = said;
+  elsewhere = subst (λ (p : Place). IfSome (row_of number) (λ row. unit_of p row args ≡ None → outcome ≡ outcomes.Code codes.Parameter)) same elsewhere;
+}
+call_said place other number args (steps.Waits did) same said elsewhere = tt
+
+-- a step of a line that makes no raw call
+pub step_says_none : (place : Place) (verb : Verb) (result : Result Step NoMemory) → is_call verb ≡ false → IfOk result (StepSaid place verb)
+step_says_none place verb (Ok (steps.Ends outcome)) none = says_none place verb outcome none
+step_says_none place verb (Ok (steps.Waits did)) none = tt
+step_says_none place verb (Err memory) none = tt
+
+pub called_step : (place other : Place) (verb : Verb) (number : ℕ) (args : List ℕ) (result : Result Step NoMemory) → other ≡ place → verb ≡ verbs.Hcall number args
+    → IfOk result (EndsCall number) → IfSome (row_of number) (λ row. unit_of other row args ≡ None → IfOk result EndsAsParameter) → IfOk result (StepSaid place verb)
+called_step place other verb number args (Ok step) same is said elsewhere =
+    subst (λ (v : Verb). StepSaid place v step) (sym is)
+    (call_said place other number args step same said elsewhere)
+called_step place other verb number args (Err memory) same is said elsewhere = tt
+
+-- a call that the table refused ended its line so
+pub ends_parameter : (o : Option Hcall) (place : Place) (args : List ℕ) (returned : Returned) (outcome : Outcome) → (returned ≡ bare codes.Parameter → outcome ≡ outcomes.Code codes.Parameter)
+    → IfSome o (λ row. unit_of place row args ≡ None → returned ≡ bare codes.Parameter) → IfSome o (λ row. unit_of place row args ≡ None → outcome ≡ outcomes.Code codes.Parameter)
+ends_parameter None place args returned outcome says refused = tt
+ends_parameter (Some row) place args returned outcome says refused = λ none. says (refused none)

@@ -1,0 +1,158 @@
+-- The answers of clients, as their lines go on and end.
+use Rattle.std.proofs.Common.{◌≡◌, ◌≢◌, ◌∙◌, ◌⊎◌, inl, inr, ℕ, ◌+◌, ◌-◌, ◌≤◌, ◌==◌, zero, suc, cond, Bool, true, false, All, List, [], ◌∷◌, ◌++◌, Option, Some, None, Result, Ok, IfSome, IsSomeAnd, length, slice_get, refl, sym, ap, subst, arith, eq-eqb, eqb-true}
+use Rattle.std.proofs.lemmas.List.{length-map, map-append}
+use Rattle.std.proofs.lemmas.List.Elements.{All-nil}
+use Rattle.vio_num.specs.declared.entry.Entry.{Entry}
+use Rattle.vio_num.specs.declared.hypervisor.Moved.{Moved}
+use Rattle.crq_ring.specs.declared.rows.PipeRow.{PipeRow}
+use Rattle.crq_session.specs.EndState.{EndState}
+use Rattle.crq_session.specs.PlainState.{end_of, side_of}
+use Rattle.boot_text.specs.declared.verb.Verb.{Verb}
+use Rattle.vio_trace.specs.declared.rows.AnswerRow.{AnswerRow}
+use Rattle.unit_region.specs.declared.step.Step.TheVariants as steps
+use Rattle.vscsi_client.specs.State.{tags_of}
+use Rattle.vscsi_client.specs.declared.outgoing.Outgoing.{Outgoing}
+use Rattle.vscsi_client.specs.declared.row.Row.{Row}
+use Rattle.vcpu_run.specs.declared.driver.Driver.{Driver}
+use Rattle.vcpu_run.specs.declared.pair.Pair.{Pair}
+use Rattle.vcpu_run.specs.declared.script.Progress.{Progress}
+use Rattle.vcpu_run.specs.declared.script.Progress.TheVariants as progress
+use Rattle.vcpu_run.specs.Agreed.{OnDrivers}
+use Rattle.vcpu_run.specs.Answered.{AreBegun}
+use Rattle.vcpu_run.specs.AnswersTaken.{AreAmong, AreTakesSaid, IsAnswerOf, IsTakeSaid, TakesNow, answered_tags, no_takes, tags_among, tags_taken, takes_after, takes_by}
+use Rattle.vcpu_run.specs.Credited.{Ended, taken_in}
+use Rattle.vcpu_run.specs.ScriptTold.{SameClient}
+use Rattle.vcpu_run.specs.TakenScripts.{IsTaken, IsUntaken, PairAgrees, PairGives, PairTaken, PairTakes, PairUntaken}
+use Rattle.vcpu_run.specs.Takings.{AgreesTaken, AreGiven, FitsTag, Gives, IsTakenUpTo, StepsTaken, is_given, row_at}
+use Rattle.vcpu_run.proofs.GivesAll.{begun_at}
+use Rattle.vcpu_run.proofs.TagsKept.{row_past}
+use Rattle.vcpu_run.proofs.TakesSaid.{said_longer, said_next, takes_next}
+
+taken_on : (own : List Ended) (before after : Pair) (a b : Driver) → Gives a b (end_of [] before.link false) (end_of [] after.link false) → IsTaken own before a → IsTaken own after b
+taken_on own before after a b gives is = record {
+  said = subst (λ (rows : List AnswerRow). AreTakesSaid (answered_tags rows) no_takes own) (sym gives.more.1)
+      (subst (λ (tags : List ℕ). AreTakesSaid tags no_takes own) (sym (map-append (λ (row : AnswerRow). row.tag) a.answers.items gives.more.0))
+      (said_longer (answered_tags a.answers.items) (answered_tags gives.more.0) no_takes own is.said));
+  given = gives.given (begun_at before.link) is.given;
+}
+
+-- what is taken at a pair keeps what is so of its client's answers
+pub kept_pair : (own : List Ended) (before after : Pair) → PairGives before after → PairTaken own before → PairTaken own after
+kept_pair own before after = at before.driver after.driver
+  where
+    at : (o o' : Option Driver) → OnDrivers o o' (λ a b. Gives a b (end_of [] before.link false) (end_of [] after.link false)) → IfSome o (IsTaken own before) → IfSome o' (IsTaken own after)
+    at None None gives is = tt
+    at None (Some b) gives is = absurd gives
+    at (Some a) None gives is = tt
+    at (Some a) (Some b) gives is = taken_on own before after a b gives is
+
+-- there are as many answers as the records tell
+counted : (own : List Ended) (e : Ended) (after : Pair) (b : Driver) → IsTaken own after b → IsTakeSaid (answered_tags b.answers.items) (takes_after no_takes own) e.verb e.outcome
+    → AgreesTaken 0 (takes_by e.verb e.outcome (takes_after no_takes own)) b → IsTaken (own ++ e ∷ []) after b
+counted own e after b is said agrees =
+    let long : length (answered_tags b.answers.items) ≡ length b.answers.items = length-map b.answers.items (λ (row : AnswerRow). row.tag) in
+    let many = agrees.count in
+    record {
+      said = said_next (answered_tags b.answers.items) no_takes own e is.said said (omega (arith, long, many));
+      given = is.given;
+    }
+
+-- a step of the pair's own line that ends, where what is so of the answers is so behind it
+pub taken_ends : (p p' : Progress) (own : List Ended) (e : Ended) (before after : Pair) → IsSomeAnd before.driver (λ d. Unit {0}) → IsTakenUpTo e.verb (taken_in p)
+    → PairTakes e.verb p p' before after (Ok (steps.Ends e.outcome)) → PairTaken own after → PairAgrees own p before → PairTaken (own ++ e ∷ []) after × PairAgrees (own ++ e ∷ []) progress.Fresh after
+taken_ends p p' own e before after has of = at before.driver after.driver has
+  where
+    at : (o o' : Option Driver) → IsSomeAnd o (λ d. Unit {0}) → OnDrivers o o' (λ a b. StepsTaken e.verb (taken_in p) (taken_in p') a b (Ok (steps.Ends e.outcome)))
+        → IfSome o' (IsTaken own after) → IfSome o (AgreesTaken (taken_in p) (takes_after no_takes own))
+        → IfSome o' (IsTaken (own ++ e ∷ []) after) × IfSome o' (AgreesTaken 0 (takes_after no_takes (own ++ e ∷ [])))
+    at None o' has step is agrees = absurd has
+    at (Some a) None has step is agrees = absurd step
+    at (Some a) (Some b) has step is agrees =
+        let next = step of (takes_after no_takes own) agrees in (
+          counted own e after b is next.0 next.1,
+          subst (λ (now : TakesNow). AgreesTaken 0 now b) (sym (takes_next no_takes own e)) next.1,
+        )
+
+-- and one that waits
+pub taken_waits : (verb : Verb) (p p' : Progress) (own : List Ended) (before after : Pair) (did : Moved) → IsSomeAnd before.driver (λ d. Unit {0}) → IsTakenUpTo verb (taken_in p)
+    → PairTakes verb p p' before after (Ok (steps.Waits did)) → PairAgrees own p before → IsTakenUpTo verb (taken_in p') × PairAgrees own p' after
+taken_waits verb p p' own before after did has of = at before.driver after.driver has
+  where
+    at : (o o' : Option Driver) → IsSomeAnd o (λ d. Unit {0}) → OnDrivers o o' (λ a b. StepsTaken verb (taken_in p) (taken_in p') a b (Ok (steps.Waits did)))
+        → IfSome o (AgreesTaken (taken_in p) (takes_after no_takes own)) → IsTakenUpTo verb (taken_in p') × IfSome o' (AgreesTaken (taken_in p') (takes_after no_takes own))
+    at None o' has step agrees = absurd has
+    at (Some a) None has step agrees = absurd step
+    at (Some a) (Some b) has step agrees = let next = step of in (next.0, next.1 (takes_after no_takes own) agrees)
+
+-- a record that takes none
+pub taken_quiet : (own : List Ended) (e : Ended) (pair : Pair) → ((tags : List ℕ) (now : TakesNow) → IsTakeSaid tags now e.verb e.outcome) → ((now : TakesNow) → takes_by e.verb e.outcome now ≡ now)
+    → PairTaken own pair → PairTaken (own ++ e ∷ []) pair
+taken_quiet own e pair said quiet = at pair.driver
+  where
+    least : (tags : List ℕ) (now : TakesNow) (own : List Ended) → AreTakesSaid tags now own → AreTakesSaid tags now (own ++ e ∷ [])
+    least tags now [] is = (said tags now, subst (λ (n : TakesNow). n.count ≤ length tags) (sym (quiet now)) is)
+    least tags now (ended ∷ more) is = (is.0, least tags (takes_by ended.verb ended.outcome now) more is.1)
+
+    at : (o : Option Driver) → IfSome o (IsTaken own pair) → IfSome o (IsTaken (own ++ e ∷ []) pair)
+    at None is = tt
+    at (Some driver) is = record { said = least (answered_tags driver.answers.items) no_takes own is.said; given = is.given }
+
+-- nothing is told of a tag that no row has
+none_fit : (tag : ℕ) → FitsTag [] [] [] [] tag
+none_fit tag = record {
+  sent = λ is. absurd (cc);
+  of_line = λ is. absurd (cc);
+  known = known tag;
+  answered = λ is. absurd (cc);
+  begun = λ is. absurd (cc);
+  used = λ is. absurd (cc);
+}
+  where
+    known : (tag : ℕ) → is_given (row_at [] tag) ≡ false
+    known zero = refl
+    known (suc n) = ap is_given (row_past [] (suc n) (omega arith))
+
+-- a client that has sent nothing
+pub taken_none : (pair : Pair) → PairUntaken pair → PairTaken [] pair × PairAgrees [] progress.Fresh pair
+taken_none pair = at pair.driver
+  where
+    given : (driver : Driver) → IsUntaken (side_of pair.link false).queue.taken driver → AreGiven driver (end_of [] pair.link false)
+    given driver is = record {
+      begun = subst AreBegun (sym is.none) (All-nil (λ (row : PipeRow). 1 ≤ row.session));
+      order = subst (λ (rows : List AnswerRow). AreAmong (answered_tags rows ++ tags_among driver.client.kept) (tags_taken (side_of pair.link false).queue.taken)) (sym is.answers)
+          (subst (λ (entries : List Entry). AreAmong (tags_among entries) (tags_taken (side_of pair.link false).queue.taken)) (sym is.kept) tt);
+      rest = is.rest;
+      each = subst (All IsAnswerOf) (sym is.answers) (All-nil IsAnswerOf);
+    }
+
+    agrees : (driver : Driver) → IsUntaken (side_of pair.link false).queue.taken driver → AgreesTaken 0 no_takes driver
+    agrees driver is = record {
+      count = ap length is.answers;
+      tags = λ tag.
+          subst (λ (rows : List Row). FitsTag rows (tags_of driver.client.outgoing) (answered_tags driver.answers.items) [] tag) (sym is.rows)
+          (subst (λ (os : List Outgoing). FitsTag [] (tags_of os) (answered_tags driver.answers.items) [] tag) (sym is.outgoing)
+          (subst (λ (rows : List AnswerRow). FitsTag [] [] (answered_tags rows) [] tag) (sym is.answers) (none_fit tag)));
+    }
+
+    at : (o : Option Driver) → IfSome o (IsUntaken (side_of pair.link false).queue.taken) → IfSome o (IsTaken [] pair) × IfSome o (AgreesTaken 0 no_takes)
+    at None is = (tt, tt)
+    at (Some driver) is = (record { said = omega arith; given = given driver is }, agrees driver is)
+
+-- the client is as it was
+pub taken_same : (own : List Ended) (p : Progress) (before after : Pair) → SameClient before after → (PairTaken own before → PairTaken own after) × (PairAgrees own p before → PairAgrees own p after)
+taken_same own p before after same = (
+  λ is. subst (λ (o : Option Driver). IfSome o (IsTaken own after)) (sym same.driver) (at before.driver is),
+  λ is. subst (λ (o : Option Driver). IfSome o (AgreesTaken (taken_in p) (takes_after no_takes own))) (sym same.driver) is,
+)
+  where
+    given : (driver : Driver) → AreGiven driver (end_of [] before.link false) → AreGiven driver (end_of [] after.link false)
+    given driver is = record {
+      begun = subst AreBegun (sym same.taken) is.begun;
+      order = subst (λ (rows : List PipeRow). AreAmong (answered_tags driver.answers.items ++ tags_among driver.client.kept) (tags_taken rows)) (sym same.taken) is.order;
+      rest = is.rest;
+      each = is.each;
+    }
+
+    at : (o : Option Driver) → IfSome o (IsTaken own before) → IfSome o (IsTaken own after)
+    at None is = tt
+    at (Some driver) is = record { said = is.said; given = given driver is.given }

@@ -1,0 +1,26 @@
+use Rattle.std.proofs.Common.{◌≡◌, Err, refl, rules}
+use Rattle.vio_trace.specs.declared.outcome.Outcome.TheVariants as outcomes
+use Rattle.vio_num.specs.declared.hypervisor.Moved.TheVariants.{Quiet}
+use Rattle.vscsi_client.specs.declared.answers.DataFault.TheVariants as faults
+use Rattle.vcpu_run.proofs.TakingCalls.{tags_still}
+use Rattle.vcpu_run.proofs.TakingData.{data_waits, known_taken, not_unknown, unknown_taken}
+use Rattle.vcpu_run.proofs.driver.Driver.data.Goals as goal
+
+pub returns-in-Err-Unknown-clause-takes : goal.returns-in-Err-Unknown-clause-takes
+returns-in-Err-Unknown-clause-takes g c =
+    unknown_taken c.args.tag c.args.self.now (record c.args.self.now { client = c.data_of.new.self })
+    (tags_still c.args.self.now (record c.args.self.now { client = c.data_of.new.self }) c.args.self.now.client refl c.data_of.ensures.same refl refl) (c.data_of.ensures.unknown.0 (search rules))
+
+pub returns-in-Ok-clause-takes : goal.returns-in-Ok-clause-takes
+returns-in-Ok-clause-takes g c =
+    known_taken c.args.tag c.args.self.now (record c.args.self.now { client = c.data_of.new.self }) (outcomes.Data _ _)
+    (tags_still c.args.self.now (record c.args.self.now { client = c.data_of.new.self }) c.args.self.now.client refl c.data_of.ensures.same refl refl) (λ none. cc (c.in-Ok.is, c.data_of.ensures.unknown.1 none)) tt (λ now. refl)
+
+pub returns-in-Err-Stale-clause-takes : goal.returns-in-Err-Stale-clause-takes
+returns-in-Err-Stale-clause-takes g c =
+    let is : c.data_of.result ≡ Err (faults.Stale c.in-Err-Stale.page) = search rules in
+    known_taken c.args.tag c.args.self.now (record c.args.self.now { client = c.data_of.new.self }) (outcomes.Stale c.in-Err-Stale.page)
+    (tags_still c.args.self.now (record c.args.self.now { client = c.data_of.new.self }) c.args.self.now.client refl c.data_of.ensures.same refl refl) (λ none. not_unknown c.data_of.result c.in-Err-Stale.page is (c.data_of.ensures.unknown.1 none)) tt (λ now. refl)
+
+pub returns-in-Err-InUse-clause-takes : goal.returns-in-Err-InUse-clause-takes
+returns-in-Err-InUse-clause-takes g c = data_waits c.args.tag c.args.self.now (record c.args.self.now { client = c.data_of.new.self }) Quiet (tags_still c.args.self.now (record c.args.self.now { client = c.data_of.new.self }) c.args.self.now.client refl c.data_of.ensures.same refl refl)

@@ -1,0 +1,54 @@
+-- What is so of the answers of a script's clients between turns, and what a turn keeps of it.
+use Rattle.std.specs.Prelude.{◌≡◌, ℕ, false, List, [], Some, IfSome, IsSomeAnd, Result}
+use Rattle.std.specs.List.{slice_get}
+use Rattle.vio_num.specs.declared.memory.NoMemory.{NoMemory}
+use Rattle.crq_ring.specs.declared.rows.PipeRow.{PipeRow}
+use Rattle.crq_session.specs.PlainState.{end_of, side_of}
+use Rattle.boot_text.specs.declared.verb.Verb.{Verb}
+use Rattle.unit_region.specs.declared.step.Step.{Step}
+use Rattle.vcpu_run.specs.declared.driver.Driver.{Driver}
+use Rattle.vcpu_run.specs.declared.pair.Pair.{Pair}
+use Rattle.vcpu_run.specs.declared.script.Progress.{Progress}
+use Rattle.vcpu_run.specs.Agreed.{OnDrivers}
+use Rattle.vcpu_run.specs.AnswersTaken.{AreTakesSaid, answered_tags, no_takes, takes_after}
+use Rattle.vcpu_run.specs.Credited.{Ended, taken_in}
+use Rattle.vcpu_run.specs.Takings.{AgreesTaken, AreGiven, Gives, StepsTaken, waiting}
+
+-- the answers of a pair's client are as the records of its lines, and its current line, tell
+abbrev pub PairAgrees : List Ended → Progress → Pair → Type 0
+PairAgrees own p pair = IfSome pair.driver (AgreesTaken (taken_in p) (takes_after no_takes own))
+
+-- A client's records say of its answers what is so, and these stand in order among the entries that it took.
+pub record IsTaken (own : List Ended) (pair : Pair) (driver : Driver) : Type 0 where
+  pub said : AreTakesSaid (answered_tags driver.answers.items) no_takes own
+  pub given : AreGiven driver (end_of [] pair.link false)
+
+abbrev pub PairTaken : List Ended → Pair → Type 0
+PairTaken own pair = IfSome pair.driver (IsTaken own pair)
+
+-- a step of a line at a pair, where a client sits
+abbrev pub PairTakes : Verb → (p p' : Progress) → (old new : Pair) → Result Step NoMemory → Type 0
+PairTakes verb p p' old new result = OnDrivers old.driver new.driver (λ a b. StepsTaken verb (taken_in p) (taken_in p') a b result)
+
+-- what is taken at a pair keeps its answers in order
+abbrev pub PairGives : (old new : Pair) → Type 0
+PairGives old new = OnDrivers old.driver new.driver (λ a b. Gives a b (end_of [] old.link false) (end_of [] new.link false))
+
+-- the same of all pairs
+abbrev pub AllGive : List Pair → List Pair → Type 0
+AllGive old new = (k : ℕ) (after : Pair) → slice_get new k ≡ Some after → IsSomeAnd (slice_get old k) (λ before. PairGives before after)
+
+-- A client has sent nothing and has taken no answer.
+pub record IsUntaken (taken : List PipeRow) (driver : Driver) : Type 0 where
+  pub answers : driver.answers.items ≡ []
+  pub rows : driver.client.rows ≡ []
+  pub outgoing : driver.client.outgoing ≡ []
+  pub kept : driver.client.kept ≡ []
+  pub rest : waiting driver.client ≡ []
+  pub none : taken ≡ []
+
+abbrev pub PairUntaken : Pair → Type 0
+PairUntaken pair = IfSome pair.driver (IsUntaken (side_of pair.link false).queue.taken)
+
+abbrev pub AreUntaken : List Pair → Type 0
+AreUntaken pairs = (k : ℕ) (pair : Pair) → slice_get pairs k ≡ Some pair → PairUntaken pair
