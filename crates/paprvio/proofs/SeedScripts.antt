@@ -10,7 +10,7 @@ use Rattle.boot_text.specs.declared.plan.Line.{Line}
 use Rattle.boot_text.specs.declared.plan.Partition.{Partition}
 use Rattle.boot_text.specs.declared.plan.UnitPlan.TheVariants as units
 use Rattle.boot_text.specs.declared.verb.Verb.TheVariants as verbs
-use Rattle.boot_text.proofs.Adding.{cost_of-push}
+use Rattle.boot_text.proofs.Laws.{cost_of-push}
 use Rattle.paprvio.specs.Generated.{blocks_in, bytes_in, drawn, first_in}
 use Rattle.paprvio.specs.SeedPlan.{client_partition, numbered, transfer_verbs, transfers_verbs}
 use Rattle.paprvio.proofs.Joining.{joined}

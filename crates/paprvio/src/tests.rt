@@ -5,7 +5,6 @@ mod words;
 
 use crate::run::run;
 use std::alloc::{AllocError, Global};
-use std::process::Abort;
 use std::test::Fail;
 use std::thread::Threads;
 use vio_io::{FreeGate, MemBlocks, MemSink, MemSource};
@@ -77,6 +76,19 @@ fn run_text<R: Threads + Sync>(
     Ok((ended.status, sink.bytes().to_vec(alloc)?))
 }
 
+// Tells whether a run of the words over a text ends with this status, and writes this.
+fn ends_so<R: Threads + Sync>(
+    rt: &R,
+    alloc: Global,
+    words: &[&str],
+    text: &[u8],
+    outside: &Outside,
+    want: (u8, &[u8]),
+) -> Result<bool, Fail> {
+    let (status, written) = run_text(rt, alloc, words, text, outside)?;
+    Ok(status == want.0 && written.as_slice() == want.1)
+}
+
 /// Parts of the first login's text, what stands in their place, and what is told of the text then.
 static REFUSALS: [(&str, &str, &str); 23] = [
     ("vio 1", "vio\t1", "paprvio: line 1: BadByte\n"),
@@ -130,22 +142,33 @@ fn edited(alloc: Global, old: &str, new: &str) -> Result<String, AllocError> {
     Ok(text)
 }
 
+// Tells whether the first login with one part in another's place is refused so.
+fn is_told<R: Threads + Sync>(
+    rt: &R,
+    alloc: Global,
+    old: &str,
+    new: &str,
+    told: &str,
+) -> Result<bool, Fail> {
+    let text = edited(alloc, old, new)?;
+    let want = (2, told.as_bytes());
+    ends_so(rt, alloc, &["run"], text.as_bytes(), &SURE, want)
+}
+
 #[test]
 fn each_fault_is_told_at_its_line(rt: HostRuntime) -> Result<(), Fail> {
     for (old, new, told) in &REFUSALS {
-        let text = edited(rt.alloc(), old, new)?;
-        let (status, written) = run_text(&rt, rt.alloc(), &["run"], text.as_bytes(), &SURE)?;
-        assert_eq!(rt; status, 2, "{old:?} {new:?}");
-        assert_eq!(rt; written.as_slice(), told.as_bytes(), "{old:?} {new:?}");
+        let is_so = is_told(&rt, rt.alloc(), old, new, told)?;
+        assert!(rt; is_so, "{old:?} {new:?}");
     }
     Ok(())
 }
 
 // A text of this front and of a piece that stands so many times behind it.
-fn repeated(alloc: Global, front: &str, piece: &[u8], times: usize) -> Result<Vec<u8>, AllocError> {
+fn repeated(alloc: Global, front: &str, piece: &str, times: usize) -> Result<Vec<u8>, AllocError> {
     let mut text = front.as_bytes().to_vec(alloc)?;
     for _ in 0..times {
-        text.extend_from_slice(piece)?;
+        text.extend_from_slice(piece.as_bytes())?;
     }
     Ok(text)
 }
@@ -154,27 +177,40 @@ fn repeated(alloc: Global, front: &str, piece: &[u8], times: usize) -> Result<Ve
 const UP_TO_SCRIPT: &str =
     "vio 1\nrounds 8\ngrant 8\npartition\nserver 1\nend\npartition\nclient 0.0 pages 14 queue 1\n";
 
+const FILLED: &str = "0 fill 0 65536 1\n";
+
+/// A front, a piece that stands so many times behind it, and what is told of the text then.
+static LONG: [(&str, &str, usize, &str); 5] = [
+    ("vio 1\n", "#", 1024, "paprvio: line 3: Place\n"),
+    ("vio 1\n", "#", 1025, "paprvio: line 2: LineLength\n"),
+    (UP_TO_SCRIPT, FILLED, 256, "paprvio: line 265: Place\n"),
+    (UP_TO_SCRIPT, FILLED, 257, "paprvio: line 265: Transfer\n"),
+    (UP_TO_SCRIPT, FILLED, 300, "paprvio: line 265: Transfer\n"),
+];
+
+// Tells whether such a text is refused so.
+fn is_told_of_long<R: Threads + Sync>(
+    rt: &R,
+    alloc: Global,
+    (front, piece, times, told): (&str, &str, usize, &str),
+) -> Result<bool, Fail> {
+    let text = repeated(alloc, front, piece, times)?;
+    ends_so(rt, alloc, &["run"], &text, &SURE, (2, told.as_bytes()))
+}
+
 #[test]
 fn long_texts_are_told_at_their_line(rt: HostRuntime) -> Result<(), Fail> {
-    let filled = b"0 fill 0 65536 1\n".as_slice();
-    for (front, piece, times, told) in [
-        ("vio 1\n", b"#".as_slice(), 1024, "paprvio: line 3: Place\n"),
-        (
-            "vio 1\n",
-            b"#".as_slice(),
-            1025,
-            "paprvio: line 2: LineLength\n",
-        ),
-        (UP_TO_SCRIPT, filled, 256, "paprvio: line 265: Place\n"),
-        (UP_TO_SCRIPT, filled, 257, "paprvio: line 265: Transfer\n"),
-        (UP_TO_SCRIPT, filled, 300, "paprvio: line 265: Transfer\n"),
-    ] {
-        let text = repeated(rt.alloc(), front, piece, times)?;
-        let (status, written) = run_text(&rt, rt.alloc(), &["run"], &text, &SURE)?;
-        assert_eq!(rt; status, 2, "{times}");
-        assert_eq!(rt; written.as_slice(), told.as_bytes(), "{times}");
+    for row in &LONG {
+        let is_so = is_told_of_long(&rt, rt.alloc(), *row)?;
+        assert!(rt; is_so, "{}", row.2);
     }
     Ok(())
+}
+
+// Tells whether a text is refused at some line.
+fn is_refused<R: Threads + Sync>(rt: &R, alloc: Global, text: &[u8]) -> Result<bool, Fail> {
+    let (status, written) = run_text(rt, alloc, &["run"], text, &SURE)?;
+    Ok(status == 2 && written.starts_with(b"paprvio: line ") && written.ends_with(b"\n"))
 }
 
 #[test]
@@ -185,87 +221,105 @@ fn a_text_cut_short_is_refused(rt: HostRuntime) -> Result<(), Fail> {
         if len == 45 || len == 46 {
             continue;
         }
-        let (status, written) = run_text(&rt, rt.alloc(), &["run"], &text[..len], &SURE)?;
-        assert_eq!(rt; status, 2, "{len}");
-        assert!(rt; written.starts_with(b"paprvio: line "), "{len}");
-        assert!(rt; written.ends_with(b"\n"), "{len}");
+        let is_so = is_refused(&rt, rt.alloc(), &text[..len])?;
+        assert!(rt; is_so, "{len}");
     }
     Ok(())
 }
 
+// Tells whether the text of a LAN port, with ends of lines up to this length, ends so.
+fn ends_filled<R: Threads + Sync>(
+    rt: &R,
+    alloc: Global,
+    len: usize,
+    want: (u8, &str),
+) -> Result<bool, Fail> {
+    let mut text = LAN_PORT.as_bytes().to_vec(alloc)?;
+    text.resize(len, b'\n')?;
+    let want = (want.0, want.1.as_bytes());
+    ends_so(rt, alloc, &["run"], &text, &SURE, want)
+}
+
 #[test]
 fn a_text_too_long_is_refused(rt: HostRuntime) -> Result<(), Fail> {
-    for (len, told) in [
+    for (len, want) in [
         (1_048_576, (0, PORT_TRACE)),
         (1_048_577, (2, TOO_LONG)),
         (1_100_000, (2, TOO_LONG)),
     ] {
-        let mut text = LAN_PORT.as_bytes().to_vec(rt.alloc())?;
-        text.resize(len, b'\n')?;
-        let (status, written) = run_text(&rt, rt.alloc(), &["run"], &text, &SURE)?;
-        assert_eq!(rt; status, told.0, "{len}");
-        assert_eq!(rt; written.as_slice(), told.1.as_bytes(), "{len}");
+        let is_so = ends_filled(&rt, rt.alloc(), len, want)?;
+        assert!(rt; is_so, "{len}");
     }
     Ok(())
 }
 
 #[test]
 fn a_text_without_its_end_is_refused(rt: HostRuntime) -> Result<(), Fail> {
-    let cut = repeated(rt.alloc(), "", LAN_PORT.as_bytes(), 1)?;
-    let cut = &cut[..cut.len().saturating_sub(4)];
-    let (status, written) = run_text(&rt, rt.alloc(), &["run"], cut, &SURE)?;
-    assert_eq!(rt; status, 2);
-    assert_eq!(rt; written.as_slice(), b"paprvio: line 6: Place\n".as_slice());
+    let text = LAN_PORT.as_bytes();
+    let cut = &text[..text.len().saturating_sub(4)];
+    let want = (2, b"paprvio: line 6: Place\n".as_slice());
+    assert!(rt; ends_so(&rt, rt.alloc(), &["run"], cut, &SURE, want)?);
     Ok(())
+}
+
+/// The most bytes that a read and a write move.
+static PIECES: [(usize, usize); 5] = [(1, 4096), (2, 1), (3, 7), (10, 100), (4096, 4096)];
+
+// Tells whether a refusal ends so where a read and a write move no more than this.
+fn is_told_in_pieces<R: Threads + Sync>(
+    rt: &R,
+    alloc: Global,
+    (read_most, write_most): (usize, usize),
+) -> Result<bool, Fail> {
+    let text = edited(alloc, "0 tur", "0 tus")?;
+    let outside = Outside {
+        read_most,
+        write_most,
+        ..SURE
+    };
+    let want = (2, b"paprvio: line 10: Word\n".as_slice());
+    ends_so(rt, alloc, &["run"], text.as_bytes(), &outside, want)
 }
 
 #[test]
 fn a_refusal_is_read_and_written_in_any_pieces(rt: HostRuntime) -> Result<(), Fail> {
-    let text = edited(rt.alloc(), "0 tur", "0 tus")?;
-    for (read_most, write_most) in [(1, 4096), (2, 1), (3, 7), (10, 100), (4096, 4096)] {
-        let outside = Outside {
-            read_most,
-            write_most,
-            ..SURE
-        };
-        let (status, written) = run_text(&rt, rt.alloc(), &["run"], text.as_bytes(), &outside)?;
-        assert_eq!(rt; status, 2, "{read_most} {write_most}");
-        assert_eq!(rt;
-            written.as_slice(),
-            b"paprvio: line 10: Word\n".as_slice(),
-            "{read_most} {write_most}"
-        );
+    for most in &PIECES {
+        let is_so = is_told_in_pieces(&rt, rt.alloc(), *most)?;
+        assert!(rt; is_so, "{} {}", most.0, most.1);
     }
     Ok(())
 }
 
-// Runs words that are not accepted; source and image would fail, and are not used.
-fn refuses_words<R: Threads + Sync + Abort>(
-    rt: &R,
-    alloc: Global,
-    words: &[&str],
-) -> Result<(), Fail> {
-    let outside = Outside {
-        read_failing: Some(0),
-        image_failing: Some(0),
-        ..SURE
-    };
-    let (status, written) = run_text(rt, alloc, words, FIRST_LOGIN.as_bytes(), &outside)?;
-    assert_eq!(rt; status, 1);
-    assert_eq!(rt; written.as_slice(), USAGE.as_bytes());
-    Ok(())
+/// Words that are not accepted, parted by spaces; source and image would fail, and are not used.
+static OTHER_WORDS: [&[&str]; 6] = [&[], &["run", "run"], &["Run"], &[""], &["--"], &["run", ""]];
+
+/// How the outside behaves where it is not to be used.
+const UNUSED: Outside = Outside {
+    read_failing: Some(0),
+    image_failing: Some(0),
+    ..SURE
+};
+
+// Tells whether the words are answered by the usage.
+fn are_refused<R: Threads + Sync>(rt: &R, alloc: Global, words: &[&str]) -> Result<bool, Fail> {
+    let want = (1, USAGE.as_bytes());
+    ends_so(rt, alloc, words, FIRST_LOGIN.as_bytes(), &UNUSED, want)
+}
+
+// The same of one word of 1,048,576 letters.
+fn is_long_word_refused<R: Threads + Sync>(rt: &R, alloc: Global) -> Result<bool, Fail> {
+    let long = String::from_utf8(vec![in alloc; b'r'; 1_048_576]?)?;
+    are_refused(rt, alloc, &[long.as_str()])
 }
 
 #[test]
 fn other_words_are_refused(rt: HostRuntime) -> Result<(), Fail> {
-    refuses_words(&rt, rt.alloc(), &[])?;
-    refuses_words(&rt, rt.alloc(), &["run", "run"])?;
-    refuses_words(&rt, rt.alloc(), &["Run"])?;
-    refuses_words(&rt, rt.alloc(), &[""])?;
-    refuses_words(&rt, rt.alloc(), &["--"])?;
-    refuses_words(&rt, rt.alloc(), &["run", ""])?;
-    let long = String::from_utf8(vec![in rt.alloc(); b'r'; 1_048_576]?)?;
-    refuses_words(&rt, rt.alloc(), &[long.as_str()])
+    for words in &OTHER_WORDS {
+        let is_so = are_refused(&rt, rt.alloc(), words)?;
+        assert!(rt; is_so, "{words:?}");
+    }
+    assert!(rt; is_long_word_refused(&rt, rt.alloc())?);
+    Ok(())
 }
 
 #[test]
@@ -277,17 +331,28 @@ fn a_source_that_fails_ends_the_run(rt: HostRuntime) -> Result<(), Fail> {
             image_failing: Some(0),
             ..SURE
         };
-        let (status, written) = run_text(
-            &rt,
-            rt.alloc(),
-            &["run"],
-            FIRST_LOGIN.as_bytes(),
-            &outside,
-        )?;
-        assert_eq!(rt; status, 3, "{call}");
-        assert!(rt; written.is_empty(), "{call}");
+        let text = FIRST_LOGIN.as_bytes();
+        let is_so = ends_so(&rt, rt.alloc(), &["run"], text, &outside, (3, &[]))?;
+        assert!(rt; is_so, "{call}");
     }
     Ok(())
+}
+
+// Tells whether a sink that fails in its second call took nine bytes of what is told.
+fn is_front_taken<R: Threads + Sync>(
+    rt: &R,
+    alloc: Global,
+    words: &str,
+    text: &str,
+    told: &str,
+) -> Result<bool, Fail> {
+    let outside = Outside {
+        write_most: 9,
+        write_failing: Some(1),
+        ..SURE
+    };
+    let (status, written) = run_text(rt, alloc, &[words], text.as_bytes(), &outside)?;
+    Ok(status == 4 && written.len() == 9 && told.as_bytes().starts_with(&written))
 }
 
 #[test]
@@ -297,15 +362,8 @@ fn a_sink_that_fails_ends_the_run(rt: HostRuntime) -> Result<(), Fail> {
         ("run", "", "paprvio: line 1: Header\n"),
         ("run", "vio 1", "paprvio: line 2: Place\n"),
     ] {
-        let outside = Outside {
-            write_most: 9,
-            write_failing: Some(1),
-            ..SURE
-        };
-        let (status, written) = run_text(&rt, rt.alloc(), &[words], text.as_bytes(), &outside)?;
-        assert_eq!(rt; status, 4, "{told:?}");
-        assert!(rt; told.as_bytes().starts_with(&written), "{told:?}");
-        assert_eq!(rt; written.len(), 9, "{told:?}");
+        let is_so = is_front_taken(&rt, rt.alloc(), words, text, told)?;
+        assert!(rt; is_so, "{told:?}");
     }
     Ok(())
 }
@@ -321,9 +379,9 @@ fn an_image_that_fails_ends_a_run_of_a_plan_alone(rt: HostRuntime) -> Result<(),
         (LAN_PORT, 5, ""),
         ("vio 1", 2, "paprvio: line 2: Place\n"),
     ] {
-        let ended = run_text(&rt, rt.alloc(), &["run"], text.as_bytes(), &outside)?;
-        assert_eq!(rt; ended.0, status, "{told:?}");
-        assert_eq!(rt; ended.1.as_slice(), told.as_bytes(), "{told:?}");
+        let want = (status, told.as_bytes());
+        let is_so = ends_so(&rt, rt.alloc(), &["run"], text.as_bytes(), &outside, want)?;
+        assert!(rt; is_so, "{told:?}");
     }
     Ok(())
 }
