@@ -1,4 +1,5 @@
 pub mod Answers
+pub mod EntryAnswers
 pub mod EntryRows
 pub mod Kept
 pub mod Pattern

@@ -2,10 +2,12 @@
 ghost use Rattle.std.specs.Prelude.{◌≡◌, ◌↔◌, ◌≤◌, ◌*◌, true, false, ◌+◌, IfErr, IfOk, IsTrue, length};
 ghost use Rattle.vio_num.specs.declared.TheConstants.{PAGE_BYTES};
 ghost use Rattle.tce_window.specs.Answers.{gives};
+ghost use Rattle.tce_window.specs.PortState.{Puts};
 ghost use Rattle.tce_window.specs.Puts.{takes};
 ghost use Rattle.vio_num.specs.declared.hypervisor.Hrc.TheVariants as codes;
 ghost use Rattle.hcall_table.specs.Rows.{IsAnswer, may_answer};
 ghost use Rattle.hcall_table.specs.declared.hcall.Hcall.TheVariants as rows;
+ghost use Rattle.unit_region.specs.EntryAnswers.{AnswersEntry, put_if};
 ghost use Rattle.unit_region.specs.EntryRows.{answer_of, entry_row, tce_code};
 ghost use Rattle.unit_region.specs.Kept.{KeepsWindow};
 
@@ -80,6 +82,8 @@ fn put<O: OwnerPort>(own: &mut O, address: u64, value: u64) -> Result<Hrc, NoMem
     ensures window { KeepsWindow O.is_shared (O.state own.old) (O.state own.new) }
     ensures parameter { IfOk result (λ code. (code ≡ codes.Parameter) ↔
         (takes (O.state own.old).place.size address value ≡ false)) }
+    ensures put { IfOk result (λ code.
+        Puts (O.state own.old) address (put_if code value) (O.state own.new)) }
     ensures code { IfOk result (λ code. may_answer rows.PutTce code ≡ true) }
 {
     own.reserve(1)?;
@@ -174,6 +178,7 @@ fn values_of(alloc: Global, bytes: &[u8]) -> Result<Vec<u64>, NoMemory> {
 pub fn make<O: OwnerPort>(alloc: Global, own: &mut O, call: EntryCall) -> Result<Returned, NoMemory>
     ensures window { KeepsWindow O.is_shared (O.state own.old) (O.state own.new) }
     ensures answer { IfOk result (IsAnswer (entry_row call)) }
+    ensures entry { IfOk result (AnswersEntry (O.state own.old) (O.state own.new) call) }
 {
     match call {
         EntryCall::Get { address } => Ok(get(own, address)),
