@@ -1,5 +1,5 @@
 -- The counts of a port over each call at it.
-use Rattle.std.proofs.Common.{◌≡◌, ◌+◌, ◌/◌, ◌%◌, ◌==◌, ◌^◌, ◌<◌, ◌≤◌, ℕ, suc, arith, Bool, true, false, IsSome, List, [], ◌∷◌, ◌++◌, Option, Some, None, length, length-append, filter, if◌then◌else◌, refl, sym, ◌∙◌, ap, subst, Result}
+use Rattle.std.proofs.Common.{◌≡◌, ◌+◌, ◌/◌, ◌%◌, ◌==◌, ◌^◌, ◌<◌, ◌≤◌, ℕ, suc, arith, Bool, true, false, IsSome, List, [], ◌∷◌, ◌++◌, append-nil, Option, Some, None, length, length-append, filter, if◌then◌else◌, refl, sym, ◌∙◌, ap, subst, Result}
 use Rattle.std.specs.List.{flat_map}
 use Rattle.vio_num.specs.declared.names.Mac.{Mac}
 use Rattle.vio_num.specs.declared.names.UnitId.{UnitId}
@@ -26,12 +26,14 @@ use Rattle.lan_script.specs.Rows.{harvests_in, posts_in, sessions_from}
 use Rattle.lan_script.specs.Taking.{harvested_on}
 use Rattle.lan_script.proofs.Called.{by_code}
 use Rattle.lan_script.proofs.Counting.{HasMore, SameRows, counts_of, same_rows}
+use Rattle.lan_script.proofs.PostRows.{begins_at, rows_behind}
+use Rattle.lan_script.proofs.PortsGrow.{grows_equal, grows_with}
 use Rattle.lan_script.proofs.SessionCounts.{frames_counted, frames_of, frames_one, one_if, posts_counted, posts_of, posts_one, sum_more, sum_none}
 use Rattle.lan_script.proofs.Tallies.{shut}
 
 still : (before after : PortValue) → after ≡ before → SameRows before after
 still before after e =
-    same_rows before after (ap (λ (p : PortValue). p.unit) e) (ap (λ (p : PortValue). p.posts) e) (ap (λ (p : PortValue). p.harvests) e) (ap (λ (p : PortValue). length p.drop_counts) e)
+    same_rows before after (ap (λ (p : PortValue). p.unit) e) (ap (λ (p : PortValue). p.posts) e) (ap (λ (p : PortValue). p.harvests) e) (ap (λ (p : PortValue). length p.drop_counts) e) (grows_equal before after e)
 
 -- a session more, of which there is no row
 begins_rows : (before after : PortValue) (mac : Mac) → BeginsSession before mac after → SameRows before after
@@ -45,6 +47,12 @@ begins_rows before after mac h = record {
       (frames_counted v after.harvests (sessions_from 1 (suc last)) ∙ sum_none (frames_of after.harvests) 1 last none_taken ∙ sym (frames_counted v after.harvests (sessions_from 1 last)))
       ∙ ap (λ l. counts_of v l after.harvests last) (ap (λ (p : PortValue). p.posts) h.rest)
       ∙ ap (λ l. counts_of v before.posts l last) (ap (λ (p : PortValue). p.harvests) h.rest);
+  grows = record {
+    sessions = omega (arith, long);
+    posted = ([], ap (λ (p : PortValue). p.posts) h.rest ∙ sym (append-nil before.posts));
+    delivered = ([], ap (λ (p : PortValue). p.deliveries) h.rest ∙ sym (append-nil before.deliveries));
+    rows = λ v. begins_at v before.posts after.posts last (length after.drop_counts) long (ap (λ (p : PortValue). p.posts) h.rest) none_now;
+  };
 }
   where
     last : ℕ
@@ -59,6 +67,9 @@ begins_rows before after mac h = record {
     none_posted : posts_of after.posts (1 + last) ≡ 0
     none_posted = ap (λ q. posts_of after.posts q) (sym at) ∙ ap (λ (s : Session). length s.posts) h.empty
 
+    none_now : filter (λ (p : Post). p.session == 1 + last) after.posts ≡ []
+    none_now = ap (λ q. filter (λ (p : Post). p.session == q) after.posts) (sym at) ∙ ap (λ (s : Session). s.posts) h.empty
+
     none_taken : frames_of after.harvests (1 + last) ≡ 0
     none_taken =
         ap (λ q. frames_of after.harvests q) (sym at)
@@ -72,13 +83,15 @@ registers_rows list queue filters mac answer before after h =
 pub frees_rows : (answer : LanAnswer) (before after : PortValue) → Frees answer before after → SameRows before after
 frees_rows answer before after h =
     same_rows before after (ap (λ (p : PortValue). p.unit) h.done) (ap (λ (p : PortValue). p.posts) h.done) (ap (λ (p : PortValue). p.harvests) h.done) (ap (λ (p : PortValue). length p.drop_counts) h.done)
+    (grows_with before after (ap (λ (p : PortValue). p.posts) h.done) (ap (λ (p : PortValue). p.deliveries) h.done) (ap (λ (p : PortValue). length p.drop_counts) h.done))
 
 pub changes_rows : (mac : Mac) (answer : LanAnswer) (before after : PortValue) → ChangesMac mac answer before after → SameRows before after
 changes_rows mac answer before after h =
     by_code answer.code (SameRows before after)
     (λ e.
     let is = (h.success e).sets in
-    same_rows before after (ap (λ (p : PortValue). p.unit) is) (ap (λ (p : PortValue). p.posts) is) (ap (λ (p : PortValue). p.harvests) is) (ap (λ (p : PortValue). length p.drop_counts) is))
+    same_rows before after (ap (λ (p : PortValue). p.unit) is) (ap (λ (p : PortValue). p.posts) is) (ap (λ (p : PortValue). p.harvests) is) (ap (λ (p : PortValue). length p.drop_counts) is)
+    (grows_with before after (ap (λ (p : PortValue). p.posts) is) (ap (λ (p : PortValue). p.deliveries) is) (ap (λ (p : PortValue). length p.drop_counts) is)))
     (λ not. still before after (h.refused not))
 
 pub multicasts_rows : (control : ℕ) (mac : Mac) (answer : LanAnswer) (before after : PortValue) → Multicasts control mac answer before after
@@ -87,12 +100,14 @@ multicasts_rows control mac answer before after h =
     by_code answer.code (SameRows before after)
     (λ e.
     let is = (h.success e).sets in
-    same_rows before after (ap (λ (p : PortValue). p.unit) is) (ap (λ (p : PortValue). p.posts) is) (ap (λ (p : PortValue). p.harvests) is) (ap (λ (p : PortValue). length p.drop_counts) is))
+    same_rows before after (ap (λ (p : PortValue). p.unit) is) (ap (λ (p : PortValue). p.posts) is) (ap (λ (p : PortValue). p.harvests) is) (ap (λ (p : PortValue). length p.drop_counts) is)
+    (grows_with before after (ap (λ (p : PortValue). p.posts) is) (ap (λ (p : PortValue). p.deliveries) is) (ap (λ (p : PortValue). length p.drop_counts) is)))
     (λ not. still before after (h.refused not))
 
 pub reserves_rows : (n : ℕ) (answer : Result Unit NoMemory) (before after : PortValue) → Reserves n answer before after → SameRows before after
 reserves_rows n answer before after h =
     same_rows before after (ap (λ (p : PortValue). p.unit) h.rest) (ap (λ (p : PortValue). p.posts) h.rest) (ap (λ (p : PortValue). p.harvests) h.rest) (ap (λ (p : PortValue). length p.drop_counts) h.rest)
+    (grows_with before after (ap (λ (p : PortValue). p.posts) h.rest) (ap (λ (p : PortValue). p.deliveries) h.rest) (ap (λ (p : PortValue). length p.drop_counts) h.rest))
 
 -- a code that is not Success posted nothing
 pub no_post : (code : Hrc) → (code ≡ Success → ⊥) → posted_on code ≡ counts 0 0
@@ -112,6 +127,7 @@ none_more before after h = record {
   unit = h.unit;
   posts = λ v. omega (arith, ap (λ (c : PortCounts). c.posts) (h.same v));
   taken = λ v. omega (arith, ap (λ (c : PortCounts). c.taken) (h.same v));
+  grows = h.grows;
 }
 
 -- rows of one session more than before
@@ -148,6 +164,14 @@ was_open descriptor is_shared Found window window' answer before after h e shut 
     let refused = h.parameter (λ may. shut may.opened) in
     cc (e, refused.0)
 
+pub adds_begun : (descriptor : ℕ) (is_shared : Bool) (Found : ℕ → ℕ → Type 0) (window window' : PortState) (answer : LanAnswer) (before after : PortValue)
+    → HasBegun before → Adds descriptor is_shared Found window window' answer before after → answer.code ≡ Success → 1 ≤ length before.drop_counts
+adds_begun descriptor is_shared Found window window' answer before after begun h e = by before.settings refl
+  where
+    by : (o : Option Settings) → before.settings ≡ o → 1 ≤ length before.drop_counts
+    by (Some settings) f = begun (subst (λ (o : Option Settings). IsSome o) (sym f) refl)
+    by None f = absurd (was_open descriptor is_shared Found window window' answer before after h e (λ is. shut before.settings f is))
+
 pub adds_more : (descriptor : ℕ) (is_shared : Bool) (Found : ℕ → ℕ → Type 0) (window window' : PortState) (answer : LanAnswer) (before after : PortValue)
     → HasBegun before → Adds descriptor is_shared Found window window' answer before after → HasMore (posted_on answer.code) before after
 adds_more descriptor is_shared Found window window' answer before after begun h =
@@ -164,17 +188,19 @@ adds_more descriptor is_shared Found window window' answer before after begun h 
           ∙ ap (λ (l : List ℕ). length (filter (λ (r : TakenRow). is_frame r.high) (flat_map (harvests_in v before.harvests) (sessions_from 1 (length l)))))
           (ap (λ (p : PortValue). p.drop_counts) posts.rest)
           ∙ omega arith;
+      grows = record {
+        sessions = omega (arith, ap (λ (p : PortValue). length p.drop_counts) posts.rest);
+        posted = (_, posts.posted);
+        delivered = ([], ap (λ (p : PortValue). p.deliveries) posts.rest ∙ sym (append-nil before.deliveries));
+        rows = λ v. (_, rows_behind before after _ v posts.posted (ap (λ (p : PortValue). p.drop_counts) posts.rest) refl (some e));
+      };
     }))
     (λ not.
     subst (λ (more : PortCounts). HasMore more before after) (sym (no_post answer.code not))
     (none_more before after (still before after (h.refused not))))
   where
     some : answer.code ≡ Success → 1 ≤ length before.drop_counts
-    some e = by before.settings refl
-      where
-        by : (o : Option Settings) → before.settings ≡ o → 1 ≤ length before.drop_counts
-        by (Some settings) f = begun (subst (λ (o : Option Settings). IsSome o) (sym f) refl)
-        by None f = absurd (was_open descriptor is_shared Found window window' answer before after h e (λ is. shut before.settings f is))
+    some e = adds_begun descriptor is_shared Found window window' answer before after begun h e
 
 -- the high half of a receive entry says whether a frame came
 is_one : (x : ℕ) → x ≡ 1 → (x == 1) ≡ true
@@ -203,6 +229,8 @@ reads_more before after number row b some h e = record {
   taken = λ v.
       frames_behind before after _ v h.read (ap (λ (p : PortValue). p.drop_counts) h.rest) refl some
       ∙ ap (λ t. (counts_in v (Some before)).taken + one_if t) e;
+  grows = grows_with before after (ap (λ (p : PortValue). p.posts) h.rest) (ap (λ (p : PortValue). p.deliveries) h.rest)
+      (ap (λ (p : PortValue). length p.drop_counts) h.rest);
 }
 
 told_frame : (row : DeliverRow) → row.blank ≡ false → told_of row ≡ frame_bits + held_len row.to.items

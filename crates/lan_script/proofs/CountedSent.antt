@@ -1,5 +1,5 @@
 -- A frame that is sent changes no count of posts and frames taken.
-use Rattle.std.proofs.Common.{◌≡◌, inl, inr, ℕ, Bool, true, false, List, [], ◌∷◌, Some, Result, Ok, Err, IfOk, OnOk, length, refl, sym, ◌∙◌, ap, if◌then◌else◌}
+use Rattle.std.proofs.Common.{◌≡◌, inl, inr, ℕ, Bool, true, false, List, [], ◌∷◌, Some, Result, Ok, Err, IfOk, OnOk, length, refl, sym, ◌∙◌, ap, subst, if◌then◌else◌}
 use Rattle.vio_num.specs.declared.names.UnitId.{UnitId}
 use Rattle.tce_window.specs.PortState.{PortState}
 use Rattle.lan_buffers.specs.Port.{PortValue}
@@ -11,12 +11,14 @@ use Rattle.lan_switch.specs.declared.station.Station.{Station}
 use Rattle.lan_switch.specs.Sending.{AreOffered, IsOfferedAt, IsSent, LanWindows, Offering, Takes, is_numbered, next_number, with_frames}
 use Rattle.lan_switch.specs.Switch.{port_of, same_unit, unit_of}
 use Rattle.vio_num.specs.declared.memory.NoMemory.{NoMemory}
-use Rattle.lan_script.specs.PortCounts.{counts_at, counts_in}
+use Rattle.lan_script.specs.PortCounts.{SameCounts, counts_in}
+use Rattle.lan_script.specs.Spent.{Grows}
 use Rattle.lan_script.specs.Units.{LanValue}
 use Rattle.lan_script.proofs.Balancing.{numbered_port}
 use Rattle.lan_script.proofs.Counting.{SameRows, same_rows}
 use Rattle.lan_script.proofs.Keys.{port_head, port_tail}
 use Rattle.lan_script.proofs.Placing.{by_bool}
+use Rattle.lan_script.proofs.PortsGrow.{offered_grows, sent_grows}
 use Rattle.lan_script.proofs.Tallies.{one_more_long}
 
 -- a port that made something of a frame
@@ -25,19 +27,26 @@ offered_rows : (o : Offering) (unit : UnitId) (old new : PortValue) (answer : De
 offered_rows o unit old new (sent.Done post) h not =
     let e = h.done.rest in
     same_rows old new (ap (λ (p : PortValue). p.unit) e) (ap (λ (p : PortValue). p.posts) e) (ap (λ (p : PortValue). p.harvests) e) (ap (λ (p : PortValue). length p.drop_counts) e)
+    (offered_grows o unit old new (sent.Done post) h not)
 offered_rows o unit old new (sent.Ungranted post fault) h not =
     let e = h.ungranted.blank.rest in
     same_rows old new (ap (λ (p : PortValue). p.unit) e) (ap (λ (p : PortValue). p.posts) e) (ap (λ (p : PortValue). p.harvests) e) (ap (λ (p : PortValue). length p.drop_counts) e ∙ one_more_long old.drop_counts)
+    (offered_grows o unit old new (sent.Ungranted post fault) h not)
 offered_rows o unit old new sent.NoSize h not =
     same_rows old new (ap (λ (p : PortValue). p.unit) h.dropped) (ap (λ (p : PortValue). p.posts) h.dropped) (ap (λ (p : PortValue). p.harvests) h.dropped) (ap (λ (p : PortValue). length p.drop_counts) h.dropped ∙ one_more_long old.drop_counts)
+    (offered_grows o unit old new sent.NoSize h not)
 offered_rows o unit old new sent.NoBuffer h not =
     same_rows old new (ap (λ (p : PortValue). p.unit) h.dropped) (ap (λ (p : PortValue). p.posts) h.dropped) (ap (λ (p : PortValue). p.harvests) h.dropped) (ap (λ (p : PortValue). length p.drop_counts) h.dropped ∙ one_more_long old.drop_counts)
+    (offered_grows o unit old new sent.NoBuffer h not)
 offered_rows o unit old new (sent.Turn word) h not =
     same_rows old new (ap (λ (p : PortValue). p.unit) h.nothing) (ap (λ (p : PortValue). p.posts) h.nothing) (ap (λ (p : PortValue). p.harvests) h.nothing) (ap (λ (p : PortValue). length p.drop_counts) h.nothing)
+    (offered_grows o unit old new (sent.Turn word) h not)
 offered_rows o unit old new (sent.InUse page word) h not =
     same_rows old new (ap (λ (p : PortValue). p.unit) h.nothing) (ap (λ (p : PortValue). p.posts) h.nothing) (ap (λ (p : PortValue). p.harvests) h.nothing) (ap (λ (p : PortValue). length p.drop_counts) h.nothing)
+    (offered_grows o unit old new (sent.InUse page word) h not)
 offered_rows o unit old new (sent.Closed control) h not =
     same_rows old new (ap (λ (p : PortValue). p.unit) h.nothing) (ap (λ (p : PortValue). p.posts) h.nothing) (ap (λ (p : PortValue). p.harvests) h.nothing) (ap (λ (p : PortValue). length p.drop_counts) h.nothing)
+    (offered_grows o unit old new (sent.Closed control) h not)
 offered_rows o unit old new sent.NoMemory h not = absurd (not refl)
 
 -- lists that begin with stations of one unit and the same counts, and go on with the same
@@ -83,9 +92,13 @@ sent_counts ss ss' unit parts is_shared Found window window' windows r (inr (inr
     by false = refl
 
 -- the same of units of a run, where the send was answered
-pub sends_same : (lan now : LanValue) (ss : List Station) (unit : UnitId) (parts : List ℕ) (is_shared : Bool) (Found : ℕ → ℕ → Type 0) (window window' : PortState)
-    (windows : LanWindows) (r : Result SendRecord NoMemory) → lan ≡ now → IfOk r (IsSent lan.stations ss unit parts is_shared Found window window' windows)
-    → OnOk r ((v : UnitId) → counts_in v (port_of ss v) ≡ counts_at now v)
-sends_same lan now ss unit parts is_shared Found window window' windows (Ok made) same sent = λ v.
-    sent_counts lan.stations ss unit parts is_shared Found window window' windows made sent v ∙ ap (λ (l : LanValue). counts_at l v) same
-sends_same lan now ss unit parts is_shared Found window window' windows (Err memory) same sent = tt
+pub sends_same : (lan now after : LanValue) (ss : List Station) (unit : UnitId) (parts : List ℕ) (is_shared : Bool) (Found : ℕ → ℕ → Type 0) (window window' : PortState)
+    (windows : LanWindows) (r : Result SendRecord NoMemory) → lan ≡ now → after.stations ≡ ss → IfOk r (IsSent lan.stations ss unit parts is_shared Found window window' windows)
+    → OnOk r (SameCounts now after)
+sends_same lan now after ss unit parts is_shared Found window window' windows (Ok made) same at sent =
+    subst (λ (l : LanValue). SameCounts l after) same
+    (record {
+      same = λ v. ap (λ l. counts_in v (port_of l v)) at ∙ sent_counts lan.stations ss unit parts is_shared Found window window' windows made sent v;
+      grows = λ v. subst (λ (l : List Station). Grows (port_of lan.stations v) (port_of l v)) (sym at) (sent_grows lan.stations ss unit parts is_shared Found window window' windows made sent v);
+    })
+sends_same lan now after ss unit parts is_shared Found window window' windows (Err memory) same at sent = tt

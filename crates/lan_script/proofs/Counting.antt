@@ -9,9 +9,11 @@ use Rattle.lan_switch.specs.declared.station.Station.{Station}
 use Rattle.lan_switch.specs.Switch.{AtPort, port_of, same_unit, with_port}
 use Rattle.lan_script.specs.PortCounts.{PortCounts, counts, counts_in, is_frame}
 use Rattle.lan_script.specs.Rows.{harvests_in, posts_in, sessions_from}
+use Rattle.lan_script.specs.Spent.{Grows, PortGrows}
 use Rattle.lan_script.proofs.CarriedOn.{Changed, changed}
 use Rattle.lan_script.proofs.Keys.{port_head, port_tail}
 use Rattle.lan_script.proofs.Lans.{port_with}
+use Rattle.lan_script.proofs.PortsGrow.{at_grows}
 use Rattle.lan_script.proofs.Placing.{by_bool, none_some, one_unit, same_some}
 
 -- a port that has more posts and frames taken by these numbers
@@ -19,11 +21,13 @@ pub record HasMore (more : PortCounts) (before after : PortValue) : Type 0 where
   pub unit : after.unit ≡ before.unit
   pub posts : (v : UnitId) → (counts_in v (Some after)).posts ≡ (counts_in v (Some before)).posts + more.posts
   pub taken : (v : UnitId) → (counts_in v (Some after)).taken ≡ (counts_in v (Some before)).taken + more.taken
+  pub grows : PortGrows before after
 
 -- a port that posted and took nothing
 pub record SameRows (before after : PortValue) : Type 0 where
   pub unit : after.unit ≡ before.unit
   pub same : (v : UnitId) → counts_in v (Some after) ≡ counts_in v (Some before)
+  pub grows : PortGrows before after
 
 -- the counts of these rows, over so many sessions
 abbrev pub counts_of : UnitId → List Post → List Harvest → ℕ → PortCounts
@@ -31,13 +35,14 @@ counts_of v posts harvests n =
     counts (length (flat_map (posts_in v posts) (sessions_from 1 n))) (length (filter (λ row. is_frame row.high) (flat_map (harvests_in v harvests) (sessions_from 1 n))))
 
 pub same_rows : (before after : PortValue) → after.unit ≡ before.unit → after.posts ≡ before.posts → after.harvests ≡ before.harvests
-    → length after.drop_counts ≡ length before.drop_counts → SameRows before after
-same_rows before after unit posts harvests long = record {
+    → length after.drop_counts ≡ length before.drop_counts → PortGrows before after → SameRows before after
+same_rows before after unit posts harvests long grows = record {
   unit = unit;
   same = λ v.
       ap (λ l. counts_of v l after.harvests (length after.drop_counts)) posts
       ∙ ap (λ l. counts_of v before.posts l (length after.drop_counts)) harvests
       ∙ ap (λ n. counts_of v before.posts before.harvests n) long;
+  grows = grows;
 }
 
 -- the unit of a port that is there
@@ -73,6 +78,7 @@ pub record AddsCounts (unit : UnitId) (more : PortCounts) (old new : List Statio
   pub posts : (counts_in unit (port_of new unit)).posts ≡ (counts_in unit (port_of old unit)).posts + more.posts
   pub taken : (counts_in unit (port_of new unit)).taken ≡ (counts_in unit (port_of old unit)).taken + more.taken
   pub others : (v : UnitId) → same_unit v unit ≡ false → counts_in v (port_of new v) ≡ counts_in v (port_of old v)
+  pub grows : (v : UnitId) → Grows (port_of old v) (port_of new v)
 
 pub at_more : (old : List Station) (unit : UnitId) (new : List Station) (P : PortValue → PortValue → Type 0) (more : PortCounts)
     → ((before after : PortValue) → port_of old unit ≡ Some before → P before after → HasMore more before after) → AtPort old unit new P
@@ -82,6 +88,7 @@ at_more old unit new P more has h = record {
   taken = ap (λ (c : PortCounts). c.taken) now ∙ kept.taken unit ∙ sym (ap (λ (c : PortCounts). c.taken + more.taken) was);
   others = λ v other.
       ap (λ l. counts_in v (port_of l v)) h.rest ∙ by v other (changed unit v old h.before h.after h.was kept.unit);
+  grows = at_grows old unit new P h kept.unit kept.grows;
 }
   where
     kept : HasMore more h.before h.after

@@ -1,7 +1,8 @@
 -- How the counts of posts and frames taken go through the steps of a line.
-use Rattle.std.proofs.Common.{◌≡◌, ◌+◌, ◌<◌, ◌≤◌, ◌^◌, ℕ, arith, true, IfSome, IsSome, List, Option, Some, min, refl, sym, ◌∙◌, ap, subst}
+use Rattle.std.proofs.Common.{◌≡◌, ◌+◌, ◌<◌, ◌≤◌, ◌^◌, ℕ, arith, true, IfOk, IfSome, IsSome, List, OnOk, Option, Result, Ok, Err, Some, min, refl, sym, ◌∙◌, ap, subst}
 use Rattle.vio_num.specs.declared.names.UnitId.{UnitId}
 use Rattle.vio_num.specs.declared.hypervisor.Hrc.{Hrc}
+use Rattle.vio_num.specs.declared.memory.NoMemory.{NoMemory}
 use Rattle.vio_num.specs.declared.hypervisor.Hrc.TheVariants.{Success}
 use Rattle.boot_text.specs.declared.verb.Verb.{Verb}
 use Rattle.boot_text.specs.declared.verb.Verb.TheVariants as verbs
@@ -15,7 +16,7 @@ use Rattle.lan_switch.specs.Calls.{Harvests}
 use Rattle.lan_switch.specs.Switch.{AtPort, MadeAt, port_of}
 use Rattle.lan_script.specs.declared.lines.PortStep.{PortStep}
 use Rattle.lan_script.specs.declared.lines.PortStep.TheVariants as steps
-use Rattle.lan_script.specs.PortCounts.{CountsOn, CountsStep, PortCounts, SameCounts, TakesSome, TellsNoCount, counts, counts_after, counts_at, counts_by, posted_on}
+use Rattle.lan_script.specs.PortCounts.{CountsOn, CountsStep, PortCounts, SameCounts, TakesSome, TellsNoCount, counts, counts_after, counts_at, counts_by, counts_in, posted_on}
 use Rattle.lan_script.specs.Invariant.{IsLan}
 use Rattle.lan_script.specs.Seats.{is_in_region, seat_at}
 use Rattle.lan_script.specs.Taking.{harvested_on, taken_on}
@@ -26,15 +27,25 @@ use Rattle.lan_script.proofs.Counting.{AddsCounts, HasMore, SameRows, at_counts,
 use Rattle.lan_script.proofs.Bringing.{begun_at}
 use Rattle.lan_script.proofs.CountedCalls.{HasBegun, harvests_more, no_post}
 use Rattle.lan_script.proofs.Lans.{port_there}
+use Rattle.lan_script.proofs.PortsGrow.{at_grows, grow_on, grow_still}
 
 pub same_on : (old mid new : LanValue) → SameCounts old mid → SameCounts mid new → SameCounts old new
-same_on old mid new a b unit = b unit ∙ a unit
+same_on old mid new a b = record { same = λ unit. b.same unit ∙ a.same unit; grows = grow_on old mid new a.grows b.grows }
+
+pub same_then : {X E : Type 0} (r : Result X E) (old mid new : LanValue) → SameCounts old mid → OnOk r (SameCounts mid new) → OnOk r (SameCounts old new)
+same_then (Ok x) old mid new a b = same_on old mid new a b
+same_then (Err e) old mid new a b = tt
+
+-- where no port was touched
+pub still_counts : (old new : LanValue) → new.stations ≡ old.stations → SameCounts old new
+still_counts old new e = record { same = λ unit. ap (λ l. counts_in unit (port_of l unit)) e; grows = grow_still old new e }
 
 pub counts_same : (unit : UnitId) (before : PortCounts) (old new : LanValue) → SameCounts old new → CountsOn unit before before old new
 counts_same unit before old new same = record {
-  posts = ap (λ (c : PortCounts). c.posts + before.posts) (same unit);
-  taken = ap (λ (c : PortCounts). c.taken + before.taken) (same unit);
-  others = λ other _. same other;
+  posts = ap (λ (c : PortCounts). c.posts + before.posts) (same.same unit);
+  taken = ap (λ (c : PortCounts). c.taken + before.taken) (same.same unit);
+  others = λ other _. same.same other;
+  grows = same.grows;
 }
 
 -- one behind the other
@@ -44,6 +55,7 @@ counts_on unit a b d old mid new h k = record {
   posts = omega (arith, h.posts, k.posts);
   taken = omega (arith, h.taken, k.taken);
   others = λ other beside. k.others other beside ∙ h.others other beside;
+  grows = grow_on old mid new h.grows k.grows;
 }
 
 -- with as much more before and after
@@ -53,11 +65,12 @@ counts_more unit a b a' b' old new h posts taken = record {
   posts = omega (arith, h.posts, posts);
   taken = omega (arith, h.taken, taken);
   others = h.others;
+  grows = h.grows;
 }
 
 pub adds_on : (unit : UnitId) (more : PortCounts) (old new : LanValue) → AddsCounts unit more old.stations new.stations
     → CountsOn unit (counts 0 0) more old new
-adds_on unit more old new h = record { posts = omega (arith, h.posts); taken = omega (arith, h.taken); others = h.others }
+adds_on unit more old new h = record { posts = omega (arith, h.posts); taken = omega (arith, h.taken); others = h.others; grows = h.grows }
 
 -- frames that were taken, one part behind the other
 pub takes_more : (unit : UnitId) (n : ℕ) (old mid new : LanValue) → TakesSome unit old mid → CountsOn unit (counts 0 0) (counts 0 n) mid new
@@ -89,7 +102,12 @@ region_still verb e d = refl
 pub port_counts : (lan now : LanValue) (unit : UnitId) (ss : List Station) (P : PortValue → PortValue → Type 0) → lan ≡ now
     → AtPort lan.stations unit ss P → ((before after : PortValue) → P before after → SameRows before after)
     → SameCounts now (record lan { stations = ss })
-port_counts lan now unit ss P same h kept v = at_counts lan.stations unit ss P kept h v ∙ ap (λ (l : LanValue). counts_at l v) same
+port_counts lan now unit ss P same h kept =
+    subst (λ (l : LanValue). SameCounts l (record lan { stations = ss })) same
+    (record {
+      same = at_counts lan.stations unit ss P kept h;
+      grows = at_grows lan.stations unit ss P h (kept h.before h.after h.done).unit (kept h.before h.after h.done).grows;
+    })
 
 pub made_counts : (lan now : LanValue) (unit : UnitId) (answer : LanAnswer) (ss : List Station) (P : PortValue → PortValue → Type 0) → lan ≡ now → IsLan lan
     → IsSome (seat_at now.seats unit) → MadeAt lan.stations unit answer ss P → ((before after : PortValue) → P before after → SameRows before after)
@@ -119,6 +137,11 @@ made_adds lan now new unit answer P more same is there h has =
 pub counts_behind : (unit : UnitId) (more : PortCounts) (old mid new : LanValue) → SameCounts old mid → CountsOn unit (counts 0 0) more mid new
     → CountsOn unit (counts 0 0) more old new
 counts_behind unit more old mid new same h = counts_on unit (counts 0 0) (counts 0 0) more old mid new (counts_same unit (counts 0 0) old mid same) h
+
+pub adds_behind : (unit : UnitId) (r : Result Hrc NoMemory) (old mid new : LanValue) → SameCounts old mid
+    → IfOk r (λ code. CountsOn unit (counts 0 0) (posted_on code) mid new) → IfOk r (λ code. CountsOn unit (counts 0 0) (posted_on code) old new)
+adds_behind unit (Ok code) old mid new same h = counts_behind unit (posted_on code) old mid new same h
+adds_behind unit (Err e) old mid new same h = tt
 
 -- a look at the receive queue of an open port
 pub takes_one : (lan now old new : LanValue) (unit : UnitId) (answer : Harvest) (taken : PortCounts) → lan ≡ now → IsLan lan → SameCounts old now

@@ -1,6 +1,6 @@
 -- The rows of all units keep the law of ports, and stand in a trace's order.
 use Rattle.std.proofs.Common.{◌≡◌, ◌==◌, ◌+◌, ◌^◌, ◌<◌, ◌≤◌, ℕ, suc, arith, Bool, true, false, All, List, [], ◌∷◌, ◌++◌, inl, Option, Some, None, IfSome, IsSome, filter, if◌then◌else◌, length, map, refl, sym, ◌∙◌, ap, subst}
-use Rattle.std.specs.List.{flat_map}
+use Rattle.std.specs.List.{flat_map, slice_get}
 use Rattle.std.proofs.lemmas.List.Elements.{All-weaker}
 use Rattle.vio_num.specs.declared.names.UnitId.{UnitId}
 use Rattle.lan_buffers.specs.Calls.{IsOpen}
@@ -17,21 +17,25 @@ use Rattle.vio_trace.specs.declared.lan_rows.PortRow.{PortRow}
 use Rattle.vio_trace.specs.declared.lan_rows.PostRow.{PostRow}
 use Rattle.lan_script.specs.declared.rows.LanRows.{LanRows}
 use Rattle.lan_script.specs.declared.seat.PortSeat.{PortSeat}
+use Rattle.lan_script.specs.Buffers.{posted_of}
 use Rattle.lan_script.specs.Delivered.{drops_counted, drops_to, given, taken}
 use Rattle.lan_script.specs.Invariant.{HaveBegun, IsLan, all_of, drops_at, drops_by, rows_at, rows_in, sent_by, total}
 use Rattle.lan_script.specs.PortLaw.{AreOrdered, IsOfPort, PortsAreLawful}
 use Rattle.lan_script.specs.Rows.{HasLawfulPort, deliver_row_of, deliver_rows, harvest_row_of, harvest_rows, numbered, port_in, port_or, port_row_of, port_rows, post_rows}
 use Rattle.lan_script.specs.PortCounts.{counts_in, is_frame}
 use Rattle.lan_script.specs.Resting.{HasReadAll}
-use Rattle.lan_script.specs.RowsOf.{CountsRows, IsRowsOf, sessions_by}
+use Rattle.lan_script.specs.Replayed.{sessions_by}
+use Rattle.lan_script.specs.RowsOf.{CountsRows, IsRowsOf}
 use Rattle.lan_script.specs.Seats.{seat_at}
+use Rattle.lan_script.specs.Spent.{IsNamed, WasSpent}
 use Rattle.lan_script.specs.Units.{AreFrames, HavePorts, IsLawfulOffer, LanValue, PortKey, port_key}
 use Rattle.lan_script.proofs.Blocks.{all_from_each, before_other, both_each, each_from_all, of_seats, seats_ordered, self, sole_block}
 use Rattle.lan_script.proofs.Bringing.{begun_at}
 use Rattle.lan_script.proofs.Found.{IsFound, at_unit, counted_total, filter_unit, found, no_port, pick}
 use Rattle.lan_script.proofs.LastSession.{of_session}
 use Rattle.lan_script.proofs.Order.{Each, Ordered, ascends, each_append, each_weaker, ordered_flat}
-use Rattle.lan_script.proofs.Placing.{by_bool}
+use Rattle.lan_script.proofs.Placing.{by_bool, same_some}
+use Rattle.lan_script.proofs.Spent.{row_named, was_named}
 use Rattle.lan_script.proofs.RowLaws.{IsFrom, deliveries_are, frames_named, frames_ordered, harvests_are, ports_named, ports_ordered, posts_are}
 
 every : {X : Type 0} (P : X → Type 0) → ((x : X) → P x) → (xs : List X) → Each P xs
@@ -413,6 +417,15 @@ posts_found whole ss seats frames u have own (Some seat) at =
     ap (λ o. length (post_rows seat.unit (port_or seat.unit o))) is.holds.is ∙ sym (ap (λ o. (counts_in seat.unit o).posts) is.holds.is)
     ∙ ap (λ v. (counts_in v (port_of ss v)).posts) is.unit_is
 
+buffers_found : (ss : List Station) (seats : List PortSeat) (frames : List (List FrameRow)) (u : UnitId) → HavePorts true seats (map port_key ss) frames
+    → Each (HasOwn ss) seats → (o : Option PortSeat) → at_unit unit_in u seats ≡ o
+    → map (λ (row : PostRow). row.descriptor) (found (posts_by ss) o) ≡ posted_of u (port_of ss u)
+buffers_found ss seats frames u have own None at = sym (ap (λ o. posted_of u o) (no_port true u seats ss frames have at))
+buffers_found ss seats frames u have own (Some seat) at =
+    let is = pick unit_in (HasOwn ss) u seat seats own at in
+    ap (λ o. map (λ (row : PostRow). row.descriptor) (post_rows seat.unit (port_or seat.unit o))) is.holds.is
+    ∙ sym (ap (λ o. posted_of seat.unit o) is.holds.is) ∙ ap (λ v. posted_of v (port_of ss v)) is.unit_is
+
 -- and so are the frames that it took
 taken_found : (whole : Bool) (ss : List Station) (seats : List PortSeat) (frames : List (List FrameRow)) (u : UnitId)
     → HavePorts whole seats (map port_key ss) frames → Each (HasOwn ss) seats → (o : Option PortSeat) → at_unit unit_in u seats ≡ o
@@ -476,8 +489,31 @@ last_found ss seats u begun own opened read (Some seat) at =
     at_open : IsOpen port
     at_open = subst (λ (o : Option PortValue). IfSome o IsOpen) there opened
 
-counts_rows : (lan : LanValue) (rows : LanRows) → IsLan lan → lan.whole ≡ true → IsRowsOf lan rows → CountsRows lan rows
-counts_rows lan rows is whole exact =
+-- posts that were all taken once are named by the rows of deliveries
+named_found : (ss : List Station) (seats : List PortSeat) (frames : List (List FrameRow)) (u : UnitId) (port : PortValue) → HavePorts true seats (map port_key ss) frames
+    → Each (HasOwn ss) seats → Each (HasLawfulPort ss) seats → port_of ss u ≡ Some port → (q : ℕ) (lengths : List ℕ) (least k len : ℕ) → WasSpent port q lengths least
+    → slice_get lengths k ≡ Some len → least ≤ len → (o : Option PortSeat) → at_unit unit_in u seats ≡ o → IsNamed (found (delivers_by ss) o) u q k
+named_found ss seats frames u port have own lawful here q lengths least k len spent at enough None none =
+    absurd (no_some port (sym (no_port true u seats ss frames have none) ∙ here))
+  where
+    no_some : (p : PortValue) → None ≡ Some p → ⊥
+    no_some p e = cc (e)
+named_found ss seats frames u port have own lawful here q lengths least k len spent at enough (Some seat) there =
+    subst (λ (v : UnitId). IsNamed (delivers_by ss seat) v q k) is.unit_is
+    (row_named seat.unit (port_in ss seat) q k spent'.begun spent'.within
+    (was_named (port_in ss seat) q lengths least k len (pick unit_in (HasLawfulPort ss) u seat seats lawful there).holds spent' at enough))
+  where
+    is : IsFound unit_in (HasOwn ss) u seat
+    is = pick unit_in (HasOwn ss) u seat seats own there
+
+    same : port ≡ port_in ss seat
+    same = same_some port is.holds.port (sym here ∙ (ap (λ v. port_of ss v) (sym is.unit_is) ∙ is.holds.is)) ∙ sym (ap (λ o. port_or seat.unit o) is.holds.is)
+
+    spent' : WasSpent (port_in ss seat) q lengths least
+    spent' = subst (λ (p : PortValue). WasSpent p q lengths least) same spent
+
+counts_rows : (lan : LanValue) (rows : LanRows) → IsLan lan → lan.whole ≡ true → All (HasLawfulPort lan.stations) lan.seats → IsRowsOf lan rows → CountsRows lan rows
+counts_rows lan rows is whole lawful exact =
     let ss = lan.stations in
     let seats = lan.seats in
     let order = in_order lan is in
@@ -490,6 +526,11 @@ counts_rows lan rows is whole exact =
           (ap (λ l. filter (λ (row : PostRow). same_unit row.unit unit) l) exact.posts
           ∙ filter_unit unit_in (λ (row : PostRow). row.unit) (posts_by ss) unit seats (posts_own ss seats) order)
           ∙ posts_found true ss seats lan.frames unit have own (at_unit unit_in unit seats) refl;
+      buffers = λ unit.
+          ap (λ l. map (λ (row : PostRow). row.descriptor) l)
+          (ap (λ l. filter (λ (row : PostRow). same_unit row.unit unit) l) exact.posts
+          ∙ filter_unit unit_in (λ (row : PostRow). row.unit) (posts_by ss) unit seats (posts_own ss seats) order)
+          ∙ buffers_found ss seats lan.frames unit have own (at_unit unit_in unit seats) refl;
       taken = λ unit.
           ap (λ l. length (filter (λ (row : HarvestRow). is_frame row.high) l))
           (ap (λ l. filter (λ (row : HarvestRow). same_unit row.unit unit) l) exact.harvests
@@ -508,6 +549,11 @@ counts_rows lan rows is whole exact =
           ∙ sym (ap (λ l. length (filter (λ (row : DeliverRow). row.session == sessions_by (port_of ss unit)) l))
           (ap (λ l. filter (λ (row : DeliverRow). same_unit row.unit unit) l) exact.delivers
           ∙ filter_unit unit_in (λ (row : DeliverRow). row.unit) (delivers_by ss) unit seats (delivers_own ss seats) order));
+      named = λ unit port here q lengths least spent k len at enough.
+          subst (λ (l : List DeliverRow). IsNamed l unit q k)
+          (sym (ap (λ l. filter (λ (row : DeliverRow). same_unit row.unit unit) l) exact.delivers
+          ∙ filter_unit unit_in (λ (row : DeliverRow). row.unit) (delivers_by ss) unit seats (delivers_own ss seats) order))
+          (named_found ss seats lan.frames unit port have own (each_from_all (HasLawfulPort ss) seats lawful) here q lengths least k len spent at enough (at_unit unit_in unit seats) refl);
     }
 
 -- What is so of rows that were gathered list by list.
@@ -535,5 +581,5 @@ told lan now rows a b c d same is whole short frames ports posts delivers harves
       lawful = law lan rows is whole short exact (subst (λ l. All (HasLawfulPort lan.stations) l) ea lawful);
       ordered = order lan rows is whole exact;
       exact = exact;
-      counted = counts_rows lan rows is whole exact;
+      counted = counts_rows lan rows is whole (subst (λ l. All (HasLawfulPort lan.stations) l) ea lawful) exact;
     })

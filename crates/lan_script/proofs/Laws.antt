@@ -20,9 +20,13 @@ use Rattle.lan_script.proofs.Carrying.{carried_on, read_on}
 use Rattle.lan_script.proofs.Keys.{WindowOf, window_of}
 use Rattle.lan_script.proofs.Order.{Each, each_weaker}
 pub use Rattle.lan_script.proofs.Blocks.{self}
+pub use Rattle.lan_script.proofs.Buffering.{posted_still, same_posted}
 pub use Rattle.lan_script.proofs.Keys.{port_head, port_tail}
+pub use Rattle.lan_script.proofs.OwnMacs.{mac_same, target_for, weaker_mac}
 pub use Rattle.lan_script.proofs.Placing.{by_bool, one_unit, window_head, window_tail}
+pub use Rattle.lan_script.proofs.PortsGrow.{grows_same, grows_then}
 pub use Rattle.lan_script.proofs.Resting.{on_open, ports_on, still_taken}
+pub use Rattle.lan_script.proofs.Targeting.{named_at, spent_on}
 
 -- Each seat has its window: of its pages, and with nothing held.
 pub seat_has_window : (lan : LanValue) (unit : UnitId) (seat : PortSeat) → IsLan lan → seat_at lan.seats unit ≡ Some seat

@@ -4,6 +4,7 @@ pub mod Balancing
 pub mod Begun
 pub mod Blocks
 pub mod Bringing
+pub mod Buffering
 pub mod BySession
 pub mod Called
 pub mod CarriedOn
@@ -31,8 +32,11 @@ pub mod Named
 pub mod Offering
 pub mod Opened
 pub mod Order
+pub mod OwnMacs
 pub mod Placing
+pub mod PortsGrow
 pub mod Posted
+pub mod PostRows
 pub mod RegionShown
 pub mod ReplayedCalls
 pub mod ReplayedFilters
@@ -49,5 +53,7 @@ pub mod Resting
 pub mod RowLaws
 pub mod Sent
 pub mod SessionCounts
+pub mod Spent
 pub mod Tallies
+pub mod Targeting
 pub mod Telling

@@ -51,7 +51,7 @@ contains_at f x q s (suc n) least most has =
     above a b least e = grind (arith, least, e)
 
 -- items behind others have the numbers behind theirs
-numbered_append : {X Row : Type 0} (row : ℕ → X → Row) (n : ℕ) (xs ys : List X) → numbered row n (xs ++ ys) ≡ numbered row n xs ++ numbered row (n + length xs) ys
+pub numbered_append : {X Row : Type 0} (row : ℕ → X → Row) (n : ℕ) (xs ys : List X) → numbered row n (xs ++ ys) ≡ numbered row n xs ++ numbered row (n + length xs) ys
 numbered_append {X} row n [] ys = ap (λ k. numbered row k ys) (same n)
   where
     same : (k : ℕ) → k ≡ k + length {A = X} []

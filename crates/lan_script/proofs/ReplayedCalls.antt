@@ -1,5 +1,5 @@
 -- What the calls of a port say in its replay.
-use Rattle.std.proofs.Common.{◌≡◌, ◌⊎◌, ◌*◌, inl, inr, ℕ, IsSome, [], ◌∷◌, Option, Some, None, Result, length, map, refl, sym, ◌∙◌, ap, subst, List}
+use Rattle.std.proofs.Common.{◌≡◌, ◌⊎◌, ◌*◌, ◌+◌, inl, inr, ℕ, IsSome, [], ◌∷◌, Option, Some, None, Result, length, length-append, map, refl, sym, ◌∙◌, ap, subst, List}
 use Rattle.std.specs.List.{Contains}
 use Rattle.std.specs.Option.{option_map}
 use Rattle.std.proofs.lemmas.List.Elements.{All-cons, All-contains, All-nil}
@@ -46,10 +46,12 @@ codes_as code code' left old new e is = record { outcome_is = ap (λ (x : Hrc). 
 
 -- a session that begins has no post
 begun_replay : (before after : PortValue) (mac : Mac) (n : List (List ℕ)) → BeginsSession before mac after
-    → replay_of (Some after) n ≡ record { settings = Some (first_settings mac); lengths = []; frames = n }
+    → replay_of (Some after) n ≡ record { settings = Some (first_settings mac); lengths = []; sessions = length before.drop_counts + 1; frames = n }
 begun_replay before after mac n h =
     ap (λ s. replay_with s after.posts (length after.drop_counts) n) h.opened
-    ∙ ap (λ (s : Session). record { settings = Some (first_settings mac); lengths = map post_len s.posts; frames = n }) h.empty
+    ∙ ap (λ (s : Session). record { settings = Some (first_settings mac); lengths = map post_len s.posts; sessions = length after.drop_counts; frames = n }) h.empty
+    ∙ ap (λ (k : ℕ). record { settings = Some (first_settings mac); lengths = []; sessions = k; frames = n })
+    (ap (λ (l : List ℕ). length l) h.counts ∙ length-append before.drop_counts (0 ∷ []))
 
 pub registers_replay : (list queue filters : ℕ) (mac : Mac) (seat : PortSeat) (answer : LanAnswer) (before after : PortValue) → before.slots ≡ seat.slots
     → IsOpening list queue filters mac seat → Registers list queue filters mac answer before after

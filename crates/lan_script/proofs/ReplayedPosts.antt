@@ -44,7 +44,7 @@ posted_replay before after descriptor correlator number n h =
     ∙ ap (λ l. replay_with before.settings l (length after.drop_counts) n) h.posted
     ∙ ap (λ k. replay_with before.settings (before.posts ++ post_row (last_session before) descriptor correlator ∷ []) k n)
     (ap (λ (p : PortValue). length p.drop_counts) h.rest)
-    ∙ ap (λ l. record { settings = before.settings; lengths = l; frames = n })
+    ∙ ap (λ l. record { settings = before.settings; lengths = l; sessions = length before.drop_counts; frames = n })
     (lengths_more before.posts (post_row (last_session before) descriptor correlator) (length before.drop_counts) refl)
 
 -- a correlator that could not be read is not busy where nobody else has a hand in the window

@@ -30,7 +30,7 @@ use Rattle.lan_script.specs.Frames.{count_in, frame_row_of}
 use Rattle.lan_script.specs.Invariant.{IsLan, Owes, sent_by}
 use Rattle.vio_num.specs.declared.memory.NoMemory.{NoMemory}
 use Rattle.lan_script.specs.declared.sending.Sent.{Sent}
-use Rattle.lan_script.specs.LineSays.{SendsOne, SentAs}
+use Rattle.lan_script.specs.LineSays.{AddsFrame, KeepsFrame}
 use Rattle.lan_script.specs.PortReplay.{IsOn, PortReplay}
 use Rattle.lan_script.specs.Replayed.{AddsBytes, GoesOut, MayGoOut, ReplaysOn, SameReplays, SentSays, bytes_sent, replay_at, replay_of}
 use Rattle.lan_script.specs.Windows.{facts_of, window_in}
@@ -93,7 +93,7 @@ frame_code unit n frame h = by (one_of_two frame.offers)
 
 -- a frame that is kept is the next of its unit
 keeps_replay : (unit : UnitId) (made : SendRecord) (n : ℕ) (now new : LanValue) → Owes now unit made → made.frame ≡ Some n → new.stations ≡ now.stations
-    → SendsOne unit made.code n now new → new.seats ≡ now.seats → AddsBytes unit (Some n) made.bytes now new
+    → AddsFrame unit (frame_row_of unit n made) now new → new.seats ≡ now.seats → AddsBytes unit (Some n) made.bytes now new
     → ReplaysOn unit (SentSays made.code (Some n)) now new
 keeps_replay unit made n now new owes numbered stations one seats adds = record {
   says = record {
@@ -116,17 +116,17 @@ keeps_replay unit made n now new owes numbered stations one seats adds = record 
     lawful : IsLawfulFrame unit n (frame_row_of unit n made)
     lawful = subst (λ (x : Option ℕ). IfSome x (λ m. IsLawfulFrame unit m (frame_row_of unit m made))) numbered owes.lawful
 
-    none : (v : UnitId) (b : Bool) → same_unit unit v ≡ b → same_unit v unit ≡ false → (if same_unit unit v then one.row ∷ [] else []) ≡ []
+    none : (v : UnitId) (b : Bool) → same_unit unit v ≡ b → same_unit v unit ≡ false → (if same_unit unit v then frame_row_of unit n made ∷ [] else []) ≡ []
     none v false e other = rw e refl
     none v true e other = absurd (cc (other, subst (λ (u : UnitId). same_unit u unit ≡ true) (one_unit unit v e) (self unit)))
 
 -- the same by the record of the frame
 pub kept_replay : (unit : UnitId) (made : SendRecord) (n : ℕ) (now new : LanValue) → Owes now unit made → made.frame ≡ Some n → new.stations ≡ now.stations
-    → SentAs unit made.code made.frame now new → new.seats ≡ now.seats → AddsBytes unit made.frame made.bytes now new
+    → KeepsFrame unit made made.frame now new → new.seats ≡ now.seats → AddsBytes unit made.frame made.bytes now new
     → ReplaysOn unit (SentSays made.code made.frame) now new
 kept_replay unit made n now new owes numbered stations sent seats adds =
     subst (λ (o : Option ℕ). ReplaysOn unit (SentSays made.code o) now new) (sym numbered)
-    (keeps_replay unit made n now new owes numbered stations (subst (λ (o : Option ℕ). SentAs unit made.code o now new) numbered sent) seats
+    (keeps_replay unit made n now new owes numbered stations (subst (λ (o : Option ℕ). KeepsFrame unit made o now new) numbered sent) seats
     (subst (λ (o : Option ℕ). AddsBytes unit o made.bytes now new) numbered adds))
 
 -- where no page is found in use, and no turn is taken, a frame that is offered has a number

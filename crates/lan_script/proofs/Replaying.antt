@@ -32,7 +32,7 @@ Stays before after = Moves (λ old new. new ≡ old) before after
 -- the replay of a port with these
 abbrev pub replay_with : Option Settings → List Post → (session : ℕ) → (n : List (List ℕ)) → PortReplay
 replay_with settings posts session n =
-    record { settings = settings; lengths = map post_len (filter (λ row. row.session == session) posts); frames = n }
+    record { settings = settings; lengths = map post_len (filter (λ row. row.session == session) posts); sessions = session; frames = n }
 
 pub replay_same : (before after : PortValue) → after.settings ≡ before.settings → after.posts ≡ before.posts
     → length after.drop_counts ≡ length before.drop_counts → (n : List (List ℕ)) → replay_of (Some after) n ≡ replay_of (Some before) n

@@ -1,3 +1,4 @@
+pub mod Buffers
 pub mod Carried
 pub mod Delivered
 pub mod Frames
@@ -5,6 +6,7 @@ pub mod Invariant
 pub mod LineFrame
 pub mod LineSays
 pub mod Opening
+pub mod OwnMac
 pub mod PortCounts
 pub mod PortLaw
 pub mod PortReplay
@@ -14,7 +16,9 @@ pub mod Resting
 pub mod Rows
 pub mod RowsOf
 pub mod Seats
+pub mod Spent
 pub mod Taking
+pub mod Targets
 pub mod Units
 pub mod Values
 pub mod Windows

@@ -16,6 +16,7 @@ use Rattle.lan_script.specs.declared.lines.PortStep.{PortStep}
 use Rattle.lan_script.specs.declared.lines.PortStep.TheVariants as steps
 use Rattle.lan_script.specs.LineSays.{SentAs}
 use Rattle.lan_script.specs.Rows.{harvest_rows, post_rows}
+use Rattle.lan_script.specs.Spent.{AllGrow}
 use Rattle.lan_script.specs.Units.{LanValue}
 
 pub record PortCounts : Type 0 where
@@ -37,15 +38,17 @@ counts_in unit None = counts 0 0
 abbrev pub counts_at : LanValue → UnitId → PortCounts
 counts_at lan unit = counts_in unit (port_of lan.stations unit)
 
--- The counts of a unit rose by as much as from `before` to `after`, and those of no other changed.
+-- The counts of a unit rose by as much as from `before` to `after`, and those of no other changed. No port lost a row.
 pub record CountsOn (unit : UnitId) (before after : PortCounts) (old new : LanValue) : Type 0 where
   pub posts : (counts_at new unit).posts + before.posts ≡ (counts_at old unit).posts + after.posts
   pub taken : (counts_at new unit).taken + before.taken ≡ (counts_at old unit).taken + after.taken
   pub others : (other : UnitId) → same_unit other unit ≡ false → counts_at new other ≡ counts_at old other
+  pub grows : AllGrow old new
 
--- no count changed
-abbrev pub SameCounts : (old new : LanValue) → Type 0
-SameCounts old new = (unit : UnitId) → counts_at new unit ≡ counts_at old unit
+-- No count changed, and no port lost a row.
+pub record SameCounts (old new : LanValue) : Type 0 where
+  pub same : (unit : UnitId) → counts_at new unit ≡ counts_at old unit
+  pub grows : AllGrow old new
 
 -- the end of a line tells of so many buffers and frames
 abbrev pub counts_told : Outcome → PortCounts

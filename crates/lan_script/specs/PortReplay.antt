@@ -1,5 +1,5 @@
 -- What the lines of a LAN unit say of their own records. A replay goes over the lines, one after the other, and keeps the settings of
--- the port, the lengths that were posted since it opened, and its frames. It knows no delivery and no other unit.
+-- the port, the lengths that were posted since it opened, its sessions and its frames. It knows no delivery and no other unit.
 use Rattle.std.specs.Prelude.{◌≡◌, ◌⊎◌, ◌++◌, ◌+◌, ◌*◌, ◌-◌, ◌≤◌, ℕ, List, [], ◌∷◌, Option, Some, None, IfSome, IsSome, length, zero, suc}
 use Rattle.std.specs.Option.{option_map}
 use Rattle.vio_num.specs.declared.hypervisor.Hrc.{Hrc}
@@ -26,12 +26,14 @@ pub record PortReplay : Type 0 where
   pub settings : Option Settings
   -- the lengths that were posted since it opened
   pub lengths : List ℕ
+  -- how often it was opened
+  pub sessions : ℕ
   -- the bytes of each of its frames
   pub frames : List (List ℕ)
 
 -- before the first line
 abbrev pub closed_replay : PortReplay
-closed_replay = record { settings = None; lengths = []; frames = [] }
+closed_replay = record { settings = None; lengths = []; sessions = 0; frames = [] }
 
 abbrev pub IsOn : PortReplay → Type 0
 IsOn now = IsSome now.settings
@@ -41,9 +43,9 @@ pub record Codes (code : Hrc) (left : PortReplay) (outcome : Outcome) (new : Por
   pub outcome_is : outcome ≡ outcomes.Code code
   pub left_is : new ≡ left
 
--- `open` registers a closed port with the address of its unit, and empties settings, filters and lengths
+-- `open` begins a session of a closed port with the address of its unit, and empties settings, filters and lengths
 abbrev pub OpenSays : Mac → Option Settings → Outcome → (old new : PortReplay) → Type 0
-OpenSays mac None outcome old new = Codes Success (record old { settings = Some (first_settings mac); lengths = [] }) outcome new
+OpenSays mac None outcome old new = Codes Success (record old { settings = Some (first_settings mac); lengths = []; sessions = old.sessions + 1 }) outcome new
 OpenSays mac (Some settings) outcome old new = Codes Resource old outcome new
 
 -- `close` frees an open port

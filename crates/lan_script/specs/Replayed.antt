@@ -38,13 +38,18 @@ abbrev pub lengths_of : Option PortValue → List ℕ
 lengths_of None = []
 lengths_of (Some port) = map post_len (now port).posts
 
+-- the sessions of a port so far
+abbrev pub sessions_by : Option PortValue → ℕ
+sessions_by None = 0
+sessions_by (Some port) = length port.drop_counts
+
 -- the bytes of each frame of a unit
 abbrev pub bytes_sent : LanValue → UnitId → List (List ℕ)
 bytes_sent lan unit = map (λ row. row.bytes) (sent_by lan.seats lan.frames unit)
 
 -- what a port shows of its replay, with the bytes of its frames
 abbrev pub replay_of : Option PortValue → (frames : List (List ℕ)) → PortReplay
-replay_of port frames = record { settings = settings_of port; lengths = lengths_of port; frames = frames }
+replay_of port frames = record { settings = settings_of port; lengths = lengths_of port; sessions = sessions_by port; frames = frames }
 
 abbrev pub replay_at : LanValue → UnitId → PortReplay
 replay_at lan unit = replay_of (port_of lan.stations unit) (bytes_sent lan unit)

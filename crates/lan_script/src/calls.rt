@@ -1,13 +1,14 @@
 // Raw hypervisor calls on a LAN unit, each made once whatever it answers.
-ghost use Rattle.std.specs.Prelude.{◌≡◌, ◌↔◌, IfOk, IsSome, IsTrue, OnOk, false, true};
+ghost use Rattle.std.specs.Prelude.{◌≡◌, ◌↔◌, None, Some, IfOk, IsSome, IsTrue, OnOk, false, true};
 ghost use Rattle.hcall_table.specs.Rows.{IsAnswer, may_answer};
 ghost use Rattle.hcall_table.specs.declared.hcall.Hcall.TheVariants as rows;
 ghost use Rattle.lan_switch.specs.Switch.{HasRoom};
 ghost use Rattle.lan_script.specs.PortCounts.{CountsOn, SameCounts, SendsCalled, counts, counts_called};
 ghost use Rattle.lan_script.specs.PortRows.{port_row};
 ghost use Rattle.vio_trace.specs.declared.outcome.Outcome.TheVariants as outcomes;
+ghost use Rattle.lan_script.specs.OwnMac.{MovesMac};
 ghost use Rattle.lan_script.specs.PortReplay.{MacSays, MulticastSays};
-ghost use Rattle.lan_script.specs.Replayed.{ClosesAt, OpensAt, ReplaysOn, SameBeside, SameReplays};
+ghost use Rattle.lan_script.specs.Replayed.{ClosesAt, OpensAt, ReplaysOn, SameBeside, SameReplays, replay_at};
 ghost use Rattle.lan_script.specs.Resting.{SamePorts};
 ghost use Rattle.lan_script.specs.Seats.{seat_at};
 ghost use Rattle.lan_script.specs.Units.{IsOpenAt};
@@ -122,6 +123,7 @@ impl Lan {
         ensures code { IfOk result (λ code. may_answer rows.RegisterLogicalLan code ≡ true) }
         ensures replays { IfOk result (λ code.
             OpensAt unit list queue filters mac code self.old self.new) }
+        ensures macs { OnOk result (ReplaysOn unit (MovesMac (Some mac)) self.old self.new) }
         ensures beside { OnOk result (SameBeside unit self.old self.new) }
         ensures places { self.new.places ≡ self.old.places }
     {
@@ -191,6 +193,7 @@ impl Lan {
         ensures frames { self.new.frames ≡ self.old.frames }
         ensures counts { SameCounts self.old self.new }
         ensures closed { IfOk result (λ closed. IsTrue closed ↔ (¬ IsOpenAt self.new unit)) }
+        ensures macs { MovesMac None (replay_at self.old unit) (replay_at self.new unit) }
         ensures beside { SameBeside unit self.old self.new }
         ensures places { self.new.places ≡ self.old.places }
     {

@@ -1,10 +1,13 @@
 // What a script line does at a LAN unit.
 ghost use Rattle.std.specs.Prelude.{◌≡◌, IfOk, IsSome, OnOk, false, true};
 ghost use Rattle.boot_text.specs.Sound.{IsInRange};
+ghost use Rattle.lan_script.specs.Buffers.{PostsStep};
 ghost use Rattle.lan_script.specs.LineSays.{SendsAs, TellsNoFrame};
+ghost use Rattle.lan_script.specs.OwnMac.{StepsMac};
 ghost use Rattle.lan_script.specs.PortCounts.{CountsStep, SameCounts, TellsNoCount};
 ghost use Rattle.lan_script.specs.Replayed.{IsFirst, Replays, SameBeside, SameReplays};
 ghost use Rattle.lan_script.specs.Seats.{TellsOfPort, TellsOfRegion, is_for_port, is_in_region, seat_at};
+ghost use Rattle.lan_script.specs.Taking.{StaysWithin};
 ghost use Rattle.lan_script.specs.Values.{SameValues, SameValuesBeside, is_put};
 ghost use Rattle.unit_region.specs.Kept.{KeepsWindow};
 
@@ -81,6 +84,10 @@ impl Lan {
         ensures sends { IfOk result (λ step. SendsAs unit step self.old self.new) }
         ensures counts { IfOk result (λ step.
             CountsStep unit line.now.verb done step self.old self.new) }
+        ensures posts { IfOk result (λ step.
+            PostsStep unit line.now.verb done step self.old self.new) }
+        ensures within { IfOk result (StaysWithin line.now.verb done) }
+        ensures macs { IfOk result (λ step. StepsMac unit line.now.verb step self.old self.new) }
         ensures told { IfOk result TellsOfPort }
         ensures replays { IsFirst line.now.verb done → IfOk result (λ step.
             Replays unit line.now.verb step self.old self.new) }
@@ -114,6 +121,7 @@ impl Lan {
         ensures told { IfOk result TellsOfPort }
         ensures replays { IfOk result (λ step.
             Replays unit Verb.Open step self.old self.new) }
+        ensures macs { IfOk result (λ step. StepsMac unit Verb.Open step self.old self.new) }
         ensures beside { OnOk result (SameBeside unit self.old self.new) }
         ensures places { self.new.places ≡ self.old.places }
     {

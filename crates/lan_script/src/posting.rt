@@ -7,7 +7,9 @@ ghost use Rattle.hcall_table.specs.declared.hcall.Hcall.TheVariants as rows;
 ghost use Rattle.vio_trace.specs.declared.outcome.Outcome.TheVariants as outcomes;
 ghost use Rattle.lan_script.specs.declared.lines.PortStep.TheVariants as steps;
 ghost use Rattle.lan_script.specs.declared.seat.PortSeat.{PortSeat};
+ghost use Rattle.lan_script.specs.Buffers.{AddsAt, AddsBuffer, PostsStep};
 ghost use Rattle.lan_script.specs.LineSays.{TellsNoFrame};
+ghost use Rattle.lan_script.specs.OwnMac.{SameSettings};
 ghost use Rattle.lan_script.specs.PortCounts.{CountsOn, CountsStep, counts, posted_on};
 ghost use Rattle.lan_buffers.specs.Buffer.{IsBuffer, buffer_address, buffer_len, is_valid};
 ghost use Rattle.lan_script.specs.PortReplay.{IsBufferLen};
@@ -46,7 +48,10 @@ impl Lan {
         ensures frames { self.new.frames ≡ self.old.frames }
         ensures counts { IfOk result (λ step.
             CountsStep unit (verbs.Post at len count) done step self.old self.new) }
+        ensures posts { IfOk result (λ step.
+            PostsStep unit (verbs.Post at len count) done step self.old self.new) }
         ensures told { IfOk result TellsOfPort }
+        ensures macs { OnOk result (SameSettings unit self.old self.new) }
         ensures replays { done ≡ 0 → IfOk result (λ step.
             Replays unit (verbs.Post at len count) step self.old self.new) }
         ensures beside { OnOk result (SameBeside unit self.old self.new) }
@@ -82,6 +87,8 @@ impl Lan {
             CountsOn unit (counts 0 0) (posted_on code) self.old self.new) }
         ensures replays { IfOk result (λ code.
             ReplaysOn unit (AddSays len (IsBufferLen len) code) self.old self.new) }
+        ensures posts { IfOk result (λ code. code ≡ Hrc.Success
+            → AddsAt unit address len self.old self.new) }
         ensures fits { IfSome address (λ at. FitsOne self.old unit at len
             → IfOk result (λ code. code ≡ Hrc.Success)) }
         ensures grants { GrantsAll self.old unit → OnOk result (GrantsAll self.new unit) }
@@ -137,6 +144,8 @@ impl Lan {
         ensures frames { self.new.frames ≡ self.old.frames }
         ensures counts { IfOk result (λ code.
             CountsOn unit (counts 0 0) (posted_on code) self.old self.new) }
+        ensures posts { IfOk result (λ code. code ≡ Hrc.Success
+            → AddsBuffer unit descriptor self.old self.new) }
         ensures code { IfOk result (λ code. may_answer rows.AddLogicalLanBuffer code ≡ true) }
         ensures replays { IfOk result (λ code. ReplaysOn unit
             (AddSays (buffer_len descriptor) (IsBuffer descriptor) code) self.old self.new) }
@@ -163,7 +172,8 @@ fn lies_within(size: u64, address: u64, len: u64) -> bool
 
 // Gives the address of a buffer, if it is a number of 64 bits.
 fn buffer_at(at: u64, len: u64, number: u64) -> Option<u64>
-    ensures { at + len * number < 2 ^ 64 → result ≡ Some (at + len * number) }
+    ensures some { at + len * number < 2 ^ 64 → result ≡ Some (at + len * number) }
+    ensures is { IfSome result (λ address. address ≡ at + len * number) }
 {
     at.checked_add(len.checked_mul(number)?)
 }

@@ -1,6 +1,7 @@
 // A LAN unit as a boot text gives it.
 ghost use Rattle.std.specs.Prelude.{◌≡◌, ◌<◌, ◌^◌, ◌*◌, true};
 ghost use Rattle.lan_buffers.specs.Buffer.{buffer_address, buffer_len, is_valid};
+ghost use Rattle.lan_script.specs.Buffers.{descriptor_of};
 ghost use Rattle.lan_script.specs.Opening.{plan_of};
 
 use lan_switch::PortPlan;
@@ -63,6 +64,7 @@ pub(crate) fn descriptor(address: u64, len: u64) -> u64
     ensures valid { is_valid result ≡ true }
     ensures len { buffer_len result ≡ len }
     ensures address { buffer_address result ≡ address }
+    ensures exact { result ≡ descriptor_of address len }
 {
     VALID + ADDRESSES * len + address
 }

@@ -12,8 +12,10 @@ ghost use Rattle.lan_script.specs.Replayed.{AddsBytes, GoesOut, GrantsAll, HasPa
 ghost use Rattle.lan_script.specs.Seats.{TellsOfPort, seat_at};
 ghost use Rattle.lan_script.specs.Values.{SameValues};
 ghost use Rattle.lan_script.specs.LineFrame.{line_frame};
-ghost use Rattle.lan_script.specs.LineSays.{SaysSent, SendsAs, SentAs};
+ghost use Rattle.lan_script.specs.LineSays.{KeepsFrame, SaysSent, SendsAs, SentAs};
+ghost use Rattle.lan_script.specs.OwnMac.{SameSettings};
 ghost use Rattle.lan_script.specs.PortCounts.{SameCounts, TellsNoCount};
+ghost use Rattle.lan_script.specs.Targets.{OffersMade};
 
 use crate::frames::frame_row;
 use crate::lan::{Lan, place_of};
@@ -55,6 +57,7 @@ impl Lan {
         ensures counts { OnOk result (SameCounts self.old self.new) }
         ensures still { IfOk result TellsNoCount }
         ensures told { IfOk result TellsOfPort }
+        ensures macs { OnOk result (SameSettings unit self.old self.new) }
         ensures replays { IfOk result (λ step.
             Replays unit (verbs.Send to len seed at) step self.old self.new) }
         ensures beside { OnOk result (SameBeside unit self.old self.new) }
@@ -146,6 +149,7 @@ impl Lan {
         ensures frames { self.new.frames ≡ self.old.frames }
         ensures counts { OnOk result (SameCounts self.old self.new) }
         ensures short { self.new.whole ≡ false }
+        ensures targets { IfOk result (OffersMade unit self.old) }
         ensures code { IfOk result (λ made. may_answer rows.SendLogicalLan made.code ≡ true) }
         ensures owes { IfOk result (Owes self.new unit) }
         ensures replays { OnOk result (SameReplays self.old self.new) }
@@ -168,8 +172,7 @@ impl Lan {
         requires short { self.old.whole ≡ false }
         requires owes { Owes self.old unit made }
         ensures seats { self.new.seats ≡ self.old.seats }
-        ensures sends { IfOk result (λ sent.
-            SentAs unit sent.code sent.number self.old self.new) }
+        ensures keeps { OnOk result (KeepsFrame unit made made.frame self.old self.new) }
         ensures counts { OnOk result (SameCounts self.old self.new) }
         ensures code { IfOk result (λ sent. sent.code ≡ made.code) }
         ensures number { IfOk result (λ sent. sent.number ≡ made.frame) }

@@ -4,7 +4,7 @@ ghost use Rattle.boot_text.specs.declared.verb.Verb.TheVariants as verbs;
 ghost use Rattle.lan_buffers.specs.Answers.{IfFrame};
 ghost use Rattle.lan_script.specs.LineSays.{TellsNoFrame};
 ghost use Rattle.lan_script.specs.PortCounts.{CountsOn, CountsStep, TakesSome, counts};
-ghost use Rattle.lan_script.specs.Taking.{harvested_on, taken_on};
+ghost use Rattle.lan_script.specs.Taking.{TakesUpTo, harvested_on, taken_on};
 ghost use Rattle.lan_script.specs.Replayed.{SameReplays};
 ghost use Rattle.lan_script.specs.Resting.{IsNoHarvest, OnNothing, OnQuiet};
 ghost use Rattle.lan_script.specs.Seats.{TellsOfPort, seat_at};
@@ -41,6 +41,7 @@ impl Lan {
         ensures frames { self.new.frames ≡ self.old.frames }
         ensures counts { IfOk result (λ step.
             CountsStep unit (verbs.Take count) done step self.old self.new) }
+        ensures within { IfOk result (TakesUpTo count done) }
         ensures replays { OnOk result (SameReplays self.old self.new) }
         ensures places { self.new.places ≡ self.old.places }
         ensures told { IfOk result TellsOfPort }

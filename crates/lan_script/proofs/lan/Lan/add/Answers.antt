@@ -3,6 +3,7 @@ use Rattle.tce_window.specs.PlainPort.{known_of}
 use Rattle.lan_switch.specs.Calls.{Adds}
 use Rattle.lan_script.specs.declared.seat.PortSeat.{PortSeat}
 use Rattle.lan_script.specs.Seats.{seat_at}
+use Rattle.lan_script.proofs.Buffering.{buffer_behind, made_buffer}
 use Rattle.lan_script.proofs.Called.{adds_same}
 use Rattle.lan_script.proofs.CarriedOn.{keeps_through}
 use Rattle.lan_script.proofs.Lans.{lan_back, lan_made, place_after, window_free, window_there}
@@ -57,6 +58,13 @@ returns-clause-counts c =
     (Adds c.args.descriptor false none_found (known_of c.take-own.result) (known_of c.add-answer.new.window) c.add-answer.result) (posted_on c.add-answer.result.code)
     c.self.view_is c.self.invariant there c.add-answer.ensures.made
     (λ before after begun h. adds_more c.args.descriptor false none_found (known_of c.take-own.result) (known_of c.add-answer.new.window) c.add-answer.result before after begun h))
+
+pub returns-clause-posts : goal.returns-clause-posts
+returns-clause-posts c = λ e.
+    buffer_behind c.args.unit c.args.descriptor c.args.self.now c.make_room.new.self _ c.make_room.ensures.counts
+    (made_buffer _ c.make_room.new.self c.add-answer.new.self c.args.unit c.add-answer.result c.args.descriptor false none_found (known_of c.take-own.result)
+    (known_of c.add-answer.new.window) c.self.view_is c.self.invariant
+    (subst (λ (l : List PortSeat). IsSome (seat_at l c.args.unit)) (sym c.make_room.ensures.seats) c.requires.there) c.add-answer.ensures.made e)
 
 pub returns-clause-replays : goal.returns-clause-replays
 returns-clause-replays c =

@@ -36,8 +36,8 @@ invariant_of-self-2 c =
       map_long (λ rows. rows.items) c.self.inside.frames.items,
     )) c.index_mut.ensures.value c.in_ok-push.ensures.items
 
-pub returns-clause-sends : goal.returns-clause-sends
-returns-clause-sends c =
+pub returns-clause-keeps : goal.returns-clause-keeps
+returns-clause-keeps c =
     let at = c.place_of-place.ensures.place ∙ ap (λ (l : List PortSeat). seat_place c.args.unit l) c.deref.ensures.value in
     keeps_sent (λ rows. rows.items) _ c.args.self.now c.self.inside.frames.items c.args.unit c.args.made c.in-Some.number c.in_ok-row.row
     c.place_of-place.result c.index_mut.result.now c.push.new.self _ c.self.view_is c.self.invariant c.requires.there refl c.in-Some.is c.in_ok-row.ensures at
@@ -61,4 +61,4 @@ returns-clause-adds c =
 pub returns-clause-replays : goal.returns-clause-replays
 returns-clause-replays c =
     kept_replay c.args.unit c.args.made c.in-Some.number c.args.self.now _ c.requires.owes c.in-Some.is (ap (λ (l : LanValue). l.stations) c.self.view_is)
-    (returns-clause-sends c) (ap (λ (l : LanValue). l.seats) c.self.view_is) (returns-clause-adds c)
+    (returns-clause-keeps c) (ap (λ (l : LanValue). l.seats) c.self.view_is) (returns-clause-adds c)

@@ -9,6 +9,7 @@ use Rattle.lan_script.proofs.ReplayedSent.{sends_stay}
 use Rattle.lan_script.proofs.ReplayedSends.{goes_all}
 use Rattle.lan_script.proofs.ReplayedShown.{sends_shown}
 use Rattle.lan_script.proofs.ReplayedValues.{sends_values}
+use Rattle.lan_script.proofs.Targeting.{sends_targets}
 use Rattle.lan_script.proofs.lan.Lan.offer.Goals as goal
 
 abbrev none_found : ℕ → ℕ → Type 0
@@ -76,8 +77,8 @@ returns-clause-owes c =
 
 pub returns-clause-counts : goal.returns-clause-counts
 returns-clause-counts c =
-    sends_same _ c.args.self.now c.send-answer.new.self c.args.unit c.args.parts.now false none_found (known_of c.take-own.result) (known_of c.send-answer.new.window)
-    (windows_of false facts_in FoundIn c.take-own.new.self c.send-answer.new.others) c.send-answer.result c.self.view_is c.send-answer.ensures.sent
+    sends_same _ c.args.self.now _ c.send-answer.new.self c.args.unit c.args.parts.now false none_found (known_of c.take-own.result) (known_of c.send-answer.new.window)
+    (windows_of false facts_in FoundIn c.take-own.new.self c.send-answer.new.others) c.send-answer.result c.self.view_is refl c.send-answer.ensures.sent
 
 pub returns-clause-replays : goal.returns-clause-replays
 returns-clause-replays c =
@@ -110,3 +111,9 @@ returns-clause-shown c =
     sends_shown _ c.args.self.now c.args.unit c.send-answer.new.self c.args.parts.now none_found c.take-own.result c.send-answer.new.window
     (windows_of false facts_in FoundIn c.take-own.new.self c.send-answer.new.others) c.send-answer.result c.self.view_is c.take-own.ensures.window
     c.send-answer.ensures.window c.send-answer.ensures.sent
+
+pub returns-clause-targets : goal.returns-clause-targets
+returns-clause-targets c =
+    sends_targets _ c.args.self.now c.send-answer.new.self c.args.unit c.args.parts.now false none_found (known_of c.take-own.result)
+    (known_of c.send-answer.new.window) (windows_of false facts_in FoundIn c.take-own.new.self c.send-answer.new.others) c.send-answer.result c.self.view_is
+    (whole_sends _ c.args.self.now c.args.unit c.self.view_is c.self.invariant c.requires.whole c.requires.there).ascending c.self.invariant.begun c.send-answer.ensures.sent

@@ -2,9 +2,11 @@ use Rattle.std.proofs.Common.{◌≡◌, ◌∙◌, ◌+◌, suc, arith, min, sy
 use Rattle.boot_text.specs.declared.verb.Verb.TheVariants as verbs
 use Rattle.lan_script.specs.PortCounts.{CountsStep, counts}
 use Rattle.lan_script.specs.declared.lines.PortStep.{PortStep}
+use Rattle.lan_script.proofs.Buffering.{adds_ended, adds_more, adds_refused}
 use Rattle.lan_script.proofs.CountsKept.{posted_all, posted_more}
 use Rattle.lan_script.specs.PortReplay.{IsBufferLen}
 use Rattle.lan_script.specs.Replayed.{HasPosted, ReplaysOn}
+use Rattle.lan_script.proofs.OwnMacs.{adds_settings}
 use Rattle.lan_script.proofs.ReplayedLines.{add_allowed, post_refused, refused_counts}
 use Rattle.lan_script.proofs.ReplayedFits.{next_fits}
 use Rattle.vio_num.specs.declared.hypervisor.Hrc.TheVariants.{Success}
@@ -25,9 +27,14 @@ loop-posted-preserved c = record {
   first = λ e none. absurd (add_allowed c.args.unit c.args.len c.loop-posted.posted c.in_ok-code.code c.args.self.now c.loop-posted.self c.post_one.new.self
       c.in-Success.is (c.loop-posted.invariant.replays e) c.in_ok-code.ensures.replays none);
   grants = λ all. c.in_ok-code.ensures.grants (c.loop-posted.invariant.grants all);
+  settings = adds_settings c.args.unit c.args.len (IsBufferLen c.args.len) c.in_ok-code.code c.loop-posted.self c.post_one.new.self c.in_ok-code.ensures.replays
+      ∙ c.loop-posted.invariant.settings;
   within = λ e. omega (arith, c.loop-posted-test.true);
   beside = λ other e. c.in_ok-code.ensures.replays.beside other e ∙ c.loop-posted.invariant.beside other e;
   values = λ v e. c.in_ok-code.ensures.values v e ∙ c.loop-posted.invariant.values v e;
+  adds = adds_more c.args.unit c.args.at c.args.len c.args.done c.args.count c.loop-posted.posted c.buffer_at.result c.in_ok-code.code c.args.self.now
+      c.loop-posted.self c.post_one.new.self c.in-Success.is c.loop-posted-test.true c.buffer_at.ensures.is c.in_ok-code.ensures.posts
+      c.loop-posted.invariant.adds;
   counted = posted_more c.args.unit c.args.done c.args.count c.loop-posted.posted c.in_ok-code.code c.args.self.now c.loop-posted.self c.post_one.new.self
       c.in-Success.is c.loop-posted-test.true c.loop-posted.invariant.counted c.in_ok-code.ensures.counts;
 }
@@ -38,6 +45,11 @@ returns-clause-counts c =
     (sym c.ended-2.ensures.tells)
     (posted_all c.args.unit (counts (min c.args.done c.args.count) 0) c.args.count c.loop-posted.posted c.args.self.now c.loop-posted.self (omega arith)
     c.loop-posted.invariant.counted)
+
+pub returns-clause-posts : goal.returns-clause-posts
+returns-clause-posts c =
+    adds_ended c.args.unit c.args.at c.args.len c.args.done c.args.count c.loop-posted.posted c.args.count Success c.ended-2.result c.args.self.now
+    c.loop-posted.self c.ended-2.ensures.tells (omega arith) c.loop-posted.invariant.adds
 
 pub returns-in_default : goal.returns-in_default
 returns-in_default c =
@@ -52,14 +64,20 @@ returns-in_default c =
       counts = refused_counts c.args.unit (counts (min c.args.done c.args.count) 0) c.args.at c.args.len c.args.count c.loop-posted.posted c.in_ok-code.code
           c.ended.result c.args.self.now c.loop-posted.self c.post_one.new.self tells not c.loop-posted-test.true c.loop-posted.invariant.counted
           c.in_ok-code.ensures.counts;
+      posts = adds_ended c.args.unit c.args.at c.args.len c.args.done c.args.count c.loop-posted.posted c.loop-posted.posted c.in_ok-code.code c.ended.result
+          c.args.self.now c.post_one.new.self tells (omega (arith, c.loop-posted-test.true))
+          (adds_refused c.args.unit _ _ c.in_ok-code.code c.args.self.now c.loop-posted.self c.post_one.new.self not c.in_ok-code.ensures.counts
+          c.loop-posted.invariant.adds);
       told = c.ended.ensures.told;
+      macs = adds_settings c.args.unit c.args.len (IsBufferLen c.args.len) c.in_ok-code.code c.loop-posted.self c.post_one.new.self c.in_ok-code.ensures.replays
+          ∙ c.loop-posted.invariant.settings;
       replays = λ e.
           post_refused c.args.unit c.args.at c.args.len c.args.count c.loop-posted.posted c.in_ok-code.code c.ended.result c.args.self.now c.loop-posted.self
           c.post_one.new.self tells not (c.loop-posted.invariant.first e) (c.loop-posted.invariant.replays e)
           c.in_ok-code.ensures.replays
           (λ seat is all. next_fits c.args.unit seat c.args.at c.args.len c.args.count c.loop-posted.posted c.in_ok-code.code c.buffer_at.result c.args.self.now
           c.loop-posted.self is all c.loop-posted.invariant.seats c.loop-posted.invariant.grants (c.loop-posted.invariant.replays e) c.loop-posted-test.true
-          c.buffer_at.ensures c.in_ok-code.ensures.fits);
+          c.buffer_at.ensures.some c.in_ok-code.ensures.fits);
       beside = λ other f. c.in_ok-code.ensures.replays.beside other f ∙ c.loop-posted.invariant.beside other f;
       values = λ v e. c.in_ok-code.ensures.values v e ∙ c.loop-posted.invariant.values v e;
     }

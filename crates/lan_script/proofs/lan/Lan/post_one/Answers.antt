@@ -1,6 +1,9 @@
 use Rattle.std.proofs.Common.{◌≡◌, ℕ, IfOk, IfSome, Option, sym, subst}
 use Rattle.vio_num.specs.declared.hypervisor.Hrc.TheVariants.{Success}
+use Rattle.lan_script.specs.Buffers.{AddsAt}
 use Rattle.lan_script.specs.Replayed.{FitsOne}
+use Rattle.lan_script.proofs.Buffering.{adds_there}
+use Rattle.lan_script.proofs.CountsKept.{adds_behind}
 use Rattle.lan_script.proofs.ReplayedFits.{fits_tail}
 use Rattle.lan_script.proofs.ReplayedValues.{then_values}
 use Rattle.lan_script.proofs.lan.Lan.post_one.Goals as goal
@@ -11,5 +14,14 @@ returns-in-Ok-clause-fits c =
     (fits_tail c.args.unit c.in-Some.address c.args.len c.descriptor.result c.add.result c.args.self.now c.write.new.self c.descriptor.ensures.valid
     c.descriptor.ensures.len c.descriptor.ensures.address c.write.ensures.replays c.write.ensures.seats c.write.ensures.grants c.add.ensures.fits)
 
+pub returns-in-Ok-clause-posts : goal.returns-in-Ok-clause-posts
+returns-in-Ok-clause-posts c =
+    subst (λ (o : Option ℕ). IfOk c.add.result (λ code. code ≡ Success → AddsAt c.args.unit o c.args.len c.args.self.now c.add.new.self)) (sym c.in-Some.is)
+    (adds_there c.args.unit c.in-Some.address c.args.len c.descriptor.result c.add.result c.args.self.now c.write.new.self c.add.new.self
+    c.descriptor.ensures.exact c.write.ensures.counts c.add.ensures.posts)
+
 pub returns-in-Ok-clause-values : goal.returns-in-Ok-clause-values
 returns-in-Ok-clause-values c = then_values c.args.self.now c.write.new.self c.add.new.self c.add.result c.write.ensures.values c.add.ensures.values
+
+pub returns-in-Ok-clause-counts : goal.returns-in-Ok-clause-counts
+returns-in-Ok-clause-counts c = adds_behind c.args.unit c.add.result c.args.self.now c.write.new.self c.add.new.self c.write.ensures.counts c.add.ensures.counts

@@ -1,7 +1,17 @@
+use Rattle.lan_script.proofs.CountsKept.{same_then}
 use Rattle.lan_script.proofs.ReplayedSends.{goes_kept, send_behind}
 use Rattle.lan_script.proofs.ReplayedShown.{kept_shown}
 use Rattle.lan_script.proofs.ReplayedValues.{kept_values}
+use Rattle.lan_script.proofs.Telling.{sent_kept}
 use Rattle.lan_script.proofs.lan.Lan.send.Goals as goal
+
+pub returns-clause-counts : goal.returns-clause-counts
+returns-clause-counts c = same_then c.keep.result c.args.self.now c.offer.new.self c.keep.new.self c.in_ok-made.ensures.counts c.keep.ensures.counts
+
+pub returns-clause-sends : goal.returns-clause-sends
+returns-clause-sends c =
+    sent_kept c.args.unit c.in_ok-made.made c.keep.result c.args.self.now c.offer.new.self c.keep.new.self c.offer.ensures.seats c.offer.ensures.frames
+    c.in_ok-made.ensures.targets c.in_ok-made.ensures.counts.grows c.keep.ensures.counts c.keep.ensures.keeps c.keep.ensures.code c.keep.ensures.number
 
 pub returns-clause-replays : goal.returns-clause-replays
 returns-clause-replays c =

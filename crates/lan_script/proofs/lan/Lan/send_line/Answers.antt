@@ -1,14 +1,19 @@
 use Rattle.std.proofs.Common.{ℕ, List, [], ◌∷◌, ◌∙◌, OnOk, arith, subst}
 use Rattle.lan_script.specs.Replayed.{Shows}
+use Rattle.lan_script.proofs.CountsKept.{same_on}
+use Rattle.lan_script.proofs.OwnMacs.{same_settings, sent_settings}
 use Rattle.lan_script.proofs.ReplayedLines.{one_part, send_goes}
 use Rattle.lan_script.proofs.Telling.{sends_said, sent_behind}
 use Rattle.lan_script.proofs.lan.Lan.send_line.Goals as goal
+
+pub returns-clause-counts : goal.returns-clause-counts
+returns-clause-counts c = same_on c.args.self.now c.write.new.self c.send.new.self c.write.ensures.counts c.in_ok-sent.ensures.counts
 
 pub returns-clause-sends : goal.returns-clause-sends
 returns-clause-sends c =
     sends_said c.args.unit c.in_ok-sent.sent.code c.in_ok-sent.sent.number c.said.result c.args.self.now c.send.new.self c.said.ensures.says
     (sent_behind c.args.unit c.in_ok-sent.sent.code c.in_ok-sent.sent.number c.args.self.now c.write.new.self c.send.new.self c.write.ensures.seats
-    c.write.ensures.frames c.in_ok-sent.ensures.sends)
+    c.write.ensures.frames c.write.ensures.replays c.in_ok-sent.ensures.sends)
 
 pub returns-clause-replays : goal.returns-clause-replays
 returns-clause-replays c =
@@ -28,3 +33,8 @@ returns-clause-replays c =
 
 pub returns-clause-values : goal.returns-clause-values
 returns-clause-values c = λ v e. c.in_ok-sent.ensures.values v e ∙ c.write.ensures.values v e
+
+pub returns-clause-macs : goal.returns-clause-macs
+returns-clause-macs c =
+    sent_settings c.args.unit c.in_ok-sent.sent.code c.in_ok-sent.sent.number c.write.new.self c.send.new.self c.in_ok-sent.ensures.replays
+    ∙ same_settings c.args.unit c.args.self.now c.write.new.self c.write.ensures.replays

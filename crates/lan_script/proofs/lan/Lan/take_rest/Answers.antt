@@ -24,3 +24,7 @@ returns-in-Nothing-clause-nothing c = λ is.
 pub returns-clause-nothing : goal.returns-clause-nothing
 returns-clause-nothing c = λ is.
     absurd (omega (arith, c.loop-entry.invariant.first is, c.loop-entry-test.false, c.slots-entry-end.ensures.least))
+
+pub returns-in-Nothing-clause-counts : goal.returns-in-Nothing-clause-counts
+returns-in-Nothing-clause-counts c =
+    takes_on c.args.unit c.in_ok-take_one.field-0 c.args.self.now c.loop-entry.self c.take_one.new.self c.loop-entry.invariant.taken c.in_ok-take_one.ensures.counts

@@ -1,0 +1,71 @@
+use Rattle.std.proofs.Common.{◌≡◌, ap}
+use Rattle.lan_script.proofs.Buffering.{counts_ok, is_posting, not_posting, other_ok, other_posts, same_posted, take_ok}
+use Rattle.lan_script.specs.Replayed.{replay_at}
+use Rattle.lan_script.proofs.OwnMacs.{change_as, close_steps, closes_mac, multicasts_mac, open_ok, replays_any, replays_ok, same_ok}
+use Rattle.lan_script.proofs.lan.Lan.step.Goals as goal
+
+pub returns-in-Open-clause-posts : goal.returns-in-Open-clause-posts
+returns-in-Open-clause-posts c =
+    other_ok c.args.unit c.args.line.now.verb c.args.done c.open_line.result c.args.self.now c.open_line.new.self (ap is_posting c.in-Open.is) c.open_line.ensures.counts
+
+pub returns-in-Close-clause-posts : goal.returns-in-Close-clause-posts
+returns-in-Close-clause-posts c =
+    other_posts c.args.unit c.args.line.now.verb c.args.done c.coded.result c.args.self.now c.free.new.self (ap is_posting c.in-Close.is)
+    (same_posted c.args.unit c.args.self.now c.free.new.self c.free.ensures.counts)
+
+pub returns-in-Send-clause-posts : goal.returns-in-Send-clause-posts
+returns-in-Send-clause-posts c =
+    other_ok c.args.unit c.args.line.now.verb c.args.done c.send_line.result c.args.self.now c.send_line.new.self (ap is_posting c.in-Send.is) c.send_line.ensures.counts
+
+pub returns-in-Take-clause-posts : goal.returns-in-Take-clause-posts
+returns-in-Take-clause-posts c =
+    take_ok c.args.unit c.args.line.now.verb c.in-Take.count c.args.done c.take_line.result c.args.self.now c.take_line.new.self c.in-Take.is
+    c.take_line.ensures.within c.take_line.ensures.counts
+
+pub returns-in-ChangeMac-clause-posts : goal.returns-in-ChangeMac-clause-posts
+returns-in-ChangeMac-clause-posts c =
+    other_posts c.args.unit c.args.line.now.verb c.args.done c.coded-in-ChangeMac.result c.args.self.now c.change_mac.new.self (ap is_posting c.in-ChangeMac.is)
+    (same_posted c.args.unit c.args.self.now c.change_mac.new.self c.change_mac.ensures.counts)
+
+pub returns-in-Multicast-clause-posts : goal.returns-in-Multicast-clause-posts
+returns-in-Multicast-clause-posts c =
+    other_posts c.args.unit c.args.line.now.verb c.args.done c.coded-in-Multicast.result c.args.self.now c.multicast.new.self (ap is_posting c.in-Multicast.is)
+    (same_posted c.args.unit c.args.self.now c.multicast.new.self c.multicast.ensures.counts)
+
+pub returns-in_default-clause-posts : goal.returns-in_default-clause-posts
+returns-in_default-clause-posts c =
+    other_ok c.args.unit c.args.line.now.verb c.args.done c.step_in_region.result c.args.self.now c.step_in_region.new.self
+    (not_posting c.args.line.now.verb (λ at len count is. c.in_default.not-Post at len count is)) (counts_ok c.step_in_region.result c.args.self.now c.step_in_region.new.self c.step_in_region.ensures.counts)
+
+pub returns-in-Open-clause-macs : goal.returns-in-Open-clause-macs
+returns-in-Open-clause-macs c =
+    open_ok c.args.unit c.args.line.now.verb c.open_line.result c.args.self.now c.open_line.new.self c.in-Open.is c.open_line.ensures.macs
+
+pub returns-in-Close-clause-macs : goal.returns-in-Close-clause-macs
+returns-in-Close-clause-macs c =
+    close_steps c.args.unit c.args.line.now.verb c.coded.result c.args.self.now c.free.new.self
+    (closes_mac _ _ (replay_at c.args.self.now c.args.unit) (replay_at c.free.new.self c.args.unit) c.free.ensures.replays.says)
+
+pub returns-in-Post-clause-macs : goal.returns-in-Post-clause-macs
+returns-in-Post-clause-macs c = same_ok c.args.unit c.args.line.now.verb c.post_line.result c.args.self.now c.post_line.new.self c.post_line.ensures.macs
+
+pub returns-in-Send-clause-macs : goal.returns-in-Send-clause-macs
+returns-in-Send-clause-macs c = same_ok c.args.unit c.args.line.now.verb c.send_line.result c.args.self.now c.send_line.new.self c.send_line.ensures.macs
+
+pub returns-in-Take-clause-macs : goal.returns-in-Take-clause-macs
+returns-in-Take-clause-macs c = replays_ok c.args.unit c.args.line.now.verb c.take_line.result c.args.self.now c.take_line.new.self c.take_line.ensures.replays
+
+pub returns-in-ChangeMac-clause-macs : goal.returns-in-ChangeMac-clause-macs
+returns-in-ChangeMac-clause-macs c =
+    change_as c.args.unit c.args.line.now.verb c.in-ChangeMac.mac c.change_mac.result c.coded-in-ChangeMac.result c.args.self.now c.change_mac.new.self
+    c.in-ChangeMac.is c.coded-in-ChangeMac.ensures.coded c.change_mac.ensures.replays
+
+pub returns-in-Multicast-clause-macs : goal.returns-in-Multicast-clause-macs
+returns-in-Multicast-clause-macs c =
+    close_steps c.args.unit c.args.line.now.verb c.coded-in-Multicast.result c.args.self.now c.multicast.new.self
+    (multicasts_mac _ _ _ (replay_at c.args.self.now c.args.unit) (replay_at c.multicast.new.self c.args.unit) c.multicast.ensures.replays.says)
+
+pub returns-in_default-clause-macs : goal.returns-in_default-clause-macs
+returns-in_default-clause-macs c =
+    replays_ok c.args.unit c.args.line.now.verb c.step_in_region.result c.args.self.now c.step_in_region.new.self
+    (replays_any c.step_in_region.result c.args.self.now c.step_in_region.new.self c.step_in_region.ensures.replays)
