@@ -1,30 +1,87 @@
 -- The data-in of a unit's rows were delivered, but for those of the row in service: over a turn of the unit, of another, and at rest.
-use Rattle.std.proofs.Common.{◌≡◌, ◌≢◌, ◌⊎◌, inl, inr, ◌++◌, ℕ, zero, suc, Bool, false, All, List, [], ◌∷◌, Option, Some, None, IfSome, slice_get, slice_set, refl, sym, ◌∙◌, ap, subst}
+use Rattle.std.proofs.Common.{◌≡◌, ◌≢◌, ◌⊎◌, inl, inr, ◌++◌, ℕ, zero, suc, Bool, true, false, All, List, [], ◌∷◌, Option, Some, None, IfSome, slice_get, slice_set, refl, sym, ◌∙◌, ap, subst, arith}
 use Rattle.std.proofs.lemmas.List.Elements.{All-head, All-tail}
 use Rattle.std.proofs.lemmas.Option.{IfSome_then}
 use Rattle.vio_num.specs.declared.history.Served.{Served}
 use Rattle.vio_num.specs.declared.names.UnitId.{UnitId}
 use Rattle.srp_iu.specs.declared.buffer.Desc.{Desc}
 use Rattle.tce_window.specs.PortState.{PortState}
+use Rattle.rdma_copy.specs.declared.copy.CopyRecord.{CopyRecord}
 use Rattle.block_server.specs.Answering.{OnlyRowsOf, StaysRow}
-use Rattle.block_server.specs.Cargo.{AreIdle, HasCargo, HasToSend, IsAccounted, IsLoaded, IsToSend, Load, cargo, cargo_at, data_bytes, is_loaded, is_moving, load_at, rows_of, unanswered}
-use Rattle.block_server.specs.Cargo.Load.{fetching, given, none, sending}
-use Rattle.block_server.specs.Carried.{IsDelivered, IsOutFetched}
+use Rattle.block_server.specs.Cargo.{AreIdle, AreShown, HasCargo, HasRuns, HasToSend, IsAccounted, IsLoaded, IsToSend, Load, Pages, Sight, bytes_seen, cargo, cargo_at, data_bytes, first_command, is_loaded, is_moving, load_at, pages_in, rows_of, sight, unanswered}
+use Rattle.block_server.specs.Cargo.Load.{fetching, given, none, sending, tabled}
+use Rattle.block_server.specs.Carried.{AreFetched, IsDelivered, IsOutFetched}
 use Rattle.block_server.specs.Causes.{Hearing, Told, told_to}
 use Rattle.block_server.specs.declared.records.Records.{Records}
+use Rattle.block_server.specs.declared.service.Service.{Service}
+use Rattle.block_server.specs.declared.service.Stage.{Stage}
+use Rattle.block_server.specs.declared.service.Stage.TheVariants.{Answer, DataIn, DataOut, Entry, Given, InTable, OutTable, Start}
 use Rattle.block_server.specs.declared.unit.Unit.{Unit}
 use Rattle.block_server.proofs.Agreeing.{if_at, some_at}
 use Rattle.block_server.proofs.Cargoes.{cargo_is, cargo_none, to_none}
 use Rattle.block_server.proofs.HandRows.{row_from, row_in}
+use Rattle.block_server.proofs.Hands.{to_send}
 use Rattle.block_server.proofs.Units.{get_set_same}
 
+-- where nobody asks for runs, neither the copies nor the command count
+pub unasked : (told : Told → Bool) (id : UnitId) (service : Service) (shown shown' : Sight) (h : List Served) → shown'.pages.bytes ≡ shown.pages.bytes
+    → IsAccounted told false (cargo_at id service shown h) → IsAccounted told false (cargo_at id service shown' h)
+unfolding cargo_at to_send
+unasked told id service shown shown' h same = by service.stage service.out.list.items service.inn.list.items service.given.items
+  where
+    by : (stage : Stage) (outs inns : List Desc) (bytes : List ℕ) → IsAccounted told false (cargo id shown.pages (load_at shown.command stage outs inns bytes) (rows_of h))
+        → IsAccounted told false (cargo id shown'.pages (load_at shown'.command stage outs inns bytes) (rows_of h))
+    by Start outs inns bytes is = record { rows = is.rows; outs = is.outs; load = tt; runs = λ never. absurd (cc (never)) }
+    by OutTable outs inns bytes is = record { rows = is.rows; outs = is.outs; load = tt; runs = λ never. absurd (cc (never)) }
+    by InTable outs inns bytes is = record { rows = is.rows; outs = is.outs; load = tt; runs = λ never. absurd (cc (never)) }
+    by (Answer outcome) outs inns bytes is = record { rows = is.rows; outs = is.outs; load = tt; runs = λ never. absurd (cc (never)) }
+    by (Entry outcome) outs inns bytes is = record { rows = is.rows; outs = is.outs; load = tt; runs = λ never. absurd (cc (never)) }
+    by (DataOut cursor) outs inns bytes is = record {
+      rows = is.rows;
+      outs = is.outs;
+      load = record { placed = is.load.placed; brought = subst (AreFetched (told_to told id) outs cursor.done) (sym same) is.load.brought };
+      runs = λ never. absurd (cc (never));
+    }
+    by (Given row reply) outs inns bytes is = record {
+      rows = is.rows;
+      outs = is.outs;
+      load = to_send (told_to told id) id shown.pages shown'.pages (given row inns bytes) (given row inns bytes) (rows_of h) row inns bytes is.load;
+      runs = λ never. absurd (cc (never));
+    }
+    by (DataIn row reply cursor) outs inns bytes is = record {
+      rows = is.rows;
+      outs = is.outs;
+      load = record {
+        to_send = to_send (told_to told id) id shown.pages shown'.pages (sending row cursor inns bytes) (sending row cursor inns bytes) (rows_of h) row inns bytes is.load.to_send;
+        placed = is.load.placed;
+        sent = is.load.sent;
+        shows = subst (λ (s : ℕ → ℕ). AreShown s bytes) (sym same) is.load.shows;
+      };
+      runs = λ never. absurd (cc (never));
+    }
+
 -- a turn of the unit
-pub cargo_turn : (told : Told → Bool) (units : List Unit) (n : ℕ) (unit unit' : Unit) (own own' : PortState) (records records' : Records) → slice_get units n ≡ Some unit
-    → (IsAccounted told (cargo_at unit.id unit.service (data_bytes own) records.history.items) → IsAccounted told (cargo_at unit'.id unit'.service (data_bytes own') records'.history.items))
+pub cargo_turn : (told : Told → Bool) (units : List Unit) (n : ℕ) (unit unit' : Unit) (own own' : PortState) (copies copies' : List CopyRecord) (records records' : Records)
+    → slice_get units n ≡ Some unit
+    → (IsAccounted told false (cargo_at unit.id unit.service (sight (first_command unit.pending.items) (pages_in own copies)) records.history.items)
+    → IsAccounted told false (cargo_at unit'.id unit'.service (sight (first_command unit'.pending.items) (pages_in own' copies')) records'.history.items))
     → HasCargo told units n own records → HasCargo told (slice_set units n unit') n own' records'
-cargo_turn told units n unit unit' own own' records records' there step has =
-    if_at (slice_get (slice_set units n unit') n) unit' (λ u. IsAccounted told (cargo_at u.id u.service (data_bytes own') records'.history.items)) (get_set_same units n unit unit' there)
-    (step (some_at (slice_get units n) unit (λ u. IsAccounted told (cargo_at u.id u.service (data_bytes own) records.history.items)) there has))
+unfolding pages_in
+cargo_turn told units n unit unit' own own' copies copies' records records' there step has =
+    if_at (slice_get (slice_set units n unit') n) unit' (λ u. IsAccounted told false (cargo_at u.id u.service (bytes_seen own') records'.history.items)) (get_set_same units n unit unit' there)
+    (unasked told unit'.id unit'.service (sight (first_command unit'.pending.items) (pages_in own' copies')) (bytes_seen own') records'.history.items refl
+    (step (unasked told unit.id unit.service (bytes_seen own) (sight (first_command unit.pending.items) (pages_in own copies)) records.history.items refl
+    (some_at (slice_get units n) unit (λ u. IsAccounted told false (cargo_at u.id u.service (bytes_seen own) records.history.items)) there has))))
+
+pub runs_turn : (told : Told → Bool) (units : List Unit) (n : ℕ) (unit unit' : Unit) (own own' : PortState) (copies copies' : List CopyRecord) (records records' : Records)
+    → slice_get units n ≡ Some unit
+    → (IsAccounted told true (cargo_at unit.id unit.service (sight (first_command unit.pending.items) (pages_in own copies)) records.history.items)
+    → IsAccounted told true (cargo_at unit'.id unit'.service (sight (first_command unit'.pending.items) (pages_in own' copies')) records'.history.items))
+    → HasRuns told units n own copies records → HasRuns told (slice_set units n unit') n own' copies' records'
+runs_turn told units n unit unit' own own' copies copies' records records' there step has =
+    if_at (slice_get (slice_set units n unit') n) unit'
+    (λ u. IsAccounted told true (cargo_at u.id u.service (sight (first_command u.pending.items) (pages_in own' copies')) records'.history.items)) (get_set_same units n unit unit' there)
+    (step (some_at (slice_get units n) unit (λ u. IsAccounted told true (cargo_at u.id u.service (sight (first_command u.pending.items) (pages_in own copies)) records.history.items)) there has))
 
 -- no unit, and one more that has nothing to be copied
 pub none_idle : (units : List Unit) → units ≡ [] → AreIdle units
@@ -44,11 +101,16 @@ more_idle units unit all idle number = idle_at units unit idle number (all numbe
 pub cargo_unused : (told : Told → Bool) (units : List Unit) (n : ℕ) (own : PortState) (records : Records) → AreIdle units → records.history.items ≡ [] → HasCargo told units n own records
 cargo_unused told units n own records idle empty =
     IfSome_then (slice_get units n) (idle n) (λ u before.
-    subst (IsAccounted told) (sym (cargo_none u.id u.service (data_bytes own) records.history.items before ∙ ap (λ (h : List Served). cargo u.id (data_bytes own) none (rows_of h)) empty))
-    (start u.id (data_bytes own)))
+    subst (IsAccounted told false) (sym (cargo_none u.id u.service (bytes_seen own) records.history.items before ∙ ap (λ (h : List Served). cargo u.id (pages_in own []) none (rows_of h)) empty))
+    (start u.id (pages_in own [])))
   where
-    start : (id : UnitId) (shown : ℕ → ℕ) → IsAccounted told (cargo id shown none [])
-    start id shown = record { rows = λ place row there own. absurd (no_row place row there); outs = λ place row there own. absurd (no_row place row there); load = tt }
+    start : (id : UnitId) (shown : Pages) → IsAccounted told false (cargo id shown none [])
+    start id shown = record {
+      rows = λ place row there own. absurd (no_row place row there);
+      outs = λ place row there own. absurd (no_row place row there);
+      load = tt;
+      runs = λ never. absurd (cc (never));
+    }
       where
         no_row : (place : ℕ) (row : Served) → slice_get {X = Served} [] place ≡ Some row → ⊥
         no_row place row there = cc (there)
@@ -57,10 +119,10 @@ cargo_unused told units n own records idle empty =
 pub delivered_at_rest : (told : Told → Bool) (units : List Unit) (n : ℕ) (own : PortState) (records : Records) (u : Unit) → slice_get units n ≡ Some u → is_loaded u.service.stage ≡ false
     → HasCargo told units n own records → (place : ℕ) (row : Served) → slice_get records.history.items place ≡ Some row → row.unit ≡ u.id → IsDelivered told row
 delivered_at_rest told units n own records u there rest has place row is own_row =
-    at (to_none u.id u.service (data_bytes own) (data_bytes own) records.history.items rest told
-    (some_at (slice_get units n) u (λ u. IsAccounted told (cargo_at u.id u.service (data_bytes own) records.history.items)) there has))
+    at (to_none u.id u.service (bytes_seen own) (pages_in own []) records.history.items (omega arith) rest told false
+    (some_at (slice_get units n) u (λ u. IsAccounted told false (cargo_at u.id u.service (bytes_seen own) records.history.items)) there has))
   where
-    at : IsAccounted told (cargo u.id (data_bytes own) none (rows_of records.history.items)) → IsDelivered told row
+    at : IsAccounted told false (cargo u.id (pages_in own []) none (rows_of records.history.items)) → IsDelivered told row
     at hand = by (hand.rows place (unanswered row) (row_in records.history.items place row is) own_row)
       where
         by : ⊥ ⊎ IsDelivered told (unanswered row) → IsDelivered told row
@@ -75,10 +137,10 @@ delivered_at_rest told units n own records u there rest has place row is own_row
 pub fetched_of_rows : (told : Told → Bool) (units : List Unit) (n : ℕ) (own : PortState) (records : Records) (u : Unit) → slice_get units n ≡ Some u
     → HasCargo told units n own records → (place : ℕ) (row : Served) → slice_get records.history.items place ≡ Some row → row.unit ≡ u.id → IsOutFetched told row
 fetched_of_rows told units n own records u there has place row is own_row =
-    at (subst (IsAccounted told) (cargo_is u.id u.service (data_bytes own) records.history.items _ refl)
-    (some_at (slice_get units n) u (λ u. IsAccounted told (cargo_at u.id u.service (data_bytes own) records.history.items)) there has))
+    at (subst (IsAccounted told false) (cargo_is u.id u.service (bytes_seen own) records.history.items _ refl)
+    (some_at (slice_get units n) u (λ u. IsAccounted told false (cargo_at u.id u.service (bytes_seen own) records.history.items)) there has))
   where
-    at : IsAccounted told (cargo u.id (data_bytes own) (load_at u.service.stage u.service.out.list.items u.service.inn.list.items u.service.given.items) (rows_of records.history.items))
+    at : IsAccounted told false (cargo u.id (pages_in own []) (load_at None u.service.stage u.service.out.list.items u.service.inn.list.items u.service.given.items) (rows_of records.history.items))
         → IsOutFetched told row
     at hand = by (hand.outs place (unanswered row) (row_in records.history.items place row is) own_row)
       where
@@ -134,7 +196,7 @@ seen_stays other h h' place row only apart there =
     let found = row_from h place row there in
     row_in h' place found.0 (stays_row other h h' place found.0 only (λ is. apart (ap (λ (r : Served). r.unit) found.1.1 ∙ is)) found.1.0) ∙ ap Some (sym found.1.1)
 
-has_elsewhere : (Hears : Hearing) (id other : UnitId) (shown : ℕ → ℕ) (load : Load) (h h' : List Served) (place : ℕ) (inns : List Desc) (bytes : List ℕ) → id ≢ other → OnlyRowsOf other h h'
+has_elsewhere : (Hears : Hearing) (id other : UnitId) (shown : Pages) (load : Load) (h h' : List Served) (place : ℕ) (inns : List Desc) (bytes : List ℕ) → id ≢ other → OnlyRowsOf other h h'
     → HasToSend Hears (cargo id shown load (rows_of h)) place inns bytes → HasToSend Hears (cargo id shown load (rows_of h')) place inns bytes
 has_elsewhere Hears id other shown load h h' place inns bytes apart only has = record {
   row = has.row;
@@ -147,13 +209,14 @@ has_elsewhere Hears id other shown load h h' place inns bytes apart only has = r
   fits = has.fits;
 }
 
-hand_elsewhere : (told : Told → Bool) (id other : UnitId) (shown : ℕ → ℕ) (load : Load) (h h' : List Served) → id ≢ other → OnlyRowsOf other h h'
-    → IsAccounted told (cargo id shown load (rows_of h)) → IsAccounted told (cargo id shown load (rows_of h'))
+pub hand_elsewhere : (told : Told → Bool) (id other : UnitId) (shown : Pages) (load : Load) (h h' : List Served) → id ≢ other → OnlyRowsOf other h h'
+    → IsAccounted told false (cargo id shown load (rows_of h)) → IsAccounted told false (cargo id shown load (rows_of h'))
 unfolding has_elsewhere
 hand_elsewhere told id other shown load h h' apart only hand = record {
   rows = each;
   outs = λ place row there own. hand.outs place row (seen_kept other h h' place row only (λ is. apart (sym own ∙ is)) there) own;
   load = by load hand.load;
+  runs = λ never. absurd (cc (never));
 }
   where
     each : (place : ℕ) (row : Served) → slice_get (rows_of h') place ≡ Some row → row.unit ≡ id → IsToSend load place ⊎ IsDelivered told row
@@ -161,7 +224,8 @@ hand_elsewhere told id other shown load h h' apart only hand = record {
 
     by : (l : Load) → IsLoaded (told_to told id) (cargo id shown load (rows_of h)) l → IsLoaded (told_to told id) (cargo id shown load (rows_of h')) l
     by none is = tt
-    by (fetching cursor outs) is = record { placed = is.placed; brought = is.brought }
+    by (tabled command outs) is = tt
+    by (fetching command cursor outs inns) is = record { placed = is.placed; brought = is.brought }
     by (given place inns bytes) is = has_elsewhere (told_to told id) id other shown load h h' place inns bytes apart only is
     by (sending place cursor inns bytes) is = record {
       to_send = has_elsewhere (told_to told id) id other shown load h h' place inns bytes apart only is.to_send;
@@ -173,22 +237,26 @@ hand_elsewhere told id other shown load h h' apart only hand = record {
 -- What the data's pages show counts, of the own window.
 pub cargo_seen : (told : Told → Bool) (units : List Unit) (n : ℕ) (own own' : PortState) (records : Records) → data_bytes own' ≡ data_bytes own
     → HasCargo told units n own records → HasCargo told units n own' records
+unfolding pages_in
 cargo_seen told units n own own' records same has =
-    subst (λ (shown : ℕ → ℕ). IfSome (slice_get units n) (λ u. IsAccounted told (cargo_at u.id u.service shown records.history.items))) (sym same) has
+    IfSome_then (slice_get units n) has (λ u before. unasked told u.id u.service (bytes_seen own) (bytes_seen own') records.history.items same before)
 
 -- Another unit's turn leaves a unit's data where it is, if it leaves the data's pages of the unit's own window.
 pub cargo_elsewhere : (told : Told → Bool) (units units' : List Unit) (n : ℕ) (own own' : PortState) (records records' : Records) (other : UnitId) → slice_get units' n ≡ slice_get units n
     → data_bytes own' ≡ data_bytes own → ((u : Unit) → slice_get units n ≡ Some u → u.id ≢ other) → OnlyRowsOf other records.history.items records'.history.items
     → HasCargo told units n own records → HasCargo told units' n own' records'
+unfolding pages_in
 cargo_elsewhere told units units' n own own' records records' other same same_own apart only has = at (slice_get units n) refl has
   where
-    step : (u : Unit) → slice_get units n ≡ Some u → IsAccounted told (cargo_at u.id u.service (data_bytes own) records.history.items)
-        → IsAccounted told (cargo_at u.id u.service (data_bytes own') records'.history.items)
+    step : (u : Unit) → slice_get units n ≡ Some u → IsAccounted told false (cargo_at u.id u.service (bytes_seen own) records.history.items)
+        → IsAccounted told false (cargo_at u.id u.service (bytes_seen own') records'.history.items)
     step u there hand =
-        subst (IsAccounted told) (sym (cargo_is u.id u.service (data_bytes own') records'.history.items _ refl ∙ ap (λ (shown : ℕ → ℕ). cargo u.id shown (load_at u.service.stage u.service.out.list.items u.service.inn.list.items u.service.given.items) (rows_of records'.history.items)) same_own))
-        (hand_elsewhere told u.id other (data_bytes own) (load_at u.service.stage u.service.out.list.items u.service.inn.list.items u.service.given.items) records.history.items records'.history.items (apart u there) only
-        (subst (IsAccounted told) (cargo_is u.id u.service (data_bytes own) records.history.items _ refl) hand))
+        unasked told u.id u.service (bytes_seen own) (bytes_seen own') records'.history.items same_own
+        (subst (IsAccounted told false) (sym (cargo_is u.id u.service (bytes_seen own) records'.history.items _ refl))
+        (hand_elsewhere told u.id other (pages_in own []) (load_at None u.service.stage u.service.out.list.items u.service.inn.list.items u.service.given.items) records.history.items
+        records'.history.items (apart u there) only
+        (subst (IsAccounted told false) (cargo_is u.id u.service (bytes_seen own) records.history.items _ refl) hand)))
 
-    at : (found : Option Unit) → slice_get units n ≡ found → IfSome found (λ u. IsAccounted told (cargo_at u.id u.service (data_bytes own) records.history.items)) → HasCargo told units' n own' records'
-    at (Some u) there hand = if_at (slice_get units' n) u (λ v. IsAccounted told (cargo_at v.id v.service (data_bytes own') records'.history.items)) (same ∙ there) (step u there hand)
-    at None there hand = subst (λ (o : Option Unit). IfSome o (λ u. IsAccounted told (cargo_at u.id u.service (data_bytes own') records'.history.items))) (sym (same ∙ there)) tt
+    at : (found : Option Unit) → slice_get units n ≡ found → IfSome found (λ u. IsAccounted told false (cargo_at u.id u.service (bytes_seen own) records.history.items)) → HasCargo told units' n own' records'
+    at (Some u) there hand = if_at (slice_get units' n) u (λ v. IsAccounted told false (cargo_at v.id v.service (bytes_seen own') records'.history.items)) (same ∙ there) (step u there hand)
+    at None there hand = subst (λ (o : Option Unit). IfSome o (λ u. IsAccounted told false (cargo_at u.id u.service (bytes_seen own') records'.history.items))) (sym (same ∙ there)) tt

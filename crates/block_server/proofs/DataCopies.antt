@@ -1,5 +1,5 @@
 -- What copies leave of the data's pages of a unit's own window, and what copies from there carry.
-use Rattle.std.proofs.Common.{◌≡◌, ◌+◌, ◌*◌, ◌/◌, ◌<◌, ◌≤◌, ℕ, Bool, true, false, cond, All, List, [], ◌∷◌, Option, Some, None, Result, Ok, Err, OnErr, length, take, drop, get_or, refl, sym, ◌∙◌, ap, subst, arith, append-nil}
+use Rattle.std.proofs.Common.{◌≡◌, ◌≢◌, ◌+◌, ◌*◌, ◌/◌, ◌<◌, ◌≤◌, ℕ, Bool, true, false, cond, All, List, [], ◌∷◌, Option, Some, None, Result, Ok, Err, OnErr, length, take, drop, get_or, refl, sym, ◌∙◌, ap, subst, arith, append-nil}
 use Rattle.std.specs.List.{flat_map}
 use Rattle.std.proofs.lemmas.Bool.{ne_eqb}
 use Rattle.std.proofs.lemmas.List.Elements.{All-head, All-tail}
@@ -8,7 +8,7 @@ use Rattle.page_slots.specs.Stroke.{StrokeValue}
 use Rattle.page_slots.specs.declared.stroke.StrokeName.{StrokeName}
 use Rattle.tce_window.specs.Moved.{IsLaid, piece_strokes, read_bytes, strokes_on}
 use Rattle.tce_window.specs.Pieces.{IsGranted, IsLast, Touches}
-use Rattle.tce_window.specs.PortState.{PortState}
+use Rattle.tce_window.specs.PortState.{PortPlace, PortState}
 use Rattle.tce_window.specs.Region.{region_byte}
 use Rattle.tce_window.specs.Strokes.{with_strokes}
 use Rattle.tce_window.specs.declared.answers.Right.{Right}
@@ -24,6 +24,7 @@ use Rattle.block_server.specs.Copied.{MakesOne, copies_in, own_name}
 use Rattle.block_server.specs.SiteState.{SiteState}
 use Rattle.block_server.proofs.DataPages.{read_shows, same_data}
 use Rattle.block_server.proofs.FirstPages.{entry_page}
+use Rattle.block_server.proofs.CopyKinds.{out_behind}
 use Rattle.block_server.proofs.NamedWindows.{grows_same}
 use Rattle.block_server.proofs.Owning.{same_first}
 
@@ -88,11 +89,11 @@ refused_none (Err error) copies.NoMemory P refused none = refused
 
 -- a copy from the data's pages carries what they show
 sends_from : (own_shared shared : Bool) (old new : SiteState) (at address len mark : ℕ) → own_shared ≡ false → ((e : ℕ) → e < 34 → old.own.values e ≡ (4096 * e + 3) ∷ [])
-    → at + len ≤ 131072 → OnlyCopies own_shared old.own new.own
+    → old.client.place.unit ≢ old.own.place.unit → 1 ≤ len → at + len ≤ 131072 → OnlyCopies own_shared old.own new.own
     → MakesOne shared new.own old.client new.client (8192 + at) address len (own_name old.own mark) old.copies new.copies → SendsPart old new at address len mark
 unfolding data_bytes
-sends_from true shared old new at address len mark alone first inside rest made = absurd (cc (alone))
-sends_from false shared old new at address len mark alone first inside rest made = record {
+sends_from true shared old new at address len mark alone first apart some inside rest made = absurd (cc (alone))
+sends_from false shared old new at address len mark alone first apart some inside rest made = record {
   part = bytes;
   long = long;
   delivered = record {
@@ -110,6 +111,9 @@ sends_from false shared old new at address len mark alone first inside rest made
       ∙ read_shows new.own.place.unit new.own.values Read new.own.strokes (8192 + at) (8192 + at + length bytes) made.copy.from.items
       (same_first false old.own new.own refl rest first) (omega (arith, long, inside)) copied.lawful.read.touched copied.lawful.read.granted copied.last_read copied.all_read
       k (omega (arith, less, long)) ∙ ap (region_byte new.own.strokes) (omega arith);
+  kind = out_behind shared new.own.place.unit new.own old.own old.client new.client (8192 + at) address len mark made.copy (same_first false old.own new.own refl rest first) some
+      (omega (arith, inside)) (omega arith) refl (ap (λ (place : PortPlace). place.unit) (sym rest.place))
+      (λ is. apart (sym (ap (λ (place : PortPlace). place.unit) made.rest.place) ∙ is ∙ ap (λ (place : PortPlace). place.unit) rest.place)) copied;
 }
   where
     copied : Copies shared new.own old.client new.client (8192 + at) address len (own_name old.own mark) made.copy
@@ -123,8 +127,8 @@ sends_from false shared old new at address len mark alone first inside rest made
 
 -- the same of numbers of another type
 pub sends_part : (own_shared shared : Bool) (old new : SiteState) (at at' address len len' mark : ℕ) → at' ≡ at → len' ≡ len → own_shared ≡ false
-    → ((e : ℕ) → e < 34 → old.own.values e ≡ (4096 * e + 3) ∷ []) → at + len ≤ 131072 → OnlyCopies own_shared old.own new.own
+    → ((e : ℕ) → e < 34 → old.own.values e ≡ (4096 * e + 3) ∷ []) → old.client.place.unit ≢ old.own.place.unit → 1 ≤ len → at + len ≤ 131072 → OnlyCopies own_shared old.own new.own
     → MakesOne shared new.own old.client new.client (8192 + at') address len' (own_name old.own mark) old.copies new.copies → SendsPart old new at address len mark
-sends_part own_shared shared old new at at' address len len' mark same long alone first inside rest made =
-    sends_from own_shared shared old new at address len mark alone first inside rest
+sends_part own_shared shared old new at at' address len len' mark same long alone first apart some inside rest made =
+    sends_from own_shared shared old new at address len mark alone first apart some inside rest
     (subst (λ (z : ℕ × ℕ). MakesOne shared new.own old.client new.client (8192 + z.0) address z.1 (own_name old.own mark) old.copies new.copies) (λ i. (same i, long i)) made)

@@ -1,5 +1,5 @@
 -- What a copy to the data's pages of a unit's own window leaves there.
-use Rattle.std.proofs.Common.{◌≡◌, ◌+◌, ◌-◌, ◌*◌, ◌/◌, ◌%◌, ◌<◌, ◌≤◌, ◌==◌, ◌++◌, ℕ, Bool, true, false, cond, if◌then◌else◌, nat_lt, All, IsSome, List, [], ◌∷◌, Option, Some, None, Result, Ok, Err, OnErr, length, take, drop, get_or, refl, sym, ◌∙◌, ap, subst, arith, length-append, length-take}
+use Rattle.std.proofs.Common.{◌≡◌, ◌≢◌, ◌+◌, ◌-◌, ◌*◌, ◌/◌, ◌%◌, ◌<◌, ◌≤◌, ◌==◌, ◌++◌, ℕ, Bool, true, false, cond, if◌then◌else◌, nat_lt, All, IsSome, List, [], ◌∷◌, Option, Some, None, Result, Ok, Err, OnErr, length, take, drop, get_or, refl, sym, ◌∙◌, ap, subst, arith, length-append, length-take}
 use Rattle.std.specs.List.{slice_get}
 use Rattle.std.specs.Option.{option_and_then}
 use Rattle.std.proofs.lemmas.Bool.{eq-eqb, eqb-true, eqb-false, ne_eqb}
@@ -13,6 +13,7 @@ use Rattle.page_slots.specs.declared.stroke.StrokeName.{StrokeName}
 use Rattle.page_slots.proofs.Laws.{left_by-push}
 use Rattle.tce_window.specs.Moved.{IsLaid, IsNamed, piece_strokes, stroke_of, strokes_on}
 use Rattle.tce_window.specs.Pieces.{IsGranted, IsLast, Touches}
+use Rattle.tce_window.specs.PortState.{PortPlace}
 use Rattle.tce_window.specs.Region.{byte_in, region_byte}
 use Rattle.tce_window.specs.Strokes.{with_strokes}
 use Rattle.tce_window.specs.declared.answers.Right.{Right}
@@ -21,10 +22,12 @@ use Rattle.tce_window.specs.declared.piece.Piece.{Piece}
 use Rattle.rdma_copy.specs.Copies.{Copies}
 use Rattle.block_server.specs.Cargo.{FetchesPart, data_bytes}
 use Rattle.block_server.specs.Copied.{MakesOne, own_name}
+use Rattle.block_server.specs.Moves.{is_data}
 use Rattle.block_server.specs.SiteState.{SiteState}
 use Rattle.block_server.proofs.DataCopies.{with_none}
 use Rattle.block_server.proofs.DataPages.{left_long, shown_there}
 use Rattle.block_server.proofs.FirstPages.{entry_page}
+use Rattle.block_server.proofs.CopyKinds.{in_behind}
 use Rattle.block_server.proofs.NamedWindows.{grows_same}
 use Rattle.block_server.proofs.Owning.{same_first}
 
@@ -134,10 +137,10 @@ byte_before now (Some strokes) stroke i laid less inside =
 
 -- a copy to the data's pages
 fetches_from : (shared own_shared : Bool) (old new : SiteState) (address at len : ℕ) → own_shared ≡ false → ((e : ℕ) → e < 34 → old.own.values e ≡ (4096 * e + 3) ∷ [])
-    → 1 ≤ len → at + len ≤ 131072 → MakesOne own_shared new.client old.own new.own address (8192 + at) len (own_name old.own 0) old.copies new.copies → FetchesPart old new address at len
+    → new.client.place.unit ≢ old.own.place.unit → 1 ≤ len → at + len ≤ 131072 → MakesOne own_shared new.client old.own new.own address (8192 + at) len (own_name old.own 0) old.copies new.copies → FetchesPart old new address at len
 unfolding data_bytes
-fetches_from shared true old new address at len alone first some inside made = absurd (cc (alone))
-fetches_from shared false old new address at len alone first some inside made = record {
+fetches_from shared true old new address at len alone first apart some inside made = absurd (cc (alone))
+fetches_from shared false old new address at len alone first apart some inside made = record {
   part = bytes;
   long = long;
   fetched = record {
@@ -149,6 +152,9 @@ fetches_from shared false old new address at len alone first some inside made = 
       read = copied.lawful.read;
       written = copied.lawful.written;
     };
+    kind = subst (λ (place : PortPlace). is_data place.unit made.copy ≡ true) (sym made.rest.place)
+        (in_behind false old.own.place.unit old.own new.own new.client address (8192 + at) len made.copy values some (omega (arith, inside)) (omega arith) refl
+        (ap (λ (place : PortPlace). place.unit) made.rest.place) apart copied);
   };
   shows = λ k less.
       let byte = lays (8192 + (at + k)) (omega arith) (omega (arith, less, long)) in
@@ -200,10 +206,10 @@ fetches_from shared false old new address at len alone first some inside made = 
 
 -- the same of numbers of another type
 pub fetches_part : (own_shared : Bool) (old new : SiteState) (address at at' len len' : ℕ) → at' ≡ at → len' ≡ len → own_shared ≡ false
-    → ((e : ℕ) → e < 34 → old.own.values e ≡ (4096 * e + 3) ∷ []) → 1 ≤ len → at + len ≤ 131072
+    → ((e : ℕ) → e < 34 → old.own.values e ≡ (4096 * e + 3) ∷ []) → new.client.place.unit ≢ old.own.place.unit → 1 ≤ len → at + len ≤ 131072
     → MakesOne own_shared new.client old.own new.own address (8192 + at') len' (own_name old.own 0) old.copies new.copies → FetchesPart old new address at len
-fetches_part own_shared old new address at at' len len' same long alone first some inside made =
-    fetches_from false own_shared old new address at len alone first some inside
+fetches_part own_shared old new address at at' len len' same long alone first apart some inside made =
+    fetches_from false own_shared old new address at len alone first apart some inside
     (subst (λ (z : ℕ × ℕ). MakesOne own_shared new.client old.own new.own address (8192 + z.0) z.1 (own_name old.own 0) old.copies new.copies) (λ i. (same i, long i)) made)
 
 pub on_err_map : {T E : Type 0} (result : Result T E) (P Q : Type 0) → (P → Q) → OnErr result P → OnErr result Q

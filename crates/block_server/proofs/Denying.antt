@@ -1,5 +1,6 @@
 -- What a client's window denied, over calls one after the other, and which causes that gives.
-use Rattle.std.proofs.Common.{◌≡◌, ◌∙◌, ◌++◌, inl, inr, ℕ, Bool, false, List, [], ◌∷◌, length, ap, subst, sym, append_assoc}
+use Rattle.std.proofs.Common.{◌≡◌, ◌∙◌, ◌++◌, inl, inr, ℕ, zero, suc, Bool, false, filter, List, [], ◌∷◌, length, length-append, slice_get, ap, subst, sym, append_assoc, arith}
+use Rattle.std.proofs.lemmas.List.Elements.{filter-append}
 use Rattle.vio_num.specs.declared.names.UnitId.{UnitId}
 use Rattle.srp_iu.specs.declared.buffer.Buffer.{Buffer}
 use Rattle.srp_iu.specs.declared.buffer.Desc.{Desc}
@@ -20,10 +21,10 @@ use Rattle.block_server.specs.declared.service.Stage.{Stage}
 use Rattle.block_server.specs.declared.service.Stage.TheVariants.{DataIn}
 use Rattle.block_server.specs.Advances.{Advances}
 use Rattle.block_server.specs.Causes.{Denies, Hearing, Includes, IsFetched, IsNamed, RefusesBuffer, RefusesData, RefusesIn, Told, tables_at, told_to}
-use Rattle.block_server.specs.Causes.News.{delivered, denied, fetched}
+use Rattle.block_server.specs.Causes.News.{delivered, denied, fetched, nth_delivered, nth_fetched}
 use Rattle.block_server.specs.Delivers.{Delivers}
-use Rattle.block_server.specs.Heard.{IsMadeBetween, Tells, TellsAll, heard_between}
-use Rattle.block_server.specs.Moves.{Fetches}
+use Rattle.block_server.specs.Heard.{IsMadeAs, IsMadeBetween, Tells, TellsAll, heard_between}
+use Rattle.block_server.specs.Moves.{Fetches, data_copies, is_data}
 use Rattle.block_server.proofs.Receiving.{fetches_stays}
 use Rattle.rdma_copy.proofs.Laws.{read_stays, written_stays}
 use Rattle.rdma_copy.specs.Copies.{side_of}
@@ -79,6 +80,32 @@ made_before P Q old mid new more next then is = record {
   is = then is.copy is.is;
 }
 
+-- the same of copies that bear a number
+data_front : (unit : UnitId) (old new more : List CopyRecord) → new ≡ old ++ more → data_copies unit new ≡ data_copies unit old ++ data_copies unit more
+data_front unit old new more made = ap (filter (is_data unit)) made ∙ filter-append (is_data unit) old more
+
+get_front : (list rest : List CopyRecord) (n : ℕ) (copy : CopyRecord) → slice_get list n ≡ Some copy → slice_get (list ++ rest) n ≡ Some copy
+get_front [] rest n copy is = absurd (cc (is))
+get_front (first ∷ list) rest zero copy is = is
+get_front (first ∷ list) rest (suc n) copy is = get_front list rest n copy is
+
+pub as_after : (P : CopyRecord → Type 0) (unit : UnitId) (number : ℕ) (old mid new more : List CopyRecord) → mid ≡ old ++ more → IsMadeAs P unit number mid new → IsMadeAs P unit number old new
+as_after P unit number old mid new more first is = record {
+  copy = is.copy;
+  since = omega (arith, is.since, ap length (data_front unit old mid more first), length-append (data_copies unit old) (data_copies unit more));
+  there = is.there;
+  is = is.is;
+}
+
+pub as_before : (P Q : CopyRecord → Type 0) (unit unit' : UnitId) (number : ℕ) (old mid new more : List CopyRecord) → unit ≡ unit' → new ≡ mid ++ more → ((copy : CopyRecord) → P copy → Q copy)
+    → IsMadeAs P unit number old mid → IsMadeAs Q unit' number old new
+as_before P Q unit unit' number old mid new more same next then is = subst (λ (u : UnitId). IsMadeAs Q u number old new) same (record {
+  copy = is.copy;
+  since = is.since;
+  there = ap (λ list. slice_get list number) (data_front unit mid new more next) ∙ get_front (data_copies unit mid) (data_copies unit more) number is.copy is.there;
+  is = then is.copy is.is;
+})
+
 -- what a copy carried is what it carried, as more is known of the windows
 pub delivers_stays : (own own' client client' : PortState) → SideGrows (side_of own) (side_of own') → SideGrows (side_of client) (side_of client')
     → (at address len mark : ℕ) (bytes : List ℕ) (copy : CopyRecord) → Delivers own client at address len mark bytes copy → Delivers own' client' at address len mark bytes copy
@@ -99,6 +126,10 @@ heard_after old mid new first (fetched address at bytes) is =
     made_after (Fetches new.own new.client address at (length bytes) bytes) old.copies mid.copies new.copies first.copies.more first.copies.made is
 heard_after old mid new first (delivered at address mark bytes) is =
     made_after (Delivers new.own new.client at address (length bytes) mark bytes) old.copies mid.copies new.copies first.copies.more first.copies.made is
+heard_after old mid new first (nth_fetched number address at bytes) is =
+    as_after (Fetches new.own new.client address at (length bytes) bytes) new.own.place.unit number old.copies mid.copies new.copies first.copies.more first.copies.made is
+heard_after old mid new first (nth_delivered number at address mark bytes) is =
+    as_after (Delivers new.own new.client at address (length bytes) mark bytes) new.own.place.unit number old.copies mid.copies new.copies first.copies.more first.copies.made is
 
 pub heard_before : (old mid new : SiteState) → Advances mid new → Includes (heard_between old mid) (heard_between old new)
 heard_before old mid new next (denied right address len fault) is = denied_before old mid new next right address len fault is
@@ -109,6 +140,14 @@ heard_before old mid new next (fetched address at bytes) is =
 heard_before old mid new next (delivered at address mark bytes) is =
     made_before (Delivers mid.own mid.client at address (length bytes) mark bytes) (Delivers new.own new.client at address (length bytes) mark bytes)
     old.copies mid.copies new.copies next.copies.more next.copies.made
+    (delivers_stays mid.own new.own mid.client new.client next.own next.client at address (length bytes) mark bytes) is
+heard_before old mid new next (nth_fetched number address at bytes) is =
+    as_before (Fetches mid.own mid.client address at (length bytes) bytes) (Fetches new.own new.client address at (length bytes) bytes)
+    mid.own.place.unit new.own.place.unit number old.copies mid.copies new.copies next.copies.more (sym next.own.unit) next.copies.made
+    (fetches_stays mid.own new.own mid.client new.client next.own next.client address at (length bytes) bytes) is
+heard_before old mid new next (nth_delivered number at address mark bytes) is =
+    as_before (Delivers mid.own mid.client at address (length bytes) mark bytes) (Delivers new.own new.client at address (length bytes) mark bytes)
+    mid.own.place.unit new.own.place.unit number old.copies mid.copies new.copies next.copies.more (sym next.own.unit) next.copies.made
     (delivers_stays mid.own new.own mid.client new.client next.own next.client at address (length bytes) mark bytes) is
 
 -- so what is told in all is told of each part

@@ -34,6 +34,11 @@ get_more [] new row place is = absurd (cc (is))
 get_more (first ∷ rows) new row zero is = is
 get_more (first ∷ rows) new row (suc place) is = get_more rows new row place is
 
+-- an element of a list that is set
+pub set_at : (front behind : List Served) (row new : Served) → slice_set (front ++ row ∷ behind) (length front) new ≡ front ++ new ∷ behind
+set_at [] behind row new = refl
+set_at (first ∷ front) behind row new = ap (λ (list : List Served). first ∷ list) (set_at front behind row new)
+
 -- an element of a list in which one was set
 pub get_set : (rows : List Served) (at place : ℕ) (new row : Served) → at < length rows → slice_get (slice_set rows at new) place ≡ Some row
     → ((place ≡ at) × (row ≡ new)) ⊎ ((place ≢ at) × (slice_get rows place ≡ Some row))

@@ -9,6 +9,8 @@ pub mod Cargoes
 pub mod Sendings
 pub mod Makings
 pub mod CargoLaws
+pub mod RunRests
+pub mod Restings
 pub mod Answered
 pub mod Named
 pub mod Denying
@@ -35,7 +37,11 @@ pub mod Stepping
 pub mod Units
 pub mod Making
 pub mod NamedWindows
+pub mod Versions
 pub mod FirstPages
+pub mod CopyKinds
+pub mod RunLaws
+pub mod Nexts
 pub mod UnitBytes
 pub mod DeliveredBytes
 pub mod Agreeing
@@ -71,10 +77,13 @@ pub mod OwingCalls
 pub mod OwedLaws
 pub mod OwingTurn
 pub mod Counting
+pub mod Asking
+pub mod OnThen
 pub mod Refusing
 pub mod Dealing
 pub mod Ledgers
 pub mod Settling
 pub mod DealtLaws
+pub mod AskedLaws
 pub mod RefusalLaws
 pub mod Laws

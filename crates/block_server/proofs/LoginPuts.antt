@@ -15,6 +15,7 @@ use Rattle.vio_num.specs.declared.history.Grant.{Grant}
 use Rattle.vio_num.specs.declared.history.Grant.TheVariants.{Granted, Lapsed}
 use Rattle.vio_num.specs.declared.history.Lapse.{Lapse}
 use Rattle.vio_num.specs.declared.names.UnitId.{UnitId}
+use Rattle.block_server.specs.Asked.{AskedAt}
 use Rattle.block_server.specs.Causes.{Hearing}
 use Rattle.block_server.specs.Entries.{IsPlain}
 use Rattle.block_server.specs.Granting.{IsGrantedOver, IsRejectedOver, IsSrpAt}
@@ -57,22 +58,23 @@ rejected_more Hears old new session number more is = record {
   written = is.written;
 }
 
-put_more : (Hears : Hearing) (old new : List PipeRow) (entry : Entry) (line : Option Grant) → Begins old new → IsLoginPut Hears old entry line → IsLoginPut Hears new entry line
+pub put_more : (Hears : Hearing) (old new : List PipeRow) (entry : Entry) (line : Option Grant) (asked : AskedAt) (on : ℕ) → Begins old new → IsLoginPut Hears old entry line asked on
+    → IsLoginPut Hears new entry line asked on
 unfolding granted_more rejected_more
-put_more Hears old new entry (Some (Granted unit session login number credits)) more is =
-    record { over = granted_more Hears old new session number credits more is.over; entry_is = is.entry_is }
-put_more Hears old new entry (Some (Lapsed unit session login cause outstanding granted)) more is = is
-put_more Hears old new entry None more is =
-    record { session = is.session; number = is.number; over = rejected_more Hears old new is.session is.number more is.over; entry_is = is.entry_is }
+put_more Hears old new entry (Some (Granted unit session login number credits)) asked on more is =
+    record { over = granted_more Hears old new session number credits more is.over; entry_is = is.entry_is; asked_is = is.asked_is }
+put_more Hears old new entry (Some (Lapsed unit session login cause outstanding granted)) asked on more is = is
+put_more Hears old new entry None asked on more is =
+    record { over = rejected_more Hears old new asked.session asked.number more is.over; entry_is = is.entry_is; on_is = is.on_is }
 
 -- nothing of them was put, and no login was granted
-pub logins_none : (Hears : Hearing) (taken : List PipeRow) (answers answers' : List Entry) (lines lines' : List Grant) → answers' ≡ answers → grants_in lines' ≡ grants_in lines
+unfoldable pub logins_none : (Hears : Hearing) (taken : List PipeRow) (answers answers' : List Entry) (lines lines' : List Grant) → answers' ≡ answers → grants_in lines' ≡ grants_in lines
     → LoginsMore Hears taken answers answers' lines lines'
 logins_none Hears taken answers answers' lines lines' put granted =
     record { more = []; put = put ∙ sym (append-nil answers); granted = granted ∙ sym (append-nil (grants_in lines)); each = All-nil (IsLoginAnswer Hears taken) }
 
 -- one step behind another
-pub logins_on : (Hears : Hearing) (taken taken' : List PipeRow) (a b c : List Entry) (x y z : List Grant) → Begins taken taken' → LoginsMore Hears taken a b x y → LoginsMore Hears taken' b c y z
+unfoldable pub logins_on : (Hears : Hearing) (taken taken' : List PipeRow) (a b c : List Entry) (x y z : List Grant) → Begins taken taken' → LoginsMore Hears taken a b x y → LoginsMore Hears taken' b c y z
     → LoginsMore Hears taken' a c x z
 logins_on Hears taken taken' a b c x y z more first next = record {
   more = first.more ++ next.more;
@@ -81,7 +83,7 @@ logins_on Hears taken taken' a b c x y z more first next = record {
   granted = next.granted ∙ ap (λ front. front ++ filter_map line_of next.more) first.granted ∙ append_assoc (grants_in x) (filter_map line_of first.more) (filter_map line_of next.more)
       ∙ ap (λ list. grants_in x ++ list) (sym (filter_map-append line_of first.more next.more));
   each = All-append (IsLoginAnswer Hears taken') first.more next.more
-      (All-weaker (IsLoginAnswer Hears taken) (IsLoginAnswer Hears taken') (λ answer is. put_more Hears taken taken' answer.entry answer.line more is) first.more first.each) next.each;
+      (All-weaker (IsLoginAnswer Hears taken) (IsLoginAnswer Hears taken') (λ answer is. put_more Hears taken taken' answer.entry answer.line answer.asked answer.on more is) first.more first.each) next.each;
 }
 
 -- an entry that answers no request answers no request to log in

@@ -1,4 +1,4 @@
--- Which strokes of a window the copies name, after a copy and after a write.
+-- Which strokes of a window the copies name, and which versions of its entries, after a copy and after a write.
 use Rattle.std.proofs.Common.{◌≡◌, ◌≢◌, ◌<◌, ◌≤◌, ◌==◌, ◌&&◌, ℕ, suc, ◌+◌, ◌++◌, Bool, true, false, cond, List, [], ◌∷◌, Option, Some, None, Result, Ok, Err, OnOk, OnErr, All, length, take, drop, slice_get, refl, sym, ◌∙◌, ap, subst, arith, append-nil}
 use Rattle.std.proofs.lemmas.Bool.Decides.{nat_tests}
 use Rattle.std.proofs.lemmas.Grind.{flat_map-append}
@@ -10,8 +10,8 @@ use Rattle.page_slots.specs.declared.stroke.StrokeName.{StrokeName}
 use Rattle.tce_window.specs.declared.piece.Piece.{Piece}
 use Rattle.tce_window.specs.declared.answers.OwnFault.{OwnFault}
 use Rattle.tce_window.specs.Moved.{AreApart, IsLaid, IsNamed, piece_strokes, places_on, stroke_count, stroke_of, strokes_on}
-use Rattle.tce_window.specs.Pieces.{Touches}
-use Rattle.tce_window.specs.Port.{Grows, IsWritten}
+use Rattle.tce_window.specs.Pieces.{IsLast, Touches}
+use Rattle.tce_window.specs.Port.{Grows, IsWritten, Later}
 use Rattle.tce_window.specs.PortState.{LaysNone, OnlyReads, OnlyWrites, PortState, Writes}
 use Rattle.tce_window.specs.Region.{stroke_on, touches, written}
 use Rattle.rdma_copy.specs.declared.copy.CopyRecord.{CopyRecord}
@@ -21,8 +21,9 @@ use Rattle.rdma_copy.specs.Answers.{IfCopied, OnRefused}
 use Rattle.rdma_copy.specs.Copy.{Side}
 use Rattle.rdma_copy.specs.Copies.{Copies, OnlyCopies, side_of}
 use Rattle.block_server.specs.Copied.{copies_in}
-use Rattle.block_server.specs.Makers.{AreNamed, Rises, named_on, places_in, same_unit, stroke_in}
+use Rattle.block_server.specs.Makers.{AreInOrder, AreNamed, Rises, named_on, places_in, same_unit, stroke_in, versions_in, versions_on}
 use Rattle.block_server.proofs.Making.{IsNamedPage, page_laid, page_written}
+use Rattle.block_server.proofs.Versions.{none_last, order_copied, order_grown, versions_last, versions_none}
 
 one_unit : (a b : UnitId) → same_unit a b ≡ true → a ≡ b
 one_unit a b is = grind (arith, nat_tests)
@@ -107,8 +108,27 @@ page_of : (window : Side) (copies : List CopyRecord) → AreNamed window copies 
 page_of window copies named page = record { rising = named.rising page; there = named.there page; others = named.others page }
 
 of_pages : (window : Side) (copies : List CopyRecord) → ((page : ℕ) → IsNamedPage window.unit (window.strokes page) (named_on window.unit page copies))
-    → AreNamed window copies
-of_pages window copies pages = record { rising = λ page. (pages page).rising; there = λ page. (pages page).there; others = λ page. (pages page).others }
+    → ((entry : ℕ) → AreInOrder (length (window.values entry)) (versions_on window.unit entry copies)) → AreNamed window copies
+of_pages window copies pages versions = record {
+  rising = λ page. (pages page).rising;
+  there = λ page. (pages page).there;
+  others = λ page. (pages page).others;
+  versions = versions;
+}
+
+-- no value is gone, so versions in order stay so
+values_grown : (old new : Side) (copies : List CopyRecord) → new.unit ≡ old.unit → ((e : ℕ) → length (old.values e) ≤ length (new.values e))
+    → AreNamed old copies → (entry : ℕ) → AreInOrder (length (new.values entry)) (versions_on new.unit entry copies)
+values_grown old new copies unit_is more named entry =
+    subst (λ u. AreInOrder (length (new.values entry)) (versions_on u entry copies)) (sym unit_is)
+    (order_grown (length (old.values entry)) (length (new.values entry)) (versions_on old.unit entry copies) (more entry) (named.versions entry))
+
+-- values of a window that is not shared, and values that are the same
+later_least : (old new : List ℕ) → Later false old new → length old ≤ length new
+later_least old new same = omega (arith, ap length same)
+
+same_least : (old new : ℕ → List ℕ) → new ≡ old → (e : ℕ) → length (old e) ≤ length (new e)
+same_least old new same e = omega (arith, ap (λ (values : ℕ → List ℕ). length (values e)) same)
 
 -- what is known of a page that no other has a hand in stays the same
 pub grows_same : (old new : Option (List StrokeValue)) → Grows false old new → new ≡ old
@@ -147,26 +167,44 @@ named_push unit page copies copy =
 
 -- Neither the window nor the copies changed.
 pub named_rests : (old new : Side) (copies copies' : List CopyRecord) → new.unit ≡ old.unit → ((p : ℕ) → Grows false (old.strokes p) (new.strokes p))
-    → copies' ≡ copies → AreNamed old copies → AreNamed new copies'
-named_rests old new copies copies' unit_is grown same named =
+    → ((e : ℕ) → length (old.values e) ≤ length (new.values e)) → copies' ≡ copies → AreNamed old copies → AreNamed new copies'
+named_rests old new copies copies' unit_is grown more same named =
     subst (AreNamed new) (sym same) (of_pages new copies (λ page. subst (λ u. IsNamedPage u (new.strokes page) (named_on u page copies)) (sym unit_is)
-    (grown_page old.unit (old.strokes page) (new.strokes page) (named_on old.unit page copies) (grown page) (page_of old copies named page))))
+    (grown_page old.unit (old.strokes page) (new.strokes page) (named_on old.unit page copies) (grown page) (page_of old copies named page)))
+    (values_grown old new copies unit_is more named))
 
 -- A copy was made to another window.
 named_elsewhere : (window : Side) (copies : List CopyRecord) (copy : CopyRecord) (other : UnitId) (from to : ℕ) → Touches other from to copy.to.items
-    → other ≢ window.unit → AreNamed window copies → AreNamed window (copies ++ copy ∷ [])
-named_elsewhere window copies copy other from to touched apart named =
+    → other ≢ window.unit → All (IsLast window.values) copy.from.items → AreNamed window copies → AreNamed window (copies ++ copy ∷ [])
+named_elsewhere window copies copy other from to touched apart last named =
     of_pages window (copies ++ copy ∷ []) (λ page. subst (IsNamedPage window.unit (window.strokes page))
     (sym (named_push window.unit page copies copy
     ∙ ap (λ places. named_on window.unit page copies ++ places) (other_places window.unit other page copy.to.items apart (pieces_of other from to copy.to.items touched))
     ∙ append-nil (named_on window.unit page copies)))
     (page_of window copies named page))
+    (λ entry. order_copied window.values window.unit entry copies copy (versions_last window.values window.unit entry copy.from.items last)
+    (none_last (length (window.values entry)) (versions_in window.unit entry copy.to.items)
+    (versions_none window.unit other entry copy.to.items (unit_other other window.unit apart) (pieces_of other from to copy.to.items touched)))
+    (named.versions entry))
 
 -- A copy was made to the window.
 named_copied : (src old new : PortState) (from to len : ℕ) (name : StrokeName) (copies : List CopyRecord) (copy : CopyRecord)
-    → Copies false src old new from to len name copy → new.place ≡ old.place → AreNamed (side_of old) copies → AreNamed (side_of new) (copies ++ copy ∷ [])
-named_copied src old new from to len name copies copy made place named = of_pages (side_of new) (copies ++ copy ∷ []) (λ page. at page)
+    → Copies false src old new from to len name copy → new.place ≡ old.place → src.place.unit ≢ old.place.unit → ((e : ℕ) → length (old.values e) ≤ length (new.values e))
+    → AreNamed (side_of old) copies → AreNamed (side_of new) (copies ++ copy ∷ [])
+named_copied src old new from to len name copies copy made place apart more named = of_pages (side_of new) (copies ++ copy ∷ []) (λ page. at page) versions
   where
+    unit_is : new.place.unit ≡ old.place.unit
+    unit_is = ap (λ p. p.unit) place
+
+    versions : (entry : ℕ) → AreInOrder (length (new.values entry)) (versions_on new.place.unit entry (copies ++ copy ∷ []))
+    versions entry =
+        order_copied new.values new.place.unit entry copies copy
+        (none_last (length (new.values entry)) (versions_in new.place.unit entry copy.from.items)
+        (versions_none new.place.unit src.place.unit entry copy.from.items (unit_other src.place.unit new.place.unit (λ is. apart (is ∙ unit_is)))
+        (pieces_of src.place.unit _ _ copy.from.items made.lawful.read.touched)))
+        (versions_last new.values new.place.unit entry copy.to.items made.last_written)
+        (values_grown (side_of old) (side_of new) copies unit_is more named entry)
+
     at : (page : ℕ) → IsNamedPage new.place.unit (new.strokes page) (named_on new.place.unit page (copies ++ copy ∷ []))
     at page = subst (IsNamedPage new.place.unit (new.strokes page))
         (sym (named_push new.place.unit page copies copy ∙ ap (λ places. named_on new.place.unit page copies ++ places)
@@ -179,17 +217,20 @@ named_copied src old new from to len name copies copy made place named = of_page
 -- The window to which a copy may have been made.
 pub target_named : (shared : Bool) (src old new : PortState) (from to len : ℕ) (name : StrokeName) (answer : CopyAnswer) (before after : List CopyRecord)
     → shared ≡ false → IfCopied answer (Copies shared src old new from to len name) → OnRefused answer (LaysNone shared old new)
-    → OnlyCopies shared old new → after ≡ before ++ copies_in answer → AreNamed (side_of old) before → AreNamed (side_of new) after
-target_named shared src old new from to len name answer before after alone copied refused rest made named =
+    → OnlyCopies shared old new → src.place.unit ≢ old.place.unit → after ≡ before ++ copies_in answer → AreNamed (side_of old) before → AreNamed (side_of new) after
+target_named shared src old new from to len name answer before after alone copied refused rest apart made named =
     by answer (subst (λ b. IfCopied answer (Copies b src old new from to len name)) alone copied) (subst (λ b. OnRefused answer (LaysNone b old new)) alone refused) made
   where
+    more : (e : ℕ) → length (old.values e) ≤ length (new.values e)
+    more e = later_least (old.values e) (new.values e) (subst (λ b. Later b (old.values e) (new.values e)) alone (rest.values e))
+
     none : LaysNone false old new → after ≡ before ++ [] → AreNamed (side_of new) after
-    none laid made = named_rests (side_of old) (side_of new) before after (ap (λ p. p.unit) rest.place) laid.strokes (made ∙ append-nil before) named
+    none laid made = named_rests (side_of old) (side_of new) before after (ap (λ p. p.unit) rest.place) laid.strokes more (made ∙ append-nil before) named
 
     by : (answer : CopyAnswer) → IfCopied answer (Copies false src old new from to len name) → OnRefused answer (LaysNone false old new)
         → after ≡ before ++ copies_in answer → AreNamed (side_of new) after
     by (copies.Copied copy) copied refused made =
-        subst (AreNamed (side_of new)) (sym made) (named_copied src old new from to len name before copy copied rest.place named)
+        subst (AreNamed (side_of new)) (sym made) (named_copied src old new from to len name before copy copied rest.place apart more named)
     by copies.Parameter copied refused made = none refused made
     by (copies.SourceParm fault) copied refused made = none refused made
     by (copies.DestParm fault) copied refused made = none refused made
@@ -204,7 +245,8 @@ pub source_named : (shared other_shared : Bool) (old new other other' : PortStat
 source_named shared other_shared old new other other' from to len name answer before after alone laid rest copied place apart made named = by answer copied made
   where
     still : AreNamed (side_of new) before
-    still = named_rests (side_of old) (side_of new) before before (ap (λ p. p.unit) rest.place) (subst (λ b. LaysNone b old new) alone laid).strokes refl named
+    still = named_rests (side_of old) (side_of new) before before (ap (λ p. p.unit) rest.place) (subst (λ b. LaysNone b old new) alone laid).strokes
+        (λ e. later_least (old.values e) (new.values e) (subst (λ b. Later b (old.values e) (new.values e)) alone (rest.values e))) refl named
 
     far : other'.place.unit ≢ new.place.unit
     far is = apart (sym (ap (λ p. p.unit) place) ∙ is ∙ ap (λ p. p.unit) rest.place)
@@ -214,7 +256,7 @@ source_named shared other_shared old new other other' from to len name answer be
 
     by : (answer : CopyAnswer) → IfCopied answer (Copies other_shared new other other' from to len name) → after ≡ before ++ copies_in answer → AreNamed (side_of new) after
     by (copies.Copied copy) copied made = subst (AreNamed (side_of new)) (sym made)
-        (named_elsewhere (side_of new) before copy other'.place.unit _ _ copied.lawful.written.touched far still)
+        (named_elsewhere (side_of new) before copy other'.place.unit _ _ copied.lawful.written.touched far copied.last_read still)
     by copies.Parameter copied made = none made
     by (copies.SourceParm fault) copied made = none made
     by (copies.DestParm fault) copied made = none made
@@ -240,8 +282,10 @@ write_named shared old new at bytes mark (Ok done) copies alone wrote none rest 
     of_pages (side_of new) copies (λ page. subst (λ u. IsNamedPage u (new.strokes page) (named_on u page copies)) (sym (ap (λ p. p.unit) rest.place))
     (written_page old.place.unit _ at bytes page (old.strokes page) (new.strokes page) (named_on old.place.unit page copies) refl
     ((subst (λ b. Writes b old at bytes mark new) alone wrote).strokes page) (page_of (side_of old) copies named page)))
+    (values_grown (side_of old) (side_of new) copies (ap (λ p. p.unit) rest.place) (same_least old.values new.values rest.values) named)
 write_named shared old new at bytes mark (Err fault) copies alone wrote none rest named =
-    named_rests (side_of old) (side_of new) copies copies (ap (λ p. p.unit) rest.place) (subst (λ b. LaysNone b old new) alone none).strokes refl named
+    named_rests (side_of old) (side_of new) copies copies (ap (λ p. p.unit) rest.place) (subst (λ b. LaysNone b old new) alone none).strokes
+    (same_least old.values new.values rest.values) refl named
 
 -- more room for copies, and a read
 pub same_named : (window : Side) (copies copies' : List CopyRecord) → copies' ≡ copies → AreNamed window copies → AreNamed window copies'
@@ -250,4 +294,5 @@ same_named window copies copies' same named = subst (AreNamed window) (sym same)
 pub read_named : (shared : Bool) (old new : PortState) (copies : List CopyRecord) → shared ≡ false → OnlyReads shared old new
     → AreNamed (side_of old) copies → AreNamed (side_of new) copies
 read_named shared old new copies alone rest named =
-    named_rests (side_of old) (side_of new) copies copies (ap (λ p. p.unit) rest.place) (subst (λ b. OnlyReads b old new) alone rest).strokes refl named
+    named_rests (side_of old) (side_of new) copies copies (ap (λ p. p.unit) rest.place) (subst (λ b. OnlyReads b old new) alone rest).strokes
+    (same_least old.values new.values rest.values) refl named

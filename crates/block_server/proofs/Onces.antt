@@ -167,7 +167,7 @@ cleared terms desk history stage kept brought = record {
   kept = λ entry is. absurd (cc (kept, is));
   fetched = subst (λ st. HasPieces (told_to terms.told desk.id) st desk.buffers.outs desk.buffers.inns desk.pending) (sym stage) tt;
   brought = brought;
-  offer = offer_none (told_to terms.told desk.id) desk.stage desk.credits desk.answer desk.pending (ap is_answered stage);
+  offer = offer_none (told_to terms.told desk.id) desk.stage desk.logins desk.answer desk.pending (ap is_answered stage);
 }
 
 -- the row in service, whose disk step was made
@@ -258,7 +258,7 @@ once_cleared a b s s' h h' id stage kept rows put d pending serving = record {
 pub once_goes : (a b : Desk) (s s' : List PipeRow) (h h' : List ServedRow) → b.id ≡ a.id → b.kept ≡ None → h' ≡ h → responses s' ≡ responses s
     → (d : Held) → IfRow b.stage (IsServed d.terms (place_of b) h)
     → HasPieces (told_to d.terms.told b.id) b.stage b.buffers.outs b.buffers.inns b.pending → AreBrought (told_to d.terms.told b.id) b.pending
-    → HasOffer (told_to d.terms.told b.id) b.stage b.credits b.answer b.pending → Once d d a b s s' h h'
+    → HasOffer (told_to d.terms.told b.id) b.stage b.logins b.answer b.pending → Once d d a b s s' h h'
 once_goes a b s s' h h' id kept rows put d row fetched brought offer = record {
   id = id;
   terms = refl;
@@ -293,16 +293,16 @@ pieces_at terms a b id stage buffers pending =
     subst (λ (z : UnitId × Stage × Buffers × List Request). HasPieces (told_to terms.told z.0) z.1 z.2.outs z.2.inns z.3) (λ i. ((sym id) i, (sym stage) i, (sym buffers) i, (sym pending) i))
 
 -- the service is where it was; nothing is kept, and no response was put
-pub once_still : (a b : Desk) (s s' : List PipeRow) (h h' : List ServedRow) → b.id ≡ a.id → b.credits ≡ a.credits → b.stage ≡ a.stage → b.answer ≡ a.answer → b.buffers ≡ a.buffers → b.pending ≡ a.pending
+pub once_still : (a b : Desk) (s s' : List PipeRow) (h h' : List ServedRow) → b.id ≡ a.id → b.logins ≡ a.logins → b.stage ≡ a.stage → b.answer ≡ a.answer → b.buffers ≡ a.buffers → b.pending ≡ a.pending
     → b.kept ≡ None → h' ≡ h → responses s' ≡ responses s → (d : Held) → IsServing d.terms a h → Once d d a b s s' h h'
-once_still a b s s' h h' id credits stage answer buffers pending kept rows put d serving =
+once_still a b s s' h h' id logins stage answer buffers pending kept rows put d serving =
     once_goes a b s s' h h' id kept rows put d (row_at d.terms a b h id stage answer buffers pending serving.row) (pieces_at d.terms a b id stage buffers pending serving.fetched)
-    (brought_at d.terms a b a.pending id pending serving.brought) (offer_at d.terms a b a.stage a.answer a.pending id credits stage answer pending serving.offer)
+    (brought_at d.terms a b a.pending id pending serving.brought) (offer_at d.terms a b a.stage a.answer a.pending id logins stage answer pending serving.offer)
 
 -- an entry that answers no request is kept in the place of what was kept
-pub once_reply_kept : (a b : Desk) (s s' : List PipeRow) (h : List ServedRow) (entry : QueueEntry) → b.id ≡ a.id → b.credits ≡ a.credits → b.pending ≡ a.pending → b.stage ≡ a.stage → b.answer ≡ a.answer
+pub once_reply_kept : (a b : Desk) (s s' : List PipeRow) (h : List ServedRow) (entry : QueueEntry) → b.id ≡ a.id → b.logins ≡ a.logins → b.pending ≡ a.pending → b.stage ≡ a.stage → b.answer ≡ a.answer
     → b.buffers ≡ a.buffers → b.kept ≡ Some (keeps.Reply entry) → IsPlain entry → responses s' ≡ responses s → (d : Held) → IsServing d.terms a h → Once d d a b s s' h h
-once_reply_kept a b s s' h entry id credits pending stage answer buffers kept plain put d serving = record {
+once_reply_kept a b s s' h entry id logins pending stage answer buffers kept plain put d serving = record {
   id = id;
   terms = refl;
   serving = record {
@@ -310,7 +310,7 @@ once_reply_kept a b s s' h entry id credits pending stage answer buffers kept pl
     kept = λ other is. subst (IsKept b) (some_is entry other (sym kept ∙ is)) plain;
     fetched = pieces_at d.terms a b id stage buffers pending serving.fetched;
     brought = brought_at d.terms a b a.pending id pending serving.brought;
-    offer = offer_at d.terms a b a.stage a.answer a.pending id credits stage answer pending serving.offer;
+    offer = offer_at d.terms a b a.stage a.answer a.pending id logins stage answer pending serving.offer;
   };
   answers = more_none a.id s s' h h put refl;
   others = stays_same a.id h;

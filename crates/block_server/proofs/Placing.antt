@@ -6,7 +6,8 @@ use Rattle.std.specs.Option.{SomeIff}
 use Rattle.srp_iu.specs.declared.buffer.Desc.{Desc}
 use Rattle.srp_desc.specs.Pieces.{sum_of}
 use Rattle.block_server.specs.Carried.{address_of}
-use Rattle.block_server.specs.Parts.{IsPlacedAt, LiesAt, first_len}
+use Rattle.block_server.specs.Parts.{IsPartAt, IsPlacedAt, LiesAt, first_len}
+use Rattle.block_server.specs.Runs.{IsPart, left_at}
 use Rattle.block_server.specs.declared.cursor.Cursor.{Cursor}
 
 -- the test of a number below another, and of one that is not
@@ -38,6 +39,26 @@ address_there (first ∷ list) (suc i) piece n is less =
     ap (address_of (first ∷ list)) (ap (λ (m : ℕ). m + n) (sum_taken first list i))
     ∙ ap (λ t. if t then Some (first.address + k) else address_of list (k - first.len)) (above_is k first.len (omega arith))
     ∙ ap (address_of list) (omega arith) ∙ address_there list i piece n is less
+  where
+    k : ℕ
+    k = first.len + sum_of (take i list) + n
+
+-- as many bytes of it are left
+left_there : (list : List Desc) (i : ℕ) (piece : Desc) (n : ℕ) → slice_get list i ≡ Some piece → n < piece.len → left_at list (sum_of (take i list) + n) ≡ piece.len - n
+left_there [] i piece n is less = absurd (cc (is))
+left_there (first ∷ list) zero piece n is less =
+    subst (λ (p : Desc). left_at (p ∷ list) (sum_of (take 0 (first ∷ list)) + n) ≡ piece.len - n) (sym (same first piece is))
+    (ap (left_at (piece ∷ list)) none ∙ ap (λ t. if t then piece.len - n else left_at list (n - piece.len)) (below_is n piece.len less))
+  where
+    none : sum_of (take 0 (first ∷ list)) + n ≡ n
+    none = omega arith
+
+    same : (a b : Desc) → Some a ≡ Some b → a ≡ b
+    same a b e = cc (e)
+left_there (first ∷ list) (suc i) piece n is less =
+    ap (left_at (first ∷ list)) (ap (λ (m : ℕ). m + n) (sum_taken first list i))
+    ∙ ap (λ t. if t then first.len - k else left_at list (k - first.len)) (above_is k first.len (omega arith))
+    ∙ ap (left_at list) (omega arith) ∙ left_there list i piece n is less
   where
     k : ℕ
     k = first.len + sum_of (take i list) + n
@@ -93,6 +114,15 @@ module _ (list : List Desc) (limit : ℕ) (cursor : Cursor) (piece inside len : 
       let at = ahead placed (omega (arith, some, within)) in
       ap (address_of list) (omega (arith, at.done_is)) ∙ address_there list piece desc (inside + j) there (omega (arith, less, fits)) ∙ ap Some (omega arith)
 
+  pub part_there : IsPlacedAt list cursor → len ≡ min (min (desc.len - inside) (limit - cursor.done)) 65536 → IsPart list limit cursor.done (desc.address + inside) len
+  part_there placed long =
+      let at = ahead placed (omega (arith, some, within)) in
+      record {
+        first = ap (address_of list) at.done_is ∙ address_there list piece desc inside there (omega (arith, some, fits));
+        some = some;
+        long = long ∙ ap (λ (n : ℕ). min (min n (limit - cursor.done)) 65536) (sym (left_there list piece desc inside there (omega (arith, some, fits))) ∙ ap (left_at list) (sym at.done_is));
+      }
+
   pub placed_behind : IsPlacedAt list cursor → IsPlacedAt list (record { piece = piece; inside = inside + len; done = cursor.done + len })
   placed_behind placed =
       let at = ahead placed (omega (arith, some, within)) in
@@ -119,6 +149,12 @@ pub lies_checked : (list : List Desc) (at base inside inside' len : ℕ) (addres
     → LiesAt list at (Some (base + inside)) len → LiesAt list at address len
 lies_checked list at base inside inside' len None same is lies = tt
 lies_checked list at base inside inside' len (Some other) same is lies = subst (λ (m : ℕ). LiesAt list at (Some m) len) (ap (λ (n : ℕ). base + n) (sym same) ∙ sym is.1) lies
+
+pub part_checked : (list : List Desc) (wanted at base inside inside' len : ℕ) (address : Option ℕ) → inside' ≡ inside → SomeIff address (base + inside' < 2 ^ 64) (base + inside')
+    → IsPart list wanted at (base + inside) len → IsPartAt list wanted at address len
+part_checked list wanted at base inside inside' len None same is part = tt
+part_checked list wanted at base inside inside' len (Some other) same is part =
+    subst (λ (m : ℕ). IsPart list wanted at m len) (ap (λ (n : ℕ). base + n) (sym same) ∙ sym is.1) part
 
 -- nothing is to be copied of a piece
 pub none_found : (a b : ℕ) → a ≡ b → a ≡ 0 → b ≡ 0

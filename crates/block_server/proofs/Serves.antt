@@ -49,15 +49,15 @@ use Rattle.block_server.proofs.DiskLaws.{serve_push}
 use Rattle.block_server.proofs.DiskRows.{SpellsOne, known_cut, may_cut, may_refuse, may_status}
 use Rattle.block_server.specs.Judged.{is_login}
 use Rattle.block_server.proofs.Offering.{offer_at, offer_copied, offer_none, offer_pushed}
-use Rattle.block_server.specs.Granting.{HasOffer}
+use Rattle.block_server.specs.Granting.{HasOffer, LoginState, login_state}
 use Rattle.block_server.proofs.Onces.{brought_at, known_of, more_none, once_goes, once_still, pieces_at, row_at, stays_equal, stays_rows, stays_there, tells_same}
 use Rattle.block_server.proofs.Rows.{stays_one, stays_same}
 
 -- the answer's entry is kept in the place of what was kept
-pub once_kept : (a b : Desk) (s s' : List PipeRow) (h : List ServedRow) (entry : QueueEntry) (outcome : Outcome) → b.id ≡ a.id → b.credits ≡ a.credits → b.pending ≡ a.pending → b.stage ≡ a.stage
+pub once_kept : (a b : Desk) (s s' : List PipeRow) (h : List ServedRow) (entry : QueueEntry) (outcome : Outcome) → b.id ≡ a.id → b.logins ≡ a.logins → b.pending ≡ a.pending → b.stage ≡ a.stage
     → b.answer ≡ a.answer → b.buffers ≡ a.buffers → b.kept ≡ Some (keeps.Answer entry outcome) → IsAnswerKept b entry outcome → responses s' ≡ responses s
     → (d : Held) → IsServing d.terms a h → Once d d a b s s' h h
-once_kept a b s s' h entry outcome id credits pending stage answer buffers kept is put d serving = record {
+once_kept a b s s' h entry outcome id logins pending stage answer buffers kept is put d serving = record {
   id = id;
   terms = refl;
   serving = record {
@@ -65,7 +65,7 @@ once_kept a b s s' h entry outcome id credits pending stage answer buffers kept 
     kept = λ other other_is. subst (IsKept b) (some_is entry outcome other (sym kept ∙ other_is)) is;
     fetched = pieces_at d.terms a b id stage buffers pending serving.fetched;
     brought = brought_at d.terms a b a.pending id pending serving.brought;
-    offer = offer_at d.terms a b a.stage a.answer a.pending id credits stage answer pending serving.offer;
+    offer = offer_at d.terms a b a.stage a.answer a.pending id logins stage answer pending serving.offer;
   };
   answers = more_none a.id s s' h h put refl;
   others = stays_same a.id h;
@@ -122,10 +122,10 @@ brought_pushed Hears [] new all one = (one, tt)
 brought_pushed Hears (request ∷ requests) new all one = (all.0, brought_pushed Hears requests new all.1 one)
 
 -- a request came behind those that are pending
-pub once_pushed : (a b : Desk) (s s' : List PipeRow) (h : List ServedRow) (new : Request) → b.id ≡ a.id → b.credits ≡ a.credits → b.pending ≡ a.pending ++ new ∷ [] → b.stage ≡ a.stage
+pub once_pushed : (a b : Desk) (s s' : List PipeRow) (h : List ServedRow) (new : Request) → b.id ≡ a.id → b.logins ≡ a.logins → b.pending ≡ a.pending ++ new ∷ [] → b.stage ≡ a.stage
     → b.answer ≡ a.answer → b.buffers ≡ a.buffers → b.kept ≡ None → responses s' ≡ responses s
     → (d : Held) → told_to d.terms.told a.id (news.fetched new.address units_at new.unit.items) → IsServing d.terms a h → Once d d a b s s' h h
-once_pushed a b s s' h new id credits pending stage answer buffers kept put d one serving =
+once_pushed a b s s' h new id logins pending stage answer buffers kept put d one serving =
     let q : Place = record (place_of a) { pending = a.pending ++ new ∷ [] } in
     once_goes a b s s' h h id kept refl put d
     (subst (λ (p : Place). IfRow p.stage (IsServed d.terms p h)) (λ i. record { id = (sym id) i; stage = (sym stage) i; answer = (sym answer) i; given = ((sym buffers) i).given; pending = (sym pending) i })
@@ -133,8 +133,8 @@ once_pushed a b s s' h new id credits pending stage answer buffers kept put d on
     (subst (λ (z : UnitId × Stage × Buffers × List Request). HasPieces (told_to d.terms.told z.0) z.1 z.2.outs z.2.inns z.3) (λ i. ((sym id) i, (sym stage) i, (sym buffers) i, (sym pending) i))
     (pieces_pushed (told_to d.terms.told a.id) a.stage a.buffers.outs a.buffers.inns a.pending new serving.fetched))
     (brought_at d.terms a b (a.pending ++ new ∷ []) id pending (brought_pushed (told_to d.terms.told a.id) a.pending new serving.brought one))
-    (offer_at d.terms a b a.stage a.answer (a.pending ++ new ∷ []) id credits stage answer pending
-    (offer_pushed (told_to d.terms.told a.id) a.stage a.credits a.answer a.pending new serving.offer))
+    (offer_at d.terms a b a.stage a.answer (a.pending ++ new ∷ []) id logins stage answer pending
+    (offer_pushed (told_to d.terms.told a.id) a.stage a.logins a.answer a.pending new serving.offer))
 
 -- a stage before the disk step has no row
 before_row : (stage : Stage) (P : ℕ → Type 0) → is_before_step stage ≡ true → IfRow stage P
@@ -163,7 +163,7 @@ pub once_before : (d : Held) (a b : Desk) (s s' : List PipeRow) (h h' : List Ser
     → HasPieces (told_to d.terms.told b.id) b.stage b.buffers.outs b.buffers.inns b.pending → h' ≡ h → responses s' ≡ responses s → AreBrought (told_to d.terms.told b.id) b.pending → Once d d a b s s' h h'
 once_before d a b s s' h h' id stage kept fetched rows put brought =
     once_goes a b s s' h h' id kept rows put d (before_row b.stage (IsServed d.terms (place_of b) h) stage) fetched brought
-    (offer_none (told_to d.terms.told b.id) b.stage b.credits b.answer b.pending (before_answered b.stage stage))
+    (offer_none (told_to d.terms.told b.id) b.stage b.logins b.answer b.pending (before_answered b.stage stage))
 
 -- what is known of the pieces of a command that is the oldest request, and back
 first_is : (request other : Request) (rest tail : List Request) → request ∷ rest ≡ other ∷ tail → other ≡ request
@@ -250,14 +250,14 @@ carried terms a h row old new answer given answer' given' carry is = record {
 pub once_to : (d : Held) (a b : Desk) (s s' : List PipeRow) (h h' : List ServedRow) (old new : Stage) (answer given : List ℕ) → b.id ≡ a.id → b.pending ≡ a.pending → a.stage ≡ old → b.stage ≡ new
     → b.answer ≡ answer → b.buffers.given ≡ given → b.kept ≡ None → h' ≡ h → responses s' ≡ responses s → HasPieces (told_to d.terms.told b.id) new b.buffers.outs b.buffers.inns b.pending
     → (IfRow old (IsServed d.terms (staged a old a.answer a.buffers.given) h) → IfRow new (IsServed d.terms (staged a new answer given) h))
-    → HasOffer (told_to d.terms.told b.id) new b.credits b.answer b.pending → IsServing d.terms a h → Once d d a b s s' h h'
+    → HasOffer (told_to d.terms.told b.id) new b.logins b.answer b.pending → IsServing d.terms a h → Once d d a b s s' h h'
 once_to d a b s s' h h' old new answer given id pending was is answer_is given_is kept rows put fetched row offer serving =
     once_goes a b s s' h h' id kept rows put d
     (subst (λ (p : Place). IfRow p.stage (IsServed d.terms p h)) (λ i. record { id = (sym id) i; stage = (sym is) i; answer = (sym answer_is) i; given = (sym given_is) i; pending = (sym pending) i })
     (row (subst (λ (st : Stage). IfRow st (IsServed d.terms (staged a st a.answer a.buffers.given) h)) was serving.row)))
     (subst (λ (st : Stage). HasPieces (told_to d.terms.told b.id) st b.buffers.outs b.buffers.inns b.pending) (sym is) fetched)
     (brought_at d.terms a b a.pending id pending serving.brought)
-    (subst (λ (st : Stage). HasOffer (told_to d.terms.told b.id) st b.credits b.answer b.pending) (sym is) offer)
+    (subst (λ (st : Stage). HasOffer (told_to d.terms.told b.id) st b.logins b.answer b.pending) (sym is) offer)
 
 -- what is known of the pieces at one stage is known at another which says the same of them
 pieces_there : (terms : Terms) (a b : Desk) (old new : Stage) → b.id ≡ a.id → a.stage ≡ old → b.buffers ≡ a.buffers → b.pending ≡ a.pending
@@ -286,17 +286,17 @@ once_moved a b s s' h row reply old id pending was is same kept put d serving =
     (carried d.terms a h row (DataIn row reply old) (DataIn row reply is.0) a.answer a.buffers.given b.answer a.buffers.given (λ is. is.holds)) tt serving
 
 -- the answer was copied over the request
-pub once_copied : (a b : Desk) (s s' : List PipeRow) (h h' : List ServedRow) (outcome : Outcome) (request : Request) (rest : List Request) → b.id ≡ a.id → b.credits ≡ a.credits → b.pending ≡ a.pending
+pub once_copied : (a b : Desk) (s s' : List PipeRow) (h h' : List ServedRow) (outcome : Outcome) (request : Request) (rest : List Request) → b.id ≡ a.id → b.logins ≡ a.logins → b.pending ≡ a.pending
     → a.pending ≡ request ∷ rest → a.stage ≡ Answer outcome → b.stage ≡ Entry outcome → b.answer ≡ a.answer → b.kept ≡ None → h' ≡ h → responses s' ≡ responses s
     → (d : Held) → told_to d.terms.told a.id (news.delivered units_at request.address request.tag a.answer) → IsServing d.terms a h → Once d d a b s s' h h'
-once_copied a b s s' h h' outcome request rest id credits pending front was is answer kept rows put d written serving =
+once_copied a b s s' h h' outcome request rest id logins pending front was is answer kept rows put d written serving =
     once_to d a b s s' h h' (Answer outcome) (Entry outcome) a.answer b.buffers.given id pending was is answer refl kept rows put tt (row outcome) offer serving
   where
-    offer : HasOffer (told_to d.terms.told b.id) (Entry outcome) b.credits b.answer b.pending
-    offer = subst (λ (st : Stage). HasOffer (told_to d.terms.told b.id) st b.credits b.answer b.pending) is
-        (offer_at d.terms a b (Entry outcome) a.answer a.pending id credits is answer pending
-        (offer_copied (told_to d.terms.told a.id) outcome a.credits a.answer request rest a.pending front written
-        (subst (λ (st : Stage). HasOffer (told_to d.terms.told a.id) st a.credits a.answer a.pending) was serving.offer)))
+    offer : HasOffer (told_to d.terms.told b.id) (Entry outcome) b.logins b.answer b.pending
+    offer = subst (λ (st : Stage). HasOffer (told_to d.terms.told b.id) st b.logins b.answer b.pending) is
+        (offer_at d.terms a b (Entry outcome) a.answer a.pending id logins is answer pending
+        (offer_copied (told_to d.terms.told a.id) outcome a.logins a.answer request rest a.pending front written
+        (subst (λ (st : Stage). HasOffer (told_to d.terms.told a.id) st a.logins a.answer a.pending) was serving.offer)))
 
     brought : AreBrought (told_to d.terms.told a.id) (request ∷ rest)
     brought = subst (AreBrought (told_to d.terms.told a.id)) front serving.brought
@@ -353,14 +353,14 @@ once_stated one a b s s' h h' row reply cursor request rest command id pending w
 -- the same, or there was no memory for the answer and the service is where it was
 pub once_stated_if : SpellsOne → (a b : Desk) (s : List PipeRow) (h : List ServedRow) (row : ℕ) (reply : ScsiReply) (cursor : Cursor) (request : Request) (rest : List Request) (command : Cmd)
     (bytes : List ℕ) (result : Result (Unit {0}) NoMemory)
-    → b.id ≡ a.id → b.credits ≡ a.credits → b.pending ≡ a.pending → a.stage ≡ DataIn row reply cursor → OnOk result (b.stage ≡ Answer (Served row)) → OnOk result (b.answer ≡ bytes) → OnErr result (b.stage ≡ a.stage)
+    → b.id ≡ a.id → b.logins ≡ a.logins → b.pending ≡ a.pending → a.stage ≡ DataIn row reply cursor → OnOk result (b.stage ≡ Answer (Served row)) → OnOk result (b.answer ≡ bytes) → OnErr result (b.stage ≡ a.stage)
     → OnErr result (b.answer ≡ a.answer) → b.buffers ≡ a.buffers → a.pending ≡ request ∷ rest → request.order ≡ Command command
     → Answers bytes (HasStatus request.tag (total_of command.out) (total_of command.inn) reply) → b.kept ≡ None → (d : Held) → IsServing d.terms a h → Once d d a b s s h h
-once_stated_if one a b s h row reply cursor request rest command bytes (Ok done) id credits pending was is answer err same buffers front order says kept d =
+once_stated_if one a b s h row reply cursor request rest command bytes (Ok done) id logins pending was is answer err same buffers front order says kept d =
     once_stated one a b s s h h row reply cursor request rest command id pending was is front order
     (subst (λ (xs : List ℕ). Answers xs (HasStatus request.tag (total_of command.out) (total_of command.inn) reply)) (sym answer) says) kept refl refl d
-once_stated_if one a b s h row reply cursor request rest command bytes (Err memory) id credits pending was is answer err same buffers front order says kept d =
-    once_still a b s s h h id credits err same buffers pending kept refl refl d
+once_stated_if one a b s h row reply cursor request rest command bytes (Err memory) id logins pending was is answer err same buffers front order says kept d =
+    once_still a b s s h h id logins err same buffers pending kept refl refl d
 
 -- the data-in were refused: the row keeps those that were copied, and the answer that says so is next
 pub once_cut : SpellsOne → (a b : Desk) (s : List PipeRow) (h h' : List ServedRow) (row n : ℕ) (reply : ScsiReply) (cursor : Cursor) (request : Request) (rest : List Request) (command : Cmd)
@@ -399,7 +399,7 @@ once_cut one a b s h h' row n reply cursor request rest command id pending was i
         kept = λ entry some_kept. absurd (cc (kept, some_kept));
         fetched = subst (λ (st : Stage). HasPieces (told_to d.terms.told b.id) st b.buffers.outs b.buffers.inns b.pending) (sym is) tt;
         brought = brought_at d.terms a b a.pending id pending serving.brought;
-        offer = subst (λ (st : Stage). HasOffer (told_to d.terms.told b.id) st b.credits b.answer b.pending) (sym is)
+        offer = subst (λ (st : Stage). HasOffer (told_to d.terms.told b.id) st b.logins b.answer b.pending) (sym is)
             (record { front = request; rest = rest; parts = pending ∙ front; other = ap is_login order });
       };
       answers = more_none a.id s s h h' refl (answers_filled a.id iu h h' row (take n old.inn) served.in_service there);
@@ -420,7 +420,7 @@ pub once_added : (d d' : Held) (a b : Desk) (s s' : List PipeRow) (h h' : List S
     → served.unit ≡ a.id → served.iu ≡ request.unit.items → served.answer ≡ [] → h' ≡ h ++ served ∷ [] → responses s' ≡ responses s
     → d'.terms ≡ d.terms → HasPieces (told_to d'.terms.told b.id) stage b.buffers.outs b.buffers.inns b.pending → HoldsAtStage d'.terms stage b.answer b.buffers.given request served
     → StaysServed d d' h h' → IfSome d.now (λ all. IsSome d'.now) → AreBrought (told_to d'.terms.told b.id) b.pending
-    → HasOffer (told_to d'.terms.told b.id) stage b.credits b.answer b.pending → Once d d' a b s s' h h'
+    → HasOffer (told_to d'.terms.told b.id) stage b.logins b.answer b.pending → Once d d' a b s s' h h'
 once_added d d' a b s s' h h' request rest served stage id front kept stage_is of unit iu blank added put terms fetched holds disk tells brought offer =
     let q : Place = record { id = b.id; stage = stage; answer = b.answer; given = b.buffers.given; pending = b.pending } in
     let served' : IsServed d'.terms q h' (length h) = record {
@@ -439,7 +439,7 @@ once_added d d' a b s s' h h' request rest served stage id front kept stage_is o
         kept = λ entry some. absurd (cc (kept, some));
         fetched = subst (λ (st : Stage). HasPieces (told_to d'.terms.told b.id) st b.buffers.outs b.buffers.inns b.pending) (sym stage_is) fetched;
         brought = brought;
-        offer = subst (λ (st : Stage). HasOffer (told_to d'.terms.told b.id) st b.credits b.answer b.pending) (sym stage_is) offer;
+        offer = subst (λ (st : Stage). HasOffer (told_to d'.terms.told b.id) st b.logins b.answer b.pending) (sym stage_is) offer;
       };
       answers = more_none a.id s s' h h' put (answers_blank a.id h h' served blank added);
       others = subst (OnlyRowsOf a.id h) (sym added) (stays_one a.id h served unit);
@@ -458,17 +458,17 @@ pub says_none : (bytes : List ℕ) (P : Rsp → Type 0) → bytes ≡ [] → Ans
 says_none bytes P none = subst (λ (xs : List ℕ). Answers xs P) (sym none) tt
 
 -- an answer without a row is next, or there was no memory for it and the service is where it was
-pub once_judged : (a b : Desk) (s : List PipeRow) (h : List ServedRow) (outcome : Outcome) (result : Result (Unit {0}) NoMemory) → b.id ≡ a.id → b.credits ≡ a.credits → b.pending ≡ a.pending → b.kept ≡ None
+pub once_judged : (a b : Desk) (s : List PipeRow) (h : List ServedRow) (outcome : Outcome) (result : Result (Unit {0}) NoMemory) → b.id ≡ a.id → b.logins ≡ a.logins → b.pending ≡ a.pending → b.kept ≡ None
     → ((P : ℕ → Type 0) → IfRow (Answer outcome) P) → OnOk result (b.stage ≡ Answer outcome) → OnErr result (b.stage ≡ a.stage) → OnErr result (b.answer ≡ a.answer) → b.buffers ≡ a.buffers
-    → (d : Held) → OnOk result (HasOffer (told_to d.terms.told b.id) (Answer outcome) b.credits b.answer b.pending) → IsServing d.terms a h → Once d d a b s s h h
-once_judged a b s h outcome (Ok done) id credits pending kept none ok err same buffers d offer serving =
+    → (d : Held) → OnOk result (HasOffer (told_to d.terms.told b.id) (Answer outcome) b.logins b.answer b.pending) → IsServing d.terms a h → Once d d a b s s h h
+once_judged a b s h outcome (Ok done) id logins pending kept none ok err same buffers d offer serving =
     once_goes a b s s h h id kept refl refl d
     (subst (λ st. IfRow st (IsServed d.terms (place_of b) h)) (sym ok) (none (IsServed d.terms (place_of b) h)))
     (subst (λ st. HasPieces (told_to d.terms.told b.id) st b.buffers.outs b.buffers.inns b.pending) (sym ok) tt)
     (brought_at d.terms a b a.pending id pending serving.brought)
-    (subst (λ st. HasOffer (told_to d.terms.told b.id) st b.credits b.answer b.pending) (sym ok) offer)
-once_judged a b s h outcome (Err memory) id credits pending kept none ok err same buffers d offer serving =
-    once_still a b s s h h id credits err same buffers pending kept refl refl d serving
+    (subst (λ st. HasOffer (told_to d.terms.told b.id) st b.logins b.answer b.pending) (sym ok) offer)
+once_judged a b s h outcome (Err memory) id logins pending kept none ok err same buffers d offer serving =
+    once_still a b s s h h id logins err same buffers pending kept refl refl d serving
 
 -- the same between desks that are equal to these
 pub once_between : (a b a' b' : Desk) (s s' : List PipeRow) (h h' : List ServedRow) → a' ≡ a → b' ≡ b → (d d' : Held) → (IsServing d.terms a h → Once d d' a b s s' h h')
@@ -508,13 +508,17 @@ pub front_is : (items : List Request) (request : Request) → (0 < length items)
 front_is [] request is = absurd (omega (arith, is.0))
 front_is (item ∷ items) request is = (items, ap (λ (x : Request). x ∷ items) (sym (is.1 request)))
 
-pub desk_is : (id : UnitId) (credits : ℕ) (service : Service) (kept kept' : Option Kept) (pending pending' : List Request) → kept' ≡ kept → pending' ≡ pending
-    → desk_at id credits service kept' pending' ≡ desk_at id credits service kept pending
-desk_is id credits service kept kept' pending pending' kept_is pending_is = λ i. desk_at id credits service (kept_is i) (pending_is i)
+pub desk_is : (id : UnitId) (logins : LoginState) (service : Service) (kept kept' : Option Kept) (pending pending' : List Request) → kept' ≡ kept → pending' ≡ pending
+    → desk_at id logins service kept' pending' ≡ desk_at id logins service kept pending
+desk_is id logins service kept kept' pending pending' kept_is pending_is = λ i. desk_at id logins service (kept_is i) (pending_is i)
 
--- the same desk of a unit whose logins grant as many requests
-pub desk_credits : (unit : ServerUnit) (logins : Logins) → logins.granted ≡ unit.logins.granted → desk_of (record unit { logins = logins }) ≡ desk_of unit
-desk_credits unit logins same = λ i. record (desk_of unit) { credits = same i }
+-- what logins are offered by stays where each grants as many requests and the same one is on
+pub logins_stay : (old new : Logins) → new.granted ≡ old.granted → new.current ≡ old.current → login_state new ≡ login_state old
+logins_stay old new granted current = λ i. record { granted = granted i; current = current i }
+
+-- the same desk of a unit whose logins grant as many requests, while the same one is on
+pub desk_logins : (unit : ServerUnit) (logins : Logins) → logins.granted ≡ unit.logins.granted → logins.current ≡ unit.logins.current → desk_of (record unit { logins = logins }) ≡ desk_of unit
+desk_logins unit logins granted current = λ i. record (desk_of unit) { logins = record { granted = granted i; current = current i } }
 
 pub entry_none : (next : Next) (kept : Option Kept) → AsNone (Ok next) kept → next ≡ nexts.Entry → kept ≡ None
 entry_none nexts.Entry kept none is = none

@@ -13,6 +13,7 @@ use Rattle.vio_num.specs.declared.entry.Entry.{Entry}
 use Rattle.vio_num.specs.declared.history.Grant.{Grant}
 use Rattle.vio_num.specs.declared.history.Grant.TheVariants.{Granted}
 use Rattle.vio_num.specs.declared.history.Served.{Served}
+use Rattle.block_server.specs.Asked.{AskedAt, still_to_answer}
 use Rattle.block_server.specs.Causes.{Hearing, told_to, units_at}
 use Rattle.block_server.specs.Causes.News.{delivered, fetched}
 use Rattle.block_server.specs.Dealt.{IsLoginAnswered}
@@ -21,7 +22,7 @@ use Rattle.block_server.specs.Entries.{is_response_len, login_rej_len, login_rsp
 use Rattle.block_server.specs.Granting.{HasOffer, HasOtherFront, IsGrantedOver, IsOfferedOver, IsRejectedOver, IsRejectingOver, IsSrpAt}
 use Rattle.block_server.specs.LoginAnswers.{IsGrantPut, IsLoginAnswer, IsRejectionPut, LoginAnswer, LoginsMore, grants_in, is_grant, is_login_answer, login_put}
 use Rattle.block_server.specs.Orders.{IsOrder}
-use Rattle.block_server.specs.Refusals.{AreExplained, ExplainsOf, HasEntry, IsExplained, Ledger, basis_in}
+use Rattle.block_server.specs.Refusals.{AreExplained, ExplainsOf, HasEntry, IsExplained, Ledger, basis_in, to_answer}
 use Rattle.block_server.specs.Serving.{AreBrought, Desk, IsAnswerKept, IsServing, Terms}
 use Rattle.block_server.specs.Stage.{fits}
 use Rattle.block_server.specs.declared.request.Order.{Order}
@@ -31,7 +32,9 @@ use Rattle.block_server.specs.declared.service.Outcome.{Outcome}
 use Rattle.block_server.specs.declared.service.Outcome.TheVariants as outcomes
 use Rattle.block_server.specs.declared.service.Stage.{Stage}
 use Rattle.block_server.specs.declared.service.Stage.TheVariants as stages
-use Rattle.block_server.proofs.Ledgers.{accounted, begins_same, deals_left, explains_left}
+use Rattle.block_server.proofs.Asking.{Leads, leads_same}
+use Rattle.block_server.proofs.OnThen.{on_granted, on_same}
+use Rattle.block_server.proofs.Ledgers.{accounted, begins_same, deals_left, explains_left, on_stays}
 use Rattle.block_server.proofs.Onces.{response_lens}
 use Rattle.block_server.proofs.Refusing.{known_left}
 
@@ -47,11 +50,11 @@ entry_of desk entry outcome n front rest tag kept len parts is =
 
 -- The answer that grants a login was written over its request.
 granted_over : (terms : Terms) (desk : Desk) (history : List Served) (taken : List PipeRow) (session number : ℕ) → desk.stage ≡ stages.Entry (outcomes.Granted number)
-    → All (HasEntry taken session) desk.pending → IsServing terms desk history → IsGrantedOver (told_to terms.told desk.id) taken session number desk.credits
+    → All (HasEntry taken session) desk.pending → IsServing terms desk history → IsGrantedOver (told_to terms.told desk.id) taken session number desk.logins.granted
 granted_over terms desk history taken session number stage pending serving =
     let Hears = told_to terms.told desk.id in
-    let over : IsOfferedOver Hears number desk.credits desk.answer desk.pending =
-    subst (λ (st : Stage). HasOffer Hears st desk.credits desk.answer desk.pending) stage serving.offer in
+    let over : IsOfferedOver Hears number desk.logins.granted desk.answer desk.pending =
+    subst (λ (st : Stage). HasOffer Hears st desk.logins desk.answer desk.pending) stage serving.offer in
     let offer = over.offered in
     let has : HasEntry taken session offer.front = All-head (HasEntry taken session) offer.front offer.rest (subst (All (HasEntry taken session)) offer.parts pending) in
     let brought : AreBrought Hears (offer.front ∷ offer.rest) = subst (AreBrought Hears) offer.parts serving.brought in
@@ -71,7 +74,7 @@ granted_over terms desk history taken session number stage pending serving =
     }
 
 -- The answer that rejects one was.
-rejected_over : (terms : Terms) (desk : Desk) (history : List Served) (taken : List PipeRow) (session : ℕ) (over : IsRejectingOver (told_to terms.told desk.id) desk.answer desk.pending)
+rejected_over : (terms : Terms) (desk : Desk) (history : List Served) (taken : List PipeRow) (session : ℕ) (over : IsRejectingOver (told_to terms.told desk.id) desk.logins.current desk.answer desk.pending)
     → All (HasEntry taken session) desk.pending → IsServing terms desk history → IsRejectedOver (told_to terms.told desk.id) taken session over.rejecting.front.number
 rejected_over terms desk history taken session over pending serving =
     let Hears = told_to terms.told desk.id in
@@ -87,7 +90,7 @@ rejected_over terms desk history taken session over pending serving =
       brought = subst (λ (n : ℕ). Hears (fetched n units_at offer.front.unit.items)) has.address brought.0;
       asked = offer.asked;
       asks = spelled;
-      current = offer.current;
+      current = desk.logins.current;
       answer = desk.answer;
       rejects = offer.rejects;
       written = subst (λ (z : ℕ × ℕ). Hears (delivered units_at z.0 z.1 desk.answer)) (λ i. (has.address i, (offer.front.tagged ∙ sym spelled.unit.tag) i)) over.written;
@@ -96,35 +99,37 @@ rejected_over terms desk history taken session over pending serving =
 -- They were put.
 granted_put : (terms : Terms) (desk : Desk) (history : List Served) (taken : List PipeRow) (session number : ℕ) (entry : Entry) → desk.stage ≡ stages.Entry (outcomes.Granted number)
     → IsAnswerKept desk entry (outcomes.Granted number) → (length desk.answer == login_rsp_len) ≡ true → All (HasEntry taken session) desk.pending → IsServing terms desk history
-    → IsGrantPut (told_to terms.told desk.id) taken session number desk.credits entry
+    → IsGrantPut (told_to terms.told desk.id) taken session number desk.logins.granted entry (record { session = session; number = number })
 unfolding granted_over
 granted_put terms desk history taken session number entry stage kept len pending serving =
     let Hears = told_to terms.told desk.id in
-    let over : IsOfferedOver Hears number desk.credits desk.answer desk.pending =
-    subst (λ (st : Stage). HasOffer Hears st desk.credits desk.answer desk.pending) stage serving.offer in
+    let over : IsOfferedOver Hears number desk.logins.granted desk.answer desk.pending =
+    subst (λ (st : Stage). HasOffer Hears st desk.logins desk.answer desk.pending) stage serving.offer in
     let offer = over.offered in
     let spelled : Spells offer.front.unit.items (ius.LoginReq offer.asked) = subst (λ (order : Order). IsOrder order offer.front.unit.items) offer.asks offer.front.spelled in
     record {
       over = granted_over terms desk history taken session number stage pending serving;
       entry_is = entry_of desk entry (outcomes.Granted number) login_rsp_len offer.front offer.rest offer.asked.tag kept len offer.parts (offer.front.tagged ∙ sym spelled.unit.tag);
+      asked_is = refl;
     }
 
 rejected_put : (terms : Terms) (desk : Desk) (history : List Served) (taken : List PipeRow) (session : ℕ) (entry : Entry) → desk.stage ≡ stages.Entry outcomes.Rejected
     → IsAnswerKept desk entry outcomes.Rejected → (length desk.answer == login_rej_len) ≡ true → All (HasEntry taken session) desk.pending → IsServing terms desk history
-    → IsRejectionPut (told_to terms.told desk.id) taken entry
+    → (first : Request) (rest : List Request) → desk.pending ≡ first ∷ rest
+    → IsRejectionPut (told_to terms.told desk.id) taken entry (record { session = session; number = first.number }) desk.logins.current
 unfolding rejected_over
-rejected_put terms desk history taken session entry stage kept len pending serving =
+rejected_put terms desk history taken session entry stage kept len pending serving first rest parts =
     let Hears = told_to terms.told desk.id in
-    let over : IsRejectingOver Hears desk.answer desk.pending =
-    subst (λ (st : Stage). HasOffer Hears st desk.credits desk.answer desk.pending) stage serving.offer in
+    let over : IsRejectingOver Hears desk.logins.current desk.answer desk.pending =
+    subst (λ (st : Stage). HasOffer Hears st desk.logins desk.answer desk.pending) stage serving.offer in
     let offer = over.rejecting in
     let spelled : Spells offer.front.unit.items (ius.LoginReq offer.asked) = subst (λ (order : Order). IsOrder order offer.front.unit.items) offer.asks offer.front.spelled in
-    record {
-      session = session;
-      number = offer.front.number;
+    subst (λ (n : ℕ). IsRejectionPut Hears taken entry (record { session = session; number = n }) desk.logins.current)
+    (ap (λ (r : Request). r.number) (head_is offer.front first offer.rest rest (sym offer.parts ∙ parts))) (record {
       over = rejected_over terms desk history taken session over pending serving;
       entry_is = entry_of desk entry outcomes.Rejected login_rej_len offer.front offer.rest offer.asked.tag kept len offer.parts (offer.front.tagged ∙ sym spelled.unit.tag);
-    }
+      on_is = refl;
+    })
 
 -- The oldest request, whose answer was copied, asks for no login, or was answered.
 gone_at : (terms : Terms) (desk : Desk) (history : List Served) (taken : List PipeRow) (session : ℕ) (outcome : Outcome) → desk.stage ≡ stages.Entry outcome
@@ -132,25 +137,25 @@ gone_at : (terms : Terms) (desk : Desk) (history : List Served) (taken : List Pi
     → (is_login front.order ≡ false) ⊎ IsLoginAnswered (told_to terms.told desk.id) taken session front.number
 gone_at terms desk history taken session (outcomes.Granted number) stage pending serving front rest parts =
     let Hears = told_to terms.told desk.id in
-    let over : IsOfferedOver Hears number desk.credits desk.answer desk.pending =
-    subst (λ (st : Stage). HasOffer Hears st desk.credits desk.answer desk.pending) stage serving.offer in
+    let over : IsOfferedOver Hears number desk.logins.granted desk.answer desk.pending =
+    subst (λ (st : Stage). HasOffer Hears st desk.logins desk.answer desk.pending) stage serving.offer in
     let offer = over.offered in
     inr (inl (
-      desk.credits,
-      subst (λ (n : ℕ). IsGrantedOver Hears taken session n desk.credits)
+      desk.logins.granted,
+      subst (λ (n : ℕ). IsGrantedOver Hears taken session n desk.logins.granted)
           (sym offer.number_is ∙ ap (λ (r : Request). r.number) (head_is offer.front front offer.rest rest (sym offer.parts ∙ parts)))
           (granted_over terms desk history taken session number stage pending serving),
     ))
 gone_at terms desk history taken session outcomes.Rejected stage pending serving front rest parts =
     let Hears = told_to terms.told desk.id in
-    let over : IsRejectingOver Hears desk.answer desk.pending =
-    subst (λ (st : Stage). HasOffer Hears st desk.credits desk.answer desk.pending) stage serving.offer in
+    let over : IsRejectingOver Hears desk.logins.current desk.answer desk.pending =
+    subst (λ (st : Stage). HasOffer Hears st desk.logins desk.answer desk.pending) stage serving.offer in
     let offer = over.rejecting in
     inr (inr (subst (IsRejectedOver Hears taken session) (ap (λ (r : Request). r.number) (head_is offer.front front offer.rest rest (sym offer.parts ∙ parts)))
     (rejected_over terms desk history taken session over pending serving)))
 gone_at terms desk history taken session (outcomes.Served row) stage pending serving front rest parts =
     let Hears = told_to terms.told desk.id in
-    let other : HasOtherFront desk.pending = subst (λ (st : Stage). HasOffer Hears st desk.credits desk.answer desk.pending) stage serving.offer in
+    let other : HasOtherFront desk.pending = subst (λ (st : Stage). HasOffer Hears st desk.logins desk.answer desk.pending) stage serving.offer in
     inl (subst (λ (r : Request). is_login r.order ≡ false) (head_is other.front front other.rest rest (sym other.parts ∙ parts)) other.other)
 
 -- what an entry adds to the answers to requests to log in
@@ -175,23 +180,54 @@ module _ (terms : Terms) (desk : Desk) (history : List Served) (old : Ledger) (o
 
 pub explains_finished : (terms : Terms) (desk : Desk) (history : List Served) (old new : Ledger) (outcome : Outcome) → desk.stage ≡ stages.Entry outcome → desk.pending ≡ old.pending
     → new.session ≡ old.session → new.taken ≡ old.taken → new.waiting ≡ old.waiting → new.ended ≡ old.ended
-    → new.pending ≡ drop 1 old.pending → new.lines ≡ old.lines → new.answers ≡ old.answers → ExplainsOf terms desk history old new
-explains_finished terms desk history old new outcome stage requests session taken waiting ended pending same answers = λ serving front.
+    → new.pending ≡ drop 1 old.pending → new.lines ≡ old.lines → new.answers ≡ old.answers → new.id ≡ old.id → new.current ≡ old.current → ExplainsOf terms desk history old new
+explains_finished terms desk history old new outcome stage requests session taken waiting ended pending same answers id current = λ serving front.
     explains_left terms.told desk.id front old new [] session taken waiting ended pending (same ∙ sym (append-nil old.lines))
     (All-nil (IsExplained (told_to terms.told desk.id) desk.id old.taken)) (ap grants_in same) answers (gone_from terms desk history old outcome stage requests serving front.since)
+    (on_stays old new id current session ended same)
+
+-- what is still to be answered behind the request that was: it was asked where that was
+answer_given : (old new : Ledger) (asked : AskedAt) (first : Request) (rest : List Request) → old.pending ≡ first ∷ rest → asked ≡ record { session = old.session; number = first.number }
+    → new.session ≡ old.session → new.taken ≡ old.taken → new.waiting ≡ old.waiting → new.pending ≡ drop 1 old.pending → Leads (to_answer old) (asked ∷ to_answer new)
+answer_given old new asked first rest parts at session taken waiting pending =
+    leads_same (to_answer old) (asked ∷ to_answer new)
+    ((λ i. at i ∷ still_to_answer (session i) (taken i) (waiting i) ((pending ∙ ap (drop 1) parts) i)) ∙ ap (still_to_answer old.session old.taken old.waiting) (sym parts))
+
+-- while a request is pending the session goes on
+goes_on : {pending : List Request} (ended : Bool) (first : Request) (rest : List Request) → pending ≡ first ∷ rest → (ended ≡ true → pending ≡ []) → ended ≡ false
+goes_on false first rest parts idle = refl
+goes_on {pending} true first rest parts idle = absurd (some (sym (idle refl) ∙ parts))
+  where
+    some : [] ≡ first ∷ rest → ⊥
+    some same = cc (same)
+
+-- The request that was granted its login is at the front.
+front_granted : (terms : Terms) (desk : Desk) (history : List Served) (number : ℕ) → desk.stage ≡ stages.Entry (outcomes.Granted number) → IsServing terms desk history
+    → IsOfferedOver (told_to terms.told desk.id) number desk.logins.granted desk.answer desk.pending
+front_granted terms desk history number stage serving =
+    subst (λ (st : Stage). HasOffer (told_to terms.told desk.id) st desk.logins desk.answer desk.pending) stage serving.offer
+
+front_rejected : (terms : Terms) (desk : Desk) (history : List Served) → desk.stage ≡ stages.Entry outcomes.Rejected → IsServing terms desk history
+    → IsRejectingOver (told_to terms.told desk.id) desk.logins.current desk.answer desk.pending
+front_rejected terms desk history stage serving =
+    subst (λ (st : Stage). HasOffer (told_to terms.told desk.id) st desk.logins desk.answer desk.pending) stage serving.offer
 
 -- A login was granted: a line says so.
 pub explains_granted : (terms : Terms) (desk : Desk) (history : List Served) (old new : Ledger) (login number credits : ℕ) (entry : Entry) → desk.stage ≡ stages.Entry (outcomes.Granted number)
     → IsAnswerKept desk entry (outcomes.Granted number) → (length desk.answer == login_rsp_len) ≡ true
-    → desk.pending ≡ old.pending → credits ≡ desk.credits → new.session ≡ old.session → new.taken ≡ old.taken → new.waiting ≡ old.waiting → new.ended ≡ old.ended → new.pending ≡ drop 1 old.pending
-    → new.lines ≡ old.lines ++ Granted desk.id old.session login number credits ∷ [] → new.answers ≡ old.answers ++ login_put entry → ExplainsOf terms desk history old new
-explains_granted terms desk history old new login number credits entry stage kept len requests same session taken waiting ended pending more answers = λ serving front is.
+    → desk.pending ≡ old.pending → credits ≡ desk.logins.granted → new.session ≡ old.session → new.taken ≡ old.taken → new.waiting ≡ old.waiting → new.ended ≡ old.ended → new.pending ≡ drop 1 old.pending
+    → new.lines ≡ old.lines ++ Granted desk.id old.session login number credits ∷ [] → new.answers ≡ old.answers ++ login_put entry → new.id ≡ old.id → old.id ≡ desk.id → new.current ≡ login → ExplainsOf terms desk history old new
+explains_granted terms desk history old new login number credits entry stage kept len requests same session taken waiting ended pending more answers id named current = λ serving front is.
     let Hears = told_to terms.told desk.id in
     let P = IsExplained Hears desk.id old.taken in
     let line = Granted desk.id old.session login number credits in
     let put = granted_put terms desk history old.taken old.session number entry stage kept len (subst (All (HasEntry old.taken old.session)) (sym requests) is.known.pending) serving in
-    let put' : IsGrantPut Hears old.taken old.session number credits entry = subst (λ (n : ℕ). IsGrantPut Hears old.taken old.session number n entry) (sym same) put in
-    let answer : LoginAnswer = record { entry = entry; line = Some line } in
+    let asked : AskedAt = record { session = old.session; number = number } in
+    let put' : IsGrantPut Hears old.taken old.session number credits entry asked = subst (λ (n : ℕ). IsGrantPut Hears old.taken old.session number n entry asked) (sym same) put in
+    let answer : LoginAnswer = record { entry = entry; line = Some line; asked = asked; on = 0 } in
+    let offer = (front_granted terms desk history number stage serving).offered in
+    let going : old.ended ≡ false = goes_on old.ended offer.front offer.rest (sym requests ∙ offer.parts) (λ over. (is.known.idle over).1) in
+    let all : new.lines ≡ old.lines ++ Granted old.id old.session login number credits ∷ [] = more ∙ (λ i. old.lines ++ Granted (sym named i) old.session login number credits ∷ []) in
     accounted terms.told desk.id front old new
     (known_left terms.told desk.id front.since (basis_in old) (basis_in new) 1 (line ∷ []) session taken waiting ended pending more (All-cons P line [] (λ own. put'.over) (All-nil P)))
     (begins_same old.taken new.taken taken)
@@ -201,18 +237,28 @@ explains_granted terms desk history old new login number credits entry stage kep
       granted = grant_added old.lines new.lines line refl more;
       each = subst (λ rows. All (IsLoginAnswer Hears rows) (answer ∷ [])) (sym taken) (All-cons (IsLoginAnswer Hears old.taken) answer [] put' (All-nil (IsLoginAnswer Hears old.taken)));
     })
-    (λ deals. deals_left Hears old new session taken waiting ended pending (gone_from terms desk history old (outcomes.Granted number) stage requests serving front.since is.known)) is
+    (λ deals. deals_left Hears old new session taken waiting ended pending (gone_from terms desk history old (outcomes.Granted number) stage requests serving front.since is.known))
+    (answer_given old new asked offer.front offer.rest (sym requests ∙ offer.parts) (λ i. record { session = old.session; number = (sym offer.number_is) i }) session taken waiting pending)
+    (record {
+      id = id;
+      lines = (line ∷ [], more);
+      on = λ was. on_same old.id new.id old.session new.session login new.current old.ended new.ended (old.lines ++ Granted old.id old.session login number credits ∷ []) new.lines id session current ended all
+          (on_granted old.id old.session old.current login number credits old.ended old.ended old.lines going was);
+    })
+    (λ on. (tt, tt)) is
 
 -- One was rejected.
 pub explains_rejected : (terms : Terms) (desk : Desk) (history : List Served) (old new : Ledger) (entry : Entry) → desk.stage ≡ stages.Entry outcomes.Rejected
     → IsAnswerKept desk entry outcomes.Rejected → (length desk.answer == login_rej_len) ≡ true
     → desk.pending ≡ old.pending → new.session ≡ old.session → new.taken ≡ old.taken → new.waiting ≡ old.waiting → new.ended ≡ old.ended → new.pending ≡ drop 1 old.pending
-    → new.lines ≡ old.lines → new.answers ≡ old.answers ++ login_put entry → ExplainsOf terms desk history old new
-explains_rejected terms desk history old new entry stage kept len requests session taken waiting ended pending lines answers = λ serving front is.
+    → new.lines ≡ old.lines → new.answers ≡ old.answers ++ login_put entry → new.id ≡ old.id → new.current ≡ old.current → desk.logins.current ≡ old.current → ExplainsOf terms desk history old new
+explains_rejected terms desk history old new entry stage kept len requests session taken waiting ended pending lines answers id current on_is = λ serving front is.
     let Hears = told_to terms.told desk.id in
     let P = IsExplained Hears desk.id old.taken in
-    let put = rejected_put terms desk history old.taken old.session entry stage kept len (subst (All (HasEntry old.taken old.session)) (sym requests) is.known.pending) serving in
-    let answer : LoginAnswer = record { entry = entry; line = None } in
+    let first = (front_rejected terms desk history stage serving).rejecting in
+    let asked : AskedAt = record { session = old.session; number = first.front.number } in
+    let put = rejected_put terms desk history old.taken old.session entry stage kept len (subst (All (HasEntry old.taken old.session)) (sym requests) is.known.pending) serving first.front first.rest first.parts in
+    let answer : LoginAnswer = record { entry = entry; line = None; asked = asked; on = desk.logins.current } in
     accounted terms.told desk.id front old new
     (known_left terms.told desk.id front.since (basis_in old) (basis_in new) 1 [] session taken waiting ended pending (lines ∙ sym (append-nil old.lines)) (All-nil P))
     (begins_same old.taken new.taken taken)
@@ -222,7 +268,10 @@ explains_rejected terms desk history old new entry stage kept len requests sessi
       granted = ap grants_in lines ∙ sym (append-nil (grants_in old.lines));
       each = subst (λ rows. All (IsLoginAnswer Hears rows) (answer ∷ [])) (sym taken) (All-cons (IsLoginAnswer Hears old.taken) answer [] put (All-nil (IsLoginAnswer Hears old.taken)));
     })
-    (λ deals. deals_left Hears old new session taken waiting ended pending (gone_from terms desk history old outcomes.Rejected stage requests serving front.since is.known)) is
+    (λ deals. deals_left Hears old new session taken waiting ended pending (gone_from terms desk history old outcomes.Rejected stage requests serving front.since is.known))
+    (answer_given old new asked first.front first.rest (sym requests ∙ first.parts) refl session taken waiting pending)
+    (on_stays old new id current session ended lines)
+    (λ on. (record { before = old.lines; after = []; parts = lines ∙ sym (append-nil old.lines); grants = refl; on_is = on_is ∙ on.on }, tt)) is
 
 -- A command or a task was answered.
 served_none : (desk : Desk) (entry : Entry) (row : ℕ) → IsAnswerKept desk entry (outcomes.Served row) → is_response_len (length desk.answer) ≡ true → login_put entry ≡ []
@@ -239,7 +288,7 @@ served_none desk entry row kept len = at (response_lens (length desk.answer) len
 pub explains_served : (terms : Terms) (desk : Desk) (history : List Served) (old new : Ledger) (entry : Entry) (row : ℕ) → desk.stage ≡ stages.Entry (outcomes.Served row)
     → IsAnswerKept desk entry (outcomes.Served row) → is_response_len (length desk.answer) ≡ true → desk.pending ≡ old.pending
     → new.session ≡ old.session → new.taken ≡ old.taken → new.waiting ≡ old.waiting → new.ended ≡ old.ended → new.pending ≡ drop 1 old.pending → new.lines ≡ old.lines
-    → new.answers ≡ old.answers ++ login_put entry → ExplainsOf terms desk history old new
-explains_served terms desk history old new entry row stage kept len requests session taken waiting ended pending lines answers =
+    → new.answers ≡ old.answers ++ login_put entry → new.id ≡ old.id → new.current ≡ old.current → ExplainsOf terms desk history old new
+explains_served terms desk history old new entry row stage kept len requests session taken waiting ended pending lines answers id current =
     explains_finished terms desk history old new (outcomes.Served row) stage requests session taken waiting ended pending lines
-    (answers ∙ ap (λ list. old.answers ++ list) (served_none desk entry row kept len) ∙ append-nil old.answers)
+    (answers ∙ ap (λ list. old.answers ++ list) (served_none desk entry row kept len) ∙ append-nil old.answers) id current

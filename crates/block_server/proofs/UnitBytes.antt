@@ -1,5 +1,5 @@
 -- The bytes that are read of a page of the own window after a copy to it are those that the copy moved.
-use Rattle.std.proofs.Common.{◌≡◌, ◌+◌, ◌*◌, ◌/◌, ◌<◌, ◌≤◌, ◌==◌, ◌&&◌, ◌++◌, ℕ, Bool, true, false, cond, All, IsSome, List, [], ◌∷◌, Option, Some, None, length, take, drop, get_or, refl, sym, ◌∙◌, ap, ap₂, subst, arith, append-nil}
+use Rattle.std.proofs.Common.{◌≡◌, ◌≢◌, ◌+◌, ◌*◌, ◌/◌, ◌<◌, ◌≤◌, ◌==◌, ◌&&◌, ◌++◌, ℕ, Bool, true, false, cond, All, IsSome, List, [], ◌∷◌, Option, Some, None, length, take, drop, get_or, refl, sym, ◌∙◌, ap, ap₂, subst, arith, append-nil}
 use Rattle.std.proofs.lemmas.Bool.{eq-eqb}
 use Rattle.std.proofs.lemmas.List.Elements.{All-head}
 use Rattle.std.proofs.lemmas.List.{ext_get_or, get_or_append_left, take_all}
@@ -11,7 +11,7 @@ use Rattle.tce_window.specs.declared.piece.Piece.{Piece}
 use Rattle.tce_window.specs.Moved.{IsLaid, IsReadFrom, IsWrittenTo, piece_strokes}
 use Rattle.tce_window.specs.declared.answers.Right.TheVariants.{Write}
 use Rattle.tce_window.specs.Pieces.{IsGranted, IsLast, Touches}
-use Rattle.tce_window.specs.PortState.{LaysNone, OnlyReads, PortState, Reads}
+use Rattle.tce_window.specs.PortState.{LaysNone, OnlyReads, PortPlace, PortState, Reads}
 use Rattle.tce_window.specs.Region.{byte_in}
 use Rattle.tce_window.specs.Strokes.{with_strokes}
 use Rattle.tce_window.proofs.Laws.{not_none}
@@ -22,9 +22,10 @@ use Rattle.vio_num.specs.Words.{Begins}
 use Rattle.vio_num.specs.declared.names.UnitId.{UnitId}
 use Rattle.block_server.specs.Copied.{MakesOne, own_name}
 use Rattle.block_server.specs.Delivers.{FetchesTo}
-use Rattle.block_server.specs.Moves.{Fetches, FetchesOne, begin_on, is_intake}
+use Rattle.block_server.specs.Moves.{Fetches, FetchesOne, begin_on, is_data, is_intake}
 use Rattle.block_server.specs.SiteState.{SiteState}
 use Rattle.block_server.proofs.FirstPages.{entry_page, own_begins}
+use Rattle.block_server.proofs.CopyKinds.{in_behind}
 use Rattle.block_server.proofs.NamedWindows.{grows_same, unit_same}
 use Rattle.block_server.proofs.Owning.{same_first}
 
@@ -160,14 +161,17 @@ fetches_one false old new own' client' address len copies' out alone first some 
 pub fetches_to : (shared : Bool) (old new : SiteState) (own' client' : PortState) (page at address len : ℕ) (copies' : List CopyRecord) (out : List ℕ)
     → at ≡ 4096 * page → page < 34 → shared ≡ false → ((e : ℕ) → e < 34 → old.own.values e ≡ (4096 * e + 3) ∷ []) → 1 ≤ len → len ≤ 4096 → length out ≡ len
     → MakesOne shared client' old.own own' address at len (own_name old.own 0) old.copies copies' → OnlyReads shared own' new.own → Reads new.own at out
-    → new.client ≡ client' → new.copies ≡ copies' → FetchesTo old new address at out
-fetches_to true old new own' client' page at address len copies' out begin inside alone first some few long made rest reads client copies = absurd (cc (alone))
-fetches_to false old new own' client' page at address len copies' out begin inside alone first some few long made rest reads client copies = record {
+    → new.client ≡ client' → new.copies ≡ copies' → 1 ≤ page → client'.place.unit ≢ old.own.place.unit → FetchesTo old new address at out
+fetches_to true old new own' client' page at address len copies' out begin inside alone first some few long made rest reads client copies behind apart = absurd (cc (alone))
+fetches_to false old new own' client' page at address len copies' out begin inside alone first some few long made rest reads client copies behind apart = record {
   copy = made.copy;
   made = copies ∙ made.made;
   fetched = subst (λ port. Fetches new.own port address at (length out) out made.copy) (sym client)
       (fetches_bytes old.own own' new.own client' page at address len (own_name old.own 0) made.copy out begin inside
       (same_first false old.own own' refl made.rest first) some few long refl made.rest.place made.copied rest reads);
+  kind = subst (λ (place : PortPlace). is_data place.unit made.copy ≡ true) (sym (rest.place ∙ made.rest.place))
+      (in_behind false old.own.place.unit old.own own' client' address at len made.copy (same_first false old.own own' refl made.rest first) some
+      (omega (arith, begin, inside, few)) (omega (arith, begin, behind)) refl (ap (λ (place : PortPlace). place.unit) made.rest.place) apart made.copied);
 }
 
 -- where nothing was done

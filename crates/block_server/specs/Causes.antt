@@ -33,11 +33,14 @@ pub record IsDenied (is_shared : Bool) (old new : PortState) (right : Right) (ad
 
 -- what its windows tell a server unit: that the client's refuses a range of so many bytes for a right, and why; that a copy
 -- under mark 0 brought bytes from this address of the client's to that one of the unit's own; or that one under a mark
--- carried bytes from this address of the own to that one of the client's
+-- carried bytes from this address of the own to that one of the client's; and the same of the copy of this number, from 0,
+-- among those of the unit's tables and data
 pub data News : Type 0 where
   denied : Right → ℕ → ℕ → HoldFault → News
   fetched : (address at : ℕ) → List ℕ → News
   delivered : (at address mark : ℕ) → List ℕ → News
+  nth_fetched : (number address at : ℕ) → List ℕ → News
+  nth_delivered : (number at address mark : ℕ) → List ℕ → News
 
 -- what was told, and which unit was
 pub record Told : Type 0 where

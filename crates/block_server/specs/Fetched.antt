@@ -1,5 +1,5 @@
 -- What is known of the pieces of a command's data while its tables and its data-out are fetched.
-use Rattle.std.specs.Prelude.{◌≡◌, ⊤, ℕ, List, ◌∷◌, Result, Ok, length}
+use Rattle.std.specs.Prelude.{◌≡◌, ⊤, ℕ, List, ◌∷◌, Result, Ok, Err, length}
 use Rattle.vio_num.specs.declared.memory.NoMemory.{NoMemory}
 use Rattle.srp_iu.specs.declared.buffer.Desc.{Desc}
 use Rattle.srp_iu.specs.declared.command.Cmd.{Cmd}
@@ -10,7 +10,7 @@ use Rattle.tce_window.specs.declared.answers.Right.TheVariants.{Read}
 use Rattle.block_server.specs.Causes.{Hearing, IsNamed, tables_at}
 use Rattle.block_server.specs.Causes.News.{denied, fetched}
 use Rattle.block_server.specs.declared.fetching.Progress.{Progress}
-use Rattle.block_server.specs.declared.fetching.Progress.TheVariants.{Done, Refused}
+use Rattle.block_server.specs.declared.fetching.Progress.TheVariants.{Busy, Done, Refused}
 use Rattle.block_server.specs.declared.request.Order.TheVariants.{Command}
 use Rattle.block_server.specs.declared.request.Request.{Request}
 use Rattle.block_server.specs.declared.service.Service.{Service}
@@ -87,3 +87,9 @@ IfDone _ P = ⊤
 abbrev pub IfRefused : Result Progress NoMemory → Type 0 → Type 0
 IfRefused (Ok Refused) P = P
 IfRefused _ P = ⊤
+
+-- where a page is in use or memory is wanting, P
+abbrev pub IfStill : Result Progress NoMemory → Type 0 → Type 0
+IfStill (Ok Busy) P = P
+IfStill (Err memory) P = P
+IfStill _ P = ⊤

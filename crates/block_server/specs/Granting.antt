@@ -14,6 +14,7 @@ use Rattle.block_server.specs.Causes.News.{delivered, fetched}
 use Rattle.block_server.specs.Ends.{IsGrantable, IsRejection}
 use Rattle.block_server.specs.Judged.{is_login}
 use Rattle.block_server.specs.Responses.{GrantsLogin}
+use Rattle.block_server.specs.declared.logins.Logins.{Logins}
 use Rattle.block_server.specs.declared.request.Order.TheVariants as orders
 use Rattle.block_server.specs.declared.request.Request.{Request}
 use Rattle.block_server.specs.declared.service.Outcome.TheVariants.{Granted, Rejected, Served}
@@ -59,6 +60,14 @@ pub record IsRejectedOver (Hears : Hearing) (taken : List PipeRow) (session numb
 
 -- KEPT BETWEEN TURNS -----------------------------------------------------------------------------
 
+-- what of a unit's logins an offer goes by: how many requests each grants, and the one that is on, or 0
+pub record LoginState : Type 0 where
+  pub granted : ℕ
+  pub current : ℕ
+
+abbrev pub login_state : Logins → LoginState
+login_state logins = record { granted = logins.granted; current = logins.current }
+
 -- The oldest request asks for a login that may be granted, and these bytes grant it so many requests.
 pub record IsOffered (number credits : ℕ) (answer : List ℕ) (pending : List Request) : Type 0 where
   pub front : Request
@@ -75,19 +84,18 @@ pub record IsOfferedOver (Hears : Hearing) (number credits : ℕ) (answer : List
   pub offered : IsOffered number credits answer pending
   pub written : Hears (delivered units_at offered.front.address offered.front.tag answer)
 
--- The oldest request asks for a login, and these bytes reject it.
-pub record IsRejecting (answer : List ℕ) (pending : List Request) : Type 0 where
+-- The oldest request asks for a login, and these bytes reject it, while this login is on, or none.
+pub record IsRejecting (current : ℕ) (answer : List ℕ) (pending : List Request) : Type 0 where
   pub front : Request
   pub rest : List Request
   pub parts : pending ≡ front ∷ rest
   pub asked : LoginReq
   pub asks : front.order ≡ orders.Login asked
-  pub current : ℕ
   pub rejects : IsRejection current asked answer
 
 -- The same, and a copy wrote them over the request.
-pub record IsRejectingOver (Hears : Hearing) (answer : List ℕ) (pending : List Request) : Type 0 where
-  pub rejecting : IsRejecting answer pending
+pub record IsRejectingOver (Hears : Hearing) (current : ℕ) (answer : List ℕ) (pending : List Request) : Type 0 where
+  pub rejecting : IsRejecting current answer pending
   pub written : Hears (delivered units_at rejecting.front.address rejecting.front.tag answer)
 
 -- The oldest request asks for no login.
@@ -98,11 +106,11 @@ pub record HasOtherFront (pending : List Request) : Type 0 where
   pub other : is_login front.order ≡ false
 
 -- What is so of a login that is to be granted or rejected, at each stage, and of another request that is to be answered.
-abbrev pub HasOffer : Hearing → Stage → (credits : ℕ) → (answer : List ℕ) → List Request → Type 0
-HasOffer Hears (Answer (Granted number)) credits answer pending = IsOffered number credits answer pending
-HasOffer Hears (Entry (Granted number)) credits answer pending = IsOfferedOver Hears number credits answer pending
-HasOffer Hears (Answer Rejected) credits answer pending = IsRejecting answer pending
-HasOffer Hears (Entry Rejected) credits answer pending = IsRejectingOver Hears answer pending
-HasOffer Hears (Answer (Served row)) credits answer pending = HasOtherFront pending
-HasOffer Hears (Entry (Served row)) credits answer pending = HasOtherFront pending
-HasOffer Hears _ credits answer pending = ⊤
+abbrev pub HasOffer : Hearing → Stage → LoginState → (answer : List ℕ) → List Request → Type 0
+HasOffer Hears (Answer (Granted number)) logins answer pending = IsOffered number logins.granted answer pending
+HasOffer Hears (Entry (Granted number)) logins answer pending = IsOfferedOver Hears number logins.granted answer pending
+HasOffer Hears (Answer Rejected) logins answer pending = IsRejecting logins.current answer pending
+HasOffer Hears (Entry Rejected) logins answer pending = IsRejectingOver Hears logins.current answer pending
+HasOffer Hears (Answer (Served row)) logins answer pending = HasOtherFront pending
+HasOffer Hears (Entry (Served row)) logins answer pending = HasOtherFront pending
+HasOffer Hears _ logins answer pending = ⊤

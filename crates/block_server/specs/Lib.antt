@@ -1,5 +1,6 @@
 pub mod Advances
 pub mod Answering
+pub mod Asked
 pub mod Books
 pub mod Cargo
 pub mod Carried
@@ -23,6 +24,7 @@ pub mod LoginAnswers
 pub mod Makers
 pub mod Moves
 pub mod Numbers
+pub mod Numbered
 pub mod Orders
 pub mod Owed
 pub mod Parts
@@ -30,8 +32,11 @@ pub mod Ready
 pub mod Receipts
 pub mod Records
 pub mod Refusals
+pub mod Rejecting
 pub mod Responses
 pub mod Service
+pub mod Resting
+pub mod Runs
 pub mod Serving
 pub mod SiteState
 pub mod Stage

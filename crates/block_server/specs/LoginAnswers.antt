@@ -1,6 +1,7 @@
 -- Which entries answered the requests to log in: each grants a login, and a line says so, or rejects one (SRP, "SRP_LOGIN_RSP
 -- response", "SRP_LOGIN_REJ response").
 use Rattle.std.specs.Prelude.{◌≡◌, ◌||◌, ◌++◌, ℕ, Bool, true, false, All, List, [], ◌∷◌, Option, Some, None, filter, map}
+use Rattle.block_server.specs.Asked.{AskedAt}
 use Rattle.std.specs.List.{filter_map}
 use Rattle.crq_ring.specs.declared.rows.PipeRow.{PipeRow}
 use Rattle.vio_num.specs.Entry.{srp_entry}
@@ -31,10 +32,13 @@ is_grant (Lapsed unit session login cause outstanding granted) = false
 abbrev pub grants_in : List Grant → List Grant
 grants_in lines = filter is_grant lines
 
--- an answer that was put: its entry, and the line that says what it grants, if it grants a login
+-- an answer that was put: its entry, the line that says what it grants, if it grants a login, where its request was asked, and, if
+-- it rejects one, the login that was on, or 0
 pub record LoginAnswer : Type 0 where
   pub entry : Entry
   pub line : Option Grant
+  pub asked : AskedAt
+  pub on : ℕ
 
 abbrev pub entry_put : LoginAnswer → Entry
 entry_put answer = answer.entry
@@ -42,27 +46,30 @@ entry_put answer = answer.entry
 abbrev pub line_of : LoginAnswer → Option Grant
 line_of answer = answer.line
 
+abbrev pub asked_at : LoginAnswer → AskedAt
+asked_at answer = answer.asked
+
 -- The entry puts what granted the login of this number so many requests: it has the length of an SRP_LOGIN_RSP, and the tag
 -- of the request.
-pub record IsGrantPut (Hears : Hearing) (taken : List PipeRow) (session number credits : ℕ) (entry : Entry) : Type 0 where
+pub record IsGrantPut (Hears : Hearing) (taken : List PipeRow) (session number credits : ℕ) (entry : Entry) (asked : AskedAt) : Type 0 where
   pub over : IsGrantedOver Hears taken session number credits
   pub entry_is : entry ≡ srp_entry login_rsp_len over.asked.tag
+  pub asked_is : asked ≡ record { session = session; number = number }
 
 -- The entry puts what rejected a login: it has the length of an SRP_LOGIN_REJ, and the tag of the request.
-pub record IsRejectionPut (Hears : Hearing) (taken : List PipeRow) (entry : Entry) : Type 0 where
-  pub session : ℕ
-  pub number : ℕ
-  pub over : IsRejectedOver Hears taken session number
+pub record IsRejectionPut (Hears : Hearing) (taken : List PipeRow) (entry : Entry) (asked : AskedAt) (on : ℕ) : Type 0 where
+  pub over : IsRejectedOver Hears taken asked.session asked.number
   pub entry_is : entry ≡ srp_entry login_rej_len over.asked.tag
+  pub on_is : over.current ≡ on
 
 -- The answer is one or the other.
-abbrev pub IsLoginPut : (Hears : Hearing) (taken : List PipeRow) → Entry → Option Grant → Type 0
-IsLoginPut Hears taken entry (Some (Granted unit session login number credits)) = IsGrantPut Hears taken session number credits entry
-IsLoginPut Hears taken entry (Some (Lapsed unit session login cause outstanding granted)) = ⊥
-IsLoginPut Hears taken entry None = IsRejectionPut Hears taken entry
+abbrev pub IsLoginPut : (Hears : Hearing) (taken : List PipeRow) → Entry → Option Grant → AskedAt → (on : ℕ) → Type 0
+IsLoginPut Hears taken entry (Some (Granted unit session login number credits)) asked on = IsGrantPut Hears taken session number credits entry asked
+IsLoginPut Hears taken entry (Some (Lapsed unit session login cause outstanding granted)) asked on = ⊥
+IsLoginPut Hears taken entry None asked on = IsRejectionPut Hears taken entry asked on
 
 abbrev pub IsLoginAnswer : (Hears : Hearing) (taken : List PipeRow) → LoginAnswer → Type 0
-IsLoginAnswer Hears taken answer = IsLoginPut Hears taken answer.entry answer.line
+IsLoginAnswer Hears taken answer = IsLoginPut Hears taken answer.entry answer.line answer.asked answer.on
 
 -- Answers to requests to log in were put behind those that were, and the lines that came and grant a login are those of
 -- the answers that do, one each, in their order.

@@ -1,5 +1,5 @@
 -- The copies of a server unit that fetch information units, and what a call leaves of the unit's intake.
-use Rattle.std.specs.Prelude.{◌≡◌, ◌==◌, ◌&&◌, ℕ, Bool, true, false, List, [], ◌∷◌, ◌++◌, filter, length}
+use Rattle.std.specs.Prelude.{◌≡◌, ◌==◌, ◌&&◌, ℕ, Bool, true, false, not, List, [], ◌∷◌, ◌++◌, filter, length}
 use Rattle.vio_num.specs.declared.names.UnitId.{UnitId}
 use Rattle.crq_ring.specs.declared.rows.PipeRow.{PipeRow}
 use Rattle.tce_window.specs.declared.piece.Piece.{Piece}
@@ -21,6 +21,19 @@ begin_on unit page (piece ∷ pieces) = same_unit piece.unit unit && (piece.page
 -- whether a copy moved an information unit to the unit's region: by the unit, to page 0 of its own window
 abbrev pub is_intake : UnitId → CopyRecord → Bool
 is_intake unit copy = is_by unit copy && begin_on unit 0 copy.to.items
+
+-- whether a copy moved a table or data: by the unit, neither to page 0 of its own window, as requests are, nor from there, as
+-- answers are
+abbrev pub is_data : UnitId → CopyRecord → Bool
+is_data unit copy = is_by unit copy && (not (begin_on unit 0 copy.to.items) && not (begin_on unit 0 copy.from.items))
+
+-- the copies of a unit's tables and data, in the order of time
+abbrev pub data_copies : UnitId → List CopyRecord → List CopyRecord
+data_copies unit copies = filter (is_data unit) copies
+
+-- how many there are
+abbrev pub data_count : UnitId → List CopyRecord → ℕ
+data_count unit copies = length (data_copies unit copies)
 
 -- The copy moved `len` bytes, these, from this address of the client's window to that one of the unit's own, under mark 0.
 pub record Fetches (own client : PortState) (address at len : ℕ) (bytes : List ℕ) (copy : CopyRecord) : Type 0 where

@@ -4,6 +4,7 @@ use Rattle.srp_iu.specs.declared.buffer.Desc.{Desc}
 use Rattle.srp_desc.specs.Pieces.{sum_of}
 use Rattle.block_server.specs.Carried.{address_of}
 use Rattle.block_server.specs.Causes.{IsPartOf, ReachesPast}
+use Rattle.block_server.specs.Runs.{IsPart}
 use Rattle.block_server.specs.declared.cursor.Cursor.{Cursor}
 
 -- A run of bytes from this address on lies in one of the pieces, or has none since a piece reaches past every address.
@@ -15,6 +16,11 @@ LiesIn list None len = ReachesPast list
 abbrev pub LiesAt : List Desc → (at : ℕ) → Option ℕ → (len : ℕ) → Type 0
 LiesAt list at (Some address) len = (j : ℕ) → j < len → address_of list (at + j) ≡ Some (address + j)
 LiesAt list at None len = ⊤
+
+-- It is the part that a copy moves next, of as many of the data as are wanted, if it has an address.
+abbrev pub IsPartAt : List Desc → (wanted at : ℕ) → Option ℕ → (len : ℕ) → Type 0
+IsPartAt list wanted at (Some address) len = IsPart list wanted at address len
+IsPartAt list wanted at None len = ⊤
 
 -- as many bytes as the first piece has, if there is one
 abbrev pub first_len : List Desc → ℕ

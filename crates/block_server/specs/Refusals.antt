@@ -1,27 +1,30 @@
 -- Why a session of a server unit ends as refused: its client's window denied a range (SRP, "Information unit classes"; LoPAR,
 -- "Remote DMA").
-use Rattle.std.specs.Prelude.{⊤, ◌≡◌, ◌⊎◌, ◌++◌, ℕ, Bool, true, All, List, [], ◌∷◌, Option, Some, None, IfSome, length}
+use Rattle.std.specs.Prelude.{⊤, ◌≡◌, ◌⊎◌, ◌++◌, ℕ, Bool, true, All, List, [], ◌∷◌, Option, Some, None, IfSome, length, map}
 use Rattle.std.specs.List.{slice_get}
 use Rattle.crq_ring.specs.declared.rows.PipeRow.{PipeRow}
 use Rattle.crq_session.specs.EndState.{EndState}
 use Rattle.tce_window.specs.declared.answers.HoldFault.{HoldFault}
 use Rattle.tce_window.specs.declared.answers.Right.TheVariants.{Read, Write}
 use Rattle.vio_num.specs.Entry.{iu_address, iu_length}
+use Rattle.vio_num.specs.Words.{Begins}
 use Rattle.vio_num.specs.declared.entry.Entry.{Entry}
 use Rattle.vio_num.specs.declared.history.Grant.{Grant}
 use Rattle.vio_num.specs.declared.history.Grant.TheVariants.{Granted, Lapsed}
 use Rattle.vio_num.specs.declared.history.Lapse.TheVariants as lapses
 use Rattle.vio_num.specs.declared.history.Served.{Served}
 use Rattle.vio_num.specs.declared.names.UnitId.{UnitId}
+use Rattle.block_server.specs.Asked.{AreAskedInOrder, AskInOrder, AskedAt, still_to_answer}
 use Rattle.block_server.specs.Causes.{Hearing, Told, told_to}
 use Rattle.block_server.specs.Causes.News.{denied}
 use Rattle.block_server.specs.Dealt.{AreDealt}
 use Rattle.block_server.specs.Entries.{is_answer_len}
 use Rattle.block_server.specs.Granting.{IsGrantedOver, IsSrpAt}
 use Rattle.block_server.specs.Heard.{TellsAll}
-use Rattle.block_server.specs.LoginAnswers.{LoginsMore, login_answers}
+use Rattle.block_server.specs.LoginAnswers.{LoginsMore, asked_at, grants_in, login_answers}
 use Rattle.block_server.specs.Makers.{same_unit}
 use Rattle.block_server.specs.Receipts.{is_ended}
+use Rattle.block_server.specs.Rejecting.{IsOnByLines, LinesTellLogin, RejectInTime}
 use Rattle.block_server.specs.Serving.{Desk, IsServing, Terms}
 use Rattle.block_server.specs.SiteState.{IsDeniedBetween, SiteState}
 use Rattle.block_server.specs.declared.records.Records.{Records}
@@ -88,6 +91,9 @@ pub record AreExplained (told : Told → Bool) (unit : UnitId) (since : List Gra
 
 -- the same between the steps of a turn, and the answers to requests to log in that were put
 pub record Ledger : Type 0 where
+  pub id : UnitId
+  -- the login that is on, or 0
+  pub current : ℕ
   pub session : ℕ
   pub taken : List PipeRow
   pub waiting : Option Arrival
@@ -108,6 +114,8 @@ basis_in ledger = record {
 
 abbrev pub ledger_at : Unit → (session : ℕ) → List PipeRow → (answers : List Entry) → Records → Ledger
 ledger_at unit session taken answers records = record {
+  id = unit.id;
+  current = unit.logins.current;
   session = session;
   taken = taken;
   waiting = unit.waiting;
@@ -120,6 +128,10 @@ ledger_at unit session taken answers records = record {
 abbrev pub ledger_of : Unit → SiteState → Records → Ledger
 ledger_of unit site records = ledger_at unit site.queue.last_session site.queue.taken (login_answers site.queue.sent) records
 
+-- where the requests were asked that are still to be answered, and behind them where the entry stands that is judged next
+abbrev pub to_answer : Ledger → List AskedAt
+to_answer ledger = still_to_answer ledger.session ledger.taken ledger.waiting ledger.pending
+
 -- the same while this entry waits
 abbrev pub waiting_in : Arrival → Ledger → Ledger
 waiting_in arrival ledger = record ledger { waiting = Some arrival }
@@ -131,6 +143,8 @@ pub record Front : Type 0 where
   pub answers : List Entry
   -- whether it is known what became of the requests to log in
   pub deals : Bool
+  -- where the requests were asked to log in that were answered before, where that is known
+  pub asked : Option (List AskedAt)
 
 -- Each line behind these has its cause, and each answer to a request to log in that was put in the turn is its line's, or a
 -- rejection.
@@ -138,6 +152,12 @@ pub record AreAccounted (told : Told → Bool) (unit : UnitId) (front : Front) (
   pub known : AreExplained told unit front.since (basis_in ledger)
   pub logins : LoginsMore (told_to told unit) ledger.taken front.answers ledger.answers front.lines ledger.lines
   pub dealt : front.deals ≡ true → AreDealt (told_to told unit) ledger.session ledger.taken ledger.waiting ledger.pending ledger.ended
+  -- the requests were answered in their order, and those that are still to be answered were asked behind them
+  pub order : (earlier : List AskedAt) → front.asked ≡ Some earlier → AreAskedInOrder (earlier ++ (map asked_at logins.more ++ to_answer ledger))
+  -- and the lines, which came behind those of before, say which login is on, and was as each of them was rejected
+  pub grown : Begins front.lines ledger.lines
+  pub on : (earlier : List AskedAt) → front.asked ≡ Some earlier → IsOnByLines ledger.id ledger.session ledger.current ledger.ended ledger.lines
+  pub rejects : (earlier : List AskedAt) → front.asked ≡ Some earlier → RejectInTime ledger.id (grants_in front.lines) ledger.lines logins.more
 
 -- This stays so, whatever was told.
 abbrev pub Explains : (old new : Ledger) → Type 0
@@ -193,3 +213,13 @@ ExplainNone units = (told : Told → Bool) (number : ℕ) (unit : UnitId) (queue
 abbrev pub AnswersLogins : (told : Told → Bool) → UnitId → (queue queue' : EndState) → (records records' : Records) → Type 0
 AnswersLogins told unit queue queue' records records' =
     LoginsMore (told_to told unit) queue'.taken (login_answers queue.sent) (login_answers queue'.sent) records.grants.items records'.grants.items
+
+-- These answers are to requests that were asked in order, each at most once: behind those asked at the earlier places, and before
+-- what the unit of this number has still to answer.
+pub record AnswersInOrder (told : Told → Bool) (earlier : List AskedAt) (units' : List Unit) (number : ℕ) (unit : UnitId) (queue queue' : EndState) (records records' : Records) : Type 0 where
+  pub logins : AnswersLogins told unit queue queue' records records'
+  pub order : AskInOrder (earlier ++ map asked_at logins.more) units' number queue'
+  -- and by the lines one was on as each of them was rejected for that, and none as each was rejected for another cause
+  pub lines : Begins records.grants.items records'.grants.items
+  pub rejects : RejectInTime unit (grants_in records.grants.items) records'.grants.items logins.more
+  pub on : LinesTellLogin units' number unit queue' records'.grants.items

@@ -31,16 +31,16 @@ use Rattle.block_server.specs.DiskLaw.{HasData, ServeBy, ServesRowBy, handed_ove
 use Rattle.block_server.specs.Fetched.{HasPieces, Buffers, buffers_of}
 use Rattle.block_server.specs.Answering.{AnswersMore, IsInService, OnlyRowsOf}
 use Rattle.block_server.specs.Entries.{IsPlain}
-use Rattle.block_server.specs.Granting.{HasOffer}
+use Rattle.block_server.specs.Granting.{HasOffer, LoginState, login_state}
 use Rattle.block_server.specs.Records.{AnswersRow, FillsRow}
 use Rattle.block_server.specs.Written.{AreWritten, IsWrittenOver}
 
 -- What a unit has in service: how far the oldest request's service has come, its answer and its data, the entry that found
--- the client's queue full, and the requests that are not answered, the oldest first; and how many requests a login grants.
+-- the client's queue full, and the requests that are not answered, the oldest first; and what logins are offered by.
 pub record Desk : Type 0 where
   pub id : UnitId
-  -- how many requests a login grants
-  pub credits : ℕ
+  -- how many requests a login grants, and the one that is on
+  pub logins : LoginState
   pub stage : Stage
   pub answer : List ℕ
   pub buffers : Buffers
@@ -50,7 +50,7 @@ pub record Desk : Type 0 where
 abbrev pub desk_of : Unit → Desk
 desk_of unit = record {
   id = unit.id;
-  credits = unit.logins.granted;
+  logins = login_state unit.logins;
   stage = unit.service.stage;
   answer = unit.service.answer.items;
   buffers = buffers_of unit.service;
@@ -59,10 +59,10 @@ desk_of unit = record {
 }
 
 -- the same while a service is apart from its unit, which keeps no entry
-abbrev pub desk_at : UnitId → (credits : ℕ) → Service → Option Kept → List Request → Desk
-desk_at id credits service kept pending = record {
+abbrev pub desk_at : UnitId → LoginState → Service → Option Kept → List Request → Desk
+desk_at id logins service kept pending = record {
   id = id;
-  credits = credits;
+  logins = logins;
   stage = service.stage;
   answer = service.answer.items;
   buffers = buffers_of service;
@@ -166,7 +166,7 @@ pub record IsServing (terms : Terms) (desk : Desk) (history : List ServedRow) : 
   pub kept : (kept : Kept) → desk.kept ≡ Some kept → IsKept desk kept
   pub fetched : HasPieces (told_to terms.told desk.id) desk.stage desk.buffers.outs desk.buffers.inns desk.pending
   pub brought : AreBrought (told_to terms.told desk.id) desk.pending
-  pub offer : HasOffer (told_to terms.told desk.id) desk.stage desk.credits desk.answer desk.pending
+  pub offer : HasOffer (told_to terms.told desk.id) desk.stage desk.logins desk.answer desk.pending
 
 -- The rows took these blocks, as many as the disk has, to others.
 pub record ServeFrom (terms : Terms) (before : List (List ℕ)) (history : List ServedRow) (all : List (List ℕ)) : Type 0 where

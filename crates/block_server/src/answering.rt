@@ -2,7 +2,7 @@
 ghost use Rattle.std.specs.Prelude.{◌≡◌, ◌≢◌, ◌⊎◌, ◌+◌, ◌<◌, ◌∷◌, ◌++◌, ℕ, Bool, List, None, Some, IfOk, OnOk, drop, false, true};
 ghost use Rattle.block_server.specs.Advances.{Advances};
 ghost use Rattle.block_server.specs.Books.{books_at, books_of};
-ghost use Rattle.block_server.specs.Cargo.{KeepsCargo, cargo_at, cargo_of, is_loaded, rows_of};
+ghost use Rattle.block_server.specs.Cargo.{KeepsCargo, Sight, cargo_at, cargo_of, is_loaded, rows_of};
 ghost use Rattle.block_server.specs.declared.service.Service.{Service};
 ghost use Rattle.vio_num.specs.declared.names.UnitId.{UnitId};
 ghost use Rattle.block_server.specs.Ends.{EndsLogin};
@@ -100,7 +100,8 @@ pub(crate) fn end_session(
     ensures cuts { (q : EndState) → session ≡ q.last_session → is_logout cause ≡ false →
         HasAnswers (owing_of unit.old q records.old) → AreCutOff unit.old.id
         (row_states records.new.history.items) records.new.grants.items }
-    ensures cargo { (shown shown' : ℕ → ℕ) → KeepsCargo
+    ensures cargo { (shown shown' : Sight) →
+        shown'.pages.count ≡ shown.pages.count → KeepsCargo
         (cargo_at unit.old.id unit.old.service shown records.old.history.items)
         (cargo_at unit.new.id unit.new.service shown' records.new.history.items) }
 {
@@ -133,7 +134,8 @@ pub(crate) fn end_counted(
     ensures cuts { (q : EndState) → session ≡ q.last_session → is_logout cause ≡ false →
         HasAnswers (owing_of unit.old q records.old) → AreCutOff unit.old.id
         (row_states records.new.history.items) records.new.grants.items }
-    ensures cargo { (shown shown' : ℕ → ℕ) → KeepsCargo
+    ensures cargo { (shown shown' : Sight) →
+        shown'.pages.count ≡ shown.pages.count → KeepsCargo
         (cargo_at unit.old.id unit.old.service shown records.old.history.items)
         (cargo_at unit.new.id unit.new.service shown' records.new.history.items) }
 {
@@ -161,7 +163,8 @@ pub(crate) fn lose_partner(unit: &mut Unit, session: u64, records: &mut Records)
     ensures cuts { (q : EndState) → session ≡ q.last_session →
         HasAnswers (owing_of unit.old q records.old) → AreCutOff unit.old.id
         (row_states records.new.history.items) records.new.grants.items }
-    ensures cargo { (shown shown' : ℕ → ℕ) → KeepsCargo
+    ensures cargo { (shown shown' : Sight) →
+        shown'.pages.count ≡ shown.pages.count → KeepsCargo
         (cargo_at unit.old.id unit.old.service shown records.old.history.items)
         (cargo_at unit.new.id unit.new.service shown' records.new.history.items) }
 {
@@ -193,7 +196,8 @@ fn end_login(
     ensures cuts { (q : EndState) → session ≡ q.last_session → is_logout cause ≡ false →
         HasAnswers (owing_of unit.old q records.old) → AreCutOff unit.old.id
         (row_states records.new.history.items) records.new.grants.items }
-    ensures cargo { (shown shown' : ℕ → ℕ) → KeepsCargo
+    ensures cargo { (shown shown' : Sight) →
+        shown'.pages.count ≡ shown.pages.count → KeepsCargo
         (cargo_at unit.old.id unit.old.service shown records.old.history.items)
         (cargo_at unit.new.id unit.new.service shown' records.new.history.items) }
 {
@@ -226,7 +230,8 @@ fn leave_row(unit: &mut Unit, records: &mut Records)
     ensures waiting { unit.new.waiting ≡ unit.old.waiting }
     ensures keys { keys_of records.new.history.items ≡ keys_of records.old.history.items }
     ensures states { row_states records.new.history.items ≡ row_states records.old.history.items }
-    ensures cargo { (shown shown' : ℕ → ℕ) → KeepsCargo
+    ensures cargo { (shown shown' : Sight) →
+        shown'.pages.count ≡ shown.pages.count → KeepsCargo
         (cargo_at unit.old.id unit.old.service shown records.old.history.items)
         (cargo_at unit.new.id unit.new.service shown' records.new.history.items) }
 {
@@ -241,8 +246,8 @@ fn cut_data(service: &mut Service, records: &mut Records)
     ensures grants { records.new.grants ≡ records.old.grants }
     ensures keys { keys_of records.new.history.items ≡ keys_of records.old.history.items }
     ensures states { row_states records.new.history.items ≡ row_states records.old.history.items }
-    ensures cargo { (id : UnitId) → (shown shown' : ℕ → ℕ) → (after : Service) →
-        after.stage ≡ Stage.Start → KeepsCargo
+    ensures cargo { (id : UnitId) → (shown shown' : Sight) → (after : Service) →
+        shown'.pages.count ≡ shown.pages.count → after.stage ≡ Stage.Start → KeepsCargo
         (cargo_at id service.old shown records.old.history.items)
         (cargo_at id after shown' records.new.history.items) }
 {
@@ -274,13 +279,14 @@ pub(crate) fn log_out(unit: &mut Unit, session: u64, records: &mut Records)
         unit.old.pending.items ≡ front ∷ rest → gets_row front.order ≡ false →
         HasAnswers (owing_of unit.old q records.old) →
         HasAnswers (owing_of unit.new q records.new) }
-    ensures cargo { (shown shown' : ℕ → ℕ) →
+    ensures cargo { (shown shown' : Sight) →
+        shown'.pages.count ≡ shown.pages.count →
         is_loaded unit.old.service.stage ≡ false → KeepsCargo
         (cargo_at unit.old.id unit.old.service shown records.old.history.items)
         (cargo_at unit.new.id unit.new.service shown' records.new.history.items) }
     ensures refuses { (queue : ℕ) → (taken : List PipeRow) → (answers : List Entry) →
-        (front : Request) → (rest : List Request) → unit.old.pending.items ≡ front ∷ rest →
-        is_login front.order ≡ false → Explains
+        (front : Request) → (rest : List Request) → session ≡ queue →
+        unit.old.pending.items ≡ front ∷ rest → is_login front.order ≡ false → Explains
         (ledger_at unit.old queue taken answers records.old)
         (ledger_at unit.new queue taken answers records.new) }
 {
@@ -497,6 +503,8 @@ pub(crate) fn put_kept<S: Site>(
     site: &mut S,
     records: &mut Records,
 ) -> Result<Next, NoMemory>
+    ensures rests { unit.old.line.kept ≡ None → IfOk result (λ next. (next ≡ Next.Entry) ×
+        (unit.new ≡ unit.old) × (S.state site.new ≡ S.state site.old)) }
     ensures none { AsNone result unit.new.line.kept }
     ensures once { AnswersOnce (desk_of unit.old) (desk_of unit.new)
         (S.state site.old).queue (S.state site.new).queue records.old records.new }

@@ -2,7 +2,7 @@
 ghost use Rattle.std.specs.Prelude.{◌≡◌, ◌+◌, ◌-◌, ◌^◌, ◌<◌, ◌≤◌, None, IfSome, length, min};
 ghost use Rattle.srp_desc.specs.declared.pieces.TheConstants.{MAX_DATA_LEN};
 ghost use Rattle.srp_desc.specs.Pieces.{sum_of};
-ghost use Rattle.block_server.specs.Parts.{IsPlacedAt, LiesAt, LiesIn};
+ghost use Rattle.block_server.specs.Parts.{IsPartAt, IsPlacedAt, LiesAt, LiesIn};
 
 use srp_iu::Desc;
 
@@ -61,6 +61,8 @@ impl Cursor {
         ensures piece { IfSome result (λ part. LiesIn pieces.now part.address part.len) }
         ensures there { IsPlacedAt pieces.now self → IfSome result (λ part.
             LiesAt pieces.now part.at part.address part.len) }
+        ensures part { IsPlacedAt pieces.now self → IfSome result (λ part.
+            IsPartAt pieces.now limit part.at part.address part.len) }
         ensures placed { IsPlacedAt pieces.now self → IfSome result (λ part.
             IsPlacedAt pieces.now part.end) }
         ensures all { IsPlacedAt pieces.now self → result ≡ None →

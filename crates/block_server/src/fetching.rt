@@ -1,12 +1,13 @@
 // What a command brings: the tables of its descriptors, and its data-out.
-ghost use Rattle.block_server.specs.Cargo.{IsAccounted, IsFetchedAll, KeepsCargo, cargo_at, data_bytes};
+ghost use Rattle.block_server.specs.Cargo.{IsAccounted, IsFetchedAll, Sight, cargo_at, data_total, seen};
+ghost use Rattle.block_server.specs.Numbered.{NamesNext, ReadsNext};
 ghost use Rattle.srp_desc.specs.declared.pieces.TheConstants.{MAX_DATA_LEN};
 ghost use Rattle.block_server.specs.Parts.{IsPlacedAt};
 ghost use Rattle.vio_num.specs.declared.history.Served.{Served};
-ghost use Rattle.std.specs.Prelude.{◌≡◌, ◌⊎◌, ◌%◌, ◌≤◌, ℕ, Bool, IfOk, List, false, true};
+ghost use Rattle.std.specs.Prelude.{◌≡◌, ◌⊎◌, ◌%◌, ◌≤◌, Bool, IfOk, List, Option, Some, false, true};
 ghost use Rattle.block_server.specs.Advances.{Advances};
 ghost use Rattle.block_server.specs.Causes.{IsBad, IsNamed, RefusesBuffer, RefusesData, RefusesOut, Told, TurnsDown, told_to};
-ghost use Rattle.block_server.specs.Fetched.{DeniesTable, HasBadSum, IfDone, IfRefused, IsRead, KnowsPieces};
+ghost use Rattle.block_server.specs.Fetched.{DeniesTable, HasBadSum, IfDone, IfRefused, IfStill, IsRead, KnowsPieces};
 ghost use Rattle.block_server.specs.Moves.{Passes};
 ghost use Rattle.vio_num.specs.declared.names.UnitId.{UnitId};
 ghost use Rattle.block_server.specs.Heard.{TellsAll, heard_between};
@@ -60,13 +61,16 @@ pub(crate) fn fetch<S: Site>(
     ensures queue { (S.state site.new).queue ≡ (S.state site.old).queue }
     ensures advances { Advances (S.state site.old) (S.state site.new) }
     ensures passes { Passes (S.state site.old) (S.state site.new) }
-    ensures cargo { (id : UnitId) → (told : Told → Bool) →
+    ensures cargo { (id : UnitId) → (told : Told → Bool) → (asked : Bool) →
         TellsAll told id (S.state site.old) (S.state site.new) → (rows : List Served) →
-        IsAccounted told (cargo_at id service.old (data_bytes (S.state site.old).own) rows) →
-        IsAccounted told (cargo_at id service.new (data_bytes (S.state site.new).own) rows) }
-    ensures all { (id : UnitId) → (told : Told → Bool) →
+        IsAccounted told asked (cargo_at id service.old
+        (seen (Some command.now) (S.state site.old)) rows) →
+        IsAccounted told asked (cargo_at id service.new
+        (seen (Some command.now) (S.state site.new)) rows) }
+    ensures all { (id : UnitId) → (told : Told → Bool) → (asked : Bool) →
         TellsAll told id (S.state site.old) (S.state site.new) → (rows : List Served) →
-        IsAccounted told (cargo_at id service.old (data_bytes (S.state site.old).own) rows) →
+        IsAccounted told asked (cargo_at id service.old
+        (seen (Some command.now) (S.state site.old)) rows) →
         IfDone result (IsFetchedAll service.new) }
 {
     if is_refused(service, command) {
@@ -93,7 +97,7 @@ fn is_refused(service: &mut Service, command: &Cmd) -> bool
     ensures went { result ≡ false → is_before_step service.old.stage ≡ true →
         is_judged service.new.stage ≡ true }
     ensures refused { result ≡ true → IsBad command.now.out ⊎ IsBad command.now.inn }
-    ensures cargo { (id : UnitId) → (shown : ℕ → ℕ) → (rows : List Served) →
+    ensures cargo { (id : UnitId) → (shown : Sight) → (rows : List Served) →
         cargo_at id service.new shown rows ≡ cargo_at id service.old shown rows }
 {
     if service.stage != Stage::Start {
@@ -129,9 +133,12 @@ fn fetch_out_pieces<S: Site>(
     ensures queue { (S.state site.new).queue ≡ (S.state site.old).queue }
     ensures advances { Advances (S.state site.old) (S.state site.new) }
     ensures passes { Passes (S.state site.old) (S.state site.new) }
-    ensures cargo { (id : UnitId) → (rows : List Served) → KeepsCargo
-        (cargo_at id service.old (data_bytes (S.state site.old).own) rows)
-        (cargo_at id service.new (data_bytes (S.state site.new).own) rows) }
+    ensures cargo { (id : UnitId) → (told : Told → Bool) → (asked : Bool) →
+        TellsAll told id (S.state site.old) (S.state site.new) → (rows : List Served) →
+        IsAccounted told asked (cargo_at id service.old
+        (seen (Some command.now) (S.state site.old)) rows) →
+        IsAccounted told asked (cargo_at id service.new
+        (seen (Some command.now) (S.state site.new)) rows) }
 {
     if service.stage != Stage::OutTable {
         return Ok(Progress::Done);
@@ -143,7 +150,8 @@ fn fetch_out_pieces<S: Site>(
     Ok(progress)
 }
 
-// Finds the pieces of data-in, if that is to be done.
+// Finds the pieces of data-in, if that is to be done. Where they are refused, and that is tried again, both
+// tables are fetched anew.
 fn fetch_in_pieces<S: Site>(
     service: &mut Service,
     site: &mut S,
@@ -164,16 +172,21 @@ fn fetch_in_pieces<S: Site>(
     ensures queue { (S.state site.new).queue ≡ (S.state site.old).queue }
     ensures advances { Advances (S.state site.old) (S.state site.new) }
     ensures passes { Passes (S.state site.old) (S.state site.new) }
-    ensures cargo { (id : UnitId) → (rows : List Served) → KeepsCargo
-        (cargo_at id service.old (data_bytes (S.state site.old).own) rows)
-        (cargo_at id service.new (data_bytes (S.state site.new).own) rows) }
+    ensures cargo { (id : UnitId) → (told : Told → Bool) → (asked : Bool) →
+        TellsAll told id (S.state site.old) (S.state site.new) → (rows : List Served) →
+        IsAccounted told asked (cargo_at id service.old
+        (seen (Some command.now) (S.state site.old)) rows) →
+        IsAccounted told asked (cargo_at id service.new
+        (seen (Some command.now) (S.state site.new)) rows) }
 {
     if service.stage != Stage::InTable {
         return Ok(Progress::Done);
     }
     let progress = fetch_pieces(&mut service.inn, site, &command.inn)?;
-    if progress == Progress::Done {
-        service.stage = Stage::DataOut(Cursor::start());
+    match progress {
+        Progress::Done => service.stage = Stage::DataOut(Cursor::start()),
+        Progress::Refused => service.stage = Stage::OutTable,
+        Progress::Busy => {}
     }
     Ok(progress)
 }
@@ -196,12 +209,13 @@ fn fetch_data_out<S: Site>(service: &mut Service, site: &mut S) -> Result<Progre
     ensures queue { (S.state site.new).queue ≡ (S.state site.old).queue }
     ensures advances { Advances (S.state site.old) (S.state site.new) }
     ensures passes { Passes (S.state site.old) (S.state site.new) }
-    ensures cargo { (id : UnitId) → (told : Told → Bool) →
+    ensures cargo { (id : UnitId) → (told : Told → Bool) → (asked : Bool) →
         TellsAll told id (S.state site.old) (S.state site.new) → (rows : List Served) →
-        IsAccounted told (cargo_at id service.old (data_bytes (S.state site.old).own) rows) →
-        IsAccounted told (cargo_at id service.new (data_bytes (S.state site.new).own) rows) }
-    ensures all { (id : UnitId) → (told : Told → Bool) → (shown : ℕ → ℕ) → (rows : List Served) →
-        IsAccounted told (cargo_at id service.old shown rows) →
+        (first : Option Cmd) →
+        IsAccounted told asked (cargo_at id service.old (seen first (S.state site.old)) rows) →
+        IsAccounted told asked (cargo_at id service.new (seen first (S.state site.new)) rows) }
+    ensures all { (id : UnitId) → (told : Told → Bool) → (asked : Bool) → (shown : Sight) →
+        (rows : List Served) → IsAccounted told asked (cargo_at id service.old shown rows) →
         IfDone result (IsFetchedAll service.new) }
 {
     match service.stage {
@@ -219,6 +233,10 @@ fn fetch_pieces<S: Site>(
     ensures named { IfDone result
         (IsNamed (heard_between (S.state site.old) (S.state site.new)) buffer.now
         pieces.new.list.items) }
+    ensures numbered { IfDone result
+        (NamesNext (S.state site.old) (S.state site.new) buffer.now pieces.new.list.items) }
+    ensures still { IfStill result
+        (data_total (S.state site.new) ≡ data_total (S.state site.old)) }
     ensures refused { IfRefused result
         (RefusesBuffer (heard_between (S.state site.old) (S.state site.new)) buffer.now) }
     ensures busy { IfOk result (λ progress. progress ≡ Progress.Busy →
@@ -255,6 +273,10 @@ fn fetch_table<S: Site>(
     ensures read { IfDone result
         (IsRead (heard_between (S.state site.old) (S.state site.new)) table total
         pieces.new.list.items) }
+    ensures numbered { IfDone result
+        (ReadsNext (S.state site.old) (S.state site.new) table total pieces.new.list.items) }
+    ensures still { IfStill result
+        (data_total (S.state site.new) ≡ data_total (S.state site.old)) }
     ensures refused { IfRefused result
         (HasBadSum (heard_between (S.state site.old) (S.state site.new)) table total
         ⊎ DeniesTable (heard_between (S.state site.old) (S.state site.new)) table) }
@@ -298,10 +320,11 @@ fn fetch_data<S: Site>(
     ensures queue { (S.state site.new).queue ≡ (S.state site.old).queue }
     ensures advances { Advances (S.state site.old) (S.state site.new) }
     ensures passes { Passes (S.state site.old) (S.state site.new) }
-    ensures cargo { (id : UnitId) → (told : Told → Bool) →
+    ensures cargo { (id : UnitId) → (told : Told → Bool) → (asked : Bool) →
         TellsAll told id (S.state site.old) (S.state site.new) → (rows : List Served) →
-        IsAccounted told (cargo_at id service.old (data_bytes (S.state site.old).own) rows) →
-        IsAccounted told (cargo_at id service.new (data_bytes (S.state site.new).own) rows) }
+        (first : Option Cmd) →
+        IsAccounted told asked (cargo_at id service.old (seen first (S.state site.old)) rows) →
+        IsAccounted told asked (cargo_at id service.new (seen first (S.state site.new)) rows) }
     ensures all { IsPlacedAt service.old.out.list.items start →
         IfDone result (IsFetchedAll service.new) }
 {

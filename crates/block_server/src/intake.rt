@@ -1,5 +1,5 @@
 // Intake: entries are taken from the unit's queue, and the requests among them are fetched and judged.
-ghost use Rattle.block_server.specs.Cargo.{KeepsCargo, cargo_at, cargo_of};
+ghost use Rattle.block_server.specs.Cargo.{KeepsCargo, Pages, cargo_of, cargo_with};
 ghost use Rattle.std.specs.Prelude.{◌≡◌, ◌⊎◌, ◌↔◌, ◌+◌, ◌<◌, ◌≤◌, ℕ, List, None, Some, IfOk, IsTrue, OnOk, false, true, length, slice_index};
 ghost use Rattle.std.specs.VecDeque.{deque_len, deque_capacity};
 ghost use Rattle.block_server.specs.Records.{HasLineRoom};
@@ -8,6 +8,7 @@ ghost use Rattle.block_server.specs.Granting.{IsSrpAt};
 ghost use Rattle.crq_ring.specs.declared.rows.PipeRow.{PipeRow};
 ghost use Rattle.block_server.specs.Advances.{Advances};
 ghost use Rattle.block_server.specs.Ready.{Idles};
+ghost use Rattle.block_server.specs.Resting.{IsEmptied};
 ghost use Rattle.block_server.specs.Turns.{IfQuiet, StaysMoved, under_way};
 ghost use Rattle.block_server.specs.Waits.{AsNext, EndsIntake, FindsNothing, MeetsUse, StaysAgreed};
 ghost use Rattle.block_server.specs.Serving.{AnswersOnceBy, AnswersOnceIf, AsNone, desk_of};
@@ -94,6 +95,10 @@ pub(crate) fn take_in<S: Site>(
     records: &mut Records,
 ) -> Result<Next, NoMemory>
     requires none { unit.old.line.kept ≡ None }
+    ensures rests { S.link_shared ≡ false → unit.old.waiting ≡ None →
+        IsEmptied (S.state site.old).queue → OnOk result
+        ((unit.new.moved ≡ unit.old.moved) ×
+        (unit.new.pending.items ≡ unit.old.pending.items)) }
     ensures none { AsNone result unit.new.line.kept }
     ensures once { AnswersOnceBy (S.state site.old) (S.state site.new)
         (desk_of unit.old) (desk_of unit.new) records.old records.new }
@@ -145,6 +150,8 @@ fn receive_waiting<S: Site>(
     records: &mut Records,
 ) -> Result<Next, NoMemory>
     requires none { unit.old.line.kept ≡ None }
+    ensures rests { unit.old.waiting ≡ None → IfOk result (λ next. (next ≡ Next.Entry) ×
+        (unit.new ≡ unit.old) × (S.state site.new ≡ S.state site.old)) }
     ensures none { AsNone result unit.new.line.kept }
     ensures once { AnswersOnceBy (S.state site.old) (S.state site.new)
         (desk_of unit.old) (desk_of unit.new) records.old records.new }
@@ -196,9 +203,8 @@ fn make_room(unit: &mut Unit, records: &mut Records) -> Result<(), NoMemory>
         (books_at unit.new site records.new) }
     ensures owing { (q : EndState) →
         owing_of unit.new q records.new ≡ owing_of unit.old q records.old }
-    ensures cargo { (shown : ℕ → ℕ) →
-        cargo_at unit.new.id unit.new.service shown records.new.history.items ≡
-        cargo_at unit.old.id unit.old.service shown records.old.history.items }
+    ensures cargo { (pages : Pages) →
+        cargo_with unit.new pages records.new ≡ cargo_with unit.old pages records.old }
     ensures refuses { (queue : ℕ) → (taken : List PipeRow) → (answers : List Entry) → Explains
         (ledger_at unit.old queue taken answers records.old)
         (ledger_at unit.new queue taken answers records.new) }
@@ -212,6 +218,8 @@ fn take_one<S: Site>(unit: &mut Unit, site: &mut S, records: &mut Records) -> Re
     requires lines { HasLineRoom records.old }
     requires pending { deque_len unit.old.pending < deque_capacity unit.old.pending }
     requires none { unit.old.line.kept ≡ None }
+    ensures rests { S.link_shared ≡ false → IsEmptied (S.state site.old).queue →
+        IfOk result (λ next. (next ≡ Next.Service) × (unit.new ≡ unit.old)) }
     ensures none { AsNone result unit.new.line.kept }
     ensures once { AnswersOnceBy (S.state site.old) (S.state site.new)
         (desk_of unit.old) (desk_of unit.new) records.old records.new }
@@ -414,11 +422,10 @@ fn judge(
     ensures answers { (q : EndState) → session ≡ q.last_session →
         HasAnswers (owing_of unit.old q records.old) →
         HasAnswers (owing_of unit.new q records.new) }
-    ensures cargo { (shown : ℕ → ℕ) → KeepsCargo
-        (cargo_at unit.old.id unit.old.service shown records.old.history.items)
-        (cargo_at unit.new.id unit.new.service shown records.new.history.items) }
+    ensures cargo { (pages : Pages) → KeepsCargo
+        (cargo_with unit.old pages records.old) (cargo_with unit.new pages records.new) }
     ensures refuses { (queue : ℕ) → (taken : List PipeRow) → (answers : List Entry) →
-        is_ended unit.old.line ≡ false → unit.old.waiting ≡ None →
+        session ≡ queue → is_ended unit.old.line ≡ false → unit.old.waiting ≡ None →
         IsSrpAt taken queue arrival.number arrival.entry →
         length bytes.now ≡ iu_length arrival.entry → ExplainsIf
         (λ Hears. Hears (fetched (iu_address arrival.entry) units_at bytes.now))

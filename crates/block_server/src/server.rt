@@ -1,8 +1,9 @@
 // A server: its units, the disk that they serve, and what they keep for good.
 ghost use Rattle.std.specs.Prelude.{◌≡◌, ◌≢◌, ◌<◌, ◌≤◌, ◌++◌, ℕ, Bool, List, [], false, IfErr, IfOk, IfSome, IsSome, slice_get, vec_len};
 ghost use Rattle.rdma_copy.specs.Copies.{side_of};
+ghost use Rattle.tce_window.specs.Port.{Later};
 ghost use Rattle.block_server.specs.Advances.{CopiesMore, Goes, KeepsFreed, StayNamed};
-ghost use Rattle.block_server.specs.Cargo.{AreIdle, HasCargo};
+ghost use Rattle.block_server.specs.Cargo.{AreIdle, HasCargo, HasRuns};
 ghost use Rattle.block_server.specs.Causes.{Told, anything};
 ghost use Rattle.block_server.specs.Dealt.{HasDealt};
 ghost use Rattle.block_server.specs.DiskLaw.{KeepsDisk, KeepsDiskBy};
@@ -13,7 +14,10 @@ ghost use Rattle.block_server.specs.Makers.{AreNamed};
 ghost use Rattle.block_server.specs.Owed.{HaveAnswers, OweNone};
 ghost use Rattle.block_server.specs.Receipts.{AwaitNone, HasIntake, LinesMore, Receipt};
 ghost use Rattle.block_server.specs.Ready.{AgreesAt, AreDown, UnitWaits};
-ghost use Rattle.block_server.specs.Refusals.{AnswersLogins, HasExplained, ExplainNone};
+ghost use Rattle.block_server.specs.Refusals.{AnswersInOrder, HasExplained, ExplainNone};
+ghost use Rattle.block_server.specs.Resting.{RestsAt};
+ghost use Rattle.block_server.specs.Asked.{AskInOrder, AskedAt};
+ghost use Rattle.block_server.specs.Rejecting.{LinesTellLogin};
 ghost use Rattle.block_server.specs.Turns.{IsStill, way_of};
 ghost use Rattle.block_server.specs.SiteState.{AreReady};
 ghost use Rattle.block_server.specs.Serving.{Terms};
@@ -116,8 +120,12 @@ impl<B: Blocks> Server<B> {
         requires event { KeepsFreed (C.state crq.old) }
         requires named { (O.state own.old).place.unit ≡
             record { partition = self.old.partition; unit = unit } }
+        ensures rests { C.is_shared ≡ false → RestsAt self.old.units.items unit (C.state crq.old) →
+            IfOk result (λ moved. moved ≡ Moved.Quiet) }
         ensures goes { Goes (C.state crq.old) (C.state crq.new) (O.state own.old)
             (O.state own.new) (R.state client.old) (R.state client.new) }
+        ensures values { (e : ℕ) → Later R.is_shared
+            ((R.state client.old).values e) ((R.state client.new).values e) }
         ensures partner { C.is_shared ≡ false → (C.state crq.new).counts.partner_session ≡
             (C.state crq.old).counts.partner_session }
         ensures copies { CopiesMore (O.state own.new) (R.state client.new)
@@ -153,6 +161,13 @@ impl<B: Blocks> Server<B> {
             self.old.disk.count self.old.partition self.old.units.items self.old.records →
             HasCargo told self.old.units.items unit (O.state own.old) self.old.records →
             HasCargo told self.new.units.items unit (O.state own.new) self.new.records }
+        ensures runs { (told : Told → Bool) → Tells told (O.state own.old).place.unit
+            R.is_shared (O.state own.new) (R.state client.old) (R.state client.new)
+            self.old.copies.items self.new.copies.items → AreInOrder told
+            self.old.disk.count self.old.partition self.old.units.items self.old.records →
+            HasRuns told self.old.units.items unit (O.state own.old) self.old.copies.items
+            self.old.records → HasRuns told self.new.units.items unit (O.state own.new)
+            self.new.copies.items self.new.records }
         ensures tells { IfSome (B.state self.old.disk.image).blocks
             (λ _. IsSome (B.state self.new.disk.image).blocks) }
         ensures quiet { IfOk result (λ moved. moved ≡ Moved.Quiet →
@@ -216,7 +231,11 @@ impl<B: Blocks> Server<B> {
             self.old.disk.count self.old.partition self.old.units.items self.old.records →
             (since : List Grant) → HasExplained
             told self.old.units.items unit (O.state own.old).place.unit (C.state crq.old)
-            since self.old.records.grants.items → AnswersLogins told (O.state own.old).place.unit
+            since self.old.records.grants.items → (earlier : List AskedAt) →
+            AskInOrder earlier self.old.units.items unit (C.state crq.old) →
+            LinesTellLogin self.old.units.items unit (O.state own.old).place.unit
+            (C.state crq.old) self.old.records.grants.items → AnswersInOrder
+            told earlier self.new.units.items unit (O.state own.old).place.unit
             (C.state crq.old) (C.state crq.new) self.old.records self.new.records }
         ensures deals { (told : Told → Bool) → Tells told (O.state own.old).place.unit
             R.is_shared (O.state own.new) (R.state client.old) (R.state client.new)

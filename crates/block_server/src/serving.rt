@@ -1,5 +1,5 @@
 // The service of the oldest request: what it asks is done, and then it is answered.
-ghost use Rattle.block_server.specs.Cargo.{AreShown, HasTag, IsAccounted, IsFetchedAll, IsSentAll, KeepsCargo, cargo_at, cargo_of, data_bytes, is_loaded};
+ghost use Rattle.block_server.specs.Cargo.{AreShown, HasTag, IsAccounted, IsFetchedAll, IsSentAll, KeepsCargo, Sight, cargo_at, cargo_of, command_of, data_bytes, is_loaded, pages_of, seen};
 ghost use Rattle.srp_desc.specs.declared.pieces.TheConstants.{MAX_DATA_LEN};
 ghost use Rattle.block_server.specs.Parts.{IsPlacedAt};
 ghost use Rattle.std.specs.Prelude.{◌≡◌, ◌≢◌, ◌⊎◌, ◌∷◌, ◌<◌, ◌≤◌, ℕ, Bool, List, Option, Some, None, [], IfOk, IfSome, OnOk, false, true, length};
@@ -8,6 +8,7 @@ ghost use Rattle.block_server.specs.Causes.{RefusesData, RefusesIn, Told, told_t
 ghost use Rattle.block_server.specs.Books.{books_at, books_of};
 ghost use Rattle.block_server.specs.Ends.{IsGrantable, IsRejectedFor, IsRejection};
 ghost use Rattle.block_server.specs.Fetched.{IfDone, IfRefused, KnowsPieces};
+ghost use Rattle.block_server.specs.Granting.{LoginState, login_state};
 ghost use Rattle.block_server.specs.Judged.{Ahead, Books, IsAtStage, IsFor, Keeps, ServesOne, has_row, in_service, is_login};
 ghost use Rattle.block_server.specs.Judges.{Judges};
 ghost use Rattle.block_server.specs.Moves.{Passes};
@@ -82,11 +83,11 @@ pub(crate) fn serve<S: Site, B: Blocks>(
         (standing_of unit.old) (standing_of unit.new) (S.state site.old) (S.state site.new)
         (books_at unit.old (S.state site.old) records.old)
         (books_at unit.new (S.state site.new) records.new) }
-    ensures cargo { (told : Told → Bool) →
+    ensures cargo { (told : Told → Bool) → (asked : Bool) →
         TellsAll told unit.old.id (S.state site.old) (S.state site.new) →
         IsServing (terms_of told disk.old.count) (desk_of unit.old) records.old.history.items →
-        IsAccounted told (cargo_of unit.old (S.state site.old) records.old) →
-        IsAccounted told (cargo_of unit.new (S.state site.new) records.new) }
+        IsAccounted told asked (cargo_of unit.old (S.state site.old) records.old) →
+        IsAccounted told asked (cargo_of unit.new (S.state site.new) records.new) }
     ensures refuses { (told : Told → Bool) → ExplainsOn (terms_of told disk.old.count)
         (S.state site.old) (S.state site.new) (desk_of unit.old) records.old.history.items
         (ledger_of unit.old (S.state site.old) records.old)
@@ -149,8 +150,8 @@ fn prepare<S: Site, B: Blocks>(
         (rest : List Request) → AnswersOnceOn
         (held told disk.old.count (B.state disk.old.image).blocks)
         (held told disk.new.count (B.state disk.new.image).blocks)
-        (desk_at id logins.now.granted service.old None (request.now ∷ rest))
-        (desk_at id logins.now.granted service.new None (request.now ∷ rest))
+        (desk_at id (login_state logins.now) service.old None (request.now ∷ rest))
+        (desk_at id (login_state logins.now) service.new None (request.now ∷ rest))
         (S.state site.old).queue (S.state site.new).queue records.old records.new }
     ensures went { OnOk result (request.now.order ≢ Order.Logout →
         is_answered service.new.stage ≡ true ⊎ MeetsUse (S.state site.old) (S.state site.new)) }
@@ -168,15 +169,15 @@ fn prepare<S: Site, B: Blocks>(
         MovesRow id (S.state site.old).queue.last_session request.now
         service.old.stage service.new.stage
         records.old.history.items records.new.history.items }
-    ensures cargo { (told : Told → Bool) →
+    ensures cargo { (told : Told → Bool) → (asked : Bool) →
         TellsAll told id (S.state site.old) (S.state site.new) → (rest : List Request) →
         IsServing (terms_of told disk.old.count)
-        (desk_at id logins.now.granted service.old None (request.now ∷ rest))
+        (desk_at id (login_state logins.now) service.old None (request.now ∷ rest))
         records.old.history.items →
-        IsAccounted told (cargo_at id service.old (data_bytes (S.state site.old).own)
-        records.old.history.items) →
-        IsAccounted told (cargo_at id service.new (data_bytes (S.state site.new).own)
-        records.new.history.items) }
+        IsAccounted told asked (cargo_at id service.old
+        (seen (command_of request.now.order) (S.state site.old)) records.old.history.items) →
+        IsAccounted told asked (cargo_at id service.new
+        (seen (command_of request.now.order) (S.state site.new)) records.new.history.items) }
 {
     match &request.order {
         Order::Command(command) => {
@@ -214,8 +215,8 @@ fn judge_login(
     ensures once { (id : UnitId) → (front : Request) → (rest : List Request) →
         front.number ≡ number → front.order ≡ Order.Login login.now →
         (q : EndState) → (records : Records) → AnswersOnce
-        (desk_at id logins.now.granted service.old None (front ∷ rest))
-        (desk_at id logins.now.granted service.new None (front ∷ rest)) q q records records }
+        (desk_at id (login_state logins.now) service.old None (front ∷ rest))
+        (desk_at id (login_state logins.now) service.new None (front ∷ rest)) q q records records }
     ensures granted { OnOk result (service.new.stage ≡ Stage.Answer (Outcome.Granted number) →
         IsGrantable logins.now.current login.now) }
     ensures rejected { OnOk result (service.new.stage ≡ Stage.Answer Outcome.Rejected →
@@ -231,7 +232,7 @@ fn judge_login(
         is_answered service.old.stage ≡ false → Keeps
         (in_service books service.old.stage rows) (in_service books service.new.stage rows) }
     ensures row { row_in service.old.stage ≡ None → row_in service.new.stage ≡ None }
-    ensures cargo { (id : UnitId) → (shown : ℕ → ℕ) → (rows : List Served) →
+    ensures cargo { (id : UnitId) → (shown : Sight) → (rows : List Served) →
         is_loaded service.old.stage ≡ false → KeepsCargo
         (cargo_at id service.old shown rows) (cargo_at id service.new shown rows) }
 {
@@ -268,10 +269,10 @@ fn add_code(
     code: ResponseCode,
 ) -> Result<(), NoMemory>
     requires code { IsCodeOf request.now.order code }
-    ensures once { (credits : ℕ) → (rest : List Request) → (q : EndState) → AnswersOnceIf
+    ensures once { (on : LoginState) → (rest : List Request) → (q : EndState) → AnswersOnceIf
         (λ Hears. IsCauseOf Hears request.now.order)
-        (desk_at id credits service.old None (request.now ∷ rest))
-        (desk_at id credits service.new None (request.now ∷ rest)) q q records.old records.new }
+        (desk_at id on service.old None (request.now ∷ rest))
+        (desk_at id on service.new None (request.now ∷ rest)) q q records.old records.new }
     ensures row { OnOk result (AddsRow id session request.now records.old records.new) }
     ensures stage { OnOk result (service.new.stage ≡
         Stage.Answer (Outcome.Served (length records.old.history.items))) }
@@ -282,7 +283,7 @@ fn add_code(
     ensures moves { row_in service.old.stage ≡ None → MovesRow id session request.now
         service.old.stage service.new.stage
         records.old.history.items records.new.history.items }
-    ensures cargo { (shown : ℕ → ℕ) → is_loaded service.old.stage ≡ false → KeepsCargo
+    ensures cargo { (shown : Sight) → is_loaded service.old.stage ≡ false → KeepsCargo
         (cargo_at id service.old shown records.old.history.items)
         (cargo_at id service.new shown records.new.history.items) }
 {
@@ -305,11 +306,11 @@ fn serve_command<S: Site, B: Blocks>(
 ) -> Result<(), NoMemory>
     requires asked { request.now.order ≡ Order.Command command.now }
     ensures once { (told : Told → Bool) → TellsAll told id (S.state site.old) (S.state site.new) →
-        (credits : ℕ) → (rest : List Request) → AnswersOnceOn
+        (on : LoginState) → (rest : List Request) → AnswersOnceOn
         (held told disk.old.count (B.state disk.old.image).blocks)
         (held told disk.new.count (B.state disk.new.image).blocks)
-        (desk_at id credits service.old None (request.now ∷ rest))
-        (desk_at id credits service.new None (request.now ∷ rest))
+        (desk_at id on service.old None (request.now ∷ rest))
+        (desk_at id on service.new None (request.now ∷ rest))
         (S.state site.old).queue (S.state site.new).queue records.old records.new }
     ensures went { OnOk result (is_answered service.new.stage ≡ true ⊎
         MeetsUse (S.state site.old) (S.state site.new)) }
@@ -323,15 +324,15 @@ fn serve_command<S: Site, B: Blocks>(
     ensures moves { MovesRow id (S.state site.old).queue.last_session request.now
         service.old.stage service.new.stage
         records.old.history.items records.new.history.items }
-    ensures cargo { (told : Told → Bool) →
+    ensures cargo { (told : Told → Bool) → (asked : Bool) →
         TellsAll told id (S.state site.old) (S.state site.new) →
-        (credits : ℕ) → (rest : List Request) → IsServing (terms_of told disk.old.count)
-        (desk_at id credits service.old None (request.now ∷ rest))
+        (on : LoginState) → (rest : List Request) → IsServing (terms_of told disk.old.count)
+        (desk_at id on service.old None (request.now ∷ rest))
         records.old.history.items →
-        IsAccounted told (cargo_at id service.old (data_bytes (S.state site.old).own)
-        records.old.history.items) →
-        IsAccounted told (cargo_at id service.new (data_bytes (S.state site.new).own)
-        records.new.history.items) }
+        IsAccounted told asked (cargo_at id service.old
+        (seen (command_of request.now.order) (S.state site.old)) records.old.history.items) →
+        IsAccounted told asked (cargo_at id service.new
+        (seen (command_of request.now.order) (S.state site.new)) records.new.history.items) }
 {
     run_step(service, id, request, command, site, records, disk)?;
     store(service, request, site)?;
@@ -350,11 +351,11 @@ fn run_step<S: Site, B: Blocks>(
 ) -> Result<(), NoMemory>
     requires asked { request.now.order ≡ Order.Command command.now }
     ensures once { (told : Told → Bool) → TellsAll told id (S.state site.old) (S.state site.new) →
-        (credits : ℕ) → (rest : List Request) → AnswersOnceOn
+        (on : LoginState) → (rest : List Request) → AnswersOnceOn
         (held told disk.old.count (B.state disk.old.image).blocks)
         (held told disk.new.count (B.state disk.new.image).blocks)
-        (desk_at id credits service.old None (request.now ∷ rest))
-        (desk_at id credits service.new None (request.now ∷ rest))
+        (desk_at id on service.old None (request.now ∷ rest))
+        (desk_at id on service.new None (request.now ∷ rest))
         (S.state site.old).queue (S.state site.new).queue records.old records.new }
     ensures went { OnOk result (is_before_step service.new.stage ≡ false ⊎
         MeetsUse (S.state site.old) (S.state site.new)) }
@@ -368,14 +369,14 @@ fn run_step<S: Site, B: Blocks>(
     ensures moves { MovesRow id (S.state site.old).queue.last_session request.now
         service.old.stage service.new.stage
         records.old.history.items records.new.history.items }
-    ensures cargo { (told : Told → Bool) →
+    ensures cargo { (told : Told → Bool) → (asked : Bool) →
         TellsAll told id (S.state site.old) (S.state site.new) →
-        (credits : ℕ) → (rest : List Request) → IsServing (terms_of told disk.old.count)
-        (desk_at id credits service.old None (request.now ∷ rest))
+        (on : LoginState) → (rest : List Request) → IsServing (terms_of told disk.old.count)
+        (desk_at id on service.old None (request.now ∷ rest))
         records.old.history.items →
-        IsAccounted told (cargo_at id service.old (data_bytes (S.state site.old).own)
+        IsAccounted told asked (cargo_at id service.old (seen (Some command.now) (S.state site.old))
         records.old.history.items) →
-        IsAccounted told (cargo_at id service.new (data_bytes (S.state site.new).own)
+        IsAccounted told asked (cargo_at id service.new (seen (Some command.now) (S.state site.new))
         records.new.history.items) }
 {
     if !service.stage.is_before_step() {
@@ -397,10 +398,10 @@ fn run_step<S: Site, B: Blocks>(
 
 // Writes the data-in that the disk step gave to the unit's region, if that is to be done.
 fn store<S: Site>(service: &mut Service, request: &Request, site: &mut S) -> Result<(), NoMemory>
-    ensures once { (id : UnitId) → (credits : ℕ) → (rest : List Request) →
+    ensures once { (id : UnitId) → (on : LoginState) → (rest : List Request) →
         (records : Records) → AnswersOnce
-        (desk_at id credits service.old None (request.now ∷ rest))
-        (desk_at id credits service.new None (request.now ∷ rest))
+        (desk_at id on service.old None (request.now ∷ rest))
+        (desk_at id on service.new None (request.now ∷ rest))
         (S.state site.old).queue (S.state site.new).queue records records }
     ensures went { OnOk result (is_before_step service.old.stage ≡ false →
         (is_before_step service.new.stage ≡ false) × (is_given service.new.stage ≡ false)) }
@@ -410,9 +411,9 @@ fn store<S: Site>(service: &mut Service, request: &Request, site: &mut S) -> Res
     ensures books { (id : UnitId) → (session : ℕ) → (rows : List Served) → ServesOne
         id session request.now service.old.stage service.new.stage rows rows }
     ensures row { row_in service.new.stage ≡ row_in service.old.stage }
-    ensures cargo { (id : UnitId) → (rows : List Served) → KeepsCargo
-        (cargo_at id service.old (data_bytes (S.state site.old).own) rows)
-        (cargo_at id service.new (data_bytes (S.state site.new).own) rows) }
+    ensures cargo { (id : UnitId) → (rows : List Served) → (first : Option Cmd) → KeepsCargo
+        (cargo_at id service.old (seen first (S.state site.old)) rows)
+        (cargo_at id service.new (seen first (S.state site.new)) rows) }
 {
     if let Stage::Given { row, reply } = service.stage {
         site.write_data(&service.given, request.tag)?;
@@ -437,10 +438,10 @@ fn hand_over<S: Site>(
     ensures once { (id : UnitId) → (told : Told → Bool) →
         TellsAll told id (S.state site.old) (S.state site.new) →
         (size : ℕ) → (now : Option (List (List ℕ))) →
-        (credits : ℕ) → (rest : List Request) →
+        (on : LoginState) → (rest : List Request) →
         AnswersOnceOn (held told size now) (held told size now)
-        (desk_at id credits service.old None (request.now ∷ rest))
-        (desk_at id credits service.new None (request.now ∷ rest))
+        (desk_at id on service.old None (request.now ∷ rest))
+        (desk_at id on service.new None (request.now ∷ rest))
         (S.state site.old).queue (S.state site.new).queue records.old records.new }
     ensures went { OnOk result (is_before_step service.old.stage ≡ false →
         is_given service.old.stage ≡ false → is_answered service.new.stage ≡ true ⊎
@@ -454,14 +455,14 @@ fn hand_over<S: Site>(
         records.old.history.items records.new.history.items }
     ensures row { row_in service.new.stage ≡ row_in service.old.stage }
     ensures states { row_states records.new.history.items ≡ row_states records.old.history.items }
-    ensures cargo { (id : UnitId) → (told : Told → Bool) →
+    ensures cargo { (id : UnitId) → (told : Told → Bool) → (asked : Bool) →
         TellsAll told id (S.state site.old) (S.state site.new) → (size : ℕ) →
-        (credits : ℕ) → (rest : List Request) → IsServing (terms_of told size)
-        (desk_at id credits service.old None (request.now ∷ rest))
+        (on : LoginState) → (rest : List Request) → IsServing (terms_of told size)
+        (desk_at id on service.old None (request.now ∷ rest))
         records.old.history.items →
-        IsAccounted told (cargo_at id service.old (data_bytes (S.state site.old).own)
+        IsAccounted told asked (cargo_at id service.old (seen (Some command.now) (S.state site.old))
         records.old.history.items) →
-        IsAccounted told (cargo_at id service.new (data_bytes (S.state site.new).own)
+        IsAccounted told asked (cargo_at id service.new (seen (Some command.now) (S.state site.new))
         records.new.history.items) }
 {
     let Stage::DataIn { row, reply, cursor } = service.stage else {
@@ -482,11 +483,11 @@ fn make_step<S: Site, B: Blocks>(
     disk: &mut Disk<B>,
 ) -> Result<(), NoMemory>
     requires asked { request.now.order ≡ Order.Command command.now }
-    ensures once { (told : Told → Bool) → (credits : ℕ) → (rest : List Request) → AnswersOnceOn
+    ensures once { (told : Told → Bool) → (on : LoginState) → (rest : List Request) → AnswersOnceOn
         (held told disk.old.count (B.state disk.old.image).blocks)
         (held told disk.new.count (B.state disk.new.image).blocks)
-        (desk_at id credits service.old None (request.now ∷ rest))
-        (desk_at id credits service.new None (request.now ∷ rest))
+        (desk_at id on service.old None (request.now ∷ rest))
+        (desk_at id on service.new None (request.now ∷ rest))
         (S.state site.old).queue (S.state site.new).queue records.old records.new }
     ensures went { OnOk result (is_data_out service.old.stage ≡ true →
         is_before_step service.new.stage ≡ false) }
@@ -500,11 +501,11 @@ fn make_step<S: Site, B: Blocks>(
     ensures moves { MovesRow id (S.state site.old).queue.last_session request.now
         service.old.stage service.new.stage
         records.old.history.items records.new.history.items }
-    ensures cargo { (told : Told → Bool) → KnowsPieces (told_to told id) command.now service.old →
-        IsFetchedAll service.old →
-        IsAccounted told (cargo_at id service.old (data_bytes (S.state site.old).own)
+    ensures cargo { (told : Told → Bool) → (asked : Bool) →
+        KnowsPieces (told_to told id) command.now service.old → IsFetchedAll service.old →
+        IsAccounted told asked (cargo_at id service.old (seen (Some command.now) (S.state site.old))
         records.old.history.items) →
-        IsAccounted told (cargo_at id service.new (data_bytes (S.state site.new).own)
+        IsAccounted told asked (cargo_at id service.new (seen (Some command.now) (S.state site.new))
         records.new.history.items) }
 {
     let Stage::DataOut(_) = service.stage else {
@@ -535,7 +536,7 @@ fn read_out<S: Site>(site: &mut S, room: Vec<u8>) -> Vec<u8>
     ensures queue { (S.state site.new).queue ≡ (S.state site.old).queue }
     ensures advances { Advances (S.state site.old) (S.state site.new) }
     ensures passes { Passes (S.state site.old) (S.state site.new) }
-    ensures data { data_bytes (S.state site.new).own ≡ data_bytes (S.state site.old).own }
+    ensures data { pages_of (S.state site.new) ≡ pages_of (S.state site.old) }
     ensures read { AreShown (data_bytes (S.state site.new).own) result.items }
 {
     let mut out = room;
@@ -566,11 +567,11 @@ fn deliver_data<S: Site>(
     ensures queue { (S.state site.new).queue ≡ (S.state site.old).queue }
     ensures advances { Advances (S.state site.old) (S.state site.new) }
     ensures passes { Passes (S.state site.old) (S.state site.new) }
-    ensures cargo { (id : UnitId) → (told : Told → Bool) →
+    ensures cargo { (id : UnitId) → (told : Told → Bool) → (asked : Bool) →
         TellsAll told id (S.state site.old) (S.state site.new) → (rows : List Served) →
-        HasTag rows row tag →
-        IsAccounted told (cargo_at id service.old (data_bytes (S.state site.old).own) rows) →
-        IsAccounted told (cargo_at id service.new (data_bytes (S.state site.new).own) rows) }
+        HasTag rows row tag → (first : Option Cmd) →
+        IsAccounted told asked (cargo_at id service.old (seen first (S.state site.old)) rows) →
+        IsAccounted told asked (cargo_at id service.new (seen first (S.state site.new)) rows) }
     ensures all { IsPlacedAt service.old.inn.list.items start →
         IfDone result (IsSentAll service.new) }
 {
@@ -602,11 +603,11 @@ fn end_command(
 ) -> Result<(), NoMemory>
     requires asked { request.now.order ≡ Order.Command command.now }
     requires some { progress ≡ Progress.Refused → 0 < length service.old.given.items }
-    ensures once { (id : UnitId) → (credits : ℕ) → (rest : List Request) →
+    ensures once { (id : UnitId) → (on : LoginState) → (rest : List Request) →
         (q : EndState) → AnswersOnceIf
         (λ Hears. progress ≡ Progress.Refused → RefusesIn Hears command.now)
-        (desk_at id credits service.old None (request.now ∷ rest))
-        (desk_at id credits service.new None (request.now ∷ rest)) q q records.old records.new }
+        (desk_at id on service.old None (request.now ∷ rest))
+        (desk_at id on service.new None (request.now ∷ rest)) q q records.old records.new }
     ensures went { OnOk result (is_data_in service.old.stage ≡ true → progress ≢ Progress.Busy →
         is_answered service.new.stage ≡ true) }
     ensures grants { records.new.grants.items ≡ records.old.grants.items }
@@ -615,7 +616,7 @@ fn end_command(
         records.old.history.items records.new.history.items }
     ensures row { row_in service.new.stage ≡ row_in service.old.stage }
     ensures states { row_states records.new.history.items ≡ row_states records.old.history.items }
-    ensures cargo { (id : UnitId) → (shown : ℕ → ℕ) →
+    ensures cargo { (id : UnitId) → (shown : Sight) →
         (progress ≡ Progress.Done → IsSentAll service.old) → KeepsCargo
         (cargo_at id service.old shown records.old.history.items)
         (cargo_at id service.new shown records.new.history.items) }
@@ -646,11 +647,11 @@ fn refuse_data(
 ) -> Result<(), NoMemory>
     requires asked { request.now.order ≡ Order.Command command.now }
     requires some { 0 < length service.old.given.items }
-    ensures once { (id : UnitId) → (credits : ℕ) → (rest : List Request) →
+    ensures once { (id : UnitId) → (on : LoginState) → (rest : List Request) →
         (q : EndState) → AnswersOnceIf
         (λ Hears. RefusesIn Hears command.now)
-        (desk_at id credits service.old None (request.now ∷ rest))
-        (desk_at id credits service.new None (request.now ∷ rest)) q q records.old records.new }
+        (desk_at id on service.old None (request.now ∷ rest))
+        (desk_at id on service.new None (request.now ∷ rest)) q q records.old records.new }
     ensures went { OnOk result (is_data_in service.old.stage ≡ true →
         is_answered service.new.stage ≡ true) }
     ensures grants { records.new.grants.items ≡ records.old.grants.items }
@@ -659,7 +660,7 @@ fn refuse_data(
         records.old.history.items records.new.history.items }
     ensures row { row_in service.new.stage ≡ row_in service.old.stage }
     ensures states { row_states records.new.history.items ≡ row_states records.old.history.items }
-    ensures cargo { (id : UnitId) → (shown : ℕ → ℕ) → KeepsCargo
+    ensures cargo { (id : UnitId) → (shown : Sight) → KeepsCargo
         (cargo_at id service.old shown records.old.history.items)
         (cargo_at id service.new shown records.new.history.items) }
 {

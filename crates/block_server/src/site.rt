@@ -12,7 +12,7 @@ ghost use Rattle.crq_session.specs.Answered.{Opens, HoldsUp, TellsFreed, FindsIn
 ghost use Rattle.crq_session.specs.EndState.{OnlyReserves, OnlyRegisters, OnlyFrees, OnlySends, OnlyTakes, OnlyPushes};
 ghost use Rattle.block_server.specs.Advances.{Advances};
 ghost use Rattle.block_server.specs.Answering.{responses};
-ghost use Rattle.block_server.specs.Cargo.{AreShown, FetchesPart, SendsPart, data_bytes};
+ghost use Rattle.block_server.specs.Cargo.{AreShown, FetchesPart, SendsPart, data_bytes, pages_of};
 ghost use Rattle.block_server.specs.Delivers.{DeliversOne, FetchesTo};
 ghost use Rattle.block_server.specs.Entries.{MayPut};
 ghost use Rattle.block_server.specs.LoginAnswers.{login_answers};
@@ -43,6 +43,7 @@ pub(crate) trait Site {
 
     /// The number of slots of the own queue.
     fn slots(&self) -> u32
+        ensures slots { result ≡ (state self.now).queue.place.own_slots }
         ensures some { 1 ≤ result }
         ensures few { result ≤ MAX_SLOTS };
 
@@ -166,7 +167,7 @@ pub(crate) trait Site {
         ensures fetched { OnOk result
             (FetchesOne (state self.old) (state self.new) address out.new) }
         ensures missed { OnErr result (Passes (state self.old) (state self.new)) }
-        ensures data { data_bytes (state self.new).own ≡ data_bytes (state self.old).own };
+        ensures data { pages_of (state self.new) ≡ pages_of (state self.old) };
 
     /// Copies a table of 1 to 4,096 bytes from this address of the client's window to page 1, and reads it.
     fn fetch_table(&mut self, address: u64, out: &mut [u8]) -> Result<(), Halt>
@@ -198,7 +199,7 @@ pub(crate) trait Site {
         ensures delivered { OnOk result
             (DeliversOne (state self.old) (state self.new) 0 address mark bytes.now) }
         ensures none { OnErr result ((state self.new).copies ≡ (state self.old).copies) }
-        ensures data { data_bytes (state self.new).own ≡ data_bytes (state self.old).own };
+        ensures data { pages_of (state self.new) ≡ pages_of (state self.old) };
 
     /// Copies data from this address of the client's window to a place of the data's pages.
     fn fetch_data(&mut self, at: u32, address: u64, len: u32) -> Result<(), Halt>
@@ -216,7 +217,7 @@ pub(crate) trait Site {
         ensures brought { OnOk result
             (FetchesPart (state self.old) (state self.new) address at len) }
         ensures kept { OnErr result
-            (data_bytes (state self.new).own ≡ data_bytes (state self.old).own) };
+            (pages_of (state self.new) ≡ pages_of (state self.old)) };
 
     /// Reads the first bytes of the data's pages.
     fn read_data(&mut self, out: &mut [u8])
@@ -225,7 +226,7 @@ pub(crate) trait Site {
         ensures advances { Advances (state self.old) (state self.new) }
         ensures passes { Passes (state self.old) (state self.new) }
         ensures none { (state self.new).copies ≡ (state self.old).copies }
-        ensures data { data_bytes (state self.new).own ≡ data_bytes (state self.old).own }
+        ensures data { pages_of (state self.new) ≡ pages_of (state self.old) }
         ensures read { AreShown (data_bytes (state self.new).own) out.new };
 
     /// Writes the first bytes of the data's pages.

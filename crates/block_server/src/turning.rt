@@ -14,6 +14,7 @@ ghost use Rattle.block_server.specs.Receipts.{TakesIn, is_ended, standing_of};
 ghost use Rattle.block_server.specs.Heard.{TellsAll};
 ghost use Rattle.block_server.specs.Ready.{Agrees, Idles, MeetsFull, MeetsSender};
 ghost use Rattle.block_server.specs.Refusals.{Explains, ExplainsOn, ledger_of};
+ghost use Rattle.block_server.specs.Resting.{IsResting};
 ghost use Rattle.block_server.specs.Turns.{IfQuiet, IsQuietTurn};
 ghost use Rattle.block_server.specs.Waits.{AsNext, IsIdle, PassesEvent, StandsOpen, StaysAgreed, StopsOpening};
 
@@ -39,6 +40,8 @@ pub(crate) fn turn<S: Site, B: Blocks>(
     records: &mut Records,
     disk: &mut Disk<B>,
 ) -> Result<Moved, NoMemory>
+    ensures rests { S.link_shared ≡ false → IsResting unit.old (S.state site.old).queue →
+        IfOk result (λ moved. moved ≡ Moved.Quiet) }
     ensures once { (told : Told → Bool) →
         TellsAll told unit.old.id (S.state site.old) (S.state site.new) → AnswersOnceOn
         (held told disk.old.count (B.state disk.old.image).blocks)
@@ -61,11 +64,11 @@ pub(crate) fn turn<S: Site, B: Blocks>(
         (books_at unit.new (S.state site.new) records.new) }
     ensures answers { KeepsAnswersAll S.link_shared unit.old unit.new
         (S.state site.old) (S.state site.new) records.old records.new }
-    ensures cargo { (told : Told → Bool) →
+    ensures cargo { (told : Told → Bool) → (asked : Bool) →
         TellsAll told unit.old.id (S.state site.old) (S.state site.new) →
         IsServing (terms_of told disk.old.count) (desk_of unit.old) records.old.history.items →
-        IsAccounted told (cargo_of unit.old (S.state site.old) records.old) →
-        IsAccounted told (cargo_of unit.new (S.state site.new) records.new) }
+        IsAccounted told asked (cargo_of unit.old (S.state site.old) records.old) →
+        IsAccounted told asked (cargo_of unit.new (S.state site.new) records.new) }
     ensures refuses { (told : Told → Bool) → ExplainsOn (terms_of told disk.old.count)
         (S.state site.old) (S.state site.new) (desk_of unit.old) records.old.history.items
         (ledger_of unit.old (S.state site.old) records.old)
@@ -87,6 +90,8 @@ fn steps<S: Site, B: Blocks>(
     records: &mut Records,
     disk: &mut Disk<B>,
 ) -> Result<(), NoMemory>
+    ensures rests { S.link_shared ≡ false → IsResting unit.old (S.state site.old).queue →
+        OnOk result (unit.new.moved ≡ unit.old.moved) }
     ensures once { (told : Told → Bool) →
         TellsAll told unit.old.id (S.state site.old) (S.state site.new) → AnswersOnceOn
         (held told disk.old.count (B.state disk.old.image).blocks)
@@ -109,11 +114,11 @@ fn steps<S: Site, B: Blocks>(
         (books_at unit.new (S.state site.new) records.new) }
     ensures answers { KeepsAnswersAll S.link_shared unit.old unit.new
         (S.state site.old) (S.state site.new) records.old records.new }
-    ensures cargo { (told : Told → Bool) →
+    ensures cargo { (told : Told → Bool) → (asked : Bool) →
         TellsAll told unit.old.id (S.state site.old) (S.state site.new) →
         IsServing (terms_of told disk.old.count) (desk_of unit.old) records.old.history.items →
-        IsAccounted told (cargo_of unit.old (S.state site.old) records.old) →
-        IsAccounted told (cargo_of unit.new (S.state site.new) records.new) }
+        IsAccounted told asked (cargo_of unit.old (S.state site.old) records.old) →
+        IsAccounted told asked (cargo_of unit.new (S.state site.new) records.new) }
     ensures refuses { (told : Told → Bool) → ExplainsOn (terms_of told disk.old.count)
         (S.state site.old) (S.state site.new) (desk_of unit.old) records.old.history.items
         (ledger_of unit.old (S.state site.old) records.old)
@@ -133,6 +138,9 @@ fn steps<S: Site, B: Blocks>(
 
 // Pushes the event that is kept, frees a session that is to be closed, and registers a queue that is not.
 fn open_line<S: Site>(unit: &mut Unit, site: &mut S) -> Result<Next, NoMemory>
+    ensures rests { is_ended unit.old.line ≡ false → (S.state site.old).queue.kept ≡ None →
+        IfOk result (λ next. (next ≡ Next.Entry) × (unit.new ≡ unit.old) ×
+        Passes (S.state site.old) (S.state site.new)) }
     ensures once { (records : Records) → AnswersOnce (desk_of unit.old) (desk_of unit.new)
         (S.state site.old).queue (S.state site.new).queue records records }
     ensures quiet { OnOk result (IfQuiet unit.old unit.new
@@ -180,6 +188,8 @@ fn open_line<S: Site>(unit: &mut Unit, site: &mut S) -> Result<Next, NoMemory>
 // Pushes the event that is kept. While it stays kept the turn ends.
 fn push_event<S: Site>(unit: &mut Unit, site: &mut S) -> Next
     requires { 0 < (S.state site.old).queue.spare }
+    ensures rests { (S.state site.old).queue.kept ≡ None →
+        (result ≡ Next.Entry) × (unit.new ≡ unit.old) }
     ensures once { (records : Records) → AnswersOnce (desk_of unit.old) (desk_of unit.new)
         (S.state site.old).queue (S.state site.new).queue records records }
     ensures spare { (S.state site.old).queue.spare ≤ (S.state site.new).queue.spare + 1 }
@@ -216,6 +226,8 @@ fn push_event<S: Site>(unit: &mut Unit, site: &mut S) -> Next
 // Frees the session, if it is to be closed.
 fn free_closed<S: Site>(unit: &mut Unit, site: &mut S) -> Next
     requires { 0 < (S.state site.old).queue.spare }
+    ensures rests { unit.old.line.closing ≡ false → (result ≡ Next.Entry) ×
+        (unit.new ≡ unit.old) × (S.state site.new ≡ S.state site.old) }
     ensures once { (records : Records) → AnswersOnce (desk_of unit.old) (desk_of unit.new)
         (S.state site.old).queue (S.state site.new).queue records records }
     ensures spare { (S.state site.old).queue.spare ≤ (S.state site.new).queue.spare + 1 }

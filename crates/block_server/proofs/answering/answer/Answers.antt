@@ -18,8 +18,8 @@ use Rattle.block_server.specs.Judged.{keys_of}
 use Rattle.block_server.specs.Owed.{row_states}
 use Rattle.block_server.proofs.Owing.{owes_seen, seen_same}
 use Rattle.block_server.proofs.OwingCalls.{seen_reserves}
-use Rattle.block_server.specs.Cargo.{data_bytes}
-use Rattle.block_server.proofs.Cargoes.{shown_same}
+use Rattle.block_server.proofs.CopyKinds.{still_pages}
+use Rattle.block_server.proofs.Cargoes.{sees, shown_same}
 use Rattle.block_server.proofs.Hands.{keeps_on, keeps_same}
 use Rattle.block_server.proofs.Ledgers.{explained_then, explains_stands}
 use Rattle.block_server.specs.Refusals.{ledger_of}
@@ -205,33 +205,33 @@ returns-in-Entry-clause-judges g c = (works_on _ _ _ _ _ _ _ _ _ (works_on _ _ _
 
 pub returns-in_err-copy_answer-clause-cargo : goal.returns-in_err-copy_answer-clause-cargo
 returns-in_err-copy_answer-clause-cargo g c =
-    keeps_on _ _ _ (keeps_same _ _ (shown_same _ _ _ _ _ _ (ap data_bytes c.reserve.ensures.windows.own) c.make_room.ensures.lists.history)) c.copy_answer.ensures.cargo
+    keeps_on _ _ _ (keeps_same _ _ (shown_same _ _ _ _ _ _ (sees _ _ _ (still_pages _ _ c.reserve.ensures.windows)) c.make_room.ensures.lists.history)) c.copy_answer.ensures.cargo
 
 pub returns-in-Entry-clause-cargo : goal.returns-in-Entry-clause-cargo
 returns-in-Entry-clause-cargo g c =
-    keeps_on _ _ _ (keeps_on _ _ _ (keeps_same _ _ (shown_same _ _ _ _ _ _ (ap data_bytes c.reserve.ensures.windows.own) c.make_room.ensures.lists.history)) c.copy_answer.ensures.cargo)
+    keeps_on _ _ _ (keeps_on _ _ _ (keeps_same _ _ (shown_same _ _ _ _ _ _ (sees _ _ _ (still_pages _ _ c.reserve.ensures.windows)) c.make_room.ensures.lists.history)) c.copy_answer.ensures.cargo)
     (keeps_same _ _ c.put_answer.ensures.cargo)
 
 pub returns-in_default-clause-cargo : goal.returns-in_default-clause-cargo
 returns-in_default-clause-cargo g c =
-    keeps_on _ _ _ (keeps_same _ _ (shown_same _ _ _ _ _ _ (ap data_bytes c.reserve.ensures.windows.own) c.make_room.ensures.lists.history)) c.copy_answer.ensures.cargo
+    keeps_on _ _ _ (keeps_same _ _ (shown_same _ _ _ _ _ _ (sees _ _ _ (still_pages _ _ c.reserve.ensures.windows)) c.make_room.ensures.lists.history)) c.copy_answer.ensures.cargo
 
 pub returns-in_err-make_room-clause-refuses : goal.returns-in_err-make_room-clause-refuses
-returns-in_err-make_room-clause-refuses g c = λ terms all serving front. explains_stands c.args.unit.now c.args.unit.now (g.S.Site.state c.args.site.now) (g.S.Site.state c.args.site.now) c.args.records.now c.make_room.new.self refl refl refl c.make_room.ensures.lists.grants refl terms.told c.args.unit.now.id front
+returns-in_err-make_room-clause-refuses g c = λ terms all serving front. explains_stands c.args.unit.now c.args.unit.now (g.S.Site.state c.args.site.now) (g.S.Site.state c.args.site.now) c.args.records.now c.make_room.new.self refl refl refl c.make_room.ensures.lists.grants refl refl terms.told c.args.unit.now.id front
 
 pub returns-in_err-make_room-2-clause-refuses : goal.returns-in_err-make_room-2-clause-refuses
-returns-in_err-make_room-2-clause-refuses g c = λ terms all serving front. explains_stands c.args.unit.now c.args.unit.now (g.S.Site.state c.args.site.now) (g.S.Site.state c.args.site.now) c.args.records.now c.make_room.new.self refl refl refl c.make_room.ensures.lists.grants refl terms.told c.args.unit.now.id front
+returns-in_err-make_room-2-clause-refuses g c = λ terms all serving front. explains_stands c.args.unit.now c.args.unit.now (g.S.Site.state c.args.site.now) (g.S.Site.state c.args.site.now) c.args.records.now c.make_room.new.self refl refl refl c.make_room.ensures.lists.grants refl refl terms.told c.args.unit.now.id front
 
 pub returns-in_err-reserve-clause-refuses : goal.returns-in_err-reserve-clause-refuses
-returns-in_err-reserve-clause-refuses g c = λ terms all serving front. explains_stands c.args.unit.now c.args.unit.now (g.S.Site.state c.args.site.now) (g.S.Site.state c.reserve.new.self) c.args.records.now c.make_room.new.self refl c.reserve.ensures.passes refl c.make_room.ensures.lists.grants (ap login_answers c.reserve.ensures.rest.sent) terms.told c.args.unit.now.id front
+returns-in_err-reserve-clause-refuses g c = λ terms all serving front. explains_stands c.args.unit.now c.args.unit.now (g.S.Site.state c.args.site.now) (g.S.Site.state c.reserve.new.self) c.args.records.now c.make_room.new.self refl c.reserve.ensures.passes refl c.make_room.ensures.lists.grants (ap login_answers c.reserve.ensures.rest.sent) refl terms.told c.args.unit.now.id front
 
 pub returns-in_err-copy_answer-clause-refuses : goal.returns-in_err-copy_answer-clause-refuses
 returns-in_err-copy_answer-clause-refuses g c = λ terms all serving front is.
-    c.copy_answer.ensures.refuses terms.told c.args.unit.now.id front (tells_next terms.told c.args.unit.now.id (g.S.Site.state c.args.site.now) (g.S.Site.state c.reserve.new.self) (g.S.Site.state c.copy_answer.new.site) c.reserve.ensures.advances all) (explains_stands c.args.unit.now c.args.unit.now (g.S.Site.state c.args.site.now) (g.S.Site.state c.reserve.new.self) c.args.records.now c.make_room.new.self refl c.reserve.ensures.passes refl c.make_room.ensures.lists.grants (ap login_answers c.reserve.ensures.rest.sent) terms.told c.args.unit.now.id front is)
+    c.copy_answer.ensures.refuses terms.told c.args.unit.now.id front (tells_next terms.told c.args.unit.now.id (g.S.Site.state c.args.site.now) (g.S.Site.state c.reserve.new.self) (g.S.Site.state c.copy_answer.new.site) c.reserve.ensures.advances all) (explains_stands c.args.unit.now c.args.unit.now (g.S.Site.state c.args.site.now) (g.S.Site.state c.reserve.new.self) c.args.records.now c.make_room.new.self refl c.reserve.ensures.passes refl c.make_room.ensures.lists.grants (ap login_answers c.reserve.ensures.rest.sent) refl terms.told c.args.unit.now.id front is)
 
 pub returns-in_default-clause-refuses : goal.returns-in_default-clause-refuses
 returns-in_default-clause-refuses g c = λ terms all serving front is.
-    c.copy_answer.ensures.refuses terms.told c.args.unit.now.id front (tells_next terms.told c.args.unit.now.id (g.S.Site.state c.args.site.now) (g.S.Site.state c.reserve.new.self) (g.S.Site.state c.copy_answer.new.site) c.reserve.ensures.advances all) (explains_stands c.args.unit.now c.args.unit.now (g.S.Site.state c.args.site.now) (g.S.Site.state c.reserve.new.self) c.args.records.now c.make_room.new.self refl c.reserve.ensures.passes refl c.make_room.ensures.lists.grants (ap login_answers c.reserve.ensures.rest.sent) terms.told c.args.unit.now.id front is)
+    c.copy_answer.ensures.refuses terms.told c.args.unit.now.id front (tells_next terms.told c.args.unit.now.id (g.S.Site.state c.args.site.now) (g.S.Site.state c.reserve.new.self) (g.S.Site.state c.copy_answer.new.site) c.reserve.ensures.advances all) (explains_stands c.args.unit.now c.args.unit.now (g.S.Site.state c.args.site.now) (g.S.Site.state c.reserve.new.self) c.args.records.now c.make_room.new.self refl c.reserve.ensures.passes refl c.make_room.ensures.lists.grants (ap login_answers c.reserve.ensures.rest.sent) refl terms.told c.args.unit.now.id front is)
 
 pub returns-in-Entry-clause-refuses : goal.returns-in-Entry-clause-refuses
 returns-in-Entry-clause-refuses g c = λ terms all serving front is.
@@ -244,5 +244,5 @@ returns-in-Entry-clause-refuses g c = λ terms all serving front is.
     explained_then disk disk (desk_of unit) (desk_of c.copy_answer.new.unit) _ _ _ _ front (ledger_of unit (g.S.Site.state c.args.site.now) c.args.records.now) (ledger_of c.copy_answer.new.unit copied c.copy_answer.new.records) _
     (c.copy_answer.ensures.once disk made (subst (IsServing terms (desk_of unit)) (sym c.make_room.ensures.lists.history) serving))
     (λ is. c.copy_answer.ensures.refuses terms.told unit.id front made
-    (explains_stands unit unit (g.S.Site.state c.args.site.now) reserved c.args.records.now c.make_room.new.self refl c.reserve.ensures.passes refl c.make_room.ensures.lists.grants (ap login_answers c.reserve.ensures.rest.sent) terms.told unit.id front is))
+    (explains_stands unit unit (g.S.Site.state c.args.site.now) reserved c.args.records.now c.make_room.new.self refl c.reserve.ensures.passes refl c.make_room.ensures.lists.grants (ap login_answers c.reserve.ensures.rest.sent) refl terms.told unit.id front is))
     (c.put_answer.ensures.refuses terms) is

@@ -10,7 +10,7 @@ use Rattle.std.proofs.Common.{ap}
 use Rattle.block_server.proofs.Owing.{has_cut_of}
 use Rattle.block_server.specs.Owed.{row_in}
 use Rattle.block_server.proofs.Hands.{keeps_on, keeps_same}
-use Rattle.block_server.proofs.Ledgers.{explained_ended, explains_stands}
+use Rattle.block_server.proofs.Ledgers.{on_ends, explained_ended, explains_stands}
 use Rattle.block_server.proofs.Refusing.{denied_answer}
 use Rattle.block_server.proofs.Taking.{passed_session, passed_taken}
 use Rattle.vio_num.specs.declared.history.Grant.TheVariants.{Lapsed}
@@ -20,6 +20,8 @@ use Rattle.block_server.specs.LoginAnswers.{login_answers}
 use Rattle.crq_session.specs.EndState.{EndState}
 use Rattle.std.proofs.Common.{inl}
 use Rattle.block_server.proofs.OwingCalls.{closing_ended}
+use Rattle.block_server.proofs.Taking.{id_stands}
+use Rattle.block_server.specs.declared.logins.Logins.{Logins}
 use Rattle.block_server.proofs.answering.copy_answer.Goals as goal
 
 pub returns-in_default-clause-once : goal.returns-in_default-clause-once
@@ -127,16 +129,16 @@ returns-in-Refused-clause-answers g c = λ alone has.
     (c.end_session.ensures.cuts (g.S.Site.state c.deliver.new.site).queue c.session.ensures refl (c.deliver.ensures.answers c.args.records.now alone has))
 
 pub returns-in-Refused-clause-cargo : goal.returns-in-Refused-clause-cargo
-returns-in-Refused-clause-cargo g c = keeps_on _ _ _ (keeps_same _ _ (c.deliver.ensures.cargo c.args.records.now)) (c.end_session.ensures.cargo _ _)
+returns-in-Refused-clause-cargo g c = keeps_on _ _ _ (keeps_same _ _ (c.deliver.ensures.cargo c.args.records.now)) (c.end_session.ensures.cargo _ _ refl)
 
 pub returns-in_err-deliver-clause-refuses : goal.returns-in_err-deliver-clause-refuses
-returns-in_err-deliver-clause-refuses g c = λ told unit front all. explains_stands c.args.unit.now c.deliver.new.unit (g.S.Site.state c.args.site.now) (g.S.Site.state c.deliver.new.site) c.args.records.now c.args.records.now c.deliver.ensures.stands c.deliver.ensures.passes c.deliver.ensures.pending refl (ap (λ (q : EndState). login_answers q.sent) c.deliver.ensures.queue) told unit front
+returns-in_err-deliver-clause-refuses g c = λ told unit front all. explains_stands c.args.unit.now c.deliver.new.unit (g.S.Site.state c.args.site.now) (g.S.Site.state c.deliver.new.site) c.args.records.now c.args.records.now c.deliver.ensures.stands c.deliver.ensures.passes c.deliver.ensures.pending refl (ap (λ (q : EndState). login_answers q.sent) c.deliver.ensures.queue) (ap (λ (l : Logins). l.current) c.deliver.ensures.logins) told unit front
 
 pub returns-in-Done-clause-refuses : goal.returns-in-Done-clause-refuses
-returns-in-Done-clause-refuses g c = λ told unit front all. explains_stands c.args.unit.now c.deliver.new.unit (g.S.Site.state c.args.site.now) (g.S.Site.state c.deliver.new.site) c.args.records.now c.args.records.now c.deliver.ensures.stands c.deliver.ensures.passes c.deliver.ensures.pending refl (ap (λ (q : EndState). login_answers q.sent) c.deliver.ensures.queue) told unit front
+returns-in-Done-clause-refuses g c = λ told unit front all. explains_stands c.args.unit.now c.deliver.new.unit (g.S.Site.state c.args.site.now) (g.S.Site.state c.deliver.new.site) c.args.records.now c.args.records.now c.deliver.ensures.stands c.deliver.ensures.passes c.deliver.ensures.pending refl (ap (λ (q : EndState). login_answers q.sent) c.deliver.ensures.queue) (ap (λ (l : Logins). l.current) c.deliver.ensures.logins) told unit front
 
 pub returns-in-Busy-clause-refuses : goal.returns-in-Busy-clause-refuses
-returns-in-Busy-clause-refuses g c = λ told unit front all. explains_stands c.args.unit.now c.deliver.new.unit (g.S.Site.state c.args.site.now) (g.S.Site.state c.deliver.new.site) c.args.records.now c.args.records.now c.deliver.ensures.stands c.deliver.ensures.passes c.deliver.ensures.pending refl (ap (λ (q : EndState). login_answers q.sent) c.deliver.ensures.queue) told unit front
+returns-in-Busy-clause-refuses g c = λ told unit front all. explains_stands c.args.unit.now c.deliver.new.unit (g.S.Site.state c.args.site.now) (g.S.Site.state c.deliver.new.site) c.args.records.now c.args.records.now c.deliver.ensures.stands c.deliver.ensures.passes c.deliver.ensures.pending refl (ap (λ (q : EndState). login_answers q.sent) c.deliver.ensures.queue) (ap (λ (l : Logins). l.current) c.deliver.ensures.logins) told unit front
 
 pub returns-in-Refused-clause-refuses : goal.returns-in-Refused-clause-refuses
 returns-in-Refused-clause-refuses g c = λ told unit front all is.
@@ -145,4 +147,8 @@ returns-in-Refused-clause-refuses g c = λ told unit front all is.
     explained_ended told unit front at (ledger_of c.end_session.new.unit (g.S.Site.state c.deliver.new.site) c.end_session.new.records) (Lapsed c.deliver.new.unit.id c.session.result c.deliver.new.unit.logins.current Refused 0 0)
     session (passed_taken _ _ c.deliver.ensures.passes) c.end_session.ensures.ends.waiting c.end_session.ensures.ends.pending c.end_session.ensures.ends.line
     (denied_answer told unit front.since (basis_in at) (g.S.Site.state c.args.site.now) (g.S.Site.state c.deliver.new.site) c.deliver.new.unit.id c.session.result c.deliver.new.unit.logins.current (c.session.ensures ∙ session) (c.in_ok-deliver.ensures.refused c.in-Refused.is) all is.known) refl (ap (λ (q : EndState). login_answers q.sent) c.deliver.ensures.queue)
-    (inl (closing_ended c.end_session.new.unit.line c.end_session.ensures.closing)) is
+    (inl (closing_ended c.end_session.new.unit.line c.end_session.ensures.closing))
+    (on_ends at (ledger_of c.end_session.new.unit (g.S.Site.state c.deliver.new.site) c.end_session.new.records)
+    (Lapsed c.deliver.new.unit.id c.session.result c.deliver.new.unit.logins.current Refused 0 0) c.deliver.new.unit.logins.current Refused 0 0
+    (λ i. Lapsed (id_stands _ _ c.deliver.ensures.stands i) ((c.session.ensures ∙ session) i) c.deliver.new.unit.logins.current Refused 0 0)
+    (c.end_session.ensures.id ∙ id_stands _ _ c.deliver.ensures.stands) c.end_session.ensures.ends.off session c.end_session.ensures.ends.line) is

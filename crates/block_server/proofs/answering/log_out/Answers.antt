@@ -15,9 +15,10 @@ use Rattle.block_server.specs.Owed.{row_in}
 use Rattle.vio_num.specs.declared.history.Grant.TheVariants.{Lapsed}
 use Rattle.block_server.specs.Cargo.{is_moving}
 use Rattle.block_server.proofs.Cargoes.{named_keeps, none_keeps}
-use Rattle.block_server.proofs.Ledgers.{explains_settled}
+use Rattle.block_server.proofs.Ledgers.{explains_settled, on_ends}
 use Rattle.block_server.proofs.Taking.{ended_stands, waiting_stands}
 use Rattle.block_server.specs.Refusals.{ledger_at}
+use Rattle.std.proofs.Common.{ℕ}
 use Rattle.block_server.proofs.answering.log_out.Goals as goal
 
 pub returns-clause-once : goal.returns-clause-once
@@ -43,9 +44,12 @@ returns-clause-answers c = λ q front rest parts none has.
     (λ some. absurd (no_login _ (ap (λ (logins : Logins). logins.current) c.finish.ensures.logins ∙ c.end-login.ensures.current) some)) has
 
 pub returns-clause-cargo : goal.returns-clause-cargo
-returns-clause-cargo c = λ shown shown' none. named_keeps _ _ _ _ _ _ _ _ c.finish.ensures.id (none_keeps _ _ _ shown shown' _ _ none (ap is_moving c.finish.ensures.stage) refl)
+returns-clause-cargo c = λ shown shown' same none. named_keeps _ _ _ _ _ _ _ _ c.finish.ensures.id (none_keeps _ _ _ shown shown' _ _ same none (ap is_moving c.finish.ensures.stage) refl)
 
 pub returns-clause-refuses : goal.returns-clause-refuses
-returns-clause-refuses c = λ queue taken answers first rest parts other.
+returns-clause-refuses c = λ queue taken answers first rest present parts other.
     explains_settled (ledger_at c.args.unit.now queue taken answers c.args.records.now) _ (Lapsed c.args.unit.now.id c.args.session c.end-login.result Logout 0 0) first rest parts other refl refl (waiting_stands _ _ c.finish.ensures.stands)
     (ended_stands _ _ c.finish.ensures.stands) c.finish.ensures.pending c.push_reserved.ensures.items (λ Hears unit. tt) refl refl
+    (on_ends (ledger_at c.args.unit.now queue taken answers c.args.records.now) _ (Lapsed c.args.unit.now.id c.args.session c.end-login.result Logout 0 0) c.end-login.result Logout 0 0
+    (ap (λ (n : ℕ). Lapsed c.args.unit.now.id n c.end-login.result Logout 0 0) present) c.finish.ensures.id
+    (ap (λ (l : Logins). l.current) c.finish.ensures.logins ∙ c.end-login.ensures.current) refl c.push_reserved.ensures.items)

@@ -21,7 +21,8 @@ use Rattle.crq_session.specs.EndState.{EndPlace}
 use Rattle.block_server.specs.Owed.{row_in}
 use Rattle.block_server.proofs.Owing.{owes_seen}
 use Rattle.block_server.proofs.OwingCalls.{owes_discarded, pending_going, seen_sends}
-use Rattle.block_server.specs.Cargo.{data_bytes, is_moving}
+use Rattle.block_server.proofs.CopyKinds.{still_pages}
+use Rattle.block_server.specs.Cargo.{is_moving}
 use Rattle.block_server.proofs.Cargoes.{named_same, none_seen}
 use Rattle.block_server.proofs.Ledgers.{explains_same}
 use Rattle.block_server.proofs.Taking.{ended_stands, passed_taken}
@@ -119,15 +120,15 @@ returns-in_default-send-clause-answers g c = λ judged is alone has.
 pub returns-in-Success-clause-cargo : goal.returns-in-Success-clause-cargo
 returns-in-Success-clause-cargo g c =
     named_same _ _ _ _ _ _ _ _ c.settle.ensures.id
-    (none_seen _ _ _ _ _ _ _ (ap data_bytes c.send.ensures.windows.own) (ap is_moving c.requires.stage) (ap is_moving c.settle.ensures.stage) c.settle.ensures.rows)
+    (none_seen _ _ _ _ _ _ _ (still_pages _ _ c.send.ensures.windows) (ap is_moving c.requires.stage) (ap is_moving c.settle.ensures.stage) c.settle.ensures.rows)
 
 pub returns-in-Dropped-clause-cargo : goal.returns-in-Dropped-clause-cargo
-returns-in-Dropped-clause-cargo g c = none_seen _ _ _ _ _ _ _ (ap data_bytes c.send.ensures.windows.own) (ap is_moving c.requires.stage) (ap is_moving c.requires.stage) refl
+returns-in-Dropped-clause-cargo g c = none_seen _ _ _ _ _ _ _ (still_pages _ _ c.send.ensures.windows) (ap is_moving c.requires.stage) (ap is_moving c.requires.stage) refl
 
 pub returns-in_default-send-clause-cargo : goal.returns-in_default-send-clause-cargo
 returns-in_default-send-clause-cargo g c =
     named_same _ _ _ _ _ _ _ _ c.finish.ensures.id
-    (none_seen _ _ _ _ _ _ _ (ap data_bytes c.send.ensures.windows.own) (ap is_moving c.requires.stage) (ap is_moving c.finish.ensures.stage) refl)
+    (none_seen _ _ _ _ _ _ _ (still_pages _ _ c.send.ensures.windows) (ap is_moving c.requires.stage) (ap is_moving c.finish.ensures.stage) refl)
 
 pub returns-in-Success-clause-refuses : goal.returns-in-Success-clause-refuses
 returns-in-Success-clause-refuses g c = λ terms serving front is.
@@ -146,19 +147,19 @@ returns-in-Success-clause-refuses g c = λ terms serving front is.
       entry_is = c.answer_entry-entry.ensures.entry ∙ ap (λ n. srp_entry n c.in-Some.request.now.tag) (c.len.ensures ∙ unit.service.answer.ok.0);
     } in
     explains_same (ledger_at c.settle.new.unit sent.queue.last_session sent.queue.taken put c.settle.new.records) (ledger_of c.settle.new.unit sent c.settle.new.records)
-    refl refl refl refl refl refl (logins_put _ _ _ c.in-Success.ensures.success.puts.sent) terms.told unit.id front
+    refl refl refl refl refl refl (logins_put _ _ _ c.in-Success.ensures.success.puts.sent) refl refl terms.told unit.id front
     (subst (λ (session : ℕ). AreAccounted terms.told unit.id front (ledger_at unit session sent.queue.taken answers c.args.records.now)
     → AreAccounted terms.told unit.id front (ledger_at c.settle.new.unit session sent.queue.taken put c.settle.new.records))
     c.session.ensures (c.settle.ensures.refuses terms sent.queue.taken answers entry kept serving front)
     (explains_same (ledger_of unit old c.args.records.now) (ledger_at unit sent.queue.last_session sent.queue.taken answers c.args.records.now)
-    (passed_session _ _ c.send.ensures.passes) (passed_taken _ _ c.send.ensures.passes) refl refl refl refl refl terms.told unit.id front is))
+    (passed_session _ _ c.send.ensures.passes) (passed_taken _ _ c.send.ensures.passes) refl refl refl refl refl refl refl terms.told unit.id front is))
 
 pub returns-in-Dropped-clause-refuses : goal.returns-in-Dropped-clause-refuses
 returns-in-Dropped-clause-refuses g c = λ terms serving front.
-    explains_same (ledger_of c.args.unit.now (g.S.Site.state c.args.site.now) c.args.records.now) _ (passed_session _ _ c.send.ensures.passes) (passed_taken _ _ c.send.ensures.passes) refl refl refl refl (ap login_answers c.in-Dropped.ensures.dropped.sent) terms.told c.args.unit.now.id front
+    explains_same (ledger_of c.args.unit.now (g.S.Site.state c.args.site.now) c.args.records.now) _ (passed_session _ _ c.send.ensures.passes) (passed_taken _ _ c.send.ensures.passes) refl refl refl refl (ap login_answers c.in-Dropped.ensures.dropped.sent) refl refl terms.told c.args.unit.now.id front
 
 pub returns-in_default-send-clause-refuses : goal.returns-in_default-send-clause-refuses
 returns-in_default-send-clause-refuses g c = λ terms serving front.
     explains_finished terms (desk_of c.args.unit.now) c.args.records.now.history.items (ledger_of c.args.unit.now (g.S.Site.state c.args.site.now) c.args.records.now) (ledger_of c.finish.new.unit (g.S.Site.state c.send.new.self) c.args.records.now) c.args.outcome c.requires.stage refl (passed_session _ _ c.send.ensures.passes) (passed_taken _ _ c.send.ensures.passes)
     (waiting_stands _ _ c.finish.ensures.stands) (ended_stands _ _ c.finish.ensures.stands) c.finish.ensures.pending refl
-    (logins_same _ _ _ _ c.in_default-send.not-Success c.in_default-send.not-Dropped c.send.ensures.closed c.send.ensures.refused) serving front
+    (logins_same _ _ _ _ c.in_default-send.not-Success c.in_default-send.not-Dropped c.send.ensures.closed c.send.ensures.refused) c.finish.ensures.id (ap (λ (l : Logins). l.current) c.finish.ensures.logins) serving front

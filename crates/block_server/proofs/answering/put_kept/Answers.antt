@@ -27,7 +27,8 @@ use Rattle.crq_session.specs.EndState.{EndPlace}
 use Rattle.block_server.specs.Owed.{row_states, owing_of, row_in}
 use Rattle.block_server.proofs.Owing.{owes_seen, seen_same}
 use Rattle.block_server.proofs.OwingCalls.{entry_going, owes_discarded, seen_on, seen_reserves, seen_sends}
-use Rattle.block_server.specs.Cargo.{data_bytes, is_moving, rows_of}
+use Rattle.block_server.proofs.CopyKinds.{still_pages}
+use Rattle.block_server.specs.Cargo.{is_moving, rows_of}
 use Rattle.block_server.proofs.Cargoes.{named_same, none_seen}
 use Rattle.block_server.proofs.Ledgers.{explains_same, explains_stands}
 use Rattle.block_server.proofs.Taking.{ended_stands, passed_taken}
@@ -209,43 +210,43 @@ pub returns-in-Answer-clause-cargo : goal.returns-in-Answer-clause-cargo
 returns-in-Answer-clause-cargo g c = λ terms serving.
     let is = serving.kept (keeps.Answer c.in-Answer.entry c.in-Answer.outcome) (c.in-Some.is ∙ ap Some c.in-Answer.is) in
     named_same _ _ _ _ _ _ _ _ c.settle.ensures.id
-    (none_seen _ _ _ _ _ _ _ (ap data_bytes c.send.ensures.windows.own ∙ ap data_bytes c.reserve.ensures.windows.own) (ap is_moving is.stage) (ap is_moving c.settle.ensures.stage)
+    (none_seen _ _ _ _ _ _ _ (still_pages _ _ c.send.ensures.windows ∙ still_pages _ _ c.reserve.ensures.windows) (ap is_moving is.stage) (ap is_moving c.settle.ensures.stage)
     (c.settle.ensures.rows ∙ ap rows_of c.make_room.ensures.lists.history))
 
 pub returns-in-Answer-kept-clause-cargo : goal.returns-in-Answer-kept-clause-cargo
 returns-in-Answer-kept-clause-cargo g c = λ terms serving.
     let is = serving.kept (keeps.Answer c.in-Answer-kept.entry c.in-Answer-kept.outcome) (c.in-Some.is ∙ ap Some c.in-Answer-kept.is) in
     named_same _ _ _ _ _ _ _ _ c.finish.ensures.id
-    (none_seen _ _ _ _ _ _ _ (ap data_bytes c.send.ensures.windows.own ∙ ap data_bytes c.reserve.ensures.windows.own) (ap is_moving is.stage) (ap is_moving c.finish.ensures.stage)
+    (none_seen _ _ _ _ _ _ _ (still_pages _ _ c.send.ensures.windows ∙ still_pages _ _ c.reserve.ensures.windows) (ap is_moving is.stage) (ap is_moving c.finish.ensures.stage)
     (ap rows_of c.make_room.ensures.lists.history))
 
 pub returns-in_err-make_room-clause-refuses : goal.returns-in_err-make_room-clause-refuses
 returns-in_err-make_room-clause-refuses g c = λ terms serving front.
-    explains_stands c.args.unit.now c.args.unit.now (g.S.Site.state c.args.site.now) (g.S.Site.state c.args.site.now) c.args.records.now c.make_room.new.self refl refl refl c.make_room.ensures.lists.grants refl terms.told c.args.unit.now.id front
+    explains_stands c.args.unit.now c.args.unit.now (g.S.Site.state c.args.site.now) (g.S.Site.state c.args.site.now) c.args.records.now c.make_room.new.self refl refl refl c.make_room.ensures.lists.grants refl refl terms.told c.args.unit.now.id front
 
 pub returns-in_err-make_room-2-clause-refuses : goal.returns-in_err-make_room-2-clause-refuses
 returns-in_err-make_room-2-clause-refuses g c = λ terms serving front.
-    explains_stands c.args.unit.now c.args.unit.now (g.S.Site.state c.args.site.now) (g.S.Site.state c.args.site.now) c.args.records.now c.make_room.new.self refl refl refl c.make_room.ensures.lists.grants refl terms.told c.args.unit.now.id front
+    explains_stands c.args.unit.now c.args.unit.now (g.S.Site.state c.args.site.now) (g.S.Site.state c.args.site.now) c.args.records.now c.make_room.new.self refl refl refl c.make_room.ensures.lists.grants refl refl terms.told c.args.unit.now.id front
 
 pub returns-in_err-reserve-clause-refuses : goal.returns-in_err-reserve-clause-refuses
 returns-in_err-reserve-clause-refuses g c = λ terms serving front.
-    explains_stands c.args.unit.now c.args.unit.now (g.S.Site.state c.args.site.now) _ c.args.records.now c.make_room.new.self refl c.reserve.ensures.passes refl c.make_room.ensures.lists.grants (ap login_answers c.reserve.ensures.rest.sent) terms.told c.args.unit.now.id front
+    explains_stands c.args.unit.now c.args.unit.now (g.S.Site.state c.args.site.now) _ c.args.records.now c.make_room.new.self refl c.reserve.ensures.passes refl c.make_room.ensures.lists.grants (ap login_answers c.reserve.ensures.rest.sent) refl terms.told c.args.unit.now.id front
 
 pub returns-in-Dropped-clause-refuses : goal.returns-in-Dropped-clause-refuses
 returns-in-Dropped-clause-refuses g c = λ terms serving front.
     explains_stands c.args.unit.now c.args.unit.now (g.S.Site.state c.args.site.now) (g.S.Site.state c.send.new.self) c.args.records.now c.make_room.new.self refl (c.send.ensures.passes ∙ c.reserve.ensures.passes) refl c.make_room.ensures.lists.grants
-    (ap login_answers (c.in-Dropped.ensures.dropped.sent ∙ c.reserve.ensures.rest.sent)) terms.told c.args.unit.now.id front
+    (ap login_answers (c.in-Dropped.ensures.dropped.sent ∙ c.reserve.ensures.rest.sent)) refl terms.told c.args.unit.now.id front
 
 pub returns-in_default-kept-clause-refuses : goal.returns-in_default-kept-clause-refuses
 returns-in_default-kept-clause-refuses g c = λ terms serving front.
     let is = serving.kept (keeps.Reply c.in_default-kept.field-0) (c.in-Some.is ∙ ap Some c.in_default-kept.is) in
     explains_same (ledger_of c.args.unit.now (g.S.Site.state c.args.site.now) c.args.records.now) _ (passed_session _ _ (c.send.ensures.passes ∙ c.reserve.ensures.passes)) (passed_taken _ _ (c.send.ensures.passes ∙ c.reserve.ensures.passes)) refl refl refl c.make_room.ensures.lists.grants
-    (logins_plain _ _ _ (subst IsPlain (sym (c.entry.ensures ∙ ap kept_entry c.in_default-kept.is)) is) c.in-Success.ensures.success.puts.sent ∙ ap login_answers c.reserve.ensures.rest.sent) terms.told c.args.unit.now.id front
+    (logins_plain _ _ _ (subst IsPlain (sym (c.entry.ensures ∙ ap kept_entry c.in_default-kept.is)) is) c.in-Success.ensures.success.puts.sent ∙ ap login_answers c.reserve.ensures.rest.sent) refl refl terms.told c.args.unit.now.id front
 
 pub returns-in_default-kept-2-clause-refuses : goal.returns-in_default-kept-2-clause-refuses
 returns-in_default-kept-2-clause-refuses g c = λ terms serving front.
     explains_same (ledger_of c.args.unit.now (g.S.Site.state c.args.site.now) c.args.records.now) _ (passed_session _ _ (c.send.ensures.passes ∙ c.reserve.ensures.passes)) (passed_taken _ _ (c.send.ensures.passes ∙ c.reserve.ensures.passes)) refl refl refl c.make_room.ensures.lists.grants
-    (logins_same _ _ _ _ c.in_default-send.not-Success c.in_default-send.not-Dropped c.send.ensures.closed c.send.ensures.refused ∙ ap login_answers c.reserve.ensures.rest.sent) terms.told c.args.unit.now.id front
+    (logins_same _ _ _ _ c.in_default-send.not-Success c.in_default-send.not-Dropped c.send.ensures.closed c.send.ensures.refused ∙ ap login_answers c.reserve.ensures.rest.sent) refl refl terms.told c.args.unit.now.id front
 
 pub returns-in-Answer-clause-refuses : goal.returns-in-Answer-clause-refuses
 returns-in-Answer-clause-refuses g c = λ terms serving front is.
@@ -259,7 +260,7 @@ returns-in-Answer-clause-refuses g c = λ terms serving front is.
     record { request = has.request; rest = has.rest; front = has.front; stage = has.stage; entry_is = entry_is ∙ has.entry_is } in
     let put = answers ++ login_put c.entry.result in
     explains_same (ledger_at c.settle.new.unit sent.queue.last_session sent.queue.taken put c.settle.new.records) (ledger_of c.settle.new.unit sent c.settle.new.records)
-    refl refl refl refl refl refl (logins_put _ _ _ c.in-Success.ensures.success.puts.sent ∙ ap (λ rows. login_answers rows ++ login_put c.entry.result) c.reserve.ensures.rest.sent) terms.told unit.id front
+    refl refl refl refl refl refl (logins_put _ _ _ c.in-Success.ensures.success.puts.sent ∙ ap (λ rows. login_answers rows ++ login_put c.entry.result) c.reserve.ensures.rest.sent) refl refl terms.told unit.id front
     (subst (λ (session : ℕ). AreAccounted terms.told unit.id front (ledger_at unit session sent.queue.taken answers c.make_room.new.self)
     → AreAccounted terms.told unit.id front (ledger_at c.settle.new.unit session sent.queue.taken put c.settle.new.records))
     c.session.ensures
@@ -267,11 +268,11 @@ returns-in-Answer-clause-refuses g c = λ terms serving front is.
     (unkept terms (desk_of unit) _ (subst (IsServing terms (desk_of unit)) (sym c.make_room.ensures.lists.history) serving)) front)
     (explains_same (ledger_of unit old c.args.records.now) (ledger_at unit sent.queue.last_session sent.queue.taken answers c.make_room.new.self)
     (passed_session _ _ (c.send.ensures.passes ∙ c.reserve.ensures.passes)) (passed_taken _ _ (c.send.ensures.passes ∙ c.reserve.ensures.passes)) refl refl refl
-    c.make_room.ensures.lists.grants refl terms.told unit.id front is))
+    c.make_room.ensures.lists.grants refl refl refl terms.told unit.id front is))
 
 pub returns-in-Answer-kept-clause-refuses : goal.returns-in-Answer-kept-clause-refuses
 returns-in-Answer-kept-clause-refuses g c = λ terms serving front.
     let kept = serving.kept (keeps.Answer c.in-Answer-kept.entry c.in-Answer-kept.outcome) (c.in-Some.is ∙ ap Some c.in-Answer-kept.is) in
     explains_finished terms (desk_of c.args.unit.now) c.args.records.now.history.items (ledger_of c.args.unit.now (g.S.Site.state c.args.site.now) c.args.records.now) (ledger_of c.finish.new.unit (g.S.Site.state c.send.new.self) c.make_room.new.self) c.in-Answer-kept.outcome kept.stage refl (passed_session _ _ (c.send.ensures.passes ∙ c.reserve.ensures.passes))
     (passed_taken _ _ (c.send.ensures.passes ∙ c.reserve.ensures.passes)) (waiting_stands _ _ c.finish.ensures.stands) (ended_stands _ _ c.finish.ensures.stands) c.finish.ensures.pending c.make_room.ensures.lists.grants
-    (logins_same _ _ _ _ c.in_default-send.not-Success c.in_default-send.not-Dropped c.send.ensures.closed c.send.ensures.refused ∙ ap login_answers c.reserve.ensures.rest.sent) serving front
+    (logins_same _ _ _ _ c.in_default-send.not-Success c.in_default-send.not-Dropped c.send.ensures.closed c.send.ensures.refused ∙ ap login_answers c.reserve.ensures.rest.sent) c.finish.ensures.id (ap (λ (l : Logins). l.current) c.finish.ensures.logins) serving front

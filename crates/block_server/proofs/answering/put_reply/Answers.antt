@@ -7,7 +7,7 @@ use Rattle.block_server.proofs.Keeping.{keeps_kept, moved_to}
 use Rattle.block_server.proofs.Booking.{passed_next}
 use Rattle.block_server.proofs.Taking.{passed_session, passed_taken}
 use Rattle.block_server.proofs.Ledgers.{explains_same}
-use Rattle.block_server.proofs.LoginPuts.{logins_plain}
+use Rattle.block_server.proofs.LoginPuts.{logins_plain, logins_same}
 use Rattle.block_server.specs.Refusals.{ledger_of}
 use Rattle.std.proofs.Common.{Some, refl}
 use Rattle.block_server.specs.declared.line.Kept.TheVariants as keeps
@@ -57,4 +57,9 @@ returns-in_default-clause-answers g c = λ records alone has. owes_seen _ _ (see
 pub returns-in-Success-clause-refuses : goal.returns-in-Success-clause-refuses
 returns-in-Success-clause-refuses g c = λ records.
     explains_same (ledger_of c.args.unit.now (g.S.Site.state c.args.site.now) records) _ (passed_session _ _ c.send.ensures.passes) (passed_taken _ _ c.send.ensures.passes) refl refl refl refl
-    (logins_plain _ _ _ c.requires.plain c.in-Success.ensures.success.puts.sent)
+    (logins_plain _ _ _ c.requires.plain c.in-Success.ensures.success.puts.sent) refl refl
+
+pub returns-in_default-clause-refuses : goal.returns-in_default-clause-refuses
+returns-in_default-clause-refuses g c = λ records.
+    explains_same (ledger_of c.args.unit.now (g.S.Site.state c.args.site.now) records) _ (passed_session _ _ c.send.ensures.passes) (passed_taken _ _ c.send.ensures.passes) refl refl refl refl
+    (logins_same _ _ _ _ c.in_default.not-Success c.in_default.not-Dropped c.send.ensures.closed c.send.ensures.refused) refl refl

@@ -75,12 +75,15 @@ returns-clause-refuses c = λ terms taken answers entry kept.
           w.credits-credits.ensures refl refl
           (waiting_stands _ _ c.finish.ensures.stands ∙ ap (λ (u : ServerUnit). u.waiting) w.unit-is) (ended_stands _ _ c.finish.ensures.stands ∙ ap (λ (u : ServerUnit). is_ended u.line) w.unit-is)
           (c.finish.ensures.pending ∙ ap (λ (u : ServerUnit). drop 1 u.pending.items) w.unit-is) (ap (λ (r : Records). r.grants.items) w.records-is ∙ w.push_reserved.ensures.items) refl
+          (c.finish.ensures.id ∙ ap (λ (u : ServerUnit). u.id) w.unit-is) refl (ap (λ (l : Logins). l.current) c.finish.ensures.logins ∙ ap (λ (u : ServerUnit). u.logins.current) w.unit-is ∙ w.begin-login.ensures.current)
       | in-Rejected w ↦ explains_rejected terms desk c.args.records.now.history.items old _ entry (kept.stage ∙ ap Entry w.in-Rejected.is) (kept_at _ w.in-Rejected.is) (fits_at _ w.in-Rejected.is)
           refl refl refl
           (waiting_stands _ _ c.finish.ensures.stands ∙ ap (λ (u : ServerUnit). u.waiting) w.unit-is) (ended_stands _ _ c.finish.ensures.stands ∙ ap (λ (u : ServerUnit). is_ended u.line) w.unit-is)
           (c.finish.ensures.pending ∙ ap (λ (u : ServerUnit). drop 1 u.pending.items) w.unit-is) (ap (λ (r : Records). r.grants.items) w.records-is) refl
+          (c.finish.ensures.id ∙ ap (λ (u : ServerUnit). u.id) w.unit-is) (ap (λ (l : Logins). l.current) c.finish.ensures.logins ∙ ap (λ (u : ServerUnit). u.logins.current) w.unit-is) refl
       | in-Served w ↦ explains_served terms desk c.args.records.now.history.items old _ entry w.in-Served.row (kept.stage ∙ ap Entry w.in-Served.is) (kept_at _ w.in-Served.is) (fits_at _ w.in-Served.is) refl refl refl
           (waiting_stands _ _ c.finish.ensures.stands ∙ ap (λ (u : ServerUnit). u.waiting) w.unit-is) (ended_stands _ _ c.finish.ensures.stands ∙ ap (λ (u : ServerUnit). is_ended u.line) w.unit-is)
           (c.finish.ensures.pending ∙ ap (λ (u : ServerUnit). drop 1 u.pending.items) w.unit-is)
           (ap (λ (r : Records). r.grants.items) w.records-is ∙ ap (λ (v : Vec Grant Global). v.items) w.answer-in-Served.ensures.grants) refl
+          (c.finish.ensures.id ∙ ap (λ (u : ServerUnit). u.id) w.unit-is) (ap (λ (l : Logins). l.current) c.finish.ensures.logins ∙ ap (λ (u : ServerUnit). u.logins.current) w.unit-is ∙ w.answer.ensures.current)
     ]

@@ -76,23 +76,38 @@ returns-clause-went g c = if_each c.fetch_data_out.result _ (λ progress done be
     c.fetch_data_out.ensures.stays (c.in_ok-progress-2.ensures.went inn (c.in_ok-progress.ensures.went out (c.is_refused.ensures.went (search rules) before))))
 
 pub returns-in_err-progress-clause-cargo : goal.returns-in_err-progress-clause-cargo
-returns-in_err-progress-clause-cargo g c = λ id told all rows hand. c.fetch_out_pieces.ensures.cargo id rows told (keeps_same _ _ (c.is_refused.ensures.cargo id _ rows) told hand)
+returns-in_err-progress-clause-cargo g c = λ id told asked all rows hand.
+    c.fetch_out_pieces.ensures.cargo id told asked all rows (keeps_same _ _ (c.is_refused.ensures.cargo id _ rows) told asked hand)
 
 pub returns-then-ne-clause-cargo : goal.returns-then-ne-clause-cargo
-returns-then-ne-clause-cargo g c = λ id told all rows hand. c.fetch_out_pieces.ensures.cargo id rows told (keeps_same _ _ (c.is_refused.ensures.cargo id _ rows) told hand)
+returns-then-ne-clause-cargo g c = λ id told asked all rows hand.
+    c.fetch_out_pieces.ensures.cargo id told asked all rows (keeps_same _ _ (c.is_refused.ensures.cargo id _ rows) told asked hand)
 
 pub returns-in_err-progress-2-clause-cargo : goal.returns-in_err-progress-2-clause-cargo
-returns-in_err-progress-2-clause-cargo g c = λ id told all rows hand.
-    c.fetch_in_pieces.ensures.cargo id rows told (c.fetch_out_pieces.ensures.cargo id rows told (keeps_same _ _ (c.is_refused.ensures.cargo id _ rows) told hand))
+returns-in_err-progress-2-clause-cargo g c = λ id told asked all rows hand.
+    c.fetch_in_pieces.ensures.cargo id told asked
+    (tells_next told id (g.S.Site.state c.args.site.now) (g.S.Site.state c.fetch_out_pieces.new.site) (g.S.Site.state c.fetch_in_pieces.new.site) c.fetch_out_pieces.ensures.advances all) rows
+    (c.fetch_out_pieces.ensures.cargo id told asked (tells_first told id (g.S.Site.state c.args.site.now) (g.S.Site.state c.fetch_out_pieces.new.site) (g.S.Site.state c.fetch_in_pieces.new.site) c.fetch_in_pieces.ensures.advances all) rows (keeps_same _ _ (c.is_refused.ensures.cargo id _ rows) told asked hand))
 
 pub returns-then-ne-2-clause-cargo : goal.returns-then-ne-2-clause-cargo
-returns-then-ne-2-clause-cargo g c = λ id told all rows hand.
-    c.fetch_in_pieces.ensures.cargo id rows told (c.fetch_out_pieces.ensures.cargo id rows told (keeps_same _ _ (c.is_refused.ensures.cargo id _ rows) told hand))
+returns-then-ne-2-clause-cargo g c = λ id told asked all rows hand.
+    c.fetch_in_pieces.ensures.cargo id told asked
+    (tells_next told id (g.S.Site.state c.args.site.now) (g.S.Site.state c.fetch_out_pieces.new.site) (g.S.Site.state c.fetch_in_pieces.new.site) c.fetch_out_pieces.ensures.advances all) rows
+    (c.fetch_out_pieces.ensures.cargo id told asked (tells_first told id (g.S.Site.state c.args.site.now) (g.S.Site.state c.fetch_out_pieces.new.site) (g.S.Site.state c.fetch_in_pieces.new.site) c.fetch_in_pieces.ensures.advances all) rows (keeps_same _ _ (c.is_refused.ensures.cargo id _ rows) told asked hand))
 
 pub returns-clause-cargo : goal.returns-clause-cargo
-returns-clause-cargo g c = λ id told all rows hand.
-    c.fetch_data_out.ensures.cargo id told (tells_next told id (g.S.Site.state c.args.site.now) (g.S.Site.state c.fetch_in_pieces.new.site) (g.S.Site.state c.fetch_data_out.new.site) (advances_on _ _ _ c.fetch_out_pieces.ensures.advances c.fetch_in_pieces.ensures.advances) all) rows
-    (c.fetch_in_pieces.ensures.cargo id rows told (c.fetch_out_pieces.ensures.cargo id rows told (keeps_same _ _ (c.is_refused.ensures.cargo id _ rows) told hand)))
+returns-clause-cargo g c = λ id told asked all rows hand.
+    c.fetch_data_out.ensures.cargo id told asked
+    (tells_next told id (g.S.Site.state c.args.site.now) (g.S.Site.state c.fetch_in_pieces.new.site) (g.S.Site.state c.fetch_data_out.new.site) (advances_on _ _ _ c.fetch_out_pieces.ensures.advances c.fetch_in_pieces.ensures.advances) all) rows _
+    (c.fetch_in_pieces.ensures.cargo id told asked
+    (tells_next told id (g.S.Site.state c.args.site.now) (g.S.Site.state c.fetch_out_pieces.new.site) (g.S.Site.state c.fetch_in_pieces.new.site) c.fetch_out_pieces.ensures.advances
+    (tells_first told id (g.S.Site.state c.args.site.now) (g.S.Site.state c.fetch_in_pieces.new.site) (g.S.Site.state c.fetch_data_out.new.site) c.fetch_data_out.ensures.advances all)) rows
+    (c.fetch_out_pieces.ensures.cargo id told asked (tells_first told id (g.S.Site.state c.args.site.now) (g.S.Site.state c.fetch_out_pieces.new.site) (g.S.Site.state c.fetch_data_out.new.site) (advances_on _ _ _ c.fetch_in_pieces.ensures.advances c.fetch_data_out.ensures.advances) all) rows (keeps_same _ _ (c.is_refused.ensures.cargo id _ rows) told asked hand)))
 
 pub returns-clause-all : goal.returns-clause-all
-returns-clause-all g c = λ id told all rows hand. c.fetch_data_out.ensures.all id told _ rows (c.fetch_in_pieces.ensures.cargo id rows told (c.fetch_out_pieces.ensures.cargo id rows told (keeps_same _ _ (c.is_refused.ensures.cargo id _ rows) told hand)))
+returns-clause-all g c = λ id told asked all rows hand.
+    c.fetch_data_out.ensures.all id told asked _ rows
+    (c.fetch_in_pieces.ensures.cargo id told asked
+    (tells_next told id (g.S.Site.state c.args.site.now) (g.S.Site.state c.fetch_out_pieces.new.site) (g.S.Site.state c.fetch_in_pieces.new.site) c.fetch_out_pieces.ensures.advances
+    (tells_first told id (g.S.Site.state c.args.site.now) (g.S.Site.state c.fetch_in_pieces.new.site) (g.S.Site.state c.fetch_data_out.new.site) c.fetch_data_out.ensures.advances all)) rows
+    (c.fetch_out_pieces.ensures.cargo id told asked (tells_first told id (g.S.Site.state c.args.site.now) (g.S.Site.state c.fetch_out_pieces.new.site) (g.S.Site.state c.fetch_data_out.new.site) (advances_on _ _ _ c.fetch_in_pieces.ensures.advances c.fetch_data_out.ensures.advances) all) rows (keeps_same _ _ (c.is_refused.ensures.cargo id _ rows) told asked hand)))

@@ -22,5 +22,5 @@ returns-in-DataOut-clause-refused g c = λ command told id all known.
     }) c.fetch_data.ensures.refused
 
 pub returns-in-DataOut-clause-all : goal.returns-in-DataOut-clause-all
-returns-in-DataOut-clause-all g c = λ id told shown rows hand.
-    c.fetch_data.ensures.all (out_placed told id c.args.service.now shown rows c.in-DataOut.cursor c.in-DataOut.is hand)
+returns-in-DataOut-clause-all g c = λ id told asked shown rows hand.
+    c.fetch_data.ensures.all (out_placed told asked id c.args.service.now shown rows c.in-DataOut.cursor c.in-DataOut.is hand)

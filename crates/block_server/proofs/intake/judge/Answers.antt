@@ -1,10 +1,11 @@
+use Rattle.block_server.proofs.Cargoes.{command_more, first_pushed}
 use Rattle.block_server.specs.Receipts.{LinesMore}
 use Rattle.std.proofs.Common.{List, ℕ, subst, sym}
 use Rattle.block_server.specs.Causes.{told_to, units_at}
 use Rattle.block_server.specs.Causes.News.{fetched}
 use Rattle.std.proofs.Common.{refl}
 use Rattle.block_server.proofs.Onces.{once_same, once_then}
-use Rattle.block_server.proofs.Serves.{desk_credits, once_pushed}
+use Rattle.block_server.proofs.Serves.{desk_logins, logins_stay, once_pushed}
 use Rattle.block_server.proofs.Taking.{ends_line, lines_same}
 use Rattle.block_server.proofs.Verdicts.{accepted_push, ended_by, passed_by}
 use Rattle.block_server.specs.Books.{books_of}
@@ -12,7 +13,7 @@ use Rattle.std.proofs.Common.{ap, length, ◌∙◌}
 use Rattle.block_server.proofs.Owing.{has_cut_of, owes_seen, seen_same}
 use Rattle.block_server.proofs.OwingCalls.{closing_ended, decides_current, decides_granted, fatal_other, owes_pushed}
 use Rattle.block_server.specs.Owed.{row_in}
-use Rattle.block_server.proofs.Ledgers.{explained_ended, explains_ignored, explains_pushed}
+use Rattle.block_server.proofs.Ledgers.{on_ends, explained_ended, explains_ignored, explains_pushed}
 use Rattle.block_server.proofs.Refusing.{decided_cause}
 use Rattle.vio_num.specs.declared.history.Grant.TheVariants.{Lapsed}
 use Rattle.block_server.specs.Refusals.{ledger_at, waiting_in}
@@ -22,17 +23,20 @@ use Rattle.block_server.proofs.intake.judge.Goals as goal
 
 pub returns-in-Ignored-clause-once : goal.returns-in-Ignored-clause-once
 returns-in-Ignored-clause-once c = λ q disk heard serving.
-    once_same _ _ _ _ _ _ (desk_credits c.args.unit.now c.judge_unit.new.logins (decides_granted c.args.unit.now.logins c.judge_unit.new.logins _ c.judge_unit.result c.judge_unit.ensures.decides)) refl refl disk serving
+    once_same _ _ _ _ _ _ (desk_logins c.args.unit.now c.judge_unit.new.logins (decides_granted c.args.unit.now.logins c.judge_unit.new.logins _ c.judge_unit.result c.judge_unit.ensures.decides)
+    (decides_current c.args.unit.now.logins c.judge_unit.new.logins _ c.judge_unit.result c.judge_unit.ensures.decides)) refl refl disk serving
 
 pub returns-in-Ok-clause-once : goal.returns-in-Ok-clause-once
 returns-in-Ok-clause-once c = λ q disk heard serving.
-    once_pushed _ _ _ _ _ _ refl (decides_granted c.args.unit.now.logins c.judge_unit.new.logins _ c.judge_unit.result c.judge_unit.ensures.decides) c.in-Ok.ensures.items refl refl refl c.requires.none refl disk
+    once_pushed _ _ _ _ _ _ refl (logins_stay c.args.unit.now.logins c.judge_unit.new.logins (decides_granted c.args.unit.now.logins c.judge_unit.new.logins _ c.judge_unit.result c.judge_unit.ensures.decides)
+    (decides_current c.args.unit.now.logins c.judge_unit.new.logins _ c.judge_unit.result c.judge_unit.ensures.decides)) c.in-Ok.ensures.items refl refl refl c.requires.none refl disk
     (subst (λ (z : ℕ × List ℕ). told_to disk.terms.told c.args.unit.now.id (fetched z.0 units_at z.1)) (λ i. ((sym c.iu_address.ensures) i, (sym c.kept.ensures) i)) heard) serving
 
 pub returns-in-Fatal-clause-once : goal.returns-in-Fatal-clause-once
 returns-in-Fatal-clause-once c = λ q disk heard.
     once_then disk disk disk _ _ _ _ _ _ _ _ _
-    (once_same _ _ q.sent q.sent _ _ (desk_credits c.args.unit.now c.judge_unit.new.logins (decides_granted c.args.unit.now.logins c.judge_unit.new.logins _ c.judge_unit.result c.judge_unit.ensures.decides)) refl refl disk)
+    (once_same _ _ q.sent q.sent _ _ (desk_logins c.args.unit.now c.judge_unit.new.logins (decides_granted c.args.unit.now.logins c.judge_unit.new.logins _ c.judge_unit.result c.judge_unit.ensures.decides)
+    (decides_current c.args.unit.now.logins c.judge_unit.new.logins _ c.judge_unit.result c.judge_unit.ensures.decides)) refl refl disk)
     (c.end_counted.ensures.once q disk)
 
 pub returns-in-Ignored-clause-lines : goal.returns-in-Ignored-clause-lines
@@ -75,24 +79,31 @@ returns-in-Fatal-clause-answers c = λ q now has.
     (fatal_other c.args.unit.now.logins c.judge_unit.new.logins _ c.judge_unit.result _ _ _ c.in-Fatal.is c.judge_unit.ensures.decides)
     (owes_seen _ _ (seen_same _ _ refl) refl (decides_current c.args.unit.now.logins c.judge_unit.new.logins _ c.judge_unit.result c.judge_unit.ensures.decides) refl refl refl refl refl has))
 
+pub returns-in-Ok-clause-cargo : goal.returns-in-Ok-clause-cargo
+returns-in-Ok-clause-cargo c = λ pages. command_more _ _ _ _ _ _ (first_pushed _ _ _ c.in-Ok.ensures.items)
+
 pub returns-in-Fatal-clause-cargo : goal.returns-in-Fatal-clause-cargo
-returns-in-Fatal-clause-cargo c = λ shown. c.end_counted.ensures.cargo shown shown
+returns-in-Fatal-clause-cargo c = λ pages. c.end_counted.ensures.cargo _ _ refl
 
 pub returns-in-Ignored-clause-refuses : goal.returns-in-Ignored-clause-refuses
-returns-in-Ignored-clause-refuses c = λ queue taken answers going none at long told unit front heard.
+returns-in-Ignored-clause-refuses c = λ queue taken answers present going none at long told unit front heard.
     explains_ignored told unit front (waiting_in c.args.arrival (ledger_at c.args.unit.now queue taken answers c.args.records.now)) _ c.args.arrival at refl none refl refl refl refl refl refl
-    (ignored_none (told_to told unit) c.args.unit.now.logins c.judge_unit.new.logins _ c.judge_unit.result c.args.arrival.entry c.in-Ignored.is c.judge_unit.ensures.decides long heard)
+    (ignored_none (told_to told unit) c.args.unit.now.logins c.judge_unit.new.logins _ c.judge_unit.result c.args.arrival.entry c.in-Ignored.is c.judge_unit.ensures.decides long heard) refl (decides_current c.args.unit.now.logins c.judge_unit.new.logins _ c.judge_unit.result c.judge_unit.ensures.decides)
 
 pub returns-in-Ok-clause-refuses : goal.returns-in-Ok-clause-refuses
-returns-in-Ok-clause-refuses c = λ queue taken answers going none at long told unit front heard.
+returns-in-Ok-clause-refuses c = λ queue taken answers present going none at long told unit front heard.
     explains_pushed told unit front (waiting_in c.args.arrival (ledger_at c.args.unit.now queue taken answers c.args.records.now)) _ _ c.args.arrival going at refl c.iu_address.ensures
     (ap length c.kept.ensures ∙ long) refl none refl refl refl refl c.in-Ok.ensures.items refl
-    (accepted_how (told_to told unit) c.args.unit.now.logins c.judge_unit.new.logins _ c.judge_unit.result _ _ _ c.args.arrival.entry c.in-Accepted.is c.judge_unit.ensures.decides long heard)
+    (accepted_how (told_to told unit) c.args.unit.now.logins c.judge_unit.new.logins _ c.judge_unit.result _ _ _ c.args.arrival.entry c.in-Accepted.is c.judge_unit.ensures.decides long heard) refl (decides_current c.args.unit.now.logins c.judge_unit.new.logins _ c.judge_unit.result c.judge_unit.ensures.decides)
 
 pub returns-in-Fatal-clause-refuses : goal.returns-in-Fatal-clause-refuses
-returns-in-Fatal-clause-refuses c = λ queue taken answers going none at long told unit front heard.
+returns-in-Fatal-clause-refuses c = λ queue taken answers present going none at long told unit front heard.
     explained_ended told unit front (waiting_in c.args.arrival (ledger_at c.args.unit.now queue taken answers c.args.records.now)) (ledger_at c.end_counted.new.unit queue taken answers c.end_counted.new.records)
     (Lapsed c.args.unit.now.id c.args.session c.judge_unit.new.logins.current c.in-Fatal.cause c.in-Fatal.outstanding c.in-Fatal.granted) refl refl
     c.end_counted.ensures.ends.waiting c.end_counted.ensures.ends.pending c.end_counted.ensures.ends.line
     (decided_cause (told_to told unit) unit c.args.unit.now.id taken c.args.session c.judge_unit.new.logins.current c.args.unit.now.logins c.judge_unit.new.logins _ c.judge_unit.result _ _ _ c.in-Fatal.is c.judge_unit.ensures.decides) refl refl
     (inl (closing_ended c.end_counted.new.unit.line c.end_counted.ensures.closing))
+    (on_ends (waiting_in c.args.arrival (ledger_at c.args.unit.now queue taken answers c.args.records.now)) (ledger_at c.end_counted.new.unit queue taken answers c.end_counted.new.records)
+    (Lapsed c.args.unit.now.id c.args.session c.judge_unit.new.logins.current c.in-Fatal.cause c.in-Fatal.outstanding c.in-Fatal.granted) c.judge_unit.new.logins.current c.in-Fatal.cause c.in-Fatal.outstanding c.in-Fatal.granted
+    (ap (λ (n : ℕ). Lapsed c.args.unit.now.id n c.judge_unit.new.logins.current c.in-Fatal.cause c.in-Fatal.outstanding c.in-Fatal.granted) present)
+    c.end_counted.ensures.id c.end_counted.ensures.ends.off refl c.end_counted.ensures.ends.line)

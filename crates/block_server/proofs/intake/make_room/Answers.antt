@@ -13,7 +13,7 @@ returns-clause-books c = λ site judged is.
     moved_to _ _ judged refl refl refl refl refl refl refl refl c.reserve.ensures.items (ap keys_of c.make_room.ensures.lists.history) c.make_room.ensures.lists.grants refl refl refl is
 
 pub returns-in_err-reserve-clause-refuses : goal.returns-in_err-reserve-clause-refuses
-returns-in_err-reserve-clause-refuses c = λ queue taken answers. explains_same (ledger_at c.args.unit.now queue taken answers c.args.records.now) _ refl refl refl c.reserve.ensures.items refl refl refl
+returns-in_err-reserve-clause-refuses c = λ queue taken answers. explains_same (ledger_at c.args.unit.now queue taken answers c.args.records.now) _ refl refl refl c.reserve.ensures.items refl refl refl refl refl
 
 pub returns-clause-refuses : goal.returns-clause-refuses
-returns-clause-refuses c = λ queue taken answers. explains_same (ledger_at c.args.unit.now queue taken answers c.args.records.now) _ refl refl refl c.reserve.ensures.items refl c.make_room.ensures.lists.grants refl
+returns-clause-refuses c = λ queue taken answers. explains_same (ledger_at c.args.unit.now queue taken answers c.args.records.now) _ refl refl refl c.reserve.ensures.items refl c.make_room.ensures.lists.grants refl refl refl

@@ -1,3 +1,4 @@
+use Rattle.block_server.specs.Cargo.{Pages}
 use Rattle.std.proofs.Common.{ap, refl, rules, ◌∙◌}
 use Rattle.crq_session.specs.EndState.{EndState}
 use Rattle.block_server.specs.Answering.{responses}
@@ -18,15 +19,16 @@ use Rattle.std.proofs.Common.{inl}
 use Rattle.std.proofs.Common.{sym}
 use Rattle.block_server.proofs.Owing.{has_cut_of, owes_seen, seen_same}
 use Rattle.block_server.specs.Owed.{row_in}
-use Rattle.block_server.proofs.Cargoes.{shown_same}
+use Rattle.block_server.proofs.Cargoes.{sees, shown_same}
 use Rattle.block_server.proofs.Hands.{keeps_on, keeps_same}
-use Rattle.block_server.proofs.Ledgers.{explained_ended, explains_same, explains_stands}
+use Rattle.block_server.proofs.Ledgers.{on_ends, explained_ended, explains_same, explains_stands}
 use Rattle.block_server.proofs.Refusing.{denied_unit, waits_at, waits_open}
 use Rattle.vio_num.specs.declared.history.Grant.TheVariants.{Lapsed}
 use Rattle.block_server.specs.Refusals.{basis_in, ledger_at, ledger_of, waiting_in}
 use Rattle.block_server.specs.LoginAnswers.{login_answers}
 use Rattle.std.proofs.Common.{inl, sym}
 use Rattle.block_server.proofs.OwingCalls.{closing_ended}
+use Rattle.std.proofs.Common.{ℕ}
 use Rattle.block_server.proofs.intake.receive.Goals as goal
 
 pub returns-in-Ok-clause-once : goal.returns-in-Ok-clause-once
@@ -146,26 +148,34 @@ returns-in-Ok-clause-answers g c = λ alone has. c.judge.ensures.answers (g.S.Si
     (owes_seen _ _ (seen_same _ _ c.fetch_unit.ensures.queue) refl refl refl refl refl refl refl has)
 
 pub returns-then-not-is_up-clause-cargo : goal.returns-then-not-is_up-clause-cargo
-returns-then-not-is_up-clause-cargo g c = c.end_session.ensures.cargo _ _
+returns-then-not-is_up-clause-cargo g c = c.end_session.ensures.cargo _ _ refl
 
 pub returns-then-len-eq0-clause-cargo : goal.returns-then-len-eq0-clause-cargo
-returns-then-len-eq0-clause-cargo g c = c.end_session-then-len-eq0.ensures.cargo _ _
+returns-then-len-eq0-clause-cargo g c = c.end_session-then-len-eq0.ensures.cargo _ _ refl
 
 pub returns-in-Ok-clause-cargo : goal.returns-in-Ok-clause-cargo
-returns-in-Ok-clause-cargo g c = keeps_on _ _ _ (keeps_same _ _ (shown_same _ _ _ _ _ _ c.fetch_unit.ensures.data refl)) (c.judge.ensures.cargo _)
+returns-in-Ok-clause-cargo g c = keeps_on _ _ _ (keeps_same _ _ (shown_same _ _ _ _ _ _ (sees _ _ _ c.fetch_unit.ensures.data) refl)) (c.judge.ensures.cargo _)
 
 pub returns-in-Err-Refused-clause-cargo : goal.returns-in-Err-Refused-clause-cargo
-returns-in-Err-Refused-clause-cargo g c = c.end_session-in-Err-Refused.ensures.cargo _ _
+returns-in-Err-Refused-clause-cargo g c = c.end_session-in-Err-Refused.ensures.cargo _ _ (ap (λ (p : Pages). p.count) c.fetch_unit.ensures.data)
 
 pub returns-then-not-is_up-clause-refuses : goal.returns-then-not-is_up-clause-refuses
 returns-then-not-is_up-clause-refuses g c = λ waits told unit front all is.
     explained_ended told unit front (ledger_of c.args.unit.now (g.S.Site.state c.args.site.now) c.args.records.now) (ledger_of c.end_session.new.unit (g.S.Site.state c.args.site.now) c.end_session.new.records)
-    (Lapsed c.args.unit.now.id c.session-session.result c.args.unit.now.logins.current Early 0 0) refl refl c.end_session.ensures.ends.waiting c.end_session.ensures.ends.pending c.end_session.ensures.ends.line tt refl refl (inl (closing_ended c.end_session.new.unit.line c.end_session.ensures.closing)) is
+    (Lapsed c.args.unit.now.id c.session-session.result c.args.unit.now.logins.current Early 0 0) refl refl c.end_session.ensures.ends.waiting c.end_session.ensures.ends.pending c.end_session.ensures.ends.line tt refl refl (inl (closing_ended c.end_session.new.unit.line c.end_session.ensures.closing))
+    (on_ends (ledger_of c.args.unit.now (g.S.Site.state c.args.site.now) c.args.records.now) (ledger_of c.end_session.new.unit (g.S.Site.state c.args.site.now) c.end_session.new.records)
+    (Lapsed c.args.unit.now.id c.session-session.result c.args.unit.now.logins.current Early 0 0) c.args.unit.now.logins.current Early 0 0
+    (ap (λ (n : ℕ). Lapsed c.args.unit.now.id n c.args.unit.now.logins.current Early 0 0) c.session-session.ensures)
+    c.end_session.ensures.id c.end_session.ensures.ends.off refl c.end_session.ensures.ends.line) is
 
 pub returns-then-len-eq0-clause-refuses : goal.returns-then-len-eq0-clause-refuses
 returns-then-len-eq0-clause-refuses g c = λ waits told unit front all is.
     explained_ended told unit front (ledger_of c.args.unit.now (g.S.Site.state c.args.site.now) c.args.records.now) (ledger_of c.end_session-then-len-eq0.new.unit (g.S.Site.state c.args.site.now) c.end_session-then-len-eq0.new.records)
-    (Lapsed c.args.unit.now.id c.session-session.result c.args.unit.now.logins.current BadIu 0 0) refl refl c.end_session-then-len-eq0.ensures.ends.waiting c.end_session-then-len-eq0.ensures.ends.pending c.end_session-then-len-eq0.ensures.ends.line tt refl refl (inl (closing_ended c.end_session-then-len-eq0.new.unit.line c.end_session-then-len-eq0.ensures.closing)) is
+    (Lapsed c.args.unit.now.id c.session-session.result c.args.unit.now.logins.current BadIu 0 0) refl refl c.end_session-then-len-eq0.ensures.ends.waiting c.end_session-then-len-eq0.ensures.ends.pending c.end_session-then-len-eq0.ensures.ends.line tt refl refl (inl (closing_ended c.end_session-then-len-eq0.new.unit.line c.end_session-then-len-eq0.ensures.closing))
+    (on_ends (ledger_of c.args.unit.now (g.S.Site.state c.args.site.now) c.args.records.now) (ledger_of c.end_session-then-len-eq0.new.unit (g.S.Site.state c.args.site.now) c.end_session-then-len-eq0.new.records)
+    (Lapsed c.args.unit.now.id c.session-session.result c.args.unit.now.logins.current BadIu 0 0) c.args.unit.now.logins.current BadIu 0 0
+    (ap (λ (n : ℕ). Lapsed c.args.unit.now.id n c.args.unit.now.logins.current BadIu 0 0) c.session-session.ensures)
+    c.end_session-then-len-eq0.ensures.id c.end_session-then-len-eq0.ensures.ends.off refl c.end_session-then-len-eq0.ensures.ends.line) is
 
 pub returns-in-Err-Refused-clause-refuses : goal.returns-in-Err-Refused-clause-refuses
 returns-in-Err-Refused-clause-refuses g c = λ waits told unit front all is.
@@ -174,23 +184,27 @@ returns-in-Err-Refused-clause-refuses g c = λ waits told unit front all is.
     (Lapsed c.args.unit.now.id c.session-session.result c.args.unit.now.logins.current Refused 0 0) (ap (λ (q : EndState). q.last_session) c.fetch_unit.ensures.queue) (ap (λ (q : EndState). q.taken) c.fetch_unit.ensures.queue) c.end_session-in-Err-Refused.ensures.ends.waiting c.end_session-in-Err-Refused.ensures.ends.pending c.end_session-in-Err-Refused.ensures.ends.line
     (denied_unit told unit front.since (basis_in (ledger_of c.args.unit.now (g.S.Site.state c.args.site.now) c.args.records.now)) (g.S.Site.state c.args.site.now) (g.S.Site.state c.fetch_unit.new.self) c.args.unit.now.id c.session-session.result c.args.unit.now.logins.current c.iu_address.result _ c.args.arrival c.session-session.ensures waits c.iu_address.ensures (search rules)
     (c.fetch_unit.ensures.refused failed) all is.known) refl (ap (λ (q : EndState). login_answers q.sent) c.fetch_unit.ensures.queue)
-    (inl (closing_ended c.end_session-in-Err-Refused.new.unit.line c.end_session-in-Err-Refused.ensures.closing)) is
+    (inl (closing_ended c.end_session-in-Err-Refused.new.unit.line c.end_session-in-Err-Refused.ensures.closing))
+    (on_ends (ledger_of c.args.unit.now (g.S.Site.state c.args.site.now) c.args.records.now) (ledger_of c.end_session-in-Err-Refused.new.unit (g.S.Site.state c.fetch_unit.new.self) c.end_session-in-Err-Refused.new.records)
+    (Lapsed c.args.unit.now.id c.session-session.result c.args.unit.now.logins.current Refused 0 0) c.args.unit.now.logins.current Refused 0 0
+    (ap (λ (n : ℕ). Lapsed c.args.unit.now.id n c.args.unit.now.logins.current Refused 0 0) c.session-session.ensures)
+    c.end_session-in-Err-Refused.ensures.id c.end_session-in-Err-Refused.ensures.ends.off (ap (λ (q : EndState). q.last_session) c.fetch_unit.ensures.queue) c.end_session-in-Err-Refused.ensures.ends.line) is
 
 pub returns-in-Err-Busy-clause-refuses : goal.returns-in-Err-Busy-clause-refuses
 returns-in-Err-Busy-clause-refuses g c = λ waits told unit front all.
     let failed : IsErrOf c.fetch_unit.result halts.Busy = cc (c.in-Err-Busy.is, c.in-Err-Busy.field-0-is) in
-    explains_stands c.args.unit.now c.args.unit.now _ _ c.args.records.now c.args.records.now refl (missed_is c.fetch_unit.result halts.Busy _ failed c.fetch_unit.ensures.missed) refl refl (ap (λ (q : EndState). login_answers q.sent) c.fetch_unit.ensures.queue) told unit front
+    explains_stands c.args.unit.now c.args.unit.now _ _ c.args.records.now c.args.records.now refl (missed_is c.fetch_unit.result halts.Busy _ failed c.fetch_unit.ensures.missed) refl refl (ap (λ (q : EndState). login_answers q.sent) c.fetch_unit.ensures.queue) refl told unit front
 
 pub returns-in-Err-NoMemory-clause-refuses : goal.returns-in-Err-NoMemory-clause-refuses
 returns-in-Err-NoMemory-clause-refuses g c = λ waits told unit front all.
     let failed : IsErrOf c.fetch_unit.result halts.NoMemory = cc (c.in-Err-NoMemory.is, c.in-Err-NoMemory.field-0-is) in
-    explains_stands c.args.unit.now c.args.unit.now _ _ c.args.records.now c.args.records.now refl (missed_is c.fetch_unit.result halts.NoMemory _ failed c.fetch_unit.ensures.missed) refl refl (ap (λ (q : EndState). login_answers q.sent) c.fetch_unit.ensures.queue) told unit front
+    explains_stands c.args.unit.now c.args.unit.now _ _ c.args.records.now c.args.records.now refl (missed_is c.fetch_unit.result halts.NoMemory _ failed c.fetch_unit.ensures.missed) refl refl (ap (λ (q : EndState). login_answers q.sent) c.fetch_unit.ensures.queue) refl told unit front
 
 pub returns-in-Ok-clause-refuses : goal.returns-in-Ok-clause-refuses
 returns-in-Ok-clause-refuses g c = λ waits told unit front all is.
     let at = ledger_of c.args.unit.now (g.S.Site.state c.args.site.now) c.args.records.now in
     explains_same (ledger_at c.judge.new.unit (g.S.Site.state c.args.site.now).queue.last_session (g.S.Site.state c.args.site.now).queue.taken (login_answers (g.S.Site.state c.args.site.now).queue.sent) c.judge.new.records) (ledger_of c.judge.new.unit (g.S.Site.state c.fetch_unit.new.self) c.judge.new.records)
-    (ap (λ (q : EndState). q.last_session) c.fetch_unit.ensures.queue) (ap (λ (q : EndState). q.taken) c.fetch_unit.ensures.queue) refl refl refl refl (ap (λ (q : EndState). login_answers q.sent) c.fetch_unit.ensures.queue) told unit front
-    (c.judge.ensures.refuses (g.S.Site.state c.args.site.now).queue.last_session (g.S.Site.state c.args.site.now).queue.taken (login_answers (g.S.Site.state c.args.site.now).queue.sent) (waits_open told unit front.since (basis_in at) c.args.arrival waits is.known) refl (waits_at told unit front.since (basis_in at) c.args.arrival waits is.known) (search rules) told unit front
+    (ap (λ (q : EndState). q.last_session) c.fetch_unit.ensures.queue) (ap (λ (q : EndState). q.taken) c.fetch_unit.ensures.queue) refl refl refl refl (ap (λ (q : EndState). login_answers q.sent) c.fetch_unit.ensures.queue) refl refl told unit front
+    (c.judge.ensures.refuses (g.S.Site.state c.args.site.now).queue.last_session (g.S.Site.state c.args.site.now).queue.taken (login_answers (g.S.Site.state c.args.site.now).queue.sent) c.session-session.ensures (waits_open told unit front.since (basis_in at) c.args.arrival waits is.known) refl (waits_at told unit front.since (basis_in at) c.args.arrival waits is.known) (search rules) told unit front
     (heard_fetched told unit _ _ _ _ _ c.iu_address.ensures all c.in-Ok.ensures.fetched)
-    (explains_same at (waiting_in c.args.arrival at) refl refl (sym waits) refl refl refl refl told unit front is))
+    (explains_same at (waiting_in c.args.arrival at) refl refl (sym waits) refl refl refl refl refl refl told unit front is))

@@ -93,13 +93,13 @@ pub returns-in-1-clause-refuses : goal.returns-in-1-clause-refuses
 returns-in-1-clause-refuses g c = λ before may first taken answers told unit front all is.
     c.receive.ensures.refuses refl told unit front all
     (explains_entry (ledger_of c.args.unit.now before c.args.records.now) (ledger_of (record c.args.unit.now { waiting = Some c.args.arrival }) (g.S.Site.state c.args.site.now) c.args.records.now) before (g.S.Site.state c.args.site.now) c.args.arrival taken
-    (srp_command c.args.arrival.entry first (search rules)) refl refl may.none may.goes_on refl refl refl refl refl refl answers told unit front is)
+    (srp_command c.args.arrival.entry first (search rules)) refl refl may.none may.goes_on refl refl refl refl refl refl answers refl refl told unit front is)
 
 pub returns-in-2-clause-refuses : goal.returns-in-2-clause-refuses
 returns-in-2-clause-refuses g c = λ before may first taken answers told unit front all is.
     c.put_reply.ensures.refuses c.args.records.now told unit front
-    (explains_taken (ledger_of c.args.unit.now before c.args.records.now) (ledger_of c.args.unit.now (g.S.Site.state c.args.site.now) c.args.records.now) _ taken.session taken.taken refl (inr (not_format c.args.arrival.entry (λ one. search rules))) refl refl refl refl answers told unit front is)
+    (explains_taken (ledger_of c.args.unit.now before c.args.records.now) (ledger_of c.args.unit.now (g.S.Site.state c.args.site.now) c.args.records.now) _ taken.session taken.taken refl (inr (not_format c.args.arrival.entry (λ one. search rules))) refl refl refl refl answers refl refl told unit front is)
 
 pub returns-in_default-clause-refuses : goal.returns-in_default-clause-refuses
 returns-in_default-clause-refuses g c = λ before may first taken answers told unit front all.
-    explains_taken (ledger_of c.args.unit.now before c.args.records.now) (ledger_of c.args.unit.now (g.S.Site.state c.args.site.now) c.args.records.now) _ taken.session taken.taken refl (inr (not_format c.args.arrival.entry (λ one. search rules))) refl refl refl refl answers told unit front
+    explains_taken (ledger_of c.args.unit.now before c.args.records.now) (ledger_of c.args.unit.now (g.S.Site.state c.args.site.now) c.args.records.now) _ taken.session taken.taken refl (inr (not_format c.args.arrival.entry (λ one. search rules))) refl refl refl refl answers refl refl told unit front

@@ -16,6 +16,9 @@ use Rattle.block_server.specs.Owed.{HasAnswers, Owing}
 use Rattle.block_server.proofs.Hands.{keeps_on, keeps_same}
 use Rattle.block_server.proofs.Denying.{tells_first, tells_next}
 use Rattle.block_server.specs.LoginAnswers.{login_answers}
+use Rattle.block_server.specs.Resting.{IsEmptied}
+use Rattle.block_server.specs.SiteState.{SiteState}
+use Rattle.block_server.proofs.Restings.{as_before, not_on}
 use Rattle.block_server.proofs.intake.take_in.Goals as goal
 
 pub returns-in_err-next-clause-once : goal.returns-in_err-next-clause-once
@@ -42,6 +45,7 @@ loop-taken-init g c = record {
   answers = c.receive_waiting.ensures.answers;
   cargo = c.receive_waiting.ensures.cargo;
   refuses = λ on. c.receive_waiting.ensures.refuses;
+  rests = λ alone waiting emptied. as_before _ _ _ _ (c.in_ok-next.ensures.rests waiting).1 (c.in_ok-next.ensures.rests waiting).2;
   may = λ on. c.in_ok-next.ensures.goes_on on (search rules);
 }
 
@@ -95,6 +99,9 @@ loop-taken-preserved g c = record {
       (tells_next told unit (g.S.Site.state c.args.site.now) (g.S.Site.state c.loop-taken.site) (g.S.Site.state c.take_one.new.site) c.loop-taken.invariant.advances all)
       (c.make_room.ensures.refuses (g.S.Site.state c.loop-taken.site).queue.last_session (g.S.Site.state c.loop-taken.site).queue.taken (login_answers (g.S.Site.state c.loop-taken.site).queue.sent) told unit front
       (c.loop-taken.invariant.refuses on told unit front (tells_first told unit (g.S.Site.state c.args.site.now) (g.S.Site.state c.loop-taken.site) (g.S.Site.state c.take_one.new.site) c.take_one.ensures.advances all) is));
+  rests = λ alone waiting emptied.
+      absurd (not_on c.in_ok-next-2.next (search rules)
+      (c.in_ok-next-2.ensures.rests alone (subst (λ (site : SiteState). IsEmptied site.queue) (sym (c.loop-taken.invariant.rests alone waiting emptied).site) emptied)).0);
   may = λ on. c.in_ok-next-2.ensures.goes_on (may_stands _ _ c.make_room.ensures.stands (c.loop-taken.invariant.may on)) (search rules);
 }
 

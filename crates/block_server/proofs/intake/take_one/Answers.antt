@@ -1,3 +1,4 @@
+use Rattle.block_server.specs.Cargo.{Pages}
 use Rattle.std.proofs.Common.{ap, refl, ◌∙◌, rules}
 use Rattle.block_server.specs.Answering.{responses}
 use Rattle.block_server.proofs.Agreeing.{agrees_got, agrees_on, agrees_same}
@@ -15,10 +16,10 @@ use Rattle.block_server.specs.Receipts.{TakesEntry, standing_of}
 use Rattle.block_server.proofs.Owing.{has_cut_of, owes_seen, seen_call, seen_taken}
 use Rattle.block_server.proofs.OwingCalls.{event_kind, seen_on, seen_reserves}
 use Rattle.block_server.specs.Owed.{row_in}
-use Rattle.block_server.specs.Cargo.{data_bytes}
-use Rattle.block_server.proofs.Cargoes.{shown_same}
+use Rattle.block_server.proofs.CopyKinds.{still_pages}
+use Rattle.block_server.proofs.Cargoes.{sees, shown_same}
 use Rattle.block_server.proofs.Hands.{keeps_on, keeps_same}
-use Rattle.block_server.proofs.Ledgers.{explained_ended, explains_same, explains_stands, explains_taken}
+use Rattle.block_server.proofs.Ledgers.{on_ends, explained_ended, explains_same, explains_stands, explains_taken}
 use Rattle.vio_num.specs.declared.history.Grant.TheVariants.{Lapsed}
 use Rattle.vio_num.specs.declared.history.Lapse.TheVariants.{Lost}
 use Rattle.block_server.specs.Refusals.{ledger_of}
@@ -26,6 +27,8 @@ use Rattle.block_server.specs.LoginAnswers.{login_answers}
 use Rattle.std.proofs.Common.{inl, inr, sym}
 use Rattle.block_server.specs.Causes.{told_to}
 use Rattle.block_server.proofs.Dealing.{heard_event}
+use Rattle.block_server.proofs.Restings.{none_taken, still_emptied}
+use Rattle.std.proofs.Common.{ℕ}
 use Rattle.block_server.proofs.intake.take_one.Goals as goal
 
 pub returns-in_err-reserve-clause-once : goal.returns-in_err-reserve-clause-once
@@ -381,20 +384,20 @@ returns-in-Reserved-clause-answers g c = λ alone has.
 
 pub returns-in-Command-clause-cargo : goal.returns-in-Command-clause-cargo
 returns-in-Command-clause-cargo g c =
-    keeps_on _ _ _ (keeps_same _ _ (shown_same _ _ _ _ _ _ (ap data_bytes c.poll.ensures.windows.own ∙ ap data_bytes c.reserve.ensures.windows.own) refl)) c.take_command.ensures.cargo
+    keeps_on _ _ _ (keeps_same _ _ (shown_same _ _ _ _ _ _ (sees _ _ _ (still_pages _ _ c.poll.ensures.windows ∙ still_pages _ _ c.reserve.ensures.windows)) refl)) c.take_command.ensures.cargo
 
 pub returns-in-Event-clause-cargo : goal.returns-in-Event-clause-cargo
-returns-in-Event-clause-cargo g c = c.lose_partner.ensures.cargo _ _
+returns-in-Event-clause-cargo g c = c.lose_partner.ensures.cargo _ _ (ap (λ (p : Pages). p.count) (still_pages _ _ c.poll.ensures.windows ∙ still_pages _ _ c.reserve.ensures.windows))
 
 pub returns-in_err-reserve-clause-refuses : goal.returns-in_err-reserve-clause-refuses
 returns-in_err-reserve-clause-refuses g c = λ may told unit front all is.
-    (explains_stands c.args.unit.now c.args.unit.now (g.S.Site.state c.args.site.now) (g.S.Site.state c.reserve.new.self) c.args.records.now c.args.records.now refl c.reserve.ensures.passes refl refl (ap login_answers c.reserve.ensures.rest.sent) told unit front is)
+    (explains_stands c.args.unit.now c.args.unit.now (g.S.Site.state c.args.site.now) (g.S.Site.state c.reserve.new.self) c.args.records.now c.args.records.now refl c.reserve.ensures.passes refl refl (ap login_answers c.reserve.ensures.rest.sent) refl told unit front is)
 
 pub returns-in_default-clause-refuses : goal.returns-in_default-clause-refuses
 returns-in_default-clause-refuses g c = λ may told unit front all is.
     let taken = poll_taken _ _ _ c.poll.result (λ number entry is. c.in_default.not-Got number entry is) c.poll.ensures.empty c.poll.ensures.refused in
-    explains_same (ledger_of c.args.unit.now (g.S.Site.state c.reserve.new.self) c.args.records.now) _ c.poll.ensures.rest.last_session taken refl refl refl refl (ap login_answers c.poll.ensures.rest.sent) told unit front
-    (explains_stands c.args.unit.now c.args.unit.now (g.S.Site.state c.args.site.now) (g.S.Site.state c.reserve.new.self) c.args.records.now c.args.records.now refl c.reserve.ensures.passes refl refl (ap login_answers c.reserve.ensures.rest.sent) told unit front is)
+    explains_same (ledger_of c.args.unit.now (g.S.Site.state c.reserve.new.self) c.args.records.now) _ c.poll.ensures.rest.last_session taken refl refl refl refl (ap login_answers c.poll.ensures.rest.sent) refl refl told unit front
+    (explains_stands c.args.unit.now c.args.unit.now (g.S.Site.state c.args.site.now) (g.S.Site.state c.reserve.new.self) c.args.records.now c.args.records.now refl c.reserve.ensures.passes refl refl (ap login_answers c.reserve.ensures.rest.sent) refl told unit front is)
 
 pub returns-in-Command-clause-refuses : goal.returns-in-Command-clause-refuses
 returns-in-Command-clause-refuses g c = λ may told unit front all is.
@@ -406,29 +409,29 @@ returns-in-Command-clause-refuses g c = λ may told unit front all is.
       advances = c.poll.ensures.advances;
     }) (ap login_answers c.poll.ensures.rest.sent) told unit front
     (tells_next told unit (g.S.Site.state c.args.site.now) (g.S.Site.state c.poll.new.self) (g.S.Site.state c.take_command.new.site) (advances_on _ _ _ c.reserve.ensures.advances c.poll.ensures.advances) all)
-    (explains_stands c.args.unit.now c.args.unit.now (g.S.Site.state c.args.site.now) (g.S.Site.state c.reserve.new.self) c.args.records.now c.args.records.now refl c.reserve.ensures.passes refl refl (ap login_answers c.reserve.ensures.rest.sent) told unit front is)
+    (explains_stands c.args.unit.now c.args.unit.now (g.S.Site.state c.args.site.now) (g.S.Site.state c.reserve.new.self) c.args.records.now c.args.records.now refl c.reserve.ensures.passes refl refl (ap login_answers c.reserve.ensures.rest.sent) refl told unit front is)
 
 pub returns-in-Some-clause-refuses : goal.returns-in-Some-clause-refuses
 returns-in-Some-clause-refuses g c = λ may told unit front all is.
     c.put_reply.ensures.refuses c.args.records.now told unit front
     (explains_taken (ledger_of c.args.unit.now (g.S.Site.state c.reserve.new.self) c.args.records.now) (ledger_of (record c.args.unit.now { line = record c.args.unit.now.line { handshake = c.got-step.new.self } }) (g.S.Site.state c.poll.new.self) c.args.records.now) _ c.poll.ensures.rest.last_session c.in-Got.ensures.got.taken refl (inr (not_command c.in-Got.entry (λ is. search rules))) refl refl
-    (got_ended _ _ _ c.in-Got.entry c.got-step.ensures.state) refl (ap login_answers c.poll.ensures.rest.sent) told unit front
-    (explains_stands c.args.unit.now c.args.unit.now (g.S.Site.state c.args.site.now) (g.S.Site.state c.reserve.new.self) c.args.records.now c.args.records.now refl c.reserve.ensures.passes refl refl (ap login_answers c.reserve.ensures.rest.sent) told unit front is))
+    (got_ended _ _ _ c.in-Got.entry c.got-step.ensures.state) refl (ap login_answers c.poll.ensures.rest.sent) refl refl told unit front
+    (explains_stands c.args.unit.now c.args.unit.now (g.S.Site.state c.args.site.now) (g.S.Site.state c.reserve.new.self) c.args.records.now c.args.records.now refl c.reserve.ensures.passes refl refl (ap login_answers c.reserve.ensures.rest.sent) refl told unit front is))
 
 pub returns-in-None-clause-refuses : goal.returns-in-None-clause-refuses
 returns-in-None-clause-refuses g c = λ may told unit front all is.
-    explains_taken (ledger_of c.args.unit.now (g.S.Site.state c.reserve.new.self) c.args.records.now) _ _ c.poll.ensures.rest.last_session c.in-Got.ensures.got.taken refl (inr (not_command c.in-Got.entry (λ is. search rules))) refl refl (got_ended _ _ _ c.in-Got.entry c.got-step.ensures.state) refl (ap login_answers c.poll.ensures.rest.sent) told unit front
-    (explains_stands c.args.unit.now c.args.unit.now (g.S.Site.state c.args.site.now) (g.S.Site.state c.reserve.new.self) c.args.records.now c.args.records.now refl c.reserve.ensures.passes refl refl (ap login_answers c.reserve.ensures.rest.sent) told unit front is)
+    explains_taken (ledger_of c.args.unit.now (g.S.Site.state c.reserve.new.self) c.args.records.now) _ _ c.poll.ensures.rest.last_session c.in-Got.ensures.got.taken refl (inr (not_command c.in-Got.entry (λ is. search rules))) refl refl (got_ended _ _ _ c.in-Got.entry c.got-step.ensures.state) refl (ap login_answers c.poll.ensures.rest.sent) refl refl told unit front
+    (explains_stands c.args.unit.now c.args.unit.now (g.S.Site.state c.args.site.now) (g.S.Site.state c.reserve.new.self) c.args.records.now c.args.records.now refl c.reserve.ensures.passes refl refl (ap login_answers c.reserve.ensures.rest.sent) refl told unit front is)
 
 pub returns-in-Unused-clause-refuses : goal.returns-in-Unused-clause-refuses
 returns-in-Unused-clause-refuses g c = λ may told unit front all is.
-    explains_taken (ledger_of c.args.unit.now (g.S.Site.state c.reserve.new.self) c.args.records.now) _ _ c.poll.ensures.rest.last_session c.in-Got.ensures.got.taken refl (inr (not_command c.in-Got.entry (λ is. search rules))) refl refl refl refl (ap login_answers c.poll.ensures.rest.sent) told unit front
-    (explains_stands c.args.unit.now c.args.unit.now (g.S.Site.state c.args.site.now) (g.S.Site.state c.reserve.new.self) c.args.records.now c.args.records.now refl c.reserve.ensures.passes refl refl (ap login_answers c.reserve.ensures.rest.sent) told unit front is)
+    explains_taken (ledger_of c.args.unit.now (g.S.Site.state c.reserve.new.self) c.args.records.now) _ _ c.poll.ensures.rest.last_session c.in-Got.ensures.got.taken refl (inr (not_command c.in-Got.entry (λ is. search rules))) refl refl refl refl (ap login_answers c.poll.ensures.rest.sent) refl refl told unit front
+    (explains_stands c.args.unit.now c.args.unit.now (g.S.Site.state c.args.site.now) (g.S.Site.state c.reserve.new.self) c.args.records.now c.args.records.now refl c.reserve.ensures.passes refl refl (ap login_answers c.reserve.ensures.rest.sent) refl told unit front is)
 
 pub returns-in-Reserved-clause-refuses : goal.returns-in-Reserved-clause-refuses
 returns-in-Reserved-clause-refuses g c = λ may told unit front all is.
-    explains_taken (ledger_of c.args.unit.now (g.S.Site.state c.reserve.new.self) c.args.records.now) _ _ c.poll.ensures.rest.last_session c.in-Got.ensures.got.taken refl (inr (not_command c.in-Got.entry (λ is. search rules))) refl refl refl refl (ap login_answers c.poll.ensures.rest.sent) told unit front
-    (explains_stands c.args.unit.now c.args.unit.now (g.S.Site.state c.args.site.now) (g.S.Site.state c.reserve.new.self) c.args.records.now c.args.records.now refl c.reserve.ensures.passes refl refl (ap login_answers c.reserve.ensures.rest.sent) told unit front is)
+    explains_taken (ledger_of c.args.unit.now (g.S.Site.state c.reserve.new.self) c.args.records.now) _ _ c.poll.ensures.rest.last_session c.in-Got.ensures.got.taken refl (inr (not_command c.in-Got.entry (λ is. search rules))) refl refl refl refl (ap login_answers c.poll.ensures.rest.sent) refl refl told unit front
+    (explains_stands c.args.unit.now c.args.unit.now (g.S.Site.state c.args.site.now) (g.S.Site.state c.reserve.new.self) c.args.records.now c.args.records.now refl c.reserve.ensures.passes refl refl (ap login_answers c.reserve.ensures.rest.sent) refl told unit front is)
 
 pub returns-in-Event-clause-refuses : goal.returns-in-Event-clause-refuses
 returns-in-Event-clause-refuses g c = λ may told unit front all is.
@@ -437,5 +440,39 @@ returns-in-Event-clause-refuses g c = λ may told unit front all is.
     (Lapsed c.args.unit.now.id c.session.result c.args.unit.now.logins.current Lost 0 0) refl refl c.lose_partner.ensures.ends.waiting c.lose_partner.ensures.ends.pending c.lose_partner.ensures.ends.line tt refl refl
     (inr (heard_event (told_to told unit) (g.S.Site.state c.poll.new.self).queue.last_session (g.S.Site.state c.reserve.new.self).queue.taken (g.S.Site.state c.poll.new.self).queue.taken
     (record { session = (g.S.Site.state c.reserve.new.self).queue.last_session; entry = c.in-Got.entry }) (sym c.poll.ensures.rest.last_session) c.in-Got.ensures.got.taken (event_is c.in-Got.entry (search rules))))
-    (explains_taken (ledger_of c.args.unit.now (g.S.Site.state c.reserve.new.self) c.args.records.now) at _ c.poll.ensures.rest.last_session c.in-Got.ensures.got.taken refl (inl (event_is c.in-Got.entry (search rules))) refl refl (got_ended _ _ _ c.in-Got.entry c.got-step-in-Event.ensures.state) refl (ap login_answers c.poll.ensures.rest.sent) told unit front
-    (explains_stands c.args.unit.now c.args.unit.now (g.S.Site.state c.args.site.now) (g.S.Site.state c.reserve.new.self) c.args.records.now c.args.records.now refl c.reserve.ensures.passes refl refl (ap login_answers c.reserve.ensures.rest.sent) told unit front is))
+    (on_ends at (ledger_of c.lose_partner.new.unit (g.S.Site.state c.poll.new.self) c.lose_partner.new.records)
+    (Lapsed c.args.unit.now.id c.session.result c.args.unit.now.logins.current Lost 0 0) c.args.unit.now.logins.current Lost 0 0
+    (ap (λ (n : ℕ). Lapsed c.args.unit.now.id n c.args.unit.now.logins.current Lost 0 0) c.session.ensures)
+    c.lose_partner.ensures.id c.lose_partner.ensures.ends.off refl c.lose_partner.ensures.ends.line)
+    (explains_taken (ledger_of c.args.unit.now (g.S.Site.state c.reserve.new.self) c.args.records.now) at _ c.poll.ensures.rest.last_session c.in-Got.ensures.got.taken refl (inl (event_is c.in-Got.entry (search rules))) refl refl (got_ended _ _ _ c.in-Got.entry c.got-step-in-Event.ensures.state) refl (ap login_answers c.poll.ensures.rest.sent) refl refl told unit front
+    (explains_stands c.args.unit.now c.args.unit.now (g.S.Site.state c.args.site.now) (g.S.Site.state c.reserve.new.self) c.args.records.now c.args.records.now refl c.reserve.ensures.passes refl refl (ap login_answers c.reserve.ensures.rest.sent) refl told unit front is))
+
+pub returns-in-Command-clause-rests : goal.returns-in-Command-clause-rests
+returns-in-Command-clause-rests g c = λ alone emptied.
+    absurd (none_taken _ _ _ c.in-Got.number c.in-Got.entry alone
+    (still_emptied (g.S.Site.state c.args.site.now) (g.S.Site.state c.reserve.new.self) c.reserve.ensures.passes c.reserve.ensures.advances emptied) c.in-Got.ensures.got)
+
+pub returns-in-Some-clause-rests : goal.returns-in-Some-clause-rests
+returns-in-Some-clause-rests g c = λ alone emptied.
+    absurd (none_taken _ _ _ c.in-Got.number c.in-Got.entry alone
+    (still_emptied (g.S.Site.state c.args.site.now) (g.S.Site.state c.reserve.new.self) c.reserve.ensures.passes c.reserve.ensures.advances emptied) c.in-Got.ensures.got)
+
+pub returns-in-None-clause-rests : goal.returns-in-None-clause-rests
+returns-in-None-clause-rests g c = λ alone emptied.
+    absurd (none_taken _ _ _ c.in-Got.number c.in-Got.entry alone
+    (still_emptied (g.S.Site.state c.args.site.now) (g.S.Site.state c.reserve.new.self) c.reserve.ensures.passes c.reserve.ensures.advances emptied) c.in-Got.ensures.got)
+
+pub returns-in-Event-clause-rests : goal.returns-in-Event-clause-rests
+returns-in-Event-clause-rests g c = λ alone emptied.
+    absurd (none_taken _ _ _ c.in-Got.number c.in-Got.entry alone
+    (still_emptied (g.S.Site.state c.args.site.now) (g.S.Site.state c.reserve.new.self) c.reserve.ensures.passes c.reserve.ensures.advances emptied) c.in-Got.ensures.got)
+
+pub returns-in-Unused-clause-rests : goal.returns-in-Unused-clause-rests
+returns-in-Unused-clause-rests g c = λ alone emptied.
+    absurd (none_taken _ _ _ c.in-Got.number c.in-Got.entry alone
+    (still_emptied (g.S.Site.state c.args.site.now) (g.S.Site.state c.reserve.new.self) c.reserve.ensures.passes c.reserve.ensures.advances emptied) c.in-Got.ensures.got)
+
+pub returns-in-Reserved-clause-rests : goal.returns-in-Reserved-clause-rests
+returns-in-Reserved-clause-rests g c = λ alone emptied.
+    absurd (none_taken _ _ _ c.in-Got.number c.in-Got.entry alone
+    (still_emptied (g.S.Site.state c.args.site.now) (g.S.Site.state c.reserve.new.self) c.reserve.ensures.passes c.reserve.ensures.advances emptied) c.in-Got.ensures.got)

@@ -80,5 +80,5 @@ returns-in_err-set_answer-clause-cargo c = λ shown before.
 
 pub returns-clause-cargo : goal.returns-clause-cargo
 returns-clause-cargo c = λ shown before.
-    blank_keeps _ _ _ _ _ _ _ c.in_ok-blank.blank before (ap is_moving c.in_ok-set_answer.ensures.stage) c.in_ok-blank.ensures.row.inn c.in_ok-blank.ensures.row.out
+    blank_keeps _ _ _ _ _ _ _ c.in_ok-blank.blank refl before (ap is_moving c.in_ok-set_answer.ensures.stage) c.in_ok-blank.ensures.row.inn c.in_ok-blank.ensures.row.out
     (c.add_row.ensures.history ∙ ap (λ (list : List ServedRow). list ++ c.in_ok-blank.blank ∷ []) c.new_row.ensures.lists.history)

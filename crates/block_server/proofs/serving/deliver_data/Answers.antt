@@ -1,9 +1,12 @@
+use Rattle.std.proofs.Common.{◌≡◌}
+use Rattle.block_server.specs.Moves.{data_count}
+use Rattle.block_server.proofs.CopyKinds.{same_pages}
 use Rattle.std.proofs.Common.{arith, length}
 use Rattle.srp_desc.specs.Pieces.{sum_of}
 use Rattle.std.proofs.Common.{◌+◌, ℕ, List, Option}
 use Rattle.srp_iu.specs.declared.buffer.Desc.{Desc}
 use Rattle.block_server.specs.Cargo.{SendsPart}
-use Rattle.block_server.specs.Parts.{LiesAt}
+use Rattle.block_server.specs.Parts.{IsPartAt, LiesAt}
 use Rattle.std.proofs.Common.{◌∙◌, ap, refl}
 use Rattle.std.specs.Result.{IsErrOf}
 use Rattle.tce_window.specs.declared.answers.Right.TheVariants.{Write}
@@ -13,7 +16,7 @@ use Rattle.block_server.proofs.Denying.{part_refused}
 use Rattle.block_server.proofs.Advancing.{advances_on}
 use Rattle.block_server.proofs.Readying.{uses_later}
 use Rattle.std.proofs.Common.{sym, subst}
-use Rattle.block_server.proofs.Cargoes.{shown_same}
+use Rattle.block_server.proofs.Cargoes.{sees, shown_same}
 use Rattle.block_server.proofs.Sendings.{all_sent, part_moved}
 use Rattle.block_server.specs.Cargo.{IsAccounted}
 use Rattle.block_server.specs.Parts.{IsPlacedAt}
@@ -42,17 +45,22 @@ loop-part-preserved g c = record {
   placed = λ placed.
       subst (λ (list : List Desc). IsPlacedAt list c.loop-part.cursor → IsPlacedAt list c.in-Some.part.end)
       (c.as_slice.ensures ∙ ap (λ (pieces : DataPieces). pieces.list.items) c.loop-part.invariant.inn) c.in-Some.ensures.placed (c.loop-part.invariant.placed placed);
-  cargo = λ id told all rows tagged hand.
-      part_moved told id c.loop-part.service _ (g.S.Site.state c.loop-part.site) (g.S.Site.state c.deliver_data.new.self) rows c.args.row c.args.tag c.in-Some.part.len c.in-Some-address.address
-      c.args.reply c.loop-part.cursor c.in-Some.part.end c.loop-part.invariant.stage refl refl refl c.deliver_data.ensures.data
+  cargo = λ id told asked all rows tagged first hand.
+      let total : c.len-total.result ≡ length c.loop-part.service.given.items = omega (arith, c.len-total.ensures, ap length c.loop-part.invariant.given) in
+      part_moved told asked id c.loop-part.service _ first (g.S.Site.state c.loop-part.site) (g.S.Site.state c.deliver_data.new.self) rows c.args.row c.args.tag c.in-Some.part.len c.in-Some-address.address
+      c.args.reply c.loop-part.cursor c.in-Some.part.end c.loop-part.invariant.stage refl refl refl c.deliver_data.ensures.advances.own_place c.deliver_data.ensures.data
       (subst (λ (n : ℕ). SendsPart (g.S.Site.state c.loop-part.site) (g.S.Site.state c.deliver_data.new.self) n c.in-Some-address.address c.in-Some.part.len c.args.tag) c.in-Some.ensures.at c.in-Ok.ensures.sent)
       (tells_next told id (g.S.Site.state c.args.site.now) (g.S.Site.state c.loop-part.site) (g.S.Site.state c.deliver_data.new.self) c.loop-part.invariant.advances all)
       c.in-Some.ensures.len.1 (c.in-Some.ensures.end ∙ ap (λ (n : ℕ). n + c.in-Some.part.len) c.in-Some.ensures.at)
       (λ placed. subst (λ (z : List Desc × ℕ × Option ℕ). LiesAt z.0 z.1 z.2 c.in-Some.part.len) (λ i. (c.as_slice.ensures i, c.in-Some.ensures.at i, c.in-Some-address.is i))
       (c.in-Some.ensures.there (subst (λ (list : List Desc). IsPlacedAt list c.loop-part.cursor) (sym c.as_slice.ensures) placed)))
       (subst (λ (list : List Desc). IsPlacedAt list c.loop-part.cursor → IsPlacedAt list c.in-Some.part.end) c.as_slice.ensures c.in-Some.ensures.placed)
+      (λ placed. subst (λ (z : List Desc × ℕ × ℕ × Option ℕ). IsPartAt z.0 z.1 z.2 z.3 c.in-Some.part.len)
+      (λ i. (c.as_slice.ensures i, total i, c.in-Some.ensures.at i, c.in-Some-address.is i))
+      (c.in-Some.ensures.part (subst (λ (list : List Desc). IsPlacedAt list c.loop-part.cursor) (sym c.as_slice.ensures) placed)))
+      (omega (arith, c.in-Some.ensures.within, c.in-Some.ensures.at, total))
       tagged
-      (c.loop-part.invariant.cargo id told (tells_first told id (g.S.Site.state c.args.site.now) (g.S.Site.state c.loop-part.site) (g.S.Site.state c.deliver_data.new.self) c.deliver_data.ensures.advances all) rows tagged hand);
+      (c.loop-part.invariant.cargo id told asked (tells_first told id (g.S.Site.state c.args.site.now) (g.S.Site.state c.loop-part.site) (g.S.Site.state c.deliver_data.new.self) c.deliver_data.ensures.advances all) rows tagged first hand);
 }
 
 pub returns-in-Err-Refused-clause-refused : goal.returns-in-Err-Refused-clause-refused
@@ -68,19 +76,19 @@ returns-in-Err-Busy-clause-busy g c = λ is.
     uses_later (g.S.Site.state c.args.site.now) (g.S.Site.state c.loop-part.site) (g.S.Site.state c.deliver_data.new.self) c.loop-part.invariant.advances (c.deliver_data.ensures.busy busy)
 
 pub returns-in-Err-Refused-clause-cargo : goal.returns-in-Err-Refused-clause-cargo
-returns-in-Err-Refused-clause-cargo g c = λ id told all rows tagged hand.
-    subst (IsAccounted told) (sym (shown_same _ _ _ _ _ _ c.deliver_data.ensures.data refl))
-    (c.loop-part.invariant.cargo id told (tells_first told id (g.S.Site.state c.args.site.now) (g.S.Site.state c.loop-part.site) (g.S.Site.state c.deliver_data.new.self) c.deliver_data.ensures.advances all) rows tagged hand)
+returns-in-Err-Refused-clause-cargo g c = λ id told asked all rows tagged first hand.
+    subst (IsAccounted told asked) (sym (shown_same _ _ _ _ _ _ (sees _ _ _ (same_pages _ _ _ _ c.deliver_data.ensures.data c.deliver_data.ensures.advances.own_place (ap (data_count _) c.in-Err-Refused.ensures.none))) refl))
+    (c.loop-part.invariant.cargo id told asked (tells_first told id (g.S.Site.state c.args.site.now) (g.S.Site.state c.loop-part.site) (g.S.Site.state c.deliver_data.new.self) c.deliver_data.ensures.advances all) rows tagged first hand)
 
 pub returns-in-Err-Busy-clause-cargo : goal.returns-in-Err-Busy-clause-cargo
-returns-in-Err-Busy-clause-cargo g c = λ id told all rows tagged hand.
-    subst (IsAccounted told) (sym (shown_same _ _ _ _ _ _ c.deliver_data.ensures.data refl))
-    (c.loop-part.invariant.cargo id told (tells_first told id (g.S.Site.state c.args.site.now) (g.S.Site.state c.loop-part.site) (g.S.Site.state c.deliver_data.new.self) c.deliver_data.ensures.advances all) rows tagged hand)
+returns-in-Err-Busy-clause-cargo g c = λ id told asked all rows tagged first hand.
+    subst (IsAccounted told asked) (sym (shown_same _ _ _ _ _ _ (sees _ _ _ (same_pages _ _ _ _ c.deliver_data.ensures.data c.deliver_data.ensures.advances.own_place (ap (data_count _) c.in-Err-Busy.ensures.none))) refl))
+    (c.loop-part.invariant.cargo id told asked (tells_first told id (g.S.Site.state c.args.site.now) (g.S.Site.state c.loop-part.site) (g.S.Site.state c.deliver_data.new.self) c.deliver_data.ensures.advances all) rows tagged first hand)
 
 pub returns-in-Err-NoMemory-clause-cargo : goal.returns-in-Err-NoMemory-clause-cargo
-returns-in-Err-NoMemory-clause-cargo g c = λ id told all rows tagged hand.
-    subst (IsAccounted told) (sym (shown_same _ _ _ _ _ _ c.deliver_data.ensures.data refl))
-    (c.loop-part.invariant.cargo id told (tells_first told id (g.S.Site.state c.args.site.now) (g.S.Site.state c.loop-part.site) (g.S.Site.state c.deliver_data.new.self) c.deliver_data.ensures.advances all) rows tagged hand)
+returns-in-Err-NoMemory-clause-cargo g c = λ id told asked all rows tagged first hand.
+    subst (IsAccounted told asked) (sym (shown_same _ _ _ _ _ _ (sees _ _ _ (same_pages _ _ _ _ c.deliver_data.ensures.data c.deliver_data.ensures.advances.own_place (ap (data_count _) c.in-Err-NoMemory.ensures.none))) refl))
+    (c.loop-part.invariant.cargo id told asked (tells_first told id (g.S.Site.state c.args.site.now) (g.S.Site.state c.loop-part.site) (g.S.Site.state c.deliver_data.new.self) c.deliver_data.ensures.advances all) rows tagged first hand)
 
 pub returns-clause-all : goal.returns-clause-all
 returns-clause-all g c = λ placed.

@@ -1,7 +1,9 @@
+use Rattle.std.proofs.Common.{Option}
+use Rattle.srp_iu.specs.declared.command.Cmd.{Cmd}
 use Rattle.std.proofs.Common.{Bool, List}
 use Rattle.vio_num.specs.declared.history.Served.{Served}
 use Rattle.vio_num.specs.declared.names.UnitId.{UnitId}
-use Rattle.block_server.specs.Cargo.{HasTag, IsAccounted, cargo_at, data_bytes}
+use Rattle.block_server.specs.Cargo.{HasTag, IsAccounted, cargo_at, seen}
 use Rattle.block_server.specs.Causes.{Told}
 use Rattle.block_server.specs.Heard.{TellsAll}
 use Rattle.block_server.specs.Parts.{IsPlacedAt}
@@ -22,8 +24,8 @@ invariant-loop-part g l = record {
   queue : (g.S.Site.state l.site).queue ≡ (g.S.Site.state l.fn.site).queue;
   passes : Passes (g.S.Site.state l.fn.site) (g.S.Site.state l.site);
   placed : IsPlacedAt l.fn.service.inn.list.items l.fn.start → IsPlacedAt l.fn.service.inn.list.items l.cursor;
-  cargo : (id : UnitId) (told : Told → Bool) → TellsAll told id (g.S.Site.state l.fn.site) (g.S.Site.state l.site) → (rows : List Served) → HasTag rows l.row l.tag
-      → IsAccounted told (cargo_at id l.fn.service (data_bytes (g.S.Site.state l.fn.site).own) rows) → IsAccounted told (cargo_at id l.service (data_bytes (g.S.Site.state l.site).own) rows);
+  cargo : (id : UnitId) (told : Told → Bool) (asked : Bool) → TellsAll told id (g.S.Site.state l.fn.site) (g.S.Site.state l.site) → (rows : List Served) → HasTag rows l.row l.tag → (first : Option Cmd)
+      → IsAccounted told asked (cargo_at id l.fn.service (seen first (g.S.Site.state l.fn.site)) rows) → IsAccounted told asked (cargo_at id l.service (seen first (g.S.Site.state l.site)) rows);
 }
 
 abbrev pub decreases-loop-part : goal.decreases-loop-part

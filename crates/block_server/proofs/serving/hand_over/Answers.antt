@@ -60,16 +60,16 @@ returns-clause-books g c = λ id session.
     c.in-DataIn.is c.deliver_data.ensures.stage.1 refl refl (λ current pending at. at)) (c.end_command.ensures.books id session)
 
 pub returns-in_default-clause-cargo : goal.returns-in_default-clause-cargo
-returns-in_default-clause-cargo g c = λ id told all size credits rest serving hand. hand
+returns-in_default-clause-cargo g c = λ id told asked all size credits rest serving hand. hand
 
 pub returns-in_err-progress-clause-cargo : goal.returns-in_err-progress-clause-cargo
-returns-in_err-progress-clause-cargo g c = λ id told all size credits rest serving hand.
-    c.deliver_data.ensures.cargo id told all c.args.records.now.history.items
-    (tag_at (terms_of told size) id credits c.args.service.now c.args.request.now rest c.args.records.now.history.items c.in-DataIn.row c.in-DataIn.reply c.in-DataIn.cursor c.in-DataIn.is serving) hand
+returns-in_err-progress-clause-cargo g c = λ id told asked all size credits rest serving hand.
+    c.deliver_data.ensures.cargo id told asked all c.args.records.now.history.items
+    (tag_at (terms_of told size) id credits c.args.service.now c.args.request.now rest c.args.records.now.history.items c.in-DataIn.row c.in-DataIn.reply c.in-DataIn.cursor c.in-DataIn.is serving) _ hand
 
 pub returns-clause-cargo : goal.returns-clause-cargo
-returns-clause-cargo g c = λ id told all size credits rest serving hand.
+returns-clause-cargo g c = λ id told asked all size credits rest serving hand.
     c.end_command.ensures.cargo id _ (λ done. where_done c.in_ok-progress.progress (IsSentAll c.deliver_data.new.service) done (c.in_ok-progress.ensures.all
-    (hand_placed told id c.args.service.now _ _ c.in-DataIn.row c.in-DataIn.reply c.in-DataIn.cursor c.in-DataIn.is hand))) told
-    (c.deliver_data.ensures.cargo id told all c.args.records.now.history.items
-    (tag_at (terms_of told size) id credits c.args.service.now c.args.request.now rest c.args.records.now.history.items c.in-DataIn.row c.in-DataIn.reply c.in-DataIn.cursor c.in-DataIn.is serving) hand)
+    (hand_placed told asked id c.args.service.now _ _ c.in-DataIn.row c.in-DataIn.reply c.in-DataIn.cursor c.in-DataIn.is hand))) told asked
+    (c.deliver_data.ensures.cargo id told asked all c.args.records.now.history.items
+    (tag_at (terms_of told size) id credits c.args.service.now c.args.request.now rest c.args.records.now.history.items c.in-DataIn.row c.in-DataIn.reply c.in-DataIn.cursor c.in-DataIn.is serving) _ hand)

@@ -20,7 +20,6 @@ returns-in-Some-clause-once c = λ id front rest number order q records disk ser
       parts = refl;
       asked = c.args.login.now;
       asks = order;
-      current = c.args.logins.now.current;
       rejects = record {
         reason = c.in-Some.reason;
         why = subst (λ (n : ℕ). IsRejectedFor n c.args.login.now c.in-Some.reason) c.current.ensures c.in-Some.ensures.why;

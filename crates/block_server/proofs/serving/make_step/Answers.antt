@@ -1,3 +1,5 @@
+use Rattle.block_server.specs.Cargo.{Pages}
+use Rattle.block_server.proofs.CopyKinds.{pages_show}
 use Rattle.std.proofs.Common.{Some, rules, length-take, ap, refl, subst, sym, ◌≡◌, ◌∙◌, ◌++◌, ◌∷◌, [], ℕ, List, length, min, take, arith}
 use Rattle.vio_num.specs.declared.history.Served.{Served as ServedRow}
 use Rattle.crq_session.specs.EndState.{EndState}
@@ -120,24 +122,24 @@ returns-clause-books g c =
     blank.unit_is (blank.session_is ∙ c.session.ensures) blank.login blank.number blank.iu
 
 pub returns-in_default-clause-cargo : goal.returns-in_default-clause-cargo
-returns-in_default-clause-cargo g c = λ told known done hand. hand
+returns-in_default-clause-cargo g c = λ told asked known done hand. hand
 
 pub returns-in_err-row-clause-cargo : goal.returns-in_err-row-clause-cargo
-returns-in_err-row-clause-cargo g c = λ told known done hand. keeps_same _ _ (shown_same _ _ _ _ _ _ refl c.new_row.ensures.lists.history) told hand
+returns-in_err-row-clause-cargo g c = λ told asked known done hand. keeps_same _ _ (shown_same _ _ _ _ _ _ refl c.new_row.ensures.lists.history) told asked hand
 
 pub returns-in_err-out-clause-cargo : goal.returns-in_err-out-clause-cargo
-returns-in_err-out-clause-cargo g c = λ told known done hand. keeps_same _ _ (shown_same _ _ _ _ _ _ refl c.new_row.ensures.lists.history) told hand
+returns-in_err-out-clause-cargo g c = λ told asked known done hand. keeps_same _ _ (shown_same _ _ _ _ _ _ refl c.new_row.ensures.lists.history) told asked hand
 
 pub returns-in_err-room-clause-cargo : goal.returns-in_err-room-clause-cargo
-returns-in_err-room-clause-cargo g c = λ told known done hand. keeps_same _ _ (shown_same _ _ _ _ _ _ refl c.new_row.ensures.lists.history) told hand
+returns-in_err-room-clause-cargo g c = λ told asked known done hand. keeps_same _ _ (shown_same _ _ _ _ _ _ refl c.new_row.ensures.lists.history) told asked hand
 
 pub returns-in_err-make_room-clause-cargo : goal.returns-in_err-make_room-clause-cargo
-returns-in_err-make_room-clause-cargo g c = λ told known done hand.
+returns-in_err-make_room-clause-cargo g c = λ told asked known done hand.
     keeps_same _ _ (shown_same _ c.make_room.new.self _ _ _ _ refl c.new_row.ensures.lists.history
-    ∙ same_out _ c.args.service.now c.make_room.new.self _ _ c.in-DataOut.field-0 c.in-DataOut.is (c.make_room.ensures.stage ∙ c.in-DataOut.is) c.make_room.ensures.out) told hand
+    ∙ same_out _ c.args.service.now c.make_room.new.self _ _ c.in-DataOut.field-0 c.in-DataOut.is (c.make_room.ensures.stage ∙ c.in-DataOut.is) c.make_room.ensures.out c.make_room.ensures.inn) told asked hand
 
 pub returns-clause-cargo : goal.returns-clause-cargo
-returns-clause-cargo g c = λ told known done hand.
+returns-clause-cargo g c = λ told asked known done hand.
     let blank = c.in_ok-row.ensures.row in
     let service = c.args.service.now in
     let command = c.args.command.now in
@@ -145,13 +147,13 @@ returns-clause-cargo g c = λ told known done hand.
     subst (λ (stage : Stage). Gathers (told_to told c.args.id) command stage service.out.list.items service.inn.list.items) c.in-DataOut.is known in
     let row : ServedRow = record c.in_ok-row.row { out = c.from.result; inn = c.filled.result; fault = c.execute-reply.result.fault } in
     let kept : c.keep.new.self.given.items ≡ c.given-given.result.now = c.keep.ensures.given ∙ ap (λ (xs : List ℕ). xs ++ c.given-given.result.now) c.make_room.ensures.none in
-    made_given told c.args.id service _ _ _ _ _ row command c.args.request.now (length c.args.records.now.history.items) c.execute-reply.result c.in-DataOut.field-0
-    c.in-DataOut.is done
+    made_given told asked c.args.id service _ _ _ _ _ row command c.args.request.now (length c.args.records.now.history.items) c.execute-reply.result c.in-DataOut.field-0
+    (ap (λ (p : Pages). p.count) c.read_out-out.ensures.data) c.in-DataOut.is done
     (ap (λ (n : ℕ). Given n c.execute-reply.result) (c.add_row-row.ensures.place ∙ ap length c.new_row.ensures.lists.history)) refl
     (c.keep.ensures.inn ∙ c.make_room.ensures.inn) (c.add_row-row.ensures.history ∙ ap (λ (list : List ServedRow). list ++ row ∷ []) c.new_row.ensures.lists.history)
     blank.unit_is (c.filled.ensures ∙ sym kept) blank.iu c.requires.asked both.in_named
     (omega (arith, ap length kept, ap length c.given-given.ensures, length-take c.min.result c.execute-reply.new.self.given.items, c.min.ensures, c.total-expected.ensures.total, service.inn.summed))
     both.out_named
     (ap length c.from.ensures ∙ c.read_out-out.ensures.len ∙ c.in_ok-out.ensures ∙ c.total.ensures.total ∙ sym service.out.summed)
-    (λ k less. ap (λ (shown : ℕ → ℕ). shown k) (sym c.read_out-out.ensures.data) ∙ c.read_out-out.ensures.read k (omega (arith, less, ap length c.from.ensures))
+    (λ k less. ap (λ (p : Pages). p.bytes k) (sym c.read_out-out.ensures.data) ∙ pages_show _ _ k ∙ c.read_out-out.ensures.read k (omega (arith, less, ap length c.from.ensures))
     ∙ ap (λ (list : List ℕ). slice_index list k) (sym c.from.ensures)) hand

@@ -12,10 +12,11 @@ use Rattle.block_server.proofs.OwingRows.{moves_same}
 use Rattle.block_server.specs.Owed.{MovesRow}
 use Rattle.block_server.proofs.Sendings.{other_unloaded}
 use Rattle.block_server.specs.Serving.{terms_of}
+use Rattle.block_server.specs.Granting.{login_state}
 use Rattle.block_server.proofs.serving.prepare.Goals as goal
 
 pub returns-in-Command-clause-once : goal.returns-in-Command-clause-once
-returns-in-Command-clause-once g c = λ told all rest. c.serve_command.ensures.once told all c.args.logins.now.granted rest
+returns-in-Command-clause-once g c = λ told all rest. c.serve_command.ensures.once told all (login_state c.args.logins.now) rest
 
 pub returns-in-Login-clause-once : goal.returns-in-Login-clause-once
 returns-in-Login-clause-once g c = λ told all rest.
@@ -24,12 +25,12 @@ returns-in-Login-clause-once g c = λ told all rest.
 pub returns-in-Task-clause-once : goal.returns-in-Task-clause-once
 returns-in-Task-clause-once g c = λ told all rest.
     let cause : IsCauseOf (told_to told c.args.id) c.args.request.now.order = search rules in
-    c.add_code.ensures.once c.args.logins.now.granted rest (g.S.Site.state c.args.site.now).queue _ cause
+    c.add_code.ensures.once (login_state c.args.logins.now) rest (g.S.Site.state c.args.site.now).queue _ cause
 
 pub returns-in-Unreadable-clause-once : goal.returns-in-Unreadable-clause-once
 returns-in-Unreadable-clause-once g c = λ told all rest.
     let cause : IsCauseOf (told_to told c.args.id) c.args.request.now.order = search rules in
-    c.add_code-in-Unreadable.ensures.once c.args.logins.now.granted rest (g.S.Site.state c.args.site.now).queue _ cause
+    c.add_code-in-Unreadable.ensures.once (login_state c.args.logins.now) rest (g.S.Site.state c.args.site.now).queue _ cause
 
 pub returns-in-Logout-clause-once : goal.returns-in-Logout-clause-once
 returns-in-Logout-clause-once g c = λ told all rest serving. once_same _ _ _ _ _ _ refl refl refl _ serving
@@ -97,25 +98,25 @@ pub returns-in_default-clause-moves : goal.returns-in_default-clause-moves
 returns-in_default-clause-moves g c = λ current rest at. moves_same _ _ _ _ _ _ _ refl refl
 
 pub returns-in-Command-clause-cargo : goal.returns-in-Command-clause-cargo
-returns-in-Command-clause-cargo g c = λ told all rest serving hand. c.serve_command.ensures.cargo told all c.args.logins.now.granted rest serving hand
+returns-in-Command-clause-cargo g c = λ told asked all rest serving hand. c.serve_command.ensures.cargo told asked all (login_state c.args.logins.now) rest serving hand
 
 pub returns-in_default-clause-cargo : goal.returns-in_default-clause-cargo
-returns-in_default-clause-cargo g c = λ told all rest serving hand. hand
+returns-in_default-clause-cargo g c = λ told asked all rest serving hand. hand
 
 pub returns-in-Logout-clause-cargo : goal.returns-in-Logout-clause-cargo
-returns-in-Logout-clause-cargo g c = λ told all rest serving hand. hand
+returns-in-Logout-clause-cargo g c = λ told asked all rest serving hand. hand
 
 pub returns-in-Login-clause-cargo : goal.returns-in-Login-clause-cargo
-returns-in-Login-clause-cargo g c = λ told all rest serving hand.
+returns-in-Login-clause-cargo g c = λ told asked all rest serving hand.
     let other : is_command c.args.request.now.order ≡ false = search rules in
-    c.judge_login.ensures.cargo c.args.id _ _ (other_unloaded (terms_of told c.args.disk.now.count) c.args.id c.args.logins.now.granted c.args.service.now c.args.request.now rest c.args.records.now.history.items other serving) told hand
+    c.judge_login.ensures.cargo c.args.id _ _ (other_unloaded (terms_of told c.args.disk.now.count) c.args.id (login_state c.args.logins.now) c.args.service.now c.args.request.now rest c.args.records.now.history.items other serving) told asked hand
 
 pub returns-in-Task-clause-cargo : goal.returns-in-Task-clause-cargo
-returns-in-Task-clause-cargo g c = λ told all rest serving hand.
+returns-in-Task-clause-cargo g c = λ told asked all rest serving hand.
     let other : is_command c.args.request.now.order ≡ false = search rules in
-    c.add_code.ensures.cargo _ (other_unloaded (terms_of told c.args.disk.now.count) c.args.id c.args.logins.now.granted c.args.service.now c.args.request.now rest c.args.records.now.history.items other serving) told hand
+    c.add_code.ensures.cargo _ (other_unloaded (terms_of told c.args.disk.now.count) c.args.id (login_state c.args.logins.now) c.args.service.now c.args.request.now rest c.args.records.now.history.items other serving) told asked hand
 
 pub returns-in-Unreadable-clause-cargo : goal.returns-in-Unreadable-clause-cargo
-returns-in-Unreadable-clause-cargo g c = λ told all rest serving hand.
+returns-in-Unreadable-clause-cargo g c = λ told asked all rest serving hand.
     let other : is_command c.args.request.now.order ≡ false = search rules in
-    c.add_code-in-Unreadable.ensures.cargo _ (other_unloaded (terms_of told c.args.disk.now.count) c.args.id c.args.logins.now.granted c.args.service.now c.args.request.now rest c.args.records.now.history.items other serving) told hand
+    c.add_code-in-Unreadable.ensures.cargo _ (other_unloaded (terms_of told c.args.disk.now.count) c.args.id (login_state c.args.logins.now) c.args.service.now c.args.request.now rest c.args.records.now.history.items other serving) told asked hand

@@ -36,7 +36,7 @@ returns-in_err-set_answer c = record {
 pub returns : goal.returns
 returns c = record {
   cargo = λ id shown.
-      cut_at_sending _ _ _ _ _ _ _ c.in-DataIn.row c.in-DataIn.reply c.in-DataIn.cursor _ c.in-DataIn.is (ap is_moving (c.take_given-inn.ensures.stage ∙ c.in_ok-set_answer.ensures.stage))
+      cut_at_sending _ _ _ _ _ _ _ c.in-DataIn.row c.in-DataIn.reply c.in-DataIn.cursor _ refl c.in-DataIn.is (ap is_moving (c.take_given-inn.ensures.stage ∙ c.in_ok-set_answer.ensures.stage))
       (c.take_given-inn.ensures.given ∙ (λ i. take (c.done.ensures i) (c.set_answer.ensures.given i).items)) c.fill.ensures.rows;
   row = ap row_in (c.take_given-inn.ensures.stage ∙ c.in_ok-set_answer.ensures.stage) ∙ sym (ap row_in c.in-DataIn.is);
   states = c.fill.ensures.states;

@@ -136,23 +136,23 @@ returns-in-Done-clause-moves g c =
     moves_on _ _ _ _ _ _ _ _ _ _ (ap (λ (q : EndState). q.last_session) c.fetch.ensures.queue) first c.make_step.ensures.moves
 
 pub returns-then-not-is_before_step-clause-cargo : goal.returns-then-not-is_before_step-clause-cargo
-returns-then-not-is_before_step-clause-cargo g c = λ told all credits rest serving hand. hand
+returns-then-not-is_before_step-clause-cargo g c = λ told asked all credits rest serving hand. hand
 
 pub returns-in_err-fetch-clause-cargo : goal.returns-in_err-fetch-clause-cargo
-returns-in_err-fetch-clause-cargo g c = λ told all credits rest serving hand. c.fetch.ensures.cargo c.args.id told all c.args.records.now.history.items hand
+returns-in_err-fetch-clause-cargo g c = λ told asked all credits rest serving hand. c.fetch.ensures.cargo c.args.id told asked all c.args.records.now.history.items hand
 
 pub returns-in-Busy-clause-cargo : goal.returns-in-Busy-clause-cargo
-returns-in-Busy-clause-cargo g c = λ told all credits rest serving hand. c.fetch.ensures.cargo c.args.id told all c.args.records.now.history.items hand
+returns-in-Busy-clause-cargo g c = λ told asked all credits rest serving hand. c.fetch.ensures.cargo c.args.id told asked all c.args.records.now.history.items hand
 
 pub returns-in-Refused-clause-cargo : goal.returns-in-Refused-clause-cargo
-returns-in-Refused-clause-cargo g c = λ told all credits rest serving hand.
+returns-in-Refused-clause-cargo g c = λ told asked all credits rest serving hand.
     let before : is_before_step c.args.service.now.stage ≡ true = cc in
-    c.add_code.ensures.cargo _ (before_unloaded _ (c.fetch.ensures.before before)) told (c.fetch.ensures.cargo c.args.id told all c.args.records.now.history.items hand)
+    c.add_code.ensures.cargo _ (before_unloaded _ (c.fetch.ensures.before before)) told asked (c.fetch.ensures.cargo c.args.id told asked all c.args.records.now.history.items hand)
 
 pub returns-in-Done-clause-cargo : goal.returns-in-Done-clause-cargo
-returns-in-Done-clause-cargo g c = λ told all credits rest serving hand.
+returns-in-Done-clause-cargo g c = λ told asked all credits rest serving hand.
     let heard = tells_first told c.args.id (g.S.Site.state c.args.site.now) (g.S.Site.state c.fetch.new.site) (g.S.Site.state c.make_step.new.site) c.make_step.ensures.advances all in
-    c.make_step.ensures.cargo told
+    c.make_step.ensures.cargo told asked
     (c.fetch.ensures.named told c.args.id heard (gathers_of _ _ _ _ c.args.request.now rest c.args.command.now c.requires.asked serving.fetched))
-    (where_done c.in_ok-fetch.field-0 (IsFetchedAll c.fetch.new.service) c.in-Done.is (c.in_ok-fetch.ensures.all c.args.id told heard c.args.records.now.history.items hand))
-    (c.fetch.ensures.cargo c.args.id told heard c.args.records.now.history.items hand)
+    (where_done c.in_ok-fetch.field-0 (IsFetchedAll c.fetch.new.service) c.in-Done.is (c.in_ok-fetch.ensures.all c.args.id told asked heard c.args.records.now.history.items hand))
+    (c.fetch.ensures.cargo c.args.id told asked heard c.args.records.now.history.items hand)

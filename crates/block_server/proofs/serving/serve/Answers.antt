@@ -1,3 +1,4 @@
+use Rattle.block_server.specs.Granting.{login_state}
 use Rattle.block_server.proofs.Jointly.{works, works_none, works_on}
 use Rattle.std.proofs.Common.{ap, subst, sym}
 use Rattle.block_server.specs.Heard.{TellsAll}
@@ -33,7 +34,9 @@ use Rattle.block_server.proofs.Hands.{keeps_same}
 use Rattle.block_server.proofs.Sendings.{other_unloaded}
 use Rattle.block_server.specs.Serving.{IsServing, terms_of}
 use Rattle.block_server.specs.Judged.{is_command}
-use Rattle.block_server.specs.Cargo.{IsAccounted}
+use Rattle.srp_iu.specs.declared.command.Cmd.{Cmd}
+use Rattle.block_server.specs.Cargo.{IsAccounted, cargo_at, first_command, seen}
+use Rattle.std.proofs.Common.{Option}
 use Rattle.block_server.proofs.Ledgers.{explained_then, explains_same}
 use Rattle.block_server.specs.Refusals.{ledger_of}
 use Rattle.block_server.proofs.Taking.{ended_stands}
@@ -66,8 +69,8 @@ returns-in_err-prepare-clause-once g c = λ told all.
     let unit = c.args.unit.now in
     let front = front_is _ _ c.in-Some.ensures.item.3 in
     once_between _ _ _ _ _ _ _ _
-    (desk_is unit.id unit.logins.granted unit.service None _ _ _ c.requires.none front.1)
-    (desk_is unit.id unit.logins.granted c.prepare.new.service None _ _ _ c.requires.none front.1)
+    (desk_is unit.id (login_state unit.logins) unit.service None _ _ _ c.requires.none front.1)
+    (desk_is unit.id (login_state unit.logins) c.prepare.new.service None _ _ _ c.requires.none front.1)
     _ _ (c.prepare.ensures.once told all front.0)
 
 pub returns-clause-once : goal.returns-clause-once
@@ -76,8 +79,8 @@ returns-clause-once g c = λ told all.
     let front = front_is _ _ c.in-Some.ensures.item.3 in
     once_then _ _ _ _ _ _ _ _ _ _ _ _
     (once_between _ _ _ (desk_of c.note_stage.new.unit) _ _ _ _
-    (desk_is unit.id unit.logins.granted unit.service None _ _ _ c.requires.none front.1)
-    (c.note_stage.ensures.desk ∙ desk_is unit.id unit.logins.granted c.prepare.new.service None _ _ _ c.requires.none front.1)
+    (desk_is unit.id (login_state unit.logins) unit.service None _ _ _ c.requires.none front.1)
+    (c.note_stage.ensures.desk ∙ desk_is unit.id (login_state unit.logins) c.prepare.new.service None _ _ _ c.requires.none front.1)
     _ _ (c.prepare.ensures.once told (tells_first told unit.id (g.S.Site.state c.args.site.now) (g.S.Site.state c.prepare.new.site) (g.S.Site.state c.answer.new.site) c.answer.ensures.advances all) front.0))
     (c.answer.ensures.once _ (subst (λ (id : UnitId). TellsAll told id (g.S.Site.state c.prepare.new.site) (g.S.Site.state c.answer.new.site)) (sym (ap (λ (desk : Desk). desk.id) c.note_stage.ensures.desk))
     (tells_next told unit.id (g.S.Site.state c.args.site.now) (g.S.Site.state c.prepare.new.site) (g.S.Site.state c.answer.new.site) c.prepare.ensures.advances all)))
@@ -265,55 +268,64 @@ returns-clause-judges g c =
     (works _ _ _ _ _ _ refl refl c.answer.ensures.intake c.answer.ensures.judges)).judges
 
 pub returns-in_default-clause-cargo : goal.returns-in_default-clause-cargo
-returns-in_default-clause-cargo g c = λ told all serving hand. hand
+returns-in_default-clause-cargo g c = λ told asked all serving hand. hand
 
 pub returns-in_err-make_room-clause-cargo : goal.returns-in_err-make_room-clause-cargo
-returns-in_err-make_room-clause-cargo g c = λ told all serving hand. keeps_same _ _ (shown_same _ _ _ _ _ _ refl c.make_room.ensures.lists.history) told hand
+returns-in_err-make_room-clause-cargo g c = λ told asked all serving hand. keeps_same _ _ (shown_same _ _ _ _ _ _ refl c.make_room.ensures.lists.history) told asked hand
 
 pub returns-in-Logout-clause-cargo : goal.returns-in-Logout-clause-cargo
-returns-in-Logout-clause-cargo g c = λ told all serving hand.
+returns-in-Logout-clause-cargo g c = λ told asked all serving hand.
     let unit = c.args.unit.now in
     let front = front_is _ _ c.in-Some.ensures.item.3 in
-    let desk = desk_is unit.id unit.logins.granted unit.service None _ _ _ c.requires.none front.1 in
+    let desk = desk_is unit.id (login_state unit.logins) unit.service None _ _ _ c.requires.none front.1 in
     let at = subst (λ (d : Desk). IsServing (terms_of told c.args.disk.now.count) d c.args.records.now.history.items) desk serving in
     let other : is_command c.in-Some.request.now.order ≡ false = search rules in
-    c.log_out.ensures.cargo _ _ (other_unloaded (terms_of told c.args.disk.now.count) unit.id unit.logins.granted unit.service c.in-Some.request.now front.0 c.args.records.now.history.items other at) told (keeps_same _ _ (shown_same _ _ _ _ _ _ refl c.make_room.ensures.lists.history) told hand)
+    c.log_out.ensures.cargo _ _ refl (other_unloaded (terms_of told c.args.disk.now.count) unit.id (login_state unit.logins) unit.service c.in-Some.request.now front.0 c.args.records.now.history.items other at)
+    told asked (keeps_same _ _ (shown_same _ _ _ _ _ _ refl c.make_room.ensures.lists.history) told asked hand)
 
 pub returns-in_err-prepare-clause-cargo : goal.returns-in_err-prepare-clause-cargo
-returns-in_err-prepare-clause-cargo g c = λ told all serving hand.
+returns-in_err-prepare-clause-cargo g c = λ told asked all serving hand.
     let unit = c.args.unit.now in
     let front = front_is _ _ c.in-Some.ensures.item.3 in
-    let desk = desk_is unit.id unit.logins.granted unit.service None _ _ _ c.requires.none front.1 in
+    let desk = desk_is unit.id (login_state unit.logins) unit.service None _ _ _ c.requires.none front.1 in
     let at = subst (λ (d : Desk). IsServing (terms_of told c.args.disk.now.count) d c.args.records.now.history.items) desk serving in
-    c.prepare.ensures.cargo told all front.0 at hand
+    let command = ap first_command front.1 in
+    subst (λ (k : Option Cmd). IsAccounted told asked (cargo_at unit.id c.prepare.new.service (seen k (g.S.Site.state c.prepare.new.site)) c.prepare.new.records.history.items)) (sym command)
+    (c.prepare.ensures.cargo told asked all front.0 at
+    (subst (λ (k : Option Cmd). IsAccounted told asked (cargo_at unit.id unit.service (seen k (g.S.Site.state c.args.site.now)) c.args.records.now.history.items)) command hand))
 
 pub returns-clause-cargo : goal.returns-clause-cargo
-returns-clause-cargo g c = λ told all serving hand.
+returns-clause-cargo g c = λ told asked all serving hand.
     let unit = c.args.unit.now in
     let front = front_is _ _ c.in-Some.ensures.item.3 in
-    let desk = desk_is unit.id unit.logins.granted unit.service None _ _ _ c.requires.none front.1 in
+    let desk = desk_is unit.id (login_state unit.logins) unit.service None _ _ _ c.requires.none front.1 in
     let at = subst (λ (d : Desk). IsServing (terms_of told c.args.disk.now.count) d c.args.records.now.history.items) desk serving in
-    c.answer.ensures.cargo told
-    (subst (IsAccounted told) (sym (cargo_named _ _ _ _ _ _ c.note_stage.ensures.id c.note_stage.ensures.service))
-    (c.prepare.ensures.cargo told (tells_first told unit.id (g.S.Site.state c.args.site.now) (g.S.Site.state c.prepare.new.site) (g.S.Site.state c.answer.new.site) c.answer.ensures.advances all) front.0 at hand))
+    let command = ap first_command front.1 in
+    let noted = ap (λ (d : Desk). first_command d.pending) c.note_stage.ensures.desk in
+    c.answer.ensures.cargo told asked
+    (subst (IsAccounted told asked) (sym (cargo_named _ _ _ _ _ _ c.note_stage.ensures.id c.note_stage.ensures.service))
+    (subst (λ (k : Option Cmd). IsAccounted told asked (cargo_at unit.id c.prepare.new.service (seen k (g.S.Site.state c.prepare.new.site)) c.prepare.new.records.history.items))
+    (sym (noted ∙ command))
+    (c.prepare.ensures.cargo told asked (tells_first told unit.id (g.S.Site.state c.args.site.now) (g.S.Site.state c.prepare.new.site) (g.S.Site.state c.answer.new.site) c.answer.ensures.advances all) front.0 at
+    (subst (λ (k : Option Cmd). IsAccounted told asked (cargo_at unit.id unit.service (seen k (g.S.Site.state c.args.site.now)) c.args.records.now.history.items)) command hand))))
 
 pub returns-in_default-clause-refuses : goal.returns-in_default-clause-refuses
 returns-in_default-clause-refuses g c = λ told all serving front is. is
 
 pub returns-in_err-make_room-clause-refuses : goal.returns-in_err-make_room-clause-refuses
 returns-in_err-make_room-clause-refuses g c = λ told all serving front is.
-    explains_same (ledger_of c.args.unit.now (g.S.Site.state c.args.site.now) c.args.records.now) _ refl refl refl refl refl c.make_room.ensures.lists.grants refl told c.args.unit.now.id front is
+    explains_same (ledger_of c.args.unit.now (g.S.Site.state c.args.site.now) c.args.records.now) _ refl refl refl refl refl c.make_room.ensures.lists.grants refl refl refl told c.args.unit.now.id front is
 
 pub returns-in-Logout-clause-refuses : goal.returns-in-Logout-clause-refuses
 returns-in-Logout-clause-refuses g c = λ told all serving begun is.
     let front = front_is _ _ c.in-Some.ensures.item.3 in
     let other : is_login c.in-Some.request.now.order ≡ false = search rules in
-    c.log_out.ensures.refuses (g.S.Site.state c.args.site.now).queue.last_session (g.S.Site.state c.args.site.now).queue.taken (login_answers (g.S.Site.state c.args.site.now).queue.sent) c.in-Some.request.now front.0 front.1 other told c.args.unit.now.id begun
-    (explains_same (ledger_of c.args.unit.now (g.S.Site.state c.args.site.now) c.args.records.now) (ledger_of c.args.unit.now (g.S.Site.state c.args.site.now) c.make_room.new.self) refl refl refl refl refl c.make_room.ensures.lists.grants refl told c.args.unit.now.id begun is)
+    c.log_out.ensures.refuses (g.S.Site.state c.args.site.now).queue.last_session (g.S.Site.state c.args.site.now).queue.taken (login_answers (g.S.Site.state c.args.site.now).queue.sent) c.in-Some.request.now front.0 c.session.ensures front.1 other told c.args.unit.now.id begun
+    (explains_same (ledger_of c.args.unit.now (g.S.Site.state c.args.site.now) c.args.records.now) (ledger_of c.args.unit.now (g.S.Site.state c.args.site.now) c.make_room.new.self) refl refl refl refl refl c.make_room.ensures.lists.grants refl refl refl told c.args.unit.now.id begun is)
 
 pub returns-in_err-prepare-clause-refuses : goal.returns-in_err-prepare-clause-refuses
 returns-in_err-prepare-clause-refuses g c = λ told all serving front is.
-    explains_same (ledger_of c.args.unit.now (g.S.Site.state c.args.site.now) c.args.records.now) _ (ap (λ (q : EndState). q.last_session) c.prepare.ensures.queue) (ap (λ (q : EndState). q.taken) c.prepare.ensures.queue) refl refl refl c.prepare.ensures.grants (ap (λ (q : EndState). login_answers q.sent) c.prepare.ensures.queue)
+    explains_same (ledger_of c.args.unit.now (g.S.Site.state c.args.site.now) c.args.records.now) _ (ap (λ (q : EndState). q.last_session) c.prepare.ensures.queue) (ap (λ (q : EndState). q.taken) c.prepare.ensures.queue) refl refl refl c.prepare.ensures.grants (ap (λ (q : EndState). login_answers q.sent) c.prepare.ensures.queue) refl refl
     told c.args.unit.now.id front is
 
 pub returns-clause-refuses : goal.returns-clause-refuses
@@ -325,13 +337,13 @@ returns-clause-refuses g c = λ told all serving begun is.
     let new = g.S.Site.state c.answer.new.site in
     let prepared =
     once_between _ _ _ (desk_of c.note_stage.new.unit) _ _ _ _
-    (desk_is unit.id unit.logins.granted unit.service None _ _ _ c.requires.none front.1)
-    (c.note_stage.ensures.desk ∙ desk_is unit.id unit.logins.granted c.prepare.new.service None _ _ _ c.requires.none front.1)
+    (desk_is unit.id (login_state unit.logins) unit.service None _ _ _ c.requires.none front.1)
+    (c.note_stage.ensures.desk ∙ desk_is unit.id (login_state unit.logins) c.prepare.new.service None _ _ _ c.requires.none front.1)
     _ _ (c.prepare.ensures.once told (tells_first told unit.id old mid new c.answer.ensures.advances all) front.0) serving in
     explained_then _ _ (desk_of unit) (desk_of c.note_stage.new.unit) _ _ _ _ begun (ledger_of unit old c.args.records.now) (ledger_of c.note_stage.new.unit mid c.prepare.new.records) _ prepared
     (explains_same (ledger_of unit old c.args.records.now) (ledger_of c.note_stage.new.unit mid c.prepare.new.records)
     (ap (λ (q : EndState). q.last_session) c.prepare.ensures.queue) (ap (λ (q : EndState). q.taken) c.prepare.ensures.queue)
     (waiting_stands _ _ c.note_stage.ensures.stands) (ap (λ (way : UnderWay). way.pending) c.note_stage.ensures.way) (ended_stands _ _ c.note_stage.ensures.stands)
-    c.prepare.ensures.grants (ap (λ (q : EndState). login_answers q.sent) c.prepare.ensures.queue) told unit.id begun)
+    c.prepare.ensures.grants (ap (λ (q : EndState). login_answers q.sent) c.prepare.ensures.queue) (ap (λ (d : Desk). d.id) c.note_stage.ensures.desk) (ap (λ (d : Desk). d.logins.current) c.note_stage.ensures.desk) told unit.id begun)
     (c.answer.ensures.refuses (terms_of told c.prepare.new.disk.count)
     (subst (λ (id : UnitId). TellsAll told id mid new) (sym (ap (λ (desk : Desk). desk.id) c.note_stage.ensures.desk)) (tells_next told unit.id old mid new c.prepare.ensures.advances all))) is

@@ -1,3 +1,6 @@
+use Rattle.std.proofs.Common.{Option, ap, subst, sym}
+use Rattle.srp_iu.specs.declared.command.Cmd.{Cmd}
+use Rattle.block_server.specs.Cargo.{IsAccounted, cargo_at, command_of, seen}
 use Rattle.std.proofs.Common.{◌∙◌}
 use Rattle.block_server.proofs.Quieting.{on_ok}
 use Rattle.block_server.proofs.Readying.{uses_later, uses_sooner, went_on}
@@ -70,17 +73,27 @@ returns-clause-moves g c =
     (moves_same _ _ _ _ _ _ _ c.hand_over.ensures.row c.hand_over.ensures.states)
 
 pub returns-in_err-run_step-clause-cargo : goal.returns-in_err-run_step-clause-cargo
-returns-in_err-run_step-clause-cargo g c = λ told all credits rest serving hand. c.run_step.ensures.cargo told all credits rest serving hand
+returns-in_err-run_step-clause-cargo g c = λ told asked all credits rest serving hand.
+    let command = ap command_of c.requires.asked in
+    subst (λ (k : Option Cmd). IsAccounted told asked (cargo_at c.args.id c.run_step.new.service (seen k (g.S.Site.state c.run_step.new.site)) c.run_step.new.records.history.items)) (sym command)
+    (c.run_step.ensures.cargo told asked all credits rest serving
+    (subst (λ (k : Option Cmd). IsAccounted told asked (cargo_at c.args.id c.args.service.now (seen k (g.S.Site.state c.args.site.now)) c.args.records.now.history.items)) command hand))
 
 pub returns-in_err-store-clause-cargo : goal.returns-in_err-store-clause-cargo
-returns-in_err-store-clause-cargo g c = λ told all credits rest serving hand.
-    c.store.ensures.cargo c.args.id _ told (c.run_step.ensures.cargo told (tells_first told c.args.id (g.S.Site.state c.args.site.now) (g.S.Site.state c.run_step.new.site) (g.S.Site.state c.store.new.site) c.store.ensures.advances all) credits rest serving hand)
+returns-in_err-store-clause-cargo g c = λ told asked all credits rest serving hand.
+    let command = ap command_of c.requires.asked in
+    subst (λ (k : Option Cmd). IsAccounted told asked (cargo_at c.args.id c.store.new.service (seen k (g.S.Site.state c.store.new.site)) c.run_step.new.records.history.items)) (sym command)
+    (c.store.ensures.cargo c.args.id _ _ told asked (c.run_step.ensures.cargo told asked (tells_first told c.args.id (g.S.Site.state c.args.site.now) (g.S.Site.state c.run_step.new.site) (g.S.Site.state c.store.new.site) c.store.ensures.advances all) credits rest serving
+    (subst (λ (k : Option Cmd). IsAccounted told asked (cargo_at c.args.id c.args.service.now (seen k (g.S.Site.state c.args.site.now)) c.args.records.now.history.items)) command hand)))
 
 pub returns-clause-cargo : goal.returns-clause-cargo
-returns-clause-cargo g c = λ told all credits rest serving hand.
+returns-clause-cargo g c = λ told asked all credits rest serving hand.
+    let command = ap command_of c.requires.asked in
     let first = (tells_first told c.args.id (g.S.Site.state c.args.site.now) (g.S.Site.state c.run_step.new.site) (g.S.Site.state c.hand_over.new.site) (advances_on _ _ _ c.store.ensures.advances c.hand_over.ensures.advances) all) in
     let stepped = (c.run_step.ensures.once told first credits rest serving).serving in
     let stored = (c.store.ensures.once c.args.id credits rest c.run_step.new.records (held told c.run_step.new.disk.count None) stepped).serving in
-    c.hand_over.ensures.cargo c.args.id told
+    subst (λ (k : Option Cmd). IsAccounted told asked (cargo_at c.args.id c.hand_over.new.service (seen k (g.S.Site.state c.hand_over.new.site)) c.hand_over.new.records.history.items)) (sym command)
+    (c.hand_over.ensures.cargo c.args.id told asked
     (tells_next told c.args.id (g.S.Site.state c.args.site.now) (g.S.Site.state c.store.new.site) (g.S.Site.state c.hand_over.new.site) (advances_on _ _ _ c.run_step.ensures.advances c.store.ensures.advances) all)
-    _ credits rest stored (c.store.ensures.cargo c.args.id _ told (c.run_step.ensures.cargo told first credits rest serving hand))
+    _ credits rest stored (c.store.ensures.cargo c.args.id _ _ told asked (c.run_step.ensures.cargo told asked first credits rest serving
+    (subst (λ (k : Option Cmd). IsAccounted told asked (cargo_at c.args.id c.args.service.now (seen k (g.S.Site.state c.args.site.now)) c.args.records.now.history.items)) command hand))))

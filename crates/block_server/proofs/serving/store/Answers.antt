@@ -1,3 +1,4 @@
+use Rattle.block_server.proofs.CopyKinds.{same_total, shown_in}
 use Rattle.std.proofs.Common.{ap, refl}
 use Rattle.crq_session.specs.EndState.{EndState}
 use Rattle.block_server.specs.Answering.{responses}
@@ -38,13 +39,14 @@ pub returns-in_default-clause-books : goal.returns-in_default-clause-books
 returns-in_default-clause-books g c = λ id session rows. one_same _ _ _ _ _ _ _ refl refl
 
 pub returns-in_default-clause-cargo : goal.returns-in_default-clause-cargo
-returns-in_default-clause-cargo g c = λ id rows. keeps_same _ _ refl
+returns-in_default-clause-cargo g c = λ id rows first. keeps_same _ _ refl
 
 pub returns-in_err-write_data-clause-cargo : goal.returns-in_err-write_data-clause-cargo
-returns-in_err-write_data-clause-cargo g c = λ id rows. given_shown _ _ _ _ _ c.in-Given.row c.in-Given.reply c.in-Given.is
+returns-in_err-write_data-clause-cargo g c = λ id rows first. given_shown _ _ _ _ _ c.in-Given.row c.in-Given.reply (same_total _ _ _ _ c.write_data.ensures.advances.own_place c.write_data.ensures.none) c.in-Given.is
 
 pub returns-in_ok-write_data-clause-cargo : goal.returns-in_ok-write_data-clause-cargo
-returns-in_ok-write_data-clause-cargo g c = λ id rows.
+returns-in_ok-write_data-clause-cargo g c = λ id rows first.
     let same : c.deref.result.now ≡ c.args.service.now.given.items = search (rules, c.deref.ensures) in
     stored _ _ _ _ _ _ c.in-Given.row c.in-Given.reply c.start.result c.in-Given.is refl c.start.ensures refl refl
-    (subst (AreShown _) same c.in_ok-write_data.ensures.shown)
+    (same_total _ _ _ _ c.write_data.ensures.advances.own_place c.write_data.ensures.none)
+    (subst (AreShown _) same (shown_in _ _ _ c.in_ok-write_data.ensures.shown))

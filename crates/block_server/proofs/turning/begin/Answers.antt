@@ -1,4 +1,4 @@
-use Rattle.std.proofs.Common.{ap, false, refl}
+use Rattle.std.proofs.Common.{ap, false, le_refl, refl}
 use Rattle.block_server.proofs.Agreeing.{is_waiting}
 use Rattle.block_server.proofs.Onces.{once_same}
 use Rattle.block_server.proofs.Quieting.{stays_moved}
@@ -53,7 +53,7 @@ returns-in_default-clause-answers g c = λ records over alone has. owes_ended _ 
 
 pub returns-in-Some-clause-refuses : goal.returns-in-Some-clause-refuses
 returns-in-Some-clause-refuses g c = λ records over fresh told unit front is.
-    c.put_reply-next.ensures.refuses records told unit front (explains_begun (ledger_of c.args.unit.now (g.S.Site.state c.args.site.now) records) _ over refl refl refl refl refl (inr fresh) told unit front is)
+    c.put_reply-next.ensures.refuses records told unit front (explains_begun (ledger_of c.args.unit.now (g.S.Site.state c.args.site.now) records) _ over refl refl refl refl refl (inr fresh) (le_refl (g.S.Site.state c.args.site.now).queue.last_session) refl refl told unit front is)
 
 pub returns-in_default-clause-refuses : goal.returns-in_default-clause-refuses
-returns-in_default-clause-refuses g c = λ records over fresh. explains_begun _ _ over refl refl refl refl refl (inr fresh)
+returns-in_default-clause-refuses g c = λ records over fresh. explains_begun _ _ over refl refl refl refl refl (inr fresh) (le_refl (g.S.Site.state c.args.site.now).queue.last_session) refl refl

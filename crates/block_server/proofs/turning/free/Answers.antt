@@ -1,4 +1,5 @@
 use Rattle.std.proofs.Common.{refl, sym, ◌∙◌}
+use Rattle.block_server.specs.Granting.{login_state}
 use Rattle.block_server.proofs.Agreeing.{agrees_same, is_down}
 use Rattle.block_server.proofs.Readying.{idles_reserves, sender_now}
 use Rattle.block_server.proofs.Onces.{once_same}
@@ -16,13 +17,13 @@ returns-in-Busy-clause-once g c = λ records disk serving. once_same _ _ _ _ _ _
 pub returns-in-Success-clause-once : goal.returns-in-Success-clause-once
 returns-in-Success-clause-once g c = λ records disk serving.
     let unit = c.args.unit.now in
-    once_same _ _ _ _ _ _ (desk_is unit.id unit.logins.granted unit.service _ _ unit.pending.items _ c.freed.ensures.kept refl) refl
+    once_same _ _ _ _ _ _ (desk_is unit.id (login_state unit.logins) unit.service _ _ unit.pending.items _ c.freed.ensures.kept refl) refl
     c.free.ensures.plain disk serving
 
 pub returns-in-Parameter-clause-once : goal.returns-in-Parameter-clause-once
 returns-in-Parameter-clause-once g c = λ records disk serving.
     let unit = c.args.unit.now in
-    once_same _ _ _ _ _ _ (desk_is unit.id unit.logins.granted unit.service _ _ unit.pending.items _ c.freed-in-Parameter.ensures.kept refl) refl
+    once_same _ _ _ _ _ _ (desk_is unit.id (login_state unit.logins) unit.service _ _ unit.pending.items _ c.freed-in-Parameter.ensures.kept refl) refl
     c.free.ensures.plain disk serving
 
 pub returns-in-Busy-clause-waits : goal.returns-in-Busy-clause-waits

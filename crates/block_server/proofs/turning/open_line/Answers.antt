@@ -210,24 +210,24 @@ returns-then-is_down-clause-judges g c = λ records. (works_on _ _ _ _ _ _ _ _ _
     (works _ _ _ _ _ _ refl refl (c.register.ensures.intake records.grants.items) (c.register.ensures.judges records))).judges
 
 pub returns-in_err-reserve-clause-refuses : goal.returns-in_err-reserve-clause-refuses
-returns-in_err-reserve-clause-refuses g c = λ records. explains_stands c.args.unit.now c.args.unit.now _ _ records records refl c.reserve.ensures.passes refl refl (ap login_answers c.reserve.ensures.rest.sent)
+returns-in_err-reserve-clause-refuses g c = λ records. explains_stands c.args.unit.now c.args.unit.now _ _ records records refl c.reserve.ensures.passes refl refl (ap login_answers c.reserve.ensures.rest.sent) refl
 
 pub returns-then-eq-clause-refuses : goal.returns-then-eq-clause-refuses
 returns-then-eq-clause-refuses g c = λ records.
-    let pushed = explains_on (ledger_of c.args.unit.now (g.S.Site.state c.args.site.now) records) (ledger_of c.args.unit.now (g.S.Site.state c.reserve.new.self) records) _ (explains_stands c.args.unit.now c.args.unit.now _ _ records records refl c.reserve.ensures.passes refl refl (ap login_answers c.reserve.ensures.rest.sent)) (c.push_event.ensures.refuses records) in
+    let pushed = explains_on (ledger_of c.args.unit.now (g.S.Site.state c.args.site.now) records) (ledger_of c.args.unit.now (g.S.Site.state c.reserve.new.self) records) _ (explains_stands c.args.unit.now c.args.unit.now _ _ records records refl c.reserve.ensures.passes refl refl (ap login_answers c.reserve.ensures.rest.sent) refl) (c.push_event.ensures.refuses records) in
     pushed
 
 pub returns-then-eq-2-clause-refuses : goal.returns-then-eq-2-clause-refuses
 returns-then-eq-2-clause-refuses g c = λ records.
-    let pushed = explains_on (ledger_of c.args.unit.now (g.S.Site.state c.args.site.now) records) (ledger_of c.args.unit.now (g.S.Site.state c.reserve.new.self) records) _ (explains_stands c.args.unit.now c.args.unit.now _ _ records records refl c.reserve.ensures.passes refl refl (ap login_answers c.reserve.ensures.rest.sent)) (c.push_event.ensures.refuses records) in
+    let pushed = explains_on (ledger_of c.args.unit.now (g.S.Site.state c.args.site.now) records) (ledger_of c.args.unit.now (g.S.Site.state c.reserve.new.self) records) _ (explains_stands c.args.unit.now c.args.unit.now _ _ records records refl c.reserve.ensures.passes refl refl (ap login_answers c.reserve.ensures.rest.sent) refl) (c.push_event.ensures.refuses records) in
     explains_on _ _ _ pushed (c.free_closed.ensures.refuses records)
 
 pub returns-then-is_down-clause-refuses : goal.returns-then-is_down-clause-refuses
 returns-then-is_down-clause-refuses g c = λ records.
-    let pushed = explains_on (ledger_of c.args.unit.now (g.S.Site.state c.args.site.now) records) (ledger_of c.args.unit.now (g.S.Site.state c.reserve.new.self) records) _ (explains_stands c.args.unit.now c.args.unit.now _ _ records records refl c.reserve.ensures.passes refl refl (ap login_answers c.reserve.ensures.rest.sent)) (c.push_event.ensures.refuses records) in
+    let pushed = explains_on (ledger_of c.args.unit.now (g.S.Site.state c.args.site.now) records) (ledger_of c.args.unit.now (g.S.Site.state c.reserve.new.self) records) _ (explains_stands c.args.unit.now c.args.unit.now _ _ records records refl c.reserve.ensures.passes refl refl (ap login_answers c.reserve.ensures.rest.sent) refl) (c.push_event.ensures.refuses records) in
     explains_on _ _ _ (explains_on _ _ _ pushed (c.free_closed.ensures.refuses records)) (c.register.ensures.refuses records)
 
 pub returns-clause-refuses : goal.returns-clause-refuses
 returns-clause-refuses g c = λ records.
-    let pushed = explains_on (ledger_of c.args.unit.now (g.S.Site.state c.args.site.now) records) (ledger_of c.args.unit.now (g.S.Site.state c.reserve.new.self) records) _ (explains_stands c.args.unit.now c.args.unit.now _ _ records records refl c.reserve.ensures.passes refl refl (ap login_answers c.reserve.ensures.rest.sent)) (c.push_event.ensures.refuses records) in
+    let pushed = explains_on (ledger_of c.args.unit.now (g.S.Site.state c.args.site.now) records) (ledger_of c.args.unit.now (g.S.Site.state c.reserve.new.self) records) _ (explains_stands c.args.unit.now c.args.unit.now _ _ records records refl c.reserve.ensures.passes refl refl (ap login_answers c.reserve.ensures.rest.sent) refl) (c.push_event.ensures.refuses records) in
     explains_on _ _ _ pushed (c.free_closed.ensures.refuses records)

@@ -104,14 +104,14 @@ returns-in-Closed-clause-judges g c = λ records.
     c.begin-in-Closed.ensures.passes (advances_on _ _ _ c.register.ensures.advances c.begin-in-Closed.ensures.advances) c.begin-in-Closed.ensures.waiting refl (returns-in-Closed-clause-books g c records)
 
 pub returns-in_default-clause-refuses : goal.returns-in_default-clause-refuses
-returns-in_default-clause-refuses g c = λ records. explains_begun _ _ (down_ended _ _ c.requires.down) c.register.ensures.rest.taken refl refl refl c.register.ensures.logins (inl (down_ended _ _ c.requires.down))
+returns-in_default-clause-refuses g c = λ records. explains_begun _ _ (down_ended _ _ c.requires.down) c.register.ensures.rest.taken refl refl refl c.register.ensures.logins (inl (down_ended _ _ c.requires.down)) c.register.ensures.rest.last_session refl refl
 
 pub returns-in-Success-clause-refuses : goal.returns-in-Success-clause-refuses
 returns-in-Success-clause-refuses g c = λ records told unit front is.
     c.begin.ensures.refuses records (down_ended _ _ c.requires.down) c.in-Success.ensures.opened.none_taken told unit front
-    (explains_begun (ledger_of c.args.unit.now (g.S.Site.state c.args.site.now) records) (ledger_of c.args.unit.now (g.S.Site.state c.register.new.self) records) (down_ended _ _ c.requires.down) c.register.ensures.rest.taken refl refl refl c.register.ensures.logins (inl (down_ended _ _ c.requires.down)) told unit front is)
+    (explains_begun (ledger_of c.args.unit.now (g.S.Site.state c.args.site.now) records) (ledger_of c.args.unit.now (g.S.Site.state c.register.new.self) records) (down_ended _ _ c.requires.down) c.register.ensures.rest.taken refl refl refl c.register.ensures.logins (inl (down_ended _ _ c.requires.down)) c.register.ensures.rest.last_session refl refl told unit front is)
 
 pub returns-in-Closed-clause-refuses : goal.returns-in-Closed-clause-refuses
 returns-in-Closed-clause-refuses g c = λ records told unit front is.
     c.begin-in-Closed.ensures.refuses records (down_ended _ _ c.requires.down) c.in-Closed.ensures.opened.none_taken told unit front
-    (explains_begun (ledger_of c.args.unit.now (g.S.Site.state c.args.site.now) records) (ledger_of c.args.unit.now (g.S.Site.state c.register.new.self) records) (down_ended _ _ c.requires.down) c.register.ensures.rest.taken refl refl refl c.register.ensures.logins (inl (down_ended _ _ c.requires.down)) told unit front is)
+    (explains_begun (ledger_of c.args.unit.now (g.S.Site.state c.args.site.now) records) (ledger_of c.args.unit.now (g.S.Site.state c.register.new.self) records) (down_ended _ _ c.requires.down) c.register.ensures.rest.taken refl refl refl c.register.ensures.logins (inl (down_ended _ _ c.requires.down)) c.register.ensures.rest.last_session refl refl told unit front is)

@@ -244,33 +244,33 @@ returns-clause-answers g c = λ own receipts intake judged is alone has.
     (c.take_in.ensures.answers alone (c.put_kept.ensures.answers judged (c.open_line.ensures.books c.args.records.now intake.idle judged is) alone (c.open_line.ensures.answers c.args.records.now alone has)))
 
 pub returns-in_err-open_line-clause-cargo : goal.returns-in_err-open_line-clause-cargo
-returns-in_err-open_line-clause-cargo g c = λ told all serving hand. keeps_same _ _ (c.open_line.ensures.cargo c.args.records.now) told hand
+returns-in_err-open_line-clause-cargo g c = λ told asked all serving hand. keeps_same _ _ (c.open_line.ensures.cargo c.args.records.now) told asked hand
 
 pub returns-then-eq-clause-cargo : goal.returns-then-eq-clause-cargo
-returns-then-eq-clause-cargo g c = λ told all serving hand. keeps_same _ _ (c.open_line.ensures.cargo c.args.records.now) told hand
+returns-then-eq-clause-cargo g c = λ told asked all serving hand. keeps_same _ _ (c.open_line.ensures.cargo c.args.records.now) told asked hand
 
 pub returns-in_err-put_kept-clause-cargo : goal.returns-in_err-put_kept-clause-cargo
-returns-in_err-put_kept-clause-cargo g c = λ told all serving hand.
+returns-in_err-put_kept-clause-cargo g c = λ told asked all serving hand.
     let opened = (c.open_line.ensures.once c.args.records.now (held told c.args.disk.now.count None) serving).serving in
-    keeps_same _ _ (c.put_kept.ensures.cargo _ opened) told (keeps_same _ _ (c.open_line.ensures.cargo c.args.records.now) told hand)
+    keeps_same _ _ (c.put_kept.ensures.cargo _ opened) told asked (keeps_same _ _ (c.open_line.ensures.cargo c.args.records.now) told asked hand)
 
 pub returns-then-eq-2-clause-cargo : goal.returns-then-eq-2-clause-cargo
-returns-then-eq-2-clause-cargo g c = λ told all serving hand.
+returns-then-eq-2-clause-cargo g c = λ told asked all serving hand.
     let opened = (c.open_line.ensures.once c.args.records.now (held told c.args.disk.now.count None) serving).serving in
-    keeps_same _ _ (c.put_kept.ensures.cargo _ opened) told (keeps_same _ _ (c.open_line.ensures.cargo c.args.records.now) told hand)
+    keeps_same _ _ (c.put_kept.ensures.cargo _ opened) told asked (keeps_same _ _ (c.open_line.ensures.cargo c.args.records.now) told asked hand)
 
 pub returns-in_err-take_in-clause-cargo : goal.returns-in_err-take_in-clause-cargo
-returns-in_err-take_in-clause-cargo g c = λ told all serving hand.
+returns-in_err-take_in-clause-cargo g c = λ told asked all serving hand.
     let opened = (c.open_line.ensures.once c.args.records.now (held told c.args.disk.now.count None) serving).serving in
-    c.take_in.ensures.cargo told (keeps_same _ _ (c.put_kept.ensures.cargo _ opened) told (keeps_same _ _ (c.open_line.ensures.cargo c.args.records.now) told hand))
+    c.take_in.ensures.cargo told asked (keeps_same _ _ (c.put_kept.ensures.cargo _ opened) told asked (keeps_same _ _ (c.open_line.ensures.cargo c.args.records.now) told asked hand))
 
 pub returns-then-eq-3-clause-cargo : goal.returns-then-eq-3-clause-cargo
-returns-then-eq-3-clause-cargo g c = λ told all serving hand.
+returns-then-eq-3-clause-cargo g c = λ told asked all serving hand.
     let opened = (c.open_line.ensures.once c.args.records.now (held told c.args.disk.now.count None) serving).serving in
-    c.take_in.ensures.cargo told (keeps_same _ _ (c.put_kept.ensures.cargo _ opened) told (keeps_same _ _ (c.open_line.ensures.cargo c.args.records.now) told hand))
+    c.take_in.ensures.cargo told asked (keeps_same _ _ (c.put_kept.ensures.cargo _ opened) told asked (keeps_same _ _ (c.open_line.ensures.cargo c.args.records.now) told asked hand))
 
 pub returns-clause-cargo : goal.returns-clause-cargo
-returns-clause-cargo g c = λ told all serving hand.
+returns-clause-cargo g c = λ told asked all serving hand.
     let heard = tells_first told c.args.unit.now.id (g.S.Site.state c.args.site.now) (g.S.Site.state c.take_in.new.site) (g.S.Site.state c.serve.new.site) c.serve.ensures.advances all in
     let disk = held told c.args.disk.now.count None in
     let first = (c.open_line.ensures.once c.args.records.now disk serving).serving in
@@ -279,10 +279,10 @@ returns-clause-cargo g c = λ told all serving hand.
     (advances_on _ _ _ c.open_line.ensures.advances c.put_kept.ensures.advances) c.take_in.ensures.advances
     (λ disk heard. once_on _ _ _ _ _ _ _ _ _ (c.open_line.ensures.once c.args.records.now) c.put_kept.ensures.once disk) c.take_in.ensures.once disk heard serving in
     let gone = advances_on _ _ _ (advances_on _ _ _ c.open_line.ensures.advances c.put_kept.ensures.advances) c.take_in.ensures.advances in
-    c.serve.ensures.cargo told
+    c.serve.ensures.cargo told asked
     (tells_next told c.take_in.new.unit.id (g.S.Site.state c.args.site.now) (g.S.Site.state c.take_in.new.site) (g.S.Site.state c.serve.new.site) gone
     (subst (λ (id : UnitId). TellsAll told id (g.S.Site.state c.args.site.now) (g.S.Site.state c.serve.new.site)) (sym opened.id) all)) opened.serving
-    (c.take_in.ensures.cargo told (keeps_same _ _ (c.put_kept.ensures.cargo _ first) told (keeps_same _ _ (c.open_line.ensures.cargo c.args.records.now) told hand)))
+    (c.take_in.ensures.cargo told asked (keeps_same _ _ (c.put_kept.ensures.cargo _ first) told asked (keeps_same _ _ (c.open_line.ensures.cargo c.args.records.now) told asked hand)))
 
 pub returns-in_err-open_line-clause-refuses : goal.returns-in_err-open_line-clause-refuses
 returns-in_err-open_line-clause-refuses g c = λ told all serving front is. c.open_line.ensures.refuses c.args.records.now told c.args.unit.now.id front is

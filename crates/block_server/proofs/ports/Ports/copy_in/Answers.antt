@@ -22,7 +22,8 @@ returns-clause-advances g c =
     c.copy_rdma-answer.ensures.copied c.copy_rdma-answer.ensures.target.place (λ is. c.args.self.now.ready.apart (sym is))
     (c.note.ensures.copies ∙ ap (λ front. front ++ copies_in c.copy_rdma-answer.result) c.reserve.ensures.items))
     (target_named _ _ _ _ _ _ _ _ c.copy_rdma-answer.result _ _ c.args.self.now.alone c.copy_rdma-answer.ensures.copied c.copy_rdma-answer.ensures.refused
-    c.copy_rdma-answer.ensures.target (c.note.ensures.copies ∙ ap (λ front. front ++ copies_in c.copy_rdma-answer.result) c.reserve.ensures.items))
+    c.copy_rdma-answer.ensures.target (λ is. c.args.self.now.ready.apart (sym (ap (λ place. place.unit) c.copy_rdma-answer.ensures.source.place) ∙ is))
+    (c.note.ensures.copies ∙ ap (λ front. front ++ copies_in c.copy_rdma-answer.result) c.reserve.ensures.items))
 
 pub returns-then-is_err-clause-advances : goal.returns-then-is_err-clause-advances
 returns-then-is_err-clause-advances g c =

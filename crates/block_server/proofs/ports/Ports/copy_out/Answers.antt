@@ -19,7 +19,8 @@ returns-clause-advances g c =
     (c.args.self.now.named ∙ sym (ap (λ place. place.unit) c.copy_rdma-answer.ensures.source.place)) c.copy_rdma-answer.ensures.copied
     (c.note.ensures.copies ∙ ap (λ front. front ++ copies_in c.copy_rdma-answer.result) c.reserve.ensures.items)) c.copy_rdma-answer.ensures.source.in_use c.copy_rdma-answer.ensures.target.in_use
     (λ alone. target_named _ _ _ _ _ _ _ _ c.copy_rdma-answer.result _ _ alone c.copy_rdma-answer.ensures.copied c.copy_rdma-answer.ensures.refused
-    c.copy_rdma-answer.ensures.target (c.note.ensures.copies ∙ ap (λ front. front ++ copies_in c.copy_rdma-answer.result) c.reserve.ensures.items))
+    c.copy_rdma-answer.ensures.target (λ is. c.args.self.now.ready.apart (sym is ∙ ap (λ place. place.unit) c.copy_rdma-answer.ensures.source.place))
+    (c.note.ensures.copies ∙ ap (λ front. front ++ copies_in c.copy_rdma-answer.result) c.reserve.ensures.items))
     (source_named _ _ _ _ _ _ _ _ _ _ c.copy_rdma-answer.result _ _ c.args.self.now.alone c.copy_rdma-answer.ensures.read c.copy_rdma-answer.ensures.source
     c.copy_rdma-answer.ensures.copied c.copy_rdma-answer.ensures.target.place c.args.self.now.ready.apart
     (c.note.ensures.copies ∙ ap (λ front. front ++ copies_in c.copy_rdma-answer.result) c.reserve.ensures.items))

@@ -14,5 +14,5 @@ returns-clause-data g c = none_data _ _ _ c.args.self.now.alone c.copy_out.ensur
 pub returns-clause-sent : goal.returns-clause-sent
 returns-clause-sent g c =
     on_ok_map c.copy_out.result _ _
-    (λ made. sends_part g.O.WindowPort.is_shared g.R.WindowPort.is_shared _ _ c.args.at c.from.result _ c.args.len c.from-2.result _ c.from.ensures c.from-2.ensures c.args.self.now.alone c.args.self.now.ready.first (omega arith)
-    c.copy_out.ensures.rest made) c.copy_out.ensures.made
+    (λ made. sends_part g.O.WindowPort.is_shared g.R.WindowPort.is_shared _ _ c.args.at c.from.result _ c.args.len c.from-2.result _ c.from.ensures c.from-2.ensures c.args.self.now.alone c.args.self.now.ready.first
+    c.args.self.now.ready.apart (omega arith) (omega arith) c.copy_out.ensures.rest made) c.copy_out.ensures.made

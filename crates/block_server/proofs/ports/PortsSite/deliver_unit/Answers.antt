@@ -1,3 +1,4 @@
+use Rattle.block_server.proofs.CopyKinds.{answer_counted, same_count, same_pages}
 use Rattle.block_server.proofs.DataPages.{first_data, none_data}
 use Rattle.std.proofs.Common.{arith}
 use Rattle.tce_window.proofs.Laws.{on_ok_map}
@@ -28,8 +29,13 @@ returns-in-Ok-clause-delivered g c =
 
 pub returns-in-Ok-clause-data : goal.returns-in-Ok-clause-data
 returns-in-Ok-clause-data g c =
-    none_data _ _ _ c.args.self.now.alone c.copy_out.ensures.laid
-    ∙ first_data _ _ _ _ _ c.args.self.now.alone (omega arith) c.in-Ok.ensures.wrote
+    same_pages _ _ _ _
+    (none_data _ _ _ c.args.self.now.alone c.copy_out.ensures.laid
+    ∙ first_data _ _ _ _ _ c.args.self.now.alone (omega arith) c.in-Ok.ensures.wrote)
+    (c.copy_out.ensures.advances.own_place ∙ c.write_own.ensures.own.place)
+    (answer_counted c.copy_out.result _ _ _ _ _ _ _ _ _ _ _ _ _ _ c.args.self.now.alone c.args.self.now.ready.first (omega arith) (omega arith) c.write_own.ensures.own c.copy_out.ensures.rest
+    c.write_own.ensures.client c.args.self.now.ready.apart c.write_own.ensures.copies c.copy_out.ensures.made c.copy_out.ensures.none)
 
 pub returns-in-Err-clause-data : goal.returns-in-Err-clause-data
-returns-in-Err-clause-data g c = none_data _ _ _ c.args.self.now.alone c.in-Err.ensures.laid
+returns-in-Err-clause-data g c =
+    same_pages _ _ _ _ (none_data _ _ _ c.args.self.now.alone c.in-Err.ensures.laid) c.write_own.ensures.own.place (same_count _ _ _ c.write_own.ensures.copies)

@@ -1,3 +1,4 @@
+use Rattle.block_server.proofs.CopyKinds.{apart_still}
 use Rattle.block_server.proofs.UnitBytes.{fetches_to}
 use Rattle.block_server.proofs.FirstPages.{on_error}
 use Rattle.std.proofs.Common.{◌∙◌, arith}
@@ -21,7 +22,8 @@ pub returns-clause-fetched : goal.returns-clause-fetched
 returns-clause-fetched g c =
     fetches_to g.O.WindowPort.is_shared _ _ _ _ 1 _ _ _ _ _ (omega arith) (omega arith) c.args.self.now.alone c.args.self.now.ready.first
     (omega arith) (omega arith) (omega arith)
-    c.in_ok-copy_in.ensures.made c.read_own.ensures.own c.read_own.ensures.read c.read_own.ensures.client c.read_own.ensures.copies
+    c.in_ok-copy_in.ensures.made c.read_own.ensures.own c.read_own.ensures.read c.read_own.ensures.client c.read_own.ensures.copies (omega arith)
+    (apart_still _ _ _ c.copy_in.ensures.advances.client_place c.args.self.now.ready.apart)
 
 pub returns-in_err-copy_in-clause-none : goal.returns-in_err-copy_in-clause-none
 returns-in_err-copy_in-clause-none g c = on_error _ _ c.in_err-copy_in.ensures.none

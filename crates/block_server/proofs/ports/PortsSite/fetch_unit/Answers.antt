@@ -1,3 +1,5 @@
+use Rattle.block_server.proofs.CopyKinds.{apart_still, same_count, same_pages, unit_uncounted}
+use Rattle.block_server.proofs.Owning.{same_first}
 use Rattle.std.proofs.Common.{arith, ◌∙◌}
 use Rattle.block_server.proofs.DataCopies.{unit_leaves}
 use Rattle.block_server.proofs.DataPages.{none_data, read_data}
@@ -20,8 +22,14 @@ returns-in_err-copy_in-clause-missed g c =
 
 pub returns-clause-data : goal.returns-clause-data
 returns-clause-data g c =
-    read_data _ _ _ c.args.self.now.alone c.read_own.ensures.own
-    ∙ unit_leaves _ _ _ _ _ _ _ _ _ c.args.self.now.alone c.args.self.now.ready.first (omega arith) c.in_ok-copy_in.ensures.made
+    same_pages _ _ _ _
+    (read_data _ _ _ c.args.self.now.alone c.read_own.ensures.own
+    ∙ unit_leaves _ _ _ _ _ _ _ _ _ c.args.self.now.alone c.args.self.now.ready.first (omega arith) c.in_ok-copy_in.ensures.made)
+    (c.read_own.ensures.own.place ∙ c.copy_in.ensures.advances.own_place)
+    (same_count _ _ _ c.read_own.ensures.copies
+    ∙ unit_uncounted _ _ _ _ _ _ _ _ (same_first _ _ _ c.args.self.now.alone c.in_ok-copy_in.ensures.made.rest c.args.self.now.ready.first) (omega arith) (omega arith)
+    c.in_ok-copy_in.ensures.made.rest.place (apart_still _ _ _ c.copy_in.ensures.advances.client_place c.args.self.now.ready.apart) c.in_ok-copy_in.ensures.made)
 
 pub returns-in_err-copy_in-clause-data : goal.returns-in_err-copy_in-clause-data
-returns-in_err-copy_in-clause-data g c = none_data _ _ _ c.args.self.now.alone c.in_err-copy_in.ensures.laid
+returns-in_err-copy_in-clause-data g c =
+    same_pages _ _ _ _ (none_data _ _ _ c.args.self.now.alone c.in_err-copy_in.ensures.laid) c.copy_in.ensures.advances.own_place (same_count _ _ _ c.in_err-copy_in.ensures.none)

@@ -1,3 +1,4 @@
+use Rattle.block_server.proofs.CopyKinds.{same_count, same_pages}
 use Rattle.std.proofs.Common.{arith}
 use Rattle.block_server.proofs.DataPages.{read_data, reads_shown, reads_two}
 use Rattle.std.proofs.Common.{◌∙◌}
@@ -21,10 +22,15 @@ returns-then-not-is_empty-clause-passes g c =
 
 pub returns-then-out-gt-MOST_BYTES-clause-data : goal.returns-then-out-gt-MOST_BYTES-clause-data
 returns-then-out-gt-MOST_BYTES-clause-data g c =
-    read_data _ _ _ c.args.self.now.alone c.read_own-then-out-gt-MOST_BYTES.ensures.own ∙ read_data _ _ _ c.args.self.now.alone c.read_own.ensures.own
+    same_pages _ _ _ _
+    (read_data _ _ _ c.args.self.now.alone c.read_own-then-out-gt-MOST_BYTES.ensures.own ∙ read_data _ _ _ c.args.self.now.alone c.read_own.ensures.own)
+    (c.read_own-then-out-gt-MOST_BYTES.ensures.own.place ∙ c.read_own.ensures.own.place)
+    (same_count _ _ _ (c.read_own-then-out-gt-MOST_BYTES.ensures.copies ∙ c.read_own.ensures.copies))
 
 pub returns-then-not-is_empty-clause-data : goal.returns-then-not-is_empty-clause-data
-returns-then-not-is_empty-clause-data g c = read_data _ _ _ c.args.self.now.alone c.read_own-then-not-is_empty.ensures.own
+returns-then-not-is_empty-clause-data g c =
+    same_pages _ _ _ _ (read_data _ _ _ c.args.self.now.alone c.read_own-then-not-is_empty.ensures.own) c.read_own-then-not-is_empty.ensures.own.place
+    (same_count _ _ _ c.read_own-then-not-is_empty.ensures.copies)
 
 pub returns-then-out-gt-MOST_BYTES-clause-read : goal.returns-then-out-gt-MOST_BYTES-clause-read
 returns-then-out-gt-MOST_BYTES-clause-read g c =
