@@ -4,8 +4,9 @@ use super::step::Step;
 use super::step::Step::{
     Ask, Register, Rows, Send, SendUnit, Shows, Take, TakeAnswer, TakeNone, Turn,
 };
+use super::units::Unit;
 use super::units::Unit::{
-    Code, CreditAnswer, CreditRequest, Login, Logout, Ready, Task, Unreadable,
+    Code, CreditAnswer, CreditRequest, Good, Login, LoginAs, Logout, Ready, Rejection, Task, Zeros,
 };
 use super::windows::SERVER;
 use std::alloc::Global;
@@ -48,26 +49,21 @@ fn closing_at(alloc: Global, start: &[Step], step: Step) -> Result<Closed, NoMem
     closing(alloc, start, &script)
 }
 
-static A_REQUEST_BEFORE_THE_HANDSHAKE_IS_EARLY_SCRIPT: [Step; 7] = [
-    Turn(Moved),
-    Register,
-    Ask(0, Login(1)),
-    Turn(Moved),
-    TakeNone,
-    Turn(Moved),
-    Take(Entry::PARTNER_FREED),
-];
-
 #[test]
 fn a_request_before_the_handshake_is_early(rt: HostRuntime) {
-    assert_eq!(rt;
-        closing(
-            rt.alloc(),
-            &NEW,
-            &A_REQUEST_BEFORE_THE_HANDSHAKE_IS_EARLY_SCRIPT
-        ),
-        Ok(closed(0, Lapse::Early, 0))
-    );
+    for unit in [Login(1), Ready(1), Task(1, 0, 1), Logout(1), Zeros(2, 15)] {
+        let script = [
+            Turn(Moved),
+            Register,
+            Ask(0, unit),
+            Turn(Moved),
+            TakeNone,
+            Turn(Moved),
+            Take(Entry::PARTNER_FREED),
+        ];
+        let seen = closing(rt.alloc(), &NEW, &script);
+        assert_eq!(rt; seen, Ok(closed(0, Lapse::Early, 0)));
+    }
 }
 
 #[test]
@@ -78,6 +74,7 @@ fn a_request_without_a_login_closes(rt: HostRuntime) {
     }
 }
 
+// Seen elsewhere: a unit of length 0 is served as a login. Here it closes the session.
 #[test]
 fn a_length_that_no_unit_has_closes_without_a_copy(rt: HostRuntime) {
     for len in [0, 257, 65_535] {
@@ -95,7 +92,7 @@ fn a_unit_past_the_window_closes(rt: HostRuntime) {
 #[test]
 fn bytes_that_are_no_unit_close(rt: HostRuntime) {
     for (kind, len) in [(0x01, 15), (0x02, 15), (0x00, 63), (0x07, 64)] {
-        let seen = closing_at(rt.alloc(), &LOGGED_IN, Ask(1, Unreadable(kind, len)));
+        let seen = closing_at(rt.alloc(), &LOGGED_IN, Ask(1, Zeros(kind, len)));
         assert_eq!(rt;
             seen,
             Ok(closed(1, Lapse::BadIu, 3)),
@@ -105,10 +102,71 @@ fn bytes_that_are_no_unit_close(rt: HostRuntime) {
 }
 
 #[test]
+fn bytes_that_are_no_unit_close_where_nobody_is_logged_in(rt: HostRuntime) {
+    for (kind, len) in [(0x01, 15), (0x02, 15), (0x01, 16), (0x02, 16), (0x02, 47)] {
+        let seen = closing_at(rt.alloc(), &UP, Ask(1, Zeros(kind, len)));
+        assert_eq!(rt;
+            seen,
+            Ok(closed(0, Lapse::BadIu, 1)),
+            "type {kind}, {len} bytes"
+        );
+    }
+}
+
+// Gives the first step that went otherwise where bytes of a type and of this length are answered so.
+fn answered(alloc: Global, kind: u8, len: usize, answer: Unit) -> Result<Option<usize>, NoMemory> {
+    let answer_len = if kind == 0x02 { 36 } else { 40 };
+    let script = [
+        Ask(1, Zeros(kind, len)),
+        Turn(Moved),
+        TakeAnswer(answer_len, 9),
+        Shows(1, answer),
+    ];
+    first_other(alloc, 64, &script)
+}
+
+#[test]
+fn a_unit_of_each_length_from_48_to_256_bytes_is_served(rt: HostRuntime) {
+    for len in [48, 49, 64, 255, 256] {
+        let command = answered(rt.alloc(), 0x02, len, Good(9));
+        assert_eq!(rt; command, Ok(None), "a command of {len} bytes");
+        let task = answered(rt.alloc(), 0x01, len, Code(9, 4));
+        assert_eq!(rt; task, Ok(None), "a task of {len} bytes");
+    }
+}
+
+/// The unit length, the formats and the flags that a login asks for, and the reason for which it is rejected.
+const REJECTED: [(u32, u16, u8, u32); 6] = [
+    (257, 0, 3, 0x0001_0002),
+    (0xFFFF_FFFF, 6, 0, 0x0001_0002),
+    (256, 0, 1, 0x0001_0005),
+    (256, 6, 2, 0x0001_0005),
+    (256, 0, 0, 0x0001_0004),
+    (256, 0xFFF9, 0, 0x0001_0004),
+];
+
+#[test]
+fn a_login_that_asks_for_too_much_is_rejected(rt: HostRuntime) {
+    for (iu_len, formats, flags, reason) in REJECTED {
+        let script = [
+            Ask(1, LoginAs(iu_len, formats, flags)),
+            Turn(Moved),
+            TakeAnswer(32, 1),
+            Shows(1, Rejection(reason)),
+            Ask(1, LoginAs(0, 4, 0xFC)),
+            Turn(Moved),
+            TakeAnswer(52, 1),
+        ];
+        let other = first_other_from(rt.alloc(), 64, 8, &UP, &script);
+        assert_eq!(rt; other, Ok(None), "reason {reason}");
+    }
+}
+
+#[test]
 fn a_command_that_cannot_be_read_is_answered_under_a_login(rt: HostRuntime) {
     for (kind, len) in [(0x01, 16), (0x02, 16), (0x02, 47), (0x01, 47)] {
         let script = [
-            Ask(1, Unreadable(kind, len)),
+            Ask(1, Zeros(kind, len)),
             Turn(Moved),
             TakeAnswer(40, 9),
             Shows(1, Code(9, 2)),

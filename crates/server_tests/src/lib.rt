@@ -7,6 +7,8 @@ mod causes;
 #[cfg(test)]
 mod defects;
 #[cfg(test)]
+mod leavings;
+#[cfg(test)]
 mod line;
 #[cfg(test)]
 mod queues;

@@ -147,6 +147,72 @@ fn a_kept_event_goes_first(rt: HostRuntime) {
     );
 }
 
+/// The client's queue is full of answers to datagrams, and nobody is logged in.
+const FULL_WITHOUT_A_LOGIN: [Step; 7] = [
+    Turn(Moved),
+    Step::Register,
+    Send(Entry::INITIALIZE),
+    Turn(Moved),
+    Step::TakeAny,
+    SendAll(256, DATAGRAM),
+    Turn(Moved),
+];
+
+static A_GRANT_THAT_FINDS_THE_QUEUE_FULL_IS_KEPT_SCRIPT: [Step; 13] = [
+    Ask(0, Login(1)),
+    Turn(Moved),
+    Ask(1, Ready(2)),
+    Turn(Quiet),
+    Take(DATAGRAM_ANSWER),
+    Turn(Moved),
+    TakeAll(255),
+    TakeAnswer(52, 1),
+    TakeNone,
+    Turn(Moved),
+    TakeAnswer(36, 2),
+    Rows(1, 1),
+    Turn(Quiet),
+];
+
+// The login is on from where its answer was put, so that the command behind it is served.
+#[test]
+fn a_grant_that_finds_the_queue_full_is_kept(rt: HostRuntime) {
+    assert_eq!(rt;
+        first_other_from(
+            rt.alloc(),
+            64,
+            8,
+            &FULL_WITHOUT_A_LOGIN,
+            &A_GRANT_THAT_FINDS_THE_QUEUE_FULL_IS_KEPT_SCRIPT
+        ),
+        Ok(None)
+    );
+}
+
+// Gives the first step that went otherwise where an entry or a request is answered by an entry that is kept.
+fn first_other_kept(alloc: Global, asks: Step, answer: Step) -> Result<Option<usize>, NoMemory> {
+    let script = [
+        asks,
+        Turn(Moved),
+        Turn(Quiet),
+        Take(DATAGRAM_ANSWER),
+        Turn(Moved),
+        TakeAll(255),
+        answer,
+        TakeNone,
+    ];
+    first_other_full(alloc, &script)
+}
+
+#[test]
+fn a_rejection_and_a_handshake_that_find_the_queue_full_are_kept(rt: HostRuntime) {
+    let rejection = first_other_kept(rt.alloc(), Ask(0, Login(3)), TakeAnswer(32, 3));
+    assert_eq!(rt; rejection, Ok(None));
+    let complete = Take(Entry::INITIALIZATION_COMPLETE);
+    let handshake = first_other_kept(rt.alloc(), Send(Entry::INITIALIZE), complete);
+    assert_eq!(rt; handshake, Ok(None));
+}
+
 static MANY_REQUESTS_ARE_ANSWERED_ONE_A_TURN_SCRIPT: [Step; 4] = [
     AskAll(200),
     Turns(200),

@@ -5,7 +5,7 @@ use super::step::Step::{
     Ask, Fill, Free, Holds, Register, Row, Rows, Send, Shows, Take, TakeAnswer, TakeNone, Turn,
 };
 use super::units::Data::At;
-use super::units::Unit::{Code, Good, Login, Logout, Read, Ready, Task, Write};
+use super::units::Unit::{Code, Good, Login, Logout, PastTheLast, Read, Ready, Task, Write};
 use super::windows::SERVER;
 use std::test::Fail;
 use vio_num::Moved::{Moved, Quiet};
@@ -165,4 +165,57 @@ fn data_go_to_the_disk_and_come_back(rt: HostRuntime) {
         first_other(rt.alloc(), 2048, &DATA_GO_TO_THE_DISK_AND_COME_BACK_SCRIPT),
         Ok(None)
     );
+}
+
+static THE_LAST_BLOCK_IS_READ_AND_NONE_BEHIND_IT_SCRIPT: [Step; 7] = [
+    Ask(1, Read(2, 2047, 1, At(65_536, 512))),
+    Turn(Moved),
+    TakeAnswer(36, 2),
+    Ask(1, Read(3, 2048, 1, At(65_536, 512))),
+    Turn(Moved),
+    TakeAnswer(54, 3),
+    Shows(1, PastTheLast),
+];
+
+#[test]
+fn the_last_block_is_read_and_none_behind_it(rt: HostRuntime) {
+    assert_eq!(rt;
+        first_other(
+            rt.alloc(),
+            2048,
+            &THE_LAST_BLOCK_IS_READ_AND_NONE_BEHIND_IT_SCRIPT
+        ),
+        Ok(None)
+    );
+}
+
+static A_TASK_OVER_THE_LIMIT_CLOSES_THE_SESSION_SCRIPT: [Step; 7] = [
+    Ask(1, Ready(2)),
+    Ask(2, Task(3, 0, 1)),
+    Ask(3, Task(4, 0, 1)),
+    Turn(Moved),
+    TakeNone,
+    Turn(Moved),
+    Take(Entry::PARTNER_FREED),
+];
+
+#[test]
+fn a_task_over_the_limit_closes_the_session(rt: HostRuntime) -> Result<(), Fail> {
+    let over = Grant::Lapsed {
+        unit: SERVER,
+        session: 1,
+        login: 1,
+        cause: Lapse::OverLimit,
+        outstanding: 3,
+        granted: 2,
+    };
+    let seen = play(
+        rt.alloc(),
+        2048,
+        2,
+        &LOGGED_IN,
+        &A_TASK_OVER_THE_LIMIT_CLOSES_THE_SESSION_SCRIPT,
+    )?;
+    assert_eq!(rt; (seen.other, seen.last), (None, Some(over)));
+    Ok(())
 }

@@ -7,7 +7,7 @@ use super::step::Step::{
 };
 use super::units::Data::{At, Table};
 use super::units::Unit;
-use super::units::Unit::{Code, Read, Write};
+use super::units::Unit::{Both, Code, Flush, Read, Write, WriteBoth};
 use std::alloc::Global;
 use std::test::Fail;
 use vio_num::Moved::Moved;
@@ -80,6 +80,81 @@ fn data_out_of_each_size_are_fetched_whole(rt: HostRuntime) {
         let other = served(rt.alloc(), unit, (status, flags, residual, 0), row);
         assert_eq!(rt; other, Ok(None), "{blocks} blocks, {len} bytes");
     }
+}
+
+/// The lengths of data-out and of data-in of a command of one block, the status, the flags and both residuals of its
+/// response, and how many bytes are moved each way: of READ(10).
+const READS_BOTH_WAYS: [(u32, u32, u8, u8, u32, u32, usize, usize); 4] = [
+    (512, 512, 0, 0x08, 512, 0, 512, 512),
+    (1, 600, 0, 0x28, 1, 88, 1, 512),
+    (600, 100, 0, 0x18, 600, 412, 600, 100),
+    (0, 511, 0, 0x10, 0, 1, 0, 511),
+];
+
+/// The same of WRITE(10).
+const WRITES_BOTH_WAYS: [(u32, u32, u8, u8, u32, u32, usize, usize); 4] = [
+    (512, 100, 0, 0x20, 0, 100, 512, 0),
+    (600, 1, 0, 0x28, 88, 1, 600, 0),
+    (511, 100, 2, 0x26, 1, 100, 511, 0),
+    (0, 0, 2, 0x06, 512, 0, 0, 0),
+];
+
+#[test]
+fn data_both_ways_have_residuals_both_ways(rt: HostRuntime) {
+    for (out, inn, status, flags, out_left, in_left, fetched, sent) in READS_BOTH_WAYS {
+        let unit = Both(2, At(65_536, out), At(98_304, inn));
+        let says = (status, flags, out_left, in_left);
+        let other = served(rt.alloc(), unit, says, (fetched, sent, 36));
+        assert_eq!(rt; other, Ok(None), "a read with {out} and {inn} bytes");
+    }
+    for (out, inn, status, flags, out_left, in_left, fetched, sent) in WRITES_BOTH_WAYS {
+        let unit = WriteBoth(At(65_536, out), At(98_304, inn));
+        let says = (status, flags, out_left, in_left);
+        let answer_len = if status == 0 { 36 } else { 54 };
+        let other = served(rt.alloc(), unit, says, (fetched, sent, answer_len));
+        assert_eq!(rt; other, Ok(None), "a write with {out} and {inn} bytes");
+    }
+}
+
+// A read that fails gives no data.
+#[test]
+fn a_device_that_fails_at_a_read_gives_no_data(rt: HostRuntime) -> Result<(), Fail> {
+    for call in 0..3 {
+        let script = [
+            Ask(1, Read(2, 0, 3, At(98_303, 1_536))),
+            Turn(Moved),
+            TakeAny,
+            Says(2, 0x22, 0, 1_536),
+            Fault(0, call),
+            Row(0, (0, 0, 54)),
+            Ask(1, Read(3, 0, 3, At(98_303, 1_536))),
+            Turn(Moved),
+            TakeAny,
+            Says(0, 0, 0, 0),
+            Row(1, (0, 1_536, 36)),
+        ];
+        let seen = play_failing(rt.alloc(), u64::from(call), &LOGGED_IN, &script)?;
+        assert_eq!(rt; seen.other, None, "call {call}");
+    }
+    Ok(())
+}
+
+#[test]
+fn a_device_that_fails_at_a_flush_gives_a_medium_error(rt: HostRuntime) -> Result<(), Fail> {
+    let script = [
+        Ask(1, Flush),
+        Turn(Moved),
+        TakeAny,
+        Says(2, 0x02, 0, 0),
+        Fault(0, 0),
+        Ask(1, Flush),
+        Turn(Moved),
+        TakeAny,
+        Says(0, 0, 0, 0),
+    ];
+    let seen = play_failing(rt.alloc(), 0, &LOGGED_IN, &script)?;
+    assert_eq!(rt; seen.other, None);
+    Ok(())
 }
 
 #[test]
@@ -158,9 +233,9 @@ fn a_short_write_writes_nothing(rt: HostRuntime) {
 // Seen elsewhere: the length of an indirect table bounds an allocation. Here it is refused above 4,096.
 #[test]
 fn a_table_of_a_bad_length_is_refused(rt: HostRuntime) {
-    for len in [0, 8, 4_112, 0xFFFF_FFF0] {
+    for (len, total) in [(0, 0), (0, 512), (8, 512), (4_112, 512), (0xFFFF_FFF0, 512)] {
         let script = [
-            Ask(1, Write(2, 0, 1, Table(len, 512))),
+            Ask(1, Write(2, 0, 1, Table(len, total))),
             Turn(Moved),
             TakeAny,
             Says(0, 1, 0, 0),
@@ -174,13 +249,17 @@ fn a_table_of_a_bad_length_is_refused(rt: HostRuntime) {
     }
 }
 
-static DESCRIPTORS_THAT_DO_NOT_SUM_UP_ARE_REFUSED_SCRIPT: [Step; 6] = [
+static DESCRIPTORS_THAT_DO_NOT_SUM_UP_ARE_REFUSED_SCRIPT: [Step; 10] = [
     Step::Table(3, 512),
-    Ask(1, Write(2, 0, 3, Table(48, 1_535))),
+    Ask(1, Write(5, 0, 3, Table(48, 1_535))),
     Turn(Moved),
     TakeAny,
-    Shows(1, Code(2, 2)),
+    Shows(1, Code(5, 2)),
     Row(0, (0, 0, 40)),
+    Ask(1, Read(6, 0, 1, At(65_536, 512))),
+    Turn(Moved),
+    TakeAny,
+    Holds(65_536, 0),
 ];
 
 #[test]

@@ -26,6 +26,10 @@ pub(super) enum Data {
 pub(super) enum Unit {
     /// LOGIN_REQ with this tag, as an ordinary client sends it.
     Login(u64),
+    /// LOGIN_REQ with tag 1, which asks for this unit length, these formats and these flags.
+    LoginAs(u32, u16, u8),
+    /// LOGIN_REJ with tag 1 and this reason.
+    Rejection(u32),
     /// I_LOGOUT with this tag.
     Logout(u64),
     /// TEST UNIT READY with this tag.
@@ -40,24 +44,32 @@ pub(super) enum Unit {
     Write(u64, u32, u16, Data),
     /// READ(10) with this tag of the first block, with data-out and data-in.
     Both(u64, Data, Data),
+    /// WRITE(10) with tag 2 of the first block, with data-out and data-in.
+    WriteBoth(Data, Data),
+    /// SYNCHRONIZE CACHE(10) with tag 2, of all blocks.
+    Flush,
     /// CRED_RSP with this tag.
     CreditAnswer(u64),
     /// CRED_REQ with this tag.
     CreditRequest(u64),
-    /// Zeros of this length, at most 64, but for this type and tag 9: no unit.
-    Unreadable(u8, usize),
+    /// Zeros of this length, at most 256, but for this type and tag 9: where they are long enough, TEST UNIT READY.
+    Zeros(u8, usize),
     /// A command of 48 bytes with tag 9, whose additional CDB would be longer.
     LongCdb,
     /// SRP_RSP with this tag, of status good and without lists.
     Good(u8),
     /// SRP_RSP with this tag and this response code.
     Code(u8, u8),
+    /// SRP_RSP with tag 3: the blocks lie past the last, and 512 bytes of data-in are not sent.
+    PastTheLast,
 }
 
 /// The bytes of a unit.
 pub(super) fn bytes_of(unit: Unit) -> Bytes256 {
     match unit {
-        Unit::Login(tag) => login(tag),
+        Unit::Login(tag) => login(tag, 256, 0x0006, 0),
+        Unit::LoginAs(iu_len, formats, flags) => login(1, iu_len, formats, flags),
+        Unit::Rejection(reason) => rejection(reason),
         Unit::Logout(tag) => write_iu(&Iu::ILogout { tag }),
         Unit::Ready(tag) => ready(tag, 0),
         Unit::Attribute(tag, attribute) => ready(tag, attribute),
@@ -65,21 +77,24 @@ pub(super) fn bytes_of(unit: Unit) -> Bytes256 {
         Unit::Read(tag, lba, blocks, inn) => read(tag, lba, blocks, inn),
         Unit::Write(tag, lba, blocks, out) => write(tag, lba, blocks, out),
         Unit::Both(tag, out, inn) => command(tag, 0, cdb_of(0x28, 0, 1), out, inn),
+        Unit::WriteBoth(out, inn) => command(2, 0, cdb_of(0x2A, 0, 1), out, inn),
+        Unit::Flush => command(2, 0, cdb_of(0x35, 0, 0), Data::Absent, Data::Absent),
         Unit::CreditAnswer(tag) => write_iu(&Iu::CredRsp { tag }),
         Unit::CreditRequest(tag) => write_iu(&Iu::CredReq { delta: 1, tag }),
-        Unit::Unreadable(kind, len) => unreadable(kind, len),
+        Unit::Zeros(kind, len) => zeros(kind, len),
         Unit::LongCdb => long_cdb(),
         Unit::Good(tag) => good(tag),
         Unit::Code(tag, code) => refusal(tag, code),
+        Unit::PastTheLast => past_the_last(),
     }
 }
 
-fn login(tag: u64) -> Bytes256 {
+fn login(tag: u64, iu_len: u32, formats: u16, flags: u8) -> Bytes256 {
     write_iu(&Iu::LoginReq(LoginReq {
         tag,
-        iu_len: 256,
-        formats: 0x0006,
-        flags: 0,
+        iu_len,
+        formats,
+        flags,
         initiator: [0; 16],
         target: [0; 16],
     }))
@@ -157,8 +172,8 @@ fn command_between(tag: u64, attribute: u8, cdb: [u8; 16], out: Buffer, inn: Buf
     }))
 }
 
-fn unreadable(kind: u8, len: usize) -> Bytes256 {
-    let mut bytes = [0; 64];
+fn zeros(kind: u8, len: usize) -> Bytes256 {
+    let mut bytes = [0; 256];
     bytes[0] = kind;
     bytes[15] = 9;
     kept_in(bytes.get(..len).unwrap_or(&[]))
@@ -172,6 +187,14 @@ fn long_cdb() -> Bytes256 {
     kept_in(&bytes)
 }
 
+fn rejection(reason: u32) -> Bytes256 {
+    let [a, b, c, d] = reason.to_be_bytes();
+    kept_in(&[
+        0xC2, 0, 0, 0, a, b, c, d, 0, 0, 0, 0, 0, 0, 0, 1, 0, 0, 0, 0, 0, 0, 0, 0, 0, 6, 0, 0, 0,
+        0, 0, 0,
+    ])
+}
+
 fn good(tag: u8) -> Bytes256 {
     kept_in(&[
         0xC1, 0, 0, 0, 0, 0, 0, 1, 0, 0, 0, 0, 0, 0, 0, tag, 0, 0, 0, 0, 0, 0, 0, 0, 0, 0, 0, 0, 0,
@@ -183,6 +206,13 @@ fn refusal(tag: u8, code: u8) -> Bytes256 {
     kept_in(&[
         0xC1, 0, 0, 0, 0, 0, 0, 1, 0, 0, 0, 0, 0, 0, 0, tag, 0, 0, 1, 0, 0, 0, 0, 0, 0, 0, 0, 0, 0,
         0, 0, 0, 0, 0, 0, 4, 0, 0, 0, code,
+    ])
+}
+
+fn past_the_last() -> Bytes256 {
+    kept_in(&[
+        0xC1, 0, 0, 0, 0, 0, 0, 1, 0, 0, 0, 0, 0, 0, 0, 3, 0, 0, 0x22, 2, 0, 0, 0, 0, 0, 0, 2, 0,
+        0, 0, 0, 0x12, 0, 0, 0, 0, 0x70, 0, 5, 0, 0, 0, 0, 0x0A, 0, 0, 0, 0, 0x21, 0, 0, 0, 0, 0,
     ])
 }
 
