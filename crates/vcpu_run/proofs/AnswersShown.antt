@@ -1,5 +1,5 @@
 -- The answers of a client as a trace shows them.
-use Rattle.std.proofs.Common.{◌≡◌, ◌∙◌, ℕ, false, All, List, [], ◌∷◌, Option, Some, None, map, refl, sym, ap, subst}
+use Rattle.std.proofs.Common.{◌≡◌, ◌∙◌, ℕ, ◌≤◌, false, All, List, [], ◌∷◌, Option, Some, None, map, refl, sym, ap, subst}
 use Rattle.std.proofs.lemmas.List.Elements.{All-cons, All-head, All-nil, All-tail}
 use Rattle.vio_num.specs.declared.names.UnitId.{UnitId}
 use Rattle.crq_ring.specs.declared.rows.PipeRow.{PipeRow}
@@ -12,10 +12,12 @@ use Rattle.vcpu_run.specs.declared.unit_seat.UnitSeat.{UnitSeat}
 use Rattle.vcpu_run.specs.AnswersTaken.{AreAmong, AreAnswersTaken, AreTakesSaid, IsAnswerOf, answered_tags, answers_to, no_takes, tags_among, tags_taken}
 use Rattle.vcpu_run.specs.CopyRows.{same_unit}
 use Rattle.vcpu_run.specs.Credited.{Ended}
+use Rattle.vcpu_run.specs.EventsHeard.{events_taken, losses_told}
 use Rattle.vcpu_run.specs.Gathered.{answer_by, answers_at, driver_of, rows_if}
 use Rattle.vcpu_run.specs.Intake.{entries_taken}
 use Rattle.vcpu_run.specs.TakenScripts.{IsTaken}
 use Rattle.vcpu_run.proofs.Among.{among_front}
+use Rattle.vcpu_run.proofs.EventsHeard.{heard_last}
 use Rattle.vcpu_run.proofs.Order.{Each, each_weaker}
 use Rattle.vcpu_run.proofs.Ordering.{each_of}
 use Rattle.vcpu_run.proofs.Parts.{Told}
@@ -56,6 +58,7 @@ answers_shown trace client own pair driver answers entries is = record {
       (among_front (answered_tags driver.answers.items) (tags_among driver.client.kept) (tags_taken (end_of [] pair.link false).taken) is.given.order));
   each = subst (All IsAnswerOf) (sym answers) (each_answer client driver.answers.items is.given.each);
   said = subst (λ (tags : List ℕ). AreTakesSaid tags no_takes own) (sym tags) is.said;
+  heard = subst (λ (rows : List PipeRow). losses_told own ≤ events_taken rows) (sym entries) (heard_last own driver.client (end_of [] pair.link false).taken is.heard);
 }
   where
     tags : answered_tags (answers_to trace client) ≡ answered_tags driver.answers.items

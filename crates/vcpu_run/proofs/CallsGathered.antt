@@ -1,5 +1,5 @@
 -- The records of a gathered trace say of raw calls what they may.
-use Rattle.std.proofs.Common.{◌≡◌, ◌≤◌, ◌∙◌, ℕ, ◌==◌, true, List, [], Option, Some, None, IsSomeAnd, filter, length, map, option_map, slice_get, refl, sym, ap, ap₂, subst, arith}
+use Rattle.std.proofs.Common.{◌≡◌, ◌≤◌, ◌∙◌, ℕ, ◌==◌, true, All, List, [], Option, Some, None, IsSomeAnd, filter, length, option_map, slice_get, refl, sym, ap, ap₂, subst, arith}
 use Rattle.std.specs.List.{flat_map}
 use Rattle.std.proofs.lemmas.Option.{slice_get-map, slice_get_past}
 use Rattle.std.proofs.lemmas.Bool.Decides.{nat_tests}
@@ -10,24 +10,39 @@ use Rattle.hcall_table.specs.Named.{Place}
 use Rattle.hcall_table.specs.declared.kind.UnitKind.{UnitKind}
 use Rattle.lan_script.specs.Units.{LanValue}
 use Rattle.lan_script.specs.declared.rows.LanRows.{LanRows}
-use Rattle.boot_text.specs.Sound.{unit_in}
+use Rattle.boot_text.specs.Sound.{unit_at, unit_in}
 use Rattle.boot_text.specs.declared.plan.Line.{Line}
 use Rattle.boot_text.specs.declared.plan.Partition.{Partition}
 use Rattle.boot_text.specs.declared.plan.UnitPlan.{UnitPlan}
 use Rattle.boot_text.specs.declared.plan.UnitPlan.TheVariants as units
+use Rattle.vio_num.specs.declared.names.UnitId.{UnitId}
 use Rattle.vio_trace.specs.declared.rows.LogRow.{LogRow}
+use Rattle.vio_trace.specs.declared.rows.Trace.{Trace}
+use Rattle.vcpu_run.specs.declared.driver.Driver.{Driver}
 use Rattle.vcpu_run.specs.declared.pair.Pair.{Pair}
 use Rattle.vcpu_run.specs.declared.script.Script.{Script}
 use Rattle.vcpu_run.specs.declared.unit_seat.Seat.{Seat}
-use Rattle.vcpu_run.specs.CallsSaid.{CallsSaid, place_at}
-use Rattle.vcpu_run.specs.CallsShown.{CallsAreSaid, kind_planned, place_in}
-use Rattle.vcpu_run.specs.Gathered.{logs_of, trace_of}
+use Rattle.vcpu_run.specs.declared.unit_seat.Seat.TheVariants as sits
+use Rattle.vcpu_run.specs.CallsAnswered.{no_client, unit_seen}
+use Rattle.vcpu_run.specs.CallsSaid.{CallsSaid, seen_from}
+use Rattle.vcpu_run.specs.CallsShown.{CallsAreSaid, kind_planned, place_in, unit_shown, units_shown}
+use Rattle.vcpu_run.specs.Gathered.{HasLawfulQueue, HasLawfulWindow, logs_of, trace_of}
+use Rattle.vcpu_run.specs.LinesShow.{Sees, seen_at}
 use Rattle.vcpu_run.specs.Machines.{AreScripts, IsOfPlan, IsScriptFor, seat_of}
-use Rattle.vcpu_run.specs.RawCalls.{kind_of}
+use Rattle.vcpu_run.specs.Pairs.{AreOfOneHome}
+use Rattle.vcpu_run.specs.Ports.{unit_of}
+use Rattle.vcpu_run.specs.RawCalls.{kind_of, pair_of}
+use Rattle.vcpu_run.specs.Refusals.{seen_in}
+use Rattle.vcpu_run.specs.Scripts.{IsScript}
 use Rattle.vcpu_run.specs.Settled.{script_in, script_of}
+use Rattle.vcpu_run.specs.Shown.{pages_at, pages_if}
+use Rattle.vcpu_run.specs.Units.{seats_of}
+use Rattle.vcpu_run.proofs.CallsGrow.{UnitGrows, UnitsGrow, calls_more, unit_still}
+use Rattle.vcpu_run.proofs.Listed.{held}
 use Rattle.vcpu_run.proofs.Parts.{found, in_slice}
 use Rattle.vcpu_run.proofs.Placing.{partitions_are}
 use Rattle.vcpu_run.proofs.RecordLaws.{lines_in, none_past, partitions_apart, rows_told}
+use Rattle.vcpu_run.proofs.RefusalsTold.{client_pages, trace_sees}
 
 -- what a unit is by its plan, and by where it sits
 kind_same : (o : Option UnitPlan) → kind_of (option_map seat_of o) ≡ option_map kind_planned o
@@ -44,25 +59,87 @@ kind_in (Some partition) script unit is =
     ∙ (ap kind_of (slice_get-map seat_of partition.units unit) ∙ kind_same (slice_get partition.units unit))
 
 place_planned : (partitions : List Partition) (p : ℕ) (script : Script) → script.partition ≡ p → IsSomeAnd (slice_get partitions p) (λ partition. IsScriptFor partition script)
-    → place_at script.partition script.seats.items ≡ place_in partitions p
+    → place_in partitions p ≡ (seen_from script.partition script.seats.items []).place
 place_planned partitions p script here is =
-    let kinds : (λ (unit : ℕ). kind_of (slice_get script.seats.items unit)) ≡ (λ (unit : ℕ). option_map kind_planned (unit_in (slice_get partitions p) unit)) =
-    λ i unit. kind_in (slice_get partitions p) script unit is i in
+    let kinds : (λ (unit : ℕ). option_map kind_planned (unit_in (slice_get partitions p) unit)) ≡ (λ (unit : ℕ). kind_of (slice_get script.seats.items unit)) =
+    λ i unit. sym (kind_in (slice_get partitions p) script unit is) i in
     let make : ℕ → (ℕ → Option UnitKind) → Place = λ n kind. record { partition = n; kind = kind } in
-    ap₂ make here kinds
+    ap₂ make (sym here) kinds
+
+-- where a unit sits, by its plan
+seat_planned : (slot : Option Partition) (script : Script) (unit : ℕ) → IsSomeAnd slot (λ partition. IsScriptFor partition script)
+    → slice_get script.seats.items unit ≡ option_map seat_of (unit_in slot unit)
+seat_planned None script unit is = absurd is
+seat_planned (Some partition) script unit is =
+    ap (λ (seats : List Seat). slice_get seats unit) is.seats ∙ slice_get-map seat_of partition.units unit
+
+-- what there is of a client is shown by the trace
+client_shown : (trace : Trace) (client server : UnitId) (pages queue : ℕ) (pair : Pair) (driver : Driver) → pair.driver ≡ Some driver → length pair.window.pages ≡ pages
+    → Sees (seen_at pair) (seen_in trace client server) → UnitGrows (unit_seen (Some pair)) (unit_shown trace client (Some (units.Client server pages queue)))
+client_shown trace client server pages queue pair driver has size sees = record {
+  pages = sym (ap (option_map (λ (driver : Driver). length pair.window.pages)) has ∙ ap Some size);
+  values = sees.values;
+  entries = sees.entries;
+}
+
+unit_planned : (pairs : List Pair) (trace : Trace) (id : UnitId) (planned : Option UnitPlan) (o : Option UnitPlan) (seat : Option Seat) → o ≡ planned → seat ≡ option_map seat_of planned
+    → ((server : UnitId) (pages queue : ℕ) → planned ≡ Some (units.Client server pages queue)
+    → UnitGrows (unit_seen (slice_get pairs server.unit)) (unit_shown trace id (Some (units.Client server pages queue))))
+    → UnitGrows (unit_seen (pair_of pairs seat)) (unit_shown trace id o)
+unit_planned pairs trace id planned o seat is sits_at client =
+    subst (λ (s : Option Seat). UnitGrows (unit_seen (pair_of pairs s)) (unit_shown trace id o)) (sym sits_at)
+    (subst (λ (q : Option UnitPlan). UnitGrows (unit_seen (pair_of pairs (option_map seat_of planned))) (unit_shown trace id q)) (sym is) (at planned client))
+  where
+    at : (q : Option UnitPlan) → ((server : UnitId) (pages queue : ℕ) → q ≡ Some (units.Client server pages queue)
+        → UnitGrows (unit_seen (slice_get pairs server.unit)) (unit_shown trace id (Some (units.Client server pages queue))))
+        → UnitGrows (unit_seen (pair_of pairs (option_map seat_of q))) (unit_shown trace id q)
+    at None f = unit_still no_client
+    at (Some (units.Server queue)) f = unit_still no_client
+    at (Some (units.Client server pages queue)) f = f server pages queue refl
+    at (Some (units.Lan mac pages slots)) f = unit_still no_client
 
 no_line : (line : Line) → None ≡ Some line → ⊥
 no_line line e = cc
 
 pub calls_are : (pairs : List Pair) (scripts : List Script) (lan : LanValue) (lan_rows : LanRows) (history : List Served) (grants : List Grant) (copies : List CopyRecord) (partitions : List Partition)
-    → AreScripts pairs lan.seats scripts → IsOfPlan partitions pairs scripts lan.seats
+    → AreOfOneHome copies pairs → AreScripts pairs lan.seats scripts → All (HasLawfulQueue pairs) (seats_of scripts) → All (HasLawfulWindow pairs lan) (seats_of scripts)
+    → IsOfPlan partitions pairs scripts lan.seats
     → CallsAreSaid partitions (trace_of pairs scripts lan lan_rows history grants copies)
-calls_are pairs scripts lan lan_rows history grants copies partitions are of_plan p = at (slice_get scripts p) refl
+calls_are pairs scripts lan lan_rows history grants copies partitions home are lawful windows of_plan p = at (slice_get scripts p) refl
   where
+    trace : Trace
+    trace = trace_of pairs scripts lan lan_rows history grants copies
+
     rows : List LogRow
     rows = filter (λ (row : LogRow). row.partition == p) (flat_map logs_of scripts)
 
-    at : (slot : Option Script) → slice_get scripts p ≡ slot → CallsSaid (place_in partitions p) (script_of partitions p) rows
+    client : (script : Script) (unit : ℕ) (server : UnitId) (pages queue : ℕ) → script.partition ≡ p → IsScript pairs script → slice_get script.seats.items unit ≡ Some (sits.Client server.unit)
+        → unit_at partitions (unit_of p unit) ≡ Some (units.Client server pages queue)
+        → UnitGrows (unit_seen (slice_get pairs server.unit)) (unit_shown trace (unit_of p unit) (Some (units.Client server pages queue)))
+    client script unit server pages queue here is seat planned =
+        let id : UnitId = unit_of p unit in
+        let has : Pair → Type 0 = λ pair. IsSomeAnd pair.driver (λ driver. driver.unit ≡ unit_of script.partition unit) in
+        let pair = held has (slice_get pairs server.unit) (is.seats unit server.unit seat) in
+        let driver = held (λ (driver : Driver). driver.unit ≡ unit_of script.partition unit) pair.0.driver pair.2 in
+        let own : IsSomeAnd pair.0.driver (λ driver. driver.unit ≡ id) = subst (λ n. IsSomeAnd pair.0.driver (λ driver. driver.unit ≡ unit_of n unit)) here pair.2 in
+        let size : pages_at partitions id ≡ length pair.0.window.pages =
+        client_pages partitions server.unit id pair.0 (of_plan.pairs_are.each server.unit pair.0 pair.1) own in
+        let shown : pages_at partitions id ≡ pages = ap pages_if planned in
+        subst (λ (slot : Option Pair). UnitGrows (unit_seen slot) (unit_shown trace id (Some (units.Client server pages queue)))) (sym pair.1)
+        (client_shown trace id server pages queue pair.0 driver.0 driver.1 (sym size ∙ shown)
+        (trace_sees partitions pairs scripts lan lan_rows history grants copies id server pair.0 home are lawful windows of_plan (pages, queue, planned) pair.1))
+
+    grows : (script : Script) → script.partition ≡ p → IsScript pairs script → IsSomeAnd (slice_get partitions p) (λ partition. IsScriptFor partition script)
+        → UnitsGrow (seen_from script.partition script.seats.items pairs) (units_shown partitions trace p)
+    grows script here is for_it = record {
+      place = place_planned partitions p script here for_it;
+      units = λ unit.
+          let seat = seat_planned (slice_get partitions p) script unit for_it in
+          unit_planned pairs trace (unit_of p unit) (unit_at partitions (unit_of p unit)) (unit_at partitions (unit_of p unit)) (slice_get script.seats.items unit) refl seat
+          (λ server pages queue planned. client script unit server pages queue here is (seat ∙ ap (option_map seat_of) planned) planned);
+    }
+
+    at : (slot : Option Script) → slice_get scripts p ≡ slot → CallsSaid (units_shown partitions trace p) (script_of partitions p) rows
     at None e =
         let past : length scripts ≤ p = none_past scripts p e in
         let none : slice_get partitions p ≡ None = slice_get_past partitions p (omega (arith, past, of_plan.scripts_are.count)) in
@@ -76,6 +153,6 @@ calls_are pairs scripts lan lan_rows history grants copies partitions are of_pla
         found (λ (row : LogRow). row.partition == p) (λ (script : Script). script.partition == p) logs_of script hit scripts (in_slice scripts p script e)
         (rows_told pairs lan.seats scripts p are) (partitions_apart p 0 scripts (partitions_are pairs lan.seats scripts are)) in
         let lines : script_of partitions p ≡ script.lines.now = lines_in (slice_get partitions p) script for_it in
-        subst (λ (place : Place). CallsSaid place (script_of partitions p) rows) (place_planned partitions p script here for_it)
-        (subst (λ (list : List Line). CallsSaid (place_at script.partition script.seats.items) list rows) (sym lines)
-        (subst (λ (list : List LogRow). CallsSaid (place_at script.partition script.seats.items) script.lines.now list) (sym only) own.script_is.called))
+        calls_more (seen_from script.partition script.seats.items pairs) (units_shown partitions trace p) (script_of partitions p) rows (grows script here own.script_is for_it)
+        (subst (λ (list : List Line). CallsSaid (seen_from script.partition script.seats.items pairs) list rows) (sym lines)
+        (subst (λ (list : List LogRow). CallsSaid (seen_from script.partition script.seats.items pairs) script.lines.now list) (sym only) own.script_is.called))

@@ -1,8 +1,7 @@
 -- What the records of raw calls say, as a line ends, and where a call names no unit of the partition.
-use Rattle.std.proofs.Common.{◌≡◌, ◌∙◌, ◌⊎◌, inl, inr, ℕ, ◌<◌, nat_lt, Bool, true, false, cond, List, [], ◌∷◌, ◌++◌, Option, Some, None, Result, Ok, Err, IfOk, IfSome, IsSome, IsSomeAnd, length, slice_get, refl, sym, ap, subst, arith}
+use Rattle.std.proofs.Common.{◌≡◌, ◌∙◌, ◌⊎◌, inl, inr, ℕ, ◌<◌, nat_lt, true, false, cond, List, [], ◌∷◌, ◌++◌, Option, Some, None, Result, Ok, Err, IfOk, IfSome, IsSome, IsSomeAnd, length, slice_get, refl, sym, ap, subst, arith}
 use Rattle.std.proofs.lemmas.Bool.Decides.{nat_tests}
 use Rattle.std.proofs.lemmas.Option.{slice_get_within}
-use Rattle.vio_num.specs.declared.hypervisor.Hrc.{Hrc}
 use Rattle.vio_num.specs.declared.hypervisor.Hrc.TheVariants as codes
 use Rattle.vio_num.specs.declared.memory.NoMemory.{NoMemory}
 use Rattle.boot_text.specs.declared.plan.Line.{Line}
@@ -26,42 +25,43 @@ use Rattle.vcpu_run.specs.declared.pair.Pair.{Pair}
 use Rattle.vcpu_run.specs.declared.partition_units.PartitionUnits.{PartitionUnits}
 use Rattle.vcpu_run.specs.declared.unit_seat.Seat.{Seat}
 use Rattle.vcpu_run.specs.declared.unit_seat.Seat.TheVariants as sits
-use Rattle.vcpu_run.specs.CallRows.{EndsCall, gives, says}
-use Rattle.vcpu_run.specs.CallsSaid.{CallsSaid, EndsAsParameter, IsSaidOf, StepSaid, place_at}
+use Rattle.vcpu_run.specs.CallRows.{gives, says}
+use Rattle.vcpu_run.specs.CallsSaid.{CallsSaid, EndsCall, IsSaidOf, StepSaid, UnitsSeen, seen_from, units_seen}
 use Rattle.vcpu_run.specs.Pairs.{IsDriver}
-use Rattle.vcpu_run.specs.Ports.{HavePorts, IsPortOf, unit_of as unit_id}
-use Rattle.vcpu_run.specs.RawCalls.{kind_of, place_of, port_if, seat_among, seat_by, units_at}
+use Rattle.vcpu_run.specs.Ports.{HavePorts, unit_of as unit_id}
+use Rattle.vcpu_run.specs.RawCalls.{kind_of, pair_of, place_of, port_if, seat_among, seat_by}
 use Rattle.vcpu_run.specs.Suited.{is_call}
 use Rattle.vcpu_run.specs.Works.{HaveClients, fails}
+use Rattle.vcpu_run.proofs.CallsGrow.{UnitsGrow, call_more, unit_like}
 use Rattle.vcpu_run.proofs.Driving.{some_is}
 use Rattle.vcpu_run.proofs.LinesShown.{no_row, row_at}
 
 -- a line that makes no raw call
-pub says_none : (place : Place) (verb : Verb) (outcome : Outcome) → is_call verb ≡ false → IsSaidOf place verb outcome
-says_none place verbs.Login outcome is = tt
-says_none place verbs.Reset outcome is = tt
-says_none place verbs.Logout outcome is = tt
-says_none place verbs.Tur outcome is = tt
-says_none place (verbs.Read lba blocks at pieces table) outcome is = tt
-says_none place (verbs.Write lba blocks at pieces table) outcome is = tt
-says_none place (verbs.Command cdb) outcome is = tt
-says_none place (verbs.CommandIn cdb at len pieces table) outcome is = tt
-says_none place (verbs.CommandOut cdb at len pieces table) outcome is = tt
-says_none place (verbs.Task function of) outcome is = tt
-says_none place (verbs.Take count) outcome is = tt
-says_none place (verbs.Data of) outcome is = tt
-says_none place verbs.Open outcome is = tt
-says_none place verbs.Close outcome is = tt
-says_none place (verbs.Post at len count) outcome is = tt
-says_none place (verbs.Send to len seed at) outcome is = tt
-says_none place (verbs.ChangeMac own) outcome is = tt
-says_none place (verbs.Multicast control group) outcome is = tt
-says_none place (verbs.Fill at len seed) outcome is = tt
-says_none place (verbs.Poke at bytes) outcome is = tt
-says_none place (verbs.Peek at len) outcome is = tt
-says_none place (verbs.Tce entry page readable writable) outcome is = tt
-says_none place (verbs.Hcall number args) outcome is = absurd (cc)
-says_none place verbs.Fail outcome is = tt
+pub says_none : (seen : UnitsSeen) (verb : Verb) (outcome : Outcome) → is_call verb ≡ false → IsSaidOf seen verb outcome
+says_none seen verbs.Login outcome is = tt
+says_none seen verbs.Reset outcome is = tt
+says_none seen verbs.Logout outcome is = tt
+says_none seen verbs.Tur outcome is = tt
+says_none seen (verbs.Read lba blocks at pieces table) outcome is = tt
+says_none seen (verbs.Write lba blocks at pieces table) outcome is = tt
+says_none seen (verbs.Command cdb) outcome is = tt
+says_none seen (verbs.CommandIn cdb at len pieces table) outcome is = tt
+says_none seen (verbs.CommandOut cdb at len pieces table) outcome is = tt
+says_none seen (verbs.Task function of) outcome is = tt
+says_none seen (verbs.Take count) outcome is = tt
+says_none seen (verbs.Data of) outcome is = tt
+says_none seen verbs.Open outcome is = tt
+says_none seen verbs.Close outcome is = tt
+says_none seen (verbs.Post at len count) outcome is = tt
+says_none seen (verbs.Send to len seed at) outcome is = tt
+says_none seen (verbs.ChangeMac own) outcome is = tt
+says_none seen (verbs.Multicast control group) outcome is = tt
+says_none seen (verbs.Fill at len seed) outcome is = tt
+says_none seen (verbs.Poke at bytes) outcome is = tt
+says_none seen (verbs.Peek at len) outcome is = tt
+says_none seen (verbs.Tce entry page readable writable) outcome is = tt
+says_none seen (verbs.Hcall number args) outcome is = absurd (cc)
+says_none seen verbs.Fail outcome is = tt
 
 -- one that fails the partition makes none
 pub fails_no_call : (verb : Verb) → fails verb ≡ true → is_call verb ≡ false
@@ -91,21 +91,21 @@ fails_no_call (verbs.Hcall number args) is = absurd (cc)
 fails_no_call verbs.Fail is = refl
 
 -- the records before the first line, and one more, of the line that ended
-pub called_none : (place : Place) (lines : List Line) → CallsSaid place lines []
-called_none place lines i line row found at = absurd (no_row row at)
+pub called_none : (seen : UnitsSeen) (lines : List Line) → CallsSaid seen lines []
+called_none seen lines i line row found at = absurd (no_row row at)
 
-pub called_one : (place : Place) (lines : List Line) (records : List LogRow) (line : Line) (row : LogRow) → slice_get lines (length records) ≡ Some line
-    → CallsSaid place lines records → IsSaidOf place line.verb row.outcome → CallsSaid place lines (records ++ row ∷ [])
-called_one place lines records line row found said last i l r there at = by (row_at records row r i at)
+pub called_one : (seen : UnitsSeen) (lines : List Line) (records : List LogRow) (line : Line) (row : LogRow) → slice_get lines (length records) ≡ Some line
+    → CallsSaid seen lines records → IsSaidOf seen line.verb row.outcome → CallsSaid seen lines (records ++ row ∷ [])
+called_one seen lines records line row found said last i l r there at = by (row_at records row r i at)
   where
-    by : (slice_get records i ≡ Some r) ⊎ ((i ≡ length records) × (r ≡ row)) → IsSaidOf place l.verb r.outcome
+    by : (slice_get records i ≡ Some r) ⊎ ((i ≡ length records) × (r ≡ row)) → IsSaidOf seen l.verb r.outcome
     by (inl h) = said i l r there h
     by (inr h) =
         let same : l ≡ line = some_is l line (sym there ∙ (ap (slice_get lines) h.0 ∙ found)) in
-        subst (λ (x : LogRow). IsSaidOf place l.verb x.outcome) (sym h.1) (subst (λ (x : Line). IsSaidOf place x.verb row.outcome) (sym same) last)
+        subst (λ (x : LogRow). IsSaidOf seen l.verb x.outcome) (sym h.1) (subst (λ (x : Line). IsSaidOf seen x.verb row.outcome) (sym same) last)
 
 -- no row gives a value with Parameter
-no_value : (row : Hcall) → gives_value row codes.Parameter ≡ false
+pub no_value : (row : Hcall) → gives_value row codes.Parameter ≡ false
 no_value rows.GetTce = refl
 no_value rows.PutTce = refl
 no_value rows.StuffTce = refl
@@ -147,14 +147,18 @@ among_same partition seats pairs ports unit clients have (Some sits.Port) e = th
     there None h = absurd (cc (h))
     there (Some seat) h = refl
 
-pub place_same : (partition : ℕ) (seats : List Seat) (pairs : List Pair) (ports : List PortSeat) → HaveClients seats pairs → HavePorts partition seats ports
-    → units_at partition seats (length pairs) ports ≡ place_at partition seats
-place_same partition seats pairs ports clients have =
-    let each : (unit : ℕ) → kind_of (seat_by partition seats (length pairs) ports unit) ≡ kind_of (slice_get seats unit) =
-    λ unit. ap kind_of (among_same partition seats pairs ports unit clients have (slice_get seats unit) refl) in
-    let kinds : (λ (unit : ℕ). kind_of (seat_by partition seats (length pairs) ports unit)) ≡ (λ (unit : ℕ). kind_of (slice_get seats unit)) = λ i unit. each unit i in
+-- the units of a partition are where they sit
+pub seen_same : (partition : ℕ) (seats : List Seat) (pairs later : List Pair) (ports : List PortSeat) → HaveClients seats pairs → HavePorts partition seats ports
+    → UnitsGrow (units_seen partition (seat_by partition seats (length pairs) ports) later) (seen_from partition seats later)
+seen_same partition seats pairs later ports clients have =
+    let each : (unit : ℕ) → slice_get seats unit ≡ seat_by partition seats (length pairs) ports unit =
+    λ unit. sym (among_same partition seats pairs ports unit clients have (slice_get seats unit) refl) in
+    let kinds : (λ (unit : ℕ). kind_of (slice_get seats unit)) ≡ (λ (unit : ℕ). kind_of (seat_by partition seats (length pairs) ports unit)) = λ i unit. kind_of (each unit i) in
     let make : (ℕ → Option UnitKind) → Place = λ kind. record { partition = partition; kind = kind } in
-    ap make kinds
+    record {
+      place = ap make kinds;
+      units = λ unit. unit_like (pair_of later (seat_by partition seats (length pairs) ports unit)) (pair_of later (slice_get seats unit)) (ap (pair_of later) (each unit));
+    }
 
 -- the table of calls refuses a unit of another partition, or of another kind
 refused_by : (old new : PartitionUnits) (result : Result Returned NoMemory) → Refuses PartitionUnits codes.Parameter old new result → IfOk result (λ r. r ≡ bare codes.Parameter)
@@ -176,30 +180,20 @@ pub parameter_says : (number : ℕ) (returned : Returned) → returned ≡ bare 
 parameter_says number returned is =
     ap (says number) is ∙ ap (λ b. cond b (outcomes.Value 0) (outcomes.Code codes.Parameter)) (gives_none (row_of number))
 
--- a call that ended its line
-pub call_said : (place other : Place) (number : ℕ) (args : List ℕ) (step : Step) → other ≡ place → EndsCall number step
-    → IfSome (row_of number) (λ row. unit_of other row args ≡ None → EndsAsParameter step) → StepSaid place (verbs.Hcall number args) step
-call_said place other number args (steps.Ends outcome) same said elsewhere = record {
-  row = said;
-  elsewhere = subst (λ (p : Place). IfSome (row_of number) (λ row. unit_of p row args ≡ None → outcome ≡ outcomes.Code codes.Parameter)) same elsewhere;
-}
-call_said place other number args (steps.Waits did) same said elsewhere = tt
-
 -- a step of a line that makes no raw call
-pub step_says_none : (place : Place) (verb : Verb) (result : Result Step NoMemory) → is_call verb ≡ false → IfOk result (StepSaid place verb)
-step_says_none place verb (Ok (steps.Ends outcome)) none = says_none place verb outcome none
-step_says_none place verb (Ok (steps.Waits did)) none = tt
-step_says_none place verb (Err memory) none = tt
+pub step_says_none : (seen : UnitsSeen) (verb : Verb) (result : Result Step NoMemory) → is_call verb ≡ false → IfOk result (StepSaid seen verb)
+step_says_none seen verb (Ok (steps.Ends outcome)) none = says_none seen verb outcome none
+step_says_none seen verb (Ok (steps.Waits did)) none = tt
+step_says_none seen verb (Err memory) none = tt
 
-pub called_step : (place other : Place) (verb : Verb) (number : ℕ) (args : List ℕ) (result : Result Step NoMemory) → other ≡ place → verb ≡ verbs.Hcall number args
-    → IfOk result (EndsCall number) → IfSome (row_of number) (λ row. unit_of other row args ≡ None → IfOk result EndsAsParameter) → IfOk result (StepSaid place verb)
-called_step place other verb number args (Ok step) same is said elsewhere =
-    subst (λ (v : Verb). StepSaid place v step) (sym is)
-    (call_said place other number args step same said elsewhere)
-called_step place other verb number args (Err memory) same is said elsewhere = tt
+-- one of a line that makes one
+call_said : (seen other : UnitsSeen) (number : ℕ) (args : List ℕ) (step : Step) → UnitsGrow other seen → EndsCall other number args step
+    → StepSaid seen (verbs.Hcall number args) step
+call_said seen other number args (steps.Ends outcome) same said = call_more other seen same number args outcome said
+call_said seen other number args (steps.Waits did) same said = tt
 
--- a call that the table refused ended its line so
-pub ends_parameter : (o : Option Hcall) (place : Place) (args : List ℕ) (returned : Returned) (outcome : Outcome) → (returned ≡ bare codes.Parameter → outcome ≡ outcomes.Code codes.Parameter)
-    → IfSome o (λ row. unit_of place row args ≡ None → returned ≡ bare codes.Parameter) → IfSome o (λ row. unit_of place row args ≡ None → outcome ≡ outcomes.Code codes.Parameter)
-ends_parameter None place args returned outcome says refused = tt
-ends_parameter (Some row) place args returned outcome says refused = λ none. says (refused none)
+pub called_step : (seen other : UnitsSeen) (verb : Verb) (number : ℕ) (args : List ℕ) (result : Result Step NoMemory) → UnitsGrow other seen → verb ≡ verbs.Hcall number args
+    → IfOk result (EndsCall other number args) → IfOk result (StepSaid seen verb)
+called_step seen other verb number args (Ok step) same is said =
+    subst (λ (v : Verb). StepSaid seen v step) (sym is) (call_said seen other number args step same said)
+called_step seen other verb number args (Err memory) same is said = tt

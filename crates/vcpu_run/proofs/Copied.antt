@@ -1,5 +1,5 @@
 -- The copies and windows of a gathered trace keep the copy law.
-use Rattle.std.proofs.Common.{◌≡◌, ◌∙◌, ◌⊎◌, inl, inr, ℕ, ◌+◌, ◌==◌, ◌&&◌, ◌<◌, ◌≤◌, nat_lt, Bool, true, false, cond, List, [], ◌∷◌, All, Option, Some, None, IfSome, filter, length, map, option_map, slice_get, refl, sym, ap, subst, arith, zero, suc}
+use Rattle.std.proofs.Common.{◌≡◌, ◌∙◌, ◌⊎◌, inl, inr, ℕ, ◌+◌, ◌*◌, ◌==◌, ◌&&◌, ◌<◌, ◌≤◌, nat_lt, Bool, true, false, cond, List, [], ◌∷◌, All, Option, Some, None, IfSome, filter, length, map, option_map, slice_get, refl, sym, ap, subst, arith, zero, suc}
 use Rattle.std.specs.List.{flat_map}
 use Rattle.std.proofs.lemmas.Bool.Decides.{nat_tests}
 use Rattle.vio_num.specs.declared.history.Grant.{Grant}
@@ -36,17 +36,18 @@ use Rattle.vcpu_run.specs.Numbered.{numbered}
 use Rattle.vcpu_run.specs.Pairs.{AreOfOneHome, IsCopyOf}
 use Rattle.vcpu_run.specs.RunLaw.{ArePlaced, AreVersions, CopiesAreLawful, IsBetween, IsLawfulCopy, LiesInRegion}
 use Rattle.vcpu_run.specs.Units.{seats_of, unit_seat}
-use Rattle.vcpu_run.specs.Shown.{pages_at, puts_into, strokes_on, window_shown}
+use Rattle.vcpu_run.specs.Shown.{pages_at, puts_into, strokes_on, values_shown, window_shown}
 use Rattle.vcpu_run.specs.Windows.{rows_from, rows_of_entry, rows_on, stroke_row, strokes_in_rows, values_from, values_in_rows}
 use Rattle.vcpu_run.proofs.Blocks.{entry_named, first_versions, strokes_placed, IsOfEntry}
 use Rattle.vcpu_run.proofs.Following.{each_from_all}
+use Rattle.vcpu_run.proofs.Makers.{versions_once}
 use Rattle.vcpu_run.proofs.Marked.{strokes_made}
 use Rattle.vcpu_run.proofs.Order.{Each, Ordered, each_append, each_flat, each_weaker}
 use Rattle.vcpu_run.proofs.Ordering.{each_of, marks_own, values_own}
 use Rattle.vcpu_run.proofs.Parts.{IsIn, Told, each_in, filter_both, found}
 use Rattle.vcpu_run.proofs.Placing.{SeatBefore, seats_ordered}
 use Rattle.vcpu_run.proofs.Seated.{IsSeated, IsSeatedAt, all_seated, planned_in}
-use Rattle.vcpu_run.proofs.Showing.{entry_shown, is_less, is_past, none_past, page_shown, shown_grows}
+use Rattle.vcpu_run.proofs.Showing.{entry_shown, is_less, is_past, none_past, page_shown, shown_grows, values_said}
 use Rattle.vcpu_run.proofs.Sole.{all_from_each, apart_names, ordered_weaker, same_refl, sole}
 
 each_two : {X : Type 0} (P Q R : X → Type 0) → ((x : X) → P x → Q x → R x) → (xs : List X) → Each P xs → Each Q xs → Each R xs
@@ -222,6 +223,32 @@ seat_shown partitions pairs scripts lan rows history grants copies order seated 
     (λ entry. filter_both put (λ row. row.entry == entry) trace.tces ∙ ap (filter (λ row. row.entry == entry)) own_values ∙ entry_shown seat.unit window entry law.numbered)
     (λ page. filter_both laid (λ row. row.page == page) trace.strokes ∙ ap (filter (λ row. row.page == page)) own_marks ∙ page_shown seat.unit window page)
 
+-- the values that are shown of a window's entries are those that it has
+seat_values : (pairs : List Pair) (scripts : List Script) (lan : LanValue) (rows : LanRows) (history : List Served) (grants : List Grant) (copies : List CopyRecord)
+    → Ordered SeatBefore (seats_of scripts) → Each (HasLawfulWindow pairs lan) (seats_of scripts)
+    → (seat : UnitSeat) (window : WindowValue) → IsIn seat (seats_of scripts) → window_at pairs lan seat ≡ Some window
+    → (entry : ℕ) → values_shown (trace_of pairs scripts lan rows history grants copies) seat.unit entry ≡ (known_of window).values entry
+seat_values pairs scripts lan rows history grants copies order lawful seat window inside e entry =
+    let trace = trace_of pairs scripts lan rows history grants copies in
+    let seats = seats_of scripts in
+    let has : HasLawfulWindow pairs lan seat = each_in (HasLawfulWindow pairs lan) seat seats inside lawful in
+    let law : IsLawfulWindow window = subst (λ slot. IfSome slot IsLawfulWindow) e has.lawful in
+    let hits : UnitSeat → Bool = λ other. same_unit other.unit seat.unit in
+    let put : TceValueRow → Bool = λ row. same_unit row.unit seat.unit in
+    let own_values : filter put trace.tces ≡ values_in_rows seat.unit window =
+    found put hits (values_at pairs lan) seat (same_refl seat.unit) seats inside (values_told pairs lan seat.unit seats) (names_apart seat.unit seats order)
+    ∙ ap (rows_if (values_in_rows seat.unit)) e in
+    ap (λ list. (4096 * entry + 3) ∷ map (λ row. row.value) list)
+    (filter_both put (λ row. row.entry == entry) trace.tces ∙ ap (filter (λ row. row.entry == entry)) own_values ∙ entry_shown seat.unit window entry law.numbered)
+    ∙ values_said seat.unit window.rows entry
+
+pub values_are : (pairs : List Pair) (scripts : List Script) (lan : LanValue) (rows : LanRows) (history : List Served) (grants : List Grant) (copies : List CopyRecord)
+    → AreScripts pairs lan.seats scripts → All (HasLawfulWindow pairs lan) (seats_of scripts)
+    → (seat : UnitSeat) (window : WindowValue) → IsIn seat (seats_of scripts) → window_at pairs lan seat ≡ Some window
+    → (entry : ℕ) → values_shown (trace_of pairs scripts lan rows history grants copies) seat.unit entry ≡ (known_of window).values entry
+values_are pairs scripts lan rows history grants copies are windows =
+    seat_values pairs scripts lan rows history grants copies (seats_ordered pairs lan.seats scripts are) (each_from_all (HasLawfulWindow pairs lan) (seats_of scripts) windows)
+
 pub windows_shown : (pairs : List Pair) (scripts : List Script) (lan : LanValue) (rows : LanRows) (history : List Served) (grants : List Grant) (copies : List CopyRecord) (partitions : List Partition)
     → AreOfOneHome copies pairs → AreScripts pairs lan.seats scripts → All (HasLawfulWindow pairs lan) (seats_of scripts) → IsOfPlan partitions pairs scripts lan.seats
     → (seat : UnitSeat) (window : WindowValue) → IsIn seat (seats_of scripts) → window_at pairs lan seat ≡ Some window
@@ -316,4 +343,5 @@ copies_are pairs scripts lan rows history grants copies partitions are are' wind
           (λ seat h. values_lie partitions seat.unit (window_at pairs lan seat) h) seats seated));
       no_server = no_server_puts partitions pairs lan seats order seated lawful;
       made = strokes_made partitions pairs scripts lan rows history grants copies are are' plan;
+      rising = versions_once copies pairs are;
     }

@@ -113,7 +113,7 @@ is_begun rows zero number entry begun there =
     absurd (nothing_there number entry (ap (λ (entries : List Entry). slice_get entries number) (sym none) ∙ there))
 
 -- the copies that a trace shows of a server unit
-pieces_begin : (unit : UnitId) (page : ℕ) (pieces : List Piece) → begins_on unit page (map piece_row pieces) ≡ begin_on unit page pieces
+pub pieces_begin : (unit : UnitId) (page : ℕ) (pieces : List Piece) → begins_on unit page (map piece_row pieces) ≡ begin_on unit page pieces
 pieces_begin unit page [] = refl
 pieces_begin unit page (piece ∷ pieces) = refl
 
@@ -166,7 +166,7 @@ servers_apart partitions pairs unit planned =
     either true never = absurd (never refl)
     either false never = refl
 
-copies_are_by : (partitions : List Partition) (copies : List CopyRecord) (pairs : List Pair) (unit : UnitId) (k : ℕ) (pair : Pair) → ArePlanned partitions pairs
+pub copies_are_by : (partitions : List Partition) (copies : List CopyRecord) (pairs : List Pair) (unit : UnitId) (k : ℕ) (pair : Pair) → ArePlanned partitions pairs
     → slice_get pairs k ≡ Some pair → pair.server ≡ unit → filter (λ (row : CopyRow). same_unit row.unit unit) (flat_map (copies_of copies) pairs) ≡ copies_by unit copies
 copies_are_by partitions copies pairs unit k pair planned there is =
     found (λ (row : CopyRow). same_unit row.unit unit) (λ (other : Pair). same_unit other.server unit) (copies_of copies) pair

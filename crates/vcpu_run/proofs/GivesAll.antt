@@ -10,7 +10,10 @@ use Rattle.vscsi_client.specs.Turned.{unlinked}
 use Rattle.vcpu_run.specs.declared.driver.Driver.{Driver}
 use Rattle.vcpu_run.specs.declared.pair.Pair.{Pair}
 use Rattle.vcpu_run.specs.Agreed.{OnDrivers}
-use Rattle.vcpu_run.specs.TakenScripts.{AllGive, PairGives}
+use Rattle.vio_num.specs.declared.memory.NoMemory.{NoMemory}
+use Rattle.unit_region.specs.declared.step.Step.{Step}
+use Rattle.vcpu_run.specs.EventsHeard.{Hears, StepHears, events_waiting, lost_in}
+use Rattle.vcpu_run.specs.TakenScripts.{AllGive, PairGives, PairHears}
 use Rattle.vcpu_run.specs.Takings.{AreGiven, Gives, IsBegun, waiting}
 use Rattle.vcpu_run.proofs.Announcing.{both_bools}
 use Rattle.vcpu_run.proofs.Driving.{get_set_other, get_set_same, same_or, some_is}
@@ -26,6 +29,7 @@ given_through driver x y link is = record { begun = is.begun; order = is.order; 
 
 gives_through : (x y : List GName) (a b : Driver) (old new : PlainLink) → Gives a b (end_of x old false) (end_of y new false) → Gives a b (end_of [] old false) (end_of [] new false)
 gives_through x y a b old new is = record {
+  heard = is.heard;
   more = is.more;
   session = is.session;
   given = λ begun given. given_through b y [] new (is.given begun (given_through a [] x old given));
@@ -85,12 +89,12 @@ link_taken f g x y lent old link same first place taken = at f g first (ap (λ (
 pub gives_kept : (o : Option Driver) (old new : PlainLink) → (side_of new false).queue.taken ≡ (side_of old false).queue.taken
     → OnDrivers o o (λ a b. Gives a b (end_of [] old false) (end_of [] new false))
 gives_kept None old new taken = tt
-gives_kept (Some driver) old new taken = still_gives driver driver (end_of [] old false) (end_of [] new false) refl refl refl taken (λ begun. begun_at new)
+gives_kept (Some driver) old new taken = still_gives driver driver (end_of [] old false) (end_of [] new false) refl refl refl refl taken (λ begun. begun_at new)
 
 -- the driver was told that its queue was freed
 pub gives_told : (a b : Driver) (link : PlainLink) → b.answers ≡ a.answers → b.client ≡ unlinked a.client → Gives a b (end_of [] link false) (end_of [] link false)
 gives_told a b link answers client =
-    still_gives a b (end_of [] link false) (end_of [] link false) (ap (λ xs. xs.items) answers) (ap (λ (s : ClientState). s.kept) client) (ap waiting client) refl (λ begun. begun)
+    still_gives a b (end_of [] link false) (end_of [] link false) (ap events_waiting client) (ap (λ xs. xs.items) answers) (ap (λ (s : ClientState). s.kept) client) (ap waiting client) refl (λ begun. begun)
 
 -- nothing was taken at any pair
 pub all_give_same : (pairs : List Pair) → AllGive pairs pairs
@@ -122,3 +126,19 @@ pub all_give_ok : {T : Type 0} {E : Type 0} (r : Result T E) (pairs : List Pair)
     → OnOk r (AllGive pairs (slice_set pairs i new))
 all_give_ok (Ok t) pairs i old new here gives = all_give_set pairs i old new here gives
 all_give_ok (Err e) pairs i old new here gives = tt
+
+hears_at : (r : Result Step NoMemory) (f g : Bool) (x y : List GName) (s s' : ClientState) (lent old link : PlainLink) → lent ≡ old → f ≡ false → g ≡ false
+    → StepHears r s s' (end_of x lent f) (end_of y link g) → StepHears r s s' (end_of [] old false) (end_of [] link false)
+hears_at (Err e) f g x y s s' lent old link same first next is = tt
+hears_at (Ok t) f g x y s s' lent old link same first next is =
+    subst (λ (l : PlainLink). Hears (lost_in t) s s' (end_of [] l false) (end_of [] link false)) same
+    (subst (λ (d : Bool). Hears (lost_in t) s s' (end_of [] lent d) (end_of [] link false)) first
+    (subst (λ (d : Bool). Hears (lost_in t) s s' (end_of [] lent f) (end_of [] link d)) next is))
+
+-- the same of what a step of a line tells that was lost
+pub pair_hears : (r : Result Step NoMemory) (old new : Pair) (a b : Driver) (f g : Bool) (x y : List GName) (lent : PlainLink) → old.driver ≡ Some a → new.driver ≡ Some b
+    → lent ≡ old.link → f ≡ false → g ≡ false → StepHears r a.client b.client (end_of x lent f) (end_of y new.link g) → PairHears old new r
+pair_hears r old new a b f g x y lent before after same first next is =
+    subst (λ (o : Option Driver). OnDrivers o new.driver (λ a b. StepHears r a.client b.client (end_of [] old.link false) (end_of [] new.link false))) (sym before)
+    (subst (λ (o : Option Driver). OnDrivers (Some a) o (λ a b. StepHears r a.client b.client (end_of [] old.link false) (end_of [] new.link false))) (sym after)
+    (hears_at r f g x y a.client b.client lent old.link new.link same first next is))

@@ -1,6 +1,6 @@
 -- What is shown of windows and copies is shown of them later, and is all that a turn's windows told; and whether it is shown is decided.
 use Rattle.std.proofs.Common.{◌≡◌, ◌∙◌, ◌++◌, ℕ, ◌/◌, ◌<◌, ◌≤◌, Bool, true, false, List, [], ◌∷◌, Option, Some, None, Contains, length, slice_get, zero, suc, refl, sym, ap, subst, arith}
-use Rattle.std.proofs.lemmas.List.Elements.{Contains-append_right}
+use Rattle.std.proofs.lemmas.List.Elements.{Contains-append_left, Contains-append_right, filter-append}
 use native.Mathlib.Decide.{ℕ_discrete, dec_le, dec_lt, map_dec}
 use Rattle.vio_num.specs.Words.{Begins}
 use Rattle.vio_num.specs.declared.names.UnitId.{UnitId}
@@ -17,9 +17,10 @@ use Rattle.rdma_copy.specs.Copies.{side_of as side_at}
 use Rattle.rdma_copy.specs.Copy.{Side, SideGrows}
 use Rattle.rdma_copy.specs.declared.copy.CopyRecord.{CopyRecord}
 use Rattle.block_server.specs.Causes.{Includes, News}
-use Rattle.block_server.specs.Causes.News.{delivered, denied, fetched}
+use Rattle.block_server.specs.Causes.News.{delivered, denied, fetched, nth_delivered, nth_fetched}
 use Rattle.block_server.specs.Heard.{IsMadeBetween, heard_of}
-use Rattle.vcpu_run.specs.News.{HasDenied, HasGranted, HasLacked, HasMoved, HaveGranted, IsReached, MovesBytes, hearing}
+use Rattle.block_server.specs.Moves.{data_copies, is_data}
+use Rattle.vcpu_run.specs.News.{HasDenied, HasGranted, HasLacked, HasMoved, HaveGranted, IsNth, IsReached, MovesBytes, hearing}
 use Rattle.vcpu_run.proofs.Choices.{all_three, both, given, each_below, one_at, one_of, reading, same_bool, same_name, writing}
 
 -- LATER ------------------------------------------------------------------------------------------
@@ -76,25 +77,50 @@ moves_on source source' target target' name name' from to bytes copy source_grow
       (written_stays target.unit to name copy.to.items bytes target.values target'.values target.strokes target'.strokes target_grows.values target_grows.strokes is.written));
 }
 
+-- copies among more
+pub listed_on : (copies copies' : List CopyRecord) → Begins copies copies' → (copy : CopyRecord) → Contains copies copy → Contains copies' copy
+listed_on copies copies' begins copy listed = subst (λ (list : List CopyRecord). Contains list copy) (sym begins.1) (Contains-append_left copies begins.0 copy listed)
+
+still_copy : (list rest : List CopyRecord) (n : ℕ) (copy : CopyRecord) → slice_get list n ≡ Some copy → slice_get (list ++ rest) n ≡ Some copy
+still_copy [] rest n copy is = absurd (cc (is))
+still_copy (first ∷ list) rest zero copy is = is
+still_copy (first ∷ list) rest (suc n) copy is = still_copy list rest n copy is
+
+pub nth_on : (unit : UnitId) (copies copies' : List CopyRecord) → Begins copies copies' → (number : ℕ) (copy : CopyRecord) → IsNth unit copies number copy → IsNth unit copies' number copy
+nth_on unit copies copies' begins number copy is =
+    subst (λ (list : List CopyRecord). slice_get list number ≡ Some copy) (sym (ap (data_copies unit) begins.1 ∙ filter-append (is_data unit) copies begins.0))
+    (still_copy (data_copies unit copies) (data_copies unit begins.0) number copy is)
+
 abbrev name_of : UnitId → ℕ → StrokeName
 name_of unit mark = record { who = unit; mark = mark }
 
 named_on : (own own' : Side) (mark : ℕ) → SideGrows own own' → name_of own.unit mark ≡ name_of own'.unit mark
 named_on own own' mark grows = ap (λ unit. name_of unit mark) (sym grows.unit)
 
-pub hearing_on : (Listed Listed' : CopyRecord → Type 0) (own own' client client' : Side) (pages pages' : ℕ) → ((copy : CopyRecord) → copy.name.who ≡ own.unit → Listed copy → Listed' copy)
+pub hearing_on : (Listed Listed' : CopyRecord → Type 0) (Nth Nth' : ℕ → CopyRecord → Type 0) (own own' client client' : Side) (pages pages' : ℕ)
+    → ((copy : CopyRecord) → copy.name.who ≡ own.unit → Listed copy → Listed' copy) → ((number : ℕ) (copy : CopyRecord) → Nth number copy → Nth' number copy)
     → SideGrows own own' → SideGrows client client'
-    → pages ≡ pages' → Includes (hearing Listed own client pages) (hearing Listed' own' client' pages')
-hearing_on Listed Listed' own own' client client' pages pages' more own_grows client_grows same (denied right address len fault) is =
+    → pages ≡ pages' → Includes (hearing Listed Nth own client pages) (hearing Listed' Nth' own' client' pages')
+hearing_on Listed Listed' Nth Nth' own own' client client' pages pages' more nth own_grows client_grows same (denied right address len fault) is =
     subst (λ (n : ℕ). HasDenied client'.values right n address len fault) same (denied_on client.values client'.values right pages address len fault client_grows.values is)
-hearing_on Listed Listed' own own' client client' pages pages' more own_grows client_grows same (fetched address at bytes) is = record {
+hearing_on Listed Listed' Nth Nth' own own' client client' pages pages' more nth own_grows client_grows same (fetched address at bytes) is = record {
   copy = is.copy;
   listed = more is.copy (ap (λ (name : StrokeName). name.who) is.moves.name_is) is.listed;
   moves = moves_on client client' own own' (name_of own.unit 0) (name_of own'.unit 0) address at bytes is.copy client_grows own_grows (named_on own own' 0 own_grows) is.moves;
 }
-hearing_on Listed Listed' own own' client client' pages pages' more own_grows client_grows same (delivered at address mark bytes) is = record {
+hearing_on Listed Listed' Nth Nth' own own' client client' pages pages' more nth own_grows client_grows same (delivered at address mark bytes) is = record {
   copy = is.copy;
   listed = more is.copy (ap (λ (name : StrokeName). name.who) is.moves.name_is) is.listed;
+  moves = moves_on own own' client client' (name_of own.unit mark) (name_of own'.unit mark) at address bytes is.copy own_grows client_grows (named_on own own' mark own_grows) is.moves;
+}
+hearing_on Listed Listed' Nth Nth' own own' client client' pages pages' more nth own_grows client_grows same (nth_fetched number address at bytes) is = record {
+  copy = is.copy;
+  listed = nth number is.copy is.listed;
+  moves = moves_on client client' own own' (name_of own.unit 0) (name_of own'.unit 0) address at bytes is.copy client_grows own_grows (named_on own own' 0 own_grows) is.moves;
+}
+hearing_on Listed Listed' Nth Nth' own own' client client' pages pages' more nth own_grows client_grows same (nth_delivered number at address mark bytes) is = record {
+  copy = is.copy;
+  listed = nth number is.copy is.listed;
   moves = moves_on own own' client client' (name_of own.unit mark) (name_of own'.unit mark) at address bytes is.copy own_grows client_grows (named_on own own' mark own_grows) is.moves;
 }
 
@@ -141,7 +167,7 @@ made_listed P old new is =
 
 -- All that a turn's windows told is shown behind it.
 pub turn_shown : (shared : Bool) (own client client' : PortState) (copies copies' : List CopyRecord) → client'.place.size ≡ client.place.size
-    → Includes (heard_of shared own client client' copies copies') (hearing (Contains copies') (side_at own) (side_at client') client'.place.size)
+    → Includes (heard_of shared own client client' copies copies') (hearing (Contains copies') (IsNth own.place.unit copies') (side_at own) (side_at client') client'.place.size)
 turn_shown shared own client client' copies copies' size (denied right address len fault) is =
     refused_shown is.values client'.values right client'.place.size address len fault is.until is.of_entry
     (subst (λ (n : ℕ). IsRefused is.values right n address len fault) (sym size) is.refused)
@@ -165,6 +191,26 @@ turn_shown shared own client client' copies copies' size (delivered at address m
     written = subst (λ (n : StrokeName). IsWrittenTo client'.place.unit client'.values client'.strokes address n is.copy.to.items bytes) is.is.name_is is.is.written;
   };
 }
+turn_shown shared own client client' copies copies' size (nth_fetched number address at bytes) is = record {
+  copy = is.copy;
+  listed = is.there;
+  moves = record {
+    name_is = is.is.name_is;
+    len_is = is.is.len_is;
+    read = is.is.read;
+    written = subst (λ (n : StrokeName). IsWrittenTo own.place.unit own.values own.strokes at n is.copy.to.items bytes) is.is.name_is is.is.written;
+  };
+}
+turn_shown shared own client client' copies copies' size (nth_delivered number at address mark bytes) is = record {
+  copy = is.copy;
+  listed = is.there;
+  moves = record {
+    name_is = is.is.name_is;
+    len_is = is.is.len_is;
+    read = is.is.read;
+    written = subst (λ (n : StrokeName). IsWrittenTo client'.place.unit client'.values client'.strokes address n is.copy.to.items bytes) is.is.name_is is.is.written;
+  };
+}
 
 -- DECIDED ----------------------------------------------------------------------------------------
 
@@ -179,6 +225,21 @@ has_moved : (copies : List CopyRecord) (source target : Side) (name : StrokeName
 has_moved copies source target name from to bytes =
     map_dec (λ e. record { copy = e.0; listed = e.1; moves = e.2 }) (λ is. (is.copy, is.listed, is.moves))
     (one_of (MovesBytes source target name from to bytes) (moved source target name from to bytes) copies)
+
+-- the copy of this number
+nth_moved : (list : List CopyRecord) (number : ℕ) (source target : Side) (name : StrokeName) (from to : ℕ) (bytes : List ℕ)
+    → Dec (HasMoved (λ copy. slice_get list number ≡ Some copy) source target name from to bytes)
+nth_moved list number source target name from to bytes = at (slice_get list number) refl
+  where
+    one : (a b : CopyRecord) → Some a ≡ Some b → a ≡ b
+    one a b same = cc (same)
+
+    at : (found : Option CopyRecord) → slice_get list number ≡ found → Dec (HasMoved (λ copy. slice_get list number ≡ Some copy) source target name from to bytes)
+    at None there = no (λ is. cc (there, is.listed))
+    at (Some copy) there =
+        map_dec (λ moves. record { copy = copy; listed = there; moves = moves })
+        (λ is. subst (MovesBytes source target name from to bytes) (one is.copy copy (sym is.listed ∙ there)) is.moves)
+        (moved source target name from to bytes copy)
 
 has_granted : (values : ℕ → List ℕ) (right : Right) (e : ℕ) → Dec (HasGranted values right e)
 has_granted values right e =
@@ -213,7 +274,10 @@ has_denied values right n address len (NotGranted entry version tce) =
     all_three (is_reached values right n address len entry) (dec_lt entry n) (has_lacked values right entry version tce)
 has_denied values right n address len (InUse page word) = no (λ never. never)
 
-pub hearing_decided : (copies : List CopyRecord) (own client : Side) (pages : ℕ) (news : News) → Dec (hearing (Contains copies) own client pages news)
-hearing_decided copies own client pages (denied right address len fault) = has_denied client.values right pages address len fault
-hearing_decided copies own client pages (fetched address at bytes) = has_moved copies client own (name_of own.unit 0) address at bytes
-hearing_decided copies own client pages (delivered at address mark bytes) = has_moved copies own client (name_of own.unit mark) at address bytes
+pub hearing_decided : (copies numbered : List CopyRecord) (own client : Side) (pages : ℕ) (news : News)
+    → Dec (hearing (Contains copies) (λ number copy. slice_get numbered number ≡ Some copy) own client pages news)
+hearing_decided copies numbered own client pages (denied right address len fault) = has_denied client.values right pages address len fault
+hearing_decided copies numbered own client pages (fetched address at bytes) = has_moved copies client own (name_of own.unit 0) address at bytes
+hearing_decided copies numbered own client pages (delivered at address mark bytes) = has_moved copies own client (name_of own.unit mark) at address bytes
+hearing_decided copies numbered own client pages (nth_fetched number address at bytes) = nth_moved numbered number client own (name_of own.unit 0) address at bytes
+hearing_decided copies numbered own client pages (nth_delivered number at address mark bytes) = nth_moved numbered number own client (name_of own.unit mark) at address bytes

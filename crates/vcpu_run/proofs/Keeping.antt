@@ -21,9 +21,11 @@ use Rattle.vscsi_client.specs.Transferred.{FitRows}
 use Rattle.vscsi_client.specs.declared.TheConstants.{MIN_PAGES}
 use Rattle.vcpu_run.specs.declared.driver.Driver.{Driver}
 use Rattle.vcpu_run.specs.declared.pair.Pair.{Pair}
+use Rattle.vcpu_run.specs.LinesShow.{Sees, seen_at}
 use Rattle.vcpu_run.specs.Machines.{AllStay, KeepsDriver, Stays}
 use Rattle.block_server.specs.Makers.{AreNamed}
 use Rattle.vcpu_run.specs.Named.{absent_unit}
+use Rattle.vcpu_run.proofs.LinesShown.{drives_sees, sees_on, sees_same}
 use Rattle.vcpu_run.proofs.PairNames.{names_driven, names_served, none_keeps}
 use Rattle.vcpu_run.specs.Pairs.{AreDriven, AreDrivers, ArePairs, Drives, GoesOn, IsCopyOf, IsDriver, IsPair}
 use Rattle.vcpu_run.proofs.Listed.{came_from, each_same, each_then, held_then}
@@ -186,14 +188,27 @@ drives_stays old new d = record {
   client_unit = d.unit;
 }
 
+-- what there was at a pair is there
+abbrev SeesPair : Pair → Pair → Type 0
+SeesPair old new = Sees (seen_at old) (seen_at new)
+
 pub all_same : (pairs : List Pair) → AllStay pairs pairs
-all_same pairs = record { count = refl; each = each_same Stays pairs stays_same }
+all_same pairs = record {
+  count = refl;
+  each = each_same Stays pairs stays_same;
+  sees = each_same SeesPair pairs (λ pair. sees_same (seen_at pair));
+}
 
 pub all_then : (a b c : List Pair) → AllStay a b → AllStay b c → AllStay a c
-all_then a b c one two = record { count = two.count ∙ one.count; each = each_then Stays a b c stays_then one.each two.each }
+all_then a b c one two = record {
+  count = two.count ∙ one.count;
+  each = each_then Stays a b c stays_then one.each two.each;
+  sees = each_then SeesPair a b c (λ x y z. sees_on (seen_at x) (seen_at y) (seen_at z)) one.sees two.sees;
+}
 
 pub driven_stay : (old new : List Pair) → AreDriven old new → AllStay old new
 driven_stay old new d = record {
   count = d.count;
   each = λ k pair found. held_then (Drives pair) (Stays pair) (slice_get new k) (drives_stays pair) (d.each k pair found);
+  sees = λ k pair found. held_then (Drives pair) (SeesPair pair) (slice_get new k) (drives_sees pair) (d.each k pair found);
 }

@@ -10,9 +10,11 @@ pub mod Blocks
 pub mod Booted
 pub mod Calls
 pub mod CallsGathered
+pub mod CallsGrow
 pub mod CallsKept
 pub mod Causings
 pub mod Choices
+pub mod ClientCalls
 pub mod ClientsTold
 pub mod Copied
 pub mod Crediting
@@ -21,7 +23,9 @@ pub mod Cuts
 pub mod Disks
 pub mod Driving
 pub mod Elsewhere
+pub mod EventsHeard
 pub mod Fetching
+pub mod DataRows
 pub mod Following
 pub mod FramesCarried
 pub mod Freed
@@ -58,8 +62,12 @@ pub mod Ordering
 pub mod OwnLines
 pub mod PairNames
 pub mod Parts
+pub mod PortAddresses
 pub mod Placing
+pub mod PortFitting
+pub mod PortOffering
 pub mod PortOrder
+pub mod PortPosting
 pub mod PortReplaying
 pub mod PortRising
 pub mod PortTelling
@@ -71,6 +79,7 @@ pub mod PortsTelling
 pub mod PortsTold
 pub mod QueueLaws
 pub mod RawCalling
+pub mod RawReturned
 pub mod RawSaid
 pub mod Receiving
 pub mod RecordLaws
@@ -78,6 +87,7 @@ pub mod RefusalsTold
 pub mod Requesting
 pub mod Resting
 pub mod RowCopies
+pub mod RunsMore
 pub mod Sayings
 pub mod RoundsTold
 pub mod Scripted
@@ -107,5 +117,6 @@ pub mod ToldRows
 pub mod TurnOrder
 pub mod TurnRest
 pub mod Unfreed
+pub mod ValuesKept
 pub mod Waiting
 pub mod Working

@@ -696,7 +696,7 @@ stroke_shown size page stroke strokes shown grows on = at (nat_lt page size) gro
     at false more = absurd (grown_on stroke strokes None more on)
 
 -- a step at the pair where a client sits
-end_sees : (pair : Pair) (lenders : List GName) (first : Bool) → first ≡ false → Sees (seen_by false (known_of pair.window) (end_of lenders pair.link first)) (seen_at pair)
+pub end_sees : (pair : Pair) (lenders : List GName) (first : Bool) → first ≡ false → Sees (seen_by false (known_of pair.window) (end_of lenders pair.link first)) (seen_at pair)
 end_sees pair lenders first is =
     subst (λ b. Sees (seen_by false (known_of pair.window) (end_of lenders pair.link b)) (seen_at pair)) (sym is)
     (home_sees pair (known_of pair.window) (end_of lenders pair.link false) refl refl refl refl refl)

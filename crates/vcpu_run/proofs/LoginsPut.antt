@@ -1,9 +1,9 @@
 -- The answers to requests to log in that a unit put: over its own turns, turns of others, before the first, and at rest.
-use Rattle.std.proofs.Common.{◌≡◌, ◌⊎◌, inl, inr, ◌∙◌, ◌++◌, ◌&&◌, ℕ, Bool, true, false, cond, All, List, [], ◌∷◌, Option, Some, None, filter, refl, sym, ap, subst, append-nil}
-use Rattle.std.specs.List.{filter_map}
+use Rattle.std.proofs.Common.{◌≡◌, ◌⊎◌, inl, inr, ◌∙◌, ◌++◌, ◌==◌, ◌&&◌, ℕ, Bool, true, false, cond, All, List, [], ◌∷◌, Option, Some, None, IfSome, filter, map, slice_get, refl, sym, ap, subst, append-nil}
+use Rattle.std.specs.List.{cons_option, filter_map}
 use Rattle.std.proofs.Math.Logic.{∥∥₁_elim}
-use Rattle.std.proofs.lemmas.List.{append_cancel_left}
-use Rattle.std.proofs.lemmas.List.Elements.{All-head, All-tail, All-weaker, filter-append}
+use Rattle.std.proofs.lemmas.List.{append_cancel_left, map-append}
+use Rattle.std.proofs.lemmas.List.Elements.{All-head, All-nil, All-tail, All-weaker, filter-append}
 use Rattle.crq_ring.specs.declared.rows.PipeRow.{PipeRow}
 use Rattle.vio_num.specs.Words.{Begins}
 use Rattle.vio_num.specs.declared.entry.Entry.{Entry}
@@ -11,17 +11,27 @@ use Rattle.vio_num.specs.declared.history.Grant.{Grant}
 use Rattle.vio_num.specs.declared.history.Grant.TheVariants.{Granted, Lapsed}
 use Rattle.vio_num.specs.declared.names.UnitId.{UnitId}
 use Rattle.crq_session.specs.EndState.{EndState}
-use Rattle.block_server.specs.Causes.{Hearing, Includes}
+use Rattle.block_server.specs.Asked.{AreAskedInOrder, AskInOrder, AskedAt, IsAskedFirst, still_to_answer}
+use Rattle.block_server.specs.Causes.{Hearing, Includes, Told, told_to}
 use Rattle.block_server.specs.Dealt.{AreDealt, AsksNoLogin, IsLoginAnswered}
 use Rattle.block_server.specs.Granting.{IsRejectedOver}
-use Rattle.block_server.specs.LoginAnswers.{IsLoginAnswer, IsLoginPut, LoginAnswer, LoginsMore, grants_in, is_grant, line_of}
+use Rattle.block_server.specs.LoginAnswers.{IsLoginAnswer, IsLoginPut, LoginAnswer, asked_at, grants_in, is_grant, line_of, login_answers}
+use Rattle.block_server.specs.Judges.{AreUnused}
 use Rattle.block_server.specs.Makers.{same_unit}
 use Rattle.block_server.specs.Ready.{HasNothing}
 use Rattle.block_server.specs.Receipts.{LinesMore, is_ended, unit_of}
+use Rattle.block_server.specs.Refusals.{AnswersInOrder}
+use Rattle.block_server.specs.declared.records.Records.{Records}
 use Rattle.block_server.specs.declared.unit.Unit.{Unit}
+use Rattle.block_server.specs.Closings.{is_line, last_of}
+use Rattle.block_server.specs.Numbers.{login_left}
+use Rattle.block_server.specs.Rejecting.{IsOnByLines, LinesTellLogin, RejectInTime, RejectsThen}
+use Rattle.block_server.proofs.AskedLaws.{asked_kept, on_kept}
+use Rattle.std.proofs.lemmas.Option.{IfSome_then}
 use Rattle.block_server.proofs.DealtLaws.{dealt_at_rest}
-use Rattle.block_server.proofs.Laws.{logins_none, logins_on}
-use Rattle.vcpu_run.specs.LoginsSent.{AreLoginsAnswered, AreLoginsPut, lines_by}
+use Rattle.block_server.proofs.Laws.{logins_on}
+use Rattle.block_server.proofs.OnThen.{in_time_on}
+use Rattle.vcpu_run.specs.LoginsSent.{AreLoginsAnswered, AreLoginsInOrder, GoInOrder, lines_by}
 use Rattle.vcpu_run.proofs.RowCopies.{granted_more}
 use Rattle.vcpu_run.proofs.Sole.{same_refl}
 
@@ -115,30 +125,145 @@ own_grants unit lines lines' more came granted =
     ∙ (ap (λ (list : List Grant). list ++ filter (is_by unit) (filter_map line_of more)) (either_order (is_by unit) is_grant lines)
     ∙ ap (λ (list : List Grant). grants_in (lines_by unit lines) ++ list) (keeps_all unit (filter_map line_of more) (grants_all unit lines lines' more came granted)))))
 
+-- a line of others is none of the unit's
+by_line : (unit : UnitId) (session : ℕ) (line : Grant) → is_by unit line ≡ false → is_line unit session line ≡ false
+by_line unit session (Granted of q login number credits) other = and_false (same_unit of unit) (q == session) other
+  where
+    and_false : (a b : Bool) → a ≡ false → (a && b) ≡ false
+    and_false a b is = cc (is)
+by_line unit session (Lapsed of q login cause outstanding granted) other = and_false (same_unit of unit) (q == session) other
+  where
+    and_false : (a b : Bool) → a ≡ false → (a && b) ≡ false
+    and_false a b is = cc (is)
+
+-- none is left by a test that none passes
+filter_none : (test : Grant → Bool) (lines : List Grant) → All (λ line. test line ≡ false) lines → filter test lines ≡ []
+filter_none test [] all = refl
+filter_none test (line ∷ lines) all = skips test line lines (All-head (λ line. test line ≡ false) line lines all) ∙ filter_none test lines (All-tail (λ line. test line ≡ false) line lines all)
+
+-- the unit's lines of a session among its own
+session_by : (unit : UnitId) (session : ℕ) (lines : List Grant) → filter (is_line unit session) (lines_by unit lines) ≡ filter (is_line unit session) lines
+session_by unit session [] = refl
+session_by unit session (line ∷ lines) = at (is_by unit line) refl (session_by unit session lines)
+  where
+    keep : (a b : List Grant) → a ≡ b → (t : Bool) → cond t (line ∷ a) a ≡ cond t (line ∷ b) b
+    keep a b same t = ap (λ (list : List Grant). cond t (line ∷ list) list) same
+
+    at : (b : Bool) → is_by unit line ≡ b → filter (is_line unit session) (lines_by unit lines) ≡ filter (is_line unit session) lines
+        → filter (is_line unit session) (lines_by unit (line ∷ lines)) ≡ filter (is_line unit session) (line ∷ lines)
+    at true e same = ap (filter (is_line unit session)) (passes (is_by unit) line lines e) ∙ keep (filter (is_line unit session) (lines_by unit lines)) (filter (is_line unit session) lines) same (is_line unit session line)
+    at false e same = ap (filter (is_line unit session)) (skips (is_by unit) line lines e) ∙ (same ∙ sym (skips (is_line unit session) line lines (by_line unit session line e)))
+
+-- By the unit's own lines each was rejected in time, too.
+in_time_by : (unit : UnitId) (granted lines : List Grant) (more : List LoginAnswer) → all_by unit (filter_map line_of more) ≡ true → RejectInTime unit granted lines more
+    → RejectInTime unit (filter (is_by unit) granted) (lines_by unit lines) more
+in_time_by unit granted lines [] all is = tt
+in_time_by unit granted lines (answer ∷ more) all is = step answer.line (λ list. in_time_by unit list lines more) all is.0 is.1
+  where
+    then : (line : Option Grant) → RejectsThen unit granted lines line answer → RejectsThen unit (filter (is_by unit) granted) (lines_by unit lines) line answer
+    then (Some line) was = tt
+    then None was = record {
+      before = lines_by unit was.before;
+      after = lines_by unit was.after;
+      parts = ap (lines_by unit) was.parts ∙ filter-append (is_by unit) was.before was.after;
+      grants = either_order is_grant (is_by unit) was.before ∙ ap (filter (is_by unit)) was.grants;
+      on_is = was.on_is ∙ ap (λ (list : List Grant). login_left (last_of list)) (sym (session_by unit answer.asked.session was.before));
+    }
+
+    first : (a b : Bool) → (a && b) ≡ true → a ≡ true
+    first true b is = refl
+    first false b is = absurd (cc (is))
+
+    behind : (a b : Bool) → (a && b) ≡ true → b ≡ true
+    behind true b is = is
+    behind false b is = absurd (cc (is))
+
+    step : (line : Option Grant) → ((list : List Grant) → all_by unit (filter_map line_of more) ≡ true → RejectInTime unit list lines more → RejectInTime unit (filter (is_by unit) list) (lines_by unit lines) more)
+        → all_by unit (cons_option line (filter_map line_of more)) ≡ true → RejectsThen unit granted lines line answer → RejectInTime unit (granted ++ cons_option line []) lines more
+        → RejectsThen unit (filter (is_by unit) granted) (lines_by unit lines) line answer × RejectInTime unit (filter (is_by unit) granted ++ cons_option line []) (lines_by unit lines) more
+    step None rest_by all was rest = (
+      then None was,
+      subst (λ (list : List Grant). RejectInTime unit list (lines_by unit lines) more) (filter-append (is_by unit) granted []) (rest_by (granted ++ []) all rest),
+    )
+    step (Some line) rest_by all was rest = (
+      tt,
+      subst (λ (list : List Grant). RejectInTime unit list (lines_by unit lines) more)
+          (filter-append (is_by unit) granted (line ∷ [])
+          ∙ ap (λ (list : List Grant). filter (is_by unit) granted ++ list) (passes (is_by unit) line [] (first (is_by unit line) (all_by unit (filter_map line_of more)) all)))
+          (rest_by (granted ++ line ∷ []) (behind (is_by unit line) (all_by unit (filter_map line_of more)) all) rest),
+    )
+
 -- OVER TURNS -------------------------------------------------------------------------------------
 
 -- Over a turn of the unit.
-pub logins_served : {granted : ℕ} (Hears : Hearing) (unit : UnitId) (taken taken' : List PipeRow) (answers answers' : List Entry) (lines lines' : List Grant) → Begins taken taken' → ∥ LinesMore unit granted lines lines' ∥₁
-    → LoginsMore Hears taken' answers answers' lines lines' → AreLoginsPut Hears unit taken answers lines → AreLoginsPut Hears unit taken' answers' lines'
-logins_served Hears unit taken taken' answers answers' lines lines' more came puts is =
-    logins_on Hears taken taken' [] answers answers' [] (lines_by unit lines) (lines_by unit lines') more is
-    (record { more = puts.more; put = puts.put; granted = own_grants unit lines lines' puts.more came puts.granted; each = puts.each })
+pub order_served : {granted : ℕ} (told : Told → Bool) (unit : UnitId) (units units' : List Unit) (k : ℕ) (queue queue' : EndState) (records records' : Records) → Begins queue.taken queue'.taken
+    → ∥ LinesMore unit granted records.grants.items records'.grants.items ∥₁
+    → ((earlier : List AskedAt) → AskInOrder earlier units k queue → LinesTellLogin units k unit queue records.grants.items → AnswersInOrder told earlier units' k unit queue queue' records records')
+    → GoInOrder told units k unit queue.last_session queue.taken (login_answers queue.sent) records.grants.items
+    → GoInOrder told units' k unit queue'.last_session queue'.taken (login_answers queue'.sent) records'.grants.items
+unfolding logins_on
+order_served told unit units units' k queue queue' records records' more came step is =
+    let Hears = told_to told unit in
+    let lines = records.grants.items in
+    let lines' = records'.grants.items in
+    let now = step (map asked_at is.put.more) is.asked is.on in
+    let puts = now.logins in
+    record {
+      put = logins_on Hears queue.taken queue'.taken [] (login_answers queue.sent) (login_answers queue'.sent) [] (lines_by unit lines) (lines_by unit lines') more is.put
+          (record { more = puts.more; put = puts.put; granted = own_grants unit lines lines' puts.more came puts.granted; each = puts.each });
+      asked = subst (λ (list : List AskedAt). AskInOrder list units' k queue') (sym (map-append asked_at is.put.more puts.more)) now.order;
+      rejects = in_time_on unit [] (lines_by unit lines) (lines_by unit lines') is.put.more puts.more
+          (lines_by unit now.lines.0, ap (lines_by unit) now.lines.1 ∙ filter-append (is_by unit) lines now.lines.0) is.rejects
+          (subst (λ (list : List Grant). RejectInTime unit list (lines_by unit lines') puts.more) (either_order (is_by unit) is_grant lines ∙ is.put.granted)
+          (in_time_by unit (grants_in lines) lines' puts.more (grants_all unit lines lines' puts.more came puts.granted) now.rejects));
+      on = now.on;
+    }
 
 -- Over a turn of another unit.
-pub logins_elsewhere : {granted : ℕ} (Hears : Hearing) (unit other : UnitId) (taken : List PipeRow) (answers : List Entry) (lines lines' : List Grant) → LinesMore other granted lines lines' → same_unit other unit ≡ false
-    → AreLoginsPut Hears unit taken answers lines → AreLoginsPut Hears unit taken answers lines'
-logins_elsewhere Hears unit other taken answers lines lines' came apart = subst (λ (list : List Grant). LoginsMore Hears taken [] answers [] list) (sym same)
+lines_elsewhere : {granted : ℕ} (unit other : UnitId) (lines lines' : List Grant) → LinesMore other granted lines lines' → same_unit other unit ≡ false → lines_by unit lines' ≡ lines_by unit lines
+lines_elsewhere unit other lines lines' came apart =
+    ap (lines_by unit) came.added ∙ (filter-append (is_by unit) lines came.more
+    ∙ (ap (λ (list : List Grant). lines_by unit lines ++ list)
+    (keeps_none unit came.more
+    (All-weaker (λ line. unit_of line ≡ other) (λ line. is_by unit line ≡ false) (λ line of. ap (λ (id : UnitId). same_unit id unit) of ∙ apart) came.more came.of_unit))
+    ∙ append-nil (lines_by unit lines)))
+
+pub order_elsewhere : {granted : ℕ} (told : Told → Bool) (units units' : List Unit) (k : ℕ) (unit other : UnitId) (session : ℕ) (taken : List PipeRow) (answers : List Entry) (lines lines' : List Grant)
+    → slice_get units' k ≡ slice_get units k → LinesMore other granted lines lines' → same_unit other unit ≡ false
+    → GoInOrder told units k unit session taken answers lines → GoInOrder told units' k unit session taken answers lines'
+order_elsewhere told units units' k unit other session taken answers lines lines' same came apart is = record {
+  put = record { more = is.put.more; put = is.put.put; granted = ap grants_in (lines_elsewhere unit other lines lines' came apart) ∙ is.put.granted; each = is.put.each };
+  asked = subst (λ (o : Option Unit). IfSome o (λ u. AreAskedInOrder (map asked_at is.put.more ++ still_to_answer session taken u.waiting u.pending.items))) (sym same) is.asked;
+  rejects = subst (λ (list : List Grant). RejectInTime unit [] list is.put.more) (sym (lines_elsewhere unit other lines lines' came apart)) is.rejects;
+  on = subst (λ (o : Option Unit). IfSome o (λ u. IsOnByLines unit session u.logins.current (is_ended u.line) lines')) (sym same)
+      (IfSome_then (slice_get units k) is.on (λ u was. record {
+        on = was.on ∙ ap (λ (list : List Grant). login_left (last_of list)) (sym (others session));
+        off = was.off;
+        later = λ q above. others q ∙ was.later q above;
+      }));
+}
   where
-    same : lines_by unit lines' ≡ lines_by unit lines
-    same = ap (lines_by unit) came.added ∙ (filter-append (is_by unit) lines came.more
-        ∙ (ap (λ (list : List Grant). lines_by unit lines ++ list)
-        (keeps_none unit came.more
-        (All-weaker (λ line. unit_of line ≡ other) (λ line. is_by unit line ≡ false) (λ line of. ap (λ (id : UnitId). same_unit id unit) of ∙ apart) came.more came.of_unit))
-        ∙ append-nil (lines_by unit lines)))
+    others : (q : ℕ) → filter (is_line unit q) lines' ≡ filter (is_line unit q) lines
+    others q = ap (filter (is_line unit q)) came.added ∙ filter-append (is_line unit q) lines came.more
+        ∙ (ap (λ (list : List Grant). filter (is_line unit q) lines ++ list)
+        (filter_none (is_line unit q) came.more
+        (All-weaker (λ line. unit_of line ≡ other) (λ line. is_line unit q line ≡ false) (λ line of. by_line unit q line (ap (λ (id : UnitId). same_unit id unit) of ∙ apart)) came.more came.of_unit))
+        ∙ append-nil (filter (is_line unit q) lines))
 
 -- Before the first turn.
-pub logins_fresh : (Hears : Hearing) (unit : UnitId) (taken : List PipeRow) (answers : List Entry) (lines : List Grant) → answers ≡ [] → lines ≡ [] → AreLoginsPut Hears unit taken answers lines
-logins_fresh Hears unit taken answers lines none no_lines = logins_none Hears taken [] answers [] (lines_by unit lines) none (ap (λ (list : List Grant). grants_in (lines_by unit list)) no_lines)
+pub order_fresh : (told : Told → Bool) (units : List Unit) (k : ℕ) (unit : UnitId) (queue : EndState) (answers : List Entry) (lines : List Grant) → answers ≡ [] → lines ≡ [] → queue.taken ≡ []
+    → AreUnused units → GoInOrder told units k unit queue.last_session queue.taken answers lines
+order_fresh told units k unit queue answers lines none no_lines empty unused = record {
+  put = record {
+    more = [];
+    put = none;
+    granted = ap (λ (list : List Grant). grants_in (lines_by unit list)) no_lines;
+    each = All-nil (IsLoginAnswer (told_to told unit) queue.taken);
+  };
+  asked = asked_kept units k unit queue [] [] [] (unused k unit queue empty);
+  rejects = tt;
+  on = subst (λ (list : List Grant). LinesTellLogin units k unit queue list) (sym no_lines) (on_kept units k unit queue [] [] [] (unused k unit queue empty));
+}
 
 -- MORE IS HEARD ----------------------------------------------------------------------------------
 
@@ -157,9 +282,10 @@ rejected_more Hears More more taken session number is = record {
   written = more _ is.written;
 }
 
-put_more : (Hears More : Hearing) → Includes Hears More → (taken : List PipeRow) (entry : Entry) (line : Option Grant) → IsLoginPut Hears taken entry line → IsLoginPut More taken entry line
+put_more : (Hears More : Hearing) → Includes Hears More → (taken : List PipeRow) (entry : Entry) (line : Option Grant) (asked : AskedAt) (on : ℕ) → IsLoginPut Hears taken entry line asked on
+    → IsLoginPut More taken entry line asked on
 unfolding rejected_more
-put_more Hears More more taken entry (Some (Granted unit session login number credits)) is = record {
+put_more Hears More more taken entry (Some (Granted unit session login number credits)) asked on is = record {
   over = record {
     entry = is.over.entry;
     at = is.over.at;
@@ -174,18 +300,34 @@ put_more Hears More more taken entry (Some (Granted unit session login number cr
     written = more _ is.over.written;
   };
   entry_is = is.entry_is;
+  asked_is = is.asked_is;
 }
-put_more Hears More more taken entry (Some (Lapsed unit session login cause outstanding granted)) is = is
-put_more Hears More more taken entry None is =
-    record { session = is.session; number = is.number; over = rejected_more Hears More more taken is.session is.number is.over; entry_is = is.entry_is }
+put_more Hears More more taken entry (Some (Lapsed unit session login cause outstanding granted)) asked on is = is
+put_more Hears More more taken entry None asked on is =
+    record { over = rejected_more Hears More more taken asked.session asked.number is.over; entry_is = is.entry_is; on_is = is.on_is }
 
-pub logins_more : (Hears More : Hearing) → Includes Hears More → (unit : UnitId) (taken : List PipeRow) (answers : List Entry) (lines : List Grant) → AreLoginsPut Hears unit taken answers lines
-    → AreLoginsPut More unit taken answers lines
-logins_more Hears More more unit taken answers lines is = record {
-  more = is.more;
-  put = is.put;
-  granted = is.granted;
-  each = All-weaker (IsLoginAnswer Hears taken) (IsLoginAnswer More taken) (λ answer is. put_more Hears More more taken answer.entry answer.line is) is.more is.each;
+-- those at the front of a list that is in order are
+first_front : (a : AskedAt) (xs ys : List AskedAt) → IsAskedFirst a (xs ++ ys) → IsAskedFirst a xs
+first_front a [] ys is = tt
+first_front a (x ∷ xs) ys is = (is.0, first_front a xs ys is.1)
+
+order_front : (xs ys : List AskedAt) → AreAskedInOrder (xs ++ ys) → AreAskedInOrder xs
+order_front [] ys is = tt
+order_front (x ∷ xs) ys is = (first_front x xs ys is.0, order_front xs ys is.1)
+
+-- What a unit put, by all that is shown.
+pub order_shown : (told : Told → Bool) (More : Hearing) (units : List Unit) (k : ℕ) (u : Unit) (unit : UnitId) (session : ℕ) (taken : List PipeRow) (answers : List Entry) (lines : List Grant)
+    → Includes (told_to told unit) More → slice_get units k ≡ Some u → GoInOrder told units k unit session taken answers lines → AreLoginsInOrder More unit taken answers lines
+order_shown told More units k u unit session taken answers lines more there is = record {
+  put = record {
+    more = is.put.more;
+    put = is.put.put;
+    granted = is.put.granted;
+    each = All-weaker (IsLoginAnswer (told_to told unit) taken) (IsLoginAnswer More taken) (λ answer was. put_more (told_to told unit) More more taken answer.entry answer.line answer.asked answer.on was) is.put.more is.put.each;
+  };
+  order = order_front (map asked_at is.put.more) (still_to_answer session taken u.waiting u.pending.items)
+      (subst (λ (o : Option Unit). IfSome o (λ u. AreAskedInOrder (map asked_at is.put.more ++ still_to_answer session taken u.waiting u.pending.items))) there is.asked);
+  rejects = is.rejects;
 }
 
 -- of an entry that asked for no login, or whose login was answered

@@ -33,7 +33,7 @@ use Rattle.vcpu_run.specs.CopyRows.{same_unit}
 use Rattle.vcpu_run.specs.Gathered.{HasLawfulQueue, HasLawfulWindow, queue_at, rows_if, sessions_at, trace_of}
 use Rattle.vcpu_run.specs.Heard.{UnitGoesBy}
 use Rattle.vcpu_run.specs.Intake.{entries_taken, rows_taken}
-use Rattle.vcpu_run.specs.LoginsSent.{AreLoginsAnswered, AreLoginsPut, LoginsAreAnswered, LoginsAreSent, logins_to}
+use Rattle.vcpu_run.specs.LoginsSent.{AreLoginsAnswered, AreLoginsInOrder, GoInOrder, LoginsAreAnswered, LoginsAreSent, logins_to}
 use Rattle.vcpu_run.specs.Machines.{AreScripts, IsOfPlan}
 use Rattle.vcpu_run.specs.Pairs.{AreOfOneHome}
 use Rattle.vcpu_run.specs.Received.{AreAtRest}
@@ -45,7 +45,7 @@ use Rattle.vcpu_run.proofs.Copied.{names_apart}
 use Rattle.vcpu_run.proofs.Fetching.{all_taken}
 use Rattle.vcpu_run.proofs.Following.{each_from_all}
 use Rattle.vcpu_run.proofs.Listed.{held}
-use Rattle.vcpu_run.proofs.LoginsPut.{logins_at_rest, logins_more}
+use Rattle.vcpu_run.proofs.LoginsPut.{logins_at_rest, order_shown}
 use Rattle.vcpu_run.proofs.Parts.{IsIn, each_in, found}
 use Rattle.vcpu_run.proofs.Placing.{seats_ordered}
 use Rattle.vcpu_run.proofs.QueueLaws.{sessions_told}
@@ -62,19 +62,20 @@ sessions_count unit pipe q (suc n) = ap suc (sessions_count unit pipe (q + 1) n)
 
 -- what is so of the answers to one unit's requests to log in
 pub record AreLoginsShown (partitions : List Partition) (trace : Trace) (server client : UnitId) : Type 0 where
-  pub put : AreLoginsPut (shown_to partitions trace server client) server (entries_taken trace server) (logins_to trace client) trace.grants
+  pub put : AreLoginsInOrder (shown_to partitions trace server client) server (entries_taken trace server) (logins_to trace client) trace.grants
   pub dealt : AreLoginsAnswered (shown_to partitions trace server client) (length (sessions_of trace server)) (entries_taken trace server)
 
 -- by what was told
-logins_by : (told : Told → Bool) (partitions : List Partition) (trace : Trace) (server client : UnitId) (servers : List Unit) (records : Records) (u : Unit) (pair : Pair)
+logins_by : (told : Told → Bool) (partitions : List Partition) (trace : Trace) (server client : UnitId) (servers : List Unit) (records : Records) (copies : List CopyRecord) (u : Unit) (pair : Pair)
     → slice_get servers server.unit ≡ Some u → HasNothing u → pair.own.unit ≡ server
     → records.grants.items ≡ trace.grants
     → (side_of pair.link true).queue.taken ≡ entries_taken trace server → (side_of pair.link true).queue.session ≡ length (sessions_of trace server)
     → login_answers (side_of pair.link false).queue.sent ≡ logins_to trace client → Includes (told_to told server) (shown_to partitions trace server client)
-    → UnitGoesBy told servers records server.unit pair → AreLoginsShown partitions trace server client
-logins_by told partitions trace server client servers records u pair there none own lines taken sessions sent shows is = record {
-  put = logins_more (told_to told server) Shown shows server (entries_taken trace server) (logins_to trace client) trace.grants
-      (subst (λ (z : UnitId × List PipeRow × List Entry × List Grant). AreLoginsPut (told_to told z.0) z.0 z.1 z.2 z.3) (λ i. (own i, taken i, sent i, lines i)) is.logins);
+    → UnitGoesBy told servers records copies server.unit pair → AreLoginsShown partitions trace server client
+logins_by told partitions trace server client servers records copies u pair there none own lines taken sessions sent shows is = record {
+  put = order_shown told Shown servers server.unit u server (side_of pair.link true).queue.session (entries_taken trace server) (logins_to trace client) trace.grants shows there
+      (subst (λ (z : UnitId × List PipeRow × List Entry × List Grant). GoInOrder told servers server.unit z.0 (side_of pair.link true).queue.session z.1 z.2 z.3)
+      (λ i. (own i, taken i, sent i, lines i)) is.logins);
   dealt = subst (λ (z : ℕ × List PipeRow). AreLoginsAnswered Shown z.0 z.1) (λ i. (sessions i, taken i))
       (logins_at_rest (told_to told pair.own.unit) Shown (subst (λ (unit : UnitId). Includes (told_to told unit) Shown) (sym own) shows) u (end_of [] pair.link true) none dealt);
 }
@@ -113,7 +114,7 @@ logins_are_shown pairs scripts lan rows history grants copies partitions home ar
     let sent = sent_shown pairs scripts lan rows history grants copies partitions are lawful plan server client drives pair there.1 (answered server.unit pair there.1).begun in
     ∥∥₁_map (rests.heard.each shown.told shown.all server.unit pair there.1)
     (λ is.
-    logins_by shown.told partitions trace server client rests.units rests.records u.0 pair u.1 u.2 own rests.lines_are
+    logins_by shown.told partitions trace server client rests.units rests.records copies u.0 pair u.1 u.2 own rests.lines_are
     (sym (ap (flat_map rows_taken) sessions ∙ all_taken server pipe laws received.begun))
     (sym (ap length sessions ∙ sessions_count server pipe 1 pipe.session))
     (sym (ap (filter is_login_answer) sent)) (shown.only server client serves drives) is)

@@ -1,10 +1,11 @@
 -- The copies of a server name the strokes that other units laid: what a window's own unit lays, and what other pairs' copies do,
 -- leaves that so.
-use Rattle.std.proofs.Common.{◌≡◌, ◌≢◌, ◌∙◌, ◌⊎◌, inl, inr, ℕ, zero, suc, ◌+◌, ◌==◌, ◌&&◌, ◌<◌, ◌≤◌, Bool, true, false, cond, List, [], ◌∷◌, ◌++◌, All, Option, Some, None, length, slice_get, refl, sym, ap, subst, arith, append-nil, length-append}
+use Rattle.std.proofs.Common.{◌≡◌, ◌≢◌, ◌∙◌, ◌⊎◌, inl, inr, ℕ, zero, suc, ◌+◌, ◌==◌, ◌&&◌, ◌<◌, ◌≤◌, Bool, true, false, cond, List, [], ◌∷◌, ◌++◌, All, Option, Some, None, length, slice_get, refl, sym, ap, ap₂, subst, arith, append-nil, length-append}
 use Rattle.std.proofs.lemmas.Bool.Decides.{nat_tests}
 use Rattle.std.proofs.lemmas.Grind.{flat_map-append}
 use Rattle.std.proofs.lemmas.List.Elements.{All-head, All-tail, All-weaker}
-use Rattle.std.specs.List.{Contains}
+use Rattle.std.specs.List.{Contains, flat_map}
+use Rattle.vio_num.specs.Words.{Begins}
 use Rattle.vio_num.specs.declared.names.UnitId.{UnitId}
 use Rattle.page_slots.specs.Stroke.{StrokeValue}
 use Rattle.tce_window.specs.Moved.{stroke_count}
@@ -16,7 +17,9 @@ use Rattle.rdma_copy.specs.Copy.{IsLawful, Side}
 use Rattle.rdma_copy.specs.declared.copy.CopyRecord.{CopyRecord}
 use Rattle.unit_region.specs.Kept.{LaysOwnAll, LaysOwnOn}
 use Rattle.block_server.specs.Advances.{IsOwnCopy}
-use Rattle.block_server.specs.Makers.{is_piece_on, named_on, places_in, same_unit, stroke_in, AreNamed, Rises}
+use Rattle.block_server.specs.Makers.{AreInOrder, AreNamed, Rises, is_piece_of, is_piece_on, named_on, places_in, same_unit, stroke_in, versions_in, versions_of, versions_on}
+use Rattle.block_server.proofs.Versions.{order_grown}
+use Rattle.vcpu_run.specs.Named.{NamesNone}
 use Rattle.vcpu_run.proofs.Homes.{all_at}
 
 -- a stroke of another unit was there before its window's unit laid more
@@ -40,8 +43,8 @@ no_fewer unit (Some old) None lays = absurd lays
 no_fewer unit None (Some new) lays = absurd lays
 no_fewer unit None None lays = omega arith
 
-pub named_still : (old new : Side) (made : List CopyRecord) → new.unit ≡ old.unit → LaysOwnAll old.unit old.strokes new.strokes → AreNamed old made → AreNamed new made
-named_still old new made unit lays is = record {
+pub named_still : (old new : Side) (made : List CopyRecord) → new.unit ≡ old.unit → ((e : ℕ) → Begins (old.values e) (new.values e)) → LaysOwnAll old.unit old.strokes new.strokes → AreNamed old made → AreNamed new made
+named_still old new made unit values lays is = record {
   rising = λ page. subst (λ u. Rises (named_on u page made)) (sym unit) (is.rising page);
   there = λ page. subst (λ u. All (λ place. place < stroke_count (new.strokes page)) (named_on u page made)) (sym unit)
       (All-weaker (λ place. place < stroke_count (old.strokes page)) (λ place. place < stroke_count (new.strokes page))
@@ -50,29 +53,42 @@ named_still old new made unit lays is = record {
       (is.others page place stroke
       (was_there old.unit (old.strokes page) (new.strokes page) place stroke (lays page) at (λ e. other (e ∙ sym unit)))
       (λ e. other (e ∙ sym unit)));
+  versions = λ entry. subst (λ u. AreInOrder (length (new.values entry)) (versions_on u entry made)) (sym unit)
+      (order_grown (length (old.values entry)) (length (new.values entry)) (versions_on old.unit entry made) (no_value_gone (old.values entry) (new.values entry) (values entry)) (is.versions entry));
 }
+  where
+    no_value_gone : (front whole : List ℕ) → Begins front whole → length front ≤ length whole
+    no_value_gone front whole begins = omega (arith, ap length begins.1, length-append front begins.0)
 
--- copies that write nothing there name no more
-named_none : (unit : UnitId) (page : ℕ) (copies : List CopyRecord) → All (λ copy. places_in unit page copy.to.items ≡ []) copies → named_on unit page copies ≡ []
-named_none unit page [] none = refl
-named_none unit page (copy ∷ copies) none =
-    ap (λ places. places ++ named_on unit page copies) (All-head (λ (copy : CopyRecord). places_in unit page copy.to.items ≡ []) copy copies none)
-    ∙ named_none unit page copies (All-tail (λ (copy : CopyRecord). places_in unit page copy.to.items ≡ []) copy copies none)
+-- copies that name nothing there name no more
+none_of : (names : CopyRecord → List ℕ) (copies : List CopyRecord) → All (λ copy. names copy ≡ []) copies → flat_map names copies ≡ []
+none_of names [] none = refl
+none_of names (copy ∷ copies) none =
+    ap (λ first. first ++ flat_map names copies) (All-head (λ (copy : CopyRecord). names copy ≡ []) copy copies none)
+    ∙ none_of names copies (All-tail (λ (copy : CopyRecord). names copy ≡ []) copy copies none)
 
-named_more : (unit : UnitId) (page : ℕ) (before more : List CopyRecord) → All (λ copy. places_in unit page copy.to.items ≡ []) more
-    → named_on unit page before ≡ named_on unit page (before ++ more)
-named_more unit page before more none =
-    sym (append-nil (named_on unit page before))
-    ∙ (ap (λ places. named_on unit page before ++ places) (sym (named_none unit page more none))
-    ∙ sym (flat_map-append (λ (copy : CopyRecord). places_in unit page copy.to.items) before more))
+no_more : (names : CopyRecord → List ℕ) (before more : List CopyRecord) → All (λ copy. names copy ≡ []) more → flat_map names before ≡ flat_map names (before ++ more)
+no_more names before more none =
+    sym (append-nil (flat_map names before))
+    ∙ (ap (λ last. flat_map names before ++ last) (sym (none_of names more none)) ∙ sym (flat_map-append names before more))
 
-pub named_beside : (window : Side) (before more : List CopyRecord) → ((page : ℕ) → All (λ copy. places_in window.unit page copy.to.items ≡ []) more)
-    → AreNamed window before → AreNamed window (before ++ more)
+pub named_beside : (window : Side) (before more : List CopyRecord) → All (NamesNone window.unit) more → AreNamed window before → AreNamed window (before ++ more)
 named_beside window before more none is = record {
-  rising = λ page. subst Rises (named_more window.unit page before more (none page)) (is.rising page);
-  there = λ page. subst (λ places. All (λ place. place < stroke_count (window.strokes page)) places) (named_more window.unit page before more (none page)) (is.there page);
-  others = λ page place stroke at other. subst (λ places. Contains places place) (named_more window.unit page before more (none page)) (is.others page place stroke at other);
+  rising = λ page. subst Rises (places page) (is.rising page);
+  there = λ page. subst (λ places. All (λ place. place < stroke_count (window.strokes page)) places) (places page) (is.there page);
+  others = λ page place stroke at other. subst (λ places. Contains places place) (places page) (is.others page place stroke at other);
+  versions = λ entry. subst (AreInOrder (length (window.values entry))) (versions entry) (is.versions entry);
 }
+  where
+    places : (page : ℕ) → named_on window.unit page before ≡ named_on window.unit page (before ++ more)
+    places page =
+        no_more (λ copy. places_in window.unit page copy.to.items) before more
+        (All-weaker (NamesNone window.unit) (λ copy. places_in window.unit page copy.to.items ≡ []) (λ copy none. none.0 page) more none)
+
+    versions : (entry : ℕ) → versions_on window.unit entry before ≡ versions_on window.unit entry (before ++ more)
+    versions entry =
+        no_more (versions_of window.unit entry) before more
+        (All-weaker (NamesNone window.unit) (λ copy. versions_of window.unit entry copy ≡ []) (λ copy none. none.1 entry) more none)
 
 -- the pieces of a copy are of one unit, and name nothing in another's window
 pub one_unit : (a b : UnitId) → same_unit a b ≡ true → a ≡ b
@@ -91,10 +107,28 @@ touched_none unit other from to page (piece ∷ pieces) touched apart =
     at true e none = absurd (apart (sym touched.1.unit_is ∙ one_unit piece.unit other (first_of (same_unit piece.unit other) (piece.page == page) e)))
     at false e none = none
 
-pub copy_none : (own client : PortState) (copy : CopyRecord) (other : UnitId) (page : ℕ) → IsOwnCopy own client copy
-    → own.place.unit ≢ other → client.place.unit ≢ other → places_in other page copy.to.items ≡ []
-copy_none own client copy other page is no_own no_client = at is.lawful
+touched_entries : (unit other : UnitId) (from to entry : ℕ) (pieces : List Piece) → Touches unit from to pieces → unit ≢ other → versions_in other entry pieces ≡ []
+touched_entries unit other from to entry [] touched apart = refl
+touched_entries unit other from to entry (piece ∷ pieces) touched apart =
+    at (is_piece_of other entry piece) refl (touched_entries unit other (from + piece.len) to entry pieces touched.2 apart)
   where
-    at : IsLawful copy (side_of client) is.from (side_of own) is.to ⊎ IsLawful copy (side_of own) is.from (side_of client) is.to → places_in other page copy.to.items ≡ []
-    at (inl lawful) = touched_none own.place.unit other is.to (is.to + length lawful.bytes) page copy.to.items lawful.written.touched no_own
-    at (inr lawful) = touched_none client.place.unit other is.to (is.to + length lawful.bytes) page copy.to.items lawful.written.touched no_client
+    at : (b : Bool) → is_piece_of other entry piece ≡ b → versions_in other entry pieces ≡ []
+        → cond b (piece.version ∷ versions_in other entry pieces) (versions_in other entry pieces) ≡ []
+    at true e none = absurd (apart (sym touched.1.unit_is ∙ one_unit piece.unit other (first_of (same_unit piece.unit other) (piece.entry == entry) e)))
+    at false e none = none
+
+pub copy_none : (own client : PortState) (copy : CopyRecord) (other : UnitId) → IsOwnCopy own client copy
+    → own.place.unit ≢ other → client.place.unit ≢ other → NamesNone other copy
+copy_none own client copy other is no_own no_client = (λ page. at page is.lawful, λ entry. of entry is.lawful)
+  where
+    of : (entry : ℕ) → IsLawful copy (side_of client) is.from (side_of own) is.to ⊎ IsLawful copy (side_of own) is.from (side_of client) is.to → versions_of other entry copy ≡ []
+    of entry (inl lawful) =
+        ap₂ (λ read wrote. read ++ wrote) (touched_entries client.place.unit other is.from (is.from + length lawful.bytes) entry copy.from.items lawful.read.touched no_client)
+        (touched_entries own.place.unit other is.to (is.to + length lawful.bytes) entry copy.to.items lawful.written.touched no_own)
+    of entry (inr lawful) =
+        ap₂ (λ read wrote. read ++ wrote) (touched_entries own.place.unit other is.from (is.from + length lawful.bytes) entry copy.from.items lawful.read.touched no_own)
+        (touched_entries client.place.unit other is.to (is.to + length lawful.bytes) entry copy.to.items lawful.written.touched no_client)
+
+    at : (page : ℕ) → IsLawful copy (side_of client) is.from (side_of own) is.to ⊎ IsLawful copy (side_of own) is.from (side_of client) is.to → places_in other page copy.to.items ≡ []
+    at page (inl lawful) = touched_none own.place.unit other is.to (is.to + length lawful.bytes) page copy.to.items lawful.written.touched no_own
+    at page (inr lawful) = touched_none client.place.unit other is.to (is.to + length lawful.bytes) page copy.to.items lawful.written.touched no_client

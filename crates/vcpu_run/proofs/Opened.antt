@@ -13,12 +13,13 @@ use Rattle.tce_window.specs.Window.{WindowValue, blank_page, strokes_at}
 use Rattle.block_server.specs.SiteState.{AreReady}
 use Rattle.vscsi_client.specs.State.{ClientState, new_client}
 use Rattle.vscsi_client.specs.Transferred.{FitsRow}
+use Rattle.vcpu_run.specs.EventsHeard.{events_waiting}
 use Rattle.vcpu_run.specs.declared.driver.Driver.{Driver}
 use Rattle.vcpu_run.specs.declared.pair.Pair.{Pair}
 use Rattle.block_server.specs.Makers.{stroke_in, AreNamed}
 use Rattle.page_slots.specs.Stroke.{StrokeValue}
 use Rattle.rdma_copy.specs.Copies.{side_of as side_at}
-use Rattle.vcpu_run.specs.Named.{HasNames, WritesNone, absent_unit}
+use Rattle.vcpu_run.specs.Named.{HasNames, LeavesAlone, absent_unit}
 use Rattle.vcpu_run.specs.Pairs.{IsCopyOf, IsDriver, IsPair}
 use Rattle.vcpu_run.specs.TakenScripts.{IsUntaken}
 use Rattle.vcpu_run.specs.Takings.{waiting}
@@ -78,13 +79,14 @@ named_new unit pages window new = record {
   there = λ page. All-nil _;
   others = λ page place stroke e other.
       absurd (blank_at pages page place stroke (ap (λ (w : WindowValue). stroke_in (strokes_at w.pages page) place) (sym new) ∙ e));
+  versions = λ entry. record { rising = tt; there = All-nil _ };
 }
 
 names_new : (pair : Pair) (server : UnitId) (pages : ℕ) (client : UnitId) → pair.own ≡ new_window server 34 → pair.window ≡ new_window client pages → HasNames pair []
 names_new pair server pages client own window = record {
   own = named_new server 34 pair.own own;
   client = named_new client pages pair.window window;
-  foreign = All-nil (λ copy. copy.name.who ≢ pair.server → WritesNone pair copy);
+  foreign = All-nil (λ copy. copy.name.who ≢ pair.server → LeavesAlone pair copy);
 }
 
 -- a client that has sent nothing and has taken no answer
@@ -96,6 +98,7 @@ untaken_new unit server slots_a slots_b link driver answers client new = record 
   outgoing = ap (λ (s : ClientState). s.outgoing) client;
   kept = ap (λ (s : ClientState). s.kept) client;
   rest = ap waiting client;
+  events = ap events_waiting client;
   none = new.second.queue.taken;
 }
 

@@ -7,11 +7,11 @@ use Rattle.tce_window.specs.Window.{WindowValue}
 use Rattle.rdma_copy.specs.Copies.{side_of as side_at}
 use Rattle.rdma_copy.specs.declared.copy.CopyRecord.{CopyRecord}
 use Rattle.block_server.specs.Advances.{CopiesMore, IsOwnCopy}
-use Rattle.block_server.specs.Makers.{places_in, AreNamed}
+use Rattle.block_server.specs.Makers.{AreNamed}
 use Rattle.vcpu_run.specs.declared.driver.Driver.{Driver}
 use Rattle.vcpu_run.specs.declared.pair.Pair.{Pair}
 use Rattle.vcpu_run.specs.Machines.{AllStay, KeepsDriver, Stays}
-use Rattle.vcpu_run.specs.Named.{HasNames, HasWindow, WindowsAreApart, WritesNone}
+use Rattle.vcpu_run.specs.Named.{HasNames, HasWindow, LeavesAlone, NamesNone, WindowsAreApart}
 use Rattle.vcpu_run.specs.Pairs.{Drives, IsCopyOf}
 use Rattle.vcpu_run.proofs.Listed.{came_from}
 use Rattle.vcpu_run.proofs.Naming.{copy_none, named_beside, named_still}
@@ -22,16 +22,16 @@ has_stays unit old new own window (inr e) = inr (sym window ∙ e)
 
 -- only copies by the server unit of a pair write into its windows
 abbrev pub IsBy : Pair → CopyRecord → Type 0
-IsBy pair copy = copy.name.who ≢ pair.server → WritesNone pair copy
+IsBy pair copy = copy.name.who ≢ pair.server → LeavesAlone pair copy
 
 still_by : (old new : Pair) (copy : CopyRecord) → new.server ≡ old.server → new.own.unit ≡ old.own.unit → new.window.unit ≡ old.window.unit → IsBy old copy → IsBy new copy
-still_by old new copy server own window by other unit page has = by (λ e. other (e ∙ sym server)) unit page (has_stays unit old new own window has)
+still_by old new copy server own window by other unit has = by (λ e. other (e ∙ sym server)) unit (has_stays unit old new own window has)
 
 -- a turn of the client's partition
 pub names_driven : (old new : Pair) (made : List CopyRecord) → Drives old new → HasNames old made → HasNames new made
 names_driven old new made d is = record {
   own = subst (λ (window : WindowValue). AreNamed (side_at (known_of window)) made) (sym d.own) is.own;
-  client = named_still (side_at (known_of old.window)) (side_at (known_of new.window)) made d.unit d.laid is.client;
+  client = named_still (side_at (known_of old.window)) (side_at (known_of new.window)) made d.unit d.grows.values d.laid is.client;
   foreign = All-weaker (IsBy old) (IsBy new) (λ copy by. still_by old new copy d.server (ap (λ (window : WindowValue). window.unit) d.own) d.unit by) made is.foreign;
 }
 
@@ -57,10 +57,10 @@ names_served old new before after server own window unit more own_named named is
 
 -- what that leaves of another pair
 writes_none : (pair other : Pair) (copies : List CopyRecord) → ((unit : UnitId) → HasWindow unit pair → HasWindow unit other → ⊥)
-    → All (IsOwnCopy (known_of pair.own) (known_of pair.window)) copies → All (WritesNone other) copies
+    → All (IsOwnCopy (known_of pair.own) (known_of pair.window)) copies → All (LeavesAlone other) copies
 writes_none pair other copies apart own =
-    All-weaker (IsOwnCopy (known_of pair.own) (known_of pair.window)) (WritesNone other)
-    (λ copy is unit page has. copy_none (known_of pair.own) (known_of pair.window) copy unit page is (λ e. apart unit (inl e) has) (λ e. apart unit (inr e) has))
+    All-weaker (IsOwnCopy (known_of pair.own) (known_of pair.window)) (LeavesAlone other)
+    (λ copy is unit has. copy_none (known_of pair.own) (known_of pair.window) copy unit is (λ e. apart unit (inl e) has) (λ e. apart unit (inr e) has))
     copies own
 
 pub names_beside : (pair other : Pair) (before after : List CopyRecord) → ((unit : UnitId) → HasWindow unit pair → HasWindow unit other → ⊥)
@@ -69,11 +69,11 @@ names_beside pair other before after apart more is =
     let none = writes_none pair other more.more apart more.lawful in
     subst (HasNames other) (sym more.made) (record {
       own = named_beside (side_at (known_of other.own)) before more.more
-          (λ page. All-weaker (WritesNone other) (λ copy. places_in other.own.unit page copy.to.items ≡ []) (λ copy none. none other.own.unit page (inl refl)) more.more none) is.own;
+          (All-weaker (LeavesAlone other) (NamesNone other.own.unit) (λ copy none. none other.own.unit (inl refl)) more.more none) is.own;
       client = named_beside (side_at (known_of other.window)) before more.more
-          (λ page. All-weaker (WritesNone other) (λ copy. places_in other.window.unit page copy.to.items ≡ []) (λ copy none. none other.window.unit page (inr refl)) more.more none) is.client;
+          (All-weaker (LeavesAlone other) (NamesNone other.window.unit) (λ copy none. none other.window.unit (inr refl)) more.more none) is.client;
       foreign = All-append (IsBy other) before more.more is.foreign
-          (All-weaker (WritesNone other) (IsBy other) (λ copy none by. none) more.more none);
+          (All-weaker (LeavesAlone other) (IsBy other) (λ copy none by. none) more.more none);
     })
 
 pub copies_beside : (pair other : Pair) (before after : List CopyRecord) → ((unit : UnitId) → HasWindow unit pair → HasWindow unit other → ⊥)

@@ -1,5 +1,5 @@
 -- The replay of the lines of LAN units, as steps of lines go on.
-use Rattle.std.proofs.Common.{◌≡◌, ℕ, ◌==◌, ◌&&◌, cond, Bool, true, false, List, [], ◌∷◌, ◌++◌, Option, Some, None, length, refl, sym, ◌∙◌, ap, subst}
+use Rattle.std.proofs.Common.{◌≡◌, inl, ℕ, ◌==◌, ◌&&◌, cond, Bool, true, false, List, [], ◌∷◌, ◌++◌, append-nil, Option, Some, None, length, refl, sym, ◌∙◌, ap, subst}
 use Rattle.std.specs.List.{slice_get}
 use Rattle.vio_num.specs.declared.hypervisor.Moved.{Moved}
 use Rattle.vio_num.specs.declared.names.UnitId.{UnitId}
@@ -21,11 +21,13 @@ use Rattle.vcpu_run.specs.declared.script.Script.{Script}
 use Rattle.vcpu_run.specs.declared.unit_seat.Seat.TheVariants as sits
 use Rattle.vcpu_run.specs.Credited.{Ended, ended_by}
 use Rattle.vcpu_run.specs.Ports.{unit_of}
-use Rattle.vcpu_run.specs.PortReplays.{AreReplayed, IsFirstOf, IsPlainPort, IsStill, KeepsReplay, StepReplays, puts_own}
+use Rattle.vcpu_run.specs.PortReplays.{AreReplayed, IsFirstOf, IsPlainPort, IsStill, KeepsReplay, StepReplays, puts_own, sent_at}
 use Rattle.vcpu_run.specs.PortSteps.{AllTake, AreFresh, RisesIf, TellsStep}
 use Rattle.vcpu_run.specs.PortWords.{ReplaysOwn, TellsReplay, done_in}
 use Rattle.vcpu_run.specs.Suited.{is_call}
 use Rattle.vcpu_run.specs.Works.{fails}
+use Rattle.lan_switch.specs.Switch.{port_of}
+use Rattle.lan_script.proofs.Laws.{grows_same}
 use Rattle.vcpu_run.proofs.Crediting.{ended_more}
 use Rattle.vcpu_run.proofs.Logging.{all_at}
 
@@ -204,9 +206,13 @@ pub none_replay : (lan : LanValue) (script : Script) (line : Line) (row : LogRow
 none_replay lan script line row unit true none = record {
   seats = refl;
   values = λ put e. refl;
+  rows = ([], sym (append-nil (sent_at lan (unit_of script.partition unit))));
+  grows = grows_same (port_of lan.stations (unit_of script.partition unit));
+  others = λ sender beside. refl;
+  sends = λ replayed code number e. absurd (not_both (is_replayed line.verb) replayed none);
   says = λ first seat able. says_none seat line.verb row.outcome (replay_at lan (unit_of script.partition unit)) none;
 }
-none_replay lan script line row unit false none = record { seats = refl; replay = refl; values = λ e. refl }
+none_replay lan script line row unit false none = record { seats = refl; replay = refl; values = λ e. refl; rows = refl; grows = grows_same (port_of lan.stations (unit_of script.partition unit)); offered = λ sender other row kept. inl kept }
 
 -- nothing but frames was taken
 pub rest_replay : (lan lan' : LanValue) (script : Script) → AllTake script.partition lan lan' → TellsReplay lan script → TellsReplay lan' script

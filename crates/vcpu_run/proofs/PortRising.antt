@@ -1,10 +1,14 @@
 -- What a step or a call at a LAN unit makes of the ports, as their lines tell of them.
-use Rattle.std.proofs.Common.{◌≡◌, ◌≢◌, ℕ, ◌+◌, ◌≤◌, ◌==◌, cond, Bool, true, false, true≢false, List, [], ◌∷◌, ◌++◌, append-nil, Option, Some, None, map, refl, sym, ◌∙◌, ap, subst, arith}
+use Rattle.std.proofs.Common.{◌≡◌, ◌≢◌, ◌⊎◌, inl, inr, ℕ, zero, suc, ◌+◌, ◌≤◌, ◌==◌, cond, length, Bool, true, false, true≢false, List, [], ◌∷◌, ◌++◌, append-nil, Option, Some, None, map, refl, sym, ◌∙◌, ap, subst, arith}
+use Rattle.std.specs.List.{Contains}
 use Rattle.std.proofs.lemmas.List.{map-append}
+use Rattle.std.proofs.lemmas.List.Elements.{Contains-append_cases, Contains-push}
+use Rattle.vio_num.specs.Words.{Begins}
 use Rattle.vio_num.specs.declared.hypervisor.Hrc.{Hrc}
 use Rattle.vio_num.specs.declared.hypervisor.Moved.{Moved}
 use Rattle.vio_num.specs.declared.names.UnitId.{UnitId}
 use Rattle.boot_text.specs.declared.verb.Verb.{Verb}
+use Rattle.boot_text.specs.declared.verb.Verb.TheVariants as verbs
 use Rattle.lan_switch.specs.Switch.{same_unit}
 use Rattle.vio_trace.specs.declared.lan_rows.FrameRow.{FrameRow}
 use Rattle.vio_trace.specs.declared.outcome.Outcome.{Outcome}
@@ -17,14 +21,24 @@ use Rattle.lan_script.specs.declared.lines.PortStep.TheVariants as ports
 use Rattle.lan_script.specs.Invariant.{sent_by}
 use Rattle.lan_script.specs.LineSays.{SendsAs, SendsOne, SentAs}
 use Rattle.lan_script.specs.PortCounts.{CountsOn, CountsStep, PortCounts, SameCounts, SendsCalled, TakesSome, counts, counts_at}
-use Rattle.lan_script.specs.Replayed.{IsFirst, Replays, SameBeside, SameReplays}
-use Rattle.lan_script.specs.Units.{LanValue}
+use Rattle.lan_script.specs.Replayed.{IsFirst, Replays, SameBeside, SameReplays, replay_at}
+use Rattle.lan_script.specs.Buffers.{PostsStep}
+use Rattle.lan_script.specs.OwnMac.{MovesMac, StepsMac, mac_stepped}
+use Rattle.lan_script.specs.PortReplay.{PortReplay}
+use Rattle.lan_script.specs.declared.seat.PortSeat.{PortSeat}
+use Rattle.lan_script.specs.Spent.{AllGrow}
+use Rattle.lan_script.specs.Taking.{StaysWithin}
+use Rattle.lan_script.specs.Targets.{IsTarget, offers_to}
+use Rattle.lan_script.specs.Units.{LanValue, to_of}
 use Rattle.lan_script.specs.Values.{SameValues, SameValuesBeside, is_put}
 use Rattle.lan_script.specs.Windows.{facts_in}
-use Rattle.lan_script.proofs.Laws.{self, one_unit}
+use Rattle.lan_script.proofs.Laws.{mac_same, self, one_unit, same_posted}
+use Rattle.vcpu_run.specs.PortMacs.{mac_by}
+use Rattle.vcpu_run.specs.PortPosts.{StepFits}
+use Rattle.vcpu_run.proofs.PortPosting.{ends_within, waits_within}
 use Rattle.vcpu_run.specs.Ports.{unit_of}
 use Rattle.vcpu_run.specs.PortSteps.{AllSilent, IsBeside, IsIdle, Rises, StepRises, TakesOn}
-use Rattle.vcpu_run.specs.PortReplays.{IsStill, StepReplays}
+use Rattle.vcpu_run.specs.PortReplays.{IsStill, OffersSince, SendsFrame, StepReplays, sent_at}
 use Rattle.vcpu_run.specs.PortWords.{FrameTold, frame_of, frame_told, frames_at}
 
 -- two units are not the same by their names
@@ -35,53 +49,107 @@ not_same a b apart = by (same_unit a b) refl
     by true e = absurd (apart (one_unit a b e))
     by false e = e
 
+pub apart_of : (a b : UnitId) → same_unit a b ≡ false → a ≢ b
+apart_of a b f e = true≢false (sym (subst (λ (u : UnitId). same_unit u b ≡ true) (sym e) (self b)) ∙ f)
+
 -- a port at which nothing was done
 still_beside : (unit : UnitId) (old new : LanValue) → new.seats ≡ old.seats → SameBeside unit old new → SameValuesBeside unit old new → (other : UnitId)
-    → other ≢ unit → IsStill old new other
-still_beside unit old new seats replays values other apart = record {
+    → other ≢ unit → sent_at new other ≡ sent_at old other → AllGrow old new → OffersSince old new other → IsStill old new other
+still_beside unit old new seats replays values other apart rows grows offered = record {
   seats = seats;
   replay = replays other (not_same other unit apart);
   values = values other (not_same other unit apart);
+  rows = rows;
+  grows = grows other;
+  offered = offered;
 }
 
+-- the frames of a unit, where none was kept
+same_rows : (old new : LanValue) (v : UnitId) → new.seats ≡ old.seats → new.frames ≡ old.frames → sent_at new v ≡ sent_at old v
+same_rows old new v seats frames = ap (λ ss. sent_by ss new.frames v) seats ∙ ap (λ fs. sent_by old.seats fs v) frames
+
+-- where none was kept, none has an offer
+since_same : (old new : LanValue) → new.seats ≡ old.seats → new.frames ≡ old.frames → (unit : UnitId) → OffersSince old new unit
+since_same old new seats frames unit sender other row kept = inl (subst (λ (l : List FrameRow). Contains l row) (same_rows old new sender seats frames) kept)
+
+same_frames : (old new : LanValue) (v : UnitId) → new.seats ≡ old.seats → new.frames ≡ old.frames → frames_at new v ≡ frames_at old v
+same_frames old new v seats frames = ap (λ (l : List FrameRow). map frame_told l) (same_rows old new v seats frames)
+
 -- one at which frames were taken
-pub still_all : (old new : LanValue) → new.seats ≡ old.seats → SameReplays old new → new.places ≡ old.places → (unit : UnitId) → IsStill old new unit
-still_all old new seats replays places unit = record {
+pub still_all : (old new : LanValue) → new.seats ≡ old.seats → new.frames ≡ old.frames → SameReplays old new → new.places ≡ old.places → AllGrow old new → (unit : UnitId)
+    → IsStill old new unit
+still_all old new seats frames replays places grows unit = record {
   seats = seats;
   replay = replays unit;
   values = λ e. ap (λ ps. (facts_in ps unit).values e) places;
+  rows = same_rows old new unit seats frames;
+  grows = grows unit;
+  offered = since_same old new seats frames unit;
 }
 
 -- What was sent of all frames: these by this unit, and none by others.
 pub record Sends (more : List FrameTold) (unit : UnitId) (old new : LanValue) : Type 0 where
   pub own : frames_at new unit ≡ frames_at old unit ++ more
   pub others : (other : UnitId) → other ≢ unit → frames_at new other ≡ frames_at old other
-
-same_frames : (old new : LanValue) (v : UnitId) → new.seats ≡ old.seats → new.frames ≡ old.frames → frames_at new v ≡ frames_at old v
-same_frames old new v seats frames =
-    ap (λ ss. map frame_told (sent_by ss new.frames v)) seats ∙ ap (λ fs. map frame_told (sent_by old.seats fs v)) frames
+  pub grows : Begins (sent_at old unit) (sent_at new unit)
+  pub rows : (other : UnitId) → other ≢ unit → sent_at new other ≡ sent_at old other
+  pub since : (other : UnitId) → other ≢ unit → OffersSince old new other
 
 none_sent : (unit : UnitId) (old new : LanValue) → new.seats ≡ old.seats → new.frames ≡ old.frames → Sends [] unit old new
 none_sent unit old new seats frames = record {
   own = same_frames old new unit seats frames ∙ sym (append-nil (frames_at old unit));
   others = λ other _. same_frames old new other seats frames;
+  grows = ([], same_rows old new unit seats frames ∙ sym (append-nil (sent_at old unit)));
+  rows = λ other _. same_rows old new other seats frames;
+  since = λ other _. since_same old new seats frames other;
 }
+
+-- what was kept of the frames of each unit
+rows_one : (unit : UnitId) (code : Hrc) (number : ℕ) (old new : LanValue) → new.seats ≡ old.seats → (h : SendsOne unit code number old new) → (v : UnitId)
+    → sent_at new v ≡ sent_at old v ++ cond (same_unit unit v) (h.row ∷ []) []
+rows_one unit code number old new seats h v = ap (λ ss. sent_by ss new.frames v) seats ∙ h.sent v
+
+rows_own : (unit : UnitId) (code : Hrc) (number : ℕ) (old new : LanValue) → new.seats ≡ old.seats → (h : SendsOne unit code number old new)
+    → sent_at new unit ≡ sent_at old unit ++ h.row ∷ []
+rows_own unit code number old new seats h =
+    rows_one unit code number old new seats h unit ∙ ap (λ b. sent_at old unit ++ cond b (h.row ∷ []) []) (self unit)
+
+rows_other : (unit : UnitId) (code : Hrc) (number : ℕ) (old new : LanValue) → new.seats ≡ old.seats → SendsOne unit code number old new
+    → (other : UnitId) → other ≢ unit → sent_at new other ≡ sent_at old other
+rows_other unit code number old new seats h other apart =
+    rows_one unit code number old new seats h other
+    ∙ ap (λ b. sent_at old other ++ cond b (h.row ∷ []) []) (not_same unit other (λ e. apart (sym e))) ∙ append-nil (sent_at old other)
+
+-- a frame that was sent has an offer only to a target
+since_one : (unit : UnitId) (code : Hrc) (number : ℕ) (old new : LanValue) → new.seats ≡ old.seats → SendsOne unit code number old new
+    → (other : UnitId) → other ≢ unit → OffersSince old new other
+since_one unit code number old new seats h other apart sender beside row kept =
+    by (Contains-append_cases (sent_at old sender) (cond (same_unit unit sender) (h.row ∷ []) []) row
+    (subst (λ (l : List FrameRow). Contains l row) (rows_one unit code number old new seats h sender) kept))
+  where
+    more : (b : Bool) → Contains (cond b (h.row ∷ []) []) row → h.row ≡ row
+    more true (zero, less, e) = e
+    more true (suc k, less, e) = absurd (omega (arith, less))
+    more false (k, less, e) = absurd (omega (arith, less))
+
+    by : Contains (sent_at old sender) row ⊎ Contains (cond (same_unit unit sender) (h.row ∷ []) []) row
+        → Contains (sent_at old sender) row ⊎ (1 ≤ length (offers_to other row.offers) → IsTarget (replay_at old other) (to_of row))
+    by (inl was) = inl was
+    by (inr one) =
+        inr (subst (λ (r : FrameRow). 1 ≤ length (offers_to other r.offers) → IsTarget (replay_at old other) (to_of r)) (more (same_unit unit sender) one)
+        (h.offers other (not_same other unit apart)).offers.only)
 
 one_sent : (unit : UnitId) (code : Hrc) (number : ℕ) (old new : LanValue) → new.seats ≡ old.seats → SendsOne unit code number old new
     → Sends (record { code = code; number = number } ∷ []) unit old new
 one_sent unit code number old new seats h = record {
-  own = told unit ∙ ap (λ b. frames_at old unit ++ map frame_told (cond b (h.row ∷ []) [])) (self unit)
+  own = ap (λ (l : List FrameRow). map frame_told l) (rows_own unit code number old new seats h) ∙ map-append frame_told (sent_at old unit) (h.row ∷ [])
       ∙ ap (λ (c : Hrc). frames_at old unit ++ record { code = c; number = h.row.number } ∷ []) h.code_is
       ∙ ap (λ (n : ℕ). frames_at old unit ++ record { code = code; number = n } ∷ []) h.number_is;
-  others = λ other apart.
-      told other ∙ ap (λ b. frames_at old other ++ map frame_told (cond b (h.row ∷ []) [])) (not_same unit other (λ e. apart (sym e)))
-      ∙ append-nil (frames_at old other);
+  others = λ other apart. ap (λ (l : List FrameRow). map frame_told l) (rows_other unit code number old new seats h other apart);
+  grows = (h.row ∷ [], rows_own unit code number old new seats h);
+  rows = λ other apart. rows_other unit code number old new seats h other apart;
+  since = λ other apart. since_one unit code number old new seats h other apart;
 }
-  where
-    told : (v : UnitId) → frames_at new v ≡ frames_at old v ++ map frame_told (cond (same_unit unit v) (h.row ∷ []) [])
-    told v =
-        ap (λ ss. map frame_told (sent_by ss new.frames v)) seats ∙ ap (λ l. map frame_told l) (h.sent v)
-        ∙ map-append frame_told (sent_by old.seats old.frames v) (cond (same_unit unit v) (h.row ∷ []) [])
 
 -- the frame of which a step tells
 abbrev pub told_by : PortStep → List FrameTold
@@ -128,39 +196,102 @@ pub step_beside : (unit : UnitId) (step : PortStep) (before after : PortCounts) 
 step_beside unit step before after old new seats h k replays values other apart = record {
   frames = (sent_step unit step old new seats h).others other apart;
   counts = k.others other (not_same other unit apart);
-  still = still_beside unit old new seats replays values other apart;
+  still = still_beside unit old new seats replays values other apart ((sent_step unit step old new seats h).rows other apart) k.grows
+      ((sent_step unit step old new seats h).since other apart);
 }
+
+-- a step that ended a line with a frame sent that frame
+frame_sent : (unit : UnitId) (outcome : Outcome) (code : Hrc) (number : ℕ) (old new : LanValue) → new.seats ≡ old.seats → SendsAs unit (ports.Ends outcome) old new
+    → steps.Ends outcome ≡ steps.Ends (outcomes.Frame code number) → SendsFrame unit number old new
+frame_sent unit outcome code number old new seats sent e =
+    by (subst (λ (o : Outcome). SendsAs unit (ports.Ends o) old new) (same_outcome outcome (outcomes.Frame code number) e) sent)
+  where
+    same_outcome : (x y : Outcome) → steps.Ends x ≡ steps.Ends y → x ≡ y
+    same_outcome x y f = cc (f)
+
+    by : SendsOne unit code number old new → SendsFrame unit number old new
+    by h = record {
+      row = h.row;
+      number_is = h.number_is;
+      kept = subst (λ (l : List FrameRow). Contains l h.row) (sym (rows_own unit code number old new seats h)) (Contains-push (sent_at old unit) h.row);
+      offers = h.offers;
+    }
 
 -- what it says of the replay
 pub replays_ended : (unit : UnitId) (verb : Verb) (done : ℕ) (outcome : Outcome) (old new : LanValue) → new.seats ≡ old.seats
-    → (is_put verb ≡ false → SameValues old new) → (IsFirst verb done → Replays unit verb (ports.Ends outcome) old new)
+    → SendsAs unit (ports.Ends outcome) old new → CountsStep unit verb done (ports.Ends outcome) old new → (is_put verb ≡ false → SameValues old new) → (IsFirst verb done → Replays unit verb (ports.Ends outcome) old new)
     → StepReplays unit verb done old new (steps.Ends outcome)
-replays_ended unit verb done outcome old new seats values replays = record {
+replays_ended unit verb done outcome old new seats sent counted values replays = record {
   seats = seats;
   values = λ none. values none unit;
+  rows = (sent_step unit (ports.Ends outcome) old new seats sent).grows;
+  grows = counted.grows unit;
+  others = λ sender beside. (sent_step unit (ports.Ends outcome) old new seats sent).rows sender (apart_of sender unit beside);
+  sends = λ replayed code number e. frame_sent unit outcome code number old new seats sent e;
   says = λ first seat able. (replays first seat able).says;
 }
 
 pub replays_waits : (unit : UnitId) (verb : Verb) (done far : ℕ) (moved : Moved) (old new : LanValue) → new.seats ≡ old.seats
-    → (is_put verb ≡ false → SameValues old new) → (IsFirst verb done → Replays unit verb (ports.Waits moved far) old new)
+    → SendsAs unit (ports.Waits moved far) old new → CountsStep unit verb done (ports.Waits moved far) old new → (is_put verb ≡ false → SameValues old new) → (IsFirst verb done → Replays unit verb (ports.Waits moved far) old new)
     → StepReplays unit verb done old new (steps.Waits moved)
-replays_waits unit verb done far moved old new seats values replays = record {
+replays_waits unit verb done far moved old new seats sent counted values replays = record {
   seats = seats;
   values = λ none. values none unit;
+  rows = (sent_step unit (ports.Waits moved far) old new seats sent).grows;
+  grows = counted.grows unit;
+  others = λ sender beside. (sent_step unit (ports.Waits moved far) old new seats sent).rows sender (apart_of sender unit beside);
+  sends = λ replayed code number e. absurd (waits_on e);
   says = λ first seat able. (replays first seat able).says;
+}
+  where
+    waits_on : {o : Outcome} → steps.Waits moved ≡ steps.Ends o → ⊥
+    waits_on e = cc (e)
+
+-- the address that a step that waits gives
+waits_mac : (seat : PortSeat) (verb : Verb) (moved : Moved) (far : ℕ) (old new : PortReplay) → MovesMac (mac_stepped seat verb (ports.Waits moved far)) old new
+    → MovesMac (mac_by seat verb (steps.Waits moved)) old new
+waits_mac seat verbs.Open moved far old new h = h
+waits_mac seat verb moved far old new h = h
+
+-- what it says of frames that it took and of buffers that it posted
+pub fits_ended : (unit : UnitId) (verb : Verb) (done done' : ℕ) (outcome : Outcome) (old new : LanValue) → StaysWithin verb done (ports.Ends outcome)
+    → PostsStep unit verb done (ports.Ends outcome) old new → StepsMac unit verb (ports.Ends outcome) old new
+    → StepFits unit verb done done' old new (steps.Ends outcome)
+fits_ended unit verb done done' outcome old new within posts macs = record { takes = ends_within verb done outcome within; posts = posts; macs = macs }
+
+pub fits_waits : (unit : UnitId) (verb : Verb) (done far : ℕ) (moved : Moved) (old new : LanValue) → StaysWithin verb done (ports.Waits moved far)
+    → PostsStep unit verb done (ports.Waits moved far) old new → StepsMac unit verb (ports.Waits moved far) old new
+    → StepFits unit verb done far old new (steps.Waits moved)
+fits_waits unit verb done far moved old new within posts macs = record {
+  takes = waits_within verb done far moved within;
+  posts = posts;
+  macs = λ seat at. waits_mac seat verb moved far (replay_at old unit) (replay_at new unit) (macs seat at);
 }
 
 -- where nothing was sent, posted or taken
-pub all_silent : (old new : LanValue) → new.seats ≡ old.seats → new.frames ≡ old.frames → SameCounts old new → AllSilent old new
-all_silent old new seats frames same unit = record { frames = same_frames old new unit seats frames; counts = same unit }
+pub all_silent : (own : UnitId) (old new : LanValue) → new.seats ≡ old.seats → new.frames ≡ old.frames → SameCounts old new → SameBeside own old new
+    → MovesMac None (replay_at old own) (replay_at new own) → AllSilent old new
+all_silent own old new seats frames same beside mac unit = record {
+  frames = same_frames old new unit seats frames;
+  counts = same.same unit;
+  posted = same_posted unit old new same;
+  rows = same_rows old new unit seats frames;
+  mac = by (same_unit unit own) refl;
+  seats = seats;
+}
+  where
+    by : (b : Bool) → same_unit unit own ≡ b → MovesMac None (replay_at old unit) (replay_at new unit)
+    by true e = subst (λ (u : UnitId). MovesMac None (replay_at old u) (replay_at new u)) (sym (one_unit unit own e)) mac
+    by false e = mac_same None (replay_at old unit) (replay_at new unit) (ap (λ (r : PortReplay). r.settings) (beside unit e))
 
 -- a port was closed
 pub closes_beside : (unit : UnitId) (old new : LanValue) → new.seats ≡ old.seats → new.frames ≡ old.frames → SameCounts old new → SameBeside unit old new
     → new.places ≡ old.places → IsBeside unit old new
 closes_beside unit old new seats frames same replays places other apart = record {
   frames = same_frames old new other seats frames;
-  counts = same other;
-  still = still_beside unit old new seats replays (λ v _ e. ap (λ ps. (facts_in ps v).values e) places) other apart;
+  counts = same.same other;
+  still = still_beside unit old new seats replays (λ v _ e. ap (λ ps. (facts_in ps v).values e) places) other apart
+      (same_rows old new other seats frames) same.grows (since_same old new seats frames other);
 }
 
 -- where frames were taken
@@ -170,7 +301,7 @@ takes_own unit old new seats frames (n, h) replays places = record {
   frames = same_frames old new unit seats frames;
   posts = omega (arith, h.posts);
   taken = omega (arith, h.taken);
-  still = still_all old new seats replays places unit;
+  still = still_all old new seats frames replays places h.grows unit;
 }
 
 pub takes_beside : (unit : UnitId) (old new : LanValue) → new.seats ≡ old.seats → new.frames ≡ old.frames → TakesSome unit old new → SameReplays old new
@@ -178,29 +309,45 @@ pub takes_beside : (unit : UnitId) (old new : LanValue) → new.seats ≡ old.se
 takes_beside unit old new seats frames (n, h) replays places other apart = record {
   frames = same_frames old new other seats frames;
   counts = h.others other (not_same other unit apart);
-  still = still_all old new seats replays places other;
+  still = still_all old new seats frames replays places h.grows other;
 }
 
 -- a raw call
 sent_called : (unit : UnitId) (code : Hrc) (number : Option ℕ) (old new : LanValue) → new.seats ≡ old.seats → SentAs unit code number old new
-    → (other : UnitId) → other ≢ unit → frames_at new other ≡ frames_at old other
-sent_called unit code None old new seats h other apart = same_frames old new other seats h
-sent_called unit code (Some n) old new seats h other apart = (one_sent unit code n old new seats h).others other apart
+    → (other : UnitId) → other ≢ unit → sent_at new other ≡ sent_at old other
+sent_called unit code None old new seats h other apart = same_rows old new other seats h
+sent_called unit code (Some n) old new seats h other apart = rows_other unit code n old new seats h other apart
 
-frames_called : (unit : UnitId) (call : PortCall) (code : Hrc) (old new : LanValue) → new.seats ≡ old.seats → SendsCalled unit call code old new
-    → (other : UnitId) → other ≢ unit → frames_at new other ≡ frames_at old other
-frames_called unit (calls.Send descriptors) code old new seats h other apart = sent_called unit code h.0 old new seats h.1 other apart
-frames_called unit (calls.Entry call) code old new seats h other apart = same_frames old new other seats h
-frames_called unit (calls.Register list queue filters mac) code old new seats h other apart = same_frames old new other seats h
-frames_called unit calls.Free code old new seats h other apart = same_frames old new other seats h
-frames_called unit (calls.Add descriptor) code old new seats h other apart = same_frames old new other seats h
-frames_called unit (calls.Multicast control mac) code old new seats h other apart = same_frames old new other seats h
-frames_called unit (calls.ChangeMac mac) code old new seats h other apart = same_frames old new other seats h
+rows_called : (unit : UnitId) (call : PortCall) (code : Hrc) (old new : LanValue) → new.seats ≡ old.seats → SendsCalled unit call code old new
+    → (other : UnitId) → other ≢ unit → sent_at new other ≡ sent_at old other
+rows_called unit (calls.Send descriptors) code old new seats h other apart = sent_called unit code h.0 old new seats h.1 other apart
+rows_called unit (calls.Entry call) code old new seats h other apart = same_rows old new other seats h
+rows_called unit (calls.Register list queue filters mac) code old new seats h other apart = same_rows old new other seats h
+rows_called unit calls.Free code old new seats h other apart = same_rows old new other seats h
+rows_called unit (calls.Add descriptor) code old new seats h other apart = same_rows old new other seats h
+rows_called unit (calls.Multicast control mac) code old new seats h other apart = same_rows old new other seats h
+rows_called unit (calls.ChangeMac mac) code old new seats h other apart = same_rows old new other seats h
+
+since_sent : (unit : UnitId) (code : Hrc) (number : Option ℕ) (old new : LanValue) → new.seats ≡ old.seats → SentAs unit code number old new
+    → (other : UnitId) → other ≢ unit → OffersSince old new other
+since_sent unit code None old new seats h other apart = since_same old new seats h other
+since_sent unit code (Some n) old new seats h other apart = since_one unit code n old new seats h other apart
+
+since_called : (unit : UnitId) (call : PortCall) (code : Hrc) (old new : LanValue) → new.seats ≡ old.seats → SendsCalled unit call code old new
+    → (other : UnitId) → other ≢ unit → OffersSince old new other
+since_called unit (calls.Send descriptors) code old new seats h other apart = since_sent unit code h.0 old new seats h.1 other apart
+since_called unit (calls.Entry call) code old new seats h other apart = since_same old new seats h other
+since_called unit (calls.Register list queue filters mac) code old new seats h other apart = since_same old new seats h other
+since_called unit calls.Free code old new seats h other apart = since_same old new seats h other
+since_called unit (calls.Add descriptor) code old new seats h other apart = since_same old new seats h other
+since_called unit (calls.Multicast control mac) code old new seats h other apart = since_same old new seats h other
+since_called unit (calls.ChangeMac mac) code old new seats h other apart = since_same old new seats h other
 
 pub call_beside : (unit : UnitId) (call : PortCall) (code : Hrc) (before after : PortCounts) (old new : LanValue) → new.seats ≡ old.seats
     → SendsCalled unit call code old new → CountsOn unit before after old new → SameBeside unit old new → SameValuesBeside unit old new → IsBeside unit old new
 call_beside unit call code before after old new seats h k replays values other apart = record {
-  frames = frames_called unit call code old new seats h other apart;
+  frames = ap (λ (l : List FrameRow). map frame_told l) (rows_called unit call code old new seats h other apart);
   counts = k.others other (not_same other unit apart);
-  still = still_beside unit old new seats replays values other apart;
+  still = still_beside unit old new seats replays values other apart (rows_called unit call code old new seats h other apart) k.grows
+      (since_called unit call code old new seats h other apart);
 }

@@ -25,6 +25,7 @@ use Rattle.vcpu_run.specs.PortWords.{FrameTold, HasNoCall, TellsPort, TellsWords
 use Rattle.vcpu_run.specs.Suited.{is_call}
 use Rattle.vcpu_run.specs.Works.{fails}
 use Rattle.vcpu_run.proofs.Crediting.{ended_more}
+use Rattle.vcpu_run.proofs.PortAddresses.{idle_silent, silent_here}
 use Rattle.vcpu_run.proofs.Logging.{all_at}
 
 -- one line more
@@ -139,7 +140,7 @@ pub step_ends : (lan lan' : LanValue) (script : Script) (line : Line) (row : Log
     → EndsIf b script unit line row lan lan'
 step_ends lan lan' script line row done' unit true rises = λ es is.
     tells_end es (record { verb = line.verb; outcome = row.outcome }) (counts_by line.verb (done_in script.progress)) lan lan' (unit_of script.partition unit) is rises.0
-step_ends lan lan' script line row done' unit false idle = record { frames = idle.frames; counts = idle.counts }
+step_ends lan lan' script line row done' unit false idle = idle_silent lan lan' (unit_of script.partition unit) idle
 
 -- it ends
 pub words_end : (lan lan' : LanValue) (script ended : Script) (line : Line) (row : LogRow) → slice_get script.lines.now script.at ≡ Some line
@@ -228,7 +229,7 @@ took_words lan script ended line row count taken found reached partition lines s
       posts = omega (arith, posts_more es (record { verb = line.verb; outcome = row.outcome }), is.posts, ap (λ (c : PortCounts). c.posts) done, ap (λ (c : PortCounts). c.posts) told);
       taken = omega (arith, taken_more es (record { verb = line.verb; outcome = row.outcome }), is.taken, ap (λ (c : PortCounts). c.taken) done, ap (λ (c : PortCounts). c.taken) told, few);
     }
-    by unit false = record { frames = refl; counts = refl }
+    by unit false = silent_here lan (unit_of script.partition unit)
 
 -- nothing but frames was taken
 pub rest_words : (lan lan' : LanValue) (script : Script) → AllTake script.partition lan lan' → TellsWords lan script → TellsWords lan' script

@@ -1,5 +1,5 @@
 -- What the lines of LAN units tell, over the units of a partition and the turns of a round.
-use Rattle.std.proofs.Common.{◌≡◌, ◌≢◌, ℕ, ◌+◌, ◌<◌, ◌≤◌, ◌==◌, Bool, true, false, List, [], Option, Some, None, Result, Ok, Err, IfOk, OnOk, IsSomeAnd, slice_get, slice_set, refl, sym, ◌∙◌, ap, subst, arith}
+use Rattle.std.proofs.Common.{◌≡◌, ◌≢◌, ◌⊎◌, inl, inr, length, ℕ, ◌+◌, ◌<◌, ◌≤◌, ◌==◌, Bool, true, false, List, [], Option, Some, None, Result, Ok, Err, IfOk, OnOk, IsSomeAnd, slice_get, slice_set, refl, sym, ◌∙◌, ap, subst, arith}
 use Rattle.std.proofs.lemmas.Bool.Decides.{nat_tests}
 use Rattle.vio_num.specs.declared.hypervisor.Moved.{Moved}
 use Rattle.vio_num.specs.declared.memory.NoMemory.{NoMemory}
@@ -10,8 +10,12 @@ use Rattle.boot_text.specs.declared.verb.Verb.{Verb}
 use Rattle.hcall_table.specs.declared.returned.Returned.{Returned}
 use Rattle.unit_region.specs.declared.step.Step.{Step}
 use Rattle.lan_script.specs.PortCounts.{CountsOn, PortCounts, SendsCalled, TakesSome, counts, counts_called}
-use Rattle.lan_script.specs.Replayed.{SameBeside, SameReplays}
-use Rattle.lan_script.specs.Units.{LanValue}
+use Rattle.lan_script.specs.Replayed.{SameBeside, SameReplays, replay_at}
+use Rattle.std.specs.List.{Contains}
+use Rattle.vio_trace.specs.declared.lan_rows.FrameRow.{FrameRow}
+use Rattle.lan_script.specs.PortReplay.{PortReplay}
+use Rattle.lan_script.specs.Targets.{IsTarget, offers_to}
+use Rattle.lan_script.specs.Units.{LanValue, to_of}
 use Rattle.lan_script.specs.Values.{SameValuesBeside}
 use Rattle.lan_script.specs.declared.calls.PortCall.{PortCall}
 use Rattle.lan_script.specs.declared.seat.PortSeat.{PortSeat}
@@ -23,22 +27,38 @@ use Rattle.vcpu_run.specs.Machines.{AreScripts}
 use Rattle.vcpu_run.specs.Making.{AreMade, IsMade}
 use Rattle.vcpu_run.specs.Ports.{unit_of}
 use Rattle.vcpu_run.specs.PortSteps.{AllSilent, AllTake, AreFresh, IsApart, IsBeside, IsIdle, RisesIf, StepRises, TakesOn, TellsStep}
-use Rattle.vcpu_run.specs.PortReplays.{IsStill, StepReplays}
+use Rattle.vcpu_run.specs.PortPosts.{StepFits}
+use Rattle.vcpu_run.specs.PortReplays.{IsStill, OffersSince, StepReplays, sent_at}
 use Rattle.vcpu_run.specs.PortWords.{PortsTell, TellsPorts}
+use Rattle.lan_switch.specs.Switch.{port_of}
+use Rattle.lan_script.proofs.Laws.{grows_same, grows_then}
 use Rattle.vcpu_run.proofs.Listed.{each_set, held}
 use Rattle.vcpu_run.proofs.PortRising.{call_beside, takes_beside, takes_own}
+use Rattle.vcpu_run.proofs.PortAddresses.{silent_here, silent_then}
 use Rattle.vcpu_run.proofs.PortTelling.{idle_takes}
 use Rattle.vcpu_run.proofs.PortsTelling.{rest_tells}
+
+since_then : (old mid new : LanValue) (unit : UnitId) → replay_at mid unit ≡ replay_at old unit → OffersSince old mid unit → OffersSince mid new unit
+    → OffersSince old new unit
+since_then old mid new unit same a b sender other row kept = by (b sender other row kept)
+  where
+    by : Contains (sent_at mid sender) row ⊎ (1 ≤ length (offers_to unit row.offers) → IsTarget (replay_at mid unit) (to_of row))
+        → Contains (sent_at old sender) row ⊎ (1 ≤ length (offers_to unit row.offers) → IsTarget (replay_at old unit) (to_of row))
+    by (inl was) = a sender other row was
+    by (inr fits) = inr (λ some. subst (λ (r : PortReplay). IsTarget r (to_of row)) same (fits some))
 
 still_then : (old mid new : LanValue) (unit : UnitId) → IsStill old mid unit → IsStill mid new unit → IsStill old new unit
 still_then old mid new unit a b = record {
   seats = b.seats ∙ a.seats;
   replay = b.replay ∙ a.replay;
   values = λ e. b.values e ∙ a.values e;
+  rows = b.rows ∙ a.rows;
+  grows = grows_then (port_of old.stations unit) (port_of mid.stations unit) (port_of new.stations unit) a.grows b.grows;
+  offered = since_then old mid new unit a.replay a.offered b.offered;
 }
 
 still_same : (lan : LanValue) (unit : UnitId) → IsStill lan lan unit
-still_same lan unit = record { seats = refl; replay = refl; values = λ e. refl }
+still_same lan unit = record { seats = refl; replay = refl; values = λ e. refl; rows = refl; grows = grows_same (port_of lan.stations unit); offered = λ sender other row kept. inl kept }
 
 idle_then : (old mid new : LanValue) (unit : UnitId) → IsIdle old mid unit → IsIdle mid new unit → IsIdle old new unit
 idle_then old mid new unit a b = record {
@@ -48,10 +68,10 @@ idle_then old mid new unit a b = record {
 }
 
 pub silent_on : (old mid new : LanValue) → AllSilent old mid → AllSilent mid new → AllSilent old new
-silent_on old mid new a b unit = record { frames = (b unit).frames ∙ (a unit).frames; counts = (b unit).counts ∙ (a unit).counts }
+silent_on old mid new a b unit = silent_then old mid new unit (a unit) (b unit)
 
 pub silent_same : (lan : LanValue) → AllSilent lan lan
-silent_same lan unit = record { frames = refl; counts = refl }
+silent_same lan unit = silent_here lan unit
 
 pub idle_same : (lan : LanValue) (unit : UnitId) → IsIdle lan lan unit
 idle_same lan unit = record { frames = refl; counts = refl; still = still_same lan unit }
@@ -90,13 +110,15 @@ one_takes partition k old new takes beside u = by (u == k) refl
 -- a step of a line at a port is one of it alone
 pub port_steps : (partition : ℕ) (seats : List Seat) (line : Line) (done done' : ℕ) (old new : LanValue) (step : Step)
     → StepRises (unit_of partition line.unit) line.verb done done' old new step → StepReplays (unit_of partition line.unit) line.verb done old new step
-    → IsBeside (unit_of partition line.unit) old new → TellsStep partition seats line done done' old new step
-port_steps partition seats line done done' old new step rises replays beside u sat = by (line.unit == u) refl
+    → StepFits (unit_of partition line.unit) line.verb done done' old new step → IsBeside (unit_of partition line.unit) old new
+    → TellsStep partition seats line done done' old new step
+port_steps partition seats line done done' old new step rises replays fits beside u sat = by (line.unit == u) refl
   where
     by : (b : Bool) → (line.unit == u) ≡ b → RisesIf b (unit_of partition u) line.verb done done' old new step
     by true e = (
       subst (λ n. StepRises (unit_of partition n) line.verb done done' old new step) (same_of line.unit u e) rises,
       subst (λ n. StepReplays (unit_of partition n) line.verb done old new step) (same_of line.unit u e) replays,
+      subst (λ n. StepFits (unit_of partition n) line.verb done done' old new step) (same_of line.unit u e) fits,
     )
     by false e = beside (unit_of partition u) (λ same. other_of partition line.unit u e (sym same))
 
@@ -155,9 +177,11 @@ ports_made lan partitions scripts fresh made i script found =
 -- the same of results
 pub port_told : (partition : ℕ) (seats : List Seat) (line : Line) (done done' : ℕ) (old new : LanValue) (r : Result Step NoMemory)
     → IfOk r (StepRises (unit_of partition line.unit) line.verb done done' old new) → IfOk r (StepReplays (unit_of partition line.unit) line.verb done old new)
-    → OnOk r (IsBeside (unit_of partition line.unit) old new) → IfOk r (TellsStep partition seats line done done' old new)
-port_told partition seats line done done' old new (Ok step) rises replays beside = port_steps partition seats line done done' old new step rises replays beside
-port_told partition seats line done done' old new (Err memory) rises replays beside = tt
+    → IfOk r (StepFits (unit_of partition line.unit) line.verb done done' old new) → OnOk r (IsBeside (unit_of partition line.unit) old new)
+    → IfOk r (TellsStep partition seats line done done' old new)
+port_told partition seats line done done' old new (Ok step) rises replays fits beside =
+    port_steps partition seats line done done' old new step rises replays fits beside
+port_told partition seats line done done' old new (Err memory) rises replays fits beside = tt
 
 pub port_apart : (partition u : ℕ) (old new : LanValue) (r : Result Step NoMemory) → OnOk r (IsBeside (unit_of partition u) old new)
     → OnOk r (IsApart partition old new)

@@ -4,6 +4,7 @@ use Rattle.vio_num.specs.declared.names.UnitId.{UnitId}
 use Rattle.tce_window.specs.Grant.{values_of}
 use Rattle.lan_switch.specs.Switch.{opened, port_of, same_unit}
 use Rattle.vio_trace.specs.declared.lan_rows.FrameRow.{FrameRow}
+use Rattle.lan_script.specs.Buffers.{posted_of}
 use Rattle.lan_script.specs.Invariant.{sent_by}
 use Rattle.lan_script.specs.Opening.{fresh_lan, plan_of, window_of}
 use Rattle.lan_script.specs.PortReplay.{closed_replay}
@@ -52,12 +53,20 @@ none_put (s ∷ seats) unit e ps =
     (λ h. ap (λ o. (facts_of unit ps o).values e) (window_head unit (window_of s) (map window_of seats) h) ∙ no_puts e)
     (λ h. ap (λ o. (facts_of unit ps o).values e) (window_tail unit (window_of s) (map window_of seats) h) ∙ none_put seats unit e ps)
 
+none_posted : (seats : List PortSeat) (unit : UnitId) → posted_of unit (port_of (map opened (map plan_of seats)) unit) ≡ []
+none_posted [] unit = refl
+none_posted (s ∷ seats) unit =
+    by_bool (same_unit s.unit unit) (posted_of unit (port_of (map opened (map plan_of (s ∷ seats))) unit) ≡ [])
+    (λ e. ap (λ o. posted_of unit o) (port_head unit (opened (plan_of s)) (map opened (map plan_of seats)) e))
+    (λ e. ap (λ o. posted_of unit o) (port_tail unit (opened (plan_of s)) (map opened (map plan_of seats)) e) ∙ none_posted seats unit)
+
 pub opened_fresh : (lan : LanValue) (seats : List PortSeat) → lan ≡ fresh_lan seats → AreFresh lan
 opened_fresh lan seats e = subst AreFresh (sym e) (λ unit. (
   ap (λ (l : List FrameRow). map frame_told l) (none_sent seats unit),
   none_counted seats unit,
   ap (λ (l : List FrameRow). replay_of (port_of (map opened (map plan_of seats)) unit) (map (λ (r : FrameRow). r.bytes) l)) (none_sent seats unit) ∙ none_replayed seats unit,
   λ k. none_put seats unit k (map window_of seats),
+  none_posted seats unit,
 ))
 
 pub opened_ok : {E : Type 0} (r : Result LanValue E) (seats : List PortSeat) → IfOk r (λ lan. lan ≡ fresh_lan seats) → IfOk r AreFresh

@@ -1,4 +1,4 @@
--- What the lines of a script tell of its ports, words and replay, as steps of lines go on.
+-- What the lines of a script tell of its ports: words, replay and offers, as steps of lines go on.
 use Rattle.std.proofs.Common.{◌≡◌, ℕ, ◌==◌, ◌≤◌, Bool, false, true, List, [], ◌∷◌, ◌++◌, Some, length, refl, ap}
 use Rattle.std.specs.List.{slice_get}
 use Rattle.vio_num.specs.declared.hypervisor.Moved.{Moved}
@@ -15,8 +15,16 @@ use Rattle.vcpu_run.specs.PortSteps.{AllSilent, AllTake, AreFresh, TellsStep}
 use Rattle.vcpu_run.specs.PortWords.{TellsPorts, done_in, frame_of}
 use Rattle.vcpu_run.specs.Suited.{is_call}
 use Rattle.vcpu_run.specs.Works.{fails}
+use Rattle.vcpu_run.proofs.PortFitting.{fit_ends, fit_fails, fit_fresh, fit_rest, fit_waits}
+use Rattle.vcpu_run.proofs.PortAddresses.{macs_fresh, macs_quiet, macs_rest, macs_silent, macs_step, macs_wait, silent_here}
+use Rattle.vcpu_run.proofs.PortOffering.{offers_end, offers_fail, offers_fresh, offers_rest, offers_wait}
+use Rattle.vcpu_run.proofs.PortPosting.{buffers_fresh, buffers_quiet, buffers_rest, buffers_silent, buffers_step, buffers_took, buffers_wait, takes_fresh, takes_quiet, takes_step, takes_took, takes_wait}
 use Rattle.vcpu_run.proofs.PortReplaying.{failing_replay, fresh_replay, none_replay, replay_ends, replay_waits, rest_replay, step_replay}
 use Rattle.vcpu_run.proofs.PortTelling.{fails_none, fresh_words, quiet_words, rest_words, silent_words, step_words, took_words, words_wait}
+
+-- no port did anything
+all_still : (lan : LanValue) → AllSilent lan lan
+all_still lan unit = silent_here lan unit
 
 -- the current line waits
 pub port_waits : (lan lan' : LanValue) (script script' : Script) (line : Line) (moved : Moved) → slice_get script.lines.now script.at ≡ Some line
@@ -25,7 +33,12 @@ pub port_waits : (lan lan' : LanValue) (script script' : Script) (line : Line) (
     → TellsPorts lan script → TellsPorts lan' script'
 port_waits lan lan' script script' line moved found same step tells = record {
   words = words_wait lan lan' script script' line moved found same step tells.words;
+  buffers = buffers_wait lan lan' script script' line moved found same step tells.buffers;
+  takes = takes_wait lan lan' script script' line moved found same step tells.takes;
+  macs = macs_wait lan lan' script script' line moved found same step tells.macs;
   replay = replay_waits lan lan' script script' line moved found same step tells.replay;
+  offers = offers_wait lan lan' script script' line moved found same step tells.offers;
+  fit = fit_waits lan lan' script script' line moved found same step tells.replay tells.fit;
 }
 
 -- it ends
@@ -36,8 +49,15 @@ pub step_tells : (lan lan' : LanValue) (script ended : Script) (line : Line) (ro
     → TellsPorts lan script → TellsPorts lan' ended
 step_tells lan lan' script ended line row done' found reached partition lines seats logs fresh step tells = record {
   words = step_words lan lan' script ended line row done' found reached partition lines seats logs fresh step tells.words;
+  buffers = buffers_step lan lan' script ended line row done' found reached partition lines seats logs fresh step tells.buffers;
+  takes = takes_step lan lan' script ended line row done' found reached lines seats logs fresh step tells.takes;
+  macs = macs_step lan lan' script ended line row done' found reached partition lines seats logs step tells.macs;
   replay = replay_ends lan lan' script ended line row found reached partition lines seats logs fresh
       (λ no going unit sat. step_replay lan lan' script line row done' unit (line.unit == unit) (step no unit sat)) tells.replay;
+  offers = offers_end lan lan' script ended line row found reached partition lines seats logs
+      (λ no going unit sat. step_replay lan lan' script line row done' unit (line.unit == unit) (step no unit sat)) tells.replay tells.offers;
+  fit = fit_ends lan lan' script ended line row found reached partition lines seats logs
+      (λ no going unit sat. step_replay lan lan' script line row done' unit (line.unit == unit) (step no unit sat)) tells.replay tells.fit;
 }
 
 -- a line that did nothing and is none of a replay, nor of one that lines tell of
@@ -47,9 +67,16 @@ pub quiet_tells : (lan : LanValue) (script ended : Script) (line : Line) (row : 
     → frame_of row.outcome ≡ [] → counts_told row.outcome ≡ counts 0 0 → ((d : ℕ) → counts_by line.verb d ≡ counts 0 0) → is_replayed line.verb ≡ false
     → TellsPorts lan script → TellsPorts lan ended
 quiet_tells lan script ended line row found reached partition lines seats logs fresh no_frame none nothing other tells = record {
-  words = quiet_words lan lan script ended line row found reached partition lines seats logs fresh no_frame none nothing (λ unit. record { frames = refl; counts = refl }) tells.words;
+  words = quiet_words lan lan script ended line row found reached partition lines seats logs fresh no_frame none nothing (all_still lan) tells.words;
+  buffers = buffers_quiet lan lan script ended line row found reached partition lines seats logs fresh none nothing (all_still lan) tells.buffers;
+  takes = takes_quiet script ended line row found reached lines seats logs fresh nothing tells.takes;
+  macs = macs_quiet lan lan script ended line row found reached partition lines seats logs (all_still lan) tells.macs;
   replay = replay_ends lan lan script ended line row found reached partition lines seats logs fresh
       (λ no going unit sat. none_replay lan script line row unit (line.unit == unit) other) tells.replay;
+  offers = offers_end lan lan script ended line row found reached partition lines seats logs
+      (λ no going unit sat. none_replay lan script line row unit (line.unit == unit) other) tells.replay tells.offers;
+  fit = fit_ends lan lan script ended line row found reached partition lines seats logs
+      (λ no going unit sat. none_replay lan script line row unit (line.unit == unit) other) tells.replay tells.fit;
 }
 
 -- a line of frames that waits and is ended: it tells of those that it took
@@ -60,8 +87,15 @@ pub took_tells : (lan : LanValue) (script ended : Script) (line : Line) (row : L
     → TellsPorts lan script → TellsPorts lan ended
 took_tells lan script ended line row count taken found reached partition lines seats logs fresh out verb few tells = record {
   words = took_words lan script ended line row count taken found reached partition lines seats logs fresh out verb few tells.words;
+  buffers = buffers_took lan script ended line row count found reached partition lines seats logs fresh verb tells.buffers;
+  takes = takes_took script ended line row count taken found reached lines seats logs fresh out verb few tells.takes;
+  macs = macs_quiet lan lan script ended line row found reached partition lines seats logs (all_still lan) tells.macs;
   replay = replay_ends lan lan script ended line row found reached partition lines seats logs fresh
       (λ no going unit sat. none_replay lan script line row unit (line.unit == unit) (ap is_replayed verb)) tells.replay;
+  offers = offers_end lan lan script ended line row found reached partition lines seats logs
+      (λ no going unit sat. none_replay lan script line row unit (line.unit == unit) (ap is_replayed verb)) tells.replay tells.offers;
+  fit = fit_ends lan lan script ended line row found reached partition lines seats logs
+      (λ no going unit sat. none_replay lan script line row unit (line.unit == unit) (ap is_replayed verb)) tells.replay tells.fit;
 }
 
 -- a line that failed the partition
@@ -72,7 +106,12 @@ pub failed_tells : (lan lan' : LanValue) (script ended : Script) (line : Line) (
     → TellsPorts lan script → TellsPorts lan' ended
 failed_tells lan lan' script ended line row found reached partition lines seats logs fresh no_frame none failing silent tells = record {
   words = quiet_words lan lan' script ended line row found reached partition lines seats logs fresh no_frame none (fails_none line.verb failing) silent tells.words;
+  buffers = buffers_quiet lan lan' script ended line row found reached partition lines seats logs fresh none (fails_none line.verb failing) silent tells.buffers;
+  takes = takes_quiet script ended line row found reached lines seats logs fresh (fails_none line.verb failing) tells.takes;
+  macs = macs_quiet lan lan' script ended line row found reached partition lines seats logs silent tells.macs;
   replay = failing_replay lan' script ended line found failing lines;
+  offers = offers_fail lan' script ended line found failing lines;
+  fit = fit_fails lan' script ended line found failing lines;
 }
 
 -- one that fails it still
@@ -80,19 +119,34 @@ pub failing_tells : (lan lan' : LanValue) (script : Script) (line : Line) → sl
     → AllSilent lan lan' → TellsPorts lan script → TellsPorts lan' script
 failing_tells lan lan' script line found failing silent tells = record {
   words = silent_words lan lan' script silent tells.words;
+  buffers = buffers_silent lan lan' script silent tells.buffers;
+  takes = tells.takes;
+  macs = macs_silent lan lan' script silent tells.macs;
   replay = failing_replay lan' script script line found failing refl;
+  offers = offers_fail lan' script script line found failing refl;
+  fit = fit_fails lan' script script line found failing refl;
 }
 
 -- nothing but frames was taken
 pub rest_tells : (lan lan' : LanValue) (script : Script) → AllTake script.partition lan lan' → TellsPorts lan script → TellsPorts lan' script
 rest_tells lan lan' script takes tells = record {
   words = rest_words lan lan' script takes tells.words;
+  buffers = buffers_rest lan lan' script takes tells.buffers;
+  takes = tells.takes;
+  macs = macs_rest lan lan' script takes tells.macs;
   replay = rest_replay lan lan' script takes tells.replay;
+  offers = offers_rest lan lan' script takes tells.offers;
+  fit = fit_rest lan lan' script takes tells.replay tells.fit;
 }
 
 -- a script before its first line
 pub fresh_tells : (lan : LanValue) (script : Script) → script.logs.items ≡ [] → done_in script.progress ≡ 0 → AreFresh lan → TellsPorts lan script
 fresh_tells lan script logs progress fresh = record {
   words = fresh_words lan script logs progress fresh;
+  buffers = buffers_fresh lan script logs progress fresh;
+  takes = takes_fresh script logs progress;
+  macs = macs_fresh lan script fresh;
   replay = fresh_replay lan script logs progress fresh;
+  offers = offers_fresh lan script logs;
+  fit = fit_fresh lan script fresh;
 }

@@ -1,6 +1,6 @@
 -- What the lines of LAN units tell is what a gathered trace shows of their ports.
-use Rattle.std.proofs.Common.{◌≡◌, ◌∙◌, ℕ, ◌+◌, ◌==◌, ◌<◌, ◌≤◌, Bool, true, false, All, List, [], ◌∷◌, Option, Some, None, Result, Ok, Err, IfOk, IsSome, IsSomeAnd, filter, length, map, option_map, refl, slice_get, sym, ap, subst, arith}
-use Rattle.std.specs.List.{flat_map}
+use Rattle.std.proofs.Common.{◌≡◌, ◌∙◌, ◌⊎◌, ℕ, ◌+◌, ◌==◌, ◌<◌, ◌≤◌, Bool, true, false, All, List, [], ◌∷◌, ◌++◌, append-nil, Option, Some, None, Result, Ok, Err, IfOk, IsSome, IsSomeAnd, filter, length, map, option_map, refl, slice_get, sym, take, ap, subst, arith}
+use Rattle.std.specs.List.{Contains, flat_map}
 use Rattle.std.proofs.lemmas.Option.{slice_get_past, slice_get_within, slice_get-map}
 use Rattle.std.proofs.lemmas.Bool.Decides.{nat_tests}
 use Rattle.vio_num.specs.declared.history.Grant.{Grant}
@@ -15,17 +15,19 @@ use Rattle.boot_text.specs.SoFar.{has_server, is_server}
 use Rattle.boot_text.specs.Sound.{IsSoundPartition, unit_at, unit_in}
 use Rattle.boot_text.specs.declared.plan.UnitPlan.{UnitPlan}
 use Rattle.boot_text.specs.declared.plan.UnitPlan.TheVariants as units
+use Rattle.lan_script.specs.Buffers.{posted_at}
 use Rattle.lan_script.specs.PortCounts.{PortCounts, counts, counts_at}
 use Rattle.lan_script.specs.PortReplay.{IsOn, PortReplay, closed_replay}
-use Rattle.lan_script.specs.Replayed.{bytes_sent, replay_at}
+use Rattle.lan_script.specs.Replayed.{bytes_sent, replay_at, sessions_by}
 use Rattle.lan_script.specs.Resting.{IsAllTaken}
 use Rattle.lan_script.specs.RowsOf.{CountsRows}
 use Rattle.lan_script.specs.Seats.{IsSizedSeat, seat_at}
 use Rattle.lan_script.specs.declared.seat.PortSeat.{PortSeat}
-use Rattle.lan_script.proofs.Laws.{by_bool, on_open}
-use Rattle.lan_switch.specs.Switch.{same_unit}
+use Rattle.lan_script.proofs.Laws.{by_bool, named_at, on_open}
+use Rattle.lan_switch.specs.Switch.{port_of, same_unit}
 use Rattle.std.proofs.lemmas.List.Elements.{All-head, All-tail}
-use Rattle.lan_script.specs.Units.{IsOpenAt, LanValue}
+use Rattle.lan_script.specs.Targets.{offers_to}
+use Rattle.lan_script.specs.Units.{IsOpenAt, LanValue, to_of}
 use Rattle.lan_script.specs.declared.rows.LanRows.{LanRows}
 use Rattle.vio_trace.specs.declared.lan_rows.DeliverRow.{DeliverRow}
 use Rattle.vio_trace.specs.declared.lan_rows.FrameRow.{FrameRow}
@@ -41,8 +43,12 @@ use Rattle.vcpu_run.specs.Gathered.{IsGathered, logs_of, trace_of}
 use Rattle.vcpu_run.specs.Lines.{IsOver}
 use Rattle.vcpu_run.specs.Machines.{AreScripts, IsOfPlan, IsScriptFor, seat_of}
 use Rattle.vcpu_run.specs.Ports.{IsPortOf, ports_of, unit_of}
-use Rattle.vcpu_run.specs.PortReplays.{AreReplayed, IsPlainPort}
-use Rattle.vcpu_run.specs.PortWords.{HasNoCall, LinesTell, PortsAreReplayed, PortsAreTold, PortsTell, TellsPort, WordsAreTold, counts_now, counts_under, done_in, frame_told}
+use Rattle.lan_script.specs.OwnMac.{IsForGroup}
+use Rattle.vcpu_run.specs.PortMacs.{HasMac}
+use Rattle.vcpu_run.specs.PortOffers.{EndsFrame, GoesNow, GoesTo, KeepsOffers, WasTarget}
+use Rattle.vcpu_run.specs.PortPosts.{AreWithin, buffers_of, buffers_under}
+use Rattle.vcpu_run.specs.PortReplays.{AreReplayed, IsPlainPort, sent_at}
+use Rattle.vcpu_run.specs.PortWords.{BuffersAreTold, FramesAreOffered, HasNoCall, LinesTell, OffersAreFit, OffersHaveAddress, PortsAreReplayed, PortsAreTold, PortsTell, TakesAreWithin, TellsPort, WordsAreTold, counts_now, counts_under, done_in, frame_told}
 use Rattle.vcpu_run.specs.PortsRest.{PortsEnd}
 use Rattle.vcpu_run.specs.Scripts.{are_servers}
 use Rattle.vcpu_run.specs.Settled.{script_of}
@@ -89,6 +95,7 @@ record IsScriptAt (scripts : List Script) (partitions : List Partition) (unit : 
   sits : slice_get script.seats.items unit.unit ≡ Some sits.Port
   named : unit_of script.partition unit.unit ≡ unit
   ended : counts_now unit.unit script ≡ counts 0 0
+  left : slice_get script.lines.now script.at ≡ None
   others : are_servers script.seats.items ≡ false
 
 -- units of which one is a port have no server unit first
@@ -157,6 +164,7 @@ script_at pairs scripts ports partitions unit are of_plan over there = at (slice
           sits = sits_there script e;
           named = ap (λ n. unit_of n unit.unit) here;
           others = other_seats script e;
+          left = none_left script.lines.now script.at (all_at IsOver scripts p script over e);
           ended = ap (λ o. counts_under unit.unit (done_in script.progress) o) (none_left script.lines.now script.at (all_at IsOver scripts p script over e));
         }
 
@@ -202,6 +210,7 @@ replayed_are pairs scripts lan rows history grants copies partitions are of_plan
       (seat_has IsSizedSeat (ports_of partitions) unit seat (ports_sized partitions of_plan.sound) there)
       (seat_has IsOwnSeat (ports_of partitions) unit seat (ports_own partitions of_plan.sound) there)).keeps.replayed);
   frames = ap (λ (l : List FrameRow). map (λ (r : FrameRow). r.bytes) l) (counted.frames unit) ∙ sym (ap (λ (id : UnitId). bytes_sent lan id) at.named);
+  sessions = counted.sessions unit ∙ sym (ap (λ (id : UnitId). sessions_by (port_of lan.stations id)) at.named);
   harvested = λ on.
       subst (λ (q : ℕ). length (filter (λ (row : HarvestRow). row.session == q) (filter (λ (row : HarvestRow). same_unit row.unit unit) rows.harvests.items))
       ≡ length (filter (λ (row : DeliverRow). row.session == q) (filter (λ (row : DeliverRow). same_unit row.unit unit) rows.delivers.items)))
@@ -227,10 +236,145 @@ replayed_are pairs scripts lan rows history grants copies partitions are of_plan
     taken = subst (λ (id : UnitId). IsAllTaken lan id) at.named
         (ends.taken unit.partition at.script (slice_get_within scripts unit.partition at.script at.is) at.is at.others unit.unit at.sits)
 
+-- what was spent at a port, once a run is over
+goes_told : (lan : LanValue) (rows : LanRows) (port : UnitId) (seat : PortSeat) (own : List Ended) (frame : FrameRow) → CountsRows lan rows
+    → GoesNow lan port seat own frame → GoesTo port seat own frame (filter (λ (row : DeliverRow). same_unit row.unit port) rows.delivers.items)
+goes_told lan rows port seat own frame counted h = record {
+  left = h.left;
+  replayed = h.replayed;
+  offers = h.offers;
+  no_buffer = λ is number len at enough. named_at lan rows port frame h.left counted h.spent is number len at enough;
+}
+
+offered_are : (pairs : List Pair) (scripts : List Script) (lan : LanValue) (rows : LanRows) (history : List Served) (grants : List Grant) (copies : List CopyRecord)
+    (partitions : List Partition) → AreScripts pairs lan.seats scripts → IsOfPlan partitions pairs scripts lan.seats → All IsOver scripts → PortsTell lan scripts
+    → CountsRows lan rows → FramesAreOffered partitions (trace_of pairs scripts lan rows history grants copies)
+offered_are pairs scripts lan rows history grants copies partitions are of_plan over tells counted unit there plain place number ends = record {
+  frame = kept.frame;
+  kept = subst (λ (l : List FrameRow). Contains l kept.frame)
+      (ap (λ (id : UnitId). sent_at lan id) at.named ∙ sym (counted.frames unit)) kept.kept;
+  number_is = kept.number_is;
+  goes = λ port seat other plain' seated.
+      goes_told lan rows (unit_of unit.partition port) seat (ended_by port lines (take place logs)) kept.frame counted
+      (subst (λ (p : ℕ). GoesNow lan (unit_of p port) seat (ended_by port lines (take place logs)) kept.frame) partition
+      (subst (λ ls. GoesNow lan (unit_of at.script.partition port) seat (ended_by port ls (take place logs)) kept.frame) (sym at.lines)
+      (subst (λ l. GoesNow lan (unit_of at.script.partition port) seat (ended_by port at.script.lines.now (take place l)) kept.frame) (sym at.only)
+      (kept.goes port seat other (subst (IsPlainPort port) at.lines plain') (sits_at port seat seated)
+      (ap (λ (p : ℕ). seat_at lan.seats (unit_of p port)) partition
+      ∙ (ap (λ ss. seat_at ss (unit_of unit.partition port)) of_plan.ports_are ∙ seated))
+      (seat_has IsSizedSeat (ports_of partitions) (unit_of unit.partition port) seat (ports_sized partitions of_plan.sound) seated)
+      (seat_has IsOwnSeat (ports_of partitions) (unit_of unit.partition port) seat (ports_own partitions of_plan.sound) seated)))));
+}
+  where
+    lines : List Line
+    lines = script_of partitions unit.partition
+
+    logs : List LogRow
+    logs = filter (λ (row : LogRow). row.partition == unit.partition) (flat_map logs_of scripts)
+
+    at : IsScriptAt scripts partitions unit logs
+    at = script_at pairs scripts lan.seats partitions unit are of_plan over there
+
+    partition : at.script.partition ≡ unit.partition
+    partition = ap (λ (id : UnitId). id.partition) at.named
+
+    kept : KeepsOffers lan at.script.partition at.script.seats.items at.script.lines.now (take place at.script.logs.items) unit.unit number
+    kept = (tells unit.partition at.script at.is).offers unit.unit (subst (IsPlainPort unit.unit) at.lines plain) at.sits place number
+        (subst (λ ls. EndsFrame ls at.script.logs.items unit.unit place number) at.lines
+        (subst (λ l. EndsFrame lines l unit.unit place number) at.only ends))
+
+    sits_at : (port : ℕ) (seat : PortSeat) → seat_at (ports_of partitions) (unit_of unit.partition port) ≡ Some seat
+        → slice_get at.script.seats.items port ≡ Some sits.Port
+    sits_at port seat seated =
+        let its = script_at pairs scripts lan.seats partitions (unit_of unit.partition port) are of_plan over (subst (λ (o : Option PortSeat). IsSome o) (sym seated) refl) in
+        subst (λ (s : Script). slice_get s.seats.items port ≡ Some sits.Port) (some_same its.script at.script (sym its.is ∙ at.is)) its.sits
+
+fit_are : (pairs : List Pair) (scripts : List Script) (lan : LanValue) (rows : LanRows) (history : List Served) (grants : List Grant) (copies : List CopyRecord)
+    (partitions : List Partition) → AreScripts pairs lan.seats scripts → IsOfPlan partitions pairs scripts lan.seats → All IsOver scripts → PortsTell lan scripts
+    → CountsRows lan rows → OffersAreFit partitions (trace_of pairs scripts lan rows history grants copies)
+fit_are pairs scripts lan rows history grants copies partitions are of_plan over tells counted unit seat there plain sender other frame kept some =
+    subst (λ ls. WasTarget seat (ended_by unit.unit ls logs) (to_of frame)) (sym at.lines)
+    (subst (λ l. WasTarget seat (ended_by unit.unit at.script.lines.now l) (to_of frame)) (sym at.only)
+    ((tells unit.partition at.script at.is).fit unit.unit (subst (IsPlainPort unit.unit) at.lines plain) at.sits seat seated
+    (seat_has IsSizedSeat (ports_of partitions) unit seat (ports_sized partitions of_plan.sound) there)
+    (seat_has IsOwnSeat (ports_of partitions) unit seat (ports_own partitions of_plan.sound) there)
+    sender (subst (λ (id : UnitId). same_unit sender id ≡ false) (sym at.named) other) frame
+    (subst (λ (l : List FrameRow). Contains l frame) (counted.frames sender) kept)
+    (subst (λ (id : UnitId). 1 ≤ length (offers_to id frame.offers)) (sym at.named) some)))
+  where
+    logs : List LogRow
+    logs = filter (λ (row : LogRow). row.partition == unit.partition) (flat_map logs_of scripts)
+
+    at : IsScriptAt scripts partitions unit logs
+    at = script_at pairs scripts lan.seats partitions unit are of_plan over (subst (λ (o : Option PortSeat). IsSome o) (sym there) refl)
+
+    seated : seat_at lan.seats (unit_of at.script.partition unit.unit) ≡ Some seat
+    seated = ap (λ u. seat_at lan.seats u) at.named ∙ (ap (λ ss. seat_at ss unit) of_plan.ports_are ∙ there)
+
+buffers_are : (pairs : List Pair) (scripts : List Script) (lan : LanValue) (rows : LanRows) (history : List Served) (grants : List Grant) (copies : List CopyRecord)
+    (partitions : List Partition) → AreScripts pairs lan.seats scripts → IsOfPlan partitions pairs scripts lan.seats → All IsOver scripts → PortsTell lan scripts
+    → CountsRows lan rows → BuffersAreTold partitions (trace_of pairs scripts lan rows history grants copies)
+buffers_are pairs scripts lan rows history grants copies partitions are of_plan over tells counted unit there none =
+    ap (λ ls. buffers_of (ended_by unit.unit ls logs)) at.lines
+    ∙ ap (λ l. buffers_of (ended_by unit.unit at.script.lines.now l)) at.only
+    ∙ sym (append-nil (buffers_of own))
+    ∙ ap (λ o. buffers_of own ++ buffers_under unit.unit (done_in at.script.progress) o) (sym at.left)
+    ∙ (tells unit.partition at.script at.is).buffers (subst HasNoCall at.lines none) unit.unit at.sits
+    ∙ ap (λ (id : UnitId). posted_at lan id) at.named
+    ∙ sym (counted.buffers unit)
+  where
+    logs : List LogRow
+    logs = filter (λ (row : LogRow). row.partition == unit.partition) (flat_map logs_of scripts)
+
+    at : IsScriptAt scripts partitions unit logs
+    at = script_at pairs scripts lan.seats partitions unit are of_plan over there
+
+    own : List Ended
+    own = ended_by unit.unit at.script.lines.now at.script.logs.items
+
+takes_are : (pairs : List Pair) (scripts : List Script) (lan : LanValue) (rows : LanRows) (history : List Served) (grants : List Grant) (copies : List CopyRecord)
+    (partitions : List Partition) → AreScripts pairs lan.seats scripts → IsOfPlan partitions pairs scripts lan.seats → All IsOver scripts → PortsTell lan scripts
+    → TakesAreWithin partitions (trace_of pairs scripts lan rows history grants copies)
+takes_are pairs scripts lan rows history grants copies partitions are of_plan over tells unit there =
+    subst (λ ls. AreWithin (ended_by unit.unit ls logs)) (sym at.lines)
+    (subst (λ l. AreWithin (ended_by unit.unit at.script.lines.now l)) (sym at.only)
+    ((tells unit.partition at.script at.is).takes unit.unit at.sits).ended)
+  where
+    logs : List LogRow
+    logs = filter (λ (row : LogRow). row.partition == unit.partition) (flat_map logs_of scripts)
+
+    at : IsScriptAt scripts partitions unit logs
+    at = script_at pairs scripts lan.seats partitions unit are of_plan over there
+
+addressed_are : (pairs : List Pair) (scripts : List Script) (lan : LanValue) (rows : LanRows) (history : List Served) (grants : List Grant) (copies : List CopyRecord)
+    (partitions : List Partition) → AreScripts pairs lan.seats scripts → IsOfPlan partitions pairs scripts lan.seats → All IsOver scripts → PortsTell lan scripts
+    → CountsRows lan rows → OffersHaveAddress partitions (trace_of pairs scripts lan rows history grants copies)
+addressed_are pairs scripts lan rows history grants copies partitions are of_plan over tells counted unit seat there none sender other frame kept some =
+    subst (λ ls. IsForGroup (to_of frame) ⊎ HasMac seat (ended_by unit.unit ls logs) (to_of frame)) (sym at.lines)
+    (subst (λ l. IsForGroup (to_of frame) ⊎ HasMac seat (ended_by unit.unit at.script.lines.now l) (to_of frame)) (sym at.only)
+    (((tells unit.partition at.script at.is).macs (subst HasNoCall at.lines none) unit.unit at.sits seat seated).fit
+    sender (subst (λ (id : UnitId). same_unit sender id ≡ false) (sym at.named) other) frame
+    (subst (λ (l : List FrameRow). Contains l frame) (counted.frames sender) kept)
+    (subst (λ (id : UnitId). 1 ≤ length (offers_to id frame.offers)) (sym at.named) some)))
+  where
+    logs : List LogRow
+    logs = filter (λ (row : LogRow). row.partition == unit.partition) (flat_map logs_of scripts)
+
+    at : IsScriptAt scripts partitions unit logs
+    at = script_at pairs scripts lan.seats partitions unit are of_plan over (subst (λ (o : Option PortSeat). IsSome o) (sym there) refl)
+
+    seated : seat_at lan.seats (unit_of at.script.partition unit.unit) ≡ Some seat
+    seated = ap (λ u. seat_at lan.seats u) at.named ∙ (ap (λ ss. seat_at ss unit) of_plan.ports_are ∙ there)
+
 pub told_are : (pairs : List Pair) (scripts : List Script) (lan : LanValue) (rows : LanRows) (history : List Served) (grants : List Grant) (copies : List CopyRecord)
     (partitions : List Partition) → AreScripts pairs lan.seats scripts → IsOfPlan partitions pairs scripts lan.seats → All IsOver scripts → PortsEnd lan scripts
     → CountsRows lan rows → PortsAreTold partitions (trace_of pairs scripts lan rows history grants copies)
 told_are pairs scripts lan rows history grants copies partitions are of_plan over ends counted = record {
   words = words_are pairs scripts lan rows history grants copies partitions are of_plan over ends.told counted;
+  buffers = buffers_are pairs scripts lan rows history grants copies partitions are of_plan over ends.told counted;
+  takes = takes_are pairs scripts lan rows history grants copies partitions are of_plan over ends.told;
+  addressed = addressed_are pairs scripts lan rows history grants copies partitions are of_plan over ends.told counted;
   replayed = replayed_are pairs scripts lan rows history grants copies partitions are of_plan over ends counted;
+  offered = offered_are pairs scripts lan rows history grants copies partitions are of_plan over ends.told counted;
+  fit = fit_are pairs scripts lan rows history grants copies partitions are of_plan over ends.told counted;
 }

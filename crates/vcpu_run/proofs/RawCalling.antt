@@ -1,13 +1,21 @@
 -- What a raw call leaves of a partition's units, whether a row answers it or the table of calls refuses it.
-use Rattle.std.proofs.Common.{◌≡◌, ℕ, true, false, List, Option, Some, None, Result, Ok, Err, IfSome, refl, sym, subst}
+use Rattle.std.proofs.Common.{◌≡◌, ℕ, true, false, List, Option, Some, None, Result, Ok, Err, IfOk, IfSome, OnOk, ap, refl, slice_get, sym, subst}
 use Rattle.vio_num.specs.declared.hypervisor.Hrc.TheVariants as codes
 use Rattle.vio_num.specs.declared.memory.NoMemory.{NoMemory}
 use Rattle.boot_text.specs.declared.verb.Verb.{Verb}
-use Rattle.hcall_table.specs.Asked.{Refuses}
+use Rattle.hcall_table.specs.Asked.{Refuses, ask}
 use Rattle.hcall_table.specs.Named.{unit_of}
-use Rattle.hcall_table.specs.Rows.{row_of}
+use Rattle.hcall_table.specs.Rows.{further, row_of}
 use Rattle.hcall_table.specs.declared.hcall.Hcall.{Hcall}
 use Rattle.hcall_table.specs.declared.returned.Returned.{Returned}
+use Rattle.vio_num.specs.declared.names.UnitId.{UnitId}
+use Rattle.lan_script.specs.PortCounts.{CountsOn, SendsCalled, counts, counts_called}
+use Rattle.lan_script.specs.Replayed.{SameBeside}
+use Rattle.lan_script.specs.Values.{SameValuesBeside}
+use Rattle.lan_script.specs.declared.calls.PortCall.{PortCall}
+use Rattle.vcpu_run.specs.Freed.{FreesNoneIf}
+use Rattle.vcpu_run.specs.Pairs.{AreDriven}
+use Rattle.vcpu_run.specs.Ports.{unit_of as unit_id}
 use Rattle.vcpu_run.specs.declared.partition_units.PartitionUnits.{PartitionUnits}
 use Rattle.vcpu_run.specs.declared.driver.Driver.{Driver}
 use Rattle.vcpu_run.specs.declared.pair.Pair.{Pair}
@@ -16,12 +24,13 @@ use Rattle.vio_trace.specs.declared.outcome.Outcome.TheVariants as outcomes
 use Rattle.unit_region.specs.declared.step.Step.{Step}
 use Rattle.unit_region.specs.declared.step.Step.TheVariants as steps
 use Rattle.vcpu_run.specs.Agreed.{OnDrivers, SameDrivers, StepsSeat, driver_at}
+use Rattle.vcpu_run.specs.CallsAnswered.{IsReturned}
 use Rattle.vcpu_run.specs.Credited.{StepsAgreed, StepsPort, grants, is_take}
 use Rattle.unit_region.specs.Steps.{IsPlain, is_plain}
 use Rattle.vcpu_run.specs.PortSteps.{IsApart}
-use Rattle.vcpu_run.specs.RawCalls.{CallsUnits, MakesCall, place_of}
+use Rattle.vcpu_run.specs.RawCalls.{AnswersCall, CallsUnits, MakesCall, place_of, seen_after}
 use Rattle.vcpu_run.proofs.Crediting.{on_ok}
-use Rattle.vcpu_run.proofs.PortTurns.{idle_same}
+use Rattle.vcpu_run.proofs.PortTurns.{call_apart, idle_same}
 use Rattle.vcpu_run.proofs.Credits.{plain_fresh}
 use Rattle.vcpu_run.specs.Freeing.{NoneSits}
 use Rattle.vcpu_run.proofs.Driving.{driven_same}
@@ -37,24 +46,66 @@ calls_same old new result same = record {
       (subst (λ (u : PartitionUnits). IsApart old.partition old.lan.now u.lan.now) (sym same) (λ unit _. idle_same old.lan.now unit));
 }
 
+-- a call at a port, which leaves the pairs
+pub port_made : (old new : PartitionUnits) (u : ℕ) (id : UnitId) (call : PortCall) (r : Result Returned NoMemory) → id ≡ unit_id old.partition u → new.pairs ≡ old.pairs
+    → new.lan.ghost_name ≡ old.lan.ghost_name → new.lan.now.seats ≡ old.lan.now.seats
+    → IfOk r (λ returned. CountsOn id (counts 0 0) (counts_called call returned.code) old.lan.now new.lan.now)
+    → IfOk r (λ returned. SendsCalled id call returned.code old.lan.now new.lan.now) → OnOk r (SameBeside id old.lan.now new.lan.now)
+    → OnOk r (SameValuesBeside id old.lan.now new.lan.now) → MakesCall old new r
+port_made old new u id call r is pairs lender seats counted sent beside values = record {
+  units = record {
+    lender = ap (λ p. p.ghost_name) pairs;
+    lan_lender = lender;
+    driven = subst (λ list. AreDriven old.pairs.now list) (sym now) (driven_same old.pairs.now);
+    told = λ k. ap (λ list. driver_at list k) now;
+    ports = seats;
+    stays = subst (λ list. FreesNoneIf (NoneSits old.seats.now) old.pairs.now list) (sym now) (frees_same (NoneSits old.seats.now) old.pairs.now);
+    others = λ k none. ap (λ list. slice_get list k) now;
+  };
+  apart = call_apart old.partition u call r old.lan.now new.lan.now seats
+      (subst (λ (i : UnitId). IfOk r (λ returned. CountsOn i (counts 0 0) (counts_called call returned.code) old.lan.now new.lan.now)) is counted)
+      (subst (λ (i : UnitId). IfOk r (λ returned. SendsCalled i call returned.code old.lan.now new.lan.now)) is sent)
+      (subst (λ (i : UnitId). OnOk r (SameBeside i old.lan.now new.lan.now)) is beside)
+      (subst (λ (i : UnitId). OnOk r (SameValuesBeside i old.lan.now new.lan.now)) is values);
+}
+  where
+    now : new.pairs.now ≡ old.pairs.now
+    now = ap (λ p. p.now) pairs
+
 -- a row that has a unit, or none of this partition
-called_on : (old new : PartitionUnits) (unit : Option ℕ) (result : Result Returned NoMemory)
-    → (unit ≡ None → Refuses PartitionUnits codes.Parameter old new result) → IfSome unit (λ unit. MakesCall old new result) → MakesCall old new result
-called_on old new None result elsewhere made = calls_same old new result (elsewhere refl).same
-called_on old new (Some unit) result elsewhere made = made
+called_on : (old new : PartitionUnits) (row : Hcall) (args : List ℕ) (unit : Option ℕ) (result : Result Returned NoMemory)
+    → (unit ≡ None → Refuses PartitionUnits codes.Parameter old new result) → IfSome unit (λ unit. AnswersCall (ask row unit args) old new result) → MakesCall old new result
+called_on old new row args None result elsewhere made = calls_same old new result (elsewhere refl).same
+called_on old new row args (Some unit) result elsewhere made = made.made
 
 pub units_called : (old new : PartitionUnits) (number : ℕ) (args : List ℕ) (result : Result Returned NoMemory)
     → (row_of number ≡ None → Refuses PartitionUnits codes.Function old new result)
     → IfSome (row_of number) (λ row. unit_of (place_of old) row args ≡ None → Refuses PartitionUnits codes.Parameter old new result)
-    → IfSome (row_of number) (λ row. IfSome (unit_of (place_of old) row args) (λ unit. MakesCall old new result))
+    → IfSome (row_of number) (λ row. IfSome (unit_of (place_of old) row args) (λ unit. AnswersCall (ask row unit (further row args)) old new result))
     → MakesCall old new result
 units_called old new number args result unknown elsewhere made = at (row_of number) refl elsewhere made
   where
     at : (row : Option Hcall) → row_of number ≡ row
         → IfSome row (λ row. unit_of (place_of old) row args ≡ None → Refuses PartitionUnits codes.Parameter old new result)
-        → IfSome row (λ row. IfSome (unit_of (place_of old) row args) (λ unit. MakesCall old new result)) → MakesCall old new result
+        → IfSome row (λ row. IfSome (unit_of (place_of old) row args) (λ unit. AnswersCall (ask row unit (further row args)) old new result)) → MakesCall old new result
     at None e p m = calls_same old new result (unknown e).same
-    at (Some row) e p m = called_on old new (unit_of (place_of old) row args) result p m
+    at (Some row) e p m = called_on old new row (further row args) (unit_of (place_of old) row args) result p m
+
+-- what a call returned at the unit that it names
+returned_on : (old new : PartitionUnits) (row : Hcall) (args : List ℕ) (unit : Option ℕ) (result : Result Returned NoMemory)
+    → IfSome unit (λ unit. AnswersCall (ask row unit args) old new result) → IfSome unit (λ unit. IfOk result (IsReturned (seen_after old new unit) row args))
+returned_on old new row args None result made = tt
+returned_on old new row args (Some unit) result made = made.returned
+
+pub returned_at : (old new : PartitionUnits) (number : ℕ) (args : List ℕ) (result : Result Returned NoMemory)
+    → IfSome (row_of number) (λ row. IfSome (unit_of (place_of old) row args) (λ unit. AnswersCall (ask row unit (further row args)) old new result))
+    → IfSome (row_of number) (λ row. IfSome (unit_of (place_of old) row args) (λ unit. IfOk result (IsReturned (seen_after old new unit) row (further row args))))
+returned_at old new number args result made = at (row_of number) made
+  where
+    at : (row : Option Hcall) → IfSome row (λ row. IfSome (unit_of (place_of old) row args) (λ unit. AnswersCall (ask row unit (further row args)) old new result))
+        → IfSome row (λ row. IfSome (unit_of (place_of old) row args) (λ unit. IfOk result (IsReturned (seen_after old new unit) row (further row args))))
+    at None m = tt
+    at (Some row) m = returned_on old new row (further row args) (unit_of (place_of old) row args) result m
 
 -- a step that told no driver, and changed no credit
 told_here : (verb : Verb) (taken : ℕ) (o p : Option Driver) (result : Result Step NoMemory) → is_take verb ≡ false → p ≡ o → IsPlain result

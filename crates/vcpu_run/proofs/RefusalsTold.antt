@@ -22,7 +22,7 @@ use Rattle.vcpu_run.specs.Gathered.{HasLawfulQueue, HasLawfulWindow, logs_of, qu
 use Rattle.vcpu_run.specs.Machines.{AreScripts, HasNoClient, IsOfPlan, IsPlanned, IsPlannedClient}
 use Rattle.vcpu_run.specs.Ports.{unit_of}
 use Rattle.vcpu_run.specs.PortWords.{HasNoCall}
-use Rattle.vcpu_run.specs.Refusals.{HasCausesTold, RefusalsAreTold, seen_in}
+use Rattle.vcpu_run.specs.Refusals.{AreValuesTold, HasCausesTold, RefusalsAreTold, seen_in}
 use Rattle.vcpu_run.specs.Scripts.{are_servers}
 use Rattle.vcpu_run.specs.ScriptTold.{AreTold, IsScriptTold}
 use Rattle.vcpu_run.specs.Settled.{script_of}
@@ -47,7 +47,7 @@ use Rattle.vcpu_run.specs.LinesShow.{LinesShow, Sees, seen_at}
 use Rattle.vcpu_run.specs.Pairs.{AreOfOneHome, IsDriver}
 use Rattle.vcpu_run.specs.Sessions.{session_rows}
 use Rattle.vcpu_run.specs.Units.{seats_of, unit_seat}
-use Rattle.vcpu_run.proofs.Copied.{names_apart, windows_shown}
+use Rattle.vcpu_run.proofs.Copied.{names_apart, values_are, windows_shown}
 use Rattle.vcpu_run.proofs.Following.{each_from_all}
 use Rattle.vcpu_run.proofs.LinesShown.{begins_has, front_shown, lines_more, put_shown, stroke_shown}
 use Rattle.vcpu_run.proofs.QueueLaws.{sessions_told}
@@ -55,7 +55,7 @@ use Rattle.vcpu_run.proofs.Seated.{planned_in}
 use Rattle.vcpu_run.proofs.Sole.{same_refl}
 
 -- the window at which a client's driver sits has the pages of the plan
-client_pages : (partitions : List Partition) (k : ℕ) (id : UnitId) (pair : Pair) → IsPlanned partitions k pair → IsSomeAnd pair.driver (λ driver. driver.unit ≡ id)
+pub client_pages : (partitions : List Partition) (k : ℕ) (id : UnitId) (pair : Pair) → IsPlanned partitions k pair → IsSomeAnd pair.driver (λ driver. driver.unit ≡ id)
     → pages_at partitions id ≡ length pair.window.pages
 client_pages partitions k id pair is has = at pair.driver is.client has
   where
@@ -79,7 +79,7 @@ window_is window None id is has = absurd has
 window_is window (Some driver) id is has = is.unit ∙ has
 
 -- what there is at a client's pair is shown by the trace
-trace_sees : (partitions : List Partition) (pairs : List Pair) (scripts : List Script) (lan : LanValue) (rows : LanRows) (history : List Served) (grants : List Grant) (copies : List CopyRecord)
+pub trace_sees : (partitions : List Partition) (pairs : List Pair) (scripts : List Script) (lan : LanValue) (rows : LanRows) (history : List Served) (grants : List Grant) (copies : List CopyRecord)
     (client server : UnitId) (pair : Pair) → AreOfOneHome copies pairs → AreScripts pairs lan.seats scripts → All (HasLawfulQueue pairs) (seats_of scripts)
     → All (HasLawfulWindow pairs lan) (seats_of scripts) → IsOfPlan partitions pairs scripts lan.seats → IsClientOf partitions client server → slice_get pairs server.unit ≡ Some pair
     → Sees (seen_at pair) (seen_in (trace_of pairs scripts lan rows history grants copies) client server)
@@ -138,6 +138,11 @@ refusals_are pairs scripts lan lan_rows history grants copies partitions home ar
     subst (λ (unit : UnitId). LinesShow (seen_in trace client server) unit client.unit script.lines.now script.logs.items) who
     (lines_more (seen_at pair.0) (seen_in trace client server) pair.0.window.unit client.unit script.lines.now script.logs.items sees
     (script_is.shown client.unit server.unit pair.0 at.2 pair.1)) in
+    let own_seat : UnitSeat = unit_seat client.partition client.unit (sits.Client server.unit) in
+    let own_inside : IsIn own_seat (seats_of scripts) = planned_in partitions pairs scripts lan.seats client (units.Client server is.0 is.1) are of_plan is.2 in
+    let window : window_at pairs lan own_seat ≡ Some pair.0.window = ap (option_map (λ (pair : Pair). pair.window)) pair.1 in
+    let put : AreValuesTold trace client (ended_by client.unit script.lines.now script.logs.items) =
+    λ e. values_are pairs scripts lan lan_rows history grants copies are windows own_seat pair.0.window own_inside window e ∙ script_is.put client.unit server.unit pair.0 at.2 pair.1 e in
     let takes : AreAnswersTaken trace client (ended_by client.unit script.lines.now script.logs.items) =
     client_takes partitions pairs scripts lan lan_rows history grants copies client server (ended_by client.unit script.lines.now script.logs.items) pair.0
     (λ driver. driver.unit ≡ unit_of script.partition client.unit) are lawful of_plan is pair.1 pair.2 (script_is.taken.kept client.unit server.unit pair.0 at.2 pair.1) in
@@ -147,6 +152,8 @@ refusals_are pairs scripts lan lan_rows history grants copies partitions home ar
           (subst (λ (rows : List LogRow). HasCausesTold (length pair.0.window.pages) (ended_by client.unit script.lines.now rows)) (sym (own_records pairs scripts lan p script are at.1)) law));
       shown = subst (λ (ls : List Line). LinesShow (seen_in trace client server) client client.unit ls (filter (λ (row : LogRow). row.partition == p) (flat_map logs_of scripts))) (sym lines)
           (subst (λ (rows : List LogRow). LinesShow (seen_in trace client server) client client.unit script.lines.now rows) (sym (own_records pairs scripts lan p script are at.1)) show);
+      put = subst (λ (ls : List Line). AreValuesTold trace client (ended_by client.unit ls (filter (λ (row : LogRow). row.partition == p) (flat_map logs_of scripts)))) (sym lines)
+          (subst (λ (rows : List LogRow). AreValuesTold trace client (ended_by client.unit script.lines.now rows)) (sym (own_records pairs scripts lan p script are at.1)) put);
       takes = subst (λ (ls : List Line). AreAnswersTaken trace client (ended_by client.unit ls (filter (λ (row : LogRow). row.partition == p) (flat_map logs_of scripts)))) (sym lines)
           (subst (λ (rows : List LogRow). AreAnswersTaken trace client (ended_by client.unit script.lines.now rows)) (sym (own_records pairs scripts lan p script are at.1)) takes);
     }

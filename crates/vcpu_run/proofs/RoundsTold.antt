@@ -36,6 +36,7 @@ told_else old new script same is = record {
     up_to = is.taken.up_to;
     agrees = λ line next ok unit k pair at now. is.taken.agrees line next ok unit k pair at (sym (same unit k at) ∙ now);
   };
+  put = λ unit k pair at now. is.put unit k pair at (sym (same unit k at) ∙ now);
 }
 
 out_else : (old new : List Pair) (script : Script) → SameSeats old new script → IsResetOut old script → IsResetOut new script

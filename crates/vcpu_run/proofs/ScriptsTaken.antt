@@ -18,6 +18,7 @@ use Rattle.vcpu_run.specs.declared.unit_seat.Seat.TheVariants as places
 use Rattle.vcpu_run.specs.Agreed.{SameBeside}
 use Rattle.vcpu_run.specs.AnswersTaken.{IsTakeSaid, TakesNow, takes_by}
 use Rattle.vcpu_run.specs.Credited.{Ended, ended_by, is_take, taken_in}
+use Rattle.vcpu_run.specs.EventsHeard.{lost_of}
 use Rattle.vcpu_run.specs.Pairs.{AreDriven}
 use Rattle.vcpu_run.specs.Scripts.{AreSeats}
 use Rattle.vcpu_run.specs.ScriptTold.{AtSeats, IsScriptTaken, SameClient, SameClients, own_of, progress_at, progress_by}
@@ -171,7 +172,8 @@ ends_taken old new script done line row seat p' found one sits are driven many s
         subst (λ n. SeatTold n line script.progress p' old new (Ok (steps.Ends row.outcome))) same_seat step in
         subst (λ (own : List Ended). PairTaken own after × PairAgrees own progress.Fresh after)
         (sym (records unit ∙ ap (λ t. cond t (own_of unit script ++ e ∷ []) (own_of unit script)) same))
-        (taken_ends script.progress p' (own_of unit script) e b.pair after b.has of (stepped.takes b.pair after b.there now) (still unit k after at now) agrees)
+        (taken_ends script.progress p' (own_of unit script) e b.pair after b.has of (stepped.takes b.pair after b.there now) (stepped.hears b.pair after b.there now) (is.kept unit k b.pair at b.there)
+        (still unit k after at now) agrees)
     each unit k after at now (inr differ) =
         let b = before_of script.partition unit k script.seats.items old new after are driven at now in
         let apart = apart_seats script.partition unit line.unit k seat script.seats.items old are sits at differ in
@@ -222,11 +224,11 @@ port_ends_taken pairs script done line row found one sits many lines seats logs 
 -- before the first line
 pub new_taken : (pairs : List Pair) (script : Script) → script.logs.items ≡ [] → script.progress ≡ progress.Fresh → AreUntaken pairs → IsScriptTaken pairs script
 new_taken pairs script logs fresh untaken = record {
-  kept = λ unit k pair at now. subst (λ (own : List Ended). PairTaken own pair) (sym (none unit)) (taken_none pair (untaken k pair now)).0;
+  kept = λ unit k pair at now. subst (λ (own : List Ended). PairTaken own pair) (sym (none unit)) (taken_none pair (untaken k pair now).0).0;
   up_to = fresh_up_to script script.progress (slice_get script.lines.now script.at) fresh;
   agrees = λ l next ok unit k pair at now. subst (λ (own : List Ended). PairAgrees own (progress_by unit script) pair) (sym (none unit))
       (subst (λ (q : Progress). PairAgrees [] q pair) (sym (ap (λ (p : Progress). progress_at unit p (slice_get script.lines.now script.at)) fresh ∙ fresh_at unit (slice_get script.lines.now script.at)))
-      (taken_none pair (untaken k pair now)).1);
+      (taken_none pair (untaken k pair now).0).1);
 }
   where
     empty : (unit : ℕ) (lines : List Line) → ended_by unit lines [] ≡ []
@@ -301,7 +303,7 @@ fail_ends_taken old new script done line row found failing gives many ended line
     each unit after kept (inl same) =
         subst (λ (own : List Ended). PairTaken own after) (sym (own_more script done line row unit found many lines logs
         ∙ ap (λ b. cond b (own_of unit script ++ e ∷ []) (own_of unit script)) same))
-        (taken_quiet (own_of unit script) e after (λ tags now. fails_said line.verb failing tags now row.outcome) quiet kept)
+        (taken_quiet (own_of unit script) e after (ap lost_of ended) (λ tags now. fails_said line.verb failing tags now row.outcome) quiet kept)
     each unit after kept (inr differ) =
         subst (λ (own : List Ended). PairTaken own after) (sym (own_more script done line row unit found many lines logs
         ∙ ap (λ b. cond b (own_of unit script ++ e ∷ []) (own_of unit script)) differ)) kept

@@ -12,7 +12,7 @@ use Rattle.boot_text.specs.declared.verb.Verb.TheVariants as verbs
 use Rattle.vio_trace.specs.declared.outcome.Outcome.{Outcome}
 use Rattle.vio_trace.specs.declared.outcome.Outcome.TheVariants as outcomes
 use Rattle.vscsi_client.specs.State.{next_tag}
-use Rattle.crq_session.specs.PlainState.{side_of}
+use Rattle.crq_session.specs.PlainState.{end_of, side_of}
 use Rattle.vio_trace.specs.declared.rows.LogRow.{LogRow}
 use Rattle.unit_region.specs.declared.step.Step.{Step}
 use Rattle.unit_region.specs.declared.step.Step.TheVariants as steps
@@ -33,14 +33,18 @@ use Rattle.vcpu_run.specs.Replay.{asks}
 use Rattle.vcpu_run.specs.Scripts.{AreSeats}
 use Rattle.vcpu_run.specs.ScriptTold.{AtSeats, IsResetOut, IsScriptTold, SameClient, SameClients, PairIsTold, PairShown, own_of, progress_at, progress_by}
 use Rattle.vcpu_run.specs.Suited.{suits}
-use Rattle.vcpu_run.specs.TakenScripts.{AllGive, AreUntaken, PairTakes}
+use Rattle.vcpu_run.specs.EventsHeard.{StepHears, lost_of}
+use Rattle.vcpu_run.specs.TakenScripts.{AllGive, AreUntaken, PairHears, PairTakes}
 use Rattle.vcpu_run.specs.Takings.{StepsTaken}
 use Rattle.vcpu_run.specs.Telling.{IsOf, IsTold, LineOut, LineTold, PairTold, SeatTold, Seated, StepsOut, StepsTold, login_after, seated}
 use Rattle.vcpu_run.specs.Works.{fails}
+use Rattle.vcpu_run.specs.ValuesPut.{AllSameValues, AreValuesPut, PairPuts, is_put}
+use Rattle.vcpu_run.proofs.ValuesKept.{ends_put, fails_none, first_values, keeps_put, same_puts, values_kept, waits_put}
 use Rattle.vcpu_run.proofs.Crediting.{ended_more, here_or, one_seat}
+use Rattle.vcpu_run.proofs.EventsHeard.{hears_same, none_lost}
 use Rattle.vcpu_run.proofs.AnswersCounted.{is_data, plain_taken}
 use Rattle.vcpu_run.proofs.Askings.{plain_ends}
-use Rattle.vcpu_run.proofs.Driving.{client_is, driven_same, no_port, some_is}
+use Rattle.vcpu_run.proofs.Driving.{client_is, driven_same, no_port, same_or, some_is}
 use Rattle.vcpu_run.proofs.GivesAll.{all_give_same}
 use Rattle.vcpu_run.proofs.FurtherKept.{no_further, unanswered}
 use Rattle.vcpu_run.proofs.LinesShown.{drives_sees, fail_shows, lines_more, lines_next, no_row, shows_none}
@@ -141,8 +145,19 @@ client_waits old new script p' line seat here did found one sits there are drive
   told = λ l next ok unit k after at now. by unit k after at now (here_or line.unit unit);
   shown = still_shown old new script are driven is.shown;
   taken = waits_taken old new script p' line seat here did found one sits there are driven step is.taken;
+  put = λ unit k after at now. put unit k after at now (same_or k seat);
 }
   where
+    put : (unit k : ℕ) (after : Pair) → slice_get script.seats.items unit ≡ Some (places.Client k) → slice_get new k ≡ Some after → (k ≡ seat) ⊎ (k ≢ seat)
+        → AreValuesPut (own_of unit script) after
+    put unit k after at now (inl same) =
+        let b = before_of script.partition unit k script.seats.items old new after are driven at now in
+        waits_put line.verb did (own_of unit script) b.pair after
+        (step.puts b.pair after (sym (ap (slice_get old) same) ∙ b.there) (sym (ap (slice_get new) same) ∙ now)) (is.put unit k b.pair at b.there)
+    put unit k after at now (inr apart) =
+        let b = before_of script.partition unit k script.seats.items old new after are driven at now in
+        subst (AreValuesPut (own_of unit script)) (sym (same_pair old new k after b.pair (step.beside k apart) now b.there)) (is.put unit k b.pair at b.there)
+
     of : IsOf line.verb script.progress
     of = current_of script line found is.fresh seat sits
 
@@ -183,6 +198,7 @@ client_ends old new script done line row seat p' found one sits are driven many 
       (λ unit k after at now same.
       step.shows after (ap (slice_get new) (client_is seat k (sym sits ∙ (ap (slice_get script.seats.items) same ∙ at))) ∙ now));
   taken = ends_taken old new script done line row seat p' found one sits are driven many step lines seats logs fresh is.taken;
+  put = λ unit k after at now. put unit k after (back unit k at) now (here_or line.unit unit);
 }
   where
     of : IsOf line.verb script.progress
@@ -201,6 +217,20 @@ client_ends old new script done line row seat p' found one sits are driven many 
     fresh_any : (o : Option Line) → IfSome o (λ l. (k : ℕ) → slice_get done.seats.items l.unit ≡ Some (places.Client k) → IsOf l.verb done.progress)
     fresh_any None = tt
     fresh_any (Some l) = λ k at. subst (IsOf l.verb) (sym fresh) (record { take = λ h. refl; reset = λ h. refl })
+
+    put : (unit k : ℕ) (after : Pair) → slice_get script.seats.items unit ≡ Some (places.Client k) → slice_get new k ≡ Some after → ((line.unit == unit) ≡ true) ⊎ ((line.unit == unit) ≡ false)
+        → AreValuesPut (own_of unit done) after
+    put unit k after at now (inl same) =
+        let same_seat : seat ≡ k = client_is seat k (sym sits ∙ (ap (λ n. slice_get script.seats.items n) (eqb-true line.unit unit same) ∙ at)) in
+        let b = before_of script.partition unit k script.seats.items old new after are driven at now in
+        subst (λ (own : List Ended). AreValuesPut own after) (sym (records unit ∙ ap (λ t. cond t (own_of unit script ++ e ∷ []) (own_of unit script)) same))
+        (ends_put line.verb row.outcome (own_of unit script) b.pair after
+        (step.puts b.pair after (ap (slice_get old) same_seat ∙ b.there) (ap (slice_get new) same_seat ∙ now)) (is.put unit k b.pair at b.there))
+    put unit k after at now (inr differ) =
+        let b = before_of script.partition unit k script.seats.items old new after are driven at now in
+        let apart = apart_seats script.partition unit line.unit k seat script.seats.items old are sits at differ in
+        subst (λ (own : List Ended). AreValuesPut own after) (sym (records unit ∙ ap (λ t. cond t (own_of unit script ++ e ∷ []) (own_of unit script)) differ))
+        (subst (AreValuesPut (own_of unit script)) (sym (same_pair old new k after b.pair (step.beside k apart) now b.there)) (is.put unit k b.pair at b.there))
 
     each : (unit k : ℕ) (after : Pair) → slice_get script.seats.items unit ≡ Some (places.Client k) → slice_get new k ≡ Some after → ((line.unit == unit) ≡ true) ⊎ ((line.unit == unit) ≡ false)
         → HasCausesTold (length after.window.pages) (own_of unit done) × PairIsTold (own_of unit done) progress.Fresh after
@@ -235,6 +265,7 @@ port_waits_told pairs script p' line found one sits is = record {
       ∙ sym (else_by unit p' line (slice_get script.lines.now script.at) found other)) (is.told line found one unit k pair at now);
   shown = is.shown;
   taken = port_waits_taken pairs script p' line found one sits is.taken;
+  put = is.put;
 }
 
 pub port_ends_told : (pairs : List Pair) (script done : Script) (line : Line) (row : LogRow) → slice_get script.lines.now script.at ≡ Some line → fails line.verb ≡ false
@@ -253,6 +284,8 @@ port_ends_told pairs script done line row found one sits many lines seats logs f
   shown = ended_shown pairs script done line row found many lines seats logs is.shown
       (λ unit k after at now same. absurd (no_port k (sym at ∙ (ap (slice_get script.seats.items) (sym same) ∙ sits))));
   taken = port_ends_taken pairs script done line row found one sits many lines seats logs fresh is.taken;
+  put = λ unit k pair at now. let here = back unit k at in
+      subst (λ (own : List Ended). AreValuesPut own pair) (sym (records unit k here)) (is.put unit k pair here now);
 }
   where
     e : Ended
@@ -310,6 +343,7 @@ new_told pairs script logs fresh out untaken = record {
   shown = λ unit k pair at now. subst (λ (rows : List LogRow). LinesShow (seen_at pair) pair.window.unit unit script.lines.now rows) (sym logs)
       (λ i line row found there same. absurd (no_row row there));
   taken = new_taken pairs script logs fresh untaken;
+  put = λ unit k pair at now. subst (λ (own : List Ended). AreValuesPut own pair) (sym (none unit)) (first_values pair (untaken k pair now).1);
 }
   where
     empty : (unit : ℕ) (lines : List Line) → ended_by unit lines [] ≡ []
@@ -407,11 +441,32 @@ waiting_takes p verb outcome pair ends = at pair.driver
     at None = tt
     at (Some d) = step d ends
 
+-- nor of a loss
+waiting_hears : (p : Progress) (verb : Verb) (outcome : Outcome) (pair : Pair) → EndsWaiting p verb outcome → PairHears pair pair (Ok (steps.Ends outcome))
+waiting_hears p verb outcome pair ends = at pair.driver
+  where
+    none : EndsWaiting p verb outcome → lost_of outcome ≡ 0
+    none (of_login v o) = ap lost_of o
+    none (of_reset v o) = ap lost_of o
+    none (of_take count v o) = ap lost_of o
+
+    at : (o : Option Driver) → OnDrivers o o (λ a b. StepHears (Ok (steps.Ends outcome)) a.client b.client (end_of [] pair.link false) (end_of [] pair.link false))
+    at None = tt
+    at (Some d) =
+        none_lost (Ok (steps.Ends outcome)) d.client d.client (end_of [] pair.link false) (end_of [] pair.link false) (none ends)
+        (hears_same d.client d.client (end_of [] pair.link false) (end_of [] pair.link false) refl refl refl)
+
 waiting_shows : (p : Progress) (verb : Verb) (outcome : Outcome) (seen : Seen) (unit : UnitId) (mark : ℕ) → EndsWaiting p verb outcome → IsShown seen unit mark verb outcome
 waiting_shows p verb outcome seen unit mark (of_login v o) = shows_none seen unit mark verb outcome (ap requests v) (ap written_by v) (ap read_by v) (unanswered seen (further_of verb) outcome o)
 waiting_shows p verb outcome seen unit mark (of_reset v o) = shows_none seen unit mark verb outcome (ap requests v) (ap written_by v) (ap read_by v) (unanswered seen (further_of verb) outcome o)
 waiting_shows p verb outcome seen unit mark (of_take count v o) =
     shows_none seen unit mark verb outcome (ap requests v) (ap written_by v) (ap read_by v) (no_further seen (further_of verb) outcome (ap further_of v))
+
+-- and puts no value
+waiting_puts : (p : Progress) (verb : Verb) (outcome : Outcome) (pair : Pair) → EndsWaiting p verb outcome → PairPuts verb pair pair (Ok (steps.Ends outcome))
+waiting_puts p verb outcome pair (of_login v o) = same_puts verb (Ok (steps.Ends outcome)) _ _ (ap is_put v) refl
+waiting_puts p verb outcome pair (of_reset v o) = same_puts verb (Ok (steps.Ends outcome)) _ _ (ap is_put v) refl
+waiting_puts p verb outcome pair (of_take count v o) = same_puts verb (Ok (steps.Ends outcome)) _ _ (ap is_put v) refl
 
 pub waiting_told : (pairs : List Pair) (script done : Script) (line : Line) (row : LogRow) → slice_get script.lines.now script.at ≡ Some line
     → IsSomeAnd (slice_get script.seats.items line.unit) (suits line.verb) → AreSeats script.partition script.seats.items pairs → length script.logs.items ≡ script.at
@@ -427,6 +482,10 @@ waiting_told pairs script done line row found suited are many ends lines seats l
             (some_is before after (sym b ∙ a)) (waiting_pair script.progress line.verb row.outcome before ends (λ reset. out line k before found reset at b));
         takes = λ before after b a. subst (λ (x : Pair). PairTakes line.verb script.progress script.progress before x (Ok (steps.Ends row.outcome)))
             (some_is before after (sym b ∙ a)) (waiting_takes script.progress line.verb row.outcome before ends);
+        hears = λ before after b a. subst (λ (x : Pair). PairHears before x (Ok (steps.Ends row.outcome)))
+            (some_is before after (sym b ∙ a)) (waiting_hears script.progress line.verb row.outcome before ends);
+        puts = λ before after b a. subst (λ (x : Pair). PairPuts line.verb before x (Ok (steps.Ends row.outcome)))
+            (some_is before after (sym b ∙ a)) (waiting_puts script.progress line.verb row.outcome before ends);
         gives = all_give_same pairs;
         shows = λ after a. waiting_shows script.progress line.verb row.outcome (seen_at after) after.window.unit line.number ends;
       };
@@ -474,30 +533,38 @@ law_on old new script are driven is unit k after at now =
     let b = before_of script.partition unit k script.seats.items old new after are driven at now in
     subst (λ n. HasCausesTold n (own_of unit script)) (sym b.pages) (is.law unit k b.pair at b.there)
 
+put_on : (old new : List Pair) (script : Script) → AreSeats script.partition script.seats.items old → AreDriven old new → AllSameValues old new → IsScriptTold old script
+    → AtSeats script.seats.items new (λ unit pair. AreValuesPut (own_of unit script) pair)
+put_on old new script are driven same is unit k after at now =
+    let b = before_of script.partition unit k script.seats.items old new after are driven at now in
+    keeps_put (own_of unit script) b.pair after (values_kept old new k b.pair after same b.there now) (is.put unit k b.pair at b.there)
+
 -- the line that fails the partition is to be gone on with
 pub fail_waits_told : (old new : List Pair) (script : Script) (line : Line) → slice_get script.lines.now script.at ≡ Some line → fails line.verb ≡ true
-    → AreSeats script.partition script.seats.items old → AreDriven old new → AllGive old new → IsScriptTold old script → IsScriptTold new script
-fail_waits_told old new script line found failing are driven gives is = record {
+    → AreSeats script.partition script.seats.items old → AreDriven old new → AllGive old new → AllSameValues old new → IsScriptTold old script → IsScriptTold new script
+fail_waits_told old new script line found failing are driven gives same is = record {
   law = law_on old new script are driven is;
   fresh = is.fresh;
   told = λ l next ok unit k pair at now.
       absurd (true_false (fails line.verb) failing (subst (λ (x : Line). fails x.verb ≡ false) (some_is l line (sym next ∙ found)) ok));
   shown = still_shown old new script are driven is.shown;
   taken = fail_waits_taken old new script line found failing gives is.taken;
+  put = put_on old new script are driven same is;
 }
 
 -- it ended, and no line is left
 pub fail_ends_told : (old new : List Pair) (script done : Script) (line : Line) (row : LogRow) → slice_get script.lines.now script.at ≡ Some line → fails line.verb ≡ true
-    → AreSeats script.partition script.seats.items old → AreDriven old new → AllGive old new → length script.logs.items ≡ script.at → row.outcome ≡ outcomes.Done
+    → AreSeats script.partition script.seats.items old → AreDriven old new → AllGive old new → AllSameValues old new → length script.logs.items ≡ script.at → row.outcome ≡ outcomes.Done
     → done.lines ≡ script.lines → done.seats ≡ script.seats → done.logs.items ≡ script.logs.items ++ row ∷ [] → done.at ≡ length done.lines.now
     → IsScriptTold old script → IsScriptTold new done
-fail_ends_told old new script done line row found failing are driven gives many done_is lines seats logs over is = record {
+fail_ends_told old new script done line row found failing are driven gives same many done_is lines seats logs over is = record {
   law = λ unit k after at now. each unit after (law_on old new script are driven is unit k after (subst (λ ss. slice_get ss.items unit ≡ Some (places.Client k)) seats at) now) (here_or line.unit unit);
   fresh = subst (λ (o : Option Line). IfSome o (λ l. (k : ℕ) → slice_get done.seats.items l.unit ≡ Some (places.Client k) → IsOf l.verb done.progress)) (sym none) tt;
   told = λ l next ok unit k pair at now. absurd (some_none l (sym none ∙ next));
   shown = ended_shown new script done line row found many lines seats logs (still_shown old new script are driven is.shown)
       (λ unit k after at now same. fail_shows (seen_at after) after.window.unit line.number line.verb row.outcome failing);
   taken = fail_ends_taken old new script done line row found failing gives many done_is lines seats logs over is.taken;
+  put = λ unit k after at now. put unit after (put_on old new script are driven same is unit k after (subst (λ ss. slice_get ss.items unit ≡ Some (places.Client k)) seats at) now) (here_or line.unit unit);
 }
   where
     none : slice_get done.lines.now done.at ≡ None
@@ -513,6 +580,13 @@ fail_ends_told old new script done line row found failing are driven gives many 
     records unit = ap (λ ls. ended_by unit ls.now done.logs.items) lines
         ∙ (ap (ended_by unit script.lines.now) logs ∙ ended_more unit script.lines.now script.logs.items line row (ap (λ n. slice_get script.lines.now n) many ∙ found))
 
+    put : (unit : ℕ) (after : Pair) → AreValuesPut (own_of unit script) after → ((line.unit == unit) ≡ true) ⊎ ((line.unit == unit) ≡ false) → AreValuesPut (own_of unit done) after
+    put unit after was (inl same) =
+        subst (λ (own : List Ended). AreValuesPut own after) (sym (records unit ∙ ap (λ b. cond b (own_of unit script ++ e ∷ []) (own_of unit script)) same))
+        (ends_put line.verb row.outcome (own_of unit script) after after (same_puts line.verb (Ok (steps.Ends row.outcome)) _ _ (fails_none line.verb failing) refl) was)
+    put unit after was (inr differ) =
+        subst (λ (own : List Ended). AreValuesPut own after) (sym (records unit ∙ ap (λ b. cond b (own_of unit script ++ e ∷ []) (own_of unit script)) differ)) was
+
     each : (unit : ℕ) (after : Pair) → HasCausesTold (length after.window.pages) (own_of unit script) → ((line.unit == unit) ≡ true) ⊎ ((line.unit == unit) ≡ false)
         → HasCausesTold (length after.window.pages) (own_of unit done)
     each unit after law (inl same) =
@@ -524,13 +598,14 @@ fail_ends_told old new script done line row found failing are driven gives many 
 
 -- no line is left, and a turn was had
 pub over_told : (old new : List Pair) (script : Script) → slice_get script.lines.now script.at ≡ None
-    → AreSeats script.partition script.seats.items old → AreDriven old new → AllGive old new → IsScriptTold old script → IsScriptTold new script
-over_told old new script none are driven gives is = record {
+    → AreSeats script.partition script.seats.items old → AreDriven old new → AllGive old new → AllSameValues old new → IsScriptTold old script → IsScriptTold new script
+over_told old new script none are driven gives same is = record {
   law = law_on old new script are driven is;
   fresh = is.fresh;
   told = λ l next ok unit k pair at now. absurd (some_none l (sym none ∙ next));
   shown = still_shown old new script are driven is.shown;
   taken = over_taken old new script none gives is.taken;
+  put = put_on old new script are driven same is;
 }
   where
     some_none : (l : Line) → None ≡ Some l → ⊥
@@ -544,8 +619,14 @@ clients_told old new script same is = record {
   told = λ l next ok unit k after at now. told l next ok unit k after at (slice_get old k) refl (same k after now);
   shown = λ unit k after at now. shown unit k after at (slice_get old k) refl (same k after now);
   taken = clients_taken old new script same is.taken;
+  put = λ unit k after at now. put unit k after at (slice_get old k) refl (same k after now);
 }
   where
+    put : (unit k : ℕ) (after : Pair) → slice_get script.seats.items unit ≡ Some (places.Client k) → (o : Option Pair) → slice_get old k ≡ o
+        → IsSomeAnd o (λ before. SameClient before after) → AreValuesPut (own_of unit script) after
+    put unit k after at None e h = absurd h
+    put unit k after at (Some before) e h = keeps_put (own_of unit script) before after h.values (is.put unit k before at e)
+
     shown : (unit k : ℕ) (after : Pair) → slice_get script.seats.items unit ≡ Some (places.Client k) → (o : Option Pair) → slice_get old k ≡ o
         → IsSomeAnd o (λ before. SameClient before after) → PairShown script unit after
     shown unit k after at None e h = absurd h

@@ -8,15 +8,16 @@ use Rattle.unit_region.specs.declared.step.Step.{Step}
 use Rattle.vcpu_run.specs.declared.pair.Pair.{Pair}
 use Rattle.vcpu_run.specs.declared.script.Progress.{Progress}
 use Rattle.vcpu_run.specs.LinesShow.{PairShows}
-use Rattle.vcpu_run.specs.TakenScripts.{AllGive, PairGives, PairTakes}
+use Rattle.vcpu_run.specs.TakenScripts.{AllGive, PairGives, PairHears, PairTakes}
 use Rattle.vcpu_run.specs.Telling.{PairOut, PairTold, SeatOut, SeatTold}
+use Rattle.vcpu_run.specs.ValuesPut.{PairPuts}
 use Rattle.vcpu_run.proofs.Driving.{get_set_other, get_set_same, some_is}
 use Rattle.vcpu_run.proofs.GivesAll.{all_give_ok}
 
 pub set_told : (line : Line) (p p' : Progress) (result : Result Step NoMemory) (pairs : List Pair) (i : ℕ) (old new : Pair) → slice_get pairs i ≡ Some old
-    → PairTold line.verb p p' old new result → PairTakes line.verb p p' old new result → OnOk result (PairGives old new) → PairShows line new result
+    → PairTold line.verb p p' old new result → PairTakes line.verb p p' old new result → PairHears old new result → PairPuts line.verb old new result → OnOk result (PairGives old new) → PairShows line new result
     → SeatTold i line p p' pairs (slice_set pairs i new) result
-set_told line p p' result pairs i old new there told takes gives shows = record {
+set_told line p p' result pairs i old new there told takes hears puts gives shows = record {
   beside = λ k apart. get_set_other pairs i k new apart;
   here = λ before after b a.
       let first : before ≡ old = some_is before old (sym b ∙ there) in
@@ -26,6 +27,14 @@ set_told line p p' result pairs i old new there told takes gives shows = record 
       let first : before ≡ old = some_is before old (sym b ∙ there) in
       let next : after ≡ new = some_is after new (sym a ∙ get_set_same pairs i new (slice_get_within pairs i old there)) in
       subst (λ (x : Pair). PairTakes line.verb p p' x after result) (sym first) (subst (λ (x : Pair). PairTakes line.verb p p' old x result) (sym next) takes);
+  hears = λ before after b a.
+      let first : before ≡ old = some_is before old (sym b ∙ there) in
+      let next : after ≡ new = some_is after new (sym a ∙ get_set_same pairs i new (slice_get_within pairs i old there)) in
+      subst (λ (x : Pair). PairHears x after result) (sym first) (subst (λ (x : Pair). PairHears old x result) (sym next) hears);
+  puts = λ before after b a.
+      let first : before ≡ old = some_is before old (sym b ∙ there) in
+      let next : after ≡ new = some_is after new (sym a ∙ get_set_same pairs i new (slice_get_within pairs i old there)) in
+      subst (λ (x : Pair). PairPuts line.verb x after result) (sym first) (subst (λ (x : Pair). PairPuts line.verb old x result) (sym next) puts);
   gives = all_give_ok result pairs i old new there gives;
   shows = λ after a.
       let next : after ≡ new = some_is after new (sym a ∙ get_set_same pairs i new (slice_get_within pairs i old there)) in

@@ -18,6 +18,8 @@ use Rattle.vcpu_run.specs.Answered.{AreBegun}
 use Rattle.vcpu_run.specs.AnswersTaken.{AreAmong, tags_among, tags_taken}
 use Rattle.vcpu_run.specs.Takings.{IsBegun, waiting, waiting_by}
 use Rattle.vcpu_run.proofs.Among.{among_less, tags_both, wait_next, wait_none}
+use Rattle.vcpu_run.specs.EventsHeard.{Hears}
+use Rattle.vcpu_run.proofs.EventsHeard.{as_hears, hears_less, none_hears, taken_lost}
 
 -- tags, and behind them those of what is kept, among what was taken
 abbrev pub KeptIn : (tags : List ℕ) → List Entry → EndState → Type 0
@@ -93,6 +95,7 @@ pub record TakesIn (taken : Taken) (s s' : ClientState) (e f : EndState) : Type 
   pub session : f.registered ≡ e.registered
   pub last : f.last_session ≡ e.last_session
   pub rest : waiting s ≡ [] → waiting s' ≡ []
+  pub heard : Hears 0 s s' e f
 
 takes_as : (taken : Taken) (s s' : ClientState) (old new : Ports) → TakesAs s s' old new taken → OnlyTakes old.crq_shared old.crq new.crq → TakesIn taken s s' old.crq new.crq
 takes_as taken s s' old new h rest = record {
@@ -103,6 +106,7 @@ takes_as taken s s' old new h rest = record {
   session = rest.registered;
   last = rest.last_session;
   rest = λ none. judged_rest old.own_shared h.kept s' old.own new.own taken h.judged (ap waiting h.fetched.client ∙ none);
+  heard = hears_less (taken_lost taken) s s' old.crq new.crq (as_hears s s' old new taken h);
 }
 
 polled_none : (shared : Bool) (e f : EndState) (number : ℕ) → PollsNone shared e number f → f.taken ≡ e.taken
@@ -128,4 +132,5 @@ takes_in (takens.Empty number) s s' old new h rest =
       session = rest.registered;
       last = rest.last_session;
       rest = λ none. ap waiting h.fetched.client ∙ none;
+      heard = none_hears s s' old new number h;
     }

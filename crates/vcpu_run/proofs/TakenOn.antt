@@ -21,9 +21,11 @@ use Rattle.vcpu_run.specs.Agreed.{OnDrivers}
 use Rattle.vcpu_run.specs.Answered.{AreBegun}
 use Rattle.vcpu_run.specs.AnswersTaken.{AreAmong, AreTakesSaid, IsAnswerOf, IsTakeSaid, TakesNow, answered_tags, no_takes, tags_among, tags_taken, takes_after, takes_by}
 use Rattle.vcpu_run.specs.Credited.{Ended, taken_in}
+use Rattle.vcpu_run.specs.EventsHeard.{AreHeard, StepHears, events_waiting, lost_of}
 use Rattle.vcpu_run.specs.ScriptTold.{SameClient}
-use Rattle.vcpu_run.specs.TakenScripts.{IsTaken, IsUntaken, PairAgrees, PairGives, PairTaken, PairTakes, PairUntaken}
+use Rattle.vcpu_run.specs.TakenScripts.{IsTaken, IsUntaken, PairAgrees, PairGives, PairHears, PairTaken, PairTakes, PairUntaken}
 use Rattle.vcpu_run.specs.Takings.{AgreesTaken, AreGiven, FitsTag, Gives, IsTakenUpTo, StepsTaken, is_given, row_at}
+use Rattle.vcpu_run.proofs.EventsHeard.{heard_ends, heard_on, heard_quiet}
 use Rattle.vcpu_run.proofs.GivesAll.{begun_at}
 use Rattle.vcpu_run.proofs.TagsKept.{row_past}
 use Rattle.vcpu_run.proofs.TakesSaid.{said_longer, said_next, takes_next}
@@ -34,6 +36,7 @@ taken_on own before after a b gives is = record {
       (subst (λ (tags : List ℕ). AreTakesSaid tags no_takes own) (sym (map-append (λ (row : AnswerRow). row.tag) a.answers.items gives.more.0))
       (said_longer (answered_tags a.answers.items) (answered_tags gives.more.0) no_takes own is.said));
   given = gives.given (begun_at before.link) is.given;
+  heard = heard_on own a.client b.client (end_of [] before.link false) (end_of [] after.link false) gives.heard is.heard;
 }
 
 -- what is taken at a pair keeps what is so of its client's answers
@@ -47,29 +50,31 @@ kept_pair own before after = at before.driver after.driver
     at (Some a) (Some b) gives is = taken_on own before after a b gives is
 
 -- there are as many answers as the records tell
-counted : (own : List Ended) (e : Ended) (after : Pair) (b : Driver) → IsTaken own after b → IsTakeSaid (answered_tags b.answers.items) (takes_after no_takes own) e.verb e.outcome
+counted : (own : List Ended) (e : Ended) (after : Pair) (b : Driver) → IsTaken own after b → AreHeard (own ++ e ∷ []) b.client (side_of after.link false).queue.taken → IsTakeSaid (answered_tags b.answers.items) (takes_after no_takes own) e.verb e.outcome
     → AgreesTaken 0 (takes_by e.verb e.outcome (takes_after no_takes own)) b → IsTaken (own ++ e ∷ []) after b
-counted own e after b is said agrees =
+counted own e after b is heard said agrees =
     let long : length (answered_tags b.answers.items) ≡ length b.answers.items = length-map b.answers.items (λ (row : AnswerRow). row.tag) in
     let many = agrees.count in
     record {
       said = said_next (answered_tags b.answers.items) no_takes own e is.said said (omega (arith, long, many));
       given = is.given;
+      heard = heard;
     }
 
 -- a step of the pair's own line that ends, where what is so of the answers is so behind it
 pub taken_ends : (p p' : Progress) (own : List Ended) (e : Ended) (before after : Pair) → IsSomeAnd before.driver (λ d. Unit {0}) → IsTakenUpTo e.verb (taken_in p)
-    → PairTakes e.verb p p' before after (Ok (steps.Ends e.outcome)) → PairTaken own after → PairAgrees own p before → PairTaken (own ++ e ∷ []) after × PairAgrees (own ++ e ∷ []) progress.Fresh after
+    → PairTakes e.verb p p' before after (Ok (steps.Ends e.outcome)) → PairHears before after (Ok (steps.Ends e.outcome)) → PairTaken own before → PairTaken own after → PairAgrees own p before → PairTaken (own ++ e ∷ []) after × PairAgrees (own ++ e ∷ []) progress.Fresh after
 taken_ends p p' own e before after has of = at before.driver after.driver has
   where
     at : (o o' : Option Driver) → IsSomeAnd o (λ d. Unit {0}) → OnDrivers o o' (λ a b. StepsTaken e.verb (taken_in p) (taken_in p') a b (Ok (steps.Ends e.outcome)))
-        → IfSome o' (IsTaken own after) → IfSome o (AgreesTaken (taken_in p) (takes_after no_takes own))
+        → OnDrivers o o' (λ a b. StepHears (Ok (steps.Ends e.outcome)) a.client b.client (end_of [] before.link false) (end_of [] after.link false))
+        → IfSome o (IsTaken own before) → IfSome o' (IsTaken own after) → IfSome o (AgreesTaken (taken_in p) (takes_after no_takes own))
         → IfSome o' (IsTaken (own ++ e ∷ []) after) × IfSome o' (AgreesTaken 0 (takes_after no_takes (own ++ e ∷ [])))
-    at None o' has step is agrees = absurd has
-    at (Some a) None has step is agrees = absurd step
-    at (Some a) (Some b) has step is agrees =
+    at None o' has step hears was is agrees = absurd has
+    at (Some a) None has step hears was is agrees = absurd step
+    at (Some a) (Some b) has step hears was is agrees =
         let next = step of (takes_after no_takes own) agrees in (
-          counted own e after b is next.0 next.1,
+          counted own e after b is (heard_ends own e a.client b.client (end_of [] before.link false) (end_of [] after.link false) hears was.heard) next.0 next.1,
           subst (λ (now : TakesNow). AgreesTaken 0 now b) (sym (takes_next no_takes own e)) next.1,
         )
 
@@ -85,9 +90,9 @@ taken_waits verb p p' own before after did has of = at before.driver after.drive
     at (Some a) (Some b) has step agrees = let next = step of in (next.0, next.1 (takes_after no_takes own) agrees)
 
 -- a record that takes none
-pub taken_quiet : (own : List Ended) (e : Ended) (pair : Pair) → ((tags : List ℕ) (now : TakesNow) → IsTakeSaid tags now e.verb e.outcome) → ((now : TakesNow) → takes_by e.verb e.outcome now ≡ now)
+pub taken_quiet : (own : List Ended) (e : Ended) (pair : Pair) → lost_of e.outcome ≡ 0 → ((tags : List ℕ) (now : TakesNow) → IsTakeSaid tags now e.verb e.outcome) → ((now : TakesNow) → takes_by e.verb e.outcome now ≡ now)
     → PairTaken own pair → PairTaken (own ++ e ∷ []) pair
-taken_quiet own e pair said quiet = at pair.driver
+taken_quiet own e pair none said quiet = at pair.driver
   where
     least : (tags : List ℕ) (now : TakesNow) (own : List Ended) → AreTakesSaid tags now own → AreTakesSaid tags now (own ++ e ∷ [])
     least tags now [] is = (said tags now, subst (λ (n : TakesNow). n.count ≤ length tags) (sym (quiet now)) is)
@@ -95,7 +100,11 @@ taken_quiet own e pair said quiet = at pair.driver
 
     at : (o : Option Driver) → IfSome o (IsTaken own pair) → IfSome o (IsTaken (own ++ e ∷ []) pair)
     at None is = tt
-    at (Some driver) is = record { said = least (answered_tags driver.answers.items) no_takes own is.said; given = is.given }
+    at (Some driver) is = record {
+      said = least (answered_tags driver.answers.items) no_takes own is.said;
+      given = is.given;
+      heard = heard_quiet own e driver.client (side_of pair.link false).queue.taken none is.heard;
+    }
 
 -- nothing is told of a tag that no row has
 none_fit : (tag : ℕ) → FitsTag [] [] [] [] tag
@@ -125,6 +134,9 @@ taken_none pair = at pair.driver
       each = subst (All IsAnswerOf) (sym is.answers) (All-nil IsAnswerOf);
     }
 
+    heard : (driver : Driver) → IsUntaken (side_of pair.link false).queue.taken driver → AreHeard [] driver.client (side_of pair.link false).queue.taken
+    heard driver is = let none : events_waiting driver.client ≡ 0 = is.events in omega (arith, none)
+
     agrees : (driver : Driver) → IsUntaken (side_of pair.link false).queue.taken driver → AgreesTaken 0 no_takes driver
     agrees driver is = record {
       count = ap length is.answers;
@@ -136,7 +148,7 @@ taken_none pair = at pair.driver
 
     at : (o : Option Driver) → IfSome o (IsUntaken (side_of pair.link false).queue.taken) → IfSome o (IsTaken [] pair) × IfSome o (AgreesTaken 0 no_takes)
     at None is = (tt, tt)
-    at (Some driver) is = (record { said = omega arith; given = given driver is }, agrees driver is)
+    at (Some driver) is = (record { said = omega arith; given = given driver is; heard = heard driver is }, agrees driver is)
 
 -- the client is as it was
 pub taken_same : (own : List Ended) (p : Progress) (before after : Pair) → SameClient before after → (PairTaken own before → PairTaken own after) × (PairAgrees own p before → PairAgrees own p after)
@@ -155,4 +167,8 @@ taken_same own p before after same = (
 
     at : (o : Option Driver) → IfSome o (IsTaken own before) → IfSome o (IsTaken own after)
     at None is = tt
-    at (Some driver) is = record { said = is.said; given = given driver is.given }
+    at (Some driver) is = record {
+      said = is.said;
+      given = given driver is.given;
+      heard = subst (AreHeard own driver.client) (sym same.taken) is.heard;
+    }

@@ -8,6 +8,7 @@ use Rattle.unit_region.specs.Steps.{IsPlain}
 use Rattle.vscsi_client.specs.State.{ClientState}
 use Rattle.vcpu_run.specs.declared.driver.Driver.{Driver}
 use Rattle.vcpu_run.specs.Credited.{is_take}
+use Rattle.vcpu_run.specs.EventsHeard.{events_waiting}
 use Rattle.vcpu_run.specs.Takings.{Gives, StepsTaken, waiting}
 use Rattle.vcpu_run.proofs.Giving.{beside_gives, gives_ok}
 use Rattle.vcpu_run.proofs.AnswersCounted.{is_data, plain_taken}
@@ -24,4 +25,4 @@ own_step verb taken a result no_take no_data plain = plain_taken verb taken a a 
 pub data_step : (a b : Driver) (e : EndState) (result : Result Step NoMemory) → b.answers ≡ a.answers → b.client ≡ a.client → OnOk result (Gives a b e e)
 data_step a b e result answers client =
     gives_ok a b e e result
-    (beside_gives a b e e (ap (λ xs. xs.items) answers) (ap (λ (s : ClientState). s.kept) client) (ap waiting client) (refl, refl, refl))
+    (beside_gives a b e e (ap events_waiting client) (ap (λ xs. xs.items) answers) (ap (λ (s : ClientState). s.kept) client) (ap waiting client) (refl, refl, refl))

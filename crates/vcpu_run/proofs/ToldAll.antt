@@ -1,5 +1,5 @@
 -- At the end of a run it is decided what counts as told: all that the pairs show, and nothing but what the trace shows.
-use Rattle.std.proofs.Common.{◌≡◌, ◌∙◌, Bool, true, false, All, Contains, List, Option, Some, None, IfSome, length, option_map, slice_get, refl, sym, ap, subst}
+use Rattle.std.proofs.Common.{◌≡◌, ◌∙◌, ℕ, Bool, true, false, All, Contains, List, Option, Some, None, IfSome, length, option_map, slice_get, refl, sym, ap, subst}
 use Rattle.vio_num.specs.declared.history.Grant.{Grant}
 use Rattle.vio_num.specs.declared.history.Served.{Served}
 use Rattle.vio_num.specs.declared.names.UnitId.{UnitId}
@@ -7,6 +7,7 @@ use Rattle.tce_window.specs.PlainPort.{known_of}
 use Rattle.rdma_copy.specs.Copies.{side_of as side_at}
 use Rattle.rdma_copy.specs.declared.copy.CopyRecord.{CopyRecord}
 use Rattle.block_server.specs.Causes.{Includes, News, Told}
+use Rattle.block_server.specs.Moves.{data_copies}
 use Rattle.boot_text.specs.Sound.{IsClientOf, IsServer}
 use Rattle.boot_text.specs.declared.plan.Partition.{Partition}
 use Rattle.boot_text.specs.declared.plan.UnitPlan.TheVariants as units
@@ -21,11 +22,13 @@ use Rattle.vcpu_run.specs.CopyRows.{copy_row, same_unit}
 use Rattle.vcpu_run.specs.Gathered.{HasLawfulWindow, trace_of}
 use Rattle.vcpu_run.specs.Heard.{TellsPairs, heard_at}
 use Rattle.vcpu_run.specs.Machines.{ArePlanned, AreScripts, IsOfPlan}
+use Rattle.vcpu_run.specs.News.{IsNth}
 use Rattle.vcpu_run.specs.Pairs.{AreOfOneHome}
-use Rattle.vcpu_run.specs.RowsCopied.{shown_to}
+use Rattle.vcpu_run.specs.RowsCopied.{data_shown, shown_to}
 use Rattle.vcpu_run.specs.Shown.{pages_at, window_shown}
 use Rattle.vcpu_run.specs.Units.{seats_of, unit_seat}
 use Rattle.vcpu_run.proofs.Copied.{windows_shown}
+use Rattle.vcpu_run.proofs.DataRows.{data_are, nth_shown}
 use Rattle.vcpu_run.proofs.Following.{each_from_all}
 use Rattle.vcpu_run.proofs.Hearings.{hearing_decided, hearing_on}
 use Rattle.vcpu_run.proofs.Listed.{held}
@@ -52,7 +55,7 @@ chosen true is = is
 chosen false is = true
 
 shown_at : (copies : List CopyRecord) (pair : Pair) (news : News) → Dec (heard_at copies pair news)
-shown_at copies pair news = hearing_decided copies (side_at (known_of pair.own)) (side_at (known_of pair.window)) (length pair.window.pages) news
+shown_at copies pair news = hearing_decided copies (data_copies pair.own.unit copies) (side_at (known_of pair.own)) (side_at (known_of pair.window)) (length pair.window.pages) news
 
 abbrev told_at : Option Pair → List CopyRecord → Told → Bool
 told_at None copies told = true
@@ -102,8 +105,10 @@ pair_shows pairs scripts lan rows history grants copies partitions home are wind
     sym (subst (λ slot. IfSome slot (IsSeatedAt partitions client)) (ap (option_map (λ (pair : Pair). pair.window)) there)
     (each_in (IsSeated partitions pairs lan) seat' seats inside'
     (all_seated partitions pairs scripts lan copies home are plan (each_from_all (HasLawfulWindow pairs lan) seats windows)))).size in
-    hearing_on (Contains copies) (λ copy. Contains trace.copies (copy_row copy)) (side_at (known_of pair.own)) (window_shown partitions trace server) (side_at (known_of pair.window)) (window_shown partitions trace client)
-    (length pair.window.pages) (pages_at partitions client) (λ copy mine listed. row_in_all server copies pairs server.unit pair copy there is (mine ∙ own) listed) own_grows client_grows pages
+    hearing_on (Contains copies) (λ copy. Contains trace.copies (copy_row copy)) (IsNth pair.own.unit copies) (λ number copy. slice_get (data_shown trace server) number ≡ Some (copy_row copy)) (side_at (known_of pair.own)) (window_shown partitions trace server) (side_at (known_of pair.window)) (window_shown partitions trace client)
+    (length pair.window.pages) (pages_at partitions client) (λ copy mine listed. row_in_all server copies pairs server.unit pair copy there is (mine ∙ own) listed)
+    (λ number copy nth. nth_shown server copies (data_shown trace server) number copy (data_are partitions copies pairs server server.unit pair plan.pairs_are there is)
+    (subst (λ (unit : UnitId). IsNth unit copies number copy) own nth)) own_grows client_grows pages
 
 pub shown_all : (pairs : List Pair) (scripts : List Script) (lan : LanValue) (rows : LanRows) (history : List Served) (grants : List Grant) (copies : List CopyRecord) (partitions : List Partition)
     → AreOfOneHome copies pairs → AreScripts pairs lan.seats scripts → All (HasLawfulWindow pairs lan) (seats_of scripts) → IsOfPlan partitions pairs scripts lan.seats

@@ -17,6 +17,7 @@ use Rattle.vio_trace.specs.declared.rows.AnswerRow.{AnswerRow}
 use Rattle.vio_trace.specs.declared.rows.Trace.{Trace}
 use Rattle.vcpu_run.specs.CopyRows.{same_unit}
 use Rattle.vcpu_run.specs.Credited.{Ended}
+use Rattle.vcpu_run.specs.EventsHeard.{LossesAreHeard}
 use Rattle.vcpu_run.specs.Intake.{entries_taken}
 
 -- each of the first tags stands among the second, in the same order, and no two at one place
@@ -106,8 +107,9 @@ AreTakesSaid tags now (ended ∷ more) =
     IsTakeSaid tags now ended.verb ended.outcome × AreTakesSaid tags (takes_by ended.verb ended.outcome now) more
 
 -- A client's answers, with its records: each answer is of an SRP entry that it took under this tag, in their order, and is a
--- response of the tag; and the lines say of them what is so.
+-- response of the tag; and the lines say of them what is so. They say no more often that the partner was lost than events were taken.
 pub record AreAnswersTaken (trace : Trace) (client : UnitId) (ended : List Ended) : Type 0 where
   pub entries : AreAmong (answered_tags (answers_to trace client)) (tags_taken (entries_taken trace client))
   pub each : All IsAnswerOf (answers_to trace client)
   pub said : AreTakesSaid (answered_tags (answers_to trace client)) no_takes ended
+  pub heard : LossesAreHeard trace client ended

@@ -1,11 +1,7 @@
 -- The rows of the calls that reach client units, and what their codes say.
-use Rattle.std.specs.Prelude.{◌≡◌, ℕ, Bool, true, false, Option, Some, None, if◌then◌else◌}
+use Rattle.std.specs.Prelude.{◌≡◌, ℕ, Bool, true, false, List, [], ◌∷◌, Option, Some, None, if◌then◌else◌}
 use Rattle.vio_num.specs.declared.hypervisor.Hrc.{Hrc}
 use Rattle.vio_num.specs.declared.hypervisor.Hrc.TheVariants as codes
-use Rattle.tce_window.specs.declared.answers.GetTce.{GetTce}
-use Rattle.tce_window.specs.declared.answers.GetTce.TheVariants as gets
-use Rattle.tce_window.specs.declared.answers.TceAnswer.{TceAnswer}
-use Rattle.tce_window.specs.declared.answers.TceAnswer.TheVariants as tces
 use Rattle.hcall_table.specs.Rows.{gives_value, may_answer, row_of}
 use Rattle.hcall_table.specs.declared.hcall.Hcall.{Hcall}
 use Rattle.hcall_table.specs.declared.hcall.Hcall.TheVariants as rows
@@ -19,14 +15,29 @@ use Rattle.unit_region.specs.declared.entry_calls.EntryCall.TheVariants as entri
 use Rattle.vcpu_run.specs.declared.client_call.QueueCall.{QueueCall}
 use Rattle.vcpu_run.specs.declared.client_call.QueueCall.TheVariants as queues
 use Rattle.unit_region.specs.EntryRows.{entry_row}
-use Rattle.unit_region.specs.declared.step.Step.{Step}
-use Rattle.unit_region.specs.declared.step.Step.TheVariants as steps
 
 abbrev pub queue_row : QueueCall → Hcall
 queue_row (queues.Register address length) = rows.RegCrq
 queue_row queues.Free = rows.FreeCrq
 queue_row (queues.Send high low) = rows.SendCrq
 queue_row queues.Enable = rows.EnableCrq
+
+-- the arguments of a call behind its unit
+abbrev pub entry_arguments : EntryCall → List ℕ
+entry_arguments (entries.Get address) = address ∷ []
+entry_arguments (entries.Put address value) = address ∷ value ∷ []
+entry_arguments (entries.Stuff address value count) = address ∷ value ∷ count ∷ []
+entry_arguments (entries.PutList address list count) = address ∷ list ∷ count ∷ []
+
+abbrev pub queue_arguments : QueueCall → List ℕ
+queue_arguments (queues.Register address length) = address ∷ length ∷ []
+queue_arguments queues.Free = []
+queue_arguments (queues.Send high low) = high ∷ low ∷ []
+queue_arguments queues.Enable = []
+
+abbrev pub arguments_for : ClientCall → List ℕ
+arguments_for (calls.Entry call) = entry_arguments call
+arguments_for (calls.Queue call) = queue_arguments call
 
 -- the row of a call
 abbrev pub row_for : ClientCall → Hcall
@@ -52,7 +63,3 @@ abbrev pub SaysCall : ℕ → Outcome → Type 0
 SaysCall number (outcomes.Code code) = CodedBy (row_of number) code
 SaysCall number (outcomes.Value value) = row_of number ≡ Some rows.GetTce
 SaysCall number _ = ⊥
-
-abbrev pub EndsCall : ℕ → Step → Type 0
-EndsCall number (steps.Ends outcome) = SaysCall number outcome
-EndsCall number (steps.Waits did) = ⊥

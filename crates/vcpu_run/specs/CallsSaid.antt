@@ -1,48 +1,75 @@
--- What the records of raw hypervisor calls say: codes of their rows, and Parameter of a unit that the partition does not have.
-use Rattle.std.specs.Prelude.{◌≡◌, ℕ, List, IfSome, Some, None, ⊤}
+-- What the records of raw hypervisor calls say: codes of their rows, Parameter of a unit that the partition does not have, Parameter
+-- exactly where the arguments decide it, and what is there of what they did.
+use Rattle.std.specs.Prelude.{◌≡◌, ◌↔◌, ℕ, false, List, IfSome, Option, Some, None, ⊤}
 use Rattle.std.specs.List.{slice_get}
 use Rattle.vio_num.specs.declared.hypervisor.Hrc.TheVariants as codes
 use Rattle.boot_text.specs.declared.plan.Line.{Line}
 use Rattle.boot_text.specs.declared.verb.Verb.{Verb}
 use Rattle.boot_text.specs.declared.verb.Verb.TheVariants as verbs
+use Rattle.hcall_table.specs.declared.hcall.Hcall.{Hcall}
 use Rattle.hcall_table.specs.Named.{Place, unit_of}
-use Rattle.hcall_table.specs.Rows.{row_of}
+use Rattle.hcall_table.specs.Rows.{further, row_of}
 use Rattle.vio_trace.specs.declared.outcome.Outcome.{Outcome}
 use Rattle.vio_trace.specs.declared.outcome.Outcome.TheVariants as outcomes
 use Rattle.vio_trace.specs.declared.rows.LogRow.{LogRow}
 use Rattle.unit_region.specs.declared.step.Step.{Step}
 use Rattle.unit_region.specs.declared.step.Step.TheVariants as steps
+use Rattle.vcpu_run.specs.declared.pair.Pair.{Pair}
 use Rattle.vcpu_run.specs.declared.unit_seat.Seat.{Seat}
 use Rattle.vcpu_run.specs.CallRows.{SaysCall}
-use Rattle.vcpu_run.specs.RawCalls.{kind_of}
+use Rattle.vcpu_run.specs.CallsAnswered.{IsDone, UnitSeen, is_taken, unit_seen}
+use Rattle.vcpu_run.specs.RawCalls.{kind_of, pair_of}
 
--- a partition, and what its units are by where they sit
-abbrev pub place_at : (partition : ℕ) → List Seat → Place
-place_at partition seats = record { partition = partition; kind = λ unit. kind_of (slice_get seats unit) }
+-- The units of a partition: what they are, and what there is of each.
+pub record UnitsSeen : Type 1 where
+  pub place : Place
+  pub of_unit : ℕ → UnitSeen
+
+-- a partition's units, by where they sit
+abbrev pub units_seen : (partition : ℕ) → (ℕ → Option Seat) → List Pair → UnitsSeen
+units_seen partition seat pairs = record {
+  place = record { partition = partition; kind = λ unit. kind_of (seat unit) };
+  of_unit = λ unit. unit_seen (pair_of pairs (seat unit));
+}
+
+abbrev pub seen_from : (partition : ℕ) → List Seat → List Pair → UnitsSeen
+seen_from partition seats pairs = units_seen partition (slice_get seats) pairs
+
+-- P of the value with which a call was Success: 0 but where its row gives one
+abbrev pub IfDone : Outcome → (ℕ → Type 0) → Type 0
+IfDone (outcomes.Code codes.Success) P = P 0
+IfDone (outcomes.Value value) P = P value
+IfDone _ P = ⊤
+
+-- What a call of a row says, at the unit that it names: Parameter exactly where its arguments decide it, and what it did is there.
+pub record IsUnitSaid (seen : UnitSeen) (row : Hcall) (args : List ℕ) (outcome : Outcome) : Type 0 where
+  pub parameter : IfSome (is_taken row seen.pages args) (λ taken. (outcome ≡ outcomes.Code codes.Parameter) ↔ (taken ≡ false))
+  pub done : IfDone outcome (IsDone seen row args)
 
 -- A record of a raw call of this number, with these arguments, in a partition of these units: it is a code of the number's row, or a
 -- value where the row gives one; a number without a row is Function, and no other is. A call is Parameter where the unit that it
--- names is not of the partition, or not of the row's kind.
-pub record IsCallSaid (place : Place) (number : ℕ) (args : List ℕ) (outcome : Outcome) : Type 0 where
+-- names is not of the partition, or not of the row's kind; else it says what it may at that unit.
+pub record IsCallSaid (seen : UnitsSeen) (number : ℕ) (args : List ℕ) (outcome : Outcome) : Type 0 where
   pub row : SaysCall number outcome
-  pub elsewhere : IfSome (row_of number) (λ row. unit_of place row args ≡ None → outcome ≡ outcomes.Code codes.Parameter)
+  pub elsewhere : IfSome (row_of number) (λ row. unit_of seen.place row args ≡ None → outcome ≡ outcomes.Code codes.Parameter)
+  pub here : IfSome (row_of number) (λ row. IfSome (unit_of seen.place row args) (λ unit. IsUnitSaid (seen.of_unit unit) row (further row args) outcome))
 
 -- what a line's record says, if the line makes a raw call
-abbrev pub IsSaidOf : Place → Verb → Outcome → Type 0
-IsSaidOf place (verbs.Hcall number args) outcome = IsCallSaid place number args outcome
-IsSaidOf place verb outcome = ⊤
+abbrev pub IsSaidOf : UnitsSeen → Verb → Outcome → Type 0
+IsSaidOf seen (verbs.Hcall number args) outcome = IsCallSaid seen number args outcome
+IsSaidOf seen verb outcome = ⊤
 
 -- the same of each line that has a record: the records are those of the first lines, in their order
-abbrev pub CallsSaid : Place → List Line → List LogRow → Type 0
-CallsSaid place lines rows =
-    (i : ℕ) (line : Line) (row : LogRow) → slice_get lines i ≡ Some line → slice_get rows i ≡ Some row → IsSaidOf place line.verb row.outcome
+abbrev pub CallsSaid : UnitsSeen → List Line → List LogRow → Type 0
+CallsSaid seen lines rows =
+    (i : ℕ) (line : Line) (row : LogRow) → slice_get lines i ≡ Some line → slice_get rows i ≡ Some row → IsSaidOf seen line.verb row.outcome
 
 -- the same of a step that ended its line
-abbrev pub StepSaid : Place → Verb → Step → Type 0
-StepSaid place verb (steps.Ends outcome) = IsSaidOf place verb outcome
-StepSaid place verb (steps.Waits did) = ⊤
+abbrev pub StepSaid : UnitsSeen → Verb → Step → Type 0
+StepSaid seen verb (steps.Ends outcome) = IsSaidOf seen verb outcome
+StepSaid seen verb (steps.Waits did) = ⊤
 
--- a step of a raw call that Parameter ends
-abbrev pub EndsAsParameter : Step → Type 0
-EndsAsParameter (steps.Ends outcome) = outcome ≡ outcomes.Code codes.Parameter
-EndsAsParameter (steps.Waits did) = ⊤
+-- a raw call ends its line, and says so
+abbrev pub EndsCall : UnitsSeen → (number : ℕ) → (args : List ℕ) → Step → Type 0
+EndsCall seen number args (steps.Ends outcome) = IsCallSaid seen number args outcome
+EndsCall seen number args (steps.Waits did) = ⊥

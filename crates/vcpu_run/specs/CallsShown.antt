@@ -1,5 +1,6 @@
 -- What the records of a trace say of raw hypervisor calls.
-use Rattle.std.specs.Prelude.{ℕ, List}
+use Rattle.std.specs.Prelude.{ℕ, List, Option, Some}
+use Rattle.std.specs.List.{Contains}
 use Rattle.std.specs.Option.{option_map}
 use Rattle.boot_text.specs.Sound.{unit_at}
 use Rattle.boot_text.specs.declared.plan.Partition.{Partition}
@@ -9,10 +10,13 @@ use Rattle.hcall_table.specs.Named.{Place}
 use Rattle.hcall_table.specs.declared.kind.UnitKind.{UnitKind}
 use Rattle.hcall_table.specs.declared.kind.UnitKind.TheVariants as kinds
 use Rattle.vio_trace.specs.declared.rows.Trace.{Trace}
-use Rattle.vcpu_run.specs.CallsSaid.{CallsSaid}
+use Rattle.vio_num.specs.declared.names.UnitId.{UnitId}
+use Rattle.vcpu_run.specs.AnswersSent.{sent_to}
+use Rattle.vcpu_run.specs.CallsAnswered.{UnitSeen, no_client}
+use Rattle.vcpu_run.specs.CallsSaid.{CallsSaid, UnitsSeen}
 use Rattle.vcpu_run.specs.Ports.{unit_of}
 use Rattle.vcpu_run.specs.Settled.{script_of}
-use Rattle.vcpu_run.specs.Shown.{records_of}
+use Rattle.vcpu_run.specs.Shown.{records_of, values_shown}
 
 -- what a unit of a plan is
 abbrev pub kind_planned : UnitPlan → UnitKind
@@ -24,6 +28,22 @@ kind_planned (units.Lan mac pages slots) = kinds.Lan
 abbrev pub place_in : List Partition → ℕ → Place
 place_in partitions p = record { partition = p; kind = λ unit. option_map kind_planned (unit_at partitions (unit_of p unit)) }
 
+-- what a trace shows of a unit: of a client its window's pages by the plan, the values of its window's entries, and its server unit's queue
+abbrev pub unit_shown : Trace → UnitId → Option UnitPlan → UnitSeen
+unit_shown trace unit (Some (units.Client server pages queue)) = record {
+  pages = Some pages;
+  value_at = λ entry value. Contains (values_shown trace unit entry) value;
+  entry_put = λ entry. Contains (sent_to trace server) entry;
+}
+unit_shown trace unit _ = no_client
+
+-- what it shows of the units of a partition
+abbrev pub units_shown : List Partition → Trace → ℕ → UnitsSeen
+units_shown partitions trace p = record {
+  place = place_in partitions p;
+  of_unit = λ unit. unit_shown trace (unit_of p unit) (unit_at partitions (unit_of p unit));
+}
+
 -- the records of each partition say of its raw calls what they may
 abbrev pub CallsAreSaid : List Partition → Trace → Type 0
-CallsAreSaid partitions trace = (p : ℕ) → CallsSaid (place_in partitions p) (script_of partitions p) (records_of trace p)
+CallsAreSaid partitions trace = (p : ℕ) → CallsSaid (units_shown partitions trace p) (script_of partitions p) (records_of trace p)

@@ -5,7 +5,8 @@ use Rattle.tce_window.specs.PlainPort.{known_of}
 use Rattle.rdma_copy.specs.Copies.{side_of as side_at}
 use Rattle.rdma_copy.specs.Copy.{SideGrows}
 use Rattle.rdma_copy.specs.declared.copy.CopyRecord.{CopyRecord}
-use Rattle.block_server.specs.Cargo.{HasCargo}
+use Rattle.vio_num.specs.Words.{Begins}
+use Rattle.block_server.specs.Cargo.{HasRuns}
 use Rattle.block_server.specs.Causes.{Hearing, Includes, Told, told_to}
 use Rattle.block_server.specs.Dealt.{HasDealt}
 use Rattle.block_server.specs.LoginAnswers.{login_answers}
@@ -15,13 +16,13 @@ use Rattle.block_server.specs.Written.{AreWritten}
 use Rattle.block_server.specs.declared.records.Records.{Records}
 use Rattle.block_server.specs.declared.unit.Unit.{Unit}
 use Rattle.vcpu_run.specs.declared.pair.Pair.{Pair}
-use Rattle.vcpu_run.specs.LoginsSent.{AreLoginsPut}
-use Rattle.vcpu_run.specs.News.{hearing}
+use Rattle.vcpu_run.specs.LoginsSent.{GoInOrder}
+use Rattle.vcpu_run.specs.News.{IsNth, hearing}
 
 -- what the windows of a pair and the copies so far show
 abbrev pub heard_at : List CopyRecord → Pair → Hearing
 heard_at copies pair =
-    hearing (Contains copies) (side_at (known_of pair.own)) (side_at (known_of pair.window)) (length pair.window.pages)
+    hearing (Contains copies) (IsNth pair.own.unit copies) (side_at (known_of pair.own)) (side_at (known_of pair.window)) (length pair.window.pages)
 
 -- all of it is told as told to the pair's server unit
 abbrev pub TellsPair : (told : Told → Bool) → List CopyRecord → Pair → Type 0
@@ -35,23 +36,24 @@ pub record AllGoBy (told : Told → Bool) (size partition : ℕ) (units : List U
   pub order : AreInOrder told size partition units records
   pub written : AreWritten told records.history.items
 
--- By that, server unit k has its data in hand, its lines are explained, the answers to requests to log in that were put into its client's
--- queue are those of its lines, or rejections, and none of these requests was dropped.
-pub record UnitGoesBy (told : Told → Bool) (units : List Unit) (records : Records) (k : ℕ) (pair : Pair) : Type 0 where
-  pub cargo : HasCargo told units k (known_of pair.own) records
+-- By that, server unit k has its data in hand, and its rows have their runs among these copies; its lines are explained, the answers to
+-- requests to log in that were put into its client's queue are those of its lines, or rejections, each request's once and in their order, and
+-- none of these requests was dropped.
+pub record UnitGoesBy (told : Told → Bool) (units : List Unit) (records : Records) (copies : List CopyRecord) (k : ℕ) (pair : Pair) : Type 0 where
+  pub cargo : HasRuns told units k (known_of pair.own) copies records
   pub explained : HasExplained told units k pair.own.unit (end_of [] pair.link true) [] records.grants.items
-  pub logins : AreLoginsPut (told_to told pair.own.unit) pair.own.unit (side_of pair.link true).queue.taken (login_answers (side_of pair.link false).queue.sent) records.grants.items
+  pub logins : GoInOrder told units k pair.own.unit (side_of pair.link true).queue.session (side_of pair.link true).queue.taken (login_answers (side_of pair.link false).queue.sent) records.grants.items
   pub deals : HasDealt told units k pair.own.unit (end_of [] pair.link true)
 
 -- This is so by whatever tells all that the pairs show.
 pub record AreHeard (size partition : ℕ) (units : List Unit) (records : Records) (copies : List CopyRecord) (pairs : List Pair) : Type 0 where
   pub all : (told : Told → Bool) → TellsPairs told copies pairs → AllGoBy told size partition units records
   pub each : (told : Told → Bool) → TellsPairs told copies pairs → (k : ℕ) (pair : Pair) → slice_get pairs k ≡ Some pair
-      → ∥ UnitGoesBy told units records k pair ∥₁
+      → ∥ UnitGoesBy told units records copies k pair ∥₁
 
 -- More copies were made, and both windows of the pair have what they had.
 pub record ShowsMore (copies copies' : List CopyRecord) (old new : Pair) : Type 0 where
-  pub listed : (copy : CopyRecord) → Contains copies copy → Contains copies' copy
+  pub made : Begins copies copies'
   pub own : SideGrows (side_at (known_of old.own)) (side_at (known_of new.own))
   pub window : SideGrows (side_at (known_of old.window)) (side_at (known_of new.window))
   pub pages : length new.window.pages ≡ length old.window.pages

@@ -4,12 +4,14 @@ pub mod Answered
 pub mod AnswersSent
 pub mod AnswersTaken
 pub mod CallRows
+pub mod CallsAnswered
 pub mod CallsSaid
 pub mod CallsShown
 pub mod Caused
 pub mod Commands
 pub mod CopyRows
 pub mod Credited
+pub mod EventsHeard
 pub mod Freed
 pub mod Freeing
 pub mod Gathered
@@ -29,6 +31,9 @@ pub mod Numbered
 pub mod OnDisk
 pub mod Pairs
 pub mod PlainClients
+pub mod PortMacs
+pub mod PortOffers
+pub mod PortPosts
 pub mod PortReplays
 pub mod PortSteps
 pub mod PortWords
@@ -54,5 +59,6 @@ pub mod TakenScripts
 pub mod Takings
 pub mod Telling
 pub mod Units
+pub mod ValuesPut
 pub mod Windows
 pub mod Works

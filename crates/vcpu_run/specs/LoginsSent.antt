@@ -1,16 +1,19 @@
 -- The answers to requests to log in of a run: which of them a client's queue got, by the lines of its server unit, and that none
 -- was dropped (SRP, "Login process").
-use Rattle.std.specs.Prelude.{◌⊎◌, ℕ, List, [], filter, length}
+use Rattle.std.specs.Prelude.{◌⊎◌, ◌++◌, ℕ, Bool, List, [], IfSome, filter, length, map, slice_get}
 use Rattle.crq_ring.specs.declared.rows.PipeRow.{PipeRow}
 use Rattle.vio_num.specs.declared.entry.Entry.{Entry}
 use Rattle.vio_num.specs.declared.history.Grant.{Grant}
 use Rattle.vio_num.specs.declared.names.UnitId.{UnitId}
-use Rattle.block_server.specs.Causes.{Hearing}
+use Rattle.block_server.specs.Asked.{AreAskedInOrder, still_to_answer}
+use Rattle.block_server.specs.Causes.{Hearing, Told, told_to}
 use Rattle.block_server.specs.Dealt.{AsksNoLogin, IsLoginAnswered, TookNoEvent}
 use Rattle.block_server.specs.Granting.{IsSrpAt}
-use Rattle.block_server.specs.LoginAnswers.{LoginsMore, is_login_answer}
+use Rattle.block_server.specs.LoginAnswers.{LoginsMore, asked_at, is_login_answer}
 use Rattle.block_server.specs.Makers.{same_unit}
-use Rattle.block_server.specs.Receipts.{unit_of}
+use Rattle.block_server.specs.Receipts.{is_ended, unit_of}
+use Rattle.block_server.specs.Rejecting.{IsOnByLines, RejectInTime}
+use Rattle.block_server.specs.declared.unit.Unit.{Unit}
 use Rattle.boot_text.specs.Sound.{IsClientOf, IsServer}
 use Rattle.boot_text.specs.declared.plan.Partition.{Partition}
 use Rattle.vio_trace.specs.declared.rows.Trace.{Trace}
@@ -28,6 +31,13 @@ lines_by unit lines = filter (λ line. same_unit (unit_of line) unit) lines
 abbrev pub AreLoginsPut : (Hears : Hearing) → UnitId → (taken : List PipeRow) → (answers : List Entry) → (lines : List Grant) → Type 0
 AreLoginsPut Hears unit taken answers lines = LoginsMore Hears taken [] answers [] (lines_by unit lines)
 
+-- And they are to requests that were asked in this order: none of them was answered twice; and each that rejects one does so by the
+-- login that was on, or for another cause where none was, as the lines say that stood then.
+pub record AreLoginsInOrder (Hears : Hearing) (unit : UnitId) (taken : List PipeRow) (answers : List Entry) (lines : List Grant) : Type 0 where
+  pub put : AreLoginsPut Hears unit taken answers lines
+  pub order : AreAskedInOrder (map asked_at put.more)
+  pub rejects : RejectInTime unit [] (lines_by unit lines) put.more
+
 -- the answers to requests to log in among what a trace shows as sent to a unit's queue
 abbrev pub logins_to : Trace → UnitId → List Entry
 logins_to trace unit = filter is_login_answer (sent_to trace unit)
@@ -36,7 +46,15 @@ logins_to trace unit = filter is_login_answer (sent_to trace unit)
 abbrev pub LoginsAreSent : List Partition → Trace → Type 0
 LoginsAreSent partitions trace =
     (server client : UnitId) → IsServer partitions server → IsClientOf partitions client server
-    → ∥ AreLoginsPut (shown_to partitions trace server client) server (entries_taken trace server) (logins_to trace client) trace.grants ∥₁
+    → ∥ AreLoginsInOrder (shown_to partitions trace server client) server (entries_taken trace server) (logins_to trace client) trace.grants ∥₁
+
+-- Between turns: unit k put these answers, and the requests that it has still to answer were asked behind those; the lines say which
+-- login is on, and was as each was rejected.
+pub record GoInOrder (told : Told → Bool) (units : List Unit) (k : ℕ) (unit : UnitId) (session : ℕ) (taken : List PipeRow) (answers : List Entry) (lines : List Grant) : Type 0 where
+  pub put : AreLoginsPut (told_to told unit) unit taken answers lines
+  pub asked : IfSome (slice_get units k) (λ u. AreAskedInOrder (map asked_at put.more ++ still_to_answer session taken u.waiting u.pending.items))
+  pub rejects : RejectInTime unit [] (lines_by unit lines) put.more
+  pub on : IfSome (slice_get units k) (λ u. IsOnByLines unit session u.logins.current (is_ended u.line) lines)
 
 -- Where no event was taken in a session no request to log in was dropped: each SRP entry that was taken in it asked for no login, or a
 -- copy of the answer over its request granted or rejected it.

@@ -18,6 +18,7 @@ use Rattle.vcpu_run.specs.declared.pair.Pair.{Pair}
 use Rattle.vcpu_run.specs.declared.script.Script.{Script}
 use Rattle.vcpu_run.specs.declared.unit_seat.Seat.{Seat}
 use Rattle.vcpu_run.specs.declared.unit_seat.Seat.TheVariants as sits
+use Rattle.vcpu_run.specs.LinesShow.{Sees, seen_at}
 use Rattle.vcpu_run.specs.Named.{WindowsAreApart}
 use Rattle.vcpu_run.specs.Pairs.{ArePairs}
 use Rattle.vcpu_run.specs.Ports.{HasPorts, ports_of, unit_of}
@@ -83,10 +84,11 @@ pub record Stays (old new : Pair) : Type 0 where
   pub own_unit : new.own.unit ≡ old.own.unit
   pub client_unit : new.window.unit ≡ old.window.unit
 
--- the same of all pairs
+-- the same of all pairs, and what there was at each is there still
 pub record AllStay (old new : List Pair) : Type 0 where
   pub count : length new ≡ length old
   pub each : (k : ℕ) (pair : Pair) → slice_get old k ≡ Some pair → IsSomeAnd (slice_get new k) (Stays pair)
+  pub sees : (k : ℕ) (pair : Pair) → slice_get old k ≡ Some pair → IsSomeAnd (slice_get new k) (λ later. Sees (seen_at pair) (seen_at later))
 
 -- server unit k of a partition
 abbrev pub server_id : (home : ℕ) → ℕ → UnitId

@@ -1,6 +1,7 @@
 -- What a run shows of what its client's window told a server unit: the copies between the two windows, byte by byte, and what the
 -- client's denied (SRP, "Virtual SCSI"; LoPAR, "H_COPY_RDMA").
 use Rattle.std.specs.Prelude.{◌≡◌, ℕ, ◌/◌, ◌<◌, ◌≤◌, true, false, List, Some, length, slice_get}
+use Rattle.vio_num.specs.declared.names.UnitId.{UnitId}
 use Rattle.page_slots.specs.declared.stroke.StrokeName.{StrokeName}
 use Rattle.tce_window.specs.Grant.{grants, told}
 use Rattle.tce_window.specs.Moved.{IsReadFrom, IsWrittenTo}
@@ -11,7 +12,8 @@ use Rattle.tce_window.specs.declared.answers.Right.{Right}
 use Rattle.rdma_copy.specs.Copy.{Side}
 use Rattle.rdma_copy.specs.declared.copy.CopyRecord.{CopyRecord}
 use Rattle.block_server.specs.Causes.{Hearing}
-use Rattle.block_server.specs.Causes.News.{delivered, denied, fetched}
+use Rattle.block_server.specs.Causes.News.{delivered, denied, fetched, nth_delivered, nth_fetched}
+use Rattle.block_server.specs.Moves.{data_copies}
 
 -- COPIES -----------------------------------------------------------------------------------------
 
@@ -27,6 +29,10 @@ pub record HasMoved (Listed : CopyRecord → Type 0) (source target : Side) (nam
   pub copy : CopyRecord
   pub listed : Listed copy
   pub moves : MovesBytes source target name from to bytes copy
+
+-- The copy has this number among those of the unit's tables and data.
+abbrev pub IsNth : UnitId → List CopyRecord → ℕ → CopyRecord → Type 0
+IsNth unit copies number copy = slice_get (data_copies unit copies) number ≡ Some copy
 
 -- DENIALS ----------------------------------------------------------------------------------------
 
@@ -63,10 +69,15 @@ HasDenied values right n address len (InUse page word) = ⊥
 
 -- NEWS -------------------------------------------------------------------------------------------
 
--- what is shown of its own window, of its client's with so many pages, and of the copies that are listed
-abbrev pub hearing : (Listed : CopyRecord → Type 0) → (own client : Side) → (pages : ℕ) → Hearing
-hearing Listed own client pages (denied right address len fault) = HasDenied client.values right pages address len fault
-hearing Listed own client pages (fetched address at bytes) =
+-- what is shown of its own window, of its client's with so many pages, of the copies that are listed, and of those of tables and data by
+-- their numbers
+abbrev pub hearing : (Listed : CopyRecord → Type 0) → (Nth : ℕ → CopyRecord → Type 0) → (own client : Side) → (pages : ℕ) → Hearing
+hearing Listed Nth own client pages (denied right address len fault) = HasDenied client.values right pages address len fault
+hearing Listed Nth own client pages (fetched address at bytes) =
     HasMoved Listed client own (record { who = own.unit; mark = 0 }) address at bytes
-hearing Listed own client pages (delivered at address mark bytes) =
+hearing Listed Nth own client pages (delivered at address mark bytes) =
     HasMoved Listed own client (record { who = own.unit; mark = mark }) at address bytes
+hearing Listed Nth own client pages (nth_fetched number address at bytes) =
+    HasMoved (Nth number) client own (record { who = own.unit; mark = 0 }) address at bytes
+hearing Listed Nth own client pages (nth_delivered number at address mark bytes) =
+    HasMoved (Nth number) own client (record { who = own.unit; mark = mark }) at address bytes

@@ -1,10 +1,12 @@
 -- What steps of lines make of the ports of a partition, as their lines tell of them.
-use Rattle.std.specs.Prelude.{◌≡◌, ◌≢◌, ℕ, ◌+◌, ◌≤◌, ◌==◌, Bool, true, false, List, [], ◌++◌, Some, slice_get}
+use Rattle.std.specs.Prelude.{◌≡◌, ◌≢◌, ℕ, ◌+◌, ◌≤◌, ◌==◌, Bool, true, false, List, [], ◌++◌, None, Some, slice_get}
 use Rattle.vio_num.specs.declared.names.UnitId.{UnitId}
 use Rattle.boot_text.specs.declared.plan.Line.{Line}
 use Rattle.boot_text.specs.declared.verb.Verb.{Verb}
 use Rattle.unit_region.specs.declared.step.Step.{Step}
 use Rattle.unit_region.specs.declared.step.Step.TheVariants as steps
+use Rattle.lan_script.specs.Buffers.{posted_at}
+use Rattle.lan_script.specs.OwnMac.{MovesMac}
 use Rattle.lan_script.specs.PortCounts.{PortCounts, counts, counts_at, counts_by, counts_told}
 use Rattle.lan_script.specs.PortReplay.{closed_replay}
 use Rattle.lan_script.specs.Replayed.{GrantsAll, replay_at}
@@ -12,13 +14,18 @@ use Rattle.lan_script.specs.Units.{LanValue}
 use Rattle.vcpu_run.specs.declared.unit_seat.Seat.{Seat}
 use Rattle.vcpu_run.specs.declared.unit_seat.Seat.TheVariants as sits
 use Rattle.vcpu_run.specs.Ports.{unit_of}
-use Rattle.vcpu_run.specs.PortReplays.{IsStill, StepReplays}
+use Rattle.vcpu_run.specs.PortPosts.{StepFits}
+use Rattle.vcpu_run.specs.PortReplays.{IsStill, StepReplays, sent_at}
 use Rattle.vcpu_run.specs.PortWords.{FrameTold, frame_of, frames_at}
 
--- A port did nothing of which lines tell.
+-- A port did nothing of which lines tell. It may have been closed.
 pub record IsSilent (old new : LanValue) (unit : UnitId) : Type 0 where
   pub frames : frames_at new unit ≡ frames_at old unit
   pub counts : counts_at new unit ≡ counts_at old unit
+  pub posted : posted_at new unit ≡ posted_at old unit
+  pub rows : sent_at new unit ≡ sent_at old unit
+  pub mac : MovesMac None (replay_at old unit) (replay_at new unit)
+  pub seats : new.seats ≡ old.seats
 
 -- It did nothing of which lines tell, nor a replay of them.
 pub record IsIdle (old new : LanValue) (unit : UnitId) : Type 0 where
@@ -54,7 +61,8 @@ StepRises unit verb done done' old new (steps.Waits did) = Rises [] (counts_by v
 
 -- and of any port of its partition
 abbrev pub RisesIf : (own : Bool) → UnitId → Verb → (done done' : ℕ) → (old new : LanValue) → Step → Type 0
-RisesIf true unit verb done done' old new step = StepRises unit verb done done' old new step × StepReplays unit verb done old new step
+RisesIf true unit verb done done' old new step =
+    StepRises unit verb done done' old new step × StepReplays unit verb done old new step × StepFits unit verb done done' old new step
 RisesIf false unit verb done done' old new step = IsIdle old new unit
 
 abbrev pub TellsStep : (partition : ℕ) → List Seat → Line → (done done' : ℕ) → (old new : LanValue) → Step → Type 0
@@ -72,3 +80,4 @@ AllSilent old new = (unit : UnitId) → IsSilent old new unit
 -- no port did anything yet
 abbrev pub AreFresh : LanValue → Type 0
 AreFresh lan = (unit : UnitId) → (frames_at lan unit ≡ []) × (counts_at lan unit ≡ counts 0 0) × (replay_at lan unit ≡ closed_replay) × GrantsAll lan unit
+    × (posted_at lan unit ≡ [])

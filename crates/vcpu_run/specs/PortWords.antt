@@ -1,6 +1,6 @@
 -- What the records of a LAN unit's lines say of its port: the frames that it sent, the buffers that it posted, and the frames
 -- that it took from its receive queue.
-use Rattle.std.specs.Prelude.{◌≡◌, ◌≢◌, ℕ, ◌+◌, ◌≤◌, ◌==◌, ◌&&◌, Bool, true, false, All, List, [], ◌∷◌, ◌++◌, Option, Some, None, Result, Ok, Err, ⊤, filter, length, map, slice_get, if◌then◌else◌}
+use Rattle.std.specs.Prelude.{◌≡◌, ◌≢◌, ℕ, ◌+◌, ◌≤◌, ◌==◌, ◌&&◌, Bool, true, false, All, List, [], ◌∷◌, ◌++◌, Option, Some, None, Result, Ok, Err, ⊤, filter, length, map, slice_get, take, if◌then◌else◌}
 use Rattle.vio_num.specs.declared.hypervisor.Hrc.{Hrc}
 use Rattle.vio_num.specs.declared.memory.NoMemory.{NoMemory}
 use Rattle.vio_num.specs.declared.names.UnitId.{UnitId}
@@ -14,6 +14,7 @@ use Rattle.vio_trace.specs.declared.lan_rows.FrameRow.{FrameRow}
 use Rattle.vio_trace.specs.declared.outcome.Outcome.{Outcome}
 use Rattle.vio_trace.specs.declared.outcome.Outcome.TheVariants as outcomes
 use Rattle.vio_trace.specs.declared.rows.Trace.{Trace}
+use Rattle.lan_script.specs.Buffers.{posted_at}
 use Rattle.lan_script.specs.Invariant.{sent_by}
 use Rattle.lan_script.specs.PortCounts.{PortCounts, counts, counts_at, counts_by, counts_told, is_frame}
 use Rattle.lan_script.specs.PortReplay.{IsOn, PortReplay, closed_replay}
@@ -28,6 +29,9 @@ use Rattle.vcpu_run.specs.declared.unit_seat.Seat.{Seat}
 use Rattle.vcpu_run.specs.declared.unit_seat.Seat.TheVariants as sits
 use Rattle.vcpu_run.specs.Credited.{Ended, ended_by}
 use Rattle.vcpu_run.specs.Ports.{IsPortOf, ports_of, unit_of}
+use Rattle.vcpu_run.specs.PortMacs.{KeepsMac, OffersAreFor}
+use Rattle.vcpu_run.specs.PortOffers.{EndsFrame, FrameGoes, OffersFit, TellsFit, TellsOffers}
+use Rattle.vcpu_run.specs.PortPosts.{AreWithin, IsUnder, buffers_of, buffers_under}
 use Rattle.vcpu_run.specs.PortReplays.{AreReplayed, IsFirstOf, IsPlainPort, KeepsReplay}
 use Rattle.vcpu_run.specs.Settled.{script_of}
 use Rattle.vcpu_run.specs.Shown.{records_of}
@@ -79,12 +83,13 @@ WordsAreTold partitions trace = (unit : UnitId) → IsPortOf (ports_of partition
 abbrev pub sessions_shown : Trace → UnitId → ℕ
 sessions_shown trace unit = length (filter (λ row. same_unit row.unit unit) trace.ports)
 
--- The records of a port are what the replay of its lines says, and its frames have the bytes of those of the replay. Where it leaves the
--- port open, all deliveries of the last session were harvested.
+-- The records of a port are what the replay of its lines says, its frames have the bytes of those of the replay, and it has as many
+-- sessions. Where it leaves the port open, all deliveries of the last session were harvested.
 pub record IsPortReplayed (seat : PortSeat) (own : List Ended) (trace : Trace) (unit : UnitId) : Type 0 where
   pub left : PortReplay
   pub replayed : AreReplayed seat closed_replay own left
   pub frames : map (λ row. row.bytes) (filter (λ row. same_unit row.unit unit) trace.frames) ≡ left.frames
+  pub sessions : sessions_shown trace unit ≡ left.sessions
   pub harvested : IsOn left
       → length (filter (λ row. row.session == sessions_shown trace unit) (filter (λ row. same_unit row.unit unit) trace.harvests))
       ≡ length (filter (λ row. row.session == sessions_shown trace unit) (filter (λ row. same_unit row.unit unit) trace.delivers))
@@ -95,10 +100,47 @@ PortsAreReplayed partitions trace = (unit : UnitId) (seat : PortSeat) → seat_a
     → IsPlainPort unit.unit (script_of partitions unit.partition)
     → IsPortReplayed seat (ended_by unit.unit (script_of partitions unit.partition) (records_of trace unit.partition)) trace unit
 
+-- each frame of a line of a plain port was offered to the other plain ports of its partition as the lines before leave them
+abbrev pub FramesAreOffered : List Partition → Trace → Type 0
+FramesAreOffered partitions trace = (unit : UnitId) → IsPortOf (ports_of partitions) unit → IsPlainPort unit.unit (script_of partitions unit.partition)
+    → (at number : ℕ) → EndsFrame (script_of partitions unit.partition) (records_of trace unit.partition) unit.unit at number
+    → FrameGoes unit.partition (ports_of partitions) (script_of partitions unit.partition) (take at (records_of trace unit.partition)) unit.unit number
+    (filter (λ row. same_unit row.unit unit) trace.frames) (λ port. filter (λ row. same_unit row.unit port) trace.delivers)
+
+-- each frame of another unit that has an offer to a plain port was for it, by some of its lines
+abbrev pub OffersAreFit : List Partition → Trace → Type 0
+OffersAreFit partitions trace = (unit : UnitId) (seat : PortSeat) → seat_at (ports_of partitions) unit ≡ Some seat
+    → IsPlainPort unit.unit (script_of partitions unit.partition)
+    → OffersFit unit seat (ended_by unit.unit (script_of partitions unit.partition) (records_of trace unit.partition))
+    (λ sender. filter (λ row. same_unit row.unit sender) trace.frames)
+
+-- the `post` lines of a unit that tell how many buffers they posted are those of its posts, in order: each at its address, of its length
+abbrev pub BuffersAreTold : List Partition → Trace → Type 0
+BuffersAreTold partitions trace = (unit : UnitId) → IsPortOf (ports_of partitions) unit → HasNoCall (script_of partitions unit.partition)
+    → buffers_of (ended_by unit.unit (script_of partitions unit.partition) (records_of trace unit.partition))
+    ≡ map (λ row. row.descriptor) (filter (λ row. same_unit row.unit unit) trace.posts)
+
+-- no line of a port took more frames than it says
+abbrev pub TakesAreWithin : List Partition → Trace → Type 0
+TakesAreWithin partitions trace = (unit : UnitId) → IsPortOf (ports_of partitions) unit
+    → AreWithin (ended_by unit.unit (script_of partitions unit.partition) (records_of trace unit.partition))
+
+-- where no line of its partition makes a raw call, a port has offers only of frames to groups and to addresses that it has from the plan or a line
+abbrev pub OffersHaveAddress : List Partition → Trace → Type 0
+OffersHaveAddress partitions trace = (unit : UnitId) (seat : PortSeat) → seat_at (ports_of partitions) unit ≡ Some seat
+    → HasNoCall (script_of partitions unit.partition)
+    → OffersAreFor unit seat (ended_by unit.unit (script_of partitions unit.partition) (records_of trace unit.partition))
+    (λ sender. filter (λ row. same_unit row.unit sender) trace.frames)
+
 -- What the records of a plan's ports tell.
 pub record PortsAreTold (partitions : List Partition) (trace : Trace) : Type 0 where
   pub words : WordsAreTold partitions trace
+  pub buffers : BuffersAreTold partitions trace
+  pub takes : TakesAreWithin partitions trace
+  pub addressed : OffersHaveAddress partitions trace
   pub replayed : PortsAreReplayed partitions trace
+  pub offered : FramesAreOffered partitions trace
+  pub fit : OffersAreFit partitions trace
 
 -- the frames of a unit, while a run goes on
 abbrev pub frames_at : LanValue → UnitId → List FrameTold
@@ -128,6 +170,28 @@ abbrev pub TellsWords : LanValue → Script → Type 0
 TellsWords lan script = HasNoCall script.lines.now → (unit : ℕ) → slice_get script.seats.items unit ≡ Some sits.Port
     → TellsPort (ended_by unit script.lines.now script.logs.items) (counts_now unit script) lan (unit_of script.partition unit)
 
+-- the buffers that the lines of each port of a script tell, with those of the current one so far, are those that it posted
+abbrev pub buffers_now : (unit : ℕ) → Script → List ℕ
+buffers_now unit script = buffers_under unit (done_in script.progress) (slice_get script.lines.now script.at)
+
+abbrev pub TellsBuffers : LanValue → Script → Type 0
+TellsBuffers lan script = HasNoCall script.lines.now → (unit : ℕ) → slice_get script.seats.items unit ≡ Some sits.Port
+    → buffers_of (ended_by unit script.lines.now script.logs.items) ++ buffers_now unit script ≡ posted_at lan (unit_of script.partition unit)
+
+-- no line of a port of a script took more than it says
+pub record TakesOwn (script : Script) (unit : ℕ) : Type 0 where
+  pub ended : AreWithin (ended_by unit script.lines.now script.logs.items)
+  pub now : IsUnder unit (done_in script.progress) (slice_get script.lines.now script.at)
+
+abbrev pub TellsTakes : Script → Type 0
+TellsTakes script = (unit : ℕ) → slice_get script.seats.items unit ≡ Some sits.Port → TakesOwn script unit
+
+-- each port of a script has an address from the plan or its lines, and the offers so far are for it
+abbrev pub TellsMacs : LanValue → Script → Type 0
+TellsMacs lan script = HasNoCall script.lines.now → (unit : ℕ) → slice_get script.seats.items unit ≡ Some sits.Port → (seat : PortSeat)
+    → seat_at lan.seats (unit_of script.partition unit) ≡ Some seat
+    → KeepsMac lan (unit_of script.partition unit) seat (ended_by unit script.lines.now script.logs.items)
+
 -- The lines of a unit of a script keep its replay, and the current one has not got past its first step.
 pub record ReplaysOwn (lan : LanValue) (script : Script) (unit : ℕ) (seat : PortSeat) : Type 0 where
   pub keeps : KeepsReplay seat (ended_by unit script.lines.now script.logs.items) lan (unit_of script.partition unit)
@@ -141,7 +205,12 @@ TellsReplay lan script = (unit : ℕ) → IsPlainPort unit script.lines.now → 
 -- What the lines of a script tell of its ports.
 pub record TellsPorts (lan : LanValue) (script : Script) : Type 0 where
   pub words : TellsWords lan script
+  pub buffers : TellsBuffers lan script
+  pub takes : TellsTakes script
+  pub macs : TellsMacs lan script
   pub replay : TellsReplay lan script
+  pub offers : TellsOffers lan script
+  pub fit : TellsFit lan script
 
 -- the same of all scripts
 abbrev pub PortsTell : LanValue → List Script → Type 0

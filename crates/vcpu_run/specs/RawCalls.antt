@@ -1,17 +1,20 @@
 -- What raw hypervisor calls leave of the units of a partition.
-use Rattle.std.specs.Prelude.{◌≡◌, ℕ, nat_lt, true, List, OnOk, Option, Some, None, Result, length, ⊤, if◌then◌else◌}
+use Rattle.std.specs.Prelude.{◌≡◌, ℕ, nat_lt, true, List, IfOk, OnOk, Option, Some, None, Result, length, ⊤, if◌then◌else◌}
 use Rattle.std.specs.List.{slice_get}
 use Rattle.vio_num.specs.declared.memory.NoMemory.{NoMemory}
+use Rattle.hcall_table.specs.Asked.{Asked}
 use Rattle.hcall_table.specs.Named.{Place}
 use Rattle.hcall_table.specs.declared.returned.Returned.{Returned}
 use Rattle.hcall_table.specs.declared.kind.UnitKind.{UnitKind}
 use Rattle.hcall_table.specs.declared.kind.UnitKind.TheVariants as kinds
 use Rattle.lan_script.specs.Seats.{seat_at}
 use Rattle.lan_script.specs.declared.seat.PortSeat.{PortSeat}
+use Rattle.vcpu_run.specs.declared.pair.Pair.{Pair}
 use Rattle.vcpu_run.specs.declared.partition_units.PartitionUnits.{PartitionUnits}
 use Rattle.vcpu_run.specs.declared.unit_seat.Seat.{Seat}
 use Rattle.vcpu_run.specs.declared.unit_seat.Seat.TheVariants as sits
 use Rattle.vcpu_run.specs.Agreed.{SameDrivers, SameElse}
+use Rattle.vcpu_run.specs.CallsAnswered.{IsReturned, UnitSeen, unit_seen}
 use Rattle.vcpu_run.specs.Freed.{FreesNoneIf}
 use Rattle.vcpu_run.specs.Freeing.{NoneSits}
 use Rattle.vcpu_run.specs.Pairs.{AreDriven}
@@ -70,3 +73,17 @@ pub record CallsUnits (old new : PartitionUnits) : Type 0 where
 pub record MakesCall (old new : PartitionUnits) (answer : Result Returned NoMemory) : Type 0 where
   pub units : CallsUnits old new
   pub apart : OnOk answer (IsApart old.partition old.lan.now new.lan.now)
+
+-- the pair at which a client sits
+abbrev pub pair_of : List Pair → Option Seat → Option Pair
+pair_of pairs (Some (sits.Client k)) = slice_get pairs k
+pair_of pairs _ = None
+
+-- the unit of this number where it sat, with its pair as a call left it
+abbrev pub seen_after : (old new : PartitionUnits) → (unit : ℕ) → UnitSeen
+seen_after old new unit = unit_seen (pair_of new.pairs.now (seat_in old unit))
+
+-- And what it answered is so of the unit.
+pub record AnswersCall (asked : Asked) (old new : PartitionUnits) (answer : Result Returned NoMemory) : Type 0 where
+  pub made : MakesCall old new answer
+  pub returned : IfOk answer (IsReturned (seen_after old new asked.unit) asked.row asked.arguments)

@@ -36,11 +36,13 @@ pub record IsReceived (units : List Unit) (copies : List CopyRecord) (grants : L
 abbrev pub AreReceived : List Unit → List CopyRecord → List Grant → List Served → List Pair → Type 0
 AreReceived units copies grants history pairs = (k : ℕ) (pair : Pair) → slice_get pairs k ≡ Some pair → IsReceived units copies grants history k pair
 
--- Nothing was taken from the server unit's queue, nothing was put into its client's, and the client has sent and taken nothing.
+-- Nothing was taken from the server unit's queue, nothing was put into its client's, the client has sent and taken nothing,
+-- and no value was put into its window.
 pub record IsFresh (pair : Pair) : Type 0 where
   pub taken : (side_of pair.link true).queue.taken ≡ []
   pub sent : (side_of pair.link false).queue.sent ≡ []
   pub untaken : PairUntaken pair
+  pub rows : pair.window.rows ≡ []
 
 abbrev pub AreFresh : List Pair → Type 0
 AreFresh pairs = (k : ℕ) (pair : Pair) → slice_get pairs k ≡ Some pair → IsFresh pair

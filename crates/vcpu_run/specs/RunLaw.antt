@@ -7,6 +7,7 @@ use Rattle.vio_num.specs.Queue.{Handed, LawfulDrop}
 use Rattle.vio_num.specs.declared.names.UnitId.{UnitId}
 use Rattle.rdma_copy.specs.Copy.{IsLawful}
 use Rattle.rdma_copy.specs.declared.copy.CopyRecord.{CopyRecord}
+use Rattle.block_server.specs.Makers.{NeverFalls}
 use Rattle.block_server.specs.Receipts.{GrantsMany}
 use Rattle.boot_text.specs.Sound.{unit_at, IsClientOf, IsServer}
 use Rattle.boot_text.specs.declared.plan.Line.{Line}
@@ -31,7 +32,7 @@ use Rattle.vcpu_run.specs.Lines.{numbers_to_fail}
 use Rattle.vcpu_run.specs.LoginsSent.{LoginsAreAnswered, LoginsAreSent}
 use Rattle.vcpu_run.specs.Ports.{ports_of}
 use Rattle.vcpu_run.specs.PortWords.{PortsAreTold}
-use Rattle.vcpu_run.specs.StrokeMakers.{StrokesAreMade}
+use Rattle.vcpu_run.specs.StrokeMakers.{StrokesAreMade, versions_named}
 use Rattle.vcpu_run.specs.Refusals.{RefusalsAreTold}
 use Rattle.vcpu_run.specs.Requests.{RequestsAreServed}
 use Rattle.vcpu_run.specs.RowsCopied.{LinesAreExplained, RowsAreCopied}
@@ -100,6 +101,7 @@ pub record CopiesAreLawful (partitions : List Partition) (trace : Trace) : Type 
   pub windows : All (λ row. row.entry < pages_at partitions row.unit) trace.tces
   pub no_server : (unit : UnitId) (e : ℕ) → IsServer partitions unit → puts_into trace unit e ≡ []
   pub made : StrokesAreMade partitions trace
+  pub rising : (unit : UnitId) (entry : ℕ) → NeverFalls (versions_named trace unit entry)
 
 -- the records of each partition are of exactly its lines up to the first that fails it, one a line, in their order
 abbrev pub RecordsAreOfLines : List Partition → Trace → Type 0

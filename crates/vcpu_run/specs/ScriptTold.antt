@@ -19,6 +19,7 @@ use Rattle.vcpu_run.specs.Scripts.{are_servers}
 use Rattle.vcpu_run.specs.TakenScripts.{PairAgrees, PairTaken}
 use Rattle.vcpu_run.specs.Takings.{IsTakenUpTo}
 use Rattle.vcpu_run.specs.Telling.{IsOf, IsTold}
+use Rattle.vcpu_run.specs.ValuesPut.{AreValuesPut, SameValues}
 use Rattle.vcpu_run.specs.Works.{fails}
 
 -- how far the current line came, if it is of this unit
@@ -54,7 +55,7 @@ pub record IsScriptTaken (pairs : List Pair) (script : Script) : Type 0 where
   pub agrees : (line : Line) → slice_get script.lines.now script.at ≡ Some line → fails line.verb ≡ false
       → AtSeats script.seats.items pairs (λ unit pair. PairAgrees (own_of unit script) (progress_by unit script) pair)
 
--- The refusals of each client have their causes, and what its lines did is there; before a line that fails no partition each client agrees with its records.
+-- The refusals of each client have their causes, what its lines did is there, and they put what they say into its window's entries; before a line that fails no partition each client agrees with its records.
 pub record IsScriptTold (pairs : List Pair) (script : Script) : Type 0 where
   pub law : AtSeats script.seats.items pairs (λ unit pair. HasCausesTold (length pair.window.pages) (own_of unit script))
   pub fresh : IfSome (slice_get script.lines.now script.at)
@@ -63,13 +64,15 @@ pub record IsScriptTold (pairs : List Pair) (script : Script) : Type 0 where
       → AtSeats script.seats.items pairs (λ unit pair. PairIsTold (own_of unit script) (progress_by unit script) pair)
   pub shown : AtSeats script.seats.items pairs (PairShown script)
   pub taken : IsScriptTaken pairs script
+  pub put : AtSeats script.seats.items pairs (λ unit pair. AreValuesPut (own_of unit script) pair)
 
 -- a reset that is the current line left its client without a login
 abbrev pub IsResetOut : List Pair → Script → Type 0
 IsResetOut pairs script = (line : Line) (k : ℕ) (pair : Pair) → slice_get script.lines.now script.at ≡ Some line → is_reset line.verb ≡ true
     → slice_get script.seats.items line.unit ≡ Some (sits.Client k) → slice_get pairs k ≡ Some pair → IsLoggedOut pair
 
--- The client of a pair, its window's unit and length, whether its queue is registered and what it took are as before, and what there was is there.
+-- The client of a pair, its window's unit and length, whether its queue is registered and what it took are as before, no entry of its window
+-- has other values, and what there was is there.
 pub record SameClient (old new : Pair) : Type 0 where
   pub driver : new.driver ≡ old.driver
   pub pages : length new.window.pages ≡ length old.window.pages
@@ -77,6 +80,7 @@ pub record SameClient (old new : Pair) : Type 0 where
   pub taken : (side_of new.link false).queue.taken ≡ (side_of old.link false).queue.taken
   pub unit : new.window.unit ≡ old.window.unit
   pub sees : Sees (seen_at old) (seen_at new)
+  pub values : SameValues old new
 
 -- the same of all pairs
 abbrev pub SameClients : List Pair → List Pair → Type 0

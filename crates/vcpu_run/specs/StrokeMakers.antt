@@ -1,5 +1,5 @@
--- Who made each stroke that a trace shows: the strokes that its copies name.
-use Rattle.std.specs.Prelude.{◌≡◌, ◌≢◌, ◌==◌, ◌&&◌, ℕ, All, Bool, List, [], ◌∷◌, Some, if◌then◌else◌}
+-- Who made each stroke that a trace shows: the strokes that its copies name, and the versions of entries.
+use Rattle.std.specs.Prelude.{◌≡◌, ◌≢◌, ◌==◌, ◌&&◌, ℕ, All, Bool, List, [], ◌∷◌, ◌++◌, Some, if◌then◌else◌}
 use Rattle.std.specs.List.{Contains, flat_map}
 use Rattle.vio_num.specs.declared.names.Mac.{Mac}
 use Rattle.vio_num.specs.declared.names.UnitId.{UnitId}
@@ -25,6 +25,20 @@ places_shown unit page (piece ∷ pieces) =
 -- the places of the strokes that the copies of a trace wrote there, in the order of its rows
 abbrev pub named_in : Trace → UnitId → (page : ℕ) → List ℕ
 named_in trace unit page = flat_map (λ row. places_shown unit page row.to) trace.copies
+
+-- whether a piece is of this unit's window and of this entry
+abbrev pub is_row_of : UnitId → (entry : ℕ) → PieceRow → Bool
+is_row_of unit entry piece = same_unit piece.unit unit && (piece.entry == entry)
+
+-- the versions that pieces of this unit's window name of an entry, in their order
+abbrev pub versions_shown : UnitId → (entry : ℕ) → List PieceRow → List ℕ
+versions_shown unit entry [] = []
+versions_shown unit entry (piece ∷ pieces) =
+    if is_row_of unit entry piece then piece.version ∷ versions_shown unit entry pieces else versions_shown unit entry pieces
+
+-- those that the copies of a trace name of it, read or written, in the order of its rows
+abbrev pub versions_named : Trace → UnitId → (entry : ℕ) → List ℕ
+versions_named trace unit entry = flat_map (λ row. versions_shown unit entry row.from ++ versions_shown unit entry row.to) trace.copies
 
 -- a LAN port of the plan
 abbrev pub IsPort : List Partition → UnitId → Type 0

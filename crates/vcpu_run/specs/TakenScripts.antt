@@ -12,16 +12,18 @@ use Rattle.vcpu_run.specs.declared.script.Progress.{Progress}
 use Rattle.vcpu_run.specs.Agreed.{OnDrivers}
 use Rattle.vcpu_run.specs.AnswersTaken.{AreTakesSaid, answered_tags, no_takes, takes_after}
 use Rattle.vcpu_run.specs.Credited.{Ended, taken_in}
+use Rattle.vcpu_run.specs.EventsHeard.{AreHeard, StepHears, events_waiting}
 use Rattle.vcpu_run.specs.Takings.{AgreesTaken, AreGiven, Gives, StepsTaken, waiting}
 
 -- the answers of a pair's client are as the records of its lines, and its current line, tell
 abbrev pub PairAgrees : List Ended → Progress → Pair → Type 0
 PairAgrees own p pair = IfSome pair.driver (AgreesTaken (taken_in p) (takes_after no_takes own))
 
--- A client's records say of its answers what is so, and these stand in order among the entries that it took.
+-- A client's records say of its answers what is so, and these stand in order among the entries that it took; and each loss that they tell has an event.
 pub record IsTaken (own : List Ended) (pair : Pair) (driver : Driver) : Type 0 where
   pub said : AreTakesSaid (answered_tags driver.answers.items) no_takes own
   pub given : AreGiven driver (end_of [] pair.link false)
+  pub heard : AreHeard own driver.client (side_of pair.link false).queue.taken
 
 abbrev pub PairTaken : List Ended → Pair → Type 0
 PairTaken own pair = IfSome pair.driver (IsTaken own pair)
@@ -38,6 +40,10 @@ PairGives old new = OnDrivers old.driver new.driver (λ a b. Gives a b (end_of [
 abbrev pub AllGive : List Pair → List Pair → Type 0
 AllGive old new = (k : ℕ) (after : Pair) → slice_get new k ≡ Some after → IsSomeAnd (slice_get old k) (λ before. PairGives before after)
 
+-- a step of a line at a pair says no more often that the partner was lost than events were taken
+abbrev pub PairHears : (old new : Pair) → Result Step NoMemory → Type 0
+PairHears old new result = OnDrivers old.driver new.driver (λ a b. StepHears result a.client b.client (end_of [] old.link false) (end_of [] new.link false))
+
 -- A client has sent nothing and has taken no answer.
 pub record IsUntaken (taken : List PipeRow) (driver : Driver) : Type 0 where
   pub answers : driver.answers.items ≡ []
@@ -45,10 +51,12 @@ pub record IsUntaken (taken : List PipeRow) (driver : Driver) : Type 0 where
   pub outgoing : driver.client.outgoing ≡ []
   pub kept : driver.client.kept ≡ []
   pub rest : waiting driver.client ≡ []
+  pub events : events_waiting driver.client ≡ 0
   pub none : taken ≡ []
 
 abbrev pub PairUntaken : Pair → Type 0
 PairUntaken pair = IfSome pair.driver (IsUntaken (side_of pair.link false).queue.taken)
 
+-- the same of all pairs, and no value was put into a client's window
 abbrev pub AreUntaken : List Pair → Type 0
-AreUntaken pairs = (k : ℕ) (pair : Pair) → slice_get pairs k ≡ Some pair → PairUntaken pair
+AreUntaken pairs = (k : ℕ) (pair : Pair) → slice_get pairs k ≡ Some pair → PairUntaken pair × (pair.window.rows ≡ [])

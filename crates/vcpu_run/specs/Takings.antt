@@ -22,6 +22,7 @@ use Rattle.vcpu_run.specs.declared.driver.Driver.{Driver}
 use Rattle.vcpu_run.specs.declared.taking.Took.{Took}
 use Rattle.vcpu_run.specs.declared.taking.Took.TheVariants as tooks
 use Rattle.vcpu_run.specs.Answered.{AreBegun}
+use Rattle.vcpu_run.specs.EventsHeard.{Hears}
 use Rattle.vcpu_run.specs.AnswersTaken.{AreAmong, IsAnswerOf, IsTakeSaid, TakesNow, answered_tags, has_tag, is_known, tags_among, tags_taken, takes_by}
 
 -- an entry that is held and is not under the tag of the login
@@ -54,6 +55,7 @@ HasMoreAnswers old new = (rows : List AnswerRow) × (new ≡ old ++ rows)
 
 -- A client's steps keep this at its end.
 pub record Gives (old new : Driver) (end end' : EndState) : Type 0 where
+  pub heard : Hears 0 old.client new.client end end'
   pub more : HasMoreAnswers old.answers.items new.answers.items
   pub session : IsBegun end → IsBegun end'
   pub given : IsBegun end → AreGiven old end → AreGiven new end'

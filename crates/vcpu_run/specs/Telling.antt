@@ -22,7 +22,8 @@ use Rattle.vcpu_run.specs.Credited.{Ended, is_take, taken_in}
 use Rattle.vcpu_run.specs.Freeing.{is_reset}
 use Rattle.vcpu_run.specs.LinesShow.{PairShows}
 use Rattle.vcpu_run.specs.Refusals.{HasCausesTold, LoginNow, login_by, tags_told}
-use Rattle.vcpu_run.specs.TakenScripts.{AllGive, PairTakes}
+use Rattle.vcpu_run.specs.TakenScripts.{AllGive, PairHears, PairTakes}
+use Rattle.vcpu_run.specs.ValuesPut.{PairPuts}
 
 -- the login that is on by records, one after the other
 abbrev pub login_after : Option LoginNow → List Ended → Option LoginNow
@@ -122,6 +123,8 @@ pub record SeatTold (seat : ℕ) (line : Line) (p p' : Progress) (old new : List
   pub beside : SameBeside seat old new
   pub here : (before after : Pair) → slice_get old seat ≡ Some before → slice_get new seat ≡ Some after → PairTold line.verb p p' before after result
   pub takes : (before after : Pair) → slice_get old seat ≡ Some before → slice_get new seat ≡ Some after → PairTakes line.verb p p' before after result
+  pub hears : (before after : Pair) → slice_get old seat ≡ Some before → slice_get new seat ≡ Some after → PairHears before after result
+  pub puts : (before after : Pair) → slice_get old seat ≡ Some before → slice_get new seat ≡ Some after → PairPuts line.verb before after result
   pub gives : OnOk result (AllGive old new)
   pub shows : (after : Pair) → slice_get new seat ≡ Some after → PairShows line after result
 

@@ -1,5 +1,5 @@
 // What a script line does at its client unit.
-ghost use Rattle.std.specs.Prelude.{◌≡◌, ◌⊎◌, ◌≤◌, [], IfErr, None, OnOk, true, false, ℕ, Some};
+ghost use Rattle.std.specs.Prelude.{◌≡◌, ◌⊎◌, ◌≤◌, [], IfErr, IfOk, None, OnOk, true, false, ℕ, Some};
 ghost use Rattle.vscsi_client.specs.declared.TheConstants.{MIN_PAGES};
 ghost use Rattle.vscsi_client.specs.Transferred.{FitRows};
 ghost use Rattle.vscsi_client.specs.Units.{FitsOp};
@@ -7,6 +7,7 @@ ghost use Rattle.boot_text.specs.declared.verb.Verb.{Verb as VerbValue};
 ghost use Rattle.boot_text.specs.declared.verb.Verb.TheVariants as verbs;
 ghost use Rattle.vcpu_run.specs.Credited.{StepsAgreed, taken_in, uses_credit};
 ghost use Rattle.unit_region.specs.Steps.{IsPlain};
+ghost use Rattle.vcpu_run.specs.EventsHeard.{StepHears};
 ghost use Rattle.vcpu_run.specs.Freeing.{is_reset};
 ghost use Rattle.vcpu_run.specs.Holding.{IsHeldOff, StepsOpen, TurnsOpen, link_seen};
 ghost use Rattle.vcpu_run.specs.Sendings.{SaysSent, SaysTurned, SaysWhy};
@@ -18,6 +19,7 @@ ghost use Rattle.vcpu_run.specs.Takings.{Gives, StepsTaken};
 ghost use Rattle.vcpu_run.specs.Telling.{LeavesOut, StepsOut, StepsTold, seated};
 ghost use Rattle.vcpu_run.specs.declared.script.Progress.{Progress as ProgressValue};
 ghost use Rattle.vcpu_run.specs.declared.script.Progress.TheVariants as stages;
+ghost use Rattle.vcpu_run.specs.ValuesPut.{StepPuts};
 ghost use Rattle.vcpu_run.specs.Works.{IsUnitVerb, Works, sends};
 ghost use Rattle.unit_region.specs.Kept.{KeepsWindow};
 
@@ -104,9 +106,12 @@ impl Driver {
         ensures retakes { StepsTaken verbs.Reset 0 0 self.old self.new result }
         ensures gives { OnOk result (Gives self.old self.new
             (C.state crq.old.end) (C.state crq.new.end)) }
+        ensures hears { StepHears result self.old.client self.new.client
+            (C.state crq.old.end) (C.state crq.new.end) }
         ensures works { Works false C.is_shared O.is_shared
             (C.state crq.old.end) (C.state crq.new.end)
             (O.state own.old) (O.state own.new) self.old self.new }
+        ensures values { (O.state own.new).values ≡ (O.state own.old).values }
         ensures credit { (verb : VerbValue) →
             StepsAgreed verb 0 0 self.old.client self.new.client result }
     {
@@ -141,12 +146,15 @@ impl Driver {
         ensures works { Works true C.is_shared O.is_shared
             (C.state crq.old.end) (C.state crq.new.end)
             (O.state own.old) (O.state own.new) self.old self.new }
+        ensures values { (O.state own.new).values ≡ (O.state own.old).values }
         ensures credit { StepsAgreed verbs.Reset (taken_in progress.old) (taken_in progress.new)
             self.old.client self.new.client result }
         ensures takes { StepsTaken verbs.Reset (taken_in progress.old) (taken_in progress.new)
             self.old self.new result }
         ensures gives { OnOk result (Gives self.old self.new
             (C.state crq.old.end) (C.state crq.new.end)) }
+        ensures hears { StepHears result self.old.client self.new.client
+            (C.state crq.old.end) (C.state crq.new.end) }
     {
         if *progress == Progress::Freed {
             return self.login(crq, own, line);
@@ -170,6 +178,7 @@ impl Driver {
     fn data<O: OwnerPort>(&mut self, own: &mut O, tag: u64) -> Result<Step, NoMemory>
         requires { FitRows (O.state own.old).place.size self.old.client }
         ensures window { KeepsWindow O.is_shared (O.state own.old) (O.state own.new) }
+        ensures values { (O.state own.new).values ≡ (O.state own.old).values }
         ensures unit { self.new.unit ≡ self.old.unit }
         ensures client { self.new.client ≡ self.old.client }
         ensures plain { IsPlain result }
@@ -210,12 +219,15 @@ impl Driver {
         ensures works { Works false C.is_shared O.is_shared
             (C.state crq.old.end) (C.state crq.new.end)
             (O.state own.old) (O.state own.new) self.old self.new }
+        ensures values { (O.state own.new).values ≡ (O.state own.old).values }
         ensures credit { (verb : VerbValue) → uses_credit verb ≡ true →
             StepsAgreed verb 0 0 self.old.client self.new.client result }
         ensures takes { (verb : VerbValue) → IsOpOf verb op.now →
             StepsTaken verb 0 0 self.old self.new result }
         ensures gives { OnOk result (Gives self.old self.new
             (C.state crq.old.end) (C.state crq.new.end)) }
+        ensures hears { StepHears result self.old.client self.new.client
+            (C.state crq.old.end) (C.state crq.new.end) }
     {
         sent(self.client.submit(crq, own, op, line))
     }
@@ -241,11 +253,14 @@ impl Driver {
         ensures works { Works false C.is_shared O.is_shared
             (C.state crq.old.end) (C.state crq.new.end)
             (O.state own.old) (O.state own.new) self.old self.new }
+        ensures values { (O.state own.new).values ≡ (O.state own.old).values }
         ensures credit { (verb : VerbValue) → uses_credit verb ≡ true →
             StepsAgreed verb 0 0 self.old.client self.new.client result }
         ensures takes { StepsTaken (verbs.Task function tag) 0 0 self.old self.new result }
         ensures gives { OnOk result (Gives self.old self.new
             (C.state crq.old.end) (C.state crq.new.end)) }
+        ensures hears { StepHears result self.old.client self.new.client
+            (C.state crq.old.end) (C.state crq.new.end) }
     {
         sent(self.client.task(crq, own, function, tag, line))
     }
@@ -268,11 +283,14 @@ impl Driver {
         ensures works { Works false C.is_shared O.is_shared
             (C.state crq.old.end) (C.state crq.new.end)
             (O.state own.old) (O.state own.new) self.old self.new }
+        ensures values { (O.state own.new).values ≡ (O.state own.old).values }
         ensures credit { (verb : VerbValue) → uses_credit verb ≡ false →
             StepsAgreed verb 0 0 self.old.client self.new.client result }
         ensures takes { StepsTaken verbs.Logout 0 0 self.old self.new result }
         ensures gives { OnOk result (Gives self.old self.new
             (C.state crq.old.end) (C.state crq.new.end)) }
+        ensures hears { StepHears result self.old.client self.new.client
+            (C.state crq.old.end) (C.state crq.new.end) }
     {
         sent(self.client.logout(crq, own, line))
     }
@@ -289,6 +307,7 @@ impl Driver {
         ensures works { Works false C.is_shared O.is_shared
             (C.state crq.old.end) (C.state crq.new.end)
             (O.state own.old) (O.state own.new) self.old self.new }
+        ensures values { (O.state own.new).values ≡ (O.state own.old).values }
         ensures told { StepsTold (O.state own.old).place.size (verbs.Take count)
             (seated self.old.client progress.old (C.state crq.old.end).registered)
             (seated self.new.client progress.new (C.state crq.new.end).registered)
@@ -299,6 +318,8 @@ impl Driver {
             (taken_in progress.new) self.old self.new result }
         ensures gives { OnOk result (Gives self.old self.new
             (C.state crq.old.end) (C.state crq.new.end)) }
+        ensures hears { StepHears result self.old.client self.new.client
+            (C.state crq.old.end) (C.state crq.new.end) }
     {
         let mut taken = progress.taken();
         let step = self.take(crq, own, count, &mut taken)?;
@@ -334,12 +355,16 @@ impl Driver {
         ensures works { Works (is_reset line.now.verb) C.is_shared O.is_shared
             (C.state crq.old.end) (C.state crq.new.end)
             (O.state own.old) (O.state own.new) self.old self.new }
+        ensures puts { IfOk result (λ step. StepPuts line.now.verb step
+            (O.state own.old).values (O.state own.new).values) }
         ensures credit { StepsAgreed line.now.verb (taken_in progress.old)
             (taken_in progress.new) self.old.client self.new.client result }
         ensures takes { StepsTaken line.now.verb (taken_in progress.old)
             (taken_in progress.new) self.old self.new result }
         ensures gives { OnOk result (Gives self.old self.new
             (C.state crq.old.end) (C.state crq.new.end)) }
+        ensures hears { StepHears result self.old.client self.new.client
+            (C.state crq.old.end) (C.state crq.new.end) }
     {
         match op_of(&line.verb) {
             Some(op) => self.command(crq, own, &op, u64::from(line.number)),
@@ -376,12 +401,16 @@ impl Driver {
         ensures works { Works (is_reset line.now.verb) C.is_shared O.is_shared
             (C.state crq.old.end) (C.state crq.new.end)
             (O.state own.old) (O.state own.new) self.old self.new }
+        ensures puts { IfOk result (λ step. StepPuts line.now.verb step
+            (O.state own.old).values (O.state own.new).values) }
         ensures credit { StepsAgreed line.now.verb (taken_in progress.old)
             (taken_in progress.new) self.old.client self.new.client result }
         ensures takes { StepsTaken line.now.verb (taken_in progress.old)
             (taken_in progress.new) self.old self.new result }
         ensures gives { OnOk result (Gives self.old self.new
             (C.state crq.old.end) (C.state crq.new.end)) }
+        ensures hears { StepHears result self.old.client self.new.client
+            (C.state crq.old.end) (C.state crq.new.end) }
     {
         let mark = u64::from(line.number);
         match &line.verb {

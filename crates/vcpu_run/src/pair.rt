@@ -17,6 +17,7 @@ ghost use Rattle.vcpu_run.specs.Named.{HasWindow};
 ghost use Rattle.vcpu_run.specs.OnDisk.{LastsOnDisk};
 ghost use Rattle.vcpu_run.specs.Pairs.{IsPair};
 ghost use Rattle.vcpu_run.specs.Received.{IsFresh, IsReceived};
+ghost use Rattle.vcpu_run.specs.ValuesPut.{SameValues};
 
 use crate::driver::Driver;
 use crate::session_end::SessionEnd;
@@ -172,6 +173,7 @@ impl Pair {
         ensures shows { ShowsMore server.old.copies.items server.new.copies.items
             self.old self.new }
         ensures own { self.new.own.unit ≡ self.old.own.unit }
+        ensures values { SameValues self.old self.new }
         ensures told { (told : Told → Bool) →
             TellsPair told server.new.copies.items self.new →
             AllGoBy told server.old.disk.count server.old.partition
@@ -188,14 +190,18 @@ impl Pair {
             TellsPair told server.new.copies.items self.new →
             AllGoBy told server.old.disk.count server.old.partition
             server.old.units.items server.old.records →
-            UnitGoesBy told server.old.units.items server.old.records unit self.old →
-            UnitGoesBy told server.new.units.items server.new.records unit self.new }
+            UnitGoesBy told server.old.units.items server.old.records
+            server.old.copies.items unit self.old →
+            UnitGoesBy told server.new.units.items server.new.records
+            server.new.copies.items unit self.new }
         ensures told_else { (told : Told → Bool) (k : ℕ) (other : Pair) → k ≢ unit →
             other.own.unit ≡ server_id server.old.partition k →
             AreInOrder told server.old.disk.count server.old.partition
             server.old.units.items server.old.records →
-            UnitGoesBy told server.old.units.items server.old.records k other →
-            ∥ UnitGoesBy told server.new.units.items server.new.records k other ∥₁ }
+            UnitGoesBy told server.old.units.items server.old.records
+            server.old.copies.items k other →
+            ∥ UnitGoesBy told server.new.units.items server.new.records
+            server.new.copies.items k other ∥₁ }
         ensures units_else { (k : ℕ) → k ≢ unit →
             slice_get server.new.units.items k ≡ slice_get server.old.units.items k }
         ensures grants { KeepsGrants server.old.units.items server.new.units.items

@@ -1,12 +1,13 @@
 // The units of a partition, as raw hypervisor calls reach them.
-ghost use Rattle.std.specs.Prelude.{◌≡◌, ◌≢◌, ◌<◌, true, IfOk, IfSome, Some, length};
+ghost use Rattle.std.specs.Prelude.{◌≡◌, ◌≢◌, ◌<◌, ℕ, true, IfOk, IfSome, List, Some, length, slice_get};
 ghost use Rattle.hcall_table.specs.Asked.{bare};
 ghost use Rattle.hcall_table.specs.Rows.{IsAnswer};
 ghost use Rattle.lan_script.specs.PortRows.{port_row};
 ghost use Rattle.unit_region.specs.EntryRows.{entry_row};
 ghost use Rattle.vio_num.specs.declared.hypervisor.Hrc.TheVariants as codes;
 ghost use Rattle.vcpu_run.specs.Agreed.{SameBeside, SameDrivers};
-ghost use Rattle.vcpu_run.specs.CallRows.{queue_row, row_for};
+ghost use Rattle.vcpu_run.specs.CallRows.{arguments_for, entry_arguments, queue_arguments, queue_row, row_for};
+ghost use Rattle.vcpu_run.specs.CallsAnswered.{IsReturned, is_unsaid, unit_seen};
 ghost use Rattle.vcpu_run.specs.Freed.{FreesNoneIf};
 ghost use Rattle.vcpu_run.specs.Pairs.{AreDriven};
 
@@ -31,7 +32,7 @@ pub(crate) struct PartitionUnits<'a> {
 }
 
 impl PartitionUnits<'_> {
-    ghost use Rattle.vcpu_run.specs.RawCalls.{IsThere, MakesCall, place_of, seat_in};
+    ghost use Rattle.vcpu_run.specs.RawCalls.{IsThere, MakesCall, place_of, seat_in, seen_after};
 
     // Where the unit sits, if the partition has it.
     fn seat_of(&self, unit: u8) -> Option<Seat>
@@ -59,6 +60,8 @@ impl PartitionUnits<'_> {
     fn make_entry(&mut self, unit: u8, call: EntryCall) -> Result<Returned, NoMemory>
         ensures made { MakesCall self.old self.new result }
         ensures answer { IfOk result (IsAnswer (entry_row call)) }
+        ensures returned { IfOk result (IsReturned (seen_after self.old self.new unit)
+            (entry_row call) (entry_arguments call)) }
         ensures place { place_of self.new ≡ place_of self.old }
     {
         match self.seat_of(unit) {
@@ -77,6 +80,8 @@ impl PartitionUnits<'_> {
     fn make_queue(&mut self, unit: u8, call: QueueCall) -> Result<Returned, NoMemory>
         ensures made { MakesCall self.old self.new result }
         ensures answer { IfOk result (IsAnswer (queue_row call)) }
+        ensures returned { IfOk result (IsReturned (seen_after self.old self.new unit)
+            (queue_row call) (queue_arguments call)) }
         ensures place { place_of self.new ≡ place_of self.old }
     {
         match self.seat_of(unit) {
@@ -91,6 +96,8 @@ impl PartitionUnits<'_> {
     fn make_port(&mut self, unit: u8, call: PortCall) -> Result<Returned, NoMemory>
         ensures made { MakesCall self.old self.new result }
         ensures answer { IfOk result (IsAnswer (port_row call)) }
+        ensures returned { is_unsaid (port_row call) ≡ true → (args : List ℕ) →
+            IfOk result (IsReturned (seen_after self.old self.new unit) (port_row call) args) }
         ensures place { place_of self.new ≡ place_of self.old }
     {
         match self.seat_of(unit) {
@@ -116,16 +123,18 @@ fn call_at(
     ensures stays { FreesNoneIf (λ k. k ≢ pair) pairs.old pairs.new }
     ensures others { SameBeside pair pairs.old pairs.new }
     ensures answer { IfOk result (IsAnswer (row_for call)) }
+    ensures returned { IfOk result (IsReturned (unit_seen (slice_get pairs.new pair))
+        (row_for call) (arguments_for call)) }
 {
     seat::call(alloc, &mut pairs[pair], call)
 }
 
 impl Units for PartitionUnits<'_> {
-    ghost use Rattle.vcpu_run.specs.RawCalls.{MakesCall, place_of};
+    ghost use Rattle.vcpu_run.specs.RawCalls.{AnswersCall, place_of};
 
     ghost place = { place_of };
 
-    ghost made = { λ _ old new answer. MakesCall old new answer };
+    ghost made = { AnswersCall };
 
     fn partition(&self) -> u8 {
         self.partition

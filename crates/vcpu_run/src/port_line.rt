@@ -2,6 +2,7 @@
 ghost use Rattle.std.specs.Prelude.{◌≡◌, IfOk, OnOk};
 ghost use Rattle.vcpu_run.specs.Credited.{IsFresh, StepsPort, taken_in};
 ghost use Rattle.vcpu_run.specs.Ports.{IsPortOf, unit_of};
+ghost use Rattle.vcpu_run.specs.PortPosts.{StepFits};
 ghost use Rattle.vcpu_run.specs.PortReplays.{StepReplays};
 ghost use Rattle.vcpu_run.specs.PortSteps.{IsBeside, StepRises};
 ghost use Rattle.vcpu_run.specs.PortWords.{done_in};
@@ -27,6 +28,8 @@ pub(crate) fn step(
         (done_in progress.old) (done_in progress.new) lan.old lan.new) }
     ensures replays { IfOk result (StepReplays (unit_of partition line.now.unit) line.now.verb
         (done_in progress.old) lan.old lan.new) }
+    ensures fits { IfOk result (StepFits (unit_of partition line.now.unit) line.now.verb
+        (done_in progress.old) (done_in progress.new) lan.old lan.new) }
     ensures beside { OnOk result (IsBeside (unit_of partition line.now.unit)
         lan.old lan.new) }
     ensures credit { StepsPort line.now.verb

@@ -6,6 +6,8 @@ ghost use Rattle.hcall_table.specs.Rows.{may_answer};
 ghost use Rattle.hcall_table.specs.declared.hcall.Hcall.TheVariants as rows;
 ghost use Rattle.vcpu_run.specs.Announces.{Announces};
 ghost use Rattle.vcpu_run.specs.CallRows.{queue_row};
+ghost use Rattle.vcpu_run.specs.CallsAnswered.{AnswersQueue};
+ghost use Rattle.vcpu_run.specs.LinesShow.{IsPutBy};
 
 use crate::client_call::QueueCall;
 use crq_session::{CrqEnd, FreeAnswer, RegAnswer, SendAnswer};
@@ -53,6 +55,8 @@ fn send<C: CrqEnd>(end: &mut C, high: u64, low: u64) -> Result<Hrc, NoMemory>
     ensures puts { C.is_shared ≡ false → Announces (C.state end.old) (C.state end.new) }
     ensures parameter { IfOk result (λ code. (code ≡ codes.Parameter) ↔
         (first_byte (record { high = high; low = low }) < 0x80)) }
+    ensures put { IfOk result (λ code. code ≡ codes.Success →
+        IsPutBy C.is_shared (C.state end.new) (record { high = high; low = low })) }
     ensures code { IfOk result (λ code. may_answer rows.SendCrq code ≡ true) }
 {
     end.reserve(1)?;
@@ -76,6 +80,7 @@ pub(crate) fn make<C: CrqEnd>(
         ≡ (C.state end.old).counts.partner_session }
     ensures puts { C.is_shared ≡ false → Announces (C.state end.old) (C.state end.new) }
     ensures code { IfOk result (λ code. may_answer (queue_row call) code ≡ true) }
+    ensures answer { IfOk result (AnswersQueue C.is_shared (C.state end.new) call) }
 {
     match call {
         QueueCall::Register { address, length } => register(end, address, length),

@@ -4,17 +4,18 @@ ghost use Rattle.boot_text.specs.declared.verb.Verb.TheVariants as verbs;
 ghost use Rattle.vio_num.specs.declared.hypervisor.Hrc.TheVariants as codes;
 ghost use Rattle.hcall_table.specs.Asked.{bare};
 ghost use Rattle.hcall_table.specs.Named.{unit_of};
-ghost use Rattle.hcall_table.specs.Rows.{IsAnswer, row_of};
+ghost use Rattle.hcall_table.specs.Rows.{IsAnswer, further, row_of};
 ghost use Rattle.vcpu_run.specs.Agreed.{SameDrivers, SameElse};
-ghost use Rattle.vcpu_run.specs.CallRows.{EndsCall, gives, says};
-ghost use Rattle.vcpu_run.specs.CallsSaid.{EndsAsParameter};
+ghost use Rattle.vcpu_run.specs.CallRows.{gives, says};
+ghost use Rattle.vcpu_run.specs.CallsAnswered.{IsReturned};
+ghost use Rattle.vcpu_run.specs.CallsSaid.{EndsCall, units_seen};
 ghost use Rattle.vcpu_run.specs.Credited.{is_take};
 ghost use Rattle.unit_region.specs.Steps.{IsPlain, is_plain};
 ghost use Rattle.vcpu_run.specs.Freed.{FreesNoneIf};
 ghost use Rattle.vcpu_run.specs.Freeing.{NoneSits};
 ghost use Rattle.vcpu_run.specs.Pairs.{AreDriven};
 ghost use Rattle.vcpu_run.specs.PortSteps.{IsApart};
-ghost use Rattle.vcpu_run.specs.RawCalls.{MakesCall, place_of, units_at};
+ghost use Rattle.vcpu_run.specs.RawCalls.{MakesCall, place_of, seat_by, seen_after};
 ghost use Rattle.vcpu_run.specs.Suited.{is_call};
 
 use crate::pair::Pair;
@@ -55,7 +56,6 @@ impl RawCall {
 }
 
 /// Makes a call on the units of a partition. It is made once, whatever it answers.
-#[tactic(auto, using(crate::proofs::RawSaid::says_call))]
 pub(crate) fn make_call(
     alloc: Global,
     partition: u8,
@@ -71,10 +71,8 @@ pub(crate) fn make_call(
     ensures lan { lan.new.seats ≡ lan.old.seats }
     ensures apart { OnOk result (IsApart partition lan.old lan.new) }
     ensures plain { IsPlain result }
-    ensures said { IfOk result (EndsCall raw.now.number) }
-    ensures elsewhere { IfSome (row_of raw.now.number) (λ row.
-        unit_of (units_at partition seats.now (length pairs.old) lan.old.seats) row
-        raw.now.arguments ≡ None → IfOk result EndsAsParameter) }
+    ensures said { IfOk result (EndsCall (units_seen partition (seat_by partition seats.now
+        (length pairs.old) lan.old.seats) pairs.new) raw.now.number raw.now.arguments) }
 {
     let mut units = PartitionUnits {
         alloc,
@@ -99,6 +97,10 @@ fn call_units(
     ensures elsewhere { IfSome (row_of number) (λ row.
         unit_of (place_of units.old) row arguments.now ≡ None →
         IfOk result (λ r. r ≡ bare codes.Parameter)) }
+    ensures here { IfSome (row_of number) (λ row.
+        IfSome (unit_of (place_of units.old) row arguments.now) (λ unit.
+        IfOk result (IsReturned (seen_after units.old units.new unit) row
+        (further row arguments.now)))) }
 {
     call(units, number, arguments)
 }

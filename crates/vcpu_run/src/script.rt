@@ -3,7 +3,7 @@ ghost use Rattle.std.specs.Prelude.{◌≡◌, ◌<◌, ℕ, All, IfOk, IfSome, 
 ghost use Rattle.std.specs.List.{AllPairs};
 ghost use Rattle.vcpu_run.specs.declared.pair.Pair.{Pair as PairValue};
 ghost use Rattle.vcpu_run.specs.Agreed.{AreLoggedOut, IsCredited, IsEnded, SameElse};
-ghost use Rattle.vcpu_run.specs.CallsSaid.{IsSaidOf, place_at};
+ghost use Rattle.vcpu_run.specs.CallsSaid.{IsSaidOf, seen_from};
 ghost use Rattle.vcpu_run.specs.Credited.{taken_in};
 ghost use Rattle.vcpu_run.specs.Lines.{IsOver, is_over, place_behind};
 ghost use Rattle.vcpu_run.specs.Holding.{LeavesResetOpen, IsResetOpen, KeepsQueues};
@@ -270,10 +270,9 @@ impl<'p> Script<'p> {
     // Logs how the current line ended, and goes to the next, if one comes behind it.
     fn end(&mut self, line: &Line, outcome: Outcome) -> Result<(), NoMemory>
         requires line { slice_get self.old.lines.now self.old.at ≡ Some line.now }
-        requires called { IsSaidOf (place_at self.old.partition self.old.seats.items)
-            line.now.verb outcome }
-        ensures script { (pairs : List PairValue) →
-            IsScript pairs self.old → IsScript pairs self.new }
+        ensures script { (pairs : List PairValue) → IsScript pairs self.old →
+            IsSaidOf (seen_from self.old.partition self.old.seats.items pairs)
+            line.now.verb outcome → IsScript pairs self.new }
         ensures rest { OnlyRuns self.old self.new }
         ensures ended { OnOk result (IsEnded line.now outcome self.old self.new) }
         ensures at { OnOk result (self.new.at ≡

@@ -1,5 +1,5 @@
 // What a client partition does at one of its pairs.
-ghost use Rattle.std.specs.Prelude.{◌≡◌, true, false, IfOk, IsSomeAnd, OnOk};
+ghost use Rattle.std.specs.Prelude.{◌≡◌, true, false, IfOk, IsSomeAnd, OnOk, Some};
 ghost use Rattle.crq_session.specs.PlainState.{side_of};
 ghost use Rattle.vcpu_run.specs.Pairs.{Drives, IsDriver};
 ghost use Rattle.vcpu_run.specs.Credited.{StepsAgreed, taken_in};
@@ -9,11 +9,14 @@ ghost use Rattle.vcpu_run.specs.LinesShow.{PairShows};
 ghost use Rattle.vcpu_run.specs.Holding.{PairOpen};
 ghost use Rattle.vcpu_run.specs.Links.{ClientWaits, EventWaits, PairRests, link_state};
 ghost use Rattle.vcpu_run.specs.Agreed.{OnDrivers};
+ghost use Rattle.hcall_table.specs.Asked.{bare};
 ghost use Rattle.hcall_table.specs.Rows.{IsAnswer, may_answer};
-ghost use Rattle.vcpu_run.specs.CallRows.{queue_row, row_for};
+ghost use Rattle.vcpu_run.specs.CallRows.{arguments_for, queue_arguments, queue_row, row_for};
+ghost use Rattle.vcpu_run.specs.CallsAnswered.{IsReturned, unit_seen};
 ghost use Rattle.vcpu_run.specs.Sendings.{SameCredits};
-ghost use Rattle.vcpu_run.specs.TakenScripts.{PairGives, PairTakes};
+ghost use Rattle.vcpu_run.specs.TakenScripts.{PairGives, PairHears, PairTakes};
 ghost use Rattle.vcpu_run.specs.Telling.{PairOut, PairTold};
+ghost use Rattle.vcpu_run.specs.ValuesPut.{PairPuts, SameValues};
 ghost use Rattle.vcpu_run.specs.Works.{IsUnitVerb};
 
 use crate::client_call::{ClientCall, QueueCall};
@@ -61,9 +64,11 @@ pub(crate) fn step(pair: &mut Pair, line: &Line, progress: &mut Progress) -> Res
     ensures takes { PairTakes line.now.verb progress.old progress.new
         pair.old pair.new result }
     ensures gives { OnOk result (PairGives pair.old pair.new) }
+    ensures hears { PairHears pair.old pair.new result }
     ensures said { PairTold line.now.verb progress.old progress.new pair.old pair.new result }
     ensures shows { PairShows line.now pair.new result }
     ensures out { PairOut line.now.verb progress.old progress.new pair.old pair.new result }
+    ensures puts { PairPuts line.now.verb pair.old pair.new result }
     ensures registered { PairOpen line.now.verb progress.new pair.old pair.new result }
     ensures stays { is_reset line.now.verb ≡ false → FreesNoneAt pair.old pair.new }
 {
@@ -81,6 +86,7 @@ pub(crate) fn step(pair: &mut Pair, line: &Line, progress: &mut Progress) -> Res
 pub(crate) fn take_rest(pair: &mut Pair) -> Result<Moved, NoMemory>
     requires { IsSomeAnd pair.old.driver (IsDriver pair.old.window) }
     ensures drives { Drives pair.old pair.new }
+    ensures values { SameValues pair.old pair.new }
     ensures gives { OnOk result (PairGives pair.old pair.new) }
     ensures stays { FreesNoneAt pair.old pair.new }
     ensures quiet { IfOk result (λ moved. moved ≡ Moved.Quiet → PairRests pair.old pair.new) }
@@ -101,6 +107,7 @@ pub(crate) fn take_rest(pair: &mut Pair) -> Result<Moved, NoMemory>
 pub(crate) fn fail(pair: &mut Pair) -> Result<bool, NoMemory>
     requires { IsSomeAnd pair.old.driver (IsDriver pair.old.window) }
     ensures drives { Drives pair.old pair.new }
+    ensures values { SameValues pair.old pair.new }
     ensures gives { OnOk result (PairGives pair.old pair.new) }
     ensures credit { OnDrivers pair.old.driver pair.new.driver (λ a b.
         SameCredits a.client b.client) }
@@ -121,6 +128,7 @@ pub(crate) fn fail(pair: &mut Pair) -> Result<bool, NoMemory>
 fn freed(pair: &mut Pair)
     requires { IsSomeAnd pair.old.driver (IsDriver pair.old.window) }
     ensures drives { Drives pair.old pair.new }
+    ensures values { SameValues pair.old pair.new }
     ensures gives { PairGives pair.old pair.new }
     ensures credit { OnDrivers pair.old.driver pair.new.driver (λ a b.
         SameCredits a.client b.client) }
@@ -136,6 +144,8 @@ pub(crate) fn call(alloc: Global, pair: &mut Pair, call: ClientCall) -> Result<R
     ensures drives { Drives pair.old pair.new }
     ensures driver { pair.new.driver ≡ pair.old.driver }
     ensures answer { IfOk result (IsAnswer (row_for call)) }
+    ensures returned { IfOk result (IsReturned (unit_seen (Some pair.new)) (row_for call)
+        (arguments_for call)) }
 {
     match call {
         ClientCall::Entry(call) => make_entry_call(alloc, &mut pair.window, call),
@@ -148,6 +158,8 @@ fn queue_code(pair: &mut Pair, call: QueueCall) -> Result<Hrc, NoMemory>
     ensures drives { Drives pair.old pair.new }
     ensures driver { pair.new.driver ≡ pair.old.driver }
     ensures code { IfOk result (λ code. may_answer (queue_row call) code ≡ true) }
+    ensures returned { IfOk result (λ code. IsReturned (unit_seen (Some pair.new))
+        (queue_row call) (queue_arguments call) (bare code)) }
 {
     if pair.driver.is_none() {
         return Ok(Hrc::Parameter);

@@ -1,7 +1,7 @@
 // What a partition does at its units, one after the other or at one of them.
 ghost use Rattle.std.specs.Prelude.{◌≡◌, ◌<◌, ◌≤◌, ◌∷◌, [], ⊤, ℕ, false, IfOk, IfSome, OnOk, Some, IsSomeAnd, length, slice_get};
 ghost use Rattle.vcpu_run.specs.Agreed.{AllSame, SameBeside, SameDrivers, SameElse, StepsLine, StepsSeat};
-ghost use Rattle.vcpu_run.specs.CallsSaid.{StepSaid, place_at};
+ghost use Rattle.vcpu_run.specs.CallsSaid.{StepSaid, seen_from};
 ghost use Rattle.vcpu_run.specs.Credited.{taken_in};
 ghost use Rattle.vcpu_run.specs.Freed.{FreesNoneIf};
 ghost use Rattle.vcpu_run.specs.Freeing.{IsSpared, is_reset};
@@ -16,6 +16,7 @@ ghost use Rattle.vcpu_run.specs.Suited.{is_call, suits};
 ghost use Rattle.vcpu_run.specs.ScriptTold.{SameClients};
 ghost use Rattle.vcpu_run.specs.TakenScripts.{AllGive};
 ghost use Rattle.vcpu_run.specs.Telling.{LineOut, LineTold, SeatOut, SeatTold};
+ghost use Rattle.vcpu_run.specs.ValuesPut.{AllSameValues};
 ghost use Rattle.vcpu_run.specs.Works.{HaveClients, IsLineVerb, IsPortVerb, IsUnitVerb};
 ghost use Rattle.vcpu_run.specs.declared.unit_seat.Seat.TheVariants as sits;
 
@@ -194,7 +195,8 @@ pub(crate) fn step_unit(
         TellsStep partition seats.now line.now
         (done_in progress.old) (done_in progress.new) lan.old lan.new step) }
     ensures apart { OnOk result (IsApart partition lan.old lan.new) }
-    ensures called { IfOk result (StepSaid (place_at partition seats.now) line.now.verb) }
+    ensures called { IfOk result (StepSaid (seen_from partition seats.now pairs.new)
+        line.now.verb) }
 {
     match RawCall::of(&line.verb) {
         Some(raw) => make_call(alloc, partition, seats, pairs, lan, &raw),
@@ -209,6 +211,7 @@ fn take_rest_of(pairs: &mut [Pair], pair: usize) -> Result<Moved, NoMemory>
         (λ pair. IsSomeAnd pair.driver (IsDriver pair.window)) }
     ensures driven { AreDriven pairs.old pairs.new }
     ensures gives { OnOk result (AllGive pairs.old pairs.new) }
+    ensures values { AllSameValues pairs.old pairs.new }
     ensures others { SameBeside pair pairs.old pairs.new }
     ensures stays { FreesNoneIf (λ _. ⊤) pairs.old pairs.new }
     ensures still { IfOk result (λ moved. moved ≡ Moved.Quiet → LinksRest pairs.old pairs.new) }
@@ -230,6 +233,7 @@ fn take_rest_at(
     requires port { seat ≡ sits.Port → IsPortOf lan.old.seats unit }
     ensures driven { AreDriven pairs.old pairs.new }
     ensures gives { OnOk result (AllGive pairs.old pairs.new) }
+    ensures values { AllSameValues pairs.old pairs.new }
     ensures others { SameElse (seat ∷ []) pairs.old pairs.new }
     ensures lan { lan.new.seats ≡ lan.old.seats }
     ensures takes { OnOk result (TakesOn lan.old lan.new unit) }
@@ -260,6 +264,7 @@ pub(crate) fn take_rest(
     requires few { length seats.now ≤ 8 }
     ensures driven { AreDriven pairs.old pairs.new }
     ensures gives { OnOk result (AllGive pairs.old pairs.new) }
+    ensures values { AllSameValues pairs.old pairs.new }
     ensures others { SameElse seats.now pairs.old pairs.new }
     ensures lan { lan.new.seats ≡ lan.old.seats }
     ensures takes { OnOk result (AllTake partition lan.old lan.new) }
@@ -290,6 +295,7 @@ fn fail_of(pairs: &mut [Pair], pair: usize) -> Result<bool, NoMemory>
     ensures driven { AreDriven pairs.old pairs.new }
     ensures credit { AllSame pairs.old pairs.new }
     ensures gives { OnOk result (AllGive pairs.old pairs.new) }
+    ensures values { AllSameValues pairs.old pairs.new }
     ensures others { SameBeside pair pairs.old pairs.new }
 {
     seat::fail(&mut pairs[pair])
@@ -303,6 +309,7 @@ fn fail_at(unit: UnitId, seat: Seat, pairs: &mut [Pair], lan: &mut Lan) -> Resul
     ensures driven { AreDriven pairs.old pairs.new }
     ensures credit { AllSame pairs.old pairs.new }
     ensures gives { OnOk result (AllGive pairs.old pairs.new) }
+    ensures values { AllSameValues pairs.old pairs.new }
     ensures others { SameElse (seat ∷ []) pairs.old pairs.new }
     ensures lan { lan.new.seats ≡ lan.old.seats }
     ensures idle { AllSilent lan.old lan.new }
@@ -328,6 +335,7 @@ pub(crate) fn fail(
     ensures driven { AreDriven pairs.old pairs.new }
     ensures credit { AllSame pairs.old pairs.new }
     ensures gives { OnOk result (AllGive pairs.old pairs.new) }
+    ensures values { AllSameValues pairs.old pairs.new }
     ensures others { SameElse seats.now pairs.old pairs.new }
     ensures lan { lan.new.seats ≡ lan.old.seats }
     ensures idle { AllSilent lan.old lan.new }

@@ -3,6 +3,7 @@ ghost use Rattle.std.specs.Prelude.{◌≡◌, ◌≤◌, IfOk, OnOk, false};
 ghost use Rattle.boot_text.specs.declared.verb.Verb.TheVariants as verbs;
 ghost use Rattle.vscsi_client.specs.declared.TheConstants.{MIN_PAGES};
 ghost use Rattle.vcpu_run.specs.Credited.{StepsAgreed, taken_in};
+ghost use Rattle.vcpu_run.specs.EventsHeard.{Hears, StepHears, lost_by};
 ghost use Rattle.vcpu_run.specs.Links.{EndRests};
 ghost use Rattle.vcpu_run.specs.Sendings.{TookOf};
 ghost use Rattle.vcpu_run.specs.Takings.{Gives, StepsTaken, TookTaken};
@@ -41,10 +42,13 @@ impl Driver {
         ensures works { Works false C.is_shared O.is_shared
             (C.state crq.old.end) (C.state crq.new.end)
             (O.state own.old) (O.state own.new) self.old self.new }
+        ensures values { (O.state own.new).values ≡ (O.state own.old).values }
         ensures took { IfOk result (λ took. TookOf took self.old.client self.new.client) }
         ensures told { IfOk result (λ took. TookTold took self.old.client self.new.client) }
         ensures takes { IfOk result (λ took. TookTaken took self.old self.new) }
         ensures gives { OnOk result (Gives self.old self.new
+            (C.state crq.old.end) (C.state crq.new.end)) }
+        ensures hears { IfOk result (λ took. Hears (lost_by took) self.old.client self.new.client
             (C.state crq.old.end) (C.state crq.new.end)) }
         ensures queue { (C.state crq.new.end).registered ≡ (C.state crq.old.end).registered }
         ensures none { IfOk result (λ took. C.is_shared ≡ false → took ≡ Took.Nothing →
@@ -73,6 +77,7 @@ impl Driver {
         ensures works { Works false C.is_shared O.is_shared
             (C.state crq.old.end) (C.state crq.new.end)
             (O.state own.old) (O.state own.new) self.old self.new }
+        ensures values { (O.state own.new).values ≡ (O.state own.old).values }
         ensures gives { OnOk result (Gives self.old self.new
             (C.state crq.old.end) (C.state crq.new.end)) }
         ensures quiet { IfOk result (λ moved. C.is_shared ≡ false → moved ≡ Moved.Quiet →
@@ -102,6 +107,7 @@ impl Driver {
         ensures works { Works false C.is_shared O.is_shared
             (C.state crq.old.end) (C.state crq.new.end)
             (O.state own.old) (O.state own.new) self.old self.new }
+        ensures values { (O.state own.new).values ≡ (O.state own.old).values }
         ensures told { (p : ProgressValue) → taken_in p ≡ taken.old →
             StepsTold (O.state own.old).place.size (verbs.Take count)
             (seated self.old.client p (C.state crq.old.end).registered)
@@ -113,6 +119,8 @@ impl Driver {
             self.old self.new result }
         ensures gives { OnOk result (Gives self.old self.new
             (C.state crq.old.end) (C.state crq.new.end)) }
+        ensures hears { StepHears result self.old.client self.new.client
+            (C.state crq.old.end) (C.state crq.new.end) }
     {
         if *taken >= count {
             return Ok(Step::Ends(Outcome::Took(*taken)));

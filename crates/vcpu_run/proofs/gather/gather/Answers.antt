@@ -42,8 +42,10 @@ returns-clause-records c =
 
 pub returns-clause-called : goal.returns-clause-called
 returns-clause-called c =
-    from_rows c.args.pairs.items c.args.scripts.items c.args.lan c.args.history.items c.args.grants.items c.args.copies.items c.rows_of.result _ _ c.rows_of.ensures.trace c.rows_of.ensures.queues
-    (λ rows keeps ordered lawful partitions of_plan. calls_are c.args.pairs.items c.args.scripts.items c.args.lan rows c.args.history.items c.args.grants.items c.args.copies.items partitions c.requires.scripts of_plan)
+    from_rows c.args.pairs.items c.args.scripts.items c.args.lan c.args.history.items c.args.grants.items c.args.copies.items c.rows_of.result _ _ c.rows_of.ensures.trace
+    (ok_pair c.rows_of.result _ _ c.rows_of.ensures.queues c.rows_of.ensures.windows)
+    (λ rows keeps ordered lawful partitions of_plan. calls_are c.args.pairs.items c.args.scripts.items c.args.lan rows c.args.history.items c.args.grants.items c.args.copies.items partitions
+    c.requires.pairs c.requires.scripts lawful.0 lawful.1 of_plan)
 
 pub returns-clause-copies : goal.returns-clause-copies
 returns-clause-copies c =

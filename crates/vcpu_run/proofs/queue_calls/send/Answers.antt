@@ -1,4 +1,5 @@
 use Rattle.vcpu_run.proofs.Announcing.{puts_entry, puts_ready, puts_reserves}
+use Rattle.vcpu_run.proofs.ClientCalls.{sent_by}
 use Rattle.vcpu_run.proofs.queue_calls.send.Goals as goal
 
 pub returns-in_err-reserve-clause-puts : goal.returns-in_err-reserve-clause-puts
@@ -23,3 +24,6 @@ pub returns-in-Dropped-clause-puts : goal.returns-in-Dropped-clause-puts
 returns-in-Dropped-clause-puts g c = λ alone.
     puts_ready _ _ _ c.in_ok-reserve.ensures.rest (c.send.ensures.rest.counts.same_session alone)
     (puts_entry _ _ _ _ c.send.result c.send.ensures.rest c.send.ensures.success c.send.ensures.closed c.send.ensures.dropped c.send.ensures.refused)
+
+pub returns-in-Success-clause-put : goal.returns-in-Success-clause-put
+returns-in-Success-clause-put g c = λ good. sent_by g.C.CrqEnd.is_shared _ _ _ _ c.send.ensures.rest c.in-Success.ensures.success

@@ -1,14 +1,14 @@
-use Rattle.std.proofs.Common.{◌∙◌, rules}
-use Rattle.hcall_table.specs.Rows.{row_of}
-use Rattle.vcpu_run.proofs.CallsKept.{ends_parameter, parameter_says}
+use Rattle.std.proofs.Common.{length, rules}
+use Rattle.vcpu_run.specs.RawCalls.{seat_by}
 use Rattle.vcpu_run.proofs.PortTurns.{apart_as}
+use Rattle.vcpu_run.proofs.RawReturned.{ends_call}
 use Rattle.vcpu_run.proofs.raw_call.make_call.Goals as goal
 
 pub returns-clause-apart : goal.returns-clause-apart
 returns-clause-apart c = apart_as c.args.partition c.args.lan.now _ _ (search rules) c.in_ok-returned.ensures.units.apart
 
-pub returns-clause-elsewhere : goal.returns-clause-elsewhere
-returns-clause-elsewhere c =
-    ends_parameter (row_of c.args.raw.now.number) _ c.args.raw.now.arguments c.in_ok-returned.returned c.outcome_of.result
-    (λ is. c.outcome_of.ensures.exact ∙ parameter_says c.args.raw.now.number c.in_ok-returned.returned is)
-    c.in_ok-returned.ensures.elsewhere
+pub returns-clause-said : goal.returns-clause-said
+returns-clause-said c =
+    ends_call c.args.partition (seat_by c.args.partition c.args.seats.now (length c.args.pairs.now) c.args.lan.now.seats) c.call_units.new.units.pairs.now _
+    c.args.raw.now.number c.args.raw.now.arguments c.in_ok-returned.returned c.outcome_of.result (search rules) c.outcome_of.ensures.exact
+    c.in_ok-returned.ensures.function c.in_ok-returned.ensures.answer c.in_ok-returned.ensures.elsewhere c.in_ok-returned.ensures.here

@@ -6,6 +6,7 @@ use Rattle.std.proofs.Common.{◌≡◌, ◌≤◌, ℕ, Some, length, slice_get
 use Rattle.std.proofs.lemmas.Option.{slice_get-get_or}
 use Rattle.vcpu_run.specs.declared.pair.Pair.{Pair}
 use Rattle.vcpu_run.specs.Answered.{IsAnswered}
+use Rattle.vcpu_run.specs.LinesShow.{Sees, seen_at}
 use Rattle.vcpu_run.specs.Machines.{Stays}
 use Rattle.vcpu_run.specs.Pairs.{IsPair}
 use Rattle.vcpu_run.specs.Received.{IsReceived}
@@ -13,7 +14,7 @@ use Rattle.vcpu_run.proofs.ClientsTold.{clients_set}
 use Rattle.vcpu_run.proofs.Agreeing.{set_same}
 use Rattle.vcpu_run.proofs.HeardTurns.{heard_set, tells_before}
 use Rattle.vcpu_run.proofs.Keeping.{stays_same}
-use Rattle.vcpu_run.proofs.LinesShown.{serve_sees}
+use Rattle.vcpu_run.proofs.LinesShown.{sees_same, serve_sees}
 use Rattle.vcpu_run.proofs.Listed.{each_on, each_set}
 use Rattle.vcpu_run.proofs.PairNames.{apart_stays}
 use Rattle.vcpu_run.proofs.Unfreed.{frees_set}
@@ -43,6 +44,8 @@ returns-clause-serving g c =
           (record {
             count = count;
             each = each_on Stays pairs c.args.unit old c.serve.new.self stays_same here after.stays;
+            sees = each_on (λ (a b : Pair). Sees (seen_at a) (seen_at b)) pairs c.args.unit old c.serve.new.self (λ pair. sees_same (seen_at pair)) here
+                (serve_sees old c.serve.new.self after.shows.window after.sent);
           }) before.apart;
     }
 
@@ -54,6 +57,9 @@ returns-clause-stay g c =
       count = length-set pairs c.args.unit c.serve.new.self;
       each = each_on Stays pairs c.args.unit old c.serve.new.self stays_same
           (slice_get-get_or pairs c.args.unit c.index-pairs-unit.result c.requires.there) c.serve.ensures.stays;
+      sees = each_on (λ (a b : Pair). Sees (seen_at a) (seen_at b)) pairs c.args.unit old c.serve.new.self (λ pair. sees_same (seen_at pair))
+          (slice_get-get_or pairs c.args.unit c.index-pairs-unit.result c.requires.there)
+          (serve_sees old c.serve.new.self c.serve.ensures.shows.window c.serve.ensures.sent);
     }
 
 pub returns-clause-drivers : goal.returns-clause-drivers
@@ -128,6 +134,7 @@ returns-clause-clients g c =
       taken = c.serve.ensures.taken;
       unit = c.serve.ensures.stays.client_unit;
       sees = serve_sees (slice_index_or pairs c.args.unit c.index-pairs-unit.result) c.serve.new.self c.serve.ensures.shows.window c.serve.ensures.sent;
+      values = c.serve.ensures.values;
     })
 
 pub returns-clause-heard : goal.returns-clause-heard

@@ -5,8 +5,8 @@ use Rattle.tce_window.specs.PortState.{PortPlace}
 use Rattle.vcpu_run.specs.declared.pair.Pair.{Pair}
 use Rattle.vcpu_run.specs.LinesShow.{PairShows}
 use Rattle.vcpu_run.proofs.LinesShown.{pair_shows}
-use Rattle.vcpu_run.specs.TakenScripts.{PairGives}
-use Rattle.vcpu_run.proofs.GivesAll.{pair_gives_ok}
+use Rattle.vcpu_run.specs.TakenScripts.{PairGives, PairHears}
+use Rattle.vcpu_run.proofs.GivesAll.{pair_gives_ok, pair_hears}
 use Rattle.vcpu_run.proofs.seat.step.Goals as goal
 
 pub returns-clause-shows : goal.returns-clause-shows
@@ -30,3 +30,14 @@ returns-clause-gives c =
     subst (λ (link : PlainLink). OnOk c.step.result (PairGives old (pair link))) link_is
     (pair_gives_ok c.step.result old (pair end.link.now) c.in-Some.driver c.step.new.self c.side.result.first end.first (lent.ghost_name ∷ []) (end.link.ghost_name ∷ []) lent.now
     c.in-Some.is refl c.side.ensures.link c.side.ensures.first (ap (λ (p : EndPlace). p.first) c.step.ensures.works.place ∙ c.side.ensures.first) c.step.ensures.gives)
+
+pub returns-clause-hears : goal.returns-clause-hears
+returns-clause-hears c =
+    let old = c.args.pair.now in
+    let end = c.step.new.crq.end in
+    let lent = c.side.result.link in
+    let pair : PlainLink → Pair = λ link. record { server = old.server; link = link; own = old.own; window = c.step.new.own; driver = Some c.step.new.self } in
+    let link_is : end.link.now ≡ c.pair-2-1.given.0 = search rules in
+    subst (λ (link : PlainLink). PairHears old (pair link) c.step.result) link_is
+    (pair_hears c.step.result old (pair end.link.now) c.in-Some.driver c.step.new.self c.side.result.first end.first (lent.ghost_name ∷ []) (end.link.ghost_name ∷ []) lent.now
+    c.in-Some.is refl c.side.ensures.link c.side.ensures.first (ap (λ (p : EndPlace). p.first) c.step.ensures.works.place ∙ c.side.ensures.first) c.step.ensures.hears)

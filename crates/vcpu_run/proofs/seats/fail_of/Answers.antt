@@ -1,4 +1,5 @@
 use Rattle.std.proofs.lemmas.Option.{slice_get-get_or}
+use Rattle.vcpu_run.proofs.ValuesKept.{values_set}
 use Rattle.vcpu_run.proofs.Agreeing.{set_all, set_beside}
 use Rattle.vcpu_run.proofs.Driving.{driven_set, some_there}
 use Rattle.vcpu_run.proofs.GivesAll.{all_give_ok}
@@ -19,3 +20,7 @@ returns-clause-others c = set_beside c.args.pairs.now c.args.pair c.fail.new.pai
 pub returns-clause-gives : goal.returns-clause-gives
 returns-clause-gives c =
     all_give_ok c.fail.result c.args.pairs.now c.args.pair _ c.fail.new.pair (slice_get-get_or c.args.pairs.now c.args.pair _ c.requires.there) c.fail.ensures.gives
+
+pub returns-clause-values : goal.returns-clause-values
+returns-clause-values c =
+    values_set c.args.pairs.now c.args.pair _ c.fail.new.pair (slice_get-get_or c.args.pairs.now c.args.pair _ c.requires.there) c.fail.ensures.values

@@ -3,6 +3,7 @@ use Rattle.vcpu_run.proofs.Resting.{events_set, ok_more, rests_set}
 use Rattle.vcpu_run.proofs.Unfreed.{frees_set}
 use Rattle.std.proofs.lemmas.Option.{slice_get-get_or}
 use Rattle.std.proofs.Common.{ap, length}
+use Rattle.tce_window.specs.PlainPort.{known_of}
 use Rattle.vcpu_run.proofs.ClientsTold.{clients_set}
 use Rattle.vcpu_run.proofs.Agreeing.{set_beside, set_same}
 use Rattle.vcpu_run.proofs.Driving.{driven_set}
@@ -39,6 +40,7 @@ returns-clause-clients c =
       taken = c.push_event.ensures.taken;
       unit = ap (λ w. w.unit) c.push_event.ensures.window;
       sees = drives_sees _ c.push_event.new.pair c.push_event.ensures.drives;
+      values = ap (λ w. (known_of w).values) c.push_event.ensures.window;
     })
 
 pub returns-clause-others : goal.returns-clause-others

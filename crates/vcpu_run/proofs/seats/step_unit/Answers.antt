@@ -1,8 +1,8 @@
 use Rattle.std.proofs.Common.{rules, ◌≡◌, Bool, false, true, length}
 use Rattle.boot_text.specs.declared.verb.Verb.TheVariants as verbs
-use Rattle.vcpu_run.specs.CallsSaid.{place_at}
-use Rattle.vcpu_run.specs.RawCalls.{units_at}
-use Rattle.vcpu_run.proofs.CallsKept.{called_step, place_same, step_says_none}
+use Rattle.vcpu_run.specs.CallsSaid.{seen_from, units_seen}
+use Rattle.vcpu_run.specs.RawCalls.{seat_by}
+use Rattle.vcpu_run.proofs.CallsKept.{called_step, seen_same, step_says_none}
 use Rattle.vcpu_run.specs.Credited.{is_take, taken_in}
 use Rattle.vcpu_run.specs.Suited.{is_call}
 use Rattle.vcpu_run.proofs.RawCalling.{plain_port, told_steps}
@@ -54,12 +54,13 @@ returns-in-Some-clause-registered c = λ none.
 pub returns-in-Some-clause-called : goal.returns-in-Some-clause-called
 returns-in-Some-clause-called c =
     let of_line : c.args.line.now.verb ≡ verbs.Hcall c.in-Some.raw.number c.in-Some.raw.arguments = search rules in
-    called_step (place_at c.args.partition c.args.seats.now) (units_at c.args.partition c.args.seats.now (length c.args.pairs.now) c.args.lan.now.seats) c.args.line.now.verb
+    called_step (seen_from c.args.partition c.args.seats.now c.make_call.new.pairs)
+    (units_seen c.args.partition (seat_by c.args.partition c.args.seats.now (length c.args.pairs.now) c.args.lan.now.seats) c.make_call.new.pairs) c.args.line.now.verb
     c.in-Some.raw.number c.in-Some.raw.arguments c.make_call.result
-    (place_same c.args.partition c.args.seats.now c.args.pairs.now c.args.lan.now.seats c.requires.clients c.requires.ports)
-    of_line c.make_call.ensures.said c.make_call.ensures.elsewhere
+    (seen_same c.args.partition c.args.seats.now c.args.pairs.now c.make_call.new.pairs c.args.lan.now.seats c.requires.clients c.requires.ports)
+    of_line c.make_call.ensures.said
 
 pub returns-in-None-clause-called : goal.returns-in-None-clause-called
 returns-in-None-clause-called c =
     let none : is_call c.args.line.now.verb ≡ false = search rules in
-    step_says_none (place_at c.args.partition c.args.seats.now) c.args.line.now.verb c.step_own.result none
+    step_says_none (seen_from c.args.partition c.args.seats.now c.step_own.new.pairs) c.args.line.now.verb c.step_own.result none

@@ -1,4 +1,5 @@
 use Rattle.vcpu_run.specs.Links.{ClientWaits}
+use Rattle.vcpu_run.proofs.ValuesKept.{values_set}
 use Rattle.vcpu_run.proofs.Resting.{ok_more, rests_set, waits_set}
 use Rattle.vcpu_run.proofs.Unfreed.{frees_set}
 use Rattle.std.proofs.lemmas.Option.{slice_get-get_or}
@@ -35,3 +36,7 @@ returns-clause-stays c =
 pub returns-clause-gives : goal.returns-clause-gives
 returns-clause-gives c =
     all_give_ok c.take_rest.result c.args.pairs.now c.args.pair _ c.take_rest.new.pair (slice_get-get_or c.args.pairs.now c.args.pair _ c.requires.there) c.take_rest.ensures.gives
+
+pub returns-clause-values : goal.returns-clause-values
+returns-clause-values c =
+    values_set c.args.pairs.now c.args.pair _ c.take_rest.new.pair (slice_get-get_or c.args.pairs.now c.args.pair _ c.requires.there) c.take_rest.ensures.values

@@ -7,6 +7,8 @@ use Rattle.vcpu_run.proofs.LinesShown.{submit_shows}
 use Rattle.vcpu_run.proofs.Working.{submit_works}
 use Rattle.vcpu_run.proofs.Giving.{asks_gives, submit_kept}
 use Rattle.vcpu_run.proofs.TakingCalls.{submit_taken}
+use Rattle.vcpu_run.proofs.EventsHeard.{sent_none}
+use Rattle.vcpu_run.proofs.Giving.{asks_hear}
 use Rattle.vcpu_run.proofs.driver.Driver.command.Goals as goal
 
 pub returns-clause-works : goal.returns-clause-works
@@ -53,3 +55,13 @@ returns-clause-gives g c =
     (ports g.C.CrqEnd.is_shared (g.C.CrqEnd.state c.args.crq.now.end) g.O.WindowPort.is_shared (g.O.WindowPort.state c.args.own.now))
     (ports g.C.CrqEnd.is_shared (g.C.CrqEnd.state c.submit.new.crq.end) g.O.WindowPort.is_shared (g.O.WindowPort.state c.submit.new.own))
     c.submit.result c.submit.ensures.refused c.submit.ensures.sent c.submit.ensures.why) c.submit.ensures.crq_rest
+
+pub returns-clause-hears : goal.returns-clause-hears
+returns-clause-hears g c =
+    asks_hear c.args.self.now (record c.args.self.now { client = c.submit.new.self }) (g.C.CrqEnd.state c.args.crq.now.end) (g.C.CrqEnd.state c.submit.new.crq.end) c.sent.result
+    (sent_none c.submit.result c.sent.result c.sent.ensures.sent)
+    (asks_gives c.args.self.now c.submit.new.self c.sent.result g.C.CrqEnd.is_shared (g.C.CrqEnd.state c.args.crq.now.end) (g.C.CrqEnd.state c.submit.new.crq.end)
+    (submit_kept c.args.line c.args.op.now c.args.self.now.client c.submit.new.self
+    (ports g.C.CrqEnd.is_shared (g.C.CrqEnd.state c.args.crq.now.end) g.O.WindowPort.is_shared (g.O.WindowPort.state c.args.own.now))
+    (ports g.C.CrqEnd.is_shared (g.C.CrqEnd.state c.submit.new.crq.end) g.O.WindowPort.is_shared (g.O.WindowPort.state c.submit.new.own))
+    c.submit.result c.submit.ensures.refused c.submit.ensures.sent c.submit.ensures.why) c.submit.ensures.crq_rest)

@@ -10,6 +10,7 @@ use Rattle.vcpu_run.proofs.FurtherShown.{login_shows}
 use Rattle.vcpu_run.proofs.Opening.{turn_open}
 use Rattle.vcpu_run.proofs.Working.{turn_works}
 use Rattle.vcpu_run.proofs.TakingTurns.{tags_runs, turned_taken}
+use Rattle.vcpu_run.proofs.EventsHeard.{turned_hears}
 use Rattle.vcpu_run.proofs.driver.Driver.login.Goals as goal
 
 pub returns-in_err-turn-clause-works : goal.returns-in_err-turn-clause-works
@@ -79,3 +80,9 @@ returns-clause-shows g c = λ unit mark verb no_request no_bytes no_read logs.
     let b = site c.login_turn.new.self (ports g.C.CrqEnd.is_shared (g.C.CrqEnd.state c.login_turn.new.crq.end) g.O.WindowPort.is_shared (g.O.WindowPort.state c.login_turn.new.own)) in
     login_shows c.args.line a b c.in_ok-turn.turn c.turned.result (IsPutBy g.C.CrqEnd.is_shared (g.C.CrqEnd.state c.login_turn.new.crq.end)) unit mark verb no_request no_bytes no_read logs
     c.in_ok-turn.ensures.turned c.turned.ensures
+
+pub returns-clause-hears : goal.returns-clause-hears
+returns-clause-hears g c =
+    let a = site c.args.self.now.client (ports g.C.CrqEnd.is_shared (g.C.CrqEnd.state c.args.crq.now.end) g.O.WindowPort.is_shared (g.O.WindowPort.state c.args.own.now)) in
+    let b = site c.login_turn.new.self (ports g.C.CrqEnd.is_shared (g.C.CrqEnd.state c.login_turn.new.crq.end) g.O.WindowPort.is_shared (g.O.WindowPort.state c.login_turn.new.own)) in
+    turned_hears c.args.line a b c.in_ok-turn.turn c.turned.result c.in_ok-turn.ensures.turned c.turned.ensures

@@ -7,6 +7,8 @@ use Rattle.vcpu_run.proofs.LinesShown.{logout_shows}
 use Rattle.vcpu_run.proofs.Working.{logout_works}
 use Rattle.vcpu_run.proofs.Giving.{asks_gives, logout_kept}
 use Rattle.vcpu_run.proofs.TakingCalls.{logout_taken}
+use Rattle.vcpu_run.proofs.EventsHeard.{sent_none}
+use Rattle.vcpu_run.proofs.Giving.{asks_hear}
 use Rattle.vcpu_run.proofs.driver.Driver.logout.Goals as goal
 
 pub returns-clause-works : goal.returns-clause-works
@@ -53,3 +55,13 @@ returns-clause-gives g c =
     (ports g.C.CrqEnd.is_shared (g.C.CrqEnd.state c.args.crq.now.end) g.O.WindowPort.is_shared (g.O.WindowPort.state c.args.own.now))
     (ports g.C.CrqEnd.is_shared (g.C.CrqEnd.state c.logout.new.crq.end) g.O.WindowPort.is_shared (g.O.WindowPort.state c.logout.new.own))
     c.logout.result c.logout.ensures.sent c.logout.ensures.same) c.logout.ensures.crq_rest
+
+pub returns-clause-hears : goal.returns-clause-hears
+returns-clause-hears g c =
+    asks_hear c.args.self.now (record c.args.self.now { client = c.logout.new.self }) (g.C.CrqEnd.state c.args.crq.now.end) (g.C.CrqEnd.state c.logout.new.crq.end) c.sent.result
+    (sent_none c.logout.result c.sent.result c.sent.ensures.sent)
+    (asks_gives c.args.self.now c.logout.new.self c.sent.result g.C.CrqEnd.is_shared (g.C.CrqEnd.state c.args.crq.now.end) (g.C.CrqEnd.state c.logout.new.crq.end)
+    (logout_kept c.args.line c.args.self.now.client c.logout.new.self
+    (ports g.C.CrqEnd.is_shared (g.C.CrqEnd.state c.args.crq.now.end) g.O.WindowPort.is_shared (g.O.WindowPort.state c.args.own.now))
+    (ports g.C.CrqEnd.is_shared (g.C.CrqEnd.state c.logout.new.crq.end) g.O.WindowPort.is_shared (g.O.WindowPort.state c.logout.new.own))
+    c.logout.result c.logout.ensures.sent c.logout.ensures.same) c.logout.ensures.crq_rest)

@@ -14,6 +14,8 @@ use Rattle.vcpu_run.proofs.Working.{works_freed, works_on, works_ready}
 use Rattle.vcpu_run.proofs.Giving.{gives_freed, gives_on, gives_ready}
 use Rattle.vcpu_run.proofs.AnswersCounted.{from_taken, none_taken, same_agrees}
 use Rattle.vcpu_run.proofs.TakingCalls.{tags_still}
+use Rattle.vcpu_run.proofs.EventsHeard.{hears_same}
+use Rattle.vcpu_run.proofs.Giving.{step_hears_on}
 use Rattle.vcpu_run.proofs.driver.Driver.reset.Goals as goal
 
 pub returns-then-eq-clause-credit : goal.returns-then-eq-clause-credit
@@ -82,3 +84,24 @@ returns-in-Parameter-clause-told g c =
     (g.C.CrqEnd.state c.free.new.self.end).registered
     (seated c.login-in-Parameter.new.self.client progress.Freed (g.C.CrqEnd.state c.login-in-Parameter.new.crq.end).registered) c.login-in-Parameter.result
     (c.in-Parameter.ensures.refused.registered ∙ c.free.ensures.parameter.0 c.in-Parameter.is) c.login-in-Parameter.ensures.renewed
+
+pub returns-in-Parameter-clause-hears : goal.returns-in-Parameter-clause-hears
+returns-in-Parameter-clause-hears g c =
+    step_hears_on c.login-in-Parameter.result c.args.self.now c.args.self.now c.login-in-Parameter.new.self.client
+    (g.C.CrqEnd.state c.args.crq.now.end) (g.C.CrqEnd.state c.free.new.self.end) (g.C.CrqEnd.state c.login-in-Parameter.new.crq.end)
+    (gives_on c.args.self.now c.args.self.now c.args.self.now (g.C.CrqEnd.state c.args.crq.now.end) (g.C.CrqEnd.state c.reserve.new.self.end) (g.C.CrqEnd.state c.free.new.self.end)
+    (gives_ready c.args.self.now (g.C.CrqEnd.state c.args.crq.now.end) (g.C.CrqEnd.state c.reserve.new.self.end) c.in_ok-reserve.ensures.rest)
+    (gives_ready c.args.self.now (g.C.CrqEnd.state c.reserve.new.self.end) (g.C.CrqEnd.state c.free.new.self.end) c.in-Parameter.ensures.refused)) c.login-in-Parameter.ensures.hears
+
+pub returns-in-Success-clause-hears : goal.returns-in-Success-clause-hears
+returns-in-Success-clause-hears g c =
+    let gives = gives_on c.args.self.now c.args.self.now c.freed.new.self (g.C.CrqEnd.state c.args.crq.now.end) (g.C.CrqEnd.state c.reserve.new.self.end) (g.C.CrqEnd.state c.free.new.self.end)
+    (gives_ready c.args.self.now (g.C.CrqEnd.state c.args.crq.now.end) (g.C.CrqEnd.state c.reserve.new.self.end) c.in_ok-reserve.ensures.rest)
+    (gives_freed g.C.CrqEnd.is_shared c.args.self.now c.freed.new.self (g.C.CrqEnd.state c.reserve.new.self.end) (g.C.CrqEnd.state c.free.new.self.end)
+    c.in-Success.ensures.success c.free.ensures.rest c.freed.ensures.answers c.freed.ensures.client) in
+    gives.heard
+
+pub returns-in-Busy-clause-hears : goal.returns-in-Busy-clause-hears
+returns-in-Busy-clause-hears g c =
+    hears_same c.args.self.now.client c.args.self.now.client (g.C.CrqEnd.state c.args.crq.now.end) (g.C.CrqEnd.state c.free.new.self.end) refl refl
+    (c.free.ensures.rest.taken ∙ c.in_ok-reserve.ensures.rest.taken)

@@ -8,6 +8,7 @@ use Rattle.vcpu_run.specs.Holding.{IsHeldOff, link_seen}
 use Rattle.vcpu_run.proofs.Opening.{other_open}
 use Rattle.vcpu_run.proofs.Credits.{fresh_both, sends_one}
 use Rattle.vcpu_run.proofs.AnswersCounted.{none_taken}
+use Rattle.vcpu_run.proofs.ValuesKept.{same_puts, sends_none}
 use Rattle.vcpu_run.proofs.driver.Driver.step.Goals as goal
 
 pub returns-in-Some-clause-credit : goal.returns-in-Some-clause-credit
@@ -40,3 +41,6 @@ pub returns-in-Some-clause-takes : goal.returns-in-Some-clause-takes
 returns-in-Some-clause-takes g c =
     none_taken c.args.line.now.verb (taken_in c.args.progress.now) c.args.self.now c.command.new.self c.command.result (sends_one c.args.line.now.verb c.in-Some.ensures.sends).1
     (c.command.ensures.takes c.args.line.now.verb c.in-Some.ensures.command)
+
+pub returns-in-Some-clause-puts : goal.returns-in-Some-clause-puts
+returns-in-Some-clause-puts g c = same_puts c.args.line.now.verb c.command.result _ _ (sends_none c.args.line.now.verb c.in-Some.ensures.sends) c.command.ensures.values

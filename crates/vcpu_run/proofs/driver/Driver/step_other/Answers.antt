@@ -20,6 +20,10 @@ use Rattle.vcpu_run.proofs.Opening.{open_as, other_open}
 use Rattle.vcpu_run.proofs.Giving.{gives_ok, gives_same}
 use Rattle.vcpu_run.proofs.AnswersCounted.{is_data, none_taken}
 use Rattle.vcpu_run.proofs.TakingEach.{data_step, own_step, taken_verb}
+use Rattle.vcpu_run.proofs.EventsHeard.{plain_none}
+use Rattle.vcpu_run.proofs.Giving.{asks_hear}
+use Rattle.vcpu_run.specs.ValuesPut.{is_put}
+use Rattle.vcpu_run.proofs.ValuesKept.{same_puts, tce_puts}
 use Rattle.vcpu_run.proofs.driver.Driver.step_other.Goals as goal
 
 pub returns-in-Login-clause-credit : goal.returns-in-Login-clause-credit
@@ -339,3 +343,60 @@ returns-in-Tce-clause-takes g c =
 
 pub returns-in-Tce-clause-gives : goal.returns-in-Tce-clause-gives
 returns-in-Tce-clause-gives g c = gives_ok c.args.self.now c.args.self.now (g.C.CrqEnd.state c.args.crq.now.end) (g.C.CrqEnd.state c.args.crq.now.end) c.put_tce.result (gives_same c.args.self.now (g.C.CrqEnd.state c.args.crq.now.end))
+
+pub returns-in-Data-clause-hears : goal.returns-in-Data-clause-hears
+returns-in-Data-clause-hears g c =
+    asks_hear c.args.self.now c.data.new.self (g.C.CrqEnd.state c.args.crq.now.end) (g.C.CrqEnd.state c.args.crq.now.end) c.data.result (plain_none c.data.result c.data.ensures.plain)
+    (data_step c.args.self.now c.data.new.self (g.C.CrqEnd.state c.args.crq.now.end) c.data.result c.data.ensures.answers c.data.ensures.client)
+
+pub returns-in-Fill-clause-hears : goal.returns-in-Fill-clause-hears
+returns-in-Fill-clause-hears g c =
+    asks_hear c.args.self.now c.args.self.now (g.C.CrqEnd.state c.args.crq.now.end) (g.C.CrqEnd.state c.args.crq.now.end) c.fill.result (plain_none c.fill.result c.fill.ensures.plain)
+    (gives_ok c.args.self.now c.args.self.now (g.C.CrqEnd.state c.args.crq.now.end) (g.C.CrqEnd.state c.args.crq.now.end) c.fill.result (gives_same c.args.self.now (g.C.CrqEnd.state c.args.crq.now.end)))
+
+pub returns-in-Poke-clause-hears : goal.returns-in-Poke-clause-hears
+returns-in-Poke-clause-hears g c =
+    asks_hear c.args.self.now c.args.self.now (g.C.CrqEnd.state c.args.crq.now.end) (g.C.CrqEnd.state c.args.crq.now.end) c.poke.result (plain_none c.poke.result c.poke.ensures.plain)
+    (gives_ok c.args.self.now c.args.self.now (g.C.CrqEnd.state c.args.crq.now.end) (g.C.CrqEnd.state c.args.crq.now.end) c.poke.result (gives_same c.args.self.now (g.C.CrqEnd.state c.args.crq.now.end)))
+
+pub returns-in-Peek-clause-hears : goal.returns-in-Peek-clause-hears
+returns-in-Peek-clause-hears g c =
+    asks_hear c.args.self.now c.args.self.now (g.C.CrqEnd.state c.args.crq.now.end) (g.C.CrqEnd.state c.args.crq.now.end) c.peek.result (plain_none c.peek.result c.peek.ensures.plain)
+    (gives_ok c.args.self.now c.args.self.now (g.C.CrqEnd.state c.args.crq.now.end) (g.C.CrqEnd.state c.args.crq.now.end) c.peek.result (gives_same c.args.self.now (g.C.CrqEnd.state c.args.crq.now.end)))
+
+pub returns-in-Tce-clause-hears : goal.returns-in-Tce-clause-hears
+returns-in-Tce-clause-hears g c =
+    asks_hear c.args.self.now c.args.self.now (g.C.CrqEnd.state c.args.crq.now.end) (g.C.CrqEnd.state c.args.crq.now.end) c.put_tce.result (plain_none c.put_tce.result c.put_tce.ensures.plain)
+    (gives_ok c.args.self.now c.args.self.now (g.C.CrqEnd.state c.args.crq.now.end) (g.C.CrqEnd.state c.args.crq.now.end) c.put_tce.result (gives_same c.args.self.now (g.C.CrqEnd.state c.args.crq.now.end)))
+
+pub returns-in-Login-clause-puts : goal.returns-in-Login-clause-puts
+returns-in-Login-clause-puts g c = same_puts c.args.line.now.verb c.login.result _ _ (ap is_put c.in-Login.is) c.login.ensures.values
+
+pub returns-in-Reset-clause-puts : goal.returns-in-Reset-clause-puts
+returns-in-Reset-clause-puts g c = same_puts c.args.line.now.verb c.reset.result _ _ (ap is_put c.in-Reset.is) c.reset.ensures.values
+
+pub returns-in-Logout-clause-puts : goal.returns-in-Logout-clause-puts
+returns-in-Logout-clause-puts g c = same_puts c.args.line.now.verb c.logout.result _ _ (ap is_put c.in-Logout.is) c.logout.ensures.values
+
+pub returns-in-Task-clause-puts : goal.returns-in-Task-clause-puts
+returns-in-Task-clause-puts g c = same_puts c.args.line.now.verb c.task.result _ _ (ap is_put c.in-Task.is) c.task.ensures.values
+
+pub returns-in-Take-clause-puts : goal.returns-in-Take-clause-puts
+returns-in-Take-clause-puts g c = same_puts c.args.line.now.verb c.take_on.result _ _ (ap is_put c.in-Take.is) c.take_on.ensures.values
+
+pub returns-in-Data-clause-puts : goal.returns-in-Data-clause-puts
+returns-in-Data-clause-puts g c = same_puts c.args.line.now.verb c.data.result _ _ (ap is_put c.in-Data.is) c.data.ensures.values
+
+pub returns-in-Fill-clause-puts : goal.returns-in-Fill-clause-puts
+returns-in-Fill-clause-puts g c = same_puts c.args.line.now.verb c.fill.result _ _ (ap is_put c.in-Fill.is) c.fill.ensures.rest.values
+
+pub returns-in-Poke-clause-puts : goal.returns-in-Poke-clause-puts
+returns-in-Poke-clause-puts g c = same_puts c.args.line.now.verb c.poke.result _ _ (ap is_put c.in-Poke.is) c.poke.ensures.rest.values
+
+pub returns-in-Peek-clause-puts : goal.returns-in-Peek-clause-puts
+returns-in-Peek-clause-puts g c = same_puts c.args.line.now.verb c.peek.result _ _ (ap is_put c.in-Peek.is) c.peek.ensures.rest.values
+
+pub returns-in-Tce-clause-puts : goal.returns-in-Tce-clause-puts
+returns-in-Tce-clause-puts g c =
+    tce_puts c.in-Tce.entry c.in-Tce.page c.in-Tce.readable c.in-Tce.writable (g.O.WindowPort.state c.args.own.now) (g.O.WindowPort.state c.put_tce.new.own)
+    c.args.line.now.verb c.put_tce.result c.in-Tce.is c.put_tce.ensures.answer

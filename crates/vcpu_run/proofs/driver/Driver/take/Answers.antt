@@ -14,6 +14,9 @@ use Rattle.vcpu_run.specs.Takings.{TookTaken}
 use Rattle.vcpu_run.proofs.Giving.{gives_on}
 use Rattle.vcpu_run.proofs.TakingTurns.{TakesThem, lost_taken, them_none, them_one, took_taken, waits_taken}
 use Rattle.vcpu_run.proofs.driver.Driver.take.Goals.{in-Answer+else-taken-count-2, in-Other}
+use Rattle.vcpu_run.specs.EventsHeard.{Hears, lost_by}
+use Rattle.vcpu_run.proofs.EventsHeard.{hears_same}
+use Rattle.vcpu_run.proofs.Giving.{loss_hears}
 use Rattle.vcpu_run.proofs.driver.Driver.take.Goals as goal
 
 pub returns-in_err-take_one-clause-works : goal.returns-in_err-take_one-clause-works
@@ -95,6 +98,7 @@ loop-entry-preserved g c =
     ] in
     record {
       works = works_on _ _ _ _ _ _ _ _ _ _ _ _ c.loop-entry.invariant.works c.take_one.ensures.works;
+      values = c.take_one.ensures.values ∙ c.loop-entry.invariant.values;
       pages = subst (λ (place : PortPlace). MIN_PAGES ≤ place.size) (sym c.take_one.ensures.works.window.place) c.loop-entry.invariant.pages;
       takes = next.0;
       so = next.2;
@@ -207,3 +211,36 @@ pub returns-in-Nothing-clause-gives : goal.returns-in-Nothing-clause-gives
 returns-in-Nothing-clause-gives g c =
     gives_on c.args.self.now c.loop-entry.self c.take_one.new.self (g.C.CrqEnd.state c.args.crq.now.end) (g.C.CrqEnd.state c.loop-entry.crq.end) (g.C.CrqEnd.state c.take_one.new.crq.end)
     c.loop-entry.invariant.gives c.in_ok-take_one.ensures.gives
+
+pub returns-then-taken-count-clause-hears : goal.returns-then-taken-count-clause-hears
+returns-then-taken-count-clause-hears g c = hears_same c.args.self.now.client c.args.self.now.client (g.C.CrqEnd.state c.args.crq.now.end) (g.C.CrqEnd.state c.args.crq.now.end) refl refl refl
+
+pub returns-clause-hears : goal.returns-clause-hears
+returns-clause-hears g c = c.loop-entry.invariant.gives.heard
+
+pub returns-then-taken-count-2-clause-hears : goal.returns-then-taken-count-2-clause-hears
+returns-then-taken-count-2-clause-hears g c =
+    loss_hears c.args.self.now c.loop-entry.self c.take_one.new.self (g.C.CrqEnd.state c.args.crq.now.end) (g.C.CrqEnd.state c.loop-entry.crq.end) (g.C.CrqEnd.state c.take_one.new.crq.end) 0
+    c.loop-entry.invariant.gives c.in_ok-take_one.ensures.gives.heard
+
+pub returns-in-InUse-clause-hears : goal.returns-in-InUse-clause-hears
+returns-in-InUse-clause-hears g c =
+    loss_hears c.args.self.now c.loop-entry.self c.take_one.new.self (g.C.CrqEnd.state c.args.crq.now.end) (g.C.CrqEnd.state c.loop-entry.crq.end) (g.C.CrqEnd.state c.take_one.new.crq.end) 0
+    c.loop-entry.invariant.gives c.in_ok-take_one.ensures.gives.heard
+
+pub returns-then-is_empty-clause-hears : goal.returns-then-is_empty-clause-hears
+returns-then-is_empty-clause-hears g c =
+    loss_hears c.args.self.now c.loop-entry.self c.take_one.new.self (g.C.CrqEnd.state c.args.crq.now.end) (g.C.CrqEnd.state c.loop-entry.crq.end) (g.C.CrqEnd.state c.take_one.new.crq.end) 0
+    c.loop-entry.invariant.gives c.in_ok-take_one.ensures.gives.heard
+
+pub returns-in-Nothing-clause-hears : goal.returns-in-Nothing-clause-hears
+returns-in-Nothing-clause-hears g c =
+    loss_hears c.args.self.now c.loop-entry.self c.take_one.new.self (g.C.CrqEnd.state c.args.crq.now.end) (g.C.CrqEnd.state c.loop-entry.crq.end) (g.C.CrqEnd.state c.take_one.new.crq.end) 0
+    c.loop-entry.invariant.gives c.in_ok-take_one.ensures.gives.heard
+
+pub returns-in-Lost-clause-hears : goal.returns-in-Lost-clause-hears
+returns-in-Lost-clause-hears g c =
+    loss_hears c.args.self.now c.loop-entry.self c.take_one.new.self (g.C.CrqEnd.state c.args.crq.now.end) (g.C.CrqEnd.state c.loop-entry.crq.end) (g.C.CrqEnd.state c.take_one.new.crq.end) 1
+    c.loop-entry.invariant.gives
+    (subst (λ (t : Took). Hears (lost_by t) c.loop-entry.self.client c.take_one.new.self.client (g.C.CrqEnd.state c.loop-entry.crq.end) (g.C.CrqEnd.state c.take_one.new.crq.end))
+    c.in-Lost.is c.in_ok-take_one.ensures.hears)

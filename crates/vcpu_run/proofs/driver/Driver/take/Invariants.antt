@@ -10,6 +10,7 @@ use Rattle.vcpu_run.proofs.driver.Driver.take.Given as goal
 abbrev pub invariant-loop-entry : goal.invariant-loop-entry
 invariant-loop-entry g l = record {
   works : Works false g.C.CrqEnd.is_shared g.O.WindowPort.is_shared (g.C.CrqEnd.state l.initial.crq.end) (g.C.CrqEnd.state l.crq.end) (g.O.WindowPort.state l.initial.own) (g.O.WindowPort.state l.own) l.initial.self l.self;
+  values : (g.O.WindowPort.state l.own).values ≡ (g.O.WindowPort.state l.initial.own).values;
   pages : MIN_PAGES ≤ (g.O.WindowPort.state l.own).place.size;
   takes : TakesOn l.initial.taken l.taken l.initial.self.client l.self.client;
   so : TakesSo l.initial.taken l.taken l.initial.self.client l.self.client;

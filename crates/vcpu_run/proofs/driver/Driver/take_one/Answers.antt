@@ -11,6 +11,8 @@ use Rattle.vcpu_run.proofs.Working.{take_works}
 use Rattle.vcpu_run.proofs.Giving.{answer_gives, other_gives}
 use Rattle.vcpu_run.proofs.TakeOrder.{takes_in}
 use Rattle.vcpu_run.proofs.TakingTurns.{answer_taken, other_taken, tags_taken_as}
+use Rattle.vcpu_run.specs.EventsHeard.{Hears}
+use Rattle.vcpu_run.proofs.EventsHeard.{takes_hear}
 use Rattle.vcpu_run.proofs.driver.Driver.take_one.Goals as goal
 
 pub returns-in_err-note-in-Answer-clause-works : goal.returns-in_err-note-in-Answer-clause-works
@@ -195,3 +197,46 @@ returns-in-Empty-clause-gives g c =
     (ports g.C.CrqEnd.is_shared (g.C.CrqEnd.state c.args.crq.now.end) g.O.WindowPort.is_shared (g.O.WindowPort.state c.args.own.now))
     (ports g.C.CrqEnd.is_shared (g.C.CrqEnd.state c.take_answer.new.crq.end) g.O.WindowPort.is_shared (g.O.WindowPort.state c.take_answer.new.own))
     (subst (TakesEntry c.args.self.now.client c.take_answer.new.self (ports g.C.CrqEnd.is_shared (g.C.CrqEnd.state c.args.crq.now.end) g.O.WindowPort.is_shared (g.O.WindowPort.state c.args.own.now)) (ports g.C.CrqEnd.is_shared (g.C.CrqEnd.state c.take_answer.new.crq.end) g.O.WindowPort.is_shared (g.O.WindowPort.state c.take_answer.new.own))) c.in-Empty.is c.in_ok-tag.ensures.taken) c.take_answer.ensures.crq_rest)
+
+pub returns-in_ok-note-in-Answer-clause-hears : goal.returns-in_ok-note-in-Answer-clause-hears
+returns-in_ok-note-in-Answer-clause-hears g c =
+    subst (λ (s : ClientState). Hears 0 c.args.self.now.client s (g.C.CrqEnd.state c.args.crq.now.end) (g.C.CrqEnd.state c.take_answer.new.crq.end)) (sym c.note.ensures.client)
+    (takes_hear c.args.self.now.client c.take_answer.new.self
+    (ports g.C.CrqEnd.is_shared (g.C.CrqEnd.state c.args.crq.now.end) g.O.WindowPort.is_shared (g.O.WindowPort.state c.args.own.now))
+    (ports g.C.CrqEnd.is_shared (g.C.CrqEnd.state c.take_answer.new.crq.end) g.O.WindowPort.is_shared (g.O.WindowPort.state c.take_answer.new.own))
+    (takens.Answer c.in-Answer.tag c.in-Answer.rsp) (subst (TakesEntry c.args.self.now.client c.take_answer.new.self (ports g.C.CrqEnd.is_shared (g.C.CrqEnd.state c.args.crq.now.end) g.O.WindowPort.is_shared (g.O.WindowPort.state c.args.own.now)) (ports g.C.CrqEnd.is_shared (g.C.CrqEnd.state c.take_answer.new.crq.end) g.O.WindowPort.is_shared (g.O.WindowPort.state c.take_answer.new.own))) c.in-Answer.is c.in_ok-tag.ensures.taken))
+
+pub returns-in-Stray-clause-hears : goal.returns-in-Stray-clause-hears
+returns-in-Stray-clause-hears g c =
+    takes_hear c.args.self.now.client c.take_answer.new.self
+    (ports g.C.CrqEnd.is_shared (g.C.CrqEnd.state c.args.crq.now.end) g.O.WindowPort.is_shared (g.O.WindowPort.state c.args.own.now))
+    (ports g.C.CrqEnd.is_shared (g.C.CrqEnd.state c.take_answer.new.crq.end) g.O.WindowPort.is_shared (g.O.WindowPort.state c.take_answer.new.own))
+    (takens.Stray c.in-Stray.field-0) (subst (TakesEntry c.args.self.now.client c.take_answer.new.self (ports g.C.CrqEnd.is_shared (g.C.CrqEnd.state c.args.crq.now.end) g.O.WindowPort.is_shared (g.O.WindowPort.state c.args.own.now)) (ports g.C.CrqEnd.is_shared (g.C.CrqEnd.state c.take_answer.new.crq.end) g.O.WindowPort.is_shared (g.O.WindowPort.state c.take_answer.new.own))) c.in-Stray.is c.in_ok-tag.ensures.taken)
+
+pub returns-in-Other-clause-hears : goal.returns-in-Other-clause-hears
+returns-in-Other-clause-hears g c =
+    takes_hear c.args.self.now.client c.take_answer.new.self
+    (ports g.C.CrqEnd.is_shared (g.C.CrqEnd.state c.args.crq.now.end) g.O.WindowPort.is_shared (g.O.WindowPort.state c.args.own.now))
+    (ports g.C.CrqEnd.is_shared (g.C.CrqEnd.state c.take_answer.new.crq.end) g.O.WindowPort.is_shared (g.O.WindowPort.state c.take_answer.new.own))
+    takens.Other (subst (TakesEntry c.args.self.now.client c.take_answer.new.self (ports g.C.CrqEnd.is_shared (g.C.CrqEnd.state c.args.crq.now.end) g.O.WindowPort.is_shared (g.O.WindowPort.state c.args.own.now)) (ports g.C.CrqEnd.is_shared (g.C.CrqEnd.state c.take_answer.new.crq.end) g.O.WindowPort.is_shared (g.O.WindowPort.state c.take_answer.new.own))) c.in-Other.is c.in_ok-tag.ensures.taken)
+
+pub returns-in-Lost-clause-hears : goal.returns-in-Lost-clause-hears
+returns-in-Lost-clause-hears g c =
+    takes_hear c.args.self.now.client c.take_answer.new.self
+    (ports g.C.CrqEnd.is_shared (g.C.CrqEnd.state c.args.crq.now.end) g.O.WindowPort.is_shared (g.O.WindowPort.state c.args.own.now))
+    (ports g.C.CrqEnd.is_shared (g.C.CrqEnd.state c.take_answer.new.crq.end) g.O.WindowPort.is_shared (g.O.WindowPort.state c.take_answer.new.own))
+    takens.Lost (subst (TakesEntry c.args.self.now.client c.take_answer.new.self (ports g.C.CrqEnd.is_shared (g.C.CrqEnd.state c.args.crq.now.end) g.O.WindowPort.is_shared (g.O.WindowPort.state c.args.own.now)) (ports g.C.CrqEnd.is_shared (g.C.CrqEnd.state c.take_answer.new.crq.end) g.O.WindowPort.is_shared (g.O.WindowPort.state c.take_answer.new.own))) c.in-Lost.is c.in_ok-tag.ensures.taken)
+
+pub returns-in-Again-clause-hears : goal.returns-in-Again-clause-hears
+returns-in-Again-clause-hears g c =
+    takes_hear c.args.self.now.client c.take_answer.new.self
+    (ports g.C.CrqEnd.is_shared (g.C.CrqEnd.state c.args.crq.now.end) g.O.WindowPort.is_shared (g.O.WindowPort.state c.args.own.now))
+    (ports g.C.CrqEnd.is_shared (g.C.CrqEnd.state c.take_answer.new.crq.end) g.O.WindowPort.is_shared (g.O.WindowPort.state c.take_answer.new.own))
+    (takens.Again c.in-Again.page c.in-Again.word) (subst (TakesEntry c.args.self.now.client c.take_answer.new.self (ports g.C.CrqEnd.is_shared (g.C.CrqEnd.state c.args.crq.now.end) g.O.WindowPort.is_shared (g.O.WindowPort.state c.args.own.now)) (ports g.C.CrqEnd.is_shared (g.C.CrqEnd.state c.take_answer.new.crq.end) g.O.WindowPort.is_shared (g.O.WindowPort.state c.take_answer.new.own))) c.in-Again.is c.in_ok-tag.ensures.taken)
+
+pub returns-in-Empty-clause-hears : goal.returns-in-Empty-clause-hears
+returns-in-Empty-clause-hears g c =
+    takes_hear c.args.self.now.client c.take_answer.new.self
+    (ports g.C.CrqEnd.is_shared (g.C.CrqEnd.state c.args.crq.now.end) g.O.WindowPort.is_shared (g.O.WindowPort.state c.args.own.now))
+    (ports g.C.CrqEnd.is_shared (g.C.CrqEnd.state c.take_answer.new.crq.end) g.O.WindowPort.is_shared (g.O.WindowPort.state c.take_answer.new.own))
+    (takens.Empty c.in-Empty.number) (subst (TakesEntry c.args.self.now.client c.take_answer.new.self (ports g.C.CrqEnd.is_shared (g.C.CrqEnd.state c.args.crq.now.end) g.O.WindowPort.is_shared (g.O.WindowPort.state c.args.own.now)) (ports g.C.CrqEnd.is_shared (g.C.CrqEnd.state c.take_answer.new.crq.end) g.O.WindowPort.is_shared (g.O.WindowPort.state c.take_answer.new.own))) c.in-Empty.is c.in_ok-tag.ensures.taken)

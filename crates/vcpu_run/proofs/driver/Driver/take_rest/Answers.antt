@@ -1,7 +1,7 @@
 use Rattle.vcpu_run.proofs.Resting.{not_quiet}
 use Rattle.vcpu_run.specs.Links.{EndRests}
 use Rattle.crq_session.specs.EndState.{EndState}
-use Rattle.std.proofs.Common.{◌≤◌, sym, subst}
+use Rattle.std.proofs.Common.{◌≤◌, ◌∙◌, sym, subst}
 use Rattle.tce_window.specs.PortState.{PortPlace}
 use Rattle.vscsi_client.specs.declared.TheConstants.{MIN_PAGES}
 use Rattle.vcpu_run.proofs.Working.{works_on}
@@ -17,6 +17,7 @@ returns-in-Nothing-clause-works g c = works_on _ _ _ _ _ _ _ _ _ _ _ _ c.loop-ta
 pub loop-taken-preserved : goal.loop-taken-preserved
 loop-taken-preserved g c = record {
   works = works_on _ _ _ _ _ _ _ _ _ _ _ _ c.loop-taken.invariant.works c.take_one.ensures.works;
+  values = c.take_one.ensures.values ∙ c.loop-taken.invariant.values;
   pages = subst (λ (place : PortPlace). MIN_PAGES ≤ place.size) (sym c.take_one.ensures.works.window.place) c.loop-taken.invariant.pages;
   gives = gives_on c.args.self.now c.loop-taken.self c.take_one.new.self (g.C.CrqEnd.state c.args.crq.now.end) (g.C.CrqEnd.state c.loop-taken.crq.end) (g.C.CrqEnd.state c.take_one.new.crq.end)
       c.loop-taken.invariant.gives c.in_ok-take_one.ensures.gives;

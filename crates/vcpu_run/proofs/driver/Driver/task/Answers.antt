@@ -7,6 +7,8 @@ use Rattle.vcpu_run.proofs.LinesShown.{task_shows}
 use Rattle.vcpu_run.proofs.Working.{task_works}
 use Rattle.vcpu_run.proofs.Giving.{asks_gives, task_kept}
 use Rattle.vcpu_run.proofs.TakingCalls.{task_taken}
+use Rattle.vcpu_run.proofs.EventsHeard.{sent_none}
+use Rattle.vcpu_run.proofs.Giving.{asks_hear}
 use Rattle.vcpu_run.proofs.driver.Driver.task.Goals as goal
 
 pub returns-clause-works : goal.returns-clause-works
@@ -53,3 +55,13 @@ returns-clause-gives g c =
     (ports g.C.CrqEnd.is_shared (g.C.CrqEnd.state c.args.crq.now.end) g.O.WindowPort.is_shared (g.O.WindowPort.state c.args.own.now))
     (ports g.C.CrqEnd.is_shared (g.C.CrqEnd.state c.task.new.crq.end) g.O.WindowPort.is_shared (g.O.WindowPort.state c.task.new.own))
     c.task.result c.task.ensures.sent c.task.ensures.same) c.task.ensures.crq_rest
+
+pub returns-clause-hears : goal.returns-clause-hears
+returns-clause-hears g c =
+    asks_hear c.args.self.now (record c.args.self.now { client = c.task.new.self }) (g.C.CrqEnd.state c.args.crq.now.end) (g.C.CrqEnd.state c.task.new.crq.end) c.sent.result
+    (sent_none c.task.result c.sent.result c.sent.ensures.sent)
+    (asks_gives c.args.self.now c.task.new.self c.sent.result g.C.CrqEnd.is_shared (g.C.CrqEnd.state c.args.crq.now.end) (g.C.CrqEnd.state c.task.new.crq.end)
+    (task_kept c.args.line c.args.function c.args.tag c.args.self.now.client c.task.new.self
+    (ports g.C.CrqEnd.is_shared (g.C.CrqEnd.state c.args.crq.now.end) g.O.WindowPort.is_shared (g.O.WindowPort.state c.args.own.now))
+    (ports g.C.CrqEnd.is_shared (g.C.CrqEnd.state c.task.new.crq.end) g.O.WindowPort.is_shared (g.O.WindowPort.state c.task.new.own))
+    c.task.result c.task.ensures.sent c.task.ensures.same) c.task.ensures.crq_rest)

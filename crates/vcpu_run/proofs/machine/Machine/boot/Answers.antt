@@ -113,10 +113,10 @@ returns-clause-said g c =
     let scripts = c.in-Ok-make_scripts.scripts in
     let partitions = c.args.plan.now.partitions in
     let made : AreMade partitions scripts.items = rw (← c.as_slice-partitions.ensures) c.in-Ok-make_scripts.ensures in
-    told_made partitions pairs.items scripts.items made c.in-Ok.ensures.out (λ k pair found. (c.in-Ok.ensures.fresh k pair found).untaken)
+    told_made partitions pairs.items scripts.items made c.in-Ok.ensures.out (λ k pair found. ((c.in-Ok.ensures.fresh k pair found).untaken, (c.in-Ok.ensures.fresh k pair found).rows))
 
 pub returns-clause-heard : goal.returns-clause-heard
 returns-clause-heard g c =
     let server = c.in_ok-server in
     heard_fresh server.server.disk.count server.server.partition server.server.units.items server.server.records server.server.copies.items c.in-Ok.pairs.items
-    server.ensures.history server.ensures.lines server.ensures.order server.ensures.idle server.ensures.unrefused c.in-Ok.ensures.fresh
+    server.ensures.history server.ensures.lines server.ensures.order server.ensures.idle server.ensures.unrefused server.ensures.unused c.in-Ok.ensures.fresh

@@ -19,4 +19,4 @@ returns-clause-answered c = answered_new _ (256 * c.args.queue) (256 * 1) c.in_o
 pub returns-clause-fresh : goal.returns-clause-fresh
 returns-clause-fresh c =
     let new = c.in_ok-open_link.ensures in
-    record { taken = new.first.queue.taken; sent = new.second.queue.sent; untaken = tt }
+    record { taken = new.first.queue.taken; sent = new.second.queue.sent; untaken = tt; rows = ap (λ (window : WindowValue). window.rows) c.in_ok-open-2.ensures }

@@ -4,11 +4,14 @@ use Rattle.vcpu_run.specs.Freed.{FreesNoneAt, IsNotFreed, NotFreed}
 use Rattle.vcpu_run.proofs.Waiting.{agrees_like, agrees_other, serve_frees, serve_queue, serve_sent, serve_taken, serve_waits}
 use Rattle.vcpu_run.proofs.Resting.{ok_both}
 use Rattle.vcpu_run.proofs.Crediting.{on_ok}
-use Rattle.std.proofs.Common.{rules, ◌≡◌, Bool, Contains, List, [], ◌∷◌, false, true, refl, sym, ◌∙◌, ap, subst, IfNone, ◌<◌, IfOk, OnOk, arith, length, slice_get}
-use Rattle.std.proofs.lemmas.List.Elements.{Contains-append_left}
+use Rattle.std.proofs.Common.{rules, ◌≡◌, ◌≢◌, Bool, List, [], ◌∷◌, false, true, refl, sym, ◌∙◌, ap, subst, IfNone, ◌<◌, IfOk, OnOk, arith, length, slice_get}
+use Rattle.std.proofs.lemmas.List.Elements.{All-weaker}
 use Rattle.vio_num.specs.declared.names.UnitId.{UnitId}
 use Rattle.rdma_copy.specs.declared.copy.CopyRecord.{CopyRecord}
+use Rattle.block_server.specs.Advances.{IsOwnCopy}
 use Rattle.block_server.specs.Causes.{Told}
+use Rattle.block_server.specs.Moves.{data_copies}
+use Rattle.block_server.proofs.RunRests.{others_none}
 use Rattle.vcpu_run.specs.Heard.{AllGoBy, UnitGoesBy, TellsPair}
 use Rattle.vcpu_run.proofs.HeardTurns.{tells_turn, told_elsewhere, told_served}
 use Rattle.crq_session.specs.EndState.{EndPlace}
@@ -228,8 +231,7 @@ returns-clause-shows g c =
     let goes = c.turn.ensures.goes in
     let more = c.turn.ensures.copies in
     record {
-      listed = λ copy listed.
-          subst (λ (list : List CopyRecord). Contains list copy) (sym more.made) (Contains-append_left c.args.server.now.copies.items more.more copy listed);
+      made = (more.more, more.made);
       own = goes.own_grows;
       window = goes.client_grows;
       pages = ap (λ (place : PortPlace). place.size) goes.client_place;
@@ -266,24 +268,30 @@ returns-clause-told_own g c =
     let sent_after : (partner_of link c.turn.new.crq.end.first).queue.sent ≡ (side_of link false).queue.sent = ap (λ (b : Bool). (partner_of link b).queue.sent) first in
     let link_is : link ≡ c.self-1.given.0 = search rules in
     subst (λ (l : PlainLink). (told : Told → Bool) → TellsPair told server'.copies.items (record { server = old.server; link = l; own = c.turn.new.own; window = c.turn.new.client; driver = old.driver })
-    → AllGoBy told server.disk.count server.partition server.units.items server.records → UnitGoesBy told server.units.items server.records c.args.unit old
-    → UnitGoesBy told server'.units.items server'.records c.args.unit (record { server = old.server; link = l; own = c.turn.new.own; window = c.turn.new.client; driver = old.driver })) link_is
+    → AllGoBy told server.disk.count server.partition server.units.items server.records → UnitGoesBy told server.units.items server.records server.copies.items c.args.unit old
+    → UnitGoesBy told server'.units.items server'.records server'.copies.items c.args.unit (record { server = old.server; link = l; own = c.turn.new.own; window = c.turn.new.client; driver = old.driver })) link_is
     (λ told tells all is.
     let news = tells_turn told server.copies.items server'.copies.items old new pages name tells in
-    told_served told server.units.items server'.units.items server.records server'.records c.args.unit old new (state_of c.side.result) (state_of c.turn.new.crq.end)
+    told_served told server.units.items server'.units.items server.records server'.records server.copies.items server'.copies.items c.args.unit old new (state_of c.side.result) (state_of c.turn.new.crq.end)
     (ap (λ (side : PlainSide). side.queue.session) before) (ap (λ (side : PlainSide). side.queue.taken) before)
     (ap (λ (side : PlainSide). side.queue.session) after) (ap (λ (side : PlainSide). side.queue.taken) after) name
     sent_before sent_after goes.taken c.turn.ensures.lines
-    (c.turn.ensures.carried told news all.order) (c.turn.ensures.explains told news all.order []) (c.turn.ensures.logins told news all.order [])
+    (c.turn.ensures.runs told news all.order) (c.turn.ensures.explains told news all.order []) (c.turn.ensures.logins told news all.order [])
     (c.turn.ensures.deals told news all.order []) is)
 
 pub returns-clause-told_else : goal.returns-clause-told_else
 returns-clause-told_else g c = λ told k other apart own order is.
     let server = c.args.server.now in
     let server' = c.turn.new.self in
-    told_elsewhere told server.disk.count server.partition server.units.items server'.units.items server.records server'.records k c.args.self.now.own.unit other
-    (λ e. apart (sym (ap (λ (u : UnitId). u.unit) (sym (c.requires.pair.own_unit ∙ c.requires.pair.server) ∙ (e ∙ own)))))
-    own (c.turn.ensures.others_stay k apart) c.turn.ensures.lines c.turn.ensures.others order is
+    let more = c.turn.ensures.copies in
+    let other_unit : c.args.self.now.own.unit ≢ other.own.unit = λ e. apart (sym (ap (λ (u : UnitId). u.unit) (sym (c.requires.pair.own_unit ∙ c.requires.pair.server) ∙ (e ∙ own)))) in
+    let by : c.turn.new.own.unit ≡ c.args.self.now.own.unit = ap (λ (place : PortPlace). place.unit) c.turn.ensures.goes.own_place in
+    told_elsewhere told server.disk.count server.partition server.units.items server'.units.items server.records server'.records server.copies.items server'.copies.items k
+    c.args.self.now.own.unit other other_unit own (c.turn.ensures.others_stay k apart)
+    (ap (data_copies other.own.unit) more.made
+    ∙ others_none other.own.unit server.copies.items more.more
+    (All-weaker (IsOwnCopy (known_of c.turn.new.own) (known_of c.turn.new.client)) (λ copy. copy.name.who ≢ other.own.unit)
+    (λ copy is e. other_unit (sym by ∙ sym is.who ∙ e)) more.more more.lawful)) c.turn.ensures.lines c.turn.ensures.others order is
 
 pub returns-clause-causes : goal.returns-clause-causes
 returns-clause-causes g c = λ told tells order.
@@ -293,3 +301,6 @@ returns-clause-causes g c = λ told tells order.
     c.turn.ensures.causes told
     (tells_turn told c.args.server.now.copies.items c.turn.new.self.copies.items old new
     (ap (λ (place : PortPlace). place.size) goes.client_place) (ap (λ (place : PortPlace). place.unit) goes.own_place) tells) order
+
+pub returns-clause-values : goal.returns-clause-values
+returns-clause-values g c = λ i e. c.turn.ensures.values e i

@@ -1,6 +1,7 @@
 use Rattle.std.proofs.Common.{◌*◌, Some, ap, arith}
 use Rattle.vscsi_client.specs.State.{ClientState}
 use Rattle.vcpu_run.proofs.Answering.{answered_new}
+use Rattle.tce_window.specs.Window.{WindowValue}
 use Rattle.vcpu_run.proofs.Opened.{driver_new, pair_new, untaken_new}
 use Rattle.vcpu_run.proofs.pair.Pair.with_client.Goals as goal
 
@@ -27,4 +28,5 @@ returns-clause-fresh c =
       taken = new.first.queue.taken;
       sent = new.second.queue.sent;
       untaken = untaken_new c.args.seat.unit c.args.server (256 * c.args.queue) (256 * c.args.seat.queue) c.in_ok-open_link.field-0 driver.field-0 driver.ensures.answers driver.ensures.client new;
+      rows = ap (λ (window : WindowValue). window.rows) c.in_ok-open-2.ensures;
     }

@@ -5,7 +5,7 @@ use Rattle.vio_trace.specs.declared.outcome.Outcome.TheVariants as outcomes
 use Rattle.vscsi_client.specs.State.{ClientState}
 use Rattle.unit_region.specs.declared.step.Step.TheVariants as steps
 use Rattle.vcpu_run.specs.Credited.{StepsAgreed, grants, is_take, taken_in}
-use Rattle.vcpu_run.specs.CallsSaid.{place_at}
+use Rattle.vcpu_run.specs.CallsSaid.{seen_from}
 use Rattle.vcpu_run.specs.Suited.{IsLineAt, is_call}
 use Rattle.vcpu_run.proofs.CallsKept.{says_none}
 use Rattle.vcpu_run.proofs.Crediting.{less_by, line_ends, lines_none}
@@ -22,15 +22,25 @@ use Rattle.lan_script.specs.PortCounts.{counts, counts_by, counts_told}
 use Rattle.boot_text.specs.declared.verb.Verb.{Verb}
 use Rattle.vcpu_run.proofs.script.Script.end_waiting.Goals as goal
 
-pub end-requires-clause-called : goal.end-requires-clause-called
-end-requires-clause-called c =
+pub returns-clause-script : goal.returns-clause-script
+returns-clause-script c = λ pairs is.
     let other : is_call c.in-Some.line.now.verb ≡ false =
     elim c.match-line.branch [
       | in-Login w ↦ ap is_call w.in-Login.is
       | in-Reset w ↦ ap is_call w.in-Reset.is
       | in-Take w ↦ ap is_call w.in-Take.is
     ] in
-    says_none (place_at c.args.self.now.partition c.args.self.now.seats.items) c.in-Some.line.now.verb c.match-line.outcome other
+    c.end.ensures.script pairs is (says_none (seen_from c.args.self.now.partition c.args.self.now.seats.items pairs) c.in-Some.line.now.verb c.match-line.outcome other)
+
+pub returns-in_err-end-clause-script : goal.returns-in_err-end-clause-script
+returns-in_err-end-clause-script c = λ pairs is.
+    let other : is_call c.in-Some.line.now.verb ≡ false =
+    elim c.match-line.branch [
+      | in-Login w ↦ ap is_call w.in-Login.is
+      | in-Reset w ↦ ap is_call w.in-Reset.is
+      | in-Take w ↦ ap is_call w.in-Take.is
+    ] in
+    c.end.ensures.script pairs is (says_none (seen_from c.args.self.now.partition c.args.self.now.seats.items pairs) c.in-Some.line.now.verb c.match-line.outcome other)
 
 pub returns-clause-credited : goal.returns-clause-credited
 returns-clause-credited c = λ pairs script is.

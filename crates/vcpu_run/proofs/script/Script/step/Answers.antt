@@ -9,7 +9,7 @@ use Rattle.std.proofs.lemmas.Option.{slice_get_within}
 use Rattle.unit_region.specs.declared.step.Step.{Step}
 use Rattle.unit_region.specs.declared.step.Step.TheVariants as steps
 use Rattle.vcpu_run.specs.Agreed.{SameElse, StepsLine}
-use Rattle.vcpu_run.specs.CallsSaid.{StepSaid, place_at}
+use Rattle.vcpu_run.specs.CallsSaid.{StepSaid, seen_from}
 use Rattle.vcpu_run.specs.Credited.{taken_in}
 use Rattle.vcpu_run.specs.Suited.{IsLineAt}
 use Rattle.boot_text.specs.declared.plan.Line.{Line}
@@ -38,11 +38,6 @@ step_unit-requires c =
       };
     }
 
-pub end-requires-clause-called : goal.end-requires-clause-called
-end-requires-clause-called c =
-    subst (λ (st : Step). StepSaid (place_at c.args.self.now.partition c.args.self.now.seats.items) c.args.line.now.verb st) c.in-Ends.is
-    (rw (← c.deref.ensures.value) c.in_ok-step.ensures.called)
-
 pub returns-in_err-step : goal.returns-in_err-step
 returns-in_err-step c =
     let line : IsLineAt c.args.self.now.seats.items c.args.line.now =
@@ -69,7 +64,9 @@ returns-in_err-end-in-Ends c =
     all_at (IsLineAt c.args.self.now.seats.items) c.args.self.now.lines.now c.args.self.now.at c.args.line.now c.requires.line c.requires.script.lines in
     record {
       driven = c.step_unit.ensures.driven;
-      script = c.end.ensures.script c.step_unit.new.pairs (script_steps c.args.pairs.now c.step_unit.new.pairs c.args.self.now c.step_unit.new.progress c.step_unit.ensures.driven c.requires.script);
+      script = c.end.ensures.script c.step_unit.new.pairs (script_steps c.args.pairs.now c.step_unit.new.pairs c.args.self.now c.step_unit.new.progress c.step_unit.ensures.driven c.requires.script)
+          (subst (λ (st : Step). StepSaid (seen_from c.args.self.now.partition c.args.self.now.seats.items c.step_unit.new.pairs) c.args.line.now.verb st) c.in-Ends.is
+          (rw (← c.deref.ensures.value) c.in_ok-step.ensures.called));
       rest = record { partition = c.end.ensures.rest.partition; lines = c.end.ensures.rest.lines; seats = c.end.ensures.rest.seats };
       others = subst (λ (seats : List Seat). SameElse seats c.args.pairs.now c.step_unit.new.pairs) c.deref.ensures.value c.step_unit.ensures.others;
       unfreed = search rules;
@@ -89,7 +86,9 @@ returns-in_ok-end-in-Ends c =
     all_at (IsLineAt c.args.self.now.seats.items) c.args.self.now.lines.now c.args.self.now.at c.args.line.now c.requires.line c.requires.script.lines in
     record {
       driven = c.step_unit.ensures.driven;
-      script = c.end.ensures.script c.step_unit.new.pairs (script_steps c.args.pairs.now c.step_unit.new.pairs c.args.self.now c.step_unit.new.progress c.step_unit.ensures.driven c.requires.script);
+      script = c.end.ensures.script c.step_unit.new.pairs (script_steps c.args.pairs.now c.step_unit.new.pairs c.args.self.now c.step_unit.new.progress c.step_unit.ensures.driven c.requires.script)
+          (subst (λ (st : Step). StepSaid (seen_from c.args.self.now.partition c.args.self.now.seats.items c.step_unit.new.pairs) c.args.line.now.verb st) c.in-Ends.is
+          (rw (← c.deref.ensures.value) c.in_ok-step.ensures.called));
       rest = record { partition = c.end.ensures.rest.partition; lines = c.end.ensures.rest.lines; seats = c.end.ensures.rest.seats };
       others = subst (λ (seats : List Seat). SameElse seats c.args.pairs.now c.step_unit.new.pairs) c.deref.ensures.value c.step_unit.ensures.others;
       unfreed = λ keep.

@@ -9,7 +9,7 @@ use Rattle.vcpu_run.proofs.Logging.{script_stays}
 use Rattle.vcpu_run.specs.declared.unit_seat.Seat.{Seat}
 use Rattle.vcpu_run.proofs.Held.{fails_held, other_held}
 use Rattle.vio_trace.specs.declared.outcome.Outcome.TheVariants as outcomes
-use Rattle.vcpu_run.specs.CallsSaid.{place_at}
+use Rattle.vcpu_run.specs.CallsSaid.{seen_from}
 use Rattle.vcpu_run.proofs.CallsKept.{fails_no_call, says_none}
 use Rattle.vcpu_run.proofs.PortsTelling.{failed_tells, failing_tells}
 use Rattle.vcpu_run.specs.PortWords.{done_in}
@@ -24,20 +24,18 @@ fail-requires-clause-ports c = rw c.deref.ensures.value c.requires.ports.have
 pub fail-requires-clause-clients : goal.fail-requires-clause-clients
 fail-requires-clause-clients c = rw c.deref.ensures.value (clients_of c.args.self.now.partition c.args.self.now.seats.items c.args.pairs.now c.requires.script.seats c.requires.pairs)
 
-pub end-requires-clause-called : goal.end-requires-clause-called
-end-requires-clause-called c =
-    says_none (place_at c.args.self.now.partition c.args.self.now.seats.items) c.args.line.now.verb outcomes.Done (fails_no_call c.args.line.now.verb c.requires.fails)
-
 pub returns-in_err-fail-clause-script : goal.returns-in_err-fail-clause-script
 returns-in_err-fail-clause-script c = script_stays c.args.pairs.now c.fail.new.pairs c.args.self.now c.fail.ensures.driven c.requires.script
 
 pub returns-in_err-end-clause-script : goal.returns-in_err-end-clause-script
 returns-in_err-end-clause-script c =
     c.end.ensures.script c.fail.new.pairs (script_stays c.args.pairs.now c.fail.new.pairs c.args.self.now c.fail.ensures.driven c.requires.script)
+    (says_none (seen_from c.args.self.now.partition c.args.self.now.seats.items c.fail.new.pairs) c.args.line.now.verb outcomes.Done (fails_no_call c.args.line.now.verb c.requires.fails))
 
 pub returns-then-branch-clause-script : goal.returns-then-branch-clause-script
 returns-then-branch-clause-script c =
     c.end.ensures.script c.fail.new.pairs (script_stays c.args.pairs.now c.fail.new.pairs c.args.self.now c.fail.ensures.driven c.requires.script)
+    (says_none (seen_from c.args.self.now.partition c.args.self.now.seats.items c.fail.new.pairs) c.args.line.now.verb outcomes.Done (fails_no_call c.args.line.now.verb c.requires.fails))
 
 pub returns-clause-script : goal.returns-clause-script
 returns-clause-script c = script_stays c.args.pairs.now c.fail.new.pairs c.args.self.now c.fail.ensures.driven c.requires.script
@@ -104,13 +102,13 @@ returns-then-branch-clause-said c = λ is.
     c.in_ok-end.ensures.at ∙ (ap (λ b. cond b (length c.args.self.now.lines.now) (c.args.self.now.at + 1)) c.requires.fails
     ∙ sym (ap (λ lines. length lines.now) c.end.ensures.rest.lines)) in
     fail_ends_told c.args.pairs.now c.fail.new.pairs c.args.self.now c.end.new.self c.args.line.now _ c.requires.line c.requires.fails
-    c.requires.script.seats c.fail.ensures.driven c.in_ok-fail.ensures.gives
+    c.requires.script.seats c.fail.ensures.driven c.in_ok-fail.ensures.gives c.fail.ensures.values
     (c.requires.script.logs.reached (slice_get_within c.args.self.now.lines.now c.args.self.now.at c.args.line.now c.requires.line))
     refl c.end.ensures.rest.lines c.end.ensures.rest.seats c.in_ok-end.ensures.ended.logs over is
 
 pub returns-clause-said : goal.returns-clause-said
 returns-clause-said c = λ is.
-    fail_waits_told c.args.pairs.now c.fail.new.pairs c.args.self.now c.args.line.now c.requires.line c.requires.fails c.requires.script.seats c.fail.ensures.driven c.in_ok-fail.ensures.gives is
+    fail_waits_told c.args.pairs.now c.fail.new.pairs c.args.self.now c.args.line.now c.requires.line c.requires.fails c.requires.script.seats c.fail.ensures.driven c.in_ok-fail.ensures.gives c.fail.ensures.values is
 
 pub returns-then-branch-clause-out : goal.returns-then-branch-clause-out
 returns-then-branch-clause-out c = λ is. absurd (not_quiet is)

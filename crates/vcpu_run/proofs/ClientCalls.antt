@@ -1,0 +1,184 @@
+-- What a raw call returns at a client's pair: what its window and its end answered.
+use Rattle.std.proofs.Common.{◌≡◌, ◌↔◌, ◌∙◌, ◌<◌, ◌/◌, ◌++◌, ℕ, nat_le, Bool, true, false, cond, List, [], ◌∷◌, Option, Some, None, Result, Ok, Err, IfOk, IfSome, Contains, length, slice_get, refl, sym, ap, subst, arith}
+use Rattle.std.specs.Borrow.{GName}
+use Rattle.std.specs.Option.{option_map}
+use Rattle.std.proofs.lemmas.Bool.{eq-eqb}
+use Rattle.std.proofs.lemmas.Bool.Decides.{nat_tests}
+use Rattle.std.proofs.lemmas.List.Elements.{Contains-append_right, Contains-get_or}
+use Rattle.std.proofs.lemmas.Option.{get_or_from_slice_get, slice_get_within}
+use Rattle.vio_num.specs.Entry.{first_byte}
+use Rattle.vio_num.specs.declared.entry.Entry.{Entry}
+use Rattle.vio_num.specs.declared.hypervisor.Hrc.{Hrc}
+use Rattle.vio_num.specs.declared.hypervisor.Hrc.TheVariants as codes
+use Rattle.vio_num.specs.declared.memory.NoMemory.{NoMemory}
+use Rattle.crq_ring.specs.declared.rows.PipeRow.{PipeRow}
+use Rattle.crq_session.specs.Answered.{Sends}
+use Rattle.crq_session.specs.EndState.{EndPlace, EndState, OnlySends}
+use Rattle.crq_session.specs.PlainState.{end_of}
+use Rattle.tce_window.specs.Answers.{gives, is_entry}
+use Rattle.tce_window.specs.PortState.{PortState, Puts}
+use Rattle.tce_window.specs.Puts.{takes}
+use Rattle.hcall_table.specs.Asked.{bare}
+use Rattle.hcall_table.specs.Rows.{IsAnswer, may_answer}
+use Rattle.hcall_table.specs.declared.hcall.Hcall.TheVariants as rows
+use Rattle.hcall_table.specs.declared.returned.Returned.{Returned}
+use Rattle.unit_region.specs.EntryAnswers.{AnswersEntry, put_if}
+use Rattle.unit_region.specs.EntryRows.{answer_by, entry_row}
+use Rattle.unit_region.specs.declared.entry_calls.EntryCall.{EntryCall}
+use Rattle.unit_region.specs.declared.entry_calls.EntryCall.TheVariants as entries
+use Rattle.vcpu_run.specs.declared.client_call.QueueCall.{QueueCall}
+use Rattle.vcpu_run.specs.declared.client_call.QueueCall.TheVariants as queues
+use Rattle.vcpu_run.specs.declared.driver.Driver.{Driver}
+use Rattle.vcpu_run.specs.declared.pair.Pair.{Pair}
+use Rattle.vcpu_run.specs.CallRows.{entry_arguments, queue_arguments, queue_row}
+use Rattle.vcpu_run.specs.CallsAnswered.{AnswersQueue, IsReturned, SendsOne, is_taken, no_client, unit_seen}
+use Rattle.vcpu_run.specs.LinesShow.{IsPutBy}
+use Rattle.vcpu_run.proofs.LinesShown.{contains_first, end_sees}
+
+-- what is at a place of a list is in it
+has_at : {X : Type 0} (xs : List X) (i : ℕ) (x : X) → slice_get xs i ≡ Some x → Contains xs x
+has_at xs i x shown =
+    subst (λ y. Contains xs y) (get_or_from_slice_get xs i x x shown) (Contains-get_or xs i x (slice_get_within xs i x shown))
+
+-- the value of an entry
+not_both : (b : Bool) → b ≡ true → b ≡ false → ⊥
+not_both b is isnt = cc
+
+get_parameter : (n address value : ℕ) (values : ℕ → List ℕ) (code : Hrc) → may_answer rows.GetTce code ≡ true → gives n values address (answer_by code value)
+    → (code ≡ codes.Parameter) ↔ (is_entry n address ≡ false)
+get_parameter n address value values codes.Success may is = (λ e. absurd (apart e), λ none. absurd (not_both (is_entry n address) is.0 none))
+  where
+    apart : codes.Success ≡ codes.Parameter → ⊥
+    apart e = cc
+get_parameter n address value values codes.Parameter may is = (λ e. is, λ none. refl)
+get_parameter n address value values codes.Busy may is = absurd (cc)
+get_parameter n address value values codes.Closed may is = absurd (cc)
+get_parameter n address value values codes.Function may is = absurd (cc)
+get_parameter n address value values codes.NotFound may is = absurd (cc)
+get_parameter n address value values codes.Dropped may is = absurd (cc)
+get_parameter n address value values codes.SourceParm may is = absurd (cc)
+get_parameter n address value values codes.DestParm may is = absurd (cc)
+get_parameter n address value values codes.Resource may is = absurd (cc)
+
+got_there : (n address value : ℕ) (values : ℕ → List ℕ) (code : Hrc) → gives n values address (answer_by code value) → code ≡ codes.Success
+    → Contains (values (address / 4096)) value
+got_there n address value values code is good =
+    let got = subst (λ (c : Hrc). gives n values address (answer_by c value)) good is in
+    has_at (values (address / 4096)) got.1.0 value got.1.1.shown
+
+value_there : (old new : PortState) (address value : ℕ) (code : Hrc) → Puts old address (put_if code value) new → code ≡ codes.Success → Contains (new.values (address / 4096)) value
+value_there old new address value code puts good =
+    let is = subst (λ (c : Hrc). Puts old address (put_if c value) new) good puts in
+    let entry : ℕ = address / 4096 in
+    let put : new.values entry ≡ old.values entry ++ value ∷ [] = is.values entry ∙ ap (λ b. old.values entry ++ cond b (value ∷ []) []) (eq-eqb entry entry refl) in
+    subst (λ (list : List ℕ). Contains list value) (sym put) (Contains-append_right (old.values entry) (value ∷ []) value (contains_first value []))
+
+-- a call on the entries of a client's window, of so many pages, which has these values then
+pub entry_seen : (old new : PortState) (n : ℕ) (values : ℕ → List ℕ) (put : Entry → Type 0) (slot : Option Driver) (call : EntryCall) (returned : Returned)
+    → old.place.size ≡ n → new.values ≡ values → IsAnswer (entry_row call) returned → AnswersEntry old new call returned
+    → IsReturned (record { pages = option_map (λ (driver : Driver). n) slot; value_at = λ entry value. Contains (values entry) value; entry_put = put })
+    (entry_row call) (entry_arguments call) returned
+entry_seen old new n values put slot (entries.Get address) returned size same answer is =
+    let given : gives n values address (answer_by returned.code returned.r4) =
+    subst (λ m. gives m values address (answer_by returned.code returned.r4)) size
+    (subst (λ (v : ℕ → List ℕ). gives old.place.size v address (answer_by returned.code returned.r4)) same is) in
+    record { parameter = at given slot; done = got_there n address returned.r4 values returned.code given }
+  where
+    at : gives n values address (answer_by returned.code returned.r4) → (o : Option Driver)
+        → IfSome (is_taken rows.GetTce (option_map (λ (driver : Driver). n) o) (address ∷ [])) (λ taken. (returned.code ≡ codes.Parameter) ↔ (taken ≡ false))
+    at given None = tt
+    at given (Some driver) = get_parameter n address returned.r4 values returned.code answer.code given
+entry_seen old new n values put slot (entries.Put address value) returned size same answer is =
+    record {
+      parameter = at slot;
+      done = λ good. subst (λ (v : ℕ → List ℕ). Contains (v (address / 4096)) value) same (value_there old new address value returned.code is.put good);
+    }
+  where
+    at : (o : Option Driver)
+        → IfSome (is_taken rows.PutTce (option_map (λ (driver : Driver). n) o) (address ∷ value ∷ [])) (λ taken. (returned.code ≡ codes.Parameter) ↔ (taken ≡ false))
+    at None = tt
+    at (Some driver) = subst (λ m. (returned.code ≡ codes.Parameter) ↔ (takes m address value ≡ false)) size is.parameter
+entry_seen old new n values put slot (entries.Stuff address value count) returned size same answer is = record { parameter = tt; done = λ good. tt }
+entry_seen old new n values put slot (entries.PutList address list count) returned size same answer is = record { parameter = tt; done = λ good. tt }
+
+pub entry_seen_ok : (old new : PortState) (n : ℕ) (values : ℕ → List ℕ) (put : Entry → Type 0) (slot : Option Driver) (call : EntryCall) (result : Result Returned NoMemory)
+    → old.place.size ≡ n → new.values ≡ values → IfOk result (IsAnswer (entry_row call)) → IfOk result (AnswersEntry old new call)
+    → IfOk result (IsReturned (record { pages = option_map (λ (driver : Driver). n) slot; value_at = λ entry value. Contains (values entry) value; entry_put = put })
+    (entry_row call) (entry_arguments call))
+entry_seen_ok old new n values put slot call (Ok returned) size same answer is = entry_seen old new n values put slot call returned size same answer is
+entry_seen_ok old new n values put slot call (Err memory) size same answer is = tt
+
+-- a first byte below 0x80
+le_false : (n : ℕ) → nat_le 0x80 n ≡ false → n < 0x80
+le_false n e = grind (arith, nat_tests, e)
+
+false_le : (n : ℕ) → n < 0x80 → nat_le 0x80 n ≡ false
+false_le n less = at (nat_le 0x80 n) refl
+  where
+    at : (b : Bool) → nat_le 0x80 n ≡ b → b ≡ false
+    at true e = absurd (grind (arith, nat_tests, e, less))
+    at false e = refl
+
+-- a call on a client's queue, as its end answers
+pub client_queue : (pair : Pair) (lenders : List GName) (first : Bool) (call : QueueCall) (code : Hrc) (driver : Driver) → first ≡ false → pair.driver ≡ Some driver
+    → AnswersQueue false (end_of lenders pair.link first) call code → IsReturned (unit_seen (Some pair)) (queue_row call) (queue_arguments call) (bare code)
+client_queue pair lenders first (queues.Register address bytes) code driver is has answer = record { parameter = tt; done = λ good. tt }
+client_queue pair lenders first queues.Free code driver is has answer = record { parameter = tt; done = λ good. tt }
+client_queue pair lenders first queues.Enable code driver is has answer = record { parameter = tt; done = λ good. tt }
+client_queue pair lenders first (queues.Send high low) code driver is has answer =
+    let entry : Entry = record { high = high; low = low } in
+    let taken : (code ≡ codes.Parameter) ↔ (nat_le 0x80 (first_byte entry) ≡ false) =
+    (λ e. false_le (first_byte entry) (answer.parameter.0 e), λ e. answer.parameter.1 (le_false (first_byte entry) e)) in
+    record {
+      parameter = subst (λ (o : Option Driver). IfSome (is_taken rows.SendCrq (option_map (λ (driver : Driver). length pair.window.pages) o) (high ∷ low ∷ []))
+          (λ taken. (code ≡ codes.Parameter) ↔ (taken ≡ false))) (sym has) taken;
+      done = λ good. (end_sees pair lenders first is).entries entry (answer.put good);
+    }
+
+good_parameter : codes.Parameter ≡ codes.Success → ⊥
+good_parameter e = cc
+
+-- where there is no client
+pub absent_queue : (pair : Pair) (call : QueueCall) → pair.driver ≡ None → IsReturned (unit_seen (Some pair)) (queue_row call) (queue_arguments call) (bare codes.Parameter)
+absent_queue pair (queues.Register address bytes) none = record { parameter = tt; done = λ good. tt }
+absent_queue pair queues.Free none = record { parameter = tt; done = λ good. tt }
+absent_queue pair queues.Enable none = record { parameter = tt; done = λ good. tt }
+absent_queue pair (queues.Send high low) none = record {
+  parameter = subst (λ (o : Option Driver). IfSome (is_taken rows.SendCrq (option_map (λ (driver : Driver). length pair.window.pages) o) (high ∷ low ∷ []))
+      (λ taken. (codes.Parameter ≡ codes.Parameter) ↔ (taken ≡ false))) (sym none) (λ e. refl, λ e. refl);
+  done = λ good. absurd (good_parameter good);
+}
+
+-- at a unit that is no client
+pub other_entry : (call : EntryCall) (returned : Returned) → IsReturned no_client (entry_row call) (entry_arguments call) returned
+other_entry (entries.Get address) returned = record { parameter = tt; done = λ good. tt }
+other_entry (entries.Put address value) returned = record { parameter = tt; done = λ good. tt }
+other_entry (entries.Stuff address value count) returned = record { parameter = tt; done = λ good. tt }
+other_entry (entries.PutList address list count) returned = record { parameter = tt; done = λ good. tt }
+
+pub other_queue : (call : QueueCall) → IsReturned no_client (queue_row call) (queue_arguments call) (bare codes.Parameter)
+other_queue (queues.Register address bytes) = record { parameter = tt; done = λ good. tt }
+other_queue queues.Free = record { parameter = tt; done = λ good. tt }
+other_queue queues.Enable = record { parameter = tt; done = λ good. tt }
+other_queue (queues.Send high low) = record { parameter = (λ e. refl, λ e. refl); done = λ good. tt }
+
+-- an entry that an end sent
+pub sent_by : (shared : Bool) (old new : EndState) (entry : Entry) (number : ℕ) → OnlySends shared old new → Sends shared old entry new number → IsPutBy shared new entry
+sent_by shared old new entry number rest sends =
+    let row : PipeRow = record { session = new.counts.partner_session; entry = entry } in
+    record {
+      there = subst (λ (rows : List PipeRow). Contains rows row) (sym sends.puts.sent) (Contains-append_right old.sent (row ∷ []) row (contains_first row []));
+      partner = λ alone. ap (λ (place : EndPlace). place.partner_registered) rest.place ∙ sends.puts.partner alone;
+    }
+
+pub sends_one : (shared : Bool) (new : EndState) (entry : Entry) (result : Result Hrc NoMemory) → IfOk result (λ code. (code ≡ codes.Parameter) ↔ (first_byte entry < 0x80))
+    → IfOk result (λ code. code ≡ codes.Success → IsPutBy shared new entry) → IfOk result (SendsOne shared new entry)
+sends_one shared new entry (Ok code) parameter put = record { parameter = parameter; put = put }
+sends_one shared new entry (Err memory) parameter put = tt
+
+-- the same of what was answered, if anything was
+pub client_queue_ok : (pair : Pair) (lenders : List GName) (first : Bool) (call : QueueCall) (result : Result Hrc NoMemory) (driver : Driver) → first ≡ false → pair.driver ≡ Some driver
+    → IfOk result (AnswersQueue false (end_of lenders pair.link first) call)
+    → IfOk result (λ code. IsReturned (unit_seen (Some pair)) (queue_row call) (queue_arguments call) (bare code))
+client_queue_ok pair lenders first call (Ok code) driver is has answer = client_queue pair lenders first call code driver is has answer
+client_queue_ok pair lenders first call (Err memory) driver is has answer = tt

@@ -1,0 +1,26 @@
+use Rattle.std.proofs.Common.{◌≡◌, ℕ, subst}
+use Rattle.lan_script.specs.LineSays.{SendsAs}
+use Rattle.lan_script.specs.PortCounts.{CountsStep, counts_after, counts_by}
+use Rattle.lan_script.specs.Replayed.{Replays}
+use Rattle.lan_script.specs.declared.lines.PortStep.{PortStep}
+use Rattle.unit_region.specs.declared.step.Step.TheVariants as steps
+use Rattle.vcpu_run.specs.Ports.{unit_of}
+use Rattle.vcpu_run.specs.PortReplays.{StepReplays}
+use Rattle.vcpu_run.proofs.PortRising.{replays_ended, step_beside}
+use Rattle.vcpu_run.proofs.port_line.step.Goals as goal
+
+pub returns-in-Ends-clause-replays : goal.returns-in-Ends-clause-replays
+returns-in-Ends-clause-replays c =
+    let u = unit_of c.args.partition c.args.line.now.unit in
+    subst (λ (done : ℕ). StepReplays u c.args.line.now.verb done c.args.lan.now c.step.new.self (steps.Ends c.in-Ends.outcome)) c.done.ensures
+    (replays_ended u c.args.line.now.verb c.done.result c.in-Ends.outcome c.args.lan.now c.step.new.self c.step.ensures.seats
+    (subst (λ (s : PortStep). SendsAs u s c.args.lan.now c.step.new.self) c.in-Ends.is c.in_ok-outcome.ensures.sends)
+    (subst (λ (s : PortStep). CountsStep u c.args.line.now.verb c.done.result s c.args.lan.now c.step.new.self) c.in-Ends.is c.in_ok-outcome.ensures.counts)
+    c.in_ok-outcome.ensures.values
+    (λ first. subst (λ (s : PortStep). Replays u c.args.line.now.verb s c.args.lan.now c.step.new.self) c.in-Ends.is (c.in_ok-outcome.ensures.replays first)))
+
+pub returns-in-Ends-clause-beside : goal.returns-in-Ends-clause-beside
+returns-in-Ends-clause-beside c =
+    step_beside (unit_of c.args.partition c.args.line.now.unit) c.in_ok-outcome.field-0 (counts_by c.args.line.now.verb c.done.result)
+    (counts_after c.args.line.now.verb c.in_ok-outcome.field-0) c.args.lan.now c.step.new.self c.step.ensures.seats c.in_ok-outcome.ensures.sends
+    c.in_ok-outcome.ensures.counts c.in_ok-outcome.ensures.beside c.in_ok-outcome.ensures.others
