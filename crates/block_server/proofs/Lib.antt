@@ -11,6 +11,10 @@ pub mod Makings
 pub mod CargoLaws
 pub mod RunRests
 pub mod Restings
+pub mod Coming
+pub mod ComingParts
+pub mod ComingStages
+pub mod ComingTurns
 pub mod Answered
 pub mod Named
 pub mod Denying

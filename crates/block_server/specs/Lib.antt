@@ -40,6 +40,7 @@ pub mod Runs
 pub mod Serving
 pub mod SiteState
 pub mod Stage
+pub mod Steps
 pub mod Turns
 pub mod Units
 pub mod Verdicts

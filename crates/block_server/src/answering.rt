@@ -20,6 +20,7 @@ ghost use Rattle.block_server.specs.Ready.{MeetsFull};
 ghost use Rattle.block_server.specs.Refusals.{DeniesAnswer, Explains, ExplainsBy, ExplainsOf, ExplainsOn, ledger_at, ledger_of};
 ghost use Rattle.crq_ring.specs.declared.rows.PipeRow.{PipeRow};
 ghost use Rattle.block_server.specs.Stage.{is_answered};
+ghost use Rattle.block_server.specs.Steps.{ComesOn, NoStage, ToEntry};
 ghost use Rattle.block_server.specs.Turns.{IfQuiet};
 ghost use Rattle.block_server.specs.Waits.{AsNext, IsEntryDue, IsHeldUp, IsPending, MeetsUse, PassesKept, StaysAgreed};
 ghost use Rattle.vio_num.specs.Entry.{srp_entry};
@@ -46,6 +47,8 @@ pub(crate) fn put_reply<S: Site>(unit: &mut Unit, site: &mut S, reply: Entry) ->
     requires may { MayPut reply }
     requires plain { IsPlain reply }
     ensures still { result ≢ Next.End → unit.new.line.kept ≡ unit.old.line.kept }
+    ensures comes { ComesOn NoStage unit.old unit.new
+        (S.state site.old).queue (S.state site.new).queue }
     ensures once { (records : Records) → AnswersOnce (desk_of unit.old) (desk_of unit.new)
         (S.state site.old).queue (S.state site.new).queue records records }
     ensures kept { result ≡ Next.End → unit.new.line.kept ≡ Some (Kept.Reply reply) }
@@ -268,6 +271,7 @@ pub(crate) fn log_out(unit: &mut Unit, session: u64, records: &mut Records)
         records.old records.new }
     ensures handshake { unit.new.line.handshake ≡ unit.old.line.handshake }
     ensures moved { unit.new.moved ≡ true }
+    ensures pending { unit.new.pending.items ≡ drop 1 unit.old.pending.items }
     ensures stands { standing_of unit.new ≡ standing_of unit.old }
     ensures lines { LinesMore unit.old.id unit.old.logins.granted
         records.old.grants.items records.new.grants.items }
@@ -310,6 +314,8 @@ pub(crate) fn answer<S: Site>(
     records: &mut Records,
 ) -> Result<(), NoMemory>
     requires none { unit.old.line.kept ≡ None }
+    ensures comes { OnOk result (ComesOn ToEntry unit.old unit.new
+        (S.state site.old).queue (S.state site.new).queue) }
     ensures once { AnswersOnceBy (S.state site.old) (S.state site.new)
         (desk_of unit.old) (desk_of unit.new) records.old records.new }
     ensures quiet { OnOk result (IfQuiet unit.old unit.new
@@ -359,6 +365,8 @@ fn copy_answer<S: Site>(
     requires line { HasLineRoom records.old }
     requires none { unit.old.line.kept ≡ None }
     ensures none { unit.new.line.kept ≡ None }
+    ensures comes { OnOk result (ComesOn ToEntry unit.old unit.new
+        (S.state site.old).queue (S.state site.new).queue) }
     ensures once { AnswersOnceBy (S.state site.old) (S.state site.new)
         (desk_of unit.old) (desk_of unit.new) records.old records.new }
     ensures queue { (S.state site.new).queue ≡ (S.state site.old).queue }
@@ -407,6 +415,8 @@ fn deliver<S: Site>(unit: &mut Unit, site: &mut S, outcome: Outcome) -> Result<P
     requires stage { unit.old.service.stage ≡ Stage.Answer outcome }
     requires none { unit.old.line.kept ≡ None }
     ensures none { unit.new.line.kept ≡ None }
+    ensures comes { OnOk result (ComesOn ToEntry unit.old unit.new
+        (S.state site.old).queue (S.state site.new).queue) }
     ensures once { (records : Records) → AnswersOnceBy (S.state site.old) (S.state site.new)
         (desk_of unit.old) (desk_of unit.new) records records }
     ensures queue { (S.state site.new).queue ≡ (S.state site.old).queue }
@@ -453,6 +463,8 @@ fn put_answer<S: Site>(unit: &mut Unit, site: &mut S, records: &mut Records, out
     requires logins { unit.old.logins.last + 1 < MOST_LOGINS }
     requires stage { unit.old.service.stage ≡ Stage.Entry outcome }
     requires none { unit.old.line.kept ≡ None }
+    ensures comes { ComesOn NoStage unit.old unit.new
+        (S.state site.old).queue (S.state site.new).queue }
     ensures once { AnswersOnce (desk_of unit.old) (desk_of unit.new)
         (S.state site.old).queue (S.state site.new).queue records.old records.new }
     ensures quiet { IfQuiet unit.old unit.new (S.state site.old).queue (S.state site.new).queue }
@@ -506,6 +518,10 @@ pub(crate) fn put_kept<S: Site>(
     ensures rests { unit.old.line.kept ≡ None → IfOk result (λ next. (next ≡ Next.Entry) ×
         (unit.new ≡ unit.old) × (S.state site.new ≡ S.state site.old)) }
     ensures none { AsNone result unit.new.line.kept }
+    ensures comes { (terms : Terms) →
+        IsServing terms (desk_of unit.old) records.old.history.items →
+        OnOk result (ComesOn NoStage unit.old unit.new
+        (S.state site.old).queue (S.state site.new).queue) }
     ensures once { AnswersOnce (desk_of unit.old) (desk_of unit.new)
         (S.state site.old).queue (S.state site.new).queue records.old records.new }
     ensures quiet { OnOk result (IfQuiet unit.old unit.new

@@ -9,6 +9,7 @@ ghost use Rattle.crq_ring.specs.declared.rows.PipeRow.{PipeRow};
 ghost use Rattle.block_server.specs.Advances.{Advances};
 ghost use Rattle.block_server.specs.Ready.{Idles};
 ghost use Rattle.block_server.specs.Resting.{IsEmptied};
+ghost use Rattle.block_server.specs.Steps.{ComesOn, NoStage};
 ghost use Rattle.block_server.specs.Turns.{IfQuiet, StaysMoved, under_way};
 ghost use Rattle.block_server.specs.Waits.{AsNext, EndsIntake, FindsNothing, MeetsUse, StaysAgreed};
 ghost use Rattle.block_server.specs.Serving.{AnswersOnceBy, AnswersOnceIf, AsNone, desk_of};
@@ -99,6 +100,8 @@ pub(crate) fn take_in<S: Site>(
         IsEmptied (S.state site.old).queue → OnOk result
         ((unit.new.moved ≡ unit.old.moved) ×
         (unit.new.pending.items ≡ unit.old.pending.items)) }
+    ensures comes { OnOk result (ComesOn NoStage unit.old unit.new
+        (S.state site.old).queue (S.state site.new).queue) }
     ensures none { AsNone result unit.new.line.kept }
     ensures once { AnswersOnceBy (S.state site.old) (S.state site.new)
         (desk_of unit.old) (desk_of unit.new) records.old records.new }
@@ -152,6 +155,8 @@ fn receive_waiting<S: Site>(
     requires none { unit.old.line.kept ≡ None }
     ensures rests { unit.old.waiting ≡ None → IfOk result (λ next. (next ≡ Next.Entry) ×
         (unit.new ≡ unit.old) × (S.state site.new ≡ S.state site.old)) }
+    ensures comes { OnOk result (ComesOn NoStage unit.old unit.new
+        (S.state site.old).queue (S.state site.new).queue) }
     ensures none { AsNone result unit.new.line.kept }
     ensures once { AnswersOnceBy (S.state site.old) (S.state site.new)
         (desk_of unit.old) (desk_of unit.new) records.old records.new }
@@ -220,6 +225,8 @@ fn take_one<S: Site>(unit: &mut Unit, site: &mut S, records: &mut Records) -> Re
     requires none { unit.old.line.kept ≡ None }
     ensures rests { S.link_shared ≡ false → IsEmptied (S.state site.old).queue →
         IfOk result (λ next. (next ≡ Next.Service) × (unit.new ≡ unit.old)) }
+    ensures comes { OnOk result (ComesOn NoStage unit.old unit.new
+        (S.state site.old).queue (S.state site.new).queue) }
     ensures none { AsNone result unit.new.line.kept }
     ensures once { AnswersOnceBy (S.state site.old) (S.state site.new)
         (desk_of unit.old) (desk_of unit.new) records.old records.new }
@@ -339,6 +346,7 @@ fn receive<S: Site>(
     requires lines { HasLineRoom records.old }
     requires pending { deque_len unit.old.pending < deque_capacity unit.old.pending }
     requires none { unit.old.line.kept ≡ None }
+    ensures received { OnOk result ((unit.new.waiting ≡ None) ⊎ (unit.new ≡ unit.old)) }
     ensures none { AsNone result unit.new.line.kept }
     ensures once { AnswersOnceBy (S.state site.old) (S.state site.new)
         (desk_of unit.old) (desk_of unit.new) records.old records.new }

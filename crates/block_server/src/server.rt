@@ -122,6 +122,9 @@ impl<B: Blocks> Server<B> {
             record { partition = self.old.partition; unit = unit } }
         ensures rests { C.is_shared ≡ false → RestsAt self.old.units.items unit (C.state crq.old) →
             IfOk result (λ moved. moved ≡ Moved.Quiet) }
+        ensures moved { IfOk result (λ moved. moved ≡ Moved.Moved →
+            ¬ (IsStill (C.state crq.old) (C.state crq.new) ×
+            (way_of self.new.units.items unit ≡ way_of self.old.units.items unit))) }
         ensures goes { Goes (C.state crq.old) (C.state crq.new) (O.state own.old)
             (O.state own.new) (R.state client.old) (R.state client.new) }
         ensures values { (e : ℕ) → Later R.is_shared

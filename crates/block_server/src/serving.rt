@@ -22,7 +22,8 @@ ghost use Rattle.block_server.specs.Serving.{AnswersOnce, AnswersOnceIf, Answers
 ghost use Rattle.block_server.specs.Heard.{TellsAll, heard_between};
 ghost use Rattle.tce_window.specs.declared.answers.Right.TheVariants.{Write};
 ghost use Rattle.block_server.specs.Entries.{is_response_len};
-ghost use Rattle.block_server.specs.Stage.{how_far, is_answered, is_before_step, is_data_in, is_data_out, is_given};
+ghost use Rattle.block_server.specs.Stage.{how_far, is_answered, is_before_step, is_data_in, is_data_out, is_entry, is_given};
+ghost use Rattle.block_server.specs.Steps.{ComesOn, OtherStage};
 ghost use Rattle.block_server.specs.Waits.{IsHeldUp, IsPending, MeetsUse, StaysAgreed};
 ghost use Rattle.crq_session.specs.EndState.{EndState};
 ghost use Rattle.vio_num.specs.declared.history.Served.{Served};
@@ -55,6 +56,8 @@ pub(crate) fn serve<S: Site, B: Blocks>(
     disk: &mut Disk<B>,
 ) -> Result<(), NoMemory>
     requires none { unit.old.line.kept ≡ None }
+    ensures comes { OnOk result (ComesOn OtherStage unit.old unit.new
+        (S.state site.old).queue (S.state site.new).queue) }
     ensures once { (told : Told → Bool) →
         TellsAll told unit.old.id (S.state site.old) (S.state site.new) → AnswersOnceOn
         (held told disk.old.count (B.state disk.old.image).blocks)
@@ -119,6 +122,8 @@ pub(crate) fn serve<S: Site, B: Blocks>(
 fn note_stage(unit: &mut Unit, before: (u8, u32))
     ensures moved { unit.new.moved ≡ false →
         (unit.old.moved ≡ false) × (how_far unit.old.service.stage ≡ before) }
+    ensures noted { ((unit.new.moved ≡ unit.old.moved) ×
+        (how_far unit.old.service.stage ≡ before)) ⊎ (how_far unit.old.service.stage ≢ before) }
     ensures way { under_way unit.new ≡ under_way unit.old }
     ensures desk { desk_of unit.new ≡ desk_of unit.old }
     ensures line { unit.new.line ≡ unit.old.line }
@@ -146,6 +151,8 @@ fn prepare<S: Site, B: Blocks>(
     records: &mut Records,
     disk: &mut Disk<B>,
 ) -> Result<(), NoMemory>
+    ensures entry { is_entry service.old.stage ≡ true →
+        service.new.stage ≡ service.old.stage }
     ensures once { (told : Told → Bool) → TellsAll told id (S.state site.old) (S.state site.new) →
         (rest : List Request) → AnswersOnceOn
         (held told disk.old.count (B.state disk.old.image).blocks)
@@ -305,6 +312,8 @@ fn serve_command<S: Site, B: Blocks>(
     disk: &mut Disk<B>,
 ) -> Result<(), NoMemory>
     requires asked { request.now.order ≡ Order.Command command.now }
+    ensures entry { is_entry service.old.stage ≡ true →
+        service.new.stage ≡ service.old.stage }
     ensures once { (told : Told → Bool) → TellsAll told id (S.state site.old) (S.state site.new) →
         (on : LoginState) → (rest : List Request) → AnswersOnceOn
         (held told disk.old.count (B.state disk.old.image).blocks)
@@ -350,6 +359,8 @@ fn run_step<S: Site, B: Blocks>(
     disk: &mut Disk<B>,
 ) -> Result<(), NoMemory>
     requires asked { request.now.order ≡ Order.Command command.now }
+    ensures entry { is_entry service.old.stage ≡ true →
+        service.new.stage ≡ service.old.stage }
     ensures once { (told : Told → Bool) → TellsAll told id (S.state site.old) (S.state site.new) →
         (on : LoginState) → (rest : List Request) → AnswersOnceOn
         (held told disk.old.count (B.state disk.old.image).blocks)
@@ -398,6 +409,8 @@ fn run_step<S: Site, B: Blocks>(
 
 // Writes the data-in that the disk step gave to the unit's region, if that is to be done.
 fn store<S: Site>(service: &mut Service, request: &Request, site: &mut S) -> Result<(), NoMemory>
+    ensures entry { is_entry service.old.stage ≡ true →
+        service.new.stage ≡ service.old.stage }
     ensures once { (id : UnitId) → (on : LoginState) → (rest : List Request) →
         (records : Records) → AnswersOnce
         (desk_at id on service.old None (request.now ∷ rest))
@@ -435,6 +448,8 @@ fn hand_over<S: Site>(
     records: &mut Records,
 ) -> Result<(), NoMemory>
     requires asked { request.now.order ≡ Order.Command command.now }
+    ensures entry { is_entry service.old.stage ≡ true →
+        service.new.stage ≡ service.old.stage }
     ensures once { (id : UnitId) → (told : Told → Bool) →
         TellsAll told id (S.state site.old) (S.state site.new) →
         (size : ℕ) → (now : Option (List (List ℕ))) →

@@ -15,7 +15,8 @@ ghost use Rattle.block_server.specs.Heard.{TellsAll};
 ghost use Rattle.block_server.specs.Ready.{Agrees, Idles, MeetsFull, MeetsSender};
 ghost use Rattle.block_server.specs.Refusals.{Explains, ExplainsOn, ledger_of};
 ghost use Rattle.block_server.specs.Resting.{IsResting};
-ghost use Rattle.block_server.specs.Turns.{IfQuiet, IsQuietTurn};
+ghost use Rattle.block_server.specs.Steps.{ComesOn, NoStage, OtherStage};
+ghost use Rattle.block_server.specs.Turns.{IfQuiet, IsQuietTurn, IsStill, under_way};
 ghost use Rattle.block_server.specs.Waits.{AsNext, IsIdle, PassesEvent, StandsOpen, StaysAgreed, StopsOpening};
 
 use crate::answering::{put_kept, put_reply};
@@ -42,6 +43,11 @@ pub(crate) fn turn<S: Site, B: Blocks>(
 ) -> Result<Moved, NoMemory>
     ensures rests { S.link_shared ≡ false → IsResting unit.old (S.state site.old).queue →
         IfOk result (λ moved. moved ≡ Moved.Quiet) }
+    ensures moved { (told : Told → Bool) →
+        IsServing (terms_of told disk.old.count) (desk_of unit.old) records.old.history.items →
+        IfOk result (λ moved. moved ≡ Moved.Moved →
+        ¬ (IsStill (S.state site.old).queue (S.state site.new).queue ×
+        (under_way unit.new ≡ under_way unit.old))) }
     ensures once { (told : Told → Bool) →
         TellsAll told unit.old.id (S.state site.old) (S.state site.new) → AnswersOnceOn
         (held told disk.old.count (B.state disk.old.image).blocks)
@@ -92,6 +98,10 @@ fn steps<S: Site, B: Blocks>(
 ) -> Result<(), NoMemory>
     ensures rests { S.link_shared ≡ false → IsResting unit.old (S.state site.old).queue →
         OnOk result (unit.new.moved ≡ unit.old.moved) }
+    ensures comes { (told : Told → Bool) →
+        IsServing (terms_of told disk.old.count) (desk_of unit.old) records.old.history.items →
+        OnOk result (ComesOn OtherStage unit.old unit.new
+        (S.state site.old).queue (S.state site.new).queue) }
     ensures once { (told : Told → Bool) →
         TellsAll told unit.old.id (S.state site.old) (S.state site.new) → AnswersOnceOn
         (held told disk.old.count (B.state disk.old.image).blocks)
@@ -141,6 +151,8 @@ fn open_line<S: Site>(unit: &mut Unit, site: &mut S) -> Result<Next, NoMemory>
     ensures rests { is_ended unit.old.line ≡ false → (S.state site.old).queue.kept ≡ None →
         IfOk result (λ next. (next ≡ Next.Entry) × (unit.new ≡ unit.old) ×
         Passes (S.state site.old) (S.state site.new)) }
+    ensures comes { OnOk result (ComesOn NoStage unit.old unit.new
+        (S.state site.old).queue (S.state site.new).queue) }
     ensures once { (records : Records) → AnswersOnce (desk_of unit.old) (desk_of unit.new)
         (S.state site.old).queue (S.state site.new).queue records records }
     ensures quiet { OnOk result (IfQuiet unit.old unit.new
@@ -190,6 +202,8 @@ fn push_event<S: Site>(unit: &mut Unit, site: &mut S) -> Next
     requires { 0 < (S.state site.old).queue.spare }
     ensures rests { (S.state site.old).queue.kept ≡ None →
         (result ≡ Next.Entry) × (unit.new ≡ unit.old) }
+    ensures comes { ComesOn NoStage unit.old unit.new
+        (S.state site.old).queue (S.state site.new).queue }
     ensures once { (records : Records) → AnswersOnce (desk_of unit.old) (desk_of unit.new)
         (S.state site.old).queue (S.state site.new).queue records records }
     ensures spare { (S.state site.old).queue.spare ≤ (S.state site.new).queue.spare + 1 }
@@ -228,6 +242,8 @@ fn free_closed<S: Site>(unit: &mut Unit, site: &mut S) -> Next
     requires { 0 < (S.state site.old).queue.spare }
     ensures rests { unit.old.line.closing ≡ false → (result ≡ Next.Entry) ×
         (unit.new ≡ unit.old) × (S.state site.new ≡ S.state site.old) }
+    ensures comes { ComesOn NoStage unit.old unit.new
+        (S.state site.old).queue (S.state site.new).queue }
     ensures once { (records : Records) → AnswersOnce (desk_of unit.old) (desk_of unit.new)
         (S.state site.old).queue (S.state site.new).queue records records }
     ensures spare { (S.state site.old).queue.spare ≤ (S.state site.new).queue.spare + 1 }
@@ -260,6 +276,8 @@ fn free_closed<S: Site>(unit: &mut Unit, site: &mut S) -> Next
 // Frees the session that is to be closed. While a sender is inside the turn ends.
 fn free<S: Site>(unit: &mut Unit, site: &mut S) -> Next
     requires { 0 < (S.state site.old).queue.spare }
+    ensures comes { ComesOn NoStage unit.old unit.new
+        (S.state site.old).queue (S.state site.new).queue }
     ensures once { (records : Records) → AnswersOnce (desk_of unit.old) (desk_of unit.new)
         (S.state site.old).queue (S.state site.new).queue records records }
     ensures spare { (S.state site.old).queue.spare ≤ (S.state site.new).queue.spare + 1 }
@@ -304,6 +322,8 @@ fn free<S: Site>(unit: &mut Unit, site: &mut S) -> Next
 fn register<S: Site>(unit: &mut Unit, site: &mut S)
     requires spare { 1 < (S.state site.old).queue.spare }
     requires down { unit.old.line.handshake ≡ Handshake.Down }
+    ensures comes { ComesOn NoStage unit.old unit.new
+        (S.state site.old).queue (S.state site.new).queue }
     ensures once { (records : Records) → AnswersOnce (desk_of unit.old) (desk_of unit.new)
         (S.state site.old).queue (S.state site.new).queue records records }
     ensures quiet { IfQuiet unit.old unit.new (S.state site.old).queue (S.state site.new).queue }

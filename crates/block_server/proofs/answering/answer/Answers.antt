@@ -25,6 +25,9 @@ use Rattle.block_server.proofs.Ledgers.{explained_then, explains_stands}
 use Rattle.block_server.specs.Refusals.{ledger_of}
 use Rattle.block_server.specs.Serving.{Held, IsServing, desk_of}
 use Rattle.block_server.specs.LoginAnswers.{login_answers}
+use Rattle.block_server.proofs.Coming.{comes_first, comes_put}
+use Rattle.block_server.proofs.ComingParts.{comes_none}
+use Rattle.block_server.specs.Steps.{NoStage}
 use Rattle.block_server.proofs.answering.answer.Goals as goal
 
 pub returns-in_err-make_room-clause-once : goal.returns-in_err-make_room-clause-once
@@ -246,3 +249,13 @@ returns-in-Entry-clause-refuses g c = λ terms all serving front is.
     (λ is. c.copy_answer.ensures.refuses terms.told unit.id front made
     (explains_stands unit unit (g.S.Site.state c.args.site.now) reserved c.args.records.now c.make_room.new.self refl c.reserve.ensures.passes refl c.make_room.ensures.lists.grants (ap login_answers c.reserve.ensures.rest.sent) refl terms.told unit.id front is))
     (c.put_answer.ensures.refuses terms) is
+
+pub returns-in_default-clause-comes : goal.returns-in_default-clause-comes
+returns-in_default-clause-comes g c =
+    comes_first c.args.unit.now _ _ _ _ _ (comes_none NoStage c.args.unit.now _ _ _ (still_reserves _ _ c.reserve.ensures.rest) refl refl) c.in_ok-copy_answer.ensures.comes
+
+pub returns-in-Entry-clause-comes : goal.returns-in-Entry-clause-comes
+returns-in-Entry-clause-comes g c =
+    comes_put c.args.unit.now _ _ _ _ _
+    (comes_first c.args.unit.now _ _ _ _ _ (comes_none NoStage c.args.unit.now _ _ _ (still_reserves _ _ c.reserve.ensures.rest) refl refl) c.in_ok-copy_answer.ensures.comes)
+    c.put_answer.ensures.comes

@@ -22,6 +22,9 @@ use Rattle.std.proofs.Common.{inl}
 use Rattle.block_server.proofs.OwingCalls.{closing_ended}
 use Rattle.block_server.proofs.Taking.{id_stands}
 use Rattle.block_server.specs.declared.logins.Logins.{Logins}
+use Rattle.block_server.proofs.Quieting.{still_equal}
+use Rattle.block_server.proofs.ComingParts.{comes_ended}
+use Rattle.block_server.specs.Steps.{ToEntry}
 use Rattle.block_server.proofs.answering.copy_answer.Goals as goal
 
 pub returns-in_default-clause-once : goal.returns-in_default-clause-once
@@ -152,3 +155,9 @@ returns-in-Refused-clause-refuses g c = λ told unit front all is.
     (Lapsed c.deliver.new.unit.id c.session.result c.deliver.new.unit.logins.current Refused 0 0) c.deliver.new.unit.logins.current Refused 0 0
     (λ i. Lapsed (id_stands _ _ c.deliver.ensures.stands i) ((c.session.ensures ∙ session) i) c.deliver.new.unit.logins.current Refused 0 0)
     (c.end_session.ensures.id ∙ id_stands _ _ c.deliver.ensures.stands) c.end_session.ensures.ends.off session c.end_session.ensures.ends.line) is
+
+pub returns-in-Refused-clause-comes : goal.returns-in-Refused-clause-comes
+returns-in-Refused-clause-comes g c =
+    let denied = c.in_ok-deliver.ensures.refused c.in-Refused.is in
+    comes_ended ToEntry _ _ _ _ (still_equal _ _ c.deliver.ensures.queue) denied.front denied.rest denied.parts
+    c.end_session.ensures.ends.waiting c.end_session.ensures.ends.pending

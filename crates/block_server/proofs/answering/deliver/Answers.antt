@@ -22,6 +22,9 @@ use Rattle.block_server.specs.Stage.{has_answer}
 use Rattle.block_server.specs.declared.site.Halt.TheVariants as halts
 use Rattle.block_server.specs.Entries.{is_answer_len}
 use Rattle.block_server.proofs.Refusing.{fits_answer}
+use Rattle.block_server.proofs.Quieting.{still_equal}
+use Rattle.block_server.proofs.ComingParts.{comes_none, comes_stage, not_entry}
+use Rattle.block_server.specs.Steps.{ToEntry}
 use Rattle.block_server.proofs.answering.deliver.Goals as goal
 
 pub returns-in_default-clause-once : goal.returns-in_default-clause-once
@@ -108,3 +111,13 @@ returns-in-Err-Refused-clause-refused g c = λ is.
       answers = ap (λ (bytes : List ℕ). is_answer_len (length bytes)) same ∙ fits_answer c.args.outcome _ fits;
       denied_is = c.deliver_unit.ensures.refused refused;
     }
+
+pub returns-in-Ok-clause-comes : goal.returns-in-Ok-clause-comes
+returns-in-Ok-clause-comes g c =
+    comes_stage ToEntry _ _ _ _ (still_equal _ _ c.deliver_unit.ensures.queue) refl refl (not_entry c.args.unit.now.service.stage c.args.outcome c.requires.stage, refl)
+
+pub returns-in-Err-Refused-clause-comes : goal.returns-in-Err-Refused-clause-comes
+returns-in-Err-Refused-clause-comes g c = comes_none ToEntry _ _ _ _ (still_equal _ _ c.deliver_unit.ensures.queue) refl refl
+
+pub returns-in-Err-Busy-clause-comes : goal.returns-in-Err-Busy-clause-comes
+returns-in-Err-Busy-clause-comes g c = comes_none ToEntry _ _ _ _ (still_equal _ _ c.deliver_unit.ensures.queue) refl refl

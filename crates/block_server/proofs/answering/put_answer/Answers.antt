@@ -33,6 +33,10 @@ use Rattle.block_server.specs.LoginAnswers.{login_answers, login_put}
 use Rattle.block_server.specs.Serving.{IsAnswerKept}
 use Rattle.block_server.proofs.LoginPuts.{logins_put, logins_same}
 use Rattle.block_server.proofs.Settling.{explains_finished}
+use Rattle.block_server.proofs.Readying.{full_now, send_idles}
+use Rattle.block_server.proofs.ComingParts.{comes_finished, comes_none, work_put}
+use Rattle.block_server.specs.Steps.{NoStage}
+use Rattle.std.proofs.Common.{inl}
 use Rattle.block_server.proofs.answering.put_answer.Goals as goal
 
 pub returns-in_default-clause-once : goal.returns-in_default-clause-once
@@ -163,3 +167,23 @@ returns-in_default-send-clause-refuses g c = λ terms serving front.
     explains_finished terms (desk_of c.args.unit.now) c.args.records.now.history.items (ledger_of c.args.unit.now (g.S.Site.state c.args.site.now) c.args.records.now) (ledger_of c.finish.new.unit (g.S.Site.state c.send.new.self) c.args.records.now) c.args.outcome c.requires.stage refl (passed_session _ _ c.send.ensures.passes) (passed_taken _ _ c.send.ensures.passes)
     (waiting_stands _ _ c.finish.ensures.stands) (ended_stands _ _ c.finish.ensures.stands) c.finish.ensures.pending refl
     (logins_same _ _ _ _ c.in_default-send.not-Success c.in_default-send.not-Dropped c.send.ensures.closed c.send.ensures.refused) c.finish.ensures.id (ap (λ (l : Logins). l.current) c.finish.ensures.logins) serving front
+
+pub returns-in-Success-clause-comes : goal.returns-in-Success-clause-comes
+returns-in-Success-clause-comes g c =
+    inl (work_put (g.S.Site.state c.args.site.now).queue (g.S.Site.state c.send.new.self).queue _ c.send.ensures.rest.taken c.in-Success.ensures.success.puts.sent c.send.ensures.rest.last_session)
+
+pub returns-in-Dropped-clause-comes : goal.returns-in-Dropped-clause-comes
+returns-in-Dropped-clause-comes g c =
+    comes_none NoStage _ _ _ _ (record {
+      taken = c.send.ensures.rest.taken;
+      sent = c.in-Dropped.ensures.dropped.sent;
+      registered = c.send.ensures.rest.registered;
+      session = c.send.ensures.rest.last_session;
+    }) refl refl
+
+pub returns-in_default-send-clause-comes : goal.returns-in_default-send-clause-comes
+returns-in_default-send-clause-comes g c =
+    let front = front_is _ _ c.in-Some.ensures.item.3 in
+    comes_finished NoStage _ _ _ _
+    (send_idles _ _ _ c.send.result c.in_default-send.not-Success c.in_default-send.not-Dropped c.send.ensures.closed c.send.ensures.refused c.send.ensures.rest).still
+    (waiting_stands _ _ c.finish.ensures.stands) c.in-Some.request.now front.0 front.1 c.finish.ensures.pending

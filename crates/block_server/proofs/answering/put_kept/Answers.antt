@@ -38,6 +38,10 @@ use Rattle.block_server.specs.LoginAnswers.{login_answers, login_put}
 use Rattle.block_server.specs.Serving.{IsAnswerKept}
 use Rattle.block_server.proofs.LoginPuts.{logins_plain, logins_put, logins_same}
 use Rattle.block_server.proofs.Settling.{explains_finished}
+use Rattle.block_server.proofs.ComingParts.{comes_finished, comes_none, work_put}
+use Rattle.block_server.proofs.Quieting.{still_on, still_reserves}
+use Rattle.block_server.specs.Steps.{NoStage}
+use Rattle.std.proofs.Common.{inl}
 use Rattle.block_server.proofs.answering.put_kept.Goals as goal
 
 pub returns-in_default-clause-once : goal.returns-in_default-clause-once
@@ -276,3 +280,40 @@ returns-in-Answer-kept-clause-refuses g c = λ terms serving front.
     explains_finished terms (desk_of c.args.unit.now) c.args.records.now.history.items (ledger_of c.args.unit.now (g.S.Site.state c.args.site.now) c.args.records.now) (ledger_of c.finish.new.unit (g.S.Site.state c.send.new.self) c.make_room.new.self) c.in-Answer-kept.outcome kept.stage refl (passed_session _ _ (c.send.ensures.passes ∙ c.reserve.ensures.passes))
     (passed_taken _ _ (c.send.ensures.passes ∙ c.reserve.ensures.passes)) (waiting_stands _ _ c.finish.ensures.stands) (ended_stands _ _ c.finish.ensures.stands) c.finish.ensures.pending c.make_room.ensures.lists.grants
     (logins_same _ _ _ _ c.in_default-send.not-Success c.in_default-send.not-Dropped c.send.ensures.closed c.send.ensures.refused ∙ ap login_answers c.reserve.ensures.rest.sent) c.finish.ensures.id (ap (λ (l : Logins). l.current) c.finish.ensures.logins) serving front
+
+pub returns-in-Dropped-clause-comes : goal.returns-in-Dropped-clause-comes
+returns-in-Dropped-clause-comes g c = λ terms serving.
+    comes_none NoStage c.args.unit.now _ _ _ (still_on _ (g.S.Site.state c.reserve.new.self).queue _ (still_reserves _ _ c.reserve.ensures.rest) (record {
+      taken = c.send.ensures.rest.taken;
+      sent = c.in-Dropped.ensures.dropped.sent;
+      registered = c.send.ensures.rest.registered;
+      session = c.send.ensures.rest.last_session;
+    })) refl refl
+
+pub returns-in-Answer-clause-comes : goal.returns-in-Answer-clause-comes
+returns-in-Answer-clause-comes g c = λ terms serving.
+    let put : PipeRow = record { session = (g.S.Site.state c.send.new.self).queue.counts.partner_session; entry = c.entry.result } in
+    inl (work_put (g.S.Site.state c.args.site.now).queue (g.S.Site.state c.send.new.self).queue put (c.send.ensures.rest.taken ∙ c.reserve.ensures.rest.taken)
+    (c.in-Success.ensures.success.puts.sent ∙ ap (λ (rows : List PipeRow). rows ++ put ∷ []) c.reserve.ensures.rest.sent)
+    (c.send.ensures.rest.last_session ∙ c.reserve.ensures.rest.last_session))
+
+pub returns-in_default-kept-clause-comes : goal.returns-in_default-kept-clause-comes
+returns-in_default-kept-clause-comes g c = λ terms serving.
+    let put : PipeRow = record { session = (g.S.Site.state c.send.new.self).queue.counts.partner_session; entry = c.entry.result } in
+    inl (work_put (g.S.Site.state c.args.site.now).queue (g.S.Site.state c.send.new.self).queue put (c.send.ensures.rest.taken ∙ c.reserve.ensures.rest.taken)
+    (c.in-Success.ensures.success.puts.sent ∙ ap (λ (rows : List PipeRow). rows ++ put ∷ []) c.reserve.ensures.rest.sent)
+    (c.send.ensures.rest.last_session ∙ c.reserve.ensures.rest.last_session))
+
+pub returns-in-Answer-kept-clause-comes : goal.returns-in-Answer-kept-clause-comes
+returns-in-Answer-kept-clause-comes g c = λ terms serving.
+    let is = serving.kept (keeps.Answer c.in-Answer-kept.entry c.in-Answer-kept.outcome) (c.in-Some.is ∙ ap Some c.in-Answer-kept.is) in
+    comes_finished NoStage c.args.unit.now c.finish.new.unit _ _
+    (idles_on _ _ _ _ (idles_reserves _ _ _ c.reserve.ensures.rest)
+    (send_idles _ _ _ c.send.result c.in_default-send.not-Success c.in_default-send.not-Dropped c.send.ensures.closed c.send.ensures.refused c.send.ensures.rest)).still
+    (waiting_stands _ _ c.finish.ensures.stands) is.request is.rest is.front c.finish.ensures.pending
+
+pub returns-in_default-kept-2-clause-comes : goal.returns-in_default-kept-2-clause-comes
+returns-in_default-kept-2-clause-comes g c = λ terms serving.
+    comes_none NoStage c.args.unit.now _ _ _
+    (idles_on _ _ _ _ (idles_reserves _ _ _ c.reserve.ensures.rest)
+    (send_idles _ _ _ c.send.result c.in_default-send.not-Success c.in_default-send.not-Dropped c.send.ensures.closed c.send.ensures.refused c.send.ensures.rest)).still refl refl

@@ -29,6 +29,7 @@ use Rattle.block_server.specs.LoginAnswers.{login_answers}
 use Rattle.std.proofs.Common.{inl, sym}
 use Rattle.block_server.proofs.OwingCalls.{closing_ended}
 use Rattle.std.proofs.Common.{ℕ}
+use Rattle.std.proofs.Common.{inl, inr}
 use Rattle.block_server.proofs.intake.receive.Goals as goal
 
 pub returns-in-Ok-clause-once : goal.returns-in-Ok-clause-once
@@ -208,3 +209,18 @@ returns-in-Ok-clause-refuses g c = λ waits told unit front all is.
     (c.judge.ensures.refuses (g.S.Site.state c.args.site.now).queue.last_session (g.S.Site.state c.args.site.now).queue.taken (login_answers (g.S.Site.state c.args.site.now).queue.sent) c.session-session.ensures (waits_open told unit front.since (basis_in at) c.args.arrival waits is.known) refl (waits_at told unit front.since (basis_in at) c.args.arrival waits is.known) (search rules) told unit front
     (heard_fetched told unit _ _ _ _ _ c.iu_address.ensures all c.in-Ok.ensures.fetched)
     (explains_same at (waiting_in c.args.arrival at) refl refl (sym waits) refl refl refl refl refl refl told unit front is))
+
+pub returns-then-not-is_up-clause-received : goal.returns-then-not-is_up-clause-received
+returns-then-not-is_up-clause-received g c = inl c.end_session.ensures.ends.waiting
+
+pub returns-then-len-eq0-clause-received : goal.returns-then-len-eq0-clause-received
+returns-then-len-eq0-clause-received g c = inl c.end_session-then-len-eq0.ensures.ends.waiting
+
+pub returns-in-Ok-clause-received : goal.returns-in-Ok-clause-received
+returns-in-Ok-clause-received g c = inl (c.judge.ensures.waiting refl)
+
+pub returns-in-Err-Refused-clause-received : goal.returns-in-Err-Refused-clause-received
+returns-in-Err-Refused-clause-received g c = inl c.end_session-in-Err-Refused.ensures.ends.waiting
+
+pub returns-in-Err-Busy-clause-received : goal.returns-in-Err-Busy-clause-received
+returns-in-Err-Busy-clause-received g c = inr refl

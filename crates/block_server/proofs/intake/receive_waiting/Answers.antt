@@ -13,6 +13,9 @@ use Rattle.block_server.proofs.Jointly.{works, works_none, works_on, works_pass}
 use Rattle.block_server.specs.Owed.{HasAnswers, Owing}
 use Rattle.block_server.proofs.Hands.{keeps_on, keeps_same}
 use Rattle.block_server.specs.LoginAnswers.{login_answers}
+use Rattle.block_server.proofs.ComingParts.{comes_none, comes_received}
+use Rattle.block_server.proofs.Quieting.{still_equal}
+use Rattle.block_server.specs.Steps.{NoStage}
 use Rattle.block_server.proofs.intake.receive_waiting.Goals as goal
 
 pub returns-in_default-clause-once : goal.returns-in_default-clause-once
@@ -84,3 +87,9 @@ returns-in_err-make_room-clause-refuses g c = λ told unit front all. c.make_roo
 pub returns-clause-refuses : goal.returns-clause-refuses
 returns-clause-refuses g c = λ told unit front all is.
     c.receive.ensures.refuses (waiting_stands _ _ c.make_room.ensures.stands ∙ search rules) told unit front all (c.make_room.ensures.refuses (g.S.Site.state c.args.site.now).queue.last_session (g.S.Site.state c.args.site.now).queue.taken (login_answers (g.S.Site.state c.args.site.now).queue.sent) told unit front is)
+
+pub returns-clause-comes : goal.returns-clause-comes
+returns-clause-comes g c =
+    on_ok c.receive.result _ _
+    (comes_received NoStage c.args.unit.now c.make_room.new.unit c.receive.new.unit _ _ (still_equal _ _ c.receive.ensures.queue) c.in-Some.arrival (search rules)
+    c.make_room.ensures.way c.make_room.ensures.moved) c.receive.ensures.received

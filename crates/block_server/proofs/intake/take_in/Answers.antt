@@ -19,6 +19,10 @@ use Rattle.block_server.specs.LoginAnswers.{login_answers}
 use Rattle.block_server.specs.Resting.{IsEmptied}
 use Rattle.block_server.specs.SiteState.{SiteState}
 use Rattle.block_server.proofs.Restings.{as_before, not_on}
+use Rattle.block_server.proofs.Coming.{comes_on}
+use Rattle.block_server.proofs.ComingParts.{comes_none}
+use Rattle.block_server.proofs.Quieting.{still_same}
+use Rattle.block_server.specs.Steps.{NoStage}
 use Rattle.block_server.proofs.intake.take_in.Goals as goal
 
 pub returns-in_err-next-clause-once : goal.returns-in_err-next-clause-once
@@ -45,6 +49,7 @@ loop-taken-init g c = record {
   answers = c.receive_waiting.ensures.answers;
   cargo = c.receive_waiting.ensures.cargo;
   refuses = λ on. c.receive_waiting.ensures.refuses;
+  comes = c.in_ok-next.ensures.comes;
   rests = λ alone waiting emptied. as_before _ _ _ _ (c.in_ok-next.ensures.rests waiting).1 (c.in_ok-next.ensures.rests waiting).2;
   may = λ on. c.in_ok-next.ensures.goes_on on (search rules);
 }
@@ -99,6 +104,8 @@ loop-taken-preserved g c = record {
       (tells_next told unit (g.S.Site.state c.args.site.now) (g.S.Site.state c.loop-taken.site) (g.S.Site.state c.take_one.new.site) c.loop-taken.invariant.advances all)
       (c.make_room.ensures.refuses (g.S.Site.state c.loop-taken.site).queue.last_session (g.S.Site.state c.loop-taken.site).queue.taken (login_answers (g.S.Site.state c.loop-taken.site).queue.sent) told unit front
       (c.loop-taken.invariant.refuses on told unit front (tells_first told unit (g.S.Site.state c.args.site.now) (g.S.Site.state c.loop-taken.site) (g.S.Site.state c.take_one.new.site) c.take_one.ensures.advances all) is));
+  comes = comes_on _ _ _ _ _ _ c.loop-taken.invariant.comes
+      (comes_on c.loop-taken.unit c.make_room.new.unit _ _ _ _ (comes_none NoStage _ _ _ _ (still_same _) c.make_room.ensures.way c.make_room.ensures.moved) c.in_ok-next-2.ensures.comes);
   rests = λ alone waiting emptied.
       absurd (not_on c.in_ok-next-2.next (search rules)
       (c.in_ok-next-2.ensures.rests alone (subst (λ (site : SiteState). IsEmptied site.queue) (sym (c.loop-taken.invariant.rests alone waiting emptied).site) emptied)).0);
@@ -247,3 +254,8 @@ returns-then-ne-2-clause-refuses g c = λ on told unit since all is.
 
 pub returns-after-loop-taken-clause-refuses : goal.returns-after-loop-taken-clause-refuses
 returns-after-loop-taken-clause-refuses g c = λ on. c.loop-taken.invariant.refuses on
+
+pub returns-then-ne-2-clause-comes : goal.returns-then-ne-2-clause-comes
+returns-then-ne-2-clause-comes g c =
+    comes_on _ _ _ _ _ _ c.loop-taken.invariant.comes
+    (comes_on c.loop-taken.unit c.make_room.new.unit _ _ _ _ (comes_none NoStage _ _ _ _ (still_same _) c.make_room.ensures.way c.make_room.ensures.moved) c.in_ok-next-2.ensures.comes)

@@ -8,6 +8,7 @@ use Rattle.block_server.specs.Receipts.{MayTake, TakesIn, is_ended, standing_of}
 use Rattle.block_server.specs.Refusals.{ExplainsBy, ledger_of}
 use Rattle.block_server.specs.Resting.{IsEmptied}
 use Rattle.block_server.specs.Serving.{AnswersOnceBy, desk_of}
+use Rattle.block_server.specs.Steps.{ComesOn, NoStage}
 use Rattle.block_server.specs.Turns.{IfQuiet}
 use Rattle.block_server.specs.Waits.{StaysAgreed}
 use Rattle.block_server.proofs.Readying.{TookNone}
@@ -27,6 +28,7 @@ invariant-loop-taken g l = record {
   answers : KeepsAnswers g.S.Site.link_shared l.fn.unit l.unit (g.S.Site.state l.fn.site) (g.S.Site.state l.site) l.fn.records l.records;
   cargo : KeepsCargo (cargo_of l.fn.unit (g.S.Site.state l.fn.site) l.fn.records) (cargo_of l.unit (g.S.Site.state l.site) l.records);
   refuses : is_ended l.fn.unit.line ≡ false → ExplainsBy (g.S.Site.state l.fn.site) (g.S.Site.state l.site) (ledger_of l.fn.unit (g.S.Site.state l.fn.site) l.fn.records) (ledger_of l.unit (g.S.Site.state l.site) l.records);
+  comes : ComesOn NoStage l.fn.unit l.unit (g.S.Site.state l.fn.site).queue (g.S.Site.state l.site).queue;
   rests : g.S.Site.link_shared ≡ false → l.fn.unit.waiting ≡ None → IsEmptied (g.S.Site.state l.fn.site).queue
       → IsAsBefore l.fn.unit l.unit (g.S.Site.state l.fn.site) (g.S.Site.state l.site);
   may : is_ended l.fn.unit.line ≡ false → MayTake (standing_of l.unit);

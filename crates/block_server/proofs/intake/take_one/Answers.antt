@@ -29,6 +29,10 @@ use Rattle.block_server.specs.Causes.{told_to}
 use Rattle.block_server.proofs.Dealing.{heard_event}
 use Rattle.block_server.proofs.Restings.{none_taken, still_emptied}
 use Rattle.std.proofs.Common.{ℕ}
+use Rattle.crq_ring.specs.declared.rows.PipeRow.{PipeRow}
+use Rattle.std.proofs.Common.{◌++◌, List, [], ◌∷◌}
+use Rattle.block_server.proofs.ComingParts.{comes_none, less_later, work_later, work_taken}
+use Rattle.block_server.specs.Steps.{NoStage}
 use Rattle.block_server.proofs.intake.take_one.Goals as goal
 
 pub returns-in_err-reserve-clause-once : goal.returns-in_err-reserve-clause-once
@@ -476,3 +480,53 @@ pub returns-in-Reserved-clause-rests : goal.returns-in-Reserved-clause-rests
 returns-in-Reserved-clause-rests g c = λ alone emptied.
     absurd (none_taken _ _ _ c.in-Got.number c.in-Got.entry alone
     (still_emptied (g.S.Site.state c.args.site.now) (g.S.Site.state c.reserve.new.self) c.reserve.ensures.passes c.reserve.ensures.advances emptied) c.in-Got.ensures.got)
+
+pub returns-in_default-clause-comes : goal.returns-in_default-clause-comes
+returns-in_default-clause-comes g c =
+    comes_none NoStage _ _ _ _
+    (idles_on _ _ _ _ (idles_reserves _ _ _ c.reserve.ensures.rest)
+    (poll_idles _ _ _ c.poll.result (λ number entry is. c.in_default.not-Got number entry is) c.poll.ensures.empty c.poll.ensures.refused c.poll.ensures.rest)).still refl refl
+
+pub returns-in-Command-clause-comes : goal.returns-in-Command-clause-comes
+returns-in-Command-clause-comes g c =
+    let row : PipeRow = record { session = (g.S.Site.state c.reserve.new.self).queue.last_session; entry = c.in-Got.entry } in
+    on_ok c.take_command.result _ _ (λ stays. inl (less_later _ _ _ (work_taken (g.S.Site.state c.args.site.now).queue (g.S.Site.state c.poll.new.self).queue row
+    (c.in-Got.ensures.got.taken ∙ ap (λ (rows : List PipeRow). rows ++ row ∷ []) c.reserve.ensures.rest.taken)
+    (c.poll.ensures.rest.sent ∙ c.reserve.ensures.rest.sent) (c.poll.ensures.rest.last_session ∙ c.reserve.ensures.rest.last_session))
+    (work_later (g.S.Site.state c.poll.new.self) (g.S.Site.state c.take_command.new.site) c.take_command.ensures.advances))) c.take_command.ensures.moved
+
+pub returns-in-Some-clause-comes : goal.returns-in-Some-clause-comes
+returns-in-Some-clause-comes g c =
+    let row : PipeRow = record { session = (g.S.Site.state c.reserve.new.self).queue.last_session; entry = c.in-Got.entry } in
+    inl (less_later _ _ _ (work_taken (g.S.Site.state c.args.site.now).queue (g.S.Site.state c.poll.new.self).queue row
+    (c.in-Got.ensures.got.taken ∙ ap (λ (rows : List PipeRow). rows ++ row ∷ []) c.reserve.ensures.rest.taken)
+    (c.poll.ensures.rest.sent ∙ c.reserve.ensures.rest.sent) (c.poll.ensures.rest.last_session ∙ c.reserve.ensures.rest.last_session))
+    (work_later (g.S.Site.state c.poll.new.self) (g.S.Site.state c.put_reply.new.site) c.put_reply.ensures.advances))
+
+pub returns-in-None-clause-comes : goal.returns-in-None-clause-comes
+returns-in-None-clause-comes g c =
+    let row : PipeRow = record { session = (g.S.Site.state c.reserve.new.self).queue.last_session; entry = c.in-Got.entry } in
+    inl (work_taken (g.S.Site.state c.args.site.now).queue (g.S.Site.state c.poll.new.self).queue row
+    (c.in-Got.ensures.got.taken ∙ ap (λ (rows : List PipeRow). rows ++ row ∷ []) c.reserve.ensures.rest.taken)
+    (c.poll.ensures.rest.sent ∙ c.reserve.ensures.rest.sent) (c.poll.ensures.rest.last_session ∙ c.reserve.ensures.rest.last_session))
+
+pub returns-in-Event-clause-comes : goal.returns-in-Event-clause-comes
+returns-in-Event-clause-comes g c =
+    let row : PipeRow = record { session = (g.S.Site.state c.reserve.new.self).queue.last_session; entry = c.in-Got.entry } in
+    inl (work_taken (g.S.Site.state c.args.site.now).queue (g.S.Site.state c.poll.new.self).queue row
+    (c.in-Got.ensures.got.taken ∙ ap (λ (rows : List PipeRow). rows ++ row ∷ []) c.reserve.ensures.rest.taken)
+    (c.poll.ensures.rest.sent ∙ c.reserve.ensures.rest.sent) (c.poll.ensures.rest.last_session ∙ c.reserve.ensures.rest.last_session))
+
+pub returns-in-Unused-clause-comes : goal.returns-in-Unused-clause-comes
+returns-in-Unused-clause-comes g c =
+    let row : PipeRow = record { session = (g.S.Site.state c.reserve.new.self).queue.last_session; entry = c.in-Got.entry } in
+    inl (work_taken (g.S.Site.state c.args.site.now).queue (g.S.Site.state c.poll.new.self).queue row
+    (c.in-Got.ensures.got.taken ∙ ap (λ (rows : List PipeRow). rows ++ row ∷ []) c.reserve.ensures.rest.taken)
+    (c.poll.ensures.rest.sent ∙ c.reserve.ensures.rest.sent) (c.poll.ensures.rest.last_session ∙ c.reserve.ensures.rest.last_session))
+
+pub returns-in-Reserved-clause-comes : goal.returns-in-Reserved-clause-comes
+returns-in-Reserved-clause-comes g c =
+    let row : PipeRow = record { session = (g.S.Site.state c.reserve.new.self).queue.last_session; entry = c.in-Got.entry } in
+    inl (work_taken (g.S.Site.state c.args.site.now).queue (g.S.Site.state c.poll.new.self).queue row
+    (c.in-Got.ensures.got.taken ∙ ap (λ (rows : List PipeRow). rows ++ row ∷ []) c.reserve.ensures.rest.taken)
+    (c.poll.ensures.rest.sent ∙ c.reserve.ensures.rest.sent) (c.poll.ensures.rest.last_session ∙ c.reserve.ensures.rest.last_session))

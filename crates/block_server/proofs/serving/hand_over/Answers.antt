@@ -14,6 +14,7 @@ use Rattle.block_server.proofs.Sendings.{hand_placed, tag_at}
 use Rattle.block_server.proofs.Gathering.{where_done}
 use Rattle.block_server.specs.Cargo.{IsSentAll}
 use Rattle.block_server.specs.Serving.{terms_of}
+use Rattle.block_server.proofs.ComingStages.{other_entry}
 use Rattle.block_server.proofs.serving.hand_over.Goals as goal
 
 pub returns-in_default-clause-once : goal.returns-in_default-clause-once
@@ -73,3 +74,12 @@ returns-clause-cargo g c = λ id told asked all size credits rest serving hand.
     (hand_placed told asked id c.args.service.now _ _ c.in-DataIn.row c.in-DataIn.reply c.in-DataIn.cursor c.in-DataIn.is hand))) told asked
     (c.deliver_data.ensures.cargo id told asked all c.args.records.now.history.items
     (tag_at (terms_of told size) id credits c.args.service.now c.args.request.now rest c.args.records.now.history.items c.in-DataIn.row c.in-DataIn.reply c.in-DataIn.cursor c.in-DataIn.is serving) _ hand)
+
+pub returns-in_default-clause-entry : goal.returns-in_default-clause-entry
+returns-in_default-clause-entry g c = λ is. refl
+
+pub returns-in_err-progress-clause-entry : goal.returns-in_err-progress-clause-entry
+returns-in_err-progress-clause-entry g c = λ is. absurd (other_entry _ _ c.in-DataIn.is refl is)
+
+pub returns-clause-entry : goal.returns-clause-entry
+returns-clause-entry g c = λ is. absurd (other_entry _ _ c.in-DataIn.is refl is)

@@ -13,6 +13,8 @@ use Rattle.block_server.specs.Owed.{MovesRow}
 use Rattle.block_server.proofs.Sendings.{other_unloaded}
 use Rattle.block_server.specs.Serving.{terms_of}
 use Rattle.block_server.specs.Granting.{login_state}
+use Rattle.block_server.proofs.ComingStages.{unanswered_entry}
+use Rattle.std.proofs.Common.{refl}
 use Rattle.block_server.proofs.serving.prepare.Goals as goal
 
 pub returns-in-Command-clause-once : goal.returns-in-Command-clause-once
@@ -120,3 +122,27 @@ pub returns-in-Unreadable-clause-cargo : goal.returns-in-Unreadable-clause-cargo
 returns-in-Unreadable-clause-cargo g c = λ told asked all rest serving hand.
     let other : is_command c.args.request.now.order ≡ false = search rules in
     c.add_code-in-Unreadable.ensures.cargo _ (other_unloaded (terms_of told c.args.disk.now.count) c.args.id (login_state c.args.logins.now) c.args.service.now c.args.request.now rest c.args.records.now.history.items other serving) told asked hand
+
+pub returns-in-Command-clause-entry : goal.returns-in-Command-clause-entry
+returns-in-Command-clause-entry g c = c.serve_command.ensures.entry
+
+pub returns-in_default-clause-entry : goal.returns-in_default-clause-entry
+returns-in_default-clause-entry g c = λ is. refl
+
+pub returns-in-Logout-clause-entry : goal.returns-in-Logout-clause-entry
+returns-in-Logout-clause-entry g c = λ is. refl
+
+pub returns-in-Login-clause-entry : goal.returns-in-Login-clause-entry
+returns-in-Login-clause-entry g c = λ is.
+    let before : is_answered c.args.service.now.stage ≡ false = cc in
+    absurd (unanswered_entry c.args.service.now.stage before is)
+
+pub returns-in-Task-clause-entry : goal.returns-in-Task-clause-entry
+returns-in-Task-clause-entry g c = λ is.
+    let before : is_answered c.args.service.now.stage ≡ false = cc in
+    absurd (unanswered_entry c.args.service.now.stage before is)
+
+pub returns-in-Unreadable-clause-entry : goal.returns-in-Unreadable-clause-entry
+returns-in-Unreadable-clause-entry g c = λ is.
+    let before : is_answered c.args.service.now.stage ≡ false = cc in
+    absurd (unanswered_entry c.args.service.now.stage before is)

@@ -17,6 +17,8 @@ use Rattle.block_server.proofs.OwingRows.{moves_on, moves_same}
 use Rattle.block_server.specs.Cargo.{IsFetchedAll}
 use Rattle.block_server.proofs.Gathering.{where_done}
 use Rattle.block_server.proofs.Sendings.{before_unloaded}
+use Rattle.std.proofs.Common.{refl}
+use Rattle.block_server.proofs.ComingStages.{before_entry}
 use Rattle.block_server.proofs.serving.run_step.Goals as goal
 
 pub returns-then-not-is_before_step-clause-once : goal.returns-then-not-is_before_step-clause-once
@@ -156,3 +158,26 @@ returns-in-Done-clause-cargo g c = λ told asked all credits rest serving hand.
     (c.fetch.ensures.named told c.args.id heard (gathers_of _ _ _ _ c.args.request.now rest c.args.command.now c.requires.asked serving.fetched))
     (where_done c.in_ok-fetch.field-0 (IsFetchedAll c.fetch.new.service) c.in-Done.is (c.in_ok-fetch.ensures.all c.args.id told asked heard c.args.records.now.history.items hand))
     (c.fetch.ensures.cargo c.args.id told asked heard c.args.records.now.history.items hand)
+
+pub returns-then-not-is_before_step-clause-entry : goal.returns-then-not-is_before_step-clause-entry
+returns-then-not-is_before_step-clause-entry g c = λ is. refl
+
+pub returns-in_err-fetch-clause-entry : goal.returns-in_err-fetch-clause-entry
+returns-in_err-fetch-clause-entry g c = λ is.
+    let before : is_before_step c.args.service.now.stage ≡ true = cc in
+    absurd (before_entry c.args.service.now.stage before is)
+
+pub returns-in-Busy-clause-entry : goal.returns-in-Busy-clause-entry
+returns-in-Busy-clause-entry g c = λ is.
+    let before : is_before_step c.args.service.now.stage ≡ true = cc in
+    absurd (before_entry c.args.service.now.stage before is)
+
+pub returns-in-Refused-clause-entry : goal.returns-in-Refused-clause-entry
+returns-in-Refused-clause-entry g c = λ is.
+    let before : is_before_step c.args.service.now.stage ≡ true = cc in
+    absurd (before_entry c.args.service.now.stage before is)
+
+pub returns-in-Done-clause-entry : goal.returns-in-Done-clause-entry
+returns-in-Done-clause-entry g c = λ is.
+    let before : is_before_step c.args.service.now.stage ≡ true = cc in
+    absurd (before_entry c.args.service.now.stage before is)

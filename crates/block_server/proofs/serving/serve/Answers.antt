@@ -41,6 +41,11 @@ use Rattle.block_server.proofs.Ledgers.{explained_then, explains_same}
 use Rattle.block_server.specs.Refusals.{ledger_of}
 use Rattle.block_server.proofs.Taking.{ended_stands}
 use Rattle.block_server.specs.LoginAnswers.{login_answers}
+use Rattle.block_server.proofs.Coming.{comes_served}
+use Rattle.block_server.proofs.ComingParts.{comes_finished}
+use Rattle.block_server.proofs.ComingStages.{comes_noted}
+use Rattle.block_server.proofs.Quieting.{still_equal, still_same}
+use Rattle.block_server.specs.Steps.{OtherStage}
 use Rattle.block_server.proofs.serving.serve.Goals as goal
 
 pub returns-clause-advances : goal.returns-clause-advances
@@ -347,3 +352,14 @@ returns-clause-refuses g c = λ told all serving begun is.
     c.prepare.ensures.grants (ap (λ (q : EndState). login_answers q.sent) c.prepare.ensures.queue) (ap (λ (d : Desk). d.id) c.note_stage.ensures.desk) (ap (λ (d : Desk). d.logins.current) c.note_stage.ensures.desk) told unit.id begun)
     (c.answer.ensures.refuses (terms_of told c.prepare.new.disk.count)
     (subst (λ (id : UnitId). TellsAll told id mid new) (sym (ap (λ (desk : Desk). desk.id) c.note_stage.ensures.desk)) (tells_next told unit.id old mid new c.prepare.ensures.advances all))) is
+
+pub returns-in-Logout-clause-comes : goal.returns-in-Logout-clause-comes
+returns-in-Logout-clause-comes g c =
+    let front = front_is _ _ c.in-Some.ensures.item.3 in
+    comes_finished OtherStage c.args.unit.now c.log_out.new.unit _ _ (still_same _) (waiting_stands _ _ c.log_out.ensures.stands) c.in-Some.request.now front.0 front.1 c.log_out.ensures.pending
+
+pub returns-clause-comes : goal.returns-clause-comes
+returns-clause-comes g c =
+    on_ok c.answer.result _ _ (comes_served c.args.unit.now c.note_stage.new.unit c.answer.new.unit _ _ _
+    (comes_noted c.args.unit.now (record c.args.unit.now { service = c.prepare.new.service }) c.note_stage.new.unit _ _ (still_equal _ _ c.prepare.ensures.queue)
+    c.note_stage.ensures.way refl refl refl c.prepare.ensures.entry c.how_far-before.result c.how_far-before.ensures c.note_stage.ensures.noted)) c.answer.ensures.comes

@@ -13,6 +13,7 @@ use Rattle.std.proofs.Common.{refl}
 use Rattle.block_server.proofs.OwingRows.{moves_on, moves_same}
 use Rattle.std.proofs.Common.{None}
 use Rattle.block_server.specs.Serving.{held}
+use Rattle.block_server.proofs.ComingStages.{entry_on}
 use Rattle.block_server.proofs.serving.serve_command.Goals as goal
 
 pub returns-in_err-run_step-clause-once : goal.returns-in_err-run_step-clause-once
@@ -97,3 +98,12 @@ returns-clause-cargo g c = λ told asked all credits rest serving hand.
     (tells_next told c.args.id (g.S.Site.state c.args.site.now) (g.S.Site.state c.store.new.site) (g.S.Site.state c.hand_over.new.site) (advances_on _ _ _ c.run_step.ensures.advances c.store.ensures.advances) all)
     _ credits rest stored (c.store.ensures.cargo c.args.id _ _ told asked (c.run_step.ensures.cargo told asked first credits rest serving
     (subst (λ (k : Option Cmd). IsAccounted told asked (cargo_at c.args.id c.args.service.now (seen k (g.S.Site.state c.args.site.now)) c.args.records.now.history.items)) command hand))))
+
+pub returns-in_err-run_step-clause-entry : goal.returns-in_err-run_step-clause-entry
+returns-in_err-run_step-clause-entry g c = c.run_step.ensures.entry
+
+pub returns-in_err-store-clause-entry : goal.returns-in_err-store-clause-entry
+returns-in_err-store-clause-entry g c = entry_on _ _ _ c.run_step.ensures.entry c.store.ensures.entry
+
+pub returns-clause-entry : goal.returns-clause-entry
+returns-clause-entry g c = entry_on _ _ _ (entry_on _ _ _ c.run_step.ensures.entry c.store.ensures.entry) c.hand_over.ensures.entry

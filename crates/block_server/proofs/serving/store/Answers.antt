@@ -11,6 +11,7 @@ use Rattle.block_server.proofs.Hands.{keeps_same}
 use Rattle.block_server.proofs.Sendings.{given_shown, stored}
 use Rattle.std.proofs.Common.{rules, subst, ◌≡◌}
 use Rattle.block_server.specs.Cargo.{AreShown}
+use Rattle.block_server.proofs.ComingStages.{other_entry}
 use Rattle.block_server.proofs.serving.store.Goals as goal
 
 pub returns-in_err-write_data-clause-once : goal.returns-in_err-write_data-clause-once
@@ -50,3 +51,12 @@ returns-in_ok-write_data-clause-cargo g c = λ id rows first.
     stored _ _ _ _ _ _ c.in-Given.row c.in-Given.reply c.start.result c.in-Given.is refl c.start.ensures refl refl
     (same_total _ _ _ _ c.write_data.ensures.advances.own_place c.write_data.ensures.none)
     (subst (AreShown _) same (shown_in _ _ _ c.in_ok-write_data.ensures.shown))
+
+pub returns-in_err-write_data-clause-entry : goal.returns-in_err-write_data-clause-entry
+returns-in_err-write_data-clause-entry g c = λ is. refl
+
+pub returns-in_ok-write_data-clause-entry : goal.returns-in_ok-write_data-clause-entry
+returns-in_ok-write_data-clause-entry g c = λ is. absurd (other_entry _ _ c.in-Given.is refl is)
+
+pub returns-in_default-clause-entry : goal.returns-in_default-clause-entry
+returns-in_default-clause-entry g c = λ is. refl

@@ -9,6 +9,9 @@ use Rattle.block_server.proofs.GoingOn.{down_ended, freed_ended}
 use Rattle.block_server.proofs.Jointly.{keeps_freed, keeps_pass}
 use Rattle.block_server.proofs.Owing.{owes_ended}
 use Rattle.block_server.proofs.OwingCalls.{closing_ended}
+use Rattle.block_server.proofs.Quieting.{still_reserves}
+use Rattle.block_server.proofs.ComingParts.{comes_freed, comes_none, work_later}
+use Rattle.block_server.specs.Steps.{NoStage}
 use Rattle.block_server.proofs.turning.free.Goals as goal
 
 pub returns-in-Busy-clause-once : goal.returns-in-Busy-clause-once
@@ -73,3 +76,20 @@ returns-in-Success-clause-answers g c = λ records closing alone has.
 pub returns-in-Parameter-clause-answers : goal.returns-in-Parameter-clause-answers
 returns-in-Parameter-clause-answers g c = λ records closing alone has.
     owes_ended _ _ (closing_ended c.args.unit.now.line closing) refl refl refl refl refl refl has
+
+pub returns-in-Busy-clause-comes : goal.returns-in-Busy-clause-comes
+returns-in-Busy-clause-comes g c =
+    comes_none NoStage _ _ _ _ (record {
+      taken = c.free.ensures.rest.taken;
+      sent = c.in-Busy.ensures.busy.none.sent;
+      registered = c.in-Busy.ensures.busy.still ∙ sym c.in-Busy.ensures.busy.registered;
+      session = c.free.ensures.rest.last_session;
+    }) refl refl
+
+pub returns-in-Success-clause-comes : goal.returns-in-Success-clause-comes
+returns-in-Success-clause-comes g c =
+    comes_freed NoStage _ _ _ _ (work_later (g.S.Site.state c.args.site.now) (g.S.Site.state c.free.new.self) c.free.ensures.advances)
+    c.in-Success.ensures.success.registered c.in-Success.ensures.success.freed
+
+pub returns-in-Parameter-clause-comes : goal.returns-in-Parameter-clause-comes
+returns-in-Parameter-clause-comes g c = comes_none NoStage _ _ _ _ (still_reserves _ _ c.in-Parameter.ensures.refused) refl refl

@@ -2,6 +2,9 @@ use Rattle.std.proofs.Common.{refl}
 use Rattle.block_server.proofs.Readying.{idles_same}
 use Rattle.block_server.proofs.Onces.{once_same}
 use Rattle.std.proofs.Common.{rules}
+use Rattle.block_server.proofs.Quieting.{still_same}
+use Rattle.block_server.proofs.ComingParts.{comes_none}
+use Rattle.block_server.specs.Steps.{NoStage}
 use Rattle.block_server.proofs.turning.free_closed.Goals as goal
 
 pub returns-then-not-unit-clause-once : goal.returns-then-not-unit-clause-once
@@ -27,3 +30,6 @@ returns-clause-answers g c = λ records. c.free.ensures.answers records (search 
 
 pub returns-clause-refuses : goal.returns-clause-refuses
 returns-clause-refuses g c = λ records. c.free.ensures.refuses records (search rules)
+
+pub returns-then-not-unit-clause-comes : goal.returns-then-not-unit-clause-comes
+returns-then-not-unit-clause-comes g c = comes_none NoStage _ _ _ _ (still_same _) refl refl

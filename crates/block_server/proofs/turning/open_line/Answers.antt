@@ -14,6 +14,9 @@ use Rattle.block_server.proofs.OwingCalls.{seen_reserves}
 use Rattle.block_server.proofs.Ledgers.{explains_on, explains_stands}
 use Rattle.block_server.specs.Refusals.{ledger_of}
 use Rattle.block_server.specs.LoginAnswers.{login_answers}
+use Rattle.block_server.proofs.Coming.{comes_on}
+use Rattle.block_server.proofs.ComingParts.{comes_none}
+use Rattle.block_server.specs.Steps.{NoStage}
 use Rattle.block_server.proofs.turning.open_line.Goals as goal
 
 pub returns-in_err-reserve-clause-once : goal.returns-in_err-reserve-clause-once
@@ -231,3 +234,22 @@ pub returns-clause-refuses : goal.returns-clause-refuses
 returns-clause-refuses g c = λ records.
     let pushed = explains_on (ledger_of c.args.unit.now (g.S.Site.state c.args.site.now) records) (ledger_of c.args.unit.now (g.S.Site.state c.reserve.new.self) records) _ (explains_stands c.args.unit.now c.args.unit.now _ _ records records refl c.reserve.ensures.passes refl refl (ap login_answers c.reserve.ensures.rest.sent) refl) (c.push_event.ensures.refuses records) in
     explains_on _ _ _ pushed (c.free_closed.ensures.refuses records)
+
+pub returns-then-eq-clause-comes : goal.returns-then-eq-clause-comes
+returns-then-eq-clause-comes g c =
+    comes_on c.args.unit.now c.args.unit.now _ _ _ _ (comes_none NoStage _ _ _ _ (still_reserves _ _ c.reserve.ensures.rest) refl refl) c.push_event.ensures.comes
+
+pub returns-then-eq-2-clause-comes : goal.returns-then-eq-2-clause-comes
+returns-then-eq-2-clause-comes g c =
+    comes_on _ _ _ _ _ _ (comes_on c.args.unit.now c.args.unit.now _ _ _ _ (comes_none NoStage _ _ _ _ (still_reserves _ _ c.reserve.ensures.rest) refl refl) c.push_event.ensures.comes)
+    c.free_closed.ensures.comes
+
+pub returns-then-is_down-clause-comes : goal.returns-then-is_down-clause-comes
+returns-then-is_down-clause-comes g c =
+    comes_on _ _ _ _ _ _ (comes_on _ _ _ _ _ _ (comes_on c.args.unit.now c.args.unit.now _ _ _ _ (comes_none NoStage _ _ _ _ (still_reserves _ _ c.reserve.ensures.rest) refl refl) c.push_event.ensures.comes)
+    c.free_closed.ensures.comes) c.register.ensures.comes
+
+pub returns-clause-comes : goal.returns-clause-comes
+returns-clause-comes g c =
+    comes_on _ _ _ _ _ _ (comes_on c.args.unit.now c.args.unit.now _ _ _ _ (comes_none NoStage _ _ _ _ (still_reserves _ _ c.reserve.ensures.rest) refl refl) c.push_event.ensures.comes)
+    c.free_closed.ensures.comes

@@ -12,6 +12,8 @@ use Rattle.block_server.proofs.Owing.{owes_ended}
 use Rattle.block_server.proofs.Ledgers.{explains_begun}
 use Rattle.block_server.specs.Refusals.{ledger_of}
 use Rattle.std.proofs.Common.{inl}
+use Rattle.block_server.proofs.ComingParts.{comes_none, less_later, register_still, work_begun, work_later}
+use Rattle.block_server.specs.Steps.{NoStage}
 use Rattle.block_server.proofs.turning.register.Goals as goal
 
 pub returns-in_default-clause-once : goal.returns-in_default-clause-once
@@ -115,3 +117,19 @@ pub returns-in-Closed-clause-refuses : goal.returns-in-Closed-clause-refuses
 returns-in-Closed-clause-refuses g c = λ records told unit front is.
     c.begin-in-Closed.ensures.refuses records (down_ended _ _ c.requires.down) c.in-Closed.ensures.opened.none_taken told unit front
     (explains_begun (ledger_of c.args.unit.now (g.S.Site.state c.args.site.now) records) (ledger_of c.args.unit.now (g.S.Site.state c.register.new.self) records) (down_ended _ _ c.requires.down) c.register.ensures.rest.taken refl refl refl c.register.ensures.logins (inl (down_ended _ _ c.requires.down)) c.register.ensures.rest.last_session refl refl told unit front is)
+
+pub returns-in_default-clause-comes : goal.returns-in_default-clause-comes
+returns-in_default-clause-comes g c =
+    comes_none NoStage _ _ _ _
+    (register_still _ _ _ c.register.result (λ is. c.in_default.not-Success is) (λ control is. c.in_default.not-Closed control is)
+    c.register.ensures.busy c.register.ensures.refused c.register.ensures.rest) refl refl
+
+pub returns-in-Success-clause-comes : goal.returns-in-Success-clause-comes
+returns-in-Success-clause-comes g c =
+    inl (less_later _ _ _ (work_begun (g.S.Site.state c.args.site.now) (g.S.Site.state c.register.new.self) c.register.ensures.advances c.in-Success.ensures.opened.session)
+    (work_later (g.S.Site.state c.register.new.self) (g.S.Site.state c.begin.new.site) c.begin.ensures.advances))
+
+pub returns-in-Closed-clause-comes : goal.returns-in-Closed-clause-comes
+returns-in-Closed-clause-comes g c =
+    inl (less_later _ _ _ (work_begun (g.S.Site.state c.args.site.now) (g.S.Site.state c.register.new.self) c.register.ensures.advances c.in-Closed.ensures.opened.session)
+    (work_later (g.S.Site.state c.register.new.self) (g.S.Site.state c.begin-in-Closed.new.site) c.begin-in-Closed.ensures.advances))

@@ -17,6 +17,8 @@ use Rattle.std.proofs.Common.{◌++◌}
 use Rattle.std.proofs.Common.{None}
 use Rattle.block_server.proofs.Hands.{keeps_same}
 use Rattle.block_server.specs.Serving.{held}
+use Rattle.block_server.proofs.Coming.{comes_on, comes_then}
+use Rattle.block_server.proofs.ComingStages.{comes_any}
 use Rattle.block_server.proofs.turning.steps.Goals as goal
 
 pub returns-in_err-open_line-clause-once : goal.returns-in_err-open_line-clause-once
@@ -337,3 +339,21 @@ returns-clause-refuses g c = λ told all serving front.
     (c.open_line.ensures.refuses c.args.records.now told c.args.unit.now.id front) (c.put_kept.ensures.refuses disk.terms) is))
     (c.serve.ensures.refuses told
     (tells_next told c.take_in.new.unit.id old taken_in new first (subst (λ (id : UnitId). TellsAll told id old new) (sym taken.id) all)))
+
+pub returns-then-eq-clause-comes : goal.returns-then-eq-clause-comes
+returns-then-eq-clause-comes g c = λ told serving. comes_any _ _ _ _ c.in_ok-open_line.ensures.comes
+
+pub returns-then-eq-2-clause-comes : goal.returns-then-eq-2-clause-comes
+returns-then-eq-2-clause-comes g c = λ told serving.
+    let opened = (c.open_line.ensures.once c.args.records.now (held told c.args.disk.now.count None) serving).serving in
+    comes_any _ _ _ _ (comes_on _ _ _ _ _ _ c.in_ok-open_line.ensures.comes (c.in_ok-put_kept.ensures.comes _ opened))
+
+pub returns-then-eq-3-clause-comes : goal.returns-then-eq-3-clause-comes
+returns-then-eq-3-clause-comes g c = λ told serving.
+    let opened = (c.open_line.ensures.once c.args.records.now (held told c.args.disk.now.count None) serving).serving in
+    comes_any _ _ _ _ (comes_on _ _ _ _ _ _ (comes_on _ _ _ _ _ _ c.in_ok-open_line.ensures.comes (c.in_ok-put_kept.ensures.comes _ opened)) c.in_ok-take_in.ensures.comes)
+
+pub returns-clause-comes : goal.returns-clause-comes
+returns-clause-comes g c = λ told serving.
+    let opened = (c.open_line.ensures.once c.args.records.now (held told c.args.disk.now.count None) serving).serving in
+    on_ok c.serve.result _ _ (comes_then _ _ _ _ _ _ (comes_on _ _ _ _ _ _ (comes_on _ _ _ _ _ _ c.in_ok-open_line.ensures.comes (c.in_ok-put_kept.ensures.comes _ opened)) c.in_ok-take_in.ensures.comes)) c.serve.ensures.comes

@@ -28,6 +28,8 @@ use Rattle.block_server.proofs.Ledgers.{accounted_first, dealt_turn, in_order_tu
 use Rattle.block_server.specs.Causes.{told_to}
 use Rattle.block_server.specs.Dealt.{AreDealt, HasDealt}
 use Rattle.block_server.specs.Receipts.{is_ended}
+use Rattle.block_server.specs.Turns.{IsStill, way_of}
+use Rattle.block_server.proofs.ComingTurns.{Differs, differs_by, way_moved}
 use Rattle.block_server.proofs.server.Server.turn.Goals as goal
 
 pub returns-clause-answers : goal.returns-clause-answers
@@ -316,3 +318,17 @@ returns-clause-deals g c = λ told tells all since has dealt.
     (subst (λ (id : UnitId). AreDealt (told_to told id) old.last_session old.taken c.index_mut.result.now.waiting c.index_mut.result.now.pending.items (is_ended c.index_mut.result.now.line)
     → AreDealt (told_to told id) (g.C.CrqEnd.state c.turn.new.site.queue.now).last_session (g.C.CrqEnd.state c.turn.new.site.queue.now).taken
     c.turn.new.unit.waiting c.turn.new.unit.pending.items (is_ended c.turn.new.unit.line)) (is.id ∙ sym c.requires.named) step) dealt)
+
+pub returns-clause-moved : goal.returns-clause-moved
+returns-clause-moved g c =
+    let server = c.args.self.now in
+    let there : slice_get server.units.items c.args.unit ≡ Some c.index_mut.result.now =
+    slice_get_read server.units.items _ c.args.unit _ server.units.ok.0 c.requires.unit c.index_mut.ensures.value in
+    let reached = ap (λ (lent : Lenders). lent.queue) c.turn.ensures.advances.reached in
+    subst (λ (queue : EndState). Differs c.turn.result (IsStill (g.C.CrqEnd.state c.args.crq.now) queue
+    × (way_of (slice_set server.units.items c.args.unit c.turn.new.unit) c.args.unit ≡ way_of server.units.items c.args.unit)))
+    (sym (ap g.C.CrqEnd.state (c.crq-1.given.1 (sym reached))))
+    (way_moved c.turn.result server.units.items c.args.unit c.index_mut.result.now c.turn.new.unit (g.C.CrqEnd.state c.args.crq.now) (g.C.CrqEnd.state c.turn.new.site.queue.now) there
+    (differs_by (AreServing (terms_of anything server.disk.count) server.partition server.units.items server.records.history.items) _ c.turn.result server.serving
+    (λ (all : AreServing (terms_of anything server.disk.count) server.partition server.units.items server.records.history.items).
+    c.turn.ensures.moved anything (all c.args.unit c.index_mut.result.now there).serving)))
