@@ -87,6 +87,7 @@ advances_same site = record {
   client_place = refl;
   shared = refl;
   partner = λ plain. refl;
+  closed = omega arith;
   values = λ e. later_same site.shared (site.client.values e);
   session = omega arith;
   taken = begins_same site.queue.taken;
@@ -108,6 +109,7 @@ advances_on old mid new first next = record {
   client_place = next.client_place ∙ first.client_place;
   shared = next.shared ∙ first.shared;
   partner = λ plain. next.partner (ap (λ (reached : Lenders). reached.link_shared) first.reached ∙ plain) ∙ first.partner plain;
+  closed = omega (arith, first.closed, next.closed);
   values = λ e. later_on old.shared (old.client.values e) (mid.client.values e) (new.client.values e) (first.values e)
       (subst (λ (shared : Bool). Later shared (mid.client.values e) (new.client.values e)) first.shared (next.values e));
   session = omega (arith, first.session, next.session);

@@ -1,6 +1,6 @@
 -- What a step leaves of what became of the requests to log in.
 use Rattle.std.proofs.Common.{◌≡◌, ◌⊎◌, inl, inr, ◌++◌, ◌∙◌, ℕ, suc, zero, Bool, true, false, List, [], ◌∷◌, Option, Some, None, drop, filter, length, slice_get, slice_index, refl, sym, ap, subst, append_assoc}
-use Rattle.std.proofs.lemmas.List.Elements.{filter-append}
+use Rattle.std.proofs.lemmas.List.Elements.{Contains-append_left, filter-append}
 use Rattle.crq_ring.specs.Sessions.{of_session}
 use Rattle.crq_ring.specs.declared.rows.PipeRow.{PipeRow}
 use Rattle.crq_ring.proofs.SessionLaws.{of_session-nil, of_session-push}
@@ -11,10 +11,11 @@ use Rattle.srp_iu.specs.declared.unit.Iu.TheVariants as units
 use Rattle.vio_num.specs.Entry.{is_srp_entry, iu_address, iu_length}
 use Rattle.vio_num.specs.Words.{Begins}
 use Rattle.vio_num.specs.declared.entry.Entry.{Entry}
+use Rattle.block_server.specs.Asked.{AskedAt}
 use Rattle.block_server.specs.Causes.{Hearing, units_at}
 use Rattle.block_server.specs.Causes.News.{fetched}
 use Rattle.block_server.specs.Closings.{is_event}
-use Rattle.block_server.specs.Dealt.{AreDealt, AsksNoLogin, IsDealt, IsLoginAnswered, IsStillPending, IsStillWaiting, TookNoEvent}
+use Rattle.block_server.specs.Dealt.{AreDealt, AsksNoLogin, IsDealt, IsLoginAnswered, IsLoginSettled, IsPutOrLost, IsStillPending, IsStillWaiting, SendsSoFar, TookNoEventFrom}
 use Rattle.block_server.specs.Granting.{IsGrantedOver, IsRejectedOver, IsSrpAt}
 use Rattle.block_server.specs.Decided.{Decides, DecidesOrder, StaysOn}
 use Rattle.block_server.specs.Judged.{Asks, IsIgnored, is_login}
@@ -31,21 +32,40 @@ apart : (b : Bool) → b ≡ true → b ≡ false → ⊥
 apart b is other = cc (is, other)
 
 -- Nothing of it changed.
-pub deal_same : (Hears : Hearing) (session session' : ℕ) (taken taken' : List PipeRow) (waiting waiting' : Option Arrival) (pending pending' : List Request) (ended ended' : Bool)
-    → session' ≡ session → taken' ≡ taken → waiting' ≡ waiting → pending' ≡ pending → ended' ≡ ended → AreDealt Hears session taken waiting pending ended
-    → AreDealt Hears session' taken' waiting' pending' ended'
-deal_same Hears session session' taken taken' waiting waiting' pending pending' ended ended' s t w p e =
-    subst (λ (z : ℕ × List PipeRow × Option Arrival × List Request × Bool). AreDealt Hears z.0 z.1 z.2 z.3 z.4) (λ i. (sym s i, sym t i, sym w i, sym p i, sym e i))
+pub deal_same : (Hears : Hearing) (sends : SendsSoFar) (session session' : ℕ) (taken taken' : List PipeRow) (waiting waiting' : Option Arrival) (pending pending' : List Request) (ended ended' : Bool)
+    → session' ≡ session → taken' ≡ taken → waiting' ≡ waiting → pending' ≡ pending → ended' ≡ ended → AreDealt Hears session taken waiting pending ended sends
+    → AreDealt Hears session' taken' waiting' pending' ended' sends
+deal_same Hears sends session session' taken taken' waiting waiting' pending pending' ended ended' s t w p e =
+    subst (λ (z : ℕ × List PipeRow × Option Arrival × List Request × Bool). AreDealt Hears z.0 z.1 z.2 z.3 z.4 sends) (λ i. (sym s i, sym t i, sym w i, sym p i, sym e i))
 
 -- Nothing more is taken in the session.
-pub deal_over : (Hears : Hearing) (session : ℕ) (taken : List PipeRow) (waiting waiting' : Option Arrival) (pending pending' : List Request) (ended ended' : Bool) → ended' ≡ true
-    → AreDealt Hears session taken waiting pending ended → AreDealt Hears session taken waiting' pending' ended'
-deal_over Hears session taken waiting waiting' pending pending' ended ended' over is = λ going. absurd (apart ended' over going)
+pub deal_over : (Hears : Hearing) (sends : SendsSoFar) (session : ℕ) (taken : List PipeRow) (waiting waiting' : Option Arrival) (pending pending' : List Request) (ended ended' : Bool) → ended' ≡ true
+    → AreDealt Hears session taken waiting pending ended sends → AreDealt Hears session taken waiting' pending' ended' sends
+deal_over Hears sends session taken waiting waiting' pending pending' ended ended' over is = λ going. absurd (apart ended' over going)
 
--- An event was taken in it.
-pub deal_lost : (Hears : Hearing) (session : ℕ) (taken : List PipeRow) (waiting waiting' : Option Arrival) (pending pending' : List Request) (ended ended' : Bool)
-    → (TookNoEvent session taken → ⊥) → AreDealt Hears session taken waiting pending ended → AreDealt Hears session taken waiting' pending' ended'
-deal_lost Hears session taken waiting waiting' pending pending' ended ended' lost is = λ going none. absurd (lost none)
+-- An event was taken behind each SRP entry of the session.
+abbrev pub AreBeforeEvent : (session : ℕ) → List PipeRow → Type 0
+AreBeforeEvent session taken = (number : ℕ) (entry : Entry) → IsSrpAt taken session number entry → TookNoEventFrom session number taken → ⊥
+
+pub deal_lost : (Hears : Hearing) (sends : SendsSoFar) (session : ℕ) (taken : List PipeRow) (waiting waiting' : Option Arrival) (pending pending' : List Request) (ended ended' : Bool)
+    → AreBeforeEvent session taken → AreDealt Hears session taken waiting pending ended sends → AreDealt Hears session taken waiting' pending' ended' sends
+deal_lost Hears sends session taken waiting waiting' pending pending' ended ended' lost is = λ going number entry at none. absurd (lost number entry at none)
+
+-- More answers were put.
+pub put_later : (sends : SendsSoFar) (more : List AskedAt) (session number : ℕ) → IsPutOrLost sends session number → IsPutOrLost (record sends { put = sends.put ++ more }) session number
+put_later sends more session number (inl put) = inl (Contains-append_left sends.put more (record { session = session; number = number }) put)
+put_later sends more session number (inr lost) = inr lost
+
+pub deal_put : (Hears : Hearing) (sends : SendsSoFar) (more : List AskedAt) (session : ℕ) (taken : List PipeRow) (waiting : Option Arrival) (pending : List Request) (ended : Bool)
+    → AreDealt Hears session taken waiting pending ended sends → AreDealt Hears session taken waiting pending ended (record sends { put = sends.put ++ more })
+deal_put Hears sends more session taken waiting pending ended is = λ going number entry at none. by number entry (is going number entry at none)
+  where
+    by : (number : ℕ) (entry : Entry) → IsDealt Hears session taken waiting pending sends number entry
+        → IsDealt Hears session taken waiting pending (record sends { put = sends.put ++ more }) number entry
+    by number entry (inl w) = inl w
+    by number entry (inr (inl p)) = inr (inl p)
+    by number entry (inr (inr (inl none))) = inr (inr (inl none))
+    by number entry (inr (inr (inr is))) = inr (inr (inr (record { answered = is.answered; put = put_later sends more session number is.put })))
 
 -- A session begins.
 no_entry : (session : ℕ) (taken : List PipeRow) (number : ℕ) (entry : Entry) → of_session session taken ≡ [] → IsSrpAt taken session number entry → ⊥
@@ -58,10 +78,10 @@ no_entry session taken number entry none at = nothing (subst (λ (xs : List Entr
         by zero same = cc (same)
         by (suc n) same = cc (same)
 
-pub deal_begun : (Hears : Hearing) (session : ℕ) (taken : List PipeRow) (waiting : Option Arrival) (pending : List Request) (ended : Bool)
-    → (ended ≡ true) ⊎ (of_session session taken ≡ []) → AreDealt Hears session taken waiting pending ended
-deal_begun Hears session taken waiting pending ended (inl over) = λ going. absurd (apart ended over going)
-deal_begun Hears session taken waiting pending ended (inr none) = λ going quiet number entry at. absurd (no_entry session taken number entry none at)
+pub deal_begun : (Hears : Hearing) (sends : SendsSoFar) (session : ℕ) (taken : List PipeRow) (waiting : Option Arrival) (pending : List Request) (ended : Bool)
+    → (ended ≡ true) ⊎ (of_session session taken ≡ []) → AreDealt Hears session taken waiting pending ended sends
+deal_begun Hears sends session taken waiting pending ended (inl over) = λ going. absurd (apart ended over going)
+deal_begun Hears sends session taken waiting pending ended (inr none) = λ going number entry at quiet. absurd (no_entry session taken number entry none at)
 
 -- ONE ENTRY MORE ---------------------------------------------------------------------------------
 
@@ -83,6 +103,34 @@ last_or (y ∷ ys) x (suc n) e is = on (last_or ys x n e is)
     on (inl there) = inl there
     on (inr last) = inr (ap suc last.0, last.1)
 
+-- no event stands behind an entry, where none stands behind it in a longer list
+quiet_front : (xs : List Entry) (x : Entry) (n : ℕ) → filter is_event (drop n (xs ++ x ∷ [])) ≡ [] → filter is_event (drop n xs) ≡ []
+quiet_front [] x zero none = refl
+quiet_front [] x (suc n) none = refl
+quiet_front (y ∷ ys) x zero none = front (filter is_event (y ∷ ys)) (filter is_event (x ∷ [])) (sym (filter-append is_event (y ∷ ys) (x ∷ [])) ∙ none)
+  where
+    front : (es more : List Entry) → es ++ more ≡ [] → es ≡ []
+    front [] more same = refl
+    front (e ∷ es) more same = absurd (cc (same))
+quiet_front (y ∷ ys) x (suc n) none = quiet_front ys x n none
+
+-- an event at the end stands behind each
+event_last : (xs : List Entry) (x : Entry) (n : ℕ) (e : Entry) → is_event x ≡ true → slice_get (xs ++ x ∷ []) n ≡ Some e → filter is_event (drop n (xs ++ x ∷ [])) ≡ [] → ⊥
+event_last xs x zero e event there none = some (filter is_event xs) x (sym (filter-append is_event xs (x ∷ []) ∙ ap (λ list. filter is_event xs ++ list) (one event)) ∙ none)
+  where
+    one : is_event x ≡ true → filter is_event (x ∷ []) ≡ x ∷ []
+    one is = rw is refl
+
+    some : (es : List Entry) (last : Entry) → es ++ last ∷ [] ≡ [] → ⊥
+    some [] last same = cc (same)
+    some (y ∷ ys) last same = cc (same)
+event_last [] x (suc n) e event there none = nothing n there
+  where
+    nothing : (n : ℕ) → slice_get [] n ≡ Some e → ⊥
+    nothing zero same = cc (same)
+    nothing (suc n) same = cc (same)
+event_last (y ∷ ys) x (suc n) e event there none = event_last ys x n e event there none
+
 module _ (Hears : Hearing) (session : ℕ) (taken taken' : List PipeRow) (row : PipeRow) (own : row.session ≡ session) (more : taken' ≡ taken ++ row ∷ []) where
   grown : of_session session taken' ≡ of_session session taken ++ row.entry ∷ []
   grown = subst (λ (q : ℕ). of_session q taken' ≡ of_session q taken ++ row.entry ∷ []) own (ap (of_session row.session) more ∙ of_session-push row taken)
@@ -90,59 +138,50 @@ module _ (Hears : Hearing) (session : ℕ) (taken taken' : List PipeRow) (row : 
   begins : Begins taken taken'
   begins = (row ∷ [], more)
 
-  quiet_before : TookNoEvent session taken' → TookNoEvent session taken
-  quiet_before none = front (filter is_event (of_session session taken)) (filter is_event (row.entry ∷ []))
-      (sym (filter-append is_event (of_session session taken) (row.entry ∷ [])) ∙ sym (ap (filter is_event) grown) ∙ none)
-    where
-      front : (xs ys : List Entry) → xs ++ ys ≡ [] → xs ≡ []
-      front [] ys same = refl
-      front (x ∷ xs) ys same = absurd (cc (same))
+  quiet_before : (number : ℕ) → TookNoEventFrom session number taken' → TookNoEventFrom session number taken
+  quiet_before number none = quiet_front (of_session session taken) row.entry number (sym (ap (λ (xs : List Entry). filter is_event (drop number xs)) grown) ∙ none)
 
   -- an event is one
-  pub heard_event : is_event row.entry ≡ true → TookNoEvent session taken' → ⊥
-  heard_event event none = some (filter is_event (of_session session taken)) (row.entry) (sym (shown event) ∙ none)
-    where
-      shown : is_event row.entry ≡ true → filter is_event (of_session session taken') ≡ filter is_event (of_session session taken) ++ row.entry ∷ []
-      shown event = ap (filter is_event) grown ∙ filter-append is_event (of_session session taken) (row.entry ∷ []) ∙ ap (λ list. filter is_event (of_session session taken) ++ list) (one event)
-        where
-          one : is_event row.entry ≡ true → filter is_event (row.entry ∷ []) ≡ row.entry ∷ []
-          one e = rw e refl
-
-      some : (xs : List Entry) (x : Entry) → xs ++ x ∷ [] ≡ [] → ⊥
-      some [] x same = cc (same)
-      some (y ∷ ys) x same = cc (same)
+  pub heard_event : is_event row.entry ≡ true → AreBeforeEvent session taken'
+  heard_event event number entry at none = event_last (of_session session taken) row.entry number entry event
+      (subst (λ (xs : List Entry). slice_get xs number ≡ Some entry) grown at.there) (sym (ap (λ (xs : List Entry). filter is_event (drop number xs)) grown) ∙ none)
 
   answered_later : (number : ℕ) → IsLoginAnswered Hears taken session number → IsLoginAnswered Hears taken' session number
   answered_later number (inl granted) = inl (granted.0, granted_more Hears taken taken' session number granted.0 begins granted.1)
   answered_later number (inr rejected) = inr (rejected_more Hears taken taken' session number begins rejected)
 
+module _ (Hears : Hearing) (sends : SendsSoFar) (session : ℕ) (taken taken' : List PipeRow) (row : PipeRow) (own : row.session ≡ session) (more : taken' ≡ taken ++ row ∷ []) where
   dealt_later : (waiting waiting' : Option Arrival) (pending : List Request) (number : ℕ) (entry : Entry) → (IsStillWaiting waiting number → IsStillWaiting waiting' number)
-      → IsDealt Hears session taken waiting pending number entry → IsDealt Hears session taken' waiting' pending number entry
+      → IsDealt Hears session taken waiting pending sends number entry → IsDealt Hears session taken' waiting' pending sends number entry
   dealt_later waiting waiting' pending number entry waits (inl is) = inl (waits is)
   dealt_later waiting waiting' pending number entry waits (inr (inl is)) = inr (inl is)
   dealt_later waiting waiting' pending number entry waits (inr (inr (inl is))) = inr (inr (inl is))
-  dealt_later waiting waiting' pending number entry waits (inr (inr (inr is))) = inr (inr (inr (answered_later number is)))
+  dealt_later waiting waiting' pending number entry waits (inr (inr (inr is))) = inr (inr (inr (record { answered = answered_later Hears session taken taken' row own more number is.answered; put = is.put })))
+
+  -- where an entry stands, and what became of it before
+  entry_was : (number : ℕ) (entry : Entry) → IsSrpAt taken' session number entry → (slice_get (of_session session taken) number ≡ Some entry) ⊎ ((number ≡ length (of_session session taken)) × (row.entry ≡ entry))
+  entry_was number entry at = last_or (of_session session taken) row.entry number entry (subst (λ (xs : List Entry). slice_get xs number ≡ Some entry) (grown Hears session taken taken' row own more) at.there)
 
   -- It is no SRP entry, or it is an event.
   pub deal_taken : (waiting : Option Arrival) (pending : List Request) (ended ended' : Bool) → ended' ≡ ended → (is_event row.entry ≡ true) ⊎ (is_srp_entry row.entry ≡ false)
-      → AreDealt Hears session taken waiting pending ended → AreDealt Hears session taken' waiting pending ended'
-  deal_taken waiting pending ended ended' same (inl event) is = λ going none. absurd (heard_event event none)
-  deal_taken waiting pending ended ended' same (inr other) is = λ going none number entry at.
-      by number entry at (last_or (of_session session taken) row.entry number entry (subst (λ (xs : List Entry). slice_get xs number ≡ Some entry) grown at.there)) (is (sym same ∙ going) (quiet_before none) number entry)
+      → AreDealt Hears session taken waiting pending ended sends → AreDealt Hears session taken' waiting pending ended' sends
+  deal_taken waiting pending ended ended' same (inl event) is = λ going number entry at none. absurd (heard_event Hears session taken taken' row own more event number entry at none)
+  deal_taken waiting pending ended ended' same (inr other) is = λ going number entry at none.
+      by number entry at (entry_was number entry at) (λ was. is (sym same ∙ going) number entry was (quiet_before Hears session taken taken' row own more number none))
     where
       by : (number : ℕ) (entry : Entry) → IsSrpAt taken' session number entry → (slice_get (of_session session taken) number ≡ Some entry) ⊎ ((number ≡ length (of_session session taken)) × (row.entry ≡ entry))
-          → (IsSrpAt taken session number entry → IsDealt Hears session taken waiting pending number entry) → IsDealt Hears session taken' waiting pending number entry
+          → (IsSrpAt taken session number entry → IsDealt Hears session taken waiting pending sends number entry) → IsDealt Hears session taken' waiting pending sends number entry
       by number entry at (inl there) old = dealt_later waiting waiting pending number entry (λ w. w) (old (record { there = there; srp = at.srp }))
       by number entry at (inr last) old = absurd (apart (is_srp_entry entry) at.srp (sym (ap is_srp_entry last.1) ∙ other))
 
   -- It waits.
   pub deal_entry : (arrival : Arrival) (pending : List Request) (ended ended' : Bool) → ended' ≡ ended → arrival.number ≡ length (of_session session taken)
-      → AreDealt Hears session taken None pending ended → AreDealt Hears session taken' (Some arrival) pending ended'
-  deal_entry arrival pending ended ended' same number_is is = λ going none number entry at.
-      by number entry at (last_or (of_session session taken) row.entry number entry (subst (λ (xs : List Entry). slice_get xs number ≡ Some entry) grown at.there)) (is (sym same ∙ going) (quiet_before none) number entry)
+      → AreDealt Hears session taken None pending ended sends → AreDealt Hears session taken' (Some arrival) pending ended' sends
+  deal_entry arrival pending ended ended' same number_is is = λ going number entry at none.
+      by number entry at (entry_was number entry at) (λ was. is (sym same ∙ going) number entry was (quiet_before Hears session taken taken' row own more number none))
     where
       by : (number : ℕ) (entry : Entry) → IsSrpAt taken' session number entry → (slice_get (of_session session taken) number ≡ Some entry) ⊎ ((number ≡ length (of_session session taken)) × (row.entry ≡ entry))
-          → (IsSrpAt taken session number entry → IsDealt Hears session taken None pending number entry) → IsDealt Hears session taken' (Some arrival) pending number entry
+          → (IsSrpAt taken session number entry → IsDealt Hears session taken None pending sends number entry) → IsDealt Hears session taken' (Some arrival) pending sends number entry
       by number entry at (inl there) old = dealt_later None (Some arrival) pending number entry (λ w. absurd (none_some w.arrival w.waits)) (old (record { there = there; srp = at.srp }))
         where
           none_some : (a : Arrival) → None ≡ Some a → ⊥
@@ -158,7 +197,7 @@ one_at taken session number a b first other = some_is (sym first.there ∙ other
     some_is : Some a ≡ Some b → a ≡ b
     some_is same = cc (same)
 
-module _ (Hears : Hearing) (session : ℕ) (taken : List PipeRow) (pending : List Request) (ended ended' : Bool) (same : ended' ≡ ended) where
+module _ (Hears : Hearing) (sends : SendsSoFar) (session : ℕ) (taken : List PipeRow) (pending : List Request) (ended ended' : Bool) (same : ended' ≡ ended) where
   -- What waited asks for no login, or is pending now.
   module _ (arrival : Arrival) (at_place : IsSrpAt taken session arrival.number arrival.entry) where
     waited : (number : ℕ) → IsStillWaiting (Some arrival) number → arrival.number ≡ number
@@ -170,19 +209,19 @@ module _ (Hears : Hearing) (session : ℕ) (taken : List PipeRow) (pending : Lis
     asks_none : (number : ℕ) (entry : Entry) → IsSrpAt taken session number entry → arrival.number ≡ number → AsksNoLogin Hears arrival.entry → AsksNoLogin Hears entry
     asks_none number entry at place = subst (AsksNoLogin Hears) (one_at taken session number arrival.entry entry (subst (λ (n : ℕ). IsSrpAt taken session n arrival.entry) place at_place) at)
 
-    pub deal_ignored : AsksNoLogin Hears arrival.entry → AreDealt Hears session taken (Some arrival) pending ended → AreDealt Hears session taken None pending ended'
-    deal_ignored none is = λ going quiet number entry at. by number entry at (is (sym same ∙ going) quiet number entry at)
+    pub deal_ignored : AsksNoLogin Hears arrival.entry → AreDealt Hears session taken (Some arrival) pending ended sends → AreDealt Hears session taken None pending ended' sends
+    deal_ignored none is = λ going number entry at quiet. by number entry at (is (sym same ∙ going) number entry at quiet)
       where
-        by : (number : ℕ) (entry : Entry) → IsSrpAt taken session number entry → IsDealt Hears session taken (Some arrival) pending number entry → IsDealt Hears session taken None pending number entry
+        by : (number : ℕ) (entry : Entry) → IsSrpAt taken session number entry → IsDealt Hears session taken (Some arrival) pending sends number entry → IsDealt Hears session taken None pending sends number entry
         by number entry at (inl w) = inr (inr (inl (asks_none number entry at (waited number w) none)))
         by number entry at (inr rest) = inr rest
 
     pub deal_pushed : (request : Request) → request.number ≡ arrival.number → (is_login request.order ≡ true) ⊎ AsksNoLogin Hears arrival.entry
-        → AreDealt Hears session taken (Some arrival) pending ended → AreDealt Hears session taken None (pending ++ request ∷ []) ended'
-    deal_pushed request number_is how is = λ going quiet number entry at. by number entry at how (is (sym same ∙ going) quiet number entry at)
+        → AreDealt Hears session taken (Some arrival) pending ended sends → AreDealt Hears session taken None (pending ++ request ∷ []) ended' sends
+    deal_pushed request number_is how is = λ going number entry at quiet. by number entry at how (is (sym same ∙ going) number entry at quiet)
       where
         by : (number : ℕ) (entry : Entry) → IsSrpAt taken session number entry → (is_login request.order ≡ true) ⊎ AsksNoLogin Hears arrival.entry
-            → IsDealt Hears session taken (Some arrival) pending number entry → IsDealt Hears session taken None (pending ++ request ∷ []) number entry
+            → IsDealt Hears session taken (Some arrival) pending sends number entry → IsDealt Hears session taken None (pending ++ request ∷ []) sends number entry
         by number entry at (inl asks) (inl w) =
             inr (inl (record { before = pending; request = request; after = []; parts = refl; number_is = number_is ∙ waited number w; asks = asks }))
         by number entry at (inr none) (inl w) = inr (inr (inl (asks_none number entry at (waited number w) none)))
@@ -197,29 +236,29 @@ module _ (Hears : Hearing) (session : ℕ) (taken : List PipeRow) (pending : Lis
         by number entry at how (inr (inr rest)) = inr (inr rest)
 
   -- The oldest request asks for no login, or was answered.
-  pub deal_popped : (waiting : Option Arrival) → ((front : Request) (rest : List Request) → pending ≡ front ∷ rest → (is_login front.order ≡ false) ⊎ IsLoginAnswered Hears taken session front.number)
-      → AreDealt Hears session taken waiting pending ended → AreDealt Hears session taken waiting (drop 1 pending) ended'
-  deal_popped waiting gone is = λ going quiet number entry at. by number entry (is (sym same ∙ going) quiet number entry at)
+  pub deal_popped : (waiting : Option Arrival) → ((front : Request) (rest : List Request) → pending ≡ front ∷ rest → (is_login front.order ≡ false) ⊎ IsLoginSettled Hears taken sends session front.number)
+      → AreDealt Hears session taken waiting pending ended sends → AreDealt Hears session taken waiting (drop 1 pending) ended' sends
+  deal_popped waiting gone is = λ going number entry at quiet. by number entry (is (sym same ∙ going) number entry at quiet)
     where
-      answered : (p : Request) (number : ℕ) (entry : Entry) → p.number ≡ number → is_login p.order ≡ true → (is_login p.order ≡ false) ⊎ IsLoginAnswered Hears taken session p.number
-          → IsDealt Hears session taken waiting (drop 1 pending) number entry
+      answered : (p : Request) (number : ℕ) (entry : Entry) → p.number ≡ number → is_login p.order ≡ true → (is_login p.order ≡ false) ⊎ IsLoginSettled Hears taken sends session p.number
+          → IsDealt Hears session taken waiting (drop 1 pending) sends number entry
       answered p number entry place asks (inl other) = absurd (apart (is_login p.order) asks other)
-      answered p number entry place asks (inr is) = inr (inr (inr (subst (IsLoginAnswered Hears taken session) place is)))
+      answered p number entry place asks (inr is) = inr (inr (inr (subst (IsLoginSettled Hears taken sends session) place is)))
 
       among : (number : ℕ) (entry : Entry) (request : Request) (before after : List Request) → pending ≡ before ++ request ∷ after → request.number ≡ number → is_login request.order ≡ true
-          → IsDealt Hears session taken waiting (drop 1 pending) number entry
+          → IsDealt Hears session taken waiting (drop 1 pending) sends number entry
       among number entry request [] after parts place asks = answered request number entry place asks (gone request after parts)
       among number entry request (first ∷ before) after parts place asks =
           inr (inl (record { before = before; request = request; after = after; parts = ap (drop 1) parts; number_is = place; asks = asks }))
 
-      by : (number : ℕ) (entry : Entry) → IsDealt Hears session taken waiting pending number entry → IsDealt Hears session taken waiting (drop 1 pending) number entry
+      by : (number : ℕ) (entry : Entry) → IsDealt Hears session taken waiting pending sends number entry → IsDealt Hears session taken waiting (drop 1 pending) sends number entry
       by number entry (inl w) = inl w
       by number entry (inr (inl p)) = among number entry p.request p.before p.after p.parts p.number_is p.asks
       by number entry (inr (inr rest)) = inr (inr rest)
 
 -- Nothing was taken from a queue that is new.
-pub deal_none : (Hears : Hearing) (session : ℕ) (taken : List PipeRow) (waiting : Option Arrival) (pending : List Request) (ended : Bool) → taken ≡ [] → AreDealt Hears session taken waiting pending ended
-deal_none Hears session taken waiting pending ended none = deal_begun Hears session taken waiting pending ended (inr (ap (of_session session) none ∙ of_session-nil session))
+pub deal_none : (Hears : Hearing) (sends : SendsSoFar) (session : ℕ) (taken : List PipeRow) (waiting : Option Arrival) (pending : List Request) (ended : Bool) → taken ≡ [] → AreDealt Hears session taken waiting pending ended sends
+deal_none Hears sends session taken waiting pending ended none = deal_begun Hears sends session taken waiting pending ended (inr (ap (of_session session) none ∙ of_session-nil session))
 
 -- WHAT WAS JUDGED --------------------------------------------------------------------------------
 

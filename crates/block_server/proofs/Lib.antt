@@ -64,6 +64,7 @@ pub mod Numbering
 pub mod Rising
 pub mod RowsRising
 pub mod Keeping
+pub mod Dropping
 pub mod Ended
 pub mod Accepting
 pub mod Working

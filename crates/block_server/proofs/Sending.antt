@@ -29,15 +29,16 @@ use Rattle.block_server.proofs.Quieting.{lost_none}
 
 -- a call of the queue's end alone
 pub queue_call : (reached : Lenders) (own client : PortState) (shared : Bool) (copies : List CopyRecord) (old new : EndState) → new.place ≡ old.place → old.last_session ≤ new.last_session
-    → Begins old.taken new.taken → PutsMore old.sent new.sent → (reached.link_shared ≡ false → new.counts.partner_session ≡ old.counts.partner_session)
+    → Begins old.taken new.taken → PutsMore old.sent new.sent → (reached.link_shared ≡ false → new.counts.partner_session ≡ old.counts.partner_session) → old.counts.closed ≤ new.counts.closed
     → Advances (site reached old own client shared copies) (site reached new own client shared copies)
-queue_call reached own client shared copies old new place session taken put partner = record {
+queue_call reached own client shared copies old new place session taken put partner closed = record {
   reached = refl;
   queue_place = place;
   own_place = refl;
   client_place = refl;
   shared = refl;
   partner = partner;
+  closed = closed;
   values = λ e. later_same shared (client.values e);
   session = session;
   taken = taken;
@@ -53,6 +54,9 @@ queue_call reached own client shared copies old new place session taken put part
 
 pub same_session : (old new : EndState) → new.last_session ≡ old.last_session → old.last_session ≤ new.last_session
 same_session old new same = omega (arith, same)
+
+pub same_count : (a b : ℕ) → b ≡ a → a ≤ b
+same_count a b same = omega (arith, same)
 
 pub same_taken : (old new : EndState) → new.taken ≡ old.taken → Begins old.taken new.taken
 same_taken old new same = ([], same ∙ sym (append-nil old.taken))

@@ -1,8 +1,9 @@
 -- What the answer to a request that was put says of a login: it granted one, and a line says so, rejected one, or answered no
 -- such request.
 use Rattle.std.proofs.Common.{◌≡◌, ◌++◌, ◌==◌, ◌∙◌, ◌⊎◌, inl, inr, ℕ, Bool, true, false, All, List, [], ◌∷◌, Some, None, filter, length, drop, refl, sym, ap, subst, append-nil}
+use Rattle.std.specs.List.{Contains}
 use Rattle.std.proofs.lemmas.Bool.{eqb-true}
-use Rattle.std.proofs.lemmas.List.Elements.{All-nil, All-cons, All-head, filter-append}
+use Rattle.std.proofs.lemmas.List.Elements.{All-nil, All-cons, All-head, Contains-push, filter-append}
 use Rattle.crq_ring.specs.declared.rows.PipeRow.{PipeRow}
 use Rattle.srp_iu.specs.Grammar.{Spells}
 use Rattle.srp_iu.specs.declared.login.LoginReq.{LoginReq}
@@ -16,13 +17,13 @@ use Rattle.vio_num.specs.declared.history.Served.{Served}
 use Rattle.block_server.specs.Asked.{AskedAt, still_to_answer}
 use Rattle.block_server.specs.Causes.{Hearing, told_to, units_at}
 use Rattle.block_server.specs.Causes.News.{delivered, fetched}
-use Rattle.block_server.specs.Dealt.{IsLoginAnswered}
+use Rattle.block_server.specs.Dealt.{IsLoginAnswered, IsLoginSettled, IsPutOrLost, SendsSoFar}
 use Rattle.block_server.specs.Judged.{is_login}
 use Rattle.block_server.specs.Entries.{is_response_len, login_rej_len, login_rsp_len}
 use Rattle.block_server.specs.Granting.{HasOffer, HasOtherFront, IsGrantedOver, IsOfferedOver, IsRejectedOver, IsRejectingOver, IsSrpAt}
 use Rattle.block_server.specs.LoginAnswers.{IsGrantPut, IsLoginAnswer, IsRejectionPut, LoginAnswer, LoginsMore, grants_in, is_grant, is_login_answer, login_put}
 use Rattle.block_server.specs.Orders.{IsOrder}
-use Rattle.block_server.specs.Refusals.{AreExplained, ExplainsOf, HasEntry, IsExplained, Ledger, basis_in, to_answer}
+use Rattle.block_server.specs.Refusals.{AreAccounted, AreExplained, ExplainsOf, Front, HasEntry, IsExplained, Ledger, basis_in, to_answer}
 use Rattle.block_server.specs.Serving.{AreBrought, Desk, IsAnswerKept, IsServing, Terms}
 use Rattle.block_server.specs.Stage.{fits}
 use Rattle.block_server.specs.declared.request.Order.{Order}
@@ -34,7 +35,7 @@ use Rattle.block_server.specs.declared.service.Stage.{Stage}
 use Rattle.block_server.specs.declared.service.Stage.TheVariants as stages
 use Rattle.block_server.proofs.Asking.{Leads, leads_same}
 use Rattle.block_server.proofs.OnThen.{on_granted, on_same}
-use Rattle.block_server.proofs.Ledgers.{accounted, begins_same, deals_left, explains_left, on_stays}
+use Rattle.block_server.proofs.Ledgers.{IsGone, accounted, begins_same, deals_answered, explains_left, on_stays, sends_of}
 use Rattle.block_server.proofs.Onces.{response_lens}
 use Rattle.block_server.proofs.Refusing.{known_left}
 
@@ -178,20 +179,22 @@ module _ (terms : Terms) (desk : Desk) (history : List Served) (old : Ledger) (o
   gone_from since known first rest parts =
       gone_at terms desk history old.taken old.session outcome stage (subst (All (HasEntry old.taken old.session)) (sym requests) known.pending) serving first rest (requests ∙ parts)
 
-pub explains_finished : (terms : Terms) (desk : Desk) (history : List Served) (old new : Ledger) (outcome : Outcome) → desk.stage ≡ stages.Entry outcome → desk.pending ≡ old.pending
-    → new.session ≡ old.session → new.taken ≡ old.taken → new.waiting ≡ old.waiting → new.ended ≡ old.ended
-    → new.pending ≡ drop 1 old.pending → new.lines ≡ old.lines → new.answers ≡ old.answers → new.id ≡ old.id → new.current ≡ old.current → ExplainsOf terms desk history old new
-explains_finished terms desk history old new outcome stage requests session taken waiting ended pending same answers id current = λ serving front.
-    explains_left terms.told desk.id front old new [] session taken waiting ended pending (same ∙ sym (append-nil old.lines))
-    (All-nil (IsExplained (told_to terms.told desk.id) desk.id old.taken)) (ap grants_in same) answers (gone_from terms desk history old outcome stage requests serving front.since)
-    (on_stays old new id current session ended same)
+  -- its entry was put, or lost
+  gone_with : (since : List Grant) (sends : SendsSoFar) → AreExplained terms.told desk.id since (basis_in old)
+      → ((first : Request) (rest : List Request) → old.pending ≡ first ∷ rest → IsPutOrLost sends old.session first.number) → IsGone (told_to terms.told desk.id) sends old
+  gone_with since sends known put first rest parts = by (gone_from since known first rest parts)
+    where
+      by : (is_login first.order ≡ false) ⊎ IsLoginAnswered (told_to terms.told desk.id) old.taken old.session first.number
+          → (is_login first.order ≡ false) ⊎ IsLoginSettled (told_to terms.told desk.id) old.taken sends old.session first.number
+      by (inl other) = inl other
+      by (inr is) = inr (record { answered = is; put = put first rest parts })
 
--- what is still to be answered behind the request that was: it was asked where that was
-answer_given : (old new : Ledger) (asked : AskedAt) (first : Request) (rest : List Request) → old.pending ≡ first ∷ rest → asked ≡ record { session = old.session; number = first.number }
-    → new.session ≡ old.session → new.taken ≡ old.taken → new.waiting ≡ old.waiting → new.pending ≡ drop 1 old.pending → Leads (to_answer old) (asked ∷ to_answer new)
-answer_given old new asked first rest parts at session taken waiting pending =
-    leads_same (to_answer old) (asked ∷ to_answer new)
-    ((λ i. at i ∷ still_to_answer (session i) (taken i) (waiting i) ((pending ∙ ap (drop 1) parts) i)) ∙ ap (still_to_answer old.session old.taken old.waiting) (sym parts))
+  -- it was put, and is the last that was
+  gone_put : (since : List Grant) (front : Front) (put : List AskedAt) (asked : AskedAt) → AreExplained terms.told desk.id since (basis_in old)
+      → ((first : Request) (rest : List Request) → old.pending ≡ first ∷ rest → asked ≡ record { session = old.session; number = first.number })
+      → IsGone (told_to terms.told desk.id) (sends_of front (put ++ asked ∷ [])) old
+  gone_put since front put asked known at = gone_with since (sends_of front (put ++ asked ∷ [])) known
+      (λ first rest parts. inl (subst (Contains (put ++ asked ∷ [])) (at first rest parts) (Contains-push put asked)))
 
 -- while a request is pending the session goes on
 goes_on : {pending : List Request} (ended : Bool) (first : Request) (rest : List Request) → pending ≡ first ∷ rest → (ended ≡ true → pending ≡ []) → ended ≡ false
@@ -200,6 +203,26 @@ goes_on {pending} true first rest parts idle = absurd (some (sym (idle refl) ∙
   where
     some : [] ≡ first ∷ rest → ⊥
     some same = cc (same)
+
+-- Its entry was discarded, since the client's queue was closed.
+pub explains_finished : (terms : Terms) (desk : Desk) (history : List Served) (old new : Ledger) (outcome : Outcome) → desk.stage ≡ stages.Entry outcome → desk.pending ≡ old.pending
+    → new.session ≡ old.session → new.taken ≡ old.taken → new.waiting ≡ old.waiting → new.ended ≡ old.ended
+    → new.pending ≡ drop 1 old.pending → new.lines ≡ old.lines → new.answers ≡ old.answers → new.id ≡ old.id → new.current ≡ old.current → IsServing terms desk history → (front : Front)
+    → ((earlier : List AskedAt) → front.asked ≡ Some earlier → old.ended ≡ false → front.closed old.session ≡ true)
+    → AreAccounted terms.told desk.id front old → AreAccounted terms.told desk.id front new
+explains_finished terms desk history old new outcome stage requests session taken waiting ended pending same answers id current = λ serving front lost is.
+    explains_left terms.told desk.id front old new [] session taken waiting ended pending (same ∙ sym (append-nil old.lines))
+    (All-nil (IsExplained (told_to terms.told desk.id) desk.id old.taken)) (ap grants_in same) answers
+    (λ known earlier put some. gone_with terms desk history old outcome stage requests serving front.since (sends_of front put) known
+    (λ first rest parts. inr (lost earlier some (goes_on old.ended first rest parts (λ over. (known.idle over).1)))))
+    (on_stays old new id current session ended same) is
+
+-- what is still to be answered behind the request that was: it was asked where that was
+answer_given : (old new : Ledger) (asked : AskedAt) (first : Request) (rest : List Request) → old.pending ≡ first ∷ rest → asked ≡ record { session = old.session; number = first.number }
+    → new.session ≡ old.session → new.taken ≡ old.taken → new.waiting ≡ old.waiting → new.pending ≡ drop 1 old.pending → Leads (to_answer old) (asked ∷ to_answer new)
+answer_given old new asked first rest parts at session taken waiting pending =
+    leads_same (to_answer old) (asked ∷ to_answer new)
+    ((λ i. at i ∷ still_to_answer (session i) (taken i) (waiting i) ((pending ∙ ap (drop 1) parts) i)) ∙ ap (still_to_answer old.session old.taken old.waiting) (sym parts))
 
 -- The request that was granted its login is at the front.
 front_granted : (terms : Terms) (desk : Desk) (history : List Served) (number : ℕ) → desk.stage ≡ stages.Entry (outcomes.Granted number) → IsServing terms desk history
@@ -237,7 +260,9 @@ explains_granted terms desk history old new login number credits entry stage kep
       granted = grant_added old.lines new.lines line refl more;
       each = subst (λ rows. All (IsLoginAnswer Hears rows) (answer ∷ [])) (sym taken) (All-cons (IsLoginAnswer Hears old.taken) answer [] put' (All-nil (IsLoginAnswer Hears old.taken)));
     })
-    (λ deals. deals_left Hears old new session taken waiting ended pending (gone_from terms desk history old (outcomes.Granted number) stage requests serving front.since is.known))
+    (deals_answered Hears front (asked ∷ []) old new session taken waiting ended pending
+    (λ put. gone_put terms desk history old (outcomes.Granted number) stage requests serving front.since front put asked is.known
+    (λ first rest parts i. record { session = old.session; number = (sym offer.number_is ∙ ap (λ (r : Request). r.number) (head_is offer.front first offer.rest rest (sym offer.parts ∙ requests ∙ parts))) i })))
     (answer_given old new asked offer.front offer.rest (sym requests ∙ offer.parts) (λ i. record { session = old.session; number = (sym offer.number_is) i }) session taken waiting pending)
     (record {
       id = id;
@@ -268,7 +293,9 @@ explains_rejected terms desk history old new entry stage kept len requests sessi
       granted = ap grants_in lines ∙ sym (append-nil (grants_in old.lines));
       each = subst (λ rows. All (IsLoginAnswer Hears rows) (answer ∷ [])) (sym taken) (All-cons (IsLoginAnswer Hears old.taken) answer [] put (All-nil (IsLoginAnswer Hears old.taken)));
     })
-    (λ deals. deals_left Hears old new session taken waiting ended pending (gone_from terms desk history old outcomes.Rejected stage requests serving front.since is.known))
+    (deals_answered Hears front (asked ∷ []) old new session taken waiting ended pending
+    (λ put. gone_put terms desk history old outcomes.Rejected stage requests serving front.since front put asked is.known
+    (λ other rest parts i. record { session = old.session; number = ap (λ (r : Request). r.number) (head_is first.front other first.rest rest (sym first.parts ∙ requests ∙ parts)) i })))
     (answer_given old new asked first.front first.rest (sym requests ∙ first.parts) refl session taken waiting pending)
     (on_stays old new id current session ended lines)
     (λ on. (record { before = old.lines; after = []; parts = lines ∙ sym (append-nil old.lines); grants = refl; on_is = on_is ∙ on.on }, tt)) is
@@ -290,5 +317,12 @@ pub explains_served : (terms : Terms) (desk : Desk) (history : List Served) (old
     → new.session ≡ old.session → new.taken ≡ old.taken → new.waiting ≡ old.waiting → new.ended ≡ old.ended → new.pending ≡ drop 1 old.pending → new.lines ≡ old.lines
     → new.answers ≡ old.answers ++ login_put entry → new.id ≡ old.id → new.current ≡ old.current → ExplainsOf terms desk history old new
 explains_served terms desk history old new entry row stage kept len requests session taken waiting ended pending lines answers id current =
-    explains_finished terms desk history old new (outcomes.Served row) stage requests session taken waiting ended pending lines
-    (answers ∙ ap (λ list. old.answers ++ list) (served_none desk entry row kept len) ∙ append-nil old.answers) id current
+    λ serving front is.
+    explains_left terms.told desk.id front old new [] session taken waiting ended pending (lines ∙ sym (append-nil old.lines))
+    (All-nil (IsExplained (told_to terms.told desk.id) desk.id old.taken)) (ap grants_in lines)
+    (answers ∙ ap (λ list. old.answers ++ list) (served_none desk entry row kept len) ∙ append-nil old.answers)
+    (λ known earlier put some first rest parts. inl (other_at (subst (λ (st : Stage). HasOffer (told_to terms.told desk.id) st desk.logins desk.answer desk.pending) stage serving.offer) first rest parts))
+    (on_stays old new id current session ended lines) is
+  where
+    other_at : HasOtherFront desk.pending → (first : Request) (rest : List Request) → old.pending ≡ first ∷ rest → is_login first.order ≡ false
+    other_at other first rest parts = subst (λ (r : Request). is_login r.order ≡ false) (head_is other.front first other.rest rest (sym other.parts ∙ requests ∙ parts)) other.other

@@ -82,6 +82,7 @@ windows_move reached queue own own' client client' shared copies copies' own_pla
   client_place = client_place;
   shared = refl;
   partner = λ plain. refl;
+  closed = omega arith;
   values = values;
   session = omega arith;
   taken = begins_same queue.taken;

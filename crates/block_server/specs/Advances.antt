@@ -50,6 +50,8 @@ pub record Advances (old new : SiteState) : Type 0 where
   pub shared : new.shared ≡ old.shared
   -- where nobody else changes the link, the partner is in its session of before
   pub partner : old.reached.link_shared ≡ false → new.queue.counts.partner_session ≡ old.queue.counts.partner_session
+  -- the sends that found the partner's queue closed are counted
+  pub closed : old.queue.counts.closed ≤ new.queue.counts.closed
   pub values : (e : ℕ) → Later old.shared (old.client.values e) (new.client.values e)
   pub session : old.queue.last_session ≤ new.queue.last_session
   pub taken : Begins old.queue.taken new.queue.taken

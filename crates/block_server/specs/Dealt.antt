@@ -1,7 +1,9 @@
--- What becomes of each request to log in, while its session goes on and no event was taken in it (SRP, "Login process").
-use Rattle.std.specs.Prelude.{◌≡◌, ◌⊎◌, ◌++◌, ◌∷◌, ℕ, Bool, true, false, List, [], Option, Some, IfSome, filter, length, slice_get}
+-- What becomes of each request to log in, while its session goes on and no event was taken behind it (SRP, "Login process").
+use Rattle.std.specs.Prelude.{◌≡◌, ◌⊎◌, ◌++◌, ◌∷◌, ◌≤◌, ℕ, Bool, true, false, List, [], Option, Some, IfSome, drop, filter, length, slice_get}
+use Rattle.std.specs.List.{Contains}
 use Rattle.crq_ring.specs.Sessions.{of_session}
 use Rattle.crq_ring.specs.declared.rows.PipeRow.{PipeRow}
+use Rattle.crq_session.specs.Answered.{MeetsClosed}
 use Rattle.crq_session.specs.EndState.{EndState}
 use Rattle.srp_iu.specs.Grammar.{Spells}
 use Rattle.srp_iu.specs.declared.login.LoginReq.{LoginReq}
@@ -9,6 +11,7 @@ use Rattle.srp_iu.specs.declared.unit.Iu.TheVariants as units
 use Rattle.vio_num.specs.Entry.{iu_address, iu_length}
 use Rattle.vio_num.specs.declared.entry.Entry.{Entry}
 use Rattle.vio_num.specs.declared.names.UnitId.{UnitId}
+use Rattle.block_server.specs.Asked.{AskedAt}
 use Rattle.block_server.specs.Causes.{Hearing, Told, told_to, units_at}
 use Rattle.block_server.specs.Causes.News.{fetched}
 use Rattle.block_server.specs.Closings.{is_event}
@@ -45,21 +48,45 @@ pub record AsksNoLogin (Hears : Hearing) (entry : Entry) : Type 0 where
 abbrev pub IsLoginAnswered : Hearing → List PipeRow → (session number : ℕ) → Type 0
 IsLoginAnswered Hears taken session number = ((credits : ℕ) × IsGrantedOver Hears taken session number credits) ⊎ IsRejectedOver Hears taken session number
 
--- What became of an SRP entry: one of these.
-abbrev pub IsDealt : Hearing → (session : ℕ) → List PipeRow → Option Arrival → List Request → (number : ℕ) → Entry → Type 0
-IsDealt Hears session taken waiting pending number entry =
-    IsStillWaiting waiting number ⊎ (IsStillPending pending number ⊎ (AsksNoLogin Hears entry ⊎ IsLoginAnswered Hears taken session number))
+-- What is known of the sends of answers to requests to log in: where the requests were asked whose answers were put, and whether a
+-- send of a session may have found the client's queue closed.
+pub record SendsSoFar : Type 0 where
+  pub put : List AskedAt
+  pub closed : (session : ℕ) → Bool
 
--- No event was taken in the session.
+-- The answer was put, or a send may have found the client's queue closed.
+abbrev pub IsPutOrLost : SendsSoFar → (session number : ℕ) → Type 0
+IsPutOrLost sends session number = Contains sends.put (record { session = session; number = number }) ⊎ (sends.closed session ≡ true)
+
+-- Its login was granted or rejected by a copy of the answer, whose entry was put.
+pub record IsLoginSettled (Hears : Hearing) (taken : List PipeRow) (sends : SendsSoFar) (session number : ℕ) : Type 0 where
+  pub answered : IsLoginAnswered Hears taken session number
+  pub put : IsPutOrLost sends session number
+
+-- What became of an SRP entry: one of these.
+abbrev pub IsDealt : Hearing → (session : ℕ) → List PipeRow → Option Arrival → List Request → SendsSoFar → (number : ℕ) → Entry → Type 0
+IsDealt Hears session taken waiting pending sends number entry =
+    IsStillWaiting waiting number ⊎ (IsStillPending pending number ⊎ (AsksNoLogin Hears entry ⊎ IsLoginSettled Hears taken sends session number))
+
+-- No event was taken in the session, and none from its entry of this number on.
 abbrev pub TookNoEvent : (session : ℕ) → List PipeRow → Type 0
 TookNoEvent session taken = filter is_event (of_session session taken) ≡ []
 
--- While the session goes on, and no event was taken in it, each SRP entry that was taken in it was dealt with.
-abbrev pub AreDealt : Hearing → (session : ℕ) → List PipeRow → Option Arrival → List Request → (ended : Bool) → Type 0
-AreDealt Hears session taken waiting pending ended =
-    ended ≡ false → TookNoEvent session taken → (number : ℕ) (entry : Entry) → IsSrpAt taken session number entry → IsDealt Hears session taken waiting pending number entry
+abbrev pub TookNoEventFrom : (session number : ℕ) → List PipeRow → Type 0
+TookNoEventFrom session number taken = filter is_event (drop number (of_session session taken)) ≡ []
 
--- So it is of the unit of this number, by what it was told.
-abbrev pub HasDealt : (told : Told → Bool) → List Unit → (number : ℕ) → UnitId → EndState → Type 0
-HasDealt told units number unit queue = IfSome (slice_get units number)
-    (λ u. AreDealt (told_to told unit) queue.last_session queue.taken u.waiting u.pending.items (is_ended u.line))
+-- While the session goes on, each SRP entry that was taken in it was dealt with, unless an event was taken behind it.
+abbrev pub AreDealt : Hearing → (session : ℕ) → List PipeRow → Option Arrival → List Request → (ended : Bool) → SendsSoFar → Type 0
+AreDealt Hears session taken waiting pending ended sends = ended ≡ false → (number : ℕ) (entry : Entry) → IsSrpAt taken session number entry
+    → TookNoEventFrom session number taken → IsDealt Hears session taken waiting pending sends number entry
+
+-- So it is of the unit of this number, by what it was told, where the answers to the requests asked at these places were put, and a
+-- send may have found the client's queue closed in these sessions.
+abbrev pub HasDealt : (told : Told → Bool) → (put : List AskedAt) → (closed : ℕ → Bool) → List Unit → (number : ℕ) → UnitId → EndState → Type 0
+HasDealt told put closed units number unit queue = IfSome (slice_get units number)
+    (λ u. AreDealt (told_to told unit) queue.last_session queue.taken u.waiting u.pending.items (is_ended u.line) (record { put = put; closed = closed }))
+
+-- Unless a send of each session so far may have found the client's queue closed: the unit takes its own queue for registered exactly where
+-- it is, and none found the client's closed between these states of the end.
+abbrev pub KnowsSends : (agrees : Type 0) → (shared : Bool) → (old new : EndState) → (closed : ℕ → Bool) → Type 0
+KnowsSends agrees shared old new closed = (session : ℕ) → session ≤ new.last_session → closed session ≡ false → agrees × ¬ MeetsClosed shared old new

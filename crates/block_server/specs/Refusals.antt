@@ -4,6 +4,7 @@ use Rattle.std.specs.Prelude.{⊤, ◌≡◌, ◌⊎◌, ◌++◌, ℕ, Bool, tr
 use Rattle.std.specs.List.{slice_get}
 use Rattle.crq_ring.specs.declared.rows.PipeRow.{PipeRow}
 use Rattle.crq_session.specs.EndState.{EndState}
+use Rattle.crq_session.specs.declared.handshake.Handshake.{Handshake}
 use Rattle.tce_window.specs.declared.answers.HoldFault.{HoldFault}
 use Rattle.tce_window.specs.declared.answers.Right.TheVariants.{Read, Write}
 use Rattle.vio_num.specs.Entry.{iu_address, iu_length}
@@ -17,12 +18,13 @@ use Rattle.vio_num.specs.declared.names.UnitId.{UnitId}
 use Rattle.block_server.specs.Asked.{AreAskedInOrder, AskInOrder, AskedAt, still_to_answer}
 use Rattle.block_server.specs.Causes.{Hearing, Told, told_to}
 use Rattle.block_server.specs.Causes.News.{denied}
-use Rattle.block_server.specs.Dealt.{AreDealt}
+use Rattle.block_server.specs.Dealt.{AreDealt, HasDealt, KnowsSends}
 use Rattle.block_server.specs.Entries.{is_answer_len}
 use Rattle.block_server.specs.Granting.{IsGrantedOver, IsSrpAt}
 use Rattle.block_server.specs.Heard.{TellsAll}
 use Rattle.block_server.specs.LoginAnswers.{LoginsMore, asked_at, grants_in, login_answers}
 use Rattle.block_server.specs.Makers.{same_unit}
+use Rattle.block_server.specs.Ready.{Agrees}
 use Rattle.block_server.specs.Receipts.{is_ended}
 use Rattle.block_server.specs.Rejecting.{IsOnByLines, LinesTellLogin, RejectInTime}
 use Rattle.block_server.specs.Serving.{Desk, IsServing, Terms}
@@ -141,17 +143,18 @@ pub record Front : Type 0 where
   pub since : List Grant
   pub lines : List Grant
   pub answers : List Entry
-  -- whether it is known what became of the requests to log in
-  pub deals : Bool
   -- where the requests were asked to log in that were answered before, where that is known
   pub asked : Option (List AskedAt)
+  -- whether a send of a session may have found the client's queue closed, the turn's among them
+  pub closed : (session : ℕ) → Bool
 
 -- Each line behind these has its cause, and each answer to a request to log in that was put in the turn is its line's, or a
 -- rejection.
 pub record AreAccounted (told : Told → Bool) (unit : UnitId) (front : Front) (ledger : Ledger) : Type 0 where
   pub known : AreExplained told unit front.since (basis_in ledger)
   pub logins : LoginsMore (told_to told unit) ledger.taken front.answers ledger.answers front.lines ledger.lines
-  pub dealt : front.deals ≡ true → AreDealt (told_to told unit) ledger.session ledger.taken ledger.waiting ledger.pending ledger.ended
+  pub dealt : (earlier : List AskedAt) → front.asked ≡ Some earlier → AreDealt (told_to told unit) ledger.session ledger.taken ledger.waiting ledger.pending ledger.ended
+      (record { put = earlier ++ map asked_at logins.more; closed = front.closed })
   -- the requests were answered in their order, and those that are still to be answered were asked behind them
   pub order : (earlier : List AskedAt) → front.asked ≡ Some earlier → AreAskedInOrder (earlier ++ (map asked_at logins.more ++ to_answer ledger))
   -- and the lines, which came behind those of before, say which login is on, and was as each of them was rejected
@@ -177,8 +180,14 @@ abbrev pub ExplainsOf : Terms → Desk → List Served → (old new : Ledger) �
 ExplainsOf terms desk history old new =
     IsServing terms desk history → (front : Front) → AreAccounted terms.told desk.id front old → AreAccounted terms.told desk.id front new
 
-abbrev pub ExplainsOn : Terms → (old new : SiteState) → Desk → List Served → (ledger ledger' : Ledger) → Type 0
-ExplainsOn terms old new desk history ledger ledger' = TellsAll terms.told desk.id old new → ExplainsOf terms desk history ledger ledger'
+-- It stays so where it is known which sends may have found the client's queue closed; and where all that came between was told, too.
+abbrev pub ExplainsSends : (shared : Bool) → Handshake → (queue queue' : EndState) → Terms → Desk → List Served → (old new : Ledger) → Type 0
+ExplainsSends shared handshake queue queue' terms desk history old new =
+    IsServing terms desk history → (front : Front) → KnowsSends (Agrees handshake queue) shared queue queue' front.closed → AreAccounted terms.told desk.id front old → AreAccounted terms.told desk.id front new
+
+abbrev pub ExplainsOn : (shared : Bool) → Handshake → Terms → (old new : SiteState) → Desk → List Served → (ledger ledger' : Ledger) → Type 0
+ExplainsOn shared handshake terms old new desk history ledger ledger' =
+    TellsAll terms.told desk.id old new → ExplainsSends shared handshake old.queue new.queue terms desk history ledger ledger'
 
 -- The window denied to have an answer written over the oldest request.
 pub record DeniesAnswer (old new : SiteState) (pending : List Request) : Type 0 where
@@ -216,10 +225,12 @@ AnswersLogins told unit queue queue' records records' =
 
 -- These answers are to requests that were asked in order, each at most once: behind those asked at the earlier places, and before
 -- what the unit of this number has still to answer.
-pub record AnswersInOrder (told : Told → Bool) (earlier : List AskedAt) (units' : List Unit) (number : ℕ) (unit : UnitId) (queue queue' : EndState) (records records' : Records) : Type 0 where
+pub record AnswersInOrder (told : Told → Bool) (earlier : List AskedAt) (closed : ℕ → Bool) (units' : List Unit) (number : ℕ) (unit : UnitId) (queue queue' : EndState) (records records' : Records) : Type 0 where
   pub logins : AnswersLogins told unit queue queue' records records'
   pub order : AskInOrder (earlier ++ map asked_at logins.more) units' number queue'
   -- and by the lines one was on as each of them was rejected for that, and none as each was rejected for another cause
   pub lines : Begins records.grants.items records'.grants.items
   pub rejects : RejectInTime unit (grants_in records.grants.items) records'.grants.items logins.more
   pub on : LinesTellLogin units' number unit queue' records'.grants.items
+  -- and each SRP entry of a session that goes on was dealt with: an answer that was copied was put, unless the client's queue was closed
+  pub deals : HasDealt told (earlier ++ map asked_at logins.more) closed units' number unit queue'

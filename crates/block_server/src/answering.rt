@@ -17,7 +17,7 @@ ghost use Rattle.block_server.specs.Moves.{Passes};
 ghost use Rattle.block_server.specs.Owed.{AreCutOff, HasAnswers, IsUp, KeepsAnswers, KeepsAnswersBy, row_states, owing_of};
 ghost use Rattle.block_server.specs.Receipts.{LinesMore, TakesIn, is_ended, standing_of};
 ghost use Rattle.block_server.specs.Ready.{MeetsFull};
-ghost use Rattle.block_server.specs.Refusals.{DeniesAnswer, Explains, ExplainsBy, ExplainsOf, ExplainsOn, ledger_at, ledger_of};
+ghost use Rattle.block_server.specs.Refusals.{DeniesAnswer, Explains, ExplainsBy, ExplainsOf, ExplainsOn, ExplainsSends, ledger_at, ledger_of};
 ghost use Rattle.crq_ring.specs.declared.rows.PipeRow.{PipeRow};
 ghost use Rattle.block_server.specs.Stage.{is_answered};
 ghost use Rattle.block_server.specs.Steps.{ComesOn, NoStage, ToEntry};
@@ -341,7 +341,8 @@ pub(crate) fn answer<S: Site>(
         (books_at unit.new (S.state site.new) records.new) }
     ensures cargo { KeepsCargo (cargo_of unit.old (S.state site.old) records.old)
         (cargo_of unit.new (S.state site.new) records.new) }
-    ensures refuses { (terms : Terms) → ExplainsOn terms (S.state site.old) (S.state site.new)
+    ensures refuses { (terms : Terms) → ExplainsOn S.link_shared unit.old.line.handshake
+        terms (S.state site.old) (S.state site.new)
         (desk_of unit.old) records.old.history.items
         (ledger_of unit.old (S.state site.old) records.old)
         (ledger_of unit.new (S.state site.new) records.new) }
@@ -484,7 +485,8 @@ fn put_answer<S: Site>(unit: &mut Unit, site: &mut S, records: &mut Records, out
         records.old records.new }
     ensures cargo { cargo_of unit.new (S.state site.new) records.new ≡
         cargo_of unit.old (S.state site.old) records.old }
-    ensures refuses { (terms : Terms) → ExplainsOf terms
+    ensures refuses { (terms : Terms) → ExplainsSends S.link_shared unit.old.line.handshake
+        (S.state site.old).queue (S.state site.new).queue terms
         (desk_of unit.old) records.old.history.items
         (ledger_of unit.old (S.state site.old) records.old)
         (ledger_of unit.new (S.state site.new) records.new) }
@@ -545,7 +547,8 @@ pub(crate) fn put_kept<S: Site>(
         IsServing terms (desk_of unit.old) records.old.history.items →
         cargo_of unit.new (S.state site.new) records.new ≡
         cargo_of unit.old (S.state site.old) records.old }
-    ensures refuses { (terms : Terms) → ExplainsOf terms
+    ensures refuses { (terms : Terms) → ExplainsSends S.link_shared unit.old.line.handshake
+        (S.state site.old).queue (S.state site.new).queue terms
         (desk_of unit.old) records.old.history.items
         (ledger_of unit.old (S.state site.old) records.old)
         (ledger_of unit.new (S.state site.new) records.new) }

@@ -3,9 +3,9 @@ ghost use Rattle.std.specs.Prelude.{◌≡◌, ◌≢◌, ◌<◌, ◌≤◌, �
 ghost use Rattle.rdma_copy.specs.Copies.{side_of};
 ghost use Rattle.tce_window.specs.Port.{Later};
 ghost use Rattle.block_server.specs.Advances.{CopiesMore, Goes, KeepsFreed, StayNamed};
-ghost use Rattle.block_server.specs.Cargo.{AreIdle, HasCargo, HasRuns};
+ghost use Rattle.block_server.specs.Cargo.{AreIdle, HasRuns};
 ghost use Rattle.block_server.specs.Causes.{Told, anything};
-ghost use Rattle.block_server.specs.Dealt.{HasDealt};
+ghost use Rattle.block_server.specs.Dealt.{HasDealt, KnowsSends};
 ghost use Rattle.block_server.specs.DiskLaw.{KeepsDisk, KeepsDiskBy};
 ghost use Rattle.block_server.specs.Heard.{Tells};
 ghost use Rattle.block_server.specs.Judged.{Judged};
@@ -158,12 +158,6 @@ impl<B: Blocks> Server<B> {
             self.old.disk.count self.old.partition self.old.units.items self.old.records →
             AreWritten told self.old.records.history.items →
             AreWritten told self.new.records.history.items }
-        ensures carried { (told : Told → Bool) → Tells told (O.state own.old).place.unit
-            R.is_shared (O.state own.new) (R.state client.old) (R.state client.new)
-            self.old.copies.items self.new.copies.items → AreInOrder told
-            self.old.disk.count self.old.partition self.old.units.items self.old.records →
-            HasCargo told self.old.units.items unit (O.state own.old) self.old.records →
-            HasCargo told self.new.units.items unit (O.state own.new) self.new.records }
         ensures runs { (told : Told → Bool) → Tells told (O.state own.old).place.unit
             R.is_shared (O.state own.new) (R.state client.old) (R.state client.new)
             self.old.copies.items self.new.copies.items → AreInOrder told
@@ -237,18 +231,13 @@ impl<B: Blocks> Server<B> {
             since self.old.records.grants.items → (earlier : List AskedAt) →
             AskInOrder earlier self.old.units.items unit (C.state crq.old) →
             LinesTellLogin self.old.units.items unit (O.state own.old).place.unit
-            (C.state crq.old) self.old.records.grants.items → AnswersInOrder
-            told earlier self.new.units.items unit (O.state own.old).place.unit
+            (C.state crq.old) self.old.records.grants.items → (closed : ℕ → Bool) →
+            KnowsSends (AgreesAt self.old.units.items unit (C.state crq.old))
+            C.is_shared (C.state crq.old) (C.state crq.new) closed →
+            HasDealt told earlier closed self.old.units.items unit
+            (O.state own.old).place.unit (C.state crq.old) → AnswersInOrder
+            told earlier closed self.new.units.items unit (O.state own.old).place.unit
             (C.state crq.old) (C.state crq.new) self.old.records self.new.records }
-        ensures deals { (told : Told → Bool) → Tells told (O.state own.old).place.unit
-            R.is_shared (O.state own.new) (R.state client.old) (R.state client.new)
-            self.old.copies.items self.new.copies.items → AreInOrder told
-            self.old.disk.count self.old.partition self.old.units.items self.old.records →
-            (since : List Grant) → HasExplained
-            told self.old.units.items unit (O.state own.old).place.unit (C.state crq.old)
-            since self.old.records.grants.items → HasDealt
-            told self.old.units.items unit (O.state own.old).place.unit (C.state crq.old) → HasDealt
-            told self.new.units.items unit (O.state own.old).place.unit (C.state crq.new) }
     {
         let id = UnitId {
             partition: self.partition,

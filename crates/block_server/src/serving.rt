@@ -91,7 +91,8 @@ pub(crate) fn serve<S: Site, B: Blocks>(
         IsServing (terms_of told disk.old.count) (desk_of unit.old) records.old.history.items →
         IsAccounted told asked (cargo_of unit.old (S.state site.old) records.old) →
         IsAccounted told asked (cargo_of unit.new (S.state site.new) records.new) }
-    ensures refuses { (told : Told → Bool) → ExplainsOn (terms_of told disk.old.count)
+    ensures refuses { (told : Told → Bool) →
+        ExplainsOn S.link_shared unit.old.line.handshake (terms_of told disk.old.count)
         (S.state site.old) (S.state site.new) (desk_of unit.old) records.old.history.items
         (ledger_of unit.old (S.state site.old) records.old)
         (ledger_of unit.new (S.state site.new) records.new) }

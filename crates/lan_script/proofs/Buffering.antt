@@ -36,7 +36,7 @@ none_long [] e = refl
 none_long (x ∷ xs) e = absurd (omega (arith, e))
 
 -- a list that is no longer than its front is that front
-begins_whole : {X : Type 0} (front whole : List X) → Begins front whole → length whole ≡ length front → whole ≡ front
+pub begins_whole : {X : Type 0} (front whole : List X) → Begins front whole → length whole ≡ length front → whole ≡ front
 begins_whole front whole (more, e) same =
     e ∙ ap (λ l. front ++ l) (none_long more (omega (arith, ap (λ l. length l) e, length-append front more, same))) ∙ append-nil front
 

@@ -19,7 +19,7 @@ use Rattle.lan_script.specs.declared.rows.LanRows.{LanRows}
 use Rattle.lan_script.specs.declared.seat.PortSeat.{PortSeat}
 use Rattle.lan_script.specs.Buffers.{posted_of}
 use Rattle.lan_script.specs.Delivered.{drops_counted, drops_to, given, taken}
-use Rattle.lan_script.specs.Invariant.{HaveBegun, IsLan, all_of, drops_at, drops_by, rows_at, rows_in, sent_by, total}
+use Rattle.lan_script.specs.Invariant.{HaveBegun, IsLan, all_of, drops_at, drops_by, posted_in, rows_at, rows_in, sent_by, total}
 use Rattle.lan_script.specs.PortLaw.{AreOrdered, IsOfPort, PortsAreLawful}
 use Rattle.lan_script.specs.Rows.{HasLawfulPort, deliver_row_of, deliver_rows, harvest_row_of, harvest_rows, numbered, port_in, port_or, port_row_of, port_rows, post_rows}
 use Rattle.lan_script.specs.PortCounts.{counts_in, is_frame}
@@ -426,6 +426,15 @@ buffers_found ss seats frames u have own (Some seat) at =
     ap (λ o. map (λ (row : PostRow). row.descriptor) (post_rows seat.unit (port_or seat.unit o))) is.holds.is
     ∙ sym (ap (λ o. posted_of seat.unit o) is.holds.is) ∙ ap (λ v. posted_of v (port_of ss v)) is.unit_is
 
+-- they are those of its rows
+rows_found : (ss : List Station) (seats : List PortSeat) (frames : List (List FrameRow)) (u : UnitId) → HavePorts true seats (map port_key ss) frames
+    → Each (HasOwn ss) seats → (o : Option PortSeat) → at_unit unit_in u seats ≡ o → found (posts_by ss) o ≡ posted_in u (port_of ss u)
+rows_found ss seats frames u have own None at = sym (ap (λ o. posted_in u o) (no_port true u seats ss frames have at))
+rows_found ss seats frames u have own (Some seat) at =
+    let is = pick unit_in (HasOwn ss) u seat seats own at in
+    ap (λ o. post_rows seat.unit (port_or seat.unit o)) is.holds.is ∙ sym (ap (λ o. posted_in seat.unit o) is.holds.is)
+    ∙ ap (λ v. posted_in v (port_of ss v)) is.unit_is
+
 -- and so are the frames that it took
 taken_found : (whole : Bool) (ss : List Station) (seats : List PortSeat) (frames : List (List FrameRow)) (u : UnitId)
     → HavePorts whole seats (map port_key ss) frames → Each (HasOwn ss) seats → (o : Option PortSeat) → at_unit unit_in u seats ≡ o
@@ -531,6 +540,10 @@ counts_rows lan rows is whole lawful exact =
           (ap (λ l. filter (λ (row : PostRow). same_unit row.unit unit) l) exact.posts
           ∙ filter_unit unit_in (λ (row : PostRow). row.unit) (posts_by ss) unit seats (posts_own ss seats) order)
           ∙ buffers_found ss seats lan.frames unit have own (at_unit unit_in unit seats) refl;
+      posted = λ unit.
+          ap (λ l. filter (λ (row : PostRow). same_unit row.unit unit) l) exact.posts
+          ∙ filter_unit unit_in (λ (row : PostRow). row.unit) (posts_by ss) unit seats (posts_own ss seats) order
+          ∙ rows_found ss seats lan.frames unit have own (at_unit unit_in unit seats) refl;
       taken = λ unit.
           ap (λ l. length (filter (λ (row : HarvestRow). is_frame row.high) l))
           (ap (λ l. filter (λ (row : HarvestRow). same_unit row.unit unit) l) exact.harvests

@@ -21,10 +21,12 @@ use Rattle.lan_script.proofs.Keys.{WindowOf, window_of}
 use Rattle.lan_script.proofs.Order.{Each, each_weaker}
 pub use Rattle.lan_script.proofs.Blocks.{self}
 pub use Rattle.lan_script.proofs.Buffering.{posted_still, same_posted}
+pub use Rattle.lan_script.proofs.Correlating.{none_carry, posts_same, rows_still, still_carry}
 pub use Rattle.lan_script.proofs.Keys.{port_head, port_tail}
-pub use Rattle.lan_script.proofs.OwnMacs.{mac_same, target_for, weaker_mac}
+pub use Rattle.lan_script.proofs.OwnMacs.{mac_same, sets_moves, target_for, weaker_mac}
 pub use Rattle.lan_script.proofs.Placing.{by_bool, one_unit, window_head, window_tail}
 pub use Rattle.lan_script.proofs.PortsGrow.{grows_same, grows_then}
+pub use Rattle.lan_script.proofs.ReplayedLines.{names_own}
 pub use Rattle.lan_script.proofs.Resting.{on_open, ports_on, still_taken}
 pub use Rattle.lan_script.proofs.Targeting.{named_at, spent_on}
 

@@ -7,15 +7,18 @@ pub mod Bringing
 pub mod Buffering
 pub mod BySession
 pub mod Called
+pub mod CalledMacs
 pub mod CarriedOn
 pub mod CarriedRows
 pub mod CarriedSent
 pub mod Carrying
+pub mod Correlating
 pub mod CountedCalls
 pub mod CountedSent
 pub mod Counting
 pub mod CountsKept
 pub mod Cuts
+pub mod EntriesPut
 pub mod Filling
 pub mod Found
 pub mod Gains
@@ -33,6 +36,7 @@ pub mod Offering
 pub mod Opened
 pub mod Order
 pub mod OwnMacs
+pub mod OwnPages
 pub mod Placing
 pub mod PortsGrow
 pub mod Posted

@@ -19,6 +19,7 @@ use Rattle.tce_window.specs.declared.answers.Right.TheVariants.{Read}
 use Rattle.tce_window.specs.declared.piece.Piece.{Piece}
 use Rattle.tce_window.proofs.Laws.{not_none}
 use Rattle.lan_switch.specs.Source.{OnlyReadThrough, Reads}
+use Rattle.lan_script.specs.Values.{AreOwn}
 use Rattle.lan_script.proofs.Placing.{same_some}
 
 -- ---- a page
@@ -137,18 +138,19 @@ whole_page : (piece : Piece) (now : Option (List StrokeValue)) → IsSome now �
 whole_page piece (Some strokes) there reached all = omega (arith, reached, all)
 whole_page piece None there reached all = absurd (cc (there))
 
--- an entry that never had another value names its own page
-own_page : (values : ℕ → List ℕ) (piece : Piece) → ((e : ℕ) → values e ≡ (4096 * e + 3) ∷ []) → IsGranted values Read piece → piece.page ≡ piece.entry
-own_page values piece all granted =
-    by piece.version (subst (λ (l : List ℕ). slice_get l piece.version ≡ Some granted.value) (all piece.entry) granted.shown)
-  where
-    by : (v : ℕ) → slice_get ((4096 * piece.entry + 3) ∷ []) v ≡ Some granted.value → piece.page ≡ piece.entry
-    by zero e = omega (arith, granted.page, same_some (4096 * piece.entry + 3) granted.value e)
-    by (suc v) e = absurd (cc (e))
+-- an entry all of whose values name its own page was granted that page
+value_own : (values : List ℕ) (e i value : ℕ) → All (λ v. v / 4096 ≡ e) values → slice_get values i ≡ Some value → value / 4096 ≡ e
+value_own [] e i value all f = absurd (cc (f))
+value_own (v ∷ values) e zero value all f = subst (λ (x : ℕ). x / 4096 ≡ e) (same_some v value f) (All-head (λ (x : ℕ). x / 4096 ≡ e) v values all)
+value_own (v ∷ values) e (suc i) value all f = value_own values e i value (All-tail (λ (x : ℕ). x / 4096 ≡ e) v values all) f
 
--- The pieces of a range of a window that grants each of its own pages, whose pages are there with all their strokes.
+own_page : (values : ℕ → List ℕ) (piece : Piece) → AreOwn values → IsGranted values Read piece → piece.page ≡ piece.entry
+own_page values piece all granted =
+    omega (arith, granted.page, value_own (values piece.entry) piece.entry piece.version granted.value (all piece.entry) granted.shown)
+
+-- The pieces of a range of a window whose entries name their own pages, whose pages are there with all their strokes.
 record AreWhole (values : ℕ → List ℕ) (strokes : ℕ → Option (List StrokeValue)) (from to : ℕ) (pieces : List Piece) : Type 0 where
-  all : (e : ℕ) → values e ≡ (4096 * e + 3) ∷ []
+  all : AreOwn values
   there : (a : ℕ) → from ≤ a → a < to → IsSome (strokes (a / 4096))
   granted : All (IsGranted values Read) pieces
   reached : All (λ piece. piece.at ≤ stroke_count (strokes piece.page)) pieces
@@ -214,7 +216,7 @@ still_fresh old new same (p ∷ pieces) all =
 
 -- what is read of a region are the bytes that it shows
 pub reads_shown : (old new : PortState) (at : ℕ) (pieces : List Piece) (frame bytes : List ℕ) → OnlyReadThrough false old new → Reads old new at pieces frame
-    → ((e : ℕ) → old.values e ≡ (4096 * e + 3) ∷ []) → length frame ≡ length bytes
+    → AreOwn old.values → length frame ≡ length bytes
     → ((k : ℕ) → k < length bytes → IsSome (old.strokes ((at + k) / 4096)))
     → ((k : ℕ) → k < length bytes → region_byte old.strokes (at + k) ≡ get_or bytes k 0) → frame ≡ bytes
 reads_shown old new at pieces frame bytes through reads all long there each = ext_get_or 0 frame bytes long (λ k less. at_place k less)
@@ -224,7 +226,7 @@ reads_shown old new at pieces frame bytes through reads all long there each = ex
 
     whole : AreWhole new.values new.strokes at (at + length frame) pieces
     whole = record {
-      all = λ e. through.rest.values e ∙ all e;
+      all = λ e. subst (λ (l : List ℕ). All (λ v. v / 4096 ≡ e) l) (sym (through.rest.values e)) (all e);
       there = λ a above below.
           subst (λ (s : Option (List StrokeValue)). IsSome s) (sym (same (a / 4096)))
           (subst (λ (x : ℕ). IsSome (old.strokes (x / 4096))) (omega (arith, above)) (there (a - at) (omega (arith, above, below, long))));

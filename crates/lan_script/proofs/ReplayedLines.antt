@@ -1,6 +1,7 @@
 -- What steps of lines say in the replay of their port.
-use Rattle.std.proofs.Common.{◌≡◌, ◌+◌, ◌-◌, ◌*◌, ◌%◌, ◌≤◌, ◌<◌, ◌++◌, get_or, length, slice_index, take, inl, inr, ℕ, arith, true, false, IsSome, List, [], ◌∷◌, min, Option, Some, None, refl, sym, ◌∙◌, ap, subst}
+use Rattle.std.proofs.Common.{◌≡◌, ◌+◌, ◌-◌, ◌*◌, ◌/◌, ◌%◌, ◌≤◌, ◌<◌, ◌++◌, get_or, length, slice_index, take, inl, inr, ℕ, arith, All, true, false, IsSome, List, [], ◌∷◌, min, Option, Some, None, refl, sym, ◌∙◌, ap, subst}
 use Rattle.std.proofs.lemmas.List.{append_assoc, append_cancel_left}
+use Rattle.std.proofs.lemmas.List.Elements.{All-cons, All-nil}
 use Rattle.vio_num.specs.declared.hypervisor.Hrc.{Hrc}
 use Rattle.vio_num.specs.declared.hypervisor.Hrc.TheVariants.{Success, Busy}
 use Rattle.vio_num.specs.declared.names.Mac.{Mac}
@@ -25,6 +26,7 @@ use Rattle.lan_script.specs.LineSays.{SaysSent}
 use Rattle.lan_switch.specs.Switch.{same_unit}
 use Rattle.lan_script.specs.Seats.{is_in_region, seat_at}
 use Rattle.lan_script.specs.Units.{LanValue}
+use Rattle.lan_script.specs.Values.{NamesOwn}
 use Rattle.lan_script.specs.PortCounts.{CountsOn, PortCounts, counts, counts_after, posted_on}
 use Rattle.lan_script.proofs.CountedCalls.{no_post}
 use Rattle.lan_script.proofs.CountsKept.{counts_more, counts_on}
@@ -226,6 +228,11 @@ sends_next settings to from len seed bytes code n old mid new same few is own h 
     bytes_are : (k : SendsFrame code n mid new) → k.bytes ≡ bytes
     bytes_are k = same_last mid.frames k.bytes bytes (ap (λ (a : PortReplay). a.frames) (sym k.left_is) ∙ grown)
 
+-- a window that grants each of its own pages names them
+pub names_own : (lan : LanValue) (unit : UnitId) → GrantsAll lan unit → NamesOwn lan unit
+names_own lan unit grants e =
+    subst (λ (l : List ℕ). All (λ v. v / 4096 ≡ e) l) (sym (grants e)) (All-cons (λ (v : ℕ). v / 4096 ≡ e) (4096 * e + 3) [] (omega arith) (All-nil (λ (v : ℕ). v / 4096 ≡ e)))
+
 -- a line whose frame was written, and was given to the switch
 pub send_goes : (unit : UnitId) (to from : Mac) (len seed at : ℕ) (bytes : List ℕ) (parts : List ℕ) (code : Hrc) (number : Option ℕ) (step : PortStep)
     (old mid new : LanValue) → ((seat : PortSeat) → seat_at old.seats unit ≡ Some seat → at + len ≤ 4096 * seat.pages) → IsOnePart at len parts
@@ -270,7 +277,7 @@ send_goes unit to from len seed at bytes parts code number step old mid new insi
         (sends_next settings to from len seed bytes code n (replay_at old unit) (replay_at mid unit) (replay_at new unit) (same unit) wrote.few wrote.bytes_are
         (wrote.present settings e)
         (subst (λ (o : Option ℕ). SentSays code o (replay_at mid unit) (replay_at new unit)) f sent.says)
-        (shown (subst (λ (o : Option ℕ). IsSome o) (sym f) some) at bytes (subst (λ (l : ℕ). IsOnePart at l parts) (sym wrote.long) part) (grants is.grants) wrote.shown)))
+        (shown (subst (λ (o : Option ℕ). IsSome o) (sym f) some) at bytes (subst (λ (l : ℕ). IsOnePart at l parts) (sym wrote.long) part) (names_own mid unit (grants is.grants)) wrote.shown)))
         (subst (λ (o : Option ℕ). SaysSent code o step) f says.sent)
 
     by : (o : Option Settings) → (replay_at old unit).settings ≡ o → ReplaysOn unit (StepSays seat (verbs.Send to len seed at) step) old new

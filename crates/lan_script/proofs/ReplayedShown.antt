@@ -1,5 +1,5 @@
 -- That a frame which a line wrote and sent has the bytes that the line wrote.
-use Rattle.std.proofs.Common.{◌≡◌, ◌+◌, ◌*◌, ◌/◌, ◌<◌, ◌++◌, get_or, inl, inr, ℕ, arith, Bool, true, false, IfOk, IsSome, OnOk, List, [], ◌∷◌, Option, Some, None, IfSome, Result, Ok, Err, length, refl, sym, ◌∙◌, ap, subst, append-nil}
+use Rattle.std.proofs.Common.{◌≡◌, ◌+◌, ◌*◌, ◌/◌, ◌<◌, ◌++◌, get_or, inl, inr, ℕ, arith, All, Bool, true, false, IfOk, IsSome, OnOk, List, [], ◌∷◌, Option, Some, None, IfSome, Result, Ok, Err, length, refl, sym, ◌∙◌, ap, subst, append-nil}
 use Rattle.vio_num.specs.declared.memory.NoMemory.{NoMemory}
 use Rattle.vio_num.specs.declared.names.Mac.{Mac}
 use Rattle.vio_num.specs.declared.names.UnitId.{UnitId}
@@ -20,6 +20,7 @@ use Rattle.lan_switch.specs.Source.{AreRead, OnlyReadThrough, parts_of}
 use Rattle.lan_script.specs.Replayed.{AddsBytes, GrantsAll, HasShown, IsOnePart, SameReplays, SendsShown, Shows, replay_at, settings_of}
 use Rattle.lan_script.specs.PortReplay.{PortReplay}
 use Rattle.lan_script.specs.Units.{LanValue}
+use Rattle.lan_script.specs.Values.{AreOwn}
 use Rattle.lan_script.specs.Windows.{facts_of, window_in, with_window}
 use Rattle.lan_script.specs.declared.sending.Sent.{Sent}
 use Rattle.lan_script.specs.declared.windows.Place.{Place}
@@ -68,8 +69,8 @@ offered_shown lan unit ss parts own own' windows r here through k some at bytes 
     said_bytes (is_numbered r.code) (next_number lan.stations unit) k.pieces k.frame r k.answered.says some
     ∙ of_part (subst (λ (l : List ℕ). AreRead (known_of own) (known_of own') l k.pieces k.frame) part.alone k.source.read)
   where
-    values : (e : ℕ) → (known_of own).values e ≡ (4096 * e + 3) ∷ []
-    values e = sym (ap (λ o. (facts_of unit lan.places o).values e) here) ∙ grants e
+    values : AreOwn (known_of own).values
+    values e = subst (λ o. All (λ v. v / 4096 ≡ e) ((facts_of unit lan.places o).values e)) here (grants e)
 
     of_part : AreRead (known_of own) (known_of own') (part.part ∷ []) k.pieces k.frame → k.frame ≡ bytes
     of_part (pieces₁, pieces₂, pieces_are, bytes₁, bytes₂, frame_is, long, reads, (none, empty)) =

@@ -1,8 +1,12 @@
 pub mod Buffers
+pub mod CalledMac
 pub mod Carried
+pub mod Correlators
 pub mod Delivered
+pub mod Entries
 pub mod Frames
 pub mod Invariant
+pub mod LineBytes
 pub mod LineFrame
 pub mod LineSays
 pub mod Opening

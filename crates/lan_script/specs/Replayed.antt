@@ -23,6 +23,7 @@ use Rattle.lan_script.specs.Invariant.{sent_by}
 use Rattle.lan_script.specs.PortReplay.{CloseSays, IsBufferLen, IsFrameCode, IsOn, LineSays, OpenSays, PortReplay, different, with_posted}
 use Rattle.lan_script.specs.Seats.{IsSizedSeat, seat_at}
 use Rattle.lan_script.specs.Units.{LanValue, window_at}
+use Rattle.lan_script.specs.Values.{NamesOwn}
 use Rattle.lan_script.specs.Windows.{facts_in}
 use Rattle.lan_script.specs.declared.lines.PortStep.{PortStep}
 use Rattle.lan_script.specs.declared.lines.PortStep.TheVariants as steps
@@ -172,14 +173,14 @@ pub record GoesOut (lan : LanValue) (unit : UnitId) (descriptors : List ℕ) (co
   pub closed : (replay_at lan unit).settings ≡ None → (code ≡ Parameter) × (number ≡ None)
   pub numbered : MayGoOut lan unit descriptors → IsSome number
 
--- A frame of one part, of a window that grants it, has the bytes that the region shows there.
+-- A frame of one part, of a window whose entries name their own pages, has the bytes that the region shows there.
 abbrev pub HasShown : LanValue → UnitId → (descriptors : List ℕ) → (frame : List ℕ) → Type 0
-HasShown lan unit descriptors frame = (at : ℕ) (bytes : List ℕ) → IsOnePart at (length bytes) descriptors → GrantsAll lan unit → Shows lan.places unit at bytes
+HasShown lan unit descriptors frame = (at : ℕ) (bytes : List ℕ) → IsOnePart at (length bytes) descriptors → NamesOwn lan unit → Shows lan.places unit at bytes
     → frame ≡ bytes
 
 -- the same of a frame that was sent, if it has a number
 abbrev pub SendsShown : UnitId → (descriptors : List ℕ) → (number : Option ℕ) → (old new : LanValue) → Type 0
-SendsShown unit descriptors number old new = IsSome number → (at : ℕ) (bytes : List ℕ) → IsOnePart at (length bytes) descriptors → GrantsAll old unit
+SendsShown unit descriptors number old new = IsSome number → (at : ℕ) (bytes : List ℕ) → IsOnePart at (length bytes) descriptors → NamesOwn old unit
     → Shows old.places unit at bytes → (replay_at new unit).frames ≡ (replay_at old unit).frames ++ bytes ∷ []
 
 -- a frame that has a number is the last that the unit sent, and has these bytes

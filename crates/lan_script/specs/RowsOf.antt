@@ -6,7 +6,7 @@ use Rattle.lan_buffers.specs.Port.{PortValue}
 use Rattle.lan_switch.specs.Switch.{port_of, same_unit}
 use Rattle.lan_script.specs.declared.rows.LanRows.{LanRows}
 use Rattle.lan_script.specs.Buffers.{posted_at}
-use Rattle.lan_script.specs.Invariant.{sent_by}
+use Rattle.lan_script.specs.Invariant.{posted_in, sent_by}
 use Rattle.lan_script.specs.PortCounts.{counts_at, is_frame}
 use Rattle.lan_script.specs.Replayed.{sessions_by}
 use Rattle.lan_script.specs.Resting.{IsAllTaken}
@@ -23,13 +23,14 @@ pub record IsRowsOf (lan : LanValue) (rows : LanRows) : Type 0 where
   pub delivers : rows.delivers.items ≡ flat_map (λ seat. deliver_rows seat.unit (port_in lan.stations seat)) lan.seats
   pub harvests : rows.harvests.items ≡ flat_map (λ seat. harvest_rows seat.unit (port_in lan.stations seat)) lan.seats
 
--- Of each unit the rows have its frames, as many posts as it made, with the buffers that it posted in order, of its harvests as many of frames as it took, and one of each
+-- Of each unit the rows have its frames, its posts, as many as it made, with the buffers that it posted in order, of its harvests as many of frames as it took, and one of each
 -- session. Where nothing is left to take of a port that is open, its last session has as many harvests as deliveries. Posts
 -- that were all taken once are named by its deliveries.
 pub record CountsRows (lan : LanValue) (rows : LanRows) : Type 0 where
   pub frames : (unit : UnitId) → filter (λ row. same_unit row.unit unit) rows.frames.items ≡ sent_by lan.seats lan.frames unit
   pub posts : (unit : UnitId) → length (filter (λ row. same_unit row.unit unit) rows.posts.items) ≡ (counts_at lan unit).posts
   pub buffers : (unit : UnitId) → map (λ row. row.descriptor) (filter (λ row. same_unit row.unit unit) rows.posts.items) ≡ posted_at lan unit
+  pub posted : (unit : UnitId) → filter (λ row. same_unit row.unit unit) rows.posts.items ≡ posted_in unit (port_of lan.stations unit)
   pub taken : (unit : UnitId) → length (filter (λ row. is_frame row.high) (filter (λ row. same_unit row.unit unit) rows.harvests.items))
       ≡ (counts_at lan unit).taken
   pub sessions : (unit : UnitId) → length (filter (λ row. same_unit row.unit unit) rows.ports.items) ≡ sessions_by (port_of lan.stations unit)

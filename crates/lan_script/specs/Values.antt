@@ -1,8 +1,9 @@
 -- The values of the entries of the units' windows, and what lines and calls leave of them.
-use Rattle.std.specs.Prelude.{◌≡◌, ℕ, Bool, true, false, List}
+use Rattle.std.specs.Prelude.{◌≡◌, ◌/◌, ◌==◌, ℕ, All, Bool, true, false, not, List}
 use Rattle.vio_num.specs.declared.names.UnitId.{UnitId}
 use Rattle.boot_text.specs.declared.verb.Verb.{Verb}
 use Rattle.boot_text.specs.declared.verb.Verb.TheVariants as verbs
+pub use Rattle.unit_region.specs.LinePuts.{is_put}
 use Rattle.lan_switch.specs.Switch.{same_unit}
 use Rattle.lan_script.specs.declared.calls.PortCall.{PortCall}
 use Rattle.lan_script.specs.declared.calls.PortCall.TheVariants as calls
@@ -22,10 +23,17 @@ SameValues old new = (unit : UnitId) → KeepsValues unit old.places new.places
 abbrev pub SameValuesBeside : UnitId → (old new : LanValue) → Type 0
 SameValuesBeside unit old new = (other : UnitId) → same_unit other unit ≡ false → KeepsValues other old.places new.places
 
--- a line that puts a value into an entry
-abbrev pub is_put : Verb → Bool
-is_put (verbs.Tce entry page readable writable) = true
-is_put _ = false
+-- each value of each entry names the entry's own page, with whatever rights
+abbrev pub AreOwn : (values : ℕ → List ℕ) → Type 0
+AreOwn values = (e : ℕ) → All (λ value. value / 4096 ≡ e) (values e)
+
+abbrev pub NamesOwn : LanValue → UnitId → Type 0
+NamesOwn lan unit = AreOwn (λ e. (facts_in lan.places unit).values e)
+
+-- whether a line lets an entry name another page than its own
+abbrev pub puts_other : Verb → Bool
+puts_other (verbs.Tce entry page readable writable) = not (page == entry)
+puts_other _ = false
 
 -- a call on the entries of a window
 abbrev pub is_entry_call : PortCall → Bool

@@ -6,7 +6,9 @@ ghost use Rattle.lan_switch.specs.Switch.{HasRoom};
 ghost use Rattle.lan_script.specs.PortCounts.{CountsOn, SameCounts, SendsCalled, counts, counts_called};
 ghost use Rattle.lan_script.specs.PortRows.{port_row};
 ghost use Rattle.vio_trace.specs.declared.outcome.Outcome.TheVariants as outcomes;
-ghost use Rattle.lan_script.specs.OwnMac.{MovesMac};
+ghost use Rattle.lan_script.specs.CalledMac.{low_mac, mac_called};
+ghost use Rattle.lan_script.specs.Entries.{CallsEntry, CallsOne, ValuesGrow};
+ghost use Rattle.lan_script.specs.OwnMac.{MovesMac, SetsMac, changed_to};
 ghost use Rattle.lan_script.specs.PortReplay.{MacSays, MulticastSays};
 ghost use Rattle.lan_script.specs.Replayed.{ClosesAt, OpensAt, ReplaysOn, SameBeside, SameReplays, replay_at};
 ghost use Rattle.lan_script.specs.Resting.{SamePorts};
@@ -54,7 +56,7 @@ pub enum PortCall {
 
 impl Lan {
     /// Makes a call on a unit.
-    #[tactic(auto, using(crate::proofs::ReplayedValues::same_values, crate::proofs::ReplayedValues::same_beside, crate::proofs::ReplayedValues::values_beside_all))]
+    #[tactic(auto, using(crate::proofs::EntriesPut::grows_placed, crate::proofs::EntriesPut::grows_same, crate::proofs::ReplayedValues::same_values, crate::proofs::ReplayedValues::same_beside, crate::proofs::ReplayedValues::values_beside_all))]
     pub fn call(&mut self, unit: UnitId, call: PortCall) -> Result<Returned, NoMemory>
         requires there { IsSome (seat_at self.old.seats unit) }
         ensures seats { self.new.seats ≡ self.old.seats }
@@ -63,9 +65,13 @@ impl Lan {
             CountsOn unit (counts 0 0) (counts_called call returned.code) self.old self.new) }
         ensures sends { IfOk result (λ returned.
             SendsCalled unit call returned.code self.old self.new) }
+        ensures macs { IfOk result (λ returned. MovesMac (mac_called call returned.code)
+            (replay_at self.old unit) (replay_at self.new unit)) }
         ensures beside { OnOk result (SameBeside unit self.old self.new) }
         ensures values { is_entry_call call ≡ false → OnOk result (SameValues self.old self.new) }
         ensures others { OnOk result (SameValuesBeside unit self.old self.new) }
+        ensures entry { IfOk result (CallsEntry unit call self.old self.new) }
+        ensures grows { OnOk result (ValuesGrow unit self.old self.new) }
     {
         match call {
             PortCall::Entry(call) => self.entry_call(unit, call),
@@ -100,6 +106,8 @@ impl Lan {
         ensures answer { IfOk result (IsAnswer (port_row (PortCall.Entry call))) }
         ensures replays { SameReplays self.old self.new }
         ensures others { SameValuesBeside unit self.old self.new }
+        ensures entry { IfOk result (CallsOne unit call self.old self.new) }
+        ensures grows { ValuesGrow unit self.old self.new }
     {
         let mut own = self.windows.take(unit);
         let returned = make_entry_call(self.alloc, &mut own, call);
@@ -123,7 +131,8 @@ impl Lan {
         ensures code { IfOk result (λ code. may_answer rows.RegisterLogicalLan code ≡ true) }
         ensures replays { IfOk result (λ code.
             OpensAt unit list queue filters mac code self.old self.new) }
-        ensures macs { OnOk result (ReplaysOn unit (MovesMac (Some mac)) self.old self.new) }
+        ensures macs { IfOk result (λ code.
+            ReplaysOn unit (SetsMac (changed_to mac (outcomes.Code code))) self.old self.new) }
         ensures beside { OnOk result (SameBeside unit self.old self.new) }
         ensures places { self.new.places ≡ self.old.places }
     {
@@ -214,7 +223,9 @@ impl Lan {
 }
 
 // Reads the address of a station in the low 48 bits.
-fn mac_of(number: u64) -> Mac {
+fn mac_of(number: u64) -> Mac
+    ensures { result ≡ low_mac number }
+{
     let [_, _, a, b, c, d, e, f] = number.to_be_bytes();
     Mac {
         bytes: [a, b, c, d, e, f],

@@ -2,13 +2,16 @@
 ghost use Rattle.std.specs.Prelude.{◌≡◌, IfOk, IsSome, OnOk, false, true};
 ghost use Rattle.boot_text.specs.Sound.{IsInRange};
 ghost use Rattle.lan_script.specs.Buffers.{PostsStep};
+ghost use Rattle.lan_script.specs.Correlators.{KeepsAddresses};
+ghost use Rattle.lan_script.specs.Entries.{PortPuts, port_step, values_at};
+ghost use Rattle.lan_script.specs.LineBytes.{PutsOn, StepsBytes};
 ghost use Rattle.lan_script.specs.LineSays.{SendsAs, TellsNoFrame};
 ghost use Rattle.lan_script.specs.OwnMac.{StepsMac};
 ghost use Rattle.lan_script.specs.PortCounts.{CountsStep, SameCounts, TellsNoCount};
 ghost use Rattle.lan_script.specs.Replayed.{IsFirst, Replays, SameBeside, SameReplays};
 ghost use Rattle.lan_script.specs.Seats.{TellsOfPort, TellsOfRegion, is_for_port, is_in_region, seat_at};
 ghost use Rattle.lan_script.specs.Taking.{StaysWithin};
-ghost use Rattle.lan_script.specs.Values.{SameValues, SameValuesBeside, is_put};
+ghost use Rattle.lan_script.specs.Values.{NamesOwn, SameValues, SameValuesBeside, is_put, puts_other};
 ghost use Rattle.unit_region.specs.Kept.{KeepsWindow};
 
 use crate::lan::Lan;
@@ -62,6 +65,7 @@ impl PortStep {
     // The same of a line in the unit's region.
     fn of(step: Step) -> PortStep
         requires { TellsOfRegion step }
+        ensures same { result ≡ port_step step }
         ensures told { TellsOfPort result }
         ensures still { TellsNoCount result }
         ensures none { TellsNoFrame result }
@@ -88,12 +92,20 @@ impl Lan {
             PostsStep unit line.now.verb done step self.old self.new) }
         ensures within { IfOk result (StaysWithin line.now.verb done) }
         ensures macs { IfOk result (λ step. StepsMac unit line.now.verb step self.old self.new) }
+        ensures names { puts_other line.now.verb ≡ false →
+            OnOk result (NamesOwn self.old unit → NamesOwn self.new unit) }
+        ensures bytes { IfOk result (λ step. NamesOwn self.old unit →
+            StepsBytes unit line.now.verb step self.old self.new) }
+        ensures addresses { NamesOwn self.old unit
+            → OnOk result (KeepsAddresses unit self.old self.new) }
         ensures told { IfOk result TellsOfPort }
         ensures replays { IsFirst line.now.verb done → IfOk result (λ step.
             Replays unit line.now.verb step self.old self.new) }
         ensures beside { OnOk result (SameBeside unit self.old self.new) }
         ensures values { is_put line.now.verb ≡ false → OnOk result (SameValues self.old self.new) }
         ensures others { OnOk result (SameValuesBeside unit self.old self.new) }
+        ensures puts { IfOk result (λ step.
+            PortPuts line.now.verb step (values_at self.old unit) (values_at self.new unit)) }
     {
         let mark = u64::from(line.number);
         match &line.verb {
@@ -143,7 +155,11 @@ impl Lan {
         ensures told { IfOk result TellsOfPort }
         ensures replays { SameReplays self.old self.new }
         ensures values { is_put line.now.verb ≡ false → SameValues self.old self.new }
+        ensures names { puts_other line.now.verb ≡ false →
+            OnOk result (NamesOwn self.old unit → NamesOwn self.new unit) }
         ensures others { SameValuesBeside unit self.old self.new }
+        ensures puts { IfOk result (λ step.
+            PortPuts line.now.verb step (values_at self.old unit) (values_at self.new unit)) }
     {
         let mut own = self.windows.take(unit);
         let step = step_in(self.alloc, &mut own, line);
@@ -159,6 +175,8 @@ fn step_in<O: OwnerPort>(alloc: Global, own: &mut O, line: &Line) -> Result<Step
     ensures window { KeepsWindow O.is_shared (O.state own.old) (O.state own.new) }
     ensures values { is_put line.now.verb ≡ false
         → (O.state own.new).values ≡ (O.state own.old).values }
+    ensures puts { IfOk result (PutsOn line.now.verb
+        (O.state own.old) (O.state own.new)) }
     ensures told { IfOk result TellsOfRegion }
 {
     let mark = u64::from(line.number);

@@ -8,6 +8,7 @@ ghost use Rattle.vio_trace.specs.declared.outcome.Outcome.TheVariants as outcome
 ghost use Rattle.lan_script.specs.declared.lines.PortStep.TheVariants as steps;
 ghost use Rattle.lan_script.specs.declared.seat.PortSeat.{PortSeat};
 ghost use Rattle.lan_script.specs.Buffers.{AddsAt, AddsBuffer, PostsStep};
+ghost use Rattle.lan_script.specs.Correlators.{KeepsAddresses, ShowsAddress};
 ghost use Rattle.lan_script.specs.LineSays.{TellsNoFrame};
 ghost use Rattle.lan_script.specs.OwnMac.{SameSettings};
 ghost use Rattle.lan_script.specs.PortCounts.{CountsOn, CountsStep, counts, posted_on};
@@ -15,7 +16,7 @@ ghost use Rattle.lan_buffers.specs.Buffer.{IsBuffer, buffer_address, buffer_len,
 ghost use Rattle.lan_script.specs.PortReplay.{IsBufferLen};
 ghost use Rattle.lan_script.specs.Replayed.{AddSays, FitsOne, GrantsAll, HasPages, Replays, ReplaysOn, SameBeside};
 ghost use Rattle.lan_script.specs.Seats.{TellsOfPort, seat_at};
-ghost use Rattle.lan_script.specs.Values.{SameValues};
+ghost use Rattle.lan_script.specs.Values.{NamesOwn, SameValues};
 
 use crate::lan::Lan;
 use crate::lines::PortStep;
@@ -54,6 +55,8 @@ impl Lan {
         ensures macs { OnOk result (SameSettings unit self.old self.new) }
         ensures replays { done ≡ 0 → IfOk result (λ step.
             Replays unit (verbs.Post at len count) step self.old self.new) }
+        ensures addresses { NamesOwn self.old unit
+            → OnOk result (KeepsAddresses unit self.old self.new) }
         ensures beside { OnOk result (SameBeside unit self.old self.new) }
         ensures values { OnOk result (SameValues self.old self.new) }
     {
@@ -91,6 +94,8 @@ impl Lan {
             → AddsAt unit address len self.old self.new) }
         ensures fits { IfSome address (λ at. FitsOne self.old unit at len
             → IfOk result (λ code. code ≡ Hrc.Success)) }
+        ensures addresses { NamesOwn self.old unit
+            → OnOk result (KeepsAddresses unit self.old self.new) }
         ensures grants { GrantsAll self.old unit → OnOk result (GrantsAll self.new unit) }
         ensures values { OnOk result (SameValues self.old self.new) }
     {
@@ -152,6 +157,8 @@ impl Lan {
         ensures fits { is_valid descriptor ≡ true
             → FitsOne self.old unit (buffer_address descriptor) (buffer_len descriptor)
             → IfOk result (λ code. code ≡ Hrc.Success) }
+        ensures addresses { NamesOwn self.old unit → ShowsAddress self.old unit descriptor
+            → OnOk result (KeepsAddresses unit self.old self.new) }
         ensures grants { GrantsAll self.old unit → OnOk result (GrantsAll self.new unit) }
         ensures values { OnOk result (SameValues self.old self.new) }
     {

@@ -10,7 +10,8 @@ ghost use Rattle.tce_window.specs.Answers.{IfInUse};
 ghost use Rattle.lan_script.specs.Invariant.{Owes};
 ghost use Rattle.lan_script.specs.Replayed.{AddsBytes, GoesOut, GrantsAll, HasPages, HasShown, Replays, ReplaysOn, SameBeside, SameReplays, SendsShown, SentSays, Shows, replay_at};
 ghost use Rattle.lan_script.specs.Seats.{TellsOfPort, seat_at};
-ghost use Rattle.lan_script.specs.Values.{SameValues};
+ghost use Rattle.lan_script.specs.Values.{NamesOwn, SameValues};
+ghost use Rattle.lan_script.specs.LineBytes.{StepsBytes};
 ghost use Rattle.lan_script.specs.LineFrame.{line_frame};
 ghost use Rattle.lan_script.specs.LineSays.{KeepsFrame, SaysSent, SendsAs, SentAs};
 ghost use Rattle.lan_script.specs.OwnMac.{SameSettings};
@@ -60,6 +61,8 @@ impl Lan {
         ensures macs { OnOk result (SameSettings unit self.old self.new) }
         ensures replays { IfOk result (λ step.
             Replays unit (verbs.Send to len seed at) step self.old self.new) }
+        ensures bytes { IfOk result (λ step. NamesOwn self.old unit →
+            StepsBytes unit (verbs.Send to len seed at) step self.old self.new) }
         ensures beside { OnOk result (SameBeside unit self.old self.new) }
         ensures values { OnOk result (SameValues self.old self.new) }
     {

@@ -11,6 +11,8 @@ mod leavings;
 #[cfg(test)]
 mod line;
 #[cfg(test)]
+mod memory;
+#[cfg(test)]
 mod queues;
 #[cfg(test)]
 mod rig;

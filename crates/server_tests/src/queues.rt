@@ -5,6 +5,7 @@ use super::step::Step::{
     Ask, AskAll, Free, Rows, Send, SendAll, SendUnit, Take, TakeAll, TakeAnswer, TakeNone, Turn,
     Turns,
 };
+use super::units::Unit;
 use super::units::Unit::{Login, Ready};
 use super::windows::SERVER;
 use std::alloc::Global;
@@ -211,6 +212,36 @@ fn a_rejection_and_a_handshake_that_find_the_queue_full_are_kept(rt: HostRuntime
     let complete = Take(Entry::INITIALIZATION_COMPLETE);
     let handshake = first_other_kept(rt.alloc(), Send(Entry::INITIALIZE), complete);
     assert_eq!(rt; handshake, Ok(None));
+}
+
+// Gives the first step that went otherwise where the client leaves before the answer to its login, which is kept, is put,
+// and is there again for another.
+fn first_other_left(alloc: Global, start: &[Step], login: Unit) -> Result<Option<usize>, NoMemory> {
+    let script = [
+        Ask(0, login),
+        Turn(Moved),
+        Free,
+        Turn(Moved),
+        Step::Register,
+        Send(Entry::INITIALIZE),
+        Turn(Moved),
+        Take(Entry::INITIALIZATION_COMPLETE),
+        TakeNone,
+        Ask(0, Login(4)),
+        Turn(Moved),
+        TakeAnswer(52, 4),
+        TakeNone,
+    ];
+    first_other_from(alloc, 64, 8, start, &script)
+}
+
+// Neither the grant nor the rejection is put into the later session, and the login that is asked for there is granted.
+#[test]
+fn a_kept_answer_to_a_login_is_discarded_where_the_client_left(rt: HostRuntime) {
+    let granted = first_other_left(rt.alloc(), &FULL_WITHOUT_A_LOGIN, Login(1));
+    assert_eq!(rt; granted, Ok(None));
+    let rejected = first_other_left(rt.alloc(), &FULL, Login(3));
+    assert_eq!(rt; rejected, Ok(None));
 }
 
 static MANY_REQUESTS_ARE_ANSWERED_ONE_A_TURN_SCRIPT: [Step; 4] = [

@@ -161,6 +161,7 @@ impl<B: Blocks> Rig<B> {
         match step {
             Step::Turn(moved) => Ok(self.turn()? == moved),
             Step::Turns(count) => self.turns(count),
+            Step::Settle => Ok(self.settles()),
             Step::Ask(slot, unit) => self.ask(slot, unit),
             Step::AskAll(count) => self.ask_all(count),
             Step::Rows(_, _) | Step::Row(_, _) | Step::Fault(_, _) => {
@@ -188,6 +189,16 @@ impl<B: Blocks> Rig<B> {
             }
         }
         Ok(true)
+    }
+
+    // Has turns up to one that does not move, also behind one that found no memory, and tells whether that came.
+    fn settles(&mut self) -> bool {
+        for _ in 0..1_000 {
+            if self.turn() == Ok(Moved::Quiet) {
+                return true;
+            }
+        }
+        false
     }
 
     // Writes a unit into a slot, and sends its entry.

@@ -9,6 +9,8 @@ pub(super) enum Step {
     Turn(Moved),
     /// This many turns move.
     Turns(u16),
+    /// Turns come up to one that does not move, also behind one that found no memory.
+    Settle,
     /// The client registers its queue.
     Register,
     /// The client frees its queue.

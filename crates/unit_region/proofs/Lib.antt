@@ -1,3 +1,4 @@
 pub mod Growing
+pub mod Putting
 pub mod Taking
 pub mod Laws

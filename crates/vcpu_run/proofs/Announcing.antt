@@ -1,5 +1,5 @@
 -- What the calls of an end put into the partner's queue, one behind the other.
-use Rattle.std.proofs.Common.{◌≡◌, ◌∙◌, ◌⊎◌, inl, inr, ℕ, ◌+◌, ◌≤◌, zero, suc, Bool, true, false, List, [], ◌∷◌, ◌++◌, Option, Some, None, IfSome, IsSome, length, slice_get, refl, sym, ap, subst, arith, append-nil, append_assoc}
+use Rattle.std.proofs.Common.{◌≡◌, ◌∙◌, inl, inr, ℕ, ◌+◌, ◌≤◌, zero, suc, Bool, true, false, List, [], ◌∷◌, ◌++◌, Option, Some, None, IfSome, IsSome, length, slice_get, refl, sym, ap, subst, arith, append-nil, append_assoc}
 use Rattle.vio_num.specs.Entry.{first_byte}
 use Rattle.vio_num.specs.declared.entry.Entry.{Entry}
 use Rattle.crq_ring.specs.declared.rows.PipeRow.{PipeRow}
@@ -15,9 +15,9 @@ use Rattle.crq_session.specs.declared.answers.SendAnswer.TheVariants as send
 use Rattle.crq_session.specs.PlainState.{end_of}
 use Rattle.crq_session.specs.declared.link.PlainLink.{PlainLink}
 use Rattle.crq_session.specs.EndState.{EndPlace, EndState, OnlyPushes, OnlyReserves, OnlySends}
-use Rattle.vscsi_client.specs.Frames.{HasMore, IsOpened, KeepsEnd, MeetsEvent, OnlyTurns, Renews}
+use Rattle.vscsi_client.specs.Frames.{HasMore, IsOpened, KeepsEnd, OnlyTurns, Renews}
 use Rattle.vcpu_run.specs.Freed.{FreesNone}
-use Rattle.vcpu_run.specs.Announces.{IsAmong, IsKept, IsOnItsWay, IsTold, Announces}
+use Rattle.vcpu_run.specs.Announces.{IsAmong, IsOnItsWay, IsTold, Announces}
 
 pub both_bools : (b : Bool) → b ≡ true → b ≡ false → ⊥
 both_bools b t f = cc

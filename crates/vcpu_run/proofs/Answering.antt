@@ -1,5 +1,5 @@
 -- The responses in each client's queue are those of its server unit's rows, turn by turn.
-use Rattle.std.proofs.Common.{◌≡◌, ◌≢◌, ◌≤◌, ◌∙◌, inl, inr, ℕ, ◌==◌, ◌&&◌, Bool, true, false, cond, List, [], ◌∷◌, ◌++◌, Some, filter, map, slice_get, refl, sym, ap, subst, eq-eqb}
+use Rattle.std.proofs.Common.{◌≡◌, ◌≢◌, ◌≤◌, ◌∙◌, inl, inr, ℕ, ◌==◌, ◌&&◌, Bool, false, cond, List, [], ◌∷◌, ◌++◌, filter, map, refl, sym, ap, subst, eq-eqb}
 use Rattle.std.proofs.Math.Logic.{∥∥₁_map, ∥∥₁_map₂}
 use Rattle.std.proofs.lemmas.Bool.{ne_eqb}
 use Rattle.std.proofs.lemmas.List.Elements.{All-nil}
@@ -15,7 +15,7 @@ use Rattle.vcpu_run.specs.Machines.{server_id}
 use Rattle.vcpu_run.specs.Pairs.{AreDriven, Drives}
 use Rattle.vcpu_run.proofs.Following.{each_from_all}
 use Rattle.vcpu_run.proofs.Listed.{came_from}
-use Rattle.vcpu_run.proofs.Order.{each_weaker}
+use Rattle.lan_script.proofs.Order.{each_weaker}
 use Rattle.vcpu_run.proofs.Sole.{none_passes}
 
 -- a row of another server unit is no answered one of this

@@ -1,5 +1,5 @@
 -- What the records tell of the answers that a client took, as the steps of its lines go on.
-use Rattle.std.proofs.Common.{◌≡◌, ◌∙◌, ◌⊎◌, inl, inr, ℕ, ◌+◌, ◌≤◌, ◌<◌, ◌==◌, ◌&&◌, Bool, true, false, cond, List, [], ◌∷◌, ◌++◌, Option, Some, None, Result, Ok, Err, IfOk, IfErr, IfSome, OnErr, IsSome, length, map, take, refl, sym, ap, ap₂, subst, arith, eqb-true, length-append}
+use Rattle.std.proofs.Common.{◌≡◌, ◌∙◌, ◌⊎◌, inl, inr, ℕ, ◌+◌, ◌<◌, ◌==◌, Bool, true, false, List, [], ◌∷◌, ◌++◌, Result, Ok, Err, length, refl, sym, ap, subst, arith, eqb-true}
 use Rattle.std.proofs.lemmas.List.{map-append}
 use Rattle.vio_num.specs.declared.memory.NoMemory.{NoMemory}
 use Rattle.boot_text.specs.declared.verb.Verb.{Verb}
@@ -10,13 +10,14 @@ use Rattle.vio_trace.specs.declared.rows.AnswerRow.{AnswerRow}
 use Rattle.unit_region.specs.declared.step.Step.{Step}
 use Rattle.unit_region.specs.declared.step.Step.TheVariants as steps
 use Rattle.unit_region.specs.Steps.{IsPlain, is_plain}
-use Rattle.vscsi_client.specs.State.{ClientState, tags_of}
+use Rattle.vscsi_client.specs.State.{tags_of}
 use Rattle.vscsi_client.specs.declared.outgoing.Outgoing.{Outgoing}
 use Rattle.vscsi_client.specs.declared.row.Row.{Row}
 use Rattle.vcpu_run.specs.declared.driver.Driver.{Driver}
-use Rattle.vcpu_run.specs.AnswersTaken.{IsTakeSaid, TakesNow, answered_tags, has_tag, is_known, reads_in, sent_inward, takes_by}
+use Rattle.vcpu_run.specs.AnswersTaken.{IsTakeSaid, TakesNow, answered_tags, has_tag, reads_in, sent_inward, takes_by}
 use Rattle.vcpu_run.specs.Credited.{is_take}
-use Rattle.vcpu_run.specs.Takings.{AgreesTaken, FitsTag, IsTakenUpTo, KeepsTaken, StepsTaken, is_given, is_inward, row_at}
+use Rattle.vcpu_run.specs.Takings.{AgreesTaken, FitsTag, IsTakenUpTo, KeepsTaken, StepsTaken}
+use Rattle.vcpu_run.specs.TagRows.{is_given, is_inward, row_at}
 use Rattle.vcpu_run.proofs.Announcing.{both_bools}
 use Rattle.vcpu_run.proofs.TagsKept.{fits_more, has_else, has_this, row_past}
 

@@ -1,12 +1,12 @@
 -- The answers of a client, as a gathered trace shows them with the entries that it took.
-use Rattle.std.proofs.Common.{◌≡◌, ◌∙◌, false, All, List, [], Option, Some, None, IfSome, IsSomeAnd, slice_get, map, refl, ap, subst}
+use Rattle.std.proofs.Common.{◌≡◌, ◌∙◌, false, All, List, Option, Some, None, IfSome, IsSomeAnd, slice_get, map, refl, ap, subst}
 use Rattle.std.specs.List.{flat_map}
 use Rattle.std.specs.Option.{option_map}
 use Rattle.vio_num.specs.declared.history.Grant.{Grant}
 use Rattle.vio_num.specs.declared.history.Served.{Served}
 use Rattle.vio_num.specs.declared.names.UnitId.{UnitId}
 use Rattle.crq_ring.specs.Pipe.{IsLawfulPipe, PipeValue}
-use Rattle.crq_session.specs.PlainState.{end_of, side_of}
+use Rattle.crq_session.specs.PlainState.{side_of}
 use Rattle.rdma_copy.specs.declared.copy.CopyRecord.{CopyRecord}
 use Rattle.lan_script.specs.Units.{LanValue}
 use Rattle.lan_script.specs.declared.rows.LanRows.{LanRows}
@@ -26,13 +26,16 @@ use Rattle.vcpu_run.specs.AnswersTaken.{AreAnswersTaken, answers_to}
 use Rattle.vcpu_run.specs.CopyRows.{same_unit}
 use Rattle.vcpu_run.specs.Credited.{Ended}
 use Rattle.vcpu_run.specs.Gathered.{HasLawfulQueue, answer_by, answers_at, queue_at, rows_if, sessions_at, trace_of}
-use Rattle.vcpu_run.specs.Intake.{entries_taken, rows_taken}
+use Rattle.vcpu_run.specs.Intake.{rows_taken}
 use Rattle.vcpu_run.specs.Machines.{AreScripts, IsOfPlan}
 use Rattle.vcpu_run.specs.Sessions.{session_rows}
 use Rattle.vcpu_run.specs.Shown.{sessions_of}
 use Rattle.vcpu_run.specs.TakenScripts.{IsTaken, PairTaken}
 use Rattle.vcpu_run.specs.Units.{seats_of, unit_seat}
-use Rattle.vcpu_run.proofs.AnswersShown.{answers_shown, answers_told}
+use Rattle.vcpu_run.specs.DataTold.{AreDataTold}
+use Rattle.vcpu_run.specs.LinesShow.{Sees, seen_at}
+use Rattle.vcpu_run.specs.Refusals.{seen_in}
+use Rattle.vcpu_run.proofs.AnswersShown.{answers_shown, answers_told, data_shown}
 use Rattle.vcpu_run.proofs.Copied.{names_apart}
 use Rattle.vcpu_run.proofs.Fetching.{all_taken}
 use Rattle.vcpu_run.proofs.Following.{each_from_all}
@@ -42,11 +45,17 @@ use Rattle.vcpu_run.proofs.QueueLaws.{sessions_told}
 use Rattle.vcpu_run.proofs.Seated.{planned_in}
 use Rattle.vcpu_run.proofs.Sole.{same_refl}
 
+-- What the lines of a client say of the answers that it took, and of the data of their commands, is so.
+pub record IsClientGiven (trace : Trace) (client server : UnitId) (own : List Ended) : Type 0 where
+  pub takes : AreAnswersTaken trace client own
+  pub reads : AreDataTold (seen_in trace client server) server own (answers_to trace client)
+
 pub client_takes : (partitions : List Partition) (pairs : List Pair) (scripts : List Script) (lan : LanValue) (rows : LanRows) (history : List Served) (grants : List Grant) (copies : List CopyRecord)
     (client server : UnitId) (own : List Ended) (pair : Pair) (P : Driver → Type 0) → AreScripts pairs lan.seats scripts → All (HasLawfulQueue pairs) (seats_of scripts)
     → IsOfPlan partitions pairs scripts lan.seats → IsClientOf partitions client server → slice_get pairs server.unit ≡ Some pair → IsSomeAnd pair.driver P → PairTaken own pair
-    → AreAnswersTaken (trace_of pairs scripts lan rows history grants copies) client own
-client_takes partitions pairs scripts lan rows history grants copies client server own pair P are lawful plan is there has taken = at pair.driver refl has taken
+    → Sees (seen_at pair) (seen_in (trace_of pairs scripts lan rows history grants copies) client server) → pair.server ≡ server
+    → IsClientGiven (trace_of pairs scripts lan rows history grants copies) client server own
+client_takes partitions pairs scripts lan rows history grants copies client server own pair P are lawful plan is there has taken sees same = at pair.driver refl has taken
   where
     trace : Trace
     trace = trace_of pairs scripts lan rows history grants copies
@@ -78,7 +87,9 @@ client_takes partitions pairs scripts lan rows history grants copies client serv
         (answers_told pairs client (seats_of scripts)) (names_apart client (seats_of scripts) (seats_ordered pairs lan.seats scripts are))
         ∙ ap (rows_if (λ (d : Driver). map (answer_by client) d.answers.items)) (ap driver_in there ∙ slot)
 
-    at : (o : Option Driver) → pair.driver ≡ o → IsSomeAnd o P → IfSome o (IsTaken own pair) → AreAnswersTaken trace client own
+    at : (o : Option Driver) → pair.driver ≡ o → IsSomeAnd o P → IfSome o (IsTaken own pair) → IsClientGiven trace client server own
     at None slot has is = absurd has
-    at (Some driver) slot has is =
-        answers_shown trace client own pair driver (answers driver slot) (ap (flat_map rows_taken) sessions ∙ all_taken client pipe laws is.given.begun) is
+    at (Some driver) slot has is = record {
+      takes = answers_shown trace client own pair driver (answers driver slot) (ap (flat_map rows_taken) sessions ∙ all_taken client pipe laws is.given.begun) is;
+      reads = data_shown trace client server own pair driver (answers driver slot) sees same is;
+    }

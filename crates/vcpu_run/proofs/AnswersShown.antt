@@ -1,5 +1,5 @@
 -- The answers of a client as a trace shows them.
-use Rattle.std.proofs.Common.{◌≡◌, ◌∙◌, ℕ, ◌≤◌, false, All, List, [], ◌∷◌, Option, Some, None, map, refl, sym, ap, subst}
+use Rattle.std.proofs.Common.{zero, suc, ◌≡◌, ◌∙◌, ℕ, ◌<◌, ◌≤◌, false, Contains, get_or, length, arith, All, List, [], ◌∷◌, Option, Some, None, map, refl, sym, ap, subst}
 use Rattle.std.proofs.lemmas.List.Elements.{All-cons, All-head, All-nil, All-tail}
 use Rattle.vio_num.specs.declared.names.UnitId.{UnitId}
 use Rattle.crq_ring.specs.declared.rows.PipeRow.{PipeRow}
@@ -15,10 +15,14 @@ use Rattle.vcpu_run.specs.Credited.{Ended}
 use Rattle.vcpu_run.specs.EventsHeard.{events_taken, losses_told}
 use Rattle.vcpu_run.specs.Gathered.{answer_by, answers_at, driver_of, rows_if}
 use Rattle.vcpu_run.specs.Intake.{entries_taken}
+use Rattle.vcpu_run.specs.DataTold.{AreDataTold}
+use Rattle.vcpu_run.specs.LinesShow.{Sees, seen_at}
+use Rattle.vcpu_run.specs.Refusals.{seen_in}
 use Rattle.vcpu_run.specs.TakenScripts.{IsTaken}
+use Rattle.vcpu_run.proofs.DataOf.{NotesAll, told_further}
 use Rattle.vcpu_run.proofs.Among.{among_front}
 use Rattle.vcpu_run.proofs.EventsHeard.{heard_last}
-use Rattle.vcpu_run.proofs.Order.{Each, each_weaker}
+use Rattle.lan_script.proofs.Order.{Each, each_weaker}
 use Rattle.vcpu_run.proofs.Ordering.{each_of}
 use Rattle.vcpu_run.proofs.Parts.{Told}
 
@@ -63,3 +67,30 @@ answers_shown trace client own pair driver answers entries is = record {
   where
     tags : answered_tags (answers_to trace client) ≡ answered_tags driver.answers.items
     tags = ap answered_tags answers ∙ tags_named client driver.answers.items
+
+contains_map : {X Y : Type 0} (f : X → Y) (xs : List X) (x : X) → Contains xs x → Contains (map f xs) (f x)
+contains_map {X = X} f xs x (k, less, at) = by xs k less at
+  where
+    by : (ys : List X) (j : ℕ) → j < length ys → get_or ys j x ≡ x → Contains (map f ys) (f x)
+    by [] j less at = absurd (omega (arith, less))
+    by (y ∷ ys) zero less at = (zero, omega arith, ap f at)
+    by (y ∷ ys) (suc j) less at = let rest = by ys j (omega (arith, less)) at in (suc rest.0, omega (arith, rest.1), rest.2)
+
+-- what it notes of data is noted in the trace
+notes_shown : (client : UnitId) (rows : List AnswerRow) → NotesAll rows (map (answer_by client) rows)
+notes_shown client rows tag said is = record {
+  row = answer_by client is.row;
+  there = contains_map (answer_by client) rows is.row is.there;
+  tag_is = is.tag_is;
+  response = is.response;
+  canonical = is.canonical;
+  says = is.says;
+}
+
+pub data_shown : (trace : Trace) (client server : UnitId) (own : List Ended) (pair : Pair) (driver : Driver) → answers_to trace client ≡ map (answer_by client) driver.answers.items
+    → Sees (seen_at pair) (seen_in trace client server) → pair.server ≡ server → IsTaken own pair driver → AreDataTold (seen_in trace client server) server own (answers_to trace client)
+data_shown trace client server own pair driver answers sees same is =
+    subst (λ (rows : List AnswerRow). AreDataTold (seen_in trace client server) server own rows) (sym answers)
+    (subst (λ (who : UnitId). AreDataTold (seen_in trace client server) who own (map (answer_by client) driver.answers.items)) same
+    (told_further (seen_at pair) (seen_in trace client server) own driver.answers.items (map (answer_by client) driver.answers.items) pair.server sees
+    (notes_shown client driver.answers.items) is.reads))

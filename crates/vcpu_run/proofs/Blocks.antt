@@ -16,7 +16,7 @@ use Rattle.vcpu_run.specs.Numbered.{numbered}
 use Rattle.vcpu_run.specs.RunLaw.{AreCounted, ArePlaced, AreVersions}
 use Rattle.vcpu_run.specs.Sessions.{session_row, sessions_from}
 use Rattle.vcpu_run.specs.Windows.{rows_from, rows_of_entry, rows_on, stroke_row, value_row, values_from}
-use Rattle.vcpu_run.proofs.Order.{Each, Ordered, each_append, each_weaker, ordered_append}
+use Rattle.lan_script.proofs.Order.{Each, Ordered, each_append, each_weaker, ordered_append}
 
 -- sessions
 

@@ -1,5 +1,5 @@
 -- The pairs and the scripts that were made of a plan are a machine of it.
-use Rattle.std.proofs.Common.{◌≡◌, ℕ, ◌+◌, ◌*◌, ◌<◌, ◌≤◌, nat_lt, Bool, true, false, List, [], All, Option, Some, None, Result, Ok, Err, IfOk, IsSome, IsSomeAnd, MatchOption, length, map, option_map, refl, sym, ◌∙◌, ap, subst, arith}
+use Rattle.std.proofs.Common.{◌≡◌, ℕ, ◌*◌, ◌<◌, ◌≤◌, nat_lt, Bool, true, false, List, [], All, Option, Some, None, Result, Ok, Err, IfOk, IsSome, IsSomeAnd, MatchOption, length, map, option_map, refl, sym, ◌∙◌, ap, subst, arith}
 use Rattle.std.specs.List.{slice_get}
 use Rattle.std.proofs.lemmas.List.{length-map}
 use Rattle.std.proofs.lemmas.Option.{slice_get_within, slice_get-map}
@@ -8,7 +8,7 @@ use Rattle.vio_num.specs.declared.names.UnitId.{UnitId}
 use Rattle.crq_session.specs.PlainState.{side_of}
 use Rattle.crq_session.specs.declared.TheConstants.{PAGE_SLOTS}
 use Rattle.boot_text.specs.SoFar.{suits as may_do}
-use Rattle.boot_text.specs.Sound.{AreSound, IsClientOf, IsServer, IsSoundLine, IsSoundPartition, unit_at, unit_in}
+use Rattle.boot_text.specs.Sound.{AreSound, IsClientOf, IsSoundLine, unit_at, unit_in}
 use Rattle.boot_text.specs.declared.plan.Line.{Line}
 use Rattle.boot_text.specs.declared.plan.Partition.{Partition}
 use Rattle.boot_text.specs.declared.plan.TheConstants.{MOST_UNITS}
@@ -16,7 +16,6 @@ use Rattle.boot_text.specs.declared.plan.UnitPlan.{UnitPlan}
 use Rattle.boot_text.specs.declared.plan.UnitPlan.TheVariants as kinds
 use Rattle.boot_text.specs.declared.verb.Verb.{Verb}
 use Rattle.lan_script.specs.Seats.{seat_at}
-use Rattle.lan_script.specs.declared.seat.PortSeat.{PortSeat}
 use Rattle.vcpu_run.specs.declared.driver.Driver.{Driver}
 use Rattle.vcpu_run.specs.declared.pair.ClientSeat.{ClientSeat}
 use Rattle.vcpu_run.specs.declared.pair.Pair.{Pair}
@@ -29,7 +28,7 @@ use Rattle.vcpu_run.specs.Pairs.{ArePairs, IsPair}
 use Rattle.vcpu_run.specs.Ports.{IsPortOf, ports_of, unit_of}
 use Rattle.vcpu_run.specs.Scripts.{AreSeats, IsSeat}
 use Rattle.vcpu_run.specs.Suited.{IsLineAt, suits}
-use Rattle.vcpu_run.proofs.Homes.{all_at, all_from, at_home, no_home, partition_at, unit_below, unit_found}
+use Rattle.vcpu_run.proofs.Homes.{all_at, all_from, at_home, no_home, partition_at, unit_below}
 use Rattle.vcpu_run.proofs.Listed.{held, held_then, is_held, mapped, there_is}
 use Rattle.vcpu_run.proofs.PortsFound.{port, port_found}
 use Rattle.vcpu_run.proofs.Seated.{client_plan, port_plan}

@@ -1,13 +1,16 @@
 -- The records of a gathered trace say of raw calls what they may.
-use Rattle.std.proofs.Common.{◌≡◌, ◌≤◌, ◌∙◌, ℕ, ◌==◌, true, All, List, [], Option, Some, None, IsSomeAnd, filter, length, option_map, slice_get, refl, sym, ap, ap₂, subst, arith}
+use Rattle.std.proofs.Common.{◌≡◌, ◌≤◌, ◌∙◌, ℕ, ◌==◌, true, All, List, [], Option, Some, None, IfSome, IsSome, IsSomeAnd, filter, length, option_map, slice_get, refl, sym, ap, ap₂, subst, arith}
 use Rattle.std.specs.List.{flat_map}
 use Rattle.std.proofs.lemmas.Option.{slice_get-map, slice_get_past}
 use Rattle.std.proofs.lemmas.Bool.Decides.{nat_tests}
 use Rattle.vio_num.specs.declared.history.Grant.{Grant}
 use Rattle.vio_num.specs.declared.history.Served.{Served}
 use Rattle.rdma_copy.specs.declared.copy.CopyRecord.{CopyRecord}
-use Rattle.hcall_table.specs.Named.{Place}
+use Rattle.hcall_table.specs.Named.{Place, unit_of as unit_asked}
+use Rattle.hcall_table.specs.Rows.{further, row_of}
+use Rattle.hcall_table.specs.declared.hcall.Hcall.{Hcall}
 use Rattle.hcall_table.specs.declared.kind.UnitKind.{UnitKind}
+use Rattle.lan_script.specs.Seats.{seat_at}
 use Rattle.lan_script.specs.Units.{LanValue}
 use Rattle.lan_script.specs.declared.rows.LanRows.{LanRows}
 use Rattle.boot_text.specs.Sound.{unit_at, unit_in}
@@ -15,7 +18,13 @@ use Rattle.boot_text.specs.declared.plan.Line.{Line}
 use Rattle.boot_text.specs.declared.plan.Partition.{Partition}
 use Rattle.boot_text.specs.declared.plan.UnitPlan.{UnitPlan}
 use Rattle.boot_text.specs.declared.plan.UnitPlan.TheVariants as units
+use Rattle.vio_num.specs.declared.hypervisor.Hrc.TheVariants as codes
+use Rattle.vio_num.specs.declared.names.Mac.{Mac}
 use Rattle.vio_num.specs.declared.names.UnitId.{UnitId}
+use Rattle.boot_text.specs.declared.verb.Verb.{Verb}
+use Rattle.boot_text.specs.declared.verb.Verb.TheVariants as verbs
+use Rattle.vio_trace.specs.declared.outcome.Outcome.{Outcome}
+use Rattle.vio_trace.specs.declared.outcome.Outcome.TheVariants as outcomes
 use Rattle.vio_trace.specs.declared.rows.LogRow.{LogRow}
 use Rattle.vio_trace.specs.declared.rows.Trace.{Trace}
 use Rattle.vcpu_run.specs.declared.driver.Driver.{Driver}
@@ -23,13 +32,15 @@ use Rattle.vcpu_run.specs.declared.pair.Pair.{Pair}
 use Rattle.vcpu_run.specs.declared.script.Script.{Script}
 use Rattle.vcpu_run.specs.declared.unit_seat.Seat.{Seat}
 use Rattle.vcpu_run.specs.declared.unit_seat.Seat.TheVariants as sits
-use Rattle.vcpu_run.specs.CallsAnswered.{no_client, unit_seen}
-use Rattle.vcpu_run.specs.CallsSaid.{CallsSaid, seen_from}
+use Rattle.vcpu_run.specs.CallsAnswered.{IsUnitSaid, no_client, port_seen, unit_seen}
+use Rattle.vcpu_run.specs.CallsSaid.{CallsSaid, IsCallSaid, IsSaidOf, UnitsSeen, seen_from}
 use Rattle.vcpu_run.specs.CallsShown.{CallsAreSaid, kind_planned, place_in, unit_shown, units_shown}
 use Rattle.vcpu_run.specs.Gathered.{HasLawfulQueue, HasLawfulWindow, logs_of, trace_of}
 use Rattle.vcpu_run.specs.LinesShow.{Sees, seen_at}
 use Rattle.vcpu_run.specs.Machines.{AreScripts, IsOfPlan, IsScriptFor, seat_of}
 use Rattle.vcpu_run.specs.Pairs.{AreOfOneHome}
+use Rattle.vcpu_run.specs.PortCalls.{EntriesSaid, EntrySaid}
+use Rattle.vcpu_run.specs.PortWords.{PortsTell}
 use Rattle.vcpu_run.specs.Ports.{unit_of}
 use Rattle.vcpu_run.specs.RawCalls.{kind_of, pair_of}
 use Rattle.vcpu_run.specs.Refusals.{seen_in}
@@ -37,10 +48,11 @@ use Rattle.vcpu_run.specs.Scripts.{IsScript}
 use Rattle.vcpu_run.specs.Settled.{script_in, script_of}
 use Rattle.vcpu_run.specs.Shown.{pages_at, pages_if}
 use Rattle.vcpu_run.specs.Units.{seats_of}
-use Rattle.vcpu_run.proofs.CallsGrow.{UnitGrows, UnitsGrow, calls_more, unit_still}
+use Rattle.vcpu_run.proofs.CallsGrow.{UnitGrows, unit_more, unit_still}
 use Rattle.vcpu_run.proofs.Listed.{held}
 use Rattle.vcpu_run.proofs.Parts.{found, in_slice}
 use Rattle.vcpu_run.proofs.Placing.{partitions_are}
+use Rattle.vcpu_run.proofs.PortShown.{port_shown, said_port}
 use Rattle.vcpu_run.proofs.RecordLaws.{lines_in, none_past, partitions_apart, rows_told}
 use Rattle.vcpu_run.proofs.RefusalsTold.{client_pages, trace_sees}
 
@@ -83,29 +95,54 @@ client_shown trace client server pages queue pair driver has size sees = record 
 }
 
 unit_planned : (pairs : List Pair) (trace : Trace) (id : UnitId) (planned : Option UnitPlan) (o : Option UnitPlan) (seat : Option Seat) → o ≡ planned → seat ≡ option_map seat_of planned
+    → ((mac : Mac) (pages slots : ℕ) → planned ≡ Some (units.Lan mac pages slots) → ⊥)
     → ((server : UnitId) (pages queue : ℕ) → planned ≡ Some (units.Client server pages queue)
     → UnitGrows (unit_seen (slice_get pairs server.unit)) (unit_shown trace id (Some (units.Client server pages queue))))
     → UnitGrows (unit_seen (pair_of pairs seat)) (unit_shown trace id o)
-unit_planned pairs trace id planned o seat is sits_at client =
+unit_planned pairs trace id planned o seat is sits_at no_port client =
     subst (λ (s : Option Seat). UnitGrows (unit_seen (pair_of pairs s)) (unit_shown trace id o)) (sym sits_at)
-    (subst (λ (q : Option UnitPlan). UnitGrows (unit_seen (pair_of pairs (option_map seat_of planned))) (unit_shown trace id q)) (sym is) (at planned client))
+    (subst (λ (q : Option UnitPlan). UnitGrows (unit_seen (pair_of pairs (option_map seat_of planned))) (unit_shown trace id q)) (sym is) (at planned no_port client))
   where
-    at : (q : Option UnitPlan) → ((server : UnitId) (pages queue : ℕ) → q ≡ Some (units.Client server pages queue)
+    at : (q : Option UnitPlan) → ((mac : Mac) (pages slots : ℕ) → q ≡ Some (units.Lan mac pages slots) → ⊥) → ((server : UnitId) (pages queue : ℕ) → q ≡ Some (units.Client server pages queue)
         → UnitGrows (unit_seen (slice_get pairs server.unit)) (unit_shown trace id (Some (units.Client server pages queue))))
         → UnitGrows (unit_seen (pair_of pairs (option_map seat_of q))) (unit_shown trace id q)
-    at None f = unit_still no_client
-    at (Some (units.Server queue)) f = unit_still no_client
-    at (Some (units.Client server pages queue)) f = f server pages queue refl
-    at (Some (units.Lan mac pages slots)) f = unit_still no_client
+    at None none f = unit_still no_client
+    at (Some (units.Server queue)) none f = unit_still no_client
+    at (Some (units.Client server pages queue)) none f = f server pages queue refl
+    at (Some (units.Lan mac pages slots)) none f = absurd (none mac pages slots refl)
+
+-- what is said over some units is said over others, where it is so of the unit that a call names
+call_shown : (a b : UnitsSeen) (number : ℕ) (args : List ℕ) (outcome : Outcome) → b.place ≡ a.place
+    → ((row : Hcall) (unit : ℕ) → row_of number ≡ Some row → unit_asked a.place row args ≡ Some unit
+    → IsUnitSaid (a.of_unit unit) row (further row args) outcome → IsUnitSaid (b.of_unit unit) row (further row args) outcome)
+    → IsCallSaid a number args outcome → IsCallSaid b number args outcome
+call_shown a b number args outcome same each is = record {
+  row = is.row;
+  elsewhere = subst (λ (place : Place). IfSome (row_of number) (λ row. unit_asked place row args ≡ None → outcome ≡ outcomes.Code codes.Parameter)) (sym same) is.elsewhere;
+  here = at (row_of number) refl is.here;
+}
+  where
+    there : (row : Hcall) → row_of number ≡ Some row → (o : Option ℕ) → unit_asked a.place row args ≡ o
+        → IfSome o (λ unit. IsUnitSaid (a.of_unit unit) row (further row args) outcome) → IfSome o (λ unit. IsUnitSaid (b.of_unit unit) row (further row args) outcome)
+    there row e None f h = tt
+    there row e (Some unit) f h = each row unit e f h
+
+    at : (o : Option Hcall) → row_of number ≡ o
+        → IfSome o (λ row. IfSome (unit_asked a.place row args) (λ unit. IsUnitSaid (a.of_unit unit) row (further row args) outcome))
+        → IfSome o (λ row. IfSome (unit_asked b.place row args) (λ unit. IsUnitSaid (b.of_unit unit) row (further row args) outcome))
+    at None e h = tt
+    at (Some row) e h =
+        subst (λ (place : Place). IfSome (unit_asked place row args) (λ unit. IsUnitSaid (b.of_unit unit) row (further row args) outcome)) (sym same)
+        (there row e (unit_asked a.place row args) refl h)
 
 no_line : (line : Line) → None ≡ Some line → ⊥
 no_line line e = cc
 
 pub calls_are : (pairs : List Pair) (scripts : List Script) (lan : LanValue) (lan_rows : LanRows) (history : List Served) (grants : List Grant) (copies : List CopyRecord) (partitions : List Partition)
     → AreOfOneHome copies pairs → AreScripts pairs lan.seats scripts → All (HasLawfulQueue pairs) (seats_of scripts) → All (HasLawfulWindow pairs lan) (seats_of scripts)
-    → IsOfPlan partitions pairs scripts lan.seats
+    → IsOfPlan partitions pairs scripts lan.seats → PortsTell lan scripts
     → CallsAreSaid partitions (trace_of pairs scripts lan lan_rows history grants copies)
-calls_are pairs scripts lan lan_rows history grants copies partitions home are lawful windows of_plan p = at (slice_get scripts p) refl
+calls_are pairs scripts lan lan_rows history grants copies partitions home are lawful windows of_plan tells p = at (slice_get scripts p) refl
   where
     trace : Trace
     trace = trace_of pairs scripts lan lan_rows history grants copies
@@ -129,15 +166,53 @@ calls_are pairs scripts lan lan_rows history grants copies partitions home are l
         (client_shown trace id server pages queue pair.0 driver.0 driver.1 (sym size ∙ shown)
         (trace_sees partitions pairs scripts lan lan_rows history grants copies id server pair.0 home are lawful windows of_plan (pages, queue, planned) pair.1))
 
-    grows : (script : Script) → script.partition ≡ p → IsScript pairs script → IsSomeAnd (slice_get partitions p) (λ partition. IsScriptFor partition script)
-        → UnitsGrow (seen_from script.partition script.seats.items pairs) (units_shown partitions trace p)
-    grows script here is for_it = record {
-      place = place_planned partitions p script here for_it;
-      units = λ unit.
-          let seat = seat_planned (slice_get partitions p) script unit for_it in
-          unit_planned pairs trace (unit_of p unit) (unit_at partitions (unit_of p unit)) (unit_at partitions (unit_of p unit)) (slice_get script.seats.items unit) refl seat
-          (λ server pages queue planned. client script unit server pages queue here is (seat ∙ ap (option_map seat_of) planned) planned);
-    }
+    other_said : (script : Script) → slice_get scripts p ≡ Some script → IsSomeAnd (slice_get partitions p) (λ partition. IsScriptFor partition script)
+        → (row : Hcall) (unit : ℕ) (args : List ℕ) (outcome : Outcome) → ((mac : Mac) (pages slots : ℕ) → unit_at partitions (unit_of p unit) ≡ Some (units.Lan mac pages slots) → ⊥)
+        → IsUnitSaid ((seen_from script.partition script.seats.items pairs).of_unit unit) row (further row args) outcome
+        → IsUnitSaid ((units_shown partitions trace p).of_unit unit) row (further row args) outcome
+    other_said script here for_it row unit args outcome no_port is =
+        let own = are p script here in
+        let seat = seat_planned (slice_get partitions p) script unit for_it in
+        unit_more ((seen_from script.partition script.seats.items pairs).of_unit unit) ((units_shown partitions trace p).of_unit unit)
+        (unit_planned pairs trace (unit_of p unit) (unit_at partitions (unit_of p unit)) (unit_at partitions (unit_of p unit)) (slice_get script.seats.items unit) refl seat no_port
+        (λ server pages queue planned. client script unit server pages queue own.number own.script_is (seat ∙ ap (option_map seat_of) planned) planned))
+        row (further row args) outcome is
+
+    -- what a record says at a unit
+    unit_said : (script : Script) → slice_get scripts p ≡ Some script → IsSomeAnd (slice_get partitions p) (λ partition. IsScriptFor partition script)
+        → (number : ℕ) (args : List ℕ) (outcome : Outcome)
+        → EntrySaid script.partition (slice_get script.seats.items) lan (verbs.Hcall number args) outcome → (row : Hcall) (unit : ℕ) → row_of number ≡ Some row
+        → unit_asked (seen_from script.partition script.seats.items pairs).place row args ≡ Some unit → (o : Option UnitPlan) → unit_at partitions (unit_of p unit) ≡ o
+        → IsUnitSaid ((seen_from script.partition script.seats.items pairs).of_unit unit) row (further row args) outcome
+        → IsUnitSaid ((units_shown partitions trace p).of_unit unit) row (further row args) outcome
+    unit_said script here for_it number args outcome entry row unit e asked (Some (units.Lan mac pages slots)) f is =
+        let own = are p script here in
+        let id : UnitId = unit_of p unit in
+        let sat : slice_get script.seats.items unit ≡ Some sits.Port = seat_planned (slice_get partitions p) script unit for_it ∙ ap (option_map seat_of) f in
+        let named : unit_of script.partition unit ≡ id = ap (λ n. unit_of n unit) own.number in
+        let there : IsSome (seat_at lan.seats id) = subst (λ (u : UnitId). IsSome (seat_at lan.seats u)) named (own.has_ports.have unit sat) in
+        let grows : UnitGrows (port_seen lan id) (unit_shown trace id (Some (units.Lan mac pages slots))) =
+        port_shown pairs scripts lan lan_rows history grants copies partitions home are windows of_plan id mac pages slots f there in
+        subst (λ (q : Option UnitPlan). IsUnitSaid (unit_shown trace id q) row (further row args) outcome) (sym f)
+        (said_port (seen_from script.partition script.seats.items pairs).place ((seen_from script.partition script.seats.items pairs).of_unit unit)
+        (unit_shown trace id (Some (units.Lan mac pages slots))) row args unit outcome (ap kind_of sat) asked
+        (λ of_window. unit_more (port_seen lan id) (unit_shown trace id (Some (units.Lan mac pages slots))) grows row (further row args) outcome
+        (subst (λ (u : UnitId). IsUnitSaid (port_seen lan u) row (further row args) outcome) named (entry row unit e of_window asked sat))) is)
+    unit_said script here for_it number args outcome entry row unit e asked None f is =
+        other_said script here for_it row unit args outcome (λ mac pages slots g. absurd (cc (f, g))) is
+    unit_said script here for_it number args outcome entry row unit e asked (Some (units.Server queue)) f is =
+        other_said script here for_it row unit args outcome (λ mac pages slots g. absurd (cc (f, g))) is
+    unit_said script here for_it number args outcome entry row unit e asked (Some (units.Client server pages queue)) f is =
+        other_said script here for_it row unit args outcome (λ mac pages slots g. absurd (cc (f, g))) is
+
+    said : (script : Script) → slice_get scripts p ≡ Some script → IsSomeAnd (slice_get partitions p) (λ partition. IsScriptFor partition script)
+        → (verb : Verb) (outcome : Outcome) → EntrySaid script.partition (slice_get script.seats.items) lan verb outcome
+        → IsSaidOf (seen_from script.partition script.seats.items pairs) verb outcome → IsSaidOf (units_shown partitions trace p) verb outcome
+    said script here for_it (verbs.Hcall number args) outcome entry is =
+        call_shown (seen_from script.partition script.seats.items pairs) (units_shown partitions trace p) number args outcome
+        (place_planned partitions p script (are p script here).number for_it)
+        (λ row unit e asked. unit_said script here for_it number args outcome entry row unit e asked (unit_at partitions (unit_of p unit)) refl) is
+    said script here for_it verb outcome entry is = tt
 
     at : (slot : Option Script) → slice_get scripts p ≡ slot → CallsSaid (units_shown partitions trace p) (script_of partitions p) rows
     at None e =
@@ -153,6 +228,10 @@ calls_are pairs scripts lan lan_rows history grants copies partitions home are l
         found (λ (row : LogRow). row.partition == p) (λ (script : Script). script.partition == p) logs_of script hit scripts (in_slice scripts p script e)
         (rows_told pairs lan.seats scripts p are) (partitions_apart p 0 scripts (partitions_are pairs lan.seats scripts are)) in
         let lines : script_of partitions p ≡ script.lines.now = lines_in (slice_get partitions p) script for_it in
-        calls_more (seen_from script.partition script.seats.items pairs) (units_shown partitions trace p) (script_of partitions p) rows (grows script here own.script_is for_it)
-        (subst (λ (list : List Line). CallsSaid (seen_from script.partition script.seats.items pairs) list rows) (sym lines)
-        (subst (λ (list : List LogRow). CallsSaid (seen_from script.partition script.seats.items pairs) script.lines.now list) (sym only) own.script_is.called))
+        let calls : CallsSaid (seen_from script.partition script.seats.items pairs) (script_of partitions p) rows =
+        subst (λ (list : List Line). CallsSaid (seen_from script.partition script.seats.items pairs) list rows) (sym lines)
+        (subst (λ (list : List LogRow). CallsSaid (seen_from script.partition script.seats.items pairs) script.lines.now list) (sym only) own.script_is.called) in
+        let entries : EntriesSaid script.partition (slice_get script.seats.items) lan (script_of partitions p) rows =
+        subst (λ (list : List Line). EntriesSaid script.partition (slice_get script.seats.items) lan list rows) (sym lines)
+        (subst (λ (list : List LogRow). EntriesSaid script.partition (slice_get script.seats.items) lan script.lines.now list) (sym only) (tells p script e).entries) in
+        λ i line row there shown. said script e for_it line.verb row.outcome (entries i line row there shown) (calls i line row there shown)

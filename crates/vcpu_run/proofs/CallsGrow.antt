@@ -101,7 +101,7 @@ done_if P Q more (outcomes.Frame code number) is = tt
 done_if P Q more outcomes.Done is = tt
 done_if P Q more (outcomes.Bytes shown) is = tt
 
-unit_more : (a b : UnitSeen) → UnitGrows a b → (row : Hcall) (args : List ℕ) (outcome : Outcome) → IsUnitSaid a row args outcome → IsUnitSaid b row args outcome
+pub unit_more : (a b : UnitSeen) → UnitGrows a b → (row : Hcall) (args : List ℕ) (outcome : Outcome) → IsUnitSaid a row args outcome → IsUnitSaid b row args outcome
 unit_more a b more row args outcome is = record {
   parameter = subst (λ (pages : Option ℕ). IfSome (is_taken row pages args) (λ taken. (outcome ≡ outcomes.Code codes.Parameter) ↔ (taken ≡ false))) (sym more.pages) is.parameter;
   done = done_if (IsDone a row args) (IsDone b row args) (λ value. done_more a b more row args value) outcome is.done;

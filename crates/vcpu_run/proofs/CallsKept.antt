@@ -127,7 +127,7 @@ gives_none None = refl
 gives_none (Some row) = no_value row
 
 -- each client of a partition has its pair, and each port is there: its units are where they sit
-among_same : (partition : ℕ) (seats : List Seat) (pairs : List Pair) (ports : List PortSeat) (unit : ℕ) → HaveClients seats pairs → HavePorts partition seats ports
+pub among_same : (partition : ℕ) (seats : List Seat) (pairs : List Pair) (ports : List PortSeat) (unit : ℕ) → HaveClients seats pairs → HavePorts partition seats ports
     → (o : Option Seat) → slice_get seats unit ≡ o → seat_among partition unit (length pairs) ports o ≡ o
 among_same partition seats pairs ports unit clients have None e = refl
 among_same partition seats pairs ports unit clients have (Some sits.Server) e = refl

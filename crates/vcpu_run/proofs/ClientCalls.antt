@@ -73,40 +73,40 @@ value_there old new address value code puts good =
     let put : new.values entry ≡ old.values entry ++ value ∷ [] = is.values entry ∙ ap (λ b. old.values entry ++ cond b (value ∷ []) []) (eq-eqb entry entry refl) in
     subst (λ (list : List ℕ). Contains list value) (sym put) (Contains-append_right (old.values entry) (value ∷ []) value (contains_first value []))
 
--- a call on the entries of a client's window, of so many pages, which has these values then
-pub entry_seen : (old new : PortState) (n : ℕ) (values : ℕ → List ℕ) (put : Entry → Type 0) (slot : Option Driver) (call : EntryCall) (returned : Returned)
+-- a call on the entries of a unit's window, of so many pages, which has these values then
+pub entry_seen : {X : Type 0} (old new : PortState) (n : ℕ) (values : ℕ → List ℕ) (put : Entry → Type 0) (slot : Option X) (call : EntryCall) (returned : Returned)
     → old.place.size ≡ n → new.values ≡ values → IsAnswer (entry_row call) returned → AnswersEntry old new call returned
-    → IsReturned (record { pages = option_map (λ (driver : Driver). n) slot; value_at = λ entry value. Contains (values entry) value; entry_put = put })
+    → IsReturned (record { pages = option_map (λ (x : X). n) slot; value_at = λ entry value. Contains (values entry) value; entry_put = put })
     (entry_row call) (entry_arguments call) returned
-entry_seen old new n values put slot (entries.Get address) returned size same answer is =
+entry_seen {X} old new n values put slot (entries.Get address) returned size same answer is =
     let given : gives n values address (answer_by returned.code returned.r4) =
     subst (λ m. gives m values address (answer_by returned.code returned.r4)) size
     (subst (λ (v : ℕ → List ℕ). gives old.place.size v address (answer_by returned.code returned.r4)) same is) in
     record { parameter = at given slot; done = got_there n address returned.r4 values returned.code given }
   where
-    at : gives n values address (answer_by returned.code returned.r4) → (o : Option Driver)
-        → IfSome (is_taken rows.GetTce (option_map (λ (driver : Driver). n) o) (address ∷ [])) (λ taken. (returned.code ≡ codes.Parameter) ↔ (taken ≡ false))
+    at : gives n values address (answer_by returned.code returned.r4) → (o : Option X)
+        → IfSome (is_taken rows.GetTce (option_map (λ (x : X). n) o) (address ∷ [])) (λ taken. (returned.code ≡ codes.Parameter) ↔ (taken ≡ false))
     at given None = tt
-    at given (Some driver) = get_parameter n address returned.r4 values returned.code answer.code given
-entry_seen old new n values put slot (entries.Put address value) returned size same answer is =
+    at given (Some x) = get_parameter n address returned.r4 values returned.code answer.code given
+entry_seen {X} old new n values put slot (entries.Put address value) returned size same answer is =
     record {
       parameter = at slot;
       done = λ good. subst (λ (v : ℕ → List ℕ). Contains (v (address / 4096)) value) same (value_there old new address value returned.code is.put good);
     }
   where
-    at : (o : Option Driver)
-        → IfSome (is_taken rows.PutTce (option_map (λ (driver : Driver). n) o) (address ∷ value ∷ [])) (λ taken. (returned.code ≡ codes.Parameter) ↔ (taken ≡ false))
+    at : (o : Option X)
+        → IfSome (is_taken rows.PutTce (option_map (λ (x : X). n) o) (address ∷ value ∷ [])) (λ taken. (returned.code ≡ codes.Parameter) ↔ (taken ≡ false))
     at None = tt
-    at (Some driver) = subst (λ m. (returned.code ≡ codes.Parameter) ↔ (takes m address value ≡ false)) size is.parameter
-entry_seen old new n values put slot (entries.Stuff address value count) returned size same answer is = record { parameter = tt; done = λ good. tt }
-entry_seen old new n values put slot (entries.PutList address list count) returned size same answer is = record { parameter = tt; done = λ good. tt }
+    at (Some x) = subst (λ m. (returned.code ≡ codes.Parameter) ↔ (takes m address value ≡ false)) size is.parameter
+entry_seen {X} old new n values put slot (entries.Stuff address value count) returned size same answer is = record { parameter = tt; done = λ good. tt }
+entry_seen {X} old new n values put slot (entries.PutList address list count) returned size same answer is = record { parameter = tt; done = λ good. tt }
 
-pub entry_seen_ok : (old new : PortState) (n : ℕ) (values : ℕ → List ℕ) (put : Entry → Type 0) (slot : Option Driver) (call : EntryCall) (result : Result Returned NoMemory)
+pub entry_seen_ok : {X : Type 0} (old new : PortState) (n : ℕ) (values : ℕ → List ℕ) (put : Entry → Type 0) (slot : Option X) (call : EntryCall) (result : Result Returned NoMemory)
     → old.place.size ≡ n → new.values ≡ values → IfOk result (IsAnswer (entry_row call)) → IfOk result (AnswersEntry old new call)
-    → IfOk result (IsReturned (record { pages = option_map (λ (driver : Driver). n) slot; value_at = λ entry value. Contains (values entry) value; entry_put = put })
+    → IfOk result (IsReturned (record { pages = option_map (λ (x : X). n) slot; value_at = λ entry value. Contains (values entry) value; entry_put = put })
     (entry_row call) (entry_arguments call))
-entry_seen_ok old new n values put slot call (Ok returned) size same answer is = entry_seen old new n values put slot call returned size same answer is
-entry_seen_ok old new n values put slot call (Err memory) size same answer is = tt
+entry_seen_ok {X} old new n values put slot call (Ok returned) size same answer is = entry_seen old new n values put slot call returned size same answer is
+entry_seen_ok {X} old new n values put slot call (Err memory) size same answer is = tt
 
 -- a first byte below 0x80
 le_false : (n : ℕ) → nat_le 0x80 n ≡ false → n < 0x80

@@ -1,5 +1,5 @@
 -- Turns that leave clients as they were.
-use Rattle.std.proofs.Common.{◌≡◌, ◌≢◌, ◌∙◌, ◌⊎◌, inl, inr, ℕ, List, Option, Some, None, IsSomeAnd, IfSome, length, slice_get, slice_set, refl, sym, ap, subst}
+use Rattle.std.proofs.Common.{◌≡◌, ◌≢◌, ◌∙◌, ◌⊎◌, inl, inr, ℕ, List, Option, Some, None, IsSomeAnd, slice_get, slice_set, refl, sym, ap, subst}
 use Rattle.std.proofs.lemmas.Option.{slice_get_within}
 use Rattle.vcpu_run.specs.declared.pair.Pair.{Pair}
 use Rattle.vcpu_run.specs.LinesShow.{seen_at}
@@ -8,7 +8,7 @@ use Rattle.vcpu_run.proofs.LinesShown.{sees_on, sees_same}
 use Rattle.vcpu_run.proofs.Driving.{get_set_other, get_set_same, same_or, some_is}
 
 client_same : (pair : Pair) → SameClient pair pair
-client_same pair = record { driver = refl; pages = refl; queue = refl; taken = refl; unit = refl; sees = sees_same (seen_at pair); values = refl }
+client_same pair = record { driver = refl; pages = refl; queue = refl; taken = refl; unit = refl; sees = sees_same (seen_at pair); server = refl; values = refl }
 
 pub clients_same : (pairs : List Pair) → SameClients pairs pairs
 clients_same pairs k after there = subst (λ (o : Option Pair). IsSomeAnd o (λ before. SameClient before after)) (sym there) (client_same after)
@@ -25,6 +25,7 @@ clients_on a b c first next k after there = at (slice_get b k) refl (next k afte
       taken = y.taken ∙ x.taken;
       unit = y.unit ∙ x.unit;
       sees = sees_on (seen_at before) (seen_at mid) (seen_at after) x.sees y.sees;
+      server = y.server ∙ x.server;
       values = y.values ∙ x.values;
     }
 

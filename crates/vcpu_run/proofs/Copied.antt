@@ -42,7 +42,7 @@ use Rattle.vcpu_run.proofs.Blocks.{entry_named, first_versions, strokes_placed, 
 use Rattle.vcpu_run.proofs.Following.{each_from_all}
 use Rattle.vcpu_run.proofs.Makers.{versions_once}
 use Rattle.vcpu_run.proofs.Marked.{strokes_made}
-use Rattle.vcpu_run.proofs.Order.{Each, Ordered, each_append, each_flat, each_weaker}
+use Rattle.lan_script.proofs.Order.{Each, Ordered, each_append, each_flat, each_weaker}
 use Rattle.vcpu_run.proofs.Ordering.{each_of, marks_own, values_own}
 use Rattle.vcpu_run.proofs.Parts.{IsIn, Told, each_in, filter_both, found}
 use Rattle.vcpu_run.proofs.Placing.{SeatBefore, seats_ordered}

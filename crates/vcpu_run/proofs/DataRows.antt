@@ -1,9 +1,9 @@
 -- A gathered trace shows the copies of tables and data of each server unit, by their numbers.
-use Rattle.std.proofs.Common.{◌≡◌, ◌∙◌, ◌&&◌, ℕ, zero, suc, Bool, true, false, cond, not, List, [], ◌∷◌, Some, filter, map, slice_get, refl, sym, ap, ap₂}
+use Rattle.std.proofs.Common.{◌≡◌, ◌∙◌, ◌&&◌, ℕ, zero, suc, Bool, true, false, cond, not, List, [], ◌∷◌, Some, filter, map, slice_get, refl, ap, ap₂}
 use Rattle.std.specs.List.{flat_map}
 use Rattle.vio_num.specs.declared.names.UnitId.{UnitId}
 use Rattle.rdma_copy.specs.declared.copy.CopyRecord.{CopyRecord}
-use Rattle.block_server.specs.Moves.{begin_on, data_copies, is_data}
+use Rattle.block_server.specs.Moves.{begin_on, data_copies}
 use Rattle.boot_text.specs.declared.plan.Partition.{Partition}
 use Rattle.vio_trace.specs.declared.window_rows.CopyRow.{CopyRow}
 use Rattle.vcpu_run.specs.declared.pair.Pair.{Pair}

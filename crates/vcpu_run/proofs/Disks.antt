@@ -1,5 +1,5 @@
 -- What turns leave of the server's disk, one behind the other.
-use Rattle.std.proofs.Common.{◌≡◌, ◌∙◌, refl, sym, subst, ℕ, List, [], Option, Some, None, IfSome, IsSome, IsSomeAnd}
+use Rattle.std.proofs.Common.{◌≡◌, ◌∙◌, refl, sym, subst, ℕ, List, [], Option, Some, None, IfSome, IsSome}
 use Rattle.std.proofs.Math.Logic.{∥∥₁_map, ∥∥₁_map₂}
 use Rattle.vio_num.specs.declared.history.Served.{Served}
 use Rattle.block_server.specs.DiskLaw.{KeepsDisk}

@@ -1,5 +1,5 @@
 -- Each loss that a client tells has an event of its own, which was taken or was waiting.
-use Rattle.std.proofs.Common.{◌≡◌, ◌∙◌, ◌⊎◌, inl, inr, ℕ, ◌+◌, ◌≤◌, Bool, true, false, cond, List, [], ◌∷◌, ◌++◌, Option, Some, None, Result, Ok, Err, OnOk, map, refl, sym, ap, ap₂, subst, arith}
+use Rattle.std.proofs.Common.{◌≡◌, ◌∙◌, ◌⊎◌, inl, inr, ℕ, ◌+◌, ◌≤◌, Bool, true, false, cond, List, [], ◌∷◌, ◌++◌, Some, None, Result, Ok, Err, OnOk, map, refl, sym, ap, subst, arith}
 use Rattle.std.specs.Prelude.{⊤}
 use Rattle.std.proofs.lemmas.List.{map-append}
 use Rattle.vio_num.specs.declared.entry.Entry.{Entry}
@@ -15,8 +15,8 @@ use Rattle.vscsi_client.specs.Login.{Finds, found_by}
 use Rattle.vscsi_client.specs.Ports.{Ports}
 use Rattle.vscsi_client.specs.Slots.{is_event}
 use Rattle.vscsi_client.specs.State.{ClientState}
-use Rattle.vscsi_client.specs.Taking.{Fetches, IsNext, JudgesFirst, Judges, PollsNone as TakesNothing, TakesAs, TakesEntry, TakesLater, TakesNone, taken_by}
-use Rattle.vscsi_client.specs.Turned.{Began, EndsWith, LoginStep, Looked, NotWritten, PollsNone, Put, RanOut, Registered, Registers, RegistersAs, Runs, Site, Steps, TakesNext, Took, TookNone, Turned, Wrote, freed_by, is_dropped, login_due, registered_by, sent_by, sent_stage, written_at}
+use Rattle.vscsi_client.specs.Taking.{Fetches, IsNext, Judges, TakesAs, TakesEntry, TakesLater, TakesNone, taken_by}
+use Rattle.vscsi_client.specs.Turned.{Began, LoginStep, Looked, NotWritten, PollsNone, Put, RanOut, Registered, RegistersAs, Runs, Site, Steps, TakesNext, Took, TookNone, Turned, Wrote, freed_by, is_dropped, login_due, registered_by, sent_by, sent_stage, written_at}
 use Rattle.vscsi_client.specs.declared.answers.LoginTurn.{LoginTurn}
 use Rattle.vscsi_client.specs.declared.answers.LoginTurn.TheVariants as turns
 use Rattle.vscsi_client.specs.declared.answers.Taken.{Taken}

@@ -60,7 +60,7 @@ use Rattle.vcpu_run.proofs.InSessions.{all_flat, flat, none_before, rows_again}
 use Rattle.vcpu_run.proofs.Listed.{held}
 use Rattle.vcpu_run.proofs.Makers.{each_there, ordered_there}
 use Rattle.vcpu_run.proofs.Naming.{one_unit}
-use Rattle.vcpu_run.proofs.Order.{Each, Ordered, each_weaker}
+use Rattle.lan_script.proofs.Order.{Each, Ordered, each_weaker}
 use Rattle.vcpu_run.proofs.Parts.{AreBlocks, IsIn, Told, each_in, found, in_slice, only_block}
 use Rattle.vcpu_run.proofs.Placing.{seats_ordered}
 use Rattle.vcpu_run.proofs.QueueLaws.{entries_are, sessions_told}

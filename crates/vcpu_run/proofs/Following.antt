@@ -4,7 +4,7 @@ use Rattle.std.specs.List.{AllPairs}
 use Rattle.std.proofs.lemmas.Bool.Decides.{nat_tests}
 use Rattle.std.proofs.lemmas.List.{append-nil, take-append-drop}
 use Rattle.std.proofs.lemmas.List.Elements.{filter-append, All-head, All-tail}
-use Rattle.vcpu_run.proofs.Order.{Each, Ordered, each_weaker}
+use Rattle.lan_script.proofs.Order.{Each, Ordered, each_weaker}
 
 -- the rows behind session q, in their order: of each later session they have all
 pub record Follows {Row : Type 0} (key : Row → ℕ) (q : ℕ) (all rest : List Row) : Type 0 where

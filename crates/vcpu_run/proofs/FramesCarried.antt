@@ -1,5 +1,5 @@
 -- The frames and deliveries of a gathered trace carry what they say, in the windows that the trace shows.
-use Rattle.std.proofs.Common.{◌≡◌, ◌∙◌, ℕ, zero, suc, ◌+◌, ◌==◌, ◌&&◌, ◌<◌, nat_lt, arith, Bool, true, false, All, List, [], ◌∷◌, Option, Some, None, IsSome, IsSomeAnd, IfSome, filter, length, map, slice_get, if◌then◌else◌, refl, sym, ap, subst}
+use Rattle.std.proofs.Common.{◌≡◌, ◌∙◌, ℕ, suc, ◌+◌, ◌==◌, nat_lt, arith, Bool, true, false, All, List, [], ◌∷◌, Option, Some, None, IsSome, IsSomeAnd, IfSome, filter, length, map, slice_get, if◌then◌else◌, refl, sym, ap, subst}
 use Rattle.std.proofs.lemmas.Option.{slice_get_past}
 use Rattle.vio_num.specs.declared.history.Grant.{Grant}
 use Rattle.vio_num.specs.declared.history.Served.{Served}
@@ -7,7 +7,7 @@ use Rattle.vio_num.specs.declared.names.Mac.{Mac}
 use Rattle.vio_num.specs.declared.names.UnitId.{UnitId}
 use Rattle.page_slots.specs.Stroke.{StrokeValue}
 use Rattle.rdma_copy.specs.Copies.{side_of}
-use Rattle.rdma_copy.specs.Copy.{Side, SideGrows, side}
+use Rattle.rdma_copy.specs.Copy.{Side, SideGrows}
 use Rattle.rdma_copy.specs.declared.copy.CopyRecord.{CopyRecord}
 use Rattle.tce_window.specs.PlainPort.{known_of}
 use Rattle.tce_window.specs.Window.{AllThere, WindowValue, strokes_at, strokes_in}
@@ -41,7 +41,7 @@ use Rattle.vcpu_run.proofs.Copied.{marks_told, names_apart, windows_shown}
 use Rattle.vcpu_run.proofs.Following.{each_from_all}
 use Rattle.vcpu_run.proofs.Freed.{LawfulRows, ports_are}
 use Rattle.vcpu_run.proofs.Naming.{one_unit}
-use Rattle.vcpu_run.proofs.Order.{Each, each_append}
+use Rattle.lan_script.proofs.Order.{Each, each_append}
 use Rattle.vcpu_run.proofs.Parts.{IsIn, each_in, filter_both, found}
 use Rattle.vcpu_run.proofs.Placing.{seats_ordered}
 use Rattle.vcpu_run.proofs.Seated.{IsSeated, IsSeatedAt, all_seated, planned_in}
@@ -151,12 +151,12 @@ port_planned partitions unit there =
     same k = omega arith
 
 -- The window of a port's unit.
-record HasPortWindow (pairs : List Pair) (lan : LanValue) (unit : UnitId) : Type 0 where
+pub record HasPortWindow (pairs : List Pair) (lan : LanValue) (unit : UnitId) : Type 0 where
   pub window : WindowValue
   pub is : port_window_at lan unit ≡ Some window
   pub at : port_window (seat_at lan.seats unit) lan unit ≡ Some window
 
-port_window_there : (pairs : List Pair) (lan : LanValue) (unit : UnitId) → FitsPort lan unit sits.Port → IsSome (seat_at lan.seats unit)
+pub port_window_there : (pairs : List Pair) (lan : LanValue) (unit : UnitId) → FitsPort lan unit sits.Port → IsSome (seat_at lan.seats unit)
     → HasPortWindow pairs lan unit
 port_window_there pairs lan unit fits there = by (seat_at lan.seats unit) refl fits there
   where

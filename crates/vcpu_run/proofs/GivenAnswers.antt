@@ -1,5 +1,5 @@
 -- Each row of a gathered trace of idle units has its answer, or is cut off.
-use Rattle.std.proofs.Common.{◌≡◌, ◌∙◌, inl, inr, ℕ, ◌+◌, ◌≤◌, true, false, All, List, [], Option, Some, None, IfSome, length, slice_get, option_map, sym, ap, subst, arith}
+use Rattle.std.proofs.Common.{◌≡◌, ◌∙◌, inl, inr, ◌≤◌, true, false, All, List, [], Option, Some, None, IfSome, length, slice_get, option_map, ap, subst, arith}
 use Rattle.std.proofs.Math.Logic.{∥∥₁_map}
 use Rattle.vio_num.specs.declared.history.Grant.{Grant}
 use Rattle.vio_num.specs.declared.history.Served.{Served}
@@ -9,7 +9,6 @@ use Rattle.crq_session.specs.PlainState.{end_of, side_of}
 use Rattle.rdma_copy.specs.declared.copy.CopyRecord.{CopyRecord}
 use Rattle.block_server.specs.Owed.{IsGiven}
 use Rattle.block_server.specs.Ready.{HasNothing}
-use Rattle.block_server.specs.declared.unit.Unit.{Unit}
 use Rattle.block_server.proofs.OwedLaws.{answers_at_rest}
 use Rattle.boot_text.specs.declared.plan.Partition.{Partition}
 use Rattle.boot_text.specs.declared.plan.UnitPlan.TheVariants as units
@@ -21,7 +20,7 @@ use Rattle.vcpu_run.specs.declared.unit_seat.Seat.TheVariants as sits
 use Rattle.vcpu_run.specs.declared.unit_seat.UnitSeat.{UnitSeat}
 use Rattle.vcpu_run.specs.AnswersSent.{AnswersAreGiven}
 use Rattle.vcpu_run.specs.Gathered.{HasLawfulQueue, queue_at, trace_of}
-use Rattle.vcpu_run.specs.Links.{EventWaits, IsEmptied, IsFull, link_state}
+use Rattle.vcpu_run.specs.Links.{EventWaits, IsEmptied, link_state}
 use Rattle.vcpu_run.specs.Machines.{AreScripts, IsOfPlan}
 use Rattle.vcpu_run.specs.Pairs.{AreOfOneHome}
 use Rattle.vcpu_run.specs.Received.{AreAtRest}

@@ -1,5 +1,5 @@
 -- What is taken at pairs keeps the answers of their clients in order.
-use Rattle.std.proofs.Common.{◌≡◌, ◌≢◌, ◌∙◌, ◌⊎◌, inl, inr, ℕ, Bool, true, false, List, [], ◌∷◌, Option, Some, None, Result, Ok, Err, IsSomeAnd, OnOk, slice_get, slice_set, refl, sym, ap, subst, arith}
+use Rattle.std.proofs.Common.{◌≡◌, ◌≢◌, ◌∙◌, ◌⊎◌, inl, inr, ℕ, Bool, true, false, List, [], Option, Some, None, Result, Ok, Err, IsSomeAnd, OnOk, slice_get, slice_set, refl, sym, ap, subst}
 use Rattle.std.proofs.lemmas.Option.{slice_get_within}
 use Rattle.std.specs.Borrow.{GName}
 use Rattle.crq_session.specs.EndState.{EndPlace}
@@ -17,6 +17,7 @@ use Rattle.vcpu_run.specs.TakenScripts.{AllGive, PairGives, PairHears}
 use Rattle.vcpu_run.specs.Takings.{AreGiven, Gives, IsBegun, waiting}
 use Rattle.vcpu_run.proofs.Announcing.{both_bools}
 use Rattle.vcpu_run.proofs.Driving.{get_set_other, get_set_same, same_or, some_is}
+use Rattle.vcpu_run.proofs.DataStays.{data_same}
 use Rattle.vcpu_run.proofs.Giving.{gives_on, gives_same, still_gives}
 
 -- a registered queue is in a session
@@ -30,6 +31,8 @@ given_through driver x y link is = record { begun = is.begun; order = is.order; 
 gives_through : (x y : List GName) (a b : Driver) (old new : PlainLink) → Gives a b (end_of x old false) (end_of y new false) → Gives a b (end_of [] old false) (end_of [] new false)
 gives_through x y a b old new is = record {
   heard = is.heard;
+  server = is.server;
+  keeps = is.keeps;
   more = is.more;
   session = is.session;
   given = λ begun given. given_through b y [] new (is.given begun (given_through a [] x old given));
@@ -89,12 +92,13 @@ link_taken f g x y lent old link same first place taken = at f g first (ap (λ (
 pub gives_kept : (o : Option Driver) (old new : PlainLink) → (side_of new false).queue.taken ≡ (side_of old false).queue.taken
     → OnDrivers o o (λ a b. Gives a b (end_of [] old false) (end_of [] new false))
 gives_kept None old new taken = tt
-gives_kept (Some driver) old new taken = still_gives driver driver (end_of [] old false) (end_of [] new false) refl refl refl refl taken (λ begun. begun_at new)
+gives_kept (Some driver) old new taken = still_gives driver driver (end_of [] old false) (end_of [] new false) refl refl (data_same driver.client driver.client driver.answers.items driver.answers.items refl refl refl) refl refl refl taken (λ begun. begun_at new)
 
 -- the driver was told that its queue was freed
 pub gives_told : (a b : Driver) (link : PlainLink) → b.answers ≡ a.answers → b.client ≡ unlinked a.client → Gives a b (end_of [] link false) (end_of [] link false)
 gives_told a b link answers client =
-    still_gives a b (end_of [] link false) (end_of [] link false) (ap events_waiting client) (ap (λ xs. xs.items) answers) (ap (λ (s : ClientState). s.kept) client) (ap waiting client) refl (λ begun. begun)
+    still_gives a b (end_of [] link false) (end_of [] link false) (ap events_waiting client) (ap (λ (s : ClientState). s.server) client)
+    (data_same a.client b.client a.answers.items b.answers.items (ap (λ (s : ClientState). s.rows) client) (ap (λ (s : ClientState). s.outgoing) client) (ap (λ xs. xs.items) answers)) (ap (λ xs. xs.items) answers) (ap (λ (s : ClientState). s.kept) client) (ap waiting client) refl (λ begun. begun)
 
 -- nothing was taken at any pair
 pub all_give_same : (pairs : List Pair) → AllGive pairs pairs

@@ -15,7 +15,6 @@ use Rattle.rdma_copy.proofs.Laws.{side_same}
 use Rattle.rdma_copy.specs.Copies.{side_of as side_at}
 use Rattle.rdma_copy.specs.declared.copy.CopyRecord.{CopyRecord}
 use Rattle.block_server.proofs.RunRests.{runs_elsewhere, runs_unused}
-use Rattle.block_server.proofs.DealtLaws.{dealt_elsewhere, dealt_unused}
 use Rattle.block_server.proofs.RefusalLaws.{refusals_elsewhere}
 use Rattle.block_server.specs.Answering.{OnlyRowsOf}
 use Rattle.block_server.specs.Cargo.{AreIdle, HasRuns}
@@ -97,10 +96,10 @@ pub told_served : {granted : ℕ} (told : Told → Bool) (units units' : List Un
     → (HasRuns told units k (known_of old.own) copies records → HasRuns told units' k (known_of new.own) copies' records')
     → (HasExplained told units k old.own.unit queue [] records.grants.items → HasExplained told units' k old.own.unit queue' [] records'.grants.items)
     → (HasExplained told units k old.own.unit queue [] records.grants.items → (earlier : List AskedAt) → AskInOrder earlier units k queue
-    → LinesTellLogin units k old.own.unit queue records.grants.items → AnswersInOrder told earlier units' k old.own.unit queue queue' records records')
-    → (HasExplained told units k old.own.unit queue [] records.grants.items → HasDealt told units k old.own.unit queue → HasDealt told units' k old.own.unit queue')
+    → LinesTellLogin units k old.own.unit queue records.grants.items → HasDealt told earlier (λ q. true) units k old.own.unit queue
+    → AnswersInOrder told earlier (λ q. true) units' k old.own.unit queue queue' records records')
     → UnitGoesBy told units records copies k old → UnitGoesBy told units' records' copies' k new
-told_served told units units' records records' copies copies' k old new queue queue' session taken session' taken' name sent sent' more lines carried refuses answers deals is = record {
+told_served told units units' records records' copies copies' k old new queue queue' session taken session' taken' name sent sent' more lines carried refuses answers is = record {
   cargo = carried is.cargo;
   explained = subst (λ (unit : UnitId). HasExplained told units' k unit (end_of [] new.link true) [] records'.grants.items) (sym name)
       (refusals_seen told units' k old.own.unit queue' (end_of [] new.link true) [] records'.grants.items (sym session') (sym taken')
@@ -110,9 +109,6 @@ told_served told units units' records records' copies copies' k old new queue qu
       (order_served told old.own.unit units units' k queue queue' records records' more lines (answers explained)
       (subst (λ (z : ℕ × List PipeRow × List PipeRow). GoInOrder told units k old.own.unit z.0 z.1 (login_answers z.2) records.grants.items)
       (λ i. (sym session i, sym taken i, sym sent i)) is.logins));
-  deals = subst (λ (unit : UnitId). HasDealt told units' k unit (end_of [] new.link true)) (sym name)
-      (dealt_elsewhere told units' units' k old.own.unit queue' (end_of [] new.link true) refl (sym session') (sym taken')
-      (deals explained (dealt_elsewhere told units units k old.own.unit (end_of [] old.link true) queue refl session taken is.deals)));
 }
   where
     explained : HasExplained told units k old.own.unit queue [] records.grants.items
@@ -141,7 +137,6 @@ told_elsewhere told size partition units units' records records' copies copies' 
           same refl refl lines (apart_is unit other.own.unit apart) is.explained;
       logins = order_elsewhere told units units' k other.own.unit unit (side_of other.link true).queue.session (side_of other.link true).queue.taken
           (login_answers (side_of other.link false).queue.sent) records.grants.items records'.grants.items same lines (apart_is unit other.own.unit apart) is.logins;
-      deals = dealt_elsewhere told units units' k other.own.unit (end_of [] other.link true) (end_of [] other.link true) same refl refl is.deals;
     })
 
 -- ALL UNITS --------------------------------------------------------------------------------------
@@ -210,8 +205,6 @@ told_driven told units records copies k old new d is = record {
       (refusals_seen told units k old.own.unit (end_of [] old.link true) (end_of [] new.link true) [] records.grants.items d.server_session d.server_taken is.explained);
   logins = subst (λ (z : WindowValue × ℕ × List PipeRow × List PipeRow). GoInOrder told units k z.0.unit z.1 z.2 (login_answers z.3) records.grants.items)
       (λ i. (sym d.own i, sym d.server_session i, sym d.server_taken i, sym d.got i)) is.logins;
-  deals = subst (λ (own : WindowValue). HasDealt told units k own.unit (end_of [] new.link true)) (sym d.own)
-      (dealt_elsewhere told units units k old.own.unit (end_of [] old.link true) (end_of [] new.link true) refl d.server_session d.server_taken is.deals);
 }
 
 pub heard_driven : (size partition : ℕ) (units : List Unit) (records : Records) (copies : List CopyRecord) (old new : List Pair) → AreDriven old new → AreHeard size partition units records copies old
@@ -234,6 +227,5 @@ heard_fresh size partition units records copies pairs no_rows no_lines order idl
         (unrefused told k pair.own.unit (end_of [] pair.link true) records.grants.items);
     logins = order_fresh told units k pair.own.unit (end_of [] pair.link true) (login_answers (side_of pair.link false).queue.sent) records.grants.items
         (ap login_answers (fresh k pair found).sent) no_lines (fresh k pair found).taken unused;
-    deals = dealt_unused told units k pair.own.unit (end_of [] pair.link true) (fresh k pair found).taken;
   } ∣₁;
 }

@@ -5,7 +5,7 @@ use Rattle.std.proofs.lemmas.Bool.{eq-eqb, ne_eqb}
 use Rattle.vio_num.specs.declared.entry.Entry.{Entry}
 use Rattle.crq_ring.specs.declared.rows.PipeRow.{PipeRow}
 use Rattle.vcpu_run.specs.Sessions.{entries_of}
-use Rattle.vcpu_run.proofs.Order.{Each, Ordered, each_weaker}
+use Rattle.lan_script.proofs.Order.{Each, Ordered, each_weaker}
 
 -- the rows of session q
 abbrev pub in_session : (q : ℕ) → List PipeRow → List PipeRow

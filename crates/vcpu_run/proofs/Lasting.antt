@@ -1,5 +1,5 @@
 -- What lasts of a machine over its rounds.
-use Rattle.std.proofs.Common.{◌≡◌, ℕ, ◌+◌, ◌≤◌, ◌++◌, List, Option, Some, None, MatchOption, length, take, drop, sym, ◌∙◌, ap, subst, arith, append-nil}
+use Rattle.std.proofs.Common.{◌≡◌, ℕ, ◌≤◌, ◌++◌, List, Option, Some, None, MatchOption, length, take, drop, sym, ◌∙◌, ap, subst, arith, append-nil}
 use Rattle.std.specs.List.{slice_get}
 use Rattle.rdma_copy.specs.declared.copy.CopyRecord.{CopyRecord}
 use Rattle.std.proofs.lemmas.List.{drop_all, take_all}

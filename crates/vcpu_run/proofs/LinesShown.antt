@@ -23,7 +23,7 @@ use Rattle.tce_window.specs.PlainPort.{known_of}
 use Rattle.tce_window.specs.Port.{Grows}
 use Rattle.tce_window.specs.PortState.{PortPlace, PortState, Reads, Writes}
 use Rattle.tce_window.specs.Strokes.{with_strokes}
-use Rattle.tce_window.specs.Region.{end_page, first_page, stroke_on, touches, written}
+use Rattle.tce_window.specs.Region.{end_page, first_page, stroke_on, touches}
 use Rattle.tce_window.specs.Window.{strokes_at}
 use Rattle.srp_iu.specs.declared.unit.Iu.{Iu}
 use Rattle.srp_iu.specs.declared.unit.Iu.TheVariants as units
@@ -274,7 +274,7 @@ pub contains_first : {X : Type 0} (x : X) (rest : List X) → Contains (x ∷ re
 contains_first x rest = (zero, omega arith, refl)
 
 -- a write of bytes lays a stroke on each page that they touch
-touched : (at len page : ℕ) → touches at len page ≡ true → (first_page at ≤ page) × (page < end_page at len)
+pub touched : (at len page : ℕ) → touches at len page ≡ true → (first_page at ≤ page) × (page < end_page at len)
 touched at len page h = both (nat_le (first_page at) page) (nat_lt page (end_page at len)) refl refl h
   where
     both : (a b : Bool) → nat_le (first_page at) page ≡ a → nat_lt page (end_page at len) ≡ b → (a && b) ≡ true → (first_page at ≤ page) × (page < end_page at len)
@@ -456,7 +456,7 @@ write_shows shared old new at mark bytes entries verb (Ok (steps.Waits did)) no_
 write_shows shared old new at mark bytes entries verb (Err memory) no_request is no_read none answer = tt
 
 -- a line that reads bytes of the region
-front_of : (strokes : Option (List StrokeValue)) → IsSome strokes → IsFront strokes strokes
+pub front_of : (strokes : Option (List StrokeValue)) → IsSome strokes → IsFront strokes strokes
 front_of None some = absurd (cc (some))
 front_of (Some strokes) some = ([], sym (append-nil strokes))
 

@@ -1,8 +1,8 @@
 -- The steps of a line that logs in or resets, and the records of both.
-use Rattle.std.proofs.Common.{◌≡◌, ◌∙◌, ◌⊎◌, inl, inr, ℕ, ◌≤◌, ◌<◌, not, Bool, true, false, All, List, [], Option, Some, None, Result, Ok, Err, refl, sym, ap, subst, arith}
+use Rattle.std.proofs.Common.{◌≡◌, ◌∙◌, ◌⊎◌, inl, inr, ℕ, ◌≤◌, ◌<◌, not, Bool, true, false, All, List, [], Option, None, Result, Ok, Err, refl, sym, ap, subst, arith}
 use Rattle.vio_num.specs.declared.hypervisor.Moved.TheVariants.{Moved as Moves, Quiet}
 use Rattle.vio_num.specs.declared.memory.NoMemory.{NoMemory}
-use Rattle.crq_session.specs.EndState.{EndState, OnlyReserves}
+use Rattle.crq_session.specs.EndState.{EndState}
 use Rattle.boot_text.specs.declared.verb.Verb.{Verb}
 use Rattle.boot_text.specs.declared.verb.Verb.TheVariants as verbs
 use Rattle.vio_trace.specs.declared.outcome.Outcome.TheVariants as outcomes
@@ -12,17 +12,17 @@ use Rattle.vscsi_client.specs.declared.answers.LoginTurn.{LoginTurn}
 use Rattle.vscsi_client.specs.declared.answers.LoginTurn.TheVariants as turns
 use Rattle.vscsi_client.specs.Frames.{IsOpened, OnlyTurns, Renews}
 use Rattle.vscsi_client.specs.State.{ClientState, next_tag}
-use Rattle.vscsi_client.specs.Turned.{Site, Turned, is_busy, unlinked}
+use Rattle.vscsi_client.specs.Turned.{Site, Turned, is_busy}
 use Rattle.vcpu_run.specs.declared.script.Progress.{Progress}
 use Rattle.vcpu_run.specs.declared.script.Progress.TheVariants as progress
 use Rattle.vcpu_run.specs.Credited.{Ended, taken_in}
 use Rattle.vcpu_run.specs.Freeing.{is_reset}
-use Rattle.vcpu_run.specs.Refusals.{LoginNow, login_by, tags_told}
+use Rattle.vcpu_run.specs.Refusals.{tags_told}
 use Rattle.vcpu_run.specs.Sendings.{SaysTurned}
-use Rattle.vcpu_run.specs.Telling.{AgreesTold, HasQueue, IsOf, IsToldAt, KeepsTold, LeavesOut, Seated, StepsOut, StepsTold, is_freed, login_after, seated}
+use Rattle.vcpu_run.specs.Telling.{AgreesTold, HasQueue, IsOf, IsToldAt, LeavesOut, Seated, StepsOut, StepsTold, is_freed, login_after, seated}
 use Rattle.vcpu_run.proofs.Following.{each_from_all}
-use Rattle.vcpu_run.proofs.LoginsTold.{GoesOn, LeavesLogin, TurnTold, granted_told, leaves_login, true_false, turn_tags, turn_tells}
-use Rattle.vcpu_run.proofs.Order.{each_weaker}
+use Rattle.vcpu_run.proofs.LoginsTold.{GoesOn, LeavesLogin, granted_told, leaves_login, true_false, turn_tags, turn_tells}
+use Rattle.lan_script.proofs.Order.{each_weaker}
 use Rattle.vcpu_run.proofs.Sole.{all_from_each}
 use Rattle.vcpu_run.proofs.Tellings.{TagsWithin, ends_told}
 

@@ -13,7 +13,7 @@ use Rattle.vio_num.specs.declared.names.UnitId.{UnitId}
 use Rattle.crq_session.specs.EndState.{EndState}
 use Rattle.block_server.specs.Asked.{AreAskedInOrder, AskInOrder, AskedAt, IsAskedFirst, still_to_answer}
 use Rattle.block_server.specs.Causes.{Hearing, Includes, Told, told_to}
-use Rattle.block_server.specs.Dealt.{AreDealt, AsksNoLogin, IsLoginAnswered}
+use Rattle.block_server.specs.Dealt.{AreDealt, AsksNoLogin, HasDealt, IsLoginAnswered, IsLoginSettled, SendsSoFar}
 use Rattle.block_server.specs.Granting.{IsRejectedOver}
 use Rattle.block_server.specs.LoginAnswers.{IsLoginAnswer, IsLoginPut, LoginAnswer, asked_at, grants_in, is_grant, line_of, login_answers}
 use Rattle.block_server.specs.Judges.{AreUnused}
@@ -28,7 +28,7 @@ use Rattle.block_server.specs.Numbers.{login_left}
 use Rattle.block_server.specs.Rejecting.{IsOnByLines, LinesTellLogin, RejectInTime, RejectsThen}
 use Rattle.block_server.proofs.AskedLaws.{asked_kept, on_kept}
 use Rattle.std.proofs.lemmas.Option.{IfSome_then}
-use Rattle.block_server.proofs.DealtLaws.{dealt_at_rest}
+use Rattle.block_server.proofs.DealtLaws.{dealt_at_rest, dealt_unused}
 use Rattle.block_server.proofs.Laws.{logins_on}
 use Rattle.block_server.proofs.OnThen.{in_time_on}
 use Rattle.vcpu_run.specs.LoginsSent.{AreLoginsAnswered, AreLoginsInOrder, GoInOrder, lines_by}
@@ -198,7 +198,8 @@ in_time_by unit granted lines (answer ∷ more) all is = step answer.line (λ li
 -- Over a turn of the unit.
 pub order_served : {granted : ℕ} (told : Told → Bool) (unit : UnitId) (units units' : List Unit) (k : ℕ) (queue queue' : EndState) (records records' : Records) → Begins queue.taken queue'.taken
     → ∥ LinesMore unit granted records.grants.items records'.grants.items ∥₁
-    → ((earlier : List AskedAt) → AskInOrder earlier units k queue → LinesTellLogin units k unit queue records.grants.items → AnswersInOrder told earlier units' k unit queue queue' records records')
+    → ((earlier : List AskedAt) → AskInOrder earlier units k queue → LinesTellLogin units k unit queue records.grants.items → HasDealt told earlier (λ q. true) units k unit queue
+    → AnswersInOrder told earlier (λ q. true) units' k unit queue queue' records records')
     → GoInOrder told units k unit queue.last_session queue.taken (login_answers queue.sent) records.grants.items
     → GoInOrder told units' k unit queue'.last_session queue'.taken (login_answers queue'.sent) records'.grants.items
 unfolding logins_on
@@ -206,7 +207,7 @@ order_served told unit units units' k queue queue' records records' more came st
     let Hears = told_to told unit in
     let lines = records.grants.items in
     let lines' = records'.grants.items in
-    let now = step (map asked_at is.put.more) is.asked is.on in
+    let now = step (map asked_at is.put.more) is.asked is.on is.dealt in
     let puts = now.logins in
     record {
       put = logins_on Hears queue.taken queue'.taken [] (login_answers queue.sent) (login_answers queue'.sent) [] (lines_by unit lines) (lines_by unit lines') more is.put
@@ -217,6 +218,7 @@ order_served told unit units units' k queue queue' records records' more came st
           (subst (λ (list : List Grant). RejectInTime unit list (lines_by unit lines') puts.more) (either_order (is_by unit) is_grant lines ∙ is.put.granted)
           (in_time_by unit (grants_in lines) lines' puts.more (grants_all unit lines lines' puts.more came puts.granted) now.rejects));
       on = now.on;
+      dealt = subst (λ (list : List AskedAt). HasDealt told list (λ q. true) units' k unit queue') (sym (map-append asked_at is.put.more puts.more)) now.deals;
     }
 
 -- Over a turn of another unit.
@@ -241,6 +243,8 @@ order_elsewhere told units units' k unit other session taken answers lines lines
         off = was.off;
         later = λ q above. others q ∙ was.later q above;
       }));
+  dealt = subst (λ (o : Option Unit). IfSome o (λ u. AreDealt (told_to told unit) session taken u.waiting u.pending.items (is_ended u.line)
+      (record { put = map asked_at is.put.more; closed = λ q. true }))) (sym same) is.dealt;
 }
   where
     others : (q : ℕ) → filter (is_line unit q) lines' ≡ filter (is_line unit q) lines
@@ -263,6 +267,7 @@ order_fresh told units k unit queue answers lines none no_lines empty unused = r
   asked = asked_kept units k unit queue [] [] [] (unused k unit queue empty);
   rejects = tt;
   on = subst (λ (list : List Grant). LinesTellLogin units k unit queue list) (sym no_lines) (on_kept units k unit queue [] [] [] (unused k unit queue empty));
+  dealt = dealt_unused told [] (λ q. true) units k unit queue empty;
 }
 
 -- MORE IS HEARD ----------------------------------------------------------------------------------
@@ -331,17 +336,20 @@ order_shown told More units k u unit session taken answers lines more there is =
 }
 
 -- of an entry that asked for no login, or whose login was answered
-answered_more : (Hears More : Hearing) → Includes Hears More → (session : ℕ) (taken : List PipeRow) (number : ℕ) (entry : Entry) → AsksNoLogin Hears entry ⊎ IsLoginAnswered Hears taken session number
-    → AsksNoLogin More entry ⊎ IsLoginAnswered More taken session number
-answered_more Hears More more session taken number entry (inl is) = inl (record { bytes = is.bytes; long = is.long; brought = more _ is.brought; none = is.none })
-answered_more Hears More more session taken number entry (inr (inl is)) = inr (inl (is.0, granted_more Hears More more taken session number is.0 is.1))
-answered_more Hears More more session taken number entry (inr (inr is)) = inr (inr (rejected_more Hears More more taken session number is))
+answered_more : (Hears More : Hearing) → Includes Hears More → (session : ℕ) (taken : List PipeRow) (sends : SendsSoFar) (number : ℕ) (entry : Entry)
+    → AsksNoLogin Hears entry ⊎ IsLoginSettled Hears taken sends session number → AsksNoLogin More entry ⊎ IsLoginAnswered More taken session number
+answered_more Hears More more session taken sends number entry (inl is) = inl (record { bytes = is.bytes; long = is.long; brought = more _ is.brought; none = is.none })
+answered_more Hears More more session taken sends number entry (inr is) = inr (by is.answered)
+  where
+    by : IsLoginAnswered Hears taken session number → IsLoginAnswered More taken session number
+    by (inl was) = inl (was.0, granted_more Hears More more taken session number was.0 was.1)
+    by (inr was) = inr (rejected_more Hears More more taken session number was)
 
 -- AT REST ----------------------------------------------------------------------------------------
 
 -- Where nothing waits and nothing is pending in a session that goes on, each request to log in was answered.
-pub logins_at_rest : (Hears More : Hearing) → Includes Hears More → (u : Unit) (queue : EndState) → HasNothing u
-    → AreDealt Hears queue.last_session queue.taken u.waiting u.pending.items (is_ended u.line) → AreLoginsAnswered More queue.last_session queue.taken
-logins_at_rest Hears More more u queue none dealt quiet number entry at =
-    answered_more Hears More more queue.last_session queue.taken number entry
-    (dealt_at_rest Hears queue.last_session queue.taken u.waiting u.pending.items (is_ended u.line) dealt none.waiting none.pending none.going quiet number entry at)
+pub logins_at_rest : (Hears More : Hearing) → Includes Hears More → (u : Unit) (session : ℕ) (taken : List PipeRow) (sends : SendsSoFar) → HasNothing u
+    → AreDealt Hears session taken u.waiting u.pending.items (is_ended u.line) sends → AreLoginsAnswered More session taken
+logins_at_rest Hears More more u session taken sends none dealt number entry at quiet =
+    answered_more Hears More more session taken sends number entry
+    (dealt_at_rest Hears session taken u.waiting u.pending.items (is_ended u.line) sends dealt none.waiting none.pending none.going number entry at quiet)

@@ -1,5 +1,5 @@
 -- A gathered trace shows the answers to requests to log in that each client's queue got, and that none of these was dropped.
-use Rattle.std.proofs.Common.{◌≡◌, ◌∙◌, ℕ, ◌+◌, Bool, true, false, All, List, [], Option, Some, IfSome, filter, length, map, option_map, slice_get, zero, suc, refl, sym, ap, subst}
+use Rattle.std.proofs.Common.{◌≡◌, ◌∙◌, ℕ, ◌+◌, Bool, true, false, All, List, Option, Some, IfSome, filter, length, map, option_map, slice_get, zero, suc, refl, sym, ap, subst}
 use Rattle.std.specs.List.{flat_map}
 use Rattle.std.proofs.Math.Logic.{∥∥₁_map}
 use Rattle.vio_num.specs.declared.entry.Entry.{Entry}
@@ -8,11 +8,11 @@ use Rattle.vio_num.specs.declared.history.Served.{Served}
 use Rattle.vio_num.specs.declared.names.UnitId.{UnitId}
 use Rattle.crq_ring.specs.Pipe.{PipeValue, IsLawfulPipe}
 use Rattle.crq_ring.specs.declared.rows.PipeRow.{PipeRow}
-use Rattle.crq_session.specs.PlainState.{end_of, side_of}
+use Rattle.crq_session.specs.PlainState.{side_of}
 use Rattle.rdma_copy.specs.declared.copy.CopyRecord.{CopyRecord}
 use Rattle.block_server.specs.Causes.{Hearing, Includes, Told, told_to}
-use Rattle.block_server.specs.Dealt.{AreDealt}
-use Rattle.block_server.specs.LoginAnswers.{is_login_answer, login_answers}
+use Rattle.block_server.specs.Dealt.{AreDealt, SendsSoFar}
+use Rattle.block_server.specs.LoginAnswers.{asked_at, is_login_answer, login_answers}
 use Rattle.block_server.specs.Ready.{HasNothing}
 use Rattle.block_server.specs.Receipts.{is_ended}
 use Rattle.block_server.specs.declared.records.Records.{Records}
@@ -77,15 +77,19 @@ logins_by told partitions trace server client servers records copies u pair ther
       (subst (λ (z : UnitId × List PipeRow × List Entry × List Grant). GoInOrder told servers server.unit z.0 (side_of pair.link true).queue.session z.1 z.2 z.3)
       (λ i. (own i, taken i, sent i, lines i)) is.logins);
   dealt = subst (λ (z : ℕ × List PipeRow). AreLoginsAnswered Shown z.0 z.1) (λ i. (sessions i, taken i))
-      (logins_at_rest (told_to told pair.own.unit) Shown (subst (λ (unit : UnitId). Includes (told_to told unit) Shown) (sym own) shows) u (end_of [] pair.link true) none dealt);
+      (logins_at_rest (told_to told pair.own.unit) Shown (subst (λ (unit : UnitId). Includes (told_to told unit) Shown) (sym own) shows) u (side_of pair.link true).queue.session
+      (side_of pair.link true).queue.taken sends none dealt);
 }
   where
     Shown : Hearing
     Shown = shown_to partitions trace server client
 
-    dealt : AreDealt (told_to told pair.own.unit) (side_of pair.link true).queue.session (side_of pair.link true).queue.taken u.waiting u.pending.items (is_ended u.line)
+    sends : SendsSoFar
+    sends = record { put = map asked_at is.logins.put.more; closed = λ q. true }
+
+    dealt : AreDealt (told_to told pair.own.unit) (side_of pair.link true).queue.session (side_of pair.link true).queue.taken u.waiting u.pending.items (is_ended u.line) sends
     dealt = subst (λ (o : Option Unit). IfSome o
-        (λ u. AreDealt (told_to told pair.own.unit) (side_of pair.link true).queue.session (side_of pair.link true).queue.taken u.waiting u.pending.items (is_ended u.line))) there is.deals
+        (λ u. AreDealt (told_to told pair.own.unit) (side_of pair.link true).queue.session (side_of pair.link true).queue.taken u.waiting u.pending.items (is_ended u.line) sends)) there is.logins.dealt
 
 pub logins_are_shown : (pairs : List Pair) (scripts : List Script) (lan : LanValue) (rows : LanRows) (history : List Served) (grants : List Grant) (copies : List CopyRecord) (partitions : List Partition)
     → AreOfOneHome copies pairs → AreScripts pairs lan.seats scripts → All (HasLawfulQueue pairs) (seats_of scripts) → All (HasLawfulWindow pairs lan) (seats_of scripts)

@@ -1,18 +1,11 @@
 -- What a turn of a login leaves of a client, and of what its records say.
-use Rattle.std.proofs.Common.{◌≡◌, ◌∙◌, ◌⊎◌, inl, inr, ℕ, ◌||◌, ◌+◌, ◌≤◌, cond, not, Bool, true, false, All, List, [], ◌∷◌, ◌++◌, Option, Some, None, Result, Ok, Err, IfOk, length, min, refl, sym, ap, subst, arith, length-append}
+use Rattle.std.proofs.Common.{◌≡◌, ◌∙◌, ◌⊎◌, inl, inr, ℕ, ◌||◌, ◌≤◌, cond, Bool, true, false, All, List, [], ◌∷◌, ◌++◌, Option, Some, None, Ok, length, min, refl, sym, ap, subst, arith, length-append}
 use Rattle.std.specs.List.{Contains, list_any}
 use Rattle.std.proofs.lemmas.List.Elements.{All-nil}
 use Rattle.vio_num.specs.declared.entry.Entry.{Entry}
-use Rattle.vio_num.specs.declared.memory.NoMemory.{NoMemory}
 use Rattle.crq_session.specs.declared.answers.RegAnswer.{RegAnswer}
 use Rattle.crq_session.specs.declared.answers.RegAnswer.TheVariants as reg
 use Rattle.crq_session.specs.declared.answers.SendAnswer.{SendAnswer}
-use Rattle.crq_session.specs.EndState.{EndState}
-use Rattle.boot_text.specs.declared.verb.Verb.{Verb}
-use Rattle.boot_text.specs.declared.verb.Verb.TheVariants as verbs
-use Rattle.vio_trace.specs.declared.outcome.Outcome.TheVariants as outcomes
-use Rattle.unit_region.specs.declared.step.Step.{Step}
-use Rattle.unit_region.specs.declared.step.Step.TheVariants as steps
 use Rattle.vscsi_client.specs.declared.answers.LoginTurn.{LoginTurn}
 use Rattle.vscsi_client.specs.declared.answers.LoginTurn.TheVariants as turns
 use Rattle.vscsi_client.specs.declared.found.Found.{Found}
@@ -22,13 +15,11 @@ use Rattle.vscsi_client.specs.declared.row.Row.TheVariants as rows
 use Rattle.vscsi_client.specs.declared.stage.Due.{Due}
 use Rattle.vscsi_client.specs.Login.{found_by}
 use Rattle.vscsi_client.specs.State.{ClientState, next_tag}
-use Rattle.vscsi_client.specs.Turned.{Ends, FollowOn, LoginStep, Looked, Began, NoneEnds, NotWritten, Put, RanOut, Registered, RegistersAs, Runs, Site, Steps, Took, TookNone, Turned, Wrote, ends_turn, is_busy, is_dropped, part_after, part_behind, part_of, is_found_used, sent_by, sent_stage}
-use Rattle.vcpu_run.specs.Credited.{Ended, taken_in}
-use Rattle.vcpu_run.specs.Refusals.{LoginNow, begun_login, login_by}
-use Rattle.vcpu_run.specs.Sendings.{SaysTurned}
-use Rattle.vcpu_run.specs.Telling.{AgreesOn, AgreesTold, HasQueue, IsOf, IsToldAt, KeepsTold, SameTold, Seated, StepsTold, at_rest, is_freed, login_after}
-use Rattle.vcpu_run.proofs.Order.{Each}
-use Rattle.vcpu_run.proofs.Tellings.{agrees_same, ended, ends_told, same_of, same_told, told_on}
+use Rattle.vscsi_client.specs.Turned.{FollowOn, LoginStep, Looked, Began, NoneEnds, NotWritten, Put, RanOut, Registered, RegistersAs, Runs, Site, Steps, Took, TookNone, Turned, Wrote, ends_turn, is_dropped, part_after, part_of, is_found_used, sent_by, sent_stage}
+use Rattle.vcpu_run.specs.Refusals.{LoginNow, begun_login}
+use Rattle.vcpu_run.specs.Telling.{AgreesTold, SameTold}
+use Rattle.lan_script.proofs.Order.{Each}
+use Rattle.vcpu_run.proofs.Tellings.{agrees_same, same_of, same_told, told_on}
 
 -- whether a step grants a login or loses it
 abbrev pub is_change : Found → Bool

@@ -1,5 +1,5 @@
 -- That an event of a client's freeing is on its way to its server unit: over what the client's side does, and at rest.
-use Rattle.std.proofs.Common.{◌≡◌, ◌∙◌, ◌⊎◌, inl, inr, ℕ, ◌+◌, ◌==◌, ◌<◌, ◌≤◌, zero, suc, Bool, true, false, cond, List, [], ◌∷◌, ◌++◌, Option, Some, None, IsNone, filter, length, map, slice_get, refl, sym, ap, ap₂, subst, arith, length-append}
+use Rattle.std.proofs.Common.{◌≡◌, ◌∙◌, ◌⊎◌, inl, inr, ℕ, ◌+◌, ◌==◌, ◌≤◌, zero, suc, Bool, true, false, cond, List, [], ◌∷◌, ◌++◌, Option, Some, None, IsNone, filter, length, map, slice_get, refl, sym, ap, ap₂, subst, arith, length-append}
 use Rattle.std.specs.Borrow.{GName}
 use Rattle.std.proofs.lemmas.Bool.{eq-eqb}
 use Rattle.std.proofs.lemmas.Option.{slice_get_within}
@@ -16,11 +16,10 @@ use Rattle.crq_session.specs.PlainState.{end_of, side_of}
 use Rattle.crq_session.specs.declared.link.PlainLink.{PlainLink}
 use Rattle.block_server.specs.Owed.{IsEventAhead, IsEventKept, IsLossAhead, SeesAnswers}
 use Rattle.vcpu_run.specs.declared.pair.Pair.{Pair}
-use Rattle.vcpu_run.specs.Announces.{Announces, IsAmong, IsKept, IsOnItsWay, IsTold}
+use Rattle.vcpu_run.specs.Announces.{IsAmong, IsOnItsWay, IsTold}
 use Rattle.vcpu_run.specs.Answered.{IsBehind}
 use Rattle.vcpu_run.specs.Pairs.{Drives}
 use Rattle.vcpu_run.specs.Sessions.{entries_of}
-use Rattle.vcpu_run.proofs.Announcing.{both_bools}
 use Rattle.vcpu_run.proofs.QueueLaws.{entries_are}
 
 -- the entries of a session among rows

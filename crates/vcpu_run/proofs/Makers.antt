@@ -18,7 +18,7 @@ use Rattle.vcpu_run.specs.StrokeMakers.{places_shown, versions_shown}
 use Rattle.vcpu_run.proofs.Following.{each_from_all}
 use Rattle.vcpu_run.proofs.Naming.{copy_none, one_unit}
 use Rattle.vcpu_run.proofs.PairNames.{IsBy}
-use Rattle.vcpu_run.proofs.Order.{Each, Ordered, each_weaker}
+use Rattle.lan_script.proofs.Order.{Each, Ordered, each_weaker}
 use Rattle.vcpu_run.proofs.Parts.{IsIn, each_in}
 use Rattle.vcpu_run.proofs.Sole.{same_refl}
 

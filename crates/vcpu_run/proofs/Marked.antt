@@ -31,7 +31,7 @@ use Rattle.vcpu_run.specs.Units.{seats_of, unit_seat}
 use Rattle.vcpu_run.specs.Windows.{rows_from, rows_on, stroke_row, strokes_in_rows}
 use Rattle.vcpu_run.proofs.Listed.{held}
 use Rattle.vcpu_run.proofs.Makers.{named_once, named_there}
-use Rattle.vcpu_run.proofs.Order.{Each, each_append, each_flat}
+use Rattle.lan_script.proofs.Order.{Each, each_append, each_flat}
 use Rattle.vcpu_run.proofs.Parts.{in_slice}
 use Rattle.vcpu_run.proofs.Seated.{planned_unit, port_plan, server_pair}
 use Rattle.vcpu_run.proofs.Sole.{all_from_each, each_seat}

@@ -1,5 +1,5 @@
 -- That resets have their queues registered, as a round in which nothing moved goes on.
-use Rattle.std.proofs.Common.{◌≡◌, ◌≢◌, ◌∙◌, ◌⊎◌, inl, inr, ℕ, ◌+◌, ◌≤◌, ◌<◌, Bool, true, false, List, Option, Some, None, IfSome, IsSomeAnd, length, slice_get, slice_set, refl, sym, ap, subst, arith}
+use Rattle.std.proofs.Common.{◌≡◌, ◌≢◌, ◌∙◌, ◌⊎◌, inl, inr, ℕ, ◌+◌, ◌≤◌, ◌<◌, true, false, List, Option, Some, None, IfSome, IsSomeAnd, length, slice_get, slice_set, refl, sym, ap, subst, arith}
 use Rattle.std.specs.Option.{option_map}
 use Rattle.std.proofs.lemmas.Option.{slice_get-map, slice_get_within}
 use Rattle.block_server.specs.declared.unit.Unit.{Unit}
@@ -9,7 +9,7 @@ use Rattle.vcpu_run.specs.declared.script.Script.{Script}
 use Rattle.vcpu_run.specs.declared.unit_seat.Seat.{Seat}
 use Rattle.vcpu_run.specs.Agreed.{SameElse}
 use Rattle.vcpu_run.specs.Holding.{AreNotHeldOff, AreOpenIf, AreOpenTo, HasServersBefore, IsHeldOff, IsOpenUpTo, IsRegistered, LeavesResetOpen, IsResetOpen, IsBehindServers}
-use Rattle.vcpu_run.specs.Links.{IsEmptied, IsFull, LinkState, ServerWaits, ServersWait, link_state, links_of}
+use Rattle.vcpu_run.specs.Links.{LinkState, ServerWaits, ServersWait, link_state, links_of}
 use Rattle.vcpu_run.specs.Machines.{AllRun, AreScripts}
 use Rattle.vcpu_run.specs.Scripts.{OnlyRuns, are_servers}
 use Rattle.vcpu_run.specs.ScriptTold.{SameClient, SameClients}

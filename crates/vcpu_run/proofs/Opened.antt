@@ -91,7 +91,7 @@ names_new pair server pages client own window = record {
 
 -- a client that has sent nothing and has taken no answer
 pub untaken_new : (unit server : UnitId) (slots_a slots_b : ℕ) (link : PlainLink) (driver : Driver) → driver.answers.items ≡ [] → driver.client ≡ new_client unit server
-    → IsNewLink link slots_a slots_b → IsUntaken (side_of link false).queue.taken driver
+    → IsNewLink link slots_a slots_b → IsUntaken server (side_of link false).queue.taken driver
 untaken_new unit server slots_a slots_b link driver answers client new = record {
   answers = answers;
   rows = ap (λ (s : ClientState). s.rows) client;
@@ -99,6 +99,7 @@ untaken_new unit server slots_a slots_b link driver answers client new = record 
   kept = ap (λ (s : ClientState). s.kept) client;
   rest = ap waiting client;
   events = ap events_waiting client;
+  server = ap (λ (s : ClientState). s.server) client;
   none = new.second.queue.taken;
 }
 

@@ -1,9 +1,9 @@
 -- That a reset leaves its client's queue registered, over a step of its line, and what holds it off.
-use Rattle.std.proofs.Common.{◌≡◌, ◌∙◌, ◌⊎◌, inl, inr, ℕ, ◌+◌, ◌<◌, ◌≤◌, ◌-◌, Bool, true, false, List, [], ◌∷◌, ◌++◌, Option, Some, Result, Ok, Err, IfSome, IsSomeAnd, length, map, slice_get, slice_set, refl, sym, ap, subst, arith}
+use Rattle.std.proofs.Common.{◌≡◌, ◌∙◌, ◌⊎◌, inl, inr, ℕ, ◌+◌, ◌≤◌, ◌-◌, Bool, true, false, List, [], ◌∷◌, ◌++◌, Option, Some, Result, Ok, Err, IfSome, IsSomeAnd, length, map, slice_get, slice_set, refl, sym, ap, subst, arith}
 use Rattle.std.proofs.lemmas.List.{length-map}
 use Rattle.std.proofs.lemmas.Option.{slice_get_within}
 use Rattle.vio_num.specs.declared.entry.Entry.{Entry}
-use Rattle.vio_num.specs.declared.hypervisor.Moved.TheVariants.{Moved as Moves, Quiet}
+use Rattle.vio_num.specs.declared.hypervisor.Moved.TheVariants.{Moved as Moves}
 use Rattle.vio_num.specs.declared.memory.NoMemory.{NoMemory}
 use Rattle.vio_num.specs.Queue.{LawfulDrop}
 use Rattle.boot_text.specs.declared.verb.Verb.{Verb}
@@ -16,7 +16,7 @@ use Rattle.crq_session.specs.EndState.{EndCounts, EndPlace, EndState, OnlyReserv
 use Rattle.unit_region.specs.declared.step.Step.{Step}
 use Rattle.unit_region.specs.declared.step.Step.TheVariants as steps
 use Rattle.vscsi_client.specs.Frames.{OnlyTurns}
-use Rattle.vscsi_client.specs.Turned.{FollowOn, LoginStep, Registered, RegistersAs, Runs, Site, Steps, Turned, is_busy, part_of}
+use Rattle.vscsi_client.specs.Turned.{FollowOn, LoginStep, Registered, Runs, Site, Steps, Turned, is_busy, part_of}
 use Rattle.vscsi_client.specs.declared.answers.LoginTurn.{LoginTurn}
 use Rattle.vscsi_client.specs.declared.answers.LoginTurn.TheVariants as turns
 use Rattle.vcpu_run.specs.declared.pair.Pair.{Pair}

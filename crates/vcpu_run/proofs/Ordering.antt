@@ -33,7 +33,7 @@ use Rattle.vcpu_run.specs.Scripts.{IsScript}
 use Rattle.vcpu_run.specs.Units.{seats_of}
 use Rattle.vcpu_run.proofs.Blocks.{alone, pages_named, pages_ordered, sessions_named, sessions_ordered, values_named, values_ordered, IsOfWindow, IsOnPage}
 use Rattle.vcpu_run.proofs.Following.{each_from_all, ordered_from}
-use Rattle.vcpu_run.proofs.Order.{Each, Ordered, ascends, each_weaker, ordered_flat}
+use Rattle.lan_script.proofs.Order.{Each, Ordered, ascends, each_weaker, ordered_flat}
 use Rattle.vcpu_run.proofs.Placing.{ArePartitions, SeatBefore, first_partition, pairs_ordered, partitions_are, partitions_behind, seats_ordered}
 
 -- what is so of each element, and what is so of the rows of a part that may be there

@@ -1,5 +1,5 @@
 -- What lines in a client's own region say.
-use Rattle.std.proofs.Common.{◌≡◌, ◌∙◌, ℕ, ◌+◌, ◌*◌, cond, Bool, true, false, List, [], ◌∷◌, ◌++◌, Option, Result, Ok, IfOk, length, refl, sym, ap, subst, arith, length-append, suc, zero}
+use Rattle.std.proofs.Common.{◌≡◌, ◌∙◌, ℕ, ◌*◌, cond, Bool, true, List, [], ◌∷◌, Option, Result, Ok, IfOk, length, refl, sym, ap, subst, arith, length-append, suc, zero}
 use Rattle.vio_num.specs.declared.hypervisor.Hrc.{Hrc}
 use Rattle.vio_num.specs.declared.hypervisor.Hrc.TheVariants as codes
 use Rattle.vio_num.specs.declared.memory.NoMemory.{NoMemory}

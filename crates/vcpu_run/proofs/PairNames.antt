@@ -1,5 +1,5 @@
 -- The copies of a server name the strokes of each pair's windows that other units laid, over a turn of either end.
-use Rattle.std.proofs.Common.{◌≡◌, ◌≢◌, ◌∙◌, inl, inr, List, [], All, Option, Some, None, IfNone, refl, sym, ap, subst}
+use Rattle.std.proofs.Common.{◌≡◌, ◌≢◌, ◌∙◌, inl, inr, List, All, Option, Some, None, IfNone, refl, sym, ap, subst}
 use Rattle.std.proofs.lemmas.List.Elements.{All-append, All-weaker}
 use Rattle.vio_num.specs.declared.names.UnitId.{UnitId}
 use Rattle.tce_window.specs.PlainPort.{known_of}

@@ -4,7 +4,7 @@ use Rattle.std.specs.List.{flat_map}
 use Rattle.std.proofs.lemmas.Bool.Decides.{nat_tests}
 use Rattle.std.proofs.lemmas.List.Elements.{filter-append}
 use Rattle.vcpu_run.specs.Numbered.{numbered}
-use Rattle.vcpu_run.proofs.Order.{Each, Ordered, each_append, each_weaker}
+use Rattle.lan_script.proofs.Order.{Each, Ordered, each_append, each_weaker}
 use Rattle.vcpu_run.proofs.Sole.{all_pass, none_passes}
 
 -- what passes two tests passes one of those that pass the other

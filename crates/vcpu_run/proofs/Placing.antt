@@ -9,12 +9,12 @@ use Rattle.vcpu_run.specs.declared.pair.Pair.{Pair}
 use Rattle.vcpu_run.specs.declared.script.Script.{Script}
 use Rattle.vcpu_run.specs.declared.unit_seat.Seat.{Seat}
 use Rattle.vcpu_run.specs.declared.unit_seat.UnitSeat.{UnitSeat}
-use Rattle.vcpu_run.specs.Machines.{AreScripts, server_id}
+use Rattle.vcpu_run.specs.Machines.{AreScripts}
 use Rattle.vcpu_run.specs.Numbered.{numbered}
 use Rattle.vcpu_run.specs.Pairs.{ArePairs}
 use Rattle.vcpu_run.specs.Ports.{unit_of}
 use Rattle.vcpu_run.specs.Units.{seats_by, seats_of, unit_seat}
-use Rattle.vcpu_run.proofs.Order.{Each, Ordered, each_append, each_weaker, ordered_append}
+use Rattle.lan_script.proofs.Order.{Each, Ordered, each_append, each_weaker, ordered_append}
 
 abbrev pub SeatBefore : UnitSeat → UnitSeat → Type 0
 SeatBefore a b = UnitBefore a.unit b.unit

@@ -1,23 +1,20 @@
 -- That frames are offered to plain ports for which they are, as steps of lines go on.
-use Rattle.std.proofs.Common.{◌≡◌, ◌≢◌, ◌⊎◌, ◌≤◌, inl, inr, ℕ, ◌==◌, cond, Bool, true, false, List, [], ◌∷◌, ◌++◌, append-nil, Some, length, map, refl, sym, ◌∙◌, ap, subst, arith}
+use Rattle.std.proofs.Common.{◌≡◌, ◌⊎◌, ◌≤◌, inl, inr, ℕ, ◌==◌, cond, Bool, true, false, List, [], ◌∷◌, ◌++◌, append-nil, Some, length, map, sym, ◌∙◌, ap, subst, arith}
 use Rattle.std.specs.List.{Contains, slice_get}
 use Rattle.std.proofs.lemmas.List.{append_assoc}
-use Rattle.vio_num.specs.Words.{Begins}
 use Rattle.vio_num.specs.declared.hypervisor.Moved.{Moved}
 use Rattle.vio_num.specs.declared.names.Mac.{Mac}
 use Rattle.vio_num.specs.declared.names.UnitId.{UnitId}
 use Rattle.boot_text.specs.declared.plan.Line.{Line}
 use Rattle.boot_text.specs.declared.verb.Verb.{Verb}
-use Rattle.lan_switch.specs.Calls.{IsOwnAddress}
 use Rattle.lan_switch.specs.Switch.{same_unit}
 use Rattle.unit_region.specs.declared.step.Step.{Step}
 use Rattle.unit_region.specs.declared.step.Step.TheVariants as steps
 use Rattle.vio_trace.specs.declared.lan_rows.FrameRow.{FrameRow}
 use Rattle.vio_trace.specs.declared.outcome.Outcome.{Outcome}
 use Rattle.vio_trace.specs.declared.rows.LogRow.{LogRow}
-use Rattle.lan_script.specs.PortReplay.{closed_replay}
 use Rattle.lan_script.specs.Replayed.{replay_at}
-use Rattle.lan_script.specs.Seats.{IsSizedSeat, seat_at}
+use Rattle.lan_script.specs.Seats.{seat_at}
 use Rattle.lan_script.specs.Targets.{IsTarget, offers_to}
 use Rattle.lan_script.specs.Units.{LanValue, to_of}
 use Rattle.lan_script.specs.declared.seat.PortSeat.{PortSeat}
@@ -26,7 +23,7 @@ use Rattle.vcpu_run.specs.declared.unit_seat.Seat.TheVariants as sits
 use Rattle.vcpu_run.specs.Credited.{Ended, ended_by}
 use Rattle.vcpu_run.specs.Ports.{unit_of}
 use Rattle.vcpu_run.specs.PortOffers.{OffersFit, TellsFit, WasTarget}
-use Rattle.vcpu_run.specs.PortReplays.{AreReplayed, IsPlainPort, KeepsReplay, OffersSince, sent_at}
+use Rattle.vcpu_run.specs.PortReplays.{IsPlainPort, KeepsReplay, OffersSince, sent_at}
 use Rattle.vcpu_run.specs.PortSteps.{AllTake, AreFresh, RisesIf, TellsStep}
 use Rattle.vcpu_run.specs.PortWords.{TellsReplay, done_in, frame_told}
 use Rattle.vcpu_run.specs.Suited.{is_call}

@@ -1,5 +1,5 @@
 -- The offers of the frames that lines of LAN units sent, as steps of lines go on.
-use Rattle.std.proofs.Common.{◌≡◌, ◌≢◌, ℕ, ◌+◌, ◌==◌, ◌<◌, ◌≤◌, Bool, true, false, List, [], ◌∷◌, ◌++◌, append-nil, Option, Some, None, length, length-append, take, refl, sym, ◌∙◌, ap, subst, arith}
+use Rattle.std.proofs.Common.{◌≡◌, ◌≢◌, ℕ, ◌==◌, Bool, true, false, List, [], ◌∷◌, ◌++◌, append-nil, Some, length, length-append, take, sym, ◌∙◌, ap, subst, arith}
 use Rattle.std.specs.List.{Contains, slice_get}
 use Rattle.std.proofs.lemmas.Bool.Decides.{nat_tests}
 use Rattle.std.proofs.lemmas.List.{take-append-le, take_all}
@@ -13,7 +13,6 @@ use Rattle.vio_num.specs.declared.names.UnitId.{UnitId}
 use Rattle.boot_text.specs.declared.plan.Line.{Line}
 use Rattle.boot_text.specs.declared.verb.Verb.{Verb}
 use Rattle.boot_text.specs.declared.verb.Verb.TheVariants as verbs
-use Rattle.lan_switch.specs.Calls.{IsOwnAddress}
 use Rattle.unit_region.specs.declared.step.Step.{Step}
 use Rattle.unit_region.specs.declared.step.Step.TheVariants as steps
 use Rattle.vio_trace.specs.declared.lan_rows.FrameRow.{FrameRow}
@@ -22,7 +21,7 @@ use Rattle.vio_trace.specs.declared.outcome.Outcome.TheVariants as outcomes
 use Rattle.vio_trace.specs.declared.rows.LogRow.{LogRow}
 use Rattle.lan_script.specs.PortReplay.{closed_replay}
 use Rattle.lan_script.specs.Replayed.{is_replayed, replay_at}
-use Rattle.lan_script.specs.Seats.{IsSizedSeat, seat_at}
+use Rattle.lan_script.specs.Seats.{seat_at}
 use Rattle.lan_script.specs.Spent.{Grows}
 use Rattle.lan_script.proofs.Laws.{spent_on}
 use Rattle.lan_switch.specs.Switch.{port_of}
@@ -34,7 +33,7 @@ use Rattle.vcpu_run.specs.declared.unit_seat.Seat.{Seat}
 use Rattle.vcpu_run.specs.declared.unit_seat.Seat.TheVariants as sits
 use Rattle.vcpu_run.specs.Credited.{Ended, ended_by}
 use Rattle.vcpu_run.specs.Ports.{unit_of}
-use Rattle.vcpu_run.specs.PortOffers.{EndsFrame, GoesNow, KeepsOffers, OffersOver, TellsOffers}
+use Rattle.vcpu_run.specs.PortOffers.{GoesNow, KeepsOffers, OffersOver, TellsOffers}
 use Rattle.vcpu_run.specs.PortReplays.{AreReplayed, IsPlainPort, IsStill, SendsFrame, StepReplays, sent_at}
 use Rattle.vcpu_run.specs.PortSteps.{AllTake, RisesIf, TellsStep}
 use Rattle.vcpu_run.specs.PortWords.{ReplaysOwn, TellsReplay, done_in}

@@ -1,5 +1,5 @@
 -- The LAN ports of a plan stand in the order of their names, and are of lawful sizes.
-use Rattle.std.proofs.Common.{◌≡◌, ℕ, ◌+◌, ◌*◌, ◌<◌, ◌≤◌, List, [], ◌∷◌, ◌++◌, All, length, map, sym, subst, arith}
+use Rattle.std.proofs.Common.{ℕ, ◌+◌, ◌*◌, ◌<◌, ◌≤◌, List, [], ◌∷◌, ◌++◌, All, length, map, sym, subst, arith}
 use Rattle.std.proofs.lemmas.List.{map-append}
 use Rattle.std.proofs.lemmas.List.Elements.{All-append, All-head, All-tail}
 use Rattle.vio_num.specs.declared.names.UnitId.{UnitId}
@@ -13,7 +13,7 @@ use Rattle.lan_switch.specs.Calls.{IsOwnAddress}
 use Rattle.lan_switch.specs.Switch.{AreAscending, order_of}
 use Rattle.lan_script.specs.declared.seat.PortSeat.{PortSeat}
 use Rattle.vcpu_run.specs.Ports.{ports_from, ports_in, ports_of, unit_of}
-use Rattle.vcpu_run.proofs.Order.{Each, each_append, each_weaker}
+use Rattle.lan_script.proofs.Order.{Each, each_append, each_weaker}
 use Rattle.vcpu_run.proofs.Sole.{all_from_each}
 
 abbrev ids : List PortSeat → List UnitId

@@ -1,5 +1,5 @@
 -- The buffers that lines of LAN units tell, and how many frames they took, as steps of lines go on.
-use Rattle.std.proofs.Common.{◌≡◌, ℕ, ◌+◌, ◌≤◌, ◌==◌, cond, Bool, true, false, All, List, [], ◌∷◌, ◌++◌, min, append-nil, append_assoc, Option, Some, None, length, refl, sym, ◌∙◌, ap, subst, arith}
+use Rattle.std.proofs.Common.{◌≡◌, ℕ, ◌≤◌, ◌==◌, cond, Bool, true, false, List, [], ◌∷◌, ◌++◌, min, append-nil, append_assoc, Option, Some, None, length, refl, sym, ◌∙◌, ap, subst, arith}
 use Rattle.std.specs.List.{slice_get}
 use Rattle.std.proofs.lemmas.List.Elements.{All-append, All-cons, All-nil}
 use Rattle.vio_num.specs.declared.hypervisor.Moved.{Moved}
@@ -20,15 +20,13 @@ use Rattle.lan_script.specs.declared.lines.PortStep.TheVariants as ports
 use Rattle.lan_script.proofs.Laws.{posted_still}
 use Rattle.lan_switch.specs.Switch.{port_of}
 use Rattle.vcpu_run.specs.declared.script.Script.{Script}
-use Rattle.vcpu_run.specs.declared.unit_seat.Seat.{Seat}
 use Rattle.vcpu_run.specs.declared.unit_seat.Seat.TheVariants as sits
 use Rattle.vcpu_run.specs.Credited.{Ended, ended_by}
 use Rattle.vcpu_run.specs.Ports.{unit_of}
-use Rattle.vcpu_run.specs.PortPosts.{AreWithin, EndsWithin, IsUnder, StepFits, StepTakes, TakesNoMore, buffers_at, buffers_of, buffers_under}
+use Rattle.vcpu_run.specs.PortPosts.{AreWithin, EndsWithin, IsUnder, StepTakes, TakesNoMore, buffers_of, buffers_under}
 use Rattle.vcpu_run.specs.PortSteps.{AllSilent, AllTake, AreFresh, IsIdle, RisesIf, TakesOn, TellsStep}
 use Rattle.vcpu_run.specs.PortWords.{HasNoCall, TakesOwn, TellsBuffers, TellsTakes, buffers_now, done_in}
 use Rattle.vcpu_run.specs.Suited.{is_call}
-use Rattle.vcpu_run.specs.Works.{fails}
 use Rattle.vcpu_run.proofs.Crediting.{ended_more}
 use Rattle.vcpu_run.proofs.Logging.{all_at}
 

@@ -6,13 +6,12 @@ use Rattle.vio_num.specs.declared.names.UnitId.{UnitId}
 use Rattle.boot_text.specs.declared.plan.Line.{Line}
 use Rattle.boot_text.specs.declared.verb.Verb.{Verb}
 use Rattle.boot_text.specs.declared.verb.Verb.TheVariants as verbs
-use Rattle.lan_switch.specs.Calls.{IsOwnAddress}
 use Rattle.unit_region.specs.declared.step.Step.TheVariants as steps
 use Rattle.vio_trace.specs.declared.outcome.Outcome.{Outcome}
 use Rattle.vio_trace.specs.declared.rows.LogRow.{LogRow}
 use Rattle.lan_script.specs.PortReplay.{LineSays, PortReplay, closed_replay}
 use Rattle.lan_script.specs.Replayed.{IsFirst, IsReplayable, is_replayed, replay_at}
-use Rattle.lan_script.specs.Seats.{IsSizedSeat, seat_at}
+use Rattle.lan_script.specs.Seats.{seat_at}
 use Rattle.lan_script.specs.Units.{LanValue}
 use Rattle.lan_script.specs.Values.{KeepsValues, is_put}
 use Rattle.lan_script.specs.declared.seat.PortSeat.{PortSeat}

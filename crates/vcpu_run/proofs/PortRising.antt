@@ -1,5 +1,5 @@
 -- What a step or a call at a LAN unit makes of the ports, as their lines tell of them.
-use Rattle.std.proofs.Common.{◌≡◌, ◌≢◌, ◌⊎◌, inl, inr, ℕ, zero, suc, ◌+◌, ◌≤◌, ◌==◌, cond, length, Bool, true, false, true≢false, List, [], ◌∷◌, ◌++◌, append-nil, Option, Some, None, map, refl, sym, ◌∙◌, ap, subst, arith}
+use Rattle.std.proofs.Common.{◌≡◌, ◌≢◌, ◌⊎◌, inl, inr, ℕ, zero, suc, ◌≤◌, cond, length, Bool, true, false, true≢false, List, [], ◌∷◌, ◌++◌, append-nil, Option, Some, None, map, refl, sym, ◌∙◌, ap, subst, arith}
 use Rattle.std.specs.List.{Contains}
 use Rattle.std.proofs.lemmas.List.{map-append}
 use Rattle.std.proofs.lemmas.List.Elements.{Contains-append_cases, Contains-push}
@@ -8,7 +8,6 @@ use Rattle.vio_num.specs.declared.hypervisor.Hrc.{Hrc}
 use Rattle.vio_num.specs.declared.hypervisor.Moved.{Moved}
 use Rattle.vio_num.specs.declared.names.UnitId.{UnitId}
 use Rattle.boot_text.specs.declared.verb.Verb.{Verb}
-use Rattle.boot_text.specs.declared.verb.Verb.TheVariants as verbs
 use Rattle.lan_switch.specs.Switch.{same_unit}
 use Rattle.vio_trace.specs.declared.lan_rows.FrameRow.{FrameRow}
 use Rattle.vio_trace.specs.declared.outcome.Outcome.{Outcome}
@@ -18,26 +17,26 @@ use Rattle.lan_script.specs.declared.calls.PortCall.{PortCall}
 use Rattle.lan_script.specs.declared.calls.PortCall.TheVariants as calls
 use Rattle.lan_script.specs.declared.lines.PortStep.{PortStep}
 use Rattle.lan_script.specs.declared.lines.PortStep.TheVariants as ports
+use Rattle.lan_script.specs.Correlators.{KeepsAddresses}
 use Rattle.lan_script.specs.Invariant.{sent_by}
+use Rattle.lan_script.specs.LineBytes.{StepsBytes}
 use Rattle.lan_script.specs.LineSays.{SendsAs, SendsOne, SentAs}
-use Rattle.lan_script.specs.PortCounts.{CountsOn, CountsStep, PortCounts, SameCounts, SendsCalled, TakesSome, counts, counts_at}
-use Rattle.lan_script.specs.Replayed.{IsFirst, Replays, SameBeside, SameReplays, replay_at}
+use Rattle.lan_script.specs.PortCounts.{CountsOn, CountsStep, PortCounts, SameCounts, SendsCalled, TakesSome}
+use Rattle.lan_script.specs.Replayed.{IsFirst, Replays, SameBeside, SameReplays, bytes_sent, replay_at}
 use Rattle.lan_script.specs.Buffers.{PostsStep}
-use Rattle.lan_script.specs.OwnMac.{MovesMac, StepsMac, mac_stepped}
+use Rattle.lan_script.specs.OwnMac.{MovesMac, StepsMac}
 use Rattle.lan_script.specs.PortReplay.{PortReplay}
-use Rattle.lan_script.specs.declared.seat.PortSeat.{PortSeat}
 use Rattle.lan_script.specs.Spent.{AllGrow}
 use Rattle.lan_script.specs.Taking.{StaysWithin}
 use Rattle.lan_script.specs.Targets.{IsTarget, offers_to}
 use Rattle.lan_script.specs.Units.{LanValue, to_of}
-use Rattle.lan_script.specs.Values.{SameValues, SameValuesBeside, is_put}
+use Rattle.lan_script.specs.Values.{NamesOwn, SameValues, SameValuesBeside, is_put, puts_other}
 use Rattle.lan_script.specs.Windows.{facts_in}
-use Rattle.lan_script.proofs.Laws.{mac_same, self, one_unit, same_posted}
-use Rattle.vcpu_run.specs.PortMacs.{mac_by}
+use Rattle.lan_script.proofs.Laws.{mac_same, self, one_unit, posts_same, same_posted}
+use Rattle.vcpu_run.specs.PortBytes.{StepBytes, StepSends}
 use Rattle.vcpu_run.specs.PortPosts.{StepFits}
 use Rattle.vcpu_run.proofs.PortPosting.{ends_within, waits_within}
-use Rattle.vcpu_run.specs.Ports.{unit_of}
-use Rattle.vcpu_run.specs.PortSteps.{AllSilent, IsBeside, IsIdle, Rises, StepRises, TakesOn}
+use Rattle.vcpu_run.specs.PortSteps.{AllSilent, IsBeside, StepRises, TakesOn}
 use Rattle.vcpu_run.specs.PortReplays.{IsStill, OffersSince, SendsFrame, StepReplays, sent_at}
 use Rattle.vcpu_run.specs.PortWords.{FrameTold, frame_of, frame_told, frames_at}
 
@@ -247,11 +246,32 @@ replays_waits unit verb done far moved old new seats sent counted values replays
     waits_on : {o : Outcome} → steps.Waits moved ≡ steps.Ends o → ⊥
     waits_on e = cc (e)
 
--- the address that a step that waits gives
-waits_mac : (seat : PortSeat) (verb : Verb) (moved : Moved) (far : ℕ) (old new : PortReplay) → MovesMac (mac_stepped seat verb (ports.Waits moved far)) old new
-    → MovesMac (mac_by seat verb (steps.Waits moved)) old new
-waits_mac seat verbs.Open moved far old new h = h
-waits_mac seat verb moved far old new h = h
+-- what it says of the bytes of frames
+same_bytes : (old new : LanValue) (v : UnitId) → new.seats ≡ old.seats → new.frames ≡ old.frames → bytes_sent new v ≡ bytes_sent old v
+same_bytes old new v seats frames = ap (λ (l : List FrameRow). map (λ (r : FrameRow). r.bytes) l) (same_rows old new v seats frames)
+
+ends_sends : (unit : UnitId) (verb : Verb) (outcome : Outcome) (old new : LanValue) → new.seats ≡ old.seats → SendsAs unit (ports.Ends outcome) old new
+    → StepsBytes unit verb (ports.Ends outcome) old new → StepSends unit verb old new (steps.Ends outcome)
+ends_sends unit verb (outcomes.Frame code number) old new seats sent bytes = bytes
+ends_sends unit verb outcome old new seats sent bytes = same_bytes old new unit seats sent
+
+pub bytes_ended : (unit : UnitId) (verb : Verb) (outcome : Outcome) (old new : LanValue) → new.seats ≡ old.seats → SendsAs unit (ports.Ends outcome) old new
+    → (puts_other verb ≡ false → NamesOwn old unit → NamesOwn new unit) → (NamesOwn old unit → StepsBytes unit verb (ports.Ends outcome) old new)
+    → (NamesOwn old unit → KeepsAddresses unit old new) → StepBytes unit verb old new (steps.Ends outcome)
+bytes_ended unit verb outcome old new seats sent names bytes addresses = record {
+  names = names;
+  addresses = addresses;
+  sends = λ own. ends_sends unit verb outcome old new seats sent (bytes own);
+}
+
+pub bytes_waits : (unit : UnitId) (verb : Verb) (moved : Moved) (old new : LanValue) → new.seats ≡ old.seats → new.frames ≡ old.frames
+    → (puts_other verb ≡ false → NamesOwn old unit → NamesOwn new unit) → (NamesOwn old unit → KeepsAddresses unit old new)
+    → StepBytes unit verb old new (steps.Waits moved)
+bytes_waits unit verb moved old new seats sent names addresses = record {
+  names = names;
+  sends = λ own. same_bytes old new unit seats sent;
+  addresses = addresses;
+}
 
 -- what it says of frames that it took and of buffers that it posted
 pub fits_ended : (unit : UnitId) (verb : Verb) (done done' : ℕ) (outcome : Outcome) (old new : LanValue) → StaysWithin verb done (ports.Ends outcome)
@@ -265,18 +285,20 @@ pub fits_waits : (unit : UnitId) (verb : Verb) (done far : ℕ) (moved : Moved) 
 fits_waits unit verb done far moved old new within posts macs = record {
   takes = waits_within verb done far moved within;
   posts = posts;
-  macs = λ seat at. waits_mac seat verb moved far (replay_at old unit) (replay_at new unit) (macs seat at);
+  macs = macs;
 }
 
 -- where nothing was sent, posted or taken
 pub all_silent : (own : UnitId) (old new : LanValue) → new.seats ≡ old.seats → new.frames ≡ old.frames → SameCounts old new → SameBeside own old new
-    → MovesMac None (replay_at old own) (replay_at new own) → AllSilent old new
-all_silent own old new seats frames same beside mac unit = record {
+    → MovesMac None (replay_at old own) (replay_at new own) → new.places ≡ old.places → AllSilent old new
+all_silent own old new seats frames same beside mac places unit = record {
   frames = same_frames old new unit seats frames;
   counts = same.same unit;
   posted = same_posted unit old new same;
+  posts = posts_same unit old new same;
   rows = same_rows old new unit seats frames;
   mac = by (same_unit unit own) refl;
+  values = λ e. ap (λ ps. (facts_in ps unit).values e) places;
   seats = seats;
 }
   where

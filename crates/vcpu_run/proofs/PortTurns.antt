@@ -1,20 +1,20 @@
 -- What the lines of LAN units tell, over the units of a partition and the turns of a round.
-use Rattle.std.proofs.Common.{◌≡◌, ◌≢◌, ◌⊎◌, inl, inr, length, ℕ, ◌+◌, ◌<◌, ◌≤◌, ◌==◌, Bool, true, false, List, [], Option, Some, None, Result, Ok, Err, IfOk, OnOk, IsSomeAnd, slice_get, slice_set, refl, sym, ◌∙◌, ap, subst, arith}
+use Rattle.std.proofs.Common.{◌≡◌, ◌≢◌, ◌⊎◌, inl, inr, length, ℕ, ◌≤◌, ◌==◌, Bool, true, false, List, Some, Result, Ok, Err, IfOk, OnOk, slice_get, slice_set, refl, sym, ◌∙◌, ap, subst, arith}
 use Rattle.std.proofs.lemmas.Bool.Decides.{nat_tests}
 use Rattle.vio_num.specs.declared.hypervisor.Moved.{Moved}
 use Rattle.vio_num.specs.declared.memory.NoMemory.{NoMemory}
 use Rattle.vio_num.specs.declared.names.UnitId.{UnitId}
 use Rattle.boot_text.specs.declared.plan.Line.{Line}
 use Rattle.boot_text.specs.declared.plan.Partition.{Partition}
-use Rattle.boot_text.specs.declared.verb.Verb.{Verb}
 use Rattle.hcall_table.specs.declared.returned.Returned.{Returned}
+use Rattle.unit_region.specs.LinePuts.{StepPuts}
 use Rattle.unit_region.specs.declared.step.Step.{Step}
-use Rattle.lan_script.specs.PortCounts.{CountsOn, PortCounts, SendsCalled, TakesSome, counts, counts_called}
+use Rattle.lan_script.specs.PortCounts.{CountsOn, SendsCalled, TakesSome, counts, counts_called}
 use Rattle.lan_script.specs.Replayed.{SameBeside, SameReplays, replay_at}
 use Rattle.std.specs.List.{Contains}
-use Rattle.vio_trace.specs.declared.lan_rows.FrameRow.{FrameRow}
 use Rattle.lan_script.specs.PortReplay.{PortReplay}
 use Rattle.lan_script.specs.Targets.{IsTarget, offers_to}
+use Rattle.lan_script.specs.Entries.{values_at}
 use Rattle.lan_script.specs.Units.{LanValue, to_of}
 use Rattle.lan_script.specs.Values.{SameValuesBeside}
 use Rattle.lan_script.specs.declared.calls.PortCall.{PortCall}
@@ -27,6 +27,7 @@ use Rattle.vcpu_run.specs.Machines.{AreScripts}
 use Rattle.vcpu_run.specs.Making.{AreMade, IsMade}
 use Rattle.vcpu_run.specs.Ports.{unit_of}
 use Rattle.vcpu_run.specs.PortSteps.{AllSilent, AllTake, AreFresh, IsApart, IsBeside, IsIdle, RisesIf, StepRises, TakesOn, TellsStep}
+use Rattle.vcpu_run.specs.PortBytes.{StepBytes}
 use Rattle.vcpu_run.specs.PortPosts.{StepFits}
 use Rattle.vcpu_run.specs.PortReplays.{IsStill, OffersSince, StepReplays, sent_at}
 use Rattle.vcpu_run.specs.PortWords.{PortsTell, TellsPorts}
@@ -110,15 +111,18 @@ one_takes partition k old new takes beside u = by (u == k) refl
 -- a step of a line at a port is one of it alone
 pub port_steps : (partition : ℕ) (seats : List Seat) (line : Line) (done done' : ℕ) (old new : LanValue) (step : Step)
     → StepRises (unit_of partition line.unit) line.verb done done' old new step → StepReplays (unit_of partition line.unit) line.verb done old new step
-    → StepFits (unit_of partition line.unit) line.verb done done' old new step → IsBeside (unit_of partition line.unit) old new
-    → TellsStep partition seats line done done' old new step
-port_steps partition seats line done done' old new step rises replays fits beside u sat = by (line.unit == u) refl
+    → StepFits (unit_of partition line.unit) line.verb done done' old new step → StepBytes (unit_of partition line.unit) line.verb old new step
+    → StepPuts line.verb step (values_at old (unit_of partition line.unit)) (values_at new (unit_of partition line.unit))
+    → IsBeside (unit_of partition line.unit) old new → TellsStep partition seats line done done' old new step
+port_steps partition seats line done done' old new step rises replays fits bytes puts beside u sat = by (line.unit == u) refl
   where
     by : (b : Bool) → (line.unit == u) ≡ b → RisesIf b (unit_of partition u) line.verb done done' old new step
     by true e = (
       subst (λ n. StepRises (unit_of partition n) line.verb done done' old new step) (same_of line.unit u e) rises,
       subst (λ n. StepReplays (unit_of partition n) line.verb done old new step) (same_of line.unit u e) replays,
       subst (λ n. StepFits (unit_of partition n) line.verb done done' old new step) (same_of line.unit u e) fits,
+      subst (λ n. StepBytes (unit_of partition n) line.verb old new step) (same_of line.unit u e) bytes,
+      subst (λ n. StepPuts line.verb step (values_at old (unit_of partition n)) (values_at new (unit_of partition n))) (same_of line.unit u e) puts,
     )
     by false e = beside (unit_of partition u) (λ same. other_of partition line.unit u e (sym same))
 
@@ -177,11 +181,12 @@ ports_made lan partitions scripts fresh made i script found =
 -- the same of results
 pub port_told : (partition : ℕ) (seats : List Seat) (line : Line) (done done' : ℕ) (old new : LanValue) (r : Result Step NoMemory)
     → IfOk r (StepRises (unit_of partition line.unit) line.verb done done' old new) → IfOk r (StepReplays (unit_of partition line.unit) line.verb done old new)
-    → IfOk r (StepFits (unit_of partition line.unit) line.verb done done' old new) → OnOk r (IsBeside (unit_of partition line.unit) old new)
-    → IfOk r (TellsStep partition seats line done done' old new)
-port_told partition seats line done done' old new (Ok step) rises replays fits beside =
-    port_steps partition seats line done done' old new step rises replays fits beside
-port_told partition seats line done done' old new (Err memory) rises replays fits beside = tt
+    → IfOk r (StepFits (unit_of partition line.unit) line.verb done done' old new) → IfOk r (StepBytes (unit_of partition line.unit) line.verb old new)
+    → IfOk r (λ step. StepPuts line.verb step (values_at old (unit_of partition line.unit)) (values_at new (unit_of partition line.unit)))
+    → OnOk r (IsBeside (unit_of partition line.unit) old new) → IfOk r (TellsStep partition seats line done done' old new)
+port_told partition seats line done done' old new (Ok step) rises replays fits bytes puts beside =
+    port_steps partition seats line done done' old new step rises replays fits bytes puts beside
+port_told partition seats line done done' old new (Err memory) rises replays fits bytes puts beside = tt
 
 pub port_apart : (partition u : ℕ) (old new : LanValue) (r : Result Step NoMemory) → OnOk r (IsBeside (unit_of partition u) old new)
     → OnOk r (IsApart partition old new)

@@ -1,5 +1,5 @@
 -- Units of the LAN that were opened did nothing yet.
-use Rattle.std.proofs.Common.{◌≡◌, ℕ, ◌+◌, ◌*◌, Bool, true, false, List, [], ◌∷◌, length, map, Result, Ok, Err, IfOk, refl, sym, ◌∙◌, ap, subst}
+use Rattle.std.proofs.Common.{◌≡◌, ℕ, ◌+◌, ◌*◌, Bool, true, false, List, [], ◌∷◌, map, Result, Ok, Err, IfOk, refl, sym, ◌∙◌, ap, subst}
 use Rattle.vio_num.specs.declared.names.UnitId.{UnitId}
 use Rattle.tce_window.specs.Grant.{values_of}
 use Rattle.lan_switch.specs.Switch.{opened, port_of, same_unit}
@@ -11,12 +11,12 @@ use Rattle.lan_script.specs.PortReplay.{closed_replay}
 use Rattle.lan_script.specs.Replayed.{replay_of}
 use Rattle.lan_script.specs.Windows.{facts_of, window_in}
 use Rattle.lan_script.specs.declared.windows.Place.{Place}
-use Rattle.lan_script.specs.PortCounts.{counts, counts_at, counts_in}
+use Rattle.lan_script.specs.PortCounts.{counts, counts_in}
 use Rattle.lan_script.specs.Units.{LanValue}
 use Rattle.lan_script.specs.declared.seat.PortSeat.{PortSeat}
 use Rattle.lan_script.proofs.Laws.{port_head, port_tail, by_bool, window_head, window_tail}
 use Rattle.vcpu_run.specs.PortSteps.{AreFresh}
-use Rattle.vcpu_run.specs.PortWords.{frame_told, frames_at}
+use Rattle.vcpu_run.specs.PortWords.{frame_told}
 
 none_sent : (seats : List PortSeat) (unit : UnitId) → sent_by seats (map (λ _. []) seats) unit ≡ []
 none_sent [] unit = refl

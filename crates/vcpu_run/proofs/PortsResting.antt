@@ -1,10 +1,10 @@
 -- That nothing is left to take of ports, through the turns of a round in which nothing moved.
-use Rattle.std.proofs.Common.{◌≡◌, ◌≢◌, ◌∙◌, ◌+◌, ◌<◌, ◌≤◌, ◌==◌, ◌⊎◌, inl, inr, ℕ, arith, Bool, true, false, IfOk, Result, Ok, Err, IsSomeAnd, List, Option, Some, length, slice_get, slice_set, refl, sym, ap, subst}
+use Rattle.std.proofs.Common.{◌≡◌, ◌≢◌, ◌∙◌, ◌+◌, ◌<◌, ◌≤◌, ◌⊎◌, inl, inr, ℕ, arith, true, false, IfOk, Result, Ok, Err, IsSomeAnd, List, Some, length, slice_get, slice_set, refl, sym, ap, subst}
 use Rattle.std.proofs.lemmas.Option.{slice_get_within}
 use Rattle.vio_num.specs.declared.names.UnitId.{UnitId}
 use Rattle.lan_script.specs.Resting.{FindsNone, IsAllTaken, SamePorts}
 use Rattle.lan_script.specs.Units.{LanValue}
-use Rattle.lan_script.proofs.Laws.{ports_on, still_taken}
+use Rattle.lan_script.proofs.Laws.{still_taken}
 use Rattle.vcpu_run.specs.declared.script.Script.{Script}
 use Rattle.vcpu_run.specs.declared.unit_seat.Seat.{Seat}
 use Rattle.vcpu_run.specs.declared.unit_seat.Seat.TheVariants as sits

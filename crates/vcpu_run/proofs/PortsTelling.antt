@@ -1,5 +1,5 @@
 -- What the lines of a script tell of its ports: words, replay and offers, as steps of lines go on.
-use Rattle.std.proofs.Common.{◌≡◌, ℕ, ◌==◌, ◌≤◌, Bool, false, true, List, [], ◌∷◌, ◌++◌, Some, length, refl, ap}
+use Rattle.std.proofs.Common.{◌≡◌, ℕ, ◌==◌, ◌≤◌, false, true, [], ◌∷◌, ◌++◌, Some, length, refl, ap}
 use Rattle.std.specs.List.{slice_get}
 use Rattle.vio_num.specs.declared.hypervisor.Moved.{Moved}
 use Rattle.boot_text.specs.declared.plan.Line.{Line}
@@ -11,15 +11,23 @@ use Rattle.lan_script.specs.PortCounts.{counts, counts_by, counts_told}
 use Rattle.lan_script.specs.Replayed.{is_replayed}
 use Rattle.lan_script.specs.Units.{LanValue}
 use Rattle.vcpu_run.specs.declared.script.Script.{Script}
+use Rattle.vcpu_run.specs.PortCalls.{EndsEntries}
+use Rattle.vcpu_run.specs.PortMacs.{EndsPorts}
 use Rattle.vcpu_run.specs.PortSteps.{AllSilent, AllTake, AreFresh, TellsStep}
 use Rattle.vcpu_run.specs.PortWords.{TellsPorts, done_in, frame_of}
 use Rattle.vcpu_run.specs.Suited.{is_call}
 use Rattle.vcpu_run.specs.Works.{fails}
 use Rattle.vcpu_run.proofs.PortFitting.{fit_ends, fit_fails, fit_fresh, fit_rest, fit_waits}
 use Rattle.vcpu_run.proofs.PortAddresses.{macs_fresh, macs_quiet, macs_rest, macs_silent, macs_step, macs_wait, silent_here}
+use Rattle.vcpu_run.proofs.PortBytes.{bytes_fresh, bytes_quiet, bytes_rest, bytes_silent, bytes_step, bytes_wait, fails_quiet}
+use Rattle.vcpu_run.proofs.CallsKept.{fails_no_call}
+use Rattle.vcpu_run.proofs.PortEntries.{entries_fresh, entries_quiet, entries_rest, entries_silent, entries_step, entries_wait}
 use Rattle.vcpu_run.proofs.PortOffering.{offers_end, offers_fail, offers_fresh, offers_rest, offers_wait}
 use Rattle.vcpu_run.proofs.PortPosting.{buffers_fresh, buffers_quiet, buffers_rest, buffers_silent, buffers_step, buffers_took, buffers_wait, takes_fresh, takes_quiet, takes_step, takes_took, takes_wait}
+use Rattle.vcpu_run.proofs.PortPutting.{values_fresh, values_quiet, values_rest, values_silent, values_step, values_wait}
 use Rattle.vcpu_run.proofs.PortReplaying.{failing_replay, fresh_replay, none_replay, replay_ends, replay_waits, rest_replay, step_replay}
+use Rattle.unit_region.specs.LinePuts.{is_put}
+use Rattle.vcpu_run.proofs.ValuesKept.{fails_none as fails_puts_none}
 use Rattle.vcpu_run.proofs.PortTelling.{fails_none, fresh_words, quiet_words, rest_words, silent_words, step_words, took_words, words_wait}
 
 -- no port did anything
@@ -28,14 +36,17 @@ all_still lan unit = silent_here lan unit
 
 -- the current line waits
 pub port_waits : (lan lan' : LanValue) (script script' : Script) (line : Line) (moved : Moved) → slice_get script.lines.now script.at ≡ Some line
-    → script' ≡ record script { progress = script'.progress }
+    → script' ≡ record script { progress = script'.progress } → (is_call line.verb ≡ true → ⊥)
     → (is_call line.verb ≡ false → TellsStep script.partition script.seats.items line (done_in script.progress) (done_in script'.progress) lan lan' (steps.Waits moved))
     → TellsPorts lan script → TellsPorts lan' script'
-port_waits lan lan' script script' line moved found same step tells = record {
+port_waits lan lan' script script' line moved found same no_call step tells = record {
   words = words_wait lan lan' script script' line moved found same step tells.words;
   buffers = buffers_wait lan lan' script script' line moved found same step tells.buffers;
   takes = takes_wait lan lan' script script' line moved found same step tells.takes;
-  macs = macs_wait lan lan' script script' line moved found same step tells.macs;
+  values = values_wait lan lan' script script' line moved found same step tells.values;
+  entries = entries_wait lan lan' script script' line moved same no_call step tells.entries;
+  macs = macs_wait lan lan' script script' line moved same no_call step tells.macs;
+  bytes = bytes_wait lan lan' script script' line moved found same step tells.bytes;
   replay = replay_waits lan lan' script script' line moved found same step tells.replay;
   offers = offers_wait lan lan' script script' line moved found same step tells.offers;
   fit = fit_waits lan lan' script script' line moved found same step tells.replay tells.fit;
@@ -45,13 +56,18 @@ port_waits lan lan' script script' line moved found same step tells = record {
 pub step_tells : (lan lan' : LanValue) (script ended : Script) (line : Line) (row : LogRow) (done' : ℕ) → slice_get script.lines.now script.at ≡ Some line
     → length script.logs.items ≡ script.at → ended.partition ≡ script.partition → ended.lines ≡ script.lines → ended.seats ≡ script.seats
     → ended.logs.items ≡ script.logs.items ++ row ∷ [] → done_in ended.progress ≡ 0
+    → lan'.seats ≡ lan.seats → (is_call line.verb ≡ true → EndsPorts script.partition line.verb lan lan' (steps.Ends row.outcome))
+    → (is_call line.verb ≡ true → EndsEntries script.partition (slice_get script.seats.items) line.verb lan lan' (steps.Ends row.outcome))
     → (is_call line.verb ≡ false → TellsStep script.partition script.seats.items line (done_in script.progress) done' lan lan' (steps.Ends row.outcome))
     → TellsPorts lan script → TellsPorts lan' ended
-step_tells lan lan' script ended line row done' found reached partition lines seats logs fresh step tells = record {
+step_tells lan lan' script ended line row done' found reached partition lines seats logs fresh ports call entry step tells = record {
   words = step_words lan lan' script ended line row done' found reached partition lines seats logs fresh step tells.words;
   buffers = buffers_step lan lan' script ended line row done' found reached partition lines seats logs fresh step tells.buffers;
   takes = takes_step lan lan' script ended line row done' found reached lines seats logs fresh step tells.takes;
-  macs = macs_step lan lan' script ended line row done' found reached partition lines seats logs step tells.macs;
+  values = values_step lan lan' script ended line row done' found reached partition lines seats logs step tells.values;
+  entries = entries_step lan lan' script ended line row done' found reached partition lines seats logs ports entry step tells.entries;
+  macs = macs_step lan lan' script ended line row done' found reached partition lines seats logs call step tells.macs;
+  bytes = bytes_step lan lan' script ended line row done' found reached partition lines seats logs step tells.bytes;
   replay = replay_ends lan lan' script ended line row found reached partition lines seats logs fresh
       (λ no going unit sat. step_replay lan lan' script line row done' unit (line.unit == unit) (step no unit sat)) tells.replay;
   offers = offers_end lan lan' script ended line row found reached partition lines seats logs
@@ -65,12 +81,15 @@ pub quiet_tells : (lan : LanValue) (script ended : Script) (line : Line) (row : 
     → length script.logs.items ≡ script.at → ended.partition ≡ script.partition → ended.lines ≡ script.lines → ended.seats ≡ script.seats
     → ended.logs.items ≡ script.logs.items ++ row ∷ [] → done_in ended.progress ≡ 0
     → frame_of row.outcome ≡ [] → counts_told row.outcome ≡ counts 0 0 → ((d : ℕ) → counts_by line.verb d ≡ counts 0 0) → is_replayed line.verb ≡ false
-    → TellsPorts lan script → TellsPorts lan ended
-quiet_tells lan script ended line row found reached partition lines seats logs fresh no_frame none nothing other tells = record {
+    → is_put line.verb ≡ false → is_call line.verb ≡ false → TellsPorts lan script → TellsPorts lan ended
+quiet_tells lan script ended line row found reached partition lines seats logs fresh no_frame none nothing other isnt no_call tells = record {
   words = quiet_words lan lan script ended line row found reached partition lines seats logs fresh no_frame none nothing (all_still lan) tells.words;
   buffers = buffers_quiet lan lan script ended line row found reached partition lines seats logs fresh none nothing (all_still lan) tells.buffers;
   takes = takes_quiet script ended line row found reached lines seats logs fresh nothing tells.takes;
+  values = values_quiet lan lan script ended line row found reached partition lines seats logs isnt (all_still lan) tells.values;
+  entries = entries_quiet lan lan script ended line row found reached partition lines seats logs no_call (all_still lan) tells.entries;
   macs = macs_quiet lan lan script ended line row found reached partition lines seats logs (all_still lan) tells.macs;
+  bytes = bytes_quiet lan lan script ended line row found reached partition lines seats logs other (all_still lan) tells.bytes;
   replay = replay_ends lan lan script ended line row found reached partition lines seats logs fresh
       (λ no going unit sat. none_replay lan script line row unit (line.unit == unit) other) tells.replay;
   offers = offers_end lan lan script ended line row found reached partition lines seats logs
@@ -89,7 +108,10 @@ took_tells lan script ended line row count taken found reached partition lines s
   words = took_words lan script ended line row count taken found reached partition lines seats logs fresh out verb few tells.words;
   buffers = buffers_took lan script ended line row count found reached partition lines seats logs fresh verb tells.buffers;
   takes = takes_took script ended line row count taken found reached lines seats logs fresh out verb few tells.takes;
+  values = values_quiet lan lan script ended line row found reached partition lines seats logs (ap is_put verb) (all_still lan) tells.values;
+  entries = entries_quiet lan lan script ended line row found reached partition lines seats logs (ap is_call verb) (all_still lan) tells.entries;
   macs = macs_quiet lan lan script ended line row found reached partition lines seats logs (all_still lan) tells.macs;
+  bytes = bytes_quiet lan lan script ended line row found reached partition lines seats logs (ap is_replayed verb) (all_still lan) tells.bytes;
   replay = replay_ends lan lan script ended line row found reached partition lines seats logs fresh
       (λ no going unit sat. none_replay lan script line row unit (line.unit == unit) (ap is_replayed verb)) tells.replay;
   offers = offers_end lan lan script ended line row found reached partition lines seats logs
@@ -108,7 +130,10 @@ failed_tells lan lan' script ended line row found reached partition lines seats 
   words = quiet_words lan lan' script ended line row found reached partition lines seats logs fresh no_frame none (fails_none line.verb failing) silent tells.words;
   buffers = buffers_quiet lan lan' script ended line row found reached partition lines seats logs fresh none (fails_none line.verb failing) silent tells.buffers;
   takes = takes_quiet script ended line row found reached lines seats logs fresh (fails_none line.verb failing) tells.takes;
+  values = values_quiet lan lan' script ended line row found reached partition lines seats logs (fails_puts_none line.verb failing) silent tells.values;
+  entries = entries_quiet lan lan' script ended line row found reached partition lines seats logs (fails_no_call line.verb failing) silent tells.entries;
   macs = macs_quiet lan lan' script ended line row found reached partition lines seats logs silent tells.macs;
+  bytes = bytes_quiet lan lan' script ended line row found reached partition lines seats logs (fails_quiet line.verb failing) silent tells.bytes;
   replay = failing_replay lan' script ended line found failing lines;
   offers = offers_fail lan' script ended line found failing lines;
   fit = fit_fails lan' script ended line found failing lines;
@@ -121,7 +146,10 @@ failing_tells lan lan' script line found failing silent tells = record {
   words = silent_words lan lan' script silent tells.words;
   buffers = buffers_silent lan lan' script silent tells.buffers;
   takes = tells.takes;
+  values = values_silent lan lan' script silent tells.values;
+  entries = entries_silent lan lan' script silent tells.entries;
   macs = macs_silent lan lan' script silent tells.macs;
+  bytes = bytes_silent lan lan' script silent tells.bytes;
   replay = failing_replay lan' script script line found failing refl;
   offers = offers_fail lan' script script line found failing refl;
   fit = fit_fails lan' script script line found failing refl;
@@ -133,7 +161,10 @@ rest_tells lan lan' script takes tells = record {
   words = rest_words lan lan' script takes tells.words;
   buffers = buffers_rest lan lan' script takes tells.buffers;
   takes = tells.takes;
+  values = values_rest lan lan' script takes tells.values;
+  entries = entries_rest lan lan' script takes tells.entries;
   macs = macs_rest lan lan' script takes tells.macs;
+  bytes = bytes_rest lan lan' script takes tells.bytes;
   replay = rest_replay lan lan' script takes tells.replay;
   offers = offers_rest lan lan' script takes tells.offers;
   fit = fit_rest lan lan' script takes tells.replay tells.fit;
@@ -145,7 +176,10 @@ fresh_tells lan script logs progress fresh = record {
   words = fresh_words lan script logs progress fresh;
   buffers = buffers_fresh lan script logs progress fresh;
   takes = takes_fresh script logs progress;
+  values = values_fresh lan script logs fresh;
+  entries = entries_fresh lan script logs;
   macs = macs_fresh lan script fresh;
+  bytes = bytes_fresh lan script logs fresh;
   replay = fresh_replay lan script logs progress fresh;
   offers = offers_fresh lan script logs;
   fit = fit_fresh lan script fresh;

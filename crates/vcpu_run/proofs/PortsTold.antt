@@ -1,5 +1,5 @@
 -- What the lines of LAN units tell is what a gathered trace shows of their ports.
-use Rattle.std.proofs.Common.{◌≡◌, ◌∙◌, ◌⊎◌, ℕ, ◌+◌, ◌==◌, ◌<◌, ◌≤◌, Bool, true, false, All, List, [], ◌∷◌, ◌++◌, append-nil, Option, Some, None, Result, Ok, Err, IfOk, IsSome, IsSomeAnd, filter, length, map, option_map, refl, slice_get, sym, take, ap, subst, arith}
+use Rattle.std.proofs.Common.{◌≡◌, ◌∙◌, ◌⊎◌, ℕ, ◌+◌, ◌*◌, ◌==◌, ◌≤◌, true, false, All, List, [], ◌∷◌, ◌++◌, append-nil, Option, Some, None, Result, Ok, Err, IfOk, OnOk, IsSome, filter, length, map, option_map, refl, slice_get, sym, take, ap, subst, arith}
 use Rattle.std.specs.List.{Contains, flat_map}
 use Rattle.std.proofs.lemmas.Option.{slice_get_past, slice_get_within, slice_get-map}
 use Rattle.std.proofs.lemmas.Bool.Decides.{nat_tests}
@@ -12,11 +12,15 @@ use Rattle.rdma_copy.specs.declared.copy.CopyRecord.{CopyRecord}
 use Rattle.boot_text.specs.declared.plan.Line.{Line}
 use Rattle.boot_text.specs.declared.plan.Partition.{Partition}
 use Rattle.boot_text.specs.SoFar.{has_server, is_server}
-use Rattle.boot_text.specs.Sound.{IsSoundPartition, unit_at, unit_in}
+use Rattle.boot_text.specs.Sound.{IsSoundPartition, unit_in}
 use Rattle.boot_text.specs.declared.plan.UnitPlan.{UnitPlan}
 use Rattle.boot_text.specs.declared.plan.UnitPlan.TheVariants as units
 use Rattle.lan_script.specs.Buffers.{posted_at}
-use Rattle.lan_script.specs.PortCounts.{PortCounts, counts, counts_at}
+use Rattle.lan_script.specs.Correlators.{CarriesAddress, CarryAddresses}
+use Rattle.lan_script.specs.Entries.{values_at}
+use Rattle.lan_script.specs.Windows.{facts_of}
+use Rattle.tce_window.specs.Window.{WindowValue}
+use Rattle.lan_script.specs.PortCounts.{PortCounts, counts}
 use Rattle.lan_script.specs.PortReplay.{IsOn, PortReplay, closed_replay}
 use Rattle.lan_script.specs.Replayed.{bytes_sent, replay_at, sessions_by}
 use Rattle.lan_script.specs.Resting.{IsAllTaken}
@@ -32,40 +36,48 @@ use Rattle.lan_script.specs.declared.rows.LanRows.{LanRows}
 use Rattle.vio_trace.specs.declared.lan_rows.DeliverRow.{DeliverRow}
 use Rattle.vio_trace.specs.declared.lan_rows.FrameRow.{FrameRow}
 use Rattle.vio_trace.specs.declared.lan_rows.HarvestRow.{HarvestRow}
+use Rattle.vio_trace.specs.declared.lan_rows.PostRow.{PostRow}
 use Rattle.vio_trace.specs.declared.rows.LogRow.{LogRow}
 use Rattle.vio_trace.specs.declared.rows.Trace.{Trace}
 use Rattle.vcpu_run.specs.declared.pair.Pair.{Pair}
 use Rattle.vcpu_run.specs.declared.script.Script.{Script}
-use Rattle.vcpu_run.specs.declared.unit_seat.Seat.{Seat}
 use Rattle.vcpu_run.specs.declared.unit_seat.Seat.TheVariants as sits
 use Rattle.vcpu_run.specs.Credited.{Ended, ended_by}
-use Rattle.vcpu_run.specs.Gathered.{IsGathered, logs_of, trace_of}
+use Rattle.vcpu_run.specs.Gathered.{HasLawfulWindow, IsGathered, logs_of, trace_of}
 use Rattle.vcpu_run.specs.Lines.{IsOver}
 use Rattle.vcpu_run.specs.Machines.{AreScripts, IsOfPlan, IsScriptFor, seat_of}
 use Rattle.vcpu_run.specs.Ports.{IsPortOf, ports_of, unit_of}
 use Rattle.lan_script.specs.OwnMac.{IsForGroup}
+use Rattle.vcpu_run.specs.PortBytes.{NamesOwnPages, bytes_told}
 use Rattle.vcpu_run.specs.PortMacs.{HasMac}
 use Rattle.vcpu_run.specs.PortOffers.{EndsFrame, GoesNow, GoesTo, KeepsOffers, WasTarget}
 use Rattle.vcpu_run.specs.PortPosts.{AreWithin, buffers_of, buffers_under}
 use Rattle.vcpu_run.specs.PortReplays.{AreReplayed, IsPlainPort, sent_at}
-use Rattle.vcpu_run.specs.PortWords.{BuffersAreTold, FramesAreOffered, HasNoCall, LinesTell, OffersAreFit, OffersHaveAddress, PortsAreReplayed, PortsAreTold, PortsTell, TakesAreWithin, TellsPort, WordsAreTold, counts_now, counts_under, done_in, frame_told}
+use Rattle.vcpu_run.specs.PortWords.{BuffersAreTold, FramesAreOffered, FramesHaveBytes, HasNoCall, LinesTell, OffersAreFit, OffersHaveAddress, PortsAreReplayed, PortsAreTold, PortsTell, PostsCarryAddresses, TakesAreWithin, TellsPort, ValuesAreTold, WordsAreTold, counts_now, counts_under, done_in, frame_told}
 use Rattle.vcpu_run.specs.PortsRest.{PortsEnd}
 use Rattle.vcpu_run.specs.Scripts.{are_servers}
 use Rattle.vcpu_run.specs.Settled.{script_of}
-use Rattle.vcpu_run.proofs.FramesCarried.{IsPlannedPort, port_planned}
+use Rattle.vcpu_run.specs.Shown.{values_shown}
+use Rattle.vcpu_run.specs.Units.{seats_of, unit_seat}
+use Rattle.vcpu_run.specs.ValuesPut.{values_told}
+use Rattle.vcpu_run.specs.declared.unit_seat.UnitSeat.{UnitSeat}
+use Rattle.vcpu_run.proofs.Seated.{planned_in}
+use Rattle.vcpu_run.proofs.Copied.{values_are as window_values}
+use Rattle.vcpu_run.proofs.Following.{each_from_all}
+use Rattle.vcpu_run.proofs.FramesCarried.{HasPortWindow, IsPlannedPort, port_planned, port_window_there}
 use Rattle.vcpu_run.proofs.Homes.{all_at, unit_found}
 use Rattle.vcpu_run.proofs.Listed.{held}
-use Rattle.vcpu_run.proofs.Parts.{found, in_slice}
+use Rattle.vcpu_run.proofs.Parts.{IsIn, each_in, found, in_slice}
 use Rattle.vcpu_run.proofs.Placing.{partitions_are}
 use Rattle.vcpu_run.proofs.PortOrder.{IsOwnSeat, ports_own, ports_sized}
 use Rattle.vcpu_run.proofs.RecordLaws.{lines_in, none_past, partitions_apart, rows_told}
 
 -- what is so of the rows that were counted
 pub from_counts : (pairs : List Pair) (scripts : List Script) (lan : LanValue) (history : List Served) (grants : List Grant) (copies : List CopyRecord) (r : Result Trace NoMemory)
-    (P : Trace → Type 0) → IfOk r (IsGathered pairs scripts lan history grants copies)
-    → ((rows : LanRows) → CountsRows lan rows → P (trace_of pairs scripts lan rows history grants copies)) → IfOk r P
-from_counts pairs scripts lan history grants copies (Ok t) P is step = subst P (sym is.trace_is) (step is.rows is.counted)
-from_counts pairs scripts lan history grants copies (Err none) P is step = tt
+    (A : Type 0) (P : Trace → Type 0) → IfOk r (IsGathered pairs scripts lan history grants copies) → OnOk r A
+    → ((rows : LanRows) → CountsRows lan rows → A → P (trace_of pairs scripts lan rows history grants copies)) → IfOk r P
+from_counts pairs scripts lan history grants copies (Ok t) A P is a step = subst P (sym is.trace_is) (step is.rows is.counted a)
+from_counts pairs scripts lan history grants copies (Err none) A P is a step = tt
 
 some_same : {X : Type 0} (x y : X) → Some x ≡ Some y → x ≡ y
 some_same x y e = cc (e)
@@ -349,13 +361,14 @@ takes_are pairs scripts lan rows history grants copies partitions are of_plan ov
 addressed_are : (pairs : List Pair) (scripts : List Script) (lan : LanValue) (rows : LanRows) (history : List Served) (grants : List Grant) (copies : List CopyRecord)
     (partitions : List Partition) → AreScripts pairs lan.seats scripts → IsOfPlan partitions pairs scripts lan.seats → All IsOver scripts → PortsTell lan scripts
     → CountsRows lan rows → OffersHaveAddress partitions (trace_of pairs scripts lan rows history grants copies)
-addressed_are pairs scripts lan rows history grants copies partitions are of_plan over tells counted unit seat there none sender other frame kept some =
-    subst (λ ls. IsForGroup (to_of frame) ⊎ HasMac seat (ended_by unit.unit ls logs) (to_of frame)) (sym at.lines)
-    (subst (λ l. IsForGroup (to_of frame) ⊎ HasMac seat (ended_by unit.unit at.script.lines.now l) (to_of frame)) (sym at.only)
-    (((tells unit.partition at.script at.is).macs (subst HasNoCall at.lines none) unit.unit at.sits seat seated).fit
+addressed_are pairs scripts lan rows history grants copies partitions are of_plan over tells counted unit seat there sender other frame kept some =
+    subst (λ ls. IsForGroup (to_of frame) ⊎ HasMac unit seat ls logs (to_of frame)) (sym at.lines)
+    (subst (λ l. IsForGroup (to_of frame) ⊎ HasMac unit seat at.script.lines.now l (to_of frame)) (sym at.only)
+    (subst (λ (id : UnitId). IsForGroup (to_of frame) ⊎ HasMac id seat at.script.lines.now at.script.logs.items (to_of frame)) at.named
+    (((tells unit.partition at.script at.is).macs unit.unit at.sits seat seated).fit
     sender (subst (λ (id : UnitId). same_unit sender id ≡ false) (sym at.named) other) frame
     (subst (λ (l : List FrameRow). Contains l frame) (counted.frames sender) kept)
-    (subst (λ (id : UnitId). 1 ≤ length (offers_to id frame.offers)) (sym at.named) some)))
+    (subst (λ (id : UnitId). 1 ≤ length (offers_to id frame.offers)) (sym at.named) some))))
   where
     logs : List LogRow
     logs = filter (λ (row : LogRow). row.partition == unit.partition) (flat_map logs_of scripts)
@@ -366,14 +379,95 @@ addressed_are pairs scripts lan rows history grants copies partitions are of_pla
     seated : seat_at lan.seats (unit_of at.script.partition unit.unit) ≡ Some seat
     seated = ap (λ u. seat_at lan.seats u) at.named ∙ (ap (λ ss. seat_at ss unit) of_plan.ports_are ∙ there)
 
+bytes_are : (pairs : List Pair) (scripts : List Script) (lan : LanValue) (rows : LanRows) (history : List Served) (grants : List Grant) (copies : List CopyRecord)
+    (partitions : List Partition) → AreScripts pairs lan.seats scripts → IsOfPlan partitions pairs scripts lan.seats → All IsOver scripts → PortsTell lan scripts
+    → CountsRows lan rows → FramesHaveBytes partitions (trace_of pairs scripts lan rows history grants copies)
+bytes_are pairs scripts lan rows history grants copies partitions are of_plan over tells counted unit seat there none plain =
+    ap (λ ls. bytes_told seat seat.mac (ended_by unit.unit ls logs)) at.lines
+    ∙ ap (λ l. bytes_told seat seat.mac (ended_by unit.unit at.script.lines.now l)) at.only
+    ∙ ((tells unit.partition at.script at.is).bytes (subst HasNoCall at.lines none) unit.unit (subst (NamesOwnPages unit.unit) at.lines plain) at.sits seat seated).bytes
+    ∙ ap (λ (id : UnitId). bytes_sent lan id) at.named ∙ sym (ap (λ (l : List FrameRow). map (λ (r : FrameRow). r.bytes) l) (counted.frames unit))
+  where
+    logs : List LogRow
+    logs = filter (λ (row : LogRow). row.partition == unit.partition) (flat_map logs_of scripts)
+
+    at : IsScriptAt scripts partitions unit logs
+    at = script_at pairs scripts lan.seats partitions unit are of_plan over (subst (λ (o : Option PortSeat). IsSome o) (sym there) refl)
+
+    seated : seat_at lan.seats (unit_of at.script.partition unit.unit) ≡ Some seat
+    seated = ap (λ u. seat_at lan.seats u) at.named ∙ (ap (λ ss. seat_at ss unit) of_plan.ports_are ∙ there)
+
+-- the values that a trace shows of a port's window are those that it has
+pub port_values : (pairs : List Pair) (scripts : List Script) (lan : LanValue) (rows : LanRows) (history : List Served) (grants : List Grant) (copies : List CopyRecord)
+    (partitions : List Partition) → AreScripts pairs lan.seats scripts → IsOfPlan partitions pairs scripts lan.seats → All (HasLawfulWindow pairs lan) (seats_of scripts)
+    → (unit : UnitId) → IsPortOf (ports_of partitions) unit
+    → (e : ℕ) → values_shown (trace_of pairs scripts lan rows history grants copies) unit e ≡ values_at lan unit e
+port_values pairs scripts lan rows history grants copies partitions are of_plan windows unit there e =
+    window_values pairs scripts lan rows history grants copies are windows seat w.window inside w.at e
+    ∙ sym (ap (λ (o : Option WindowValue). (facts_of unit lan.places o).values e) w.is)
+  where
+    planned : IsPlannedPort partitions unit
+    planned = port_planned partitions unit there
+
+    seat : UnitSeat
+    seat = unit_seat unit.partition unit.unit sits.Port
+
+    inside : IsIn seat (seats_of scripts)
+    inside = planned_in partitions pairs scripts lan.seats unit (units.Lan planned.mac planned.pages planned.slots) are of_plan planned.planned
+
+    w : HasPortWindow pairs lan unit
+    w = port_window_there pairs lan unit
+        (each_in (HasLawfulWindow pairs lan) seat (seats_of scripts) inside (each_from_all (HasLawfulWindow pairs lan) (seats_of scripts) windows)).fits
+        (subst (λ (seats : List PortSeat). IsSome (seat_at seats unit)) (sym of_plan.ports_are) there)
+
+values_told_are : (pairs : List Pair) (scripts : List Script) (lan : LanValue) (rows : LanRows) (history : List Served) (grants : List Grant) (copies : List CopyRecord)
+    (partitions : List Partition) → AreScripts pairs lan.seats scripts → IsOfPlan partitions pairs scripts lan.seats → All IsOver scripts → PortsTell lan scripts
+    → All (HasLawfulWindow pairs lan) (seats_of scripts) → ValuesAreTold partitions (trace_of pairs scripts lan rows history grants copies)
+values_told_are pairs scripts lan rows history grants copies partitions are of_plan over tells windows unit there none e =
+    port_values pairs scripts lan rows history grants copies partitions are of_plan windows unit there e
+    ∙ sym (ap (λ (id : UnitId). values_at lan id e) at.named)
+    ∙ (tells unit.partition at.script at.is).values (subst HasNoCall at.lines none) unit.unit at.sits e
+    ∙ sym (ap (λ l. (4096 * e + 3) ∷ values_told e (ended_by unit.unit at.script.lines.now l)) at.only)
+    ∙ sym (ap (λ ls. (4096 * e + 3) ∷ values_told e (ended_by unit.unit ls logs)) at.lines)
+  where
+    logs : List LogRow
+    logs = filter (λ (row : LogRow). row.partition == unit.partition) (flat_map logs_of scripts)
+
+    at : IsScriptAt scripts partitions unit logs
+    at = script_at pairs scripts lan.seats partitions unit are of_plan over there
+
+correlators_are : (pairs : List Pair) (scripts : List Script) (lan : LanValue) (rows : LanRows) (history : List Served) (grants : List Grant) (copies : List CopyRecord)
+    (partitions : List Partition) → AreScripts pairs lan.seats scripts → IsOfPlan partitions pairs scripts lan.seats → All IsOver scripts → PortsTell lan scripts
+    → CountsRows lan rows → PostsCarryAddresses partitions (trace_of pairs scripts lan rows history grants copies)
+correlators_are pairs scripts lan rows history grants copies partitions are of_plan over tells counted unit there none plain =
+    at_seat (seat_at (ports_of partitions) unit) refl there
+  where
+    logs : List LogRow
+    logs = filter (λ (row : LogRow). row.partition == unit.partition) (flat_map logs_of scripts)
+
+    at : IsScriptAt scripts partitions unit logs
+    at = script_at pairs scripts lan.seats partitions unit are of_plan over there
+
+    at_seat : (o : Option PortSeat) → seat_at (ports_of partitions) unit ≡ o → IsSome o
+        → All CarriesAddress (filter (λ (row : PostRow). same_unit row.unit unit) rows.posts.items)
+    at_seat None e some = absurd (cc (some))
+    at_seat (Some seat) e some =
+        subst (λ (l : List PostRow). All CarriesAddress l) (sym (counted.posted unit))
+        (subst (λ (id : UnitId). CarryAddresses lan id) at.named
+        ((tells unit.partition at.script at.is).bytes (subst HasNoCall at.lines none) unit.unit (subst (NamesOwnPages unit.unit) at.lines plain) at.sits seat
+        (ap (λ u. seat_at lan.seats u) at.named ∙ (ap (λ ss. seat_at ss unit) of_plan.ports_are ∙ e))).addresses)
+
 pub told_are : (pairs : List Pair) (scripts : List Script) (lan : LanValue) (rows : LanRows) (history : List Served) (grants : List Grant) (copies : List CopyRecord)
     (partitions : List Partition) → AreScripts pairs lan.seats scripts → IsOfPlan partitions pairs scripts lan.seats → All IsOver scripts → PortsEnd lan scripts
-    → CountsRows lan rows → PortsAreTold partitions (trace_of pairs scripts lan rows history grants copies)
-told_are pairs scripts lan rows history grants copies partitions are of_plan over ends counted = record {
+    → CountsRows lan rows → All (HasLawfulWindow pairs lan) (seats_of scripts) → PortsAreTold partitions (trace_of pairs scripts lan rows history grants copies)
+told_are pairs scripts lan rows history grants copies partitions are of_plan over ends counted windows = record {
   words = words_are pairs scripts lan rows history grants copies partitions are of_plan over ends.told counted;
   buffers = buffers_are pairs scripts lan rows history grants copies partitions are of_plan over ends.told counted;
   takes = takes_are pairs scripts lan rows history grants copies partitions are of_plan over ends.told;
+  values = values_told_are pairs scripts lan rows history grants copies partitions are of_plan over ends.told windows;
   addressed = addressed_are pairs scripts lan rows history grants copies partitions are of_plan over ends.told counted;
+  bytes = bytes_are pairs scripts lan rows history grants copies partitions are of_plan over ends.told counted;
+  correlators = correlators_are pairs scripts lan rows history grants copies partitions are of_plan over ends.told counted;
   replayed = replayed_are pairs scripts lan rows history grants copies partitions are of_plan over ends counted;
   offered = offered_are pairs scripts lan rows history grants copies partitions are of_plan over ends.told counted;
   fit = fit_are pairs scripts lan rows history grants copies partitions are of_plan over ends.told counted;

@@ -1,5 +1,5 @@
 -- The queues of a gathered trace are lawful: each session is one of a lawful pipe, with the slots of the plan.
-use Rattle.std.proofs.Common.{◌≡◌, ◌∙◌, ℕ, ◌+◌, ◌==◌, ◌<◌, ◌≤◌, Bool, true, false, cond, List, [], ◌∷◌, All, Option, Some, None, IfSome, IsSomeAnd, MatchOption, filter, map, option_map, slice_get, refl, sym, ap, subst, arith, zero, suc}
+use Rattle.std.proofs.Common.{◌≡◌, ◌∙◌, ℕ, ◌+◌, ◌==◌, ◌<◌, Bool, true, false, cond, List, [], ◌∷◌, All, Option, Some, None, IfSome, IsSomeAnd, MatchOption, filter, map, option_map, slice_get, refl, sym, ap, subst, arith, zero, suc}
 use Rattle.std.specs.List.{flat_map}
 use Rattle.std.proofs.lemmas.Bool.Decides.{nat_tests}
 use Rattle.vio_num.specs.Queue.{Handed, LawfulDrop}
@@ -38,7 +38,7 @@ use Rattle.vcpu_run.proofs.Blocks.{sessions_counted}
 use Rattle.vcpu_run.proofs.Copied.{names_apart}
 use Rattle.vcpu_run.proofs.Following.{each_from_all, ordered_from}
 use Rattle.vcpu_run.proofs.Listed.{held}
-use Rattle.vcpu_run.proofs.Order.{Each, Ordered, each_flat, each_weaker}
+use Rattle.lan_script.proofs.Order.{Each, Ordered, each_flat, each_weaker}
 use Rattle.vcpu_run.proofs.Parts.{Told}
 use Rattle.vcpu_run.proofs.Seated.{server_pair}
 use Rattle.vcpu_run.proofs.Ordering.{each_of, sessions_own}

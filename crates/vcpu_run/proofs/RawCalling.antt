@@ -11,6 +11,7 @@ use Rattle.hcall_table.specs.declared.returned.Returned.{Returned}
 use Rattle.vio_num.specs.declared.names.UnitId.{UnitId}
 use Rattle.lan_script.specs.PortCounts.{CountsOn, SendsCalled, counts, counts_called}
 use Rattle.lan_script.specs.Replayed.{SameBeside}
+use Rattle.lan_script.specs.Units.{LanValue}
 use Rattle.lan_script.specs.Values.{SameValuesBeside}
 use Rattle.lan_script.specs.declared.calls.PortCall.{PortCall}
 use Rattle.vcpu_run.specs.Freed.{FreesNoneIf}
@@ -28,7 +29,9 @@ use Rattle.vcpu_run.specs.CallsAnswered.{IsReturned}
 use Rattle.vcpu_run.specs.Credited.{StepsAgreed, StepsPort, grants, is_take}
 use Rattle.unit_region.specs.Steps.{IsPlain, is_plain}
 use Rattle.vcpu_run.specs.PortSteps.{IsApart}
-use Rattle.vcpu_run.specs.RawCalls.{AnswersCall, CallsUnits, MakesCall, place_of, seen_after}
+use Rattle.vcpu_run.specs.PortMacs.{CallsPort, mac_asked}
+use Rattle.vcpu_run.specs.RawCalls.{AnswersCall, CallsAt, CallsBy, CallsUnits, MakesCall, mac_of_row, place_of, seen_after}
+use Rattle.vcpu_run.proofs.CalledPorts.{none_called, row_called}
 use Rattle.vcpu_run.proofs.Crediting.{on_ok}
 use Rattle.vcpu_run.proofs.PortTurns.{call_apart, idle_same}
 use Rattle.vcpu_run.proofs.Credits.{plain_fresh}
@@ -90,6 +93,43 @@ units_called old new number args result unknown elsewhere made = at (row_of numb
         → IfSome row (λ row. IfSome (unit_of (place_of old) row args) (λ unit. AnswersCall (ask row unit (further row args)) old new result)) → MakesCall old new result
     at None e p m = calls_same old new result (unknown e).same
     at (Some row) e p m = called_on old new row (further row args) (unit_of (place_of old) row args) result p m
+
+-- what it made of the ports of the partition
+same_by : (partition : ℕ) (row : Option Hcall) (args : List ℕ) (old new : LanValue) (result : Result Returned NoMemory) → new ≡ old
+    → IfOk result (λ returned. (u : ℕ) → CallsPort (mac_asked (unit_id partition u) row args (outcomes.Code returned.code)) (unit_id partition u) old new)
+same_by partition row args old new (Err memory) same = tt
+same_by partition row args old new (Ok returned) same = λ u.
+    subst (λ (l : LanValue). CallsPort (mac_asked (unit_id partition u) row args (outcomes.Code returned.code)) (unit_id partition u) old l) (sym same)
+    (none_called (mac_asked (unit_id partition u) row args (outcomes.Code returned.code)) (unit_id partition u) old)
+
+ports_on : (old new : PartitionUnits) (row : Hcall) (args : List ℕ) (unit : ℕ) (result : Result Returned NoMemory) → unit_of (place_of old) row args ≡ Some unit
+    → IfOk result (CallsAt unit (mac_of_row row (further row args)) old new)
+    → IfOk result (λ returned. (u : ℕ) → CallsPort (mac_asked (unit_id old.partition u) (Some row) args (outcomes.Code returned.code)) (unit_id old.partition u) old.lan.now new.lan.now)
+ports_on old new row args unit (Err memory) e h = tt
+ports_on old new row args unit (Ok returned) e h = row_called (place_of old) row args unit returned.code old.lan.now new.lan.now e h
+
+pub units_ports : (old new : PartitionUnits) (number : ℕ) (args : List ℕ) (result : Result Returned NoMemory)
+    → (row_of number ≡ None → Refuses PartitionUnits codes.Function old new result)
+    → IfSome (row_of number) (λ row. unit_of (place_of old) row args ≡ None → Refuses PartitionUnits codes.Parameter old new result)
+    → IfSome (row_of number) (λ row. IfSome (unit_of (place_of old) row args) (λ unit. AnswersCall (ask row unit (further row args)) old new result))
+    → IfOk result (CallsBy old.partition number args old.lan.now new.lan.now)
+units_ports old new number args result unknown elsewhere made = at (row_of number) refl elsewhere made
+  where
+    lan_same : new ≡ old → new.lan.now ≡ old.lan.now
+    lan_same same = ap (λ (u : PartitionUnits). u.lan.now) same
+
+    on : (row : Hcall) (unit : Option ℕ) → unit_of (place_of old) row args ≡ unit → (unit ≡ None → Refuses PartitionUnits codes.Parameter old new result)
+        → IfSome unit (λ unit. AnswersCall (ask row unit (further row args)) old new result)
+        → IfOk result (λ returned. (u : ℕ) → CallsPort (mac_asked (unit_id old.partition u) (Some row) args (outcomes.Code returned.code)) (unit_id old.partition u) old.lan.now new.lan.now)
+    on row None e p m = same_by old.partition (Some row) args old.lan.now new.lan.now result (lan_same (p refl).same)
+    on row (Some unit) e p m = ports_on old new row args unit result e m.ports
+
+    at : (row : Option Hcall) → row_of number ≡ row
+        → IfSome row (λ row. unit_of (place_of old) row args ≡ None → Refuses PartitionUnits codes.Parameter old new result)
+        → IfSome row (λ row. IfSome (unit_of (place_of old) row args) (λ unit. AnswersCall (ask row unit (further row args)) old new result))
+        → IfOk result (λ returned. (u : ℕ) → CallsPort (mac_asked (unit_id old.partition u) row args (outcomes.Code returned.code)) (unit_id old.partition u) old.lan.now new.lan.now)
+    at None e p m = same_by old.partition None args old.lan.now new.lan.now result (lan_same (unknown e).same)
+    at (Some row) e p m = on row (unit_of (place_of old) row args) refl p m
 
 -- what a call returned at the unit that it names
 returned_on : (old new : PartitionUnits) (row : Hcall) (args : List ℕ) (unit : Option ℕ) (result : Result Returned NoMemory)

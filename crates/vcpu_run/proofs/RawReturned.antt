@@ -1,5 +1,5 @@
 -- What a raw call returned, at the unit that it names, and what its record says of it.
-use Rattle.std.proofs.Common.{◌≡◌, ◌↔◌, ◌∙◌, ℕ, Bool, true, false, cond, List, Option, Some, None, Result, Ok, Err, IfOk, IfSome, refl, sym, ap, subst, arith}
+use Rattle.std.proofs.Common.{◌≡◌, ◌↔◌, ◌∙◌, ℕ, Bool, true, false, cond, List, Option, Some, None, Result, Ok, Err, IfOk, IfSome, refl, sym, ap, subst}
 use Rattle.vio_num.specs.declared.hypervisor.Hrc.{Hrc}
 use Rattle.vio_num.specs.declared.hypervisor.Hrc.TheVariants as codes
 use Rattle.vio_num.specs.declared.memory.NoMemory.{NoMemory}
@@ -107,7 +107,7 @@ row_says seen row args returned answer is = record {
   done = done_says seen row args returned answer is.done;
 }
 
-unit_says : (seen : UnitsSeen) (number : ℕ) (args : List ℕ) (returned : Returned) (unit : Option ℕ) (row : Hcall) → row_of number ≡ Some row → IsAnswer row returned
+pub unit_says : (seen : UnitsSeen) (number : ℕ) (args : List ℕ) (returned : Returned) (unit : Option ℕ) (row : Hcall) → row_of number ≡ Some row → IsAnswer row returned
     → IfSome unit (λ unit. IsReturned (seen.of_unit unit) row (further row args) returned)
     → IfSome unit (λ unit. IsUnitSaid (seen.of_unit unit) row (further row args) (says number returned))
 unit_says seen number args returned None row is answer here = tt

@@ -1,6 +1,6 @@
 -- The records of a gathered trace are of the lines of each script up to the first that fails its partition, one a line, and
 -- keep the credits of its units.
-use Rattle.std.proofs.Common.{◌≡◌, ◌∙◌, ℕ, ◌+◌, ◌==◌, ◌<◌, ◌≤◌, Bool, true, false, All, List, [], ◌∷◌, ◌++◌, Option, Some, None, IsSomeAnd, drop, filter, length, map, slice_get, refl, sym, ap, subst, arith, append-nil, zero, suc}
+use Rattle.std.proofs.Common.{◌≡◌, ◌∙◌, ℕ, ◌+◌, ◌==◌, ◌<◌, ◌≤◌, true, false, All, List, [], ◌∷◌, ◌++◌, Option, Some, None, IsSomeAnd, drop, filter, length, map, slice_get, refl, sym, ap, subst, arith, append-nil, zero, suc}
 use Rattle.std.specs.List.{flat_map}
 use Rattle.std.proofs.lemmas.List.{drop_all}
 use Rattle.std.proofs.lemmas.Option.{slice_get_past}
@@ -20,12 +20,12 @@ use Rattle.vcpu_run.specs.Agreed.{AreCredited}
 use Rattle.vcpu_run.specs.Credited.{KeepsCredit, ended_by}
 use Rattle.vcpu_run.specs.Gathered.{logs_of, trace_of}
 use Rattle.vcpu_run.specs.Lines.{IsOver, numbers_to_fail}
-use Rattle.vcpu_run.specs.Machines.{AreScripts, AreScriptsOf, IsOfPlan, IsScriptFor}
+use Rattle.vcpu_run.specs.Machines.{AreScripts, IsOfPlan, IsScriptFor}
 use Rattle.vcpu_run.specs.RunLaw.{CreditsAreKept, RecordsAreOfLines}
 use Rattle.vcpu_run.specs.Settled.{script_in, script_of}
 use Rattle.vcpu_run.proofs.Following.{each_from_all}
 use Rattle.vcpu_run.proofs.Homes.{all_at}
-use Rattle.vcpu_run.proofs.Order.{Each, Ordered, each_weaker}
+use Rattle.lan_script.proofs.Order.{Each, Ordered, each_weaker}
 use Rattle.vcpu_run.proofs.Ordering.{each_script}
 use Rattle.vcpu_run.proofs.Parts.{found, in_slice}
 use Rattle.vcpu_run.proofs.Placing.{ArePartitions, first_partition, partitions_are, partitions_behind}

@@ -16,18 +16,21 @@ use Rattle.vio_trace.specs.declared.rows.LogRow.{LogRow}
 use Rattle.vcpu_run.specs.declared.driver.Driver.{Driver}
 use Rattle.vcpu_run.specs.declared.pair.Pair.{Pair}
 use Rattle.vcpu_run.specs.declared.script.Script.{Script}
-use Rattle.vcpu_run.specs.AnswersTaken.{AreAnswersTaken}
+use Rattle.vcpu_run.specs.AnswersTaken.{AreAnswersTaken, answers_to}
+use Rattle.vcpu_run.specs.DataTold.{AreDataTold}
 use Rattle.vcpu_run.specs.Credited.{ended_by}
 use Rattle.vcpu_run.specs.Gathered.{HasLawfulQueue, HasLawfulWindow, logs_of, queue_at, rows_if, sessions_at, trace_of, window_at}
 use Rattle.vcpu_run.specs.Machines.{AreScripts, HasNoClient, IsOfPlan, IsPlanned, IsPlannedClient}
 use Rattle.vcpu_run.specs.Ports.{unit_of}
 use Rattle.vcpu_run.specs.PortWords.{HasNoCall}
-use Rattle.vcpu_run.specs.Refusals.{AreValuesTold, HasCausesTold, RefusalsAreTold, seen_in}
+use Rattle.vcpu_run.specs.ValuesPut.{AreValuesTold}
+use Rattle.vcpu_run.specs.Refusals.{HasCausesTold, RefusalsAreTold, seen_in}
 use Rattle.vcpu_run.specs.Scripts.{are_servers}
 use Rattle.vcpu_run.specs.ScriptTold.{AreTold, IsScriptTold}
 use Rattle.vcpu_run.specs.Settled.{script_of}
 use Rattle.vcpu_run.specs.Shown.{pages_at, pages_if, sessions_of, stroke_value, strokes_on, window_shown, values_shown}
-use Rattle.vcpu_run.proofs.AnswersFound.{client_takes}
+use Rattle.vcpu_run.proofs.AnswersFound.{IsClientGiven, client_takes}
+use Rattle.vcpu_run.proofs.Driving.{some_is}
 use Rattle.vcpu_run.proofs.Listed.{held}
 use Rattle.vcpu_run.proofs.Parts.{IsIn, each_in, found, in_slice}
 use Rattle.vcpu_run.proofs.Placing.{partitions_are, seats_ordered}
@@ -143,9 +146,11 @@ refusals_are pairs scripts lan lan_rows history grants copies partitions home ar
     let window : window_at pairs lan own_seat ≡ Some pair.0.window = ap (option_map (λ (pair : Pair). pair.window)) pair.1 in
     let put : AreValuesTold trace client (ended_by client.unit script.lines.now script.logs.items) =
     λ e. values_are pairs scripts lan lan_rows history grants copies are windows own_seat pair.0.window own_inside window e ∙ script_is.put client.unit server.unit pair.0 at.2 pair.1 e in
-    let takes : AreAnswersTaken trace client (ended_by client.unit script.lines.now script.logs.items) =
+    let there = held (λ (pair : Pair). pair.server ≡ server) (slice_get pairs server.unit) (of_plan.pairs_are.servers server (of_plan.sound.served client server is)) in
+    let same : pair.0.server ≡ server = ap (λ (x : Pair). x.server) (some_is pair.0 there.0 (sym pair.1 ∙ there.1)) ∙ there.2 in
+    let given : IsClientGiven trace client server (ended_by client.unit script.lines.now script.logs.items) =
     client_takes partitions pairs scripts lan lan_rows history grants copies client server (ended_by client.unit script.lines.now script.logs.items) pair.0
-    (λ driver. driver.unit ≡ unit_of script.partition client.unit) are lawful of_plan is pair.1 pair.2 (script_is.taken.kept client.unit server.unit pair.0 at.2 pair.1) in
+    (λ driver. driver.unit ≡ unit_of script.partition client.unit) are lawful of_plan is pair.1 pair.2 (script_is.taken.kept client.unit server.unit pair.0 at.2 pair.1) sees same in
     record {
       causes = subst (λ n. HasCausesTold n (ended_by client.unit (script_of partitions p) (filter (λ (row : LogRow). row.partition == p) (flat_map logs_of scripts)))) (sym pages)
           (subst (λ (ls : List Line). HasCausesTold (length pair.0.window.pages) (ended_by client.unit ls (filter (λ (row : LogRow). row.partition == p) (flat_map logs_of scripts)))) (sym lines)
@@ -155,5 +160,7 @@ refusals_are pairs scripts lan lan_rows history grants copies partitions home ar
       put = subst (λ (ls : List Line). AreValuesTold trace client (ended_by client.unit ls (filter (λ (row : LogRow). row.partition == p) (flat_map logs_of scripts)))) (sym lines)
           (subst (λ (rows : List LogRow). AreValuesTold trace client (ended_by client.unit script.lines.now rows)) (sym (own_records pairs scripts lan p script are at.1)) put);
       takes = subst (λ (ls : List Line). AreAnswersTaken trace client (ended_by client.unit ls (filter (λ (row : LogRow). row.partition == p) (flat_map logs_of scripts)))) (sym lines)
-          (subst (λ (rows : List LogRow). AreAnswersTaken trace client (ended_by client.unit script.lines.now rows)) (sym (own_records pairs scripts lan p script are at.1)) takes);
+          (subst (λ (rows : List LogRow). AreAnswersTaken trace client (ended_by client.unit script.lines.now rows)) (sym (own_records pairs scripts lan p script are at.1)) given.takes);
+      reads = subst (λ (ls : List Line). AreDataTold (seen_in trace client server) server (ended_by client.unit ls (filter (λ (row : LogRow). row.partition == p) (flat_map logs_of scripts))) (answers_to trace client)) (sym lines)
+          (subst (λ (rows : List LogRow). AreDataTold (seen_in trace client server) server (ended_by client.unit script.lines.now rows) (answers_to trace client)) (sym (own_records pairs scripts lan p script are at.1)) given.reads);
     }

@@ -8,7 +8,7 @@ use Rattle.vscsi_client.specs.declared.answers.Refused.TheVariants as whys
 use Rattle.vscsi_client.specs.declared.op.Op.{Op}
 use Rattle.vscsi_client.specs.Frames.{HasMore}
 use Rattle.vscsi_client.specs.Ports.{Ports, WhyNotPut}
-use Rattle.vscsi_client.specs.Sending.{LoggedOut, NotPut, PutsNoUnit, PutsUnit, Submitted, Tasked, WhyNotSent, WhyNotSubmitted, command_refusal, logout_refusal, logout_unit, task_refusal, task_unit}
+use Rattle.vscsi_client.specs.Sending.{LoggedOut, PutsNoUnit, PutsUnit, Submitted, Tasked, WhyNotSent, WhyNotSubmitted, command_refusal, logout_refusal, logout_unit, task_refusal, task_unit}
 use Rattle.vscsi_client.specs.Sending.{Put as PutAs}
 use Rattle.vscsi_client.specs.State.{ClientState}
 use Rattle.vcpu_run.specs.Announces.{Announces}

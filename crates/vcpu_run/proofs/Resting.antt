@@ -1,5 +1,5 @@
 -- What is so of the links of pairs where nothing was done at an end.
-use Rattle.std.proofs.Common.{◌≡◌, ◌≢◌, ◌∙◌, ◌⊎◌, inl, inr, ℕ, ◌+◌, ◌<◌, zero, suc, Bool, true, false, List, [], ◌∷◌, Option, Some, None, Result, Ok, Err, IfOk, IfSome, IsSomeAnd, length, map, slice_get, slice_set, refl, sym, ap, ap₂, subst, arith}
+use Rattle.std.proofs.Common.{◌≡◌, ◌≢◌, ◌∙◌, ◌⊎◌, inl, inr, ℕ, ◌+◌, ◌<◌, zero, suc, Bool, false, List, [], ◌∷◌, Option, Some, None, Result, Ok, Err, IfOk, IfSome, IsSomeAnd, length, slice_get, slice_set, refl, sym, ap, ap₂, subst, arith}
 use Rattle.std.specs.Borrow.{GName}
 use Rattle.std.specs.Option.{option_map}
 use Rattle.std.proofs.lemmas.Option.{slice_get-map, slice_get_within}
@@ -20,7 +20,7 @@ use Rattle.vscsi_client.specs.Taking.{TakesNone}
 use Rattle.vcpu_run.specs.declared.pair.Pair.{Pair}
 use Rattle.vcpu_run.specs.declared.unit_seat.Seat.{Seat}
 use Rattle.vcpu_run.specs.declared.unit_seat.Seat.TheVariants as sits
-use Rattle.vcpu_run.specs.Links.{ClientWaits, EndRests, EndStays, EventStays, EventWaits, EventsWait, IsAllTaken, IsFull, LinkState, LinksRest, PairRests, link_state, links_of, queue_state}
+use Rattle.vcpu_run.specs.Links.{ClientWaits, EndRests, EndStays, EventStays, EventWaits, EventsWait, IsFull, LinkState, LinksRest, PairRests, link_state, links_of}
 use Rattle.vcpu_run.specs.Quietly.{OnQuiet}
 use Rattle.vcpu_run.proofs.Driving.{get_set_other, get_set_same, same_or, some_is}
 

@@ -1,5 +1,5 @@
 -- A row's run of copies is one still where more is heard.
-use Rattle.std.proofs.Common.{◌≡◌, ◌⊎◌, inl, inr, ◌+◌, ℕ, List, [], ◌∷◌, length}
+use Rattle.std.proofs.Common.{inl, inr, ◌+◌, ℕ, List, [], ◌∷◌, length}
 use Rattle.vio_num.specs.declared.history.Served.{Served}
 use Rattle.srp_iu.specs.Layout.{field}
 use Rattle.srp_iu.specs.declared.buffer.Buffer.{Buffer}

@@ -1,10 +1,8 @@
 -- What a line says of a request that it sends, or does not, by the records before it.
-use Rattle.std.proofs.Common.{◌≡◌, ◌≢◌, ◌∙◌, ◌⊎◌, inl, inr, ℕ, ◌+◌, ◌*◌, ◌≤◌, ◌<◌, ◌==◌, ◌&&◌, nat_le, cond, not, Bool, true, false, All, List, [], ◌∷◌, ◌++◌, Option, Some, None, IfSome, length, min, refl, sym, ap, subst, arith, find}
-use Rattle.std.specs.Prelude.{⊤}
+use Rattle.std.proofs.Common.{◌≡◌, ◌≢◌, ◌∙◌, ℕ, ◌+◌, ◌*◌, ◌≤◌, ◌<◌, ◌==◌, ◌&&◌, nat_le, cond, Bool, true, false, [], ◌∷◌, ◌++◌, Option, Some, None, IfSome, length, min, refl, sym, ap, subst, arith}
 use Rattle.std.specs.List.{Contains}
 use Rattle.std.specs.Option.{option_map}
 use Rattle.std.proofs.lemmas.Bool.Decides.{nat_tests}
-use Rattle.std.proofs.lemmas.List.Elements.{All-head, All-tail}
 use Rattle.boot_text.specs.declared.verb.Verb.{Verb}
 use Rattle.boot_text.specs.declared.verb.Verb.TheVariants as verbs
 use Rattle.vio_trace.specs.declared.outcome.Outcome.{Outcome}
@@ -12,7 +10,6 @@ use Rattle.vio_trace.specs.declared.outcome.Outcome.TheVariants as outcomes
 use Rattle.vscsi_client.specs.declared.op.Dir.{Dir}
 use Rattle.vscsi_client.specs.declared.op.Dir.TheVariants as dirs
 use Rattle.vscsi_client.specs.declared.op.Op.{Op}
-use Rattle.vscsi_client.specs.declared.outgoing.Outgoing.{Outgoing}
 use Rattle.vscsi_client.specs.declared.answers.Refused.{Refused}
 use Rattle.vscsi_client.specs.declared.answers.Refused.TheVariants as whys
 use Rattle.vscsi_client.specs.Sending.{refused_by}
@@ -25,7 +22,7 @@ use Rattle.vcpu_run.specs.Refusals.{IsAsked, IsSaid, IsTried, LoginNow, credit_r
 use Rattle.vcpu_run.specs.Replay.{asks, lie_within, ranges_of, table_range}
 use Rattle.vcpu_run.specs.Sendings.{says_as}
 use Rattle.vcpu_run.specs.Telling.{AgreesTold}
-use Rattle.vcpu_run.proofs.Order.{Ordered}
+use Rattle.lan_script.proofs.Order.{Ordered}
 use Rattle.vcpu_run.proofs.Driving.{some_is}
 
 -- the bytes of a line's command lie in the region exactly where those of its operation do

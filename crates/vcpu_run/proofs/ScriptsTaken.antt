@@ -1,5 +1,5 @@
 -- What is so of the answers of a script's clients, as its lines go on and end.
-use Rattle.std.proofs.Common.{◌≡◌, ◌≢◌, ◌∙◌, ◌⊎◌, inl, inr, ℕ, ◌==◌, cond, Bool, true, false, List, [], ◌∷◌, ◌++◌, Option, Some, None, Ok, IfSome, IsSomeAnd, length, slice_get, refl, sym, ap, subst, arith, eq-eqb, eqb-true}
+use Rattle.std.proofs.Common.{◌≡◌, ◌∙◌, ◌⊎◌, inl, inr, ℕ, ◌==◌, cond, Bool, true, false, List, [], ◌∷◌, ◌++◌, Option, Some, None, Ok, IfSome, IsSomeAnd, length, slice_get, refl, sym, ap, subst, arith, eq-eqb, eqb-true}
 use Rattle.std.proofs.lemmas.Option.{slice_get_past}
 use Rattle.vio_num.specs.declared.hypervisor.Moved.{Moved}
 use Rattle.boot_text.specs.declared.plan.Line.{Line}
@@ -8,18 +8,18 @@ use Rattle.boot_text.specs.declared.verb.Verb.TheVariants as verbs
 use Rattle.vio_trace.specs.declared.outcome.Outcome.{Outcome}
 use Rattle.vio_trace.specs.declared.outcome.Outcome.TheVariants as outcomes
 use Rattle.vio_trace.specs.declared.rows.LogRow.{LogRow}
-use Rattle.unit_region.specs.declared.step.Step.{Step}
 use Rattle.unit_region.specs.declared.step.Step.TheVariants as steps
 use Rattle.vcpu_run.specs.declared.pair.Pair.{Pair}
 use Rattle.vcpu_run.specs.declared.script.Progress.{Progress}
 use Rattle.vcpu_run.specs.declared.script.Progress.TheVariants as progress
 use Rattle.vcpu_run.specs.declared.script.Script.{Script}
 use Rattle.vcpu_run.specs.declared.unit_seat.Seat.TheVariants as places
-use Rattle.vcpu_run.specs.Agreed.{SameBeside}
 use Rattle.vcpu_run.specs.AnswersTaken.{IsTakeSaid, TakesNow, takes_by}
 use Rattle.vcpu_run.specs.Credited.{Ended, ended_by, is_take, taken_in}
 use Rattle.vcpu_run.specs.EventsHeard.{lost_of}
-use Rattle.vcpu_run.specs.Pairs.{AreDriven}
+use Rattle.vcpu_run.specs.DataKept.{IsKeptAt, range_in}
+use Rattle.vcpu_run.specs.Pairs.{AreDriven, Drives}
+use Rattle.vcpu_run.proofs.DataSteps.{fails_no_data}
 use Rattle.vcpu_run.specs.Scripts.{AreSeats}
 use Rattle.vcpu_run.specs.ScriptTold.{AtSeats, IsScriptTaken, SameClient, SameClients, own_of, progress_at, progress_by}
 use Rattle.vcpu_run.specs.TakenScripts.{AllGive, AreUntaken, PairAgrees, PairGives, PairTaken}
@@ -34,13 +34,13 @@ use Rattle.vcpu_run.proofs.SeatPairs.{apart_seats, before_of, else_by, fresh_at,
 use Rattle.vcpu_run.proofs.TakenOn.{kept_pair, taken_ends, taken_none, taken_quiet, taken_same, taken_waits}
 
 -- what is taken at pairs keeps what is so of their answers
-kept_all : (old new : List Pair) (script : Script) → AllGive old new → AtSeats script.seats.items old (λ unit pair. PairTaken (own_of unit script) pair)
+kept_all : (old new : List Pair) (script : Script) → AreDriven old new → AllGive old new → AtSeats script.seats.items old (λ unit pair. PairTaken (own_of unit script) pair)
     → AtSeats script.seats.items new (λ unit pair. PairTaken (own_of unit script) pair)
-kept_all old new script gives is unit k after at now = by (slice_get old k) refl (gives k after now)
+kept_all old new script driven gives is unit k after at now = by (slice_get old k) refl (gives k after now)
   where
     by : (o : Option Pair) → slice_get old k ≡ o → IsSomeAnd o (λ before. PairGives before after) → PairTaken (own_of unit script) after
     by None e h = absurd h
-    by (Some before) e h = kept_pair (own_of unit script) before after h (is unit k before at e)
+    by (Some before) e h = kept_pair (own_of unit script) before after (subst (λ (o : Option Pair). IsSomeAnd o (Drives before)) now (driven.each k before e)) h (is unit k before at e)
 
 -- what a line took so far, where it is the current one
 abbrev pub UpTo : (script : Script) (p : Progress) → Option Line → Type 0
@@ -94,7 +94,7 @@ pub waits_taken : (old new : List Pair) (script : Script) (p' : Progress) (line 
     → AreSeats script.partition script.seats.items old → AreDriven old new → SeatTold seat line script.progress p' old new (Ok (steps.Waits did))
     → IsScriptTaken old script → IsScriptTaken new (record script { progress = p' })
 waits_taken old new script p' line seat here did found one sits there are driven step is = record {
-  kept = kept_all old new script step.gives is.kept;
+  kept = kept_all old new script driven step.gives is.kept;
   up_to = subst (UpTo script p') (sym found) (λ k at. (own line.unit here sits there (eq-eqb line.unit line.unit refl)).0);
   agrees = λ l next ok unit k after at now. by unit k after at now (here_or line.unit unit);
 }
@@ -159,7 +159,7 @@ ends_taken old new script done line row seat p' found one sits are driven many s
     records unit = own_more script done line row unit found many lines logs
 
     still : (unit k : ℕ) (after : Pair) → slice_get script.seats.items unit ≡ Some (places.Client k) → slice_get new k ≡ Some after → PairTaken (own_of unit script) after
-    still unit k after at now = kept_all old new script step.gives is.kept unit k after at now
+    still unit k after at now = kept_all old new script driven step.gives is.kept unit k after at now
 
     each : (unit k : ℕ) (after : Pair) → slice_get script.seats.items unit ≡ Some (places.Client k) → slice_get new k ≡ Some after → ((line.unit == unit) ≡ true) ⊎ ((line.unit == unit) ≡ false)
         → PairTaken (own_of unit done) after × PairAgrees (own_of unit done) progress.Fresh after
@@ -172,7 +172,9 @@ ends_taken old new script done line row seat p' found one sits are driven many s
         subst (λ n. SeatTold n line script.progress p' old new (Ok (steps.Ends row.outcome))) same_seat step in
         subst (λ (own : List Ended). PairTaken own after × PairAgrees own progress.Fresh after)
         (sym (records unit ∙ ap (λ t. cond t (own_of unit script ++ e ∷ []) (own_of unit script)) same))
-        (taken_ends script.progress p' (own_of unit script) e b.pair after b.has of (stepped.takes b.pair after b.there now) (stepped.hears b.pair after b.there now) (is.kept unit k b.pair at b.there)
+        (taken_ends script.progress p' (own_of unit script) e b.pair after b.has of (stepped.takes b.pair after b.there now) (stepped.hears b.pair after b.there now) (stepped.reads b.pair after b.there now)
+        (subst (λ (o : Option Pair). IsSomeAnd o (λ before. PairGives before after)) b.there (stepped.gives k after now))
+        (subst (λ (o : Option Pair). IsSomeAnd o (Drives b.pair)) now (driven.each k b.pair b.there)).server (is.kept unit k b.pair at b.there)
         (still unit k after at now) agrees)
     each unit k after at now (inr differ) =
         let b = before_of script.partition unit k script.seats.items old new after are driven at now in
@@ -240,9 +242,9 @@ new_taken pairs script logs fresh untaken = record {
 
 -- the line that fails the partition is to be gone on with
 pub fail_waits_taken : (old new : List Pair) (script : Script) (line : Line) → slice_get script.lines.now script.at ≡ Some line → fails line.verb ≡ true
-    → AllGive old new → IsScriptTaken old script → IsScriptTaken new script
-fail_waits_taken old new script line found failing gives is = record {
-  kept = kept_all old new script gives is.kept;
+    → AreDriven old new → AllGive old new → IsScriptTaken old script → IsScriptTaken new script
+fail_waits_taken old new script line found failing driven gives is = record {
+  kept = kept_all old new script driven gives is.kept;
   up_to = is.up_to;
   agrees = λ l next ok unit k pair at now.
       absurd (true_false (fails line.verb) failing (subst (λ (x : Line). fails x.verb ≡ false) (some_is l line (sym next ∙ found)) ok));
@@ -280,12 +282,12 @@ fails_said verbs.Fail is tags now outcome = tt
 
 -- it ended, and no line is left
 pub fail_ends_taken : (old new : List Pair) (script done : Script) (line : Line) (row : LogRow) → slice_get script.lines.now script.at ≡ Some line → fails line.verb ≡ true
-    → AllGive old new → length script.logs.items ≡ script.at → row.outcome ≡ outcomes.Done
+    → AreDriven old new → AllGive old new → length script.logs.items ≡ script.at → row.outcome ≡ outcomes.Done
     → done.lines ≡ script.lines → done.seats ≡ script.seats → done.logs.items ≡ script.logs.items ++ row ∷ [] → done.at ≡ length done.lines.now
     → IsScriptTaken old script → IsScriptTaken new done
-fail_ends_taken old new script done line row found failing gives many ended lines seats logs over is = record {
+fail_ends_taken old new script done line row found failing driven gives many ended lines seats logs over is = record {
   kept = λ unit k after at now. each unit after
-      (kept_all old new script gives is.kept unit k after (subst (λ ss. slice_get ss.items unit ≡ Some (places.Client k)) seats at) now) (here_or line.unit unit);
+      (kept_all old new script driven gives is.kept unit k after (subst (λ ss. slice_get ss.items unit ≡ Some (places.Client k)) seats at) now) (here_or line.unit unit);
   up_to = subst (UpTo done done.progress) (sym none) tt;
   agrees = λ l next ok unit k pair at now. absurd (no_line l (sym none ∙ next));
 }
@@ -303,15 +305,15 @@ fail_ends_taken old new script done line row found failing gives many ended line
     each unit after kept (inl same) =
         subst (λ (own : List Ended). PairTaken own after) (sym (own_more script done line row unit found many lines logs
         ∙ ap (λ b. cond b (own_of unit script ++ e ∷ []) (own_of unit script)) same))
-        (taken_quiet (own_of unit script) e after (ap lost_of ended) (λ tags now. fails_said line.verb failing tags now row.outcome) quiet kept)
+        (taken_quiet (own_of unit script) e after (ap lost_of ended) (λ rs. subst (IsKeptAt rs (range_in line.verb)) (sym ended) tt) (fails_no_data line.verb failing) (λ tags now. fails_said line.verb failing tags now row.outcome) quiet kept)
     each unit after kept (inr differ) =
         subst (λ (own : List Ended). PairTaken own after) (sym (own_more script done line row unit found many lines logs
         ∙ ap (λ b. cond b (own_of unit script ++ e ∷ []) (own_of unit script)) differ)) kept
 
 -- no line is left, and a turn was had
-pub over_taken : (old new : List Pair) (script : Script) → slice_get script.lines.now script.at ≡ None → AllGive old new → IsScriptTaken old script → IsScriptTaken new script
-over_taken old new script none gives is = record {
-  kept = kept_all old new script gives is.kept;
+pub over_taken : (old new : List Pair) (script : Script) → slice_get script.lines.now script.at ≡ None → AreDriven old new → AllGive old new → IsScriptTaken old script → IsScriptTaken new script
+over_taken old new script none driven gives is = record {
+  kept = kept_all old new script driven gives is.kept;
   up_to = is.up_to;
   agrees = λ l next ok unit k pair at now. absurd (no_line l (sym none ∙ next));
 }

@@ -1,5 +1,5 @@
 -- The refusals of a script's clients, as its lines go on and end.
-use Rattle.std.proofs.Common.{◌≡◌, ◌≢◌, ◌∙◌, ◌⊎◌, inl, inr, ℕ, ◌<◌, ◌==◌, cond, Bool, true, false, List, [], ◌∷◌, ◌++◌, Option, Some, None, Result, Ok, IfSome, IsSomeAnd, length, slice_get, refl, sym, ap, subst, append-nil, arith, eq-eqb, eqb-true}
+use Rattle.std.proofs.Common.{◌≡◌, ◌≢◌, ◌∙◌, ◌⊎◌, inl, inr, ℕ, ◌<◌, ◌==◌, cond, Bool, true, false, List, [], ◌∷◌, ◌++◌, Option, Some, None, Ok, IfSome, IsSomeAnd, length, slice_get, refl, sym, ap, subst, append-nil, arith, eq-eqb, eqb-true}
 use Rattle.std.specs.List.{AllPairs}
 use Rattle.std.proofs.lemmas.List.Elements.{All-nil}
 use Rattle.std.proofs.lemmas.Option.{slice_get_past}
@@ -14,7 +14,6 @@ use Rattle.vio_trace.specs.declared.outcome.Outcome.TheVariants as outcomes
 use Rattle.vscsi_client.specs.State.{next_tag}
 use Rattle.crq_session.specs.PlainState.{end_of, side_of}
 use Rattle.vio_trace.specs.declared.rows.LogRow.{LogRow}
-use Rattle.unit_region.specs.declared.step.Step.{Step}
 use Rattle.unit_region.specs.declared.step.Step.TheVariants as steps
 use Rattle.vcpu_run.specs.declared.driver.Driver.{Driver}
 use Rattle.vcpu_run.specs.declared.pair.Pair.{Pair}
@@ -27,20 +26,23 @@ use Rattle.vcpu_run.specs.Agreed.{AreLoggedOut, IsLoggedOut, OnDrivers, driver_i
 use Rattle.vcpu_run.specs.Freeing.{is_reset}
 use Rattle.vcpu_run.specs.Credited.{Ended, ended_by, is_take, taken_in}
 use Rattle.vcpu_run.specs.LinesShow.{IsShown, LinesShow, Seen, read_by, requests, seen_at, written_by, further_of}
-use Rattle.vcpu_run.specs.Pairs.{AreDriven, Drives}
+use Rattle.vcpu_run.specs.Pairs.{AreDriven}
 use Rattle.vcpu_run.specs.Refusals.{HasCausesTold, tag_of, tags_told}
 use Rattle.vcpu_run.specs.Replay.{asks}
 use Rattle.vcpu_run.specs.Scripts.{AreSeats}
 use Rattle.vcpu_run.specs.ScriptTold.{AtSeats, IsResetOut, IsScriptTold, SameClient, SameClients, PairIsTold, PairShown, own_of, progress_at, progress_by}
 use Rattle.vcpu_run.specs.Suited.{suits}
 use Rattle.vcpu_run.specs.EventsHeard.{StepHears, lost_of}
-use Rattle.vcpu_run.specs.TakenScripts.{AllGive, AreUntaken, PairHears, PairTakes}
+use Rattle.vcpu_run.specs.TakenScripts.{AllGive, AreUntaken, PairHears, PairReads, PairTakes}
 use Rattle.vcpu_run.specs.Takings.{StepsTaken}
 use Rattle.vcpu_run.specs.Telling.{IsOf, IsTold, LineOut, LineTold, PairTold, SeatTold, Seated, StepsOut, StepsTold, login_after, seated}
 use Rattle.vcpu_run.specs.Works.{fails}
 use Rattle.vcpu_run.specs.ValuesPut.{AllSameValues, AreValuesPut, PairPuts, is_put}
 use Rattle.vcpu_run.proofs.ValuesKept.{ends_put, fails_none, first_values, keeps_put, same_puts, values_kept, waits_put}
-use Rattle.vcpu_run.proofs.Crediting.{ended_more, here_or, one_seat}
+use Rattle.vcpu_run.specs.DataKept.{range_in}
+use Rattle.vcpu_run.specs.DataRead.{given_by}
+use Rattle.vcpu_run.proofs.DataSteps.{pair_reads_none}
+use Rattle.vcpu_run.proofs.Crediting.{ended_more, here_or}
 use Rattle.vcpu_run.proofs.EventsHeard.{hears_same, none_lost}
 use Rattle.vcpu_run.proofs.AnswersCounted.{is_data, plain_taken}
 use Rattle.vcpu_run.proofs.Askings.{plain_ends}
@@ -462,6 +464,12 @@ waiting_shows p verb outcome seen unit mark (of_reset v o) = shows_none seen uni
 waiting_shows p verb outcome seen unit mark (of_take count v o) =
     shows_none seen unit mark verb outcome (ap requests v) (ap written_by v) (ap read_by v) (no_further seen (further_of verb) outcome (ap further_of v))
 
+-- and gives no data
+waiting_reads : (p : Progress) (verb : Verb) (outcome : Outcome) (pair : Pair) → EndsWaiting p verb outcome → PairReads verb pair pair (Ok (steps.Ends outcome))
+waiting_reads p verb outcome pair (of_login v o) = pair_reads_none pair verb (Ok (steps.Ends outcome)) (ap given_by v) (ap range_in v)
+waiting_reads p verb outcome pair (of_reset v o) = pair_reads_none pair verb (Ok (steps.Ends outcome)) (ap given_by v) (ap range_in v)
+waiting_reads p verb outcome pair (of_take count v o) = pair_reads_none pair verb (Ok (steps.Ends outcome)) (ap given_by v) (ap range_in v)
+
 -- and puts no value
 waiting_puts : (p : Progress) (verb : Verb) (outcome : Outcome) (pair : Pair) → EndsWaiting p verb outcome → PairPuts verb pair pair (Ok (steps.Ends outcome))
 waiting_puts p verb outcome pair (of_login v o) = same_puts verb (Ok (steps.Ends outcome)) _ _ (ap is_put v) refl
@@ -484,6 +492,8 @@ waiting_told pairs script done line row found suited are many ends lines seats l
             (some_is before after (sym b ∙ a)) (waiting_takes script.progress line.verb row.outcome before ends);
         hears = λ before after b a. subst (λ (x : Pair). PairHears before x (Ok (steps.Ends row.outcome)))
             (some_is before after (sym b ∙ a)) (waiting_hears script.progress line.verb row.outcome before ends);
+        reads = λ before after b a. subst (λ (x : Pair). PairReads line.verb before x (Ok (steps.Ends row.outcome)))
+            (some_is before after (sym b ∙ a)) (waiting_reads script.progress line.verb row.outcome before ends);
         puts = λ before after b a. subst (λ (x : Pair). PairPuts line.verb before x (Ok (steps.Ends row.outcome)))
             (some_is before after (sym b ∙ a)) (waiting_puts script.progress line.verb row.outcome before ends);
         gives = all_give_same pairs;
@@ -548,7 +558,7 @@ fail_waits_told old new script line found failing are driven gives same is = rec
   told = λ l next ok unit k pair at now.
       absurd (true_false (fails line.verb) failing (subst (λ (x : Line). fails x.verb ≡ false) (some_is l line (sym next ∙ found)) ok));
   shown = still_shown old new script are driven is.shown;
-  taken = fail_waits_taken old new script line found failing gives is.taken;
+  taken = fail_waits_taken old new script line found failing driven gives is.taken;
   put = put_on old new script are driven same is;
 }
 
@@ -563,7 +573,7 @@ fail_ends_told old new script done line row found failing are driven gives same 
   told = λ l next ok unit k pair at now. absurd (some_none l (sym none ∙ next));
   shown = ended_shown new script done line row found many lines seats logs (still_shown old new script are driven is.shown)
       (λ unit k after at now same. fail_shows (seen_at after) after.window.unit line.number line.verb row.outcome failing);
-  taken = fail_ends_taken old new script done line row found failing gives many done_is lines seats logs over is.taken;
+  taken = fail_ends_taken old new script done line row found failing driven gives many done_is lines seats logs over is.taken;
   put = λ unit k after at now. put unit after (put_on old new script are driven same is unit k after (subst (λ ss. slice_get ss.items unit ≡ Some (places.Client k)) seats at) now) (here_or line.unit unit);
 }
   where
@@ -604,7 +614,7 @@ over_told old new script none are driven gives same is = record {
   fresh = is.fresh;
   told = λ l next ok unit k pair at now. absurd (some_none l (sym none ∙ next));
   shown = still_shown old new script are driven is.shown;
-  taken = over_taken old new script none gives is.taken;
+  taken = over_taken old new script none driven gives is.taken;
   put = put_on old new script are driven same is;
 }
   where

@@ -23,13 +23,13 @@ use Rattle.vcpu_run.specs.declared.unit_seat.UnitSeat.{UnitSeat}
 use Rattle.vcpu_run.specs.Gathered.{FitsPort, port_window, window_at, HasLawfulWindow, IsWindowOf}
 use Rattle.vcpu_run.specs.Machines.{seat_of, AreScripts, HasNoClient, IsOfPlan, IsPlanned, IsPlannedClient, IsScriptFor}
 use Rattle.vcpu_run.specs.Pairs.{AreOfOneHome, IsDriver, IsPair}
-use Rattle.vcpu_run.specs.Ports.{ports_of, unit_of}
+use Rattle.vcpu_run.specs.Ports.{unit_of}
 use Rattle.vcpu_run.specs.Shown.{pages_at, pages_if}
 use Rattle.vcpu_run.specs.Units.{seats_by, seats_of, unit_seat}
 use Rattle.vcpu_run.specs.Windows.{rows_of_entry, value_row}
 use Rattle.vcpu_run.proofs.Homes.{unit_found}
-use Rattle.vcpu_run.proofs.Listed.{held, held_is, if_held, mapped, some_is, there_is}
-use Rattle.vcpu_run.proofs.Order.{Each}
+use Rattle.vcpu_run.proofs.Listed.{held, held_is, if_held, mapped, there_is}
+use Rattle.lan_script.proofs.Order.{Each}
 use Rattle.vcpu_run.proofs.Parts.{IsIn, each_in, in_flat, in_numbered, in_slice}
 use Rattle.vcpu_run.proofs.PortsFound.{port, port_found}
 use Rattle.vcpu_run.proofs.Sole.{each_seat}

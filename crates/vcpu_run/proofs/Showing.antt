@@ -19,7 +19,7 @@ use Rattle.vcpu_run.specs.Numbered.{numbered}
 use Rattle.vcpu_run.specs.Shown.{stroke_value}
 use Rattle.vcpu_run.specs.Windows.{rows_from, rows_of_entry, rows_on, strokes_in_rows, stroke_row, value_row, values_from, values_in_rows}
 use Rattle.vcpu_run.proofs.Blocks.{entry_named, page_named, IsOfEntry}
-use Rattle.vcpu_run.proofs.Order.{Each, each_weaker}
+use Rattle.lan_script.proofs.Order.{Each, each_weaker}
 use Rattle.vcpu_run.proofs.Parts.{only_block}
 use Rattle.vcpu_run.proofs.Sole.{none_passes}
 

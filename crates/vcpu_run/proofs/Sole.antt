@@ -12,7 +12,7 @@ use Rattle.vcpu_run.specs.declared.unit_seat.UnitSeat.{UnitSeat}
 use Rattle.vcpu_run.specs.CopyRows.{same_unit}
 use Rattle.vcpu_run.specs.Numbered.{numbered}
 use Rattle.vcpu_run.specs.Units.{seats_by, seats_of, unit_seat}
-use Rattle.vcpu_run.proofs.Order.{Each, Ordered, each_append, each_weaker}
+use Rattle.lan_script.proofs.Order.{Each, Ordered, each_append, each_weaker}
 
 -- back from the recursion on a list
 pub all_from_each : {X : Type 0} (P : X → Type 0) (xs : List X) → Each P xs → All P xs

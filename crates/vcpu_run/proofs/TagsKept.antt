@@ -1,19 +1,18 @@
 -- What a client keeps of its tags, as requests are sent and answered.
-use Rattle.std.proofs.Common.{zero, suc, ◌≡◌, ◌≢◌, ◌∙◌, ◌⊎◌, inl, inr, ℕ, ◌+◌, ◌-◌, ◌≤◌, ◌<◌, ◌==◌, ◌&&◌, ◌||◌, nat_le, Bool, true, false, cond, List, [], ◌∷◌, ◌++◌, Option, Some, None, length, map, slice_set, slice_index_or, refl, sym, ap, ap₂, subst, arith, eqb-true, eq-eqb, length-append}
-use Rattle.std.specs.List.{list_any}
+use Rattle.std.proofs.Common.{zero, suc, ◌≡◌, ◌≢◌, ◌∙◌, ◌⊎◌, inl, inr, ℕ, ◌+◌, ◌-◌, ◌≤◌, ◌<◌, ◌==◌, ◌&&◌, ◌||◌, nat_le, Bool, true, false, cond, List, [], ◌∷◌, ◌++◌, length, slice_set, slice_index_or, refl, sym, ap, subst, arith, eqb-true, eq-eqb, length-append}
 use Rattle.std.proofs.lemmas.Bool.Decides.{nat_tests}
 use Rattle.std.proofs.lemmas.List.{get_or-set_same, get_or-set_other, get_or_append_left, length-set}
 use Rattle.std.proofs.lemmas.List.Folds.{list_any-append}
 use Rattle.srp_iu.specs.declared.response.Rsp.{Rsp as Response}
 use Rattle.vscsi_client.specs.State.{tags_of}
 use Rattle.vscsi_client.specs.Taking.{answered, row_answered, without_tag}
-use Rattle.vscsi_client.specs.declared.op.Dir.{Dir}
 use Rattle.vscsi_client.specs.declared.op.Dir.TheVariants as dirs
 use Rattle.vscsi_client.specs.declared.outgoing.Outgoing.{Outgoing}
 use Rattle.vscsi_client.specs.declared.row.Row.{Row}
 use Rattle.vscsi_client.specs.declared.row.Row.TheVariants as rows
-use Rattle.vcpu_run.specs.AnswersTaken.{has_tag, is_known}
-use Rattle.vcpu_run.specs.Takings.{FitsTag, is_given, is_inward, row_at}
+use Rattle.vcpu_run.specs.AnswersTaken.{has_tag}
+use Rattle.vcpu_run.specs.Takings.{FitsTag}
+use Rattle.vcpu_run.specs.TagRows.{is_given, is_inward, row_at}
 use Rattle.vcpu_run.proofs.Announcing.{both_bools}
 use Rattle.vcpu_run.proofs.Crediting.{here_or}
 
@@ -36,7 +35,7 @@ pub has_this : (tag more : ℕ) (tags : List ℕ) → (more == tag) ≡ true →
 has_this tag more tags same = has_more tag more tags ∙ or_this (has_tag tag tags) (more == tag) same
 
 -- the row of a tag that was used, with one row more
-row_before : (rs : List Row) (row : Row) (tag : ℕ) → tag ≤ length rs → row_at (rs ++ row ∷ []) tag ≡ row_at rs tag
+pub row_before : (rs : List Row) (row : Row) (tag : ℕ) → tag ≤ length rs → row_at (rs ++ row ∷ []) tag ≡ row_at rs tag
 row_before rs row tag within = at (nat_le 1 tag) refl
   where
     at : (b : Bool) → nat_le 1 tag ≡ b → cond b (slice_index_or (rs ++ row ∷ []) (tag - 1) rows.Login) rows.Login ≡ cond b (slice_index_or rs (tag - 1) rows.Login) rows.Login
@@ -44,7 +43,7 @@ row_before rs row tag within = at (nat_le 1 tag) refl
     at false e = refl
 
 -- of the next tag
-row_here : (rs : List Row) (row : Row) → row_at (rs ++ row ∷ []) (length rs + 1) ≡ row
+pub row_here : (rs : List Row) (row : Row) → row_at (rs ++ row ∷ []) (length rs + 1) ≡ row
 row_here rs row = at (nat_le 1 (length rs + 1)) refl
   where
     last : (xs : List Row) → slice_index_or (xs ++ row ∷ []) (length xs) rows.Login ≡ row
@@ -89,12 +88,12 @@ fits_none rs asked tags inward tag fits = record {
 }
 
 -- The tag is one of those that were used, the next one, or a later one.
-data Stands (last tag : ℕ) : Type 0 where
+pub data Stands (last tag : ℕ) : Type 0 where
   Used : tag ≤ last → Stands last tag
   Next : tag ≡ last + 1 → Stands last tag
   Later : last + 1 < tag → Stands last tag
 
-stands : (last tag : ℕ) → Stands last tag
+pub stands : (last tag : ℕ) → Stands last tag
 stands last tag = at (nat_le tag last) refl
   where
     past : (b : Bool) → (tag == last + 1) ≡ b → nat_le tag last ≡ false → Stands last tag
@@ -183,7 +182,7 @@ both_ways false true f g = g refl
 both_ways false false f g = refl
 
 -- the row of the tag that is answered, and of another
-row_set : (rs : List Row) (tag : ℕ) (response : Response) → 1 ≤ tag → tag ≤ length rs → row_at (answered tag response rs) tag ≡ row_answered response (row_at rs tag)
+pub row_set : (rs : List Row) (tag : ℕ) (response : Response) → 1 ≤ tag → tag ≤ length rs → row_at (answered tag response rs) tag ≡ row_answered response (row_at rs tag)
 row_set rs tag response begun used = at (nat_le 1 tag) refl
   where
     row : Row
@@ -194,7 +193,7 @@ row_set rs tag response begun used = at (nat_le 1 tag) refl
     at true e = get_or-set_same rs (tag - 1) row rows.Login (omega (arith, begun, used))
     at false e = absurd (grind (arith, nat_tests, e, begun))
 
-row_unset : (rs : List Row) (tag other : ℕ) (response : Response) → 1 ≤ tag → other ≢ tag → row_at (answered tag response rs) other ≡ row_at rs other
+pub row_unset : (rs : List Row) (tag other : ℕ) (response : Response) → 1 ≤ tag → other ≢ tag → row_at (answered tag response rs) other ≡ row_at rs other
 row_unset rs tag other response begun apart = at (nat_le 1 other) refl
   where
     row : Row

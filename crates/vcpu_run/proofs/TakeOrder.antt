@@ -1,6 +1,6 @@
 -- An entry that is taken leaves the answers of a client in the order of the entries.
-use Rattle.std.proofs.Common.{◌≡◌, ◌∙◌, ◌⊎◌, inl, inr, ℕ, ◌≤◌, Bool, true, false, cond, All, List, [], ◌∷◌, ◌++◌, filter, map, refl, sym, ap, subst}
-use Rattle.std.proofs.lemmas.List.{append_assoc, map-append}
+use Rattle.std.proofs.Common.{◌≡◌, ◌∙◌, ◌⊎◌, inl, inr, ℕ, ◌≤◌, Bool, false, cond, List, [], ◌∷◌, ◌++◌, filter, map, sym, ap, subst}
+use Rattle.std.proofs.lemmas.List.{append_assoc}
 use Rattle.std.proofs.lemmas.List.Elements.{All-append, All-cons, All-nil}
 use Rattle.vio_num.specs.declared.entry.Entry.{Entry}
 use Rattle.vio_num.specs.Entry.{is_srp_entry}
@@ -8,15 +8,19 @@ use Rattle.crq_ring.specs.declared.rows.PipeRow.{PipeRow}
 use Rattle.crq_session.specs.EndState.{EndState, OnlyReserves, OnlyTakes}
 use Rattle.crq_session.specs.Answered.{FindsNone}
 use Rattle.tce_window.specs.PortState.{PortState}
-use Rattle.srp_iu.specs.declared.response.Rsp.{Rsp as Response}
 use Rattle.vscsi_client.specs.Ports.{Ports}
 use Rattle.vscsi_client.specs.State.{ClientState}
-use Rattle.vscsi_client.specs.Taking.{Fetches, IsNext, IsOfTag, Judges, JudgesFirst, Polls, PollsNone, TakesAs, TakesEntry, taken_by}
+use Rattle.vscsi_client.specs.Taking.{IsNext, IsOfTag, JudgesFirst, PollsNone, TakesAs, TakesEntry}
 use Rattle.vscsi_client.specs.declared.answers.Taken.{Taken}
 use Rattle.vscsi_client.specs.declared.answers.Taken.TheVariants as takens
 use Rattle.vcpu_run.specs.Answered.{AreBegun}
 use Rattle.vcpu_run.specs.AnswersTaken.{AreAmong, tags_among, tags_taken}
-use Rattle.vcpu_run.specs.Takings.{IsBegun, waiting, waiting_by}
+use Rattle.vcpu_run.specs.Takings.{IsBegun, SameServer, waiting}
+use Rattle.vio_trace.specs.declared.rows.AnswerRow.{AnswerRow}
+use Rattle.vcpu_run.specs.DataKept.{KeepsData}
+use Rattle.vcpu_run.proofs.DataStays.{data_same}
+use Rattle.vcpu_run.proofs.DataTurns.{NotesAs, takes_data}
+use Rattle.vcpu_run.proofs.ServersKept.{takes_server}
 use Rattle.vcpu_run.proofs.Among.{among_less, tags_both, wait_next, wait_none}
 use Rattle.vcpu_run.specs.EventsHeard.{Hears}
 use Rattle.vcpu_run.proofs.EventsHeard.{as_hears, hears_less, none_hears, taken_lost}
@@ -96,6 +100,8 @@ pub record TakesIn (taken : Taken) (s s' : ClientState) (e f : EndState) : Type 
   pub last : f.last_session ≡ e.last_session
   pub rest : waiting s ≡ [] → waiting s' ≡ []
   pub heard : Hears 0 s s' e f
+  pub server : SameServer s s'
+  pub keeps : (xs ys : List AnswerRow) → NotesAs taken xs ys → KeepsData s s' xs ys
 
 takes_as : (taken : Taken) (s s' : ClientState) (old new : Ports) → TakesAs s s' old new taken → OnlyTakes old.crq_shared old.crq new.crq → TakesIn taken s s' old.crq new.crq
 takes_as taken s s' old new h rest = record {
@@ -107,6 +113,8 @@ takes_as taken s s' old new h rest = record {
   last = rest.last_session;
   rest = λ none. judged_rest old.own_shared h.kept s' old.own new.own taken h.judged (ap waiting h.fetched.client ∙ none);
   heard = hears_less (taken_lost taken) s s' old.crq new.crq (as_hears s s' old new taken h);
+  server = takes_server s s' old new taken h;
+  keeps = takes_data taken s s' old new h;
 }
 
 polled_none : (shared : Bool) (e f : EndState) (number : ℕ) → PollsNone shared e number f → f.taken ≡ e.taken
@@ -133,4 +141,6 @@ takes_in (takens.Empty number) s s' old new h rest =
       last = rest.last_session;
       rest = λ none. ap waiting h.fetched.client ∙ none;
       heard = none_hears s s' old new number h;
+      server = ap (λ (t : ClientState). t.server) h.fetched.client;
+      keeps = λ xs ys same. data_same s s' xs ys (ap (λ (t : ClientState). t.rows) h.fetched.client) (ap (λ (t : ClientState). t.outgoing) h.fetched.client) same;
     }

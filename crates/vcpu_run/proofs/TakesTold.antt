@@ -1,18 +1,16 @@
 -- What a line that takes leaves of a client, and of what its record says.
-use Rattle.std.proofs.Common.{◌≡◌, ◌∙◌, ◌⊎◌, inl, inr, ℕ, ◌+◌, ◌-◌, ◌≤◌, ◌==◌, cond, Bool, true, false, All, List, [], ◌∷◌, Option, Some, None, Result, Ok, IsSomeAnd, find, length, min, refl, sym, ap, subst, arith}
+use Rattle.std.proofs.Common.{◌≡◌, ◌∙◌, inl, ℕ, ◌+◌, ◌-◌, ◌≤◌, ◌==◌, cond, Bool, true, false, All, List, [], ◌∷◌, Option, Some, None, Ok, IsSomeAnd, find, length, refl, sym, ap, subst, arith}
 use Rattle.std.specs.List.{Contains}
 use Rattle.std.specs.Option.{option_map}
-use Rattle.std.proofs.lemmas.List.Elements.{All-cons, All-head, All-nil, All-tail}
+use Rattle.std.proofs.lemmas.List.Elements.{All-cons, All-head, All-tail}
 use Rattle.vio_num.specs.declared.hypervisor.Moved.{Moved}
 use Rattle.srp_iu.specs.declared.response.Rsp.{Rsp as Response}
 use Rattle.boot_text.specs.declared.verb.Verb.TheVariants as verbs
 use Rattle.vio_trace.specs.declared.outcome.Outcome.TheVariants as outcomes
 use Rattle.unit_region.specs.declared.step.Step.TheVariants as steps
-use Rattle.vscsi_client.specs.declared.answers.Taken.{Taken}
 use Rattle.vscsi_client.specs.declared.answers.Taken.TheVariants as takens
 use Rattle.vscsi_client.specs.declared.outgoing.Outgoing.{Outgoing}
 use Rattle.vscsi_client.specs.declared.row.Row.{Row}
-use Rattle.vscsi_client.specs.declared.row.Row.TheVariants as rows
 use Rattle.vscsi_client.specs.Ports.{Ports}
 use Rattle.vscsi_client.specs.State.{ClientState, next_tag}
 use Rattle.vscsi_client.specs.Taking.{TakesEntry, answered, slot_of, without_tag}
@@ -22,7 +20,7 @@ use Rattle.vcpu_run.specs.Credited.{taken_in}
 use Rattle.vcpu_run.specs.Refusals.{LoginNow, login_by}
 use Rattle.vcpu_run.specs.Telling.{AgreesTold, LosesLogin, SameTold, StepsTold, TakesAnswer, login_after, seated}
 use Rattle.vcpu_run.proofs.Driving.{set_length}
-use Rattle.vcpu_run.proofs.LoginSteps.{below_on, no_tags, queue_back, queue_on}
+use Rattle.vcpu_run.proofs.LoginSteps.{below_on, no_tags, queue_back}
 use Rattle.vcpu_run.proofs.Tellings.{ends_told, still_open}
 
 -- the requests without one of them

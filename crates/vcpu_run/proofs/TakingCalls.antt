@@ -1,35 +1,25 @@
 -- What each call of a client leaves of what the records tell of its answers.
-use Rattle.std.proofs.Common.{◌≡◌, ◌∙◌, ◌⊎◌, inl, inr, ℕ, ◌+◌, ◌≤◌, ◌==◌, ◌||◌, Bool, true, false, cond, List, [], ◌∷◌, ◌++◌, find, Option, Some, None, Result, Ok, Err, IfOk, IfErr, IfSome, OnErr, IsSomeAnd, length, map, refl, sym, ap, subst, arith, length-append, eqb-true}
-use Rattle.std.proofs.lemmas.List.{map-append}
+use Rattle.std.proofs.Common.{◌≡◌, ◌∙◌, inl, inr, ℕ, false, [], ◌∷◌, ◌++◌, Option, Some, None, Result, Ok, Err, IfOk, IfErr, IfSome, OnErr, refl, sym, ap}
 use Rattle.boot_text.specs.declared.verb.Verb.{Verb}
 use Rattle.boot_text.specs.declared.verb.Verb.TheVariants as verbs
 use Rattle.vio_num.specs.declared.memory.NoMemory.{NoMemory}
-use Rattle.vio_trace.specs.declared.outcome.Outcome.TheVariants as outcomes
-use Rattle.vio_trace.specs.declared.rows.AnswerRow.{AnswerRow}
 use Rattle.unit_region.specs.declared.step.Step.{Step}
-use Rattle.unit_region.specs.declared.step.Step.TheVariants as steps
-use Rattle.srp_iu.specs.declared.response.Rsp.{Rsp as Response}
-use Rattle.vscsi_client.specs.declared.answers.LoginTurn.{LoginTurn}
-use Rattle.vscsi_client.specs.declared.answers.LoginTurn.TheVariants as turns
 use Rattle.vscsi_client.specs.declared.answers.Refused.{Refused}
-use Rattle.vscsi_client.specs.declared.answers.Taken.{Taken}
-use Rattle.vscsi_client.specs.declared.answers.Taken.TheVariants as takens
 use Rattle.vscsi_client.specs.declared.op.Dir.{Dir}
 use Rattle.vscsi_client.specs.declared.op.Dir.TheVariants as dirs
 use Rattle.vscsi_client.specs.declared.op.Op.{Op}
-use Rattle.vscsi_client.specs.declared.outgoing.Outgoing.{Outgoing}
-use Rattle.vscsi_client.specs.declared.row.Row.{Row}
 use Rattle.vscsi_client.specs.declared.row.Row.TheVariants as rows
 use Rattle.vscsi_client.specs.Ports.{Ports}
 use Rattle.vscsi_client.specs.Sending.{LoggedOut, Submitted, Tasked, WhyNotSubmitted, command_refusal, request_of, task_of}
-use Rattle.vscsi_client.specs.State.{ClientState, tags_of}
+use Rattle.vscsi_client.specs.State.{ClientState}
 use Rattle.vcpu_run.specs.declared.driver.Driver.{Driver}
-use Rattle.vcpu_run.specs.AnswersTaken.{TakesNow, answered_tags, has_tag, reads_in}
-use Rattle.vcpu_run.specs.Commands.{HasNoData, IsOpOf}
+use Rattle.vcpu_run.specs.AnswersTaken.{reads_in}
+use Rattle.vcpu_run.specs.Commands.{IsOpOf}
 use Rattle.vcpu_run.specs.Credited.{is_take}
-use Rattle.vcpu_run.specs.Sendings.{SaysSent, SaysTurned}
-use Rattle.vcpu_run.specs.Takings.{StepsTaken, is_given, is_inward}
-use Rattle.vcpu_run.proofs.AnswersCounted.{SameTags, SendsAs, is_data, plain_taken, sent_taken}
+use Rattle.vcpu_run.specs.Sendings.{SaysSent}
+use Rattle.vcpu_run.specs.Takings.{StepsTaken}
+use Rattle.vcpu_run.specs.TagRows.{is_given, is_inward}
+use Rattle.vcpu_run.proofs.AnswersCounted.{SameTags, is_data, plain_taken, sent_taken}
 
 -- the row of a command is of one with data-in where its line reads
 command_inward : (verb : Verb) (op : Op) → IsOpOf verb op → is_inward (rows.Command op.dir op.at op.len None) ≡ reads_in verb

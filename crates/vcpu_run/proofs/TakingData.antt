@@ -1,5 +1,5 @@
 -- What a line says that gives the data of a tag: they are known where the client keeps an answer to a command with data-in.
-use Rattle.std.proofs.Common.{◌≡◌, ◌∙◌, ◌⊎◌, inl, inr, ℕ, ◌+◌, ◌-◌, ◌≤◌, nat_le, Bool, true, false, cond, List, [], ◌∷◌, Option, Some, None, Result, Ok, Err, length, slice_index_or, take, refl, sym, ap, subst, arith}
+use Rattle.std.proofs.Common.{◌≡◌, ◌∙◌, ℕ, ◌-◌, nat_le, Bool, true, false, cond, List, Some, None, Result, Ok, Err, length, slice_index_or, take, refl, sym, ap, subst, arith}
 use Rattle.std.proofs.lemmas.List.{length-map, take_all}
 use Rattle.boot_text.specs.declared.verb.Verb.TheVariants as verbs
 use Rattle.vio_num.specs.declared.hypervisor.Moved.{Moved}
@@ -7,7 +7,7 @@ use Rattle.vio_trace.specs.declared.outcome.Outcome.{Outcome}
 use Rattle.vio_trace.specs.declared.outcome.Outcome.TheVariants as outcomes
 use Rattle.vio_trace.specs.declared.rows.AnswerRow.{AnswerRow}
 use Rattle.unit_region.specs.declared.step.Step.TheVariants as steps
-use Rattle.vscsi_client.specs.State.{ClientState, tags_of}
+use Rattle.vscsi_client.specs.State.{ClientState}
 use Rattle.vscsi_client.specs.Transferred.{data_of_row, data_range}
 use Rattle.vscsi_client.specs.declared.answers.DataFault.{DataFault}
 use Rattle.vscsi_client.specs.declared.answers.DataFault.TheVariants as faults
@@ -16,7 +16,8 @@ use Rattle.vscsi_client.specs.declared.row.Row.{Row}
 use Rattle.vscsi_client.specs.declared.row.Row.TheVariants as rows
 use Rattle.vcpu_run.specs.declared.driver.Driver.{Driver}
 use Rattle.vcpu_run.specs.AnswersTaken.{IsDataSaid, TakesNow, answered_tags, is_known, takes_by}
-use Rattle.vcpu_run.specs.Takings.{AgreesTaken, StepsTaken, is_given, row_at}
+use Rattle.vcpu_run.specs.Takings.{AgreesTaken, StepsTaken}
+use Rattle.vcpu_run.specs.TagRows.{is_given, row_at}
 use Rattle.vcpu_run.proofs.AnswersCounted.{SameTags, same_agrees}
 
 given_none : (row : Row) → data_of_row row ≡ None → is_given row ≡ false

@@ -1,5 +1,5 @@
 -- What a line leaves of its client's answers, by what it is.
-use Rattle.std.proofs.Common.{◌≡◌, ℕ, Bool, true, false, Result, Ok, Err, OnOk, refl, sym, ap, subst}
+use Rattle.std.proofs.Common.{◌≡◌, ℕ, false, Result, OnOk, refl, sym, ap, subst}
 use Rattle.vio_num.specs.declared.memory.NoMemory.{NoMemory}
 use Rattle.crq_session.specs.EndState.{EndState}
 use Rattle.boot_text.specs.declared.verb.Verb.{Verb}
@@ -10,6 +10,7 @@ use Rattle.vcpu_run.specs.declared.driver.Driver.{Driver}
 use Rattle.vcpu_run.specs.Credited.{is_take}
 use Rattle.vcpu_run.specs.EventsHeard.{events_waiting}
 use Rattle.vcpu_run.specs.Takings.{Gives, StepsTaken, waiting}
+use Rattle.vcpu_run.proofs.DataStays.{data_same}
 use Rattle.vcpu_run.proofs.Giving.{beside_gives, gives_ok}
 use Rattle.vcpu_run.proofs.AnswersCounted.{is_data, plain_taken}
 
@@ -25,4 +26,5 @@ own_step verb taken a result no_take no_data plain = plain_taken verb taken a a 
 pub data_step : (a b : Driver) (e : EndState) (result : Result Step NoMemory) → b.answers ≡ a.answers → b.client ≡ a.client → OnOk result (Gives a b e e)
 data_step a b e result answers client =
     gives_ok a b e e result
-    (beside_gives a b e e (ap events_waiting client) (ap (λ xs. xs.items) answers) (ap (λ (s : ClientState). s.kept) client) (ap waiting client) (refl, refl, refl))
+    (beside_gives a b e e (ap events_waiting client) (ap (λ (s : ClientState). s.server) client)
+    (data_same a.client b.client a.answers.items b.answers.items (ap (λ (s : ClientState). s.rows) client) (ap (λ (s : ClientState). s.outgoing) client) (ap (λ xs. xs.items) answers)) (ap (λ xs. xs.items) answers) (ap (λ (s : ClientState). s.kept) client) (ap waiting client) (refl, refl, refl))

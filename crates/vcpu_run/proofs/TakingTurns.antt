@@ -1,5 +1,5 @@
 -- What a login's turn and the taking of entries leave of what the records tell of a client's answers.
-use Rattle.std.proofs.Common.{◌≡◌, ◌∙◌, ◌⊎◌, inl, inr, ℕ, ◌+◌, ◌≤◌, ◌==◌, ◌||◌, Bool, true, false, cond, List, [], ◌∷◌, ◌++◌, find, Option, Some, None, Result, Ok, Err, IsSomeAnd, length, map, take, refl, sym, ap, subst, arith, eqb-true, length-append}
+use Rattle.std.proofs.Common.{◌≡◌, ◌∙◌, ℕ, ◌+◌, ◌≤◌, ◌==◌, ◌||◌, Bool, true, false, cond, List, [], ◌∷◌, ◌++◌, find, Some, Ok, IsSomeAnd, length, refl, sym, ap, subst, arith, eqb-true, length-append}
 use Rattle.std.specs.Option.{option_map}
 use Rattle.std.proofs.lemmas.List.{map-append}
 use Rattle.boot_text.specs.declared.verb.Verb.{Verb}
@@ -30,14 +30,13 @@ use Rattle.vscsi_client.specs.State.{ClientState, tags_of}
 use Rattle.vscsi_client.specs.Taking.{TakesEntry, answered, slot_of, without_tag}
 use Rattle.vscsi_client.specs.Turned.{Site, LoginStep, Registered, Took, TookNone, Looked, Began, Wrote, NotWritten, Put, RanOut, Steps, Runs, is_dropped, sent_by, sent_stage}
 use Rattle.vcpu_run.specs.declared.driver.Driver.{Driver}
-use Rattle.vcpu_run.specs.AnswersTaken.{TakesNow, answered_tags, has_tag, is_known, takes_by}
+use Rattle.vcpu_run.specs.AnswersTaken.{TakesNow, answered_tags, has_tag, takes_by}
 use Rattle.vcpu_run.specs.Credited.{is_take}
 use Rattle.vcpu_run.specs.Sendings.{SaysTurned}
 use Rattle.vcpu_run.specs.Takings.{AgreesTaken, FitsTag, Notes, StepsTaken, TookTaken}
 use Rattle.vcpu_run.specs.declared.taking.Took.TheVariants as tooks
 use Rattle.vcpu_run.proofs.TagsKept.{fits_answered, fits_more, fits_none, tags_fewer}
-use Rattle.vcpu_run.proofs.AnswersCounted.{SameTags, is_data, no_inward, said_none, same_agrees}
-use Rattle.vcpu_run.proofs.TakingCalls.{tags_still}
+use Rattle.vcpu_run.proofs.AnswersCounted.{is_data, no_inward, said_none}
 
 -- What a client keeps of its tags is as it was.
 abbrev pub KeepsTags : ClientState → ClientState → Type 0
@@ -126,7 +125,7 @@ turned_taken verb a b turn step no_take no_data answers keeps says = at turn ste
     at (turns.Busy number held) (steps.Ends outcome) h = absurd h
 
 -- a request with a slot is outstanding
-slot_has : (P : ℕ → Type 0) (tag : ℕ) (outgoing : List Outgoing) → IsSomeAnd (slot_of tag outgoing) P → has_tag tag (tags_of outgoing) ≡ true
+pub slot_has : (P : ℕ → Type 0) (tag : ℕ) (outgoing : List Outgoing) → IsSomeAnd (slot_of tag outgoing) P → has_tag tag (tags_of outgoing) ≡ true
 slot_has P tag [] some = absurd some
 slot_has P tag (o ∷ os) some = at (o.tag == tag) (slot_has P tag os) some
   where

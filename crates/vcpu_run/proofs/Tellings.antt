@@ -1,23 +1,17 @@
 -- What the steps of a line that sends leave of a client and of its records.
-use Rattle.std.proofs.Common.{◌≡◌, ◌∙◌, ◌⊎◌, inl, inr, ℕ, ◌+◌, ◌≤◌, ◌<◌, cond, not, Bool, true, false, All, List, [], ◌∷◌, ◌++◌, Option, Some, None, Result, Ok, Err, IfSome, IfOk, IfErr, OnErr, length, min, refl, sym, ap, subst, arith, append-nil, append_assoc, length-append}
-use Rattle.std.specs.Option.{option_map}
+use Rattle.std.proofs.Common.{◌≡◌, ◌∙◌, ◌⊎◌, inl, inr, ℕ, ◌+◌, ◌≤◌, ◌<◌, not, true, false, All, List, [], ◌∷◌, ◌++◌, Option, Some, None, length, min, refl, sym, ap, subst, arith, append-nil, append_assoc}
 use Rattle.std.specs.List.{Contains}
-use Rattle.std.proofs.lemmas.List.Elements.{All-nil, All-cons, All-append, All-head, All-tail}
-use Rattle.vio_num.specs.declared.memory.NoMemory.{NoMemory}
+use Rattle.std.proofs.lemmas.List.Elements.{All-append}
 use Rattle.boot_text.specs.declared.verb.Verb.{Verb}
 use Rattle.vio_trace.specs.declared.outcome.Outcome.{Outcome}
-use Rattle.vio_trace.specs.declared.outcome.Outcome.TheVariants as outcomes
-use Rattle.unit_region.specs.declared.step.Step.{Step}
-use Rattle.unit_region.specs.declared.step.Step.TheVariants as steps
 use Rattle.vscsi_client.specs.State.{ClientState, next_tag}
 use Rattle.vscsi_client.specs.declared.outgoing.Outgoing.{Outgoing}
 use Rattle.vcpu_run.specs.declared.script.Progress.{Progress}
-use Rattle.vcpu_run.specs.declared.script.Progress.TheVariants as progress
 use Rattle.vcpu_run.specs.Credited.{Ended, taken_in}
 use Rattle.vcpu_run.specs.Refusals.{AreSaid, HasCausesTold, IsSaid, LoginNow, login_by, tag_of, tags_told}
-use Rattle.vcpu_run.specs.Telling.{AgreesOn, AgreesTold, HasQueue, IsOf, IsTold, IsToldAt, KeepsTold, SameTold, Seated, StepsTold, at_rest, is_freed, login_after}
+use Rattle.vcpu_run.specs.Telling.{AgreesOn, AgreesTold, HasQueue, IsToldAt, SameTold, Seated, at_rest, is_freed, login_after}
 use Rattle.vcpu_run.proofs.Following.{each_from_all, ordered_from}
-use Rattle.vcpu_run.proofs.Order.{Each, Ordered, each_weaker, ordered_append}
+use Rattle.lan_script.proofs.Order.{Each, Ordered, each_weaker, ordered_append}
 use Rattle.vcpu_run.proofs.Sayings.{one_tag}
 use Rattle.vcpu_run.proofs.Sole.{all_from_each, pairs_from_ordered}
 

@@ -56,7 +56,7 @@ pub law_told : {E : Type 0} (r : Result Trace E) (o : Option Trace) (pairs : Lis
     → IfOk r (KeepsOnce (AreAtRest copies_made lines history pairs scripts) LinesAreExplained pairs scripts ports)
     → IfOk r (KeepsOnce (AreAnswered history pairs) (λ partitions trace. AreAtRest copies_made lines history pairs scripts → LoginsAreSent partitions trace) pairs scripts ports)
     → IfOk r (KeepsOnce (AreAnswered history pairs) (λ partitions trace. AreAtRest copies_made lines history pairs scripts → LoginsAreAnswered partitions trace) pairs scripts ports)
-    → IfOk r (Keeps CallsAreSaid pairs scripts ports)
+    → IfOk r (KeepsOnce (PortsEnd lan scripts) CallsAreSaid pairs scripts ports)
     → AreAtRest copies_made lines history pairs scripts
     → IfSome o (Keeps KeepsLawOf pairs scripts ports)
 law_told (Ok trace) o pairs scripts ports history copies_made lines e order queues copies records over credits are refusals said answers answered keeps lan words tells settled handed intake requests given copied explained logins dealt called rests =
@@ -66,7 +66,7 @@ law_told (Ok trace) o pairs scripts ports history copies_made lines e order queu
       queues = queues partitions of_plan;
       copies = copies partitions of_plan;
       records = records partitions of_plan over;
-      called = called partitions of_plan;
+      called = called partitions of_plan tells;
       credits = credits partitions of_plan are;
       refusals = refusals partitions of_plan said;
       answers = answers partitions of_plan answered;

@@ -1,5 +1,5 @@
 -- At the end of a run it is decided what counts as told: all that the pairs show, and nothing but what the trace shows.
-use Rattle.std.proofs.Common.{◌≡◌, ◌∙◌, ℕ, Bool, true, false, All, Contains, List, Option, Some, None, IfSome, length, option_map, slice_get, refl, sym, ap, subst}
+use Rattle.std.proofs.Common.{◌≡◌, ◌∙◌, Bool, true, false, All, Contains, List, Option, Some, None, IfSome, length, option_map, slice_get, refl, sym, ap, subst}
 use Rattle.vio_num.specs.declared.history.Grant.{Grant}
 use Rattle.vio_num.specs.declared.history.Served.{Served}
 use Rattle.vio_num.specs.declared.names.UnitId.{UnitId}

@@ -1,17 +1,15 @@
 -- Where a turn of a login ends, no entry waits but one under the login's tag.
-use Rattle.std.proofs.Common.{◌≡◌, ◌∙◌, ◌⊎◌, inl, inr, ℕ, ◌≤◌, ◌||◌, Bool, true, false, cond, List, [], ◌∷◌, ◌++◌, Option, Some, None, MatchOption, Result, Ok, refl, sym, ap, subst, arith}
+use Rattle.std.proofs.Common.{◌≡◌, ◌∙◌, ◌⊎◌, inl, inr, ℕ, ◌≤◌, ◌||◌, Bool, true, false, cond, List, [], ◌∷◌, ◌++◌, Option, Some, None, MatchOption, Ok, refl, sym, ap, subst, arith}
 use Rattle.std.specs.List.{list_any}
 use Rattle.std.proofs.lemmas.List.Folds.{list_any-append}
 use Rattle.vio_num.specs.declared.entry.Entry.{Entry}
 use Rattle.tce_window.specs.PortState.{PortState}
 use Rattle.crq_session.specs.declared.answers.RegAnswer.{RegAnswer}
 use Rattle.vscsi_client.specs.Login.{Finds, IsToOthers, SaysIn, login_slot}
-use Rattle.vscsi_client.specs.Slots.{IsSlotInUse}
 use Rattle.vscsi_client.specs.State.{ClientState, next_tag}
-use Rattle.vscsi_client.specs.Turned.{AreInOrder, Ends, FollowOn, IsLooked, Site, LoginStep, Registered, Took, TookNone, Looked, Began, Wrote, NotWritten, Put, RanOut, Steps, Runs, Turned, finds_use, is_dropped, part_after, part_behind, sent_by, sent_stage}
+use Rattle.vscsi_client.specs.Turned.{AreInOrder, Ends, FollowOn, IsLooked, Site, LoginStep, Registered, Took, TookNone, Looked, Began, Wrote, NotWritten, Put, RanOut, Runs, Turned, finds_use, is_dropped, part_after, sent_by, sent_stage}
 use Rattle.vscsi_client.specs.declared.answers.LoginTurn.{LoginTurn}
 use Rattle.vscsi_client.specs.declared.answers.LoginTurn.TheVariants as turns
-use Rattle.vscsi_client.specs.declared.found.Found.{Found}
 use Rattle.vscsi_client.specs.declared.found.Found.TheVariants as found
 use Rattle.vscsi_client.specs.declared.stage.Due.{Due}
 use Rattle.vscsi_client.specs.declared.stage.Stage.TheVariants as stages

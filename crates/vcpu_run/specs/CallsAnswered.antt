@@ -1,23 +1,30 @@
 -- What raw calls answer at the unit that they name, and what is there once they did what they were asked.
 use Rattle.std.specs.Prelude.{◌≡◌, ◌↔◌, ℕ, ◌/◌, ◌<◌, nat_le, Bool, true, false, List, [], ◌∷◌, Option, Some, None, IfSome, length, ⊤}
+use Rattle.std.specs.List.{Contains}
 use Rattle.std.specs.Option.{option_map}
 use Rattle.vio_num.specs.Entry.{first_byte}
 use Rattle.vio_num.specs.declared.entry.Entry.{Entry}
 use Rattle.vio_num.specs.declared.hypervisor.Hrc.{Hrc}
 use Rattle.vio_num.specs.declared.hypervisor.Hrc.TheVariants as codes
+use Rattle.vio_num.specs.declared.names.UnitId.{UnitId}
 use Rattle.crq_session.specs.EndState.{EndState}
 use Rattle.tce_window.specs.Answers.{is_entry}
 use Rattle.tce_window.specs.Puts.{takes}
 use Rattle.hcall_table.specs.declared.hcall.Hcall.{Hcall}
 use Rattle.hcall_table.specs.declared.hcall.Hcall.TheVariants as rows
 use Rattle.hcall_table.specs.declared.returned.Returned.{Returned}
+use Rattle.lan_script.specs.Entries.{values_at}
+use Rattle.lan_script.specs.Seats.{seat_at}
+use Rattle.lan_script.specs.Units.{LanValue}
+use Rattle.vio_trace.specs.declared.outcome.Outcome.{Outcome}
+use Rattle.vio_trace.specs.declared.outcome.Outcome.TheVariants as outcomes
 use Rattle.vcpu_run.specs.declared.client_call.QueueCall.{QueueCall}
 use Rattle.vcpu_run.specs.declared.client_call.QueueCall.TheVariants as queues
 use Rattle.vcpu_run.specs.declared.pair.Pair.{Pair}
 use Rattle.vcpu_run.specs.LinesShow.{IsPutBy, seen_at}
 
--- What there is of a unit that raw calls name: of a client how many pages its window has, the values of its window's entries, and what
--- was put into its server unit's queue. Of any other unit nothing is said.
+-- What there is of a unit that raw calls name: of a client and of a LAN unit how many pages its window has, and the values of its window's
+-- entries; of a client what was put into its server unit's queue, too. Of any other unit nothing is said.
 pub record UnitSeen : Type 1 where
   pub pages : Option ℕ
   pub value_at : (entry value : ℕ) → Type 0
@@ -35,8 +42,17 @@ unit_seen (Some pair) = record {
   entry_put = (seen_at pair).entry_put;
 }
 
+-- what there is of a LAN unit
+abbrev pub port_seen : LanValue → UnitId → UnitSeen
+port_seen lan unit = record {
+  pages = option_map (λ seat. seat.pages) (seat_at lan.seats unit);
+  value_at = λ entry value. Contains (values_at lan unit entry) value;
+  entry_put = λ entry. ⊤;
+}
+
 -- Whether a call is taken, where its arguments alone decide that it is Parameter: a copy never is, an entry is sent for a client and with
--- a first byte of 0x80 or more, and a client's translation entry is read where its window has it, and put where its window takes the value.
+-- a first byte of 0x80 or more, and a translation entry of a client or a LAN unit is read where its window has it, and put where its window
+-- takes the value.
 abbrev pub is_taken : Hcall → (pages : Option ℕ) → List ℕ → Option Bool
 is_taken rows.CopyRdma pages args = Some false
 is_taken rows.SendCrq None args = Some false
@@ -56,6 +72,17 @@ IsDone seen _ args value = ⊤
 pub record IsReturned (seen : UnitSeen) (row : Hcall) (args : List ℕ) (returned : Returned) : Type 0 where
   pub parameter : IfSome (is_taken row seen.pages args) (λ taken. (returned.code ≡ codes.Parameter) ↔ (taken ≡ false))
   pub done : returned.code ≡ codes.Success → IsDone seen row args returned.r4
+
+-- P of the value with which a call was Success: 0 but where its row gives one
+abbrev pub IfDone : Outcome → (ℕ → Type 0) → Type 0
+IfDone (outcomes.Code codes.Success) P = P 0
+IfDone (outcomes.Value value) P = P value
+IfDone _ P = ⊤
+
+-- What a call of a row says, at the unit that it names: Parameter exactly where its arguments decide it, and what it did is there.
+pub record IsUnitSaid (seen : UnitSeen) (row : Hcall) (args : List ℕ) (outcome : Outcome) : Type 0 where
+  pub parameter : IfSome (is_taken row seen.pages args) (λ taken. (outcome ≡ outcomes.Code codes.Parameter) ↔ (taken ≡ false))
+  pub done : IfDone outcome (IsDone seen row args)
 
 -- the rows of which no more is said than that they answer a code of theirs
 abbrev pub is_unsaid : Hcall → Bool

@@ -1,12 +1,11 @@
 -- What the records of raw hypervisor calls say: codes of their rows, Parameter of a unit that the partition does not have, Parameter
 -- exactly where the arguments decide it, and what is there of what they did.
-use Rattle.std.specs.Prelude.{◌≡◌, ◌↔◌, ℕ, false, List, IfSome, Option, Some, None, ⊤}
+use Rattle.std.specs.Prelude.{◌≡◌, ℕ, List, IfSome, Option, Some, None, ⊤}
 use Rattle.std.specs.List.{slice_get}
 use Rattle.vio_num.specs.declared.hypervisor.Hrc.TheVariants as codes
 use Rattle.boot_text.specs.declared.plan.Line.{Line}
 use Rattle.boot_text.specs.declared.verb.Verb.{Verb}
 use Rattle.boot_text.specs.declared.verb.Verb.TheVariants as verbs
-use Rattle.hcall_table.specs.declared.hcall.Hcall.{Hcall}
 use Rattle.hcall_table.specs.Named.{Place, unit_of}
 use Rattle.hcall_table.specs.Rows.{further, row_of}
 use Rattle.vio_trace.specs.declared.outcome.Outcome.{Outcome}
@@ -17,7 +16,8 @@ use Rattle.unit_region.specs.declared.step.Step.TheVariants as steps
 use Rattle.vcpu_run.specs.declared.pair.Pair.{Pair}
 use Rattle.vcpu_run.specs.declared.unit_seat.Seat.{Seat}
 use Rattle.vcpu_run.specs.CallRows.{SaysCall}
-use Rattle.vcpu_run.specs.CallsAnswered.{IsDone, UnitSeen, is_taken, unit_seen}
+pub use Rattle.vcpu_run.specs.CallsAnswered.{IfDone, IsUnitSaid}
+use Rattle.vcpu_run.specs.CallsAnswered.{UnitSeen, unit_seen}
 use Rattle.vcpu_run.specs.RawCalls.{kind_of, pair_of}
 
 -- The units of a partition: what they are, and what there is of each.
@@ -34,17 +34,6 @@ units_seen partition seat pairs = record {
 
 abbrev pub seen_from : (partition : ℕ) → List Seat → List Pair → UnitsSeen
 seen_from partition seats pairs = units_seen partition (slice_get seats) pairs
-
--- P of the value with which a call was Success: 0 but where its row gives one
-abbrev pub IfDone : Outcome → (ℕ → Type 0) → Type 0
-IfDone (outcomes.Code codes.Success) P = P 0
-IfDone (outcomes.Value value) P = P value
-IfDone _ P = ⊤
-
--- What a call of a row says, at the unit that it names: Parameter exactly where its arguments decide it, and what it did is there.
-pub record IsUnitSaid (seen : UnitSeen) (row : Hcall) (args : List ℕ) (outcome : Outcome) : Type 0 where
-  pub parameter : IfSome (is_taken row seen.pages args) (λ taken. (outcome ≡ outcomes.Code codes.Parameter) ↔ (taken ≡ false))
-  pub done : IfDone outcome (IsDone seen row args)
 
 -- A record of a raw call of this number, with these arguments, in a partition of these units: it is a code of the number's row, or a
 -- value where the row gives one; a number without a row is Function, and no other is. A call is Parameter where the unit that it

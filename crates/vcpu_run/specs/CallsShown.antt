@@ -1,5 +1,5 @@
 -- What the records of a trace say of raw hypervisor calls.
-use Rattle.std.specs.Prelude.{ℕ, List, Option, Some}
+use Rattle.std.specs.Prelude.{ℕ, List, Option, Some, ⊤}
 use Rattle.std.specs.List.{Contains}
 use Rattle.std.specs.Option.{option_map}
 use Rattle.boot_text.specs.Sound.{unit_at}
@@ -28,12 +28,18 @@ kind_planned (units.Lan mac pages slots) = kinds.Lan
 abbrev pub place_in : List Partition → ℕ → Place
 place_in partitions p = record { partition = p; kind = λ unit. option_map kind_planned (unit_at partitions (unit_of p unit)) }
 
--- what a trace shows of a unit: of a client its window's pages by the plan, the values of its window's entries, and its server unit's queue
+-- what a trace shows of a unit: of a client and of a LAN unit its window's pages by the plan, and the values of its window's entries; of a
+-- client its server unit's queue, too
 abbrev pub unit_shown : Trace → UnitId → Option UnitPlan → UnitSeen
 unit_shown trace unit (Some (units.Client server pages queue)) = record {
   pages = Some pages;
   value_at = λ entry value. Contains (values_shown trace unit entry) value;
   entry_put = λ entry. Contains (sent_to trace server) entry;
+}
+unit_shown trace unit (Some (units.Lan mac pages slots)) = record {
+  pages = Some pages;
+  value_at = λ entry value. Contains (values_shown trace unit entry) value;
+  entry_put = λ entry. ⊤;
 }
 unit_shown trace unit _ = no_client
 

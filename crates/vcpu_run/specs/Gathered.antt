@@ -1,5 +1,5 @@
 -- What a trace shows of the parts of a machine, unit by unit.
-use Rattle.std.specs.Prelude.{◌≡◌, Bool, true, false, List, [], Option, Some, None, IfSome, IsSomeAnd, length, map, slice_get}
+use Rattle.std.specs.Prelude.{◌≡◌, true, false, List, [], Option, Some, None, IfSome, IsSomeAnd, length, map, slice_get}
 use Rattle.std.specs.List.{flat_map}
 use Rattle.vio_num.specs.declared.history.Grant.{Grant}
 use Rattle.vio_num.specs.declared.history.Served.{Served}

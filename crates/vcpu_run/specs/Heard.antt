@@ -8,7 +8,6 @@ use Rattle.rdma_copy.specs.declared.copy.CopyRecord.{CopyRecord}
 use Rattle.vio_num.specs.Words.{Begins}
 use Rattle.block_server.specs.Cargo.{HasRuns}
 use Rattle.block_server.specs.Causes.{Hearing, Includes, Told, told_to}
-use Rattle.block_server.specs.Dealt.{HasDealt}
 use Rattle.block_server.specs.LoginAnswers.{login_answers}
 use Rattle.block_server.specs.Refusals.{HasExplained}
 use Rattle.block_server.specs.Units.{AreInOrder}
@@ -43,7 +42,6 @@ pub record UnitGoesBy (told : Told → Bool) (units : List Unit) (records : Reco
   pub cargo : HasRuns told units k (known_of pair.own) copies records
   pub explained : HasExplained told units k pair.own.unit (end_of [] pair.link true) [] records.grants.items
   pub logins : GoInOrder told units k pair.own.unit (side_of pair.link true).queue.session (side_of pair.link true).queue.taken (login_answers (side_of pair.link false).queue.sent) records.grants.items
-  pub deals : HasDealt told units k pair.own.unit (end_of [] pair.link true)
 
 -- This is so by whatever tells all that the pairs show.
 pub record AreHeard (size partition : ℕ) (units : List Unit) (records : Records) (copies : List CopyRecord) (pairs : List Pair) : Type 0 where

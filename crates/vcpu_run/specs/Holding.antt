@@ -1,5 +1,5 @@
 -- That the queue of a client is registered again behind each reset, in a partition whose lines make no raw call and fail nothing.
-use Rattle.std.specs.Prelude.{◌≡◌, ◌⊎◌, ℕ, ◌+◌, ◌<◌, ◌≤◌, ◌==◌, ◌&&◌, Bool, true, false, List, Option, Some, None, IfSome, IsSomeAnd, Result, Ok, Err, ⊤, length, slice_get}
+use Rattle.std.specs.Prelude.{◌≡◌, ◌⊎◌, ℕ, ◌<◌, ◌≤◌, ◌==◌, ◌&&◌, Bool, true, false, List, Option, Some, None, IfSome, IsSomeAnd, Result, Ok, Err, ⊤, slice_get}
 use Rattle.vio_num.specs.declared.hypervisor.Moved.{Moved}
 use Rattle.vio_num.specs.declared.hypervisor.Moved.TheVariants.{Quiet}
 use Rattle.vio_num.specs.declared.memory.NoMemory.{NoMemory}

@@ -11,6 +11,9 @@ pub mod Caused
 pub mod Commands
 pub mod CopyRows
 pub mod Credited
+pub mod DataKept
+pub mod DataRead
+pub mod DataTold
 pub mod EventsHeard
 pub mod Freed
 pub mod Freeing
@@ -31,6 +34,8 @@ pub mod Numbered
 pub mod OnDisk
 pub mod Pairs
 pub mod PlainClients
+pub mod PortBytes
+pub mod PortCalls
 pub mod PortMacs
 pub mod PortOffers
 pub mod PortPosts
@@ -56,6 +61,7 @@ pub mod Shown
 pub mod StrokeMakers
 pub mod Suited
 pub mod TakenScripts
+pub mod TagRows
 pub mod Takings
 pub mod Telling
 pub mod Units

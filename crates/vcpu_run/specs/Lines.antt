@@ -1,5 +1,5 @@
 -- Which lines of a script have a record once it is over: those up to the first that fails its partition.
-use Rattle.std.specs.Prelude.{ℕ, ◌+◌, ◌≤◌, nat_lt, not, Bool, All, List, [], ◌∷◌, length, map, if◌then◌else◌}
+use Rattle.std.specs.Prelude.{ℕ, ◌+◌, ◌≤◌, nat_lt, not, Bool, List, [], ◌∷◌, length, map, if◌then◌else◌}
 use Rattle.boot_text.specs.declared.plan.Line.{Line}
 use Rattle.vcpu_run.specs.declared.script.Script.{Script}
 use Rattle.vcpu_run.specs.Works.{fails}

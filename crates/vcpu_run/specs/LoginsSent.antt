@@ -1,13 +1,13 @@
 -- The answers to requests to log in of a run: which of them a client's queue got, by the lines of its server unit, and that none
 -- was dropped (SRP, "Login process").
-use Rattle.std.specs.Prelude.{◌⊎◌, ◌++◌, ℕ, Bool, List, [], IfSome, filter, length, map, slice_get}
+use Rattle.std.specs.Prelude.{◌⊎◌, ◌++◌, ℕ, Bool, true, List, [], IfSome, filter, length, map, slice_get}
 use Rattle.crq_ring.specs.declared.rows.PipeRow.{PipeRow}
 use Rattle.vio_num.specs.declared.entry.Entry.{Entry}
 use Rattle.vio_num.specs.declared.history.Grant.{Grant}
 use Rattle.vio_num.specs.declared.names.UnitId.{UnitId}
 use Rattle.block_server.specs.Asked.{AreAskedInOrder, still_to_answer}
 use Rattle.block_server.specs.Causes.{Hearing, Told, told_to}
-use Rattle.block_server.specs.Dealt.{AsksNoLogin, IsLoginAnswered, TookNoEvent}
+use Rattle.block_server.specs.Dealt.{AreDealt, AsksNoLogin, IsLoginAnswered, TookNoEventFrom}
 use Rattle.block_server.specs.Granting.{IsSrpAt}
 use Rattle.block_server.specs.LoginAnswers.{LoginsMore, asked_at, is_login_answer}
 use Rattle.block_server.specs.Makers.{same_unit}
@@ -49,18 +49,20 @@ LoginsAreSent partitions trace =
     → ∥ AreLoginsInOrder (shown_to partitions trace server client) server (entries_taken trace server) (logins_to trace client) trace.grants ∥₁
 
 -- Between turns: unit k put these answers, and the requests that it has still to answer were asked behind those; the lines say which
--- login is on, and was as each was rejected.
+-- login is on, and was as each was rejected. Each SRP entry was dealt with, but that a send may have found the client's queue closed.
 pub record GoInOrder (told : Told → Bool) (units : List Unit) (k : ℕ) (unit : UnitId) (session : ℕ) (taken : List PipeRow) (answers : List Entry) (lines : List Grant) : Type 0 where
   pub put : AreLoginsPut (told_to told unit) unit taken answers lines
   pub asked : IfSome (slice_get units k) (λ u. AreAskedInOrder (map asked_at put.more ++ still_to_answer session taken u.waiting u.pending.items))
   pub rejects : RejectInTime unit [] (lines_by unit lines) put.more
   pub on : IfSome (slice_get units k) (λ u. IsOnByLines unit session u.logins.current (is_ended u.line) lines)
+  pub dealt : IfSome (slice_get units k)
+      (λ u. AreDealt (told_to told unit) session taken u.waiting u.pending.items (is_ended u.line) (record { put = map asked_at put.more; closed = λ q. true }))
 
--- Where no event was taken in a session no request to log in was dropped: each SRP entry that was taken in it asked for no login, or a
--- copy of the answer over its request granted or rejected it.
+-- No request to log in of a session was dropped but before an event: each SRP entry that was taken in it, and behind which no event was,
+-- asked for no login, or a copy of the answer over its request granted or rejected it.
 abbrev pub AreLoginsAnswered : (Hears : Hearing) → (session : ℕ) → (taken : List PipeRow) → Type 0
 AreLoginsAnswered Hears session taken =
-    TookNoEvent session taken → (number : ℕ) (entry : Entry) → IsSrpAt taken session number entry → AsksNoLogin Hears entry ⊎ IsLoginAnswered Hears taken session number
+    (number : ℕ) (entry : Entry) → IsSrpAt taken session number entry → TookNoEventFrom session number taken → AsksNoLogin Hears entry ⊎ IsLoginAnswered Hears taken session number
 
 -- So it is of the last session of each server unit that has a client.
 abbrev pub LoginsAreAnswered : List Partition → Trace → Type 0

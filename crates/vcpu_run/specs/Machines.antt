@@ -1,5 +1,5 @@
 -- What is so of a machine between the turns of its partitions, and what its pairs, its scripts and its ports have of a plan.
-use Rattle.std.specs.Prelude.{◌≡◌, ◌≢◌, ℕ, ◌+◌, ◌*◌, ◌≤◌, Bool, true, false, List, [], ◌∷◌, Option, Some, None, IsSomeAnd, MatchOption, length, map, suc, zero, if◌then◌else◌}
+use Rattle.std.specs.Prelude.{◌≡◌, ◌≢◌, ℕ, ◌*◌, ◌≤◌, true, false, List, [], ◌∷◌, Option, Some, None, IsSomeAnd, MatchOption, length, map, suc, zero, if◌then◌else◌}
 use Rattle.std.specs.List.{slice_get}
 use Rattle.vio_num.specs.declared.names.UnitId.{UnitId}
 use Rattle.crq_session.specs.PlainState.{side_of}

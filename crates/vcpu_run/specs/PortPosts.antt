@@ -1,5 +1,5 @@
 -- The buffers that the lines of a LAN unit posted, and how many frames a line took.
-use Rattle.std.specs.Prelude.{◌≡◌, ℕ, ◌≤◌, ◌==◌, true, false, All, List, [], ◌∷◌, ◌++◌, Option, Some, None, ⊤, slice_get, if◌then◌else◌}
+use Rattle.std.specs.Prelude.{◌≡◌, ℕ, ◌≤◌, ◌==◌, true, All, List, [], ◌∷◌, ◌++◌, Option, Some, None, ⊤, if◌then◌else◌}
 use Rattle.vio_num.specs.declared.names.UnitId.{UnitId}
 use Rattle.boot_text.specs.declared.plan.Line.{Line}
 use Rattle.boot_text.specs.declared.verb.Verb.{Verb}

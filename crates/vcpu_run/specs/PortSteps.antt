@@ -5,26 +5,34 @@ use Rattle.boot_text.specs.declared.plan.Line.{Line}
 use Rattle.boot_text.specs.declared.verb.Verb.{Verb}
 use Rattle.unit_region.specs.declared.step.Step.{Step}
 use Rattle.unit_region.specs.declared.step.Step.TheVariants as steps
+use Rattle.lan_switch.specs.Switch.{port_of}
 use Rattle.lan_script.specs.Buffers.{posted_at}
+use Rattle.lan_script.specs.Entries.{values_at}
+use Rattle.lan_script.specs.Invariant.{posted_in}
 use Rattle.lan_script.specs.OwnMac.{MovesMac}
 use Rattle.lan_script.specs.PortCounts.{PortCounts, counts, counts_at, counts_by, counts_told}
 use Rattle.lan_script.specs.PortReplay.{closed_replay}
 use Rattle.lan_script.specs.Replayed.{GrantsAll, replay_at}
 use Rattle.lan_script.specs.Units.{LanValue}
+use Rattle.lan_script.specs.Values.{KeepsValues}
 use Rattle.vcpu_run.specs.declared.unit_seat.Seat.{Seat}
 use Rattle.vcpu_run.specs.declared.unit_seat.Seat.TheVariants as sits
 use Rattle.vcpu_run.specs.Ports.{unit_of}
+use Rattle.vcpu_run.specs.PortBytes.{StepBytes}
 use Rattle.vcpu_run.specs.PortPosts.{StepFits}
 use Rattle.vcpu_run.specs.PortReplays.{IsStill, StepReplays, sent_at}
 use Rattle.vcpu_run.specs.PortWords.{FrameTold, frame_of, frames_at}
+use Rattle.vcpu_run.specs.ValuesPut.{StepPuts}
 
 -- A port did nothing of which lines tell. It may have been closed.
 pub record IsSilent (old new : LanValue) (unit : UnitId) : Type 0 where
   pub frames : frames_at new unit ≡ frames_at old unit
   pub counts : counts_at new unit ≡ counts_at old unit
   pub posted : posted_at new unit ≡ posted_at old unit
+  pub posts : posted_in unit (port_of new.stations unit) ≡ posted_in unit (port_of old.stations unit)
   pub rows : sent_at new unit ≡ sent_at old unit
   pub mac : MovesMac None (replay_at old unit) (replay_at new unit)
+  pub values : KeepsValues unit old.places new.places
   pub seats : new.seats ≡ old.seats
 
 -- It did nothing of which lines tell, nor a replay of them.
@@ -63,6 +71,7 @@ StepRises unit verb done done' old new (steps.Waits did) = Rises [] (counts_by v
 abbrev pub RisesIf : (own : Bool) → UnitId → Verb → (done done' : ℕ) → (old new : LanValue) → Step → Type 0
 RisesIf true unit verb done done' old new step =
     StepRises unit verb done done' old new step × StepReplays unit verb done old new step × StepFits unit verb done done' old new step
+    × StepBytes unit verb old new step × StepPuts verb step (values_at old unit) (values_at new unit)
 RisesIf false unit verb done done' old new step = IsIdle old new unit
 
 abbrev pub TellsStep : (partition : ℕ) → List Seat → Line → (done done' : ℕ) → (old new : LanValue) → Step → Type 0

@@ -1,20 +1,17 @@
 -- What the records of a LAN unit's lines say of its port: the frames that it sent, the buffers that it posted, and the frames
 -- that it took from its receive queue.
-use Rattle.std.specs.Prelude.{◌≡◌, ◌≢◌, ℕ, ◌+◌, ◌≤◌, ◌==◌, ◌&&◌, Bool, true, false, All, List, [], ◌∷◌, ◌++◌, Option, Some, None, Result, Ok, Err, ⊤, filter, length, map, slice_get, take, if◌then◌else◌}
+use Rattle.std.specs.Prelude.{◌≡◌, ℕ, ◌+◌, ◌≤◌, ◌==◌, false, All, List, [], ◌∷◌, ◌++◌, Option, Some, None, filter, length, map, slice_get, take, if◌then◌else◌}
 use Rattle.vio_num.specs.declared.hypervisor.Hrc.{Hrc}
-use Rattle.vio_num.specs.declared.memory.NoMemory.{NoMemory}
 use Rattle.vio_num.specs.declared.names.UnitId.{UnitId}
 use Rattle.boot_text.specs.declared.plan.Line.{Line}
 use Rattle.boot_text.specs.declared.plan.Partition.{Partition}
-use Rattle.boot_text.specs.declared.verb.Verb.{Verb}
-use Rattle.unit_region.specs.declared.step.Step.{Step}
-use Rattle.unit_region.specs.declared.step.Step.TheVariants as steps
 use Rattle.lan_switch.specs.Switch.{same_unit}
 use Rattle.vio_trace.specs.declared.lan_rows.FrameRow.{FrameRow}
 use Rattle.vio_trace.specs.declared.outcome.Outcome.{Outcome}
 use Rattle.vio_trace.specs.declared.outcome.Outcome.TheVariants as outcomes
 use Rattle.vio_trace.specs.declared.rows.Trace.{Trace}
 use Rattle.lan_script.specs.Buffers.{posted_at}
+use Rattle.lan_script.specs.Correlators.{CarriesAddress}
 use Rattle.lan_script.specs.Invariant.{sent_by}
 use Rattle.lan_script.specs.PortCounts.{PortCounts, counts, counts_at, counts_by, counts_told, is_frame}
 use Rattle.lan_script.specs.PortReplay.{IsOn, PortReplay, closed_replay}
@@ -25,10 +22,11 @@ use Rattle.lan_switch.specs.Calls.{IsOwnAddress}
 use Rattle.vcpu_run.specs.declared.script.Progress.{Progress}
 use Rattle.vcpu_run.specs.declared.script.Progress.TheVariants as progress
 use Rattle.vcpu_run.specs.declared.script.Script.{Script}
-use Rattle.vcpu_run.specs.declared.unit_seat.Seat.{Seat}
 use Rattle.vcpu_run.specs.declared.unit_seat.Seat.TheVariants as sits
 use Rattle.vcpu_run.specs.Credited.{Ended, ended_by}
 use Rattle.vcpu_run.specs.Ports.{IsPortOf, ports_of, unit_of}
+use Rattle.vcpu_run.specs.PortCalls.{TellsEntries}
+use Rattle.vcpu_run.specs.PortBytes.{KeepsBytes, NamesOwnPages, bytes_told}
 use Rattle.vcpu_run.specs.PortMacs.{KeepsMac, OffersAreFor}
 use Rattle.vcpu_run.specs.PortOffers.{EndsFrame, FrameGoes, OffersFit, TellsFit, TellsOffers}
 use Rattle.vcpu_run.specs.PortPosts.{AreWithin, IsUnder, buffers_of, buffers_under}
@@ -36,6 +34,7 @@ use Rattle.vcpu_run.specs.PortReplays.{AreReplayed, IsFirstOf, IsPlainPort, Keep
 use Rattle.vcpu_run.specs.Settled.{script_of}
 use Rattle.vcpu_run.specs.Shown.{records_of}
 use Rattle.vcpu_run.specs.Suited.{is_call}
+use Rattle.vcpu_run.specs.ValuesPut.{AreValuesTold, KeepsPuts}
 
 -- a frame, by its code and its number
 pub record FrameTold : Type 0 where
@@ -125,19 +124,40 @@ abbrev pub TakesAreWithin : List Partition → Trace → Type 0
 TakesAreWithin partitions trace = (unit : UnitId) → IsPortOf (ports_of partitions) unit
     → AreWithin (ended_by unit.unit (script_of partitions unit.partition) (records_of trace unit.partition))
 
--- where no line of its partition makes a raw call, a port has offers only of frames to groups and to addresses that it has from the plan or a line
+-- a port has offers only of frames to groups and to addresses that it has from the plan or a line, raw calls of its partition among these
 abbrev pub OffersHaveAddress : List Partition → Trace → Type 0
 OffersHaveAddress partitions trace = (unit : UnitId) (seat : PortSeat) → seat_at (ports_of partitions) unit ≡ Some seat
-    → HasNoCall (script_of partitions unit.partition)
-    → OffersAreFor unit seat (ended_by unit.unit (script_of partitions unit.partition) (records_of trace unit.partition))
+    → OffersAreFor unit seat (script_of partitions unit.partition) (records_of trace unit.partition)
     (λ sender. filter (λ row. same_unit row.unit sender) trace.frames)
+
+-- where no line of its partition makes a raw call, and none of its own lets an entry name another page, the frames of a port are those of its
+-- lines: each is for the line's address and from the present one, with the line's pattern, and as long as the line says
+abbrev pub FramesHaveBytes : List Partition → Trace → Type 0
+FramesHaveBytes partitions trace = (unit : UnitId) (seat : PortSeat) → seat_at (ports_of partitions) unit ≡ Some seat
+    → HasNoCall (script_of partitions unit.partition) → NamesOwnPages unit.unit (script_of partitions unit.partition)
+    → bytes_told seat seat.mac (ended_by unit.unit (script_of partitions unit.partition) (records_of trace unit.partition))
+    ≡ map (λ row. row.bytes) (filter (λ row. same_unit row.unit unit) trace.frames)
+
+-- there, too, each post of the port has its buffer's address as its correlator
+abbrev pub PostsCarryAddresses : List Partition → Trace → Type 0
+PostsCarryAddresses partitions trace = (unit : UnitId) → IsPortOf (ports_of partitions) unit → HasNoCall (script_of partitions unit.partition)
+    → NamesOwnPages unit.unit (script_of partitions unit.partition)
+    → All CarriesAddress (filter (λ row. same_unit row.unit unit) trace.posts)
+
+-- where no line of its partition makes a raw call, the values of the entries of a port's window are those that its lines say they put
+abbrev pub ValuesAreTold : List Partition → Trace → Type 0
+ValuesAreTold partitions trace = (unit : UnitId) → IsPortOf (ports_of partitions) unit → HasNoCall (script_of partitions unit.partition)
+    → AreValuesTold trace unit (ended_by unit.unit (script_of partitions unit.partition) (records_of trace unit.partition))
 
 -- What the records of a plan's ports tell.
 pub record PortsAreTold (partitions : List Partition) (trace : Trace) : Type 0 where
   pub words : WordsAreTold partitions trace
   pub buffers : BuffersAreTold partitions trace
   pub takes : TakesAreWithin partitions trace
+  pub values : ValuesAreTold partitions trace
   pub addressed : OffersHaveAddress partitions trace
+  pub bytes : FramesHaveBytes partitions trace
+  pub correlators : PostsCarryAddresses partitions trace
   pub replayed : PortsAreReplayed partitions trace
   pub offered : FramesAreOffered partitions trace
   pub fit : OffersAreFit partitions trace
@@ -178,6 +198,11 @@ abbrev pub TellsBuffers : LanValue → Script → Type 0
 TellsBuffers lan script = HasNoCall script.lines.now → (unit : ℕ) → slice_get script.seats.items unit ≡ Some sits.Port
     → buffers_of (ended_by unit script.lines.now script.logs.items) ++ buffers_now unit script ≡ posted_at lan (unit_of script.partition unit)
 
+-- the values of the entries of each port of a script are those that its lines say they put
+abbrev pub TellsValues : LanValue → Script → Type 0
+TellsValues lan script = HasNoCall script.lines.now → (unit : ℕ) → slice_get script.seats.items unit ≡ Some sits.Port
+    → KeepsPuts (ended_by unit script.lines.now script.logs.items) lan (unit_of script.partition unit)
+
 -- no line of a port of a script took more than it says
 pub record TakesOwn (script : Script) (unit : ℕ) : Type 0 where
   pub ended : AreWithin (ended_by unit script.lines.now script.logs.items)
@@ -188,9 +213,15 @@ TellsTakes script = (unit : ℕ) → slice_get script.seats.items unit ≡ Some 
 
 -- each port of a script has an address from the plan or its lines, and the offers so far are for it
 abbrev pub TellsMacs : LanValue → Script → Type 0
-TellsMacs lan script = HasNoCall script.lines.now → (unit : ℕ) → slice_get script.seats.items unit ≡ Some sits.Port → (seat : PortSeat)
+TellsMacs lan script = (unit : ℕ) → slice_get script.seats.items unit ≡ Some sits.Port → (seat : PortSeat)
     → seat_at lan.seats (unit_of script.partition unit) ≡ Some seat
-    → KeepsMac lan (unit_of script.partition unit) seat (ended_by unit script.lines.now script.logs.items)
+    → KeepsMac lan (unit_of script.partition unit) seat script.lines.now script.logs.items
+
+-- the frames of each port of a script whose entries name their own pages are those of its lines, and its posts carry their buffers' addresses
+abbrev pub TellsBytes : LanValue → Script → Type 0
+TellsBytes lan script = HasNoCall script.lines.now → (unit : ℕ) → NamesOwnPages unit script.lines.now → slice_get script.seats.items unit ≡ Some sits.Port
+    → (seat : PortSeat) → seat_at lan.seats (unit_of script.partition unit) ≡ Some seat
+    → KeepsBytes lan (unit_of script.partition unit) seat (ended_by unit script.lines.now script.logs.items)
 
 -- The lines of a unit of a script keep its replay, and the current one has not got past its first step.
 pub record ReplaysOwn (lan : LanValue) (script : Script) (unit : ℕ) (seat : PortSeat) : Type 0 where
@@ -207,7 +238,10 @@ pub record TellsPorts (lan : LanValue) (script : Script) : Type 0 where
   pub words : TellsWords lan script
   pub buffers : TellsBuffers lan script
   pub takes : TellsTakes script
+  pub values : TellsValues lan script
+  pub entries : TellsEntries lan script
   pub macs : TellsMacs lan script
+  pub bytes : TellsBytes lan script
   pub replay : TellsReplay lan script
   pub offers : TellsOffers lan script
   pub fit : TellsFit lan script

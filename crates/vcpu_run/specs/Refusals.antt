@@ -17,13 +17,14 @@ use Rattle.vio_trace.specs.declared.outcome.Outcome.{Outcome}
 use Rattle.vio_trace.specs.declared.outcome.Outcome.TheVariants as outcomes
 use Rattle.vio_trace.specs.declared.rows.Trace.{Trace}
 use Rattle.vcpu_run.specs.AnswersSent.{sent_to}
-use Rattle.vcpu_run.specs.AnswersTaken.{AreAnswersTaken}
+use Rattle.vcpu_run.specs.AnswersTaken.{AreAnswersTaken, answers_to}
+use Rattle.vcpu_run.specs.DataTold.{AreDataTold}
 use Rattle.vcpu_run.specs.Credited.{Ended, ended_by}
 use Rattle.vcpu_run.specs.LinesShow.{IsFront, LinesShow, Seen}
 use Rattle.vcpu_run.specs.PortWords.{HasNoCall}
 use Rattle.vcpu_run.specs.Replay.{Range, asks, lie_within, ranges_of}
 use Rattle.vcpu_run.specs.Settled.{script_of}
-use Rattle.vcpu_run.specs.ValuesPut.{values_told}
+use Rattle.vcpu_run.specs.ValuesPut.{AreValuesTold}
 use Rattle.vcpu_run.specs.Shown.{pages_at, records_of, stroke_value, strokes_on, values_shown}
 
 -- A login that is on by the records: what it grants, how many commands and tasks are outstanding, and the tags of those that were
@@ -141,17 +142,15 @@ seen_in trace client server = record {
   entry_put = λ entry. Contains (sent_to trace server) entry;
 }
 
--- Each entry of a client's window had its first value, and then those that the client's lines say they put, in their order, and no others.
-abbrev pub AreValuesTold : Trace → UnitId → List Ended → Type 0
-AreValuesTold trace client ended = (e : ℕ) → values_shown trace client e ≡ (4096 * e + 3) ∷ values_told e ended
-
 -- So is it of each client of a partition that makes no raw call; what its lines say that they sent or wrote is there, and what they say of
--- the answers that it took is so.
+-- the answers that it took, and of the data of their commands, is so.
 pub record IsClientTold (partitions : List Partition) (trace : Trace) (client server : UnitId) : Type 0 where
   pub causes : HasCausesTold (pages_at partitions client) (ended_by client.unit (script_of partitions client.partition) (records_of trace client.partition))
   pub shown : LinesShow (seen_in trace client server) client client.unit (script_of partitions client.partition) (records_of trace client.partition)
   pub put : AreValuesTold trace client (ended_by client.unit (script_of partitions client.partition) (records_of trace client.partition))
   pub takes : AreAnswersTaken trace client (ended_by client.unit (script_of partitions client.partition) (records_of trace client.partition))
+  pub reads : AreDataTold (seen_in trace client server) server (ended_by client.unit (script_of partitions client.partition) (records_of trace client.partition))
+      (answers_to trace client)
 
 abbrev pub RefusalsAreTold : List Partition → Trace → Type 0
 RefusalsAreTold partitions trace = (client server : UnitId) → IsClientOf partitions client server

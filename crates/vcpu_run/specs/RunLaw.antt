@@ -1,7 +1,7 @@
 -- The law of a run, so far as it is proved: what its trace says of its queues, its copies and windows, its
 -- records, the credits and the refusals that they tell of, the answers that were sent, its LAN ports and what is told of them, how it ends, what its server units took in,
 -- which of it they served, that each of that has its answer, and which copies moved its answer and its data, and how its requests to log in were answered.
-use Rattle.std.specs.Prelude.{◌≡◌, ◌⊎◌, ℕ, ◌+◌, ◌*◌, ◌<◌, ◌≤◌, List, [], ◌∷◌, All, Option, Some, None, length, map, slice_get}
+use Rattle.std.specs.Prelude.{◌≡◌, ◌⊎◌, ℕ, ◌+◌, ◌*◌, ◌<◌, ◌≤◌, List, [], ◌∷◌, All, Some, None, length, map}
 use Rattle.std.specs.List.{AllPairs}
 use Rattle.vio_num.specs.Queue.{Handed, LawfulDrop}
 use Rattle.vio_num.specs.declared.names.UnitId.{UnitId}
@@ -10,7 +10,6 @@ use Rattle.rdma_copy.specs.declared.copy.CopyRecord.{CopyRecord}
 use Rattle.block_server.specs.Makers.{NeverFalls}
 use Rattle.block_server.specs.Receipts.{GrantsMany}
 use Rattle.boot_text.specs.Sound.{unit_at, IsClientOf, IsServer}
-use Rattle.boot_text.specs.declared.plan.Line.{Line}
 use Rattle.boot_text.specs.declared.plan.Partition.{Partition}
 use Rattle.boot_text.specs.declared.plan.Plan.{Plan}
 use Rattle.boot_text.specs.declared.plan.UnitPlan.{UnitPlan}

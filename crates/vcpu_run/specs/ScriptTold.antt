@@ -80,6 +80,7 @@ pub record SameClient (old new : Pair) : Type 0 where
   pub taken : (side_of new.link false).queue.taken ≡ (side_of old.link false).queue.taken
   pub unit : new.window.unit ≡ old.window.unit
   pub sees : Sees (seen_at old) (seen_at new)
+  pub server : new.server ≡ old.server
   pub values : SameValues old new
 
 -- the same of all pairs

@@ -1,5 +1,5 @@
 -- Which lines a unit of a partition does.
-use Rattle.std.specs.Prelude.{◌≡◌, ℕ, Bool, true, false, List, IsSomeAnd}
+use Rattle.std.specs.Prelude.{◌≡◌, Bool, true, false, List, IsSomeAnd}
 use Rattle.std.specs.List.{slice_get}
 use Rattle.boot_text.specs.SoFar.{is_for_client, is_for_port}
 use Rattle.boot_text.specs.Sound.{IsInRange}

@@ -1,6 +1,6 @@
 -- What each step of a client's line keeps of the answers that it took: where they stand among the entries, and what the records
 -- tell of them.
-use Rattle.std.specs.Prelude.{◌≡◌, ℕ, ◌+◌, ◌-◌, ◌≤◌, Bool, true, false, nat_le, All, List, [], ◌∷◌, ◌++◌, Option, Some, None, Result, Ok, Err, IfSome, length, slice_index_or, ⊤, if◌then◌else◌}
+use Rattle.std.specs.Prelude.{◌≡◌, ℕ, ◌+◌, ◌≤◌, true, All, List, [], ◌∷◌, ◌++◌, Option, Some, None, Result, Ok, Err, length, ⊤}
 use Rattle.vio_num.specs.declared.entry.Entry.{Entry}
 use Rattle.vio_num.specs.declared.memory.NoMemory.{NoMemory}
 use Rattle.crq_session.specs.EndState.{EndState}
@@ -12,9 +12,7 @@ use Rattle.boot_text.specs.declared.verb.Verb.TheVariants as verbs
 use Rattle.vio_trace.specs.declared.rows.AnswerRow.{AnswerRow}
 use Rattle.vscsi_client.specs.Login.{login_slot}
 use Rattle.vscsi_client.specs.State.{ClientState, tags_of}
-use Rattle.vscsi_client.specs.declared.op.Dir.TheVariants as dirs
 use Rattle.vscsi_client.specs.declared.row.Row.{Row}
-use Rattle.vscsi_client.specs.declared.row.Row.TheVariants as rows
 use Rattle.vscsi_client.specs.declared.stage.Stage.{Stage}
 use Rattle.unit_region.specs.declared.step.Step.{Step}
 use Rattle.unit_region.specs.declared.step.Step.TheVariants as steps
@@ -22,7 +20,9 @@ use Rattle.vcpu_run.specs.declared.driver.Driver.{Driver}
 use Rattle.vcpu_run.specs.declared.taking.Took.{Took}
 use Rattle.vcpu_run.specs.declared.taking.Took.TheVariants as tooks
 use Rattle.vcpu_run.specs.Answered.{AreBegun}
+use Rattle.vcpu_run.specs.DataKept.{KeepsData}
 use Rattle.vcpu_run.specs.EventsHeard.{Hears}
+use Rattle.vcpu_run.specs.TagRows.{is_given, is_inward, row_at}
 use Rattle.vcpu_run.specs.AnswersTaken.{AreAmong, IsAnswerOf, IsTakeSaid, TakesNow, answered_tags, has_tag, is_known, tags_among, tags_taken, takes_by}
 
 -- an entry that is held and is not under the tag of the login
@@ -53,25 +53,18 @@ pub record AreGiven (driver : Driver) (end : EndState) : Type 0 where
 abbrev pub HasMoreAnswers : List AnswerRow → List AnswerRow → Type 0
 HasMoreAnswers old new = (rows : List AnswerRow) × (new ≡ old ++ rows)
 
+-- the client's server unit is that of before
+abbrev pub SameServer : ClientState → ClientState → Type 0
+SameServer s s' = s'.server ≡ s.server
+
 -- A client's steps keep this at its end.
 pub record Gives (old new : Driver) (end end' : EndState) : Type 0 where
   pub heard : Hears 0 old.client new.client end end'
+  pub server : SameServer old.client new.client
+  pub keeps : KeepsData old.client new.client old.answers.items new.answers.items
   pub more : HasMoreAnswers old.answers.items new.answers.items
   pub session : IsBegun end → IsBegun end'
   pub given : IsBegun end → AreGiven old end → AreGiven new end'
-
--- the row of a tag
-abbrev pub row_at : List Row → ℕ → Row
-row_at rs tag = if nat_le 1 tag then slice_index_or rs (tag - 1) rows.Login else rows.Login
-
--- whether it is of a command with data-in, and whether that was answered
-abbrev pub is_inward : Row → Bool
-is_inward (rows.Command dirs.In at len said) = true
-is_inward _ = false
-
-abbrev pub is_given : Row → Bool
-is_given (rows.Command dirs.In at len (Some said)) = true
-is_given _ = false
 
 -- What a client keeps of a tag is what the records tell, and the answers with these tags.
 pub record FitsTag (rs : List Row) (asked tags inward : List ℕ) (tag : ℕ) : Type 0 where

@@ -1,5 +1,5 @@
 -- A client and the records of its lines, between the steps of its lines: what its refusals are judged by.
-use Rattle.std.specs.Prelude.{◌≡◌, ◌≢◌, ◌⊎◌, ℕ, ◌+◌, ◌≤◌, ◌<◌, Bool, true, false, not, All, List, [], ◌∷◌, ◌++◌, MatchOption, OnOk, Option, Some, None, Result, Ok, Err, length, min, ⊤}
+use Rattle.std.specs.Prelude.{◌≡◌, ◌⊎◌, ℕ, ◌+◌, ◌≤◌, ◌<◌, Bool, true, false, not, All, List, [], ◌∷◌, ◌++◌, MatchOption, OnOk, Option, Some, None, Result, Ok, Err, length, min, ⊤}
 use Rattle.std.specs.List.{Contains, slice_get}
 use Rattle.vio_num.specs.declared.hypervisor.Moved.TheVariants.{Quiet}
 use Rattle.vio_num.specs.declared.memory.NoMemory.{NoMemory}
@@ -22,7 +22,7 @@ use Rattle.vcpu_run.specs.Credited.{Ended, is_take, taken_in}
 use Rattle.vcpu_run.specs.Freeing.{is_reset}
 use Rattle.vcpu_run.specs.LinesShow.{PairShows}
 use Rattle.vcpu_run.specs.Refusals.{HasCausesTold, LoginNow, login_by, tags_told}
-use Rattle.vcpu_run.specs.TakenScripts.{AllGive, PairHears, PairTakes}
+use Rattle.vcpu_run.specs.TakenScripts.{AllGive, PairHears, PairReads, PairTakes}
 use Rattle.vcpu_run.specs.ValuesPut.{PairPuts}
 
 -- the login that is on by records, one after the other
@@ -124,6 +124,7 @@ pub record SeatTold (seat : ℕ) (line : Line) (p p' : Progress) (old new : List
   pub here : (before after : Pair) → slice_get old seat ≡ Some before → slice_get new seat ≡ Some after → PairTold line.verb p p' before after result
   pub takes : (before after : Pair) → slice_get old seat ≡ Some before → slice_get new seat ≡ Some after → PairTakes line.verb p p' before after result
   pub hears : (before after : Pair) → slice_get old seat ≡ Some before → slice_get new seat ≡ Some after → PairHears before after result
+  pub reads : (before after : Pair) → slice_get old seat ≡ Some before → slice_get new seat ≡ Some after → PairReads line.verb before after result
   pub puts : (before after : Pair) → slice_get old seat ≡ Some before → slice_get new seat ≡ Some after → PairPuts line.verb before after result
   pub gives : OnOk result (AllGive old new)
   pub shows : (after : Pair) → slice_get new seat ≡ Some after → PairShows line after result

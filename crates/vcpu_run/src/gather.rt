@@ -70,7 +70,7 @@ pub(crate) fn gather(
         All IsOver scripts.entry.items → RecordsAreOfLines partitions trace) }
     ensures called { IfOk result (λ trace. (partitions : List Partition) →
         IsOfPlan partitions pairs.items scripts.entry.items lan.seats →
-        CallsAreSaid partitions trace) }
+        PortsEnd lan scripts.entry.items → CallsAreSaid partitions trace) }
     ensures credits { IfOk result (λ trace. (partitions : List Partition) →
         IsOfPlan partitions pairs.items scripts.entry.items lan.seats →
         AreCredited pairs.items scripts.entry.items → CreditsAreKept partitions trace) }

@@ -1,5 +1,8 @@
 // What a script line does at its client unit.
-ghost use Rattle.std.specs.Prelude.{◌≡◌, ◌⊎◌, ◌≤◌, [], IfErr, IfOk, None, OnOk, true, false, ℕ, Some};
+ghost use Rattle.std.specs.Prelude.{◌≡◌, ◌⊎◌, ◌≤◌, [], Bool, IfErr, IfOk, None, OnOk, true, false, ℕ, Some, length};
+ghost use Rattle.std.specs.List.{sum};
+ghost use Rattle.srp_desc.specs.declared.pieces.TheConstants.{MAX_DATA_LEN};
+ghost use Rattle.crq_session.specs.EndState.{EndState};
 ghost use Rattle.vscsi_client.specs.declared.TheConstants.{MIN_PAGES};
 ghost use Rattle.vscsi_client.specs.Transferred.{FitRows};
 ghost use Rattle.vscsi_client.specs.Units.{FitsOp};
@@ -7,6 +10,8 @@ ghost use Rattle.boot_text.specs.declared.verb.Verb.{Verb as VerbValue};
 ghost use Rattle.boot_text.specs.declared.verb.Verb.TheVariants as verbs;
 ghost use Rattle.vcpu_run.specs.Credited.{StepsAgreed, taken_in, uses_credit};
 ghost use Rattle.unit_region.specs.Steps.{IsPlain};
+ghost use Rattle.vcpu_run.specs.DataKept.{StepSends};
+ghost use Rattle.vcpu_run.specs.DataRead.{StepReads};
 ghost use Rattle.vcpu_run.specs.EventsHeard.{StepHears};
 ghost use Rattle.vcpu_run.specs.Freeing.{is_reset};
 ghost use Rattle.vcpu_run.specs.Holding.{IsHeldOff, StepsOpen, TurnsOpen, link_seen};
@@ -67,13 +72,16 @@ fn turned(turn: LoginTurn, moved: Moved) -> Step
     }
 }
 
-// The sum of these bytes.
-fn sum_of(bytes: &[u8]) -> u64 {
-    let mut sum: u64 = 0;
+// Adds up the bytes of a command's data.
+fn sum_of(bytes: &[u8]) -> u64
+    requires { length bytes.now ≤ MAX_DATA_LEN }
+    ensures { result ≡ sum bytes.now }
+{
+    let mut total: u64 = 0;
     for byte in bytes {
-        sum = sum.saturating_add(u64::from(*byte));
+        total += u64::from(*byte);
     }
-    sum
+    total
 }
 
 impl Driver {
@@ -184,6 +192,8 @@ impl Driver {
         ensures plain { IsPlain result }
         ensures answers { self.new.answers ≡ self.old.answers }
         ensures takes { StepsTaken (verbs.Data tag) 0 0 self.old self.new result }
+        ensures reads { (shared : Bool) (end : EndState) → IfOk result (StepReads
+            (seen_by shared (O.state own.new) end) self.old.client (verbs.Data tag)) }
     {
         match self.client.data_of(own, tag) {
             Ok(bytes) => Ok(Step::Ends(Outcome::Data {
@@ -224,6 +234,8 @@ impl Driver {
             StepsAgreed verb 0 0 self.old.client self.new.client result }
         ensures takes { (verb : VerbValue) → IsOpOf verb op.now →
             StepsTaken verb 0 0 self.old self.new result }
+        ensures inward { (verb : VerbValue) → IsOpOf verb op.now →
+            IfOk result (StepSends self.new.client.rows verb) }
         ensures gives { OnOk result (Gives self.old self.new
             (C.state crq.old.end) (C.state crq.new.end)) }
         ensures hears { StepHears result self.old.client self.new.client
@@ -357,6 +369,10 @@ impl Driver {
             (O.state own.old) (O.state own.new) self.old self.new }
         ensures puts { IfOk result (λ step. StepPuts line.now.verb step
             (O.state own.old).values (O.state own.new).values) }
+        ensures reads { IfOk result (StepReads
+            (seen_by C.is_shared (O.state own.new) (C.state crq.new.end))
+            self.old.client line.now.verb) }
+        ensures inward { IfOk result (StepSends self.new.client.rows line.now.verb) }
         ensures credit { StepsAgreed line.now.verb (taken_in progress.old)
             (taken_in progress.new) self.old.client self.new.client result }
         ensures takes { StepsTaken line.now.verb (taken_in progress.old)
@@ -403,6 +419,10 @@ impl Driver {
             (O.state own.old) (O.state own.new) self.old self.new }
         ensures puts { IfOk result (λ step. StepPuts line.now.verb step
             (O.state own.old).values (O.state own.new).values) }
+        ensures reads { IfOk result (StepReads
+            (seen_by C.is_shared (O.state own.new) (C.state crq.new.end))
+            self.old.client line.now.verb) }
+        ensures inward { IfOk result (StepSends self.new.client.rows line.now.verb) }
         ensures credit { StepsAgreed line.now.verb (taken_in progress.old)
             (taken_in progress.new) self.old.client self.new.client result }
         ensures takes { StepsTaken line.now.verb (taken_in progress.old)

@@ -1,7 +1,8 @@
 // The units of a partition, as raw hypervisor calls reach them.
-ghost use Rattle.std.specs.Prelude.{◌≡◌, ◌≢◌, ◌<◌, ℕ, true, IfOk, IfSome, List, Some, length, slice_get};
+ghost use Rattle.std.specs.Prelude.{◌≡◌, ◌≢◌, ◌<◌, ℕ, true, IfOk, IfSome, List, None, Some, length, slice_get};
 ghost use Rattle.hcall_table.specs.Asked.{bare};
 ghost use Rattle.hcall_table.specs.Rows.{IsAnswer};
+ghost use Rattle.lan_script.specs.CalledMac.{mac_called};
 ghost use Rattle.lan_script.specs.PortRows.{port_row};
 ghost use Rattle.unit_region.specs.EntryRows.{entry_row};
 ghost use Rattle.vio_num.specs.declared.hypervisor.Hrc.TheVariants as codes;
@@ -32,7 +33,7 @@ pub(crate) struct PartitionUnits<'a> {
 }
 
 impl PartitionUnits<'_> {
-    ghost use Rattle.vcpu_run.specs.RawCalls.{IsThere, MakesCall, place_of, seat_in, seen_after};
+    ghost use Rattle.vcpu_run.specs.RawCalls.{AnswersPorts, CallsAt, IsThere, MakesCall, place_of, seat_in, seen_after};
 
     // Where the unit sits, if the partition has it.
     fn seat_of(&self, unit: u8) -> Option<Seat>
@@ -62,6 +63,9 @@ impl PartitionUnits<'_> {
         ensures answer { IfOk result (IsAnswer (entry_row call)) }
         ensures returned { IfOk result (IsReturned (seen_after self.old self.new unit)
             (entry_row call) (entry_arguments call)) }
+        ensures ports { IfOk result (CallsAt unit (λ _. None) self.old self.new) }
+        ensures entries { IfOk result (AnswersPorts self.old self.new unit
+            (entry_row call) (entry_arguments call)) }
         ensures place { place_of self.new ≡ place_of self.old }
     {
         match self.seat_of(unit) {
@@ -82,6 +86,9 @@ impl PartitionUnits<'_> {
         ensures answer { IfOk result (IsAnswer (queue_row call)) }
         ensures returned { IfOk result (IsReturned (seen_after self.old self.new unit)
             (queue_row call) (queue_arguments call)) }
+        ensures ports { IfOk result (CallsAt unit (λ _. None) self.old self.new) }
+        ensures entries { IfOk result (AnswersPorts self.old self.new unit
+            (queue_row call) (queue_arguments call)) }
         ensures place { place_of self.new ≡ place_of self.old }
     {
         match self.seat_of(unit) {
@@ -98,6 +105,9 @@ impl PartitionUnits<'_> {
         ensures answer { IfOk result (IsAnswer (port_row call)) }
         ensures returned { is_unsaid (port_row call) ≡ true → (args : List ℕ) →
             IfOk result (IsReturned (seen_after self.old self.new unit) (port_row call) args) }
+        ensures ports { IfOk result (CallsAt unit (mac_called call) self.old self.new) }
+        ensures entries { is_unsaid (port_row call) ≡ true → (args : List ℕ) →
+            IfOk result (AnswersPorts self.old self.new unit (port_row call) args) }
         ensures place { place_of self.new ≡ place_of self.old }
     {
         match self.seat_of(unit) {

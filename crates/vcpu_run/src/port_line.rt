@@ -1,7 +1,10 @@
 // One step of a script line at a LAN port.
 ghost use Rattle.std.specs.Prelude.{◌≡◌, IfOk, OnOk};
+ghost use Rattle.lan_script.specs.Entries.{values_at};
+ghost use Rattle.unit_region.specs.LinePuts.{StepPuts};
 ghost use Rattle.vcpu_run.specs.Credited.{IsFresh, StepsPort, taken_in};
 ghost use Rattle.vcpu_run.specs.Ports.{IsPortOf, unit_of};
+ghost use Rattle.vcpu_run.specs.PortBytes.{StepBytes};
 ghost use Rattle.vcpu_run.specs.PortPosts.{StepFits};
 ghost use Rattle.vcpu_run.specs.PortReplays.{StepReplays};
 ghost use Rattle.vcpu_run.specs.PortSteps.{IsBeside, StepRises};
@@ -30,6 +33,11 @@ pub(crate) fn step(
         (done_in progress.old) lan.old lan.new) }
     ensures fits { IfOk result (StepFits (unit_of partition line.now.unit) line.now.verb
         (done_in progress.old) (done_in progress.new) lan.old lan.new) }
+    ensures bytes { IfOk result (StepBytes (unit_of partition line.now.unit) line.now.verb
+        lan.old lan.new) }
+    ensures puts { IfOk result (λ step. StepPuts line.now.verb step
+        (values_at lan.old (unit_of partition line.now.unit))
+        (values_at lan.new (unit_of partition line.now.unit))) }
     ensures beside { OnOk result (IsBeside (unit_of partition line.now.unit)
         lan.old lan.new) }
     ensures credit { StepsPort line.now.verb

@@ -14,8 +14,10 @@ ghost use Rattle.unit_region.specs.Steps.{IsPlain, is_plain};
 ghost use Rattle.vcpu_run.specs.Freed.{FreesNoneIf};
 ghost use Rattle.vcpu_run.specs.Freeing.{NoneSits};
 ghost use Rattle.vcpu_run.specs.Pairs.{AreDriven};
+ghost use Rattle.vcpu_run.specs.PortCalls.{EndsEntries, HasAll};
+ghost use Rattle.vcpu_run.specs.PortMacs.{EndsPorts};
 ghost use Rattle.vcpu_run.specs.PortSteps.{IsApart};
-ghost use Rattle.vcpu_run.specs.RawCalls.{MakesCall, place_of, seat_by, seen_after};
+ghost use Rattle.vcpu_run.specs.RawCalls.{CallsBy, MakesCall, PortsReturn, place_of, seat_by, seen_after};
 ghost use Rattle.vcpu_run.specs.Suited.{is_call};
 
 use crate::pair::Pair;
@@ -70,6 +72,11 @@ pub(crate) fn make_call(
     ensures others { SameElse seats.now pairs.old pairs.new }
     ensures lan { lan.new.seats ≡ lan.old.seats }
     ensures apart { OnOk result (IsApart partition lan.old lan.new) }
+    ensures ports { IfOk result (EndsPorts partition
+        (verbs.Hcall raw.now.number raw.now.arguments) lan.old lan.new) }
+    ensures entries { IfOk result (EndsEntries partition (seat_by partition seats.now
+        (length pairs.old) lan.old.seats) (verbs.Hcall raw.now.number raw.now.arguments)
+        lan.old lan.new) }
     ensures plain { IsPlain result }
     ensures said { IfOk result (EndsCall (units_seen partition (seat_by partition seats.now
         (length pairs.old) lan.old.seats) pairs.new) raw.now.number raw.now.arguments) }
@@ -92,6 +99,10 @@ fn call_units(
     arguments: &[u64; 9],
 ) -> Result<Returned, NoMemory>
     ensures units { MakesCall units.old units.new result }
+    ensures ports { IfOk result (CallsBy units.old.partition number arguments.now
+        units.old.lan.now units.new.lan.now) }
+    ensures all { OnOk result (HasAll units.old.lan.now units.new.lan.now) }
+    ensures entries { IfOk result (PortsReturn number arguments.now units.old units.new) }
     ensures function { row_of number ≡ None → IfOk result (λ r. r.code ≡ codes.Function) }
     ensures answer { IfSome (row_of number) (λ row. IfOk result (IsAnswer row)) }
     ensures elsewhere { IfSome (row_of number) (λ row.

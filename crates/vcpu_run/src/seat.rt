@@ -14,7 +14,7 @@ ghost use Rattle.hcall_table.specs.Rows.{IsAnswer, may_answer};
 ghost use Rattle.vcpu_run.specs.CallRows.{arguments_for, queue_arguments, queue_row, row_for};
 ghost use Rattle.vcpu_run.specs.CallsAnswered.{IsReturned, unit_seen};
 ghost use Rattle.vcpu_run.specs.Sendings.{SameCredits};
-ghost use Rattle.vcpu_run.specs.TakenScripts.{PairGives, PairHears, PairTakes};
+ghost use Rattle.vcpu_run.specs.TakenScripts.{PairGives, PairHears, PairReads, PairTakes};
 ghost use Rattle.vcpu_run.specs.Telling.{PairOut, PairTold};
 ghost use Rattle.vcpu_run.specs.ValuesPut.{PairPuts, SameValues};
 ghost use Rattle.vcpu_run.specs.Works.{IsUnitVerb};
@@ -68,6 +68,7 @@ pub(crate) fn step(pair: &mut Pair, line: &Line, progress: &mut Progress) -> Res
     ensures said { PairTold line.now.verb progress.old progress.new pair.old pair.new result }
     ensures shows { PairShows line.now pair.new result }
     ensures out { PairOut line.now.verb progress.old progress.new pair.old pair.new result }
+    ensures reads { PairReads line.now.verb pair.old pair.new result }
     ensures puts { PairPuts line.now.verb pair.old pair.new result }
     ensures registered { PairOpen line.now.verb progress.new pair.old pair.new result }
     ensures stays { is_reset line.now.verb ≡ false → FreesNoneAt pair.old pair.new }

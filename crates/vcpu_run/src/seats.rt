@@ -1,5 +1,5 @@
 // What a partition does at its units, one after the other or at one of them.
-ghost use Rattle.std.specs.Prelude.{◌≡◌, ◌<◌, ◌≤◌, ◌∷◌, [], ⊤, ℕ, false, IfOk, IfSome, OnOk, Some, IsSomeAnd, length, slice_get};
+ghost use Rattle.std.specs.Prelude.{◌≡◌, ◌<◌, ◌≤◌, ◌∷◌, [], ⊤, ℕ, false, true, IfOk, IfSome, OnOk, Some, IsSomeAnd, length, slice_get};
 ghost use Rattle.vcpu_run.specs.Agreed.{AllSame, SameBeside, SameDrivers, SameElse, StepsLine, StepsSeat};
 ghost use Rattle.vcpu_run.specs.CallsSaid.{StepSaid, seen_from};
 ghost use Rattle.vcpu_run.specs.Credited.{taken_in};
@@ -9,6 +9,8 @@ ghost use Rattle.vcpu_run.specs.Holding.{LineOpen, SeatOpen};
 ghost use Rattle.vcpu_run.specs.Links.{ClientWaits, EventWaits, EventsWait, LinksRest, SeatsRest, links_of};
 ghost use Rattle.vcpu_run.specs.Pairs.{AreDriven, IsDriver};
 ghost use Rattle.vcpu_run.specs.Ports.{HavePorts, IsPortOf};
+ghost use Rattle.vcpu_run.specs.PortCalls.{EndsEntries};
+ghost use Rattle.vcpu_run.specs.PortMacs.{EndsPorts};
 ghost use Rattle.vcpu_run.specs.PortSteps.{AllSilent, AllTake, IsApart, IsBeside, TakesOn, TellsStep};
 ghost use Rattle.vcpu_run.specs.PortWords.{done_in};
 ghost use Rattle.vcpu_run.specs.PortsRest.{PortsRest, SeatTaken};
@@ -195,6 +197,10 @@ pub(crate) fn step_unit(
         TellsStep partition seats.now line.now
         (done_in progress.old) (done_in progress.new) lan.old lan.new step) }
     ensures apart { OnOk result (IsApart partition lan.old lan.new) }
+    ensures ports { IfOk result (λ step. is_call line.now.verb ≡ true →
+        EndsPorts partition line.now.verb lan.old lan.new step) }
+    ensures entries { IfOk result (λ step. is_call line.now.verb ≡ true →
+        EndsEntries partition (slice_get seats.now) line.now.verb lan.old lan.new step) }
     ensures called { IfOk result (StepSaid (seen_from partition seats.now pairs.new)
         line.now.verb) }
 {

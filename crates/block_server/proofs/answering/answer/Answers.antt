@@ -28,6 +28,7 @@ use Rattle.block_server.specs.LoginAnswers.{login_answers}
 use Rattle.block_server.proofs.Coming.{comes_first, comes_put}
 use Rattle.block_server.proofs.ComingParts.{comes_none}
 use Rattle.block_server.specs.Steps.{NoStage}
+use Rattle.block_server.proofs.Dropping.{known_within}
 use Rattle.block_server.proofs.answering.answer.Goals as goal
 
 pub returns-in_err-make_room-clause-once : goal.returns-in_err-make_room-clause-once
@@ -220,24 +221,24 @@ returns-in_default-clause-cargo g c =
     keeps_on _ _ _ (keeps_same _ _ (shown_same _ _ _ _ _ _ (sees _ _ _ (still_pages _ _ c.reserve.ensures.windows)) c.make_room.ensures.lists.history)) c.copy_answer.ensures.cargo
 
 pub returns-in_err-make_room-clause-refuses : goal.returns-in_err-make_room-clause-refuses
-returns-in_err-make_room-clause-refuses g c = λ terms all serving front. explains_stands c.args.unit.now c.args.unit.now (g.S.Site.state c.args.site.now) (g.S.Site.state c.args.site.now) c.args.records.now c.make_room.new.self refl refl refl c.make_room.ensures.lists.grants refl refl terms.told c.args.unit.now.id front
+returns-in_err-make_room-clause-refuses g c = λ terms all serving front knows. explains_stands c.args.unit.now c.args.unit.now (g.S.Site.state c.args.site.now) (g.S.Site.state c.args.site.now) c.args.records.now c.make_room.new.self refl refl refl c.make_room.ensures.lists.grants refl refl terms.told c.args.unit.now.id front
 
 pub returns-in_err-make_room-2-clause-refuses : goal.returns-in_err-make_room-2-clause-refuses
-returns-in_err-make_room-2-clause-refuses g c = λ terms all serving front. explains_stands c.args.unit.now c.args.unit.now (g.S.Site.state c.args.site.now) (g.S.Site.state c.args.site.now) c.args.records.now c.make_room.new.self refl refl refl c.make_room.ensures.lists.grants refl refl terms.told c.args.unit.now.id front
+returns-in_err-make_room-2-clause-refuses g c = λ terms all serving front knows. explains_stands c.args.unit.now c.args.unit.now (g.S.Site.state c.args.site.now) (g.S.Site.state c.args.site.now) c.args.records.now c.make_room.new.self refl refl refl c.make_room.ensures.lists.grants refl refl terms.told c.args.unit.now.id front
 
 pub returns-in_err-reserve-clause-refuses : goal.returns-in_err-reserve-clause-refuses
-returns-in_err-reserve-clause-refuses g c = λ terms all serving front. explains_stands c.args.unit.now c.args.unit.now (g.S.Site.state c.args.site.now) (g.S.Site.state c.reserve.new.self) c.args.records.now c.make_room.new.self refl c.reserve.ensures.passes refl c.make_room.ensures.lists.grants (ap login_answers c.reserve.ensures.rest.sent) refl terms.told c.args.unit.now.id front
+returns-in_err-reserve-clause-refuses g c = λ terms all serving front knows. explains_stands c.args.unit.now c.args.unit.now (g.S.Site.state c.args.site.now) (g.S.Site.state c.reserve.new.self) c.args.records.now c.make_room.new.self refl c.reserve.ensures.passes refl c.make_room.ensures.lists.grants (ap login_answers c.reserve.ensures.rest.sent) refl terms.told c.args.unit.now.id front
 
 pub returns-in_err-copy_answer-clause-refuses : goal.returns-in_err-copy_answer-clause-refuses
-returns-in_err-copy_answer-clause-refuses g c = λ terms all serving front is.
+returns-in_err-copy_answer-clause-refuses g c = λ terms all serving front knows is.
     c.copy_answer.ensures.refuses terms.told c.args.unit.now.id front (tells_next terms.told c.args.unit.now.id (g.S.Site.state c.args.site.now) (g.S.Site.state c.reserve.new.self) (g.S.Site.state c.copy_answer.new.site) c.reserve.ensures.advances all) (explains_stands c.args.unit.now c.args.unit.now (g.S.Site.state c.args.site.now) (g.S.Site.state c.reserve.new.self) c.args.records.now c.make_room.new.self refl c.reserve.ensures.passes refl c.make_room.ensures.lists.grants (ap login_answers c.reserve.ensures.rest.sent) refl terms.told c.args.unit.now.id front is)
 
 pub returns-in_default-clause-refuses : goal.returns-in_default-clause-refuses
-returns-in_default-clause-refuses g c = λ terms all serving front is.
+returns-in_default-clause-refuses g c = λ terms all serving front knows is.
     c.copy_answer.ensures.refuses terms.told c.args.unit.now.id front (tells_next terms.told c.args.unit.now.id (g.S.Site.state c.args.site.now) (g.S.Site.state c.reserve.new.self) (g.S.Site.state c.copy_answer.new.site) c.reserve.ensures.advances all) (explains_stands c.args.unit.now c.args.unit.now (g.S.Site.state c.args.site.now) (g.S.Site.state c.reserve.new.self) c.args.records.now c.make_room.new.self refl c.reserve.ensures.passes refl c.make_room.ensures.lists.grants (ap login_answers c.reserve.ensures.rest.sent) refl terms.told c.args.unit.now.id front is)
 
 pub returns-in-Entry-clause-refuses : goal.returns-in-Entry-clause-refuses
-returns-in-Entry-clause-refuses g c = λ terms all serving front is.
+returns-in-Entry-clause-refuses g c = λ terms all serving front knows is.
     let unit = c.args.unit.now in
     let disk : Held = record { terms = terms; now = None } in
     let reserved = g.S.Site.state c.reserve.new.self in
@@ -248,7 +249,10 @@ returns-in-Entry-clause-refuses g c = λ terms all serving front is.
     (c.copy_answer.ensures.once disk made (subst (IsServing terms (desk_of unit)) (sym c.make_room.ensures.lists.history) serving))
     (λ is. c.copy_answer.ensures.refuses terms.told unit.id front made
     (explains_stands unit unit (g.S.Site.state c.args.site.now) reserved c.args.records.now c.make_room.new.self refl c.reserve.ensures.passes refl c.make_room.ensures.lists.grants (ap login_answers c.reserve.ensures.rest.sent) refl terms.told unit.id front is))
-    (c.put_answer.ensures.refuses terms) is
+    (λ serving. c.put_answer.ensures.refuses terms serving front
+    (known_within g.S.Site.link_shared unit.line.handshake c.copy_answer.new.unit.line.handshake (g.S.Site.state c.args.site.now) copied (g.S.Site.state c.put_answer.new.site)
+    (g.S.Site.state c.put_answer.new.site) front.closed (advances_on _ _ _ c.reserve.ensures.advances c.copy_answer.ensures.advances) (advances_same (g.S.Site.state c.put_answer.new.site))
+    (agrees_same _ _ _ _ c.copy_answer.ensures.handshake (ap (λ (q : EndState). q.registered) c.copy_answer.ensures.queue ∙ c.reserve.ensures.rest.registered)) knows)) is
 
 pub returns-in_default-clause-comes : goal.returns-in_default-clause-comes
 returns-in_default-clause-comes g c =

@@ -37,6 +37,7 @@ use Rattle.block_server.proofs.Readying.{full_now, send_idles}
 use Rattle.block_server.proofs.ComingParts.{comes_finished, comes_none, work_put}
 use Rattle.block_server.specs.Steps.{NoStage}
 use Rattle.std.proofs.Common.{inl}
+use Rattle.block_server.proofs.Dropping.{discarded_closed}
 use Rattle.block_server.proofs.answering.put_answer.Goals as goal
 
 pub returns-in_default-clause-once : goal.returns-in_default-clause-once
@@ -135,7 +136,7 @@ returns-in_default-send-clause-cargo g c =
     (none_seen _ _ _ _ _ _ _ (still_pages _ _ c.send.ensures.windows) (ap is_moving c.requires.stage) (ap is_moving c.finish.ensures.stage) refl)
 
 pub returns-in-Success-clause-refuses : goal.returns-in-Success-clause-refuses
-returns-in-Success-clause-refuses g c = λ terms serving front is.
+returns-in-Success-clause-refuses g c = λ terms serving front knows is.
     let unit = c.args.unit.now in
     let first = front_is _ _ c.in-Some.ensures.item.3 in
     let old = g.S.Site.state c.args.site.now in
@@ -159,14 +160,17 @@ returns-in-Success-clause-refuses g c = λ terms serving front is.
     (passed_session _ _ c.send.ensures.passes) (passed_taken _ _ c.send.ensures.passes) refl refl refl refl refl refl refl terms.told unit.id front is))
 
 pub returns-in-Dropped-clause-refuses : goal.returns-in-Dropped-clause-refuses
-returns-in-Dropped-clause-refuses g c = λ terms serving front.
+returns-in-Dropped-clause-refuses g c = λ terms serving front knows.
     explains_same (ledger_of c.args.unit.now (g.S.Site.state c.args.site.now) c.args.records.now) _ (passed_session _ _ c.send.ensures.passes) (passed_taken _ _ c.send.ensures.passes) refl refl refl refl (ap login_answers c.in-Dropped.ensures.dropped.sent) refl refl terms.told c.args.unit.now.id front
 
 pub returns-in_default-send-clause-refuses : goal.returns-in_default-send-clause-refuses
-returns-in_default-send-clause-refuses g c = λ terms serving front.
+returns-in_default-send-clause-refuses g c = λ terms serving front knows.
     explains_finished terms (desk_of c.args.unit.now) c.args.records.now.history.items (ledger_of c.args.unit.now (g.S.Site.state c.args.site.now) c.args.records.now) (ledger_of c.finish.new.unit (g.S.Site.state c.send.new.self) c.args.records.now) c.args.outcome c.requires.stage refl (passed_session _ _ c.send.ensures.passes) (passed_taken _ _ c.send.ensures.passes)
     (waiting_stands _ _ c.finish.ensures.stands) (ended_stands _ _ c.finish.ensures.stands) c.finish.ensures.pending refl
     (logins_same _ _ _ _ c.in_default-send.not-Success c.in_default-send.not-Dropped c.send.ensures.closed c.send.ensures.refused) c.finish.ensures.id (ap (λ (l : Logins). l.current) c.finish.ensures.logins) serving front
+    (λ earlier some. discarded_closed g.S.Site.link_shared c.args.unit.now.line c.send.result (g.S.Site.state c.args.site.now).queue (g.S.Site.state c.send.new.self).queue front.closed
+    (λ number is. c.in_default-send.not-Success number is) (λ number held is. c.in_default-send.not-Dropped number held is)
+    c.send.ensures.closed c.send.ensures.unregistered c.send.ensures.rest knows)
 
 pub returns-in-Success-clause-comes : goal.returns-in-Success-clause-comes
 returns-in-Success-clause-comes g c =

@@ -42,6 +42,8 @@ use Rattle.block_server.proofs.ComingParts.{comes_finished, comes_none, work_put
 use Rattle.block_server.proofs.Quieting.{still_on, still_reserves}
 use Rattle.block_server.specs.Steps.{NoStage}
 use Rattle.std.proofs.Common.{inl}
+use Rattle.block_server.proofs.Advancing.{advances_same}
+use Rattle.block_server.proofs.Dropping.{discarded_closed, known_within}
 use Rattle.block_server.proofs.answering.put_kept.Goals as goal
 
 pub returns-in_default-clause-once : goal.returns-in_default-clause-once
@@ -225,35 +227,35 @@ returns-in-Answer-kept-clause-cargo g c = λ terms serving.
     (ap rows_of c.make_room.ensures.lists.history))
 
 pub returns-in_err-make_room-clause-refuses : goal.returns-in_err-make_room-clause-refuses
-returns-in_err-make_room-clause-refuses g c = λ terms serving front.
+returns-in_err-make_room-clause-refuses g c = λ terms serving front knows.
     explains_stands c.args.unit.now c.args.unit.now (g.S.Site.state c.args.site.now) (g.S.Site.state c.args.site.now) c.args.records.now c.make_room.new.self refl refl refl c.make_room.ensures.lists.grants refl refl terms.told c.args.unit.now.id front
 
 pub returns-in_err-make_room-2-clause-refuses : goal.returns-in_err-make_room-2-clause-refuses
-returns-in_err-make_room-2-clause-refuses g c = λ terms serving front.
+returns-in_err-make_room-2-clause-refuses g c = λ terms serving front knows.
     explains_stands c.args.unit.now c.args.unit.now (g.S.Site.state c.args.site.now) (g.S.Site.state c.args.site.now) c.args.records.now c.make_room.new.self refl refl refl c.make_room.ensures.lists.grants refl refl terms.told c.args.unit.now.id front
 
 pub returns-in_err-reserve-clause-refuses : goal.returns-in_err-reserve-clause-refuses
-returns-in_err-reserve-clause-refuses g c = λ terms serving front.
+returns-in_err-reserve-clause-refuses g c = λ terms serving front knows.
     explains_stands c.args.unit.now c.args.unit.now (g.S.Site.state c.args.site.now) _ c.args.records.now c.make_room.new.self refl c.reserve.ensures.passes refl c.make_room.ensures.lists.grants (ap login_answers c.reserve.ensures.rest.sent) refl terms.told c.args.unit.now.id front
 
 pub returns-in-Dropped-clause-refuses : goal.returns-in-Dropped-clause-refuses
-returns-in-Dropped-clause-refuses g c = λ terms serving front.
+returns-in-Dropped-clause-refuses g c = λ terms serving front knows.
     explains_stands c.args.unit.now c.args.unit.now (g.S.Site.state c.args.site.now) (g.S.Site.state c.send.new.self) c.args.records.now c.make_room.new.self refl (c.send.ensures.passes ∙ c.reserve.ensures.passes) refl c.make_room.ensures.lists.grants
     (ap login_answers (c.in-Dropped.ensures.dropped.sent ∙ c.reserve.ensures.rest.sent)) refl terms.told c.args.unit.now.id front
 
 pub returns-in_default-kept-clause-refuses : goal.returns-in_default-kept-clause-refuses
-returns-in_default-kept-clause-refuses g c = λ terms serving front.
+returns-in_default-kept-clause-refuses g c = λ terms serving front knows.
     let is = serving.kept (keeps.Reply c.in_default-kept.field-0) (c.in-Some.is ∙ ap Some c.in_default-kept.is) in
     explains_same (ledger_of c.args.unit.now (g.S.Site.state c.args.site.now) c.args.records.now) _ (passed_session _ _ (c.send.ensures.passes ∙ c.reserve.ensures.passes)) (passed_taken _ _ (c.send.ensures.passes ∙ c.reserve.ensures.passes)) refl refl refl c.make_room.ensures.lists.grants
     (logins_plain _ _ _ (subst IsPlain (sym (c.entry.ensures ∙ ap kept_entry c.in_default-kept.is)) is) c.in-Success.ensures.success.puts.sent ∙ ap login_answers c.reserve.ensures.rest.sent) refl refl terms.told c.args.unit.now.id front
 
 pub returns-in_default-kept-2-clause-refuses : goal.returns-in_default-kept-2-clause-refuses
-returns-in_default-kept-2-clause-refuses g c = λ terms serving front.
+returns-in_default-kept-2-clause-refuses g c = λ terms serving front knows.
     explains_same (ledger_of c.args.unit.now (g.S.Site.state c.args.site.now) c.args.records.now) _ (passed_session _ _ (c.send.ensures.passes ∙ c.reserve.ensures.passes)) (passed_taken _ _ (c.send.ensures.passes ∙ c.reserve.ensures.passes)) refl refl refl c.make_room.ensures.lists.grants
     (logins_same _ _ _ _ c.in_default-send.not-Success c.in_default-send.not-Dropped c.send.ensures.closed c.send.ensures.refused ∙ ap login_answers c.reserve.ensures.rest.sent) refl refl terms.told c.args.unit.now.id front
 
 pub returns-in-Answer-clause-refuses : goal.returns-in-Answer-clause-refuses
-returns-in-Answer-clause-refuses g c = λ terms serving front is.
+returns-in-Answer-clause-refuses g c = λ terms serving front knows is.
     let unit = c.args.unit.now in
     let old = g.S.Site.state c.args.site.now in
     let sent = g.S.Site.state c.send.new.self in
@@ -275,11 +277,18 @@ returns-in-Answer-clause-refuses g c = λ terms serving front is.
     c.make_room.ensures.lists.grants refl refl refl terms.told unit.id front is))
 
 pub returns-in-Answer-kept-clause-refuses : goal.returns-in-Answer-kept-clause-refuses
-returns-in-Answer-kept-clause-refuses g c = λ terms serving front.
+returns-in-Answer-kept-clause-refuses g c = λ terms serving front knows.
     let kept = serving.kept (keeps.Answer c.in-Answer-kept.entry c.in-Answer-kept.outcome) (c.in-Some.is ∙ ap Some c.in-Answer-kept.is) in
     explains_finished terms (desk_of c.args.unit.now) c.args.records.now.history.items (ledger_of c.args.unit.now (g.S.Site.state c.args.site.now) c.args.records.now) (ledger_of c.finish.new.unit (g.S.Site.state c.send.new.self) c.make_room.new.self) c.in-Answer-kept.outcome kept.stage refl (passed_session _ _ (c.send.ensures.passes ∙ c.reserve.ensures.passes))
     (passed_taken _ _ (c.send.ensures.passes ∙ c.reserve.ensures.passes)) (waiting_stands _ _ c.finish.ensures.stands) (ended_stands _ _ c.finish.ensures.stands) c.finish.ensures.pending c.make_room.ensures.lists.grants
     (logins_same _ _ _ _ c.in_default-send.not-Success c.in_default-send.not-Dropped c.send.ensures.closed c.send.ensures.refused ∙ ap login_answers c.reserve.ensures.rest.sent) c.finish.ensures.id (ap (λ (l : Logins). l.current) c.finish.ensures.logins) serving front
+    (λ earlier some going. subst (λ (session : ℕ). front.closed session ≡ true) c.reserve.ensures.rest.last_session
+    (discarded_closed g.S.Site.link_shared c.args.unit.now.line c.send.result (g.S.Site.state c.reserve.new.self).queue (g.S.Site.state c.send.new.self).queue front.closed
+    (λ number is. c.in_default-send.not-Success number is) (λ number held is. c.in_default-send.not-Dropped number held is)
+    c.send.ensures.closed c.send.ensures.unregistered c.send.ensures.rest
+    (known_within g.S.Site.link_shared c.args.unit.now.line.handshake c.args.unit.now.line.handshake (g.S.Site.state c.args.site.now) (g.S.Site.state c.reserve.new.self)
+    (g.S.Site.state c.send.new.self) (g.S.Site.state c.send.new.self) front.closed c.reserve.ensures.advances (advances_same (g.S.Site.state c.send.new.self))
+    (agrees_same _ _ _ _ refl c.reserve.ensures.rest.registered) knows) going))
 
 pub returns-in-Dropped-clause-comes : goal.returns-in-Dropped-clause-comes
 returns-in-Dropped-clause-comes g c = λ terms serving.

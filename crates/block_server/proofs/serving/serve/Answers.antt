@@ -46,6 +46,7 @@ use Rattle.block_server.proofs.ComingParts.{comes_finished}
 use Rattle.block_server.proofs.ComingStages.{comes_noted}
 use Rattle.block_server.proofs.Quieting.{still_equal, still_same}
 use Rattle.block_server.specs.Steps.{OtherStage}
+use Rattle.block_server.proofs.Dropping.{known_within}
 use Rattle.block_server.proofs.serving.serve.Goals as goal
 
 pub returns-clause-advances : goal.returns-clause-advances
@@ -315,26 +316,26 @@ returns-clause-cargo g c = λ told asked all serving hand.
     (subst (λ (k : Option Cmd). IsAccounted told asked (cargo_at unit.id unit.service (seen k (g.S.Site.state c.args.site.now)) c.args.records.now.history.items)) command hand))))
 
 pub returns-in_default-clause-refuses : goal.returns-in_default-clause-refuses
-returns-in_default-clause-refuses g c = λ told all serving front is. is
+returns-in_default-clause-refuses g c = λ told all serving front knows is. is
 
 pub returns-in_err-make_room-clause-refuses : goal.returns-in_err-make_room-clause-refuses
-returns-in_err-make_room-clause-refuses g c = λ told all serving front is.
+returns-in_err-make_room-clause-refuses g c = λ told all serving front knows is.
     explains_same (ledger_of c.args.unit.now (g.S.Site.state c.args.site.now) c.args.records.now) _ refl refl refl refl refl c.make_room.ensures.lists.grants refl refl refl told c.args.unit.now.id front is
 
 pub returns-in-Logout-clause-refuses : goal.returns-in-Logout-clause-refuses
-returns-in-Logout-clause-refuses g c = λ told all serving begun is.
+returns-in-Logout-clause-refuses g c = λ told all serving begun knows is.
     let front = front_is _ _ c.in-Some.ensures.item.3 in
     let other : is_login c.in-Some.request.now.order ≡ false = search rules in
     c.log_out.ensures.refuses (g.S.Site.state c.args.site.now).queue.last_session (g.S.Site.state c.args.site.now).queue.taken (login_answers (g.S.Site.state c.args.site.now).queue.sent) c.in-Some.request.now front.0 c.session.ensures front.1 other told c.args.unit.now.id begun
     (explains_same (ledger_of c.args.unit.now (g.S.Site.state c.args.site.now) c.args.records.now) (ledger_of c.args.unit.now (g.S.Site.state c.args.site.now) c.make_room.new.self) refl refl refl refl refl c.make_room.ensures.lists.grants refl refl refl told c.args.unit.now.id begun is)
 
 pub returns-in_err-prepare-clause-refuses : goal.returns-in_err-prepare-clause-refuses
-returns-in_err-prepare-clause-refuses g c = λ told all serving front is.
+returns-in_err-prepare-clause-refuses g c = λ told all serving front knows is.
     explains_same (ledger_of c.args.unit.now (g.S.Site.state c.args.site.now) c.args.records.now) _ (ap (λ (q : EndState). q.last_session) c.prepare.ensures.queue) (ap (λ (q : EndState). q.taken) c.prepare.ensures.queue) refl refl refl c.prepare.ensures.grants (ap (λ (q : EndState). login_answers q.sent) c.prepare.ensures.queue) refl refl
     told c.args.unit.now.id front is
 
 pub returns-clause-refuses : goal.returns-clause-refuses
-returns-clause-refuses g c = λ told all serving begun is.
+returns-clause-refuses g c = λ told all serving begun knows is.
     let unit = c.args.unit.now in
     let front = front_is _ _ c.in-Some.ensures.item.3 in
     let old = g.S.Site.state c.args.site.now in
@@ -350,8 +351,10 @@ returns-clause-refuses g c = λ told all serving begun is.
     (ap (λ (q : EndState). q.last_session) c.prepare.ensures.queue) (ap (λ (q : EndState). q.taken) c.prepare.ensures.queue)
     (waiting_stands _ _ c.note_stage.ensures.stands) (ap (λ (way : UnderWay). way.pending) c.note_stage.ensures.way) (ended_stands _ _ c.note_stage.ensures.stands)
     c.prepare.ensures.grants (ap (λ (q : EndState). login_answers q.sent) c.prepare.ensures.queue) (ap (λ (d : Desk). d.id) c.note_stage.ensures.desk) (ap (λ (d : Desk). d.logins.current) c.note_stage.ensures.desk) told unit.id begun)
-    (c.answer.ensures.refuses (terms_of told c.prepare.new.disk.count)
-    (subst (λ (id : UnitId). TellsAll told id mid new) (sym (ap (λ (desk : Desk). desk.id) c.note_stage.ensures.desk)) (tells_next told unit.id old mid new c.prepare.ensures.advances all))) is
+    (λ serving. c.answer.ensures.refuses (terms_of told c.prepare.new.disk.count)
+    (subst (λ (id : UnitId). TellsAll told id mid new) (sym (ap (λ (desk : Desk). desk.id) c.note_stage.ensures.desk)) (tells_next told unit.id old mid new c.prepare.ensures.advances all)) serving begun
+    (known_within g.S.Site.link_shared unit.line.handshake c.note_stage.new.unit.line.handshake old mid new new begun.closed c.prepare.ensures.advances (advances_same new)
+    (agrees_same _ _ _ _ (ap (λ (line : Line). line.handshake) c.note_stage.ensures.line) (ap (λ (q : EndState). q.registered) c.prepare.ensures.queue)) knows)) is
 
 pub returns-in-Logout-clause-comes : goal.returns-in-Logout-clause-comes
 returns-in-Logout-clause-comes g c =

@@ -5,7 +5,7 @@ use Rattle.block_server.proofs.Agreeing.{agrees_on}
 use Rattle.block_server.proofs.Readying.{full_later, idle_full, idle_opening, idle_turn, next_on, next_over, next_service, on_both}
 use Rattle.block_server.proofs.Denying.{tells_first, tells_next}
 use Rattle.block_server.proofs.Hearing.{once_by}
-use Rattle.block_server.proofs.Advancing.{advances_on}
+use Rattle.block_server.proofs.Advancing.{advances_on, advances_same}
 use Rattle.block_server.proofs.Quieting.{on_ok, quiet_on}
 use Rattle.block_server.proofs.Onces.{once_on, once_then}
 use Rattle.block_server.proofs.Taking.{ended_stands, takes_none, takes_on}
@@ -19,6 +19,7 @@ use Rattle.block_server.proofs.Hands.{keeps_same}
 use Rattle.block_server.specs.Serving.{held}
 use Rattle.block_server.proofs.Coming.{comes_on, comes_then}
 use Rattle.block_server.proofs.ComingStages.{comes_any}
+use Rattle.block_server.proofs.Dropping.{known_within}
 use Rattle.block_server.proofs.turning.steps.Goals as goal
 
 pub returns-in_err-open_line-clause-once : goal.returns-in_err-open_line-clause-once
@@ -287,41 +288,51 @@ returns-clause-cargo g c = λ told asked all serving hand.
     (c.take_in.ensures.cargo told asked (keeps_same _ _ (c.put_kept.ensures.cargo _ first) told asked (keeps_same _ _ (c.open_line.ensures.cargo c.args.records.now) told asked hand)))
 
 pub returns-in_err-open_line-clause-refuses : goal.returns-in_err-open_line-clause-refuses
-returns-in_err-open_line-clause-refuses g c = λ told all serving front is. c.open_line.ensures.refuses c.args.records.now told c.args.unit.now.id front is
+returns-in_err-open_line-clause-refuses g c = λ told all serving front knows is. c.open_line.ensures.refuses c.args.records.now told c.args.unit.now.id front is
 
 pub returns-then-eq-clause-refuses : goal.returns-then-eq-clause-refuses
-returns-then-eq-clause-refuses g c = λ told all serving front is. c.open_line.ensures.refuses c.args.records.now told c.args.unit.now.id front is
+returns-then-eq-clause-refuses g c = λ told all serving front knows is. c.open_line.ensures.refuses c.args.records.now told c.args.unit.now.id front is
 
 pub returns-in_err-put_kept-clause-refuses : goal.returns-in_err-put_kept-clause-refuses
-returns-in_err-put_kept-clause-refuses g c = λ told all serving front.
+returns-in_err-put_kept-clause-refuses g c = λ told all serving front knows.
+    let told_kept = known_within g.S.Site.link_shared c.args.unit.now.line.handshake c.open_line.new.unit.line.handshake (g.S.Site.state c.args.site.now) (g.S.Site.state c.open_line.new.site)
+    (g.S.Site.state c.put_kept.new.site) (g.S.Site.state c.put_kept.new.site) front.closed c.open_line.ensures.advances (advances_same _) c.open_line.ensures.agrees knows in
     let disk = held told c.args.disk.now.count None in
     explained_then disk disk _ _ _ _ _ _ front _ _ _ (c.open_line.ensures.once c.args.records.now disk serving)
-    (c.open_line.ensures.refuses c.args.records.now told c.args.unit.now.id front) (c.put_kept.ensures.refuses disk.terms)
+    (c.open_line.ensures.refuses c.args.records.now told c.args.unit.now.id front) (λ serving. c.put_kept.ensures.refuses disk.terms serving front told_kept)
 
 pub returns-then-eq-2-clause-refuses : goal.returns-then-eq-2-clause-refuses
-returns-then-eq-2-clause-refuses g c = λ told all serving front.
+returns-then-eq-2-clause-refuses g c = λ told all serving front knows.
+    let told_kept = known_within g.S.Site.link_shared c.args.unit.now.line.handshake c.open_line.new.unit.line.handshake (g.S.Site.state c.args.site.now) (g.S.Site.state c.open_line.new.site)
+    (g.S.Site.state c.put_kept.new.site) (g.S.Site.state c.put_kept.new.site) front.closed c.open_line.ensures.advances (advances_same _) c.open_line.ensures.agrees knows in
     let disk = held told c.args.disk.now.count None in
     explained_then disk disk _ _ _ _ _ _ front _ _ _ (c.open_line.ensures.once c.args.records.now disk serving)
-    (c.open_line.ensures.refuses c.args.records.now told c.args.unit.now.id front) (c.put_kept.ensures.refuses disk.terms)
+    (c.open_line.ensures.refuses c.args.records.now told c.args.unit.now.id front) (λ serving. c.put_kept.ensures.refuses disk.terms serving front told_kept)
 
 pub returns-in_err-take_in-clause-refuses : goal.returns-in_err-take_in-clause-refuses
-returns-in_err-take_in-clause-refuses g c = λ told all serving front is.
+returns-in_err-take_in-clause-refuses g c = λ told all serving front knows is.
+    let told_kept = known_within g.S.Site.link_shared c.args.unit.now.line.handshake c.open_line.new.unit.line.handshake (g.S.Site.state c.args.site.now) (g.S.Site.state c.open_line.new.site)
+    (g.S.Site.state c.put_kept.new.site) (g.S.Site.state c.take_in.new.site) front.closed c.open_line.ensures.advances c.take_in.ensures.advances c.open_line.ensures.agrees knows in
     let disk = held told c.args.disk.now.count None in
     let heard = tells_next told c.args.unit.now.id (g.S.Site.state c.args.site.now) (g.S.Site.state c.put_kept.new.site) (g.S.Site.state c.take_in.new.site) (advances_on _ _ _ c.open_line.ensures.advances c.put_kept.ensures.advances) all in
     c.take_in.ensures.refuses (ended_stands _ _ c.put_kept.ensures.stands ∙ c.in_ok-open_line.ensures.goes_on (search rules)) told c.args.unit.now.id front heard
     (explained_then disk disk _ _ _ _ _ _ front _ _ _ (c.open_line.ensures.once c.args.records.now disk serving)
-    (c.open_line.ensures.refuses c.args.records.now told c.args.unit.now.id front) (c.put_kept.ensures.refuses disk.terms) is)
+    (c.open_line.ensures.refuses c.args.records.now told c.args.unit.now.id front) (λ serving. c.put_kept.ensures.refuses disk.terms serving front told_kept) is)
 
 pub returns-then-eq-3-clause-refuses : goal.returns-then-eq-3-clause-refuses
-returns-then-eq-3-clause-refuses g c = λ told all serving front is.
+returns-then-eq-3-clause-refuses g c = λ told all serving front knows is.
+    let told_kept = known_within g.S.Site.link_shared c.args.unit.now.line.handshake c.open_line.new.unit.line.handshake (g.S.Site.state c.args.site.now) (g.S.Site.state c.open_line.new.site)
+    (g.S.Site.state c.put_kept.new.site) (g.S.Site.state c.take_in.new.site) front.closed c.open_line.ensures.advances c.take_in.ensures.advances c.open_line.ensures.agrees knows in
     let disk = held told c.args.disk.now.count None in
     let heard = tells_next told c.args.unit.now.id (g.S.Site.state c.args.site.now) (g.S.Site.state c.put_kept.new.site) (g.S.Site.state c.take_in.new.site) (advances_on _ _ _ c.open_line.ensures.advances c.put_kept.ensures.advances) all in
     c.take_in.ensures.refuses (ended_stands _ _ c.put_kept.ensures.stands ∙ c.in_ok-open_line.ensures.goes_on (search rules)) told c.args.unit.now.id front heard
     (explained_then disk disk _ _ _ _ _ _ front _ _ _ (c.open_line.ensures.once c.args.records.now disk serving)
-    (c.open_line.ensures.refuses c.args.records.now told c.args.unit.now.id front) (c.put_kept.ensures.refuses disk.terms) is)
+    (c.open_line.ensures.refuses c.args.records.now told c.args.unit.now.id front) (λ serving. c.put_kept.ensures.refuses disk.terms serving front told_kept) is)
 
 pub returns-clause-refuses : goal.returns-clause-refuses
-returns-clause-refuses g c = λ told all serving front.
+returns-clause-refuses g c = λ told all serving front knows.
+    let told_kept = known_within g.S.Site.link_shared c.args.unit.now.line.handshake c.open_line.new.unit.line.handshake (g.S.Site.state c.args.site.now) (g.S.Site.state c.open_line.new.site)
+    (g.S.Site.state c.put_kept.new.site) (g.S.Site.state c.serve.new.site) front.closed c.open_line.ensures.advances (advances_on _ _ _ c.take_in.ensures.advances c.serve.ensures.advances) c.open_line.ensures.agrees knows in
     let disk = held told c.args.disk.now.count None in
     let old = g.S.Site.state c.args.site.now in
     let put = g.S.Site.state c.put_kept.new.site in
@@ -336,9 +347,11 @@ returns-clause-refuses g c = λ told all serving front.
     explained_then disk disk _ _ _ _ _ _ front _ _ _ taken
     (λ is. c.take_in.ensures.refuses (ended_stands _ _ c.put_kept.ensures.stands ∙ c.in_ok-open_line.ensures.goes_on (search rules)) told c.args.unit.now.id front (tells_next told c.args.unit.now.id old put taken_in opened heard)
     (explained_then disk disk _ _ _ _ _ _ front _ _ _ (c.open_line.ensures.once c.args.records.now disk serving)
-    (c.open_line.ensures.refuses c.args.records.now told c.args.unit.now.id front) (c.put_kept.ensures.refuses disk.terms) is))
-    (c.serve.ensures.refuses told
-    (tells_next told c.take_in.new.unit.id old taken_in new first (subst (λ (id : UnitId). TellsAll told id old new) (sym taken.id) all)))
+    (c.open_line.ensures.refuses c.args.records.now told c.args.unit.now.id front) (λ serving. c.put_kept.ensures.refuses disk.terms serving front told_kept) is))
+    (λ serving. c.serve.ensures.refuses told
+    (tells_next told c.take_in.new.unit.id old taken_in new first (subst (λ (id : UnitId). TellsAll told id old new) (sym taken.id) all)) serving front
+    (known_within g.S.Site.link_shared c.args.unit.now.line.handshake c.take_in.new.unit.line.handshake old taken_in new new front.closed first (advances_same new)
+    (λ agrees. c.take_in.ensures.agrees (c.put_kept.ensures.agrees (c.open_line.ensures.agrees agrees))) knows))
 
 pub returns-then-eq-clause-comes : goal.returns-then-eq-clause-comes
 returns-then-eq-clause-comes g c = λ told serving. comes_any _ _ _ _ c.in_ok-open_line.ensures.comes

@@ -44,8 +44,8 @@ pub returns-clause-called : goal.returns-clause-called
 returns-clause-called c =
     from_rows c.args.pairs.items c.args.scripts.items c.args.lan c.args.history.items c.args.grants.items c.args.copies.items c.rows_of.result _ _ c.rows_of.ensures.trace
     (ok_pair c.rows_of.result _ _ c.rows_of.ensures.queues c.rows_of.ensures.windows)
-    (λ rows keeps ordered lawful partitions of_plan. calls_are c.args.pairs.items c.args.scripts.items c.args.lan rows c.args.history.items c.args.grants.items c.args.copies.items partitions
-    c.requires.pairs c.requires.scripts lawful.0 lawful.1 of_plan)
+    (λ rows keeps ordered lawful partitions of_plan ends. calls_are c.args.pairs.items c.args.scripts.items c.args.lan rows c.args.history.items c.args.grants.items c.args.copies.items partitions
+    c.requires.pairs c.requires.scripts lawful.0 lawful.1 of_plan ends.told)
 
 pub returns-clause-copies : goal.returns-clause-copies
 returns-clause-copies c =
@@ -105,9 +105,10 @@ returns-clause-serves c =
 
 pub returns-clause-told : goal.returns-clause-told
 returns-clause-told c =
-    from_counts c.args.pairs.items c.args.scripts.items c.args.lan c.args.history.items c.args.grants.items c.args.copies.items c.rows_of.result _ c.rows_of.ensures.trace
-    (λ rows counted partitions of_plan over tells. told_are c.args.pairs.items c.args.scripts.items c.args.lan rows c.args.history.items c.args.grants.items c.args.copies.items partitions
-    c.requires.scripts of_plan over tells counted)
+    from_counts c.args.pairs.items c.args.scripts.items c.args.lan c.args.history.items c.args.grants.items c.args.copies.items c.rows_of.result _ _ c.rows_of.ensures.trace
+    c.rows_of.ensures.windows
+    (λ rows counted windows partitions of_plan over tells. told_are c.args.pairs.items c.args.scripts.items c.args.lan rows c.args.history.items c.args.grants.items c.args.copies.items partitions
+    c.requires.scripts of_plan over tells counted windows)
 
 pub returns-clause-refusals : goal.returns-clause-refusals
 returns-clause-refusals c =

@@ -1,4 +1,4 @@
-use Rattle.std.proofs.Common.{◌≡◌, List, [], IfSome, IsSome, ap, subst, sym}
+use Rattle.std.proofs.Common.{List, [], IfSome, IsSome, ap, subst, sym}
 use Rattle.vio_num.specs.declared.history.Served.{Served}
 use Rattle.block_server.specs.DiskLaw.{KeepsDisk}
 use Rattle.vcpu_run.specs.Answered.{AreAnswered}

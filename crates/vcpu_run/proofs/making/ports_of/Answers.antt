@@ -1,5 +1,5 @@
 -- The ports of each partition come behind those of the partitions before it.
-use Rattle.std.proofs.Common.{◌∙◌, ap, sym, ◌++◌}
+use Rattle.std.proofs.Common.{◌∙◌, ap, ◌++◌}
 use Rattle.vcpu_run.specs.Ports.{ports_in}
 use Rattle.vcpu_run.proofs.PortsFound.{partition_step}
 use Rattle.vcpu_run.proofs.making.ports_of.Goals as goal

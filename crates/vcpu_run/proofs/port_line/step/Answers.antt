@@ -1,4 +1,6 @@
-use Rattle.std.proofs.Common.{◌≡◌, ℕ, subst}
+use Rattle.std.proofs.Common.{ℕ, subst}
+use Rattle.lan_script.specs.Entries.{PortPuts, values_at}
+use Rattle.lan_script.specs.LineBytes.{StepsBytes}
 use Rattle.lan_script.specs.LineSays.{SendsAs}
 use Rattle.lan_script.specs.PortCounts.{CountsStep, counts_after, counts_by}
 use Rattle.lan_script.specs.Replayed.{Replays}
@@ -6,7 +8,7 @@ use Rattle.lan_script.specs.declared.lines.PortStep.{PortStep}
 use Rattle.unit_region.specs.declared.step.Step.TheVariants as steps
 use Rattle.vcpu_run.specs.Ports.{unit_of}
 use Rattle.vcpu_run.specs.PortReplays.{StepReplays}
-use Rattle.vcpu_run.proofs.PortRising.{replays_ended, step_beside}
+use Rattle.vcpu_run.proofs.PortRising.{bytes_ended, replays_ended, step_beside}
 use Rattle.vcpu_run.proofs.port_line.step.Goals as goal
 
 pub returns-in-Ends-clause-replays : goal.returns-in-Ends-clause-replays
@@ -24,3 +26,21 @@ returns-in-Ends-clause-beside c =
     step_beside (unit_of c.args.partition c.args.line.now.unit) c.in_ok-outcome.field-0 (counts_by c.args.line.now.verb c.done.result)
     (counts_after c.args.line.now.verb c.in_ok-outcome.field-0) c.args.lan.now c.step.new.self c.step.ensures.seats c.in_ok-outcome.ensures.sends
     c.in_ok-outcome.ensures.counts c.in_ok-outcome.ensures.beside c.in_ok-outcome.ensures.others
+
+pub returns-in-Ends-clause-bytes : goal.returns-in-Ends-clause-bytes
+returns-in-Ends-clause-bytes c =
+    let u = unit_of c.args.partition c.args.line.now.unit in
+    bytes_ended u c.args.line.now.verb c.in-Ends.outcome c.args.lan.now c.step.new.self c.step.ensures.seats
+    (subst (λ (s : PortStep). SendsAs u s c.args.lan.now c.step.new.self) c.in-Ends.is c.in_ok-outcome.ensures.sends) c.in_ok-outcome.ensures.names
+    (λ own. subst (λ (s : PortStep). StepsBytes u c.args.line.now.verb s c.args.lan.now c.step.new.self) c.in-Ends.is (c.in_ok-outcome.ensures.bytes own))
+    c.in_ok-outcome.ensures.addresses
+
+pub returns-in-Ends-clause-puts : goal.returns-in-Ends-clause-puts
+returns-in-Ends-clause-puts c =
+    let u = unit_of c.args.partition c.args.line.now.unit in
+    subst (λ (s : PortStep). PortPuts c.args.line.now.verb s (values_at c.args.lan.now u) (values_at c.step.new.self u)) c.in-Ends.is c.in_ok-outcome.ensures.puts
+
+pub returns-in-Waits-clause-puts : goal.returns-in-Waits-clause-puts
+returns-in-Waits-clause-puts c =
+    let u = unit_of c.args.partition c.args.line.now.unit in
+    subst (λ (s : PortStep). PortPuts c.args.line.now.verb s (values_at c.args.lan.now u) (values_at c.step.new.self u)) c.in-Waits.is c.in_ok-outcome.ensures.puts

@@ -134,6 +134,7 @@ returns-clause-clients g c =
       taken = c.serve.ensures.taken;
       unit = c.serve.ensures.stays.client_unit;
       sees = serve_sees (slice_index_or pairs c.args.unit c.index-pairs-unit.result) c.serve.new.self c.serve.ensures.shows.window c.serve.ensures.sent;
+      server = c.serve.ensures.stays.server;
       values = c.serve.ensures.values;
     })
 

@@ -5,7 +5,8 @@ use Rattle.tce_window.specs.PortState.{PortPlace}
 use Rattle.vcpu_run.specs.declared.pair.Pair.{Pair}
 use Rattle.vcpu_run.specs.LinesShow.{PairShows}
 use Rattle.vcpu_run.proofs.LinesShown.{pair_shows}
-use Rattle.vcpu_run.specs.TakenScripts.{PairGives, PairHears}
+use Rattle.vcpu_run.specs.TakenScripts.{PairGives, PairHears, PairReads}
+use Rattle.vcpu_run.proofs.DataSteps.{pair_reads}
 use Rattle.vcpu_run.proofs.GivesAll.{pair_gives_ok, pair_hears}
 use Rattle.vcpu_run.proofs.seat.step.Goals as goal
 
@@ -41,3 +42,13 @@ returns-clause-hears c =
     subst (λ (link : PlainLink). PairHears old (pair link) c.step.result) link_is
     (pair_hears c.step.result old (pair end.link.now) c.in-Some.driver c.step.new.self c.side.result.first end.first (lent.ghost_name ∷ []) (end.link.ghost_name ∷ []) lent.now
     c.in-Some.is refl c.side.ensures.link c.side.ensures.first (ap (λ (p : EndPlace). p.first) c.step.ensures.works.place ∙ c.side.ensures.first) c.step.ensures.hears)
+
+pub returns-clause-reads : goal.returns-clause-reads
+returns-clause-reads c =
+    let old = c.args.pair.now in
+    let end = c.step.new.crq.end in
+    let pair : PlainLink → Pair = λ link. record { server = old.server; link = link; own = old.own; window = c.step.new.own; driver = Some c.step.new.self } in
+    let link_is : end.link.now ≡ c.pair-2-1.given.0 = search rules in
+    subst (λ (link : PlainLink). PairReads c.args.line.now.verb old (pair link) c.step.result) link_is
+    (pair_reads c.step.result old (pair end.link.now) c.in-Some.driver c.step.new.self end.first (end.link.ghost_name ∷ []) c.args.line.now.verb
+    c.in-Some.is refl (ap (λ (p : EndPlace). p.first) c.step.ensures.works.place ∙ c.side.ensures.first) c.step.ensures.reads c.step.ensures.inward)

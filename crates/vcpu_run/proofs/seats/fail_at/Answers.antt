@@ -14,7 +14,8 @@ pub fail_of-requires-clause-client : goal.fail_of-requires-clause-client
 fail_of-requires-clause-client c = c.requires.client c.in-Client.pair c.in-Client.is
 
 pub returns-in-Port-clause-idle : goal.returns-in-Port-clause-idle
-returns-in-Port-clause-idle c = all_silent c.args.unit c.args.lan.now c.fail.new.self c.fail.ensures.seats c.fail.ensures.frames c.fail.ensures.counts c.fail.ensures.beside c.fail.ensures.macs
+returns-in-Port-clause-idle c =
+    all_silent c.args.unit c.args.lan.now c.fail.new.self c.fail.ensures.seats c.fail.ensures.frames c.fail.ensures.counts c.fail.ensures.beside c.fail.ensures.macs c.fail.ensures.places
 
 pub returns-in-Client-clause-others : goal.returns-in-Client-clause-others
 returns-in-Client-clause-others c = else_one (c.args.seat ∷ []) 0 c.in-Client.pair c.args.pairs.now c.fail_of.new.pairs (ap Some c.in-Client.is) c.fail_of.ensures.others

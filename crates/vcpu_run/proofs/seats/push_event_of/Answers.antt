@@ -40,6 +40,7 @@ returns-clause-clients c =
       taken = c.push_event.ensures.taken;
       unit = ap (λ w. w.unit) c.push_event.ensures.window;
       sees = drives_sees _ c.push_event.new.pair c.push_event.ensures.drives;
+      server = c.push_event.ensures.drives.server;
       values = ap (λ w. (known_of w).values) c.push_event.ensures.window;
     })
 

@@ -1,8 +1,10 @@
-use Rattle.std.proofs.Common.{rules, ◌≡◌, Bool, false, true, length}
+use Rattle.std.proofs.Common.{rules, ◌≡◌, Bool, false, true, length, refl, slice_get}
 use Rattle.boot_text.specs.declared.verb.Verb.TheVariants as verbs
 use Rattle.vcpu_run.specs.CallsSaid.{seen_from, units_seen}
 use Rattle.vcpu_run.specs.RawCalls.{seat_by}
-use Rattle.vcpu_run.proofs.CallsKept.{called_step, seen_same, step_says_none}
+use Rattle.vcpu_run.proofs.PortCalling.{called_entries, uncalled_entries}
+use Rattle.vcpu_run.proofs.CalledPorts.{called_ports, uncalled_ports}
+use Rattle.vcpu_run.proofs.CallsKept.{among_same, called_step, seen_same, step_says_none}
 use Rattle.vcpu_run.specs.Credited.{is_take, taken_in}
 use Rattle.vcpu_run.specs.Suited.{is_call}
 use Rattle.vcpu_run.proofs.RawCalling.{plain_port, told_steps}
@@ -51,6 +53,17 @@ returns-in-Some-clause-registered c = λ none.
     not_both : (b : Bool) → b ≡ true → b ≡ false → ⊥
     not_both b is isnt = cc
 
+pub returns-in-Some-clause-ports : goal.returns-in-Some-clause-ports
+returns-in-Some-clause-ports c =
+    let of_line : c.args.line.now.verb ≡ verbs.Hcall c.in-Some.raw.number c.in-Some.raw.arguments = search rules in
+    called_ports c.args.partition c.args.line.now.verb (verbs.Hcall c.in-Some.raw.number c.in-Some.raw.arguments) c.make_call.result c.args.lan.now c.make_call.new.lan
+    of_line c.make_call.ensures.ports
+
+pub returns-in-None-clause-ports : goal.returns-in-None-clause-ports
+returns-in-None-clause-ports c =
+    let none : is_call c.args.line.now.verb ≡ false = search rules in
+    uncalled_ports c.args.partition c.args.line.now.verb c.step_own.result c.args.lan.now c.step_own.new.lan none
+
 pub returns-in-Some-clause-called : goal.returns-in-Some-clause-called
 returns-in-Some-clause-called c =
     let of_line : c.args.line.now.verb ≡ verbs.Hcall c.in-Some.raw.number c.in-Some.raw.arguments = search rules in
@@ -64,3 +77,16 @@ pub returns-in-None-clause-called : goal.returns-in-None-clause-called
 returns-in-None-clause-called c =
     let none : is_call c.args.line.now.verb ≡ false = search rules in
     step_says_none (seen_from c.args.partition c.args.seats.now c.step_own.new.pairs) c.args.line.now.verb c.step_own.result none
+
+pub returns-in-Some-clause-entries : goal.returns-in-Some-clause-entries
+returns-in-Some-clause-entries c =
+    let of_line : c.args.line.now.verb ≡ verbs.Hcall c.in-Some.raw.number c.in-Some.raw.arguments = search rules in
+    called_entries c.args.partition c.args.seats.now c.args.pairs.now c.args.lan.now.seats c.args.line.now.verb c.in-Some.raw.number c.in-Some.raw.arguments c.make_call.result
+    c.args.lan.now c.make_call.new.lan
+    (λ unit. among_same c.args.partition c.args.seats.now c.args.pairs.now c.args.lan.now.seats unit c.requires.clients c.requires.ports (slice_get c.args.seats.now unit) refl)
+    of_line c.make_call.ensures.entries
+
+pub returns-in-None-clause-entries : goal.returns-in-None-clause-entries
+returns-in-None-clause-entries c =
+    let none : is_call c.args.line.now.verb ≡ false = search rules in
+    uncalled_entries c.args.partition c.args.seats.now c.args.line.now.verb c.step_own.result c.args.lan.now c.step_own.new.lan none

@@ -2,10 +2,9 @@ use Rattle.vcpu_run.specs.declared.unit_seat.Seat.TheVariants as sits
 use Rattle.vcpu_run.specs.Links.{ClientWaits, links_of}
 use Rattle.vcpu_run.proofs.Resting.{ok_more}
 use Rattle.std.proofs.Common.{◌∷◌, [], Some, ap, subst, IsSomeAnd, slice_get, ℕ, sym, ◌∙◌, ◌≡◌}
-use Rattle.vcpu_run.proofs.Driving.{driven_same, seat_within}
-use Rattle.vcpu_run.proofs.Elsewhere.{else_none, else_one}
-use Rattle.vcpu_run.proofs.PortTurns.{port_rest, rest_beside, idle_same}
-use Rattle.vcpu_run.proofs.PortTelling.{idle_takes}
+use Rattle.vcpu_run.proofs.Driving.{seat_within}
+use Rattle.vcpu_run.proofs.Elsewhere.{else_one}
+use Rattle.vcpu_run.proofs.PortTurns.{port_rest, rest_beside}
 use Rattle.vcpu_run.proofs.Crediting.{on_ok}
 use Rattle.vcpu_run.proofs.GivesAll.{all_give_same}
 use Rattle.vcpu_run.proofs.PortsResting.{ok_any, seat_none, seat_port}

@@ -12,7 +12,7 @@ returns-clause-advances g c =
     let new = g.C.CrqEnd.state c.free.new.self in
     queue_call _ _ _ _ _ old new c.free.ensures.rest.place (same_session old new c.free.ensures.rest.last_session) (same_taken old new c.free.ensures.rest.taken)
     (free_puts g.C.CrqEnd.is_shared old new c.free.result c.free.ensures.success c.free.ensures.busy c.free.ensures.refused)
-    c.free.ensures.rest.counts.same_session
+    c.free.ensures.rest.counts.same_session c.free.ensures.rest.counts.closed
 
 pub returns-clause-plain : goal.returns-clause-plain
 returns-clause-plain g c =

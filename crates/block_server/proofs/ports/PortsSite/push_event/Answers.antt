@@ -12,7 +12,7 @@ returns-clause-advances g c =
     let new = g.C.CrqEnd.state c.push_event.new.self in
     queue_call _ _ _ _ _ old new c.push_event.ensures.rest.place (same_session old new c.push_event.ensures.rest.last_session) (same_taken old new c.push_event.ensures.rest.taken)
     (push_puts g.C.CrqEnd.is_shared old new c.push_event.result c.args.self.now.event c.push_event.ensures.nothing c.push_event.ensures.put c.push_event.ensures.still)
-    c.push_event.ensures.rest.counts.same_session
+    c.push_event.ensures.rest.counts.same_session c.push_event.ensures.rest.counts.closed
 
 pub returns-clause-plain : goal.returns-clause-plain
 returns-clause-plain g c =

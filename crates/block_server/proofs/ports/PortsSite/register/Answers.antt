@@ -12,7 +12,7 @@ returns-clause-advances g c =
     let new = g.C.CrqEnd.state c.register.new.self in
     queue_call _ _ _ _ _ old new c.register.ensures.rest.place c.register.ensures.rest.last_session (same_taken old new c.register.ensures.rest.taken)
     (register_puts g.C.CrqEnd.is_shared old new c.register.result c.args.self.now.event c.register.ensures.opened c.register.ensures.busy c.register.ensures.refused)
-    c.register.ensures.rest.counts.same_session
+    c.register.ensures.rest.counts.same_session c.register.ensures.rest.counts.closed
 
 pub returns-clause-plain : goal.returns-clause-plain
 returns-clause-plain g c =

@@ -9,7 +9,7 @@ returns-clause-advances g c =
     let new = g.C.CrqEnd.state c.send.new.self in
     queue_call _ _ _ _ _ old new c.send.ensures.rest.place (same_session old new c.send.ensures.rest.last_session) (same_taken old new c.send.ensures.rest.taken)
     (send_puts g.C.CrqEnd.is_shared old new c.args.entry c.send.result c.requires.may c.send.ensures.success c.send.ensures.closed c.send.ensures.dropped c.send.ensures.refused)
-    c.send.ensures.rest.counts.same_session
+    c.send.ensures.rest.counts.same_session c.send.ensures.rest.counts.closed
 
 pub returns-clause-passes : goal.returns-clause-passes
 returns-clause-passes g c = windows_stay _ _ _ _ _ _ _ c.send.ensures.rest.last_session c.send.ensures.rest.taken

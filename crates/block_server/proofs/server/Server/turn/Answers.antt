@@ -1,11 +1,11 @@
-use Rattle.std.proofs.Common.{◌∙◌, ◌≡◌, Option, None, Some, ap, false, refl, slice_get, slice_set, subst, sym, true}
+use Rattle.std.proofs.Common.{◌∙◌, ◌≡◌, ℕ, Bool, Option, None, Some, ap, false, refl, slice_get, slice_set, subst, sym, true}
 use Rattle.std.proofs.Math.Logic.{∥∥₁_elim, ∥∥₁_map}
 use Rattle.std.proofs.lemmas.Option.{slice_get_read}
 use Rattle.vio_num.specs.declared.names.UnitId.{UnitId}
 use Rattle.crq_session.specs.EndState.{EndState}
 use Rattle.block_server.specs.Causes.{anything}
 use Rattle.tce_window.specs.PortState.{PortState}
-use Rattle.block_server.specs.Ready.{AgreesAt, NothingReady}
+use Rattle.block_server.specs.Ready.{Agrees, AgreesAt, NothingReady}
 use Rattle.block_server.specs.Serving.{held, terms_of}
 use Rattle.block_server.specs.SiteState.{Lenders}
 use Rattle.block_server.specs.Units.{AnswersItsRows, AreServing, ServesItsRows, grant_of, granted_by}
@@ -17,16 +17,16 @@ use Rattle.block_server.proofs.Taking.{intake_turn}
 use Rattle.block_server.specs.Receipts.{LinesMore}
 use Rattle.block_server.proofs.Jointly.{judged_turn}
 use Rattle.block_server.proofs.OwingTurn.{answered_turn}
-use Rattle.block_server.specs.Cargo.{HasCargo, HasRuns}
-use Rattle.block_server.proofs.CargoLaws.{cargo_turn, runs_turn}
+use Rattle.block_server.specs.Cargo.{HasRuns}
+use Rattle.block_server.proofs.CargoLaws.{runs_turn}
 use Rattle.block_server.proofs.Refusing.{refuses_turn}
 use Rattle.block_server.specs.Refusals.{AnswersInOrder, AreExplained, Front, HasExplained, basis_seen, ledger_at}
 use Rattle.block_server.specs.declared.unit.Unit.{Unit as ServerUnit}
 use Rattle.block_server.specs.LoginAnswers.{login_answers}
 use Rattle.block_server.specs.Rejecting.{LinesTellLogin}
-use Rattle.block_server.proofs.Ledgers.{accounted_first, dealt_turn, in_order_turn}
+use Rattle.block_server.proofs.Ledgers.{accounted_first, in_order_turn}
 use Rattle.block_server.specs.Causes.{told_to}
-use Rattle.block_server.specs.Dealt.{AreDealt, HasDealt}
+use Rattle.block_server.specs.Dealt.{HasDealt, KnowsSends}
 use Rattle.block_server.specs.Receipts.{is_ended}
 use Rattle.block_server.specs.Turns.{IsStill, way_of}
 use Rattle.block_server.proofs.ComingTurns.{Differs, differs_by, way_moved}
@@ -216,20 +216,6 @@ returns-clause-answered g c = λ alone judged has owes.
     answered_turn g.C.CrqEnd.is_shared server.units.items c.args.unit c.index_mut.result.now c.turn.new.unit _ _ server.records c.turn.new.records _ _ _ _ _ there (is.id ∙ sym c.requires.named)
     c.turn.ensures.intake c.turn.ensures.answers refl refl refl refl queue alone judged has owes)
 
-pub returns-clause-carried : goal.returns-clause-carried
-returns-clause-carried g c = λ told tells all has.
-    let server = c.args.self.now in
-    let there : slice_get server.units.items c.args.unit ≡ Some c.index_mut.result.now =
-    slice_get_read server.units.items _ c.args.unit _ server.units.ok.0 c.requires.unit c.index_mut.ensures.value in
-    let is = all c.args.unit c.index_mut.result.now there in
-    let reached = ap (λ (lent : Lenders). lent.client) c.turn.ensures.advances.reached in
-    let own = sym (ap g.O.WindowPort.state (c.own-1.given.1 (sym (ap (λ (lent : Lenders). lent.own) c.turn.ensures.advances.reached)))) in
-    let heard = tells_turn told _ _ _ _ _ _ _ _ _ _ (sym (is.id ∙ sym c.requires.named)) own
-    (sym (ap g.R.WindowPort.state (c.client-1.given.1 (sym reached)))) tells in
-    subst (λ (port : PortState). HasCargo told (slice_set server.units.items c.args.unit c.turn.new.unit) c.args.unit port c.turn.new.records) own
-    (cargo_turn told server.units.items c.args.unit c.index_mut.result.now c.turn.new.unit _ _ _ _ server.records c.turn.new.records there
-    (c.turn.ensures.cargo told false heard is.serving) has)
-
 pub returns-clause-runs : goal.returns-clause-runs
 returns-clause-runs g c = λ told tells all has.
     let server = c.args.self.now in
@@ -257,10 +243,11 @@ returns-clause-explains g c = λ told tells all since has.
     let heard = tells_turn told _ _ _ _ _ _ _ _ _ _ (sym (is.id ∙ sym c.requires.named)) (sym (ap g.O.WindowPort.state (c.own-1.given.1 (sym (ap (λ (lent : Lenders). lent.own) lent)))))
     (sym (ap g.R.WindowPort.state (c.client-1.given.1 (sym (ap (λ (lent : Lenders). lent.client) lent))))) tells in
     let ledger = ledger_at c.index_mut.result.now old.last_session old.taken (login_answers old.sent) server.records in
-    let front : Front = record { since = since; lines = server.records.grants.items; answers = login_answers old.sent; deals = false; asked = None } in
+    let front : Front = record { since = since; lines = server.records.grants.items; answers = login_answers old.sent; asked = None; closed = λ session. true } in
     let step : AreExplained told c.index_mut.result.now.id since (basis_seen c.index_mut.result.now old server.records.grants.items)
     → AreExplained told c.index_mut.result.now.id since (basis_seen c.turn.new.unit (g.C.CrqEnd.state c.turn.new.site.queue.now) c.turn.new.records.grants.items) =
-    λ known. (c.turn.ensures.refuses told heard is.serving front (accounted_first told c.index_mut.result.now.id front ledger known refl refl (λ deals. absurd (cc (deals))) (λ earlier none. absurd (cc (none))) (λ earlier none. absurd (cc (none))))).known in
+    λ known. (c.turn.ensures.refuses told heard is.serving front (λ session low none. absurd (cc (none)))
+    (accounted_first told c.index_mut.result.now.id front ledger known refl refl (λ earlier none. absurd (cc (none))) (λ earlier none. absurd (cc (none))) (λ earlier none. absurd (cc (none))))).known in
     subst (λ (q : EndState). HasExplained told (slice_set server.units.items c.args.unit c.turn.new.unit) c.args.unit unit q since c.turn.new.records.grants.items) queue
     (refuses_turn told server.units.items c.args.unit c.index_mut.result.now c.turn.new.unit unit old (g.C.CrqEnd.state c.turn.new.site.queue.now) since _ _ there
     (subst (λ (id : UnitId). AreExplained told id since (basis_seen c.index_mut.result.now old server.records.grants.items)
@@ -273,7 +260,7 @@ returns-clause-partner g c =
     (sym (ap g.C.CrqEnd.state (c.crq-1.given.1 (sym reached)))) c.turn.ensures.advances.partner
 
 pub returns-clause-logins : goal.returns-clause-logins
-returns-clause-logins g c = λ told tells all since has earlier order on.
+returns-clause-logins g c = λ told tells all since has earlier order on closed knows dealt.
     let server = c.args.self.now in
     let there : slice_get server.units.items c.args.unit ≡ Some c.index_mut.result.now =
     slice_get_read server.units.items _ c.args.unit _ server.units.ok.0 c.requires.unit c.index_mut.ensures.value in
@@ -287,37 +274,15 @@ returns-clause-logins g c = λ told tells all since has earlier order on.
     let known = subst (λ (id : UnitId). AreExplained told id since (basis_seen c.index_mut.result.now old server.records.grants.items)) (sym (is.id ∙ sym c.requires.named))
     (some_at (slice_get server.units.items c.args.unit) c.index_mut.result.now (λ (u : ServerUnit). AreExplained told unit since (basis_seen u old server.records.grants.items)) there has) in
     let units' = slice_set server.units.items c.args.unit c.turn.new.unit in
-    subst (λ (q : EndState). AnswersInOrder told earlier units' c.args.unit unit old q server.records c.turn.new.records) queue
-    (subst (λ (id : UnitId). AnswersInOrder told earlier units' c.args.unit id old (g.C.CrqEnd.state c.turn.new.site.queue.now) server.records c.turn.new.records) (is.id ∙ sym c.requires.named)
-    (in_order_turn told server.units.items c.args.unit c.index_mut.result.now c.turn.new.unit c.index_mut.result.now.id old (g.C.CrqEnd.state c.turn.new.site.queue.now) since earlier server.records c.turn.new.records
-    there known (c.turn.ensures.refuses told heard is.serving) refl c.turn.ensures.intake.id order
-    (subst (λ (id : UnitId). LinesTellLogin server.units.items c.args.unit id old server.records.grants.items) (sym (is.id ∙ sym c.requires.named)) on)))
-
-pub returns-clause-deals : goal.returns-clause-deals
-returns-clause-deals g c = λ told tells all since has dealt.
-    let server = c.args.self.now in
-    let there : slice_get server.units.items c.args.unit ≡ Some c.index_mut.result.now =
-    slice_get_read server.units.items _ c.args.unit _ server.units.ok.0 c.requires.unit c.index_mut.ensures.value in
-    let is = all c.args.unit c.index_mut.result.now there in
-    let lent = c.turn.ensures.advances.reached in
-    let unit = (g.O.WindowPort.state c.args.own.now).place.unit in
-    let old = g.C.CrqEnd.state c.args.crq.now in
-    let queue = sym (ap g.C.CrqEnd.state (c.crq-1.given.1 (sym (ap (λ (lent : Lenders). lent.queue) lent)))) in
-    let heard = tells_turn told _ _ _ _ _ _ _ _ _ _ (sym (is.id ∙ sym c.requires.named)) (sym (ap g.O.WindowPort.state (c.own-1.given.1 (sym (ap (λ (lent : Lenders). lent.own) lent)))))
-    (sym (ap g.R.WindowPort.state (c.client-1.given.1 (sym (ap (λ (lent : Lenders). lent.client) lent))))) tells in
-    let ledger = ledger_at c.index_mut.result.now old.last_session old.taken (login_answers old.sent) server.records in
-    let front : Front = record { since = since; lines = server.records.grants.items; answers = login_answers old.sent; deals = true; asked = None } in
-    let known = subst (λ (id : UnitId). AreExplained told id since (basis_seen c.index_mut.result.now old server.records.grants.items)) (sym (is.id ∙ sym c.requires.named))
-    (some_at (slice_get server.units.items c.args.unit) c.index_mut.result.now (λ (u : ServerUnit). AreExplained told unit since (basis_seen u old server.records.grants.items)) there has) in
-    let step : AreDealt (told_to told c.index_mut.result.now.id) old.last_session old.taken c.index_mut.result.now.waiting c.index_mut.result.now.pending.items (is_ended c.index_mut.result.now.line)
-    → AreDealt (told_to told c.index_mut.result.now.id) (g.C.CrqEnd.state c.turn.new.site.queue.now).last_session (g.C.CrqEnd.state c.turn.new.site.queue.now).taken
-    c.turn.new.unit.waiting c.turn.new.unit.pending.items (is_ended c.turn.new.unit.line) =
-    λ was. (c.turn.ensures.refuses told heard is.serving front (accounted_first told c.index_mut.result.now.id front ledger known refl refl (λ deals. was) (λ earlier none. absurd (cc (none))) (λ earlier none. absurd (cc (none))))).dealt refl in
-    subst (λ (q : EndState). HasDealt told (slice_set server.units.items c.args.unit c.turn.new.unit) c.args.unit unit q) queue
-    (dealt_turn told server.units.items c.args.unit c.index_mut.result.now c.turn.new.unit unit old (g.C.CrqEnd.state c.turn.new.site.queue.now) there
-    (subst (λ (id : UnitId). AreDealt (told_to told id) old.last_session old.taken c.index_mut.result.now.waiting c.index_mut.result.now.pending.items (is_ended c.index_mut.result.now.line)
-    → AreDealt (told_to told id) (g.C.CrqEnd.state c.turn.new.site.queue.now).last_session (g.C.CrqEnd.state c.turn.new.site.queue.now).taken
-    c.turn.new.unit.waiting c.turn.new.unit.pending.items (is_ended c.turn.new.unit.line)) (is.id ∙ sym c.requires.named) step) dealt)
+    subst (λ (q : EndState). AnswersInOrder told earlier closed units' c.args.unit unit old q server.records c.turn.new.records) queue
+    (subst (λ (id : UnitId). AnswersInOrder told earlier closed units' c.args.unit id old (g.C.CrqEnd.state c.turn.new.site.queue.now) server.records c.turn.new.records) (is.id ∙ sym c.requires.named)
+    (in_order_turn told server.units.items c.args.unit c.index_mut.result.now c.turn.new.unit c.index_mut.result.now.id old (g.C.CrqEnd.state c.turn.new.site.queue.now) since earlier closed server.records c.turn.new.records
+    there known (λ front same. c.turn.ensures.refuses told heard is.serving front (λ session low none.
+    let known = subst (λ (q : EndState). KnowsSends (AgreesAt server.units.items c.args.unit old) g.C.CrqEnd.is_shared old q closed) (sym queue) knows session low
+    (sym (ap (λ (f : ℕ → Bool). f session) same) ∙ none) in
+    (some_at (slice_get server.units.items c.args.unit) c.index_mut.result.now (λ (u : ServerUnit). Agrees u.line.handshake old) there known.0, known.1))) refl c.turn.ensures.intake.id order
+    (subst (λ (id : UnitId). LinesTellLogin server.units.items c.args.unit id old server.records.grants.items) (sym (is.id ∙ sym c.requires.named)) on)
+    (subst (λ (id : UnitId). HasDealt told earlier closed server.units.items c.args.unit id old) (sym (is.id ∙ sym c.requires.named)) dealt)))
 
 pub returns-clause-moved : goal.returns-clause-moved
 returns-clause-moved g c =

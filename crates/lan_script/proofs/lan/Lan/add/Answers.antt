@@ -6,6 +6,7 @@ use Rattle.lan_script.specs.Seats.{seat_at}
 use Rattle.lan_script.proofs.Buffering.{buffer_behind, made_buffer}
 use Rattle.lan_script.proofs.Called.{adds_same}
 use Rattle.lan_script.proofs.CarriedOn.{keeps_through}
+use Rattle.lan_script.proofs.Correlating.{made_carries}
 use Rattle.lan_script.proofs.Lans.{lan_back, lan_made, place_after, window_free, window_there}
 use Rattle.lan_script.specs.PortCounts.{posted_on}
 use Rattle.lan_script.proofs.CountedCalls.{adds_more}
@@ -98,3 +99,10 @@ returns-clause-values c = λ v.
     subst (λ (ps : List Place). KeepsValues v ps c.put.new.self) c.make_room.ensures.places
     (put_back _ c.make_room.new.self c.args.unit c.take-own.new.self c.put.new.self c.take-own.result c.add-answer.new.window c.self.view_is
     c.take-own.ensures.window c.take-own.ensures.rest c.put.ensures c.add-answer.ensures.window.rest.values v)
+
+pub returns-clause-addresses : goal.returns-clause-addresses
+returns-clause-addresses c = λ names shows carry.
+    made_carries _ c.args.self.now c.make_room.new.self c.add-answer.new.self c.args.unit c.add-answer.result c.args.descriptor none_found c.take-own.result
+    c.add-answer.new.window c.self.view_is c.self.invariant
+    (subst (λ (l : List PortSeat). IsSome (seat_at l c.args.unit)) (sym c.make_room.ensures.seats) c.requires.there) c.take-own.ensures.window
+    c.add-answer.ensures.window c.add-answer.ensures.made c.make_room.ensures.places c.make_room.ensures.counts names shows carry

@@ -1,3 +1,4 @@
+use Rattle.lan_script.proofs.EntriesPut.{entry_back, grows_back}
 use Rattle.lan_script.proofs.Lans.{lan_back, place_after, window_there}
 use Rattle.lan_script.proofs.ReplayedValues.{put_beside}
 use Rattle.lan_script.proofs.lan.Lan.entry_call.Goals as goal
@@ -17,3 +18,13 @@ invariant_of-self c =
 pub returns-clause-others : goal.returns-clause-others
 returns-clause-others c =
     put_beside _ c.args.self.now c.args.unit c.take-own.new.self c.put.new.self c.make-returned.new.own c.self.view_is c.take-own.ensures.rest c.put.ensures
+
+pub returns-clause-entry : goal.returns-clause-entry
+returns-clause-entry c =
+    entry_back _ c.args.self.now _ c.args.unit c.take-own.new.self c.take-own.result c.make-returned.new.own c.args.call c.make-returned.result c.self.view_is
+    c.self.invariant c.requires.there c.take-own.ensures.window c.take-own.ensures.rest c.put.ensures c.make-returned.ensures.entry
+
+pub returns-clause-grows : goal.returns-clause-grows
+returns-clause-grows c =
+    grows_back _ c.args.self.now c.args.unit c.take-own.new.self c.put.new.self c.take-own.result c.make-returned.new.own c.self.view_is c.take-own.ensures.window
+    c.take-own.ensures.rest c.put.ensures c.make-returned.ensures.window

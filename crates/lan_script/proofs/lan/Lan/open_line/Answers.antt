@@ -3,4 +3,5 @@ use Rattle.lan_script.proofs.lan.Lan.open_line.Goals as goal
 
 pub returns-clause-macs : goal.returns-clause-macs
 returns-clause-macs c =
-    opens_mac c.args.unit c.seat-seat.result c.coded.result c.args.self.now c.register.new.self c.seat-seat.ensures c.in_ok-code.ensures.macs
+    opens_mac c.args.unit c.seat-seat.result c.in_ok-code.code c.coded.result c.args.self.now c.register.new.self c.seat-seat.ensures
+    c.in_ok-code.ensures.code c.coded.ensures.coded c.in_ok-code.ensures.macs

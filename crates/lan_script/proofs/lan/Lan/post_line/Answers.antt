@@ -3,6 +3,7 @@ use Rattle.boot_text.specs.declared.verb.Verb.TheVariants as verbs
 use Rattle.lan_script.specs.PortCounts.{CountsStep, counts}
 use Rattle.lan_script.specs.declared.lines.PortStep.{PortStep}
 use Rattle.lan_script.proofs.Buffering.{adds_ended, adds_more, adds_refused}
+use Rattle.lan_script.proofs.Correlating.{then_carries}
 use Rattle.lan_script.proofs.CountsKept.{posted_all, posted_more}
 use Rattle.lan_script.specs.PortReplay.{IsBufferLen}
 use Rattle.lan_script.specs.Replayed.{HasPosted, ReplaysOn}
@@ -32,6 +33,8 @@ loop-posted-preserved c = record {
   within = λ e. omega (arith, c.loop-posted-test.true);
   beside = λ other e. c.in_ok-code.ensures.replays.beside other e ∙ c.loop-posted.invariant.beside other e;
   values = λ v e. c.in_ok-code.ensures.values v e ∙ c.loop-posted.invariant.values v e;
+  addresses = then_carries c.args.unit c.args.self.now c.loop-posted.self c.post_one.new.self c.loop-posted.invariant.values c.loop-posted.invariant.addresses
+      c.in_ok-code.ensures.addresses;
   adds = adds_more c.args.unit c.args.at c.args.len c.args.done c.args.count c.loop-posted.posted c.buffer_at.result c.in_ok-code.code c.args.self.now
       c.loop-posted.self c.post_one.new.self c.in-Success.is c.loop-posted-test.true c.buffer_at.ensures.is c.in_ok-code.ensures.posts
       c.loop-posted.invariant.adds;
@@ -79,8 +82,15 @@ returns-in_default c =
           c.loop-posted.self is all c.loop-posted.invariant.seats c.loop-posted.invariant.grants (c.loop-posted.invariant.replays e) c.loop-posted-test.true
           c.buffer_at.ensures.some c.in_ok-code.ensures.fits);
       beside = λ other f. c.in_ok-code.ensures.replays.beside other f ∙ c.loop-posted.invariant.beside other f;
+      addresses = then_carries c.args.unit c.args.self.now c.loop-posted.self c.post_one.new.self c.loop-posted.invariant.values c.loop-posted.invariant.addresses
+          c.in_ok-code.ensures.addresses;
       values = λ v e. c.in_ok-code.ensures.values v e ∙ c.loop-posted.invariant.values v e;
     }
 
 pub returns-in-Busy-clause-values : goal.returns-in-Busy-clause-values
 returns-in-Busy-clause-values c = λ v e. c.in_ok-code.ensures.values v e ∙ c.loop-posted.invariant.values v e
+
+pub returns-in-Busy-clause-addresses : goal.returns-in-Busy-clause-addresses
+returns-in-Busy-clause-addresses c =
+    then_carries c.args.unit c.args.self.now c.loop-posted.self c.post_one.new.self c.loop-posted.invariant.values c.loop-posted.invariant.addresses
+    c.in_ok-code.ensures.addresses

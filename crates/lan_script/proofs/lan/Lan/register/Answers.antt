@@ -9,7 +9,7 @@ use Rattle.lan_script.proofs.CountsKept.{made_counts, same_on}
 use Rattle.lan_script.proofs.ReplayedCalls.{registers_replay}
 use Rattle.lan_script.proofs.OwnMacs.{registers_mac}
 use Rattle.lan_script.proofs.Replaying.{made_beside, made_replays, replays_behind, seat_slots}
-use Rattle.lan_script.specs.OwnMac.{MovesMac}
+use Rattle.lan_script.specs.OwnMac.{SetsMac, changed_to}
 use Rattle.lan_script.specs.PortReplay.{OpenSays}
 use Rattle.vio_trace.specs.declared.outcome.Outcome.TheVariants as outcomes
 use Rattle.lan_script.proofs.lan.Lan.register.Goals as goal
@@ -44,9 +44,9 @@ returns-clause-replays c = λ seat at may.
 
 pub returns-clause-macs : goal.returns-clause-macs
 returns-clause-macs c =
-    replays_behind c.args.unit (MovesMac (Some c.args.mac)) c.args.self.now c.make_room.new.self _ c.make_room.ensures.replays
+    replays_behind c.args.unit (SetsMac (changed_to c.args.mac (outcomes.Code c.register.result.code))) c.args.self.now c.make_room.new.self _ c.make_room.ensures.replays
     (made_replays _ c.make_room.new.self c.args.unit c.register.new.self c.register.result
-    (Registers c.args.list c.args.queue c.args.filters c.args.mac c.register.result) (MovesMac (Some c.args.mac)) c.self.view_is c.self.invariant
+    (Registers c.args.list c.args.queue c.args.filters c.args.mac c.register.result) (SetsMac (changed_to c.args.mac (outcomes.Code c.register.result.code))) c.self.view_is c.self.invariant
     (subst (λ (l : List PortSeat). IsSome (seat_at l c.args.unit)) (sym c.make_room.ensures.seats) c.requires.there) c.register.ensures
     (λ before after was h. registers_mac c.args.list c.args.queue c.args.filters c.args.mac c.register.result before after h))
 

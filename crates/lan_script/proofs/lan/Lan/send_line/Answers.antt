@@ -1,6 +1,8 @@
 use Rattle.std.proofs.Common.{ℕ, List, [], ◌∷◌, ◌∙◌, OnOk, arith, subst}
+use Rattle.boot_text.specs.declared.verb.Verb.TheVariants as verbs
 use Rattle.lan_script.specs.Replayed.{Shows}
 use Rattle.lan_script.proofs.CountsKept.{same_on}
+use Rattle.lan_script.proofs.OwnPages.{no_bytes_here, send_bytes}
 use Rattle.lan_script.proofs.OwnMacs.{same_settings, sent_settings}
 use Rattle.lan_script.proofs.ReplayedLines.{one_part, send_goes}
 use Rattle.lan_script.proofs.Telling.{sends_said, sent_behind}
@@ -30,6 +32,25 @@ returns-clause-replays c =
           (subst (λ r. OnOk r (Shows c.write.new.self.places c.args.unit c.args.at c.deref.result.now)) c.in-Ok.is c.write.ensures.shown);
     }) c.in_ok-sent.ensures.replays c.in_ok-sent.ensures.shown c.in_ok-sent.ensures.goes
     (record { sent = c.said.ensures.says; coded = c.said.ensures.coded })
+
+pub returns-clause-bytes : goal.returns-clause-bytes
+returns-clause-bytes c =
+    send_bytes c.args.unit c.args.to c.present-from.result c.args.len c.args.seed c.args.at c.in_ok-frame.frame.items (c.descriptor.result ∷ 0 ∷ 0 ∷ 0 ∷ 0 ∷ 0 ∷ []) c.in_ok-sent.sent.code c.in_ok-sent.sent.number
+    c.said.result c.args.self.now c.write.new.self c.send.new.self
+    (one_part c.descriptor.result c.args.at c.args.len c.descriptor.ensures.valid c.descriptor.ensures.address c.descriptor.ensures.len c.requires.least
+    c.requires.most) c.write.ensures.replays (c.write.ensures.values c.args.unit)
+    (record {
+      few = omega arith;
+      long = c.in_ok-frame.ensures.len;
+      bytes_are = c.in_ok-frame.ensures.bytes;
+      present = c.present-from.ensures.opened;
+      shown = subst (λ (bytes : List ℕ). Shows c.write.new.self.places c.args.unit c.args.at bytes) c.deref.ensures.value
+          (subst (λ r. OnOk r (Shows c.write.new.self.places c.args.unit c.args.at c.deref.result.now)) c.in-Ok.is c.write.ensures.shown);
+    }) c.in_ok-sent.ensures.shown c.in_ok-sent.ensures.goes (record { sent = c.said.ensures.says; coded = c.said.ensures.coded })
+
+pub returns-in-Err-InUse-clause-bytes : goal.returns-in-Err-InUse-clause-bytes
+returns-in-Err-InUse-clause-bytes c =
+    no_bytes_here c.args.unit (verbs.Send c.args.to c.args.len c.args.seed c.args.at) c.waits.result c.args.self.now c.write.new.self c.waits.ensures.none
 
 pub returns-clause-values : goal.returns-clause-values
 returns-clause-values c = λ v e. c.in_ok-sent.ensures.values v e ∙ c.write.ensures.values v e

@@ -1,7 +1,13 @@
 use Rattle.std.proofs.Common.{◌≡◌, ap}
 use Rattle.lan_script.proofs.Buffering.{counts_ok, is_posting, not_posting, other_ok, other_posts, same_posted, take_ok}
+use Rattle.lan_script.proofs.Correlating.{carry_here, carry_ok, carry_taken}
+use Rattle.lan_script.specs.OwnMac.{gives_mac}
 use Rattle.lan_script.specs.Replayed.{replay_at}
-use Rattle.lan_script.proofs.OwnMacs.{change_as, close_steps, closes_mac, multicasts_mac, open_ok, replays_any, replays_ok, same_ok}
+use Rattle.lan_script.proofs.OwnMacs.{change_as, close_steps, closes_mac, multicasts_mac, not_giving, open_ok, replays_any, replays_ok, same_ok}
+use Rattle.lan_script.proofs.EntriesPut.{puts_placed, puts_same}
+use Rattle.lan_script.specs.Values.{is_put}
+use Rattle.std.proofs.Common.{Ok}
+use Rattle.lan_script.proofs.OwnPages.{bytes_ok, names_placed, names_same, names_still, no_bytes, no_bytes_here}
 use Rattle.lan_script.proofs.lan.Lan.step.Goals as goal
 
 pub returns-in-Open-clause-posts : goal.returns-in-Open-clause-posts
@@ -43,17 +49,23 @@ returns-in-Open-clause-macs c =
 
 pub returns-in-Close-clause-macs : goal.returns-in-Close-clause-macs
 returns-in-Close-clause-macs c =
-    close_steps c.args.unit c.args.line.now.verb c.coded.result c.args.self.now c.free.new.self
+    close_steps c.args.unit c.args.line.now.verb c.coded.result c.args.self.now c.free.new.self (ap gives_mac c.in-Close.is)
     (closes_mac _ _ (replay_at c.args.self.now c.args.unit) (replay_at c.free.new.self c.args.unit) c.free.ensures.replays.says)
 
 pub returns-in-Post-clause-macs : goal.returns-in-Post-clause-macs
-returns-in-Post-clause-macs c = same_ok c.args.unit c.args.line.now.verb c.post_line.result c.args.self.now c.post_line.new.self c.post_line.ensures.macs
+returns-in-Post-clause-macs c =
+    same_ok c.args.unit c.args.line.now.verb c.post_line.result c.args.self.now c.post_line.new.self
+    (ap gives_mac c.in-Post.is) c.post_line.ensures.macs
 
 pub returns-in-Send-clause-macs : goal.returns-in-Send-clause-macs
-returns-in-Send-clause-macs c = same_ok c.args.unit c.args.line.now.verb c.send_line.result c.args.self.now c.send_line.new.self c.send_line.ensures.macs
+returns-in-Send-clause-macs c =
+    same_ok c.args.unit c.args.line.now.verb c.send_line.result c.args.self.now c.send_line.new.self
+    (ap gives_mac c.in-Send.is) c.send_line.ensures.macs
 
 pub returns-in-Take-clause-macs : goal.returns-in-Take-clause-macs
-returns-in-Take-clause-macs c = replays_ok c.args.unit c.args.line.now.verb c.take_line.result c.args.self.now c.take_line.new.self c.take_line.ensures.replays
+returns-in-Take-clause-macs c =
+    replays_ok c.args.unit c.args.line.now.verb c.take_line.result c.args.self.now c.take_line.new.self
+    (ap gives_mac c.in-Take.is) c.take_line.ensures.replays
 
 pub returns-in-ChangeMac-clause-macs : goal.returns-in-ChangeMac-clause-macs
 returns-in-ChangeMac-clause-macs c =
@@ -62,10 +74,106 @@ returns-in-ChangeMac-clause-macs c =
 
 pub returns-in-Multicast-clause-macs : goal.returns-in-Multicast-clause-macs
 returns-in-Multicast-clause-macs c =
-    close_steps c.args.unit c.args.line.now.verb c.coded-in-Multicast.result c.args.self.now c.multicast.new.self
+    close_steps c.args.unit c.args.line.now.verb c.coded-in-Multicast.result c.args.self.now c.multicast.new.self (ap gives_mac c.in-Multicast.is)
     (multicasts_mac _ _ _ (replay_at c.args.self.now c.args.unit) (replay_at c.multicast.new.self c.args.unit) c.multicast.ensures.replays.says)
 
 pub returns-in_default-clause-macs : goal.returns-in_default-clause-macs
 returns-in_default-clause-macs c =
     replays_ok c.args.unit c.args.line.now.verb c.step_in_region.result c.args.self.now c.step_in_region.new.self
+    (not_giving c.args.line.now.verb (λ is. c.in_default.not-Open is) (λ mac is. c.in_default.not-ChangeMac mac is))
     (replays_any c.step_in_region.result c.args.self.now c.step_in_region.new.self c.step_in_region.ensures.replays)
+
+pub returns-in-Open-clause-names : goal.returns-in-Open-clause-names
+returns-in-Open-clause-names c = λ other. names_still c.args.unit c.open_line.result c.args.self.now c.open_line.new.self c.open_line.ensures.places
+
+pub returns-in-Take-clause-names : goal.returns-in-Take-clause-names
+returns-in-Take-clause-names c = λ other. names_still c.args.unit c.take_line.result c.args.self.now c.take_line.new.self c.take_line.ensures.places
+
+pub returns-in-Close-clause-names : goal.returns-in-Close-clause-names
+returns-in-Close-clause-names c = λ other. names_placed c.args.unit c.args.self.now c.free.new.self c.free.ensures.places
+
+pub returns-in-ChangeMac-clause-names : goal.returns-in-ChangeMac-clause-names
+returns-in-ChangeMac-clause-names c = λ other. names_placed c.args.unit c.args.self.now c.change_mac.new.self c.change_mac.ensures.places
+
+pub returns-in-Multicast-clause-names : goal.returns-in-Multicast-clause-names
+returns-in-Multicast-clause-names c = λ other. names_placed c.args.unit c.args.self.now c.multicast.new.self c.multicast.ensures.places
+
+pub returns-in-Post-clause-names : goal.returns-in-Post-clause-names
+returns-in-Post-clause-names c = λ other. names_same c.args.unit c.post_line.result c.args.self.now c.post_line.new.self c.post_line.ensures.values
+
+pub returns-in-Send-clause-names : goal.returns-in-Send-clause-names
+returns-in-Send-clause-names c = λ other. names_same c.args.unit c.send_line.result c.args.self.now c.send_line.new.self c.send_line.ensures.values
+
+pub returns-in-Open-clause-bytes : goal.returns-in-Open-clause-bytes
+returns-in-Open-clause-bytes c = no_bytes c.args.unit c.args.line.now.verb c.open_line.result c.args.self.now c.open_line.new.self c.open_line.ensures.none
+
+pub returns-in-Take-clause-bytes : goal.returns-in-Take-clause-bytes
+returns-in-Take-clause-bytes c = no_bytes c.args.unit c.args.line.now.verb c.take_line.result c.args.self.now c.take_line.new.self c.take_line.ensures.none
+
+pub returns-in-Post-clause-bytes : goal.returns-in-Post-clause-bytes
+returns-in-Post-clause-bytes c = no_bytes c.args.unit c.args.line.now.verb c.post_line.result c.args.self.now c.post_line.new.self c.post_line.ensures.none
+
+pub returns-in_default-clause-bytes : goal.returns-in_default-clause-bytes
+returns-in_default-clause-bytes c = no_bytes c.args.unit c.args.line.now.verb c.step_in_region.result c.args.self.now c.step_in_region.new.self c.step_in_region.ensures.none
+
+pub returns-in-Close-clause-bytes : goal.returns-in-Close-clause-bytes
+returns-in-Close-clause-bytes c = no_bytes_here c.args.unit c.args.line.now.verb c.coded.result c.args.self.now c.free.new.self c.coded.ensures.none
+
+pub returns-in-ChangeMac-clause-bytes : goal.returns-in-ChangeMac-clause-bytes
+returns-in-ChangeMac-clause-bytes c = no_bytes_here c.args.unit c.args.line.now.verb c.coded-in-ChangeMac.result c.args.self.now c.change_mac.new.self c.coded-in-ChangeMac.ensures.none
+
+pub returns-in-Multicast-clause-bytes : goal.returns-in-Multicast-clause-bytes
+returns-in-Multicast-clause-bytes c = no_bytes_here c.args.unit c.args.line.now.verb c.coded-in-Multicast.result c.args.self.now c.multicast.new.self c.coded-in-Multicast.ensures.none
+
+pub returns-in-Send-clause-bytes : goal.returns-in-Send-clause-bytes
+returns-in-Send-clause-bytes c = bytes_ok c.args.unit c.args.line.now.verb _ c.send_line.result c.args.self.now c.send_line.new.self c.in-Send.is c.send_line.ensures.bytes
+
+pub returns-in-Open-clause-puts : goal.returns-in-Open-clause-puts
+returns-in-Open-clause-puts c =
+    puts_placed c.args.unit c.args.line.now.verb c.open_line.result c.args.self.now c.open_line.new.self (ap is_put c.in-Open.is) c.open_line.ensures.places
+
+pub returns-in-Take-clause-puts : goal.returns-in-Take-clause-puts
+returns-in-Take-clause-puts c =
+    puts_placed c.args.unit c.args.line.now.verb c.take_line.result c.args.self.now c.take_line.new.self (ap is_put c.in-Take.is) c.take_line.ensures.places
+
+pub returns-in-Post-clause-puts : goal.returns-in-Post-clause-puts
+returns-in-Post-clause-puts c =
+    puts_same c.args.unit c.args.line.now.verb c.post_line.result c.args.self.now c.post_line.new.self (ap is_put c.in-Post.is) c.post_line.ensures.values
+
+pub returns-in-Send-clause-puts : goal.returns-in-Send-clause-puts
+returns-in-Send-clause-puts c =
+    puts_same c.args.unit c.args.line.now.verb c.send_line.result c.args.self.now c.send_line.new.self (ap is_put c.in-Send.is) c.send_line.ensures.values
+
+pub returns-in-Close-clause-puts : goal.returns-in-Close-clause-puts
+returns-in-Close-clause-puts c =
+    puts_placed c.args.unit c.args.line.now.verb (Ok c.coded.result) c.args.self.now c.free.new.self (ap is_put c.in-Close.is) c.free.ensures.places
+
+pub returns-in-ChangeMac-clause-puts : goal.returns-in-ChangeMac-clause-puts
+returns-in-ChangeMac-clause-puts c =
+    puts_placed c.args.unit c.args.line.now.verb (Ok c.coded-in-ChangeMac.result) c.args.self.now c.change_mac.new.self (ap is_put c.in-ChangeMac.is) c.change_mac.ensures.places
+
+pub returns-in-Multicast-clause-puts : goal.returns-in-Multicast-clause-puts
+returns-in-Multicast-clause-puts c =
+    puts_placed c.args.unit c.args.line.now.verb (Ok c.coded-in-Multicast.result) c.args.self.now c.multicast.new.self (ap is_put c.in-Multicast.is) c.multicast.ensures.places
+
+pub returns-in-Open-clause-addresses : goal.returns-in-Open-clause-addresses
+returns-in-Open-clause-addresses c = carry_ok c.args.unit c.open_line.result c.args.self.now c.open_line.new.self c.open_line.ensures.counts
+
+pub returns-in-Send-clause-addresses : goal.returns-in-Send-clause-addresses
+returns-in-Send-clause-addresses c = carry_ok c.args.unit c.send_line.result c.args.self.now c.send_line.new.self c.send_line.ensures.counts
+
+pub returns-in-Take-clause-addresses : goal.returns-in-Take-clause-addresses
+returns-in-Take-clause-addresses c = carry_taken c.args.unit c.in-Take.count c.args.done c.take_line.result c.args.self.now c.take_line.new.self c.take_line.ensures.within c.take_line.ensures.counts
+
+pub returns-in-Close-clause-addresses : goal.returns-in-Close-clause-addresses
+returns-in-Close-clause-addresses c = carry_here c.args.unit c.args.self.now c.free.new.self c.free.ensures.counts
+
+pub returns-in-ChangeMac-clause-addresses : goal.returns-in-ChangeMac-clause-addresses
+returns-in-ChangeMac-clause-addresses c = carry_here c.args.unit c.args.self.now c.change_mac.new.self c.change_mac.ensures.counts
+
+pub returns-in-Multicast-clause-addresses : goal.returns-in-Multicast-clause-addresses
+returns-in-Multicast-clause-addresses c = carry_here c.args.unit c.args.self.now c.multicast.new.self c.multicast.ensures.counts
+
+pub returns-in_default-clause-addresses : goal.returns-in_default-clause-addresses
+returns-in_default-clause-addresses c = carry_ok c.args.unit c.step_in_region.result c.args.self.now c.step_in_region.new.self
+    (counts_ok c.step_in_region.result c.args.self.now c.step_in_region.new.self c.step_in_region.ensures.counts)

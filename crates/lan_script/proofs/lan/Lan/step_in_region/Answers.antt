@@ -1,6 +1,8 @@
 use Rattle.std.proofs.Common.{ℕ, List, ap}
+use Rattle.lan_script.proofs.EntriesPut.{puts_back}
 use Rattle.lan_script.proofs.Lans.{lan_back, place_after, window_there}
 use Rattle.lan_script.proofs.ReplayedValues.{put_back, put_beside}
+use Rattle.lan_script.proofs.OwnPages.{region_back}
 use Rattle.lan_script.proofs.lan.Lan.step_in_region.Goals as goal
 
 pub take-own-requires : goal.take-own-requires
@@ -37,3 +39,13 @@ returns-in_err-step-clause-values c = λ e.
 pub returns-in_err-step-clause-others : goal.returns-in_err-step-clause-others
 returns-in_err-step-clause-others c =
     put_beside _ c.args.self.now c.args.unit c.take-own.new.self c.put.new.self c.step_in-step.new.own c.self.view_is c.take-own.ensures.rest c.put.ensures
+
+pub returns-clause-names : goal.returns-clause-names
+returns-clause-names c = λ other.
+    region_back c.args.line.now.verb c.in_ok-step.field-0 _ c.args.self.now c.args.unit c.take-own.new.self c.put.new.self c.take-own.result c.step_in-step.new.own
+    c.self.view_is c.take-own.ensures.window c.take-own.ensures.rest c.put.ensures other c.step_in-step.ensures.values c.in_ok-step.ensures.puts
+
+pub returns-clause-puts : goal.returns-clause-puts
+returns-clause-puts c =
+    puts_back c.args.line.now.verb c.in_ok-step.field-0 c.of.result _ c.args.self.now c.args.unit c.take-own.new.self c.put.new.self c.take-own.result c.step_in-step.new.own
+    c.self.view_is c.take-own.ensures.window c.take-own.ensures.rest c.put.ensures c.step_in-step.ensures.values c.in_ok-step.ensures.puts c.of.ensures.same

@@ -7,6 +7,7 @@ use Rattle.vcpu_run.proofs.LinesShown.{submit_shows}
 use Rattle.vcpu_run.proofs.Working.{submit_works}
 use Rattle.vcpu_run.proofs.Giving.{asks_gives, submit_kept}
 use Rattle.vcpu_run.proofs.TakingCalls.{submit_taken}
+use Rattle.vcpu_run.proofs.DataSent.{command_sends}
 use Rattle.vcpu_run.proofs.EventsHeard.{sent_none}
 use Rattle.vcpu_run.proofs.Giving.{asks_hear}
 use Rattle.vcpu_run.proofs.driver.Driver.command.Goals as goal
@@ -65,3 +66,10 @@ returns-clause-hears g c =
     (ports g.C.CrqEnd.is_shared (g.C.CrqEnd.state c.args.crq.now.end) g.O.WindowPort.is_shared (g.O.WindowPort.state c.args.own.now))
     (ports g.C.CrqEnd.is_shared (g.C.CrqEnd.state c.submit.new.crq.end) g.O.WindowPort.is_shared (g.O.WindowPort.state c.submit.new.own))
     c.submit.result c.submit.ensures.refused c.submit.ensures.sent c.submit.ensures.why) c.submit.ensures.crq_rest)
+
+pub returns-clause-inward : goal.returns-clause-inward
+returns-clause-inward g c = λ verb is.
+    command_sends verb c.args.line c.args.op.now c.args.self.now.client c.submit.new.self
+    (ports g.C.CrqEnd.is_shared (g.C.CrqEnd.state c.args.crq.now.end) g.O.WindowPort.is_shared (g.O.WindowPort.state c.args.own.now))
+    (ports g.C.CrqEnd.is_shared (g.C.CrqEnd.state c.submit.new.crq.end) g.O.WindowPort.is_shared (g.O.WindowPort.state c.submit.new.own))
+    c.submit.result c.sent.result is c.sent.ensures.sent c.submit.ensures.sent

@@ -8,6 +8,7 @@ use Rattle.vcpu_run.specs.Holding.{IsHeldOff, link_seen}
 use Rattle.vcpu_run.proofs.Opening.{other_open}
 use Rattle.vcpu_run.proofs.Credits.{fresh_both, sends_one}
 use Rattle.vcpu_run.proofs.AnswersCounted.{none_taken}
+use Rattle.vcpu_run.proofs.DataSteps.{none_read, sends_no_data}
 use Rattle.vcpu_run.proofs.ValuesKept.{same_puts, sends_none}
 use Rattle.vcpu_run.proofs.driver.Driver.step.Goals as goal
 
@@ -44,3 +45,11 @@ returns-in-Some-clause-takes g c =
 
 pub returns-in-Some-clause-puts : goal.returns-in-Some-clause-puts
 returns-in-Some-clause-puts g c = same_puts c.args.line.now.verb c.command.result _ _ (sends_none c.args.line.now.verb c.in-Some.ensures.sends) c.command.ensures.values
+
+pub returns-in-Some-clause-reads : goal.returns-in-Some-clause-reads
+returns-in-Some-clause-reads g c =
+    none_read (seen_by g.C.CrqEnd.is_shared (g.O.WindowPort.state c.command.new.own) (g.C.CrqEnd.state c.command.new.crq.end)) c.args.self.now.client c.args.line.now.verb c.command.result
+    (sends_no_data c.args.line.now.verb c.in-Some.ensures.sends)
+
+pub returns-in-Some-clause-inward : goal.returns-in-Some-clause-inward
+returns-in-Some-clause-inward g c = c.command.ensures.inward c.args.line.now.verb c.in-Some.ensures.command

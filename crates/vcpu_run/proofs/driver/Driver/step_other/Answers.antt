@@ -23,6 +23,9 @@ use Rattle.vcpu_run.proofs.TakingEach.{data_step, own_step, taken_verb}
 use Rattle.vcpu_run.proofs.EventsHeard.{plain_none}
 use Rattle.vcpu_run.proofs.Giving.{asks_hear}
 use Rattle.vcpu_run.specs.ValuesPut.{is_put}
+use Rattle.vcpu_run.specs.DataRead.{given_by}
+use Rattle.vcpu_run.specs.DataKept.{range_in}
+use Rattle.vcpu_run.proofs.DataSteps.{none_read, none_sends, verb_reads}
 use Rattle.vcpu_run.proofs.ValuesKept.{same_puts, tce_puts}
 use Rattle.vcpu_run.proofs.driver.Driver.step_other.Goals as goal
 
@@ -400,3 +403,74 @@ pub returns-in-Tce-clause-puts : goal.returns-in-Tce-clause-puts
 returns-in-Tce-clause-puts g c =
     tce_puts c.in-Tce.entry c.in-Tce.page c.in-Tce.readable c.in-Tce.writable (g.O.WindowPort.state c.args.own.now) (g.O.WindowPort.state c.put_tce.new.own)
     c.args.line.now.verb c.put_tce.result c.in-Tce.is c.put_tce.ensures.answer
+
+pub returns-in-Login-clause-reads : goal.returns-in-Login-clause-reads
+returns-in-Login-clause-reads g c =
+    none_read (seen_by g.C.CrqEnd.is_shared (g.O.WindowPort.state c.login.new.own) (g.C.CrqEnd.state c.login.new.crq.end)) c.args.self.now.client c.args.line.now.verb c.login.result (ap given_by c.in-Login.is)
+
+pub returns-in-Reset-clause-reads : goal.returns-in-Reset-clause-reads
+returns-in-Reset-clause-reads g c =
+    none_read (seen_by g.C.CrqEnd.is_shared (g.O.WindowPort.state c.reset.new.own) (g.C.CrqEnd.state c.reset.new.crq.end)) c.args.self.now.client c.args.line.now.verb c.reset.result (ap given_by c.in-Reset.is)
+
+pub returns-in-Logout-clause-reads : goal.returns-in-Logout-clause-reads
+returns-in-Logout-clause-reads g c =
+    none_read (seen_by g.C.CrqEnd.is_shared (g.O.WindowPort.state c.logout.new.own) (g.C.CrqEnd.state c.logout.new.crq.end)) c.args.self.now.client c.args.line.now.verb c.logout.result (ap given_by c.in-Logout.is)
+
+pub returns-in-Task-clause-reads : goal.returns-in-Task-clause-reads
+returns-in-Task-clause-reads g c =
+    none_read (seen_by g.C.CrqEnd.is_shared (g.O.WindowPort.state c.task.new.own) (g.C.CrqEnd.state c.task.new.crq.end)) c.args.self.now.client c.args.line.now.verb c.task.result (ap given_by c.in-Task.is)
+
+pub returns-in-Take-clause-reads : goal.returns-in-Take-clause-reads
+returns-in-Take-clause-reads g c =
+    none_read (seen_by g.C.CrqEnd.is_shared (g.O.WindowPort.state c.take_on.new.own) (g.C.CrqEnd.state c.take_on.new.crq.end)) c.args.self.now.client c.args.line.now.verb c.take_on.result (ap given_by c.in-Take.is)
+
+pub returns-in-Fill-clause-reads : goal.returns-in-Fill-clause-reads
+returns-in-Fill-clause-reads g c =
+    none_read (seen_by g.C.CrqEnd.is_shared (g.O.WindowPort.state c.fill.new.own) (g.C.CrqEnd.state c.args.crq.now.end)) c.args.self.now.client c.args.line.now.verb c.fill.result (ap given_by c.in-Fill.is)
+
+pub returns-in-Poke-clause-reads : goal.returns-in-Poke-clause-reads
+returns-in-Poke-clause-reads g c =
+    none_read (seen_by g.C.CrqEnd.is_shared (g.O.WindowPort.state c.poke.new.own) (g.C.CrqEnd.state c.args.crq.now.end)) c.args.self.now.client c.args.line.now.verb c.poke.result (ap given_by c.in-Poke.is)
+
+pub returns-in-Peek-clause-reads : goal.returns-in-Peek-clause-reads
+returns-in-Peek-clause-reads g c =
+    none_read (seen_by g.C.CrqEnd.is_shared (g.O.WindowPort.state c.peek.new.own) (g.C.CrqEnd.state c.args.crq.now.end)) c.args.self.now.client c.args.line.now.verb c.peek.result (ap given_by c.in-Peek.is)
+
+pub returns-in-Tce-clause-reads : goal.returns-in-Tce-clause-reads
+returns-in-Tce-clause-reads g c =
+    none_read (seen_by g.C.CrqEnd.is_shared (g.O.WindowPort.state c.put_tce.new.own) (g.C.CrqEnd.state c.args.crq.now.end)) c.args.self.now.client c.args.line.now.verb c.put_tce.result (ap given_by c.in-Tce.is)
+
+pub returns-in-Data-clause-reads : goal.returns-in-Data-clause-reads
+returns-in-Data-clause-reads g c =
+    verb_reads (seen_by g.C.CrqEnd.is_shared (g.O.WindowPort.state c.data.new.own) (g.C.CrqEnd.state c.args.crq.now.end)) c.args.self.now.client _ c.args.line.now.verb c.data.result c.in-Data.is
+    (c.data.ensures.reads g.C.CrqEnd.is_shared (g.C.CrqEnd.state c.args.crq.now.end))
+
+pub returns-in-Login-clause-inward : goal.returns-in-Login-clause-inward
+returns-in-Login-clause-inward g c = none_sends c.login.new.self.client.rows c.args.line.now.verb c.login.result (ap range_in c.in-Login.is)
+
+pub returns-in-Reset-clause-inward : goal.returns-in-Reset-clause-inward
+returns-in-Reset-clause-inward g c = none_sends c.reset.new.self.client.rows c.args.line.now.verb c.reset.result (ap range_in c.in-Reset.is)
+
+pub returns-in-Logout-clause-inward : goal.returns-in-Logout-clause-inward
+returns-in-Logout-clause-inward g c = none_sends c.logout.new.self.client.rows c.args.line.now.verb c.logout.result (ap range_in c.in-Logout.is)
+
+pub returns-in-Task-clause-inward : goal.returns-in-Task-clause-inward
+returns-in-Task-clause-inward g c = none_sends c.task.new.self.client.rows c.args.line.now.verb c.task.result (ap range_in c.in-Task.is)
+
+pub returns-in-Take-clause-inward : goal.returns-in-Take-clause-inward
+returns-in-Take-clause-inward g c = none_sends c.take_on.new.self.client.rows c.args.line.now.verb c.take_on.result (ap range_in c.in-Take.is)
+
+pub returns-in-Data-clause-inward : goal.returns-in-Data-clause-inward
+returns-in-Data-clause-inward g c = none_sends c.data.new.self.client.rows c.args.line.now.verb c.data.result (ap range_in c.in-Data.is)
+
+pub returns-in-Fill-clause-inward : goal.returns-in-Fill-clause-inward
+returns-in-Fill-clause-inward g c = none_sends c.args.self.now.client.rows c.args.line.now.verb c.fill.result (ap range_in c.in-Fill.is)
+
+pub returns-in-Poke-clause-inward : goal.returns-in-Poke-clause-inward
+returns-in-Poke-clause-inward g c = none_sends c.args.self.now.client.rows c.args.line.now.verb c.poke.result (ap range_in c.in-Poke.is)
+
+pub returns-in-Peek-clause-inward : goal.returns-in-Peek-clause-inward
+returns-in-Peek-clause-inward g c = none_sends c.args.self.now.client.rows c.args.line.now.verb c.peek.result (ap range_in c.in-Peek.is)
+
+pub returns-in-Tce-clause-inward : goal.returns-in-Tce-clause-inward
+returns-in-Tce-clause-inward g c = none_sends c.args.self.now.client.rows c.args.line.now.verb c.put_tce.result (ap range_in c.in-Tce.is)

@@ -7,7 +7,6 @@ use Rattle.vcpu_run.proofs.Crediting.{on_ok}
 use Rattle.std.proofs.Common.{rules, ◌≡◌, ◌≢◌, Bool, List, [], ◌∷◌, false, true, refl, sym, ◌∙◌, ap, subst, IfNone, ◌<◌, IfOk, OnOk, arith, length, slice_get}
 use Rattle.std.proofs.lemmas.List.Elements.{All-weaker}
 use Rattle.vio_num.specs.declared.names.UnitId.{UnitId}
-use Rattle.rdma_copy.specs.declared.copy.CopyRecord.{CopyRecord}
 use Rattle.block_server.specs.Advances.{IsOwnCopy}
 use Rattle.block_server.specs.Causes.{Told}
 use Rattle.block_server.specs.Moves.{data_copies}
@@ -276,8 +275,8 @@ returns-clause-told_own g c =
     (ap (λ (side : PlainSide). side.queue.session) before) (ap (λ (side : PlainSide). side.queue.taken) before)
     (ap (λ (side : PlainSide). side.queue.session) after) (ap (λ (side : PlainSide). side.queue.taken) after) name
     sent_before sent_after goes.taken c.turn.ensures.lines
-    (c.turn.ensures.runs told news all.order) (c.turn.ensures.explains told news all.order []) (c.turn.ensures.logins told news all.order [])
-    (c.turn.ensures.deals told news all.order []) is)
+    (c.turn.ensures.runs told news all.order) (c.turn.ensures.explains told news all.order [])
+    (λ explained earlier order on. c.turn.ensures.logins told news all.order [] explained earlier order on (λ q. true) (λ session low none. absurd (cc (none)))) is)
 
 pub returns-clause-told_else : goal.returns-clause-told_else
 returns-clause-told_else g c = λ told k other apart own order is.

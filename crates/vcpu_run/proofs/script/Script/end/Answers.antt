@@ -1,4 +1,4 @@
-use Rattle.std.proofs.Common.{◌∙◌, ◌<◌, ◌≤◌, List, ap, length, slice_get, refl, sym, subst, arith}
+use Rattle.std.proofs.Common.{◌∙◌, ◌<◌, ◌≤◌, List, ap, length, slice_get, refl, sym, subst}
 use Rattle.std.proofs.lemmas.Option.{slice_get_within}
 use Rattle.vio_trace.specs.declared.rows.LogRow.{LogRow}
 use Rattle.vcpu_run.specs.CallsSaid.{CallsSaid, seen_from}

@@ -4,7 +4,7 @@ use Rattle.vcpu_run.specs.Freed.{FreesNoneIf}
 use Rattle.vcpu_run.specs.Freeing.{IsSpared}
 use Rattle.vcpu_run.specs.Holding.{LineOpen}
 use Rattle.vcpu_run.proofs.Held.{ends_held, waits_held, waits_open}
-use Rattle.std.proofs.Common.{rules, ap, false, ◌≡◌, ◌∙◌, List, Ok, refl, subst, arith}
+use Rattle.std.proofs.Common.{rules, ap, false, ◌≡◌, ◌∙◌, List, Ok, refl, slice_get, subst, arith}
 use Rattle.std.proofs.lemmas.Option.{slice_get_within}
 use Rattle.unit_region.specs.declared.step.Step.{Step}
 use Rattle.unit_region.specs.declared.step.Step.TheVariants as steps
@@ -19,6 +19,8 @@ use Rattle.vcpu_run.proofs.ScriptsTold.{line_ends_told, line_waits_told, waits_o
 use Rattle.vcpu_run.proofs.Crediting.{line_ends, line_waits}
 use Rattle.vcpu_run.proofs.Driving.{clients_of}
 use Rattle.vcpu_run.proofs.Logging.{all_at, one_unit, script_steps}
+use Rattle.vcpu_run.specs.PortCalls.{EndsEntries}
+use Rattle.vcpu_run.specs.PortMacs.{EndsPorts}
 use Rattle.vcpu_run.specs.PortSteps.{TellsStep}
 use Rattle.vcpu_run.specs.PortWords.{done_in}
 use Rattle.vcpu_run.proofs.PortsTelling.{port_waits, step_tells}
@@ -113,6 +115,13 @@ returns-in_ok-end-in-Ends c =
           (record { partition = c.args.self.now.partition; line = c.args.line.now.number; outcome = c.in-Ends.outcome }) (done_in c.step_unit.new.progress)
           c.requires.line (c.requires.script.logs.reached (slice_get_within c.args.self.now.lines.now c.args.self.now.at c.args.line.now c.requires.line))
           c.end.ensures.rest.partition c.end.ensures.rest.lines c.end.ensures.rest.seats c.in_ok-end-in-Ends.ensures.ended.logs (ap done_in c.in_ok-end-in-Ends.ensures.fresh)
+          c.step_unit.ensures.lan
+          (λ call.
+          subst (λ (st : Step). EndsPorts c.args.self.now.partition c.args.line.now.verb c.args.lan.now c.step_unit.new.lan st) c.in-Ends.is
+          (c.in_ok-step.ensures.ports call))
+          (λ call.
+          subst (λ (st : Step). EndsEntries c.args.self.now.partition (slice_get c.args.self.now.seats.items) c.args.line.now.verb c.args.lan.now c.step_unit.new.lan st) c.in-Ends.is
+          (rw (← c.deref.ensures.value) (c.in_ok-step.ensures.entries call)))
           (λ no.
           subst (λ (st : Step). TellsStep c.args.self.now.partition c.args.self.now.seats.items c.args.line.now (done_in c.args.self.now.progress) (done_in c.step_unit.new.progress) c.args.lan.now c.step_unit.new.lan st) c.in-Ends.is
           (rw (← c.deref.ensures.value) (c.in_ok-step.ensures.told no))) tells;
@@ -154,6 +163,9 @@ returns-in-Waits c =
           (rw (← c.deref.ensures.value) c.in_ok-step.ensures.credit)) is;
       told = λ tells.
           port_waits c.args.lan.now c.step_unit.new.lan c.args.self.now (record c.args.self.now { progress = c.step_unit.new.progress }) c.args.line.now c.in-Waits.moved c.requires.line refl
+          (λ call.
+          subst (λ (st : Step). EndsPorts c.args.self.now.partition c.args.line.now.verb c.args.lan.now c.step_unit.new.lan st) c.in-Waits.is
+          (c.in_ok-step.ensures.ports call))
           (λ no.
           subst (λ (st : Step). TellsStep c.args.self.now.partition c.args.self.now.seats.items c.args.line.now (done_in c.args.self.now.progress) (done_in c.step_unit.new.progress) c.args.lan.now c.step_unit.new.lan st) c.in-Waits.is
           (rw (← c.deref.ensures.value) (c.in_ok-step.ensures.told no))) tells;
