@@ -40,6 +40,27 @@ pub fn play_granted(alloc: Global, granted: u32, script: &[Row]) -> Result<Other
     }
 }
 
+/// A script with its name, and how many requests the login grants under which it is played; none where nobody is logged in.
+pub struct Case {
+    pub name: &'static str,
+    pub granted: Option<u32>,
+    pub rows: &'static [Row],
+}
+
+/// Plays each script, and gives the name of the first of which something else is seen.
+pub fn first_other_case(alloc: Global, cases: &[Case]) -> Result<Option<&'static str>, NoMemory> {
+    for case in cases {
+        let other = match case.granted {
+            Some(granted) => play_granted(alloc, granted, case.rows)?,
+            None => play(alloc, case.rows)?,
+        };
+        if other.is_some() {
+            return Ok(Some(case.name));
+        }
+    }
+    Ok(None)
+}
+
 // Gives the script of a login.
 fn login(granted: u32) -> [Row; 7] {
     [

@@ -1,5 +1,5 @@
 // Logins: each way in which a turn ends.
-use super::desk::{Row, play, play_granted};
+use super::desk::{Case, Row, first_other_case, play, play_granted};
 use super::step::{
     AGAIN, Act, COMPLETE, FREED, INITIALIZE, LOGIN, NO_CREDIT, NOT_LOGGED_IN, OUTSTANDING, POLL,
     REGISTER, REGISTERED, SUBMIT, Seen, Step, TAKE,
@@ -35,55 +35,6 @@ fn a_login_is_sent_once_the_handshake_is_up(rt: HostRuntime) {
     );
 }
 
-static A_CLIENT_THAT_REGISTERS_LAST_SENDS_INITIALIZE_ROWS: [Row; 7] = [
-    (REGISTER, Seen::Registered(RegAnswer::Closed { control: 0 })),
-    (LOGIN, AGAIN),
-    (POLL, Seen::Entry(Entry::INITIALIZE)),
-    (POLL, Seen::Empty(1)),
-    (COMPLETE, Seen::Put(0)),
-    (LOGIN, AGAIN),
-    (POLL, Seen::Unit(64, 0)),
-];
-
-/// A client that registers last sends Initialize itself, and then waits for the answer to it.
-#[test]
-fn a_client_that_registers_last_sends_initialize(rt: HostRuntime) {
-    assert_eq!(rt;
-        play(
-            rt.alloc(),
-            &A_CLIENT_THAT_REGISTERS_LAST_SENDS_INITIALIZE_ROWS
-        ),
-        Ok(None)
-    );
-}
-
-static THE_BYTES_OF_A_LOGIN_REQUEST_ROWS: [Row; 15] = [
-    (LOGIN, AGAIN),
-    (REGISTER, REGISTERED),
-    (INITIALIZE, Seen::Put(0)),
-    (LOGIN, AGAIN),
-    (Step::Word(0), Seen::Word(0)),
-    (Step::Word(8), Seen::Word(1)),
-    (Step::Word(16), Seen::Word(0x0000_0100_0000_0000)),
-    (Step::Word(24), Seen::Word(0x0006_0000_0000_0000)),
-    (Step::Word(32), Seen::Word(0)),
-    (Step::Word(40), Seen::Word(0x0100)),
-    (Step::Word(48), Seen::Word(0)),
-    (Step::Word(56), Seen::Word(0)),
-    (Step::Grant(0, 1, 22), Seen::Put(1)),
-    (Step::Word(0), Seen::Word(0xC000_0000_0000_0016)),
-    (LOGIN, Seen::Turned(LoginTurn::Granted(22))),
-];
-
-/// The request of a login is, byte for byte, one that a server in use answers with a grant of 22 requests.
-#[test]
-fn the_bytes_of_a_login_request(rt: HostRuntime) {
-    assert_eq!(rt;
-        play(rt.alloc(), &THE_BYTES_OF_A_LOGIN_REQUEST_ROWS),
-        Ok(None)
-    );
-}
-
 static A_REJECTION_GIVES_ITS_REASON_AND_NO_CREDIT_ROWS: [Row; 6] = [
     (LOGIN, AGAIN),
     (POLL, Seen::Unit(64, 0)),
@@ -106,31 +57,6 @@ fn a_rejection_gives_its_reason_and_no_credit(rt: HostRuntime) {
             1,
             &A_REJECTION_GIVES_ITS_REASON_AND_NO_CREDIT_ROWS
         ),
-        Ok(None)
-    );
-}
-
-static WHAT_IS_NO_ANSWER_TO_A_LOGIN_ROWS: [Row; 13] = [
-    (LOGIN, AGAIN),
-    (Step::Answer(0, Unit::Nothing, 52, 2), Seen::Put(2)),
-    (LOGIN, AGAIN),
-    (Step::Answer(0, Unit::Good(2, 1), 36, 2), Seen::Put(3)),
-    (LOGIN, AGAIN),
-    (Step::Answer(0, Unit::Grant(1, 9), 52, 2), Seen::Put(4)),
-    (LOGIN, AGAIN),
-    (Step::Answer(0, Unit::Grant(1, 9), 52, 1), Seen::Put(5)),
-    (LOGIN, AGAIN),
-    (POLL, Seen::Unit(64, 0)),
-    (POLL, Seen::Empty(3)),
-    (Step::Grant(0, 2, 5), Seen::Put(6)),
-    (LOGIN, Seen::Turned(LoginTurn::Granted(5))),
-];
-
-/// Bytes that are no unit, a response, and an answer to another login are no answer to a login.
-#[test]
-fn what_is_no_answer_to_a_login(rt: HostRuntime) {
-    assert_eq!(rt;
-        play_granted(rt.alloc(), 8, &WHAT_IS_NO_ANSWER_TO_A_LOGIN_ROWS),
         Ok(None)
     );
 }
@@ -160,126 +86,166 @@ fn a_partner_that_fails_ends_the_login(rt: HostRuntime) {
     );
 }
 
-static A_REGISTRATION_THAT_IS_BUSY_ROWS: [Row; 12] = [
-    (Step::Own(Act::SendAll(256)), Seen::Put(257)),
-    (Step::Freed, Seen::Nothing),
-    (Step::Own(Act::Fail), FREED),
-    (
-        LOGIN,
-        Seen::Turned(LoginTurn::Busy {
-            number: 258,
-            held: 0x8001_0000_0000_0010,
-        }),
-    ),
-    (SUBMIT, NOT_LOGGED_IN),
-    (POLL, Seen::Unit(16, 0)),
-    (LOGIN, AGAIN),
-    (
-        Step::Partner(Act::PollAll(256)),
-        Seen::Entry(Entry::PARTNER_FAILED),
-    ),
-    (POLL, Seen::Empty(259)),
-    (LOGIN, AGAIN),
-    (POLL, Seen::Entry(Entry::INITIALIZE)),
-    (POLL, Seen::Empty(260)),
+/// Scripts of logins, each with its name.
+static LOGINS: [Case; 8] = [
+    // A client that registers last sends Initialize itself, and then waits for the answer to it.
+    Case {
+        name: "a client that registers last sends initialize",
+        granted: None,
+        rows: &[
+            (REGISTER, Seen::Registered(RegAnswer::Closed { control: 0 })),
+            (LOGIN, AGAIN),
+            (POLL, Seen::Entry(Entry::INITIALIZE)),
+            (POLL, Seen::Empty(1)),
+            (COMPLETE, Seen::Put(0)),
+            (LOGIN, AGAIN),
+            (POLL, Seen::Unit(64, 0)),
+        ],
+    },
+    // The request of a login is, byte for byte, one that a server in use answers with a grant of 22 requests.
+    Case {
+        name: "the bytes of a login request",
+        granted: None,
+        rows: &[
+            (LOGIN, AGAIN),
+            (REGISTER, REGISTERED),
+            (INITIALIZE, Seen::Put(0)),
+            (LOGIN, AGAIN),
+            (Step::Word(0), Seen::Word(0)),
+            (Step::Word(8), Seen::Word(1)),
+            (Step::Word(16), Seen::Word(0x0000_0100_0000_0000)),
+            (Step::Word(24), Seen::Word(0x0006_0000_0000_0000)),
+            (Step::Word(32), Seen::Word(0)),
+            (Step::Word(40), Seen::Word(0x0100)),
+            (Step::Word(48), Seen::Word(0)),
+            (Step::Word(56), Seen::Word(0)),
+            (Step::Grant(0, 1, 22), Seen::Put(1)),
+            (Step::Word(0), Seen::Word(0xC000_0000_0000_0016)),
+            (LOGIN, Seen::Turned(LoginTurn::Granted(22))),
+        ],
+    },
+    // Bytes that are no unit, a response, and an answer to another login are no answer to a login.
+    Case {
+        name: "what is no answer to a login",
+        granted: Some(8),
+        rows: &[
+            (LOGIN, AGAIN),
+            (Step::Answer(0, Unit::Nothing, 52, 2), Seen::Put(2)),
+            (LOGIN, AGAIN),
+            (Step::Answer(0, Unit::Good(2, 1), 36, 2), Seen::Put(3)),
+            (LOGIN, AGAIN),
+            (Step::Answer(0, Unit::Grant(1, 9), 52, 2), Seen::Put(4)),
+            (LOGIN, AGAIN),
+            (Step::Answer(0, Unit::Grant(1, 9), 52, 1), Seen::Put(5)),
+            (LOGIN, AGAIN),
+            (POLL, Seen::Unit(64, 0)),
+            (POLL, Seen::Empty(3)),
+            (Step::Grant(0, 2, 5), Seen::Put(6)),
+            (LOGIN, Seen::Turned(LoginTurn::Granted(5))),
+        ],
+    },
+    // An event that finds the partner's queue full is kept, and the own queue is not registered before it is put.
+    Case {
+        name: "a registration that is busy",
+        granted: Some(8),
+        rows: &[
+            (Step::Own(Act::SendAll(256)), Seen::Put(257)),
+            (Step::Freed, Seen::Nothing),
+            (Step::Own(Act::Fail), FREED),
+            (
+                LOGIN,
+                Seen::Turned(LoginTurn::Busy {
+                    number: 258,
+                    held: 0x8001_0000_0000_0010,
+                }),
+            ),
+            (SUBMIT, NOT_LOGGED_IN),
+            (POLL, Seen::Unit(16, 0)),
+            (LOGIN, AGAIN),
+            (
+                Step::Partner(Act::PollAll(256)),
+                Seen::Entry(Entry::PARTNER_FAILED),
+            ),
+            (POLL, Seen::Empty(259)),
+            (LOGIN, AGAIN),
+            (POLL, Seen::Entry(Entry::INITIALIZE)),
+            (POLL, Seen::Empty(260)),
+        ],
+    },
+    // Entries that find the partner's queue full are put later, in their order.
+    Case {
+        name: "entries that are dropped are tried again",
+        granted: None,
+        rows: &[
+            (LOGIN, AGAIN),
+            (REGISTER, REGISTERED),
+            (Step::Own(Act::SendAll(256)), Seen::Put(255)),
+            (INITIALIZE, Seen::Put(0)),
+            (LOGIN, AGAIN),
+            (POLL, Seen::Unit(16, 0)),
+            (LOGIN, AGAIN),
+            (POLL, Seen::Unit(16, 0)),
+            (LOGIN, AGAIN),
+            (LOGIN, AGAIN),
+            (Step::Partner(Act::PollAll(254)), Seen::Unit(16, 0)),
+            (POLL, Seen::Entry(Entry::INITIALIZATION_COMPLETE)),
+            (POLL, Seen::Unit(64, 0)),
+            (POLL, Seen::Empty(258)),
+        ],
+    },
+    // A login that finds the partner's queue closed is not sent again; the event that tells of it comes later, since
+    // the own queue was full.
+    Case {
+        name: "a login that is turned back",
+        granted: Some(8),
+        rows: &[
+            (Step::Partner(Act::SendAll(256)), Seen::Put(257)),
+            (Step::Partner(Act::Free), FREED),
+            (LOGIN, AGAIN),
+            (LOGIN, AGAIN),
+            (REGISTER, REGISTERED),
+            (POLL, Seen::Empty(0)),
+            (LOGIN, Seen::Turned(LoginTurn::Lost)),
+        ],
+    },
+    // An answer that a login kept is taken though the own queue failed since; the next turn of a login forgets what is
+    // outstanding.
+    Case {
+        name: "answers that are kept outlive a failure",
+        granted: Some(8),
+        rows: &[
+            (Step::Ready(2), Seen::Sent(3)),
+            (Step::Answer(0, Unit::Good(2, 1), 36, 2), Seen::Put(2)),
+            (LOGIN, AGAIN),
+            (Step::Freed, Seen::Nothing),
+            (Step::Own(Act::Fail), FREED),
+            (TAKE, Seen::Answer(2, 1, 0)),
+            (TAKE, Seen::Empty(0)),
+            (OUTSTANDING, Seen::Tags(1, 3)),
+            (LOGIN, AGAIN),
+            (OUTSTANDING, Seen::Tags(0, 0)),
+        ],
+    },
+    // An answer that a login finds is kept once, and taken before others. A grant forgets what is outstanding.
+    Case {
+        name: "answers that a login finds are kept",
+        granted: Some(8),
+        rows: &[
+            (Step::Ready(2), Seen::Sent(3)),
+            (LOGIN, AGAIN),
+            (Step::Answer(0, Unit::Good(2, 1), 36, 2), Seen::Put(2)),
+            (Step::Answer(0, Unit::Good(2, 1), 36, 2), Seen::Put(3)),
+            (LOGIN, AGAIN),
+            (TAKE, Seen::Answer(2, 1, 0)),
+            (TAKE, Seen::Empty(4)),
+            (Step::Grant(2, 4, 6), Seen::Put(4)),
+            (LOGIN, Seen::Turned(LoginTurn::Granted(6))),
+            (OUTSTANDING, Seen::Tags(0, 0)),
+        ],
+    },
 ];
 
-/// An event that finds the partner's queue full is kept, and the own queue is not registered before it is put.
 #[test]
-fn a_registration_that_is_busy(rt: HostRuntime) {
-    assert_eq!(rt;
-        play_granted(rt.alloc(), 8, &A_REGISTRATION_THAT_IS_BUSY_ROWS),
-        Ok(None)
-    );
-}
-
-static ENTRIES_THAT_ARE_DROPPED_ARE_TRIED_AGAIN_ROWS: [Row; 14] = [
-    (LOGIN, AGAIN),
-    (REGISTER, REGISTERED),
-    (Step::Own(Act::SendAll(256)), Seen::Put(255)),
-    (INITIALIZE, Seen::Put(0)),
-    (LOGIN, AGAIN),
-    (POLL, Seen::Unit(16, 0)),
-    (LOGIN, AGAIN),
-    (POLL, Seen::Unit(16, 0)),
-    (LOGIN, AGAIN),
-    (LOGIN, AGAIN),
-    (Step::Partner(Act::PollAll(254)), Seen::Unit(16, 0)),
-    (POLL, Seen::Entry(Entry::INITIALIZATION_COMPLETE)),
-    (POLL, Seen::Unit(64, 0)),
-    (POLL, Seen::Empty(258)),
-];
-
-/// Entries that find the partner's queue full are put later, in their order.
-#[test]
-fn entries_that_are_dropped_are_tried_again(rt: HostRuntime) {
-    assert_eq!(rt;
-        play(rt.alloc(), &ENTRIES_THAT_ARE_DROPPED_ARE_TRIED_AGAIN_ROWS),
-        Ok(None)
-    );
-}
-
-static A_LOGIN_THAT_IS_TURNED_BACK_ROWS: [Row; 7] = [
-    (Step::Partner(Act::SendAll(256)), Seen::Put(257)),
-    (Step::Partner(Act::Free), FREED),
-    (LOGIN, AGAIN),
-    (LOGIN, AGAIN),
-    (REGISTER, REGISTERED),
-    (POLL, Seen::Empty(0)),
-    (LOGIN, Seen::Turned(LoginTurn::Lost)),
-];
-
-/// A login that finds the partner's queue closed is not sent again; the event that tells of it comes later, since
-/// the own queue was full.
-#[test]
-fn a_login_that_is_turned_back(rt: HostRuntime) {
-    assert_eq!(rt;
-        play_granted(rt.alloc(), 8, &A_LOGIN_THAT_IS_TURNED_BACK_ROWS),
-        Ok(None)
-    );
-}
-
-static ANSWERS_THAT_ARE_KEPT_OUTLIVE_A_FAILURE_ROWS: [Row; 10] = [
-    (Step::Ready(2), Seen::Sent(3)),
-    (Step::Answer(0, Unit::Good(2, 1), 36, 2), Seen::Put(2)),
-    (LOGIN, AGAIN),
-    (Step::Freed, Seen::Nothing),
-    (Step::Own(Act::Fail), FREED),
-    (TAKE, Seen::Answer(2, 1, 0)),
-    (TAKE, Seen::Empty(0)),
-    (OUTSTANDING, Seen::Tags(1, 3)),
-    (LOGIN, AGAIN),
-    (OUTSTANDING, Seen::Tags(0, 0)),
-];
-
-/// An answer that a login kept is taken though the own queue failed since; the next turn of a login forgets what is
-/// outstanding.
-#[test]
-fn answers_that_are_kept_outlive_a_failure(rt: HostRuntime) {
-    assert_eq!(rt;
-        play_granted(rt.alloc(), 8, &ANSWERS_THAT_ARE_KEPT_OUTLIVE_A_FAILURE_ROWS),
-        Ok(None)
-    );
-}
-
-static ANSWERS_THAT_A_LOGIN_FINDS_ARE_KEPT_ROWS: [Row; 10] = [
-    (Step::Ready(2), Seen::Sent(3)),
-    (LOGIN, AGAIN),
-    (Step::Answer(0, Unit::Good(2, 1), 36, 2), Seen::Put(2)),
-    (Step::Answer(0, Unit::Good(2, 1), 36, 2), Seen::Put(3)),
-    (LOGIN, AGAIN),
-    (TAKE, Seen::Answer(2, 1, 0)),
-    (TAKE, Seen::Empty(4)),
-    (Step::Grant(2, 4, 6), Seen::Put(4)),
-    (LOGIN, Seen::Turned(LoginTurn::Granted(6))),
-    (OUTSTANDING, Seen::Tags(0, 0)),
-];
-
-/// An answer that a login finds is kept once, and taken before others. A grant forgets what is outstanding.
-#[test]
-fn answers_that_a_login_finds_are_kept(rt: HostRuntime) {
-    assert_eq!(rt;
-        play_granted(rt.alloc(), 8, &ANSWERS_THAT_A_LOGIN_FINDS_ARE_KEPT_ROWS),
-        Ok(None)
-    );
+fn logins_end_as_their_scripts_say(rt: HostRuntime) {
+    assert_eq!(rt; first_other_case(rt.alloc(), &LOGINS), Ok(None));
 }

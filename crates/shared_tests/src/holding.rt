@@ -1,15 +1,15 @@
 // What two guests of one window hold, one after another, and while one of them holds a range.
-ghost use Rattle.std.specs.Prelude.{◌≡◌, ◌≤◌};
-ghost use Rattle.shared_window.specs.SharedWindow.{IsSeatAt};
+ghost use Rattle.std.specs.Prelude.{◌≤◌};
+ghost use Rattle.shared_window.specs.SharedWindow.{IsIdleAt};
 
-use crate::guests::two;
-use shared_window::{Guest, Opened, Window};
+use crate::guests::open_two;
+use shared_window::{Guest, Window};
+use std::alloc::Global;
 use std::test::Fail;
 use tce_window::{HoldFault, Right};
-use vio_num::UnitId;
 
 /// What became of a hold: the number of its pieces and the first one's page, or why it was refused.
-#[derive(Clone, Copy, Debug, PartialEq, Eq)]
+#[derive(Clone, Copy, PartialEq, Eq)]
 enum Shown {
     Held(usize, u16, u32),
     Past(u64),
@@ -26,15 +26,13 @@ fn refused(fault: HoldFault) -> Shown {
     }
 }
 
-// Holds a range and gives it back.
-fn hold(window: &Window, guest: &mut Guest, ioba: u64, len: u32, right: Right) -> Shown
-    requires at { IsSeatAt window.now guest.old }
-    requires free { guest.old.entries.held_count ≡ 0 }
-    requires len { (1 ≤ len) × (len ≤ 65536) }
-    ensures at { IsSeatAt window.now guest.new }
-    ensures free { guest.new.entries.held_count ≡ 0 }
+// Holds a range for reading and gives it back.
+fn hold(window: &Window, guest: &mut Guest, ioba: u64, len: u32) -> Shown
+    requires idle { IsIdleAt window.now guest.old }
+    requires few { (1 ≤ len) × (len ≤ 65536) }
+    ensures { IsIdleAt window.now guest.new }
 {
-    match window.hold(guest, ioba, len, right) {
+    match window.hold(guest, ioba, len, Right::Read) {
         Ok(held) => {
             let pieces = held.pieces();
             let shown = match pieces.first() {
@@ -48,52 +46,47 @@ fn hold(window: &Window, guest: &mut Guest, ioba: u64, len: u32, right: Right) -
     }
 }
 
-// What a guest is answered for this range while another holds one, before and after.
-fn meet(window: &Window, a: &mut Guest, b: &mut Guest, ioba: u64, len: u32) -> [Shown; 3]
-    requires a { IsSeatAt window.now a.old }
-    requires b { IsSeatAt window.now b.old }
-    requires free { (a.old.entries.held_count ≡ 0) × (b.old.entries.held_count ≡ 0) }
-    requires len { (1 ≤ len) × (len ≤ 65536) }
-    ensures a { IsSeatAt window.now a.new }
-    ensures b { IsSeatAt window.now b.new }
-    ensures free { (a.new.entries.held_count ≡ 0) × (b.new.entries.held_count ≡ 0) }
+// What a guest is answered for this range before another holds one, meanwhile, and after.
+fn meet(window: &Window, a: &mut Guest, b: &mut Guest, ioba: u64, len: u32) -> (Shown, Shown, Shown)
+    requires guests { IsIdleAt window.now a.old × IsIdleAt window.now b.old }
+    requires few { (1 ≤ len) × (len ≤ 65536) }
 {
-    let before = hold(window, b, ioba, len, Right::Read);
+    let before = hold(window, b, ioba, len);
     match window.hold(a, 0, 4097, Right::Write) {
         Ok(held) => {
-            let meanwhile = hold(window, b, ioba, len, Right::Read);
+            let meanwhile = hold(window, b, ioba, len);
             window.give_back(a, held);
-            [before, meanwhile, hold(window, b, ioba, len, Right::Read)]
+            (before, meanwhile, hold(window, b, ioba, len))
         }
-        Err(fault) => [before, refused(fault), Shown::Refused],
+        Err(fault) => (before, refused(fault), Shown::Refused),
     }
 }
 
-const UNIT: UnitId = UnitId {
-    partition: 1,
-    unit: 2,
-};
+// The same at a new window of four pages.
+fn met(alloc: Global, ioba: u64, len: u32) -> Result<(Shown, Shown, Shown), Fail>
+    requires { (1 ≤ len) × (len ≤ 65536) }
+{
+    let mut shared = open_two(alloc, 4)?;
+    Ok(meet(&shared.window, &mut shared.a, &mut shared.b, ioba, len))
+}
+
+/// A range's address and length, and what is answered before another guest holds the first two pages, meanwhile, and after.
+static RANGES: [(u64, u32, Shown, Shown, Shown); 2] = [
+    (
+        4090,
+        8192,
+        Shown::Held(3, 0, 0),
+        Shown::InUse(0, 1),
+        Shown::Held(3, 0, 0),
+    ),
+    (8192, 8193, Shown::Past(4), Shown::Past(4), Shown::Past(4)),
+];
 
 #[test]
 fn a_page_in_hand_is_in_use(rt: HostRuntime) -> Result<(), Fail> {
-    let Opened {
-        window,
-        owner: _,
-        guests,
-    } = Window::open(rt.alloc(), UNIT, 4, 2)?;
-    let Some((mut a, mut b)) = two(&window, guests) else {
-        return Err(Fail::new("a guest is missing"));
-    };
-    let shown = meet(&window, &mut a, &mut b, 4090, 8192);
-    assert_eq!(rt;
-        shown,
-        [
-            Shown::Held(3, 0, 0),
-            Shown::InUse(0, 1),
-            Shown::Held(3, 0, 0)
-        ]
-    );
-    let shown = meet(&window, &mut a, &mut b, 8192, 8193);
-    assert_eq!(rt; shown, [Shown::Past(4), Shown::Past(4), Shown::Past(4)]);
+    for (ioba, len, before, meanwhile, after) in RANGES.iter() {
+        let found = met(rt.alloc(), *ioba, (*len).clamp(1, 65536))?;
+        assert!(rt; found == (*before, *meanwhile, *after), "{ioba}");
+    }
     Ok(())
 }

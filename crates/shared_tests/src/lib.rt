@@ -1,10 +1,11 @@
-// Guests of shared windows: what they hold, what they are refused, and copies between two windows.
+// Guests of shared windows: what they hold, what they are refused, and copies between two windows; and the tables of
+// entries below them.
 #![tactic(auto)]
 
 #[cfg(test)]
 mod closing;
 #[cfg(test)]
-mod copying;
+mod entries;
 #[cfg(test)]
 mod guests;
 #[cfg(test)]

@@ -10,7 +10,7 @@ use tce_window::{GetTce, HoldFault, OwnFault, Right, TceAnswer};
 use vio_num::NoMemory;
 
 /// What was answered; of a turn word its bit 0 is kept.
-#[derive(Clone, Copy, Debug, PartialEq, Eq)]
+#[derive(Clone, Copy, PartialEq, Eq)]
 enum Shown {
     Done,
     Busy(u16, u32, u32),
@@ -116,29 +116,40 @@ fn three(window: &Window, owner: &mut Owner, guest: &mut Guest) -> Result<[Shown
     Ok([held, was_read, was_put])
 }
 
-// The same three while another guest holds the entry, and after, the entry's value then, and a hold of it. None where the
-// other guest is refused.
+// What a guest that still may hold the entry, a read and a put are answered while another guest holds it, and after.
+static MEANWHILE: [Shown; 3] = [Shown::InUse(0, 1), Shown::InUse(0, 1), Shown::Busy(0, 1, 0)];
+
+static AFTER: [Shown; 3] = [Shown::Done, Shown::Done, Shown::Done];
+
+// The entry's value in the end, and what both guests are answered then.
+static LEFT: [Shown; 3] = [
+    Shown::Value(0),
+    Shown::NotGranted(0, 1, 0),
+    Shown::NotGranted(0, 1, 0),
+];
+
+// Tells whether a guest holds the entry, whether the three are answered so meanwhile and after, and whether that is left.
 fn meet(
     window: &Window,
     owner: &mut Owner,
     a: &mut Guest,
     b: &mut Guest,
-) -> Result<Option<[[Shown; 3]; 3]>, NoMemory>
+) -> Result<(bool, bool, bool), NoMemory>
     requires owner { IsOwnerAt window.now owner.old }
     requires guests { IsIdleAt window.now a.old × IsIdleAt window.now b.old }
 {
     let Ok(held) = window.hold(a, 0, 16, Right::Read) else {
-        return Ok(None);
+        return Ok((false, false, false));
     };
     let meanwhile = three(window, owner, b);
     window.give_back(a, held);
     let after = three(window, owner, b)?;
     let left = [get(window, owner, 0), hold(window, a), hold(window, b)];
-    Ok(Some([meanwhile?, after, left]))
+    Ok((meanwhile? == MEANWHILE, after == AFTER, left == LEFT))
 }
 
 // The same at a new window.
-fn met(alloc: Global) -> Result<Option<[[Shown; 3]; 3]>, Fail> {
+fn met(alloc: Global) -> Result<(bool, bool, bool), Fail> {
     let mut shared = open_two(alloc, 4)?;
     Ok(meet(
         &shared.window,
@@ -150,56 +161,45 @@ fn met(alloc: Global) -> Result<Option<[[Shown; 3]; 3]>, Fail> {
 
 #[test]
 fn an_entry_that_is_held_keeps_its_value(rt: HostRuntime) -> Result<(), Fail> {
-    let refused = Shown::NotGranted(0, 1, 0);
-    assert_eq!(rt;
-        met(rt.alloc())?,
-        Some([
-            [Shown::InUse(0, 1), Shown::InUse(0, 1), Shown::Busy(0, 1, 0)],
-            [Shown::Done, Shown::Done, Shown::Done],
-            [Shown::Value(0), refused, refused]
-        ])
-    );
+    assert_eq!(rt; met(rt.alloc())?, (true, true, true));
     Ok(())
 }
 
-// Three values are put while entry 2 is held; what is answered, and the values then.
-fn stuff_held(
-    window: &Window,
-    owner: &mut Owner,
-    guest: &mut Guest,
-) -> Result<Option<[Shown; 4]>, NoMemory>
+// What is answered where three values are put while entry 2 is held, and the values then.
+static STUFFED: [Shown; 4] = [
+    Shown::Busy(2, 1, 2),
+    Shown::Value(3),
+    Shown::Value(3),
+    Shown::Value(8195),
+];
+
+// Tells whether three values are put so while entry 2 is held.
+fn stuff_held(window: &Window, owner: &mut Owner, guest: &mut Guest) -> Result<bool, NoMemory>
     requires owner { IsOwnerAt window.now owner.old }
     requires guest { IsIdleAt window.now guest.old }
 {
     let Ok(held) = window.hold(guest, 8192, 16, Right::Read) else {
-        return Ok(None);
+        return Ok(false);
     };
     let answer = stuff(window, owner, 0, 3, 3);
     window.give_back(guest, held);
-    Ok(Some([
+    let shown = [
         answer?,
         get(window, owner, 0),
         get(window, owner, 4096),
         get(window, owner, 8192),
-    ]))
+    ];
+    Ok(shown == STUFFED)
 }
 
 // The same at a new window.
-fn stuffed(alloc: Global) -> Result<Option<[Shown; 4]>, Fail> {
+fn stuffed(alloc: Global) -> Result<bool, Fail> {
     let mut shared = open_two(alloc, 4)?;
     Ok(stuff_held(&shared.window, &mut shared.owner, &mut shared.a)?)
 }
 
 #[test]
 fn values_are_put_up_to_an_entry_that_is_held(rt: HostRuntime) -> Result<(), Fail> {
-    assert_eq!(rt;
-        stuffed(rt.alloc())?,
-        Some([
-            Shown::Busy(2, 1, 2),
-            Shown::Value(3),
-            Shown::Value(3),
-            Shown::Value(8195)
-        ])
-    );
+    assert!(rt; stuffed(rt.alloc())?);
     Ok(())
 }

@@ -1,5 +1,5 @@
 use Rattle.std.proofs.Common.{[]}
 use Rattle.shared_tests.proofs.holding.hold.Goals as goal
 
-pub returns-in-Err-clause-free : goal.returns-in-Err-clause-free
-returns-in-Err-clause-free c = (c.in-Err.ensures.err.none []).free
+pub returns-in-Err : goal.returns-in-Err
+returns-in-Err c = record { at = c.hold.ensures.at; free = (c.in-Err.ensures.err.none []).free }

@@ -2,8 +2,9 @@
 ghost use Rattle.std.specs.Prelude.{◌≡◌, ◌<◌, true};
 ghost use Rattle.entry_slots.specs.Entries.{HoldsRange};
 
-use crate::holder::{Holder, without_range};
+use super::holder::{Holder, without_range};
 use entry_slots::{Entries, EntrySeat, EntryWord, OpenedEntries, Put};
+use std::alloc::Global;
 use std::test::Fail;
 use std::thread::{self, Threads};
 use tce_window::TceRow;
@@ -89,31 +90,38 @@ fn both<R: Threads + Sync>(
     )
 }
 
-#[test]
-fn two_guests_and_an_owner(rt: HostRuntime) -> Result<(), Fail> {
+// How many values the owner of new entries puts while two guests work, and whether each guest saw what it must.
+fn worked<R: Threads + Sync>(rt: &R, alloc: Global) -> Result<(u16, bool, bool), Fail> {
     let OpenedEntries {
         entries,
         owner: first,
         mut guests,
-    } = Entries::open(rt.alloc(), 2, 2)?;
+    } = Entries::open(alloc, 2, 2)?;
     let (Some(b), Some(a)) = (guests.pop(), guests.pop()) else {
         return Err(Fail::new("a seat is missing"));
     };
     let shared = &entries;
     let a = without_range(a);
     let b = without_range(b);
-    let runtime = &rt;
     let ((first, puts), ((a, a_rose), (b, b_rose))) = thread::join(
-        runtime,
+        rt,
         move || owner(shared, first, ROUNDS),
-        move || both(runtime, shared, a, b),
+        move ||
+            requires a { HoldsRange shared.now a.from a.count a.seat }
+            requires b { HoldsRange shared.now b.from b.count b.seat }
+        { both(rt, shared, a, b) },
     );
-    assert_eq!(rt; (puts, a_rose, b_rose), (ROUNDS, true, true));
     if a.count != 0 || b.count != 0 {
         return Err(Fail::new("an entry is held"));
     }
     guests.push(a.seat)?;
     guests.push(b.seat)?;
     entries.close(first, guests);
+    Ok((puts, a_rose, b_rose))
+}
+
+#[test]
+fn two_guests_and_an_owner(rt: HostRuntime) -> Result<(), Fail> {
+    assert_eq!(rt; worked(&rt, rt.alloc())?, (ROUNDS, true, true));
     Ok(())
 }

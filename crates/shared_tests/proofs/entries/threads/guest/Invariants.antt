@@ -1,5 +1,5 @@
 use Rattle.entry_slots.specs.Entries.{HoldsRange}
-use Rattle.entry_tests.proofs.threads.guest.Given as goal
+use Rattle.shared_tests.proofs.entries.threads.guest.Given as goal
 
 abbrev pub invariant-loop : goal.invariant-loop
 invariant-loop l = HoldsRange l.entries l.holder.from l.holder.count l.holder.seat

@@ -1,6 +1,6 @@
 use Rattle.std.proofs.Common.{◌≡◌, true}
 use Rattle.entry_slots.specs.Entries.{HoldsRange}
-use Rattle.entry_tests.proofs.play.play_each.Given as goal
+use Rattle.shared_tests.proofs.entries.play.play_each.Given as goal
 
 abbrev pub invariant-loop-k : goal.invariant-loop-k
 invariant-loop-k l = record {

@@ -2,8 +2,9 @@
 ghost use Rattle.std.specs.Prelude.{◌≡◌, true};
 ghost use Rattle.entry_slots.specs.Entries.{HoldsRange};
 
-use crate::holder::{Holder, without_range};
+use super::holder::{Holder, without_range};
 use entry_slots::{Entries, EntrySeat, EntryWord, OpenedEntries, Put};
+use std::alloc::Global;
 use std::test::Fail;
 use tce_window::TceRow;
 
@@ -37,7 +38,7 @@ enum Shown {
     Unfit,
 }
 
-const ROWS: [(Step, Shown); 26] = [
+static ROWS: [(Step, Shown); 26] = [
     (Step::Pin(Guest::First, 0), Shown::Word(0, 0, 3)),
     (Step::Put(0, 1, 3, 0x1001), Shown::Refused(1, 0, 3)),
     (Step::Pin(Guest::Second, 0), Shown::Word(1, 0, 3)),
@@ -146,31 +147,30 @@ fn play_each(
     rows.len()
 }
 
-#[test]
-fn pins_releases_and_puts(rt: HostRuntime) -> Result<(), Fail> {
+// Plays the rows at new entries, which are closed then.
+fn played(alloc: Global) -> Result<usize, Fail> {
     let OpenedEntries {
         entries,
         mut owner,
         mut guests,
-    } = Entries::open(rt.alloc(), 256, 2)?;
+    } = Entries::open(alloc, 256, 2)?;
     let (Some(second), Some(first)) = (guests.pop(), guests.pop()) else {
         return Err(Fail::new("a seat is missing"));
     };
     let mut first = without_range(first);
     let mut second = without_range(second);
-    let played = play_each(
-        &entries,
-        &mut owner,
-        &mut first,
-        &mut second,
-        ROWS.as_slice(),
-    );
-    assert_eq!(rt; played, 26);
+    let played = play_each(&entries, &mut owner, &mut first, &mut second, &ROWS);
     if first.count != 0 || second.count != 0 {
         return Err(Fail::new("an entry is held"));
     }
     guests.push(first.seat)?;
     guests.push(second.seat)?;
     entries.close(owner, guests);
+    Ok(played)
+}
+
+#[test]
+fn pins_releases_and_puts(rt: HostRuntime) -> Result<(), Fail> {
+    assert_eq!(rt; played(rt.alloc())?, 26);
     Ok(())
 }
