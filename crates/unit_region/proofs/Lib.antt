@@ -1,4 +1,7 @@
 pub mod Growing
+pub mod Marking
 pub mod Putting
+pub mod RegionTold
 pub mod Taking
+pub mod Listing
 pub mod Laws

@@ -1,5 +1,5 @@
 -- What a step of a line puts into the entries of its window: nothing, but one value where the line says so.
-use Rattle.std.proofs.Common.{◌≡◌, ◌∙◌, ℕ, ◌*◌, ◌/◌, ◌==◌, ◌++◌, Bool, true, false, cond, List, [], ◌∷◌, Result, Ok, Err, IfOk, refl, sym, ap, subst, arith, append-nil}
+use Rattle.std.proofs.Common.{◌≡◌, ◌∙◌, ℕ, ◌*◌, ◌/◌, ◌==◌, ◌++◌, Bool, false, cond, List, [], ◌∷◌, Result, Ok, Err, IfOk, refl, sym, ap, subst, arith, append-nil}
 use Rattle.vio_num.specs.declared.hypervisor.Hrc.TheVariants as codes
 use Rattle.vio_num.specs.declared.memory.NoMemory.{NoMemory}
 use Rattle.boot_text.specs.declared.verb.Verb.{Verb}

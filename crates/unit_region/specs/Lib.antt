@@ -3,5 +3,7 @@ pub mod EntryAnswers
 pub mod EntryRows
 pub mod Kept
 pub mod LinePuts
+pub mod Marks
 pub mod Pattern
+pub mod RegionLines
 pub mod Steps

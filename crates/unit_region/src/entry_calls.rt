@@ -1,15 +1,16 @@
 // Raw calls on the translation entries of a unit's own window.
-ghost use Rattle.std.specs.Prelude.{◌≡◌, ◌↔◌, ◌≤◌, ◌*◌, true, false, ◌+◌, IfErr, IfOk, IsTrue, length};
+ghost use Rattle.std.specs.Prelude.{◌≡◌, ◌≢◌, ◌↔◌, ◌≤◌, ◌*◌, ◌%◌, true, false, ◌+◌, IfErr, IfOk, OnOk, length, replicate};
 ghost use Rattle.vio_num.specs.declared.TheConstants.{PAGE_BYTES};
 ghost use Rattle.tce_window.specs.Answers.{gives};
-ghost use Rattle.tce_window.specs.PortState.{Puts};
+ghost use Rattle.tce_window.specs.PortState.{OnlyReads, Puts, Reads};
 ghost use Rattle.tce_window.specs.Puts.{takes};
 ghost use Rattle.vio_num.specs.declared.hypervisor.Hrc.TheVariants as codes;
 ghost use Rattle.hcall_table.specs.Rows.{IsAnswer, may_answer};
 ghost use Rattle.hcall_table.specs.declared.hcall.Hcall.TheVariants as rows;
-ghost use Rattle.unit_region.specs.EntryAnswers.{AnswersEntry, put_if};
+ghost use Rattle.unit_region.specs.EntryAnswers.{AnswersEntry, AreValuesOf, PutsEach, PutsList, PutsValues, is_list, put_if};
 ghost use Rattle.unit_region.specs.EntryRows.{answer_of, entry_row, tce_code};
 ghost use Rattle.unit_region.specs.Kept.{KeepsWindow};
+ghost use Rattle.unit_region.specs.Marks.{LaysNoStroke};
 
 use byteorder::{BigEndian, ByteOrder};
 use hcall_table::Returned;
@@ -64,6 +65,7 @@ fn code_of(answer: TceAnswer) -> Hrc
 // H_GET_TCE (LoPAR, "H_GET_TCE").
 fn get<O: OwnerPort>(own: &mut O, address: u64) -> Returned
     ensures window { KeepsWindow O.is_shared (O.state own.old) (O.state own.new) }
+    ensures marks { LaysNoStroke O.is_shared (O.state own.old) (O.state own.new) }
     ensures value { gives (O.state own.old).place.size
         (O.state own.new).values address (answer_of result) }
     ensures answer { IsAnswer rows.GetTce result }
@@ -80,6 +82,7 @@ fn get<O: OwnerPort>(own: &mut O, address: u64) -> Returned
 // H_PUT_TCE (LoPAR, "H_PUT_TCE").
 fn put<O: OwnerPort>(own: &mut O, address: u64, value: u64) -> Result<Hrc, NoMemory>
     ensures window { KeepsWindow O.is_shared (O.state own.old) (O.state own.new) }
+    ensures marks { LaysNoStroke O.is_shared (O.state own.old) (O.state own.new) }
     ensures parameter { IfOk result (λ code. (code ≡ codes.Parameter) ↔
         (takes (O.state own.old).place.size address value ≡ false)) }
     ensures put { IfOk result (λ code.
@@ -93,6 +96,9 @@ fn put<O: OwnerPort>(own: &mut O, address: u64, value: u64) -> Result<Hrc, NoMem
 // H_STUFF_TCE (LoPAR, "H_STUFF_TCE").
 fn stuff<O: OwnerPort>(own: &mut O, address: u64, value: u64, count: u64) -> Result<Hrc, NoMemory>
     ensures window { KeepsWindow O.is_shared (O.state own.old) (O.state own.new) }
+    ensures marks { LaysNoStroke O.is_shared (O.state own.old) (O.state own.new) }
+    ensures each { IfOk result (PutsEach (O.state own.old) (O.state own.new) address
+        (replicate count value)) }
     ensures code { IfOk result (λ code. may_answer rows.StuffTce code ≡ true) }
 {
     if count > MOST_VALUES {
@@ -112,22 +118,30 @@ fn put_list<O: OwnerPort>(
     count: u64,
 ) -> Result<Hrc, NoMemory>
     ensures window { KeepsWindow O.is_shared (O.state own.old) (O.state own.new) }
+    ensures marks { LaysNoStroke O.is_shared (O.state own.old) (O.state own.new) }
+    ensures list { IfOk result (PutsList (O.state own.old) (O.state own.new) address list count) }
     ensures code { IfOk result (λ code. may_answer rows.PutTceIndirect code ≡ true) }
 {
-    if count > MOST_VALUES || list % PAGE_BYTES != 0 || !is_inside(own, list, count) {
+    if !lies_at(own, list, count) {
         return Ok(Hrc::Parameter);
     }
-    let mut bytes = vec![in alloc; 0u8; 8 * count as usize]?;
-    match read_list(own, list, &mut bytes) {
-        Ok(()) => put_values(alloc, own, address, &bytes),
+    let mut buffer = vec![in alloc; 0u8; 8 * count as usize]?;
+    let bytes: &mut [u8] = &mut buffer;
+    match read_list(own, list, bytes) {
+        Ok(()) => put_values(alloc, own, address, bytes),
         Err(code) => Ok(code),
     }
 }
 
 // Reads the bytes of a list, which may have none.
 fn read_list<O: OwnerPort>(own: &mut O, list: u64, bytes: &mut [u8]) -> Result<(), Hrc>
+    requires few { length bytes.old ≤ PAGE_BYTES }
+    requires inside { list + length bytes.old ≤ PAGE_BYTES * (O.state own.old).place.size }
     ensures window { KeepsWindow O.is_shared (O.state own.old) (O.state own.new) }
-    ensures code { IfErr result (λ code. may_answer rows.PutTceIndirect code ≡ true) }
+    ensures marks { LaysNoStroke O.is_shared (O.state own.old) (O.state own.new) }
+    ensures only { OnlyReads O.is_shared (O.state own.old) (O.state own.new) }
+    ensures read { OnOk result (length bytes.old ≢ 0 → Reads (O.state own.new) list bytes.new) }
+    ensures busy { IfErr result (λ code. code ≡ codes.Busy) }
     ensures count { length bytes.new ≡ length bytes.old }
 {
     if bytes.is_empty() {
@@ -147,8 +161,11 @@ fn put_values<O: OwnerPort>(
     address: u64,
     bytes: &[u8],
 ) -> Result<Hrc, NoMemory>
-    requires { length bytes.now ≤ PAGE_BYTES }
+    requires most { length bytes.now ≤ PAGE_BYTES }
+    requires whole { length bytes.now % 8 ≡ 0 }
     ensures window { KeepsWindow O.is_shared (O.state own.old) (O.state own.new) }
+    ensures marks { LaysNoStroke O.is_shared (O.state own.old) (O.state own.new) }
+    ensures values { IfOk result (PutsValues (O.state own.old) (O.state own.new) address bytes.now) }
     ensures code { IfOk result (λ code. may_answer rows.PutTceIndirect code ≡ true) }
 {
     let values = values_of(alloc, bytes)?;
@@ -156,27 +173,28 @@ fn put_values<O: OwnerPort>(
     Ok(code_of(own.put_tce_indirect(address, &values)))
 }
 
-// Whether a list of this many values from the address on lies in the region.
-fn is_inside<O: OwnerPort>(own: &O, list: u64, count: u64) -> bool
-    requires { count ≤ 512 }
-    ensures { IsTrue result ↔ (list + 8 * count ≤ PAGE_BYTES * (O.state own.now).place.size) }
+// Whether a list of this many values lies at the address.
+fn lies_at<O: OwnerPort>(own: &O, list: u64, count: u64) -> bool
+    ensures { result ≡ is_list (O.state own.now).place.size list count }
 {
     let size = PAGE_BYTES * u64::from(own.pages());
-    list <= size && 8 * count <= size - list
+    count <= MOST_VALUES && list % PAGE_BYTES == 0 && list <= size && 8 * count <= size - list
 }
 
-// The numbers of 8 bytes each, the high byte first.
-fn values_of(alloc: Global, bytes: &[u8]) -> Result<Vec<u64>, NoMemory> {
-    let mut values = Vec::new(alloc);
-    for value in bytes.chunks_exact(8) {
-        values.push(BigEndian::read_u64(value))?;
-    }
+// The values of 8 bytes each, the high byte first.
+fn values_of(alloc: Global, bytes: &[u8]) -> Result<Vec<u64>, NoMemory>
+    requires { length bytes.now % 8 ≡ 0 }
+    ensures { IfOk result (λ values. AreValuesOf bytes.now values.items) }
+{
+    let mut values = vec![in alloc; 0u64; bytes.len() / 8]?;
+    BigEndian::read_u64_into(bytes, &mut values);
     Ok(values)
 }
 
 /// Makes a call on the entries of a window.
 pub fn make<O: OwnerPort>(alloc: Global, own: &mut O, call: EntryCall) -> Result<Returned, NoMemory>
     ensures window { KeepsWindow O.is_shared (O.state own.old) (O.state own.new) }
+    ensures marks { LaysNoStroke O.is_shared (O.state own.old) (O.state own.new) }
     ensures answer { IfOk result (IsAnswer (entry_row call)) }
     ensures entry { IfOk result (AnswersEntry (O.state own.old) (O.state own.new) call) }
 {

@@ -5,6 +5,7 @@ ghost use Rattle.tce_window.specs.PortState.{OnlyReads, OnlyWrites};
 ghost use Rattle.unit_region.specs.Answers.{AnswersPut, AnswersRead, AnswersWrite, tce_of};
 ghost use Rattle.unit_region.specs.Steps.{IsPlain};
 ghost use Rattle.unit_region.specs.Kept.{KeepsWindow};
+ghost use Rattle.unit_region.specs.Marks.{LaysNoStroke, LaysUnder};
 ghost use Rattle.unit_region.specs.Pattern.{pattern as filling, pattern_byte};
 
 use crate::step::Step;
@@ -32,6 +33,7 @@ pub fn fill<O: OwnerPort>(
 ) -> Result<Step, NoMemory>
     requires { len ≤ MOST_FILL }
     ensures window { KeepsWindow O.is_shared (O.state own.old) (O.state own.new) }
+    ensures marks { LaysUnder O.is_shared line (O.state own.old) (O.state own.new) }
     ensures rest { OnlyWrites (O.state own.old) (O.state own.new) }
     ensures plain { IsPlain result }
     ensures answer { IfOk result (AnswersWrite O.is_shared (O.state own.old) (O.state own.new) at
@@ -45,8 +47,10 @@ pub fn fill<O: OwnerPort>(
 }
 
 /// Writes these bytes under the mark of a line.
+#[tactic(auto, using(crate::proofs::Marking::write_under))]
 pub fn poke<O: OwnerPort>(own: &mut O, at: u64, bytes: &[u8], line: u64) -> Result<Step, NoMemory>
     ensures window { KeepsWindow O.is_shared (O.state own.old) (O.state own.new) }
+    ensures marks { LaysUnder O.is_shared line (O.state own.old) (O.state own.new) }
     ensures rest { OnlyWrites (O.state own.old) (O.state own.new) }
     ensures plain { IsPlain result }
     ensures answer { IfOk result (AnswersWrite O.is_shared (O.state own.old) (O.state own.new) at
@@ -61,10 +65,12 @@ pub fn poke<O: OwnerPort>(own: &mut O, at: u64, bytes: &[u8], line: u64) -> Resu
 }
 
 /// Reads `len` bytes.
+#[tactic(auto, using(crate::proofs::Marking::reads_none))]
 pub fn peek<O: OwnerPort>(alloc: Global, own: &mut O, at: u64, len: u64) -> Result<Step, NoMemory>
     requires some { 1 ≤ len }
     requires few { len ≤ MOST_PEEK }
     ensures window { KeepsWindow O.is_shared (O.state own.old) (O.state own.new) }
+    ensures marks { LaysNoStroke O.is_shared (O.state own.old) (O.state own.new) }
     ensures rest { OnlyReads O.is_shared (O.state own.old) (O.state own.new) }
     ensures plain { IsPlain result }
     ensures answer { IfOk result (AnswersRead (O.state own.old) (O.state own.new) at len) }
@@ -79,7 +85,7 @@ pub fn peek<O: OwnerPort>(alloc: Global, own: &mut O, at: u64, len: u64) -> Resu
 }
 
 /// Lets an entry name a page.
-#[tactic(auto, using(crate::proofs::Taking::passes))]
+#[tactic(auto, using(crate::proofs::Taking::passes, crate::proofs::Marking::puts_none))]
 pub fn put_tce<O: OwnerPort>(
     own: &mut O,
     entry: u64,
@@ -89,6 +95,7 @@ pub fn put_tce<O: OwnerPort>(
 ) -> Result<Step, NoMemory>
     requires { page ≤ MOST_PAGE }
     ensures window { KeepsWindow O.is_shared (O.state own.old) (O.state own.new) }
+    ensures marks { LaysNoStroke O.is_shared (O.state own.old) (O.state own.new) }
     ensures plain { IsPlain result }
     ensures answer { IfOk result (AnswersPut (O.state own.old) (O.state own.new) entry
         (tce_of page readable writable)) }
