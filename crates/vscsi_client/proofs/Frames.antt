@@ -1,11 +1,13 @@
 -- Frames, one behind the other.
-use Rattle.std.proofs.Common.{◌≡◌, ◌∙◌, inl, inr, ◌≤◌, ◌++◌, Bool, List, [], ◌∷◌, Result, Ok, Err, IfOk, OnErr, refl, sym, ap, subst, arith, append-nil, append_assoc}
+use Rattle.std.proofs.Common.{◌≡◌, ◌∙◌, inl, inr, ◌≤◌, ◌++◌, Bool, true, false, List, [], ◌∷◌, Result, Ok, Err, IfOk, OnErr, refl, sym, ap, subst, arith, append-nil, append_assoc}
 use Rattle.vio_num.specs.declared.memory.NoMemory.{NoMemory}
 use Rattle.crq_ring.specs.declared.rows.PipeRow.{PipeRow}
 use Rattle.crq_session.specs.declared.answers.RegAnswer.{RegAnswer}
 use Rattle.crq_session.specs.declared.answers.RegAnswer.TheVariants as reg
 use Rattle.crq_session.specs.declared.answers.SendAnswer.{SendAnswer}
 use Rattle.crq_session.specs.declared.answers.SendAnswer.TheVariants as send
+use Rattle.crq_session.specs.Answered.{MaySend}
+use Rattle.crq_session.specs.Answers.{OnReached}
 use Rattle.crq_session.specs.EndState.{EndState, EndCounts, Rises, OnlyRegisters, OnlyReserves, OnlySends, OnlyTakes}
 use Rattle.tce_window.specs.PortState.{PortState, OnlyReads, OnlyWrites}
 use Rattle.vscsi_client.specs.Frames.{HasMore, IsOpened, KeepsEnd, OnlyTurns}
@@ -42,15 +44,15 @@ more_trans a b c x y = record { rows = x.rows ++ y.rows; is = y.is ∙ (ap (λ r
 
 pub keeps_same : (shared : Bool) (a : EndState) → KeepsEnd shared a a
 keeps_same shared a =
-    record { place = refl; last_session = refl; registered = refl; kept = refl; sent = more_same a.sent a.sent refl; counts = rises_same shared a.counts; in_use = refl }
+    record { place = refl; last_session = refl; registered = refl; kept = refl; sent = more_same a.sent a.sent refl; unsent = λ off. refl; counts = rises_same shared a.counts; in_use = refl }
 
 pub keeps_takes : (shared : Bool) (a b : EndState) → OnlyTakes shared a b → KeepsEnd shared a b
 keeps_takes shared a b t =
-    record { place = t.place; last_session = t.last_session; registered = t.registered; kept = t.kept; sent = more_same a.sent b.sent t.sent; counts = t.counts; in_use = t.in_use }
+    record { place = t.place; last_session = t.last_session; registered = t.registered; kept = t.kept; sent = more_same a.sent b.sent t.sent; unsent = λ off. t.sent; counts = t.counts; in_use = t.in_use }
 
-keeps_sends : (shared : Bool) (a b : EndState) → OnlySends shared a b → HasMore a.sent b.sent → KeepsEnd shared a b
-keeps_sends shared a b t more =
-    record { place = t.place; last_session = t.last_session; registered = t.registered; kept = t.kept; sent = more; counts = t.counts; in_use = t.in_use }
+keeps_sends : (shared : Bool) (a b : EndState) → OnlySends shared a b → HasMore a.sent b.sent → (a.registered ≡ false → b.sent ≡ a.sent) → KeepsEnd shared a b
+keeps_sends shared a b t more unsent =
+    record { place = t.place; last_session = t.last_session; registered = t.registered; kept = t.kept; sent = more; unsent = unsent; counts = t.counts; in_use = t.in_use }
 
 -- the entry of what is due was put, or was not
 sent_more : (shared : Bool) (s s' : ClientState) (a b : EndState) (due : Due) (answer : SendAnswer) → Puts shared s s' a b due answer → HasMore a.sent b.sent
@@ -69,10 +71,24 @@ sent_more shared s s' a b due answer puts = at answer puts.sent
     at send.NotRegistered sent = same sent.1.sent
     at send.Parameter sent = absurd sent
 
+-- none is put while the own queue is not registered
+sent_none : (shared : Bool) (s s' : ClientState) (a b : EndState) (due : Due) (answer : SendAnswer) → Puts shared s s' a b due answer → a.registered ≡ false → b.sent ≡ a.sent
+sent_none shared s s' a b due answer puts off = at answer puts.may puts.sent ∙ puts.ready.sent
+  where
+    both : (registered : Bool) → registered ≡ true → registered ≡ false → ⊥
+    both registered on none = cc (on, none)
+
+    at : (answer : SendAnswer) → OnReached answer (MaySend puts.room puts.entry) → SentAs shared puts.room puts.entry b answer → b.sent ≡ puts.room.sent
+    at (send.Success number) may sent = absurd (both puts.room.registered may.registered (puts.ready.registered ∙ off))
+    at (send.Closed control) may sent = sent.none.sent
+    at (send.Dropped number held) may sent = sent.sent
+    at send.NotRegistered may sent = sent.1.sent
+    at send.Parameter may sent = absurd sent
+
 pub keeps_puts : (shared : Bool) (s s' : ClientState) (a b : EndState) (due : Due) (result : Result SendAnswer NoMemory) → IfOk result (Puts shared s s' a b due)
     → OnErr result (OnlyReserves a b) → OnlySends shared a b → KeepsEnd shared a b
-keeps_puts shared s s' a b due (Ok answer) puts none rest = keeps_sends shared a b rest (sent_more shared s s' a b due answer puts)
-keeps_puts shared s s' a b due (Err memory) puts none rest = keeps_sends shared a b rest (more_same a.sent b.sent none.sent)
+keeps_puts shared s s' a b due (Ok answer) puts none rest = keeps_sends shared a b rest (sent_more shared s s' a b due answer puts) (sent_none shared s s' a b due answer puts)
+keeps_puts shared s s' a b due (Err memory) puts none rest = keeps_sends shared a b rest (more_same a.sent b.sent none.sent) (λ off. none.sent)
 
 pub keeps_trans : (shared : Bool) (a b c : EndState) → KeepsEnd shared a b → KeepsEnd shared b c → KeepsEnd shared a c
 keeps_trans shared a b c x y = record {
@@ -81,6 +97,7 @@ keeps_trans shared a b c x y = record {
   registered = y.registered ∙ x.registered;
   kept = y.kept ∙ x.kept;
   sent = more_trans a.sent b.sent c.sent x.sent y.sent;
+  unsent = λ off. y.unsent (x.registered ∙ off) ∙ x.unsent off;
   counts = rises_trans shared a.counts b.counts c.counts x.counts y.counts;
   in_use = y.in_use ∙ x.in_use;
 }

@@ -1,5 +1,5 @@
 -- What the calls of a client leave of its end and of its window.
-use Rattle.std.specs.Prelude.{◌≡◌, ◌⊎◌, ℕ, ◌≤◌, ◌++◌, Bool, List}
+use Rattle.std.specs.Prelude.{◌≡◌, ◌⊎◌, ℕ, ◌≤◌, ◌++◌, Bool, false, List}
 use Rattle.crq_ring.specs.declared.rows.PipeRow.{PipeRow}
 use Rattle.crq_session.specs.Answered.{HoldsUp, Opens}
 use Rattle.crq_session.specs.EndState.{EndState, OnlyRegisters, OnlyReserves, Rises}
@@ -9,13 +9,15 @@ pub record HasMore (old new : List PipeRow) : Type 0 where
   pub rows : List PipeRow
   pub is : new ≡ old ++ rows
 
--- Taking entries and sending some changes neither the place nor the registration, and no count falls.
+-- Taking entries and sending some changes neither the place nor the registration, and no count falls. While the own queue is not
+-- registered nothing is sent.
 pub record KeepsEnd (shared : Bool) (old new : EndState) : Type 0 where
   pub place : new.place ≡ old.place
   pub last_session : new.last_session ≡ old.last_session
   pub registered : new.registered ≡ old.registered
   pub kept : new.kept ≡ old.kept
   pub sent : HasMore old.sent new.sent
+  pub unsent : old.registered ≡ false → new.sent ≡ old.sent
   pub counts : Rises shared old.counts new.counts
   pub in_use : new.counts.in_use ≡ old.counts.in_use
 

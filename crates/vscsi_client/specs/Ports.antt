@@ -3,7 +3,7 @@ use Rattle.std.specs.Prelude.{◌≡◌, ◌⊎◌, ℕ, Bool, true, false, List
 use Rattle.vio_num.specs.Counts.{Rose}
 use Rattle.vio_num.specs.Entry.{srp_entry}
 use Rattle.crq_session.specs.EndState.{EndState, OnlyReserves}
-use Rattle.crq_session.specs.Answered.{Sends, SendsNone, TurnsBack, FindsFull}
+use Rattle.crq_session.specs.Answered.{MaySend, Sends, SendsNone, TurnsBack, FindsFull}
 use Rattle.tce_window.specs.PortState.{PortState, FindsInUse, LaysNone, OnlyWrites, Writes}
 use Rattle.vscsi_client.specs.declared.answers.Refused.{Refused}
 use Rattle.vscsi_client.specs.declared.answers.Refused.TheVariants.{InUse, Closed, Dropped, NoMemory}
@@ -58,10 +58,11 @@ unit_write slot unit = record { at = slot_address slot; bytes = unit }
 abbrev pub UnitLaid : (line slot : ℕ) → List ℕ → Ports → Ports → Type 0
 UnitLaid line slot unit old new = Lays old.own_shared line (unit_write slot unit) old.own new.own
 
--- the unit was written, and the entry that names it was put
+-- the unit was written, and the entry that names it was put, since the own queue is registered
 pub record UnitPut (line slot : ℕ) (unit : List ℕ) (old new : Ports) : Type 0 where
   pub laid : UnitLaid line slot unit old new
   pub number : ℕ
+  pub may : MaySend old.crq (srp_entry (length unit) (slot_address slot))
   pub sent : Sends old.crq_shared old.crq (srp_entry (length unit) (slot_address slot)) new.crq number
 
 -- a queue was closed: the own one, without a word, or the partner's, as this word shows

@@ -11,7 +11,8 @@ use Rattle.crq_session.specs.declared.answers.RegAnswer.TheVariants as reg
 use Rattle.crq_session.specs.declared.answers.SendAnswer.{SendAnswer}
 use Rattle.crq_session.specs.declared.answers.SendAnswer.TheVariants as send
 use Rattle.crq_session.specs.EndState.{EndState, OnlyRegisters, OnlyReserves, OnlySends, OnlyTakes}
-use Rattle.crq_session.specs.Answered.{Sends, TurnsBack, FindsFull, FindsNone, FindsClosed, MeetsOpen, Opens, HoldsUp, Takes}
+use Rattle.crq_session.specs.Answers.{OnReached}
+use Rattle.crq_session.specs.Answered.{MaySend, Sends, TurnsBack, FindsFull, FindsNone, FindsClosed, MeetsOpen, Opens, HoldsUp, Takes}
 use Rattle.srp_iu.specs.declared.unit.Iu.TheVariants.{LoginReq}
 use Rattle.srp_iu.specs.Grammar.{Canon}
 use Rattle.tce_window.specs.PortState.{PortState, LaysNone, OnlyReads}
@@ -207,6 +208,7 @@ pub record Puts (shared : Bool) (s s' : ClientState) (old new : EndState) (due :
   pub is_entry : IsEntryOf due s.login entry
   pub room : EndState
   pub ready : OnlyReserves old room
+  pub may : OnReached answer (MaySend room entry)
   pub sent : SentAs shared room entry new answer
   pub rest : OnlySends shared room new
   pub client : s' ≡ sent_by due others answer s
