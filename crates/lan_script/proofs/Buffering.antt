@@ -1,5 +1,5 @@
 -- Which buffers the steps of a line post.
-use Rattle.std.proofs.Common.{◌≡◌, ◌+◌, ◌*◌, ◌<◌, ◌≤◌, ℕ, suc, arith, Bool, true, false, IfOk, IfSome, IsSome, OnOk, List, [], ◌∷◌, ◌++◌, append-nil, Option, Some, None, Result, Ok, Err, length, length-append, map, min, refl, sym, ◌∙◌, ap, subst}
+use Rattle.std.proofs.Common.{◌≡◌, ◌+◌, ◌*◌, ◌<◌, ℕ, suc, arith, Bool, true, false, IfOk, IfSome, IsSome, OnOk, List, [], ◌∷◌, ◌++◌, append-nil, Option, Some, None, Result, Ok, Err, length, length-append, map, min, refl, sym, ◌∙◌, ap, subst}
 use Rattle.std.proofs.lemmas.List.{append_assoc}
 use Rattle.vio_num.specs.Words.{Begins}
 use Rattle.vio_num.specs.declared.names.UnitId.{UnitId}
@@ -16,7 +16,7 @@ use Rattle.lan_switch.specs.declared.answers.LanAnswer.{LanAnswer}
 use Rattle.lan_switch.specs.declared.station.Station.{Station}
 use Rattle.lan_switch.specs.Calls.{Adds}
 use Rattle.lan_switch.specs.Switch.{AtPort, MadeAt, port_of}
-use Rattle.lan_script.specs.Buffers.{AddsAt, AddsBuffer, AddsBuffers, PostsStep, buffers_after, buffers_by, buffers_told, descriptor_of, line_buffers, posted_at, posted_of}
+use Rattle.lan_script.specs.Buffers.{AddsAt, AddsBuffer, AddsBuffers, PostsStep, buffers_after, buffers_by, descriptor_of, line_buffers, posted_at, posted_of}
 use Rattle.lan_script.specs.Invariant.{IsLan}
 use Rattle.lan_script.specs.PortCounts.{CountsOn, CountsStep, PortCounts, SameCounts, counts, counts_in, posted_on}
 use Rattle.lan_script.specs.Rows.{post_rows}

@@ -1,16 +1,15 @@
 -- The address of a port over a raw hypervisor call at it.
-use Rattle.std.proofs.Common.{◌≡◌, ℕ, List, Option, Some, None, Result, Ok, Err, IfOk, OnOk, refl, sym, ap, subst}
+use Rattle.std.proofs.Common.{◌≡◌, ℕ, None, Result, Ok, Err, IfOk, sym, subst}
 use Rattle.vio_num.specs.declared.hypervisor.Hrc.{Hrc}
 use Rattle.vio_num.specs.declared.memory.NoMemory.{NoMemory}
 use Rattle.vio_num.specs.declared.names.Mac.{Mac}
 use Rattle.vio_num.specs.declared.names.UnitId.{UnitId}
-use Rattle.vio_trace.specs.declared.outcome.Outcome.{Outcome}
 use Rattle.vio_trace.specs.declared.outcome.Outcome.TheVariants as outcomes
 use Rattle.hcall_table.specs.Asked.{bare}
 use Rattle.hcall_table.specs.declared.returned.Returned.{Returned}
 use Rattle.lan_script.specs.CalledMac.{low_mac, mac_called}
 use Rattle.lan_script.specs.OwnMac.{MovesMac, SameSettings, SetsMac, changed_to, mac_in}
-use Rattle.lan_script.specs.PortReplay.{CloseSays, MacSays, MulticastSays, PortReplay}
+use Rattle.lan_script.specs.PortReplay.{MacSays}
 use Rattle.lan_script.specs.Replayed.{ReplaysOn, SameReplays, replay_at}
 use Rattle.lan_script.specs.Units.{LanValue}
 use Rattle.lan_script.specs.declared.calls.PortCall.{PortCall}

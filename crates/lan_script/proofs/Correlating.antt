@@ -1,5 +1,5 @@
 -- That the buffers of a port keep their own addresses as their correlators.
-use Rattle.std.proofs.Common.{◌≡◌, ◌+◌, ◌/◌, ◌<◌, ◌^◌, ℕ, arith, All, Bool, false, IfOk, IsSome, OnOk, List, [], ◌∷◌, ◌++◌, Option, Some, None, Result, Ok, Err, length, map, get_or, refl, sym, ◌∙◌, ap, subst}
+use Rattle.std.proofs.Common.{◌≡◌, ◌+◌, ◌/◌, ◌<◌, ◌^◌, ℕ, arith, All, Bool, false, IfOk, IsSome, OnOk, List, [], ◌∷◌, ◌++◌, Option, Some, None, Result, Ok, Err, map, get_or, refl, sym, ◌∙◌, ap, subst}
 use Rattle.std.proofs.lemmas.List.Elements.{All-append, All-cons, All-nil}
 use Rattle.byteorder.specs.Endian.{big_bytes, big_number}
 use Rattle.byteorder.specs.Numbers.{big_number-reads_back}
@@ -25,7 +25,7 @@ use Rattle.lan_script.specs.Correlators.{CarriesAddress, CarryAddresses, KeepsAd
 use Rattle.lan_script.specs.Invariant.{IsLan, posted_at, posted_in}
 use Rattle.lan_script.specs.PortCounts.{CountsOn, CountsStep, PortCounts, SameCounts, counts, counts_in}
 use Rattle.lan_script.specs.Replayed.{Shows}
-use Rattle.lan_script.specs.Rows.{post_row_of, post_rows}
+use Rattle.lan_script.specs.Rows.{post_rows}
 use Rattle.lan_script.specs.Seats.{seat_at}
 use Rattle.lan_script.specs.Spent.{Grows}
 use Rattle.lan_script.specs.Taking.{TakesUpTo}

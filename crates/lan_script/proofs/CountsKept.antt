@@ -16,7 +16,7 @@ use Rattle.lan_switch.specs.Calls.{Harvests}
 use Rattle.lan_switch.specs.Switch.{AtPort, MadeAt, port_of}
 use Rattle.lan_script.specs.declared.lines.PortStep.{PortStep}
 use Rattle.lan_script.specs.declared.lines.PortStep.TheVariants as steps
-use Rattle.lan_script.specs.PortCounts.{CountsOn, CountsStep, PortCounts, SameCounts, TakesSome, TellsNoCount, counts, counts_after, counts_at, counts_by, counts_in, posted_on}
+use Rattle.lan_script.specs.PortCounts.{CountsOn, CountsStep, PortCounts, SameCounts, TakesSome, TellsNoCount, counts, counts_after, counts_by, counts_in, posted_on}
 use Rattle.lan_script.specs.Invariant.{IsLan}
 use Rattle.lan_script.specs.Seats.{is_in_region, seat_at}
 use Rattle.lan_script.specs.Taking.{harvested_on, taken_on}

@@ -9,7 +9,7 @@ use Rattle.lan_buffers.specs.Port.{PortValue}
 use Rattle.lan_switch.specs.declared.station.Station.{Station}
 use Rattle.lan_switch.specs.Switch.{port_of}
 use Rattle.lan_script.specs.declared.seat.PortSeat.{PortSeat}
-use Rattle.lan_script.specs.Rows.{numbered, port_in, port_or, sessions_from}
+use Rattle.lan_script.specs.Rows.{numbered, port_in, port_or}
 
 one_more : (n : ℕ) → suc n ≡ n + 1
 one_more n = omega arith

@@ -1,5 +1,5 @@
 -- What lines and calls put into the entries of a unit's window, which was taken for them and put back.
-use Rattle.std.proofs.Common.{◌≡◌, ◌++◌, ℕ, Bool, true, false, IsSome, IfSome, List, [], ◌∷◌, Option, Some, None, Result, Ok, Err, IfOk, OnOk, length, append-nil, refl, sym, ◌∙◌, ap, subst}
+use Rattle.std.proofs.Common.{◌≡◌, ◌++◌, ℕ, false, IsSome, IfSome, List, [], Option, Some, None, Result, Ok, Err, IfOk, OnOk, length, append-nil, refl, sym, ◌∙◌, ap, subst}
 use Rattle.vio_num.specs.Words.{Begins}
 use Rattle.vio_num.specs.declared.memory.NoMemory.{NoMemory}
 use Rattle.vio_num.specs.declared.names.UnitId.{UnitId}
@@ -9,9 +9,9 @@ use Rattle.hcall_table.specs.declared.returned.Returned.{Returned}
 use Rattle.tce_window.specs.PlainPort.{known_of}
 use Rattle.tce_window.specs.PortState.{PortState, port_at}
 use Rattle.tce_window.specs.Window.{WindowValue}
-use Rattle.unit_region.specs.EntryAnswers.{AnswersEntry}
+use Rattle.unit_region.specs.EntryAnswers.{AnswersEntry, ReadsList}
 use Rattle.unit_region.specs.Kept.{KeepsWindow}
-use Rattle.unit_region.specs.LinePuts.{StepPuts, is_put, put_by}
+use Rattle.unit_region.specs.LinePuts.{StepPuts, is_put}
 use Rattle.unit_region.specs.declared.entry_calls.EntryCall.{EntryCall}
 use Rattle.unit_region.specs.declared.entry_calls.EntryCall.TheVariants as entries
 use Rattle.unit_region.specs.declared.step.Step.{Step}
@@ -56,8 +56,30 @@ entry_seen unit ps qs own own' (entries.Put address value) returned h = record {
   parameter = h.parameter;
   put = record { values = h.put.values; held = h.put.held };
 }
-entry_seen unit ps qs own own' (entries.Stuff address value count) returned h = tt
-entry_seen unit ps qs own own' (entries.PutList address list count) returned h = tt
+entry_seen unit ps qs own own' (entries.Stuff address value count) returned h = record {
+  parameter = h.parameter;
+  put = λ good. record { values = (h.put good).values; held = (h.put good).held };
+}
+entry_seen unit ps qs own own' (entries.PutList address list count) returned h = record {
+  missing = h.missing;
+  refused = λ e is.
+      let refused = h.refused e is in
+      (read_seen refused.0, refused.1);
+  put = λ good.
+      let put = h.put good in
+      (read_seen put.0, record { values = put.1.values; held = put.1.held });
+}
+  where
+    read_seen : ReadsList (known_of own') list count → ReadsList (port_at (facts_of unit qs (Some own'))) list count
+    read_seen r = record {
+      bytes = r.bytes;
+      values = r.values;
+      count_is = r.count_is;
+      spelled = r.spelled;
+      read = λ some.
+          let read = r.read some in
+          record { inside = read.inside; there = read.there; bytes = read.bytes };
+    }
 
 -- a window's number of pages, where it is the unit's
 size_seen : (unit : UnitId) (lan : LanValue) (own : WindowValue) (seat : Option PortSeat) → window_in unit lan.places ≡ Some own

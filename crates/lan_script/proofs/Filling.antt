@@ -54,7 +54,7 @@ with_grows : (old : Option (List StrokeValue)) (more : List StrokeValue) → Gro
 with_grows (Some old) more = (more, refl)
 with_grows None more = tt
 
-laid_grows : (p : ℕ) (pieces : List Piece) (strokes : List StrokeValue) (old new : Option (List StrokeValue)) → IsLaid false p pieces strokes old new
+pub laid_grows : (p : ℕ) (pieces : List Piece) (strokes : List StrokeValue) (old new : Option (List StrokeValue)) → IsLaid false p pieces strokes old new
     → Grows true old new
 laid_grows p pieces strokes old new h =
     subst (Grows true old)

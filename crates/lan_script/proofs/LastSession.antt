@@ -1,5 +1,5 @@
 -- The rows that a trace has of one session of a port.
-use Rattle.std.proofs.Common.{◌≡◌, ◌≢◌, ◌+◌, ◌≤◌, ◌<◌, ◌==◌, ◌++◌, ℕ, zero, suc, arith, Bool, true, false, List, [], ◌∷◌, filter, length, length-append, map, refl, sym, ◌∙◌, ap}
+use Rattle.std.proofs.Common.{◌≡◌, ◌+◌, ◌≤◌, ◌<◌, ◌==◌, ℕ, zero, suc, arith, Bool, true, false, List, [], ◌∷◌, filter, length, length-append, map, refl, ◌∙◌, ap}
 use Rattle.std.specs.List.{flat_map}
 use Rattle.std.proofs.lemmas.Bool.{eqb-false, eqb-true}
 use Rattle.std.proofs.lemmas.List.Elements.{filter-append}

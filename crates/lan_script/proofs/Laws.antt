@@ -26,6 +26,7 @@ pub use Rattle.lan_script.proofs.Keys.{port_head, port_tail}
 pub use Rattle.lan_script.proofs.OwnMacs.{mac_same, sets_moves, target_for, weaker_mac}
 pub use Rattle.lan_script.proofs.Placing.{by_bool, one_unit, window_head, window_tail}
 pub use Rattle.lan_script.proofs.PortsGrow.{grows_same, grows_then}
+pub use Rattle.lan_script.proofs.RegionsGrow.{not_told, region_same, region_then, regions_placed, regions_then}
 pub use Rattle.lan_script.proofs.ReplayedLines.{names_own}
 pub use Rattle.lan_script.proofs.Resting.{on_open, ports_on, still_taken}
 pub use Rattle.lan_script.proofs.Targeting.{named_at, spent_on}

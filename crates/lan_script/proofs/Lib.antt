@@ -42,6 +42,8 @@ pub mod PortsGrow
 pub mod Posted
 pub mod PostRows
 pub mod RegionShown
+pub mod RegionMarks
+pub mod RegionsGrow
 pub mod ReplayedCalls
 pub mod ReplayedFilters
 pub mod ReplayedFits

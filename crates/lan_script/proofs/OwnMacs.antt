@@ -1,5 +1,5 @@
 -- The address of a port over each call at it, and over the steps of lines.
-use Rattle.std.proofs.Common.{◌≡◌, ◌⊎◌, inl, inr, true, false, ℕ, List, Option, Some, None, Result, Ok, Err, IfOk, OnOk, refl, sym, ◌∙◌, ap, subst}
+use Rattle.std.proofs.Common.{◌≡◌, ◌⊎◌, inl, inr, true, false, ℕ, Option, Some, None, Result, Ok, Err, IfOk, OnOk, refl, sym, ◌∙◌, ap, subst}
 use Rattle.std.specs.Option.{option_map}
 use Rattle.vio_num.specs.declared.hypervisor.Hrc.{Hrc}
 use Rattle.vio_num.specs.declared.hypervisor.Hrc.TheVariants.{Busy, Parameter, Success}
@@ -17,12 +17,11 @@ use Rattle.lan_frame.proofs.Laws.{broadcast_is_group}
 use Rattle.lan_buffers.specs.Port.{PortValue}
 use Rattle.lan_buffers.specs.declared.settings.Settings.{Settings}
 use Rattle.lan_switch.specs.declared.answers.LanAnswer.{LanAnswer}
-use Rattle.lan_switch.specs.Calls.{Controls, Registers}
-use Rattle.lan_script.specs.LineSays.{SendsAs}
+use Rattle.lan_switch.specs.Calls.{Registers}
 use Rattle.lan_script.specs.OwnMac.{HasMacOf, IsForGroup, MovesMac, SameSettings, SetsMac, SetsMacOf, StepsMac, changed_to, gives_mac, mac_in, mac_stepped}
-use Rattle.lan_script.specs.PortReplay.{CloseSays, Codes, MacSays, MulticastSays, PortReplay, with_mac}
+use Rattle.lan_script.specs.PortReplay.{CloseSays, MacSays, MulticastSays, PortReplay}
 use Rattle.lan_script.specs.Replayed.{AddSays, ReplaysOn, SameReplays, SentSays, replay_at, replay_of}
-use Rattle.lan_script.specs.Seats.{is_in_region, seat_at}
+use Rattle.lan_script.specs.Seats.{seat_at}
 use Rattle.lan_script.specs.Targets.{IsTarget}
 use Rattle.lan_script.specs.Units.{LanValue}
 use Rattle.lan_script.specs.declared.lines.PortStep.{PortStep}

@@ -1,5 +1,5 @@
 -- The entries of a unit's window that name their own pages, and the bytes of the frames that its lines send.
-use Rattle.std.proofs.Common.{◌≡◌, ◌+◌, ◌-◌, ◌*◌, ◌/◌, ◌==◌, ◌++◌, ℕ, arith, All, Bool, true, false, cond, not, IsSome, List, [], ◌∷◌, Option, Some, None, Result, Ok, Err, IfOk, OnOk, length, refl, sym, ◌∙◌, ap, subst}
+use Rattle.std.proofs.Common.{◌≡◌, ◌*◌, ◌/◌, ◌==◌, ◌++◌, ℕ, arith, All, Bool, true, false, cond, not, List, [], ◌∷◌, Option, Some, None, Result, Ok, Err, IfOk, OnOk, refl, sym, ◌∙◌, ap, subst}
 use Rattle.std.proofs.lemmas.Bool.Decides.{nat_tests}
 use Rattle.std.proofs.lemmas.List.Elements.{All-append, All-cons, All-nil}
 use Rattle.vio_num.specs.declared.hypervisor.Hrc.{Hrc}
@@ -22,7 +22,7 @@ use Rattle.lan_buffers.specs.declared.settings.Settings.{Settings}
 use Rattle.lan_script.specs.LineSays.{SaysSent, TellsNoFrame}
 use Rattle.lan_script.specs.OwnMac.{mac_at, mac_in}
 use Rattle.lan_script.specs.PortReplay.{PortReplay}
-use Rattle.lan_script.specs.Replayed.{GoesOut, GrantsAll, IsOnePart, SameReplays, SendsShown, bytes_sent, replay_at}
+use Rattle.lan_script.specs.Replayed.{GoesOut, IsOnePart, SameReplays, SendsShown, bytes_sent, replay_at}
 use Rattle.lan_script.specs.Units.{LanValue}
 use Rattle.lan_script.specs.Values.{AreOwn, KeepsValues, NamesOwn, SameValues, is_put, puts_other}
 use Rattle.lan_script.specs.Windows.{facts_in, facts_of, window_in, with_window}

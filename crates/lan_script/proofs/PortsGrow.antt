@@ -1,5 +1,5 @@
 -- That ports lose no session, no post and no delivery.
-use Rattle.std.proofs.Common.{◌≡◌, ◌≤◌, inl, inr, ℕ, arith, Bool, true, false, List, [], ◌∷◌, ◌++◌, append-nil, Option, Some, None, length, refl, sym, ◌∙◌, ap, subst, if◌then◌else◌}
+use Rattle.std.proofs.Common.{◌≡◌, inl, inr, ℕ, arith, Bool, true, false, List, [], ◌∷◌, ◌++◌, append-nil, Option, Some, None, length, refl, sym, ◌∙◌, ap, subst, if◌then◌else◌}
 use Rattle.std.specs.List.{flat_map}
 use Rattle.std.proofs.lemmas.List.{append_assoc}
 use Rattle.vio_num.specs.Words.{Begins}
@@ -13,7 +13,7 @@ use Rattle.lan_buffers.specs.declared.rows.PostRow.{PostRow as Post}
 use Rattle.lan_switch.specs.declared.answers.Offer.{Offer}
 use Rattle.lan_switch.specs.declared.answers.SendRecord.{SendRecord}
 use Rattle.lan_switch.specs.declared.station.Station.{Station}
-use Rattle.lan_switch.specs.Sending.{AreOffered, IsOfferedAt, IsSent, LanWindows, Offering, Takes, is_numbered, next_number, with_frames}
+use Rattle.lan_switch.specs.Sending.{AreOffered, IsOfferedAt, IsSent, LanWindows, Offering, is_numbered, next_number, with_frames}
 use Rattle.lan_switch.specs.Switch.{AtPort, port_of, same_unit, unit_of, with_port}
 use Rattle.lan_script.specs.Rows.{post_rows, posts_in, sessions_from}
 use Rattle.lan_script.specs.Spent.{AllGrow, Grows, PortGrows}

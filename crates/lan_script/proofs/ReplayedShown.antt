@@ -1,5 +1,5 @@
 -- That a frame which a line wrote and sent has the bytes that the line wrote.
-use Rattle.std.proofs.Common.{◌≡◌, ◌+◌, ◌*◌, ◌/◌, ◌<◌, ◌++◌, get_or, inl, inr, ℕ, arith, All, Bool, true, false, IfOk, IsSome, OnOk, List, [], ◌∷◌, Option, Some, None, IfSome, Result, Ok, Err, length, refl, sym, ◌∙◌, ap, subst, append-nil}
+use Rattle.std.proofs.Common.{◌≡◌, ◌+◌, ◌/◌, ◌++◌, get_or, inl, inr, ℕ, arith, All, Bool, true, false, IfOk, IsSome, OnOk, List, [], ◌∷◌, Option, Some, None, IfSome, Result, Ok, Err, sym, ◌∙◌, ap, subst, append-nil}
 use Rattle.vio_num.specs.declared.memory.NoMemory.{NoMemory}
 use Rattle.vio_num.specs.declared.names.Mac.{Mac}
 use Rattle.vio_num.specs.declared.names.UnitId.{UnitId}
@@ -16,8 +16,8 @@ use Rattle.lan_switch.specs.declared.answers.SendRecord.{SendRecord}
 use Rattle.lan_switch.specs.declared.station.Station.{Station}
 use Rattle.lan_switch.specs.Sending.{IsSent, LanWindows, OffersFrame, SaysFrame, is_numbered, next_number}
 use Rattle.lan_switch.specs.Switch.{port_of}
-use Rattle.lan_switch.specs.Source.{AreRead, OnlyReadThrough, parts_of}
-use Rattle.lan_script.specs.Replayed.{AddsBytes, GrantsAll, HasShown, IsOnePart, SameReplays, SendsShown, Shows, replay_at, settings_of}
+use Rattle.lan_switch.specs.Source.{AreRead, OnlyReadThrough}
+use Rattle.lan_script.specs.Replayed.{AddsBytes, HasShown, SameReplays, SendsShown, Shows, replay_at, settings_of}
 use Rattle.lan_script.specs.PortReplay.{PortReplay}
 use Rattle.lan_script.specs.Units.{LanValue}
 use Rattle.lan_script.specs.Values.{AreOwn}

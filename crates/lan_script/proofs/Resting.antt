@@ -1,11 +1,10 @@
 -- Ports that do nothing, and from which nothing is left to take.
-use Rattle.std.proofs.Common.{◌≡◌, ℕ, Bool, true, false, IfSome, IsSome, All, List, [], ◌∷◌, Option, Some, None, Result, refl, sym, ◌∙◌, ap, subst}
+use Rattle.std.proofs.Common.{◌≡◌, ℕ, true, false, IfSome, IsSome, All, List, [], ◌∷◌, Option, Some, None, Result, refl, sym, ◌∙◌, ap, subst}
 use Rattle.std.proofs.lemmas.List.Elements.{All-head, All-tail}
 use Rattle.vio_num.specs.declared.hypervisor.Moved.TheVariants.{Moved, Quiet}
 use Rattle.vio_num.specs.declared.memory.NoMemory.{NoMemory}
 use Rattle.vio_num.specs.declared.names.UnitId.{UnitId}
-use Rattle.lan_buffers.specs.Answers.{IfNothing}
-use Rattle.lan_buffers.specs.Calls.{IsOpen, ReadsNothing}
+use Rattle.lan_buffers.specs.Calls.{IsOpen}
 use Rattle.lan_buffers.specs.Port.{PortValue}
 use Rattle.lan_buffers.specs.declared.answers.Harvest.{Harvest}
 use Rattle.lan_buffers.specs.declared.answers.Harvest.TheVariants as harvests

@@ -1,5 +1,5 @@
 -- That posts which were all taken at some time are named by deliveries for good.
-use Rattle.std.proofs.Common.{◌≡◌, ◌+◌, ◌==◌, ◌<◌, ◌≤◌, ◌++◌, ℕ, zero, suc, arith, Bool, true, false, All, List, [], ◌∷◌, Option, Some, None, drop, filter, get_or, length, map, refl, sym, ◌∙◌, ap, subst}
+use Rattle.std.proofs.Common.{◌≡◌, ◌+◌, ◌==◌, ◌<◌, ◌≤◌, ◌++◌, ℕ, zero, suc, arith, Bool, true, false, All, List, [], ◌∷◌, Some, drop, filter, get_or, length, map, refl, sym, ◌∙◌, ap, subst}
 use Rattle.std.specs.List.{Contains, flat_map, slice_get}
 use Rattle.std.proofs.lemmas.Bool.{eq-eqb, eqb-true}
 use Rattle.std.proofs.lemmas.Bool.Decides.{nat_tests}
@@ -8,7 +8,7 @@ use Rattle.std.proofs.lemmas.List.Elements.{All-cons, All-contains, All-nil, Con
 use Rattle.std.proofs.lemmas.Option.{slice_get-get_or}
 use Rattle.vio_num.specs.Words.{Begins}
 use Rattle.vio_num.specs.declared.names.UnitId.{UnitId}
-use Rattle.lan_buffers.specs.Pools.{has_length, numbers_from, post_len, posted, taken, waiting}
+use Rattle.lan_buffers.specs.Pools.{has_length, numbers_from, post_len, posted, taken}
 use Rattle.lan_buffers.specs.Port.{IsLawfulPort, PortValue, session_of}
 use Rattle.lan_buffers.specs.declared.rows.DeliverRow.{DeliverRow as Delivery}
 use Rattle.lan_buffers.specs.declared.rows.PostRow.{PostRow as Post}

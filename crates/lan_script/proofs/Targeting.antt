@@ -1,8 +1,8 @@
 -- To which ports a frame that is sent is offered, by where they stand in their replays.
-use Rattle.std.proofs.Common.{◌≡◌, ◌⊎◌, ◌≤◌, ◌+◌, ◌<◌, ◌==◌, ◌++◌, inl, inr, ℕ, suc, arith, Bool, true, false, true≢false, All, IfOk, IsSomeAnd, IsTrue, List, [], ◌∷◌, Option, Some, None, Result, Ok, Err, filter, length, map, slice_get, refl, sym, ◌∙◌, ap, subst}
+use Rattle.std.proofs.Common.{◌≡◌, ◌⊎◌, ◌≤◌, ◌+◌, ◌<◌, ◌==◌, ◌++◌, inl, inr, ℕ, arith, Bool, true, false, true≢false, All, IfOk, IsSomeAnd, IsTrue, List, [], ◌∷◌, Option, Some, None, Result, Ok, Err, filter, length, map, slice_get, refl, sym, ◌∙◌, ap, subst}
 use Rattle.std.proofs.lemmas.Bool.{eqb-true}
 use Rattle.std.proofs.lemmas.List.{append-nil, append_assoc}
-use Rattle.std.proofs.lemmas.List.Elements.{All-append, All-cons, All-head, All-nil, All-tail}
+use Rattle.std.proofs.lemmas.List.Elements.{All-cons, All-head, All-nil, All-tail}
 use Rattle.vio_num.specs.Words.{Begins}
 use Rattle.vio_num.specs.declared.memory.NoMemory.{NoMemory}
 use Rattle.vio_num.specs.declared.names.Mac.{Mac}
@@ -11,7 +11,7 @@ use Rattle.tce_window.specs.declared.piece.Piece.{Piece}
 use Rattle.tce_window.specs.PortState.{PortState}
 use Rattle.lan_buffers.specs.Buffer.{frame_offset}
 use Rattle.lan_buffers.specs.Calls.{AcceptsTo, FindsNoBuffer, FindsNoSize}
-use Rattle.lan_buffers.specs.Pools.{has_size, post_len, sizes_of, sizes_with, with_size}
+use Rattle.lan_buffers.specs.Pools.{has_size, post_len, sizes_with, with_size}
 use Rattle.lan_buffers.specs.Port.{PortValue, now as session_now}
 use Rattle.lan_buffers.specs.declared.rows.PostRow.{PostRow as Post}
 use Rattle.lan_buffers.specs.declared.answers.Deliver.{Deliver}
@@ -28,7 +28,7 @@ use Rattle.vio_trace.specs.declared.lan_rows.Offered.{Offered}
 use Rattle.vio_trace.specs.declared.lan_rows.Offered.TheVariants as offered
 use Rattle.lan_script.specs.Frames.{frame_row_of, offered_as}
 use Rattle.lan_script.specs.PortReplay.{PortReplay}
-use Rattle.lan_script.specs.Replayed.{bytes_sent, lengths_of, replay_at, replay_of, settings_of}
+use Rattle.lan_script.specs.Replayed.{bytes_sent, lengths_of, replay_of}
 use Rattle.lan_script.specs.Targets.{GoesNoLater, IsTarget, OffersAt, OffersMade, OffersTo, SpentFor, least_for, offers_to}
 use Rattle.lan_script.specs.RowsOf.{CountsRows}
 use Rattle.lan_script.specs.declared.rows.LanRows.{LanRows}

@@ -15,6 +15,7 @@ pub mod PortCounts
 pub mod PortLaw
 pub mod PortReplay
 pub mod PortRows
+pub mod Regions
 pub mod Replayed
 pub mod Resting
 pub mod Rows

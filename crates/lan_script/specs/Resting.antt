@@ -1,5 +1,5 @@
 -- Ports that do nothing, and from which nothing is left to take.
-use Rattle.std.specs.Prelude.{◌≡◌, ℕ, Option, IfSome, length, ⊤}
+use Rattle.std.specs.Prelude.{◌≡◌, Option, IfSome, length, ⊤}
 use Rattle.std.specs.Option.{option_map}
 use Rattle.vio_num.specs.declared.hypervisor.Moved.{Moved}
 use Rattle.vio_num.specs.declared.hypervisor.Moved.TheVariants.{Quiet}

@@ -10,6 +10,7 @@ ghost use Rattle.lan_script.specs.CalledMac.{low_mac, mac_called};
 ghost use Rattle.lan_script.specs.Entries.{CallsEntry, CallsOne, ValuesGrow};
 ghost use Rattle.lan_script.specs.OwnMac.{MovesMac, SetsMac, changed_to};
 ghost use Rattle.lan_script.specs.PortReplay.{MacSays, MulticastSays};
+ghost use Rattle.lan_script.specs.Regions.{LaysNoOwn, RegionsGrow};
 ghost use Rattle.lan_script.specs.Replayed.{ClosesAt, OpensAt, ReplaysOn, SameBeside, SameReplays, replay_at};
 ghost use Rattle.lan_script.specs.Resting.{SamePorts};
 ghost use Rattle.lan_script.specs.Seats.{seat_at};
@@ -56,7 +57,7 @@ pub enum PortCall {
 
 impl Lan {
     /// Makes a call on a unit.
-    #[tactic(auto, using(crate::proofs::EntriesPut::grows_placed, crate::proofs::EntriesPut::grows_same, crate::proofs::ReplayedValues::same_values, crate::proofs::ReplayedValues::same_beside, crate::proofs::ReplayedValues::values_beside_all))]
+    #[tactic(auto, using(crate::proofs::EntriesPut::grows_placed, crate::proofs::EntriesPut::grows_same, crate::proofs::RegionsGrow::regions_placed, crate::proofs::RegionMarks::marks_placed, crate::proofs::ReplayedValues::same_values, crate::proofs::ReplayedValues::same_beside, crate::proofs::ReplayedValues::values_beside_all))]
     pub fn call(&mut self, unit: UnitId, call: PortCall) -> Result<Returned, NoMemory>
         requires there { IsSome (seat_at self.old.seats unit) }
         ensures seats { self.new.seats ≡ self.old.seats }
@@ -72,6 +73,8 @@ impl Lan {
         ensures others { OnOk result (SameValuesBeside unit self.old self.new) }
         ensures entry { IfOk result (CallsEntry unit call self.old self.new) }
         ensures grows { OnOk result (ValuesGrow unit self.old self.new) }
+        ensures regions { OnOk result (RegionsGrow self.old self.new) }
+        ensures marks { OnOk result (LaysNoOwn self.old self.new) }
     {
         match call {
             PortCall::Entry(call) => self.entry_call(unit, call),
@@ -108,6 +111,8 @@ impl Lan {
         ensures others { SameValuesBeside unit self.old self.new }
         ensures entry { IfOk result (CallsOne unit call self.old self.new) }
         ensures grows { ValuesGrow unit self.old self.new }
+        ensures regions { RegionsGrow self.old self.new }
+        ensures marks { LaysNoOwn self.old self.new }
     {
         let mut own = self.windows.take(unit);
         let returned = make_entry_call(self.alloc, &mut own, call);

@@ -8,11 +8,14 @@ ghost use Rattle.lan_script.specs.LineBytes.{PutsOn, StepsBytes};
 ghost use Rattle.lan_script.specs.LineSays.{SendsAs, TellsNoFrame};
 ghost use Rattle.lan_script.specs.OwnMac.{StepsMac};
 ghost use Rattle.lan_script.specs.PortCounts.{CountsStep, SameCounts, TellsNoCount};
+ghost use Rattle.lan_script.specs.Regions.{LaysLine, PortTold, RegionsGrow};
 ghost use Rattle.lan_script.specs.Replayed.{IsFirst, Replays, SameBeside, SameReplays};
 ghost use Rattle.lan_script.specs.Seats.{TellsOfPort, TellsOfRegion, is_for_port, is_in_region, seat_at};
 ghost use Rattle.lan_script.specs.Taking.{StaysWithin};
 ghost use Rattle.lan_script.specs.Values.{NamesOwn, SameValues, SameValuesBeside, is_put, puts_other};
 ghost use Rattle.unit_region.specs.Kept.{KeepsWindow};
+ghost use Rattle.unit_region.specs.Marks.{LaysUnder};
+ghost use Rattle.unit_region.specs.RegionLines.{StepTold, region_seen};
 
 use crate::lan::Lan;
 use boot_text::{Line, Verb};
@@ -79,7 +82,7 @@ impl PortStep {
 
 impl Lan {
     /// One step of a line at a unit. `done` is how far it came in earlier turns.
-    #[tactic(auto, using(crate::proofs::ReplayedValues::same_values, crate::proofs::ReplayedValues::same_beside, crate::proofs::ReplayedValues::values_beside_all))]
+    #[tactic(auto, using(crate::proofs::RegionsGrow::regions_placed, crate::proofs::RegionsGrow::regions_ok, crate::proofs::RegionMarks::marks_placed, crate::proofs::ReplayedValues::same_values, crate::proofs::ReplayedValues::same_beside, crate::proofs::ReplayedValues::values_beside_all))]
     pub fn step(&mut self, unit: UnitId, line: &Line, done: u64) -> Result<PortStep, NoMemory>
         requires there { IsSome (seat_at self.old.seats unit) }
         requires port { is_for_port line.now.verb ≡ true }
@@ -106,6 +109,10 @@ impl Lan {
         ensures others { OnOk result (SameValuesBeside unit self.old self.new) }
         ensures puts { IfOk result (λ step.
             PortPuts line.now.verb step (values_at self.old unit) (values_at self.new unit)) }
+        ensures regions { OnOk result (RegionsGrow self.old self.new) }
+        ensures marks { OnOk result (LaysLine unit line.now.number self.old self.new) }
+        ensures shows { IfOk result (λ step.
+            PortTold unit line.now.number line.now.verb step self.new) }
     {
         let mark = u64::from(line.number);
         match &line.verb {
@@ -160,6 +167,10 @@ impl Lan {
         ensures others { SameValuesBeside unit self.old self.new }
         ensures puts { IfOk result (λ step.
             PortPuts line.now.verb step (values_at self.old unit) (values_at self.new unit)) }
+        ensures regions { RegionsGrow self.old self.new }
+        ensures marks { LaysLine unit line.now.number self.old self.new }
+        ensures shows { IfOk result (λ step.
+            PortTold unit line.now.number line.now.verb step self.new) }
     {
         let mut own = self.windows.take(unit);
         let step = step_in(self.alloc, &mut own, line);
@@ -175,8 +186,11 @@ fn step_in<O: OwnerPort>(alloc: Global, own: &mut O, line: &Line) -> Result<Step
     ensures window { KeepsWindow O.is_shared (O.state own.old) (O.state own.new) }
     ensures values { is_put line.now.verb ≡ false
         → (O.state own.new).values ≡ (O.state own.old).values }
+    ensures marks { LaysUnder O.is_shared line.now.number (O.state own.old) (O.state own.new) }
     ensures puts { IfOk result (PutsOn line.now.verb
         (O.state own.old) (O.state own.new)) }
+    ensures shows { IfOk result (StepTold (region_seen (O.state own.new).strokes)
+        (O.state own.old).place.size (O.state own.old).place.unit line.now.number line.now.verb) }
     ensures told { IfOk result TellsOfRegion }
 {
     let mark = u64::from(line.number);

@@ -14,6 +14,7 @@ ghost use Rattle.lan_script.specs.OwnMac.{SameSettings};
 ghost use Rattle.lan_script.specs.PortCounts.{CountsOn, CountsStep, counts, posted_on};
 ghost use Rattle.lan_buffers.specs.Buffer.{IsBuffer, buffer_address, buffer_len, is_valid};
 ghost use Rattle.lan_script.specs.PortReplay.{IsBufferLen};
+ghost use Rattle.lan_script.specs.Regions.{LaysLine, LaysNoOwn, RegionsGrow};
 ghost use Rattle.lan_script.specs.Replayed.{AddSays, FitsOne, GrantsAll, HasPages, Replays, ReplaysOn, SameBeside};
 ghost use Rattle.lan_script.specs.Seats.{TellsOfPort, seat_at};
 ghost use Rattle.lan_script.specs.Values.{NamesOwn, SameValues};
@@ -32,6 +33,7 @@ const CORRELATOR: u64 = 8;
 impl Lan {
     // Posts buffers of `len` bytes from the address on, of which `done` were posted before. It stops at the first that
     // is refused.
+    #[tactic(auto, using(crate::proofs::RegionsGrow::regions_placed, crate::proofs::RegionsGrow::regions_then, crate::proofs::RegionMarks::marks_placed))]
     pub(crate) fn post_line(
         &mut self,
         unit: UnitId,
@@ -59,6 +61,8 @@ impl Lan {
             → OnOk result (KeepsAddresses unit self.old self.new) }
         ensures beside { OnOk result (SameBeside unit self.old self.new) }
         ensures values { OnOk result (SameValues self.old self.new) }
+        ensures regions { OnOk result (RegionsGrow self.old self.new) }
+        ensures marks { OnOk result (LaysLine unit mark self.old self.new) }
     {
         for posted in done..count {
             match self.post_one(unit, buffer_at(at, len, posted), len, mark)? {
@@ -98,6 +102,8 @@ impl Lan {
             → OnOk result (KeepsAddresses unit self.old self.new) }
         ensures grants { GrantsAll self.old unit → OnOk result (GrantsAll self.new unit) }
         ensures values { OnOk result (SameValues self.old self.new) }
+        ensures regions { OnOk result (RegionsGrow self.old self.new) }
+        ensures marks { OnOk result (LaysLine unit mark self.old self.new) }
     {
         let Some(address) = address else {
             return Ok(Hrc::Parameter);
@@ -161,6 +167,8 @@ impl Lan {
             → OnOk result (KeepsAddresses unit self.old self.new) }
         ensures grants { GrantsAll self.old unit → OnOk result (GrantsAll self.new unit) }
         ensures values { OnOk result (SameValues self.old self.new) }
+        ensures regions { OnOk result (RegionsGrow self.old self.new) }
+        ensures marks { OnOk result (LaysNoOwn self.old self.new) }
     {
         self.make_room(unit)?;
         let mut own = self.windows.take(unit);

@@ -8,6 +8,7 @@ ghost use Rattle.hcall_table.specs.Rows.{may_answer};
 ghost use Rattle.hcall_table.specs.declared.hcall.Hcall.TheVariants as rows;
 ghost use Rattle.tce_window.specs.Answers.{IfInUse};
 ghost use Rattle.lan_script.specs.Invariant.{Owes};
+ghost use Rattle.lan_script.specs.Regions.{LaysLine, LaysNoOwn, RegionsGrow};
 ghost use Rattle.lan_script.specs.Replayed.{AddsBytes, GoesOut, GrantsAll, HasPages, HasShown, Replays, ReplaysOn, SameBeside, SameReplays, SendsShown, SentSays, Shows, replay_at};
 ghost use Rattle.lan_script.specs.Seats.{TellsOfPort, seat_at};
 ghost use Rattle.lan_script.specs.Values.{NamesOwn, SameValues};
@@ -41,6 +42,7 @@ const HEAD: u64 = 14;
 
 impl Lan {
     // Writes a frame of `len` bytes at an address of the region, under the mark of a line, and sends it as one part.
+    #[tactic(auto, using(crate::proofs::RegionMarks::marks_placed))]
     pub(crate) fn send_line(
         &mut self,
         unit: UnitId,
@@ -65,6 +67,8 @@ impl Lan {
             StepsBytes unit (verbs.Send to len seed at) step self.old self.new) }
         ensures beside { OnOk result (SameBeside unit self.old self.new) }
         ensures values { OnOk result (SameValues self.old self.new) }
+        ensures regions { OnOk result (RegionsGrow self.old self.new) }
+        ensures marks { OnOk result (LaysLine unit mark self.old self.new) }
     {
         if !self.has_range(unit, at, len) {
             return Ok(PortStep::Ends(Outcome::Range));
@@ -113,6 +117,8 @@ impl Lan {
             → length bytes.now ≤ 65536 → ¬ IsErrOf result OwnFault.Range }
         ensures grants { GrantsAll self.old unit → GrantsAll self.new unit }
         ensures values { SameValues self.old self.new }
+        ensures regions { RegionsGrow self.old self.new }
+        ensures marks { LaysLine unit mark self.old self.new }
         ensures shown { OnOk result (Shows self.new.places unit at bytes.now) }
     {
         let mut own = self.windows.take(unit);
@@ -134,6 +140,8 @@ impl Lan {
         ensures goes { IfOk result (λ sent.
             GoesOut self.old unit parts.now sent.code sent.number) }
         ensures values { OnOk result (SameValues self.old self.new) }
+        ensures regions { OnOk result (RegionsGrow self.old self.new) }
+        ensures marks { OnOk result (LaysNoOwn self.old self.new) }
         ensures shown { IfOk result (λ sent.
             SendsShown unit parts.now sent.number self.old self.new) }
     {
@@ -159,6 +167,8 @@ impl Lan {
         ensures goes { IfOk result (λ made.
             GoesOut self.old unit parts.now made.code made.frame) }
         ensures values { OnOk result (SameValues self.old self.new) }
+        ensures regions { OnOk result (RegionsGrow self.old self.new) }
+        ensures marks { OnOk result (LaysNoOwn self.old self.new) }
         ensures shown { IfOk result (λ made.
             IsSome made.frame → HasShown self.old unit parts.now made.bytes) }
     {

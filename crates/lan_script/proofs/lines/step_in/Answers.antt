@@ -1,6 +1,10 @@
-use Rattle.std.proofs.Common.{ap}
+use Rattle.std.proofs.Common.{ap, rules, ◌≡◌, ℕ, List, IfOk, subst}
 use Rattle.lan_script.specs.Values.{is_put}
 use Rattle.lan_script.proofs.OwnPages.{puts_is, puts_none}
+use Rattle.unit_region.proofs.Laws.{fill_told, peek_told, poke_told, tce_told, none_under}
+use Rattle.unit_region.specs.Answers.{AnswersWrite}
+use Rattle.unit_region.specs.Pattern.{pattern}
+use Rattle.unit_region.specs.Marks.{LaysUnder}
 use Rattle.lan_script.proofs.lines.step_in.Goals as goal
 
 pub returns-in-Fill-clause-puts : goal.returns-in-Fill-clause-puts
@@ -15,3 +19,49 @@ returns-in-Peek-clause-puts g c = puts_none c.args.line.now.verb c.peek.result _
 pub returns-in-Tce-clause-puts : goal.returns-in-Tce-clause-puts
 returns-in-Tce-clause-puts g c =
     puts_is c.args.line.now.verb c.in-Tce.entry c.in-Tce.page c.in-Tce.readable c.in-Tce.writable c.put_tce.result _ _ c.in-Tce.is c.put_tce.ensures.answer
+
+pub returns-in-Fill-clause-shows : goal.returns-in-Fill-clause-shows
+returns-in-Fill-clause-shows g c =
+    let mark : c.from-mark.result ≡ c.args.line.now.number = search rules in
+    fill_told g.O.WindowPort.is_shared (g.O.WindowPort.state c.args.own.now) (g.O.WindowPort.state c.fill.new.own) c.in-Fill.at c.in-Fill.len c.in-Fill.seed
+    c.args.line.now.number c.args.line.now.verb c.fill.result c.in-Fill.is
+    (subst (λ n. IfOk c.fill.result (AnswersWrite g.O.WindowPort.is_shared (g.O.WindowPort.state c.args.own.now) (g.O.WindowPort.state c.fill.new.own) c.in-Fill.at
+    (pattern c.in-Fill.seed c.in-Fill.len) n)) mark c.fill.ensures.answer)
+
+pub returns-in-Poke-clause-shows : goal.returns-in-Poke-clause-shows
+returns-in-Poke-clause-shows g c =
+    let mark : c.from-mark.result ≡ c.args.line.now.number = search rules in
+    poke_told g.O.WindowPort.is_shared (g.O.WindowPort.state c.args.own.now) (g.O.WindowPort.state c.poke.new.own) c.in-Poke.at c.in-Poke.bytes
+    c.args.line.now.number c.args.line.now.verb c.poke.result c.in-Poke.is
+    (subst (λ n. IfOk c.poke.result (AnswersWrite g.O.WindowPort.is_shared (g.O.WindowPort.state c.args.own.now) (g.O.WindowPort.state c.poke.new.own) c.in-Poke.at
+    c.in-Poke.bytes n)) mark
+    (subst (λ (bytes : List ℕ). IfOk c.poke.result (AnswersWrite g.O.WindowPort.is_shared (g.O.WindowPort.state c.args.own.now) (g.O.WindowPort.state c.poke.new.own) c.in-Poke.at bytes c.from-mark.result))
+    c.as_slice.ensures c.poke.ensures.answer))
+
+pub returns-in-Peek-clause-shows : goal.returns-in-Peek-clause-shows
+returns-in-Peek-clause-shows g c =
+    peek_told (g.O.WindowPort.state c.args.own.now) (g.O.WindowPort.state c.peek.new.own) c.in-Peek.at c.in-Peek.len c.args.line.now.number
+    c.args.line.now.verb c.peek.result c.in-Peek.is c.peek.ensures.rest.place c.peek.ensures.answer
+
+pub returns-in-Tce-clause-shows : goal.returns-in-Tce-clause-shows
+returns-in-Tce-clause-shows g c =
+    tce_told (g.O.WindowPort.state c.args.own.now) (g.O.WindowPort.state c.put_tce.new.own) c.in-Tce.entry c.in-Tce.page c.in-Tce.readable c.in-Tce.writable
+    c.args.line.now.number c.args.line.now.verb c.put_tce.result c.in-Tce.is c.put_tce.ensures.answer
+
+pub returns-in-Fill-clause-marks : goal.returns-in-Fill-clause-marks
+returns-in-Fill-clause-marks g c =
+    let mark : c.from-mark.result ≡ c.args.line.now.number = search rules in
+    subst (λ n. LaysUnder g.O.WindowPort.is_shared n (g.O.WindowPort.state c.args.own.now) (g.O.WindowPort.state c.fill.new.own)) mark c.fill.ensures.marks
+
+pub returns-in-Poke-clause-marks : goal.returns-in-Poke-clause-marks
+returns-in-Poke-clause-marks g c =
+    let mark : c.from-mark.result ≡ c.args.line.now.number = search rules in
+    subst (λ n. LaysUnder g.O.WindowPort.is_shared n (g.O.WindowPort.state c.args.own.now) (g.O.WindowPort.state c.poke.new.own)) mark c.poke.ensures.marks
+
+pub returns-in-Peek-clause-marks : goal.returns-in-Peek-clause-marks
+returns-in-Peek-clause-marks g c =
+    none_under g.O.WindowPort.is_shared c.args.line.now.number (g.O.WindowPort.state c.args.own.now) (g.O.WindowPort.state c.peek.new.own) c.peek.ensures.marks
+
+pub returns-in-Tce-clause-marks : goal.returns-in-Tce-clause-marks
+returns-in-Tce-clause-marks g c =
+    none_under g.O.WindowPort.is_shared c.args.line.now.number (g.O.WindowPort.state c.args.own.now) (g.O.WindowPort.state c.put_tce.new.own) c.put_tce.ensures.marks

@@ -20,6 +20,9 @@ use Rattle.lan_script.proofs.ReplayedRegion.{grants_back}
 use Rattle.lan_script.proofs.ReplayedValues.{put_back}
 use Rattle.lan_script.specs.Values.{KeepsValues}
 use Rattle.lan_script.specs.declared.windows.Place.{Place}
+use Rattle.lan_script.proofs.RegionsGrow.{regions_back, regions_behind}
+use Rattle.lan_script.proofs.RegionMarks.{marks_behind, none_back, through_none}
+use Rattle.lan_script.specs.Regions.{IsNoMark}
 use Rattle.lan_script.proofs.lan.Lan.add.Goals as goal
 
 abbrev none_found : ℕ → ℕ → Type 0
@@ -106,3 +109,19 @@ returns-clause-addresses c = λ names shows carry.
     c.add-answer.new.window c.self.view_is c.self.invariant
     (subst (λ (l : List PortSeat). IsSome (seat_at l c.args.unit)) (sym c.make_room.ensures.seats) c.requires.there) c.take-own.ensures.window
     c.add-answer.ensures.window c.add-answer.ensures.made c.make_room.ensures.places c.make_room.ensures.counts names shows carry
+
+pub returns-clause-regions : goal.returns-clause-regions
+returns-clause-regions c =
+    let there = subst (λ (l : List PortSeat). IsSome (seat_at l c.args.unit)) (sym c.make_room.ensures.seats) c.requires.there in
+    let free = window_free _ c.make_room.new.self c.args.unit c.take-own.result c.self.view_is c.self.invariant there c.take-own.ensures.window in
+    regions_behind c.args.self.now c.make_room.new.self c.put.new.self c.make_room.ensures.places
+    (regions_back _ c.make_room.new.self c.args.unit c.take-own.new.self c.put.new.self c.take-own.result c.add-answer.new.window c.self.view_is
+    c.take-own.ensures.window c.take-own.ensures.rest c.put.ensures
+    (keeps_through (known_of c.take-own.result) (known_of c.add-answer.new.window) c.add-answer.ensures.window free))
+
+pub returns-clause-marks : goal.returns-clause-marks
+returns-clause-marks c =
+    marks_behind IsNoMark c.args.self.now c.make_room.new.self c.put.new.self c.make_room.ensures.places
+    (none_back _ c.make_room.new.self c.args.unit c.take-own.new.self c.put.new.self c.take-own.result c.add-answer.new.window c.self.view_is
+    c.take-own.ensures.window c.take-own.ensures.rest c.put.ensures
+    (through_none (known_of c.take-own.result) (known_of c.add-answer.new.window) c.add-answer.ensures.window))

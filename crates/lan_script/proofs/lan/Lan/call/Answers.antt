@@ -1,9 +1,7 @@
-use Rattle.std.proofs.Common.{ap, refl}
 use Rattle.lan_script.specs.Replayed.{replay_at}
-use Rattle.lan_script.specs.Values.{is_entry_call}
-use Rattle.lan_script.proofs.CalledMacs.{called_change, called_entry, called_none, called_register, called_same}
-use Rattle.lan_script.proofs.EntriesPut.{entry_is, no_entry}
-use Rattle.lan_script.proofs.OwnMacs.{adds_settings, closes_mac, multicasts_mac, sent_settings}
+use Rattle.lan_script.proofs.CalledMacs.{called_change, called_entry, called_none, called_register}
+use Rattle.lan_script.proofs.EntriesPut.{entry_is}
+use Rattle.lan_script.proofs.OwnMacs.{closes_mac, multicasts_mac}
 use Rattle.lan_script.proofs.lan.Lan.call.Goals as goal
 
 pub returns-in-Entry-clause-macs : goal.returns-in-Entry-clause-macs

@@ -1,6 +1,8 @@
 use Rattle.lan_script.proofs.EntriesPut.{entry_back, grows_back}
 use Rattle.lan_script.proofs.Lans.{lan_back, place_after, window_there}
 use Rattle.lan_script.proofs.ReplayedValues.{put_beside}
+use Rattle.lan_script.proofs.RegionsGrow.{regions_back}
+use Rattle.lan_script.proofs.RegionMarks.{none_back}
 use Rattle.lan_script.proofs.lan.Lan.entry_call.Goals as goal
 
 pub take-own-requires : goal.take-own-requires
@@ -28,3 +30,13 @@ pub returns-clause-grows : goal.returns-clause-grows
 returns-clause-grows c =
     grows_back _ c.args.self.now c.args.unit c.take-own.new.self c.put.new.self c.take-own.result c.make-returned.new.own c.self.view_is c.take-own.ensures.window
     c.take-own.ensures.rest c.put.ensures c.make-returned.ensures.window
+
+pub returns-clause-regions : goal.returns-clause-regions
+returns-clause-regions c =
+    regions_back _ c.args.self.now c.args.unit c.take-own.new.self c.put.new.self c.take-own.result c.make-returned.new.own c.self.view_is c.take-own.ensures.window
+    c.take-own.ensures.rest c.put.ensures c.make-returned.ensures.window
+
+pub returns-clause-marks : goal.returns-clause-marks
+returns-clause-marks c =
+    none_back _ c.args.self.now c.args.unit c.take-own.new.self c.put.new.self c.take-own.result c.make-returned.new.own c.self.view_is c.take-own.ensures.window
+    c.take-own.ensures.rest c.put.ensures c.make-returned.ensures.marks

@@ -10,6 +10,8 @@ use Rattle.lan_script.proofs.ReplayedSends.{goes_all}
 use Rattle.lan_script.proofs.ReplayedShown.{sends_shown}
 use Rattle.lan_script.proofs.ReplayedValues.{sends_values}
 use Rattle.lan_script.proofs.Targeting.{sends_targets}
+use Rattle.lan_script.proofs.RegionsGrow.{regions_sent}
+use Rattle.lan_script.proofs.RegionMarks.{marks_sent}
 use Rattle.lan_script.proofs.lan.Lan.offer.Goals as goal
 
 abbrev none_found : ℕ → ℕ → Type 0
@@ -117,3 +119,33 @@ returns-clause-targets c =
     sends_targets _ c.args.self.now c.send-answer.new.self c.args.unit c.args.parts.now false none_found (known_of c.take-own.result)
     (known_of c.send-answer.new.window) (windows_of false facts_in FoundIn c.take-own.new.self c.send-answer.new.others) c.send-answer.result c.self.view_is
     (whole_sends _ c.args.self.now c.args.unit c.self.view_is c.self.invariant c.requires.whole c.requires.there).ascending c.self.invariant.begun c.send-answer.ensures.sent
+
+pub returns-clause-regions : goal.returns-clause-regions
+returns-clause-regions c =
+    regions_sent _ c.args.self.now c.send-answer.new.self c.args.unit c.args.parts.now c.take-own.new.self c.send-answer.new.others c.put.new.self
+    c.take-own.result c.send-answer.new.window none_found c.send-answer.result c.self.view_is
+    (whole_sends _ c.args.self.now c.args.unit c.self.view_is c.self.invariant c.requires.whole c.requires.there)
+    (lending c.self.inside.windows c.args.unit c.take-own.new.self c.send-answer.new.others c.put.new.self c.take-own.result c.send-answer.new.window c.take-own.ensures.window
+    c.take-own.ensures.unit c.take-own.ensures.rest c.put.ensures
+    (place_lent c.args.unit c.self.inside.windows c.take-own.new.self c.send-answer.new.others c.take-own.result c.take-own.ensures.window
+    c.take-own.ensures.rest
+    (sent_untouched c.self.inside.switch c.send-answer.new.self c.args.unit c.args.parts.now false none_found (known_of c.take-own.result)
+    (known_of c.send-answer.new.window) (windows_of false facts_in FoundIn c.take-own.new.self c.send-answer.new.others) c.send-answer.result
+    c.send-answer.ensures.sent c.send-answer.ensures.failed))
+    (window_free _ c.args.self.now c.args.unit c.take-own.result c.self.view_is c.self.invariant c.requires.there c.take-own.ensures.window)
+    c.send-answer.ensures.window) c.send-answer.ensures.sent
+
+pub returns-clause-marks : goal.returns-clause-marks
+returns-clause-marks c =
+    marks_sent _ c.args.self.now c.send-answer.new.self c.args.unit c.args.parts.now c.take-own.new.self c.send-answer.new.others c.put.new.self
+    c.take-own.result c.send-answer.new.window none_found c.send-answer.result c.self.view_is
+    (whole_sends _ c.args.self.now c.args.unit c.self.view_is c.self.invariant c.requires.whole c.requires.there)
+    (lending c.self.inside.windows c.args.unit c.take-own.new.self c.send-answer.new.others c.put.new.self c.take-own.result c.send-answer.new.window c.take-own.ensures.window
+    c.take-own.ensures.unit c.take-own.ensures.rest c.put.ensures
+    (place_lent c.args.unit c.self.inside.windows c.take-own.new.self c.send-answer.new.others c.take-own.result c.take-own.ensures.window
+    c.take-own.ensures.rest
+    (sent_untouched c.self.inside.switch c.send-answer.new.self c.args.unit c.args.parts.now false none_found (known_of c.take-own.result)
+    (known_of c.send-answer.new.window) (windows_of false facts_in FoundIn c.take-own.new.self c.send-answer.new.others) c.send-answer.result
+    c.send-answer.ensures.sent c.send-answer.ensures.failed))
+    (window_free _ c.args.self.now c.args.unit c.take-own.result c.self.view_is c.self.invariant c.requires.there c.take-own.ensures.window)
+    c.send-answer.ensures.window) c.send-answer.ensures.window c.send-answer.ensures.sent

@@ -14,6 +14,9 @@ use Rattle.vio_num.specs.declared.hypervisor.Hrc.TheVariants.{Success}
 use Rattle.vio_trace.specs.declared.outcome.Outcome.TheVariants as outcomes
 use Rattle.lan_script.specs.declared.lines.PortStep.TheVariants as steps
 use Rattle.lan_script.proofs.ReplayedPosts.{posts_more}
+use Rattle.lan_script.proofs.RegionsGrow.{regions_then}
+use Rattle.lan_script.proofs.RegionMarks.{marks_then}
+use Rattle.lan_script.specs.Regions.{IsLineMark}
 use Rattle.lan_script.proofs.lan.Lan.post_line.Goals as goal
 
 pub loop-posted-preserved : goal.loop-posted-preserved
@@ -33,6 +36,8 @@ loop-posted-preserved c = record {
   within = λ e. omega (arith, c.loop-posted-test.true);
   beside = λ other e. c.in_ok-code.ensures.replays.beside other e ∙ c.loop-posted.invariant.beside other e;
   values = λ v e. c.in_ok-code.ensures.values v e ∙ c.loop-posted.invariant.values v e;
+  regions = regions_then c.args.self.now c.loop-posted.self c.post_one.new.self c.loop-posted.invariant.regions c.in_ok-code.ensures.regions;
+  marks = marks_then (IsLineMark c.args.unit c.args.mark) c.args.self.now c.loop-posted.self c.post_one.new.self c.loop-posted.invariant.marks c.in_ok-code.ensures.marks;
   addresses = then_carries c.args.unit c.args.self.now c.loop-posted.self c.post_one.new.self c.loop-posted.invariant.values c.loop-posted.invariant.addresses
       c.in_ok-code.ensures.addresses;
   adds = adds_more c.args.unit c.args.at c.args.len c.args.done c.args.count c.loop-posted.posted c.buffer_at.result c.in_ok-code.code c.args.self.now
@@ -85,6 +90,8 @@ returns-in_default c =
       addresses = then_carries c.args.unit c.args.self.now c.loop-posted.self c.post_one.new.self c.loop-posted.invariant.values c.loop-posted.invariant.addresses
           c.in_ok-code.ensures.addresses;
       values = λ v e. c.in_ok-code.ensures.values v e ∙ c.loop-posted.invariant.values v e;
+      regions = regions_then c.args.self.now c.loop-posted.self c.post_one.new.self c.loop-posted.invariant.regions c.in_ok-code.ensures.regions;
+      marks = marks_then (IsLineMark c.args.unit c.args.mark) c.args.self.now c.loop-posted.self c.post_one.new.self c.loop-posted.invariant.marks c.in_ok-code.ensures.marks;
     }
 
 pub returns-in-Busy-clause-values : goal.returns-in-Busy-clause-values
@@ -94,3 +101,11 @@ pub returns-in-Busy-clause-addresses : goal.returns-in-Busy-clause-addresses
 returns-in-Busy-clause-addresses c =
     then_carries c.args.unit c.args.self.now c.loop-posted.self c.post_one.new.self c.loop-posted.invariant.values c.loop-posted.invariant.addresses
     c.in_ok-code.ensures.addresses
+
+pub returns-in-Busy-clause-regions : goal.returns-in-Busy-clause-regions
+returns-in-Busy-clause-regions c =
+    regions_then c.args.self.now c.loop-posted.self c.post_one.new.self c.loop-posted.invariant.regions c.in_ok-code.ensures.regions
+
+pub returns-in-Busy-clause-marks : goal.returns-in-Busy-clause-marks
+returns-in-Busy-clause-marks c =
+    marks_then (IsLineMark c.args.unit c.args.mark) c.args.self.now c.loop-posted.self c.post_one.new.self c.loop-posted.invariant.marks c.in_ok-code.ensures.marks

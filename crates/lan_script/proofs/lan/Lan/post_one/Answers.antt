@@ -8,6 +8,9 @@ use Rattle.lan_script.proofs.CountsKept.{adds_behind}
 use Rattle.lan_script.proofs.ReplayedFits.{fits_tail}
 use Rattle.lan_script.proofs.ReplayedPosts.{add_tail}
 use Rattle.lan_script.proofs.ReplayedValues.{then_values}
+use Rattle.lan_script.proofs.RegionsGrow.{regions_next}
+use Rattle.lan_script.proofs.RegionMarks.{marks_next}
+use Rattle.lan_script.specs.Regions.{IsLineMark}
 use Rattle.lan_script.proofs.lan.Lan.post_one.Goals as goal
 
 pub returns-in-Ok-clause-fits : goal.returns-in-Ok-clause-fits
@@ -49,3 +52,10 @@ pub returns-in-Ok-clause-replays : goal.returns-in-Ok-clause-replays
 returns-in-Ok-clause-replays c =
     add_tail c.args.unit c.descriptor.result c.args.len c.add.result c.args.self.now c.write.new.self c.add.new.self c.descriptor.ensures.valid
     c.descriptor.ensures.len c.write.ensures.replays c.add.ensures.replays
+
+pub returns-in-Ok-clause-regions : goal.returns-in-Ok-clause-regions
+returns-in-Ok-clause-regions c = regions_next c.args.self.now c.write.new.self c.add.new.self c.add.result c.write.ensures.regions c.add.ensures.regions
+
+pub returns-in-Ok-clause-marks : goal.returns-in-Ok-clause-marks
+returns-in-Ok-clause-marks c =
+    marks_next (IsLineMark c.args.unit c.args.mark) c.args.self.now c.write.new.self c.add.new.self c.add.result c.write.ensures.marks c.add.ensures.marks

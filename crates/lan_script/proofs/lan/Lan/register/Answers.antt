@@ -1,4 +1,4 @@
-use Rattle.std.proofs.Common.{◌∙◌, List, IsSome, Some, ap, sym, subst}
+use Rattle.std.proofs.Common.{◌∙◌, List, IsSome, ap, sym, subst}
 use Rattle.lan_switch.specs.Calls.{Registers}
 use Rattle.lan_script.specs.declared.seat.PortSeat.{PortSeat}
 use Rattle.lan_script.specs.Seats.{seat_at}

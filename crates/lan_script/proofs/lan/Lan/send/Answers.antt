@@ -3,6 +3,9 @@ use Rattle.lan_script.proofs.ReplayedSends.{goes_kept, send_behind}
 use Rattle.lan_script.proofs.ReplayedShown.{kept_shown}
 use Rattle.lan_script.proofs.ReplayedValues.{kept_values}
 use Rattle.lan_script.proofs.Telling.{sent_kept}
+use Rattle.lan_script.proofs.RegionsGrow.{regions_kept}
+use Rattle.lan_script.proofs.RegionMarks.{marks_kept}
+use Rattle.lan_script.specs.Regions.{IsNoMark}
 use Rattle.lan_script.proofs.lan.Lan.send.Goals as goal
 
 pub returns-clause-counts : goal.returns-clause-counts
@@ -29,3 +32,10 @@ pub returns-clause-shown : goal.returns-clause-shown
 returns-clause-shown c =
     kept_shown c.args.unit c.args.parts.now c.in_ok-made.made c.keep.result c.args.self.now c.offer.new.self c.keep.new.self c.in_ok-made.ensures.replays
     c.in_ok-made.ensures.shown c.keep.ensures.number c.keep.ensures.adds
+
+pub returns-clause-regions : goal.returns-clause-regions
+returns-clause-regions c = regions_kept c.args.self.now c.offer.new.self c.keep.new.self c.keep.result c.in_ok-made.ensures.regions c.keep.ensures.places
+
+pub returns-clause-marks : goal.returns-clause-marks
+returns-clause-marks c =
+    marks_kept IsNoMark c.args.self.now c.offer.new.self c.keep.new.self c.keep.result c.in_ok-made.ensures.marks c.keep.ensures.places

@@ -6,6 +6,9 @@ use Rattle.lan_script.proofs.OwnPages.{no_bytes_here, send_bytes}
 use Rattle.lan_script.proofs.OwnMacs.{same_settings, sent_settings}
 use Rattle.lan_script.proofs.ReplayedLines.{one_part, send_goes}
 use Rattle.lan_script.proofs.Telling.{sends_said, sent_behind}
+use Rattle.lan_script.proofs.RegionsGrow.{regions_then}
+use Rattle.lan_script.proofs.RegionMarks.{marks_none, marks_then}
+use Rattle.lan_script.specs.Regions.{IsLineMark}
 use Rattle.lan_script.proofs.lan.Lan.send_line.Goals as goal
 
 pub returns-clause-counts : goal.returns-clause-counts
@@ -59,3 +62,11 @@ pub returns-clause-macs : goal.returns-clause-macs
 returns-clause-macs c =
     sent_settings c.args.unit c.in_ok-sent.sent.code c.in_ok-sent.sent.number c.write.new.self c.send.new.self c.in_ok-sent.ensures.replays
     ∙ same_settings c.args.unit c.args.self.now c.write.new.self c.write.ensures.replays
+
+pub returns-clause-regions : goal.returns-clause-regions
+returns-clause-regions c = regions_then c.args.self.now c.write.new.self c.send.new.self c.write.ensures.regions c.in_ok-sent.ensures.regions
+
+pub returns-clause-marks : goal.returns-clause-marks
+returns-clause-marks c =
+    marks_then (IsLineMark c.args.unit c.args.mark) c.args.self.now c.write.new.self c.send.new.self c.write.ensures.marks
+    (marks_none (IsLineMark c.args.unit c.args.mark) c.write.new.self c.send.new.self c.in_ok-sent.ensures.marks)

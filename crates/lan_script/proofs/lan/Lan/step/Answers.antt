@@ -1,4 +1,4 @@
-use Rattle.std.proofs.Common.{◌≡◌, ap}
+use Rattle.std.proofs.Common.{ap, rules, ◌≡◌, OnOk, subst}
 use Rattle.lan_script.proofs.Buffering.{counts_ok, is_posting, not_posting, other_ok, other_posts, same_posted, take_ok}
 use Rattle.lan_script.proofs.Correlating.{carry_here, carry_ok, carry_taken}
 use Rattle.lan_script.specs.OwnMac.{gives_mac}
@@ -8,6 +8,9 @@ use Rattle.lan_script.proofs.EntriesPut.{puts_placed, puts_same}
 use Rattle.lan_script.specs.Values.{is_put}
 use Rattle.std.proofs.Common.{Ok}
 use Rattle.lan_script.proofs.OwnPages.{bytes_ok, names_placed, names_same, names_still, no_bytes, no_bytes_here}
+use Rattle.lan_script.proofs.RegionsGrow.{told_apart, told_ok}
+use Rattle.lan_script.specs.Seats.{is_in_region}
+use Rattle.lan_script.specs.Regions.{LaysLine}
 use Rattle.lan_script.proofs.lan.Lan.step.Goals as goal
 
 pub returns-in-Open-clause-posts : goal.returns-in-Open-clause-posts
@@ -177,3 +180,41 @@ returns-in-Multicast-clause-addresses c = carry_here c.args.unit c.args.self.now
 pub returns-in_default-clause-addresses : goal.returns-in_default-clause-addresses
 returns-in_default-clause-addresses c = carry_ok c.args.unit c.step_in_region.result c.args.self.now c.step_in_region.new.self
     (counts_ok c.step_in_region.result c.args.self.now c.step_in_region.new.self c.step_in_region.ensures.counts)
+
+pub returns-in-Open-clause-shows : goal.returns-in-Open-clause-shows
+returns-in-Open-clause-shows c =
+    told_ok c.args.unit c.args.line.now.number c.args.line.now.verb c.open_line.result c.open_line.new.self (ap is_in_region c.in-Open.is)
+
+pub returns-in-Post-clause-shows : goal.returns-in-Post-clause-shows
+returns-in-Post-clause-shows c =
+    told_ok c.args.unit c.args.line.now.number c.args.line.now.verb c.post_line.result c.post_line.new.self (ap is_in_region c.in-Post.is)
+
+pub returns-in-Send-clause-shows : goal.returns-in-Send-clause-shows
+returns-in-Send-clause-shows c =
+    told_ok c.args.unit c.args.line.now.number c.args.line.now.verb c.send_line.result c.send_line.new.self (ap is_in_region c.in-Send.is)
+
+pub returns-in-Take-clause-shows : goal.returns-in-Take-clause-shows
+returns-in-Take-clause-shows c =
+    told_ok c.args.unit c.args.line.now.number c.args.line.now.verb c.take_line.result c.take_line.new.self (ap is_in_region c.in-Take.is)
+
+pub returns-in-Close-clause-shows : goal.returns-in-Close-clause-shows
+returns-in-Close-clause-shows c =
+    told_apart c.args.unit c.args.line.now.number c.args.line.now.verb c.coded.result c.free.new.self (ap is_in_region c.in-Close.is)
+
+pub returns-in-ChangeMac-clause-shows : goal.returns-in-ChangeMac-clause-shows
+returns-in-ChangeMac-clause-shows c =
+    told_apart c.args.unit c.args.line.now.number c.args.line.now.verb c.coded-in-ChangeMac.result c.change_mac.new.self (ap is_in_region c.in-ChangeMac.is)
+
+pub returns-in-Multicast-clause-shows : goal.returns-in-Multicast-clause-shows
+returns-in-Multicast-clause-shows c =
+    told_apart c.args.unit c.args.line.now.number c.args.line.now.verb c.coded-in-Multicast.result c.multicast.new.self (ap is_in_region c.in-Multicast.is)
+
+pub returns-in-Post-clause-marks : goal.returns-in-Post-clause-marks
+returns-in-Post-clause-marks c =
+    let mark : c.from-mark.result ≡ c.args.line.now.number = search rules in
+    subst (λ n. OnOk c.post_line.result (LaysLine c.args.unit n c.args.self.now c.post_line.new.self)) mark c.post_line.ensures.marks
+
+pub returns-in-Send-clause-marks : goal.returns-in-Send-clause-marks
+returns-in-Send-clause-marks c =
+    let mark : c.from-mark.result ≡ c.args.line.now.number = search rules in
+    subst (λ n. OnOk c.send_line.result (LaysLine c.args.unit n c.args.self.now c.send_line.new.self)) mark c.send_line.ensures.marks

@@ -1,8 +1,11 @@
 use Rattle.std.proofs.Common.{ℕ, List, ap}
+use Rattle.lan_script.specs.Units.{LanValue}
 use Rattle.lan_script.proofs.EntriesPut.{puts_back}
 use Rattle.lan_script.proofs.Lans.{lan_back, place_after, window_there}
 use Rattle.lan_script.proofs.ReplayedValues.{put_back, put_beside}
 use Rattle.lan_script.proofs.OwnPages.{region_back}
+use Rattle.lan_script.proofs.RegionsGrow.{regions_back, told_back}
+use Rattle.lan_script.proofs.RegionMarks.{line_back}
 use Rattle.lan_script.proofs.lan.Lan.step_in_region.Goals as goal
 
 pub take-own-requires : goal.take-own-requires
@@ -49,3 +52,29 @@ pub returns-clause-puts : goal.returns-clause-puts
 returns-clause-puts c =
     puts_back c.args.line.now.verb c.in_ok-step.field-0 c.of.result _ c.args.self.now c.args.unit c.take-own.new.self c.put.new.self c.take-own.result c.step_in-step.new.own
     c.self.view_is c.take-own.ensures.window c.take-own.ensures.rest c.put.ensures c.step_in-step.ensures.values c.in_ok-step.ensures.puts c.of.ensures.same
+
+pub returns-clause-regions : goal.returns-clause-regions
+returns-clause-regions c =
+    regions_back _ c.args.self.now c.args.unit c.take-own.new.self c.put.new.self c.take-own.result c.step_in-step.new.own c.self.view_is c.take-own.ensures.window
+    c.take-own.ensures.rest c.put.ensures c.step_in-step.ensures.window
+
+pub returns-in_err-step-clause-regions : goal.returns-in_err-step-clause-regions
+returns-in_err-step-clause-regions c =
+    regions_back _ c.args.self.now c.args.unit c.take-own.new.self c.put.new.self c.take-own.result c.step_in-step.new.own c.self.view_is c.take-own.ensures.window
+    c.take-own.ensures.rest c.put.ensures c.step_in-step.ensures.window
+
+pub returns-clause-shows : goal.returns-clause-shows
+returns-clause-shows c =
+    told_back _ c.args.self.now _ c.args.unit c.args.line.now.number c.args.line.now.verb c.in_ok-step.field-0 c.of.result c.take-own.new.self c.take-own.result
+    c.step_in-step.new.own c.self.view_is c.self.invariant c.requires.there c.take-own.ensures.window c.take-own.ensures.unit c.take-own.ensures.rest c.put.ensures
+    (ap (λ (l : LanValue). l.seats) c.self.view_is) c.in_ok-step.ensures.shows c.of.ensures.same
+
+pub returns-clause-marks : goal.returns-clause-marks
+returns-clause-marks c =
+    line_back _ c.args.self.now c.args.unit c.args.line.now.number c.take-own.new.self c.put.new.self c.take-own.result c.step_in-step.new.own c.self.view_is
+    c.take-own.ensures.window c.take-own.ensures.rest c.put.ensures c.step_in-step.ensures.marks
+
+pub returns-in_err-step-clause-marks : goal.returns-in_err-step-clause-marks
+returns-in_err-step-clause-marks c =
+    line_back _ c.args.self.now c.args.unit c.args.line.now.number c.take-own.new.self c.put.new.self c.take-own.result c.step_in-step.new.own c.self.view_is
+    c.take-own.ensures.window c.take-own.ensures.rest c.put.ensures c.step_in-step.ensures.marks

@@ -1,4 +1,4 @@
-use Rattle.std.proofs.Common.{◌∙◌, ◌+◌, ℕ, ap, arith, subst, sym}
+use Rattle.std.proofs.Common.{◌∙◌, ℕ, ap, arith, subst}
 use Rattle.lan_script.specs.PortCounts.{CountsOn, counts}
 use Rattle.lan_script.specs.Taking.{taken_on}
 use Rattle.lan_script.specs.declared.taking.Taken.{Taken}

@@ -1,4 +1,4 @@
-use Rattle.std.proofs.Common.{◌∙◌, arith, refl}
+use Rattle.std.proofs.Common.{◌∙◌, arith}
 use Rattle.lan_script.proofs.CountsKept.{takes_on}
 use Rattle.lan_script.proofs.Replaying.{same_on}
 use Rattle.lan_script.proofs.Resting.{none_behind, not_quiet}
