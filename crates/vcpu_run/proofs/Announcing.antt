@@ -1,11 +1,13 @@
 -- What the calls of an end put into the partner's queue, one behind the other.
-use Rattle.std.proofs.Common.{◌≡◌, ◌∙◌, inl, inr, ℕ, ◌+◌, ◌≤◌, zero, suc, Bool, true, false, List, [], ◌∷◌, ◌++◌, Option, Some, None, IfSome, IsSome, length, slice_get, refl, sym, ap, subst, arith, append-nil, append_assoc}
+use Rattle.std.proofs.Common.{◌≡◌, ◌∙◌, ◌⊎◌, inl, inr, ℕ, ◌+◌, ◌≤◌, zero, suc, Bool, true, false, List, [], ◌∷◌, ◌++◌, Option, Some, None, IfSome, IsSome, length, slice_get, refl, sym, ap, subst, arith, append-nil, append_assoc}
+use Rattle.std.proofs.lemmas.List.{append_cancel_left}
+use Rattle.std.proofs.lemmas.List.Elements.{All-append, All-cons, All-nil}
 use Rattle.vio_num.specs.Entry.{first_byte}
 use Rattle.vio_num.specs.declared.entry.Entry.{Entry}
 use Rattle.crq_ring.specs.declared.rows.PipeRow.{PipeRow}
 use Rattle.std.specs.Borrow.{GName}
-use Rattle.crq_session.specs.Answered.{FindsFull, FindsInUse, Frees, HoldsUp, LosesKept, Opens, Pushes, Puts, PutsNone, Sends, Settles, StillKept, TurnsBack}
-use Rattle.crq_session.specs.Answers.{IfClosed, IfDropped, IfHeldUp, IfInUse, IfSent, OnFreed, OnNotFreed, OnNotRegistered, OnNotSent, OnOpened}
+use Rattle.crq_session.specs.Answered.{FindsFull, FindsInUse, Frees, HoldsUp, LosesKept, MaySend, Opens, Pushes, Puts, PutsNone, Sends, Settles, StillKept, TurnsBack}
+use Rattle.crq_session.specs.Answers.{IfClosed, IfDropped, IfHeldUp, IfInUse, IfSent, OnFreed, OnNotFreed, OnNotRegistered, OnNotSent, OnOpened, OnReached}
 use Rattle.crq_session.specs.declared.answers.FreeAnswer.{FreeAnswer}
 use Rattle.crq_session.specs.declared.answers.FreeAnswer.TheVariants as free
 use Rattle.crq_session.specs.declared.answers.RegAnswer.{RegAnswer}
@@ -17,7 +19,7 @@ use Rattle.crq_session.specs.declared.link.PlainLink.{PlainLink}
 use Rattle.crq_session.specs.EndState.{EndPlace, EndState, OnlyPushes, OnlyReserves, OnlySends}
 use Rattle.vscsi_client.specs.Frames.{HasMore, IsOpened, KeepsEnd, OnlyTurns, Renews}
 use Rattle.vcpu_run.specs.Freed.{FreesNone}
-use Rattle.vcpu_run.specs.Announces.{IsAmong, IsOnItsWay, IsTold, Announces}
+use Rattle.vcpu_run.specs.Announces.{Announces, HaveEvents, IsAmong, IsOnItsWay, IsTold, KeepsEvent}
 
 pub both_bools : (b : Bool) → b ≡ true → b ≡ false → ⊥
 both_bools b t f = cc
@@ -40,6 +42,16 @@ behind_there (x ∷ xs) ys n =
     let e : length (x ∷ xs) + n ≡ suc (length xs + n) = omega arith in
     ap (slice_get (x ∷ (xs ++ ys))) e ∙ behind_there xs ys n
 
+no_events : HaveEvents []
+no_events = All-nil (λ (row : PipeRow). first_byte row.entry ≡ 0xFF)
+
+one_event : (row : PipeRow) → first_byte row.entry ≡ 0xFF → HaveEvents (row ∷ [])
+one_event row says = All-cons (λ (row : PipeRow). first_byte row.entry ≡ 0xFF) row [] says no_events
+
+-- no rows stand behind rows that are all
+none_behind : (xs ys : List PipeRow) → xs ++ ys ≡ xs → ys ≡ []
+none_behind xs ys same = append_cancel_left xs ys [] (same ∙ sym (append-nil xs))
+
 -- nothing was put, and the registration and the kept event are as before
 pub puts_none : (a b : EndState) → b.sent ≡ a.sent → b.kept ≡ a.kept → b.registered ≡ a.registered → Announces a b
 puts_none a b sent kept registered = record {
@@ -47,6 +59,8 @@ puts_none a b sent kept registered = record {
   sent = sent ∙ sym (append-nil a.sent);
   kept = λ event is on. inl (record { freed = registered ∙ is.freed; there = kept ∙ is.there });
   freed = λ was off on. absurd (both_bools a.registered was (sym registered ∙ off));
+  says = λ is event there. is event (sym kept ∙ there);
+  off = λ is gone on. inl no_events;
 }
 
 pub puts_same : (a : EndState) → Announces a a
@@ -55,17 +69,19 @@ puts_same a = puts_none a a refl refl refl
 pub puts_reserves : (a b : EndState) → OnlyReserves a b → Announces a b
 puts_reserves a b r = puts_none a b r.sent r.kept r.registered
 
--- more was put, and they are as before
-pub puts_more : (a b : EndState) → HasMore a.sent b.sent → b.kept ≡ a.kept → b.registered ≡ a.registered → Announces a b
-puts_more a b more kept registered = record {
+-- more was put, and they are as before; while the queue was not registered, none was
+pub puts_more : (a b : EndState) → HasMore a.sent b.sent → b.kept ≡ a.kept → b.registered ≡ a.registered → (a.registered ≡ false → b.sent ≡ a.sent) → Announces a b
+puts_more a b more kept registered unsent = record {
   rows = more.rows;
   sent = more.is;
   kept = λ event is on. inl (record { freed = registered ∙ is.freed; there = kept ∙ is.there });
   freed = λ was off on. absurd (both_bools a.registered was (sym registered ∙ off));
+  says = λ is event there. is event (sym kept ∙ there);
+  off = λ is gone on. inl (subst HaveEvents (sym (none_behind a.sent more.rows (sym more.is ∙ unsent (sym registered ∙ gone)))) no_events);
 }
 
 pub puts_keeps : (shared : Bool) (a b : EndState) → KeepsEnd shared a b → Announces a b
-puts_keeps shared a b k = puts_more a b k.sent k.kept k.registered
+puts_keeps shared a b k = puts_more a b k.sent k.kept k.registered k.unsent
 
 -- one call behind another, with the partner in the same session
 among_front : (event : Entry) (q q' : ℕ) (rows more : List PipeRow) → q' ≡ q → IsAmong event q rows → IsAmong event q' (rows ++ more)
@@ -93,6 +109,8 @@ puts_on a b c place session first next = record {
   sent = next.sent ∙ (ap (λ (rows : List PipeRow). rows ++ next.rows) first.sent ∙ append_assoc a.sent first.rows next.rows);
   kept = λ event is on. way_on event on (first.kept event is on);
   freed = λ was off on. freed was off on b.registered refl;
+  says = λ is. next.says (first.says is);
+  off = λ is off on. gone is off on b.registered refl;
 }
   where
     way_behind : (event : Entry) → IsOnItsWay event next.rows c → IsOnItsWay event (first.rows ++ next.rows) c
@@ -111,19 +129,44 @@ puts_on a b c place session first next = record {
         let told = first.freed was e on in
         (told.0, told.1, way_on told.0 on told.2)
 
+    told_first : a.place.partner_registered ≡ true → IsTold first.rows b → IsTold (first.rows ++ next.rows) c
+    told_first on told = (told.0, told.1, way_on told.0 on told.2)
+
+    told_next : IsTold next.rows c → IsTold (first.rows ++ next.rows) c
+    told_next told = (told.0, told.1, way_behind told.0 told.2)
+
+    both : a.place.partner_registered ≡ true → HaveEvents first.rows ⊎ IsTold first.rows b → HaveEvents next.rows ⊎ IsTold next.rows c
+        → HaveEvents (first.rows ++ next.rows) ⊎ IsTold (first.rows ++ next.rows) c
+    both on (inl events) (inl more) = inl (All-append (λ (row : PipeRow). first_byte row.entry ≡ 0xFF) first.rows next.rows events more)
+    both on (inr told) more = inr (told_first on told)
+    both on (inl events) (inr told) = inr (told_next told)
+
+    gone : KeepsEvent a.kept → c.registered ≡ false → a.place.partner_registered ≡ true → (r : Bool) → b.registered ≡ r
+        → HaveEvents (first.rows ++ next.rows) ⊎ IsTold (first.rows ++ next.rows) c
+    gone is off on true e = inr (told_next (next.freed e off (place ∙ on)))
+    gone is off on false e = both on (first.off is e on) (next.off (first.says is) off (place ∙ on))
+
 -- the first of these rows
 first_among : (entry : Entry) (session q : ℕ) → session ≡ q → IsAmong entry q (record { session = session; entry = entry } ∷ [])
 first_among entry session q same = record { number = 0; row = record { session = session; entry = entry }; there = refl; session_is = same; entry_is = refl }
 
+kept_none : (kept : Option Entry) → kept ≡ None → KeepsEvent kept
+kept_none kept none event there = absurd (no_some event (sym none ∙ there))
+
+kept_some : (kept : Option Entry) (entry : Entry) → kept ≡ Some entry → first_byte entry ≡ 0xFF → KeepsEvent kept
+kept_some kept entry some says event there = subst (λ (e : Entry). first_byte e ≡ 0xFF) (entry_is entry event (sym some ∙ there)) says
+
 -- the own queue was registered
-opens_settled : (shared : Bool) (a b : EndState) (kept : Option Entry) → shared ≡ false → a.kept ≡ kept → Settles shared kept a b → b.registered ≡ true → Announces a b
-opens_settled shared a b None alone was none on = record {
+opens_settled : (shared : Bool) (a b : EndState) (kept : Option Entry) → shared ≡ false → a.kept ≡ kept → Settles shared kept a b → b.registered ≡ true → b.kept ≡ None → Announces a b
+opens_settled shared a b None alone was none on gone = record {
   rows = [];
   sent = none.sent ∙ sym (append-nil a.sent);
   kept = λ event is partner. absurd (no_some event (sym was ∙ is.there));
   freed = λ before off partner. absurd (both_bools b.registered on off);
+  says = λ is. kept_none b.kept gone;
+  off = λ is off partner. absurd (both_bools b.registered on off);
 }
-opens_settled shared a b (Some entry) alone was settles on = elim settles as (λ _. Announces a b) [
+opens_settled shared a b (Some entry) alone was settles on gone = elim settles as (λ _. Announces a b) [
   | inl puts ↦ record {
     rows = record { session = b.counts.partner_session; entry = entry } ∷ [];
     sent = puts.sent;
@@ -131,17 +174,21 @@ opens_settled shared a b (Some entry) alone was settles on = elim settles as (λ
         inr (subst (λ (e : Entry). IsAmong e b.counts.partner_session (record { session = b.counts.partner_session; entry = entry } ∷ [])) (entry_is entry event (sym was ∙ is.there))
         (first_among entry b.counts.partner_session b.counts.partner_session refl));
     freed = λ before off partner. absurd (both_bools b.registered on off);
+    says = λ is. kept_none b.kept gone;
+    off = λ is off partner. absurd (both_bools b.registered on off);
   }
   | inr loses ↦ record {
     rows = [];
     sent = loses.none.sent ∙ sym (append-nil a.sent);
     kept = λ event is partner. absurd (both_bools a.place.partner_registered partner (loses.meets.partner alone));
     freed = λ before off partner. absurd (both_bools b.registered on off);
+    says = λ is. kept_none b.kept gone;
+    off = λ is off partner. absurd (both_bools b.registered on off);
   }
 ]
 
 pub puts_opens : (shared : Bool) (a b : EndState) → shared ≡ false → Opens shared a b → Announces a b
-puts_opens shared a b alone opens = opens_settled shared a b a.kept alone refl opens.settles opens.registered
+puts_opens shared a b alone opens = opens_settled shared a b a.kept alone refl opens.settles opens.registered opens.kept
 
 pub puts_held : (shared : Bool) (a b : EndState) (number held : ℕ) → HoldsUp shared a b number held → Announces a b
 puts_held shared a b number held up = puts_none a b up.kept.full.sent up.kept.kept (up.still ∙ sym up.unregistered)
@@ -159,6 +206,8 @@ puts_freed shared a b event alone says frees = elim frees.tells as (λ _. Announ
     sent = put.0.sent;
     kept = λ other is on. absurd (both_bools a.registered frees.registered is.freed);
     freed = λ was off on. (event, says, inr (first_among event b.counts.partner_session b.counts.partner_session refl));
+    says = λ is. kept_none b.kept put.1;
+    off = λ is off on. inr (event, says, inr (first_among event b.counts.partner_session b.counts.partner_session refl));
   }
   | inr later ↦ elim later as (λ _. Announces a b) [
     | inl keeps ↦ record {
@@ -166,12 +215,16 @@ puts_freed shared a b event alone says frees = elim frees.tells as (λ _. Announ
       sent = keeps.full.sent ∙ sym (append-nil a.sent);
       kept = λ other is on. absurd (both_bools a.registered frees.registered is.freed);
       freed = λ was off on. (event, says, inl (record { freed = frees.freed; there = keeps.kept }));
+      says = λ is. kept_some b.kept event keeps.kept says;
+      off = λ is off on. inr (event, says, inl (record { freed = frees.freed; there = keeps.kept }));
     }
     | inr lost ↦ record {
       rows = [];
       sent = lost.0.none.sent ∙ sym (append-nil a.sent);
       kept = λ other is on. absurd (both_bools a.registered frees.registered is.freed);
       freed = λ was off on. absurd (both_bools a.place.partner_registered on (lost.0.meets.partner alone));
+      says = λ is. kept_none b.kept lost.1;
+      off = λ is off on. absurd (both_bools a.place.partner_registered on (lost.0.meets.partner alone));
     }
   ]
 ]
@@ -223,7 +276,7 @@ pub puts_at : (f g : Bool) (a b : List GName) (old new : PlainLink) → f ≡ fa
 puts_at f g a b old new is place puts = at f g is (ap (λ (p : EndPlace). p.first) place ∙ is) puts
   where
     here : Announces (end_of a old false) (end_of b new false) → Announces (end_of [] old false) (end_of [] new false)
-    here p = record { rows = p.rows; sent = p.sent; kept = p.kept; freed = p.freed }
+    here p = record { rows = p.rows; sent = p.sent; kept = p.kept; freed = p.freed; says = p.says; off = p.off }
 
     at : (d d' : Bool) → d ≡ false → d' ≡ false → Announces (end_of a old d) (end_of b new d') → Announces (end_of [] old false) (end_of [] new false)
     at false false e e' p = here p
@@ -247,6 +300,8 @@ puts_pushes a b rest pushes = at a.kept refl pushes.puts
           inr (subst (λ (t : Entry). IsAmong t b.counts.partner_session (record { session = b.counts.partner_session; entry = entry } ∷ [])) (entry_is entry event (sym e ∙ is.there))
           (first_among entry b.counts.partner_session b.counts.partner_session refl));
       freed = λ was off partner. absurd (both_bools a.registered was (sym rest.registered ∙ off));
+      says = λ is. kept_none b.kept pushes.kept;
+      off = λ is off partner. inl (one_event (record { session = b.counts.partner_session; entry = entry }) (is entry e));
     }
 
 pub puts_nothing : (a b : EndState) → OnlyPushes false a b → PutsNone false a b → Announces a b
@@ -261,12 +316,16 @@ puts_nothing a b rest none = at a.kept refl none.loses
       sent = sends.sent ∙ sym (append-nil a.sent);
       kept = λ event is partner. absurd (no_some event (sym e ∙ is.there));
       freed = λ was off partner. absurd (freed was off);
+      says = λ is. kept_none b.kept none.kept;
+      off = λ is off partner. inl no_events;
     }
     at (Some entry) e loses = record {
       rows = [];
       sent = loses.none.sent ∙ sym (append-nil a.sent);
       kept = λ event is partner. absurd (both_bools a.place.partner_registered partner (loses.meets.partner refl));
       freed = λ was off partner. absurd (freed was off);
+      says = λ is. kept_none b.kept none.kept;
+      off = λ is off partner. inl no_events;
     }
 
 pub puts_kept : (a b : EndState) (number held : ℕ) → OnlyPushes false a b → StillKept false a b number held → Announces a b
@@ -288,9 +347,18 @@ puts_frees shared a b event (free.Busy control) alone says frees busy none = abs
 puts_frees shared a b event free.Parameter alone says frees busy none = puts_reserves a b none
 
 pub puts_entry : (shared : Bool) (a b : EndState) (entry : Entry) (answer : SendAnswer) → OnlySends shared a b → IfSent answer (Sends shared a entry b)
-    → IfClosed answer (TurnsBack shared a b) → IfDropped answer (FindsFull shared a b) → OnNotSent answer (OnlyReserves a b) → Announces a b
-puts_entry shared a b entry answer rest sent closed dropped none = puts_more a b (at answer sent closed dropped none) rest.kept rest.registered
+    → IfClosed answer (TurnsBack shared a b) → IfDropped answer (FindsFull shared a b) → OnNotSent answer (OnlyReserves a b) → OnReached answer (MaySend a entry) → Announces a b
+puts_entry shared a b entry answer rest sent closed dropped none may =
+    puts_more a b (at answer sent closed dropped none) rest.kept rest.registered (λ off. unsent answer off closed dropped none may)
   where
+    unsent : (answer : SendAnswer) → a.registered ≡ false → IfClosed answer (TurnsBack shared a b) → IfDropped answer (FindsFull shared a b) → OnNotSent answer (OnlyReserves a b)
+        → OnReached answer (MaySend a entry) → b.sent ≡ a.sent
+    unsent (send.Success number) off closed dropped none may = absurd (both_bools a.registered may.registered off)
+    unsent (send.Closed control) off closed dropped none may = closed.none.sent
+    unsent (send.Dropped number held) off closed dropped none may = dropped.sent
+    unsent send.NotRegistered off closed dropped none may = none.sent
+    unsent send.Parameter off closed dropped none may = none.sent
+
     same : b.sent ≡ a.sent → HasMore a.sent b.sent
     same is = record { rows = []; is = is ∙ sym (append-nil a.sent) }
 

@@ -22,6 +22,8 @@ use Rattle.vcpu_run.specs.declared.script.Script.{Script}
 use Rattle.vcpu_run.specs.declared.unit_seat.Seat.TheVariants as sits
 use Rattle.vcpu_run.specs.declared.unit_seat.UnitSeat.{UnitSeat}
 use Rattle.vcpu_run.specs.Agreed.{driver_in}
+use Rattle.vcpu_run.specs.AnswersSeen.{AreResponsesRead}
+use Rattle.vcpu_run.specs.Pairs.{IsDriver}
 use Rattle.vcpu_run.specs.AnswersTaken.{AreAnswersTaken, answers_to}
 use Rattle.vcpu_run.specs.CopyRows.{same_unit}
 use Rattle.vcpu_run.specs.Credited.{Ended}
@@ -35,7 +37,7 @@ use Rattle.vcpu_run.specs.Units.{seats_of, unit_seat}
 use Rattle.vcpu_run.specs.DataTold.{AreDataTold}
 use Rattle.vcpu_run.specs.LinesShow.{Sees, seen_at}
 use Rattle.vcpu_run.specs.Refusals.{seen_in}
-use Rattle.vcpu_run.proofs.AnswersShown.{answers_shown, answers_told, data_shown}
+use Rattle.vcpu_run.proofs.AnswersShown.{answers_shown, answers_told, data_shown, responses_shown}
 use Rattle.vcpu_run.proofs.Copied.{names_apart}
 use Rattle.vcpu_run.proofs.Fetching.{all_taken}
 use Rattle.vcpu_run.proofs.Following.{each_from_all}
@@ -49,13 +51,14 @@ use Rattle.vcpu_run.proofs.Sole.{same_refl}
 pub record IsClientGiven (trace : Trace) (client server : UnitId) (own : List Ended) : Type 0 where
   pub takes : AreAnswersTaken trace client own
   pub reads : AreDataTold (seen_in trace client server) server own (answers_to trace client)
+  pub read : AreResponsesRead (seen_in trace client server).front_at (answers_to trace client)
 
 pub client_takes : (partitions : List Partition) (pairs : List Pair) (scripts : List Script) (lan : LanValue) (rows : LanRows) (history : List Served) (grants : List Grant) (copies : List CopyRecord)
     (client server : UnitId) (own : List Ended) (pair : Pair) (P : Driver → Type 0) → AreScripts pairs lan.seats scripts → All (HasLawfulQueue pairs) (seats_of scripts)
-    → IsOfPlan partitions pairs scripts lan.seats → IsClientOf partitions client server → slice_get pairs server.unit ≡ Some pair → IsSomeAnd pair.driver P → PairTaken own pair
+    → IsOfPlan partitions pairs scripts lan.seats → IsClientOf partitions client server → slice_get pairs server.unit ≡ Some pair → IsSomeAnd pair.driver P → IfSome pair.driver (IsDriver pair.window) → PairTaken own pair
     → Sees (seen_at pair) (seen_in (trace_of pairs scripts lan rows history grants copies) client server) → pair.server ≡ server
     → IsClientGiven (trace_of pairs scripts lan rows history grants copies) client server own
-client_takes partitions pairs scripts lan rows history grants copies client server own pair P are lawful plan is there has taken sees same = at pair.driver refl has taken
+client_takes partitions pairs scripts lan rows history grants copies client server own pair P are lawful plan is there has driven taken sees same = at pair.driver refl has driven taken
   where
     trace : Trace
     trace = trace_of pairs scripts lan rows history grants copies
@@ -87,9 +90,10 @@ client_takes partitions pairs scripts lan rows history grants copies client serv
         (answers_told pairs client (seats_of scripts)) (names_apart client (seats_of scripts) (seats_ordered pairs lan.seats scripts are))
         ∙ ap (rows_if (λ (d : Driver). map (answer_by client) d.answers.items)) (ap driver_in there ∙ slot)
 
-    at : (o : Option Driver) → pair.driver ≡ o → IsSomeAnd o P → IfSome o (IsTaken own pair) → IsClientGiven trace client server own
-    at None slot has is = absurd has
-    at (Some driver) slot has is = record {
+    at : (o : Option Driver) → pair.driver ≡ o → IsSomeAnd o P → IfSome o (IsDriver pair.window) → IfSome o (IsTaken own pair) → IsClientGiven trace client server own
+    at None slot has driven is = absurd has
+    at (Some driver) slot has driven is = record {
       takes = answers_shown trace client own pair driver (answers driver slot) (ap (flat_map rows_taken) sessions ∙ all_taken client pipe laws is.given.begun) is;
       reads = data_shown trace client server own pair driver (answers driver slot) sees same is;
+      read = responses_shown trace client server pair driver (answers driver slot) sees driven.answers;
     }

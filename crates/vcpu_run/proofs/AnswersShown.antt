@@ -1,11 +1,14 @@
 -- The answers of a client as a trace shows them.
 use Rattle.std.proofs.Common.{zero, suc, ◌≡◌, ◌∙◌, ℕ, ◌<◌, ◌≤◌, false, Contains, get_or, length, arith, All, List, [], ◌∷◌, Option, Some, None, map, refl, sym, ap, subst}
-use Rattle.std.proofs.lemmas.List.Elements.{All-cons, All-head, All-nil, All-tail}
+use Rattle.std.proofs.lemmas.List.Elements.{All-cons, All-head, All-map, All-nil, All-tail, All-weaker}
+use Rattle.tce_window.specs.Window.{strokes_at}
 use Rattle.vio_num.specs.declared.names.UnitId.{UnitId}
 use Rattle.crq_ring.specs.declared.rows.PipeRow.{PipeRow}
 use Rattle.crq_session.specs.PlainState.{end_of}
 use Rattle.vio_trace.specs.declared.rows.AnswerRow.{AnswerRow}
 use Rattle.vio_trace.specs.declared.rows.Trace.{Trace}
+use Rattle.vcpu_run.specs.AnswersSeen.{AreResponsesRead, IsResponseRead, fronts_of}
+use Rattle.vcpu_run.proofs.AnswersSeen.{Fronts, responses_more}
 use Rattle.vcpu_run.specs.declared.driver.Driver.{Driver}
 use Rattle.vcpu_run.specs.declared.pair.Pair.{Pair}
 use Rattle.vcpu_run.specs.declared.unit_seat.UnitSeat.{UnitSeat}
@@ -94,3 +97,26 @@ data_shown trace client server own pair driver answers sees same is =
     (subst (λ (who : UnitId). AreDataTold (seen_in trace client server) who own (map (answer_by client) driver.answers.items)) same
     (told_further (seen_at pair) (seen_in trace client server) own driver.answers.items (map (answer_by client) driver.answers.items) pair.server sees
     (notes_shown client driver.answers.items) is.reads))
+
+-- the answers were read in the region that the trace shows
+response_named : (front_at : Fronts) (client : UnitId) (row : AnswerRow) → IsResponseRead front_at row → IsResponseRead front_at (answer_by client row)
+response_named front_at client row is = record {
+  response = is.response;
+  canonical = is.canonical;
+  slot = is.slot;
+  bytes = is.bytes;
+  spells = is.spells;
+  fronts = is.fronts;
+  there = is.there;
+  read = is.read;
+}
+
+pub responses_shown : (trace : Trace) (client server : UnitId) (pair : Pair) (driver : Driver) → answers_to trace client ≡ map (answer_by client) driver.answers.items
+    → Sees (seen_at pair) (seen_in trace client server) → AreResponsesRead (fronts_of (strokes_at pair.window.pages)) driver.answers.items
+    → AreResponsesRead (seen_in trace client server).front_at (answers_to trace client)
+responses_shown trace client server pair driver answers sees read =
+    subst (AreResponsesRead (seen_in trace client server).front_at) (sym answers)
+    (All-map (IsResponseRead (seen_in trace client server).front_at) (answer_by client) driver.answers.items
+    (All-weaker (IsResponseRead (seen_in trace client server).front_at) (λ (row : AnswerRow). IsResponseRead (seen_in trace client server).front_at (answer_by client row))
+    (response_named (seen_in trace client server).front_at client) driver.answers.items
+    (responses_more (fronts_of (strokes_at pair.window.pages)) (seen_in trace client server).front_at sees.fronts driver.answers.items read)))

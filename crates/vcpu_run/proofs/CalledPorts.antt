@@ -24,6 +24,7 @@ use Rattle.lan_script.specs.CalledMac.{low_mac, mac_called}
 use Rattle.lan_script.specs.OwnMac.{MovesMac, changed_to, mac_at}
 use Rattle.lan_script.specs.PortCounts.{CountsOn, SendsCalled, counts, counts_called}
 use Rattle.lan_script.specs.PortReplay.{PortReplay}
+use Rattle.vcpu_run.specs.PortRegions.{RegionsKept}
 use Rattle.lan_script.specs.Replayed.{SameBeside, replay_at}
 use Rattle.lan_script.specs.Units.{LanValue}
 use Rattle.lan_script.specs.Values.{SameValuesBeside}
@@ -72,13 +73,14 @@ weaker_called given unit old new h = record {
 -- a call at a port: of its own address it makes what it gives, and of the others' nothing
 pub port_called : (partition unit : ℕ) (call : PortCall) (code : Hrc) (old new : LanValue) → new.seats ≡ old.seats
     → CountsOn (unit_of partition unit) (counts 0 0) (counts_called call code) old new → SendsCalled (unit_of partition unit) call code old new
-    → SameBeside (unit_of partition unit) old new → SameValuesBeside (unit_of partition unit) old new
+    → SameBeside (unit_of partition unit) old new → SameValuesBeside (unit_of partition unit) old new → RegionsKept old new
     → MovesMac (mac_called call code) (replay_at old (unit_of partition unit)) (replay_at new (unit_of partition unit))
     → CallsPorts partition unit (mac_called call code) old new
-port_called partition unit call code old new seats counted sent replays values moves u = by (unit == u) refl
+port_called partition unit call code old new seats counted sent replays values regions moves u = by (unit == u) refl
   where
     beside : IsBeside (unit_of partition unit) old new
     beside = call_beside (unit_of partition unit) call code (counts 0 0) (counts_called call code) old new seats sent counted replays values
+        regions
 
     own : CallsPort (mac_called call code) (unit_of partition unit) old new
     own = record {
@@ -101,15 +103,15 @@ port_called partition unit call code old new seats counted sent replays values m
 pub port_called_ok : (partition unit : ℕ) (id : UnitId) (call : PortCall) (r : Result Returned NoMemory) (old new : LanValue) → id ≡ unit_of partition unit
     → new.seats ≡ old.seats
     → IfOk r (λ returned. CountsOn id (counts 0 0) (counts_called call returned.code) old new) → IfOk r (λ returned. SendsCalled id call returned.code old new)
-    → OnOk r (SameBeside id old new) → OnOk r (SameValuesBeside id old new)
+    → OnOk r (SameBeside id old new) → OnOk r (SameValuesBeside id old new) → OnOk r (RegionsKept old new)
     → IfOk r (λ returned. MovesMac (mac_called call returned.code) (replay_at old id) (replay_at new id))
     → IfOk r (λ returned. CallsPorts partition unit (mac_called call returned.code) old new)
-port_called_ok partition unit id call (Err memory) old new is seats counted sent replays values moves = tt
-port_called_ok partition unit id call (Ok returned) old new is seats counted sent replays values moves =
+port_called_ok partition unit id call (Err memory) old new is seats counted sent replays values regions moves = tt
+port_called_ok partition unit id call (Ok returned) old new is seats counted sent replays values regions moves =
     port_called partition unit call returned.code old new seats
     (subst (λ (i : UnitId). CountsOn i (counts 0 0) (counts_called call returned.code) old new) is counted)
     (subst (λ (i : UnitId). SendsCalled i call returned.code old new) is sent) (subst (λ (i : UnitId). SameBeside i old new) is replays)
-    (subst (λ (i : UnitId). SameValuesBeside i old new) is values)
+    (subst (λ (i : UnitId). SameValuesBeside i old new) is values) regions
     (subst (λ (i : UnitId). MovesMac (mac_called call returned.code) (replay_at old i) (replay_at new i)) is moves)
 
 -- ---- which unit a call names

@@ -91,6 +91,7 @@ client_shown : (trace : Trace) (client server : UnitId) (pages queue : ℕ) (pai
 client_shown trace client server pages queue pair driver has size sees = record {
   pages = sym (ap (option_map (λ (driver : Driver). length pair.window.pages)) has ∙ ap Some size);
   values = sees.values;
+  fronts = sees.fronts;
   entries = sees.entries;
 }
 

@@ -1,5 +1,5 @@
 -- What a record says of a raw call stays so as the run goes on: what there was of the units is there.
-use Rattle.std.proofs.Common.{◌≡◌, ◌↔◌, ◌∙◌, ℕ, false, List, [], ◌∷◌, Option, Some, None, IfSome, IsSomeAnd, length, refl, sym, ap, subst}
+use Rattle.std.proofs.Common.{◌≡◌, ◌↔◌, ◌∙◌, ◌+◌, ◌/◌, ℕ, true, false, List, [], ◌∷◌, Option, Some, None, IfSome, IsSomeAnd, length, refl, sym, ap, subst}
 use Rattle.std.specs.List.{slice_get}
 use Rattle.std.specs.Option.{option_map}
 use Rattle.vio_num.specs.declared.entry.Entry.{Entry}
@@ -14,11 +14,13 @@ use Rattle.hcall_table.specs.declared.hcall.Hcall.TheVariants as rows
 use Rattle.vio_trace.specs.declared.outcome.Outcome.{Outcome}
 use Rattle.vio_trace.specs.declared.outcome.Outcome.TheVariants as outcomes
 use Rattle.vio_trace.specs.declared.rows.LogRow.{LogRow}
+use Rattle.page_slots.specs.Stroke.{StrokeValue}
+use Rattle.unit_region.specs.EntryAnswers.{is_list}
 use Rattle.vcpu_run.specs.declared.driver.Driver.{Driver}
 use Rattle.vcpu_run.specs.declared.pair.Pair.{Pair}
 use Rattle.vcpu_run.specs.declared.unit_seat.Seat.{Seat}
 use Rattle.vcpu_run.specs.declared.unit_seat.Seat.TheVariants as sits
-use Rattle.vcpu_run.specs.CallsAnswered.{IsDone, UnitSeen, is_taken, no_client, unit_seen}
+use Rattle.vcpu_run.specs.CallsAnswered.{IsDone, IsListPut, IsListRead, IsListUntaken, IsUntaken, UnitSeen, is_taken, no_client, unit_seen}
 use Rattle.vcpu_run.specs.CallsSaid.{CallsSaid, IfDone, IsCallSaid, IsSaidOf, IsUnitSaid, UnitsSeen, seen_from}
 use Rattle.vcpu_run.specs.LinesShow.{Sees, seen_at}
 use Rattle.vcpu_run.specs.Machines.{AllStay, KeepsDriver, Stays}
@@ -29,6 +31,7 @@ use Rattle.vcpu_run.proofs.Listed.{came_from}
 pub record UnitGrows (a b : UnitSeen) : Type 0 where
   pub pages : b.pages ≡ a.pages
   pub values : (entry value : ℕ) → a.value_at entry value → b.value_at entry value
+  pub fronts : (page : ℕ) (front : Option (List StrokeValue)) → a.region.front_at page front → b.region.front_at page front
   pub entries : (entry : Entry) → a.entry_put entry → b.entry_put entry
 
 -- The same of each unit of a partition.
@@ -37,10 +40,68 @@ pub record UnitsGrow (a b : UnitsSeen) : Type 0 where
   pub units : (unit : ℕ) → UnitGrows (a.of_unit unit) (b.of_unit unit)
 
 pub unit_still : (seen : UnitSeen) → UnitGrows seen seen
-unit_still seen = record { pages = refl; values = λ entry value is. is; entries = λ entry is. is }
+unit_still seen = record { pages = refl; values = λ entry value is. is; fronts = λ page front is. is; entries = λ entry is. is }
 
 pub unit_like : (o p : Option Pair) → p ≡ o → UnitGrows (unit_seen o) (unit_seen p)
 unit_like o p same = subst (λ (q : Option Pair). UnitGrows (unit_seen o) (unit_seen q)) (sym same) (unit_still (unit_seen o))
+
+-- a list that was read, and put or not
+list_read_more : (a b : UnitSeen) → UnitGrows a b → (list count : ℕ) (values : List ℕ) → IsListRead a.region list count values → IsListRead b.region list count values
+list_read_more a b more list count values is = record {
+  count_is = is.count_is;
+  bytes = is.bytes;
+  spelled = is.spelled;
+  read = λ some.
+      let read = is.read some in
+      record { fronts = read.fronts; there = λ page touched. more.fronts page (read.fronts page) (read.there page touched); read = read.read };
+}
+
+list_put_more : (a b : UnitSeen) → UnitGrows a b → (address list count : ℕ) → IfSome a.pages (λ pages. IsListPut a address list count)
+    → IfSome b.pages (λ pages. IsListPut b address list count)
+list_put_more a b more address list count is = subst (λ (o : Option ℕ). IfSome o (λ pages. IsListPut b address list count)) (sym more.pages) (at a.pages is)
+  where
+    at : (o : Option ℕ) → IfSome o (λ pages. IsListPut a address list count) → IfSome o (λ pages. IsListPut b address list count)
+    at None h = tt
+    at (Some pages) h = record {
+      values = h.values;
+      read = list_read_more a b more list count h.values h.read;
+      put = λ j value there. more.values (address / 4096 + j) value (h.put j value there);
+    }
+
+list_untaken_more : (a b : UnitSeen) → UnitGrows a b → (address list count : ℕ)
+    → IfSome a.pages (λ pages. is_list pages list count ≡ true → IsListUntaken a.region pages address list count)
+    → IfSome b.pages (λ pages. is_list pages list count ≡ true → IsListUntaken b.region pages address list count)
+list_untaken_more a b more address list count is =
+    subst (λ (o : Option ℕ). IfSome o (λ pages. is_list pages list count ≡ true → IsListUntaken b.region pages address list count)) (sym more.pages) (at a.pages is)
+  where
+    at : (o : Option ℕ) → IfSome o (λ pages. is_list pages list count ≡ true → IsListUntaken a.region pages address list count)
+        → IfSome o (λ pages. is_list pages list count ≡ true → IsListUntaken b.region pages address list count)
+    at None h = tt
+    at (Some pages) h = λ good.
+        let untaken = h good in
+        record { values = untaken.values; read = list_read_more a b more list count untaken.values untaken.read; refused = untaken.refused }
+
+-- why a call was not taken is so still
+untaken_more : (a b : UnitSeen) → UnitGrows a b → (row : Hcall) (args : List ℕ) → IsUntaken a row args → IsUntaken b row args
+untaken_more a b more rows.PutTceIndirect [] is = tt
+untaken_more a b more rows.PutTceIndirect (address ∷ []) is = tt
+untaken_more a b more rows.PutTceIndirect (address ∷ list ∷ []) is = tt
+untaken_more a b more rows.PutTceIndirect (address ∷ list ∷ count ∷ []) is = list_untaken_more a b more address list count is
+untaken_more a b more rows.PutTceIndirect (address ∷ list ∷ count ∷ other ∷ others) is = tt
+untaken_more a b more rows.GetTce args is = tt
+untaken_more a b more rows.PutTce args is = tt
+untaken_more a b more rows.StuffTce args is = tt
+untaken_more a b more rows.SendCrq args is = tt
+untaken_more a b more rows.RegCrq args is = tt
+untaken_more a b more rows.FreeCrq args is = tt
+untaken_more a b more rows.EnableCrq args is = tt
+untaken_more a b more rows.CopyRdma args is = tt
+untaken_more a b more rows.RegisterLogicalLan args is = tt
+untaken_more a b more rows.FreeLogicalLan args is = tt
+untaken_more a b more rows.AddLogicalLanBuffer args is = tt
+untaken_more a b more rows.SendLogicalLan args is = tt
+untaken_more a b more rows.MulticastCtrl args is = tt
+untaken_more a b more rows.ChangeLogicalLanMac args is = tt
 
 -- what a call did is there still
 done_more : (a b : UnitSeen) → UnitGrows a b → (row : Hcall) (args : List ℕ) (value : ℕ) → IsDone a row args value → IsDone b row args value
@@ -55,8 +116,16 @@ done_more a b more rows.SendCrq [] value is = tt
 done_more a b more rows.SendCrq (high ∷ []) value is = tt
 done_more a b more rows.SendCrq (high ∷ low ∷ []) value is = more.entries _ is
 done_more a b more rows.SendCrq (high ∷ low ∷ other ∷ others) value is = tt
-done_more a b more rows.StuffTce args value is = tt
-done_more a b more rows.PutTceIndirect args value is = tt
+done_more a b more rows.StuffTce [] value is = tt
+done_more a b more rows.StuffTce (address ∷ []) value is = tt
+done_more a b more rows.StuffTce (address ∷ put ∷ []) value is = tt
+done_more a b more rows.StuffTce (address ∷ put ∷ count ∷ []) value is = λ j less. more.values _ put (is j less)
+done_more a b more rows.StuffTce (address ∷ put ∷ count ∷ other ∷ others) value is = tt
+done_more a b more rows.PutTceIndirect [] value is = tt
+done_more a b more rows.PutTceIndirect (address ∷ []) value is = tt
+done_more a b more rows.PutTceIndirect (address ∷ list ∷ []) value is = tt
+done_more a b more rows.PutTceIndirect (address ∷ list ∷ count ∷ []) value is = list_put_more a b more address list count is
+done_more a b more rows.PutTceIndirect (address ∷ list ∷ count ∷ other ∷ others) value is = tt
 done_more a b more rows.RegCrq args value is = tt
 done_more a b more rows.FreeCrq args value is = tt
 done_more a b more rows.EnableCrq args value is = tt
@@ -104,6 +173,7 @@ done_if P Q more (outcomes.Bytes shown) is = tt
 pub unit_more : (a b : UnitSeen) → UnitGrows a b → (row : Hcall) (args : List ℕ) (outcome : Outcome) → IsUnitSaid a row args outcome → IsUnitSaid b row args outcome
 unit_more a b more row args outcome is = record {
   parameter = subst (λ (pages : Option ℕ). IfSome (is_taken row pages args) (λ taken. (outcome ≡ outcomes.Code codes.Parameter) ↔ (taken ≡ false))) (sym more.pages) is.parameter;
+  refused = λ e. untaken_more a b more row args (is.refused e);
   done = done_if (IsDone a row args) (IsDone b row args) (λ value. done_more a b more row args value) outcome is.done;
 }
 
@@ -171,6 +241,7 @@ pair_grows (Some old) (Some new) none stays sees =
     record {
       pages = pages_keep (length old.window.pages) (length new.window.pages) old.driver new.driver (stays old refl).pages (stays old refl).driver;
       values = more.values;
+      fronts = more.fronts;
       entries = more.entries;
     }
 

@@ -26,9 +26,10 @@ use Rattle.vscsi_client.specs.Transferred.{DataRange, FitRows, FitsRow, GivesDat
 use Rattle.vscsi_client.specs.declared.answers.DataFault.TheVariants as faults
 use Rattle.vscsi_client.specs.declared.TheConstants.{PART_BYTES}
 use Rattle.vcpu_run.specs.DataRead.{AreAllRead, AreBothRead, IsDataRead, IsDataStale, IsDataTold, IsPartRead, IsPartStale, StepReads}
-use Rattle.vcpu_run.specs.LinesShow.{IsFront, Seen, seen_by}
+use Rattle.vcpu_run.specs.AnswersSeen.{IsFront}
+use Rattle.vcpu_run.specs.LinesShow.{Seen, seen_by}
 use Rattle.vcpu_run.proofs.Driving.{some_is}
-use Rattle.vcpu_run.proofs.LinesShown.{front_of, touched}
+use Rattle.unit_region.proofs.Laws.{front_of, touched}
 
 -- the strokes of each page in its place are a front there
 abbrev pub ShowsFronts : Seen → PortState → Type 0

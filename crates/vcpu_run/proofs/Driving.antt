@@ -65,7 +65,7 @@ goes_on a b c (Some x) None z first next = absurd first
 goes_on a b c (Some x) (Some y) z first next =
     some_more z _ _ (λ d step. (step.0 ∙ first.0, λ is. step.1 (first.1 is))) next
 
-alone_same : (driver : Option Driver) (b : Bool) → IfNone driver (b ≡ b)
+pub alone_same : (driver : Option Driver) (b : Bool) → IfNone driver (b ≡ b)
 alone_same None b = refl
 alone_same (Some driver) b = tt
 

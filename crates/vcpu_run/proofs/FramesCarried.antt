@@ -169,6 +169,27 @@ port_window_there pairs lan unit fits there = by (seat_at lan.seats unit) refl f
         in_place None g k = absurd k
         in_place (Some window) g k = record { window = window; is = g; at = ap (λ o. port_window o lan unit) e ∙ g }
 
+-- The windows of LAN units as a trace shows them have what they had, and on each page the same strokes.
+pub port_shows : (pairs : List Pair) (scripts : List Script) (lan : LanValue) (rows : LanRows) (history : List Served) (grants : List Grant) (copies : List CopyRecord)
+    (partitions : List Partition) → AreOfOneHome copies pairs → AreScripts pairs lan.seats scripts → All (HasLawfulWindow pairs lan) (seats_of scripts)
+    → IsOfPlan partitions pairs scripts lan.seats → (unit : UnitId) → IsSome (seat_at lan.seats unit)
+    → Shows (side_in lan.places unit) (window_shown partitions (trace_of pairs scripts lan rows history grants copies) unit)
+port_shows pairs scripts lan rows history grants copies partitions are are' windows plan unit there =
+    let trace : Trace = trace_of pairs scripts lan rows history grants copies in
+    let planned = port_planned partitions unit (subst (λ (seats : List PortSeat). IsSome (seat_at seats unit)) plan.ports_are there) in
+    let seat : UnitSeat = unit_seat unit.partition unit.unit sits.Port in
+    let inside : IsIn seat (seats_of scripts) =
+    planned_in partitions pairs scripts lan.seats unit (units.Lan planned.mac planned.pages planned.slots) are' plan planned.planned in
+    let has : HasLawfulWindow pairs lan seat =
+    each_in (HasLawfulWindow pairs lan) seat (seats_of scripts) inside (each_from_all (HasLawfulWindow pairs lan) (seats_of scripts) windows) in
+    let w = port_window_there pairs lan unit has.fits there in
+    let grows : SideGrows (side_of (known_of w.window)) (window_shown partitions trace unit) =
+    windows_shown pairs scripts lan rows history grants copies partitions are are' windows plan seat w.window inside w.at in
+    subst (λ (s : Side). Shows s (window_shown partitions trace unit)) (sym (window_side lan unit w.window w.is)) (record {
+      grows = record { unit = refl; values = grows.values; strokes = grows.strokes };
+      same = seat_strokes pairs scripts lan rows history grants copies partitions are are' windows plan seat w.window inside w.at;
+    })
+
 -- The port law of a gathered trace.
 pub ports_keep : (pairs : List Pair) (scripts : List Script) (lan : LanValue) (rows : LanRows) (history : List Served) (grants : List Grant) (copies : List CopyRecord) (partitions : List Partition)
     → AreOfOneHome copies pairs → AreScripts pairs lan.seats scripts → All (HasLawfulWindow pairs lan) (seats_of scripts) → IsOfPlan partitions pairs scripts lan.seats
@@ -184,17 +205,4 @@ ports_keep pairs scripts lan rows history grants copies partitions are are' wind
     trace = trace_of pairs scripts lan rows history grants copies
 
     shown : (unit : UnitId) → IsSome (seat_at lan.seats unit) → Shows (side_in lan.places unit) (window_shown partitions trace unit)
-    shown unit there =
-        let planned = port_planned partitions unit (subst (λ (seats : List PortSeat). IsSome (seat_at seats unit)) plan.ports_are there) in
-        let seat : UnitSeat = unit_seat unit.partition unit.unit sits.Port in
-        let inside : IsIn seat (seats_of scripts) =
-        planned_in partitions pairs scripts lan.seats unit (units.Lan planned.mac planned.pages planned.slots) are' plan planned.planned in
-        let has : HasLawfulWindow pairs lan seat =
-        each_in (HasLawfulWindow pairs lan) seat (seats_of scripts) inside (each_from_all (HasLawfulWindow pairs lan) (seats_of scripts) windows) in
-        let w = port_window_there pairs lan unit has.fits there in
-        let grows : SideGrows (side_of (known_of w.window)) (window_shown partitions trace unit) =
-        windows_shown pairs scripts lan rows history grants copies partitions are are' windows plan seat w.window inside w.at in
-        subst (λ (s : Side). Shows s (window_shown partitions trace unit)) (sym (window_side lan unit w.window w.is)) (record {
-          grows = record { unit = refl; values = grows.values; strokes = grows.strokes };
-          same = seat_strokes pairs scripts lan rows history grants copies partitions are are' windows plan seat w.window inside w.at;
-        })
+    shown unit there = port_shows pairs scripts lan rows history grants copies partitions are are' windows plan unit there

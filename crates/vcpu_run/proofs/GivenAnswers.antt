@@ -33,7 +33,7 @@ use Rattle.vcpu_run.proofs.Seated.{planned_in}
 use Rattle.vcpu_run.proofs.Settling.{client_waits, emptied}
 
 -- a client keeps no event where its server unit's queue is empty
-keeps_none : (pair : Pair) → 1 ≤ (side_of pair.link true).queue.slots → IsEmptied (link_state pair.link).server → EventWaits pair → (side_of pair.link false).kept ≡ None
+pub keeps_none : (pair : Pair) → 1 ≤ (side_of pair.link true).queue.slots → IsEmptied (link_state pair.link).server → EventWaits pair → (side_of pair.link false).kept ≡ None
 keeps_none pair some empty waits = elim waits as (λ _. (side_of pair.link false).kept ≡ None) [
   | inl none ↦ none
   | inr full ↦

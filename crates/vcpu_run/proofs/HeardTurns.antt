@@ -22,7 +22,8 @@ use Rattle.block_server.specs.Asked.{AskInOrder, AskedAt}
 use Rattle.block_server.specs.Judges.{AreUnused}
 use Rattle.block_server.specs.Rejecting.{LinesTellLogin}
 use Rattle.block_server.specs.Causes.{Told, told_to}
-use Rattle.block_server.specs.Dealt.{HasDealt}
+use Rattle.block_server.specs.Dealt.{HasDealt, KnowsSends}
+use Rattle.block_server.specs.Ready.{AgreesAt}
 use Rattle.block_server.specs.Heard.{Tells}
 use Rattle.block_server.specs.LoginAnswers.{login_answers}
 use Rattle.block_server.specs.Makers.{same_unit}
@@ -35,16 +36,19 @@ use Rattle.block_server.specs.declared.records.Records.{Records}
 use Rattle.block_server.specs.declared.unit.Unit.{Unit}
 use Rattle.vcpu_run.specs.declared.pair.Pair.{Pair}
 use Rattle.vcpu_run.specs.Heard.{AreHeard, AllGoBy, UnitGoesBy, ShowsMore, TellsPair, TellsPairs}
+use Rattle.vcpu_run.specs.Gone.{HearsEvent}
 use Rattle.vcpu_run.specs.LoginsSent.{GoInOrder}
 use Rattle.vcpu_run.specs.Machines.{server_id}
 use Rattle.vcpu_run.specs.News.{IsNth}
 use Rattle.vcpu_run.specs.Pairs.{AreDriven, Drives}
 use Rattle.vcpu_run.specs.Received.{AreFresh}
 use Rattle.vcpu_run.proofs.Driving.{get_set_other, get_set_same}
+use Rattle.vcpu_run.proofs.Gone.{hears_driven}
 use Rattle.vcpu_run.proofs.Hearings.{hearing_on, listed_on, nth_on, turn_shown}
 use Rattle.vcpu_run.proofs.Keeping.{own_stays}
 use Rattle.vcpu_run.proofs.Listed.{came_from, each_set, held, some_is}
-use Rattle.vcpu_run.proofs.LoginsPut.{order_elsewhere, order_fresh, order_served}
+use Rattle.vcpu_run.proofs.LoginsDealt.{IsClosedSo}
+use Rattle.vcpu_run.proofs.LoginsPut.{order_elsewhere, order_fresh, order_heard, order_served}
 
 -- WHAT IS TOLD -----------------------------------------------------------------------------------
 
@@ -96,19 +100,23 @@ pub told_served : {granted : ℕ} (told : Told → Bool) (units units' : List Un
     → (HasRuns told units k (known_of old.own) copies records → HasRuns told units' k (known_of new.own) copies' records')
     → (HasExplained told units k old.own.unit queue [] records.grants.items → HasExplained told units' k old.own.unit queue' [] records'.grants.items)
     → (HasExplained told units k old.own.unit queue [] records.grants.items → (earlier : List AskedAt) → AskInOrder earlier units k queue
-    → LinesTellLogin units k old.own.unit queue records.grants.items → HasDealt told earlier (λ q. true) units k old.own.unit queue
-    → AnswersInOrder told earlier (λ q. true) units' k old.own.unit queue queue' records records')
+    → LinesTellLogin units k old.own.unit queue records.grants.items → (closed : ℕ → Bool) → KnowsSends (AgreesAt units k queue) false queue queue' closed
+    → HasDealt told earlier closed units k old.own.unit queue → AnswersInOrder told earlier closed units' k old.own.unit queue queue' records records')
+    → ((closed : Bool) → (closed ≡ true → HearsEvent queue) → IsClosedSo told units units' k old.own.unit queue queue' closed (HearsEvent queue'))
+    → (HearsEvent (end_of [] old.link true) → HearsEvent queue) → (HearsEvent queue' → HearsEvent (end_of [] new.link true))
     → UnitGoesBy told units records copies k old → UnitGoesBy told units' records' copies' k new
-told_served told units units' records records' copies copies' k old new queue queue' session taken session' taken' name sent sent' more lines carried refuses answers is = record {
+told_served told units units' records records' copies copies' k old new queue queue' session taken session' taken' name sent sent' more lines carried refuses answers choose hears hears' is = record {
   cargo = carried is.cargo;
   explained = subst (λ (unit : UnitId). HasExplained told units' k unit (end_of [] new.link true) [] records'.grants.items) (sym name)
       (refusals_seen told units' k old.own.unit queue' (end_of [] new.link true) [] records'.grants.items (sym session') (sym taken')
       (refuses explained));
-  logins = subst (λ (z : UnitId × ℕ × List PipeRow × List PipeRow). GoInOrder told units' k z.0 z.1 z.2 (login_answers z.3) records'.grants.items)
+  logins = subst (λ (z : UnitId × ℕ × List PipeRow × List PipeRow). GoInOrder told units' k z.0 z.1 z.2 (login_answers z.3) records'.grants.items (HearsEvent (end_of [] new.link true)))
       (λ i. (sym name i, session' i, taken' i, sent' i))
-      (order_served told old.own.unit units units' k queue queue' records records' more lines (answers explained)
-      (subst (λ (z : ℕ × List PipeRow × List PipeRow). GoInOrder told units k old.own.unit z.0 z.1 (login_answers z.2) records.grants.items)
-      (λ i. (sym session i, sym taken i, sym sent i)) is.logins));
+      (order_heard told units' k old.own.unit queue'.last_session queue'.taken (login_answers queue'.sent) records'.grants.items (HearsEvent queue') (HearsEvent (end_of [] new.link true)) hears'
+      (order_served told old.own.unit units units' k queue queue' records records' (HearsEvent queue) (HearsEvent queue') more lines (answers explained) choose
+      (order_heard told units k old.own.unit queue.last_session queue.taken (login_answers queue.sent) records.grants.items (HearsEvent (end_of [] old.link true)) (HearsEvent queue) hears
+      (subst (λ (z : ℕ × List PipeRow × List PipeRow). GoInOrder told units k old.own.unit z.0 z.1 (login_answers z.2) records.grants.items (HearsEvent (end_of [] old.link true)))
+      (λ i. (sym session i, sym taken i, sym sent i)) is.logins))));
 }
   where
     explained : HasExplained told units k old.own.unit queue [] records.grants.items
@@ -136,7 +144,8 @@ told_elsewhere told size partition units units' records records' copies copies' 
       explained = refusals_elsewhere told units units' k other.own.unit unit (end_of [] other.link true) (end_of [] other.link true) [] records.grants.items records'.grants.items
           same refl refl lines (apart_is unit other.own.unit apart) is.explained;
       logins = order_elsewhere told units units' k other.own.unit unit (side_of other.link true).queue.session (side_of other.link true).queue.taken
-          (login_answers (side_of other.link false).queue.sent) records.grants.items records'.grants.items same lines (apart_is unit other.own.unit apart) is.logins;
+          (login_answers (side_of other.link false).queue.sent) records.grants.items records'.grants.items (HearsEvent (end_of [] other.link true)) same lines
+          (apart_is unit other.own.unit apart) is.logins;
     })
 
 -- ALL UNITS --------------------------------------------------------------------------------------
@@ -203,8 +212,10 @@ told_driven told units records copies k old new d is = record {
   cargo = subst (λ (own : WindowValue). HasRuns told units k (known_of own) copies records) (sym d.own) is.cargo;
   explained = subst (λ (own : WindowValue). HasExplained told units k own.unit (end_of [] new.link true) [] records.grants.items) (sym d.own)
       (refusals_seen told units k old.own.unit (end_of [] old.link true) (end_of [] new.link true) [] records.grants.items d.server_session d.server_taken is.explained);
-  logins = subst (λ (z : WindowValue × ℕ × List PipeRow × List PipeRow). GoInOrder told units k z.0.unit z.1 z.2 (login_answers z.3) records.grants.items)
-      (λ i. (sym d.own i, sym d.server_session i, sym d.server_taken i, sym d.got i)) is.logins;
+  logins = subst (λ (z : WindowValue × ℕ × List PipeRow × List PipeRow). GoInOrder told units k z.0.unit z.1 z.2 (login_answers z.3) records.grants.items (HearsEvent (end_of [] new.link true)))
+      (λ i. (sym d.own i, sym d.server_session i, sym d.server_taken i, sym d.got i))
+      (order_heard told units k old.own.unit (side_of old.link true).queue.session (side_of old.link true).queue.taken (login_answers (side_of old.link false).queue.sent) records.grants.items
+      (HearsEvent (end_of [] old.link true)) (HearsEvent (end_of [] new.link true)) (hears_driven old new d) is.logins);
 }
 
 pub heard_driven : (size partition : ℕ) (units : List Unit) (records : Records) (copies : List CopyRecord) (old new : List Pair) → AreDriven old new → AreHeard size partition units records copies old
@@ -226,6 +237,6 @@ heard_fresh size partition units records copies pairs no_rows no_lines order idl
     explained = subst (λ (since : List Grant). HasExplained told units k pair.own.unit (end_of [] pair.link true) since records.grants.items) no_lines
         (unrefused told k pair.own.unit (end_of [] pair.link true) records.grants.items);
     logins = order_fresh told units k pair.own.unit (end_of [] pair.link true) (login_answers (side_of pair.link false).queue.sent) records.grants.items
-        (ap login_answers (fresh k pair found).sent) no_lines (fresh k pair found).taken unused;
+        (HearsEvent (end_of [] pair.link true)) (ap login_answers (fresh k pair found).sent) no_lines (fresh k pair found).taken unused;
   } ∣₁;
 }

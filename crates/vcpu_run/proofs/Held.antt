@@ -4,6 +4,8 @@ use Rattle.std.specs.Prelude.{⊤}
 use Rattle.vio_num.specs.declared.hypervisor.Moved.{Moved}
 use Rattle.vio_num.specs.declared.hypervisor.Moved.TheVariants.{Quiet}
 use Rattle.boot_text.specs.declared.plan.Line.{Line}
+use Rattle.boot_text.specs.declared.verb.Verb.{Verb}
+use Rattle.boot_text.specs.declared.verb.Verb.TheVariants as verbs
 use Rattle.vio_trace.specs.declared.outcome.Outcome.{Outcome}
 use Rattle.lan_script.specs.declared.seat.PortSeat.{PortSeat}
 use Rattle.unit_region.specs.declared.step.Step.TheVariants as steps
@@ -278,3 +280,30 @@ pub over_held : (pairs : List Pair) (script : Script) (unit k : ℕ) → slice_g
     → slice_get script.seats.items unit ≡ Some (sits.Client k) → KeepsQueues pairs script → IfSome (slice_get pairs k) IsNotFreed
 over_held pairs script unit k over none at keep =
     kept (is_renewed unit script.progress (slice_get script.lines.now script.at)) (slice_get pairs k) (ap (is_renewed unit script.progress) over) (keep none unit k at)
+
+-- a line that fails the partition is no reset
+pub fails_reset : (verb : Verb) → fails verb ≡ true → is_reset verb ≡ false
+fails_reset verbs.Login is = absurd (cc)
+fails_reset verbs.Reset is = absurd (cc)
+fails_reset verbs.Logout is = absurd (cc)
+fails_reset verbs.Tur is = absurd (cc)
+fails_reset (verbs.Read lba blocks at pieces table) is = absurd (cc)
+fails_reset (verbs.Write lba blocks at pieces table) is = absurd (cc)
+fails_reset (verbs.Command cdb) is = absurd (cc)
+fails_reset (verbs.CommandIn cdb at len pieces table) is = absurd (cc)
+fails_reset (verbs.CommandOut cdb at len pieces table) is = absurd (cc)
+fails_reset (verbs.Task function of) is = absurd (cc)
+fails_reset (verbs.Take count) is = absurd (cc)
+fails_reset (verbs.Data of) is = absurd (cc)
+fails_reset verbs.Open is = absurd (cc)
+fails_reset verbs.Close is = absurd (cc)
+fails_reset (verbs.Post at len count) is = absurd (cc)
+fails_reset (verbs.Send to len seed at) is = absurd (cc)
+fails_reset (verbs.ChangeMac own) is = absurd (cc)
+fails_reset (verbs.Multicast control group) is = absurd (cc)
+fails_reset (verbs.Fill at len seed) is = absurd (cc)
+fails_reset (verbs.Poke at bytes) is = absurd (cc)
+fails_reset (verbs.Peek at len) is = absurd (cc)
+fails_reset (verbs.Tce entry page readable writable) is = absurd (cc)
+fails_reset (verbs.Hcall number arguments) is = absurd (cc)
+fails_reset verbs.Fail is = refl

@@ -4,6 +4,7 @@ use Rattle.std.proofs.lemmas.Bool.Decides.{nat_tests}
 use Rattle.std.proofs.lemmas.Bool.{eq-eqb, ne_eqb}
 use Rattle.vio_num.specs.declared.entry.Entry.{Entry}
 use Rattle.crq_ring.specs.declared.rows.PipeRow.{PipeRow}
+use Rattle.vcpu_run.specs.SentOrder.{is_begun}
 use Rattle.vcpu_run.specs.Sessions.{entries_of}
 use Rattle.lan_script.proofs.Order.{Each, Ordered, each_weaker}
 
@@ -66,6 +67,20 @@ all_flat last [] order begun few = flat_none 1 last
 all_flat last (row ∷ rows) order begun few =
     let most = few.0 in
     first_of 1 last row rows begun.0 (omega (arith, most)) order.0 ∙ ap (λ (rest : List PipeRow). row ∷ rest) (all_flat last rows order.1 begun.1 few.1)
+
+-- those of all sessions are the rows that were put in one, which count from 1
+pub begun_flat : (last : ℕ) (rows : List PipeRow) → Ordered (λ a b. a.session ≤ b.session) rows → Each (λ row. row.session ≤ last) rows → flat 1 last rows ≡ filter is_begun rows
+begun_flat last [] order few = flat_none 1 last
+begun_flat last (row ∷ rows) order few = at (is_begun row) refl (begun_flat last rows order.1 few.1)
+  where
+    at : (b : Bool) → is_begun row ≡ b → flat 1 last rows ≡ filter is_begun rows → flat 1 last (row ∷ rows) ≡ cond b (row ∷ filter is_begun rows) (filter is_begun rows)
+    at true e rest =
+        let from : 1 ≤ row.session = grind (arith, nat_tests, e) in
+        let most = few.0 in
+        first_of 1 last row rows from (omega (arith, most)) order.0 ∙ ap (λ (list : List PipeRow). row ∷ list) rest
+    at false e rest =
+        let none : row.session < 1 = grind (arith, nat_tests, e) in
+        passed 1 last row rows none ∙ rest
 
 -- the rows of a session are its entries, each with the session's number
 pub rows_again : (q : ℕ) (rows : List PipeRow) → map (λ entry. record { session = q; entry = entry }) (entries_of q rows) ≡ in_session q rows

@@ -25,6 +25,7 @@ use Rattle.vcpu_run.specs.LinesShow.{Sees, seen_at}
 use Rattle.vcpu_run.specs.Machines.{AllStay, KeepsDriver, Stays}
 use Rattle.block_server.specs.Makers.{AreNamed}
 use Rattle.vcpu_run.specs.Named.{absent_unit}
+use Rattle.vcpu_run.proofs.AnswersSeen.{responses_grow}
 use Rattle.vcpu_run.proofs.LinesShown.{drives_sees, sees_on, sees_same}
 use Rattle.vcpu_run.proofs.PairNames.{names_driven, names_served, none_keeps}
 use Rattle.vcpu_run.specs.Pairs.{AreDriven, AreDrivers, ArePairs, Drives, GoesOn, IsCopyOf, IsDriver, IsPair}
@@ -43,15 +44,16 @@ copies_stay old new before after server own window more all =
     (All-weaker (IsOwnCopy (known_of new.own) (known_of new.window)) (IsCopyOf new) (λ copy is named. is) more.more more.lawful))
 
 -- a driver is that of its window as long as the window keeps its unit and its size
-driver_stays : (old new : WindowValue) (driver : Option Driver) → (known_of new).place ≡ (known_of old).place
+pub driver_stays : (old new : WindowValue) (driver : Option Driver) → (known_of new).place ≡ (known_of old).place → SideGrows (side_at (known_of old)) (side_at (known_of new))
     → IfSome driver (IsDriver old) → IfSome driver (IsDriver new)
-driver_stays old new driver place is =
+driver_stays old new driver place grows is =
     let size : length new.pages ≡ length old.pages = ap (λ (place : PortPlace). place.size) place in
     let unit : new.unit ≡ old.unit = ap (λ (place : PortPlace). place.unit) place in
     IfSome_then driver is (λ driver is. record {
       unit = unit ∙ is.unit;
       pages = subst (λ n. MIN_PAGES ≤ n) (sym size) is.pages;
       rows = subst (λ n. FitRows n driver.client) (sym size) is.rows;
+      answers = responses_grow (side_at (known_of old)) (side_at (known_of new)) grows driver.answers.items is.answers;
     })
 
 -- the driver of a pair is that of the same unit
@@ -87,7 +89,7 @@ served home k before after old new server driver own_place window_place own wind
   ready = ready;
   event = event;
   copies = copies_stay old new before after server own window more is.copies;
-  driver = subst (λ driver. IfSome driver (IsDriver new.window)) (sym driver) (driver_stays old.window new.window old.driver window_place is.driver);
+  driver = subst (λ driver. IfSome driver (IsDriver new.window)) (sym driver) (driver_stays old.window new.window old.driver window_place window is.driver);
   names = names_served old new before after server own.unit window.unit (own.unit ∙ (is.own_unit ∙ sym server)) more own_named named is.names;
   absent = absent_stays old new server driver window.unit is.absent;
 }

@@ -3,6 +3,7 @@ pub mod Among
 pub mod Announcing
 pub mod Answering
 pub mod AnswersFound
+pub mod AnswersSeen
 pub mod AnswersShown
 pub mod Apart
 pub mod Askings
@@ -10,6 +11,8 @@ pub mod Blocks
 pub mod Booted
 pub mod Calls
 pub mod CalledPorts
+pub mod CalmTurns
+pub mod Calming
 pub mod CallsGathered
 pub mod CallsGrow
 pub mod CallsKept
@@ -26,6 +29,7 @@ pub mod Driving
 pub mod Elsewhere
 pub mod EventsHeard
 pub mod Fetching
+pub mod FewEvents
 pub mod DataEnds
 pub mod DataGiven
 pub mod DataOf
@@ -42,6 +46,7 @@ pub mod FurtherKept
 pub mod FurtherShown
 pub mod GivenAnswers
 pub mod Giving
+pub mod Gone
 pub mod GivesAll
 pub mod HeardTurns
 pub mod Hearings
@@ -56,6 +61,7 @@ pub mod LinesShown
 pub mod Listed
 pub mod Logging
 pub mod LoginSteps
+pub mod LoginsDealt
 pub mod LoginsPut
 pub mod LoginsShown
 pub mod LoginsTold
@@ -66,6 +72,7 @@ pub mod Naming
 pub mod Opened
 pub mod OpenRounds
 pub mod Opening
+pub mod OrderSent
 pub mod Ordering
 pub mod OwnLines
 pub mod PairNames
@@ -76,6 +83,9 @@ pub mod Placing
 pub mod PortCalling
 pub mod PortEntries
 pub mod PortFitting
+pub mod PortKept
+pub mod PortLines
+pub mod PortLogged
 pub mod PortOffering
 pub mod PortOrder
 pub mod PortPosting
@@ -114,6 +124,7 @@ pub mod ServersKept
 pub mod Settling
 pub mod Showing
 pub mod Sole
+pub mod StepDrives
 pub mod TagsKept
 pub mod TakenOn
 pub mod TakeOrder
@@ -133,4 +144,5 @@ pub mod TurnRest
 pub mod Unfreed
 pub mod ValuesKept
 pub mod Waiting
+pub mod WindowDrives
 pub mod Working

@@ -17,6 +17,7 @@ use Rattle.crq_ring.specs.Pipe.{PipeValue}
 use Rattle.crq_ring.specs.Sessions.{AreRising}
 use Rattle.crq_session.specs.EndState.{EndPlace, EndState, OnlyReserves}
 use Rattle.crq_session.specs.PlainState.{end_of, side_of}
+use Rattle.crq_session.specs.declared.link.PlainLink.{PlainLink}
 use Rattle.rdma_copy.specs.Copies.{side_of as side_at}
 use Rattle.rdma_copy.specs.Copy.{SideGrows}
 use Rattle.tce_window.specs.PlainPort.{known_of}
@@ -42,12 +43,14 @@ use Rattle.vscsi_client.specs.declared.answers.Refused.{Refused}
 use Rattle.vscsi_client.specs.declared.op.Op.{Op}
 use Rattle.unit_region.specs.Answers.{AnswersRead, AnswersWrite}
 use Rattle.unit_region.specs.Kept.{LaysOwnOn}
+use Rattle.unit_region.proofs.Laws.{if_bytes, if_done, read_there as was_read, write_there as wrote_there}
 use Rattle.unit_region.specs.Steps.{IsPlain, is_plain}
 use Rattle.unit_region.specs.declared.step.Step.{Step}
 use Rattle.unit_region.specs.declared.step.Step.TheVariants as steps
 use Rattle.vcpu_run.specs.declared.pair.Pair.{Pair}
 use Rattle.vcpu_run.specs.Commands.{IsOpOf, cdb_of}
-use Rattle.vcpu_run.specs.LinesShow.{AreRead, AreWritten, IsCommandOf, IsFront, IsOn, IsPut, IsPutBy, IsSent, IsFurtherShown, IsSentIf, IsReadIf, IsShown, IsUnitOf, IsWrittenIf, LinesShow, PairShows, Placed, RegionShows, Seen, Sees, StepShows, further_of, read_by, requests, seen_at, seen_by, written_by}
+use Rattle.vcpu_run.specs.AnswersSeen.{IsFront}
+use Rattle.vcpu_run.specs.LinesShow.{AreRead, AreWritten, IsCommandOf, IsOn, IsPut, IsPutBy, IsSent, IsFurtherShown, IsSentIf, IsReadIf, IsShown, IsUnitOf, IsWrittenIf, LinesShow, PairShows, Placed, RegionShows, region_of, Seen, Sees, StepShows, further_of, read_by, requests, seen_at, seen_by, written_by, PairPutsOne, PutsOne, seen_between, seen_since}
 use Rattle.vcpu_run.specs.Pairs.{Drives}
 use Rattle.vcpu_run.specs.Sendings.{SaysSent}
 use Rattle.vcpu_run.specs.Sessions.{entries_of, session_rows, sessions_from}
@@ -59,7 +62,7 @@ use Rattle.vcpu_run.proofs.FurtherKept.{asks_apart, further_more, no_further}
 written_more : (a b : Seen) → Sees a b → (unit : UnitId) (mark at : ℕ) (bytes : List ℕ) → AreWritten a unit mark at bytes → AreWritten b unit mark at bytes
 written_more a b more unit mark at bytes is page here = more.strokes page (stroke_on (record { who = unit; mark = mark }) at bytes page) (is page here)
 
-sent_more : (a b : Seen) → Sees a b → (unit : UnitId) (mark : ℕ) (verb : Verb) (tag : ℕ) → IsSent a unit mark verb tag → IsSent b unit mark verb tag
+pub sent_more : (a b : Seen) → Sees a b → (unit : UnitId) (mark : ℕ) (verb : Verb) (tag : ℕ) → IsSent a unit mark verb tag → IsSent b unit mark verb tag
 sent_more a b more unit mark verb tag is = record {
   slot = is.slot;
   within = is.within;
@@ -143,7 +146,7 @@ read_if_more a b more at (outcomes.Frame code number) is = tt
 read_if_more a b more at outcomes.Done is = tt
 read_if_more a b more at (outcomes.Bytes shown) is = record { fronts = is.fronts; there = λ page here. more.fronts page (is.fronts page) (is.there page here); read = is.read }
 
-region_more : (a b : Seen) → Sees a b → (unit : UnitId) (mark : ℕ) (placed : Option Placed) (at : Option ℕ) (outcome : Outcome) → RegionShows a unit mark placed at outcome
+pub region_more : (a b : Seen) → Sees a b → (unit : UnitId) (mark : ℕ) (placed : Option Placed) (at : Option ℕ) (outcome : Outcome) → RegionShows a unit mark placed at outcome
     → RegionShows b unit mark placed at outcome
 region_more a b more unit mark placed at outcome is = (wrote placed is.0, read at is.1)
   where
@@ -273,38 +276,13 @@ fail_shows seen unit mark verb outcome failing =
 pub contains_first : {X : Type 0} (x : X) (rest : List X) → Contains (x ∷ rest) x
 contains_first x rest = (zero, omega arith, refl)
 
--- a write of bytes lays a stroke on each page that they touch
-pub touched : (at len page : ℕ) → touches at len page ≡ true → (first_page at ≤ page) × (page < end_page at len)
-touched at len page h = both (nat_le (first_page at) page) (nat_lt page (end_page at len)) refl refl h
-  where
-    both : (a b : Bool) → nat_le (first_page at) page ≡ a → nat_lt page (end_page at len) ≡ b → (a && b) ≡ true → (first_page at ≤ page) × (page < end_page at len)
-    both true true e f h = (grind (arith, nat_tests, e), grind (arith, nat_tests, f))
-    both true false e f h = absurd (cc)
-    both false b e f h = absurd (cc)
-
-laid_there : (stroke : StrokeValue) (before after : Option (List StrokeValue)) → after ≡ with_strokes before (stroke ∷ []) → IsSome after → IsOn stroke after
-laid_there stroke None after e there = absurd (none after e there)
-  where
-    false_true : false ≡ true → ⊥
-    false_true e = cc
-
-    none : (o : Option (List StrokeValue)) → o ≡ None → IsSome o → ⊥
-    none o is some = let found : IsSome {T = List StrokeValue} None = subst (λ (x : Option (List StrokeValue)). IsSome x) is some in false_true found
-laid_there stroke (Some strokes) after e there =
-    subst (IsOn stroke) (sym e) (Contains-append_right strokes (stroke ∷ []) stroke (contains_first stroke []))
-
 -- what there is in a window, with these entries
 abbrev pub seen_there : PortState → (Entry → Type 0) → Seen
 seen_there port entries = record { stroke_at = λ page stroke. IsOn stroke (port.strokes page); front_at = λ page front. IsFront front (port.strokes page); value_at = λ entry value. Contains (port.values entry) value; entry_put = entries }
 
 pub write_there : (shared : Bool) (old new : PortState) (at mark : ℕ) (bytes : List ℕ) (entries : Entry → Type 0) → Writes shared old at bytes mark new
     → AreWritten (seen_there new entries) old.place.unit mark at bytes
-write_there shared old new at mark bytes entries is page here =
-    let name : StrokeName = record { who = old.place.unit; mark = mark } in
-    let stroke = stroke_on name at bytes page in
-    let w = is.strokes page in
-    let within = touched at (length bytes) page here in
-    laid_there stroke w.before (new.strokes page) (w.laid ∙ ap (λ b. cond b (with_strokes w.before (stroke ∷ [])) w.before) here) (is.there page within.0 within.1)
+write_there shared old new at mark bytes entries is = wrote_there shared old new at mark bytes is
 
 -- a unit was written into its slot, and its entry put
 abbrev row_of : Ports → Entry → PipeRow
@@ -316,7 +294,7 @@ next_within s slot (inr is) = is.within
 
 unit_sent : (line slot : ℕ) (bytes : List ℕ) (old before new : Ports) (s : ClientState) (verb : Verb) (tag : ℕ) (iu : Iu) → before.crq_shared ≡ old.crq_shared
     → OnlyReserves old.crq before.crq → new.crq.place ≡ old.crq.place → new.own.place ≡ old.own.place → IsUnitOf verb tag iu → IsReady s iu slot bytes
-    → UnitPut line slot bytes before new → IsSent (seen_by old.crq_shared new.own new.crq) old.own.place.unit line verb tag
+    → UnitPut line slot bytes before new → IsSent (seen_since old.crq_shared new.own old.crq new.crq) old.own.place.unit line verb tag
 unit_sent line slot bytes old before new s verb tag iu shared room place own is ready put = record {
   slot = slot;
   within = next_within s slot ready.1;
@@ -324,13 +302,11 @@ unit_sent line slot bytes old before new s verb tag iu shared room place own is 
   of_line = is;
   bytes = bytes;
   canonical = ready.0;
-  written = subst (λ unit. AreWritten (seen_by old.crq_shared new.own new.crq) unit line (slot_address slot) bytes)
+  written = subst (λ unit. AreWritten (seen_since old.crq_shared new.own old.crq new.crq) unit line (slot_address slot) bytes)
       (ap (λ (p : PortPlace). p.unit) (sym put.laid.1.place ∙ own))
-      (write_there before.own_shared before.own new.own (slot_address slot) line bytes (IsPutBy old.crq_shared new.crq) put.laid.0);
+      (write_there before.own_shared before.own new.own (slot_address slot) line bytes (PutsOne old.crq_shared old.crq new.crq) put.laid.0);
   entry = record {
-    there = subst (λ (rows : List PipeRow). Contains rows (row_of new (srp_entry (length bytes) (slot_address slot)))) (sym put.sent.puts.sent)
-        (Contains-append_right before.crq.sent (row_of new (srp_entry (length bytes) (slot_address slot)) ∷ []) (row_of new (srp_entry (length bytes) (slot_address slot)))
-        (contains_first (row_of new (srp_entry (length bytes) (slot_address slot))) []));
+    sent = put.sent.puts.sent ∙ ap (λ (rows : List PipeRow). rows ++ row_of new (srp_entry (length bytes) (slot_address slot)) ∷ []) room.sent;
     partner = λ alone. ap (λ (p : EndPlace). p.partner_registered) (place ∙ sym room.place) ∙ put.sent.puts.partner (shared ∙ alone);
   };
 }
@@ -380,66 +356,41 @@ not_sent seen unit mark verb (Err memory) asked plain = tt
 
 pub submit_shows : (verb : Verb) (line : ℕ) (op : Op) (s s' : ClientState) (old new : Ports) (answer : Result ℕ Refused) (result : Result Step NoMemory) → IsOpOf verb op
     → op.cdb ≡ cdb_of verb → SaysSent answer result → IfOk answer (Submitted line op s s' old new) → new.crq.place ≡ old.crq.place → new.own.place ≡ old.own.place
-    → StepShows (seen_by old.crq_shared new.own new.crq) old.own.place.unit line verb result
+    → StepShows (seen_since old.crq_shared new.own old.crq new.crq) old.own.place.unit line verb result
 submit_shows verb line op s s' old new (Ok tag) result is cdb says sent place own =
     let put = sent.put in
-    sent_as (seen_by old.crq_shared new.own new.crq) old.own.place.unit line verb tag result (op_requests verb op is) says
+    sent_as (seen_since old.crq_shared new.own old.crq new.crq) old.own.place.unit line verb tag result (op_requests verb op is) says
     (unit_sent line sent.slot put.0 old sent.before new s verb tag (units.Cmd sent.command) sent.ready.crq_shared sent.ready.crq place own
     (op_unit verb op tag (units.Cmd sent.command) is
     (record { op = op; of_line = is; cdb = cdb; command = sent.command; is = subst (λ t. IsCommand t op sent.command) (sym sent.tag_is) sent.is_command; unit_is = refl })) put.1 put.2)
 submit_shows verb line op s s' old new (Err why) result is cdb says sent place own =
-    not_sent (seen_by old.crq_shared new.own new.crq) old.own.place.unit line verb result (op_requests verb op is) says
+    not_sent (seen_since old.crq_shared new.own old.crq new.crq) old.own.place.unit line verb result (op_requests verb op is) says
 
 put_shows : (verb : Verb) (line slot tag : ℕ) (s : ClientState) (iu : Iu) (old new : Ports) (result : Result Step NoMemory) → requests verb ≡ true → IsUnitOf verb tag iu
     → result ≡ Ok (steps.Ends (outcomes.Sent tag)) → Put line s iu slot old new → new.crq.place ≡ old.crq.place → new.own.place ≡ old.own.place
-    → StepShows (seen_by old.crq_shared new.own new.crq) old.own.place.unit line verb result
+    → StepShows (seen_since old.crq_shared new.own old.crq new.crq) old.own.place.unit line verb result
 put_shows verb line slot tag s iu old new result asked is says put place own =
-    sent_as (seen_by old.crq_shared new.own new.crq) old.own.place.unit line verb tag result asked says
+    sent_as (seen_since old.crq_shared new.own old.crq new.crq) old.own.place.unit line verb tag result asked says
     (unit_sent line slot put.put.0 old put.before new s verb tag iu put.ready.crq_shared put.ready.crq place own is put.put.1 put.put.2)
 
 pub task_shows : (line function task : ℕ) (s s' : ClientState) (old new : Ports) (answer : Result ℕ Refused) (result : Result Step NoMemory) → SaysSent answer result
     → IfOk answer (Tasked line function task s s' old new) → new.crq.place ≡ old.crq.place → new.own.place ≡ old.own.place
-    → StepShows (seen_by old.crq_shared new.own new.crq) old.own.place.unit line (verbs.Task function task) result
+    → StepShows (seen_since old.crq_shared new.own old.crq new.crq) old.own.place.unit line (verbs.Task function task) result
 task_shows line function task s s' old new (Ok tag) result says sent place own =
     put_shows (verbs.Task function task) line sent.slot tag s (task_unit function task s) old new result refl
     (ap (λ t. units.TskMgmt (task_request function task t)) (sym sent.tag_is)) says sent.put place own
 task_shows line function task s s' old new (Err why) result says sent place own =
-    not_sent (seen_by old.crq_shared new.own new.crq) old.own.place.unit line (verbs.Task function task) result refl says
+    not_sent (seen_since old.crq_shared new.own old.crq new.crq) old.own.place.unit line (verbs.Task function task) result refl says
 
 pub logout_shows : (line : ℕ) (s s' : ClientState) (old new : Ports) (answer : Result ℕ Refused) (result : Result Step NoMemory) → SaysSent answer result
     → IfOk answer (LoggedOut line s s' old new) → new.crq.place ≡ old.crq.place → new.own.place ≡ old.own.place
-    → StepShows (seen_by old.crq_shared new.own new.crq) old.own.place.unit line verbs.Logout result
+    → StepShows (seen_since old.crq_shared new.own old.crq new.crq) old.own.place.unit line verbs.Logout result
 logout_shows line s s' old new (Ok tag) result says sent place own =
     put_shows verbs.Logout line sent.slot tag s (logout_unit s) old new result refl (ap (λ t. units.ILogout t) (sym sent.tag_is)) says sent.put place own
 logout_shows line s s' old new (Err why) result says sent place own =
-    not_sent (seen_by old.crq_shared new.own new.crq) old.own.place.unit line verbs.Logout result refl says
+    not_sent (seen_since old.crq_shared new.own old.crq new.crq) old.own.place.unit line verbs.Logout result refl says
 
 -- a line that writes bytes into the region
-if_done : (shared : Bool) (old new : PortState) (at : ℕ) (bytes : List ℕ) (mark : ℕ) (P : Type 0) → (Writes shared old at bytes mark new → P) → (outcome : Outcome)
-    → AnswersWrite shared old new at bytes mark (steps.Ends outcome) → IsWrittenIf outcome P
-if_done shared old new at bytes mark P from (outcomes.Granted credits) answer = tt
-if_done shared old new at bytes mark P from (outcomes.Sent tag) answer = tt
-if_done shared old new at bytes mark P from (outcomes.Took count) answer = tt
-if_done shared old new at bytes mark P from outcomes.Lost answer = tt
-if_done shared old new at bytes mark P from (outcomes.TookThenLost count) answer = tt
-if_done shared old new at bytes mark P from (outcomes.Rejected reason) answer = tt
-if_done shared old new at bytes mark P from outcomes.Unanswered answer = tt
-if_done shared old new at bytes mark P from outcomes.Range answer = tt
-if_done shared old new at bytes mark P from outcomes.NotLoggedIn answer = tt
-if_done shared old new at bytes mark P from (outcomes.NoCredit limit) answer = tt
-if_done shared old new at bytes mark P from (outcomes.Overlap tag) answer = tt
-if_done shared old new at bytes mark P from outcomes.Closed answer = tt
-if_done shared old new at bytes mark P from (outcomes.Dropped number held) answer = tt
-if_done shared old new at bytes mark P from (outcomes.Data size sum) answer = tt
-if_done shared old new at bytes mark P from (outcomes.Stale page) answer = tt
-if_done shared old new at bytes mark P from outcomes.Unknown answer = tt
-if_done shared old new at bytes mark P from (outcomes.Code code) answer = tt
-if_done shared old new at bytes mark P from (outcomes.Value value) answer = tt
-if_done shared old new at bytes mark P from (outcomes.Posted buffers code) answer = tt
-if_done shared old new at bytes mark P from (outcomes.Frame code number) answer = tt
-if_done shared old new at bytes mark P from outcomes.Done answer = from answer
-if_done shared old new at bytes mark P from (outcomes.Bytes shown) answer = tt
-
 pub write_shows : (shared : Bool) (old new : PortState) (at mark : ℕ) (bytes : List ℕ) (entries : Entry → Type 0) (verb : Verb) (result : Result Step NoMemory) → requests verb ≡ false
     → written_by verb ≡ Some (record { at = at; bytes = bytes }) → read_by verb ≡ None → further_of verb ≡ None → IfOk result (AnswersWrite shared old new at bytes mark)
     → StepShows (seen_there new entries) old.place.unit mark verb result
@@ -456,41 +407,8 @@ write_shows shared old new at mark bytes entries verb (Ok (steps.Waits did)) no_
 write_shows shared old new at mark bytes entries verb (Err memory) no_request is no_read none answer = tt
 
 -- a line that reads bytes of the region
-pub front_of : (strokes : Option (List StrokeValue)) → IsSome strokes → IsFront strokes strokes
-front_of None some = absurd (cc (some))
-front_of (Some strokes) some = ([], sym (append-nil strokes))
-
 pub read_there : (new : PortState) (at : ℕ) (shown : List ℕ) (entries : Entry → Type 0) → Reads new at shown → AreRead (seen_there new entries) at shown
-read_there new at shown entries is = record {
-  fronts = new.strokes;
-  there = λ page here. let within = touched at (length shown) page here in front_of (new.strokes page) (is.there page within.0 within.1);
-  read = is.bytes;
-}
-
-if_bytes : (seen : Seen) (at : ℕ) (new : PortState) (len : ℕ) (old : PortState) → ((shown : List ℕ) → Reads new at shown → AreRead seen at shown) → (outcome : Outcome)
-    → AnswersRead old new at len (steps.Ends outcome) → IsReadIf seen at outcome
-if_bytes seen at new len old from (outcomes.Granted credits) answer = tt
-if_bytes seen at new len old from (outcomes.Sent tag) answer = tt
-if_bytes seen at new len old from (outcomes.Took count) answer = tt
-if_bytes seen at new len old from outcomes.Lost answer = tt
-if_bytes seen at new len old from (outcomes.TookThenLost count) answer = tt
-if_bytes seen at new len old from (outcomes.Rejected reason) answer = tt
-if_bytes seen at new len old from outcomes.Unanswered answer = tt
-if_bytes seen at new len old from outcomes.Range answer = tt
-if_bytes seen at new len old from outcomes.NotLoggedIn answer = tt
-if_bytes seen at new len old from (outcomes.NoCredit limit) answer = tt
-if_bytes seen at new len old from (outcomes.Overlap tag) answer = tt
-if_bytes seen at new len old from outcomes.Closed answer = tt
-if_bytes seen at new len old from (outcomes.Dropped number held) answer = tt
-if_bytes seen at new len old from (outcomes.Data size sum) answer = tt
-if_bytes seen at new len old from (outcomes.Stale page) answer = tt
-if_bytes seen at new len old from outcomes.Unknown answer = tt
-if_bytes seen at new len old from (outcomes.Code code) answer = tt
-if_bytes seen at new len old from (outcomes.Value value) answer = tt
-if_bytes seen at new len old from (outcomes.Posted buffers code) answer = tt
-if_bytes seen at new len old from (outcomes.Frame code number) answer = tt
-if_bytes seen at new len old from outcomes.Done answer = tt
-if_bytes seen at new len old from (outcomes.Bytes shown) answer = from shown answer.read
+read_there new at shown entries is = was_read new at shown is
 
 pub read_shows : (old new : PortState) (unit : UnitId) (at len mark : ℕ) (entries : Entry → Type 0) (verb : Verb) (result : Result Step NoMemory) → requests verb ≡ false
     → written_by verb ≡ None → read_by verb ≡ Some at → further_of verb ≡ None → IfOk result (AnswersRead old new at len) → StepShows (seen_there new entries) unit mark verb result
@@ -499,7 +417,7 @@ read_shows old new unit at len mark entries verb (Ok (steps.Ends outcome)) no_re
       subst (λ b. MatchBool b (IsSentIf seen unit mark verb outcome) (RegionShows seen unit mark (written_by verb) (read_by verb) outcome)) (sym no_request)
           (subst (λ (o : Option Placed). RegionShows seen unit mark o (read_by verb) outcome) (sym no_bytes)
           (subst (λ (o : Option ℕ). RegionShows seen unit mark None o outcome) (sym is)
-          (tt, if_bytes seen at new len old (λ shown. read_there new at shown entries) outcome answer))),
+          (tt, if_bytes (region_of seen) at new len old (λ shown. was_read new at shown) outcome answer))),
       no_further seen (further_of verb) outcome none,
     )
 read_shows old new unit at len mark entries verb (Ok (steps.Waits did)) no_request no_bytes is none answer = tt
@@ -527,7 +445,7 @@ more_on unit stroke (Some old) None lays is = absurd lays
 more_on unit stroke (Some old) (Some new) lays is =
     subst (λ (strokes : List StrokeValue). Contains strokes stroke) (sym lays.is) (Contains-append_left old lays.more stroke is)
 
-front_more : (front old new : Option (List StrokeValue)) → ((strokes : List StrokeValue) → old ≡ Some strokes → (more : List StrokeValue) × (new ≡ Some (strokes ++ more)))
+pub front_more : (front old new : Option (List StrokeValue)) → ((strokes : List StrokeValue) → old ≡ Some strokes → (more : List StrokeValue) × (new ≡ Some (strokes ++ more)))
     → IsFront front old → IsFront front new
 front_more None old new grows is = absurd is
 front_more (Some front) None new grows is = absurd is
@@ -553,7 +471,7 @@ laid_more unit strokes (Some old) None e lays = absurd lays
 laid_more unit strokes (Some old) (Some new) e lays =
     (lays.more, ap Some (lays.is ∙ ap (λ (list : List StrokeValue). list ++ lays.more) (some_is old strokes e)))
 
-grown_more : (strokes : List StrokeValue) (old new : Option (List StrokeValue)) → old ≡ Some strokes → Grows true old new
+pub grown_more : (strokes : List StrokeValue) (old new : Option (List StrokeValue)) → old ≡ Some strokes → Grows true old new
     → (more : List StrokeValue) × (new ≡ Some (strokes ++ more))
 grown_more strokes None new e grows = absurd (no_strokes strokes e)
   where
@@ -576,7 +494,7 @@ drives_sees old new is = record {
   entries = λ entry put. more_put entry (side_of old.link true).queue.sent is.puts.rows (side_of new.link true).queue.sent is.puts.sent put;
 }
 
-grown_on : (stroke : StrokeValue) (old new : Option (List StrokeValue)) → Grows true old new → IsOn stroke old → IsOn stroke new
+pub grown_on : (stroke : StrokeValue) (old new : Option (List StrokeValue)) → Grows true old new → IsOn stroke old → IsOn stroke new
 grown_on stroke None new grows is = absurd is
 grown_on stroke (Some old) None grows is = absurd grows
 grown_on stroke (Some old) (Some new) grows is =
@@ -701,11 +619,57 @@ end_sees pair lenders first is =
     subst (λ b. Sees (seen_by false (known_of pair.window) (end_of lenders pair.link b)) (seen_at pair)) (sym is)
     (home_sees pair (known_of pair.window) (end_of lenders pair.link false) refl refl refl refl refl)
 
-pub pair_shows : (pair : Pair) (lenders : List GName) (first : Bool) (who : UnitId) (line : Line) (result : Result Step NoMemory) → first ≡ false → pair.window.unit ≡ who
-    → StepShows (seen_by false (known_of pair.window) (end_of lenders pair.link first)) who line.number line.verb result → PairShows line pair result
-pair_shows pair lenders first who line result is same shows =
-    subst (λ unit. StepShows (seen_at pair) unit line.number line.verb result) (sym same)
-    (step_more (seen_by false (known_of pair.window) (end_of lenders pair.link first)) (seen_at pair) (end_sees pair lenders first is) who line.number line.verb result shows)
+-- a step behind others that put nothing
+pub since_from : (shared : Bool) (port : PortState) (old mid new : EndState) → mid.sent ≡ old.sent → Sees (seen_since shared port mid new) (seen_since shared port old new)
+since_from shared port old mid new same = record {
+  strokes = λ page stroke is. is;
+  fronts = λ page front is. is;
+  values = λ entry value is. is;
+  entries = λ entry put. record {
+    sent = put.sent ∙ ap (λ (rows : List PipeRow). rows ++ record { session = new.counts.partner_session; entry = entry } ∷ []) same;
+    partner = put.partner;
+  };
+}
+
+-- the end at which it was made is the pair's again
+since_sees : (old new : Pair) (x y : List GName) (f g : Bool) (lent : PlainLink) → lent ≡ old.link → f ≡ false → g ≡ false
+    → Sees (seen_since false (known_of new.window) (end_of x lent f) (end_of y new.link g)) (seen_between old new)
+since_sees old new x y f g lent same first next =
+    subst (λ (d : Bool). Sees (seen_since false (known_of new.window) (end_of x lent f) (end_of y new.link d)) (seen_between old new)) (sym next)
+    (subst (λ (d : Bool). Sees (seen_since false (known_of new.window) (end_of x lent d) (end_of y new.link false)) (seen_between old new)) (sym first)
+    (subst (λ (l : PlainLink). Sees (seen_since false (known_of new.window) (end_of x l false) (end_of y new.link false)) (seen_between old new)) (sym same)
+    (record {
+      strokes = λ page stroke is. is;
+      fronts = λ page front is. is;
+      values = λ entry value is. is;
+      entries = λ entry put. record {
+        row = record { session = (side_of new.link true).queue.session; entry = entry };
+        sent = put.sent;
+        entry_is = refl;
+        begun = (side_of new.link true).begun (put.partner refl);
+      };
+    })))
+
+pub pair_shows : (old new : Pair) (x y : List GName) (f g : Bool) (lent : PlainLink) (who : UnitId) (line : Line) (result : Result Step NoMemory) → lent ≡ old.link → f ≡ false → g ≡ false
+    → new.window.unit ≡ who → StepShows (seen_since false (known_of new.window) (end_of x lent f) (end_of y new.link g)) who line.number line.verb result → PairShows line old new result
+pair_shows old new x y f g lent who line result same first next unit shows =
+    subst (λ u. StepShows (seen_between old new) u line.number line.verb result) (sym unit)
+    (step_more (seen_since false (known_of new.window) (end_of x lent f) (end_of y new.link g)) (seen_between old new) (since_sees old new x y f g lent same first next)
+    who line.number line.verb result shows)
+
+-- what a step shows is there
+pub between_sees : (old new : Pair) → Sees (seen_between old new) (seen_at new)
+between_sees old new = record {
+  strokes = λ page stroke is. is;
+  fronts = λ page front is. is;
+  values = λ entry value is. is;
+  entries = λ entry put. record {
+    row = put.row;
+    there = subst (λ (rows : List PipeRow). Contains rows put.row) (sym put.sent) (Contains-append_right (side_of old.link true).queue.sent (put.row ∷ []) put.row (contains_first put.row []));
+    entry_is = put.entry_is;
+    begun = put.begun;
+  };
+}
 
 pub front_shown : (size page : ℕ) (front strokes : Option (List StrokeValue)) (shown : List StrokeValue)
     → Grows true strokes (cond (nat_lt page size) (Some shown) None) → IsFront front strokes → IsFront front (Some shown)

@@ -1,6 +1,6 @@
 -- The answers to requests to log in that a unit put: over its own turns, turns of others, before the first, and at rest.
 use Rattle.std.proofs.Common.{◌≡◌, ◌⊎◌, inl, inr, ◌∙◌, ◌++◌, ◌==◌, ◌&&◌, ℕ, Bool, true, false, cond, All, List, [], ◌∷◌, Option, Some, None, IfSome, filter, map, slice_get, refl, sym, ap, subst, append-nil}
-use Rattle.std.specs.List.{cons_option, filter_map}
+use Rattle.std.specs.List.{Contains, cons_option, filter_map}
 use Rattle.std.proofs.Math.Logic.{∥∥₁_elim}
 use Rattle.std.proofs.lemmas.List.{append_cancel_left, map-append}
 use Rattle.std.proofs.lemmas.List.Elements.{All-head, All-nil, All-tail, All-weaker, filter-append}
@@ -13,12 +13,12 @@ use Rattle.vio_num.specs.declared.names.UnitId.{UnitId}
 use Rattle.crq_session.specs.EndState.{EndState}
 use Rattle.block_server.specs.Asked.{AreAskedInOrder, AskInOrder, AskedAt, IsAskedFirst, still_to_answer}
 use Rattle.block_server.specs.Causes.{Hearing, Includes, Told, told_to}
-use Rattle.block_server.specs.Dealt.{AreDealt, AsksNoLogin, HasDealt, IsLoginAnswered, IsLoginSettled, SendsSoFar}
+use Rattle.block_server.specs.Dealt.{AreDealt, AsksNoLogin, HasDealt, IsLoginAnswered, IsLoginSettled, IsPutOrLost, KnowsSends, SendsSoFar, TookNoEvent}
 use Rattle.block_server.specs.Granting.{IsRejectedOver}
 use Rattle.block_server.specs.LoginAnswers.{IsLoginAnswer, IsLoginPut, LoginAnswer, asked_at, grants_in, is_grant, line_of, login_answers}
 use Rattle.block_server.specs.Judges.{AreUnused}
 use Rattle.block_server.specs.Makers.{same_unit}
-use Rattle.block_server.specs.Ready.{HasNothing}
+use Rattle.block_server.specs.Ready.{AgreesAt, HasNothing}
 use Rattle.block_server.specs.Receipts.{LinesMore, is_ended, unit_of}
 use Rattle.block_server.specs.Refusals.{AnswersInOrder}
 use Rattle.block_server.specs.declared.records.Records.{Records}
@@ -28,10 +28,11 @@ use Rattle.block_server.specs.Numbers.{login_left}
 use Rattle.block_server.specs.Rejecting.{IsOnByLines, LinesTellLogin, RejectInTime, RejectsThen}
 use Rattle.block_server.proofs.AskedLaws.{asked_kept, on_kept}
 use Rattle.std.proofs.lemmas.Option.{IfSome_then}
-use Rattle.block_server.proofs.DealtLaws.{dealt_at_rest, dealt_unused}
+use Rattle.block_server.proofs.DealtLaws.{dealt_at_rest, dealt_unused, dealt_wider}
 use Rattle.block_server.proofs.Laws.{logins_on}
 use Rattle.block_server.proofs.OnThen.{in_time_on}
-use Rattle.vcpu_run.specs.LoginsSent.{AreLoginsAnswered, AreLoginsInOrder, GoInOrder, lines_by}
+use Rattle.vcpu_run.specs.LoginsSent.{AreLoginsDealt, AreLoginsInOrder, GoInOrder, IsLoginGiven, lines_by}
+use Rattle.vcpu_run.proofs.LoginsDealt.{IsClosedSo}
 use Rattle.vcpu_run.proofs.RowCopies.{granted_more}
 use Rattle.vcpu_run.proofs.Sole.{same_refl}
 
@@ -196,18 +197,20 @@ in_time_by unit granted lines (answer ∷ more) all is = step answer.line (λ li
 -- OVER TURNS -------------------------------------------------------------------------------------
 
 -- Over a turn of the unit.
-pub order_served : {granted : ℕ} (told : Told → Bool) (unit : UnitId) (units units' : List Unit) (k : ℕ) (queue queue' : EndState) (records records' : Records) → Begins queue.taken queue'.taken
-    → ∥ LinesMore unit granted records.grants.items records'.grants.items ∥₁
-    → ((earlier : List AskedAt) → AskInOrder earlier units k queue → LinesTellLogin units k unit queue records.grants.items → HasDealt told earlier (λ q. true) units k unit queue
-    → AnswersInOrder told earlier (λ q. true) units' k unit queue queue' records records')
-    → GoInOrder told units k unit queue.last_session queue.taken (login_answers queue.sent) records.grants.items
-    → GoInOrder told units' k unit queue'.last_session queue'.taken (login_answers queue'.sent) records'.grants.items
+pub order_served : {granted : ℕ} (told : Told → Bool) (unit : UnitId) (units units' : List Unit) (k : ℕ) (queue queue' : EndState) (records records' : Records) (Heard Heard' : Type 0)
+    → Begins queue.taken queue'.taken → ∥ LinesMore unit granted records.grants.items records'.grants.items ∥₁
+    → ((earlier : List AskedAt) → AskInOrder earlier units k queue → LinesTellLogin units k unit queue records.grants.items → (closed : ℕ → Bool) → KnowsSends (AgreesAt units k queue) false queue queue' closed
+    → HasDealt told earlier closed units k unit queue → AnswersInOrder told earlier closed units' k unit queue queue' records records')
+    → ((closed : Bool) → (closed ≡ true → Heard) → IsClosedSo told units units' k unit queue queue' closed Heard')
+    → GoInOrder told units k unit queue.last_session queue.taken (login_answers queue.sent) records.grants.items Heard
+    → GoInOrder told units' k unit queue'.last_session queue'.taken (login_answers queue'.sent) records'.grants.items Heard'
 unfolding logins_on
-order_served told unit units units' k queue queue' records records' more came step is =
+order_served told unit units units' k queue queue' records records' Heard Heard' more came step choose is =
     let Hears = told_to told unit in
     let lines = records.grants.items in
     let lines' = records'.grants.items in
-    let now = step (map asked_at is.put.more) is.asked is.on is.dealt in
+    let so = choose is.closed is.heard in
+    let now = step (map asked_at is.put.more) is.asked is.on so.closed so.knows (dealt_wider told (map asked_at is.put.more) (λ q. is.closed) so.closed units k unit queue so.wider is.dealt) in
     let puts = now.logins in
     record {
       put = logins_on Hears queue.taken queue'.taken [] (login_answers queue.sent) (login_answers queue'.sent) [] (lines_by unit lines) (lines_by unit lines') more is.put
@@ -218,7 +221,10 @@ order_served told unit units units' k queue queue' records records' more came st
           (subst (λ (list : List Grant). RejectInTime unit list (lines_by unit lines') puts.more) (either_order (is_by unit) is_grant lines ∙ is.put.granted)
           (in_time_by unit (grants_in lines) lines' puts.more (grants_all unit lines lines' puts.more came puts.granted) now.rejects));
       on = now.on;
-      dealt = subst (λ (list : List AskedAt). HasDealt told list (λ q. true) units' k unit queue') (sym (map-append asked_at is.put.more puts.more)) now.deals;
+      closed = so.last;
+      dealt = subst (λ (list : List AskedAt). HasDealt told list (λ q. so.last) units' k unit queue') (sym (map-append asked_at is.put.more puts.more))
+          (so.dealt (map asked_at is.put.more ++ map asked_at puts.more) now.deals);
+      heard = so.heard;
     }
 
 -- Over a turn of another unit.
@@ -231,9 +237,9 @@ lines_elsewhere unit other lines lines' came apart =
     ∙ append-nil (lines_by unit lines)))
 
 pub order_elsewhere : {granted : ℕ} (told : Told → Bool) (units units' : List Unit) (k : ℕ) (unit other : UnitId) (session : ℕ) (taken : List PipeRow) (answers : List Entry) (lines lines' : List Grant)
-    → slice_get units' k ≡ slice_get units k → LinesMore other granted lines lines' → same_unit other unit ≡ false
-    → GoInOrder told units k unit session taken answers lines → GoInOrder told units' k unit session taken answers lines'
-order_elsewhere told units units' k unit other session taken answers lines lines' same came apart is = record {
+    (Heard : Type 0) → slice_get units' k ≡ slice_get units k → LinesMore other granted lines lines' → same_unit other unit ≡ false
+    → GoInOrder told units k unit session taken answers lines Heard → GoInOrder told units' k unit session taken answers lines' Heard
+order_elsewhere told units units' k unit other session taken answers lines lines' Heard same came apart is = record {
   put = record { more = is.put.more; put = is.put.put; granted = ap grants_in (lines_elsewhere unit other lines lines' came apart) ∙ is.put.granted; each = is.put.each };
   asked = subst (λ (o : Option Unit). IfSome o (λ u. AreAskedInOrder (map asked_at is.put.more ++ still_to_answer session taken u.waiting u.pending.items))) (sym same) is.asked;
   rejects = subst (λ (list : List Grant). RejectInTime unit [] list is.put.more) (sym (lines_elsewhere unit other lines lines' came apart)) is.rejects;
@@ -243,8 +249,10 @@ order_elsewhere told units units' k unit other session taken answers lines lines
         off = was.off;
         later = λ q above. others q ∙ was.later q above;
       }));
+  closed = is.closed;
   dealt = subst (λ (o : Option Unit). IfSome o (λ u. AreDealt (told_to told unit) session taken u.waiting u.pending.items (is_ended u.line)
-      (record { put = map asked_at is.put.more; closed = λ q. true }))) (sym same) is.dealt;
+      (record { put = map asked_at is.put.more; closed = λ q. is.closed }))) (sym same) is.dealt;
+  heard = is.heard;
 }
   where
     others : (q : ℕ) → filter (is_line unit q) lines' ≡ filter (is_line unit q) lines
@@ -255,9 +263,9 @@ order_elsewhere told units units' k unit other session taken answers lines lines
         ∙ append-nil (filter (is_line unit q) lines))
 
 -- Before the first turn.
-pub order_fresh : (told : Told → Bool) (units : List Unit) (k : ℕ) (unit : UnitId) (queue : EndState) (answers : List Entry) (lines : List Grant) → answers ≡ [] → lines ≡ [] → queue.taken ≡ []
-    → AreUnused units → GoInOrder told units k unit queue.last_session queue.taken answers lines
-order_fresh told units k unit queue answers lines none no_lines empty unused = record {
+pub order_fresh : (told : Told → Bool) (units : List Unit) (k : ℕ) (unit : UnitId) (queue : EndState) (answers : List Entry) (lines : List Grant) (Heard : Type 0) → answers ≡ [] → lines ≡ []
+    → queue.taken ≡ [] → AreUnused units → GoInOrder told units k unit queue.last_session queue.taken answers lines Heard
+order_fresh told units k unit queue answers lines Heard none no_lines empty unused = record {
   put = record {
     more = [];
     put = none;
@@ -267,7 +275,22 @@ order_fresh told units k unit queue answers lines none no_lines empty unused = r
   asked = asked_kept units k unit queue [] [] [] (unused k unit queue empty);
   rejects = tt;
   on = subst (λ (list : List Grant). LinesTellLogin units k unit queue list) (sym no_lines) (on_kept units k unit queue [] [] [] (unused k unit queue empty));
-  dealt = dealt_unused told [] (λ q. true) units k unit queue empty;
+  closed = false;
+  dealt = dealt_unused told [] (λ q. false) units k unit queue empty;
+  heard = λ closed. absurd (cc (closed));
+}
+
+-- Where an event that was heard is heard of by another end of the same queue.
+pub order_heard : (told : Told → Bool) (units : List Unit) (k : ℕ) (unit : UnitId) (session : ℕ) (taken : List PipeRow) (answers : List Entry) (lines : List Grant) (Heard Heard' : Type 0)
+    → (Heard → Heard') → GoInOrder told units k unit session taken answers lines Heard → GoInOrder told units k unit session taken answers lines Heard'
+order_heard told units k unit session taken answers lines Heard Heard' then is = record {
+  put = is.put;
+  asked = is.asked;
+  rejects = is.rejects;
+  on = is.on;
+  closed = is.closed;
+  dealt = is.dealt;
+  heard = λ closed. then (is.heard closed);
 }
 
 -- MORE IS HEARD ----------------------------------------------------------------------------------
@@ -322,8 +345,8 @@ order_front (x ∷ xs) ys is = (first_front x xs ys is.0, order_front xs ys is.1
 
 -- What a unit put, by all that is shown.
 pub order_shown : (told : Told → Bool) (More : Hearing) (units : List Unit) (k : ℕ) (u : Unit) (unit : UnitId) (session : ℕ) (taken : List PipeRow) (answers : List Entry) (lines : List Grant)
-    → Includes (told_to told unit) More → slice_get units k ≡ Some u → GoInOrder told units k unit session taken answers lines → AreLoginsInOrder More unit taken answers lines
-order_shown told More units k u unit session taken answers lines more there is = record {
+    (Heard : Type 0) → Includes (told_to told unit) More → slice_get units k ≡ Some u → GoInOrder told units k unit session taken answers lines Heard → AreLoginsInOrder More unit taken answers lines
+order_shown told More units k u unit session taken answers lines Heard more there is = record {
   put = record {
     more = is.put.more;
     put = is.put.put;
@@ -335,21 +358,39 @@ order_shown told More units k u unit session taken answers lines more there is =
   rejects = is.rejects;
 }
 
--- of an entry that asked for no login, or whose login was answered
-answered_more : (Hears More : Hearing) → Includes Hears More → (session : ℕ) (taken : List PipeRow) (sends : SendsSoFar) (number : ℕ) (entry : Entry)
-    → AsksNoLogin Hears entry ⊎ IsLoginSettled Hears taken sends session number → AsksNoLogin More entry ⊎ IsLoginAnswered More taken session number
-answered_more Hears More more session taken sends number entry (inl is) = inl (record { bytes = is.bytes; long = is.long; brought = more _ is.brought; none = is.none })
-answered_more Hears More more session taken sends number entry (inr is) = inr (by is.answered)
-  where
-    by : IsLoginAnswered Hears taken session number → IsLoginAnswered More taken session number
-    by (inl was) = inl (was.0, granted_more Hears More more taken session number was.0 was.1)
-    by (inr was) = inr (rejected_more Hears More more taken session number was)
+-- of an entry whose login was answered
+answered_more : (Hears More : Hearing) → Includes Hears More → (session : ℕ) (taken : List PipeRow) (number : ℕ) → IsLoginAnswered Hears taken session number → IsLoginAnswered More taken session number
+answered_more Hears More more session taken number (inl is) = inl (is.0, granted_more Hears More more taken session number is.0 is.1)
+answered_more Hears More more session taken number (inr is) = inr (rejected_more Hears More more taken session number is)
 
 -- AT REST ----------------------------------------------------------------------------------------
 
--- Where nothing waits and nothing is pending in a session that goes on, each request to log in was answered.
-pub logins_at_rest : (Hears More : Hearing) → Includes Hears More → (u : Unit) (session : ℕ) (taken : List PipeRow) (sends : SendsSoFar) → HasNothing u
-    → AreDealt Hears session taken u.waiting u.pending.items (is_ended u.line) sends → AreLoginsAnswered More session taken
-logins_at_rest Hears More more u session taken sends none dealt number entry at quiet =
-    answered_more Hears More more session taken sends number entry
-    (dealt_at_rest Hears session taken u.waiting u.pending.items (is_ended u.line) sends dealt none.waiting none.pending none.going number entry at quiet)
+-- Where nothing waits and nothing is pending in a session that goes on, and no event was heard but what was taken, each request to log
+-- in was answered.
+pub order_at_rest : (told : Told → Bool) (More : Hearing) (units : List Unit) (k : ℕ) (u : Unit) (unit : UnitId) (session : ℕ) (taken : List PipeRow) (answers : List Entry) (lines : List Grant)
+    (Heard : Type 0) → Includes (told_to told unit) More → slice_get units k ≡ Some u → HasNothing u → (Heard → TookNoEvent session taken → ⊥)
+    → GoInOrder told units k unit session taken answers lines Heard → AreLoginsDealt More unit session taken answers lines
+unfolding order_shown
+order_at_rest told More units k u unit session taken answers lines Heard more there none over is = record {
+  sent = order_shown told More units k u unit session taken answers lines Heard more there is;
+  answered = λ number entry at quiet. by number entry
+      (dealt_at_rest Hears session taken u.waiting u.pending.items (is_ended u.line) sends dealt none.waiting none.pending none.going number entry at quiet);
+}
+  where
+    Hears : Hearing
+    Hears = told_to told unit
+
+    sends : SendsSoFar
+    sends = record { put = map asked_at is.put.more; closed = λ q. is.closed }
+
+    dealt : AreDealt Hears session taken u.waiting u.pending.items (is_ended u.line) sends
+    dealt = subst (λ (o : Option Unit). IfSome o (λ u. AreDealt Hears session taken u.waiting u.pending.items (is_ended u.line) sends)) there is.dealt
+
+    given : (number : ℕ) → IsPutOrLost sends session number → TookNoEvent session taken → Contains sends.put (record { session = session; number = number })
+    given number (inl put) quiet = put
+    given number (inr closed) quiet = absurd (over (is.heard closed) quiet)
+
+    by : (number : ℕ) (entry : Entry) → AsksNoLogin Hears entry ⊎ IsLoginSettled Hears taken sends session number
+        → AsksNoLogin More entry ⊎ IsLoginGiven More session taken sends.put number
+    by number entry (inl asks) = inl (record { bytes = asks.bytes; long = asks.long; brought = more _ asks.brought; none = asks.none })
+    by number entry (inr was) = inr (record { answered = answered_more Hears More more session taken number was.answered; given = given number was.put })

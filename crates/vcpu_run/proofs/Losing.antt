@@ -38,7 +38,7 @@ entries_append q (x ∷ xs) ys = at (x.session == q) (entries_append q xs ys)
 row_is : (a b : PipeRow) → Some a ≡ Some b → a ≡ b
 row_is a b e = cc
 
-entries_there : (q : ℕ) (rows : List PipeRow) (n : ℕ) (row : PipeRow) → slice_get rows n ≡ Some row → row.session ≡ q → (j : ℕ) × (slice_get (entries_of q rows) j ≡ Some row.entry)
+pub entries_there : (q : ℕ) (rows : List PipeRow) (n : ℕ) (row : PipeRow) → slice_get rows n ≡ Some row → row.session ≡ q → (j : ℕ) × (slice_get (entries_of q rows) j ≡ Some row.entry)
 entries_there q [] n row there is = cc
 entries_there q (x ∷ xs) zero row there is =
     let same : x ≡ row = row_is x row there in
@@ -54,7 +54,7 @@ entries_there q (x ∷ xs) (suc n) row there is = at (x.session == q) (entries_t
     at true rest = (suc rest.0, rest.1)
     at false rest = rest
 
-of_append : (q : ℕ) (xs ys : List PipeRow) → of_session q (xs ++ ys) ≡ of_session q xs ++ of_session q ys
+pub of_append : (q : ℕ) (xs ys : List PipeRow) → of_session q (xs ++ ys) ≡ of_session q xs ++ of_session q ys
 of_append q xs ys =
     entries_are q (xs ++ ys) ∙ (entries_append q xs ys ∙ sym (ap₂ (λ (a b : List Entry). a ++ b) (entries_are q xs) (entries_are q ys)))
 
@@ -141,7 +141,7 @@ comes_by old new d event is says (inl kept) = inr (record { event = event; kept 
 comes_by old new d event is says (inr among) = inl (ahead_among old new d event is says among)
 
 -- an end that is registered keeps no event
-unregistered : (side : PlainLink) (event : Entry) → (side_of side false).kept ≡ Some event → (side_of side false).registered ≡ false
+pub unregistered : (side : PlainLink) (event : Entry) → (side_of side false).kept ≡ Some event → (side_of side false).registered ≡ false
 unregistered link event kept = at (side_of link false).registered refl
   where
     no_event : (o : Option Entry) → o ≡ Some event → o ≡ None → ⊥

@@ -13,6 +13,7 @@ use Rattle.tce_window.specs.Window.{WindowValue, blank_page, strokes_at}
 use Rattle.block_server.specs.SiteState.{AreReady}
 use Rattle.vscsi_client.specs.State.{ClientState, new_client}
 use Rattle.vscsi_client.specs.Transferred.{FitsRow}
+use Rattle.vcpu_run.specs.AnswersSeen.{AreResponsesRead, IsResponseRead, fronts_of}
 use Rattle.vcpu_run.specs.EventsHeard.{events_waiting}
 use Rattle.vcpu_run.specs.declared.driver.Driver.{Driver}
 use Rattle.vcpu_run.specs.declared.pair.Pair.{Pair}
@@ -58,13 +59,14 @@ no_event link event none kept = cc
 
 -- The driver of a client that has sent nothing.
 pub driver_new : (unit server : UnitId) (pages : ℕ) (window : WindowValue) (driver : Driver) → window ≡ new_window unit pages
-    → driver.unit ≡ unit → driver.client ≡ new_client unit server → 14 ≤ pages → pages ≤ 256 → IsDriver window driver
-driver_new unit server pages window driver new unit_is client least most =
+    → driver.unit ≡ unit → driver.answers.items ≡ [] → driver.client ≡ new_client unit server → 14 ≤ pages → pages ≤ 256 → IsDriver window driver
+driver_new unit server pages window driver new unit_is none client least most =
     let size : length window.pages ≡ pages = size_new unit pages window new in
     record {
       unit = ap (λ (w : WindowValue). w.unit) new ∙ sym unit_is;
       pages = omega arith;
       rows = (omega arith, subst (λ (s : ClientState). All (FitsRow (length window.pages)) s.rows) (sym client) (All-nil (FitsRow (length window.pages))));
+      answers = subst (AreResponsesRead (fronts_of (strokes_at window.pages))) (sym none) (All-nil (IsResponseRead (fronts_of (strokes_at window.pages))));
     }
 
 -- no stroke lies on a page of a new window

@@ -33,6 +33,7 @@ use Rattle.vcpu_run.specs.PortReplays.{IsStill, OffersSince, sent_at}
 use Rattle.vcpu_run.specs.PortSteps.{AllSilent, AllTake, AreFresh, IsIdle, IsSilent, RisesIf, TellsStep}
 use Rattle.vcpu_run.specs.PortWords.{TellsMacs, done_in, frame_told}
 use Rattle.vcpu_run.specs.Suited.{is_call}
+use Rattle.vcpu_run.proofs.PortKept.{kept_same, kept_then}
 use Rattle.vcpu_run.proofs.PortPosting.{idle_posted}
 use Rattle.vcpu_run.proofs.Crediting.{ended_more}
 
@@ -139,6 +140,7 @@ silent_here lan unit = record {
   rows = refl;
   mac = mac_same None (replay_at lan unit) (replay_at lan unit) refl;
   values = λ e. refl;
+  regions = kept_same lan unit;
   seats = refl;
 }
 
@@ -151,6 +153,7 @@ idle_silent lan lan' unit idle = record {
   rows = idle.still.rows;
   mac = mac_same None (replay_at lan unit) (replay_at lan' unit) (ap (λ (r : PortReplay). r.settings) idle.still.replay);
   values = idle.still.values;
+  regions = idle.still.regions;
   seats = idle.still.seats;
 }
 
@@ -163,6 +166,7 @@ silent_then old mid new unit a b = record {
   rows = b.rows ∙ a.rows;
   mac = mac_then (mac_at old unit) (mac_at mid unit) (mac_at new unit) a.mac b.mac;
   values = λ e. b.values e ∙ a.values e;
+  regions = kept_then unit old mid new a.regions b.regions;
   seats = b.seats ∙ a.seats;
 }
   where
@@ -271,7 +275,7 @@ macs_wait lan lan' script script' line moved same ends step tells = subst (λ (s
     each : TellsMacs lan' (record script { progress = script'.progress })
     each unit sat seat at =
         keeps_wait (line.unit == unit) lan lan' (unit_of script.partition unit) seat script.lines.now script.logs.items line.verb
-        (done_in script.progress) (done_in script'.progress) moved at (step (no_call (is_call line.verb) ends) unit sat) (tells unit sat seat)
+        (done_in script.progress) (done_in script'.progress) moved at ((step (no_call (is_call line.verb) ends)).rises unit sat) (tells unit sat seat)
 
 -- What the end of a line made of the port of a unit: its address may be one that the unit has from then on.
 pub record EndsLine (partition unit : ℕ) (line : Line) (row : LogRow) (lan lan' : LanValue) : Type 0 where
@@ -332,7 +336,7 @@ macs_step lan lan' script ended line row done' found reached partition lines sea
     by unit sat true h k = called unit (h refl unit)
     by unit sat false h k = record {
       given = own_given (line.unit == unit) line.verb row.outcome;
-      ends = step_mac (line.unit == unit) (unit_of script.partition unit) line.verb row.outcome (done_in script.progress) done' lan lan' (k refl unit sat);
+      ends = step_mac (line.unit == unit) (unit_of script.partition unit) line.verb row.outcome (done_in script.progress) done' lan lan' ((k refl).rises unit sat);
       of_line = λ seat ls rs there m gave. ends_has (unit_of script.partition unit) seat ls rs line row there m gave;
     }
 

@@ -167,7 +167,7 @@ bytes_wait lan lan' script script' line moved found same step tells = subst (λ 
     each : TellsBytes lan' (record script { progress = script'.progress })
     each none unit plain sat seat at =
         waits_keeps (line.unit == unit) lan lan' (unit_of script.partition unit) seat (ended_by unit script.lines.now script.logs.items) line.verb
-        (done_in script.progress) (done_in script'.progress) moved (lends_none script line unit found plain) at (step (no_call script line found none) unit sat)
+        (done_in script.progress) (done_in script'.progress) moved (lends_none script line unit found plain) at ((step (no_call script line found none)).rises unit sat)
         (tells none unit plain sat seat)
 
 -- what the end of a line, or its step, made of the port of a unit, if it was told
@@ -226,7 +226,7 @@ pub bytes_step : (lan lan' : LanValue) (script ended : Script) (line : Line) (ro
 bytes_step lan lan' script ended line row done' found reached partition lines seats logs step =
     bytes_end lan lan' script ended line row found reached partition lines seats logs
     (λ no unit sat.
-    rises_bytes (line.unit == unit) (unit_of script.partition unit) line.verb row.outcome (done_in script.progress) done' lan lan' (step no unit sat))
+    rises_bytes (line.unit == unit) (unit_of script.partition unit) line.verb row.outcome (done_in script.progress) done' lan lan' ((step no).rises unit sat))
 
 -- a line that is none of a replay gives no address, and one that tells of no frame sent none
 quiet_given : (seat : PortSeat) (verb : Verb) (outcome : Outcome) → is_replayed verb ≡ false → mac_given seat verb outcome ≡ None

@@ -19,6 +19,10 @@ use Rattle.unit_region.specs.declared.step.Step.TheVariants as steps
 use Rattle.vio_trace.specs.declared.outcome.Outcome.{Outcome}
 use Rattle.lan_switch.specs.Switch.{same_unit}
 use Rattle.lan_script.specs.Entries.{CallsOne, ValuesGrow, values_at, window_seen}
+use Rattle.lan_script.specs.Regions.{strokes_at}
+use Rattle.vcpu_run.specs.PortRegions.{RegionsKept}
+use Rattle.vcpu_run.proofs.PortKept.{kept_same}
+use Rattle.unit_region.specs.RegionLines.{region_seen}
 use Rattle.lan_script.specs.Seats.{seat_at}
 use Rattle.lan_script.specs.Units.{LanValue}
 use Rattle.lan_script.specs.Values.{SameValuesBeside}
@@ -55,21 +59,27 @@ port_returned id call old new returned there seats answer is = by (seat_at old.s
         subst (λ (o : Option PortSeat). IsReturned (record {
           pages = option_map (λ (seat : PortSeat). seat.pages) o;
           value_at = λ entry value. Contains (values_at new id entry) value;
+          region = region_seen (strokes_at new id);
           entry_put = λ entry. ⊤;
         }) (entry_row call) (entry_arguments call) returned) (sym (ap (λ ss. seat_at ss id) seats ∙ e))
-        (entry_seen (window_seen old id) (window_seen new id) seat.pages (values_at new id) (λ entry. ⊤) (Some seat) call returned size refl answer is.answers)
+        (entry_seen (window_seen old id) (window_seen new id) seat.pages (values_at new id) (strokes_at new id) (λ entry. ⊤) (Some seat) call returned size refl refl answer is.answers)
 
 -- all values stay, where those of one unit grow and those of the others stay
-has_all : (id : UnitId) (old new : LanValue) → ValuesGrow id old new → SameValuesBeside id old new → HasAll old new
-has_all id old new grows beside unit entry value has =
+has_values : (id : UnitId) (old new : LanValue) → ValuesGrow id old new → SameValuesBeside id old new
+    → (unit : UnitId) (entry value : ℕ) → Contains (values_at old unit entry) value → Contains (values_at new unit entry) value
+has_values id old new grows beside unit entry value has =
     by_bool (same_unit unit id) (Contains (values_at new unit entry) value)
     (λ e. subst (λ (u : UnitId). Contains (values_at new u entry) value) (sym (one_unit unit id e))
     (begins_has (values_at old id entry) (values_at new id entry) value (grows entry)
     (subst (λ (u : UnitId). Contains (values_at old u entry) value) (one_unit unit id e) has)))
     (λ e. subst (λ (l : List ℕ). Contains l value) (sym (beside unit e entry)) has)
 
+has_all : (id : UnitId) (old new : LanValue) → ValuesGrow id old new → SameValuesBeside id old new → RegionsKept old new → HasAll old new
+has_all id old new grows beside regions = record { values = has_values id old new grows beside; regions = regions }
+
 pub same_all : (old new : LanValue) → new ≡ old → HasAll old new
-same_all old new same unit entry value has = subst (λ (l : LanValue). Contains (values_at l unit entry) value) (sym same) has
+same_all old new same =
+    subst (HasAll old) (sym same) (record { values = λ unit entry value has. has; regions = λ unit. kept_same old unit })
 
 -- a port that sits there has its seat
 pub port_there : (units : PartitionUnits) (unit : ℕ) (id : UnitId) (o : Option Seat) → id ≡ unit_of units.partition unit → o ≡ Some sits.Port
@@ -80,20 +90,21 @@ port_there units unit id o is sat there =
 pub port_entries : (old new : PartitionUnits) (unit : ℕ) (id : UnitId) (call : EntryCall) (r : Result Returned NoMemory) → id ≡ unit_of old.partition unit
     → IsSome (seat_at old.lan.now.seats id) → new.lan.now.seats ≡ old.lan.now.seats → IfOk r (IsAnswer (entry_row call))
     → IfOk r (CallsOne id call old.lan.now new.lan.now) → OnOk r (ValuesGrow id old.lan.now new.lan.now) → OnOk r (SameValuesBeside id old.lan.now new.lan.now)
-    → IfOk r (AnswersPorts old new unit (entry_row call) (entry_arguments call))
-port_entries old new unit id call (Err memory) is there seats answer made grows beside = tt
-port_entries old new unit id call (Ok returned) is there seats answer made grows beside = record {
-  all = has_all id old.lan.now new.lan.now grows beside;
+    → OnOk r (RegionsKept old.lan.now new.lan.now) → IfOk r (AnswersPorts old new unit (entry_row call) (entry_arguments call))
+port_entries old new unit id call (Err memory) is there seats answer made grows beside regions = tt
+port_entries old new unit id call (Ok returned) is there seats answer made grows beside regions = record {
+  all = has_all id old.lan.now new.lan.now grows beside regions;
   here = λ sat row. subst (λ (i : UnitId). IsReturned (port_seen new.lan.now i) (entry_row call) (entry_arguments call) returned) is
       (port_returned id call old.lan.now new.lan.now returned there seats answer made);
 }
 
 -- a call of another row, of which no more is said
 pub unsaid_entries : (old new : PartitionUnits) (unit : ℕ) (id : UnitId) (row : Hcall) (args : List ℕ) (r : Result Returned NoMemory) → is_unsaid row ≡ true
-    → OnOk r (ValuesGrow id old.lan.now new.lan.now) → OnOk r (SameValuesBeside id old.lan.now new.lan.now) → IfOk r (AnswersPorts old new unit row args)
-unsaid_entries old new unit id row args (Err memory) isnt grows beside = tt
-unsaid_entries old new unit id row args (Ok returned) isnt grows beside = record {
-  all = has_all id old.lan.now new.lan.now grows beside;
+    → OnOk r (ValuesGrow id old.lan.now new.lan.now) → OnOk r (SameValuesBeside id old.lan.now new.lan.now) → OnOk r (RegionsKept old.lan.now new.lan.now)
+    → IfOk r (AnswersPorts old new unit row args)
+unsaid_entries old new unit id row args (Err memory) isnt grows beside regions = tt
+unsaid_entries old new unit id row args (Ok returned) isnt grows beside regions = record {
+  all = has_all id old.lan.now new.lan.now grows beside regions;
   here = λ sat of_window. unsaid (port_seen new.lan.now (unit_of old.partition unit)) row args (Ok returned) isnt;
 }
 

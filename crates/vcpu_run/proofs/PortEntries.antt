@@ -14,6 +14,7 @@ use Rattle.unit_region.specs.declared.step.Step.TheVariants as steps
 use Rattle.vio_trace.specs.declared.outcome.Outcome.{Outcome}
 use Rattle.vio_trace.specs.declared.rows.LogRow.{LogRow}
 use Rattle.lan_script.specs.Entries.{values_at}
+use Rattle.lan_script.specs.Regions.{RegionGrows, strokes_at}
 use Rattle.lan_script.specs.Seats.{seat_at}
 use Rattle.lan_script.specs.Units.{LanValue}
 use Rattle.lan_script.specs.Values.{KeepsValues}
@@ -29,22 +30,25 @@ use Rattle.vcpu_run.specs.PortWords.{done_in}
 use Rattle.vcpu_run.specs.Suited.{is_call}
 use Rattle.vcpu_run.proofs.CallsGrow.{UnitGrows, unit_more}
 use Rattle.vcpu_run.proofs.LinesShown.{no_row, row_at}
+use Rattle.vcpu_run.proofs.PortLines.{region_sees}
 
 -- ---- what there was of a unit is there
 
 -- the window of a LAN unit has as many pages, and its entries the values that they had
 window_grows : (lan lan' : LanValue) (unit : UnitId) → lan'.seats ≡ lan.seats
-    → ((entry value : ℕ) → Contains (values_at lan unit entry) value → Contains (values_at lan' unit entry) value) → UnitGrows (port_seen lan unit) (port_seen lan' unit)
-window_grows lan lan' unit seats all = record {
+    → ((entry value : ℕ) → Contains (values_at lan unit entry) value → Contains (values_at lan' unit entry) value) → RegionGrows unit lan lan'
+    → UnitGrows (port_seen lan unit) (port_seen lan' unit)
+window_grows lan lan' unit seats all regions = record {
   pages = ap (λ (ss : List PortSeat). option_map (λ (seat : PortSeat). seat.pages) (seat_at ss unit)) seats;
   values = all;
+  fronts = (region_sees (strokes_at lan unit) (strokes_at lan' unit) regions).fronts;
   entries = λ entry is. is;
 }
 
-pub kept_grows : (lan lan' : LanValue) (unit : UnitId) → lan'.seats ≡ lan.seats → KeepsValues unit lan.places lan'.places
+pub kept_grows : (lan lan' : LanValue) (unit : UnitId) → lan'.seats ≡ lan.seats → KeepsValues unit lan.places lan'.places → RegionGrows unit lan lan'
     → UnitGrows (port_seen lan unit) (port_seen lan' unit)
-kept_grows lan lan' unit seats same =
-    window_grows lan lan' unit seats (λ entry value has. subst (λ (l : List ℕ). Contains l value) (sym (same entry)) has)
+kept_grows lan lan' unit seats same regions =
+    window_grows lan lan' unit seats (λ entry value has. subst (λ (l : List ℕ). Contains l value) (sym (same entry)) has) regions
 
 -- a step of a line puts values behind those that were there
 step_has : (verb : Verb) (step : Step) (old new : ℕ → List ℕ) → StepPuts verb step old new → (entry value : ℕ) → Contains (old entry) value → Contains (new entry) value
@@ -55,8 +59,8 @@ step_has verb (steps.Waits did) old new puts entry value has = subst (λ (l : Li
 rises_grows : (own : Bool) (unit : UnitId) (verb : Verb) (done done' : ℕ) (lan lan' : LanValue) (step : Step) → RisesIf own unit verb done done' lan lan' step
     → UnitGrows (port_seen lan unit) (port_seen lan' unit)
 rises_grows true unit verb done done' lan lan' step h =
-    window_grows lan lan' unit h.1.seats (step_has verb step (values_at lan unit) (values_at lan' unit) h.4)
-rises_grows false unit verb done done' lan lan' step h = kept_grows lan lan' unit h.still.seats h.still.values
+    window_grows lan lan' unit h.1.seats (step_has verb step (values_at lan unit) (values_at lan' unit) h.4) h.1.regions
+rises_grows false unit verb done done' lan lan' step h = kept_grows lan lan' unit h.still.seats h.still.values h.still.regions.grows
 
 -- each LAN unit of a partition
 abbrev pub GrowAt : (partition : ℕ) → (ℕ → Option Seat) → (lan lan' : LanValue) → Type 0
@@ -111,7 +115,7 @@ entries_wait lan lan' script script' line moved same no_call step tells =
         → GrowAt script.partition (slice_get script.seats.items) lan lan'
     by true none h unit sat = absurd (none refl)
     by false none h unit sat =
-        rises_grows (line.unit == unit) (unit_of script.partition unit) line.verb (done_in script.progress) (done_in script'.progress) lan lan' (steps.Waits moved) (h refl unit sat)
+        rises_grows (line.unit == unit) (unit_of script.partition unit) line.verb (done_in script.progress) (done_in script'.progress) lan lan' (steps.Waits moved) ((h refl).rises unit sat)
 
 -- What the end of a line leaves of the entries, and says of them.
 record EndsLine (script : Script) (line : Line) (row : LogRow) (lan lan' : LanValue) : Type 0 where
@@ -143,12 +147,12 @@ entries_step lan lan' script ended line row done' found reached partition lines 
         → (b ≡ false → TellsStep script.partition script.seats.items line (done_in script.progress) done' lan lan' (steps.Ends row.outcome))
         → EndsLine script line row lan lan'
     by true e h k = record {
-      grow = λ unit sat. window_grows lan lan' (unit_of script.partition unit) ports ((h refl).all (unit_of script.partition unit));
+      grow = λ unit sat. window_grows lan lan' (unit_of script.partition unit) ports ((h refl).all.values (unit_of script.partition unit)) ((h refl).all.regions (unit_of script.partition unit)).grows;
       said = (h refl).said;
     }
     by false e h k = record {
       grow = λ unit sat.
-          rises_grows (line.unit == unit) (unit_of script.partition unit) line.verb (done_in script.progress) done' lan lan' (steps.Ends row.outcome) (k refl unit sat);
+          rises_grows (line.unit == unit) (unit_of script.partition unit) line.verb (done_in script.progress) done' lan lan' (steps.Ends row.outcome) ((k refl).rises unit sat);
       said = entry_none script.partition (slice_get script.seats.items) lan' line.verb row.outcome e;
     }
 
@@ -159,19 +163,21 @@ pub entries_quiet : (lan lan' : LanValue) (script ended : Script) (line : Line) 
 entries_quiet lan lan' script ended line row found reached partition lines seats logs none silent =
     entries_end lan lan' script ended line row found reached partition lines seats logs
     (record {
-      grow = λ unit sat. kept_grows lan lan' (unit_of script.partition unit) (silent (unit_of script.partition unit)).seats (silent (unit_of script.partition unit)).values;
+      grow = λ unit sat. kept_grows lan lan' (unit_of script.partition unit) (silent (unit_of script.partition unit)).seats (silent (unit_of script.partition unit)).values
+          (silent (unit_of script.partition unit)).regions.grows;
       said = entry_none script.partition (slice_get script.seats.items) lan' line.verb row.outcome none;
     })
 
 pub entries_rest : (lan lan' : LanValue) (script : Script) → AllTake script.partition lan lan' → TellsEntries lan script → TellsEntries lan' script
 entries_rest lan lan' script takes =
     entries_more script.partition (slice_get script.seats.items) lan lan' script.lines.now script.logs.items
-    (λ unit sat. kept_grows lan lan' (unit_of script.partition unit) (takes unit).still.seats (takes unit).still.values)
+    (λ unit sat. kept_grows lan lan' (unit_of script.partition unit) (takes unit).still.seats (takes unit).still.values (takes unit).still.regions.grows)
 
 pub entries_silent : (lan lan' : LanValue) (script : Script) → AllSilent lan lan' → TellsEntries lan script → TellsEntries lan' script
 entries_silent lan lan' script silent =
     entries_more script.partition (slice_get script.seats.items) lan lan' script.lines.now script.logs.items
-    (λ unit sat. kept_grows lan lan' (unit_of script.partition unit) (silent (unit_of script.partition unit)).seats (silent (unit_of script.partition unit)).values)
+    (λ unit sat. kept_grows lan lan' (unit_of script.partition unit) (silent (unit_of script.partition unit)).seats (silent (unit_of script.partition unit)).values
+    (silent (unit_of script.partition unit)).regions.grows)
 
 -- a script before its first line
 pub entries_fresh : (lan : LanValue) (script : Script) → script.logs.items ≡ [] → TellsEntries lan script

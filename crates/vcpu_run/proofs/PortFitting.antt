@@ -86,7 +86,7 @@ fit_waits lan lan' script script' line moved found same step replay fit = subst 
     each unit plain sat seat at sized own =
         let u = unit_of script.partition unit in
         let did : RisesIf (line.unit == unit) u line.verb (done_in script.progress) (done_in script'.progress) lan lan' (steps.Waits moved) =
-        step (no_call unit script line found plain) unit sat in
+        (step (no_call unit script line found plain)).rises unit sat in
         let was : seat_at lan.seats u ≡ Some seat =
         seat_was lan lan' u seat (rises_rows (line.unit == unit) u line.verb (done_in script.progress) (done_in script'.progress) lan lan' (steps.Waits moved) did) at in
         fit_since lan lan' u seat (ended_by unit script.lines.now script.logs.items) (replay unit plain sat seat was sized own).keeps

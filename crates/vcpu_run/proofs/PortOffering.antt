@@ -109,7 +109,7 @@ offers_wait lan lan' script script' line moved found same step tells =
     keeps_on lan lan' script.partition script.seats.items script.lines.now (take at script.logs.items) unit number sat
     (λ port there.
     rises_rows (line.unit == port) (unit_of script.partition port) line.verb (done_in script.progress) (done_in script'.progress) lan lan' (steps.Waits moved)
-    (step (no_call unit script line found plain) port there))
+    ((step (no_call unit script line found plain)).rises port there))
     (tells unit plain sat at number ends))
 
 -- nothing but frames was taken

@@ -98,7 +98,7 @@ buffers_wait lan lan' script script' line moved found same step tells none unit 
     let sat' : slice_get script.seats.items unit ≡ Some sits.Port = ap (λ (s : Script). slice_get s.seats.items unit) (sym same) ∙ sat in
     subst (λ (s : Script). buffers_of (ended_by unit s.lines.now s.logs.items) ++ buffers_now unit s ≡ posted_at lan' (unit_of s.partition unit)) (sym same)
     (subst (λ (o : Option Line). own unit ++ buffers_under unit (done_in script'.progress) o ≡ posted_at lan' (unit_of script.partition unit)) (sym found)
-    (by (line.unit == unit) (step (no_call script line found none') unit sat')
+    (by (line.unit == unit) ((step (no_call script line found none')).rises unit sat')
     (subst (λ (o : Option Line). own unit ++ buffers_under unit (done_in script.progress) o ≡ posted_at lan (unit_of script.partition unit)) found (tells none' unit sat'))))
   where
     own : ℕ → List ℕ
@@ -158,7 +158,7 @@ pub buffers_step : (lan lan' : LanValue) (script ended : Script) (line : Line) (
     → TellsBuffers lan script → TellsBuffers lan' ended
 buffers_step lan lan' script ended line row done' found reached partition lines seats logs fresh step =
     buffers_end lan lan' script ended line row found reached partition lines seats logs fresh
-    (λ no unit sat. step_posts lan lan' script line row done' unit (line.unit == unit) (step no unit sat))
+    (λ no unit sat. step_posts lan lan' script line row done' unit (line.unit == unit) ((step no).rises unit sat))
 
 -- a line that posts none
 quiet_by : (verb : Verb) → ((d : ℕ) → counts_by verb d ≡ counts 0 0) → (d : ℕ) → buffers_by verb d ≡ []
@@ -262,7 +262,7 @@ takes_wait lan lan' script script' line moved found same step tells unit sat =
       ended = own.ended;
       now = subst (λ (o : Option Line). IsUnder unit (done_in script'.progress) o) (sym found)
           (λ e. under_by line.verb (done_in script'.progress) (λ no.
-          own_step (line.unit == unit) script line (done_in script'.progress) unit lan lan' (steps.Waits moved) e (step no unit sat') (under_now script line unit found own e)));
+          own_step (line.unit == unit) script line (done_in script'.progress) unit lan lan' (steps.Waits moved) e ((step no).rises unit sat') (under_now script line unit found own e)));
     })
   where
     sat' : slice_get script.seats.items unit ≡ Some sits.Port
@@ -314,7 +314,7 @@ pub takes_step : (lan lan' : LanValue) (script ended : Script) (line : Line) (ro
 takes_step lan lan' script ended line row done' found reached lines seats logs fresh step =
     takes_end script ended line row found reached lines seats logs fresh
     (λ unit sat e less. within_by line.verb row.outcome (λ no.
-    own_step (line.unit == unit) script line done' unit lan lan' (steps.Ends row.outcome) e (step no unit sat) less))
+    own_step (line.unit == unit) script line done' unit lan lan' (steps.Ends row.outcome) e ((step no).rises unit sat) less))
 
 -- a line that takes none
 quiet_within : (verb : Verb) (outcome : Outcome) → ((d : ℕ) → counts_by verb d ≡ counts 0 0) → EndsWithin verb outcome

@@ -56,7 +56,7 @@ values_wait lan lan' script script' line moved found same step tells = subst (λ
     each none unit sat =
         waits_keeps (line.unit == unit) lan lan' (unit_of script.partition unit) (ended_by unit script.lines.now script.logs.items) line.verb
         (done_in script.progress) (done_in script'.progress) moved
-        (step (all_at (λ (l : Line). is_call l.verb ≡ false) script.lines.now script.at line found none) unit sat) (tells none unit sat)
+        ((step (all_at (λ (l : Line). is_call l.verb ≡ false) script.lines.now script.at line found none)).rises unit sat) (tells none unit sat)
 
 -- what the end of a line, or its step, put into the window of a unit
 abbrev EndsPuts : (own : Bool) → UnitId → Verb → Outcome → (lan lan' : LanValue) → Type 0
@@ -104,7 +104,7 @@ pub values_step : (lan lan' : LanValue) (script ended : Script) (line : Line) (r
 values_step lan lan' script ended line row done' found reached partition lines seats logs step =
     values_end lan lan' script ended line row found reached partition lines seats logs
     (λ no unit sat.
-    rises_puts (line.unit == unit) (unit_of script.partition unit) line.verb row.outcome (done_in script.progress) done' lan lan' (step no unit sat))
+    rises_puts (line.unit == unit) (unit_of script.partition unit) line.verb row.outcome (done_in script.progress) done' lan lan' ((step no).rises unit sat))
 
 -- a line that puts no value, and changed none
 quiet_puts : (own : Bool) (unit : UnitId) (verb : Verb) (outcome : Outcome) (lan lan' : LanValue) → is_put verb ≡ false → KeepsValues unit lan.places lan'.places

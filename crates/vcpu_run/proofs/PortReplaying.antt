@@ -26,7 +26,8 @@ use Rattle.vcpu_run.specs.PortWords.{ReplaysOwn, TellsReplay, done_in}
 use Rattle.vcpu_run.specs.Suited.{is_call}
 use Rattle.vcpu_run.specs.Works.{fails}
 use Rattle.lan_switch.specs.Switch.{port_of}
-use Rattle.lan_script.proofs.Laws.{grows_same}
+use Rattle.lan_script.proofs.Laws.{grows_same, region_same}
+use Rattle.vcpu_run.proofs.PortKept.{kept_same}
 use Rattle.vcpu_run.proofs.Crediting.{ended_more}
 use Rattle.vcpu_run.proofs.Logging.{all_at}
 
@@ -109,7 +110,7 @@ ends_keeps false seat unit verb done outcome es lan lan' h keeps at first none =
 waits_at : (lan lan' : LanValue) (script : Script) (p : Progress) (line : Line) (moved : Moved) → slice_get script.lines.now script.at ≡ Some line
     → (is_call line.verb ≡ false → TellsStep script.partition script.seats.items line (done_in script.progress) (done_in p) lan lan' (steps.Waits moved))
     → TellsReplay lan script → TellsReplay lan' (record script { progress = p })
-waits_at lan lan' script p line moved found step tells unit plain sat seat at sized own = by (line.unit == unit) refl (step no_call unit sat)
+waits_at lan lan' script p line moved found step tells unit plain sat seat at sized own = by (line.unit == unit) refl ((step no_call).rises unit sat)
   where
     u : UnitId
     u = unit_of script.partition unit
@@ -205,13 +206,14 @@ pub none_replay : (lan : LanValue) (script : Script) (line : Line) (row : LogRow
 none_replay lan script line row unit true none = record {
   seats = refl;
   values = λ put e. refl;
+  regions = region_same lan (unit_of script.partition unit);
   rows = ([], sym (append-nil (sent_at lan (unit_of script.partition unit))));
   grows = grows_same (port_of lan.stations (unit_of script.partition unit));
   others = λ sender beside. refl;
   sends = λ replayed code number e. absurd (not_both (is_replayed line.verb) replayed none);
   says = λ first seat able. says_none seat line.verb row.outcome (replay_at lan (unit_of script.partition unit)) none;
 }
-none_replay lan script line row unit false none = record { seats = refl; replay = refl; values = λ e. refl; rows = refl; grows = grows_same (port_of lan.stations (unit_of script.partition unit)); offered = λ sender other row kept. inl kept }
+none_replay lan script line row unit false none = record { seats = refl; replay = refl; values = λ e. refl; rows = refl; grows = grows_same (port_of lan.stations (unit_of script.partition unit)); offered = λ sender other row kept. inl kept; regions = kept_same lan (unit_of script.partition unit) }
 
 -- nothing but frames was taken
 pub rest_replay : (lan lan' : LanValue) (script : Script) → AllTake script.partition lan lan' → TellsReplay lan script → TellsReplay lan' script

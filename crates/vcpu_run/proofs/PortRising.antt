@@ -22,6 +22,9 @@ use Rattle.lan_script.specs.Invariant.{sent_by}
 use Rattle.lan_script.specs.LineBytes.{StepsBytes}
 use Rattle.lan_script.specs.LineSays.{SendsAs, SendsOne, SentAs}
 use Rattle.lan_script.specs.PortCounts.{CountsOn, CountsStep, PortCounts, SameCounts, SendsCalled, TakesSome}
+use Rattle.lan_script.specs.Regions.{LaysLine, RegionsGrow}
+use Rattle.vcpu_run.specs.PortRegions.{RegionKept, RegionsKept}
+use Rattle.vcpu_run.proofs.PortKept.{kept_placed, line_beside}
 use Rattle.lan_script.specs.Replayed.{IsFirst, Replays, SameBeside, SameReplays, bytes_sent, replay_at}
 use Rattle.lan_script.specs.Buffers.{PostsStep}
 use Rattle.lan_script.specs.OwnMac.{MovesMac, StepsMac}
@@ -53,14 +56,15 @@ apart_of a b f e = true≢false (sym (subst (λ (u : UnitId). same_unit u b ≡ 
 
 -- a port at which nothing was done
 still_beside : (unit : UnitId) (old new : LanValue) → new.seats ≡ old.seats → SameBeside unit old new → SameValuesBeside unit old new → (other : UnitId)
-    → other ≢ unit → sent_at new other ≡ sent_at old other → AllGrow old new → OffersSince old new other → IsStill old new other
-still_beside unit old new seats replays values other apart rows grows offered = record {
+    → other ≢ unit → sent_at new other ≡ sent_at old other → AllGrow old new → OffersSince old new other → RegionKept other old new → IsStill old new other
+still_beside unit old new seats replays values other apart rows grows offered regions = record {
   seats = seats;
   replay = replays other (not_same other unit apart);
   values = values other (not_same other unit apart);
   rows = rows;
   grows = grows other;
   offered = offered;
+  regions = regions;
 }
 
 -- the frames of a unit, where none was kept
@@ -84,6 +88,7 @@ still_all old new seats frames replays places grows unit = record {
   rows = same_rows old new unit seats frames;
   grows = grows unit;
   offered = since_same old new seats frames unit;
+  regions = kept_placed unit old new places;
 }
 
 -- What was sent of all frames: these by this unit, and none by others.
@@ -191,12 +196,13 @@ step_ended unit verb done done' outcome old new seats h k = record {
 }
 
 pub step_beside : (unit : UnitId) (step : PortStep) (before after : PortCounts) (old new : LanValue) → new.seats ≡ old.seats → SendsAs unit step old new
-    → CountsOn unit before after old new → SameBeside unit old new → SameValuesBeside unit old new → IsBeside unit old new
-step_beside unit step before after old new seats h k replays values other apart = record {
+    → CountsOn unit before after old new → SameBeside unit old new → SameValuesBeside unit old new → RegionsGrow old new → (mark : ℕ)
+    → LaysLine unit mark old new → IsBeside unit old new
+step_beside unit step before after old new seats h k replays values regions mark lays other apart = record {
   frames = (sent_step unit step old new seats h).others other apart;
   counts = k.others other (not_same other unit apart);
   still = still_beside unit old new seats replays values other apart ((sent_step unit step old new seats h).rows other apart) k.grows
-      ((sent_step unit step old new seats h).since other apart);
+      ((sent_step unit step old new seats h).since other apart) (line_beside unit mark other old new apart regions lays);
 }
 
 -- a step that ended a line with a frame sent that frame
@@ -219,27 +225,29 @@ frame_sent unit outcome code number old new seats sent e =
 -- what it says of the replay
 pub replays_ended : (unit : UnitId) (verb : Verb) (done : ℕ) (outcome : Outcome) (old new : LanValue) → new.seats ≡ old.seats
     → SendsAs unit (ports.Ends outcome) old new → CountsStep unit verb done (ports.Ends outcome) old new → (is_put verb ≡ false → SameValues old new) → (IsFirst verb done → Replays unit verb (ports.Ends outcome) old new)
-    → StepReplays unit verb done old new (steps.Ends outcome)
-replays_ended unit verb done outcome old new seats sent counted values replays = record {
+    → RegionsGrow old new → StepReplays unit verb done old new (steps.Ends outcome)
+replays_ended unit verb done outcome old new seats sent counted values replays regions = record {
   seats = seats;
   values = λ none. values none unit;
   rows = (sent_step unit (ports.Ends outcome) old new seats sent).grows;
   grows = counted.grows unit;
   others = λ sender beside. (sent_step unit (ports.Ends outcome) old new seats sent).rows sender (apart_of sender unit beside);
   sends = λ replayed code number e. frame_sent unit outcome code number old new seats sent e;
+  regions = regions unit;
   says = λ first seat able. (replays first seat able).says;
 }
 
 pub replays_waits : (unit : UnitId) (verb : Verb) (done far : ℕ) (moved : Moved) (old new : LanValue) → new.seats ≡ old.seats
     → SendsAs unit (ports.Waits moved far) old new → CountsStep unit verb done (ports.Waits moved far) old new → (is_put verb ≡ false → SameValues old new) → (IsFirst verb done → Replays unit verb (ports.Waits moved far) old new)
-    → StepReplays unit verb done old new (steps.Waits moved)
-replays_waits unit verb done far moved old new seats sent counted values replays = record {
+    → RegionsGrow old new → StepReplays unit verb done old new (steps.Waits moved)
+replays_waits unit verb done far moved old new seats sent counted values replays regions = record {
   seats = seats;
   values = λ none. values none unit;
   rows = (sent_step unit (ports.Waits moved far) old new seats sent).grows;
   grows = counted.grows unit;
   others = λ sender beside. (sent_step unit (ports.Waits moved far) old new seats sent).rows sender (apart_of sender unit beside);
   sends = λ replayed code number e. absurd (waits_on e);
+  regions = regions unit;
   says = λ first seat able. (replays first seat able).says;
 }
   where
@@ -299,6 +307,7 @@ all_silent own old new seats frames same beside mac places unit = record {
   rows = same_rows old new unit seats frames;
   mac = by (same_unit unit own) refl;
   values = λ e. ap (λ ps. (facts_in ps unit).values e) places;
+  regions = kept_placed unit old new places;
   seats = seats;
 }
   where
@@ -313,7 +322,7 @@ closes_beside unit old new seats frames same replays places other apart = record
   frames = same_frames old new other seats frames;
   counts = same.same other;
   still = still_beside unit old new seats replays (λ v _ e. ap (λ ps. (facts_in ps v).values e) places) other apart
-      (same_rows old new other seats frames) same.grows (since_same old new seats frames other);
+      (same_rows old new other seats frames) same.grows (since_same old new seats frames other) (kept_placed other old new places);
 }
 
 -- where frames were taken
@@ -366,10 +375,11 @@ since_called unit (calls.Multicast control mac) code old new seats h other apart
 since_called unit (calls.ChangeMac mac) code old new seats h other apart = since_same old new seats h other
 
 pub call_beside : (unit : UnitId) (call : PortCall) (code : Hrc) (before after : PortCounts) (old new : LanValue) → new.seats ≡ old.seats
-    → SendsCalled unit call code old new → CountsOn unit before after old new → SameBeside unit old new → SameValuesBeside unit old new → IsBeside unit old new
-call_beside unit call code before after old new seats h k replays values other apart = record {
+    → SendsCalled unit call code old new → CountsOn unit before after old new → SameBeside unit old new → SameValuesBeside unit old new
+    → RegionsKept old new → IsBeside unit old new
+call_beside unit call code before after old new seats h k replays values regions other apart = record {
   frames = ap (λ (l : List FrameRow). map frame_told l) (rows_called unit call code old new seats h other apart);
   counts = k.others other (not_same other unit apart);
   still = still_beside unit old new seats replays values other apart (rows_called unit call code old new seats h other apart) k.grows
-      (since_called unit call code old new seats h other apart);
+      (since_called unit call code old new seats h other apart) (regions other);
 }

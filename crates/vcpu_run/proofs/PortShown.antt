@@ -39,7 +39,7 @@ use Rattle.vcpu_run.proofs.FramesCarried.{HasPortWindow, port_window_there}
 use Rattle.vcpu_run.proofs.Following.{each_from_all}
 use Rattle.lan_script.proofs.Order.{Each}
 use Rattle.vcpu_run.proofs.Parts.{IsIn, each_in}
-use Rattle.vcpu_run.proofs.PortsTold.{port_values}
+use Rattle.vcpu_run.proofs.PortsTold.{port_values, region_told}
 use Rattle.vcpu_run.proofs.Seated.{IsSeated, IsSeatedAt, all_seated, planned_in}
 
 -- ---- what a call says at a LAN unit
@@ -84,26 +84,27 @@ said_else a b rows.PutTceIndirect args outcome not_sent of_window is = of_window
 said_else a b rows.SendCrq args outcome not_sent of_window is = absurd (not_sent refl)
 said_else a b rows.CopyRdma args outcome not_sent of_window is = record {
   parameter = is.parameter;
+  refused = λ e. tt;
   done = done_if (IsDone a rows.CopyRdma args) (IsDone b rows.CopyRdma args) (λ value h. tt) outcome is.done;
 }
 said_else a b rows.RegCrq args outcome not_sent of_window is =
-    record { parameter = tt; done = done_if (IsDone a rows.RegCrq args) (IsDone b rows.RegCrq args) (λ value h. tt) outcome is.done }
+    record { parameter = tt; refused = λ e. tt; done = done_if (IsDone a rows.RegCrq args) (IsDone b rows.RegCrq args) (λ value h. tt) outcome is.done }
 said_else a b rows.FreeCrq args outcome not_sent of_window is =
-    record { parameter = tt; done = done_if (IsDone a rows.FreeCrq args) (IsDone b rows.FreeCrq args) (λ value h. tt) outcome is.done }
+    record { parameter = tt; refused = λ e. tt; done = done_if (IsDone a rows.FreeCrq args) (IsDone b rows.FreeCrq args) (λ value h. tt) outcome is.done }
 said_else a b rows.EnableCrq args outcome not_sent of_window is =
-    record { parameter = tt; done = done_if (IsDone a rows.EnableCrq args) (IsDone b rows.EnableCrq args) (λ value h. tt) outcome is.done }
+    record { parameter = tt; refused = λ e. tt; done = done_if (IsDone a rows.EnableCrq args) (IsDone b rows.EnableCrq args) (λ value h. tt) outcome is.done }
 said_else a b rows.RegisterLogicalLan args outcome not_sent of_window is =
-    record { parameter = tt; done = done_if (IsDone a rows.RegisterLogicalLan args) (IsDone b rows.RegisterLogicalLan args) (λ value h. tt) outcome is.done }
+    record { parameter = tt; refused = λ e. tt; done = done_if (IsDone a rows.RegisterLogicalLan args) (IsDone b rows.RegisterLogicalLan args) (λ value h. tt) outcome is.done }
 said_else a b rows.FreeLogicalLan args outcome not_sent of_window is =
-    record { parameter = tt; done = done_if (IsDone a rows.FreeLogicalLan args) (IsDone b rows.FreeLogicalLan args) (λ value h. tt) outcome is.done }
+    record { parameter = tt; refused = λ e. tt; done = done_if (IsDone a rows.FreeLogicalLan args) (IsDone b rows.FreeLogicalLan args) (λ value h. tt) outcome is.done }
 said_else a b rows.AddLogicalLanBuffer args outcome not_sent of_window is =
-    record { parameter = tt; done = done_if (IsDone a rows.AddLogicalLanBuffer args) (IsDone b rows.AddLogicalLanBuffer args) (λ value h. tt) outcome is.done }
+    record { parameter = tt; refused = λ e. tt; done = done_if (IsDone a rows.AddLogicalLanBuffer args) (IsDone b rows.AddLogicalLanBuffer args) (λ value h. tt) outcome is.done }
 said_else a b rows.SendLogicalLan args outcome not_sent of_window is =
-    record { parameter = tt; done = done_if (IsDone a rows.SendLogicalLan args) (IsDone b rows.SendLogicalLan args) (λ value h. tt) outcome is.done }
+    record { parameter = tt; refused = λ e. tt; done = done_if (IsDone a rows.SendLogicalLan args) (IsDone b rows.SendLogicalLan args) (λ value h. tt) outcome is.done }
 said_else a b rows.MulticastCtrl args outcome not_sent of_window is =
-    record { parameter = tt; done = done_if (IsDone a rows.MulticastCtrl args) (IsDone b rows.MulticastCtrl args) (λ value h. tt) outcome is.done }
+    record { parameter = tt; refused = λ e. tt; done = done_if (IsDone a rows.MulticastCtrl args) (IsDone b rows.MulticastCtrl args) (λ value h. tt) outcome is.done }
 said_else a b rows.ChangeLogicalLanMac args outcome not_sent of_window is =
-    record { parameter = tt; done = done_if (IsDone a rows.ChangeLogicalLanMac args) (IsDone b rows.ChangeLogicalLanMac args) (λ value h. tt) outcome is.done }
+    record { parameter = tt; refused = λ e. tt; done = done_if (IsDone a rows.ChangeLogicalLanMac args) (IsDone b rows.ChangeLogicalLanMac args) (λ value h. tt) outcome is.done }
 
 pub said_port : (place : Place) (a b : UnitSeen) (row : Hcall) (args : List ℕ) (unit : ℕ) (outcome : Outcome) → place.kind unit ≡ Some kinds.Lan
     → unit_asked place row args ≡ Some unit → (is_of_window row ≡ true → IsUnitSaid b row (further row args) outcome)
@@ -123,6 +124,7 @@ pub port_shown : (pairs : List Pair) (scripts : List Script) (lan : LanValue) (l
 port_shown pairs scripts lan lan_rows history grants copies partitions home are windows of_plan unit mac pages slots planned there = record {
   pages = sym (size (seat_at lan.seats unit) there has.fits);
   values = λ entry value is. subst (λ (l : List ℕ). Contains l value) (sym (values entry)) is;
+  fronts = (region_told pairs scripts lan lan_rows history grants copies partitions home are of_plan windows unit there).fronts;
   entries = λ entry is. is;
 }
   where

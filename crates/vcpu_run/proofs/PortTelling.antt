@@ -116,7 +116,7 @@ words_wait lan lan' script script' line moved found same step tells none unit sa
     let sat' : slice_get script.seats.items unit ≡ Some sits.Port = ap (λ (s : Script). slice_get s.seats.items unit) (sym same) ∙ sat in
     subst (λ (s : Script). TellsPort (ended_by unit s.lines.now s.logs.items) (counts_now unit s) lan' (unit_of s.partition unit)) (sym same)
     (subst (λ (o : Option Line). TellsPort (ended_by unit script.lines.now script.logs.items) (counts_under unit (done_in script'.progress) o) lan' (unit_of script.partition unit)) (sym found)
-    (by (line.unit == unit) (step (no_call script line found none') unit sat')
+    (by (line.unit == unit) ((step (no_call script line found none')).rises unit sat')
     (subst (λ (o : Option Line). TellsPort (ended_by unit script.lines.now script.logs.items) (counts_under unit (done_in script.progress) o) lan (unit_of script.partition unit)) found
     (tells none' unit sat'))))
   where
@@ -182,7 +182,7 @@ pub step_words : (lan lan' : LanValue) (script ended : Script) (line : Line) (ro
     → TellsWords lan script → TellsWords lan' ended
 step_words lan lan' script ended line row done' found reached partition lines seats logs fresh step =
     words_end lan lan' script ended line row found reached partition lines seats logs fresh
-    (λ no unit sat. step_ends lan lan' script line row done' unit (line.unit == unit) (step no unit sat))
+    (λ no unit sat. step_ends lan lan' script line row done' unit (line.unit == unit) ((step no).rises unit sat))
 
 -- a line that did nothing at any port, and tells of nothing
 pub quiet_words : (lan lan' : LanValue) (script ended : Script) (line : Line) (row : LogRow) → slice_get script.lines.now script.at ≡ Some line

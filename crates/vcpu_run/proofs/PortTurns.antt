@@ -29,10 +29,12 @@ use Rattle.vcpu_run.specs.Ports.{unit_of}
 use Rattle.vcpu_run.specs.PortSteps.{AllSilent, AllTake, AreFresh, IsApart, IsBeside, IsIdle, RisesIf, StepRises, TakesOn, TellsStep}
 use Rattle.vcpu_run.specs.PortBytes.{StepBytes}
 use Rattle.vcpu_run.specs.PortPosts.{StepFits}
+use Rattle.vcpu_run.specs.PortRegions.{LaysLogged, RegionsKept, StepShown}
 use Rattle.vcpu_run.specs.PortReplays.{IsStill, OffersSince, StepReplays, sent_at}
 use Rattle.vcpu_run.specs.PortWords.{PortsTell, TellsPorts}
 use Rattle.lan_switch.specs.Switch.{port_of}
 use Rattle.lan_script.proofs.Laws.{grows_same, grows_then}
+use Rattle.vcpu_run.proofs.PortKept.{kept_same, kept_then}
 use Rattle.vcpu_run.proofs.Listed.{each_set, held}
 use Rattle.vcpu_run.proofs.PortRising.{call_beside, takes_beside, takes_own}
 use Rattle.vcpu_run.proofs.PortAddresses.{silent_here, silent_then}
@@ -56,10 +58,11 @@ still_then old mid new unit a b = record {
   rows = b.rows ∙ a.rows;
   grows = grows_then (port_of old.stations unit) (port_of mid.stations unit) (port_of new.stations unit) a.grows b.grows;
   offered = since_then old mid new unit a.replay a.offered b.offered;
+  regions = kept_then unit old mid new a.regions b.regions;
 }
 
 still_same : (lan : LanValue) (unit : UnitId) → IsStill lan lan unit
-still_same lan unit = record { seats = refl; replay = refl; values = λ e. refl; rows = refl; grows = grows_same (port_of lan.stations unit); offered = λ sender other row kept. inl kept }
+still_same lan unit = record { seats = refl; replay = refl; values = λ e. refl; rows = refl; grows = grows_same (port_of lan.stations unit); offered = λ sender other row kept. inl kept; regions = kept_same lan unit }
 
 idle_then : (old mid new : LanValue) (unit : UnitId) → IsIdle old mid unit → IsIdle mid new unit → IsIdle old new unit
 idle_then old mid new unit a b = record {
@@ -113,40 +116,51 @@ pub port_steps : (partition : ℕ) (seats : List Seat) (line : Line) (done done'
     → StepRises (unit_of partition line.unit) line.verb done done' old new step → StepReplays (unit_of partition line.unit) line.verb done old new step
     → StepFits (unit_of partition line.unit) line.verb done done' old new step → StepBytes (unit_of partition line.unit) line.verb old new step
     → StepPuts line.verb step (values_at old (unit_of partition line.unit)) (values_at new (unit_of partition line.unit))
+    → StepShown (unit_of partition line.unit) line new step → LaysLogged (unit_of partition line.unit) line.number old new
     → IsBeside (unit_of partition line.unit) old new → TellsStep partition seats line done done' old new step
-port_steps partition seats line done done' old new step rises replays fits bytes puts beside u sat = by (line.unit == u) refl
+port_steps partition seats line done done' old new step rises replays fits bytes puts shows marks beside = record {
+  rises = λ u sat. by u (line.unit == u) refl;
+  shows = λ u sat e. subst (λ n. StepShown (unit_of partition n) line new step) e shows;
+  marks = λ u sat e. subst (λ n. LaysLogged (unit_of partition n) line.number old new) e marks;
+}
   where
-    by : (b : Bool) → (line.unit == u) ≡ b → RisesIf b (unit_of partition u) line.verb done done' old new step
-    by true e = (
+    by : (u : ℕ) (b : Bool) → (line.unit == u) ≡ b → RisesIf b (unit_of partition u) line.verb done done' old new step
+    by u true e = (
       subst (λ n. StepRises (unit_of partition n) line.verb done done' old new step) (same_of line.unit u e) rises,
       subst (λ n. StepReplays (unit_of partition n) line.verb done old new step) (same_of line.unit u e) replays,
       subst (λ n. StepFits (unit_of partition n) line.verb done done' old new step) (same_of line.unit u e) fits,
       subst (λ n. StepBytes (unit_of partition n) line.verb old new step) (same_of line.unit u e) bytes,
       subst (λ n. StepPuts line.verb step (values_at old (unit_of partition n)) (values_at new (unit_of partition n))) (same_of line.unit u e) puts,
     )
-    by false e = beside (unit_of partition u) (λ same. other_of partition line.unit u e (sym same))
+    by u false e = beside (unit_of partition u) (λ same. other_of partition line.unit u e (sym same))
 
 -- one at a client is one of no port
 pub client_steps : (partition k : ℕ) (seats : List Seat) (line : Line) (done done' : ℕ) (lan : LanValue) (step : Step)
     → slice_get seats line.unit ≡ Some (sits.Client k) → TellsStep partition seats line done done' lan lan step
-client_steps partition k seats line done done' lan step at u sat = by (line.unit == u) refl
+client_steps partition k seats line done done' lan step at = record {
+  rises = λ u sat. by u sat (line.unit == u) refl;
+  shows = λ u sat e. absurd (no (sym at ∙ (ap (λ n. slice_get seats n) e ∙ sat)));
+  marks = λ u sat e. absurd (no (sym at ∙ (ap (λ n. slice_get seats n) e ∙ sat)));
+}
   where
     no : Some (sits.Client k) ≡ Some sits.Port → ⊥
     no e = cc (e)
 
-    by : (b : Bool) → (line.unit == u) ≡ b → RisesIf b (unit_of partition u) line.verb done done' lan lan step
-    by true e = absurd (no (sym at ∙ (ap (λ n. slice_get seats n) (same_of line.unit u e) ∙ sat)))
-    by false e = idle_same lan (unit_of partition u)
+    by : (u : ℕ) → slice_get seats u ≡ Some sits.Port → (b : Bool) → (line.unit == u) ≡ b
+        → RisesIf b (unit_of partition u) line.verb done done' lan lan step
+    by u sat true e = absurd (no (sym at ∙ (ap (λ n. slice_get seats n) (same_of line.unit u e) ∙ sat)))
+    by u sat false e = idle_same lan (unit_of partition u)
 
 -- a raw call at a port
 pub call_apart : (partition u : ℕ) (call : PortCall) (r : Result Returned NoMemory) (old new : LanValue) → new.seats ≡ old.seats
     → IfOk r (λ returned. CountsOn (unit_of partition u) (counts 0 0) (counts_called call returned.code) old new)
     → IfOk r (λ returned. SendsCalled (unit_of partition u) call returned.code old new) → OnOk r (SameBeside (unit_of partition u) old new)
-    → OnOk r (SameValuesBeside (unit_of partition u) old new) → OnOk r (IsApart partition old new)
-call_apart partition u call (Ok returned) old new seats counted sent replays values =
+    → OnOk r (SameValuesBeside (unit_of partition u) old new) → OnOk r (RegionsKept old new) → OnOk r (IsApart partition old new)
+call_apart partition u call (Ok returned) old new seats counted sent replays values regions =
     beside_apart partition u old new
-    (call_beside (unit_of partition u) call returned.code (counts 0 0) (counts_called call returned.code) old new seats sent counted replays values)
-call_apart partition u call (Err memory) old new seats counted sent replays values = tt
+    (call_beside (unit_of partition u) call returned.code (counts 0 0) (counts_called call returned.code) old new seats sent counted replays values
+    regions)
+call_apart partition u call (Err memory) old new seats counted sent replays values regions = tt
 
 -- the turn of one script
 turned : (lan lan' : LanValue) (pairs : List Pair) (ports : List PortSeat) (scripts : List Script) (i : ℕ) (script later : Script)
@@ -183,10 +197,11 @@ pub port_told : (partition : ℕ) (seats : List Seat) (line : Line) (done done' 
     → IfOk r (StepRises (unit_of partition line.unit) line.verb done done' old new) → IfOk r (StepReplays (unit_of partition line.unit) line.verb done old new)
     → IfOk r (StepFits (unit_of partition line.unit) line.verb done done' old new) → IfOk r (StepBytes (unit_of partition line.unit) line.verb old new)
     → IfOk r (λ step. StepPuts line.verb step (values_at old (unit_of partition line.unit)) (values_at new (unit_of partition line.unit)))
+    → IfOk r (StepShown (unit_of partition line.unit) line new) → OnOk r (LaysLogged (unit_of partition line.unit) line.number old new)
     → OnOk r (IsBeside (unit_of partition line.unit) old new) → IfOk r (TellsStep partition seats line done done' old new)
-port_told partition seats line done done' old new (Ok step) rises replays fits bytes puts beside =
-    port_steps partition seats line done done' old new step rises replays fits bytes puts beside
-port_told partition seats line done done' old new (Err memory) rises replays fits bytes puts beside = tt
+port_told partition seats line done done' old new (Ok step) rises replays fits bytes puts shows marks beside =
+    port_steps partition seats line done done' old new step rises replays fits bytes puts shows marks beside
+port_told partition seats line done done' old new (Err memory) rises replays fits bytes puts shows marks beside = tt
 
 pub port_apart : (partition u : ℕ) (old new : LanValue) (r : Result Step NoMemory) → OnOk r (IsBeside (unit_of partition u) old new)
     → OnOk r (IsApart partition old new)

@@ -1,7 +1,10 @@
 -- Units of the LAN that were opened did nothing yet.
-use Rattle.std.proofs.Common.{◌≡◌, ℕ, ◌+◌, ◌*◌, Bool, true, false, List, [], ◌∷◌, map, Result, Ok, Err, IfOk, refl, sym, ◌∙◌, ap, subst}
+use Rattle.std.proofs.Common.{◌≡◌, ℕ, zero, suc, ◌+◌, ◌*◌, Bool, true, false, List, [], ◌∷◌, map, replicate, Option, Some, None, Result, Ok, Err, IfOk, refl, sym, ◌∙◌, ap, subst, arith}
 use Rattle.vio_num.specs.declared.names.UnitId.{UnitId}
+use Rattle.page_slots.specs.Stroke.{StrokeValue}
 use Rattle.tce_window.specs.Grant.{values_of}
+use Rattle.tce_window.specs.Window.{WindowValue, blank_page, strokes_at}
+use Rattle.unit_region.specs.RegionLines.{IsOn}
 use Rattle.lan_switch.specs.Switch.{opened, port_of, same_unit}
 use Rattle.vio_trace.specs.declared.lan_rows.FrameRow.{FrameRow}
 use Rattle.lan_script.specs.Buffers.{posted_of}
@@ -60,6 +63,22 @@ none_posted (s ∷ seats) unit =
     (λ e. ap (λ o. posted_of unit o) (port_head unit (opened (plan_of s)) (map opened (map plan_of seats)) e))
     (λ e. ap (λ o. posted_of unit o) (port_tail unit (opened (plan_of s)) (map opened (map plan_of seats)) e) ∙ none_posted seats unit)
 
+-- a page of a window that was opened has no stroke
+none_laid : (pages page : ℕ) (stroke : StrokeValue) → IsOn stroke (strokes_at (replicate pages blank_page) page) → ⊥
+none_laid zero page stroke on = absurd on
+none_laid (suc pages) zero stroke on = absurd (omega (arith, on.1))
+none_laid (suc pages) (suc page) stroke on = none_laid pages page stroke on
+
+no_stroke : (seats : List PortSeat) (unit : UnitId) (page : ℕ) (ps : List Place) (stroke : StrokeValue)
+    → IsOn stroke ((facts_of unit ps (window_in unit (map window_of seats))).strokes page) → ⊥
+no_stroke [] unit page ps stroke on = absurd on
+no_stroke (s ∷ seats) unit page ps stroke on =
+    by_bool (same_unit s.unit unit) ⊥
+    (λ h. none_laid s.pages page stroke
+    (subst (λ (o : Option WindowValue). IsOn stroke ((facts_of unit ps o).strokes page)) (window_head unit (window_of s) (map window_of seats) h) on))
+    (λ h. no_stroke seats unit page ps stroke
+    (subst (λ (o : Option WindowValue). IsOn stroke ((facts_of unit ps o).strokes page)) (window_tail unit (window_of s) (map window_of seats) h) on))
+
 pub opened_fresh : (lan : LanValue) (seats : List PortSeat) → lan ≡ fresh_lan seats → AreFresh lan
 opened_fresh lan seats e = subst AreFresh (sym e) (λ unit. (
   ap (λ (l : List FrameRow). map frame_told l) (none_sent seats unit),
@@ -67,6 +86,7 @@ opened_fresh lan seats e = subst AreFresh (sym e) (λ unit. (
   ap (λ (l : List FrameRow). replay_of (port_of (map opened (map plan_of seats)) unit) (map (λ (r : FrameRow). r.bytes) l)) (none_sent seats unit) ∙ none_replayed seats unit,
   λ k. none_put seats unit k (map window_of seats),
   none_posted seats unit,
+  λ page stroke on. no_stroke seats unit page (map window_of seats) stroke on,
 ))
 
 pub opened_ok : {E : Type 0} (r : Result LanValue E) (seats : List PortSeat) → IfOk r (λ lan. lan ≡ fresh_lan seats) → IfOk r AreFresh

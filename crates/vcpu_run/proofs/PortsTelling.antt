@@ -9,6 +9,7 @@ use Rattle.vio_trace.specs.declared.outcome.Outcome.TheVariants as outcomes
 use Rattle.vio_trace.specs.declared.rows.LogRow.{LogRow}
 use Rattle.lan_script.specs.PortCounts.{counts, counts_by, counts_told}
 use Rattle.lan_script.specs.Replayed.{is_replayed}
+use Rattle.lan_script.specs.Seats.{is_in_region}
 use Rattle.lan_script.specs.Units.{LanValue}
 use Rattle.vcpu_run.specs.declared.script.Script.{Script}
 use Rattle.vcpu_run.specs.PortCalls.{EndsEntries}
@@ -22,6 +23,8 @@ use Rattle.vcpu_run.proofs.PortAddresses.{macs_fresh, macs_quiet, macs_rest, mac
 use Rattle.vcpu_run.proofs.PortBytes.{bytes_fresh, bytes_quiet, bytes_rest, bytes_silent, bytes_step, bytes_wait, fails_quiet}
 use Rattle.vcpu_run.proofs.CallsKept.{fails_no_call}
 use Rattle.vcpu_run.proofs.PortEntries.{entries_fresh, entries_quiet, entries_rest, entries_silent, entries_step, entries_wait}
+use Rattle.vcpu_run.proofs.PortLines.{fails_apart, regions_fresh, regions_quiet, regions_rest, regions_silent, regions_step, regions_wait}
+use Rattle.vcpu_run.proofs.PortLogged.{logged_fresh, logged_quiet, logged_rest, logged_silent, logged_step, logged_wait}
 use Rattle.vcpu_run.proofs.PortOffering.{offers_end, offers_fail, offers_fresh, offers_rest, offers_wait}
 use Rattle.vcpu_run.proofs.PortPosting.{buffers_fresh, buffers_quiet, buffers_rest, buffers_silent, buffers_step, buffers_took, buffers_wait, takes_fresh, takes_quiet, takes_step, takes_took, takes_wait}
 use Rattle.vcpu_run.proofs.PortPutting.{values_fresh, values_quiet, values_rest, values_silent, values_step, values_wait}
@@ -44,6 +47,8 @@ port_waits lan lan' script script' line moved found same no_call step tells = re
   buffers = buffers_wait lan lan' script script' line moved found same step tells.buffers;
   takes = takes_wait lan lan' script script' line moved found same step tells.takes;
   values = values_wait lan lan' script script' line moved found same step tells.values;
+  regions = regions_wait lan lan' script script' line moved same no_call step tells.regions;
+  logged = logged_wait lan lan' script script' line moved found same no_call step tells.logged;
   entries = entries_wait lan lan' script script' line moved same no_call step tells.entries;
   macs = macs_wait lan lan' script script' line moved same no_call step tells.macs;
   bytes = bytes_wait lan lan' script script' line moved found same step tells.bytes;
@@ -65,15 +70,17 @@ step_tells lan lan' script ended line row done' found reached partition lines se
   buffers = buffers_step lan lan' script ended line row done' found reached partition lines seats logs fresh step tells.buffers;
   takes = takes_step lan lan' script ended line row done' found reached lines seats logs fresh step tells.takes;
   values = values_step lan lan' script ended line row done' found reached partition lines seats logs step tells.values;
+  regions = regions_step lan lan' script ended line row done' found reached partition lines seats logs ports entry step tells.regions;
+  logged = logged_step lan lan' script ended line row done' found reached partition lines seats logs entry step tells.logged;
   entries = entries_step lan lan' script ended line row done' found reached partition lines seats logs ports entry step tells.entries;
   macs = macs_step lan lan' script ended line row done' found reached partition lines seats logs call step tells.macs;
   bytes = bytes_step lan lan' script ended line row done' found reached partition lines seats logs step tells.bytes;
   replay = replay_ends lan lan' script ended line row found reached partition lines seats logs fresh
-      (λ no going unit sat. step_replay lan lan' script line row done' unit (line.unit == unit) (step no unit sat)) tells.replay;
+      (λ no going unit sat. step_replay lan lan' script line row done' unit (line.unit == unit) ((step no).rises unit sat)) tells.replay;
   offers = offers_end lan lan' script ended line row found reached partition lines seats logs
-      (λ no going unit sat. step_replay lan lan' script line row done' unit (line.unit == unit) (step no unit sat)) tells.replay tells.offers;
+      (λ no going unit sat. step_replay lan lan' script line row done' unit (line.unit == unit) ((step no).rises unit sat)) tells.replay tells.offers;
   fit = fit_ends lan lan' script ended line row found reached partition lines seats logs
-      (λ no going unit sat. step_replay lan lan' script line row done' unit (line.unit == unit) (step no unit sat)) tells.replay tells.fit;
+      (λ no going unit sat. step_replay lan lan' script line row done' unit (line.unit == unit) ((step no).rises unit sat)) tells.replay tells.fit;
 }
 
 -- a line that did nothing and is none of a replay, nor of one that lines tell of
@@ -81,12 +88,14 @@ pub quiet_tells : (lan : LanValue) (script ended : Script) (line : Line) (row : 
     → length script.logs.items ≡ script.at → ended.partition ≡ script.partition → ended.lines ≡ script.lines → ended.seats ≡ script.seats
     → ended.logs.items ≡ script.logs.items ++ row ∷ [] → done_in ended.progress ≡ 0
     → frame_of row.outcome ≡ [] → counts_told row.outcome ≡ counts 0 0 → ((d : ℕ) → counts_by line.verb d ≡ counts 0 0) → is_replayed line.verb ≡ false
-    → is_put line.verb ≡ false → is_call line.verb ≡ false → TellsPorts lan script → TellsPorts lan ended
-quiet_tells lan script ended line row found reached partition lines seats logs fresh no_frame none nothing other isnt no_call tells = record {
+    → is_put line.verb ≡ false → is_in_region line.verb ≡ false → is_call line.verb ≡ false → TellsPorts lan script → TellsPorts lan ended
+quiet_tells lan script ended line row found reached partition lines seats logs fresh no_frame none nothing other isnt apart no_call tells = record {
   words = quiet_words lan lan script ended line row found reached partition lines seats logs fresh no_frame none nothing (all_still lan) tells.words;
   buffers = buffers_quiet lan lan script ended line row found reached partition lines seats logs fresh none nothing (all_still lan) tells.buffers;
   takes = takes_quiet script ended line row found reached lines seats logs fresh nothing tells.takes;
   values = values_quiet lan lan script ended line row found reached partition lines seats logs isnt (all_still lan) tells.values;
+  regions = regions_quiet lan lan script ended line row found reached partition lines seats logs apart (all_still lan) tells.regions;
+  logged = logged_quiet lan lan script ended line row found reached partition lines seats logs (all_still lan) tells.logged;
   entries = entries_quiet lan lan script ended line row found reached partition lines seats logs no_call (all_still lan) tells.entries;
   macs = macs_quiet lan lan script ended line row found reached partition lines seats logs (all_still lan) tells.macs;
   bytes = bytes_quiet lan lan script ended line row found reached partition lines seats logs other (all_still lan) tells.bytes;
@@ -109,6 +118,8 @@ took_tells lan script ended line row count taken found reached partition lines s
   buffers = buffers_took lan script ended line row count found reached partition lines seats logs fresh verb tells.buffers;
   takes = takes_took script ended line row count taken found reached lines seats logs fresh out verb few tells.takes;
   values = values_quiet lan lan script ended line row found reached partition lines seats logs (ap is_put verb) (all_still lan) tells.values;
+  regions = regions_quiet lan lan script ended line row found reached partition lines seats logs (ap is_in_region verb) (all_still lan) tells.regions;
+  logged = logged_quiet lan lan script ended line row found reached partition lines seats logs (all_still lan) tells.logged;
   entries = entries_quiet lan lan script ended line row found reached partition lines seats logs (ap is_call verb) (all_still lan) tells.entries;
   macs = macs_quiet lan lan script ended line row found reached partition lines seats logs (all_still lan) tells.macs;
   bytes = bytes_quiet lan lan script ended line row found reached partition lines seats logs (ap is_replayed verb) (all_still lan) tells.bytes;
@@ -131,6 +142,8 @@ failed_tells lan lan' script ended line row found reached partition lines seats 
   buffers = buffers_quiet lan lan' script ended line row found reached partition lines seats logs fresh none (fails_none line.verb failing) silent tells.buffers;
   takes = takes_quiet script ended line row found reached lines seats logs fresh (fails_none line.verb failing) tells.takes;
   values = values_quiet lan lan' script ended line row found reached partition lines seats logs (fails_puts_none line.verb failing) silent tells.values;
+  regions = regions_quiet lan lan' script ended line row found reached partition lines seats logs (fails_apart line.verb failing) silent tells.regions;
+  logged = logged_quiet lan lan' script ended line row found reached partition lines seats logs silent tells.logged;
   entries = entries_quiet lan lan' script ended line row found reached partition lines seats logs (fails_no_call line.verb failing) silent tells.entries;
   macs = macs_quiet lan lan' script ended line row found reached partition lines seats logs silent tells.macs;
   bytes = bytes_quiet lan lan' script ended line row found reached partition lines seats logs (fails_quiet line.verb failing) silent tells.bytes;
@@ -147,6 +160,8 @@ failing_tells lan lan' script line found failing silent tells = record {
   buffers = buffers_silent lan lan' script silent tells.buffers;
   takes = tells.takes;
   values = values_silent lan lan' script silent tells.values;
+  regions = regions_silent lan lan' script silent tells.regions;
+  logged = logged_silent lan lan' script silent tells.logged;
   entries = entries_silent lan lan' script silent tells.entries;
   macs = macs_silent lan lan' script silent tells.macs;
   bytes = bytes_silent lan lan' script silent tells.bytes;
@@ -162,6 +177,8 @@ rest_tells lan lan' script takes tells = record {
   buffers = buffers_rest lan lan' script takes tells.buffers;
   takes = tells.takes;
   values = values_rest lan lan' script takes tells.values;
+  regions = regions_rest lan lan' script takes tells.regions;
+  logged = logged_rest lan lan' script takes tells.logged;
   entries = entries_rest lan lan' script takes tells.entries;
   macs = macs_rest lan lan' script takes tells.macs;
   bytes = bytes_rest lan lan' script takes tells.bytes;
@@ -177,6 +194,8 @@ fresh_tells lan script logs progress fresh = record {
   buffers = buffers_fresh lan script logs progress fresh;
   takes = takes_fresh script logs progress;
   values = values_fresh lan script logs fresh;
+  regions = regions_fresh lan script logs;
+  logged = logged_fresh lan script fresh;
   entries = entries_fresh lan script logs;
   macs = macs_fresh lan script fresh;
   bytes = bytes_fresh lan script logs fresh;

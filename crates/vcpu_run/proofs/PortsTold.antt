@@ -1,5 +1,5 @@
 -- What the lines of LAN units tell is what a gathered trace shows of their ports.
-use Rattle.std.proofs.Common.{◌≡◌, ◌∙◌, ◌⊎◌, ℕ, ◌+◌, ◌*◌, ◌==◌, ◌≤◌, true, false, All, List, [], ◌∷◌, ◌++◌, append-nil, Option, Some, None, Result, Ok, Err, IfOk, OnOk, IsSome, filter, length, map, option_map, refl, slice_get, sym, take, ap, subst, arith}
+use Rattle.std.proofs.Common.{◌≡◌, ◌∙◌, ◌⊎◌, ℕ, ◌+◌, ◌*◌, ◌==◌, ◌≤◌, true, false, All, List, [], ◌∷◌, ◌++◌, append-nil, Option, Some, None, Result, Ok, Err, IfOk, OnOk, IsSome, filter, length, map, option_map, refl, slice_get, sym, take, ap, subst, arith, IfSome, inl, inr, ◌<◌, Bool, cond, nat_lt}
 use Rattle.std.specs.List.{Contains, flat_map}
 use Rattle.std.proofs.lemmas.Option.{slice_get_past, slice_get_within, slice_get-map}
 use Rattle.std.proofs.lemmas.Bool.Decides.{nat_tests}
@@ -9,6 +9,8 @@ use Rattle.vio_num.specs.declared.memory.NoMemory.{NoMemory}
 use Rattle.vio_num.specs.declared.names.Mac.{Mac}
 use Rattle.vio_num.specs.declared.names.UnitId.{UnitId}
 use Rattle.rdma_copy.specs.declared.copy.CopyRecord.{CopyRecord}
+use Rattle.page_slots.specs.Stroke.{StrokeValue}
+use Rattle.unit_region.specs.RegionLines.{IsOn as LiesOn, region_seen}
 use Rattle.boot_text.specs.declared.plan.Line.{Line}
 use Rattle.boot_text.specs.declared.plan.Partition.{Partition}
 use Rattle.boot_text.specs.SoFar.{has_server, is_server}
@@ -21,6 +23,7 @@ use Rattle.lan_script.specs.Entries.{values_at}
 use Rattle.lan_script.specs.Windows.{facts_of}
 use Rattle.tce_window.specs.Window.{WindowValue}
 use Rattle.lan_script.specs.PortCounts.{PortCounts, counts}
+use Rattle.lan_script.specs.Regions.{strokes_at}
 use Rattle.lan_script.specs.PortReplay.{IsOn, PortReplay, closed_replay}
 use Rattle.lan_script.specs.Replayed.{bytes_sent, replay_at, sessions_by}
 use Rattle.lan_script.specs.Resting.{IsAllTaken}
@@ -52,23 +55,28 @@ use Rattle.vcpu_run.specs.PortBytes.{NamesOwnPages, bytes_told}
 use Rattle.vcpu_run.specs.PortMacs.{HasMac}
 use Rattle.vcpu_run.specs.PortOffers.{EndsFrame, GoesNow, GoesTo, KeepsOffers, WasTarget}
 use Rattle.vcpu_run.specs.PortPosts.{AreWithin, buffers_of, buffers_under}
+use Rattle.vcpu_run.specs.LinesShow.{Sees}
+use Rattle.vcpu_run.specs.Pairs.{AreOfOneHome}
+use Rattle.vcpu_run.specs.PortRegions.{IsCurrent, IsLogged, KeepsLogged, KeepsTold, LinesTold, RegionsAreTold, StrokesAreLogged, region_shown}
 use Rattle.vcpu_run.specs.PortReplays.{AreReplayed, IsPlainPort, sent_at}
 use Rattle.vcpu_run.specs.PortWords.{BuffersAreTold, FramesAreOffered, FramesHaveBytes, HasNoCall, LinesTell, OffersAreFit, OffersHaveAddress, PortsAreReplayed, PortsAreTold, PortsTell, PostsCarryAddresses, TakesAreWithin, TellsPort, ValuesAreTold, WordsAreTold, counts_now, counts_under, done_in, frame_told}
 use Rattle.vcpu_run.specs.PortsRest.{PortsEnd}
 use Rattle.vcpu_run.specs.Scripts.{are_servers}
 use Rattle.vcpu_run.specs.Settled.{script_of}
-use Rattle.vcpu_run.specs.Shown.{values_shown}
+use Rattle.vcpu_run.specs.Shown.{pages_at, stroke_value, strokes_on, values_shown}
 use Rattle.vcpu_run.specs.Units.{seats_of, unit_seat}
 use Rattle.vcpu_run.specs.ValuesPut.{values_told}
 use Rattle.vcpu_run.specs.declared.unit_seat.UnitSeat.{UnitSeat}
 use Rattle.vcpu_run.proofs.Seated.{planned_in}
 use Rattle.vcpu_run.proofs.Copied.{values_are as window_values}
 use Rattle.vcpu_run.proofs.Following.{each_from_all}
-use Rattle.vcpu_run.proofs.FramesCarried.{HasPortWindow, IsPlannedPort, port_planned, port_window_there}
+use Rattle.vcpu_run.proofs.FramesCarried.{HasPortWindow, IsPlannedPort, port_planned, port_shows, port_window_there}
 use Rattle.vcpu_run.proofs.Homes.{all_at, unit_found}
+use Rattle.vcpu_run.proofs.LinesShown.{front_shown, stroke_shown}
 use Rattle.vcpu_run.proofs.Listed.{held}
 use Rattle.vcpu_run.proofs.Parts.{IsIn, each_in, found, in_slice}
 use Rattle.vcpu_run.proofs.Placing.{partitions_are}
+use Rattle.vcpu_run.proofs.PortLines.{lines_sees, seen_as}
 use Rattle.vcpu_run.proofs.PortOrder.{IsOwnSeat, ports_own, ports_sized}
 use Rattle.vcpu_run.proofs.RecordLaws.{lines_in, none_past, partitions_apart, rows_told}
 
@@ -436,6 +444,85 @@ values_told_are pairs scripts lan rows history grants copies partitions are of_p
     at : IsScriptAt scripts partitions unit logs
     at = script_at pairs scripts lan.seats partitions unit are of_plan over there
 
+-- what there is of a port's region is what a trace shows of it
+pub region_told : (pairs : List Pair) (scripts : List Script) (lan : LanValue) (rows : LanRows) (history : List Served) (grants : List Grant) (copies : List CopyRecord)
+    (partitions : List Partition) → AreOfOneHome copies pairs → AreScripts pairs lan.seats scripts → IsOfPlan partitions pairs scripts lan.seats
+    → All (HasLawfulWindow pairs lan) (seats_of scripts) → (unit : UnitId) → IsSome (seat_at lan.seats unit)
+    → Sees (seen_as (region_seen (strokes_at lan unit))) (seen_as (region_shown (trace_of pairs scripts lan rows history grants copies) unit))
+region_told pairs scripts lan rows history grants copies partitions home are of_plan windows unit there =
+    let trace : Trace = trace_of pairs scripts lan rows history grants copies in
+    let shows = port_shows pairs scripts lan rows history grants copies partitions home are windows of_plan unit there in
+    record {
+      strokes = λ page stroke is.
+          stroke_shown (pages_at partitions unit) page stroke (strokes_at lan unit page) (map stroke_value (strokes_on trace unit page)) (shows.grows.strokes page) is;
+      fronts = λ page front is.
+          front_shown (pages_at partitions unit) page front (strokes_at lan unit page) (map stroke_value (strokes_on trace unit page)) (shows.grows.strokes page) is;
+      values = λ entry value is. is;
+      entries = λ entry is. is;
+    }
+
+regions_are : (pairs : List Pair) (scripts : List Script) (lan : LanValue) (rows : LanRows) (history : List Served) (grants : List Grant) (copies : List CopyRecord)
+    (partitions : List Partition) → AreOfOneHome copies pairs → AreScripts pairs lan.seats scripts → IsOfPlan partitions pairs scripts lan.seats → All IsOver scripts
+    → PortsTell lan scripts → All (HasLawfulWindow pairs lan) (seats_of scripts) → RegionsAreTold partitions (trace_of pairs scripts lan rows history grants copies)
+regions_are pairs scripts lan rows history grants copies partitions home are of_plan over tells windows unit seat there =
+    let shown = region_shown (trace_of pairs scripts lan rows history grants copies) unit in
+    subst (λ ls. LinesTold shown seat.pages unit ls logs) (sym at.lines)
+    (subst (λ l. LinesTold shown seat.pages unit at.script.lines.now l) (sym at.only)
+    (lines_sees (region_seen (strokes_at lan unit)) shown seat.pages unit at.script.lines.now at.script.logs.items
+    (region_told pairs scripts lan rows history grants copies partitions home are of_plan windows unit (subst (λ (o : Option PortSeat). IsSome o) (sym seated) refl))
+    (subst (λ (o : Option PortSeat). IfSome o (λ s. LinesTold (region_seen (strokes_at lan unit)) s.pages unit at.script.lines.now at.script.logs.items)) seated
+    (subst (λ (id : UnitId). KeepsTold at.script.lines.now at.script.logs.items lan id) at.named
+    ((tells unit.partition at.script at.is).regions unit.unit at.sits)))))
+  where
+    logs : List LogRow
+    logs = filter (λ (row : LogRow). row.partition == unit.partition) (flat_map logs_of scripts)
+
+    at : IsScriptAt scripts partitions unit logs
+    at = script_at pairs scripts lan.seats partitions unit are of_plan over (subst (λ (o : Option PortSeat). IsSome o) (sym there) refl)
+
+    seated : seat_at lan.seats unit ≡ Some seat
+    seated = ap (λ ss. seat_at ss unit) of_plan.ports_are ∙ there
+
+-- a stroke that a trace shows on a page of a region is one of the page
+on_page : (size page : ℕ) (stroke : StrokeValue) (shown : List StrokeValue) (strokes : Option (List StrokeValue)) → page < size
+    → cond (nat_lt page size) (Some shown) None ≡ strokes → Contains shown stroke → LiesOn stroke strokes
+on_page size page stroke shown strokes less same has = by (nat_lt page size) refl same
+  where
+    by : (b : Bool) → nat_lt page size ≡ b → cond b (Some shown) None ≡ strokes → LiesOn stroke strokes
+    by true e s = subst (LiesOn stroke) s has
+    by false e s = let past : size ≤ page = grind (arith, nat_tests) in absurd (omega (arith, past, less))
+
+-- one that was laid by a line is none of a current line, since there is none
+no_current : (unit : UnitId) (lines : List Line) (rows : List LogRow) (at mark : ℕ) → slice_get lines at ≡ None
+    → IsLogged unit lines rows mark ⊎ IsCurrent unit lines at mark → IsLogged unit lines rows mark
+no_current unit lines rows at mark none (inl is) = is
+no_current unit lines rows at mark none (inr is) = absurd (some_none is.line (sym is.there ∙ none))
+
+logged_are : (pairs : List Pair) (scripts : List Script) (lan : LanValue) (rows : LanRows) (history : List Served) (grants : List Grant) (copies : List CopyRecord)
+    (partitions : List Partition) → AreOfOneHome copies pairs → AreScripts pairs lan.seats scripts → IsOfPlan partitions pairs scripts lan.seats → All IsOver scripts
+    → PortsTell lan scripts → All (HasLawfulWindow pairs lan) (seats_of scripts) → StrokesAreLogged partitions (trace_of pairs scripts lan rows history grants copies)
+logged_are pairs scripts lan rows history grants copies partitions home are of_plan over tells windows unit seat there page less stroke shown mine =
+    subst (λ ls. IsLogged unit ls logs stroke.name.mark) (sym at.lines)
+    (subst (λ l. IsLogged unit at.script.lines.now l stroke.name.mark) (sym at.only)
+    (no_current unit at.script.lines.now at.script.logs.items at.script.at stroke.name.mark at.left
+    (subst (λ (id : UnitId). KeepsLogged at.script.lines.now at.script.logs.items at.script.at lan id) at.named
+    ((tells unit.partition at.script at.is).logged unit.unit at.sits) page stroke on mine)))
+  where
+    logs : List LogRow
+    logs = filter (λ (row : LogRow). row.partition == unit.partition) (flat_map logs_of scripts)
+
+    at : IsScriptAt scripts partitions unit logs
+    at = script_at pairs scripts lan.seats partitions unit are of_plan over (subst (λ (o : Option PortSeat). IsSome o) (sym there) refl)
+
+    seated : seat_at lan.seats unit ≡ Some seat
+    seated = ap (λ ss. seat_at ss unit) of_plan.ports_are ∙ there
+
+    on : LiesOn stroke (strokes_at lan unit page)
+    on = on_page (pages_at partitions unit) page stroke
+        (map stroke_value (strokes_on (trace_of pairs scripts lan rows history grants copies) unit page)) (strokes_at lan unit page) less
+        ((port_shows pairs scripts lan rows history grants copies partitions home are windows of_plan unit
+        (subst (λ (o : Option PortSeat). IsSome o) (sym seated) refl)).same page) shown
+
 correlators_are : (pairs : List Pair) (scripts : List Script) (lan : LanValue) (rows : LanRows) (history : List Served) (grants : List Grant) (copies : List CopyRecord)
     (partitions : List Partition) → AreScripts pairs lan.seats scripts → IsOfPlan partitions pairs scripts lan.seats → All IsOver scripts → PortsTell lan scripts
     → CountsRows lan rows → PostsCarryAddresses partitions (trace_of pairs scripts lan rows history grants copies)
@@ -458,13 +545,15 @@ correlators_are pairs scripts lan rows history grants copies partitions are of_p
         (ap (λ u. seat_at lan.seats u) at.named ∙ (ap (λ ss. seat_at ss unit) of_plan.ports_are ∙ e))).addresses)
 
 pub told_are : (pairs : List Pair) (scripts : List Script) (lan : LanValue) (rows : LanRows) (history : List Served) (grants : List Grant) (copies : List CopyRecord)
-    (partitions : List Partition) → AreScripts pairs lan.seats scripts → IsOfPlan partitions pairs scripts lan.seats → All IsOver scripts → PortsEnd lan scripts
-    → CountsRows lan rows → All (HasLawfulWindow pairs lan) (seats_of scripts) → PortsAreTold partitions (trace_of pairs scripts lan rows history grants copies)
-told_are pairs scripts lan rows history grants copies partitions are of_plan over ends counted windows = record {
+    (partitions : List Partition) → AreOfOneHome copies pairs → AreScripts pairs lan.seats scripts → IsOfPlan partitions pairs scripts lan.seats → All IsOver scripts
+    → PortsEnd lan scripts → CountsRows lan rows → All (HasLawfulWindow pairs lan) (seats_of scripts) → PortsAreTold partitions (trace_of pairs scripts lan rows history grants copies)
+told_are pairs scripts lan rows history grants copies partitions home are of_plan over ends counted windows = record {
   words = words_are pairs scripts lan rows history grants copies partitions are of_plan over ends.told counted;
   buffers = buffers_are pairs scripts lan rows history grants copies partitions are of_plan over ends.told counted;
   takes = takes_are pairs scripts lan rows history grants copies partitions are of_plan over ends.told;
   values = values_told_are pairs scripts lan rows history grants copies partitions are of_plan over ends.told windows;
+  regions = regions_are pairs scripts lan rows history grants copies partitions home are of_plan over ends.told windows;
+  logged = logged_are pairs scripts lan rows history grants copies partitions home are of_plan over ends.told windows;
   addressed = addressed_are pairs scripts lan rows history grants copies partitions are of_plan over ends.told counted;
   bytes = bytes_are pairs scripts lan rows history grants copies partitions are of_plan over ends.told counted;
   correlators = correlators_are pairs scripts lan rows history grants copies partitions are of_plan over ends.told counted;

@@ -10,6 +10,7 @@ use Rattle.hcall_table.specs.declared.hcall.Hcall.{Hcall}
 use Rattle.hcall_table.specs.declared.returned.Returned.{Returned}
 use Rattle.vio_num.specs.declared.names.UnitId.{UnitId}
 use Rattle.lan_script.specs.PortCounts.{CountsOn, SendsCalled, counts, counts_called}
+use Rattle.vcpu_run.specs.PortRegions.{RegionsKept}
 use Rattle.lan_script.specs.Replayed.{SameBeside}
 use Rattle.lan_script.specs.Units.{LanValue}
 use Rattle.lan_script.specs.Values.{SameValuesBeside}
@@ -42,7 +43,7 @@ use Rattle.vcpu_run.proofs.Unfreed.{frees_same}
 units_same : (old new : PartitionUnits) → new ≡ old → CallsUnits old new
 units_same old new same = subst (CallsUnits old) (sym same) (record { lender = refl; lan_lender = refl; driven = driven_same old.pairs.now; told = λ k. refl; ports = refl; stays = frees_same (NoneSits old.seats.now) old.pairs.now; others = λ k none. refl })
 
-calls_same : (old new : PartitionUnits) (result : Result Returned NoMemory) → new ≡ old → MakesCall old new result
+pub calls_same : (old new : PartitionUnits) (result : Result Returned NoMemory) → new ≡ old → MakesCall old new result
 calls_same old new result same = record {
   units = units_same old new same;
   apart = on_ok result (IsApart old.partition old.lan.now new.lan.now)
@@ -54,8 +55,8 @@ pub port_made : (old new : PartitionUnits) (u : ℕ) (id : UnitId) (call : PortC
     → new.lan.ghost_name ≡ old.lan.ghost_name → new.lan.now.seats ≡ old.lan.now.seats
     → IfOk r (λ returned. CountsOn id (counts 0 0) (counts_called call returned.code) old.lan.now new.lan.now)
     → IfOk r (λ returned. SendsCalled id call returned.code old.lan.now new.lan.now) → OnOk r (SameBeside id old.lan.now new.lan.now)
-    → OnOk r (SameValuesBeside id old.lan.now new.lan.now) → MakesCall old new r
-port_made old new u id call r is pairs lender seats counted sent beside values = record {
+    → OnOk r (SameValuesBeside id old.lan.now new.lan.now) → OnOk r (RegionsKept old.lan.now new.lan.now) → MakesCall old new r
+port_made old new u id call r is pairs lender seats counted sent beside values regions = record {
   units = record {
     lender = ap (λ p. p.ghost_name) pairs;
     lan_lender = lender;
@@ -69,7 +70,7 @@ port_made old new u id call r is pairs lender seats counted sent beside values =
       (subst (λ (i : UnitId). IfOk r (λ returned. CountsOn i (counts 0 0) (counts_called call returned.code) old.lan.now new.lan.now)) is counted)
       (subst (λ (i : UnitId). IfOk r (λ returned. SendsCalled i call returned.code old.lan.now new.lan.now)) is sent)
       (subst (λ (i : UnitId). OnOk r (SameBeside i old.lan.now new.lan.now)) is beside)
-      (subst (λ (i : UnitId). OnOk r (SameValuesBeside i old.lan.now new.lan.now)) is values);
+      (subst (λ (i : UnitId). OnOk r (SameValuesBeside i old.lan.now new.lan.now)) is values) regions;
 }
   where
     now : new.pairs.now ≡ old.pairs.now

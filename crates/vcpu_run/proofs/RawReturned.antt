@@ -104,6 +104,7 @@ row_says : (seen : UnitSeen) (row : Hcall) (args : List ℕ) (returned : Returne
     → IsUnitSaid seen row args (says_row row returned)
 row_says seen row args returned answer is = record {
   parameter = parameter_says row returned (is_taken row seen.pages args) is.parameter;
+  refused = λ e. is.refused ((parameter_by row returned).0 e);
   done = done_says seen row args returned answer is.done;
 }
 
@@ -156,27 +157,25 @@ ends_call partition seat pairs later number args returned outcome same is unknow
 pub unsaid : (seen : UnitSeen) (row : Hcall) (args : List ℕ) (result : Result Returned NoMemory) → is_unsaid row ≡ true → IfOk result (IsReturned seen row args)
 unsaid seen rows.GetTce args result is = absurd (cc)
 unsaid seen rows.PutTce args result is = absurd (cc)
-unsaid seen rows.StuffTce args (Ok returned) is = record { parameter = tt; done = λ good. tt }
-unsaid seen rows.StuffTce args (Err memory) is = tt
-unsaid seen rows.PutTceIndirect args (Ok returned) is = record { parameter = tt; done = λ good. tt }
-unsaid seen rows.PutTceIndirect args (Err memory) is = tt
-unsaid seen rows.RegCrq args (Ok returned) is = record { parameter = tt; done = λ good. tt }
+unsaid seen rows.StuffTce args result is = absurd (cc)
+unsaid seen rows.PutTceIndirect args result is = absurd (cc)
+unsaid seen rows.RegCrq args (Ok returned) is = record { parameter = tt; refused = λ e. tt; done = λ good. tt }
 unsaid seen rows.RegCrq args (Err memory) is = tt
-unsaid seen rows.FreeCrq args (Ok returned) is = record { parameter = tt; done = λ good. tt }
+unsaid seen rows.FreeCrq args (Ok returned) is = record { parameter = tt; refused = λ e. tt; done = λ good. tt }
 unsaid seen rows.FreeCrq args (Err memory) is = tt
 unsaid seen rows.SendCrq args result is = absurd (cc)
-unsaid seen rows.EnableCrq args (Ok returned) is = record { parameter = tt; done = λ good. tt }
+unsaid seen rows.EnableCrq args (Ok returned) is = record { parameter = tt; refused = λ e. tt; done = λ good. tt }
 unsaid seen rows.EnableCrq args (Err memory) is = tt
 unsaid seen rows.CopyRdma args result is = absurd (cc)
-unsaid seen rows.RegisterLogicalLan args (Ok returned) is = record { parameter = tt; done = λ good. tt }
+unsaid seen rows.RegisterLogicalLan args (Ok returned) is = record { parameter = tt; refused = λ e. tt; done = λ good. tt }
 unsaid seen rows.RegisterLogicalLan args (Err memory) is = tt
-unsaid seen rows.FreeLogicalLan args (Ok returned) is = record { parameter = tt; done = λ good. tt }
+unsaid seen rows.FreeLogicalLan args (Ok returned) is = record { parameter = tt; refused = λ e. tt; done = λ good. tt }
 unsaid seen rows.FreeLogicalLan args (Err memory) is = tt
-unsaid seen rows.AddLogicalLanBuffer args (Ok returned) is = record { parameter = tt; done = λ good. tt }
+unsaid seen rows.AddLogicalLanBuffer args (Ok returned) is = record { parameter = tt; refused = λ e. tt; done = λ good. tt }
 unsaid seen rows.AddLogicalLanBuffer args (Err memory) is = tt
-unsaid seen rows.SendLogicalLan args (Ok returned) is = record { parameter = tt; done = λ good. tt }
+unsaid seen rows.SendLogicalLan args (Ok returned) is = record { parameter = tt; refused = λ e. tt; done = λ good. tt }
 unsaid seen rows.SendLogicalLan args (Err memory) is = tt
-unsaid seen rows.MulticastCtrl args (Ok returned) is = record { parameter = tt; done = λ good. tt }
+unsaid seen rows.MulticastCtrl args (Ok returned) is = record { parameter = tt; refused = λ e. tt; done = λ good. tt }
 unsaid seen rows.MulticastCtrl args (Err memory) is = tt
-unsaid seen rows.ChangeLogicalLanMac args (Ok returned) is = record { parameter = tt; done = λ good. tt }
+unsaid seen rows.ChangeLogicalLanMac args (Ok returned) is = record { parameter = tt; refused = λ e. tt; done = λ good. tt }
 unsaid seen rows.ChangeLogicalLanMac args (Err memory) is = tt

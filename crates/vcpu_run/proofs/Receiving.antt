@@ -1,9 +1,10 @@
 -- What each server unit took and what became of it, over a turn of its own, of another server unit, and of a client's partition.
-use Rattle.std.proofs.Common.{◌≡◌, ◌≢◌, ◌∙◌, ◌≤◌, ℕ, ◌++◌, true, List, [], Option, IfSome, slice_get, filter, map, refl, sym, ap, subst, append-nil}
+use Rattle.std.proofs.Common.{◌≡◌, ◌≢◌, ◌∙◌, ◌≤◌, ℕ, ◌++◌, Bool, true, false, List, [], Option, Some, None, IfSome, slice_get, filter, map, refl, sym, ap, subst, append-nil}
 use Rattle.std.proofs.Math.Logic.{∥∥₁_elim, ∥∥₁_map, ∥∥₁_map₂, ∥∥₁_prop}
 use Rattle.std.proofs.lemmas.List.Elements.{All-nil, All-weaker}
 use Rattle.std.proofs.lemmas.Option.{IfSome_then}
 use Rattle.vio_num.specs.Words.{Begins}
+use Rattle.vio_num.specs.declared.entry.Entry.{Entry}
 use Rattle.vio_num.specs.declared.history.Grant.{Grant}
 use Rattle.vio_num.specs.declared.history.Served.{Served}
 use Rattle.vio_num.specs.declared.names.UnitId.{UnitId}
@@ -26,15 +27,20 @@ use Rattle.block_server.specs.Receipts.{AwaitNone, HasIntake, Intake, IsIntake, 
 use Rattle.block_server.specs.declared.unit.Unit.{Unit}
 use Rattle.block_server.proofs.BookLaws.{kept_elsewhere, kept_seen}
 use Rattle.block_server.specs.Owed.{HaveAnswers, OweNone, SeesAnswers}
+use Rattle.block_server.specs.Ready.{AgreesAt, AreDown}
 use Rattle.block_server.proofs.OwedLaws.{answers_elsewhere, answers_seen}
 use Rattle.block_server.proofs.IntakeLaws.{intake_none, intake_stays, others_pass}
 use Rattle.vcpu_run.specs.declared.pair.Pair.{Pair}
 use Rattle.vcpu_run.specs.Answered.{AreBegun, IsBehind}
 use Rattle.vcpu_run.specs.Pairs.{AreDriven, Drives}
 use Rattle.vcpu_run.specs.Received.{AreFresh, AreReceived, IsReceived}
+use Rattle.vcpu_run.specs.Gone.{IsToldOfGone}
+use Rattle.vcpu_run.specs.Links.{AreClosed}
+use Rattle.vcpu_run.proofs.Gone.{gone_driven}
 use Rattle.vcpu_run.proofs.Keeping.{own_stays}
 use Rattle.vcpu_run.proofs.Listed.{came_from}
 use Rattle.vcpu_run.proofs.Losing.{behind_driven, behind_none, sees_driven, sees_same}
+use Rattle.vcpu_run.proofs.Waiting.{agrees_like, agrees_other}
 
 -- what a unit's intake is judged by
 abbrev pub intake_at : Unit → (own client : PortState) → EndState → List CopyRecord → List Grant → Intake
@@ -106,12 +112,12 @@ pub received_served : (units units' : List Unit) (unit : ℕ) (old new : Pair) (
     → queue'.last_session ≡ (side_of new.link true).queue.session → queue'.taken ≡ (side_of new.link true).queue.taken
     → ((judged : List Judged) → HasJudged units unit (known_of old.own) (known_of old.window) queue copies history grants judged
     → ∥ ((more : List Judged) × (HasJudged units' unit (known_of new.own) (known_of new.window) queue' copies' history' grants' (judged ++ more) × AreInTime old.own.unit grants more)) ∥₁)
-    → AreBegun (side_of new.link true).queue.taken → IsBehind (end_of [] new.link true)
+    → AreBegun (side_of new.link true).queue.taken → IsBehind (end_of [] new.link true) → IsToldOfGone (end_of [] new.link true) → AgreesAt units' unit (end_of [] new.link true)
     → SeesAnswers (end_of [] old.link true) queue → SeesAnswers queue' (end_of [] new.link true) → new.own.unit ≡ old.own.unit
     → ((judged : List Judged) → HasJudged units unit (known_of old.own) (known_of old.window) queue copies history grants judged
     → HaveAnswers units unit old.own.unit queue history grants → ∥ HaveAnswers units' unit old.own.unit queue' history' grants' ∥₁)
     → IsReceived units copies grants history unit old → IsReceived units' copies' grants' history' unit new
-received_served units units' unit old new queue queue' copies copies' grants grants' history history' session taken session' taken' turn begun behind sees seen name answers is = record {
+received_served units units' unit old new queue queue' copies copies' grants grants' history history' session taken session' taken' turn begun behind gone agrees sees seen name answers is = record {
   judged = ∥∥₁_elim is.judged ∥∥₁_prop
       (λ before. ∥∥₁_map
       (turn before.0 (judged_seen units units unit (known_of old.own) (known_of old.own) (known_of old.window) (known_of old.window) (end_of [] old.link true) queue copies copies history grants before.0 refl refl
@@ -123,6 +129,8 @@ received_served units units' unit old new queue queue' copies copies' grants gra
       )));
   begun = begun;
   behind = behind;
+  gone = gone;
+  agrees = agrees;
   answers = ∥∥₁_elim is.judged ∥∥₁_prop
       (λ before. ∥∥₁_elim is.answers ∥∥₁_prop
       (λ owed. ∥∥₁_map
@@ -161,6 +169,8 @@ received_elsewhere units units' k unit other own client copies copies' grants gr
       )));
   begun = is.begun;
   behind = is.behind;
+  gone = is.gone;
+  agrees = agrees_other units units' k (end_of [] other.link true) same is.agrees;
   answers = ∥∥₁_elim rows ∥∥₁_prop
       (λ only. ∥∥₁_map₂ lines is.answers
       (λ lines owed. answers_elsewhere units units' k unit other.own.unit (end_of [] other.link true) (end_of [] other.link true) history history' grants grants' apart same (sees_same (end_of [] other.link true)) only lines owed));
@@ -190,16 +200,24 @@ received_driven units copies grants history old new driven are k pair found =
           ));
       begun = subst AreBegun (sym d.server_taken) is.begun;
       behind = behind_driven from.0 pair d is.behind;
+      gone = gone_driven from.0 pair d is.gone;
+      agrees = agrees_like units k (end_of [] from.0.link true) (end_of [] pair.link true) d.server_registered is.agrees;
       answers = ∥∥₁_map is.answers
           (λ owed.
           subst (λ (id : UnitId). HaveAnswers units k id (end_of [] pair.link true) history grants) (sym (ap (λ (own : WindowValue). own.unit) d.own))
           (answers_seen units units k from.0.own.unit (end_of [] from.0.link true) (end_of [] pair.link true) history grants refl (sees_driven from.0 pair d is.behind) owed));
     }
 
+no_event : (event : Entry) → None ≡ Some event → ⊥
+no_event event same = cc (same)
+
+both_bools : (b : Bool) → b ≡ true → b ≡ false → ⊥
+both_bools b is other = cc (is, other)
+
 -- Before the first turn.
-pub received_fresh : (units : List Unit) (copies : List CopyRecord) (grants : List Grant) (history : List Served) (pairs : List Pair) → copies ≡ [] → grants ≡ [] → history ≡ [] → AwaitNone units → AreUnused units → OweNone units → AreFresh pairs
+pub received_fresh : (units : List Unit) (copies : List CopyRecord) (grants : List Grant) (history : List Served) (pairs : List Pair) → copies ≡ [] → grants ≡ [] → history ≡ [] → AwaitNone units → AreUnused units → OweNone units → AreDown units → AreClosed pairs → AreFresh pairs
     → AreReceived units copies grants history pairs
-received_fresh units copies grants history pairs none no_lines no_rows waits unused unowed fresh k pair found = record {
+received_fresh units copies grants history pairs none no_lines no_rows waits unused unowed down closed fresh k pair found = record {
   judged = ∣ (
     [],
     record {
@@ -211,6 +229,11 @@ received_fresh units copies grants history pairs none no_lines no_rows waits unu
   ) ∣₁;
   begun = subst AreBegun (sym (fresh k pair found).taken) (All-nil (λ (row : PipeRow). 1 ≤ row.session));
   behind = behind_none (side_of pair.link true).queue.session (side_of pair.link true).queue.taken (side_of pair.link true).queue.sent (fresh k pair found).taken;
+  gone = record {
+    says = λ event there. absurd (no_event event (sym (fresh k pair found).kept ∙ there));
+    gone = λ on. absurd (both_bools (side_of pair.link true).registered on (closed k pair found).server);
+  };
+  agrees = IfSome_then (slice_get units k) (down k) (λ u is. record { down = λ off. (closed k pair found).server; on = λ up. absurd (up is) });
   answers = ∣ subst (λ (lines : List Grant). HaveAnswers units k pair.own.unit (end_of [] pair.link true) history lines) (sym no_lines)
       (subst (λ (rows : List Served). HaveAnswers units k pair.own.unit (end_of [] pair.link true) rows []) (sym no_rows) (unowed k pair.own.unit (end_of [] pair.link true))) ∣₁;
 }

@@ -1,5 +1,5 @@
 -- The refusals of which a gathered trace tells have their causes.
-use Rattle.std.proofs.Common.{◌≡◌, ◌∙◌, ℕ, ◌==◌, true, false, List, MatchOption, Option, Some, None, IsSomeAnd, filter, length, slice_get, sym, ap, subst, arith, All, Contains, IfSome, map, option_map}
+use Rattle.std.proofs.Common.{◌≡◌, ◌∙◌, ℕ, ◌+◌, ◌≤◌, ◌==◌, true, false, List, MatchOption, Option, Some, None, IsSomeAnd, filter, length, slice_get, sym, ap, subst, arith, All, Contains, IfSome, map, option_map}
 use Rattle.std.specs.List.{flat_map}
 use Rattle.std.proofs.lemmas.Bool.Decides.{nat_tests}
 use Rattle.vio_num.specs.declared.history.Grant.{Grant}
@@ -48,7 +48,17 @@ use Rattle.vcpu_run.specs.declared.unit_seat.UnitSeat.{UnitSeat}
 use Rattle.vcpu_run.specs.CopyRows.{same_unit}
 use Rattle.vcpu_run.specs.LinesShow.{LinesShow, Sees, seen_at}
 use Rattle.vcpu_run.specs.Pairs.{AreOfOneHome, IsDriver}
+use Rattle.vcpu_run.specs.AnswersSent.{sent_to}
+use Rattle.vcpu_run.specs.SentOrder.{AreSentIn, entries_put}
 use Rattle.vcpu_run.specs.Sessions.{session_rows}
+use Rattle.vio_trace.specs.declared.rows.Trace.{Trace}
+use Rattle.vio_num.specs.declared.entry.Entry.{Entry}
+use Rattle.vcpu_run.specs.EventsHeard.{events_among}
+use Rattle.vcpu_run.specs.FewEvents.{EventsAreFew, resets_told, times_failing}
+use Rattle.vcpu_run.specs.Lines.{IsOver}
+use Rattle.vcpu_run.proofs.FewEvents.{few_put}
+use Rattle.vcpu_run.proofs.OrderSent.{order_seen}
+use Rattle.vcpu_run.proofs.SentTo.{begun_sent}
 use Rattle.vcpu_run.specs.Units.{seats_of, unit_seat}
 use Rattle.vcpu_run.proofs.Copied.{names_apart, values_are, windows_shown}
 use Rattle.vcpu_run.proofs.Following.{each_from_all}
@@ -81,6 +91,38 @@ window_is : (window : WindowValue) (slot : Option Driver) (id : UnitId) → IfSo
 window_is window None id is has = absurd has
 window_is window (Some driver) id is has = is.unit ∙ has
 
+-- the sessions of a server unit's queue, as the trace shows them
+record ShowsSessions (trace : Trace) (server : UnitId) (pipe : PipeValue) : Type 0 where
+  pub laws : IsLawfulPipe pipe
+  pub sessions : sessions_of trace server ≡ session_rows server pipe
+
+server_sessions : (partitions : List Partition) (pairs : List Pair) (scripts : List Script) (lan : LanValue) (rows : LanRows) (history : List Served) (grants : List Grant) (copies : List CopyRecord)
+    (client server : UnitId) (pair : Pair) → AreScripts pairs lan.seats scripts → All (HasLawfulQueue pairs) (seats_of scripts) → IsOfPlan partitions pairs scripts lan.seats
+    → IsClientOf partitions client server → slice_get pairs server.unit ≡ Some pair
+    → ShowsSessions (trace_of pairs scripts lan rows history grants copies) server (side_of pair.link true).queue
+server_sessions partitions pairs scripts lan rows history grants copies client server pair are lawful plan is there =
+    let pipe : PipeValue = (side_of pair.link true).queue in
+    let seats = seats_of scripts in
+    let serves : IsServer partitions server = plan.sound.served client server is in
+    let seat : UnitSeat = unit_seat server.partition server.unit sits.Server in
+    let inside : IsIn seat seats = planned_in partitions pairs scripts lan.seats server (units.Server serves.0) are plan serves.1 in
+    let queue : queue_at pairs seat ≡ Some pipe = ap (option_map (λ (pair : Pair). (side_of pair.link true).queue)) there in
+    record {
+      laws = subst (λ slot. IfSome slot IsLawfulPipe) queue (each_in (HasLawfulQueue pairs) seat seats inside (each_from_all (HasLawfulQueue pairs) seats lawful));
+      sessions = found (λ (row : QueueRow). same_unit row.unit server) (λ (other : UnitSeat). same_unit other.unit server) (sessions_at pairs) seat (same_refl server) seats inside
+          (sessions_told pairs server seats) (names_apart server seats (seats_ordered pairs lan.seats scripts are))
+          ∙ ap (rows_if (session_rows server)) queue;
+    }
+
+-- what was put into it in sessions
+entries_shown : (partitions : List Partition) (pairs : List Pair) (scripts : List Script) (lan : LanValue) (rows : LanRows) (history : List Served) (grants : List Grant) (copies : List CopyRecord)
+    (client server : UnitId) (pair : Pair) → AreScripts pairs lan.seats scripts → All (HasLawfulQueue pairs) (seats_of scripts) → IsOfPlan partitions pairs scripts lan.seats
+    → IsClientOf partitions client server → slice_get pairs server.unit ≡ Some pair
+    → sent_to (trace_of pairs scripts lan rows history grants copies) server ≡ entries_put pair
+entries_shown partitions pairs scripts lan rows history grants copies client server pair are lawful plan is there =
+    let shows = server_sessions partitions pairs scripts lan rows history grants copies client server pair are lawful plan is there in
+    ap (flat_map (λ (row : QueueRow). row.sent)) shows.sessions ∙ begun_sent server (side_of pair.link true).queue shows.laws
+
 -- what there is at a client's pair is shown by the trace
 pub trace_sees : (partitions : List Partition) (pairs : List Pair) (scripts : List Script) (lan : LanValue) (rows : LanRows) (history : List Served) (grants : List Grant) (copies : List CopyRecord)
     (client server : UnitId) (pair : Pair) → AreOfOneHome copies pairs → AreScripts pairs lan.seats scripts → All (HasLawfulQueue pairs) (seats_of scripts)
@@ -90,16 +132,7 @@ trace_sees partitions pairs scripts lan rows history grants copies client server
     let trace = trace_of pairs scripts lan rows history grants copies in
     let pipe : PipeValue = (side_of pair.link true).queue in
     let seats = seats_of scripts in
-    let serves : IsServer partitions server = plan.sound.served client server is in
-    let seat : UnitSeat = unit_seat server.partition server.unit sits.Server in
-    let inside : IsIn seat seats = planned_in partitions pairs scripts lan.seats server (units.Server serves.0) are plan serves.1 in
-    let queue : queue_at pairs seat ≡ Some pipe = ap (option_map (λ (pair : Pair). (side_of pair.link true).queue)) there in
-    let laws : IsLawfulPipe pipe =
-    subst (λ slot. IfSome slot IsLawfulPipe) queue (each_in (HasLawfulQueue pairs) seat seats inside (each_from_all (HasLawfulQueue pairs) seats lawful)) in
-    let sessions : sessions_of trace server ≡ session_rows server pipe =
-    found (λ (row : QueueRow). same_unit row.unit server) (λ (other : UnitSeat). same_unit other.unit server) (sessions_at pairs) seat (same_refl server) seats inside
-    (sessions_told pairs server seats) (names_apart server seats (seats_ordered pairs lan.seats scripts are))
-    ∙ ap (rows_if (session_rows server)) queue in
+    let shows = server_sessions partitions pairs scripts lan rows history grants copies client server pair are lawful plan is there in
     let own : UnitSeat = unit_seat client.partition client.unit (sits.Client server.unit) in
     let own_inside : IsIn own seats = planned_in partitions pairs scripts lan.seats client (units.Client server is.0 is.1) are plan is.2 in
     let window : window_at pairs lan own ≡ Some pair.window = ap (option_map (λ (pair : Pair). pair.window)) there in
@@ -111,14 +144,14 @@ trace_sees partitions pairs scripts lan rows history grants copies client server
       fronts = λ page front is.
           front_shown (pages_at partitions client) page front (strokes_at pair.window.pages page) (map stroke_value (strokes_on trace client page)) (grows.strokes page) is;
       values = λ entry value is. begins_has ((known_of pair.window).values entry) (values_shown trace client entry) value (grows.values entry) is;
-      entries = λ entry put. subst (λ (sessions : List QueueRow). Contains (flat_map (λ row. row.sent) sessions) entry) (sym sessions) (put_shown server pipe entry laws.sent put);
+      entries = λ entry put. subst (λ (sessions : List QueueRow). Contains (flat_map (λ row. row.sent) sessions) entry) (sym shows.sessions) (put_shown server pipe entry shows.laws.sent put);
     }
 
 pub refusals_are : (pairs : List Pair) (scripts : List Script) (lan : LanValue) (lan_rows : LanRows) (history : List Served) (grants : List Grant) (copies : List CopyRecord) (partitions : List Partition)
     → AreOfOneHome copies pairs → AreScripts pairs lan.seats scripts → All (HasLawfulQueue pairs) (seats_of scripts) → All (HasLawfulWindow pairs lan) (seats_of scripts)
-    → IsOfPlan partitions pairs scripts lan.seats → AreTold pairs scripts
+    → IsOfPlan partitions pairs scripts lan.seats → All IsOver scripts → AreTold pairs scripts
     → RefusalsAreTold partitions (trace_of pairs scripts lan lan_rows history grants copies)
-refusals_are pairs scripts lan lan_rows history grants copies partitions home are lawful windows of_plan told client server is none =
+refusals_are pairs scripts lan lan_rows history grants copies partitions home are lawful windows of_plan over told client server is none =
     let p = client.partition in
     let at = script_at partitions pairs scripts lan.seats client (units.Client server is.0 is.1) of_plan is.2 in
     let script = at.0 in
@@ -140,7 +173,17 @@ refusals_are pairs scripts lan lan_rows history grants copies partitions home ar
     let show : LinesShow (seen_in trace client server) client client.unit script.lines.now script.logs.items =
     subst (λ (unit : UnitId). LinesShow (seen_in trace client server) unit client.unit script.lines.now script.logs.items) who
     (lines_more (seen_at pair.0) (seen_in trace client server) pair.0.window.unit client.unit script.lines.now script.logs.items sees
-    (script_is.shown client.unit server.unit pair.0 at.2 pair.1)) in
+    (script_is.shown client.unit server.unit pair.0 at.2 pair.1).show) in
+    let order : AreSentIn (seen_in trace client server) client client.unit script.lines.now script.logs.items (sent_to trace server) =
+    subst (λ (unit : UnitId). AreSentIn (seen_in trace client server) unit client.unit script.lines.now script.logs.items (sent_to trace server)) who
+    (subst (AreSentIn (seen_in trace client server) pair.0.window.unit client.unit script.lines.now script.logs.items)
+    (sym (entries_shown partitions pairs scripts lan lan_rows history grants copies client server pair.0 are lawful of_plan is pair.1))
+    (order_seen (seen_at pair.0) (seen_in trace client server) pair.0.window.unit client.unit script.lines.now script.logs.items (entries_put pair.0) sees
+    (script_is.shown client.unit server.unit pair.0 at.2 pair.1).order)) in
+    let few : EventsAreFew trace server script.lines.now (ended_by client.unit script.lines.now script.logs.items) =
+    subst (λ (entries : List Entry). events_among entries ≤ resets_told (ended_by client.unit script.lines.now script.logs.items) + times_failing script.lines.now)
+    (sym (entries_shown partitions pairs scripts lan lan_rows history grants copies client server pair.0 are lawful of_plan is pair.1))
+    (few_put script client.unit pair.0 (each_in IsOver script scripts (in_slice scripts p script at.1) (each_from_all IsOver scripts over)) (script_is.few client.unit server.unit pair.0 at.2 pair.1)) in
     let own_seat : UnitSeat = unit_seat client.partition client.unit (sits.Client server.unit) in
     let own_inside : IsIn own_seat (seats_of scripts) = planned_in partitions pairs scripts lan.seats client (units.Client server is.0 is.1) are of_plan is.2 in
     let window : window_at pairs lan own_seat ≡ Some pair.0.window = ap (option_map (λ (pair : Pair). pair.window)) pair.1 in
@@ -150,17 +193,22 @@ refusals_are pairs scripts lan lan_rows history grants copies partitions home ar
     let same : pair.0.server ≡ server = ap (λ (x : Pair). x.server) (some_is pair.0 there.0 (sym pair.1 ∙ there.1)) ∙ there.2 in
     let given : IsClientGiven trace client server (ended_by client.unit script.lines.now script.logs.items) =
     client_takes partitions pairs scripts lan lan_rows history grants copies client server (ended_by client.unit script.lines.now script.logs.items) pair.0
-    (λ driver. driver.unit ≡ unit_of script.partition client.unit) are lawful of_plan is pair.1 pair.2 (script_is.taken.kept client.unit server.unit pair.0 at.2 pair.1) sees same in
+    (λ driver. driver.unit ≡ unit_of script.partition client.unit) are lawful of_plan is pair.1 pair.2 (home.pairs_are server.unit pair.0 pair.1).driver (script_is.taken.kept client.unit server.unit pair.0 at.2 pair.1) sees same in
     record {
       causes = subst (λ n. HasCausesTold n (ended_by client.unit (script_of partitions p) (filter (λ (row : LogRow). row.partition == p) (flat_map logs_of scripts)))) (sym pages)
           (subst (λ (ls : List Line). HasCausesTold (length pair.0.window.pages) (ended_by client.unit ls (filter (λ (row : LogRow). row.partition == p) (flat_map logs_of scripts)))) (sym lines)
           (subst (λ (rows : List LogRow). HasCausesTold (length pair.0.window.pages) (ended_by client.unit script.lines.now rows)) (sym (own_records pairs scripts lan p script are at.1)) law));
       shown = subst (λ (ls : List Line). LinesShow (seen_in trace client server) client client.unit ls (filter (λ (row : LogRow). row.partition == p) (flat_map logs_of scripts))) (sym lines)
           (subst (λ (rows : List LogRow). LinesShow (seen_in trace client server) client client.unit script.lines.now rows) (sym (own_records pairs scripts lan p script are at.1)) show);
+      order = subst (λ (ls : List Line). AreSentIn (seen_in trace client server) client client.unit ls (filter (λ (row : LogRow). row.partition == p) (flat_map logs_of scripts)) (sent_to trace server)) (sym lines)
+          (subst (λ (rows : List LogRow). AreSentIn (seen_in trace client server) client client.unit script.lines.now rows (sent_to trace server)) (sym (own_records pairs scripts lan p script are at.1)) order);
+      few = subst (λ (ls : List Line). EventsAreFew trace server ls (ended_by client.unit ls (filter (λ (row : LogRow). row.partition == p) (flat_map logs_of scripts)))) (sym lines)
+          (subst (λ (rows : List LogRow). EventsAreFew trace server script.lines.now (ended_by client.unit script.lines.now rows)) (sym (own_records pairs scripts lan p script are at.1)) few);
       put = subst (λ (ls : List Line). AreValuesTold trace client (ended_by client.unit ls (filter (λ (row : LogRow). row.partition == p) (flat_map logs_of scripts)))) (sym lines)
           (subst (λ (rows : List LogRow). AreValuesTold trace client (ended_by client.unit script.lines.now rows)) (sym (own_records pairs scripts lan p script are at.1)) put);
       takes = subst (λ (ls : List Line). AreAnswersTaken trace client (ended_by client.unit ls (filter (λ (row : LogRow). row.partition == p) (flat_map logs_of scripts)))) (sym lines)
           (subst (λ (rows : List LogRow). AreAnswersTaken trace client (ended_by client.unit script.lines.now rows)) (sym (own_records pairs scripts lan p script are at.1)) given.takes);
       reads = subst (λ (ls : List Line). AreDataTold (seen_in trace client server) server (ended_by client.unit ls (filter (λ (row : LogRow). row.partition == p) (flat_map logs_of scripts))) (answers_to trace client)) (sym lines)
           (subst (λ (rows : List LogRow). AreDataTold (seen_in trace client server) server (ended_by client.unit script.lines.now rows) (answers_to trace client)) (sym (own_records pairs scripts lan p script are at.1)) given.reads);
+      read = given.read;
     }

@@ -37,6 +37,7 @@ told_else old new script same is = record {
     agrees = λ line next ok unit k pair at now. is.taken.agrees line next ok unit k pair at (sym (same unit k at) ∙ now);
   };
   put = λ unit k pair at now. is.put unit k pair at (sym (same unit k at) ∙ now);
+  few = λ unit k pair at now. is.few unit k pair at (sym (same unit k at) ∙ now);
 }
 
 out_else : (old new : List Pair) (script : Script) → SameSeats old new script → IsResetOut old script → IsResetOut new script

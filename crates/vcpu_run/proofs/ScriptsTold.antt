@@ -1,5 +1,5 @@
 -- The refusals of a script's clients, as its lines go on and end.
-use Rattle.std.proofs.Common.{◌≡◌, ◌≢◌, ◌∙◌, ◌⊎◌, inl, inr, ℕ, ◌<◌, ◌==◌, cond, Bool, true, false, List, [], ◌∷◌, ◌++◌, Option, Some, None, Ok, IfSome, IsSomeAnd, length, slice_get, refl, sym, ap, subst, append-nil, arith, eq-eqb, eqb-true}
+use Rattle.std.proofs.Common.{◌≡◌, ◌≢◌, ◌∙◌, ◌⊎◌, inl, inr, ℕ, ◌+◌, ◌<◌, ◌≤◌, ◌==◌, cond, Bool, true, false, List, [], ◌∷◌, ◌++◌, Option, Some, None, Ok, IfSome, IsSomeAnd, length, slice_get, refl, sym, ap, subst, append-nil, arith, eq-eqb, eqb-true}
 use Rattle.std.specs.List.{AllPairs}
 use Rattle.std.proofs.lemmas.List.Elements.{All-nil}
 use Rattle.std.proofs.lemmas.Option.{slice_get_past}
@@ -25,11 +25,17 @@ use Rattle.vcpu_run.specs.declared.unit_seat.Seat.TheVariants as places
 use Rattle.vcpu_run.specs.Agreed.{AreLoggedOut, IsLoggedOut, OnDrivers, driver_in}
 use Rattle.vcpu_run.specs.Freeing.{is_reset}
 use Rattle.vcpu_run.specs.Credited.{Ended, ended_by, is_take, taken_in}
-use Rattle.vcpu_run.specs.LinesShow.{IsShown, LinesShow, Seen, read_by, requests, seen_at, written_by, further_of}
+use Rattle.vcpu_run.specs.LinesShow.{IsShown, LinesShow, PairShows, Seen, read_by, requests, seen_at, seen_between, written_by, further_of}
 use Rattle.vcpu_run.specs.Pairs.{AreDriven}
 use Rattle.vcpu_run.specs.Refusals.{HasCausesTold, tag_of, tags_told}
 use Rattle.vcpu_run.specs.Replay.{asks}
 use Rattle.vcpu_run.specs.Scripts.{AreSeats}
+use Rattle.vcpu_run.specs.SentOrder.{AreSentIn, entries_put}
+use Rattle.vcpu_run.proofs.OrderSent.{one_shown, order_begun, shown_on}
+use Rattle.vcpu_run.specs.EventsMade.{AllCalm, AllShut, PairMakes, events_at}
+use Rattle.vcpu_run.specs.FewEvents.{PairFew, resets_told}
+use Rattle.vcpu_run.proofs.CalmTurns.{calm_at, shut_at}
+use Rattle.vcpu_run.proofs.FewEvents.{else_ends, few_any, few_calm, few_else, few_failed, few_failing, few_now, few_over, few_shuts, few_then, makes_same, own_ends, own_waits, resets_own}
 use Rattle.vcpu_run.specs.ScriptTold.{AtSeats, IsResetOut, IsScriptTold, SameClient, SameClients, PairIsTold, PairShown, own_of, progress_at, progress_by}
 use Rattle.vcpu_run.specs.Suited.{suits}
 use Rattle.vcpu_run.specs.EventsHeard.{StepHears, lost_of}
@@ -49,7 +55,7 @@ use Rattle.vcpu_run.proofs.Askings.{plain_ends}
 use Rattle.vcpu_run.proofs.Driving.{client_is, driven_same, no_port, same_or, some_is}
 use Rattle.vcpu_run.proofs.GivesAll.{all_give_same}
 use Rattle.vcpu_run.proofs.FurtherKept.{no_further, unanswered}
-use Rattle.vcpu_run.proofs.LinesShown.{drives_sees, fail_shows, lines_more, lines_next, no_row, shows_none}
+use Rattle.vcpu_run.proofs.LinesShown.{drives_sees, fail_shows, no_row, sees_same, shows_none}
 use Rattle.vcpu_run.proofs.LoginsTold.{true_false}
 use Rattle.vcpu_run.proofs.Sayings.{is_logout, is_own, says_nothing}
 use Rattle.vcpu_run.proofs.ScriptsTaken.{clients_taken, ends_taken, fail_ends_taken, fail_waits_taken, new_taken, over_taken, port_ends_taken, port_waits_taken, waits_taken}
@@ -59,25 +65,25 @@ use Rattle.vcpu_run.proofs.TakesTold.{takes_none, took_told}
 use Rattle.vcpu_run.proofs.TakingTurns.{took_taken}
 use Rattle.vcpu_run.proofs.Tellings.{ended, ends_told, said_more, same_told, tags_more}
 
--- what the lines that ended did is there still
+-- what the lines that ended did is there still, and more was put behind their requests
 pub still_shown : (old new : List Pair) (script : Script) → AreSeats script.partition script.seats.items old → AreDriven old new
     → AtSeats script.seats.items old (PairShown script) → AtSeats script.seats.items new (PairShown script)
 still_shown old new script are driven is unit k after at now =
     let b = before_of script.partition unit k script.seats.items old new after are driven at now in
-    subst (λ who. LinesShow (seen_at after) who unit script.lines.now script.logs.items) (sym b.drives.unit)
-    (lines_more (seen_at b.pair) (seen_at after) b.pair.window.unit unit script.lines.now script.logs.items (drives_sees b.pair after b.drives) (is unit k b.pair at b.there))
+    shown_on script unit b.pair after b.drives.unit (drives_sees b.pair after b.drives) (b.drives.puts.rows, b.drives.puts.sent) (is unit k b.pair at b.there)
 
--- and what the line did that ended last
-ended_shown : (new : List Pair) (script done : Script) (line : Line) (row : LogRow) → slice_get script.lines.now script.at ≡ Some line → length script.logs.items ≡ script.at
-    → done.lines ≡ script.lines → done.seats ≡ script.seats → done.logs.items ≡ script.logs.items ++ row ∷ [] → AtSeats script.seats.items new (PairShown script)
-    → AtSeats script.seats.items new (λ unit pair. line.unit ≡ unit → IsShown (seen_at pair) pair.window.unit line.number line.verb row.outcome)
+-- the current line ended, which shows at the pair of its client what it did
+ended_shown : (old new : List Pair) (script done : Script) (line : Line) (row : LogRow) → slice_get script.lines.now script.at ≡ Some line → length script.logs.items ≡ script.at
+    → done.lines ≡ script.lines → done.seats ≡ script.seats → done.logs.items ≡ script.logs.items ++ row ∷ [] → AreSeats script.partition script.seats.items old → AreDriven old new
+    → AtSeats script.seats.items old (PairShown script)
+    → ((unit k : ℕ) (before after : Pair) → slice_get script.seats.items unit ≡ Some (places.Client k) → slice_get old k ≡ Some before → slice_get new k ≡ Some after
+    → line.unit ≡ unit → PairShows line before after (Ok (steps.Ends row.outcome)))
     → AtSeats done.seats.items new (PairShown done)
-ended_shown new script done line row found many lines seats logs is last unit k after at now =
+ended_shown old new script done line row found many lines seats logs are driven is last unit k after at now =
     let here : slice_get script.seats.items unit ≡ Some (places.Client k) = subst (λ ss. slice_get ss.items unit ≡ Some (places.Client k)) seats at in
-    subst (λ ls. LinesShow (seen_at after) after.window.unit unit ls.now done.logs.items) (sym lines)
-    (subst (λ (rows : List LogRow). LinesShow (seen_at after) after.window.unit unit script.lines.now rows) (sym logs)
-    (lines_next (seen_at after) after.window.unit unit script.lines.now script.logs.items line row (ap (slice_get script.lines.now) many ∙ found)
-    (is unit k after here now) (last unit k after here now)))
+    let b = before_of script.partition unit k script.seats.items old new after are driven here now in
+    one_shown script done unit b.pair after line row found many lines logs b.drives.unit (drives_sees b.pair after b.drives) (b.drives.puts.rows, b.drives.puts.sent)
+    (λ same. last unit k b.pair after here b.there now same) (is unit k b.pair here b.there)
 
 -- a step of the pair's own line that waits
 waits_pair : (verb : Verb) (p p' : Progress) (own : List Ended) (before after : Pair) (did : Moved) → IsSomeAnd before.driver (λ d. Unit {0}) → length after.window.pages ≡ length before.window.pages
@@ -148,8 +154,24 @@ client_waits old new script p' line seat here did found one sits there are drive
   shown = still_shown old new script are driven is.shown;
   taken = waits_taken old new script p' line seat here did found one sits there are driven step is.taken;
   put = λ unit k after at now. put unit k after at now (same_or k seat);
+  few = λ unit k after at now. few unit k after at now (here_or line.unit unit);
 }
   where
+    few : (unit k : ℕ) (after : Pair) → slice_get script.seats.items unit ≡ Some (places.Client k) → slice_get new k ≡ Some after → ((line.unit == unit) ≡ true) ⊎ ((line.unit == unit) ≡ false)
+        → PairFew (record script { progress = p' }) unit after
+    few unit k after at now (inl same) =
+        let same_seat : seat ≡ k = client_is seat k (sym sits ∙ (ap (λ n. slice_get script.seats.items n) (eqb-true line.unit unit same) ∙ at)) in
+        let b = before_of script.partition unit k script.seats.items old new after are driven at now in
+        few_then unit script.lines.now (resets_told (own_of unit script)) p' (slice_get script.lines.now script.at) line after found one
+        (own_waits unit (resets_told (own_of unit script)) script.progress p' line b.pair after same
+        (step.makes b.pair after (ap (slice_get old) same_seat ∙ b.there) (ap (slice_get new) same_seat ∙ now))
+        (few_now unit script.lines.now (resets_told (own_of unit script)) script.progress (slice_get script.lines.now script.at) line b.pair found one (is.few unit k b.pair at b.there)))
+    few unit k after at now (inr differ) =
+        let b = before_of script.partition unit k script.seats.items old new after are driven at now in
+        let apart = apart_seats script.partition unit line.unit k seat script.seats.items old are sits at differ in
+        subst (PairFew (record script { progress = p' }) unit) (sym (same_pair old new k after b.pair (step.beside k apart) now b.there))
+        (few_else unit script.lines.now (resets_told (own_of unit script)) script.progress p' (slice_get script.lines.now script.at) line b.pair found one differ (is.few unit k b.pair at b.there))
+
     put : (unit k : ℕ) (after : Pair) → slice_get script.seats.items unit ≡ Some (places.Client k) → slice_get new k ≡ Some after → (k ≡ seat) ⊎ (k ≢ seat)
         → AreValuesPut (own_of unit script) after
     put unit k after at now (inl same) =
@@ -196,11 +218,14 @@ client_ends old new script done line row seat p' found one sits are driven many 
   told = λ l next ok unit k after at now. subst (λ (q : Progress). PairIsTold (own_of unit done) q after)
       (sym (ap (λ (p : Progress). progress_at unit p (slice_get done.lines.now done.at)) fresh ∙ fresh_at unit (slice_get done.lines.now done.at)))
       (each unit k after (back unit k at) now (here_or line.unit unit)).1;
-  shown = ended_shown new script done line row found many lines seats logs (still_shown old new script are driven is.shown)
-      (λ unit k after at now same.
-      step.shows after (ap (slice_get new) (client_is seat k (sym sits ∙ (ap (slice_get script.seats.items) same ∙ at))) ∙ now));
+  shown = ended_shown old new script done line row found many lines seats logs are driven is.shown
+      (λ unit k before after at was now same.
+      let seat_is : seat ≡ k = client_is seat k (sym sits ∙ (ap (slice_get script.seats.items) same ∙ at)) in
+      step.shows before after (ap (slice_get old) seat_is ∙ was) (ap (slice_get new) seat_is ∙ now));
   taken = ends_taken old new script done line row seat p' found one sits are driven many step lines seats logs fresh is.taken;
   put = λ unit k after at now. put unit k after (back unit k at) now (here_or line.unit unit);
+  few = λ unit k after at now. few_any unit done.lines.now (resets_told (own_of unit done)) done.progress (slice_get done.lines.now done.at) after
+      (few unit k after (back unit k at) now (here_or line.unit unit));
 }
   where
     of : IsOf line.verb script.progress
@@ -219,6 +244,24 @@ client_ends old new script done line row seat p' found one sits are driven many 
     fresh_any : (o : Option Line) → IfSome o (λ l. (k : ℕ) → slice_get done.seats.items l.unit ≡ Some (places.Client k) → IsOf l.verb done.progress)
     fresh_any None = tt
     fresh_any (Some l) = λ k at. subst (IsOf l.verb) (sym fresh) (record { take = λ h. refl; reset = λ h. refl })
+
+    few : (unit k : ℕ) (after : Pair) → slice_get script.seats.items unit ≡ Some (places.Client k) → slice_get new k ≡ Some after → ((line.unit == unit) ≡ true) ⊎ ((line.unit == unit) ≡ false)
+        → events_at after ≤ resets_told (own_of unit done)
+    few unit k after at now (inl same) =
+        let same_seat : seat ≡ k = client_is seat k (sym sits ∙ (ap (λ n. slice_get script.seats.items n) (eqb-true line.unit unit same) ∙ at)) in
+        let b = before_of script.partition unit k script.seats.items old new after are driven at now in
+        let more : resets_told (own_of unit done) ≡ resets_told (own_of unit script) + cond (is_reset line.verb) 1 0 =
+        resets_own (own_of unit script) (own_of unit done) e (records unit ∙ ap (λ t. cond t (own_of unit script ++ e ∷ []) (own_of unit script)) same) in
+        subst (λ n. events_at after ≤ n) (sym more)
+        (own_ends unit (resets_told (own_of unit script)) script.progress p' line b.pair after
+        (step.makes b.pair after (ap (slice_get old) same_seat ∙ b.there) (ap (slice_get new) same_seat ∙ now))
+        (few_now unit script.lines.now (resets_told (own_of unit script)) script.progress (slice_get script.lines.now script.at) line b.pair found one (is.few unit k b.pair at b.there)))
+    few unit k after at now (inr differ) =
+        let b = before_of script.partition unit k script.seats.items old new after are driven at now in
+        let apart = apart_seats script.partition unit line.unit k seat script.seats.items old are sits at differ in
+        subst (λ (own : List Ended). events_at after ≤ resets_told own) (sym (records unit ∙ ap (λ t. cond t (own_of unit script ++ e ∷ []) (own_of unit script)) differ))
+        (subst (λ (pair : Pair). events_at pair ≤ resets_told (own_of unit script)) (sym (same_pair old new k after b.pair (step.beside k apart) now b.there))
+        (else_ends unit script.lines.now (resets_told (own_of unit script)) script.progress (slice_get script.lines.now script.at) line b.pair found one differ (is.few unit k b.pair at b.there)))
 
     put : (unit k : ℕ) (after : Pair) → slice_get script.seats.items unit ≡ Some (places.Client k) → slice_get new k ≡ Some after → ((line.unit == unit) ≡ true) ⊎ ((line.unit == unit) ≡ false)
         → AreValuesPut (own_of unit done) after
@@ -268,6 +311,8 @@ port_waits_told pairs script p' line found one sits is = record {
   shown = is.shown;
   taken = port_waits_taken pairs script p' line found one sits is.taken;
   put = is.put;
+  few = λ unit k pair at now. few_else unit script.lines.now (resets_told (own_of unit script)) script.progress p' (slice_get script.lines.now script.at) line pair found one
+      (not_port script line unit k sits at) (is.few unit k pair at now);
 }
 
 pub port_ends_told : (pairs : List Pair) (script done : Script) (line : Line) (row : LogRow) → slice_get script.lines.now script.at ≡ Some line → fails line.verb ≡ false
@@ -283,11 +328,16 @@ port_ends_told pairs script done line row found one sits many lines seats logs f
       (subst (λ (own : List Ended). PairIsTold own progress.Fresh pair) (sym (records unit k here))
       (subst (λ (q : Progress). PairIsTold (own_of unit script) q pair) (else_by unit script.progress line (slice_get script.lines.now script.at) found (not_port script line unit k sits here))
       (is.told line found one unit k pair here now)));
-  shown = ended_shown pairs script done line row found many lines seats logs is.shown
-      (λ unit k after at now same. absurd (no_port k (sym at ∙ (ap (slice_get script.seats.items) (sym same) ∙ sits))));
+  shown = λ unit k pair at now. one_shown script done unit pair pair line row found many lines logs refl (sees_same (seen_at pair)) ([], sym (append-nil (side_of pair.link true).queue.sent))
+      (λ same. absurd (no_port k (sym (back unit k at) ∙ (ap (slice_get script.seats.items) (sym same) ∙ sits)))) (is.shown unit k pair (back unit k at) now);
   taken = port_ends_taken pairs script done line row found one sits many lines seats logs fresh is.taken;
   put = λ unit k pair at now. let here = back unit k at in
       subst (λ (own : List Ended). AreValuesPut own pair) (sym (records unit k here)) (is.put unit k pair here now);
+  few = λ unit k pair at now. let here = back unit k at in
+      few_any unit done.lines.now (resets_told (own_of unit done)) done.progress (slice_get done.lines.now done.at) pair
+      (subst (λ (own : List Ended). events_at pair ≤ resets_told own) (sym (records unit k here))
+      (else_ends unit script.lines.now (resets_told (own_of unit script)) script.progress (slice_get script.lines.now script.at) line pair found one
+      (not_port script line unit k sits here) (is.few unit k pair here now)));
 }
   where
     e : Ended
@@ -342,10 +392,15 @@ new_told pairs script logs fresh out untaken = record {
   told = λ l next ok unit k pair at now. subst (λ (own : List Ended). PairIsTold own (progress_by unit script) pair) (sym (none unit))
       (subst (λ (q : Progress). PairIsTold [] q pair) (sym (ap (λ (p : Progress). progress_at unit p (slice_get script.lines.now script.at)) fresh ∙ fresh_at unit (slice_get script.lines.now script.at)))
       (begun pair (subst (λ (o : Option Pair). IfSome (driver_in o) (λ d. d.client.granted ≡ None)) now (out unit k at))));
-  shown = λ unit k pair at now. subst (λ (rows : List LogRow). LinesShow (seen_at pair) pair.window.unit unit script.lines.now rows) (sym logs)
-      (λ i line row found there same. absurd (no_row row there));
+  shown = λ unit k pair at now. record {
+    show = subst (λ (rows : List LogRow). LinesShow (seen_at pair) pair.window.unit unit script.lines.now rows) (sym logs) (λ i line row found there same. absurd (no_row row there));
+    order = subst (λ (rows : List LogRow). AreSentIn (seen_at pair) pair.window.unit unit script.lines.now rows (entries_put pair)) (sym logs)
+        (order_begun (seen_at pair) pair.window.unit unit script.lines.now (entries_put pair));
+  };
   taken = new_taken pairs script logs fresh untaken;
   put = λ unit k pair at now. subst (λ (own : List Ended). AreValuesPut own pair) (sym (none unit)) (first_values pair (untaken k pair now).1);
+  few = λ unit k pair at now. few_any unit script.lines.now (resets_told (own_of unit script)) script.progress (slice_get script.lines.now script.at) pair
+      (let made : events_at pair ≡ 0 = (untaken k pair now).2 in omega (arith, made));
 }
   where
     empty : (unit : ℕ) (lines : List Line) → ended_by unit lines [] ≡ []
@@ -496,8 +551,10 @@ waiting_told pairs script done line row found suited are many ends lines seats l
             (some_is before after (sym b ∙ a)) (waiting_reads script.progress line.verb row.outcome before ends);
         puts = λ before after b a. subst (λ (x : Pair). PairPuts line.verb before x (Ok (steps.Ends row.outcome)))
             (some_is before after (sym b ∙ a)) (waiting_puts script.progress line.verb row.outcome before ends);
+        makes = λ before after b a. subst (λ (x : Pair). PairMakes line.verb script.progress script.progress before x)
+            (some_is before after (sym b ∙ a)) (makes_same line.verb script.progress before);
         gives = all_give_same pairs;
-        shows = λ after a. waiting_shows script.progress line.verb row.outcome (seen_at after) after.window.unit line.number ends;
+        shows = λ before after b a. waiting_shows script.progress line.verb row.outcome (seen_between before after) after.window.unit line.number ends;
       };
       port = λ at. refl;
     }) lines seats logs fresh is
@@ -551,8 +608,8 @@ put_on old new script are driven same is unit k after at now =
 
 -- the line that fails the partition is to be gone on with
 pub fail_waits_told : (old new : List Pair) (script : Script) (line : Line) → slice_get script.lines.now script.at ≡ Some line → fails line.verb ≡ true
-    → AreSeats script.partition script.seats.items old → AreDriven old new → AllGive old new → AllSameValues old new → IsScriptTold old script → IsScriptTold new script
-fail_waits_told old new script line found failing are driven gives same is = record {
+    → AreSeats script.partition script.seats.items old → AreDriven old new → AllGive old new → AllSameValues old new → AllShut old new → IsScriptTold old script → IsScriptTold new script
+fail_waits_told old new script line found failing are driven gives same shut is = record {
   law = law_on old new script are driven is;
   fresh = is.fresh;
   told = λ l next ok unit k pair at now.
@@ -560,21 +617,33 @@ fail_waits_told old new script line found failing are driven gives same is = rec
   shown = still_shown old new script are driven is.shown;
   taken = fail_waits_taken old new script line found failing driven gives is.taken;
   put = put_on old new script are driven same is;
+  few = λ unit k after at now.
+      let b = before_of script.partition unit k script.seats.items old new after are driven at now in
+      few_failing unit script.lines.now (resets_told (own_of unit script)) script.progress (slice_get script.lines.now script.at) line after found failing
+      (few_shuts unit script.lines.now (resets_told (own_of unit script)) script.progress (slice_get script.lines.now script.at) line b.pair after found failing
+      (shut_at old new k b.pair after shut b.there now) (is.few unit k b.pair at b.there));
 }
 
 -- it ended, and no line is left
 pub fail_ends_told : (old new : List Pair) (script done : Script) (line : Line) (row : LogRow) → slice_get script.lines.now script.at ≡ Some line → fails line.verb ≡ true
-    → AreSeats script.partition script.seats.items old → AreDriven old new → AllGive old new → AllSameValues old new → length script.logs.items ≡ script.at → row.outcome ≡ outcomes.Done
+    → AreSeats script.partition script.seats.items old → AreDriven old new → AllGive old new → AllSameValues old new → AllShut old new → length script.logs.items ≡ script.at → row.outcome ≡ outcomes.Done
     → done.lines ≡ script.lines → done.seats ≡ script.seats → done.logs.items ≡ script.logs.items ++ row ∷ [] → done.at ≡ length done.lines.now
     → IsScriptTold old script → IsScriptTold new done
-fail_ends_told old new script done line row found failing are driven gives same many done_is lines seats logs over is = record {
+fail_ends_told old new script done line row found failing are driven gives same shut many done_is lines seats logs over is = record {
   law = λ unit k after at now. each unit after (law_on old new script are driven is unit k after (subst (λ ss. slice_get ss.items unit ≡ Some (places.Client k)) seats at) now) (here_or line.unit unit);
   fresh = subst (λ (o : Option Line). IfSome o (λ l. (k : ℕ) → slice_get done.seats.items l.unit ≡ Some (places.Client k) → IsOf l.verb done.progress)) (sym none) tt;
   told = λ l next ok unit k pair at now. absurd (some_none l (sym none ∙ next));
-  shown = ended_shown new script done line row found many lines seats logs (still_shown old new script are driven is.shown)
-      (λ unit k after at now same. fail_shows (seen_at after) after.window.unit line.number line.verb row.outcome failing);
+  shown = ended_shown old new script done line row found many lines seats logs are driven is.shown
+      (λ unit k before after at was now same. fail_shows (seen_between before after) after.window.unit line.number line.verb row.outcome failing);
   taken = fail_ends_taken old new script done line row found failing driven gives many done_is lines seats logs over is.taken;
   put = λ unit k after at now. put unit after (put_on old new script are driven same is unit k after (subst (λ ss. slice_get ss.items unit ≡ Some (places.Client k)) seats at) now) (here_or line.unit unit);
+  few = λ unit k after at now.
+      let here : slice_get script.seats.items unit ≡ Some (places.Client k) = subst (λ ss. slice_get ss.items unit ≡ Some (places.Client k)) seats at in
+      let b = before_of script.partition unit k script.seats.items old new after are driven here now in
+      few_failed unit done.lines.now script.at (resets_told (own_of unit script)) (resets_told (own_of unit done)) done.progress (slice_get done.lines.now done.at) line after
+      (ap (λ ls. slice_get ls.now script.at) lines ∙ found) failing none (resets_grow unit (here_or line.unit unit))
+      (few_shuts unit script.lines.now (resets_told (own_of unit script)) script.progress (slice_get script.lines.now script.at) line b.pair after found failing
+      (shut_at old new k b.pair after shut b.there now) (is.few unit k b.pair here b.there));
 }
   where
     none : slice_get done.lines.now done.at ≡ None
@@ -589,6 +658,16 @@ fail_ends_told old new script done line row found failing are driven gives same 
     records : (unit : ℕ) → own_of unit done ≡ cond (line.unit == unit) (own_of unit script ++ e ∷ []) (own_of unit script)
     records unit = ap (λ ls. ended_by unit ls.now done.logs.items) lines
         ∙ (ap (ended_by unit script.lines.now) logs ∙ ended_more unit script.lines.now script.logs.items line row (ap (λ n. slice_get script.lines.now n) many ∙ found))
+
+    resets_grow : (unit : ℕ) → ((line.unit == unit) ≡ true) ⊎ ((line.unit == unit) ≡ false) → resets_told (own_of unit script) ≤ resets_told (own_of unit done)
+    resets_grow unit (inl same) =
+        let more : resets_told (own_of unit done) ≡ resets_told (own_of unit script) + cond (is_reset line.verb) 1 0 =
+        resets_own (own_of unit script) (own_of unit done) e (records unit ∙ ap (λ b. cond b (own_of unit script ++ e ∷ []) (own_of unit script)) same) in
+        omega (arith, more)
+    resets_grow unit (inr differ) =
+        let still : resets_told (own_of unit done) ≡ resets_told (own_of unit script) =
+        ap resets_told (records unit ∙ ap (λ b. cond b (own_of unit script ++ e ∷ []) (own_of unit script)) differ) in
+        omega (arith, still)
 
     put : (unit : ℕ) (after : Pair) → AreValuesPut (own_of unit script) after → ((line.unit == unit) ≡ true) ⊎ ((line.unit == unit) ≡ false) → AreValuesPut (own_of unit done) after
     put unit after was (inl same) =
@@ -608,14 +687,18 @@ fail_ends_told old new script done line row found failing are driven gives same 
 
 -- no line is left, and a turn was had
 pub over_told : (old new : List Pair) (script : Script) → slice_get script.lines.now script.at ≡ None
-    → AreSeats script.partition script.seats.items old → AreDriven old new → AllGive old new → AllSameValues old new → IsScriptTold old script → IsScriptTold new script
-over_told old new script none are driven gives same is = record {
+    → AreSeats script.partition script.seats.items old → AreDriven old new → AllGive old new → AllSameValues old new → AllCalm old new → IsScriptTold old script → IsScriptTold new script
+over_told old new script none are driven gives same calm is = record {
   law = law_on old new script are driven is;
   fresh = is.fresh;
   told = λ l next ok unit k pair at now. absurd (some_none l (sym none ∙ next));
   shown = still_shown old new script are driven is.shown;
   taken = over_taken old new script none driven gives is.taken;
   put = put_on old new script are driven same is;
+  few = λ unit k after at now.
+      let b = before_of script.partition unit k script.seats.items old new after are driven at now in
+      few_over unit script.lines.now (resets_told (own_of unit script)) script.progress (slice_get script.lines.now script.at) b.pair after none (calm_at old new k b.pair after calm b.there now)
+      (is.few unit k b.pair at b.there);
 }
   where
     some_none : (l : Line) → None ≡ Some l → ⊥
@@ -630,8 +713,15 @@ clients_told old new script same is = record {
   shown = λ unit k after at now. shown unit k after at (slice_get old k) refl (same k after now);
   taken = clients_taken old new script same is.taken;
   put = λ unit k after at now. put unit k after at (slice_get old k) refl (same k after now);
+  few = λ unit k after at now. few unit k after at (slice_get old k) refl (same k after now);
 }
   where
+    few : (unit k : ℕ) (after : Pair) → slice_get script.seats.items unit ≡ Some (places.Client k) → (o : Option Pair) → slice_get old k ≡ o
+        → IsSomeAnd o (λ before. SameClient before after) → PairFew script unit after
+    few unit k after at None e h = absurd h
+    few unit k after at (Some before) e h =
+        few_calm unit script.lines.now (resets_told (own_of unit script)) script.progress (slice_get script.lines.now script.at) before after h.calm h.queue (is.few unit k before at e)
+
     put : (unit k : ℕ) (after : Pair) → slice_get script.seats.items unit ≡ Some (places.Client k) → (o : Option Pair) → slice_get old k ≡ o
         → IsSomeAnd o (λ before. SameClient before after) → AreValuesPut (own_of unit script) after
     put unit k after at None e h = absurd h
@@ -640,8 +730,7 @@ clients_told old new script same is = record {
     shown : (unit k : ℕ) (after : Pair) → slice_get script.seats.items unit ≡ Some (places.Client k) → (o : Option Pair) → slice_get old k ≡ o
         → IsSomeAnd o (λ before. SameClient before after) → PairShown script unit after
     shown unit k after at None e h = absurd h
-    shown unit k after at (Some before) e h = subst (λ who. LinesShow (seen_at after) who unit script.lines.now script.logs.items) (sym h.unit)
-        (lines_more (seen_at before) (seen_at after) before.window.unit unit script.lines.now script.logs.items h.sees (is.shown unit k before at e))
+    shown unit k after at (Some before) e h = shown_on script unit before after h.unit h.sees h.puts (is.shown unit k before at e)
 
     law : (unit k : ℕ) (after : Pair) → slice_get script.seats.items unit ≡ Some (places.Client k) → (o : Option Pair) → slice_get old k ≡ o
         → IsSomeAnd o (λ before. SameClient before after) → HasCausesTold (length after.window.pages) (own_of unit script)
@@ -682,33 +771,6 @@ waits_out old new script p' line found one are driven step is l k after next res
 pub fail_out : (new : List Pair) (script : Script) (line : Line) → slice_get script.lines.now script.at ≡ Some line → is_reset line.verb ≡ false → IsResetOut new script
 fail_out new script line found other l k after next reset sits now =
     absurd (true_false (is_reset line.verb) (subst (λ (x : Line). is_reset x.verb ≡ true) (some_is l line (sym next ∙ found)) reset) other)
-
--- a line that fails the partition is no reset
-pub fails_reset : (verb : Verb) → fails verb ≡ true → is_reset verb ≡ false
-fails_reset verbs.Login is = absurd (cc)
-fails_reset verbs.Reset is = absurd (cc)
-fails_reset verbs.Logout is = absurd (cc)
-fails_reset verbs.Tur is = absurd (cc)
-fails_reset (verbs.Read lba blocks at pieces table) is = absurd (cc)
-fails_reset (verbs.Write lba blocks at pieces table) is = absurd (cc)
-fails_reset (verbs.Command cdb) is = absurd (cc)
-fails_reset (verbs.CommandIn cdb at len pieces table) is = absurd (cc)
-fails_reset (verbs.CommandOut cdb at len pieces table) is = absurd (cc)
-fails_reset (verbs.Task function of) is = absurd (cc)
-fails_reset (verbs.Take count) is = absurd (cc)
-fails_reset (verbs.Data of) is = absurd (cc)
-fails_reset verbs.Open is = absurd (cc)
-fails_reset verbs.Close is = absurd (cc)
-fails_reset (verbs.Post at len count) is = absurd (cc)
-fails_reset (verbs.Send to len seed at) is = absurd (cc)
-fails_reset (verbs.ChangeMac own) is = absurd (cc)
-fails_reset (verbs.Multicast control group) is = absurd (cc)
-fails_reset (verbs.Fill at len seed) is = absurd (cc)
-fails_reset (verbs.Poke at bytes) is = absurd (cc)
-fails_reset (verbs.Peek at len) is = absurd (cc)
-fails_reset (verbs.Tce entry page readable writable) is = absurd (cc)
-fails_reset (verbs.Hcall number arguments) is = absurd (cc)
-fails_reset verbs.Fail is = refl
 
 pub none_out : (new : List Pair) (script : Script) → slice_get script.lines.now script.at ≡ None → IsResetOut new script
 none_out new script none l k after next reset sits now = absurd (some_none (sym none ∙ next))

@@ -31,12 +31,13 @@ use Rattle.vcpu_run.specs.AnswersSent.{AnswersAreSent, sent_to}
 use Rattle.vcpu_run.specs.CopyRows.{same_unit}
 use Rattle.vcpu_run.specs.Gathered.{HasLawfulQueue, queue_at, rows_if, sessions_at, trace_of}
 use Rattle.vcpu_run.specs.Machines.{AreScripts, IsOfPlan}
+use Rattle.vcpu_run.specs.SentOrder.{entries_begun}
 use Rattle.vcpu_run.specs.Sessions.{entries_of, session_rows, sessions_from}
 use Rattle.vcpu_run.specs.Shown.{sessions_of}
 use Rattle.vcpu_run.specs.Units.{seats_of, unit_seat}
 use Rattle.vcpu_run.proofs.Copied.{names_apart}
 use Rattle.vcpu_run.proofs.Following.{each_from_all, ordered_from}
-use Rattle.vcpu_run.proofs.InSessions.{all_flat, flat, in_session}
+use Rattle.vcpu_run.proofs.InSessions.{begun_flat, all_flat, flat, in_session}
 use Rattle.vcpu_run.proofs.Listed.{held}
 use Rattle.vcpu_run.proofs.Parts.{IsIn, each_in, found}
 use Rattle.vcpu_run.proofs.Placing.{seats_ordered}
@@ -74,6 +75,13 @@ all_sent unit pipe laws begun =
     flat_is unit pipe 1 pipe.session
     ∙ ap (map (λ (row : PipeRow). row.entry)) (all_flat pipe.session pipe.sent (ordered_from (λ (a b : PipeRow). a.session ≤ b.session) pipe.sent laws.sent.in_order)
     (each_from_all (λ (row : PipeRow). 1 ≤ row.session) pipe.sent begun) (each_from_all (λ (row : PipeRow). row.session ≤ pipe.session) pipe.sent laws.sent.none_later))
+
+-- or all of it that was put in a session
+pub begun_sent : (unit : UnitId) (pipe : PipeValue) → IsLawfulPipe pipe → flat_map (λ (row : QueueRow). row.sent) (session_rows unit pipe) ≡ entries_begun pipe.sent
+begun_sent unit pipe laws =
+    flat_is unit pipe 1 pipe.session
+    ∙ ap (map (λ (row : PipeRow). row.entry)) (begun_flat pipe.session pipe.sent (ordered_from (λ (a b : PipeRow). a.session ≤ b.session) pipe.sent laws.sent.in_order)
+    (each_from_all (λ (row : PipeRow). row.session ≤ pipe.session) pipe.sent laws.sent.none_later))
 
 -- what a client's queue was sent, as the trace shows it
 pub sent_shown : (pairs : List Pair) (scripts : List Script) (lan : LanValue) (rows : LanRows) (history : List Served) (grants : List Grant) (copies : List CopyRecord) (partitions : List Partition)

@@ -43,7 +43,7 @@ pub law_told : {E : Type 0} (r : Result Trace E) (o : Option Trace) (pairs : Lis
     → IfOk r IsInOrder → IfOk r (Keeps QueuesAreLawful pairs scripts ports) → IfOk r (Keeps CopiesAreLawful pairs scripts ports)
     → IfOk r (KeepsOnce (All IsOver scripts) RecordsAreOfLines pairs scripts ports) → All IsOver scripts
     → IfOk r (KeepsOnce (AreCredited pairs scripts) CreditsAreKept pairs scripts ports) → AreCredited pairs scripts
-    → IfOk r (KeepsOnce (AreTold pairs scripts) RefusalsAreTold pairs scripts ports) → AreTold pairs scripts
+    → IfOk r (KeepsOnce (All IsOver scripts) (λ partitions trace. AreTold pairs scripts → RefusalsAreTold partitions trace) pairs scripts ports) → AreTold pairs scripts
     → IfOk r (KeepsOnce (AreAnswered history pairs) AnswersAreSent pairs scripts ports) → AreAnswered history pairs
     → IfOk r (Keeps PortsKeepLaw pairs scripts ports) → (lan : LanValue)
     → IfOk r (KeepsOnce (All IsOver scripts) (λ partitions trace. PortsEnd lan scripts → PortsAreTold partitions trace) pairs scripts ports) → PortsEnd lan scripts
@@ -68,7 +68,7 @@ law_told (Ok trace) o pairs scripts ports history copies_made lines e order queu
       records = records partitions of_plan over;
       called = called partitions of_plan tells;
       credits = credits partitions of_plan are;
-      refusals = refusals partitions of_plan said;
+      refusals = refusals partitions of_plan over said;
       answers = answers partitions of_plan answered;
       ports = keeps partitions of_plan;
       told = words partitions of_plan over tells;

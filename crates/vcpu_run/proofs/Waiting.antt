@@ -134,6 +134,17 @@ serve_taken f g a b old new is place = at f g is (ap (λ (p : EndPlace). p.first
     at true false e e' place = absurd (no_true e')
     at false d' e e' place = absurd (no_true e)
 
+-- which keeps the event that it kept
+pub serve_kept : (f g : Bool) (a b : List GName) (old new : Pair) → f ≡ true → (end_of b new.link g).place ≡ (end_of a old.link f).place
+    → (side_of new.link false).kept ≡ (side_of old.link false).kept
+serve_kept f g a b old new is place = at f g is (ap (λ (p : EndPlace). p.first) place ∙ is) place
+  where
+    at : (d d' : Bool) → d ≡ true → d' ≡ true → (end_of b new.link d').place ≡ (end_of a old.link d).place
+        → (side_of new.link false).kept ≡ (side_of old.link false).kept
+    at true true e e' place = ap (λ (p : EndPlace). p.partner_kept) place
+    at true false e e' place = absurd (no_true e')
+    at false d' e e' place = absurd (no_true e)
+
 -- a unit takes its queue for what it is, by whatever is the same of it
 pub agrees_like : (units : List Unit) (k : ℕ) (q q' : EndState) → q'.registered ≡ q.registered → AgreesAt units k q → AgreesAt units k q'
 agrees_like units k q q' same agrees = IfSome_then (slice_get units k) agrees

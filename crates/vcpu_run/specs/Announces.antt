@@ -1,5 +1,5 @@
 -- What a client's calls put into its server unit's queue, and that they tell of their own queue's freeing.
-use Rattle.std.specs.Prelude.{◌≡◌, ◌⊎◌, ℕ, ◌++◌, Bool, true, false, List, Option, Some, slice_get}
+use Rattle.std.specs.Prelude.{◌≡◌, ◌⊎◌, ℕ, ◌++◌, Bool, true, false, All, List, Option, Some, slice_get}
 use Rattle.vio_num.specs.Entry.{first_byte}
 use Rattle.vio_num.specs.declared.entry.Entry.{Entry}
 use Rattle.crq_ring.specs.declared.rows.PipeRow.{PipeRow}
@@ -26,10 +26,19 @@ IsOnItsWay event rows end = IsKept event end.registered end.kept ⊎ IsAmong eve
 abbrev pub IsTold : List PipeRow → EndState → Type 0
 IsTold rows end = (event : Entry) × (first_byte event ≡ 0xFF) × IsOnItsWay event rows end
 
+-- Each of these rows has an event, and what is kept is one.
+abbrev pub HaveEvents : List PipeRow → Type 0
+HaveEvents rows = All (λ row. first_byte row.entry ≡ 0xFF) rows
+
+abbrev pub KeepsEvent : Option Entry → Type 0
+KeepsEvent kept = (event : Entry) → kept ≡ Some event → first_byte event ≡ 0xFF
+
 -- More was put behind what was put before. While the partner's queue is registered an event that was kept is kept or was put,
--- and where the own queue was freed an event tells of it.
+-- and where the own queue was freed an event tells of it; where it is not registered, and none tells of it, events alone were put.
 pub record Announces (old new : EndState) : Type 0 where
   pub rows : List PipeRow
   pub sent : new.sent ≡ old.sent ++ rows
   pub kept : (event : Entry) → IsKept event old.registered old.kept → old.place.partner_registered ≡ true → IsOnItsWay event rows new
   pub freed : old.registered ≡ true → new.registered ≡ false → old.place.partner_registered ≡ true → IsTold rows new
+  pub says : KeepsEvent old.kept → KeepsEvent new.kept
+  pub off : KeepsEvent old.kept → new.registered ≡ false → old.place.partner_registered ≡ true → HaveEvents rows ⊎ IsTold rows new

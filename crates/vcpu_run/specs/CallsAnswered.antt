@@ -1,6 +1,6 @@
 -- What raw calls answer at the unit that they name, and what is there once they did what they were asked.
-use Rattle.std.specs.Prelude.{◌≡◌, ◌↔◌, ℕ, ◌/◌, ◌<◌, nat_le, Bool, true, false, List, [], ◌∷◌, Option, Some, None, IfSome, length, ⊤}
-use Rattle.std.specs.List.{Contains}
+use Rattle.std.specs.Prelude.{◌≡◌, ◌↔◌, ℕ, ◌+◌, ◌/◌, ◌<◌, ◌≢◌, nat_le, replicate, Bool, true, false, List, [], ◌∷◌, Option, Some, None, IfSome, length, if◌then◌else◌, ⊤}
+use Rattle.std.specs.List.{Contains, slice_get}
 use Rattle.std.specs.Option.{option_map}
 use Rattle.vio_num.specs.Entry.{first_byte}
 use Rattle.vio_num.specs.declared.entry.Entry.{Entry}
@@ -9,11 +9,15 @@ use Rattle.vio_num.specs.declared.hypervisor.Hrc.TheVariants as codes
 use Rattle.vio_num.specs.declared.names.UnitId.{UnitId}
 use Rattle.crq_session.specs.EndState.{EndState}
 use Rattle.tce_window.specs.Answers.{is_entry}
-use Rattle.tce_window.specs.Puts.{takes}
+use Rattle.tce_window.specs.Puts.{takes, takes_all}
+use Rattle.tce_window.specs.Window.{strokes_at}
 use Rattle.hcall_table.specs.declared.hcall.Hcall.{Hcall}
 use Rattle.hcall_table.specs.declared.hcall.Hcall.TheVariants as rows
 use Rattle.hcall_table.specs.declared.returned.Returned.{Returned}
+use Rattle.unit_region.specs.EntryAnswers.{AreValuesOf, is_list}
+use Rattle.unit_region.specs.RegionLines.{AreRead, RegionSeen, region_seen}
 use Rattle.lan_script.specs.Entries.{values_at}
+use Rattle.lan_script.specs.Regions.{strokes_at as region_strokes}
 use Rattle.lan_script.specs.Seats.{seat_at}
 use Rattle.lan_script.specs.Units.{LanValue}
 use Rattle.vio_trace.specs.declared.outcome.Outcome.{Outcome}
@@ -23,15 +27,16 @@ use Rattle.vcpu_run.specs.declared.client_call.QueueCall.TheVariants as queues
 use Rattle.vcpu_run.specs.declared.pair.Pair.{Pair}
 use Rattle.vcpu_run.specs.LinesShow.{IsPutBy, seen_at}
 
--- What there is of a unit that raw calls name: of a client and of a LAN unit how many pages its window has, and the values of its window's
--- entries; of a client what was put into its server unit's queue, too. Of any other unit nothing is said.
+-- What there is of a unit that raw calls name: of a client and of a LAN unit how many pages its window has, the values of its window's
+-- entries, and its region; of a client what was put into its server unit's queue, too. Of any other unit nothing is said.
 pub record UnitSeen : Type 1 where
   pub pages : Option ℕ
   pub value_at : (entry value : ℕ) → Type 0
+  pub region : RegionSeen
   pub entry_put : Entry → Type 0
 
 abbrev pub no_client : UnitSeen
-no_client = record { pages = None; value_at = λ entry value. ⊤; entry_put = λ entry. ⊤ }
+no_client = record { pages = None; value_at = λ entry value. ⊤; region = region_seen (λ page. None); entry_put = λ entry. ⊤ }
 
 -- what there is of the client of a pair, if there is one
 abbrev pub unit_seen : Option Pair → UnitSeen
@@ -39,6 +44,7 @@ unit_seen None = no_client
 unit_seen (Some pair) = record {
   pages = option_map (λ driver. length pair.window.pages) pair.driver;
   value_at = (seen_at pair).value_at;
+  region = region_seen (strokes_at pair.window.pages);
   entry_put = (seen_at pair).entry_put;
 }
 
@@ -47,30 +53,62 @@ abbrev pub port_seen : LanValue → UnitId → UnitSeen
 port_seen lan unit = record {
   pages = option_map (λ seat. seat.pages) (seat_at lan.seats unit);
   value_at = λ entry value. Contains (values_at lan unit entry) value;
+  region = region_seen (region_strokes lan unit);
   entry_put = λ entry. ⊤;
 }
 
 -- Whether a call is taken, where its arguments alone decide that it is Parameter: a copy never is, an entry is sent for a client and with
 -- a first byte of 0x80 or more, and a translation entry of a client or a LAN unit is read where its window has it, and put where its window
--- takes the value.
+-- takes the value, or each of as many entries takes it, of which it names 512 at most; a list of values is never taken that does not lie in the region.
 abbrev pub is_taken : Hcall → (pages : Option ℕ) → List ℕ → Option Bool
 is_taken rows.CopyRdma pages args = Some false
 is_taken rows.SendCrq None args = Some false
 is_taken rows.SendCrq (Some pages) (high ∷ low ∷ []) = Some (nat_le 0x80 (first_byte (record { high = high; low = low })))
 is_taken rows.GetTce (Some pages) (address ∷ []) = Some (is_entry pages address)
 is_taken rows.PutTce (Some pages) (address ∷ value ∷ []) = Some (takes pages address value)
+is_taken rows.StuffTce (Some pages) (address ∷ value ∷ count ∷ []) = Some (takes_all pages address (replicate count value))
+is_taken rows.PutTceIndirect (Some pages) (address ∷ list ∷ count ∷ []) = if is_list pages list count then None else Some false
 is_taken _ pages args = None
 
--- what is there once a call was Success and returned this value: the value is one of its entry, or the entry was put into the queue
+-- A list of so many values was read at an address of a unit's region: its bytes, if it has any, are what the pages gave.
+pub record IsListRead (region : RegionSeen) (list count : ℕ) (values : List ℕ) : Type 0 where
+  pub count_is : length values ≡ count
+  pub bytes : List ℕ
+  pub spelled : AreValuesOf bytes values
+  pub read : count ≢ 0 → AreRead region list bytes
+
+-- The values of a list that was read are among those of the entries from an address on, one each.
+pub record IsListPut (seen : UnitSeen) (address list count : ℕ) : Type 0 where
+  pub values : List ℕ
+  pub read : IsListRead seen.region list count values
+  pub put : (j value : ℕ) → slice_get values j ≡ Some value → seen.value_at (address / 4096 + j) value
+
+-- A list was read, and a window of so many pages does not take one of its values.
+pub record IsListUntaken (region : RegionSeen) (pages address list count : ℕ) : Type 0 where
+  pub values : List ℕ
+  pub read : IsListRead region list count values
+  pub refused : takes_all pages address values ≡ false
+
+-- what is there once a call was Success and returned this value: the value is one of its entry, or of each entry that it names, or
+-- the entry was put into the queue, or a list that was read was put
 abbrev pub IsDone : UnitSeen → Hcall → List ℕ → (value : ℕ) → Type 0
 IsDone seen rows.GetTce (address ∷ []) value = seen.value_at (address / 4096) value
 IsDone seen rows.PutTce (address ∷ put ∷ []) value = seen.value_at (address / 4096) put
+IsDone seen rows.StuffTce (address ∷ put ∷ count ∷ []) value = (j : ℕ) → j < count → seen.value_at (address / 4096 + j) put
+IsDone seen rows.PutTceIndirect (address ∷ list ∷ count ∷ []) value = IfSome seen.pages (λ pages. IsListPut seen address list count)
 IsDone seen rows.SendCrq (high ∷ low ∷ []) value = seen.entry_put (record { high = high; low = low })
 IsDone seen _ args value = ⊤
+
+-- why a call was Parameter whose arguments alone do not decide it
+abbrev pub IsUntaken : UnitSeen → Hcall → List ℕ → Type 0
+IsUntaken seen rows.PutTceIndirect (address ∷ list ∷ count ∷ []) =
+    IfSome seen.pages (λ pages. is_list pages list count ≡ true → IsListUntaken seen.region pages address list count)
+IsUntaken seen _ args = ⊤
 
 -- A call of a row, with these arguments behind its unit, returned this.
 pub record IsReturned (seen : UnitSeen) (row : Hcall) (args : List ℕ) (returned : Returned) : Type 0 where
   pub parameter : IfSome (is_taken row seen.pages args) (λ taken. (returned.code ≡ codes.Parameter) ↔ (taken ≡ false))
+  pub refused : returned.code ≡ codes.Parameter → IsUntaken seen row args
   pub done : returned.code ≡ codes.Success → IsDone seen row args returned.r4
 
 -- P of the value with which a call was Success: 0 but where its row gives one
@@ -82,12 +120,15 @@ IfDone _ P = ⊤
 -- What a call of a row says, at the unit that it names: Parameter exactly where its arguments decide it, and what it did is there.
 pub record IsUnitSaid (seen : UnitSeen) (row : Hcall) (args : List ℕ) (outcome : Outcome) : Type 0 where
   pub parameter : IfSome (is_taken row seen.pages args) (λ taken. (outcome ≡ outcomes.Code codes.Parameter) ↔ (taken ≡ false))
+  pub refused : outcome ≡ outcomes.Code codes.Parameter → IsUntaken seen row args
   pub done : IfDone outcome (IsDone seen row args)
 
 -- the rows of which no more is said than that they answer a code of theirs
 abbrev pub is_unsaid : Hcall → Bool
 is_unsaid rows.GetTce = false
 is_unsaid rows.PutTce = false
+is_unsaid rows.StuffTce = false
+is_unsaid rows.PutTceIndirect = false
 is_unsaid rows.SendCrq = false
 is_unsaid rows.CopyRdma = false
 is_unsaid _ = true

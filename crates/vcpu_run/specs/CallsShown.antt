@@ -14,6 +14,7 @@ use Rattle.vio_num.specs.declared.names.UnitId.{UnitId}
 use Rattle.vcpu_run.specs.AnswersSent.{sent_to}
 use Rattle.vcpu_run.specs.CallsAnswered.{UnitSeen, no_client}
 use Rattle.vcpu_run.specs.CallsSaid.{CallsSaid, UnitsSeen}
+use Rattle.vcpu_run.specs.PortRegions.{region_shown}
 use Rattle.vcpu_run.specs.Ports.{unit_of}
 use Rattle.vcpu_run.specs.Settled.{script_of}
 use Rattle.vcpu_run.specs.Shown.{records_of, values_shown}
@@ -28,17 +29,19 @@ kind_planned (units.Lan mac pages slots) = kinds.Lan
 abbrev pub place_in : List Partition → ℕ → Place
 place_in partitions p = record { partition = p; kind = λ unit. option_map kind_planned (unit_at partitions (unit_of p unit)) }
 
--- what a trace shows of a unit: of a client and of a LAN unit its window's pages by the plan, and the values of its window's entries; of a
--- client its server unit's queue, too
+-- what a trace shows of a unit: of a client and of a LAN unit its window's pages by the plan, the values of its window's entries, and its
+-- region; of a client its server unit's queue, too
 abbrev pub unit_shown : Trace → UnitId → Option UnitPlan → UnitSeen
 unit_shown trace unit (Some (units.Client server pages queue)) = record {
   pages = Some pages;
   value_at = λ entry value. Contains (values_shown trace unit entry) value;
+  region = region_shown trace unit;
   entry_put = λ entry. Contains (sent_to trace server) entry;
 }
 unit_shown trace unit (Some (units.Lan mac pages slots)) = record {
   pages = Some pages;
   value_at = λ entry value. Contains (values_shown trace unit entry) value;
+  region = region_shown trace unit;
   entry_put = λ entry. ⊤;
 }
 unit_shown trace unit _ = no_client

@@ -15,6 +15,7 @@ use Rattle.block_server.specs.Written.{AreWritten}
 use Rattle.block_server.specs.declared.records.Records.{Records}
 use Rattle.block_server.specs.declared.unit.Unit.{Unit}
 use Rattle.vcpu_run.specs.declared.pair.Pair.{Pair}
+use Rattle.vcpu_run.specs.Gone.{HearsEvent}
 use Rattle.vcpu_run.specs.LoginsSent.{GoInOrder}
 use Rattle.vcpu_run.specs.News.{IsNth, hearing}
 
@@ -42,6 +43,7 @@ pub record UnitGoesBy (told : Told → Bool) (units : List Unit) (records : Reco
   pub cargo : HasRuns told units k (known_of pair.own) copies records
   pub explained : HasExplained told units k pair.own.unit (end_of [] pair.link true) [] records.grants.items
   pub logins : GoInOrder told units k pair.own.unit (side_of pair.link true).queue.session (side_of pair.link true).queue.taken (login_answers (side_of pair.link false).queue.sent) records.grants.items
+      (HearsEvent (end_of [] pair.link true))
 
 -- This is so by whatever tells all that the pairs show.
 pub record AreHeard (size partition : ℕ) (units : List Unit) (records : Records) (copies : List CopyRecord) (pairs : List Pair) : Type 0 where

@@ -1,6 +1,7 @@
 pub mod Agreed
 pub mod Announces
 pub mod Answered
+pub mod AnswersSeen
 pub mod AnswersSent
 pub mod AnswersTaken
 pub mod CallRows
@@ -15,9 +16,13 @@ pub mod DataKept
 pub mod DataRead
 pub mod DataTold
 pub mod EventsHeard
+pub mod EventsMade
+pub mod EventsPut
+pub mod FewEvents
 pub mod Freed
 pub mod Freeing
 pub mod Gathered
+pub mod Gone
 pub mod Grants
 pub mod Heard
 pub mod Holding
@@ -39,6 +44,7 @@ pub mod PortCalls
 pub mod PortMacs
 pub mod PortOffers
 pub mod PortPosts
+pub mod PortRegions
 pub mod PortReplays
 pub mod PortSteps
 pub mod PortWords
@@ -55,6 +61,7 @@ pub mod RunLaw
 pub mod ScriptTold
 pub mod Scripts
 pub mod Sendings
+pub mod SentOrder
 pub mod Sessions
 pub mod Settled
 pub mod Shown

@@ -1,8 +1,7 @@
 -- What is there once a client's line said that it sent a request, or wrote into its region: its strokes, and the entry that was put.
-use Rattle.std.specs.Prelude.{◌≡◌, ℕ, ◌+◌, ◌<◌, ◌≤◌, slice_index, Bool, true, false, List, IfSome, MatchBool, Option, Some, None, Result, Ok, length, ⊤}
+use Rattle.std.specs.Prelude.{◌≡◌, ℕ, ◌+◌, ◌<◌, ◌≤◌, slice_index, Bool, true, false, List, [], ◌∷◌, ◌++◌, IfSome, MatchBool, Option, Some, None, Result, Ok, length, ⊤}
 use Rattle.std.specs.List.{Contains, slice_get}
 use Rattle.vio_num.specs.Entry.{srp_entry}
-use Rattle.vio_num.specs.Words.{Begins}
 use Rattle.vio_num.specs.declared.entry.Entry.{Entry}
 use Rattle.vio_num.specs.declared.hypervisor.Hrc.TheVariants as codes
 use Rattle.vio_num.specs.declared.memory.NoMemory.{NoMemory}
@@ -31,10 +30,12 @@ use Rattle.vscsi_client.specs.Units.{IsCommand, slot_address, task_request}
 use Rattle.vscsi_client.specs.declared.TheConstants.{SLOTS}
 use Rattle.vscsi_client.specs.declared.op.Op.{Op}
 use Rattle.unit_region.specs.Answers.{tce_of}
-use Rattle.unit_region.specs.Pattern.{pattern}
+pub use Rattle.unit_region.specs.RegionLines.{IsOn, IsWrittenIf, Placed, read_by, written_by}
+use Rattle.unit_region.specs.RegionLines.{AreRead as AreReadIn, AreWritten as AreWrittenIn, IsReadIf as IsReadInIf, RegionSeen, RegionShows as ShowsIn}
 use Rattle.unit_region.specs.declared.step.Step.{Step}
 use Rattle.unit_region.specs.declared.step.Step.TheVariants as steps
 use Rattle.vcpu_run.specs.declared.pair.Pair.{Pair}
+use Rattle.vcpu_run.specs.AnswersSeen.{IsFront}
 use Rattle.vcpu_run.specs.Commands.{IsOpOf, cdb_of}
 use Rattle.vcpu_run.specs.Replay.{asks}
 
@@ -46,10 +47,13 @@ pub record Seen : Type 1 where
   pub value_at : (entry value : ℕ) → Type 0
   pub entry_put : Entry → Type 0
 
--- these bytes were written at an address, under a mark: one stroke on each page that they touch
+-- the region among it
+abbrev pub region_of : Seen → RegionSeen
+region_of seen = record { stroke_at = seen.stroke_at; front_at = seen.front_at }
+
+-- these bytes were written in it, under a mark
 abbrev pub AreWritten : Seen → (unit : UnitId) → (mark at : ℕ) → List ℕ → Type 0
-AreWritten seen unit mark at bytes = (page : ℕ) → touches at (length bytes) page ≡ true
-    → seen.stroke_at page (stroke_on (record { who = unit; mark = mark }) at bytes page)
+AreWritten seen unit mark at bytes = AreWrittenIn (region_of seen) unit mark at bytes
 
 -- A command's information unit: it is the command of the line, under this tag.
 pub record IsCommandOf (verb : Verb) (tag : ℕ) (iu : Iu) : Type 0 where
@@ -82,45 +86,21 @@ abbrev pub IsSentIf : Seen → UnitId → (mark : ℕ) → Verb → Outcome → 
 IsSentIf seen unit mark verb (outcomes.Sent tag) = IsSent seen unit mark verb tag
 IsSentIf seen unit mark verb _ = ⊤
 
-abbrev pub IsWrittenIf : Outcome → Type 0 → Type 0
-IsWrittenIf outcomes.Done P = P
-IsWrittenIf _ P = ⊤
-
--- These bytes were read at an address: they are what the pages gave, each with a front of its strokes.
-pub record AreRead (seen : Seen) (at : ℕ) (bytes : List ℕ) : Type 0 where
-  pub fronts : ℕ → Option (List StrokeValue)
-  pub there : (page : ℕ) → touches at (length bytes) page ≡ true → seen.front_at page (fronts page)
-  pub read : (k : ℕ) → k < length bytes → slice_index bytes k ≡ region_byte fronts (at + k)
+-- these bytes were read in it
+abbrev pub AreRead : Seen → (at : ℕ) → List ℕ → Type 0
+AreRead seen at bytes = AreReadIn (region_of seen) at bytes
 
 abbrev pub IsReadIf : Seen → (at : ℕ) → Outcome → Type 0
-IsReadIf seen at (outcomes.Bytes shown) = AreRead seen at shown
-IsReadIf seen at _ = ⊤
+IsReadIf seen at outcome = IsReadInIf (region_of seen) at outcome
 
 -- whether a line sends a request
 abbrev pub requests : Verb → Bool
 requests verbs.Logout = true
 requests verb = asks verb
 
--- bytes, and an address at which they are to lie
-pub record Placed : Type 0 where
-  pub at : ℕ
-  pub bytes : List ℕ
-
--- what a line writes into its own region
-abbrev pub written_by : Verb → Option Placed
-written_by (verbs.Fill at len seed) = Some (record { at = at; bytes = pattern seed len })
-written_by (verbs.Poke at bytes) = Some (record { at = at; bytes = bytes })
-written_by _ = None
-
--- where a line reads its own region
-abbrev pub read_by : Verb → Option ℕ
-read_by (verbs.Peek at len) = Some at
-read_by _ = None
-
 -- what there is of a line in its own region, by what it writes and where it reads
 abbrev pub RegionShows : Seen → UnitId → (mark : ℕ) → Option Placed → Option ℕ → Outcome → Type 0
-RegionShows seen unit mark placed at outcome =
-    IfSome placed (λ placed. IsWrittenIf outcome (AreWritten seen unit mark placed.at placed.bytes)) × IfSome at (λ at. IsReadIf seen at outcome)
+RegionShows seen unit mark placed at outcome = ShowsIn (region_of seen) unit mark placed at outcome
 
 -- what else there is of a line: the answer to its login, or the value that it put into an entry of its window
 pub data Further : Type 0 where
@@ -180,16 +160,6 @@ abbrev pub LinesShow : Seen → UnitId → (unit : ℕ) → List Line → List L
 LinesShow seen who unit lines rows = (i : ℕ) (line : Line) (row : LogRow) → slice_get lines i ≡ Some line → slice_get rows i ≡ Some row
     → line.unit ≡ unit → IsShown seen who line.number line.verb row.outcome
 
--- a stroke lies on a page that is in its place
-abbrev pub IsOn : StrokeValue → Option (List StrokeValue) → Type 0
-IsOn stroke (Some strokes) = Contains strokes stroke
-IsOn stroke None = ⊥
-
--- these strokes are a front of a page's
-abbrev pub IsFront : Option (List StrokeValue) → Option (List StrokeValue) → Type 0
-IsFront (Some front) (Some strokes) = Begins front strokes
-IsFront _ _ = ⊥
-
 -- An entry was put in a session, which count from 1.
 pub record IsPut (entry : Entry) (rows : List PipeRow) : Type 0 where
   pub row : PipeRow
@@ -220,9 +190,39 @@ seen_by shared port end = record {
   entry_put = IsPutBy shared end;
 }
 
--- a step of a line shows what it says, at the pair where its client sits
-abbrev pub PairShows : Line → Pair → Result Step NoMemory → Type 0
-PairShows line pair result = StepShows (seen_at pair) pair.window.unit line.number line.verb result
+-- An end put this entry alone: in the present session of its partner's queue, which is registered where nobody else has a hand in it.
+pub record PutsOne (shared : Bool) (old new : EndState) (entry : Entry) : Type 0 where
+  pub sent : new.sent ≡ old.sent ++ record { session = new.counts.partner_session; entry = entry } ∷ []
+  pub partner : shared ≡ false → new.place.partner_registered ≡ true
+
+-- what its driver sees once a step of a line was made: of entries the one that was put
+abbrev pub seen_since : (shared : Bool) → PortState → (old new : EndState) → Seen
+seen_since shared port old new = record {
+  stroke_at = λ page stroke. IsOn stroke (port.strokes page);
+  front_at = λ page front. IsFront front (port.strokes page);
+  value_at = λ entry value. Contains (port.values entry) value;
+  entry_put = PutsOne shared old new;
+}
+
+-- This entry alone was put at a pair, in a session.
+pub record PairPutsOne (old new : Pair) (entry : Entry) : Type 0 where
+  pub row : PipeRow
+  pub sent : (side_of new.link true).queue.sent ≡ (side_of old.link true).queue.sent ++ row ∷ []
+  pub entry_is : row.entry ≡ entry
+  pub begun : 1 ≤ row.session
+
+-- what there is at a client's pair once a step of a line was made
+abbrev pub seen_between : (old new : Pair) → Seen
+seen_between old new = record {
+  stroke_at = λ page stroke. IsOn stroke (strokes_at new.window.pages page);
+  front_at = λ page front. IsFront front (strokes_at new.window.pages page);
+  value_at = λ entry value. Contains ((known_of new.window).values entry) value;
+  entry_put = PairPutsOne old new;
+}
+
+-- a step of a line shows what it says, at the pair where its client sits, and puts one entry where it sends
+abbrev pub PairShows : Line → (old new : Pair) → Result Step NoMemory → Type 0
+PairShows line old new result = StepShows (seen_between old new) new.window.unit line.number line.verb result
 
 -- All that there was is there still.
 pub record Sees (old new : Seen) : Type 0 where

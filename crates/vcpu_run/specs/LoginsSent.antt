@@ -1,13 +1,14 @@
 -- The answers to requests to log in of a run: which of them a client's queue got, by the lines of its server unit, and that none
 -- was dropped (SRP, "Login process").
-use Rattle.std.specs.Prelude.{◌⊎◌, ◌++◌, ℕ, Bool, true, List, [], IfSome, filter, length, map, slice_get}
+use Rattle.std.specs.Prelude.{◌≡◌, ◌⊎◌, ◌++◌, ℕ, Bool, true, List, [], IfSome, filter, length, map, slice_get}
+use Rattle.std.specs.List.{Contains}
 use Rattle.crq_ring.specs.declared.rows.PipeRow.{PipeRow}
 use Rattle.vio_num.specs.declared.entry.Entry.{Entry}
 use Rattle.vio_num.specs.declared.history.Grant.{Grant}
 use Rattle.vio_num.specs.declared.names.UnitId.{UnitId}
-use Rattle.block_server.specs.Asked.{AreAskedInOrder, still_to_answer}
+use Rattle.block_server.specs.Asked.{AreAskedInOrder, AskedAt, still_to_answer}
 use Rattle.block_server.specs.Causes.{Hearing, Told, told_to}
-use Rattle.block_server.specs.Dealt.{AreDealt, AsksNoLogin, IsLoginAnswered, TookNoEventFrom}
+use Rattle.block_server.specs.Dealt.{AreDealt, AsksNoLogin, IsLoginAnswered, TookNoEvent, TookNoEventFrom}
 use Rattle.block_server.specs.Granting.{IsSrpAt}
 use Rattle.block_server.specs.LoginAnswers.{LoginsMore, asked_at, is_login_answer}
 use Rattle.block_server.specs.Makers.{same_unit}
@@ -48,24 +49,38 @@ LoginsAreSent partitions trace =
     (server client : UnitId) → IsServer partitions server → IsClientOf partitions client server
     → ∥ AreLoginsInOrder (shown_to partitions trace server client) server (entries_taken trace server) (logins_to trace client) trace.grants ∥₁
 
--- Between turns: unit k put these answers, and the requests that it has still to answer were asked behind those; the lines say which
--- login is on, and was as each was rejected. Each SRP entry was dealt with, but that a send may have found the client's queue closed.
-pub record GoInOrder (told : Told → Bool) (units : List Unit) (k : ℕ) (unit : UnitId) (session : ℕ) (taken : List PipeRow) (answers : List Entry) (lines : List Grant) : Type 0 where
-  pub put : AreLoginsPut (told_to told unit) unit taken answers lines
-  pub asked : IfSome (slice_get units k) (λ u. AreAskedInOrder (map asked_at put.more ++ still_to_answer session taken u.waiting u.pending.items))
-  pub rejects : RejectInTime unit [] (lines_by unit lines) put.more
-  pub on : IfSome (slice_get units k) (λ u. IsOnByLines unit session u.logins.current (is_ended u.line) lines)
-  pub dealt : IfSome (slice_get units k)
-      (λ u. AreDealt (told_to told unit) session taken u.waiting u.pending.items (is_ended u.line) (record { put = map asked_at put.more; closed = λ q. true }))
+-- The login of an SRP entry was granted or rejected by a copy of the answer over its request; and where no event was taken in the
+-- session, that answer is one of those to the requests asked at these places.
+pub record IsLoginGiven (Hears : Hearing) (session : ℕ) (taken : List PipeRow) (put : List AskedAt) (number : ℕ) : Type 0 where
+  pub answered : IsLoginAnswered Hears taken session number
+  pub given : TookNoEvent session taken → Contains put (record { session = session; number = number })
 
--- No request to log in of a session was dropped but before an event: each SRP entry that was taken in it, and behind which no event was,
--- asked for no login, or a copy of the answer over its request granted or rejected it.
-abbrev pub AreLoginsAnswered : (Hears : Hearing) → (session : ℕ) → (taken : List PipeRow) → Type 0
-AreLoginsAnswered Hears session taken =
-    (number : ℕ) (entry : Entry) → IsSrpAt taken session number entry → TookNoEventFrom session number taken → AsksNoLogin Hears entry ⊎ IsLoginAnswered Hears taken session number
+-- No request to log in of the session was dropped, unless an event was taken behind it: each SRP entry asked for no login, or was so
+-- answered.
+abbrev pub AreLoginsAnswered : (Hears : Hearing) → (session : ℕ) → (taken : List PipeRow) → (put : List AskedAt) → Type 0
+AreLoginsAnswered Hears session taken put = (number : ℕ) (entry : Entry) → IsSrpAt taken session number entry → TookNoEventFrom session number taken
+    → AsksNoLogin Hears entry ⊎ IsLoginGiven Hears session taken put number
+
+-- The answers are as above, and are those to all requests of this session that were not dropped.
+pub record AreLoginsDealt (Hears : Hearing) (unit : UnitId) (session : ℕ) (taken : List PipeRow) (answers : List Entry) (lines : List Grant) : Type 0 where
+  pub sent : AreLoginsInOrder Hears unit taken answers lines
+  pub answered : AreLoginsAnswered Hears session taken (map asked_at sent.put.more)
 
 -- So it is of the last session of each server unit that has a client.
 abbrev pub LoginsAreAnswered : List Partition → Trace → Type 0
 LoginsAreAnswered partitions trace =
     (server client : UnitId) → IsServer partitions server → IsClientOf partitions client server
-    → ∥ AreLoginsAnswered (shown_to partitions trace server client) (length (sessions_of trace server)) (entries_taken trace server) ∥₁
+    → ∥ AreLoginsDealt (shown_to partitions trace server client) server (length (sessions_of trace server)) (entries_taken trace server) (logins_to trace client) trace.grants ∥₁
+
+-- Between turns: unit k put these answers, and the requests that it has still to answer were asked behind those; the lines say which
+-- login is on, and was as each was rejected. Each SRP entry was dealt with; and where a send of the present session may have found the
+-- client's queue closed, this is so.
+pub record GoInOrder (told : Told → Bool) (units : List Unit) (k : ℕ) (unit : UnitId) (session : ℕ) (taken : List PipeRow) (answers : List Entry) (lines : List Grant) (Heard : Type 0) : Type 0 where
+  pub put : AreLoginsPut (told_to told unit) unit taken answers lines
+  pub asked : IfSome (slice_get units k) (λ u. AreAskedInOrder (map asked_at put.more ++ still_to_answer session taken u.waiting u.pending.items))
+  pub rejects : RejectInTime unit [] (lines_by unit lines) put.more
+  pub on : IfSome (slice_get units k) (λ u. IsOnByLines unit session u.logins.current (is_ended u.line) lines)
+  pub closed : Bool
+  pub dealt : IfSome (slice_get units k)
+      (λ u. AreDealt (told_to told unit) session taken u.waiting u.pending.items (is_ended u.line) (record { put = map asked_at put.more; closed = λ q. closed }))
+  pub heard : closed ≡ true → Heard

@@ -18,13 +18,15 @@ use Rattle.unit_region.specs.Kept.{LaysOwnAll}
 use Rattle.vcpu_run.specs.declared.driver.Driver.{Driver}
 use Rattle.vcpu_run.specs.declared.pair.Pair.{Pair}
 use Rattle.vcpu_run.specs.Announces.{Announces}
+use Rattle.vcpu_run.specs.AnswersSeen.{AreResponsesRead, fronts_of}
 use Rattle.vcpu_run.specs.Named.{HasNames, WindowsAreApart, absent_unit}
 
--- A client's driver is that of its window's unit, and the data of its commands lie in the window.
+-- A client's driver is that of its window's unit; the data of its commands lie in the window, and its answers were read there.
 pub record IsDriver (window : WindowValue) (driver : Driver) : Type 0 where
   pub unit : window.unit ≡ driver.unit
   pub pages : MIN_PAGES ≤ length window.pages
   pub rows : FitRows (length window.pages) driver.client
+  pub answers : AreResponsesRead (fronts_of (strokes_at window.pages)) driver.answers.items
 
 -- a copy by this server unit is lawful, between its own window and its client's
 abbrev pub IsCopyOf : Pair → CopyRecord → Type 0

@@ -20,6 +20,7 @@ use Rattle.vcpu_run.specs.declared.script.Script.{Script}
 use Rattle.vcpu_run.specs.declared.unit_seat.Seat.{Seat}
 use Rattle.vcpu_run.specs.declared.unit_seat.Seat.TheVariants as sits
 use Rattle.vcpu_run.specs.CallsAnswered.{IsUnitSaid, port_seen}
+use Rattle.vcpu_run.specs.PortRegions.{RegionsKept}
 use Rattle.vcpu_run.specs.Ports.{unit_of}
 
 -- what a unit is that sits there
@@ -45,9 +46,10 @@ abbrev pub EntriesSaid : (partition : ℕ) → (ℕ → Option Seat) → LanValu
 EntriesSaid partition seat lan lines rows = (i : ℕ) (line : Line) (row : LogRow) → slice_get lines i ≡ Some line → slice_get rows i ≡ Some row
     → EntrySaid partition seat lan line.verb row.outcome
 
--- each entry of each LAN unit's window has the values that it had
-abbrev pub HasAll : (old new : LanValue) → Type 0
-HasAll old new = (unit : UnitId) (entry value : ℕ) → Contains (values_at old unit entry) value → Contains (values_at new unit entry) value
+-- Each entry of each LAN unit's window has the values that it had, no stroke in its region is gone, and it laid none there.
+pub record HasAll (old new : LanValue) : Type 0 where
+  pub values : (unit : UnitId) (entry value : ℕ) → Contains (values_at old unit entry) value → Contains (values_at new unit entry) value
+  pub regions : RegionsKept old new
 
 -- What the end of a line that makes a raw call leaves of the entries, and says of them.
 pub record EndsEntry (partition : ℕ) (seat : ℕ → Option Seat) (verb : Verb) (old new : LanValue) (outcome : Outcome) : Type 0 where

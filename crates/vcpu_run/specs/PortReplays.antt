@@ -10,6 +10,7 @@ use Rattle.unit_region.specs.declared.step.Step.{Step}
 use Rattle.unit_region.specs.declared.step.Step.TheVariants as steps
 use Rattle.lan_script.specs.declared.seat.PortSeat.{PortSeat}
 use Rattle.lan_script.specs.PortReplay.{LineSays, PortReplay, closed_replay}
+use Rattle.lan_script.specs.Regions.{RegionGrows}
 use Rattle.lan_script.specs.Replayed.{IsFirst, IsReplayable, is_replayed, replay_at}
 use Rattle.lan_script.specs.Invariant.{sent_by}
 use Rattle.lan_switch.specs.Switch.{port_of, same_unit}
@@ -21,6 +22,7 @@ use Rattle.vio_trace.specs.declared.outcome.Outcome.TheVariants as outcomes
 use Rattle.lan_script.specs.Values.{KeepsValues, is_put}
 use Rattle.vcpu_run.specs.Credited.{Ended}
 use Rattle.vcpu_run.specs.Suited.{is_call}
+use Rattle.vcpu_run.specs.PortRegions.{RegionKept}
 use Rattle.vcpu_run.specs.Works.{fails}
 
 -- the lines of a unit, one after the other, tell what the replay says of each, and leave this of the port
@@ -48,7 +50,7 @@ abbrev pub OffersSince : (old new : LanValue) → UnitId → Type 0
 OffersSince old new unit = (sender : UnitId) → same_unit sender unit ≡ false → (row : FrameRow) → Contains (sent_at new sender) row
     → Contains (sent_at old sender) row ⊎ (1 ≤ length (offers_to unit row.offers) → IsTarget (replay_at old unit) (to_of row))
 
--- A port stands in its replay as it did, its window has the values that it had, it sent nothing, and lost nothing.
+-- A port stands in its replay as it did, its window has the values that it had, it sent nothing, and lost nothing, nor a stroke.
 pub record IsStill (old new : LanValue) (unit : UnitId) : Type 0 where
   pub seats : new.seats ≡ old.seats
   pub replay : replay_at new unit ≡ replay_at old unit
@@ -56,6 +58,7 @@ pub record IsStill (old new : LanValue) (unit : UnitId) : Type 0 where
   pub rows : sent_at new unit ≡ sent_at old unit
   pub grows : Grows (port_of old.stations unit) (port_of new.stations unit)
   pub offered : OffersSince old new unit
+  pub regions : RegionKept unit old new
 
 -- The unit sent a frame of this number, which was offered to the ports as these stood before.
 pub record SendsFrame (unit : UnitId) (number : ℕ) (old new : LanValue) : Type 0 where
@@ -77,6 +80,7 @@ pub record StepReplays (unit : UnitId) (verb : Verb) (done : ℕ) (old new : Lan
   pub grows : Grows (port_of old.stations unit) (port_of new.stations unit)
   pub others : (sender : UnitId) → same_unit sender unit ≡ false → sent_at new sender ≡ sent_at old sender
   pub sends : is_replayed verb ≡ true → (code : Hrc) (number : ℕ) → step ≡ steps.Ends (outcomes.Frame code number) → SendsFrame unit number old new
+  pub regions : RegionGrows unit old new
   pub says : IsFirst verb done → (seat : PortSeat) → IsReplayable seat old unit → StepSays seat verb step (replay_at old unit) (replay_at new unit)
 
 -- the current line, if it is of the unit, is in its first step where it is one of the replay

@@ -3,6 +3,8 @@ use Rattle.std.specs.Prelude.{◌≡◌, ◌≢◌, ℕ, ◌+◌, ◌≤◌, ◌
 use Rattle.vio_num.specs.declared.names.UnitId.{UnitId}
 use Rattle.boot_text.specs.declared.plan.Line.{Line}
 use Rattle.boot_text.specs.declared.verb.Verb.{Verb}
+use Rattle.page_slots.specs.Stroke.{StrokeValue}
+use Rattle.unit_region.specs.RegionLines.{IsOn}
 use Rattle.unit_region.specs.declared.step.Step.{Step}
 use Rattle.unit_region.specs.declared.step.Step.TheVariants as steps
 use Rattle.lan_switch.specs.Switch.{port_of}
@@ -12,6 +14,7 @@ use Rattle.lan_script.specs.Invariant.{posted_in}
 use Rattle.lan_script.specs.OwnMac.{MovesMac}
 use Rattle.lan_script.specs.PortCounts.{PortCounts, counts, counts_at, counts_by, counts_told}
 use Rattle.lan_script.specs.PortReplay.{closed_replay}
+use Rattle.lan_script.specs.Regions.{strokes_at}
 use Rattle.lan_script.specs.Replayed.{GrantsAll, replay_at}
 use Rattle.lan_script.specs.Units.{LanValue}
 use Rattle.lan_script.specs.Values.{KeepsValues}
@@ -20,6 +23,7 @@ use Rattle.vcpu_run.specs.declared.unit_seat.Seat.TheVariants as sits
 use Rattle.vcpu_run.specs.Ports.{unit_of}
 use Rattle.vcpu_run.specs.PortBytes.{StepBytes}
 use Rattle.vcpu_run.specs.PortPosts.{StepFits}
+use Rattle.vcpu_run.specs.PortRegions.{LaysLogged, RegionKept, StepShown}
 use Rattle.vcpu_run.specs.PortReplays.{IsStill, StepReplays, sent_at}
 use Rattle.vcpu_run.specs.PortWords.{FrameTold, frame_of, frames_at}
 use Rattle.vcpu_run.specs.ValuesPut.{StepPuts}
@@ -33,6 +37,7 @@ pub record IsSilent (old new : LanValue) (unit : UnitId) : Type 0 where
   pub rows : sent_at new unit ≡ sent_at old unit
   pub mac : MovesMac None (replay_at old unit) (replay_at new unit)
   pub values : KeepsValues unit old.places new.places
+  pub regions : RegionKept unit old new
   pub seats : new.seats ≡ old.seats
 
 -- It did nothing of which lines tell, nor a replay of them.
@@ -74,9 +79,11 @@ RisesIf true unit verb done done' old new step =
     × StepBytes unit verb old new step × StepPuts verb step (values_at old unit) (values_at new unit)
 RisesIf false unit verb done done' old new step = IsIdle old new unit
 
-abbrev pub TellsStep : (partition : ℕ) → List Seat → Line → (done done' : ℕ) → (old new : LanValue) → Step → Type 0
-TellsStep partition seats line done done' old new step = (u : ℕ) → slice_get seats u ≡ Some sits.Port
-    → RisesIf (line.unit == u) (unit_of partition u) line.verb done done' old new step
+-- What a step of a line makes of each port of its partition, and what it says of its own unit's region.
+pub record TellsStep (partition : ℕ) (seats : List Seat) (line : Line) (done done' : ℕ) (old new : LanValue) (step : Step) : Type 0 where
+  pub rises : (u : ℕ) → slice_get seats u ≡ Some sits.Port → RisesIf (line.unit == u) (unit_of partition u) line.verb done done' old new step
+  pub shows : (u : ℕ) → slice_get seats u ≡ Some sits.Port → line.unit ≡ u → StepShown (unit_of partition u) line new step
+  pub marks : (u : ℕ) → slice_get seats u ≡ Some sits.Port → line.unit ≡ u → LaysLogged (unit_of partition u) line.number old new
 
 -- each port of a partition took some frames or none, and did nothing else
 abbrev pub AllTake : (partition : ℕ) → (old new : LanValue) → Type 0
@@ -86,7 +93,11 @@ AllTake partition old new = (u : ℕ) → TakesOn old new (unit_of partition u)
 abbrev pub AllSilent : (old new : LanValue) → Type 0
 AllSilent old new = (unit : UnitId) → IsSilent old new unit
 
+-- no stroke lies in a unit's region
+abbrev pub HasNoStroke : LanValue → UnitId → Type 0
+HasNoStroke lan unit = (page : ℕ) (stroke : StrokeValue) → ¬ (IsOn stroke (strokes_at lan unit page))
+
 -- no port did anything yet
 abbrev pub AreFresh : LanValue → Type 0
 AreFresh lan = (unit : UnitId) → (frames_at lan unit ≡ []) × (counts_at lan unit ≡ counts 0 0) × (replay_at lan unit ≡ closed_replay) × GrantsAll lan unit
-    × (posted_at lan unit ≡ [])
+    × (posted_at lan unit ≡ []) × HasNoStroke lan unit

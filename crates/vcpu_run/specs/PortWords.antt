@@ -30,6 +30,7 @@ use Rattle.vcpu_run.specs.PortBytes.{KeepsBytes, NamesOwnPages, bytes_told}
 use Rattle.vcpu_run.specs.PortMacs.{KeepsMac, OffersAreFor}
 use Rattle.vcpu_run.specs.PortOffers.{EndsFrame, FrameGoes, OffersFit, TellsFit, TellsOffers}
 use Rattle.vcpu_run.specs.PortPosts.{AreWithin, IsUnder, buffers_of, buffers_under}
+use Rattle.vcpu_run.specs.PortRegions.{KeepsLogged, KeepsTold, RegionsAreTold, StrokesAreLogged}
 use Rattle.vcpu_run.specs.PortReplays.{AreReplayed, IsFirstOf, IsPlainPort, KeepsReplay}
 use Rattle.vcpu_run.specs.Settled.{script_of}
 use Rattle.vcpu_run.specs.Shown.{records_of}
@@ -155,6 +156,8 @@ pub record PortsAreTold (partitions : List Partition) (trace : Trace) : Type 0 w
   pub buffers : BuffersAreTold partitions trace
   pub takes : TakesAreWithin partitions trace
   pub values : ValuesAreTold partitions trace
+  pub regions : RegionsAreTold partitions trace
+  pub logged : StrokesAreLogged partitions trace
   pub addressed : OffersHaveAddress partitions trace
   pub bytes : FramesHaveBytes partitions trace
   pub correlators : PostsCarryAddresses partitions trace
@@ -203,6 +206,16 @@ abbrev pub TellsValues : LanValue → Script → Type 0
 TellsValues lan script = HasNoCall script.lines.now → (unit : ℕ) → slice_get script.seats.items unit ≡ Some sits.Port
     → KeepsPuts (ended_by unit script.lines.now script.logs.items) lan (unit_of script.partition unit)
 
+-- the lines of each port of a script say what is so of its region, and there is what they say
+abbrev pub TellsRegions : LanValue → Script → Type 0
+TellsRegions lan script = (unit : ℕ) → slice_get script.seats.items unit ≡ Some sits.Port
+    → KeepsTold script.lines.now script.logs.items lan (unit_of script.partition unit)
+
+-- the strokes of each port of a script in its own region bear the numbers of its lines, of those that ended or of the current one
+abbrev pub TellsLogged : LanValue → Script → Type 0
+TellsLogged lan script = (unit : ℕ) → slice_get script.seats.items unit ≡ Some sits.Port
+    → KeepsLogged script.lines.now script.logs.items script.at lan (unit_of script.partition unit)
+
 -- no line of a port of a script took more than it says
 pub record TakesOwn (script : Script) (unit : ℕ) : Type 0 where
   pub ended : AreWithin (ended_by unit script.lines.now script.logs.items)
@@ -239,6 +252,8 @@ pub record TellsPorts (lan : LanValue) (script : Script) : Type 0 where
   pub buffers : TellsBuffers lan script
   pub takes : TellsTakes script
   pub values : TellsValues lan script
+  pub regions : TellsRegions lan script
+  pub logged : TellsLogged lan script
   pub entries : TellsEntries lan script
   pub macs : TellsMacs lan script
   pub bytes : TellsBytes lan script

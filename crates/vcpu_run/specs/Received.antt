@@ -1,5 +1,5 @@
 -- What each server unit took in between turns: its receipts, over its pair's windows and its own queue, and what became of each.
-use Rattle.std.specs.Prelude.{◌≡◌, ℕ, true, false, All, List, [], Some, slice_get}
+use Rattle.std.specs.Prelude.{◌≡◌, ℕ, true, false, All, List, [], Some, None, slice_get}
 use Rattle.vio_num.specs.declared.history.Grant.{Grant}
 use Rattle.vio_num.specs.declared.history.Served.{Served}
 use Rattle.crq_session.specs.PlainState.{end_of, side_of}
@@ -8,11 +8,14 @@ use Rattle.rdma_copy.specs.declared.copy.CopyRecord.{CopyRecord}
 use Rattle.block_server.specs.Judged.{Judged}
 use Rattle.block_server.specs.Judges.{HasJudged}
 use Rattle.block_server.specs.Owed.{HaveAnswers}
+use Rattle.block_server.specs.Ready.{AgreesAt}
 use Rattle.block_server.specs.declared.records.Records.{Records}
 use Rattle.block_server.specs.declared.unit.Unit.{Unit}
 use Rattle.vcpu_run.specs.declared.pair.Pair.{Pair}
 use Rattle.vcpu_run.specs.declared.script.Script.{Script}
 use Rattle.vcpu_run.specs.Answered.{AreBegun, IsBehind}
+use Rattle.vcpu_run.specs.EventsMade.{events_at}
+use Rattle.vcpu_run.specs.Gone.{IsToldOfGone}
 use Rattle.vcpu_run.specs.Heard.{AreHeard}
 use Rattle.vcpu_run.specs.Holding.{KeepQueues}
 use Rattle.vcpu_run.specs.Lines.{IsOver}
@@ -26,22 +29,27 @@ HasEntries units copies grants history k pair judged =
     HasJudged units k (known_of pair.own) (known_of pair.window) (end_of [] pair.link true) copies history grants judged
 
 -- Server unit k has a receipt and a fate for each entry that it took, its rows are those of its requests, it took all in sessions, and
--- each of its rows has its answer, is to have it, or is cut off.
+-- each of its rows has its answer, is to have it, or is cut off; and it was told where its client is gone, and takes its own queue for
+-- registered exactly where it is.
 pub record IsReceived (units : List Unit) (copies : List CopyRecord) (grants : List Grant) (history : List Served) (k : ℕ) (pair : Pair) : Type 0 where
   pub judged : ∥ ((judged : List Judged) × HasEntries units copies grants history k pair judged) ∥₁
   pub begun : AreBegun (side_of pair.link true).queue.taken
   pub behind : IsBehind (end_of [] pair.link true)
   pub answers : ∥ HaveAnswers units k pair.own.unit (end_of [] pair.link true) history grants ∥₁
+  pub gone : IsToldOfGone (end_of [] pair.link true)
+  pub agrees : AgreesAt units k (end_of [] pair.link true)
 
 abbrev pub AreReceived : List Unit → List CopyRecord → List Grant → List Served → List Pair → Type 0
 AreReceived units copies grants history pairs = (k : ℕ) (pair : Pair) → slice_get pairs k ≡ Some pair → IsReceived units copies grants history k pair
 
--- Nothing was taken from the server unit's queue, nothing was put into its client's, the client has sent and taken nothing,
--- and no value was put into its window.
+-- Nothing was taken from the server unit's queue, nothing was put into its client's, the client has sent and taken nothing and made no
+-- event, and no value was put into its window.
 pub record IsFresh (pair : Pair) : Type 0 where
   pub taken : (side_of pair.link true).queue.taken ≡ []
   pub sent : (side_of pair.link false).queue.sent ≡ []
+  pub kept : (side_of pair.link false).kept ≡ None
   pub untaken : PairUntaken pair
+  pub events : events_at pair ≡ 0
   pub rows : pair.window.rows ≡ []
 
 abbrev pub AreFresh : List Pair → Type 0

@@ -13,6 +13,7 @@ use Rattle.vio_num.specs.declared.names.UnitId.{UnitId}
 use Rattle.tce_window.specs.Puts.{takes}
 use Rattle.tce_window.specs.Region.{in_region}
 use Rattle.unit_region.specs.Answers.{tce_of}
+pub use Rattle.unit_region.specs.RegionLines.{IsShown, IsWritten, code_if}
 use Rattle.vio_trace.specs.declared.outcome.Outcome.{Outcome}
 use Rattle.vio_trace.specs.declared.outcome.Outcome.TheVariants as outcomes
 use Rattle.vio_trace.specs.declared.rows.Trace.{Trace}
@@ -20,9 +21,12 @@ use Rattle.vcpu_run.specs.AnswersSent.{sent_to}
 use Rattle.vcpu_run.specs.AnswersTaken.{AreAnswersTaken, answers_to}
 use Rattle.vcpu_run.specs.DataTold.{AreDataTold}
 use Rattle.vcpu_run.specs.Credited.{Ended, ended_by}
-use Rattle.vcpu_run.specs.LinesShow.{IsFront, LinesShow, Seen}
+use Rattle.vcpu_run.specs.AnswersSeen.{AreResponsesRead, IsFront}
+use Rattle.vcpu_run.specs.FewEvents.{EventsAreFew}
+use Rattle.vcpu_run.specs.LinesShow.{LinesShow, Seen}
 use Rattle.vcpu_run.specs.PortWords.{HasNoCall}
 use Rattle.vcpu_run.specs.Replay.{Range, asks, lie_within, ranges_of}
+use Rattle.vcpu_run.specs.SentOrder.{AreSentIn}
 use Rattle.vcpu_run.specs.Settled.{script_of}
 use Rattle.vcpu_run.specs.ValuesPut.{AreValuesTold}
 use Rattle.vcpu_run.specs.Shown.{pages_at, records_of, stroke_value, strokes_on, values_shown}
@@ -89,20 +93,6 @@ abbrev pub IsLogout : Option LoginNow → Outcome → Type 0
 IsLogout None outcome = outcome ≡ outcomes.NotLoggedIn
 IsLogout (Some l) outcome = MatchBool (l.outstanding == 0) (IsTried [] outcome) ((tag : ℕ) × (outcome ≡ outcomes.Overlap tag) × Contains l.asked tag)
 
--- A line in the client's own region says whether its bytes lie in it; one that shows them shows just as many.
-abbrev pub IsWritten : (lies : Bool) → Outcome → Type 0
-IsWritten lies outcome = outcome ≡ (if lies then outcomes.Done else outcomes.Range)
-
-abbrev pub IsShown : (lies : Bool) → (len : ℕ) → Outcome → Type 0
-IsShown true len (outcomes.Bytes shown) = length shown ≡ len
-IsShown false len outcomes.Range = ⊤
-IsShown _ len _ = ⊥
-
--- what a line says that puts a value into an entry of the client's window, which takes it or does not
-abbrev pub code_if : (takes : Bool) → Hrc
-code_if true = codes.Success
-code_if false = codes.Parameter
-
 -- what a line says, if it sends, or if it is one of the client's own region
 abbrev pub IsSaid : (pages : ℕ) → Option LoginNow → Verb → Outcome → Type 0
 IsSaid pages login verbs.Logout outcome = IsLogout login outcome
@@ -143,14 +133,17 @@ seen_in trace client server = record {
 }
 
 -- So is it of each client of a partition that makes no raw call; what its lines say that they sent or wrote is there, and what they say of
--- the answers that it took, and of the data of their commands, is so.
+-- the answers that it took, and of the data of their commands, is so; and each answer was read in its region.
 pub record IsClientTold (partitions : List Partition) (trace : Trace) (client server : UnitId) : Type 0 where
   pub causes : HasCausesTold (pages_at partitions client) (ended_by client.unit (script_of partitions client.partition) (records_of trace client.partition))
   pub shown : LinesShow (seen_in trace client server) client client.unit (script_of partitions client.partition) (records_of trace client.partition)
+  pub order : AreSentIn (seen_in trace client server) client client.unit (script_of partitions client.partition) (records_of trace client.partition) (sent_to trace server)
   pub put : AreValuesTold trace client (ended_by client.unit (script_of partitions client.partition) (records_of trace client.partition))
+  pub few : EventsAreFew trace server (script_of partitions client.partition) (ended_by client.unit (script_of partitions client.partition) (records_of trace client.partition))
   pub takes : AreAnswersTaken trace client (ended_by client.unit (script_of partitions client.partition) (records_of trace client.partition))
   pub reads : AreDataTold (seen_in trace client server) server (ended_by client.unit (script_of partitions client.partition) (records_of trace client.partition))
       (answers_to trace client)
+  pub read : AreResponsesRead (seen_in trace client server).front_at (answers_to trace client)
 
 abbrev pub RefusalsAreTold : List Partition → Trace → Type 0
 RefusalsAreTold partitions trace = (client server : UnitId) → IsClientOf partitions client server

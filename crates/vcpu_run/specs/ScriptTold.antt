@@ -1,7 +1,9 @@
 -- What is so of a partition whose lines make no raw call: the refusals of its clients, and what those to come are judged by.
-use Rattle.std.specs.Prelude.{◌≡◌, ℕ, ◌<◌, ◌==◌, false, true, List, Option, Some, None, IfSome, IsSomeAnd, length, if◌then◌else◌}
+use Rattle.std.specs.Prelude.{◌≡◌, ℕ, ◌<◌, ◌==◌, ◌++◌, false, true, List, Option, Some, None, IfSome, IsSomeAnd, length, if◌then◌else◌}
 use Rattle.std.specs.List.{slice_get}
 use Rattle.boot_text.specs.declared.plan.Line.{Line}
+use Rattle.vio_trace.specs.declared.rows.LogRow.{LogRow}
+use Rattle.crq_ring.specs.declared.rows.PipeRow.{PipeRow}
 use Rattle.crq_session.specs.PlainState.{side_of}
 use Rattle.vcpu_run.specs.declared.pair.Pair.{Pair}
 use Rattle.vcpu_run.specs.declared.script.Progress.{Progress}
@@ -13,9 +15,12 @@ use Rattle.vcpu_run.specs.Agreed.{IsLoggedOut}
 use Rattle.vcpu_run.specs.Freeing.{is_reset}
 use Rattle.vcpu_run.specs.Credited.{Ended, ended_by, taken_in}
 use Rattle.vcpu_run.specs.LinesShow.{LinesShow, Sees, seen_at}
+use Rattle.vcpu_run.specs.EventsMade.{PairCalm}
+use Rattle.vcpu_run.specs.FewEvents.{PairFew}
 use Rattle.vcpu_run.specs.PortWords.{HasNoCall}
 use Rattle.vcpu_run.specs.Refusals.{HasCausesTold}
 use Rattle.vcpu_run.specs.Scripts.{are_servers}
+use Rattle.vcpu_run.specs.SentOrder.{AreSentIn, entries_put}
 use Rattle.vcpu_run.specs.TakenScripts.{PairAgrees, PairTaken}
 use Rattle.vcpu_run.specs.Takings.{IsTakenUpTo}
 use Rattle.vcpu_run.specs.Telling.{IsOf, IsTold}
@@ -42,9 +47,13 @@ PairIsTold own p pair = IfSome pair.driver (λ driver. IsTold (length pair.windo
 abbrev pub AtSeats : List Seat → List Pair → (P : ℕ → Pair → Type 0) → Type 0
 AtSeats seats pairs P = (unit k : ℕ) (pair : Pair) → slice_get seats unit ≡ Some (sits.Client k) → slice_get pairs k ≡ Some pair → P unit pair
 
--- what the lines of a unit that ended show, at its pair
+-- What the lines of a unit that ended show, at its pair, and in which order its requests were put.
+pub record ShowsLines (unit : ℕ) (lines : List Line) (rows : List LogRow) (pair : Pair) : Type 0 where
+  pub show : LinesShow (seen_at pair) pair.window.unit unit lines rows
+  pub order : AreSentIn (seen_at pair) pair.window.unit unit lines rows (entries_put pair)
+
 abbrev pub PairShown : Script → (unit : ℕ) → Pair → Type 0
-PairShown script unit pair = LinesShow (seen_at pair) pair.window.unit unit script.lines.now script.logs.items
+PairShown script unit pair = ShowsLines unit script.lines.now script.logs.items pair
 
 -- The answers of each client are as its records say, and stand in order among what it took; before a line that fails no partition they are
 -- as many as the records and the current line tell, which took no more than it says.
@@ -55,7 +64,7 @@ pub record IsScriptTaken (pairs : List Pair) (script : Script) : Type 0 where
   pub agrees : (line : Line) → slice_get script.lines.now script.at ≡ Some line → fails line.verb ≡ false
       → AtSeats script.seats.items pairs (λ unit pair. PairAgrees (own_of unit script) (progress_by unit script) pair)
 
--- The refusals of each client have their causes, what its lines did is there, and they put what they say into its window's entries; before a line that fails no partition each client agrees with its records.
+-- The refusals of each client have their causes, what its lines did is there, they put what they say into its window's entries, and made no more events than resets; before a line that fails no partition each client agrees with its records.
 pub record IsScriptTold (pairs : List Pair) (script : Script) : Type 0 where
   pub law : AtSeats script.seats.items pairs (λ unit pair. HasCausesTold (length pair.window.pages) (own_of unit script))
   pub fresh : IfSome (slice_get script.lines.now script.at)
@@ -65,11 +74,16 @@ pub record IsScriptTold (pairs : List Pair) (script : Script) : Type 0 where
   pub shown : AtSeats script.seats.items pairs (PairShown script)
   pub taken : IsScriptTaken pairs script
   pub put : AtSeats script.seats.items pairs (λ unit pair. AreValuesPut (own_of unit script) pair)
+  pub few : AtSeats script.seats.items pairs (PairFew script)
 
 -- a reset that is the current line left its client without a login
 abbrev pub IsResetOut : List Pair → Script → Type 0
 IsResetOut pairs script = (line : Line) (k : ℕ) (pair : Pair) → slice_get script.lines.now script.at ≡ Some line → is_reset line.verb ≡ true
     → slice_get script.seats.items line.unit ≡ Some (sits.Client k) → slice_get pairs k ≡ Some pair → IsLoggedOut pair
+
+-- more may stand behind what the client put into its server unit's queue
+abbrev pub PutsMore : (old new : Pair) → Type 0
+PutsMore old new = (rows : List PipeRow) × ((side_of new.link true).queue.sent ≡ (side_of old.link true).queue.sent ++ rows)
 
 -- The client of a pair, its window's unit and length, whether its queue is registered and what it took are as before, no entry of its window
 -- has other values, and what there was is there.
@@ -82,6 +96,8 @@ pub record SameClient (old new : Pair) : Type 0 where
   pub sees : Sees (seen_at old) (seen_at new)
   pub server : new.server ≡ old.server
   pub values : SameValues old new
+  pub puts : PutsMore old new
+  pub calm : PairCalm old new
 
 -- the same of all pairs
 abbrev pub SameClients : List Pair → List Pair → Type 0

@@ -19,6 +19,7 @@ use Rattle.vcpu_run.specs.DataRead.{StepReads}
 use Rattle.vcpu_run.specs.DataTold.{AreDataTold}
 use Rattle.vcpu_run.specs.LinesShow.{Seen, seen_at}
 use Rattle.vcpu_run.specs.EventsHeard.{AreHeard, StepHears, events_waiting}
+use Rattle.vcpu_run.specs.EventsMade.{events_at}
 use Rattle.vcpu_run.specs.Takings.{AgreesTaken, AreGiven, Gives, StepsTaken, waiting}
 
 -- the answers of a pair's client are as the records of its lines, and its current line, tell
@@ -78,6 +79,6 @@ pub record IsUntaken (unit : UnitId) (taken : List PipeRow) (driver : Driver) : 
 abbrev pub PairUntaken : Pair → Type 0
 PairUntaken pair = IfSome pair.driver (IsUntaken pair.server (side_of pair.link false).queue.taken)
 
--- the same of all pairs, and no value was put into a client's window
+-- the same of all pairs, no value was put into a client's window, and no event was made
 abbrev pub AreUntaken : List Pair → Type 0
-AreUntaken pairs = (k : ℕ) (pair : Pair) → slice_get pairs k ≡ Some pair → PairUntaken pair × (pair.window.rows ≡ [])
+AreUntaken pairs = (k : ℕ) (pair : Pair) → slice_get pairs k ≡ Some pair → PairUntaken pair × (pair.window.rows ≡ []) × (events_at pair ≡ 0)

@@ -19,6 +19,7 @@ use Rattle.vcpu_run.specs.declared.script.Progress.TheVariants as progress
 use Rattle.vcpu_run.specs.declared.taking.Took.{Took}
 use Rattle.vcpu_run.specs.declared.taking.Took.TheVariants as tooks
 use Rattle.vcpu_run.specs.Credited.{Ended, is_take, taken_in}
+use Rattle.vcpu_run.specs.EventsMade.{PairMakes}
 use Rattle.vcpu_run.specs.Freeing.{is_reset}
 use Rattle.vcpu_run.specs.LinesShow.{PairShows}
 use Rattle.vcpu_run.specs.Refusals.{HasCausesTold, LoginNow, login_by, tags_told}
@@ -126,8 +127,9 @@ pub record SeatTold (seat : ℕ) (line : Line) (p p' : Progress) (old new : List
   pub hears : (before after : Pair) → slice_get old seat ≡ Some before → slice_get new seat ≡ Some after → PairHears before after result
   pub reads : (before after : Pair) → slice_get old seat ≡ Some before → slice_get new seat ≡ Some after → PairReads line.verb before after result
   pub puts : (before after : Pair) → slice_get old seat ≡ Some before → slice_get new seat ≡ Some after → PairPuts line.verb before after result
+  pub makes : (before after : Pair) → slice_get old seat ≡ Some before → slice_get new seat ≡ Some after → PairMakes line.verb p p' before after
   pub gives : OnOk result (AllGive old new)
-  pub shows : (after : Pair) → slice_get new seat ≡ Some after → PairShows line after result
+  pub shows : (before after : Pair) → slice_get old seat ≡ Some before → slice_get new seat ≡ Some after → PairShows line before after result
 
 -- A step of a line at its unit: at the pair where a client sits, and at none where a port does.
 pub record LineTold (seats : List Seat) (line : Line) (p p' : Progress) (old new : List Pair) (result : Result Step NoMemory) : Type 0 where

@@ -11,6 +11,8 @@ use Rattle.vscsi_client.specs.Transferred.{FitRows}
 use Rattle.vcpu_run.specs.declared.driver.Driver.{Driver}
 use Rattle.vcpu_run.specs.declared.pair.Pair.{Pair}
 use Rattle.unit_region.specs.Kept.{KeepsWindow}
+use Rattle.vcpu_run.specs.AnswersSeen.{AreResponsesRead, fronts_of}
+use Rattle.vcpu_run.specs.EventsPut.{MakesNoEvent}
 use Rattle.vcpu_run.specs.Freed.{FreesNone}
 use Rattle.vcpu_run.specs.Pairs.{IsDriver}
 use Rattle.vcpu_run.specs.Announces.{Announces}
@@ -18,16 +20,19 @@ use Rattle.vcpu_run.specs.Suited.{is_call}
 use Rattle.vcpu_run.specs.declared.unit_seat.Seat.{Seat}
 use Rattle.vcpu_run.specs.declared.unit_seat.Seat.TheVariants as sits
 
--- The end is where it was, and on a link of its own at the same session of the partner; its queue was not freed, unless it may be, and
--- the partner was told of what was; the window was kept, and the driver is that of the same unit, whose data still lie in the region.
+-- The end is where it was, and on a link of its own at the same session of the partner; its queue was not freed, and no event made, unless
+-- that may be, and the partner was told of what was; the window was kept, and the driver is that of the same unit, whose data still lie in the region, and
+-- whose answers were read there.
 pub record Works (may_free end_shared is_shared : Bool) (end end' : EndState) (own own' : PortState) (driver driver' : Driver) : Type 0 where
   pub place : end'.place ≡ end.place
   pub session : end_shared ≡ false → end'.counts.partner_session ≡ end.counts.partner_session
   pub stays : may_free ≡ false → FreesNone end end'
   pub puts : end_shared ≡ false → Announces end end'
+  pub calm : may_free ≡ false → MakesNoEvent end end'
   pub window : KeepsWindow is_shared own own'
   pub unit : driver'.unit ≡ driver.unit
   pub rows : FitRows own.place.size driver.client → FitRows own.place.size driver'.client
+  pub answers : AreResponsesRead (fronts_of own.strokes) driver.answers.items → AreResponsesRead (fronts_of own'.strokes) driver'.answers.items
 
 -- each pair at which a client sits has a driver, which is that of its window
 abbrev pub HaveClients : List Seat → List Pair → Type 0

@@ -1,5 +1,5 @@
 // A client unit's driver, with the answers that it took.
-ghost use Rattle.std.specs.Prelude.{◌≡◌, [], IfOk, OnOk};
+ghost use Rattle.std.specs.Prelude.{◌≡◌, [], IfOk, OnOk, OnErr};
 ghost use Rattle.srp_iu.specs.Response.{FitsRsp};
 ghost use Rattle.vscsi_client.specs.State.{new_client};
 ghost use Rattle.vscsi_client.specs.Turned.{unlinked};
@@ -50,6 +50,7 @@ impl Driver {
         ensures unit { self.new.unit ≡ self.old.unit }
         ensures client { self.new.client ≡ self.old.client }
         ensures notes { OnOk result (Notes tag rsp self.old.answers.items self.new.answers.items) }
+        ensures stays { OnErr result (self.new.answers.items ≡ self.old.answers.items) }
     {
         let bytes = write_iu(&Iu::Rsp(rsp));
         self.answers.push(AnswerRow {

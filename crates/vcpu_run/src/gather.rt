@@ -76,7 +76,8 @@ pub(crate) fn gather(
         AreCredited pairs.items scripts.entry.items → CreditsAreKept partitions trace) }
     ensures refusals { IfOk result (λ trace. (partitions : List Partition) →
         IsOfPlan partitions pairs.items scripts.entry.items lan.seats →
-        AreTold pairs.items scripts.entry.items → RefusalsAreTold partitions trace) }
+        All IsOver scripts.entry.items → AreTold pairs.items scripts.entry.items →
+        RefusalsAreTold partitions trace) }
     ensures answers { IfOk result (λ trace. (partitions : List Partition) →
         IsOfPlan partitions pairs.items scripts.entry.items lan.seats →
         AreAnswered history.items pairs.items → AnswersAreSent partitions trace) }

@@ -13,11 +13,12 @@ ghost use Rattle.unit_region.specs.Steps.{IsPlain};
 ghost use Rattle.vcpu_run.specs.DataKept.{StepSends};
 ghost use Rattle.vcpu_run.specs.DataRead.{StepReads};
 ghost use Rattle.vcpu_run.specs.EventsHeard.{StepHears};
+ghost use Rattle.vcpu_run.specs.EventsPut.{FreesOnce, StepMakes};
 ghost use Rattle.vcpu_run.specs.Freeing.{is_reset};
 ghost use Rattle.vcpu_run.specs.Holding.{IsHeldOff, StepsOpen, TurnsOpen, link_seen};
 ghost use Rattle.vcpu_run.specs.Sendings.{SaysSent, SaysTurned, SaysWhy};
 ghost use Rattle.vcpu_run.specs.Commands.{IsOpOf, cdb_of};
-ghost use Rattle.vcpu_run.specs.LinesShow.{LogsIn, StepShows, further_of, read_by, requests, seen_by, written_by};
+ghost use Rattle.vcpu_run.specs.LinesShow.{LogsIn, StepShows, further_of, read_by, requests, seen_by, seen_since, written_by};
 ghost use Rattle.vio_num.specs.declared.names.UnitId.{UnitId as UnitValue};
 ghost use Rattle.vcpu_run.specs.Replay.{asks, ranges_of};
 ghost use Rattle.vcpu_run.specs.Takings.{Gives, StepsTaken};
@@ -106,7 +107,8 @@ impl Driver {
         ensures shows { (unit : UnitValue) (mark : ℕ) (verb : VerbValue) →
             requests verb ≡ false → written_by verb ≡ None → read_by verb ≡ None →
             further_of verb ≡ Some LogsIn → StepShows
-            (seen_by C.is_shared (O.state own.new) (C.state crq.new.end)) unit mark verb result }
+            (seen_since C.is_shared (O.state own.new)
+            (C.state crq.old.end) (C.state crq.new.end)) unit mark verb result }
         ensures registered { C.is_shared ≡ false → TurnsOpen
             (IsHeldOff (link_seen (C.state crq.old.end)))
             (C.state crq.new.end).registered result }
@@ -147,7 +149,8 @@ impl Driver {
         ensures shows { (unit : UnitValue) (mark : ℕ) (verb : VerbValue) →
             requests verb ≡ false → written_by verb ≡ None → read_by verb ≡ None →
             further_of verb ≡ Some LogsIn → StepShows
-            (seen_by C.is_shared (O.state own.new) (C.state crq.new.end)) unit mark verb result }
+            (seen_since C.is_shared (O.state own.new)
+            (C.state crq.old.end) (C.state crq.new.end)) unit mark verb result }
         ensures registered { C.is_shared ≡ false → StepsOpen verbs.Reset progress.new
             (IsHeldOff (link_seen (C.state crq.old.end)))
             (C.state crq.new.end).registered result }
@@ -159,6 +162,8 @@ impl Driver {
             self.old.client self.new.client result }
         ensures takes { StepsTaken verbs.Reset (taken_in progress.old) (taken_in progress.new)
             self.old self.new result }
+        ensures frees { FreesOnce progress.old progress.new
+            (C.state crq.old.end) (C.state crq.new.end) }
         ensures gives { OnOk result (Gives self.old self.new
             (C.state crq.old.end) (C.state crq.new.end)) }
         ensures hears { StepHears result self.old.client self.new.client
@@ -224,7 +229,8 @@ impl Driver {
             result }
         ensures shows { (verb : VerbValue) → IsOpOf verb op.now →
             op.now.cdb ≡ cdb_of verb → StepShows
-            (seen_by C.is_shared (O.state own.new) (C.state crq.new.end))
+            (seen_since C.is_shared (O.state own.new)
+            (C.state crq.old.end) (C.state crq.new.end))
             (O.state own.old).place.unit line verb result }
         ensures works { Works false C.is_shared O.is_shared
             (C.state crq.old.end) (C.state crq.new.end)
@@ -260,7 +266,8 @@ impl Driver {
             (seated self.new.client p (C.state crq.new.end).registered)
             result }
         ensures shows { StepShows
-            (seen_by C.is_shared (O.state own.new) (C.state crq.new.end))
+            (seen_since C.is_shared (O.state own.new)
+            (C.state crq.old.end) (C.state crq.new.end))
             (O.state own.old).place.unit line (verbs.Task function tag) result }
         ensures works { Works false C.is_shared O.is_shared
             (C.state crq.old.end) (C.state crq.new.end)
@@ -290,7 +297,8 @@ impl Driver {
             (seated self.new.client p (C.state crq.new.end).registered)
             result }
         ensures shows { StepShows
-            (seen_by C.is_shared (O.state own.new) (C.state crq.new.end))
+            (seen_since C.is_shared (O.state own.new)
+            (C.state crq.old.end) (C.state crq.new.end))
             (O.state own.old).place.unit line verbs.Logout result }
         ensures works { Works false C.is_shared O.is_shared
             (C.state crq.old.end) (C.state crq.new.end)
@@ -359,7 +367,8 @@ impl Driver {
             (seated self.new.client progress.new (C.state crq.new.end).registered)
             result }
         ensures shows { StepShows
-            (seen_by C.is_shared (O.state own.new) (C.state crq.new.end))
+            (seen_since C.is_shared (O.state own.new)
+            (C.state crq.old.end) (C.state crq.new.end))
             (O.state own.old).place.unit line.now.number line.now.verb result }
         ensures registered { C.is_shared ≡ false → StepsOpen line.now.verb progress.new
             (IsHeldOff (link_seen (C.state crq.old.end)))
@@ -377,6 +386,8 @@ impl Driver {
             (taken_in progress.new) self.old.client self.new.client result }
         ensures takes { StepsTaken line.now.verb (taken_in progress.old)
             (taken_in progress.new) self.old self.new result }
+        ensures frees { StepMakes (is_reset line.now.verb) progress.old progress.new
+            (C.state crq.old.end) (C.state crq.new.end) }
         ensures gives { OnOk result (Gives self.old self.new
             (C.state crq.old.end) (C.state crq.new.end)) }
         ensures hears { StepHears result self.old.client self.new.client
@@ -409,7 +420,8 @@ impl Driver {
             (seated self.new.client progress.new (C.state crq.new.end).registered)
             result }
         ensures shows { StepShows
-            (seen_by C.is_shared (O.state own.new) (C.state crq.new.end))
+            (seen_since C.is_shared (O.state own.new)
+            (C.state crq.old.end) (C.state crq.new.end))
             (O.state own.old).place.unit line.now.number line.now.verb result }
         ensures registered { C.is_shared ≡ false → StepsOpen line.now.verb progress.new
             (IsHeldOff (link_seen (C.state crq.old.end)))
@@ -427,6 +439,8 @@ impl Driver {
             (taken_in progress.new) self.old.client self.new.client result }
         ensures takes { StepsTaken line.now.verb (taken_in progress.old)
             (taken_in progress.new) self.old self.new result }
+        ensures frees { StepMakes (is_reset line.now.verb) progress.old progress.new
+            (C.state crq.old.end) (C.state crq.new.end) }
         ensures gives { OnOk result (Gives self.old self.new
             (C.state crq.old.end) (C.state crq.new.end)) }
         ensures hears { StepHears result self.old.client self.new.client

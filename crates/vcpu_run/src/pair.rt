@@ -216,6 +216,7 @@ impl Pair {
             ≡ (side_of self.old.link true).queue.sent }
         ensures taken { (side_of self.new.link false).queue.taken
             ≡ (side_of self.old.link false).queue.taken }
+        ensures kept { (side_of self.new.link false).kept ≡ (side_of self.old.link false).kept }
         ensures linked { OnOk result (IsLinked server.old.units.items unit self.old →
             IsLinked server.new.units.items unit self.new) }
         ensures linked_else { (k : ℕ) (other : Pair) → k ≢ unit →

@@ -6,6 +6,7 @@ ghost use Rattle.vcpu_run.specs.Credited.{IsFresh, StepsPort, taken_in};
 ghost use Rattle.vcpu_run.specs.Ports.{IsPortOf, unit_of};
 ghost use Rattle.vcpu_run.specs.PortBytes.{StepBytes};
 ghost use Rattle.vcpu_run.specs.PortPosts.{StepFits};
+ghost use Rattle.vcpu_run.specs.PortRegions.{LaysLogged, StepShown};
 ghost use Rattle.vcpu_run.specs.PortReplays.{StepReplays};
 ghost use Rattle.vcpu_run.specs.PortSteps.{IsBeside, StepRises};
 ghost use Rattle.vcpu_run.specs.PortWords.{done_in};
@@ -38,6 +39,9 @@ pub(crate) fn step(
     ensures puts { IfOk result (λ step. StepPuts line.now.verb step
         (values_at lan.old (unit_of partition line.now.unit))
         (values_at lan.new (unit_of partition line.now.unit))) }
+    ensures shows { IfOk result (StepShown (unit_of partition line.now.unit) line.now lan.new) }
+    ensures marks { OnOk result (LaysLogged (unit_of partition line.now.unit) line.now.number
+        lan.old lan.new) }
     ensures beside { OnOk result (IsBeside (unit_of partition line.now.unit)
         lan.old lan.new) }
     ensures credit { StepsPort line.now.verb

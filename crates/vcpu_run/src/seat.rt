@@ -3,6 +3,7 @@ ghost use Rattle.std.specs.Prelude.{◌≡◌, true, false, IfOk, IsSomeAnd, OnO
 ghost use Rattle.crq_session.specs.PlainState.{side_of};
 ghost use Rattle.vcpu_run.specs.Pairs.{Drives, IsDriver};
 ghost use Rattle.vcpu_run.specs.Credited.{StepsAgreed, taken_in};
+ghost use Rattle.vcpu_run.specs.EventsMade.{PairCalm, PairMakes, PairShuts};
 ghost use Rattle.vcpu_run.specs.Freed.{FreesNoneAt};
 ghost use Rattle.vcpu_run.specs.Freeing.{is_reset};
 ghost use Rattle.vcpu_run.specs.LinesShow.{PairShows};
@@ -41,6 +42,7 @@ pub(crate) fn push_event(pair: &mut Pair) -> Result<Moved, NoMemory>
         ≡ (side_of pair.old.link false).registered }
     ensures taken { (side_of pair.new.link false).queue.taken
         ≡ (side_of pair.old.link false).queue.taken }
+    ensures calm { PairCalm pair.old pair.new }
     ensures quiet { IfOk result (λ moved. moved ≡ Moved.Quiet → PairRests pair.old pair.new) }
     ensures waits { IfOk result (λ moved. moved ≡ Moved.Quiet → EventWaits pair.new) }
 {
@@ -66,10 +68,11 @@ pub(crate) fn step(pair: &mut Pair, line: &Line, progress: &mut Progress) -> Res
     ensures gives { OnOk result (PairGives pair.old pair.new) }
     ensures hears { PairHears pair.old pair.new result }
     ensures said { PairTold line.now.verb progress.old progress.new pair.old pair.new result }
-    ensures shows { PairShows line.now pair.new result }
+    ensures shows { PairShows line.now pair.old pair.new result }
     ensures out { PairOut line.now.verb progress.old progress.new pair.old pair.new result }
     ensures reads { PairReads line.now.verb pair.old pair.new result }
     ensures puts { PairPuts line.now.verb pair.old pair.new result }
+    ensures makes { PairMakes line.now.verb progress.old progress.new pair.old pair.new }
     ensures registered { PairOpen line.now.verb progress.new pair.old pair.new result }
     ensures stays { is_reset line.now.verb ≡ false → FreesNoneAt pair.old pair.new }
 {
@@ -88,6 +91,7 @@ pub(crate) fn take_rest(pair: &mut Pair) -> Result<Moved, NoMemory>
     requires { IsSomeAnd pair.old.driver (IsDriver pair.old.window) }
     ensures drives { Drives pair.old pair.new }
     ensures values { SameValues pair.old pair.new }
+    ensures calm { PairCalm pair.old pair.new }
     ensures gives { OnOk result (PairGives pair.old pair.new) }
     ensures stays { FreesNoneAt pair.old pair.new }
     ensures quiet { IfOk result (λ moved. moved ≡ Moved.Quiet → PairRests pair.old pair.new) }
@@ -109,6 +113,7 @@ pub(crate) fn fail(pair: &mut Pair) -> Result<bool, NoMemory>
     requires { IsSomeAnd pair.old.driver (IsDriver pair.old.window) }
     ensures drives { Drives pair.old pair.new }
     ensures values { SameValues pair.old pair.new }
+    ensures shuts { PairShuts pair.old pair.new }
     ensures gives { OnOk result (PairGives pair.old pair.new) }
     ensures credit { OnDrivers pair.old.driver pair.new.driver (λ a b.
         SameCredits a.client b.client) }
@@ -129,6 +134,7 @@ pub(crate) fn fail(pair: &mut Pair) -> Result<bool, NoMemory>
 fn freed(pair: &mut Pair)
     requires { IsSomeAnd pair.old.driver (IsDriver pair.old.window) }
     ensures drives { Drives pair.old pair.new }
+    ensures link { pair.new.link ≡ pair.old.link }
     ensures values { SameValues pair.old pair.new }
     ensures gives { PairGives pair.old pair.new }
     ensures credit { OnDrivers pair.old.driver pair.new.driver (λ a b.

@@ -3,6 +3,7 @@ ghost use Rattle.std.specs.Prelude.{◌≡◌, ◌<◌, ◌≤◌, ◌∷◌, []
 ghost use Rattle.vcpu_run.specs.Agreed.{AllSame, SameBeside, SameDrivers, SameElse, StepsLine, StepsSeat};
 ghost use Rattle.vcpu_run.specs.CallsSaid.{StepSaid, seen_from};
 ghost use Rattle.vcpu_run.specs.Credited.{taken_in};
+ghost use Rattle.vcpu_run.specs.EventsMade.{AllCalm, AllShut};
 ghost use Rattle.vcpu_run.specs.Freed.{FreesNoneIf};
 ghost use Rattle.vcpu_run.specs.Freeing.{IsSpared, is_reset};
 ghost use Rattle.vcpu_run.specs.Holding.{LineOpen, SeatOpen};
@@ -218,6 +219,7 @@ fn take_rest_of(pairs: &mut [Pair], pair: usize) -> Result<Moved, NoMemory>
     ensures driven { AreDriven pairs.old pairs.new }
     ensures gives { OnOk result (AllGive pairs.old pairs.new) }
     ensures values { AllSameValues pairs.old pairs.new }
+    ensures calm { AllCalm pairs.old pairs.new }
     ensures others { SameBeside pair pairs.old pairs.new }
     ensures stays { FreesNoneIf (λ _. ⊤) pairs.old pairs.new }
     ensures still { IfOk result (λ moved. moved ≡ Moved.Quiet → LinksRest pairs.old pairs.new) }
@@ -240,6 +242,7 @@ fn take_rest_at(
     ensures driven { AreDriven pairs.old pairs.new }
     ensures gives { OnOk result (AllGive pairs.old pairs.new) }
     ensures values { AllSameValues pairs.old pairs.new }
+    ensures calm { AllCalm pairs.old pairs.new }
     ensures others { SameElse (seat ∷ []) pairs.old pairs.new }
     ensures lan { lan.new.seats ≡ lan.old.seats }
     ensures takes { OnOk result (TakesOn lan.old lan.new unit) }
@@ -271,6 +274,7 @@ pub(crate) fn take_rest(
     ensures driven { AreDriven pairs.old pairs.new }
     ensures gives { OnOk result (AllGive pairs.old pairs.new) }
     ensures values { AllSameValues pairs.old pairs.new }
+    ensures calm { AllCalm pairs.old pairs.new }
     ensures others { SameElse seats.now pairs.old pairs.new }
     ensures lan { lan.new.seats ≡ lan.old.seats }
     ensures takes { OnOk result (AllTake partition lan.old lan.new) }
@@ -302,6 +306,7 @@ fn fail_of(pairs: &mut [Pair], pair: usize) -> Result<bool, NoMemory>
     ensures credit { AllSame pairs.old pairs.new }
     ensures gives { OnOk result (AllGive pairs.old pairs.new) }
     ensures values { AllSameValues pairs.old pairs.new }
+    ensures shut { AllShut pairs.old pairs.new }
     ensures others { SameBeside pair pairs.old pairs.new }
 {
     seat::fail(&mut pairs[pair])
@@ -316,6 +321,7 @@ fn fail_at(unit: UnitId, seat: Seat, pairs: &mut [Pair], lan: &mut Lan) -> Resul
     ensures credit { AllSame pairs.old pairs.new }
     ensures gives { OnOk result (AllGive pairs.old pairs.new) }
     ensures values { AllSameValues pairs.old pairs.new }
+    ensures shut { AllShut pairs.old pairs.new }
     ensures others { SameElse (seat ∷ []) pairs.old pairs.new }
     ensures lan { lan.new.seats ≡ lan.old.seats }
     ensures idle { AllSilent lan.old lan.new }
@@ -342,6 +348,7 @@ pub(crate) fn fail(
     ensures credit { AllSame pairs.old pairs.new }
     ensures gives { OnOk result (AllGive pairs.old pairs.new) }
     ensures values { AllSameValues pairs.old pairs.new }
+    ensures shut { AllShut pairs.old pairs.new }
     ensures others { SameElse seats.now pairs.old pairs.new }
     ensures lan { lan.new.seats ≡ lan.old.seats }
     ensures idle { AllSilent lan.old lan.new }

@@ -1,6 +1,7 @@
 // An end of a plain link that puts entries in sessions alone.
 ghost use Rattle.crq_session.specs.PlainState.{state_of};
 ghost use Rattle.vcpu_run.specs.Answered.{IsBehind, PutsInSessions};
+ghost use Rattle.vcpu_run.specs.Gone.{IsToldOfGone};
 
 use crq_session::{CrqEnd, EventAnswer, FreeAnswer, PlainEnd, PollAnswer, RegAnswer, SendAnswer};
 use vio_num::{Entry, NoMemory};
@@ -11,6 +12,7 @@ pub(crate) struct SessionEnd<'a> {
     pub(crate) end: PlainEnd<'a>,
     ghost puts: { PutsInSessions (state_of end) },
     ghost behind: { IsBehind (state_of end) },
+    ghost gone: { IsToldOfGone (state_of end) },
 }
 
 impl CrqEnd for SessionEnd<'_> {

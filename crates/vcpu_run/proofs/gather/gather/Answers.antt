@@ -1,5 +1,6 @@
 -- The trace is the one of the machine's parts, which keeps the law.
 use Rattle.vio_trace.specs.Form.{IsInOrder}
+use Rattle.vcpu_run.specs.Gathered.{trace_of}
 use Rattle.vcpu_run.proofs.CallsGathered.{calls_are}
 use Rattle.vcpu_run.proofs.Copied.{copies_are}
 use Rattle.vcpu_run.proofs.Fetching.{entries_are_fetched, ok_pair, requests_are_served}
@@ -108,14 +109,14 @@ returns-clause-told c =
     from_counts c.args.pairs.items c.args.scripts.items c.args.lan c.args.history.items c.args.grants.items c.args.copies.items c.rows_of.result _ _ c.rows_of.ensures.trace
     c.rows_of.ensures.windows
     (λ rows counted windows partitions of_plan over tells. told_are c.args.pairs.items c.args.scripts.items c.args.lan rows c.args.history.items c.args.grants.items c.args.copies.items partitions
-    c.requires.scripts of_plan over tells counted windows)
+    c.requires.pairs c.requires.scripts of_plan over tells counted windows)
 
 pub returns-clause-refusals : goal.returns-clause-refusals
 returns-clause-refusals c =
     from_rows c.args.pairs.items c.args.scripts.items c.args.lan c.args.history.items c.args.grants.items c.args.copies.items c.rows_of.result _ _ c.rows_of.ensures.trace
     (ok_pair c.rows_of.result _ _ c.rows_of.ensures.queues c.rows_of.ensures.windows)
-    (λ rows keeps ordered lawful partitions of_plan told. refusals_are c.args.pairs.items c.args.scripts.items c.args.lan rows c.args.history.items c.args.grants.items c.args.copies.items partitions
-    c.requires.pairs c.requires.scripts lawful.0 lawful.1 of_plan told)
+    (λ rows keeps ordered lawful partitions of_plan over told. refusals_are c.args.pairs.items c.args.scripts.items c.args.lan rows c.args.history.items c.args.grants.items c.args.copies.items partitions
+    c.requires.pairs c.requires.scripts lawful.0 lawful.1 of_plan over told)
 
 pub returns-clause-copied : goal.returns-clause-copied
 returns-clause-copied c =
@@ -143,7 +144,8 @@ pub returns-clause-logins : goal.returns-clause-logins
 returns-clause-logins c =
     from_rows c.args.pairs.items c.args.scripts.items c.args.lan c.args.history.items c.args.grants.items c.args.copies.items c.rows_of.result _ _ c.rows_of.ensures.trace
     (ok_pair c.rows_of.result _ _ c.rows_of.ensures.queues c.rows_of.ensures.windows)
-    (λ rows keeps ordered lawful partitions of_plan answered rests. logins_are_sent partitions _
+    (λ rows keeps ordered lawful partitions of_plan answered rests. logins_are_sent partitions
+    (trace_of c.args.pairs.items c.args.scripts.items c.args.lan rows c.args.history.items c.args.grants.items c.args.copies.items)
     (logins_are_shown c.args.pairs.items c.args.scripts.items c.args.lan rows c.args.history.items c.args.grants.items c.args.copies.items partitions
     c.requires.pairs c.requires.scripts lawful.0 lawful.1 of_plan answered rests))
 
@@ -151,6 +153,7 @@ pub returns-clause-dealt : goal.returns-clause-dealt
 returns-clause-dealt c =
     from_rows c.args.pairs.items c.args.scripts.items c.args.lan c.args.history.items c.args.grants.items c.args.copies.items c.rows_of.result _ _ c.rows_of.ensures.trace
     (ok_pair c.rows_of.result _ _ c.rows_of.ensures.queues c.rows_of.ensures.windows)
-    (λ rows keeps ordered lawful partitions of_plan answered rests. logins_are_answered partitions _
+    (λ rows keeps ordered lawful partitions of_plan answered rests. logins_are_answered partitions
+    (trace_of c.args.pairs.items c.args.scripts.items c.args.lan rows c.args.history.items c.args.grants.items c.args.copies.items)
     (logins_are_shown c.args.pairs.items c.args.scripts.items c.args.lan rows c.args.history.items c.args.grants.items c.args.copies.items partitions
     c.requires.pairs c.requires.scripts lawful.0 lawful.1 of_plan answered rests))

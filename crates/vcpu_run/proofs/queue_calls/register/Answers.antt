@@ -23,3 +23,8 @@ pub returns-in-Resource-clause-puts : goal.returns-in-Resource-clause-puts
 returns-in-Resource-clause-puts g c = λ alone.
     puts_ready _ _ _ c.in_ok-reserve.ensures.rest (c.register.ensures.rest.counts.same_session alone)
     (puts_registers _ _ _ c.register.result alone c.register.ensures.opened c.register.ensures.busy c.register.ensures.refused)
+
+pub returns-in-Busy-clause-puts : goal.returns-in-Busy-clause-puts
+returns-in-Busy-clause-puts g c = λ alone.
+    puts_ready _ _ _ c.in_ok-reserve.ensures.rest (c.register.ensures.rest.counts.same_session alone)
+    (puts_registers _ _ _ c.register.result alone c.register.ensures.opened c.register.ensures.busy c.register.ensures.refused)

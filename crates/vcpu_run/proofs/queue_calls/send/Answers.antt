@@ -8,22 +8,22 @@ returns-in_err-reserve-clause-puts g c = λ alone. puts_reserves _ _ c.in_err-re
 pub returns-in-Parameter-clause-puts : goal.returns-in-Parameter-clause-puts
 returns-in-Parameter-clause-puts g c = λ alone.
     puts_ready _ _ _ c.in_ok-reserve.ensures.rest (c.send.ensures.rest.counts.same_session alone)
-    (puts_entry _ _ _ _ c.send.result c.send.ensures.rest c.send.ensures.success c.send.ensures.closed c.send.ensures.dropped c.send.ensures.refused)
+    (puts_entry _ _ _ _ c.send.result c.send.ensures.rest c.send.ensures.success c.send.ensures.closed c.send.ensures.dropped c.send.ensures.refused c.send.ensures.may)
 
 pub returns-in-NotRegistered-clause-puts : goal.returns-in-NotRegistered-clause-puts
 returns-in-NotRegistered-clause-puts g c = λ alone.
     puts_ready _ _ _ c.in_ok-reserve.ensures.rest (c.send.ensures.rest.counts.same_session alone)
-    (puts_entry _ _ _ _ c.send.result c.send.ensures.rest c.send.ensures.success c.send.ensures.closed c.send.ensures.dropped c.send.ensures.refused)
+    (puts_entry _ _ _ _ c.send.result c.send.ensures.rest c.send.ensures.success c.send.ensures.closed c.send.ensures.dropped c.send.ensures.refused c.send.ensures.may)
 
 pub returns-in-Closed-clause-puts : goal.returns-in-Closed-clause-puts
 returns-in-Closed-clause-puts g c = λ alone.
     puts_ready _ _ _ c.in_ok-reserve.ensures.rest (c.send.ensures.rest.counts.same_session alone)
-    (puts_entry _ _ _ _ c.send.result c.send.ensures.rest c.send.ensures.success c.send.ensures.closed c.send.ensures.dropped c.send.ensures.refused)
+    (puts_entry _ _ _ _ c.send.result c.send.ensures.rest c.send.ensures.success c.send.ensures.closed c.send.ensures.dropped c.send.ensures.refused c.send.ensures.may)
 
 pub returns-in-Dropped-clause-puts : goal.returns-in-Dropped-clause-puts
 returns-in-Dropped-clause-puts g c = λ alone.
     puts_ready _ _ _ c.in_ok-reserve.ensures.rest (c.send.ensures.rest.counts.same_session alone)
-    (puts_entry _ _ _ _ c.send.result c.send.ensures.rest c.send.ensures.success c.send.ensures.closed c.send.ensures.dropped c.send.ensures.refused)
+    (puts_entry _ _ _ _ c.send.result c.send.ensures.rest c.send.ensures.success c.send.ensures.closed c.send.ensures.dropped c.send.ensures.refused c.send.ensures.may)
 
 pub returns-in-Success-clause-put : goal.returns-in-Success-clause-put
 returns-in-Success-clause-put g c = λ good. sent_by g.C.CrqEnd.is_shared _ _ _ _ c.send.ensures.rest c.in-Success.ensures.success

@@ -2,7 +2,8 @@ use Rattle.vcpu_run.specs.Links.{IsLinked, ServerWaits}
 use Rattle.vcpu_run.proofs.Resting.{ok_more, waits_set}
 use Rattle.vcpu_run.proofs.Elsewhere.{ok_then}
 use Rattle.vcpu_run.proofs.Driving.{get_set_other, get_set_same}
-use Rattle.std.proofs.Common.{◌≡◌, ◌≤◌, ℕ, Some, length, slice_get, slice_index_or, slice_set, sym, ◌∙◌, subst, length-set}
+use Rattle.std.proofs.Common.{◌≡◌, ◌≤◌, ℕ, true, [], Some, append-nil, length, slice_get, slice_index_or, slice_set, sym, ◌∙◌, subst, length-set}
+use Rattle.crq_session.specs.PlainState.{side_of}
 use Rattle.std.proofs.lemmas.Option.{slice_get-get_or}
 use Rattle.vcpu_run.specs.declared.pair.Pair.{Pair}
 use Rattle.vcpu_run.specs.Answered.{IsAnswered}
@@ -10,6 +11,7 @@ use Rattle.vcpu_run.specs.LinesShow.{Sees, seen_at}
 use Rattle.vcpu_run.specs.Machines.{Stays}
 use Rattle.vcpu_run.specs.Pairs.{IsPair}
 use Rattle.vcpu_run.specs.Received.{IsReceived}
+use Rattle.vcpu_run.proofs.CalmTurns.{served_calm}
 use Rattle.vcpu_run.proofs.ClientsTold.{clients_set}
 use Rattle.vcpu_run.proofs.Agreeing.{set_same}
 use Rattle.vcpu_run.proofs.HeardTurns.{heard_set, tells_before}
@@ -136,6 +138,8 @@ returns-clause-clients g c =
       sees = serve_sees (slice_index_or pairs c.args.unit c.index-pairs-unit.result) c.serve.new.self c.serve.ensures.shows.window c.serve.ensures.sent;
       server = c.serve.ensures.stays.server;
       values = c.serve.ensures.values;
+      puts = ([], c.serve.ensures.sent ∙ sym (append-nil (side_of (slice_index_or pairs c.args.unit c.index-pairs-unit.result).link true).queue.sent));
+      calm = served_calm (slice_index_or pairs c.args.unit c.index-pairs-unit.result) c.serve.new.self c.serve.ensures.sent c.serve.ensures.kept;
     })
 
 pub returns-clause-heard : goal.returns-clause-heard

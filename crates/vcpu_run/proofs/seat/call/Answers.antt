@@ -7,6 +7,7 @@ use Rattle.vcpu_run.specs.CallRows.{arguments_for, row_for}
 use Rattle.vcpu_run.specs.CallsAnswered.{IsReturned, unit_seen}
 use Rattle.vcpu_run.specs.LinesShow.{seen_at}
 use Rattle.vcpu_run.proofs.ClientCalls.{entry_seen_ok}
+use Rattle.vcpu_run.proofs.WindowDrives.{window_drives}
 use Rattle.vcpu_run.proofs.seat.call.Goals as goal
 
 pub returns-in-Entry-clause-returned : goal.returns-in-Entry-clause-returned
@@ -15,5 +16,8 @@ returns-in-Entry-clause-returned c =
     let new : Pair = record { server = old.server; link = old.link; own = old.own; window = c.make.new.own; driver = old.driver } in
     let size : (known_of old.window).place.size ≡ length c.make.new.own.pages = sym (ap (λ (place : PortPlace). place.size) c.make.ensures.window.place) in
     subst (λ (call : ClientCall). IfOk c.make.result (IsReturned (unit_seen (Some new)) (row_for call) (arguments_for call))) (sym c.in-Entry.is)
-    (entry_seen_ok (known_of old.window) (known_of c.make.new.own) (length c.make.new.own.pages) (known_of c.make.new.own).values (seen_at new).entry_put old.driver
-    c.in-Entry.call c.make.result size refl c.make.ensures.answer c.make.ensures.entry)
+    (entry_seen_ok (known_of old.window) (known_of c.make.new.own) (length c.make.new.own.pages) (known_of c.make.new.own).values (known_of c.make.new.own).strokes (seen_at new).entry_put old.driver
+    c.in-Entry.call c.make.result size refl refl c.make.ensures.answer c.make.ensures.entry)
+
+pub returns-in-Entry-clause-drives : goal.returns-in-Entry-clause-drives
+returns-in-Entry-clause-drives c = window_drives c.args.pair.now c.make.new.own c.make.ensures.window

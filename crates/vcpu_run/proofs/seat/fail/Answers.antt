@@ -5,6 +5,11 @@ use Rattle.vcpu_run.specs.declared.pair.Pair.{Pair}
 use Rattle.vcpu_run.proofs.Announcing.{puts_frees, puts_ready, puts_reserves}
 use Rattle.vcpu_run.proofs.Driving.{drives_link, drives_on, some_none}
 use Rattle.vcpu_run.proofs.GivesAll.{gives_kept, gives_next, link_taken}
+use Rattle.std.proofs.Common.{sym, subst}
+use Rattle.crq_session.specs.EndState.{EndPlace}
+use Rattle.crq_session.specs.PlainState.{end_of, state_of}
+use Rattle.crq_session.specs.declared.link.PlainLink.{PlainLink}
+use Rattle.vcpu_run.proofs.CalmTurns.{ShutsEnd, shuts_failed, shuts_link, shuts_on, shuts_ready, shuts_same}
 use Rattle.vcpu_run.proofs.seat.fail.Goals as goal
 
 pub returns-in_err-reserve-clause-drives : goal.returns-in_err-reserve-clause-drives
@@ -71,3 +76,33 @@ returns-in-Busy-clause-gives c =
     gives_kept old.driver old.link c.fail.new.self.link.now
     (link_taken c.side-end.result.first c.fail.new.self.first (c.side-end.result.link.ghost_name ∷ []) (c.fail.new.self.link.ghost_name ∷ []) c.side-end.result.link.now old.link c.fail.new.self.link.now
     c.side-end.ensures.link c.side-end.ensures.first (rest.place ∙ room.place) (rest.taken ∙ room.taken))
+
+pub returns-in_err-reserve-clause-shuts : goal.returns-in_err-reserve-clause-shuts
+returns-in_err-reserve-clause-shuts c =
+    let room = c.in_err-reserve.ensures.rest in
+    shuts_link c.side-end.result.first c.reserve.new.self.first (c.side-end.result.link.ghost_name ∷ []) (c.reserve.new.self.link.ghost_name ∷ []) c.side-end.result.link.now
+    c.args.pair.now.link c.reserve.new.self.link.now c.side-end.ensures.link c.side-end.ensures.first (ap (λ (p : EndPlace). p.first) room.place ∙ c.side-end.ensures.first)
+    (shuts_ready (state_of c.side-end.result) (state_of c.reserve.new.self) room)
+
+pub returns-in-Success-clause-shuts : goal.returns-in-Success-clause-shuts
+returns-in-Success-clause-shuts c =
+    let room = c.in_ok-reserve.ensures.rest in
+    subst (λ (l : PlainLink). ShutsEnd (end_of [] c.args.pair.now.link false) (end_of [] l false)) (sym c.freed.ensures.link)
+    (shuts_link c.side-end.result.first c.fail.new.self.first (c.side-end.result.link.ghost_name ∷ []) (c.fail.new.self.link.ghost_name ∷ []) c.side-end.result.link.now
+    c.args.pair.now.link c.fail.new.self.link.now c.side-end.ensures.link c.side-end.ensures.first (ap (λ (p : EndPlace). p.first) (c.fail.ensures.rest.place ∙ room.place) ∙ c.side-end.ensures.first)
+    (shuts_on (state_of c.side-end.result) (state_of c.reserve.new.self) (state_of c.fail.new.self) (shuts_ready (state_of c.side-end.result) (state_of c.reserve.new.self) room) (shuts_failed (state_of c.reserve.new.self) (state_of c.fail.new.self) c.in-Success.ensures.success)))
+
+pub returns-in-Parameter-clause-shuts : goal.returns-in-Parameter-clause-shuts
+returns-in-Parameter-clause-shuts c =
+    let room = c.in_ok-reserve.ensures.rest in
+    shuts_link c.side-end.result.first c.fail.new.self.first (c.side-end.result.link.ghost_name ∷ []) (c.fail.new.self.link.ghost_name ∷ []) c.side-end.result.link.now
+    c.args.pair.now.link c.fail.new.self.link.now c.side-end.ensures.link c.side-end.ensures.first (ap (λ (p : EndPlace). p.first) (c.fail.ensures.rest.place ∙ room.place) ∙ c.side-end.ensures.first)
+    (shuts_on (state_of c.side-end.result) (state_of c.reserve.new.self) (state_of c.fail.new.self) (shuts_ready (state_of c.side-end.result) (state_of c.reserve.new.self) room) (shuts_ready (state_of c.reserve.new.self) (state_of c.fail.new.self) c.in-Parameter.ensures.refused))
+
+pub returns-in-Busy-clause-shuts : goal.returns-in-Busy-clause-shuts
+returns-in-Busy-clause-shuts c =
+    let room = c.in_ok-reserve.ensures.rest in
+    shuts_link c.side-end.result.first c.fail.new.self.first (c.side-end.result.link.ghost_name ∷ []) (c.fail.new.self.link.ghost_name ∷ []) c.side-end.result.link.now
+    c.args.pair.now.link c.fail.new.self.link.now c.side-end.ensures.link c.side-end.ensures.first (ap (λ (p : EndPlace). p.first) (c.fail.ensures.rest.place ∙ room.place) ∙ c.side-end.ensures.first)
+    (shuts_on (state_of c.side-end.result) (state_of c.reserve.new.self) (state_of c.fail.new.self) (shuts_ready (state_of c.side-end.result) (state_of c.reserve.new.self) room)
+    (shuts_same (state_of c.reserve.new.self) (state_of c.fail.new.self) c.in-Busy.ensures.busy.none.sent c.in-Busy.ensures.busy.kept (c.in-Busy.ensures.busy.still ∙ sym c.in-Busy.ensures.busy.registered)))

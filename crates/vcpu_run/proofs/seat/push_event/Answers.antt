@@ -2,6 +2,11 @@ use Rattle.std.proofs.Common.{◌∙◌, refl, ap}
 use Rattle.crq_session.specs.EndState.{EndCounts}
 use Rattle.vcpu_run.proofs.Announcing.{puts_kept, puts_nothing, puts_pushes, puts_ready, puts_reserves}
 use Rattle.vcpu_run.proofs.Driving.{drives_link, if_none}
+use Rattle.std.proofs.Common.{◌∷◌, []}
+use Rattle.crq_session.specs.EndState.{EndPlace}
+use Rattle.crq_session.specs.PlainState.{state_of}
+use Rattle.vcpu_run.proofs.Calming.{calm_on, calm_ready, calm_same, nothing_calm, pushes_calm}
+use Rattle.vcpu_run.proofs.CalmTurns.{calm_link}
 use Rattle.vcpu_run.proofs.seat.push_event.Goals as goal
 
 pub returns-in_err-reserve-clause-drives : goal.returns-in_err-reserve-clause-drives
@@ -33,3 +38,31 @@ returns-in-Kept-clause-drives c =
     drives_link c.side-end.result.first c.push_event.new.self.first _ _ c.args.pair.now c.side-end.result.link.now c.push_event.new.self.link.now c.side-end.ensures.link c.side-end.ensures.first
     (rest.place ∙ room.place) (rest.counts.same_session refl ∙ ap (λ (counts : EndCounts). counts.partner_session) room.counts)
     (puts_ready _ _ _ room (rest.counts.same_session refl) (puts_kept _ _ c.in-Kept.number c.in-Kept.held c.push_event.ensures.rest c.in-Kept.ensures.still)) (if_none c.args.pair.now.driver _ (rest.registered ∙ room.registered))
+
+pub returns-in_err-reserve-clause-calm : goal.returns-in_err-reserve-clause-calm
+returns-in_err-reserve-clause-calm c =
+    let room = c.in_err-reserve.ensures.rest in
+    calm_link c.side-end.result.first c.reserve.new.self.first (c.side-end.result.link.ghost_name ∷ []) (c.reserve.new.self.link.ghost_name ∷ []) c.side-end.result.link.now
+    c.args.pair.now.link c.reserve.new.self.link.now c.side-end.ensures.link c.side-end.ensures.first (ap (λ (p : EndPlace). p.first) room.place ∙ c.side-end.ensures.first)
+    (calm_ready (state_of c.side-end.result) (state_of c.reserve.new.self) room)
+
+pub returns-in-Nothing-clause-calm : goal.returns-in-Nothing-clause-calm
+returns-in-Nothing-clause-calm c =
+    let room = c.in_ok-reserve.ensures.rest in
+    calm_link c.side-end.result.first c.push_event.new.self.first (c.side-end.result.link.ghost_name ∷ []) (c.push_event.new.self.link.ghost_name ∷ []) c.side-end.result.link.now
+    c.args.pair.now.link c.push_event.new.self.link.now c.side-end.ensures.link c.side-end.ensures.first (ap (λ (p : EndPlace). p.first) (c.push_event.ensures.rest.place ∙ room.place) ∙ c.side-end.ensures.first)
+    (calm_on (state_of c.side-end.result) (state_of c.reserve.new.self) (state_of c.push_event.new.self) (calm_ready (state_of c.side-end.result) (state_of c.reserve.new.self) room) (nothing_calm (state_of c.reserve.new.self) (state_of c.push_event.new.self) c.in-Nothing.ensures.nothing))
+
+pub returns-in-Put-clause-calm : goal.returns-in-Put-clause-calm
+returns-in-Put-clause-calm c =
+    let room = c.in_ok-reserve.ensures.rest in
+    calm_link c.side-end.result.first c.push_event.new.self.first (c.side-end.result.link.ghost_name ∷ []) (c.push_event.new.self.link.ghost_name ∷ []) c.side-end.result.link.now
+    c.args.pair.now.link c.push_event.new.self.link.now c.side-end.ensures.link c.side-end.ensures.first (ap (λ (p : EndPlace). p.first) (c.push_event.ensures.rest.place ∙ room.place) ∙ c.side-end.ensures.first)
+    (calm_on (state_of c.side-end.result) (state_of c.reserve.new.self) (state_of c.push_event.new.self) (calm_ready (state_of c.side-end.result) (state_of c.reserve.new.self) room) (pushes_calm (state_of c.reserve.new.self) (state_of c.push_event.new.self) c.in-Put.ensures.put))
+
+pub returns-in-Kept-clause-calm : goal.returns-in-Kept-clause-calm
+returns-in-Kept-clause-calm c =
+    let room = c.in_ok-reserve.ensures.rest in
+    calm_link c.side-end.result.first c.push_event.new.self.first (c.side-end.result.link.ghost_name ∷ []) (c.push_event.new.self.link.ghost_name ∷ []) c.side-end.result.link.now
+    c.args.pair.now.link c.push_event.new.self.link.now c.side-end.ensures.link c.side-end.ensures.first (ap (λ (p : EndPlace). p.first) (c.push_event.ensures.rest.place ∙ room.place) ∙ c.side-end.ensures.first)
+    (calm_on (state_of c.side-end.result) (state_of c.reserve.new.self) (state_of c.push_event.new.self) (calm_ready (state_of c.side-end.result) (state_of c.reserve.new.self) room) (calm_same (state_of c.reserve.new.self) (state_of c.push_event.new.self) c.in-Kept.ensures.still.full.sent c.in-Kept.ensures.still.kept))

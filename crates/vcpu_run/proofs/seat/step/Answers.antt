@@ -8,17 +8,23 @@ use Rattle.vcpu_run.proofs.LinesShown.{pair_shows}
 use Rattle.vcpu_run.specs.TakenScripts.{PairGives, PairHears, PairReads}
 use Rattle.vcpu_run.proofs.DataSteps.{pair_reads}
 use Rattle.vcpu_run.proofs.GivesAll.{pair_gives_ok, pair_hears}
+use Rattle.vcpu_run.specs.EventsMade.{PairMakes}
+use Rattle.vcpu_run.specs.Freeing.{is_reset}
+use Rattle.vcpu_run.proofs.CalmTurns.{makes_link}
+use Rattle.vcpu_run.specs.Pairs.{Drives}
+use Rattle.vcpu_run.proofs.StepDrives.{step_drives}
 use Rattle.vcpu_run.proofs.seat.step.Goals as goal
 
 pub returns-clause-shows : goal.returns-clause-shows
 returns-clause-shows c =
     let old = c.args.pair.now in
     let end = c.step.new.crq.end in
+    let lent = c.side.result.link in
     let pair : PlainLink → Pair = λ link. record { server = old.server; link = link; own = old.own; window = c.step.new.own; driver = Some c.step.new.self } in
     let link_is : end.link.now ≡ c.pair-2-1.given.0 = search rules in
-    subst (λ (link : PlainLink). PairShows c.args.line.now (pair link) c.step.result) link_is
-    (pair_shows (pair end.link.now) (end.link.ghost_name ∷ []) end.first old.window.unit c.args.line.now c.step.result
-    (ap (λ (p : EndPlace). p.first) c.step.ensures.works.place ∙ c.side.ensures.first)
+    subst (λ (link : PlainLink). PairShows c.args.line.now old (pair link) c.step.result) link_is
+    (pair_shows old (pair end.link.now) (lent.ghost_name ∷ []) (end.link.ghost_name ∷ []) c.side.result.first end.first lent.now old.window.unit c.args.line.now c.step.result
+    c.side.ensures.link c.side.ensures.first (ap (λ (p : EndPlace). p.first) c.step.ensures.works.place ∙ c.side.ensures.first)
     (ap (λ (p : PortPlace). p.unit) c.step.ensures.works.window.place) c.step.ensures.shows)
 
 pub returns-clause-gives : goal.returns-clause-gives
@@ -52,3 +58,25 @@ returns-clause-reads c =
     subst (λ (link : PlainLink). PairReads c.args.line.now.verb old (pair link) c.step.result) link_is
     (pair_reads c.step.result old (pair end.link.now) c.in-Some.driver c.step.new.self end.first (end.link.ghost_name ∷ []) c.args.line.now.verb
     c.in-Some.is refl (ap (λ (p : EndPlace). p.first) c.step.ensures.works.place ∙ c.side.ensures.first) c.step.ensures.reads c.step.ensures.inward)
+
+pub returns-clause-makes : goal.returns-clause-makes
+returns-clause-makes c =
+    let old = c.args.pair.now in
+    let end = c.step.new.crq.end in
+    let lent = c.side.result.link in
+    let pair : PlainLink → Pair = λ link. record { server = old.server; link = link; own = old.own; window = c.step.new.own; driver = Some c.step.new.self } in
+    let link_is : end.link.now ≡ c.pair-2-1.given.0 = search rules in
+    subst (λ (link : PlainLink). PairMakes c.args.line.now.verb c.args.progress.now c.step.new.progress old (pair link)) link_is
+    (makes_link (is_reset c.args.line.now.verb) c.side.result.first end.first (lent.ghost_name ∷ []) (end.link.ghost_name ∷ []) c.args.progress.now c.step.new.progress
+    lent.now old.link end.link.now c.side.ensures.link c.side.ensures.first (ap (λ (p : EndPlace). p.first) c.step.ensures.works.place ∙ c.side.ensures.first) c.step.ensures.frees)
+
+pub returns-clause-drives : goal.returns-clause-drives
+returns-clause-drives c =
+    let old = c.args.pair.now in
+    let end = c.step.new.crq.end in
+    let lent = c.side.result.link in
+    let pair : PlainLink → Pair = λ link. record { server = old.server; link = link; own = old.own; window = c.step.new.own; driver = Some c.step.new.self } in
+    let link_is : end.link.now ≡ c.pair-2-1.given.0 = search rules in
+    subst (λ (link : PlainLink). Drives old (pair link)) link_is
+    (step_drives _ c.side.result.first end.first (lent.ghost_name ∷ []) (end.link.ghost_name ∷ []) old c.in-Some.driver c.step.new.self lent.now end.link.now c.step.new.own
+    c.in-Some.is c.side.ensures.link c.side.ensures.first c.step.ensures.works)

@@ -4,6 +4,10 @@ use Rattle.crq_session.specs.declared.link.PlainLink.{PlainLink}
 use Rattle.vcpu_run.specs.declared.pair.Pair.{Pair}
 use Rattle.vcpu_run.specs.TakenScripts.{PairGives}
 use Rattle.vcpu_run.proofs.GivesAll.{pair_gives_ok}
+use Rattle.vcpu_run.specs.EventsMade.{PairCalm}
+use Rattle.vcpu_run.proofs.CalmTurns.{calm_link}
+use Rattle.vcpu_run.specs.Pairs.{Drives}
+use Rattle.vcpu_run.proofs.StepDrives.{step_drives}
 use Rattle.vcpu_run.proofs.seat.take_rest.Goals as goal
 
 pub returns-clause-gives : goal.returns-clause-gives
@@ -16,3 +20,25 @@ returns-clause-gives c =
     subst (λ (link : PlainLink). OnOk c.take_rest.result (PairGives old (pair link))) link_is
     (pair_gives_ok c.take_rest.result old (pair end.link.now) c.in-Some.driver c.take_rest.new.self c.side.result.first end.first (lent.ghost_name ∷ []) (end.link.ghost_name ∷ []) lent.now
     c.in-Some.is refl c.side.ensures.link c.side.ensures.first (ap (λ (p : EndPlace). p.first) c.take_rest.ensures.works.place ∙ c.side.ensures.first) c.take_rest.ensures.gives)
+
+pub returns-clause-calm : goal.returns-clause-calm
+returns-clause-calm c =
+    let old = c.args.pair.now in
+    let end = c.take_rest.new.crq.end in
+    let lent = c.side.result.link in
+    let pair : PlainLink → Pair = λ link. record { server = old.server; link = link; own = old.own; window = c.take_rest.new.own; driver = Some c.take_rest.new.self } in
+    let link_is : end.link.now ≡ c.pair-2-1.given.0 = search rules in
+    subst (λ (link : PlainLink). PairCalm old (pair link)) link_is
+    (calm_link c.side.result.first end.first (lent.ghost_name ∷ []) (end.link.ghost_name ∷ []) lent.now old.link end.link.now
+    c.side.ensures.link c.side.ensures.first (ap (λ (p : EndPlace). p.first) c.take_rest.ensures.works.place ∙ c.side.ensures.first) (c.take_rest.ensures.works.calm refl))
+
+pub returns-clause-drives : goal.returns-clause-drives
+returns-clause-drives c =
+    let old = c.args.pair.now in
+    let end = c.take_rest.new.crq.end in
+    let lent = c.side.result.link in
+    let pair : PlainLink → Pair = λ link. record { server = old.server; link = link; own = old.own; window = c.take_rest.new.own; driver = Some c.take_rest.new.self } in
+    let link_is : end.link.now ≡ c.pair-2-1.given.0 = search rules in
+    subst (λ (link : PlainLink). Drives old (pair link)) link_is
+    (step_drives _ c.side.result.first end.first (lent.ghost_name ∷ []) (end.link.ghost_name ∷ []) old c.in-Some.driver c.take_rest.new.self lent.now end.link.now c.take_rest.new.own
+    c.in-Some.is c.side.ensures.link c.side.ensures.first c.take_rest.ensures.works)

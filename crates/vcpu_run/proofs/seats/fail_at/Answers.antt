@@ -5,6 +5,7 @@ use Rattle.vcpu_run.proofs.PortRising.{all_silent, closes_beside}
 use Rattle.vcpu_run.proofs.PortTurns.{idle_same}
 use Rattle.vcpu_run.proofs.Crediting.{on_ok}
 use Rattle.vcpu_run.proofs.GivesAll.{all_give_same}
+use Rattle.vcpu_run.proofs.CalmTurns.{shut_none}
 use Rattle.vcpu_run.proofs.seats.fail_at.Goals as goal
 
 pub fail_of-requires-clause-there : goal.fail_of-requires-clause-there
@@ -35,3 +36,9 @@ returns-in-Port-clause-gives c = on_ok c.fail.result _ (all_give_same c.args.pai
 
 pub returns-in-Server-clause-gives : goal.returns-in-Server-clause-gives
 returns-in-Server-clause-gives c = all_give_same c.args.pairs.now
+
+pub returns-in-Port-clause-shut : goal.returns-in-Port-clause-shut
+returns-in-Port-clause-shut c = shut_none c.args.pairs.now
+
+pub returns-in-Server-clause-shut : goal.returns-in-Server-clause-shut
+returns-in-Server-clause-shut c = shut_none c.args.pairs.now

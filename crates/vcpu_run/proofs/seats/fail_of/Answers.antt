@@ -3,6 +3,7 @@ use Rattle.vcpu_run.proofs.ValuesKept.{values_set}
 use Rattle.vcpu_run.proofs.Agreeing.{set_all, set_beside}
 use Rattle.vcpu_run.proofs.Driving.{driven_set, some_there}
 use Rattle.vcpu_run.proofs.GivesAll.{all_give_ok}
+use Rattle.vcpu_run.proofs.CalmTurns.{shut_set}
 use Rattle.vcpu_run.proofs.seats.fail_of.Goals as goal
 
 pub fail-requires : goal.fail-requires
@@ -24,3 +25,6 @@ returns-clause-gives c =
 pub returns-clause-values : goal.returns-clause-values
 returns-clause-values c =
     values_set c.args.pairs.now c.args.pair _ c.fail.new.pair (slice_get-get_or c.args.pairs.now c.args.pair _ c.requires.there) c.fail.ensures.values
+
+pub returns-clause-shut : goal.returns-clause-shut
+returns-clause-shut c = shut_set c.args.pairs.now c.args.pair _ c.fail.new.pair (slice_get-get_or c.args.pairs.now c.args.pair _ c.requires.there) c.fail.ensures.shuts

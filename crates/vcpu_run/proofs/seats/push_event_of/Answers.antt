@@ -42,6 +42,8 @@ returns-clause-clients c =
       sees = drives_sees _ c.push_event.new.pair c.push_event.ensures.drives;
       server = c.push_event.ensures.drives.server;
       values = ap (λ w. (known_of w).values) c.push_event.ensures.window;
+      puts = (c.push_event.ensures.drives.puts.rows, c.push_event.ensures.drives.puts.sent);
+      calm = c.push_event.ensures.calm;
     })
 
 pub returns-clause-others : goal.returns-clause-others

@@ -26,7 +26,7 @@ returns-clause-stays c =
 pub returns-clause-said : goal.returns-clause-said
 returns-clause-said c =
     set_told c.args.line.now c.args.progress.now c.step.new.progress c.step.result c.args.pairs.now c.args.pair _ c.step.new.pair
-    (slice_get-get_or c.args.pairs.now c.args.pair _ c.requires.there) c.step.ensures.said c.step.ensures.takes c.step.ensures.hears c.step.ensures.reads c.step.ensures.puts c.step.ensures.gives c.step.ensures.shows
+    (slice_get-get_or c.args.pairs.now c.args.pair _ c.requires.there) c.step.ensures.said c.step.ensures.takes c.step.ensures.hears c.step.ensures.reads c.step.ensures.puts c.step.ensures.makes c.step.ensures.gives c.step.ensures.shows
 
 pub returns-clause-out : goal.returns-clause-out
 returns-clause-out c =

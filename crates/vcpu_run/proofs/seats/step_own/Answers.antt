@@ -92,7 +92,7 @@ returns-in-Client-clause-apart c = on_ok c.step_at.result _ (λ unit _. idle_sam
 pub returns-in-Port-clause-told : goal.returns-in-Port-clause-told
 returns-in-Port-clause-told c =
     port_told c.args.partition c.args.seats.now c.args.line.now (done_in c.args.progress.now) (done_in c.step.new.progress) c.args.lan.now c.step.new.lan c.step.result
-    c.step.ensures.told c.step.ensures.replays c.step.ensures.fits c.step.ensures.bytes c.step.ensures.puts c.step.ensures.beside
+    c.step.ensures.told c.step.ensures.replays c.step.ensures.fits c.step.ensures.bytes c.step.ensures.puts c.step.ensures.shows c.step.ensures.marks c.step.ensures.beside
 
 pub returns-in-Port-clause-apart : goal.returns-in-Port-clause-apart
 returns-in-Port-clause-apart c = port_apart c.args.partition c.args.line.now.unit c.args.lan.now c.step.new.lan c.step.result c.step.ensures.beside

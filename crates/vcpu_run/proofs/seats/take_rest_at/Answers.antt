@@ -8,6 +8,7 @@ use Rattle.vcpu_run.proofs.PortTurns.{port_rest, rest_beside}
 use Rattle.vcpu_run.proofs.Crediting.{on_ok}
 use Rattle.vcpu_run.proofs.GivesAll.{all_give_same}
 use Rattle.vcpu_run.proofs.PortsResting.{ok_any, seat_none, seat_port}
+use Rattle.vcpu_run.proofs.CalmTurns.{calm_none}
 use Rattle.vcpu_run.proofs.seats.take_rest_at.Goals as goal
 
 pub take_rest_of-requires-clause-there : goal.take_rest_of-requires-clause-there
@@ -53,3 +54,9 @@ returns-in-Port-clause-ports c =
 
 pub returns-in-Server-clause-ports : goal.returns-in-Server-clause-ports
 returns-in-Server-clause-ports c = λ is. seat_none c.args.unit c.args.seat c.args.lan.now (λ e. cc (c.in-Server.is, e))
+
+pub returns-in-Port-clause-calm : goal.returns-in-Port-clause-calm
+returns-in-Port-clause-calm c = calm_none c.args.pairs.now
+
+pub returns-in-Server-clause-calm : goal.returns-in-Server-clause-calm
+returns-in-Server-clause-calm c = calm_none c.args.pairs.now

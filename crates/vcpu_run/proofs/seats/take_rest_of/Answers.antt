@@ -6,6 +6,7 @@ use Rattle.std.proofs.lemmas.Option.{slice_get-get_or}
 use Rattle.vcpu_run.proofs.Agreeing.{set_beside}
 use Rattle.vcpu_run.proofs.Driving.{driven_set, some_there}
 use Rattle.vcpu_run.proofs.GivesAll.{all_give_ok}
+use Rattle.vcpu_run.proofs.CalmTurns.{calm_set}
 use Rattle.vcpu_run.proofs.seats.take_rest_of.Goals as goal
 
 pub take_rest-requires : goal.take_rest-requires
@@ -40,3 +41,6 @@ returns-clause-gives c =
 pub returns-clause-values : goal.returns-clause-values
 returns-clause-values c =
     values_set c.args.pairs.now c.args.pair _ c.take_rest.new.pair (slice_get-get_or c.args.pairs.now c.args.pair _ c.requires.there) c.take_rest.ensures.values
+
+pub returns-clause-calm : goal.returns-clause-calm
+returns-clause-calm c = calm_set c.args.pairs.now c.args.pair _ c.take_rest.new.pair (slice_get-get_or c.args.pairs.now c.args.pair _ c.requires.there) c.take_rest.ensures.calm

@@ -14,7 +14,7 @@ use Rattle.vcpu_run.proofs.driver.Driver.command.Goals as goal
 
 pub returns-clause-works : goal.returns-clause-works
 returns-clause-works g c =
-    submit_works g.C.CrqEnd.is_shared g.O.WindowPort.is_shared _ _ _ _ c.args.self.now _ c.args.line c.args.op.now c.submit.result refl c.requires.fits
+    submit_works g.C.CrqEnd.is_shared g.O.WindowPort.is_shared _ _ _ _ c.args.self.now _ c.args.line c.args.op.now c.submit.result refl refl c.requires.fits
     c.submit.ensures.refused c.submit.ensures.sent c.submit.ensures.why c.submit.ensures.crq_rest c.submit.ensures.own_rest
 
 pub returns-clause-credit : goal.returns-clause-credit

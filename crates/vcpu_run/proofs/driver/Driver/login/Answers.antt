@@ -5,7 +5,7 @@ use Rattle.vscsi_client.specs.Turned.{site}
 use Rattle.vcpu_run.proofs.LoginSteps.{login_out, login_told, reset_told, stays_open}
 use Rattle.vcpu_run.proofs.Credits.{turn_agreed}
 use Rattle.vcpu_run.proofs.Giving.{turn_gives}
-use Rattle.vcpu_run.specs.LinesShow.{IsPutBy}
+use Rattle.vcpu_run.specs.LinesShow.{PutsOne}
 use Rattle.vcpu_run.proofs.FurtherShown.{login_shows}
 use Rattle.vcpu_run.proofs.Opening.{turn_open}
 use Rattle.vcpu_run.proofs.Working.{turn_works}
@@ -15,12 +15,12 @@ use Rattle.vcpu_run.proofs.driver.Driver.login.Goals as goal
 
 pub returns-in_err-turn-clause-works : goal.returns-in_err-turn-clause-works
 returns-in_err-turn-clause-works g c =
-    turn_works g.C.CrqEnd.is_shared g.O.WindowPort.is_shared _ _ _ _ c.args.self.now _ c.args.line c.login_turn.result refl
+    turn_works g.C.CrqEnd.is_shared g.O.WindowPort.is_shared _ _ _ _ c.args.self.now _ c.args.line c.login_turn.result refl refl
     c.login_turn.ensures.turned c.login_turn.ensures.crq_rest c.login_turn.ensures.own_rest
 
 pub returns-clause-works : goal.returns-clause-works
 returns-clause-works g c =
-    turn_works g.C.CrqEnd.is_shared g.O.WindowPort.is_shared _ _ _ _ c.args.self.now _ c.args.line c.login_turn.result refl
+    turn_works g.C.CrqEnd.is_shared g.O.WindowPort.is_shared _ _ _ _ c.args.self.now _ c.args.line c.login_turn.result refl refl
     c.login_turn.ensures.turned c.login_turn.ensures.crq_rest c.login_turn.ensures.own_rest
 
 pub returns-clause-credit : goal.returns-clause-credit
@@ -78,7 +78,7 @@ pub returns-clause-shows : goal.returns-clause-shows
 returns-clause-shows g c = λ unit mark verb no_request no_bytes no_read logs.
     let a = site c.args.self.now.client (ports g.C.CrqEnd.is_shared (g.C.CrqEnd.state c.args.crq.now.end) g.O.WindowPort.is_shared (g.O.WindowPort.state c.args.own.now)) in
     let b = site c.login_turn.new.self (ports g.C.CrqEnd.is_shared (g.C.CrqEnd.state c.login_turn.new.crq.end) g.O.WindowPort.is_shared (g.O.WindowPort.state c.login_turn.new.own)) in
-    login_shows c.args.line a b c.in_ok-turn.turn c.turned.result (IsPutBy g.C.CrqEnd.is_shared (g.C.CrqEnd.state c.login_turn.new.crq.end)) unit mark verb no_request no_bytes no_read logs
+    login_shows c.args.line a b c.in_ok-turn.turn c.turned.result (PutsOne g.C.CrqEnd.is_shared (g.C.CrqEnd.state c.args.crq.now.end) (g.C.CrqEnd.state c.login_turn.new.crq.end)) unit mark verb no_request no_bytes no_read logs
     c.in_ok-turn.ensures.turned c.turned.ensures
 
 pub returns-clause-hears : goal.returns-clause-hears

@@ -13,7 +13,7 @@ use Rattle.vcpu_run.proofs.driver.Driver.logout.Goals as goal
 
 pub returns-clause-works : goal.returns-clause-works
 returns-clause-works g c =
-    logout_works g.C.CrqEnd.is_shared g.O.WindowPort.is_shared _ _ _ _ c.args.self.now _ c.args.line c.logout.result refl
+    logout_works g.C.CrqEnd.is_shared g.O.WindowPort.is_shared _ _ _ _ c.args.self.now _ c.args.line c.logout.result refl refl
     c.logout.ensures.refused c.logout.ensures.sent c.logout.ensures.why c.logout.ensures.same c.logout.ensures.crq_rest c.logout.ensures.own_rest
 
 pub returns-clause-credit : goal.returns-clause-credit

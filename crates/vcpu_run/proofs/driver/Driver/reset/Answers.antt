@@ -1,4 +1,4 @@
-use Rattle.std.proofs.Common.{◌∙◌, ap, refl, rules, subst}
+use Rattle.std.proofs.Common.{◌∙◌, ap, refl, rules, subst, true}
 use Rattle.boot_text.specs.declared.verb.Verb.TheVariants as verbs
 use Rattle.vscsi_client.specs.Turned.{unlinked}
 use Rattle.vcpu_run.specs.Takings.{AgreesTaken}
@@ -8,14 +8,21 @@ use Rattle.vcpu_run.specs.declared.script.Progress.TheVariants as progress
 use Rattle.crq_session.specs.EndState.{OnlyReserves}
 use Rattle.vcpu_run.specs.Holding.{IsHeldOff, link_seen}
 use Rattle.vcpu_run.proofs.Opening.{freed_open, moved_open, off_by, turns_by}
+use Rattle.vcpu_run.specs.LinesShow.{seen_since}
 use Rattle.vcpu_run.specs.Telling.{seated}
+use Rattle.vcpu_run.proofs.LinesShown.{since_from, step_more}
 use Rattle.vcpu_run.proofs.LoginSteps.{begins_freed}
-use Rattle.vcpu_run.proofs.Working.{works_freed, works_on, works_ready}
+use Rattle.vcpu_run.proofs.Working.{works_freed, works_on, works_ready, works_any}
 use Rattle.vcpu_run.proofs.Giving.{gives_freed, gives_on, gives_ready}
 use Rattle.vcpu_run.proofs.AnswersCounted.{from_taken, none_taken, same_agrees}
 use Rattle.vcpu_run.proofs.TakingCalls.{tags_still}
 use Rattle.vcpu_run.proofs.EventsHeard.{hears_same}
 use Rattle.vcpu_run.proofs.Giving.{step_hears_on}
+use Rattle.vio_num.specs.Entry.{partner_freed}
+use Rattle.std.proofs.Common.{◌+◌, ◌≤◌, arith}
+use Rattle.vcpu_run.specs.EventsPut.{MakesNoEvent, events_of}
+use Rattle.vcpu_run.proofs.Calming.{calm_on, calm_ready, calm_same, freed_once}
+use Rattle.vcpu_run.proofs.CalmTurns.{frees_calm, frees_later, frees_one}
 use Rattle.vcpu_run.proofs.driver.Driver.reset.Goals as goal
 
 pub returns-then-eq-clause-credit : goal.returns-then-eq-clause-credit
@@ -33,7 +40,7 @@ returns-in_err-reserve-clause-works g c = works_ready _ _ _ _ _ _ c.args.self.no
 pub returns-in-Success-clause-works : goal.returns-in-Success-clause-works
 returns-in-Success-clause-works g c =
     works_on _ _ _ _ _ _ _ _ _ c.args.self.now c.args.self.now c.freed.new.self (works_ready _ _ _ _ _ _ c.args.self.now c.in_ok-reserve.ensures.rest)
-    (works_freed _ _ _ _ _ c.args.self.now c.freed.new.self c.in-Success.ensures.success c.free.ensures.rest c.freed.ensures.unit c.freed.ensures.client)
+    (works_freed _ _ _ _ _ c.args.self.now c.freed.new.self c.in-Success.ensures.success c.free.ensures.rest c.freed.ensures.unit (ap (λ rows. rows.items) c.freed.ensures.answers) c.freed.ensures.client)
 
 pub returns-then-eq-clause-registered : goal.returns-then-eq-clause-registered
 returns-then-eq-clause-registered g c = λ alone.
@@ -105,3 +112,45 @@ pub returns-in-Busy-clause-hears : goal.returns-in-Busy-clause-hears
 returns-in-Busy-clause-hears g c =
     hears_same c.args.self.now.client c.args.self.now.client (g.C.CrqEnd.state c.args.crq.now.end) (g.C.CrqEnd.state c.free.new.self.end) refl refl
     (c.free.ensures.rest.taken ∙ c.in_ok-reserve.ensures.rest.taken)
+
+pub returns-in-Parameter-clause-shows : goal.returns-in-Parameter-clause-shows
+returns-in-Parameter-clause-shows g c = λ unit mark verb no_request no_bytes no_read logs.
+    step_more
+    (seen_since g.C.CrqEnd.is_shared (g.O.WindowPort.state c.login-in-Parameter.new.own) (g.C.CrqEnd.state c.free.new.self.end) (g.C.CrqEnd.state c.login-in-Parameter.new.crq.end))
+    (seen_since g.C.CrqEnd.is_shared (g.O.WindowPort.state c.login-in-Parameter.new.own) (g.C.CrqEnd.state c.args.crq.now.end) (g.C.CrqEnd.state c.login-in-Parameter.new.crq.end))
+    (since_from g.C.CrqEnd.is_shared (g.O.WindowPort.state c.login-in-Parameter.new.own) (g.C.CrqEnd.state c.args.crq.now.end) (g.C.CrqEnd.state c.free.new.self.end)
+    (g.C.CrqEnd.state c.login-in-Parameter.new.crq.end) (c.in-Parameter.ensures.refused.sent ∙ c.in_ok-reserve.ensures.rest.sent))
+    unit mark verb c.login-in-Parameter.result (c.login-in-Parameter.ensures.shows unit mark verb no_request no_bytes no_read logs)
+
+pub returns-then-eq-clause-frees : goal.returns-then-eq-clause-frees
+returns-then-eq-clause-frees g c = frees_calm c.args.progress.now (g.C.CrqEnd.state c.args.crq.now.end) (g.C.CrqEnd.state c.login.new.crq.end) (c.login.ensures.works.calm refl)
+
+pub returns-in_err-reserve-clause-frees : goal.returns-in_err-reserve-clause-frees
+returns-in_err-reserve-clause-frees g c = frees_calm c.args.progress.now (g.C.CrqEnd.state c.args.crq.now.end) (g.C.CrqEnd.state c.reserve.new.self.end) (calm_ready (g.C.CrqEnd.state c.args.crq.now.end) (g.C.CrqEnd.state c.reserve.new.self.end) c.in_err-reserve.ensures.rest)
+
+pub returns-in-Success-clause-frees : goal.returns-in-Success-clause-frees
+returns-in-Success-clause-frees g c =
+    let calm : MakesNoEvent (g.C.CrqEnd.state c.args.crq.now.end) (g.C.CrqEnd.state c.reserve.new.self.end) = calm_ready (g.C.CrqEnd.state c.args.crq.now.end) (g.C.CrqEnd.state c.reserve.new.self.end) c.in_ok-reserve.ensures.rest in
+    let one : events_of (g.C.CrqEnd.state c.free.new.self.end) ≤ events_of (g.C.CrqEnd.state c.reserve.new.self.end) + 1 = freed_once g.C.CrqEnd.is_shared (g.C.CrqEnd.state c.reserve.new.self.end) (g.C.CrqEnd.state c.free.new.self.end) partner_freed c.in-Success.ensures.success in
+    frees_one c.args.progress.now (g.C.CrqEnd.state c.args.crq.now.end) (g.C.CrqEnd.state c.free.new.self.end) (search rules) (omega (arith, calm, one))
+
+pub returns-in-Parameter-clause-frees : goal.returns-in-Parameter-clause-frees
+returns-in-Parameter-clause-frees g c =
+    frees_later c.args.progress.now (g.C.CrqEnd.state c.args.crq.now.end) (g.C.CrqEnd.state c.login-in-Parameter.new.crq.end)
+    (calm_on (g.C.CrqEnd.state c.args.crq.now.end) (g.C.CrqEnd.state c.free.new.self.end) (g.C.CrqEnd.state c.login-in-Parameter.new.crq.end)
+    (calm_on (g.C.CrqEnd.state c.args.crq.now.end) (g.C.CrqEnd.state c.reserve.new.self.end) (g.C.CrqEnd.state c.free.new.self.end) (calm_ready (g.C.CrqEnd.state c.args.crq.now.end) (g.C.CrqEnd.state c.reserve.new.self.end) c.in_ok-reserve.ensures.rest) (calm_ready (g.C.CrqEnd.state c.reserve.new.self.end) (g.C.CrqEnd.state c.free.new.self.end) c.in-Parameter.ensures.refused))
+    (c.login-in-Parameter.ensures.works.calm refl))
+
+pub returns-in-Busy-clause-frees : goal.returns-in-Busy-clause-frees
+returns-in-Busy-clause-frees g c =
+    frees_calm c.args.progress.now (g.C.CrqEnd.state c.args.crq.now.end) (g.C.CrqEnd.state c.free.new.self.end)
+    (calm_on (g.C.CrqEnd.state c.args.crq.now.end) (g.C.CrqEnd.state c.reserve.new.self.end) (g.C.CrqEnd.state c.free.new.self.end) (calm_ready (g.C.CrqEnd.state c.args.crq.now.end) (g.C.CrqEnd.state c.reserve.new.self.end) c.in_ok-reserve.ensures.rest) (calm_same (g.C.CrqEnd.state c.reserve.new.self.end) (g.C.CrqEnd.state c.free.new.self.end) c.in-Busy.ensures.busy.none.sent c.in-Busy.ensures.busy.kept))
+
+pub returns-in-Parameter-clause-works : goal.returns-in-Parameter-clause-works
+returns-in-Parameter-clause-works g c =
+    let turned = c.login-in-Parameter.ensures.works in
+    works_on _ _ _ _ _ _ _ _ _ c.args.self.now c.args.self.now c.login-in-Parameter.new.self
+    (works_on _ _ _ _ _ _ _ _ _ c.args.self.now c.args.self.now c.args.self.now
+    (works_ready true g.C.CrqEnd.is_shared g.O.WindowPort.is_shared _ _ _ c.args.self.now c.in_ok-reserve.ensures.rest)
+    (works_ready true g.C.CrqEnd.is_shared g.O.WindowPort.is_shared _ _ _ c.args.self.now c.in-Parameter.ensures.refused))
+    (works_any true _ _ _ _ _ _ _ _ turned)

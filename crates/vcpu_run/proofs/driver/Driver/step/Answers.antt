@@ -1,6 +1,7 @@
-use Rattle.std.proofs.Common.{rules, ◌≡◌, subst}
-use Rattle.vcpu_run.specs.LinesShow.{StepShows, seen_by}
+use Rattle.std.proofs.Common.{rules, ◌≡◌, refl, subst}
+use Rattle.vcpu_run.specs.LinesShow.{StepShows, seen_by, seen_since}
 use Rattle.vcpu_run.specs.Credited.{taken_in}
+use Rattle.vcpu_run.specs.Freeing.{is_reset}
 use Rattle.vcpu_run.specs.Telling.{seated}
 use Rattle.vcpu_run.proofs.Askings.{asks_by, asks_plain}
 use Rattle.vcpu_run.proofs.LoginSteps.{other_out}
@@ -10,6 +11,7 @@ use Rattle.vcpu_run.proofs.Credits.{fresh_both, sends_one}
 use Rattle.vcpu_run.proofs.AnswersCounted.{none_taken}
 use Rattle.vcpu_run.proofs.DataSteps.{none_read, sends_no_data}
 use Rattle.vcpu_run.proofs.ValuesKept.{same_puts, sends_none}
+use Rattle.vcpu_run.proofs.CalmTurns.{plain_makes}
 use Rattle.vcpu_run.proofs.driver.Driver.step.Goals as goal
 
 pub returns-in-Some-clause-credit : goal.returns-in-Some-clause-credit
@@ -30,7 +32,7 @@ returns-in-Some-clause-out g c = λ alone.
 pub returns-in-Some-clause-shows : goal.returns-in-Some-clause-shows
 returns-in-Some-clause-shows g c =
     let mark : c.from.result ≡ c.args.line.now.number = search rules in
-    subst (λ n. StepShows (seen_by g.C.CrqEnd.is_shared (g.O.WindowPort.state c.command.new.own) (g.C.CrqEnd.state c.command.new.crq.end))
+    subst (λ n. StepShows (seen_since g.C.CrqEnd.is_shared (g.O.WindowPort.state c.command.new.own) (g.C.CrqEnd.state c.args.crq.now.end) (g.C.CrqEnd.state c.command.new.crq.end))
     (g.O.WindowPort.state c.args.own.now).place.unit n c.args.line.now.verb c.command.result) mark (c.command.ensures.shows c.args.line.now.verb c.in-Some.ensures.command c.in-Some.ensures.cdb)
 
 pub returns-in-Some-clause-registered : goal.returns-in-Some-clause-registered
@@ -53,3 +55,8 @@ returns-in-Some-clause-reads g c =
 
 pub returns-in-Some-clause-inward : goal.returns-in-Some-clause-inward
 returns-in-Some-clause-inward g c = c.command.ensures.inward c.args.line.now.verb c.in-Some.ensures.command
+
+pub returns-in-Some-clause-frees : goal.returns-in-Some-clause-frees
+returns-in-Some-clause-frees g c =
+    plain_makes (is_reset c.args.line.now.verb) c.args.progress.now _ (g.C.CrqEnd.state c.args.crq.now.end) (g.C.CrqEnd.state c.command.new.crq.end)
+    (asks_plain c.args.line.now.verb (asks_by c.args.line.now.verb c.in-Some.op c.in-Some.ensures.command)).1 (c.command.ensures.works.calm refl)

@@ -7,7 +7,7 @@ use Rattle.vcpu_run.specs.Credited.{is_take, taken_in, uses_credit}
 use Rattle.vcpu_run.specs.Telling.{seated}
 use Rattle.vcpu_run.proofs.Askings.{aside_as, aside_told, told_as}
 use Rattle.vcpu_run.specs.Freeing.{is_reset}
-use Rattle.vcpu_run.specs.LinesShow.{IsPutBy, StepShows, further_of, read_by, requests, seen_by, written_by}
+use Rattle.vcpu_run.specs.LinesShow.{PutsOne, StepShows, further_of, read_by, requests, seen_by, seen_since, written_by}
 use Rattle.vcpu_run.specs.Replay.{asks}
 use Rattle.vcpu_run.proofs.FurtherShown.{puts_shows}
 use Rattle.vcpu_run.proofs.LinesShown.{read_shows, step_none, write_shows}
@@ -21,12 +21,16 @@ use Rattle.vcpu_run.proofs.Giving.{gives_ok, gives_same}
 use Rattle.vcpu_run.proofs.AnswersCounted.{is_data, none_taken}
 use Rattle.vcpu_run.proofs.TakingEach.{data_step, own_step, taken_verb}
 use Rattle.vcpu_run.proofs.EventsHeard.{plain_none}
+use Rattle.vcpu_run.proofs.Working.{works_window}
 use Rattle.vcpu_run.proofs.Giving.{asks_hear}
 use Rattle.vcpu_run.specs.ValuesPut.{is_put}
 use Rattle.vcpu_run.specs.DataRead.{given_by}
 use Rattle.vcpu_run.specs.DataKept.{range_in}
 use Rattle.vcpu_run.proofs.DataSteps.{none_read, none_sends, verb_reads}
 use Rattle.vcpu_run.proofs.ValuesKept.{same_puts, tce_puts}
+use Rattle.vcpu_run.specs.EventsPut.{StepMakes}
+use Rattle.vcpu_run.proofs.Calming.{calm_same}
+use Rattle.vcpu_run.proofs.CalmTurns.{plain_makes}
 use Rattle.vcpu_run.proofs.driver.Driver.step_other.Goals as goal
 
 pub returns-in-Login-clause-credit : goal.returns-in-Login-clause-credit
@@ -191,47 +195,47 @@ returns-in-Reset-clause-shows g c =
 
 pub returns-in-Take-clause-shows : goal.returns-in-Take-clause-shows
 returns-in-Take-clause-shows g c =
-    step_none (seen_by g.C.CrqEnd.is_shared (g.O.WindowPort.state c.take_on.new.own) (g.C.CrqEnd.state c.take_on.new.crq.end)) (g.O.WindowPort.state c.args.own.now).place.unit c.args.line.now.number c.args.line.now.verb
+    step_none (seen_since g.C.CrqEnd.is_shared (g.O.WindowPort.state c.take_on.new.own) (g.C.CrqEnd.state c.args.crq.now.end) (g.C.CrqEnd.state c.take_on.new.crq.end)) (g.O.WindowPort.state c.args.own.now).place.unit c.args.line.now.number c.args.line.now.verb
     c.take_on.result (ap requests c.in-Take.is) (ap written_by c.in-Take.is) (ap read_by c.in-Take.is) (ap further_of c.in-Take.is)
 
 pub returns-in-Data-clause-shows : goal.returns-in-Data-clause-shows
 returns-in-Data-clause-shows g c =
-    step_none (seen_by g.C.CrqEnd.is_shared (g.O.WindowPort.state c.data.new.own) (g.C.CrqEnd.state c.args.crq.now.end)) (g.O.WindowPort.state c.args.own.now).place.unit c.args.line.now.number c.args.line.now.verb
+    step_none (seen_since g.C.CrqEnd.is_shared (g.O.WindowPort.state c.data.new.own) (g.C.CrqEnd.state c.args.crq.now.end) (g.C.CrqEnd.state c.args.crq.now.end)) (g.O.WindowPort.state c.args.own.now).place.unit c.args.line.now.number c.args.line.now.verb
     c.data.result (ap requests c.in-Data.is) (ap written_by c.in-Data.is) (ap read_by c.in-Data.is) (ap further_of c.in-Data.is)
 
 pub returns-in-Peek-clause-shows : goal.returns-in-Peek-clause-shows
 returns-in-Peek-clause-shows g c =
     read_shows (g.O.WindowPort.state c.args.own.now) (g.O.WindowPort.state c.peek.new.own) (g.O.WindowPort.state c.args.own.now).place.unit c.in-Peek.at c.in-Peek.len c.args.line.now.number
-    (IsPutBy g.C.CrqEnd.is_shared (g.C.CrqEnd.state c.args.crq.now.end)) c.args.line.now.verb c.peek.result
+    (PutsOne g.C.CrqEnd.is_shared (g.C.CrqEnd.state c.args.crq.now.end) (g.C.CrqEnd.state c.args.crq.now.end)) c.args.line.now.verb c.peek.result
     (ap requests c.in-Peek.is) (ap written_by c.in-Peek.is) (ap read_by c.in-Peek.is) (ap further_of c.in-Peek.is) c.peek.ensures.answer
 
 pub returns-in-Tce-clause-shows : goal.returns-in-Tce-clause-shows
 returns-in-Tce-clause-shows g c =
     puts_shows (g.O.WindowPort.state c.args.own.now) (g.O.WindowPort.state c.put_tce.new.own) (g.O.WindowPort.state c.args.own.now).place.unit c.args.line.now.number
-    c.in-Tce.entry (tce_of c.in-Tce.page c.in-Tce.readable c.in-Tce.writable) (IsPutBy g.C.CrqEnd.is_shared (g.C.CrqEnd.state c.args.crq.now.end)) c.args.line.now.verb c.put_tce.result
+    c.in-Tce.entry (tce_of c.in-Tce.page c.in-Tce.readable c.in-Tce.writable) (PutsOne g.C.CrqEnd.is_shared (g.C.CrqEnd.state c.args.crq.now.end) (g.C.CrqEnd.state c.args.crq.now.end)) c.args.line.now.verb c.put_tce.result
     (ap requests c.in-Tce.is) (ap written_by c.in-Tce.is) (ap read_by c.in-Tce.is) (ap further_of c.in-Tce.is) c.put_tce.ensures.answer
 
 pub returns-in-Logout-clause-shows : goal.returns-in-Logout-clause-shows
 returns-in-Logout-clause-shows g c =
     let mark : c.from-mark.result ≡ c.args.line.now.number = search rules in
-    subst (λ (v : Verb). StepShows (seen_by g.C.CrqEnd.is_shared (g.O.WindowPort.state c.logout.new.own) (g.C.CrqEnd.state c.logout.new.crq.end))
+    subst (λ (v : Verb). StepShows (seen_since g.C.CrqEnd.is_shared (g.O.WindowPort.state c.logout.new.own) (g.C.CrqEnd.state c.args.crq.now.end) (g.C.CrqEnd.state c.logout.new.crq.end))
     (g.O.WindowPort.state c.args.own.now).place.unit c.args.line.now.number v c.logout.result) (sym c.in-Logout.is)
-    (subst (λ n. StepShows (seen_by g.C.CrqEnd.is_shared (g.O.WindowPort.state c.logout.new.own) (g.C.CrqEnd.state c.logout.new.crq.end))
+    (subst (λ n. StepShows (seen_since g.C.CrqEnd.is_shared (g.O.WindowPort.state c.logout.new.own) (g.C.CrqEnd.state c.args.crq.now.end) (g.C.CrqEnd.state c.logout.new.crq.end))
     (g.O.WindowPort.state c.args.own.now).place.unit n verbs.Logout c.logout.result) mark c.logout.ensures.shows)
 
 pub returns-in-Task-clause-shows : goal.returns-in-Task-clause-shows
 returns-in-Task-clause-shows g c =
     let mark : c.from-mark.result ≡ c.args.line.now.number = search rules in
-    subst (λ (v : Verb). StepShows (seen_by g.C.CrqEnd.is_shared (g.O.WindowPort.state c.task.new.own) (g.C.CrqEnd.state c.task.new.crq.end))
+    subst (λ (v : Verb). StepShows (seen_since g.C.CrqEnd.is_shared (g.O.WindowPort.state c.task.new.own) (g.C.CrqEnd.state c.args.crq.now.end) (g.C.CrqEnd.state c.task.new.crq.end))
     (g.O.WindowPort.state c.args.own.now).place.unit c.args.line.now.number v c.task.result) (sym c.in-Task.is)
-    (subst (λ n. StepShows (seen_by g.C.CrqEnd.is_shared (g.O.WindowPort.state c.task.new.own) (g.C.CrqEnd.state c.task.new.crq.end))
+    (subst (λ n. StepShows (seen_since g.C.CrqEnd.is_shared (g.O.WindowPort.state c.task.new.own) (g.C.CrqEnd.state c.args.crq.now.end) (g.C.CrqEnd.state c.task.new.crq.end))
     (g.O.WindowPort.state c.args.own.now).place.unit n (verbs.Task c.in-Task.function c.in-Task.tag) c.task.result) mark c.task.ensures.shows)
 
 pub returns-in-Fill-clause-shows : goal.returns-in-Fill-clause-shows
 returns-in-Fill-clause-shows g c =
     let mark : c.from-mark.result ≡ c.args.line.now.number = search rules in
     write_shows g.O.WindowPort.is_shared (g.O.WindowPort.state c.args.own.now) (g.O.WindowPort.state c.fill.new.own) c.in-Fill.at c.args.line.now.number
-    (pattern c.in-Fill.seed c.in-Fill.len) (IsPutBy g.C.CrqEnd.is_shared (g.C.CrqEnd.state c.args.crq.now.end)) c.args.line.now.verb c.fill.result
+    (pattern c.in-Fill.seed c.in-Fill.len) (PutsOne g.C.CrqEnd.is_shared (g.C.CrqEnd.state c.args.crq.now.end) (g.C.CrqEnd.state c.args.crq.now.end)) c.args.line.now.verb c.fill.result
     (ap requests c.in-Fill.is) (ap written_by c.in-Fill.is) (ap read_by c.in-Fill.is) (ap further_of c.in-Fill.is)
     (subst (λ n. IfOk c.fill.result (AnswersWrite g.O.WindowPort.is_shared (g.O.WindowPort.state c.args.own.now) (g.O.WindowPort.state c.fill.new.own) c.in-Fill.at
     (pattern c.in-Fill.seed c.in-Fill.len) n)) mark c.fill.ensures.answer)
@@ -240,7 +244,7 @@ pub returns-in-Poke-clause-shows : goal.returns-in-Poke-clause-shows
 returns-in-Poke-clause-shows g c =
     let mark : c.from-mark.result ≡ c.args.line.now.number = search rules in
     write_shows g.O.WindowPort.is_shared (g.O.WindowPort.state c.args.own.now) (g.O.WindowPort.state c.poke.new.own) c.in-Poke.at c.args.line.now.number
-    c.in-Poke.bytes (IsPutBy g.C.CrqEnd.is_shared (g.C.CrqEnd.state c.args.crq.now.end)) c.args.line.now.verb c.poke.result
+    c.in-Poke.bytes (PutsOne g.C.CrqEnd.is_shared (g.C.CrqEnd.state c.args.crq.now.end) (g.C.CrqEnd.state c.args.crq.now.end)) c.args.line.now.verb c.poke.result
     (ap requests c.in-Poke.is) (ap written_by c.in-Poke.is) (ap read_by c.in-Poke.is) (ap further_of c.in-Poke.is)
     (subst (λ n. IfOk c.poke.result (AnswersWrite g.O.WindowPort.is_shared (g.O.WindowPort.state c.args.own.now) (g.O.WindowPort.state c.poke.new.own) c.in-Poke.at
     c.in-Poke.bytes n)) mark
@@ -474,3 +478,64 @@ returns-in-Peek-clause-inward g c = none_sends c.args.self.now.client.rows c.arg
 
 pub returns-in-Tce-clause-inward : goal.returns-in-Tce-clause-inward
 returns-in-Tce-clause-inward g c = none_sends c.args.self.now.client.rows c.args.line.now.verb c.put_tce.result (ap range_in c.in-Tce.is)
+
+pub returns-in-Fill-clause-works : goal.returns-in-Fill-clause-works
+returns-in-Fill-clause-works g c =
+    works_window _ _ _ (g.C.CrqEnd.state c.args.crq.now.end) (g.O.WindowPort.state c.args.own.now) (g.O.WindowPort.state c.fill.new.own) c.args.self.now c.args.self.now c.fill.ensures.window refl refl refl
+
+pub returns-in-Poke-clause-works : goal.returns-in-Poke-clause-works
+returns-in-Poke-clause-works g c =
+    works_window _ _ _ (g.C.CrqEnd.state c.args.crq.now.end) (g.O.WindowPort.state c.args.own.now) (g.O.WindowPort.state c.poke.new.own) c.args.self.now c.args.self.now c.poke.ensures.window refl refl refl
+
+pub returns-in-Peek-clause-works : goal.returns-in-Peek-clause-works
+returns-in-Peek-clause-works g c =
+    works_window _ _ _ (g.C.CrqEnd.state c.args.crq.now.end) (g.O.WindowPort.state c.args.own.now) (g.O.WindowPort.state c.peek.new.own) c.args.self.now c.args.self.now c.peek.ensures.window refl refl refl
+
+pub returns-in-Tce-clause-works : goal.returns-in-Tce-clause-works
+returns-in-Tce-clause-works g c =
+    works_window _ _ _ (g.C.CrqEnd.state c.args.crq.now.end) (g.O.WindowPort.state c.args.own.now) (g.O.WindowPort.state c.put_tce.new.own) c.args.self.now c.args.self.now c.put_tce.ensures.window refl refl refl
+
+pub returns-in-Data-clause-works : goal.returns-in-Data-clause-works
+returns-in-Data-clause-works g c =
+    works_window _ _ _ (g.C.CrqEnd.state c.args.crq.now.end) (g.O.WindowPort.state c.args.own.now) (g.O.WindowPort.state c.data.new.own) c.args.self.now c.data.new.self c.data.ensures.window c.data.ensures.unit
+    (ap (λ rows. rows.items) c.data.ensures.answers) c.data.ensures.client
+
+pub returns-in-Login-clause-frees : goal.returns-in-Login-clause-frees
+returns-in-Login-clause-frees g c =
+    plain_makes (is_reset c.args.line.now.verb) c.args.progress.now _ (g.C.CrqEnd.state c.args.crq.now.end) (g.C.CrqEnd.state c.login.new.crq.end) (ap is_reset c.in-Login.is) (c.login.ensures.works.calm refl)
+
+pub returns-in-Logout-clause-frees : goal.returns-in-Logout-clause-frees
+returns-in-Logout-clause-frees g c =
+    plain_makes (is_reset c.args.line.now.verb) c.args.progress.now _ (g.C.CrqEnd.state c.args.crq.now.end) (g.C.CrqEnd.state c.logout.new.crq.end) (ap is_reset c.in-Logout.is) (c.logout.ensures.works.calm refl)
+
+pub returns-in-Task-clause-frees : goal.returns-in-Task-clause-frees
+returns-in-Task-clause-frees g c =
+    plain_makes (is_reset c.args.line.now.verb) c.args.progress.now _ (g.C.CrqEnd.state c.args.crq.now.end) (g.C.CrqEnd.state c.task.new.crq.end) (ap is_reset c.in-Task.is) (c.task.ensures.works.calm refl)
+
+pub returns-in-Take-clause-frees : goal.returns-in-Take-clause-frees
+returns-in-Take-clause-frees g c =
+    plain_makes (is_reset c.args.line.now.verb) c.args.progress.now _ (g.C.CrqEnd.state c.args.crq.now.end) (g.C.CrqEnd.state c.take_on.new.crq.end) (ap is_reset c.in-Take.is) (c.take_on.ensures.works.calm refl)
+
+pub returns-in-Data-clause-frees : goal.returns-in-Data-clause-frees
+returns-in-Data-clause-frees g c =
+    plain_makes (is_reset c.args.line.now.verb) c.args.progress.now _ (g.C.CrqEnd.state c.args.crq.now.end) (g.C.CrqEnd.state c.args.crq.now.end) (ap is_reset c.in-Data.is) (calm_same (g.C.CrqEnd.state c.args.crq.now.end) (g.C.CrqEnd.state c.args.crq.now.end) refl refl)
+
+pub returns-in-Fill-clause-frees : goal.returns-in-Fill-clause-frees
+returns-in-Fill-clause-frees g c =
+    plain_makes (is_reset c.args.line.now.verb) c.args.progress.now _ (g.C.CrqEnd.state c.args.crq.now.end) (g.C.CrqEnd.state c.args.crq.now.end) (ap is_reset c.in-Fill.is) (calm_same (g.C.CrqEnd.state c.args.crq.now.end) (g.C.CrqEnd.state c.args.crq.now.end) refl refl)
+
+pub returns-in-Poke-clause-frees : goal.returns-in-Poke-clause-frees
+returns-in-Poke-clause-frees g c =
+    plain_makes (is_reset c.args.line.now.verb) c.args.progress.now _ (g.C.CrqEnd.state c.args.crq.now.end) (g.C.CrqEnd.state c.args.crq.now.end) (ap is_reset c.in-Poke.is) (calm_same (g.C.CrqEnd.state c.args.crq.now.end) (g.C.CrqEnd.state c.args.crq.now.end) refl refl)
+
+pub returns-in-Peek-clause-frees : goal.returns-in-Peek-clause-frees
+returns-in-Peek-clause-frees g c =
+    plain_makes (is_reset c.args.line.now.verb) c.args.progress.now _ (g.C.CrqEnd.state c.args.crq.now.end) (g.C.CrqEnd.state c.args.crq.now.end) (ap is_reset c.in-Peek.is) (calm_same (g.C.CrqEnd.state c.args.crq.now.end) (g.C.CrqEnd.state c.args.crq.now.end) refl refl)
+
+pub returns-in-Tce-clause-frees : goal.returns-in-Tce-clause-frees
+returns-in-Tce-clause-frees g c =
+    plain_makes (is_reset c.args.line.now.verb) c.args.progress.now _ (g.C.CrqEnd.state c.args.crq.now.end) (g.C.CrqEnd.state c.args.crq.now.end) (ap is_reset c.in-Tce.is) (calm_same (g.C.CrqEnd.state c.args.crq.now.end) (g.C.CrqEnd.state c.args.crq.now.end) refl refl)
+
+pub returns-in-Reset-clause-frees : goal.returns-in-Reset-clause-frees
+returns-in-Reset-clause-frees g c =
+    subst (λ b. StepMakes b c.args.progress.now c.reset.new.progress (g.C.CrqEnd.state c.args.crq.now.end) (g.C.CrqEnd.state c.reset.new.crq.end)) (sym (ap is_reset c.in-Reset.is)) c.reset.ensures.frees

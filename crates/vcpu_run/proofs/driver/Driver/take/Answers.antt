@@ -1,4 +1,4 @@
-use Rattle.std.proofs.Common.{◌≡◌, ◌∙◌, ◌≤◌, ◌<◌, ◌+◌, refl, sym, subst, arith}
+use Rattle.std.proofs.Common.{◌≡◌, ◌∙◌, ◌≤◌, ◌<◌, ◌+◌, false, refl, sym, subst, arith}
 use Rattle.vio_num.specs.declared.hypervisor.Moved.TheVariants.{Moved as DidMove}
 use Rattle.boot_text.specs.declared.verb.Verb.TheVariants as verbs
 use Rattle.vcpu_run.specs.declared.taking.Took.{Took}
@@ -9,9 +9,9 @@ use Rattle.vcpu_run.proofs.TakesTold.{TakesSo, lost_takes_told, takes_none, take
 use Rattle.vcpu_run.proofs.Credits.{TakesOn, takes_answer, takes_on, takes_other, took_agreed, waits_agreed}
 use Rattle.tce_window.specs.PortState.{PortPlace}
 use Rattle.vscsi_client.specs.declared.TheConstants.{MIN_PAGES}
-use Rattle.vcpu_run.proofs.Working.{works_on}
+use Rattle.vcpu_run.proofs.Working.{works_on, works_same}
 use Rattle.vcpu_run.specs.Takings.{TookTaken}
-use Rattle.vcpu_run.proofs.Giving.{gives_on}
+use Rattle.vcpu_run.proofs.Giving.{gives_on, gives_same}
 use Rattle.vcpu_run.proofs.TakingTurns.{TakesThem, lost_taken, them_none, them_one, took_taken, waits_taken}
 use Rattle.vcpu_run.proofs.driver.Driver.take.Goals.{in-Answer+else-taken-count-2, in-Other}
 use Rattle.vcpu_run.specs.EventsHeard.{Hears, lost_by}
@@ -244,3 +244,20 @@ returns-in-Lost-clause-hears g c =
     c.loop-entry.invariant.gives
     (subst (λ (t : Took). Hears (lost_by t) c.loop-entry.self.client c.take_one.new.self.client (g.C.CrqEnd.state c.loop-entry.crq.end) (g.C.CrqEnd.state c.take_one.new.crq.end))
     c.in-Lost.is c.in_ok-take_one.ensures.hears)
+
+pub returns-then-taken-count-clause-works : goal.returns-then-taken-count-clause-works
+returns-then-taken-count-clause-works g c =
+    works_same false g.C.CrqEnd.is_shared g.O.WindowPort.is_shared (g.C.CrqEnd.state c.args.crq.now.end) (g.O.WindowPort.state c.args.own.now) c.args.self.now
+
+pub loop-entry-init : goal.loop-entry-init
+loop-entry-init g c = record {
+  works = works_same false g.C.CrqEnd.is_shared g.O.WindowPort.is_shared (g.C.CrqEnd.state c.args.crq.now.end) (g.O.WindowPort.state c.args.own.now) c.args.self.now;
+  values = refl;
+  pages = c.requires;
+  takes = λ credit agrees. agrees;
+  so = takes_none c.args.taken.now c.args.self.now.client;
+  queue = refl;
+  less = omega (arith, c.if-taken-count.false);
+  them = λ now agrees. agrees;
+  gives = gives_same c.args.self.now (g.C.CrqEnd.state c.args.crq.now.end);
+}

@@ -5,6 +5,8 @@ use Rattle.vscsi_client.specs.State.{ClientState}
 use Rattle.vscsi_client.specs.Taking.{TakesEntry}
 use Rattle.vcpu_run.specs.Telling.{TakesAnswer}
 use Rattle.vcpu_run.specs.Sendings.{AnswersOne}
+use Rattle.vcpu_run.specs.AnswersSeen.{AreResponsesRead, fronts_of}
+use Rattle.vcpu_run.proofs.AnswersSeen.{noted_read}
 use Rattle.vcpu_run.proofs.Credits.{took_by}
 use Rattle.vcpu_run.proofs.TakesTold.{again_told, answer_told, empty_told, lost_told, other_told, stray_told}
 use Rattle.vcpu_run.proofs.Working.{take_works}
@@ -19,11 +21,17 @@ pub returns-in_err-note-in-Answer-clause-works : goal.returns-in_err-note-in-Ans
 returns-in_err-note-in-Answer-clause-works g c =
     take_works g.C.CrqEnd.is_shared g.O.WindowPort.is_shared _ _ _ _ c.args.self.now _ c.take_answer.new.self c.take_answer.result c.note.ensures.unit c.note.ensures.client
     c.take_answer.ensures.taken c.take_answer.ensures.later c.take_answer.ensures.crq_rest c.take_answer.ensures.own_rest
+    (subst (AreResponsesRead (fronts_of (g.O.WindowPort.state c.take_answer.new.own).strokes)) (sym c.in_err-note-in-Answer.ensures.stays))
 
 pub returns-in_ok-note-in-Answer-clause-works : goal.returns-in_ok-note-in-Answer-clause-works
 returns-in_ok-note-in-Answer-clause-works g c =
     take_works g.C.CrqEnd.is_shared g.O.WindowPort.is_shared _ _ _ _ c.args.self.now _ c.take_answer.new.self c.take_answer.result c.note.ensures.unit c.note.ensures.client
     c.take_answer.ensures.taken c.take_answer.ensures.later c.take_answer.ensures.crq_rest c.take_answer.ensures.own_rest
+    (noted_read c.args.self.now.client c.take_answer.new.self
+    (ports g.C.CrqEnd.is_shared (g.C.CrqEnd.state c.args.crq.now.end) g.O.WindowPort.is_shared (g.O.WindowPort.state c.args.own.now))
+    (ports g.C.CrqEnd.is_shared (g.C.CrqEnd.state c.take_answer.new.crq.end) g.O.WindowPort.is_shared (g.O.WindowPort.state c.take_answer.new.own))
+    c.in-Answer.tag c.in-Answer.rsp c.args.self.now.answers.items c.note.new.self.answers.items
+    (subst (TakesEntry c.args.self.now.client c.take_answer.new.self (ports g.C.CrqEnd.is_shared (g.C.CrqEnd.state c.args.crq.now.end) g.O.WindowPort.is_shared (g.O.WindowPort.state c.args.own.now)) (ports g.C.CrqEnd.is_shared (g.C.CrqEnd.state c.take_answer.new.crq.end) g.O.WindowPort.is_shared (g.O.WindowPort.state c.take_answer.new.own))) c.in-Answer.is c.in_ok-tag.ensures.taken) c.in_ok-note-in-Answer.ensures.notes)
 
 pub returns-in_ok-note-in-Answer-clause-took : goal.returns-in_ok-note-in-Answer-clause-took
 returns-in_ok-note-in-Answer-clause-took g c =
@@ -36,27 +44,27 @@ returns-in_ok-note-in-Answer-clause-took g c =
 pub returns-in-Stray-clause-works : goal.returns-in-Stray-clause-works
 returns-in-Stray-clause-works g c =
     take_works g.C.CrqEnd.is_shared g.O.WindowPort.is_shared _ _ _ _ c.args.self.now _ c.take_answer.new.self c.take_answer.result refl refl
-    c.take_answer.ensures.taken c.take_answer.ensures.later c.take_answer.ensures.crq_rest c.take_answer.ensures.own_rest
+    c.take_answer.ensures.taken c.take_answer.ensures.later c.take_answer.ensures.crq_rest c.take_answer.ensures.own_rest (λ read. read)
 
 pub returns-in-Other-clause-works : goal.returns-in-Other-clause-works
 returns-in-Other-clause-works g c =
     take_works g.C.CrqEnd.is_shared g.O.WindowPort.is_shared _ _ _ _ c.args.self.now _ c.take_answer.new.self c.take_answer.result refl refl
-    c.take_answer.ensures.taken c.take_answer.ensures.later c.take_answer.ensures.crq_rest c.take_answer.ensures.own_rest
+    c.take_answer.ensures.taken c.take_answer.ensures.later c.take_answer.ensures.crq_rest c.take_answer.ensures.own_rest (λ read. read)
 
 pub returns-in-Lost-clause-works : goal.returns-in-Lost-clause-works
 returns-in-Lost-clause-works g c =
     take_works g.C.CrqEnd.is_shared g.O.WindowPort.is_shared _ _ _ _ c.args.self.now _ c.take_answer.new.self c.take_answer.result refl refl
-    c.take_answer.ensures.taken c.take_answer.ensures.later c.take_answer.ensures.crq_rest c.take_answer.ensures.own_rest
+    c.take_answer.ensures.taken c.take_answer.ensures.later c.take_answer.ensures.crq_rest c.take_answer.ensures.own_rest (λ read. read)
 
 pub returns-in-Again-clause-works : goal.returns-in-Again-clause-works
 returns-in-Again-clause-works g c =
     take_works g.C.CrqEnd.is_shared g.O.WindowPort.is_shared _ _ _ _ c.args.self.now _ c.take_answer.new.self c.take_answer.result refl refl
-    c.take_answer.ensures.taken c.take_answer.ensures.later c.take_answer.ensures.crq_rest c.take_answer.ensures.own_rest
+    c.take_answer.ensures.taken c.take_answer.ensures.later c.take_answer.ensures.crq_rest c.take_answer.ensures.own_rest (λ read. read)
 
 pub returns-in-Empty-clause-works : goal.returns-in-Empty-clause-works
 returns-in-Empty-clause-works g c =
     take_works g.C.CrqEnd.is_shared g.O.WindowPort.is_shared _ _ _ _ c.args.self.now _ c.take_answer.new.self c.take_answer.result refl refl
-    c.take_answer.ensures.taken c.take_answer.ensures.later c.take_answer.ensures.crq_rest c.take_answer.ensures.own_rest
+    c.take_answer.ensures.taken c.take_answer.ensures.later c.take_answer.ensures.crq_rest c.take_answer.ensures.own_rest (λ read. read)
 
 pub returns-in_ok-note-in-Answer-clause-told : goal.returns-in_ok-note-in-Answer-clause-told
 returns-in_ok-note-in-Answer-clause-told g c =
@@ -240,3 +248,8 @@ returns-in-Empty-clause-hears g c =
     (ports g.C.CrqEnd.is_shared (g.C.CrqEnd.state c.args.crq.now.end) g.O.WindowPort.is_shared (g.O.WindowPort.state c.args.own.now))
     (ports g.C.CrqEnd.is_shared (g.C.CrqEnd.state c.take_answer.new.crq.end) g.O.WindowPort.is_shared (g.O.WindowPort.state c.take_answer.new.own))
     (takens.Empty c.in-Empty.number) (subst (TakesEntry c.args.self.now.client c.take_answer.new.self (ports g.C.CrqEnd.is_shared (g.C.CrqEnd.state c.args.crq.now.end) g.O.WindowPort.is_shared (g.O.WindowPort.state c.args.own.now)) (ports g.C.CrqEnd.is_shared (g.C.CrqEnd.state c.take_answer.new.crq.end) g.O.WindowPort.is_shared (g.O.WindowPort.state c.take_answer.new.own))) c.in-Empty.is c.in_ok-tag.ensures.taken)
+
+pub returns-in_err-tag-clause-works : goal.returns-in_err-tag-clause-works
+returns-in_err-tag-clause-works g c =
+    take_works g.C.CrqEnd.is_shared g.O.WindowPort.is_shared _ _ _ _ c.args.self.now _ c.take_answer.new.self c.take_answer.result refl refl
+    c.take_answer.ensures.taken c.take_answer.ensures.later c.take_answer.ensures.crq_rest c.take_answer.ensures.own_rest (λ read. read)

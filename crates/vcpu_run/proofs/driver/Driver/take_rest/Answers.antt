@@ -1,11 +1,11 @@
 use Rattle.vcpu_run.proofs.Resting.{not_quiet}
 use Rattle.vcpu_run.specs.Links.{EndRests}
 use Rattle.crq_session.specs.EndState.{EndState}
-use Rattle.std.proofs.Common.{◌≤◌, ◌∙◌, sym, subst}
+use Rattle.std.proofs.Common.{◌≤◌, ◌∙◌, false, refl, sym, subst}
 use Rattle.tce_window.specs.PortState.{PortPlace}
 use Rattle.vscsi_client.specs.declared.TheConstants.{MIN_PAGES}
-use Rattle.vcpu_run.proofs.Working.{works_on}
-use Rattle.vcpu_run.proofs.Giving.{gives_on}
+use Rattle.vcpu_run.proofs.Working.{works_on, works_same}
+use Rattle.vcpu_run.proofs.Giving.{gives_on, gives_same}
 use Rattle.vcpu_run.proofs.driver.Driver.take_rest.Goals as goal
 
 pub returns-in_err-take_one-clause-works : goal.returns-in_err-take_one-clause-works
@@ -46,3 +46,12 @@ pub returns-in-InUse-clause-gives : goal.returns-in-InUse-clause-gives
 returns-in-InUse-clause-gives g c =
     gives_on c.args.self.now c.loop-taken.self c.take_one.new.self (g.C.CrqEnd.state c.args.crq.now.end) (g.C.CrqEnd.state c.loop-taken.crq.end) (g.C.CrqEnd.state c.take_one.new.crq.end)
     c.loop-taken.invariant.gives c.in_ok-take_one.ensures.gives
+
+pub loop-taken-init : goal.loop-taken-init
+loop-taken-init g c = record {
+  works = works_same false g.C.CrqEnd.is_shared g.O.WindowPort.is_shared (g.C.CrqEnd.state c.args.crq.now.end) (g.O.WindowPort.state c.args.own.now) c.args.self.now;
+  values = refl;
+  pages = c.requires;
+  gives = gives_same c.args.self.now (g.C.CrqEnd.state c.args.crq.now.end);
+  fresh = λ is. refl;
+}

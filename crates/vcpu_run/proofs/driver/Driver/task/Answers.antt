@@ -13,7 +13,7 @@ use Rattle.vcpu_run.proofs.driver.Driver.task.Goals as goal
 
 pub returns-clause-works : goal.returns-clause-works
 returns-clause-works g c =
-    task_works g.C.CrqEnd.is_shared g.O.WindowPort.is_shared _ _ _ _ c.args.self.now _ c.args.line c.args.function c.args.tag c.task.result refl
+    task_works g.C.CrqEnd.is_shared g.O.WindowPort.is_shared _ _ _ _ c.args.self.now _ c.args.line c.args.function c.args.tag c.task.result refl refl
     c.task.ensures.refused c.task.ensures.sent c.task.ensures.why c.task.ensures.same c.task.ensures.crq_rest c.task.ensures.own_rest
 
 pub returns-clause-credit : goal.returns-clause-credit

@@ -95,7 +95,7 @@ pub returns-clause-received : goal.returns-clause-received
 returns-clause-received g c =
     let server = c.in_ok-server in
     received_fresh server.server.units.items server.server.copies.items server.server.records.grants.items server.server.records.history.items c.in-Ok.pairs.items
-    server.ensures.copies server.ensures.lines server.ensures.history server.ensures.none server.ensures.unused server.ensures.unanswered c.in-Ok.ensures.fresh
+    server.ensures.copies server.ensures.lines server.ensures.history server.ensures.none server.ensures.unused server.ensures.unanswered server.ensures.down c.in-Ok.ensures.closed c.in-Ok.ensures.fresh
 
 pub returns-clause-unfreed : goal.returns-clause-unfreed
 returns-clause-unfreed g c = queues_fresh c.in-Ok.pairs.items c.in-Ok-make_scripts.scripts.items c.in-Ok.ensures.closed
@@ -113,7 +113,7 @@ returns-clause-said g c =
     let scripts = c.in-Ok-make_scripts.scripts in
     let partitions = c.args.plan.now.partitions in
     let made : AreMade partitions scripts.items = rw (← c.as_slice-partitions.ensures) c.in-Ok-make_scripts.ensures in
-    told_made partitions pairs.items scripts.items made c.in-Ok.ensures.out (λ k pair found. ((c.in-Ok.ensures.fresh k pair found).untaken, (c.in-Ok.ensures.fresh k pair found).rows))
+    told_made partitions pairs.items scripts.items made c.in-Ok.ensures.out (λ k pair found. ((c.in-Ok.ensures.fresh k pair found).untaken, (c.in-Ok.ensures.fresh k pair found).rows, (c.in-Ok.ensures.fresh k pair found).events))
 
 pub returns-clause-heard : goal.returns-clause-heard
 returns-clause-heard g c =

@@ -3,6 +3,7 @@ use Rattle.vio_num.specs.declared.names.UnitId.{UnitId}
 use Rattle.tce_window.specs.Window.{WindowValue}
 use Rattle.vcpu_run.proofs.Answering.{answered_new}
 use Rattle.vcpu_run.proofs.Opened.{pair_new}
+use Rattle.vcpu_run.proofs.FewEvents.{no_events}
 use Rattle.vcpu_run.proofs.pair.Pair.alone.Goals as goal
 
 pub returns-clause-pair : goal.returns-clause-pair
@@ -19,4 +20,4 @@ returns-clause-answered c = answered_new _ (256 * c.args.queue) (256 * 1) c.in_o
 pub returns-clause-fresh : goal.returns-clause-fresh
 returns-clause-fresh c =
     let new = c.in_ok-open_link.ensures in
-    record { taken = new.first.queue.taken; sent = new.second.queue.sent; untaken = tt; rows = ap (λ (window : WindowValue). window.rows) c.in_ok-open-2.ensures }
+    record { taken = new.first.queue.taken; sent = new.second.queue.sent; kept = new.second.kept; untaken = tt; rows = ap (λ (window : WindowValue). window.rows) c.in_ok-open-2.ensures; events = no_events c.in_ok-open_link.field-0 new.first.queue.sent new.second.kept }

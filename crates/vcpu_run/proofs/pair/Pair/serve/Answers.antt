@@ -1,7 +1,7 @@
 use Rattle.vio_num.specs.declared.hypervisor.Moved.TheVariants.{Quiet}
 use Rattle.vcpu_run.specs.Links.{IsLinked, ServerWaits, link_state}
 use Rattle.vcpu_run.specs.Freed.{FreesNoneAt, IsNotFreed, NotFreed}
-use Rattle.vcpu_run.proofs.Waiting.{agrees_like, agrees_other, serve_frees, serve_queue, serve_sent, serve_taken, serve_waits}
+use Rattle.vcpu_run.proofs.Waiting.{agrees_like, agrees_other, serve_frees, serve_queue, serve_sent, serve_taken, serve_kept, serve_waits}
 use Rattle.vcpu_run.proofs.Resting.{ok_both}
 use Rattle.vcpu_run.proofs.Crediting.{on_ok}
 use Rattle.std.proofs.Common.{rules, ◌≡◌, ◌≢◌, Bool, List, [], ◌∷◌, false, true, refl, sym, ◌∙◌, ap, subst, IfNone, ◌<◌, IfOk, OnOk, arith, length, slice_get}
@@ -28,6 +28,8 @@ use Rattle.vcpu_run.specs.Pairs.{IsPair}
 use Rattle.vcpu_run.proofs.PairNames.{copies_beside, has_stays, names_beside}
 use Rattle.vcpu_run.proofs.Answering.{answered_elsewhere, answered_served}
 use Rattle.vcpu_run.specs.Received.{IsReceived}
+use Rattle.vcpu_run.proofs.Gone.{gone_back, hears_back, hears_lent}
+use Rattle.vcpu_run.proofs.LoginsDealt.{closed_so}
 use Rattle.vcpu_run.proofs.Losing.{behind_back, sees_back, sees_lent}
 use Rattle.vcpu_run.proofs.Receiving.{received_elsewhere, received_served}
 use Rattle.vcpu_run.proofs.Keeping.{served}
@@ -157,6 +159,9 @@ returns-clause-received g c =
     (ap (λ (side : PlainSide). side.queue.session) after) (ap (λ (side : PlainSide). side.queue.taken) after)
     c.turn.ensures.judged (subst AreBegun (ap (λ (side : PlainSide). side.queue.taken) after) c.turn.new.crq.puts.took)
     (behind_back c.turn.new.crq.end.first [] (c.turn.new.crq.end.link.ghost_name ∷ []) link first c.turn.new.crq.behind)
+    (gone_back c.turn.new.crq.end.first [] (c.turn.new.crq.end.link.ghost_name ∷ []) link first c.turn.new.crq.gone)
+    (agrees_like server'.units.items c.args.unit _ _ (ap (λ (side : PlainSide). side.registered) (sym after))
+    (c.turn.ensures.agrees (agrees_like server.units.items c.args.unit _ _ (ap (λ (side : PlainSide). side.registered) before) c.requires.received.agrees)))
     (sees_lent c.side.result.first [] _ old.link c.side.result.link.now c.side.ensures.first c.side.ensures.link)
     (sees_back c.turn.new.crq.end.first [] _ link first) (ap (λ (place : PortPlace). place.unit) c.turn.ensures.goes.own_place) (c.turn.ensures.answered refl) c.requires.received)
 
@@ -225,6 +230,19 @@ returns-clause-taken g c =
     (record { server = old.server; link = link; own = c.turn.new.own; window = c.turn.new.client; driver = old.driver }) c.side.ensures.first c.turn.ensures.goes.queue_place
     ∙ ap (λ (side : PlainSide). side.queue.taken) before)
 
+pub returns-clause-kept : goal.returns-clause-kept
+returns-clause-kept g c =
+    let old = c.args.self.now in
+    let link = c.turn.new.crq.end.link.now in
+    let lent = c.side.result.link.now in
+    let link_is : link ≡ c.self-1.given.0 = search rules in
+    let before : (side_of lent false) ≡ (side_of old.link false) = ap (λ (l : PlainLink). side_of l false) c.side.ensures.link in
+    subst (λ (l : PlainLink). (side_of l false).kept ≡ (side_of old.link false).kept) link_is
+    (serve_kept c.side.result.first c.turn.new.crq.end.first (c.side.result.link.ghost_name ∷ []) (c.turn.new.crq.end.link.ghost_name ∷ [])
+    (record { server = old.server; link = lent; own = old.own; window = old.window; driver = old.driver })
+    (record { server = old.server; link = link; own = c.turn.new.own; window = c.turn.new.client; driver = old.driver }) c.side.ensures.first c.turn.ensures.goes.queue_place
+    ∙ ap (λ (side : PlainSide). side.kept) before)
+
 pub returns-clause-shows : goal.returns-clause-shows
 returns-clause-shows g c =
     let goes = c.turn.ensures.goes in
@@ -271,12 +289,18 @@ returns-clause-told_own g c =
     → UnitGoesBy told server'.units.items server'.records server'.copies.items c.args.unit (record { server = old.server; link = l; own = c.turn.new.own; window = c.turn.new.client; driver = old.driver })) link_is
     (λ told tells all is.
     let news = tells_turn told server.copies.items server'.copies.items old new pages name tells in
+    let agrees = agrees_like server.units.items c.args.unit _ _ (ap (λ (side : PlainSide). side.registered) before) c.requires.received.agrees in
     told_served told server.units.items server'.units.items server.records server'.records server.copies.items server'.copies.items c.args.unit old new (state_of c.side.result) (state_of c.turn.new.crq.end)
     (ap (λ (side : PlainSide). side.queue.session) before) (ap (λ (side : PlainSide). side.queue.taken) before)
     (ap (λ (side : PlainSide). side.queue.session) after) (ap (λ (side : PlainSide). side.queue.taken) after) name
     sent_before sent_after goes.taken c.turn.ensures.lines
     (c.turn.ensures.runs told news all.order) (c.turn.ensures.explains told news all.order [])
-    (λ explained earlier order on. c.turn.ensures.logins told news all.order [] explained earlier order on (λ q. true) (λ session low none. absurd (cc (none)))) is)
+    (c.turn.ensures.logins told news all.order [])
+    (λ closed heard.
+    closed_so told server.units.items server'.units.items c.args.unit old.own.unit (state_of c.side.result) (state_of c.turn.new.crq.end) goes.queue_place agrees (c.turn.ensures.agrees agrees) c.turn.new.crq.behind
+    c.turn.new.crq.gone closed heard)
+    (hears_lent c.side.result.first [] (c.side.result.link.ghost_name ∷ []) old.link c.side.result.link.now c.side.ensures.first c.side.ensures.link)
+    (hears_back c.turn.new.crq.end.first [] (c.turn.new.crq.end.link.ghost_name ∷ []) link first) is)
 
 pub returns-clause-told_else : goal.returns-clause-told_else
 returns-clause-told_else g c = λ told k other apart own order is.

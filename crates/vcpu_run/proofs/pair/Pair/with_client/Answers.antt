@@ -3,6 +3,7 @@ use Rattle.vscsi_client.specs.State.{ClientState}
 use Rattle.vcpu_run.proofs.Answering.{answered_new}
 use Rattle.tce_window.specs.Window.{WindowValue}
 use Rattle.vcpu_run.proofs.Opened.{driver_new, pair_new, untaken_new}
+use Rattle.vcpu_run.proofs.FewEvents.{no_events}
 use Rattle.vcpu_run.proofs.pair.Pair.with_client.Goals as goal
 
 pub returns-clause-pair : goal.returns-clause-pair
@@ -11,7 +12,7 @@ returns-clause-pair c =
     let driver = c.in_ok-open-3 in
     pair_new c.args.server seat.pages (256 * c.args.queue) (256 * seat.queue) seat.unit c.in_ok-open_link.field-0 c.in_ok-open.field-0 c.in_ok-open-2.field-0 (Some driver.field-0)
     c.in_ok-open.ensures c.in_ok-open-2.ensures c.requires.seat.apart c.in_ok-open_link.ensures
-    (driver_new seat.unit c.args.server seat.pages c.in_ok-open-2.field-0 driver.field-0 c.in_ok-open-2.ensures driver.ensures.unit driver.ensures.client
+    (driver_new seat.unit c.args.server seat.pages c.in_ok-open-2.field-0 driver.field-0 c.in_ok-open-2.ensures driver.ensures.unit driver.ensures.answers driver.ensures.client
     (omega (arith, c.requires.seat.pages)) (omega (arith, c.requires.seat.pages))) tt
 
 pub returns-clause-out : goal.returns-clause-out
@@ -27,6 +28,8 @@ returns-clause-fresh c =
     record {
       taken = new.first.queue.taken;
       sent = new.second.queue.sent;
+      kept = new.second.kept;
       untaken = untaken_new c.args.seat.unit c.args.server (256 * c.args.queue) (256 * c.args.seat.queue) c.in_ok-open_link.field-0 driver.field-0 driver.ensures.answers driver.ensures.client new;
       rows = ap (λ (window : WindowValue). window.rows) c.in_ok-open-2.ensures;
+      events = no_events c.in_ok-open_link.field-0 new.first.queue.sent new.second.kept;
     }

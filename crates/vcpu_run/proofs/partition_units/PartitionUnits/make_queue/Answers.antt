@@ -1,6 +1,7 @@
 use Rattle.vcpu_run.proofs.CalledPorts.{ports_still}
 use Rattle.std.proofs.Common.{refl}
 use Rattle.vcpu_run.proofs.PortCalling.{queue_entries}
+use Rattle.vcpu_run.proofs.RawCalling.{calls_same}
 use Rattle.vcpu_run.proofs.partition_units.PartitionUnits.make_queue.Goals as goal
 
 pub returns-in-Some-Client-clause-ports : goal.returns-in-Some-Client-clause-ports
@@ -8,3 +9,6 @@ returns-in-Some-Client-clause-ports c = ports_still c.args.self.now.partition c.
 
 pub returns-in-Some-Client-clause-entries : goal.returns-in-Some-Client-clause-entries
 returns-in-Some-Client-clause-entries c = queue_entries c.args.self.now _ c.args.unit c.args.call _ c.call_at.result refl
+
+pub returns-in-Some-Server-clause-made : goal.returns-in-Some-Server-clause-made
+returns-in-Some-Server-clause-made c = calls_same c.args.self.now _ _ refl

@@ -18,6 +18,7 @@ use Rattle.vcpu_run.proofs.PortTelling.{taken_within}
 use Rattle.vcpu_run.proofs.PortsTelling.{quiet_tells, took_tells}
 use Rattle.lan_script.specs.Replayed.{is_replayed}
 use Rattle.unit_region.specs.LinePuts.{is_put}
+use Rattle.lan_script.specs.Seats.{is_in_region}
 use Rattle.vcpu_run.specs.PortWords.{done_in, frame_of}
 use Rattle.lan_script.specs.PortCounts.{counts, counts_by, counts_told}
 use Rattle.boot_text.specs.declared.verb.Verb.{Verb}
@@ -85,10 +86,10 @@ returns-clause-told c = λ pairs lan script tells.
     elim c.match-line.branch [
       | in-Login w ↦ quiet_tells lan c.args.self.now c.end.new.self c.in-Some.line.now _ found reached rest.partition rest.lines rest.seats
           c.in_ok-end.ensures.ended.logs fresh (ap frame_of w.outcome-is) (ap counts_told w.outcome-is)
-          (subst (λ (v : Verb). (d : ℕ) → counts_by v d ≡ counts 0 0) (sym w.in-Login.is) (λ d. refl)) (ap is_replayed w.in-Login.is) (ap is_put w.in-Login.is) (ap is_call w.in-Login.is) tells
+          (subst (λ (v : Verb). (d : ℕ) → counts_by v d ≡ counts 0 0) (sym w.in-Login.is) (λ d. refl)) (ap is_replayed w.in-Login.is) (ap is_put w.in-Login.is) (ap is_in_region w.in-Login.is) (ap is_call w.in-Login.is) tells
       | in-Reset w ↦ quiet_tells lan c.args.self.now c.end.new.self c.in-Some.line.now _ found reached rest.partition rest.lines rest.seats
           c.in_ok-end.ensures.ended.logs fresh (ap frame_of w.outcome-is) (ap counts_told w.outcome-is)
-          (subst (λ (v : Verb). (d : ℕ) → counts_by v d ≡ counts 0 0) (sym w.in-Reset.is) (λ d. refl)) (ap is_replayed w.in-Reset.is) (ap is_put w.in-Reset.is) (ap is_call w.in-Reset.is) tells
+          (subst (λ (v : Verb). (d : ℕ) → counts_by v d ≡ counts 0 0) (sym w.in-Reset.is) (λ d. refl)) (ap is_replayed w.in-Reset.is) (ap is_put w.in-Reset.is) (ap is_in_region w.in-Reset.is) (ap is_call w.in-Reset.is) tells
       | in-Take w ↦ took_tells lan c.args.self.now c.end.new.self c.in-Some.line.now _ _ (taken_in c.args.self.now.progress) found reached rest.partition rest.lines rest.seats
           c.in_ok-end.ensures.ended.logs fresh (w.outcome-is ∙ ap (λ n. outcomes.Took n) w.taken.ensures) w.in-Take.is (taken_within c.args.self.now.progress) tells
     ]

@@ -55,7 +55,7 @@ pub returns-in-None-clause-said : goal.returns-in-None-clause-said
 returns-in-None-clause-said c =
     let over : length c.args.self.now.lines.now ≤ c.args.self.now.at = over_by c.args.self.now.at (length c.args.self.now.lines.now) (sym c.get.ensures.lookup.0 ∙ ap is_some c.in-None.is) in
     ok_then c.take_rest.result _ _ (λ gives no is.
-    over_told c.args.pairs.now c.take_rest.new.pairs c.args.self.now (slice_get_past c.args.self.now.lines.now c.args.self.now.at over) c.requires.script.seats c.take_rest.ensures.driven gives c.take_rest.ensures.values is)
+    over_told c.args.pairs.now c.take_rest.new.pairs c.args.self.now (slice_get_past c.args.self.now.lines.now c.args.self.now.at over) c.requires.script.seats c.take_rest.ensures.driven gives c.take_rest.ensures.values c.take_rest.ensures.calm is)
     c.take_rest.ensures.gives
 
 pub returns-in-None-clause-out : goal.returns-in-None-clause-out

@@ -4,10 +4,10 @@ use Rattle.std.proofs.lemmas.Option.{slice_get_within}
 use Rattle.vcpu_run.proofs.Crediting.{credited_all, credited_fails}
 use Rattle.vcpu_run.proofs.Driving.{clients_of}
 use Rattle.vcpu_run.specs.Agreed.{SameElse}
-use Rattle.vcpu_run.proofs.ScriptsTold.{fail_ends_told, fail_out, fail_waits_told, fails_reset}
+use Rattle.vcpu_run.proofs.ScriptsTold.{fail_ends_told, fail_out, fail_waits_told}
 use Rattle.vcpu_run.proofs.Logging.{script_stays}
 use Rattle.vcpu_run.specs.declared.unit_seat.Seat.{Seat}
-use Rattle.vcpu_run.proofs.Held.{fails_held, other_held}
+use Rattle.vcpu_run.proofs.Held.{fails_held, fails_reset, other_held}
 use Rattle.vio_trace.specs.declared.outcome.Outcome.TheVariants as outcomes
 use Rattle.vcpu_run.specs.CallsSaid.{seen_from}
 use Rattle.vcpu_run.proofs.CallsKept.{fails_no_call, says_none}
@@ -102,13 +102,13 @@ returns-then-branch-clause-said c = λ is.
     c.in_ok-end.ensures.at ∙ (ap (λ b. cond b (length c.args.self.now.lines.now) (c.args.self.now.at + 1)) c.requires.fails
     ∙ sym (ap (λ lines. length lines.now) c.end.ensures.rest.lines)) in
     fail_ends_told c.args.pairs.now c.fail.new.pairs c.args.self.now c.end.new.self c.args.line.now _ c.requires.line c.requires.fails
-    c.requires.script.seats c.fail.ensures.driven c.in_ok-fail.ensures.gives c.fail.ensures.values
+    c.requires.script.seats c.fail.ensures.driven c.in_ok-fail.ensures.gives c.fail.ensures.values c.fail.ensures.shut
     (c.requires.script.logs.reached (slice_get_within c.args.self.now.lines.now c.args.self.now.at c.args.line.now c.requires.line))
     refl c.end.ensures.rest.lines c.end.ensures.rest.seats c.in_ok-end.ensures.ended.logs over is
 
 pub returns-clause-said : goal.returns-clause-said
 returns-clause-said c = λ is.
-    fail_waits_told c.args.pairs.now c.fail.new.pairs c.args.self.now c.args.line.now c.requires.line c.requires.fails c.requires.script.seats c.fail.ensures.driven c.in_ok-fail.ensures.gives c.fail.ensures.values is
+    fail_waits_told c.args.pairs.now c.fail.new.pairs c.args.self.now c.args.line.now c.requires.line c.requires.fails c.requires.script.seats c.fail.ensures.driven c.in_ok-fail.ensures.gives c.fail.ensures.values c.fail.ensures.shut is
 
 pub returns-then-branch-clause-out : goal.returns-then-branch-clause-out
 returns-then-branch-clause-out c = λ is. absurd (not_quiet is)

@@ -1,0 +1,7 @@
+use Rattle.crq_session.specs.PlainState.{state_of}
+use Rattle.vcpu_run.proofs.Gone.{gone_same}
+use Rattle.vcpu_run.proofs.session_end.SessionEndCrqEnd.push_event.Goals as goal
+
+pub invariant_of-self-clause-gone : goal.invariant_of-self-clause-gone
+invariant_of-self-clause-gone c =
+    gone_same (state_of c.args.self.now.end) (state_of c.push_event.new.self) c.push_event.ensures.rest.place c.push_event.ensures.rest.last_session c.push_event.ensures.rest.registered c.args.self.now.gone
