@@ -165,7 +165,8 @@ fn put_values<O: OwnerPort>(
     requires whole { length bytes.now % 8 ≡ 0 }
     ensures window { KeepsWindow O.is_shared (O.state own.old) (O.state own.new) }
     ensures marks { LaysNoStroke O.is_shared (O.state own.old) (O.state own.new) }
-    ensures values { IfOk result (PutsValues (O.state own.old) (O.state own.new) address bytes.now) }
+    ensures values { IfOk result
+        (PutsValues (O.state own.old) (O.state own.new) address bytes.now) }
     ensures code { IfOk result (λ code. may_answer rows.PutTceIndirect code ≡ true) }
 {
     let values = values_of(alloc, bytes)?;
