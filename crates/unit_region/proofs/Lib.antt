@@ -1,3 +1,4 @@
+pub mod Fronts
 pub mod Growing
 pub mod Marking
 pub mod Putting

@@ -62,9 +62,20 @@ pub list_put : (shared : Bool) (old mid new : PortState) (address list count : �
 list_put shared old mid new address list count bytes code lies many only reads puts = record {
   missing = λ e. absurd (cc (e, lies));
   refused = λ e is. (read, subst (λ (place : PortPlace). takes_all place.size address puts.values ≡ false) only.place (puts.parameter.0 e));
-  put = λ e. (read, puts_over shared old mid new address puts.values only (puts.put e));
+  put = λ e. (
+    read,
+    subst (λ (place : PortPlace). takes_all place.size address puts.values ≡ true) only.place (taken e (takes_all mid.place.size address puts.values) refl),
+    puts_over shared old mid new address puts.values only (puts.put e),
+  );
 }
   where
+    no_success : codes.Parameter ≡ codes.Success → ⊥
+    no_success e = cc (e)
+
+    taken : code ≡ codes.Success → (b : Bool) → takes_all mid.place.size address puts.values ≡ b → takes_all mid.place.size address puts.values ≡ true
+    taken e true is = is
+    taken e false is = absurd (no_success (sym (puts.parameter.1 is) ∙ e))
+
     read : ReadsList new list count
     read = record {
       bytes = bytes;

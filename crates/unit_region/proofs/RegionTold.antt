@@ -211,7 +211,7 @@ write_there shared old new at mark bytes is page here =
 pub read_there : (new : PortState) (at : ℕ) (shown : List ℕ) → Reads new at shown → AreRead (region_seen new.strokes) at shown
 read_there new at shown is = record {
   fronts = new.strokes;
-  there = λ page here. let within = touched at (length shown) page here in front_of (new.strokes page) (is.there page within.0 within.1);
+  there = λ page here. let within = touched at (length shown) page here in (refl, is.there page within.0 within.1);
   read = is.bytes;
 }
 

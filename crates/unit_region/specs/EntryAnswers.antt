@@ -55,12 +55,12 @@ pub record PutsValues (old new : PortState) (address : ℕ) (bytes : List ℕ) (
   pub put : code ≡ codes.Success → Puts old address values new
 
 -- H_PUT_TCE_INDIRECT is Parameter where no such list lies there, and else only where the window does not take one of its values; where it is Success
--- it put the values of the list, as it was read, into the entries from the address on (LoPAR, "H_PUT_TCE_INDIRECT").
+-- it put the values of the list, as it was read, each of which the window takes, into the entries from the address on (LoPAR, "H_PUT_TCE_INDIRECT").
 pub record PutsList (old new : PortState) (address list count : ℕ) (code : Hrc) : Type 0 where
   pub missing : is_list old.place.size list count ≡ false → code ≡ codes.Parameter
   pub refused : code ≡ codes.Parameter → is_list old.place.size list count ≡ true
       → (read : ReadsList new list count) × (takes_all old.place.size address read.values ≡ false)
-  pub put : code ≡ codes.Success → (read : ReadsList new list count) × Puts old address read.values new
+  pub put : code ≡ codes.Success → (read : ReadsList new list count) × (takes_all old.place.size address read.values ≡ true) × Puts old address read.values new
 
 -- what H_GET_TCE gives is the last value of the entry, and what the other calls put is
 abbrev pub AnswersEntry : (old new : PortState) → EntryCall → Returned → Type 0

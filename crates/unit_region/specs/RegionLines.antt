@@ -1,5 +1,5 @@
 -- What lines in a unit's own region say of it, and what there is once they said that bytes were written, or showed some.
-use Rattle.std.specs.Prelude.{◌≡◌, ℕ, ◌+◌, ◌*◌, ◌<◌, Bool, true, false, List, IfSome, Option, Some, None, length, slice_index, ⊤, if◌then◌else◌}
+use Rattle.std.specs.Prelude.{◌≡◌, ℕ, ◌+◌, ◌*◌, ◌<◌, ◌++◌, All, Bool, true, false, List, IfSome, IsSome, Option, Some, None, length, slice_index, ⊤, if◌then◌else◌}
 use Rattle.std.specs.List.{Contains}
 use Rattle.vio_num.specs.Words.{Begins}
 use Rattle.vio_num.specs.declared.hypervisor.Hrc.{Hrc}
@@ -27,21 +27,37 @@ abbrev pub IsFront : Option (List StrokeValue) → Option (List StrokeValue) →
 IsFront (Some front) (Some strokes) = Begins front strokes
 IsFront _ _ = ⊥
 
--- What there is of a region: the strokes on its pages, and which lists of them are a front of a page's.
+-- A page's strokes are these and others behind them, of which the mark of each of this unit's is so.
+pub record IsFrontWith (unit : UnitId) (allowed : ℕ → Type 0) (front strokes : List StrokeValue) : Type 0 where
+  pub rest : List StrokeValue
+  pub is : strokes ≡ front ++ rest
+  pub later : All (λ stroke. stroke.name.who ≡ unit → allowed stroke.name.mark) rest
+
+-- the same of a page that is in its place; one that is away stays so
+abbrev pub IsFrontOn : UnitId → (allowed : ℕ → Type 0) → (front strokes : Option (List StrokeValue)) → Type 0
+IsFrontOn unit allowed (Some front) (Some strokes) = IsFrontWith unit allowed front strokes
+IsFrontOn unit allowed None None = ⊤
+IsFrontOn unit allowed _ _ = ⊥
+
+-- What there is of a region: the strokes on its pages, and with which lists of strokes a page is read.
 pub record RegionSeen : Type 1 where
   pub stroke_at : (page : ℕ) → StrokeValue → Type 0
   pub front_at : (page : ℕ) → Option (List StrokeValue) → Type 0
 
--- what there is of one whose pages have these strokes
+-- what there is of one whose pages have these strokes: a page is read with all that it has
 abbrev pub region_seen : (ℕ → Option (List StrokeValue)) → RegionSeen
-region_seen strokes = record { stroke_at = λ page stroke. IsOn stroke (strokes page); front_at = λ page front. IsFront front (strokes page) }
+region_seen strokes = record { stroke_at = λ page stroke. IsOn stroke (strokes page); front_at = λ page front. (front ≡ strokes page) × IsSome front }
+
+-- what there was at some time of one whose pages have these strokes now: a page was read with a front of them
+abbrev pub region_once : (ℕ → Option (List StrokeValue)) → RegionSeen
+region_once strokes = record { stroke_at = λ page stroke. IsOn stroke (strokes page); front_at = λ page front. IsFront front (strokes page) }
 
 -- these bytes were written at an address, under a mark: one stroke on each page that they touch
 abbrev pub AreWritten : RegionSeen → (unit : UnitId) → (mark at : ℕ) → List ℕ → Type 0
 AreWritten region unit mark at bytes = (page : ℕ) → touches at (length bytes) page ≡ true
     → region.stroke_at page (stroke_on (record { who = unit; mark = mark }) at bytes page)
 
--- These bytes were read at an address: they are what the pages gave, each with a front of its strokes.
+-- These bytes were read at an address: they are what the pages gave, each with a list of strokes with which it is read.
 pub record AreRead (region : RegionSeen) (at : ℕ) (bytes : List ℕ) : Type 0 where
   pub fronts : ℕ → Option (List StrokeValue)
   pub there : (page : ℕ) → touches at (length bytes) page ≡ true → region.front_at page (fronts page)

@@ -1,11 +1,11 @@
 // Lines that write, read and map a unit's own region.
-ghost use Rattle.std.specs.Prelude.{◌≡◌, ◌<◌, ◌≤◌, IfOk};
+ghost use Rattle.std.specs.Prelude.{◌≡◌, ◌<◌, ◌≤◌, IfOk, Some};
 ghost use Rattle.boot_text.specs.declared.common_script.TheConstants.{MOST_FILL, MOST_PAGE, MOST_PEEK};
 ghost use Rattle.tce_window.specs.PortState.{OnlyReads, OnlyWrites};
 ghost use Rattle.unit_region.specs.Answers.{AnswersPut, AnswersRead, AnswersWrite, tce_of};
 ghost use Rattle.unit_region.specs.Steps.{IsPlain};
 ghost use Rattle.unit_region.specs.Kept.{KeepsWindow};
-ghost use Rattle.unit_region.specs.Marks.{LaysNoStroke, LaysUnder};
+ghost use Rattle.unit_region.specs.Marks.{LaysJust, LaysNoStroke};
 ghost use Rattle.unit_region.specs.Pattern.{pattern as filling, pattern_byte};
 
 use crate::step::Step;
@@ -33,7 +33,8 @@ pub fn fill<O: OwnerPort>(
 ) -> Result<Step, NoMemory>
     requires { len ≤ MOST_FILL }
     ensures window { KeepsWindow O.is_shared (O.state own.old) (O.state own.new) }
-    ensures marks { LaysUnder O.is_shared line (O.state own.old) (O.state own.new) }
+    ensures lays { LaysJust O.is_shared (O.state own.old) (O.state own.new) line
+        (Some (record { at = at; bytes = filling seed len })) result }
     ensures rest { OnlyWrites (O.state own.old) (O.state own.new) }
     ensures plain { IsPlain result }
     ensures answer { IfOk result (AnswersWrite O.is_shared (O.state own.old) (O.state own.new) at
@@ -47,10 +48,11 @@ pub fn fill<O: OwnerPort>(
 }
 
 /// Writes these bytes under the mark of a line.
-#[tactic(auto, using(crate::proofs::Marking::write_under))]
+#[tactic(auto, using(crate::proofs::Marking::just_written, crate::proofs::Marking::just_range, crate::proofs::Marking::just_waits, crate::proofs::Marking::just_memory))]
 pub fn poke<O: OwnerPort>(own: &mut O, at: u64, bytes: &[u8], line: u64) -> Result<Step, NoMemory>
     ensures window { KeepsWindow O.is_shared (O.state own.old) (O.state own.new) }
-    ensures marks { LaysUnder O.is_shared line (O.state own.old) (O.state own.new) }
+    ensures lays { LaysJust O.is_shared (O.state own.old) (O.state own.new) line
+        (Some (record { at = at; bytes = bytes.now })) result }
     ensures rest { OnlyWrites (O.state own.old) (O.state own.new) }
     ensures plain { IsPlain result }
     ensures answer { IfOk result (AnswersWrite O.is_shared (O.state own.old) (O.state own.new) at
