@@ -67,7 +67,7 @@ entry_seen unit ps qs own own' (entries.PutList address list count) returned h =
       (read_seen refused.0, refused.1);
   put = λ good.
       let put = h.put good in
-      (read_seen put.0, record { values = put.1.values; held = put.1.held });
+      (read_seen put.0, put.1, record { values = put.2.values; held = put.2.held });
 }
   where
     read_seen : ReadsList (known_of own') list count → ReadsList (port_at (facts_of unit qs (Some own'))) list count

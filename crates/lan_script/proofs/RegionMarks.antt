@@ -1,6 +1,6 @@
 -- Which strokes of a unit's own name lines and calls lay on its pages.
-use Rattle.std.proofs.Common.{◌≡◌, ◌==◌, ◌⊎◌, inl, inr, ℕ, zero, suc, cond, Bool, true, false, true≢false, Contains, List, [], ◌∷◌, ◌++◌, Option, Some, None, Result, Ok, Err, IfOk, OnOk, drop, take, refl, sym, ◌∙◌, ap, subst, arith}
-use Rattle.std.proofs.lemmas.List.Elements.{Contains-append_cases}
+use Rattle.std.proofs.Common.{◌≡◌, ◌==◌, inl, inr, ℕ, cond, Bool, true, false, true≢false, All, List, [], ◌∷◌, Option, Some, None, Result, Ok, Err, IfOk, OnOk, drop, take, refl, sym, ◌∙◌, ap, subst}
+use Rattle.std.proofs.lemmas.List.Elements.{All-cons, All-nil, All-weaker}
 use Rattle.vio_num.specs.declared.memory.NoMemory.{NoMemory}
 use Rattle.vio_num.specs.declared.names.UnitId.{UnitId}
 use Rattle.page_slots.specs.Stroke.{StrokeValue}
@@ -12,8 +12,12 @@ use Rattle.tce_window.specs.PortState.{LaysNone, PortState, WindowFacts}
 use Rattle.tce_window.specs.Strokes.{with_strokes}
 use Rattle.tce_window.specs.Window.{WindowValue}
 use Rattle.tce_window.specs.declared.piece.Piece.{Piece}
-use Rattle.unit_region.specs.Marks.{LaysNoStroke, LaysUnder}
-use Rattle.unit_region.specs.RegionLines.{IsOn}
+use Rattle.boot_text.specs.declared.verb.Verb.{Verb}
+use Rattle.unit_region.specs.Marks.{LaysJust, LaysNoStroke, LaysUnder, result_wrote}
+use Rattle.unit_region.specs.RegionLines.{IsFrontOn, written_by}
+use Rattle.unit_region.specs.declared.step.Step.{Step}
+use Rattle.unit_region.specs.declared.step.Step.TheVariants as region
+use Rattle.unit_region.proofs.Laws.{on_as, on_self, on_then, with_front, with_none}
 use Rattle.lan_buffers.specs.Port.{PortValue}
 use Rattle.lan_buffers.specs.declared.answers.Deliver.{Deliver}
 use Rattle.lan_buffers.specs.declared.answers.Deliver.TheVariants as sent
@@ -24,9 +28,12 @@ use Rattle.lan_switch.specs.Sending.{IsOfferedAt, IsSent, Offering, after, befor
 use Rattle.lan_switch.specs.Source.{OnlyReadThrough}
 use Rattle.lan_switch.specs.Switch.{same_unit}
 use Rattle.vio_trace.specs.declared.lan_rows.FrameRow.{FrameRow}
-use Rattle.lan_script.specs.Regions.{IsLineMark, IsNoMark, LaysLine, LaysMarks, LaysNoOwn, strokes_at}
+use Rattle.lan_script.specs.Entries.{port_step}
+use Rattle.lan_script.specs.Regions.{IsLineMark, IsNoMark, LaysMarks, LaysNoOwn, PortLays, strokes_at}
+use Rattle.lan_script.specs.Seats.{is_in_region}
 use Rattle.lan_script.specs.Units.{LanValue}
 use Rattle.lan_script.specs.Windows.{FoundIn, facts_in, facts_of, window_in, with_window}
+use Rattle.lan_script.specs.declared.lines.PortStep.{PortStep}
 use Rattle.lan_script.specs.declared.seat.PortSeat.{PortSeat}
 use Rattle.lan_script.specs.declared.windows.Place.{Place}
 use Rattle.lan_script.proofs.Balancing.{Sends}
@@ -39,20 +46,16 @@ use Rattle.lan_script.proofs.RegionsGrow.{put_there, strokes_of}
 
 -- ---- strokes
 
--- each stroke of this name that a page has more bears a mark that is so
+-- of the strokes behind those that a page had the mark of each of this name is so
 abbrev pub Marked : (own : UnitId) → (allowed : ℕ → Type 0) → (old new : ℕ → Option (List StrokeValue)) → Type 0
-Marked own allowed old new = (page : ℕ) (stroke : StrokeValue) → IsOn stroke (new page) → stroke.name.who ≡ own → IsOn stroke (old page) ⊎ allowed stroke.name.mark
+Marked own allowed old new = (page : ℕ) → IsFrontOn own allowed (old page) (new page)
 
 is_marked : (own : UnitId) (allowed : ℕ → Type 0) (old new : ℕ → Option (List StrokeValue)) → ((page : ℕ) → new page ≡ old page) → Marked own allowed old new
-is_marked own allowed old new same page stroke on mine = inl (subst (IsOn stroke) (same page) on)
+is_marked own allowed old new same page = subst (IsFrontOn own allowed (old page)) (sym (same page)) (on_self own allowed (old page))
 
 then_marked : (own : UnitId) (allowed : ℕ → Type 0) (old mid new : ℕ → Option (List StrokeValue)) → Marked own allowed old mid → Marked own allowed mid new
     → Marked own allowed old new
-then_marked own allowed old mid new first next page stroke on mine = by (next page stroke on mine)
-  where
-    by : IsOn stroke (mid page) ⊎ allowed stroke.name.mark → IsOn stroke (old page) ⊎ allowed stroke.name.mark
-    by (inl was) = first page stroke was mine
-    by (inr marked) = inr marked
+then_marked own allowed old mid new first next page = on_then own allowed (old page) (mid page) (new page) (first page) (next page)
 
 -- those of two lists of places
 abbrev pub PlacesMarked : UnitId → (allowed : UnitId → ℕ → Type 0) → (old new : List Place) → Type 0
@@ -69,11 +72,8 @@ marks_then allowed old mid new first next unit =
     then_marked unit (allowed unit) (strokes_at old unit) (strokes_at mid unit) (strokes_at new unit) (first unit) (next unit)
 
 pub marks_none : (allowed : UnitId → ℕ → Type 0) (old new : LanValue) → LaysNoOwn old new → LaysMarks allowed old new
-marks_none allowed old new none unit page stroke on mine = by (none unit page stroke on mine)
-  where
-    by : IsOn stroke (strokes_at old unit page) ⊎ ⊥ → IsOn stroke (strokes_at old unit page) ⊎ allowed unit stroke.name.mark
-    by (inl was) = inl was
-    by (inr never) = absurd never
+marks_none allowed old new none unit page =
+    on_as unit (IsNoMark unit) (allowed unit) (strokes_at old unit page) (strokes_at new unit page) (λ mark never. absurd never) (none unit page)
 
 -- the same of results
 pub marks_next : {X : Type 0} (allowed : UnitId → ℕ → Type 0) (old mid new : LanValue) (r : Result X NoMemory) → LaysMarks allowed old mid → OnOk r (LaysNoOwn mid new)
@@ -111,15 +111,38 @@ marks_back allowed lan now unit ps₁ ps₂ own own' same at away back marked v 
     (ap (λ l. window_in v l) back ∙ window_beside unit v (Some own') ps₁ e ∙ ap (λ l. window_in v l) away ∙ window_beside unit v None lan.places e)))
 
 pub line_back : (lan now : LanValue) (unit : UnitId) (mark : ℕ) (ps₁ ps₂ : List Place) (own own' : WindowValue) → lan ≡ now
-    → window_in unit lan.places ≡ Some own → ps₁ ≡ with_window unit None lan.places → ps₂ ≡ with_window unit (Some own') ps₁
+    → window_in unit lan.places ≡ Some own → own.unit ≡ unit → ps₁ ≡ with_window unit None lan.places → ps₂ ≡ with_window unit (Some own') ps₁
     → LaysUnder false mark (known_of own) (known_of own') → (v : UnitId) → PlacesMarked v (IsLineMark unit mark) now.places ps₂
-line_back lan now unit mark ps₁ ps₂ own own' same at away back under =
-    marks_back (IsLineMark unit mark) lan now unit ps₁ ps₂ own own' same at away back (λ page stroke on mine. by page stroke (under refl page stroke on))
-  where
-    by : (page : ℕ) (stroke : StrokeValue) → IsOn stroke ((known_of own).strokes page) ⊎ (stroke.name.mark ≡ mark)
-        → IsOn stroke ((known_of own).strokes page) ⊎ IsLineMark unit mark unit stroke.name.mark
-    by page stroke (inl was) = inl was
-    by page stroke (inr is) = inr (refl, is)
+line_back lan now unit mark ps₁ ps₂ own own' same at named away back under =
+    marks_back (IsLineMark unit mark) lan now unit ps₁ ps₂ own own' same at away back (λ page.
+    on_as unit (λ m. m ≡ mark) (IsLineMark unit mark unit) ((known_of own).strokes page) ((known_of own').strokes page) (λ m is. (refl, is))
+    (subst (λ (u : UnitId). IsFrontOn u (λ m. m ≡ mark) ((known_of own).strokes page) ((known_of own').strokes page)) named (under refl page)))
+
+-- what a line in the region laid
+page_there : (unit : UnitId) (ps : List Place) (own : WindowValue) (page : ℕ) → window_in unit ps ≡ Some own → (facts_in ps unit).strokes page ≡ (known_of own).strokes page
+page_there unit ps own page at = ap (λ (o : Option WindowValue). (facts_of unit ps o).strokes page) at
+
+lays_step : (unit : UnitId) (mark : ℕ) (verb : Verb) (step : Step) (old new : LanValue)
+    → ((page : ℕ) → strokes_at new unit page ≡ with_strokes (strokes_at old unit page) (result_wrote unit mark (written_by verb) (Ok step) page))
+    → PortLays unit mark verb (port_step step) old new
+lays_step unit mark verb (region.Ends outcome) old new h = h
+lays_step unit mark verb (region.Waits did) old new h = λ page. h page ∙ with_none (strokes_at old unit page)
+
+pub lays_back : (lan now new : LanValue) (unit : UnitId) (mark : ℕ) (verb : Verb) (step : Step) (made : PortStep) (ps : List Place) (own own' : WindowValue) → lan ≡ now
+    → window_in unit lan.places ≡ Some own → own.unit ≡ unit → ps ≡ with_window unit None lan.places → new.places ≡ with_window unit (Some own') ps
+    → LaysJust false (known_of own) (known_of own') mark (written_by verb) (Ok step) → made ≡ port_step step → PortLays unit mark verb made now new
+lays_back lan now new unit mark verb step made ps own own' same at named away back just made_is =
+    subst (λ (l : LanValue). PortLays unit mark verb made l new) same
+    (subst (λ (s : PortStep). PortLays unit mark verb s lan new) (sym made_is)
+    (lays_step unit mark verb step lan new (λ page.
+    page_there unit new.places own' page (put_there unit lan.places ps new.places own own' at away back)
+    ∙ just refl page
+    ∙ ap (λ (u : UnitId). with_strokes ((known_of own).strokes page) (result_wrote u mark (written_by verb) (Ok step) page)) named
+    ∙ ap (λ (o : Option (List StrokeValue)). with_strokes o (result_wrote unit mark (written_by verb) (Ok step) page)) (sym (page_there unit lan.places own page at)))))
+
+-- a line that is not in its unit's region
+pub lays_apart : (verb : Verb) (P : Type 0) → is_in_region verb ≡ false → is_in_region verb ≡ true → P
+lays_apart verb P isnt is = absurd (true≢false (sym is ∙ isnt))
 
 pub none_back : (lan now : LanValue) (unit : UnitId) (ps₁ ps₂ : List Place) (own own' : WindowValue) → lan ≡ now
     → window_in unit lan.places ≡ Some own → ps₁ ≡ with_window unit None lan.places → ps₂ ≡ with_window unit (Some own') ps₁
@@ -139,10 +162,10 @@ through_none old new through e p = same_strokes (old.strokes p) (new.strokes p) 
 -- ---- sends
 
 -- the strokes of a write have its name
-named_next : (name : StrokeName) (bytes : List ℕ) (p : ℕ) (piece : Piece) (pieces : List Piece) (stroke : StrokeValue)
-    → (Contains (strokes_on p pieces (piece_strokes name (drop piece.len bytes) pieces)) stroke → stroke.name ≡ name)
-    → Contains (strokes_on p (piece ∷ pieces) (piece_strokes name bytes (piece ∷ pieces))) stroke → stroke.name ≡ name
-named_next name bytes p piece pieces stroke later h = by (piece.page == p) refl h
+named_next : (name : StrokeName) (bytes : List ℕ) (p : ℕ) (piece : Piece) (pieces : List Piece)
+    → All (λ stroke. stroke.name ≡ name) (strokes_on p pieces (piece_strokes name (drop piece.len bytes) pieces))
+    → All (λ stroke. stroke.name ≡ name) (strokes_on p (piece ∷ pieces) (piece_strokes name bytes (piece ∷ pieces)))
+named_next name bytes p piece pieces later = by (piece.page == p)
   where
     rest : List StrokeValue
     rest = strokes_on p pieces (piece_strokes name (drop piece.len bytes) pieces)
@@ -150,44 +173,32 @@ named_next name bytes p piece pieces stroke later h = by (piece.page == p) refl 
     one : StrokeValue
     one = record { name = name; offset = piece.offset; bytes = take piece.len bytes }
 
-    first : Contains (one ∷ []) stroke → stroke.name ≡ name
-    first (zero, less, e) = sym (ap (λ (s : StrokeValue). s.name) e)
-    first (suc k, less, e) = absurd (omega (arith, less))
+    by : (b : Bool) → All (λ stroke. stroke.name ≡ name) (cond b (one ∷ rest) rest)
+    by true = All-cons (λ (stroke : StrokeValue). stroke.name ≡ name) one rest refl later
+    by false = later
 
-    either : Contains (one ∷ []) stroke ⊎ Contains rest stroke → stroke.name ≡ name
-    either (inl k) = first k
-    either (inr k) = later k
-
-    by : (b : Bool) → (piece.page == p) ≡ b → Contains (cond b (one ∷ rest) rest) stroke → stroke.name ≡ name
-    by true e k = either (Contains-append_cases (one ∷ []) rest stroke k)
-    by false e k = later k
-
-named_so : (name : StrokeName) (bytes : List ℕ) (p : ℕ) (pieces : List Piece) (stroke : StrokeValue) → Contains (strokes_on p pieces (piece_strokes name bytes pieces)) stroke
-    → stroke.name ≡ name
-named_so name bytes p [] stroke h = absurd (omega (arith, h.1))
-named_so name bytes p (piece ∷ pieces) stroke h =
-    named_next name bytes p piece pieces stroke (λ k. named_so name (drop piece.len bytes) p pieces stroke k) h
+named_so : (name : StrokeName) (bytes : List ℕ) (p : ℕ) (pieces : List Piece)
+    → All (λ stroke. stroke.name ≡ name) (strokes_on p pieces (piece_strokes name bytes pieces))
+named_so name bytes p [] = All-nil (λ (stroke : StrokeValue). stroke.name ≡ name)
+named_so name bytes p (piece ∷ pieces) = named_next name bytes p piece pieces (named_so name (drop piece.len bytes) p pieces)
 
 not_own : (v who : UnitId) → same_unit v who ≡ false → who ≡ v → ⊥
 not_own v who other same = true≢false (sym (self v) ∙ subst (λ (u : UnitId). same_unit v u ≡ false) same other)
 
 -- a frame of another unit that was written to a page
 laid_marked : (v : UnitId) (name : StrokeName) (bytes : List ℕ) (p : ℕ) (pieces : List Piece) (old new : Option (List StrokeValue)) → same_unit v name.who ≡ false
-    → IsLaid false p pieces (piece_strokes name bytes pieces) old new → (stroke : StrokeValue) → IsOn stroke new → stroke.name.who ≡ v → IsOn stroke old ⊎ ⊥
-laid_marked v name bytes p pieces old new other h stroke on mine =
-    subst (λ o. IsOn stroke o ⊎ ⊥) (same_strokes old h.before h.grown) (at h.before (subst (IsOn stroke) h.laid on))
+    → IsLaid false p pieces (piece_strokes name bytes pieces) old new → IsFrontOn v (IsNoMark v) old new
+laid_marked v name bytes p pieces old new other h =
+    subst (λ o. IsFrontOn v (IsNoMark v) o new) (same_strokes old h.before h.grown)
+    (subst (IsFrontOn v (IsNoMark v) h.before) (sym h.laid) (with_front v (IsNoMark v) h.before more theirs))
   where
     more : List StrokeValue
     more = strokes_on p pieces (piece_strokes name bytes pieces)
 
-    by : (before : List StrokeValue) → Contains before stroke ⊎ Contains more stroke → Contains before stroke ⊎ ⊥
-    by before (inl k) = inl k
-    by before (inr k) =
-        absurd (not_own v name.who other (sym (ap (λ (n : StrokeName). n.who) (named_so name bytes p pieces stroke k)) ∙ mine))
-
-    at : (before : Option (List StrokeValue)) → IsOn stroke (with_strokes before more) → IsOn stroke before ⊎ ⊥
-    at None k = absurd k
-    at (Some before) k = by before (Contains-append_cases before more stroke k)
+    theirs : All (λ stroke. stroke.name.who ≡ v → ⊥) more
+    theirs =
+        All-weaker (λ (stroke : StrokeValue). stroke.name ≡ name) (λ (stroke : StrokeValue). stroke.name.who ≡ v → ⊥)
+        (λ stroke is mine. not_own v name.who other (sym (ap (λ (n : StrokeName). n.who) is) ∙ mine)) more (named_so name bytes p pieces)
 
 -- a port that was offered a frame of another unit
 learnt : (o : Offering) (v : UnitId) → o.windows.is_shared ≡ false → LaysNone o.windows.is_shared (before o v) (after o v)

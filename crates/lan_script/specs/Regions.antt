@@ -1,10 +1,12 @@
 -- What lines in a LAN unit's own region say of it, and that no stroke on any region's pages is gone.
-use Rattle.std.specs.Prelude.{◌≡◌, ◌⊎◌, ℕ, true, IfSome, List, Option, ⊤}
+use Rattle.std.specs.Prelude.{◌≡◌, ℕ, true, IfSome, List, Option, ⊤}
 use Rattle.vio_num.specs.declared.names.UnitId.{UnitId}
 use Rattle.boot_text.specs.declared.verb.Verb.{Verb}
 use Rattle.page_slots.specs.Stroke.{StrokeValue}
 use Rattle.tce_window.specs.Port.{Grows}
-use Rattle.unit_region.specs.RegionLines.{IsOn, IsTold, region_seen}
+use Rattle.tce_window.specs.Strokes.{with_strokes}
+use Rattle.unit_region.specs.Marks.{wrote_on}
+use Rattle.unit_region.specs.RegionLines.{IsFrontOn, IsTold, region_seen, written_by}
 use Rattle.lan_script.specs.Seats.{seat_at}
 use Rattle.lan_script.specs.Units.{LanValue}
 use Rattle.lan_script.specs.Windows.{facts_in}
@@ -29,10 +31,9 @@ PortTold unit mark verb (steps.Ends outcome) lan =
     IfSome (seat_at lan.seats unit) (λ seat. IsTold (region_seen (strokes_at lan unit)) seat.pages unit mark verb outcome)
 PortTold unit mark verb (steps.Waits did done) lan = ⊤
 
--- each stroke of a unit's own name that a page of its region has more bears a mark that is so
+-- a page of a unit's region has the strokes that it had, and of those behind them the mark of each of the unit's own is so
 abbrev pub LaysMarks : (allowed : UnitId → ℕ → Type 0) → (old new : LanValue) → Type 0
-LaysMarks allowed old new = (unit : UnitId) (page : ℕ) (stroke : StrokeValue) → IsOn stroke (strokes_at new unit page) → stroke.name.who ≡ unit
-    → IsOn stroke (strokes_at old unit page) ⊎ allowed unit stroke.name.mark
+LaysMarks allowed old new = (unit : UnitId) (page : ℕ) → IsFrontOn unit (allowed unit) (strokes_at old unit page) (strokes_at new unit page)
 
 -- it bears the mark of a line of this unit
 abbrev pub IsLineMark : UnitId → (mark : ℕ) → UnitId → ℕ → Type 0
@@ -47,3 +48,9 @@ IsNoMark unit m = ⊥
 
 abbrev pub LaysNoOwn : (old new : LanValue) → Type 0
 LaysNoOwn old new = LaysMarks IsNoMark old new
+
+-- a step of a line in its unit's own region lays there what the line writes as it ends, and nothing before
+abbrev pub PortLays : UnitId → (mark : ℕ) → Verb → PortStep → (old new : LanValue) → Type 0
+PortLays unit mark verb (steps.Ends outcome) old new =
+    (page : ℕ) → strokes_at new unit page ≡ with_strokes (strokes_at old unit page) (wrote_on unit mark (written_by verb) outcome page)
+PortLays unit mark verb (steps.Waits did done) old new = (page : ℕ) → strokes_at new unit page ≡ strokes_at old unit page

@@ -1,5 +1,5 @@
 // What a script line does at a LAN unit.
-ghost use Rattle.std.specs.Prelude.{◌≡◌, IfOk, IsSome, OnOk, false, true};
+ghost use Rattle.std.specs.Prelude.{◌≡◌, IfOk, IsSome, Ok, OnOk, false, true};
 ghost use Rattle.boot_text.specs.Sound.{IsInRange};
 ghost use Rattle.lan_script.specs.Buffers.{PostsStep};
 ghost use Rattle.lan_script.specs.Correlators.{KeepsAddresses};
@@ -8,14 +8,14 @@ ghost use Rattle.lan_script.specs.LineBytes.{PutsOn, StepsBytes};
 ghost use Rattle.lan_script.specs.LineSays.{SendsAs, TellsNoFrame};
 ghost use Rattle.lan_script.specs.OwnMac.{StepsMac};
 ghost use Rattle.lan_script.specs.PortCounts.{CountsStep, SameCounts, TellsNoCount};
-ghost use Rattle.lan_script.specs.Regions.{LaysLine, PortTold, RegionsGrow};
+ghost use Rattle.lan_script.specs.Regions.{LaysLine, PortLays, PortTold, RegionsGrow};
 ghost use Rattle.lan_script.specs.Replayed.{IsFirst, Replays, SameBeside, SameReplays};
 ghost use Rattle.lan_script.specs.Seats.{TellsOfPort, TellsOfRegion, is_for_port, is_in_region, seat_at};
 ghost use Rattle.lan_script.specs.Taking.{StaysWithin};
 ghost use Rattle.lan_script.specs.Values.{NamesOwn, SameValues, SameValuesBeside, is_put, puts_other};
 ghost use Rattle.unit_region.specs.Kept.{KeepsWindow};
-ghost use Rattle.unit_region.specs.Marks.{LaysUnder};
-ghost use Rattle.unit_region.specs.RegionLines.{StepTold, region_seen};
+ghost use Rattle.unit_region.specs.Marks.{LaysJust, LaysUnder};
+ghost use Rattle.unit_region.specs.RegionLines.{StepTold, region_seen, written_by};
 
 use crate::lan::Lan;
 use boot_text::{Line, Verb};
@@ -111,6 +111,8 @@ impl Lan {
             PortPuts line.now.verb step (values_at self.old unit) (values_at self.new unit)) }
         ensures regions { OnOk result (RegionsGrow self.old self.new) }
         ensures marks { OnOk result (LaysLine unit line.now.number self.old self.new) }
+        ensures lays { is_in_region line.now.verb ≡ true → IfOk result (λ step.
+            PortLays unit line.now.number line.now.verb step self.old self.new) }
         ensures shows { IfOk result (λ step.
             PortTold unit line.now.number line.now.verb step self.new) }
     {
@@ -169,6 +171,8 @@ impl Lan {
             PortPuts line.now.verb step (values_at self.old unit) (values_at self.new unit)) }
         ensures regions { RegionsGrow self.old self.new }
         ensures marks { LaysLine unit line.now.number self.old self.new }
+        ensures lays { IfOk result (λ step.
+            PortLays unit line.now.number line.now.verb step self.old self.new) }
         ensures shows { IfOk result (λ step.
             PortTold unit line.now.number line.now.verb step self.new) }
     {
@@ -187,6 +191,8 @@ fn step_in<O: OwnerPort>(alloc: Global, own: &mut O, line: &Line) -> Result<Step
     ensures values { is_put line.now.verb ≡ false
         → (O.state own.new).values ≡ (O.state own.old).values }
     ensures marks { LaysUnder O.is_shared line.now.number (O.state own.old) (O.state own.new) }
+    ensures lays { IfOk result (λ step. LaysJust O.is_shared (O.state own.old) (O.state own.new)
+        line.now.number (written_by line.now.verb) (Ok step)) }
     ensures puts { IfOk result (PutsOn line.now.verb
         (O.state own.old) (O.state own.new)) }
     ensures shows { IfOk result (StepTold (region_seen (O.state own.new).strokes)

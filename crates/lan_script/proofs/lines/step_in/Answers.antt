@@ -1,10 +1,11 @@
-use Rattle.std.proofs.Common.{ap, rules, ◌≡◌, ℕ, List, IfOk, subst}
+use Rattle.std.proofs.Common.{ap, refl, rules, sym, ◌≡◌, ◌∙◌, ℕ, List, Some, None, IfOk, subst}
 use Rattle.lan_script.specs.Values.{is_put}
 use Rattle.lan_script.proofs.OwnPages.{puts_is, puts_none}
-use Rattle.unit_region.proofs.Laws.{fill_told, peek_told, poke_told, tce_told, none_under}
+use Rattle.unit_region.proofs.Laws.{fill_told, just_by, just_read, just_under, none_under, peek_told, poke_told, tce_told}
 use Rattle.unit_region.specs.Answers.{AnswersWrite}
 use Rattle.unit_region.specs.Pattern.{pattern}
-use Rattle.unit_region.specs.Marks.{LaysUnder}
+use Rattle.unit_region.specs.Marks.{LaysJust}
+use Rattle.unit_region.specs.RegionLines.{written_by}
 use Rattle.lan_script.proofs.lines.step_in.Goals as goal
 
 pub returns-in-Fill-clause-puts : goal.returns-in-Fill-clause-puts
@@ -51,12 +52,18 @@ returns-in-Tce-clause-shows g c =
 pub returns-in-Fill-clause-marks : goal.returns-in-Fill-clause-marks
 returns-in-Fill-clause-marks g c =
     let mark : c.from-mark.result ≡ c.args.line.now.number = search rules in
-    subst (λ n. LaysUnder g.O.WindowPort.is_shared n (g.O.WindowPort.state c.args.own.now) (g.O.WindowPort.state c.fill.new.own)) mark c.fill.ensures.marks
+    just_under g.O.WindowPort.is_shared (g.O.WindowPort.state c.args.own.now) (g.O.WindowPort.state c.fill.new.own) c.args.line.now.number
+    (Some (record { at = c.in-Fill.at; bytes = pattern c.in-Fill.seed c.in-Fill.len })) c.fill.result
+    (subst (λ n. LaysJust g.O.WindowPort.is_shared (g.O.WindowPort.state c.args.own.now) (g.O.WindowPort.state c.fill.new.own) n
+    (Some (record { at = c.in-Fill.at; bytes = pattern c.in-Fill.seed c.in-Fill.len })) c.fill.result) mark c.fill.ensures.lays)
 
 pub returns-in-Poke-clause-marks : goal.returns-in-Poke-clause-marks
 returns-in-Poke-clause-marks g c =
     let mark : c.from-mark.result ≡ c.args.line.now.number = search rules in
-    subst (λ n. LaysUnder g.O.WindowPort.is_shared n (g.O.WindowPort.state c.args.own.now) (g.O.WindowPort.state c.poke.new.own)) mark c.poke.ensures.marks
+    just_under g.O.WindowPort.is_shared (g.O.WindowPort.state c.args.own.now) (g.O.WindowPort.state c.poke.new.own) c.args.line.now.number
+    (Some (record { at = c.in-Poke.at; bytes = c.as_slice.result.now })) c.poke.result
+    (subst (λ n. LaysJust g.O.WindowPort.is_shared (g.O.WindowPort.state c.args.own.now) (g.O.WindowPort.state c.poke.new.own) n
+    (Some (record { at = c.in-Poke.at; bytes = c.as_slice.result.now })) c.poke.result) mark c.poke.ensures.lays)
 
 pub returns-in-Peek-clause-marks : goal.returns-in-Peek-clause-marks
 returns-in-Peek-clause-marks g c =
@@ -65,3 +72,29 @@ returns-in-Peek-clause-marks g c =
 pub returns-in-Tce-clause-marks : goal.returns-in-Tce-clause-marks
 returns-in-Tce-clause-marks g c =
     none_under g.O.WindowPort.is_shared c.args.line.now.number (g.O.WindowPort.state c.args.own.now) (g.O.WindowPort.state c.put_tce.new.own) c.put_tce.ensures.marks
+
+pub returns-in-Fill-clause-lays : goal.returns-in-Fill-clause-lays
+returns-in-Fill-clause-lays g c =
+    let mark : c.from-mark.result ≡ c.args.line.now.number = search rules in
+    just_by g.O.WindowPort.is_shared (g.O.WindowPort.state c.args.own.now) (g.O.WindowPort.state c.fill.new.own) c.from-mark.result c.args.line.now.number
+    (Some (record { at = c.in-Fill.at; bytes = pattern c.in-Fill.seed c.in-Fill.len })) (written_by c.args.line.now.verb) c.fill.result mark
+    (sym (ap written_by c.in-Fill.is)) c.fill.ensures.lays
+
+pub returns-in-Poke-clause-lays : goal.returns-in-Poke-clause-lays
+returns-in-Poke-clause-lays g c =
+    let mark : c.from-mark.result ≡ c.args.line.now.number = search rules in
+    just_by g.O.WindowPort.is_shared (g.O.WindowPort.state c.args.own.now) (g.O.WindowPort.state c.poke.new.own) c.from-mark.result c.args.line.now.number
+    (Some (record { at = c.in-Poke.at; bytes = c.as_slice.result.now })) (written_by c.args.line.now.verb) c.poke.result mark
+    (ap (λ (bytes : List ℕ). Some (record { at = c.in-Poke.at; bytes = bytes })) c.as_slice.ensures ∙ sym (ap written_by c.in-Poke.is)) c.poke.ensures.lays
+
+pub returns-in-Peek-clause-lays : goal.returns-in-Peek-clause-lays
+returns-in-Peek-clause-lays g c =
+    just_by g.O.WindowPort.is_shared (g.O.WindowPort.state c.args.own.now) (g.O.WindowPort.state c.peek.new.own) c.args.line.now.number c.args.line.now.number
+    None (written_by c.args.line.now.verb) c.peek.result refl (sym (ap written_by c.in-Peek.is))
+    (just_read g.O.WindowPort.is_shared (g.O.WindowPort.state c.args.own.now) (g.O.WindowPort.state c.peek.new.own) c.args.line.now.number c.peek.result c.peek.ensures.marks)
+
+pub returns-in-Tce-clause-lays : goal.returns-in-Tce-clause-lays
+returns-in-Tce-clause-lays g c =
+    just_by g.O.WindowPort.is_shared (g.O.WindowPort.state c.args.own.now) (g.O.WindowPort.state c.put_tce.new.own) c.args.line.now.number c.args.line.now.number
+    None (written_by c.args.line.now.verb) c.put_tce.result refl (sym (ap written_by c.in-Tce.is))
+    (just_read g.O.WindowPort.is_shared (g.O.WindowPort.state c.args.own.now) (g.O.WindowPort.state c.put_tce.new.own) c.args.line.now.number c.put_tce.result c.put_tce.ensures.marks)

@@ -9,6 +9,7 @@ use Rattle.lan_script.specs.Values.{is_put}
 use Rattle.std.proofs.Common.{Ok}
 use Rattle.lan_script.proofs.OwnPages.{bytes_ok, names_placed, names_same, names_still, no_bytes, no_bytes_here}
 use Rattle.lan_script.proofs.RegionsGrow.{told_apart, told_ok}
+use Rattle.lan_script.proofs.RegionMarks.{lays_apart}
 use Rattle.lan_script.specs.Seats.{is_in_region}
 use Rattle.lan_script.specs.Regions.{LaysLine}
 use Rattle.lan_script.proofs.lan.Lan.step.Goals as goal
@@ -218,3 +219,24 @@ pub returns-in-Send-clause-marks : goal.returns-in-Send-clause-marks
 returns-in-Send-clause-marks c =
     let mark : c.from-mark.result ≡ c.args.line.now.number = search rules in
     subst (λ n. OnOk c.send_line.result (LaysLine c.args.unit n c.args.self.now c.send_line.new.self)) mark c.send_line.ensures.marks
+
+pub returns-in-Open-clause-lays : goal.returns-in-Open-clause-lays
+returns-in-Open-clause-lays c = lays_apart c.args.line.now.verb _ (ap is_in_region c.in-Open.is)
+
+pub returns-in-Close-clause-lays : goal.returns-in-Close-clause-lays
+returns-in-Close-clause-lays c = lays_apart c.args.line.now.verb _ (ap is_in_region c.in-Close.is)
+
+pub returns-in-Post-clause-lays : goal.returns-in-Post-clause-lays
+returns-in-Post-clause-lays c = lays_apart c.args.line.now.verb _ (ap is_in_region c.in-Post.is)
+
+pub returns-in-Send-clause-lays : goal.returns-in-Send-clause-lays
+returns-in-Send-clause-lays c = lays_apart c.args.line.now.verb _ (ap is_in_region c.in-Send.is)
+
+pub returns-in-Take-clause-lays : goal.returns-in-Take-clause-lays
+returns-in-Take-clause-lays c = lays_apart c.args.line.now.verb _ (ap is_in_region c.in-Take.is)
+
+pub returns-in-ChangeMac-clause-lays : goal.returns-in-ChangeMac-clause-lays
+returns-in-ChangeMac-clause-lays c = lays_apart c.args.line.now.verb _ (ap is_in_region c.in-ChangeMac.is)
+
+pub returns-in-Multicast-clause-lays : goal.returns-in-Multicast-clause-lays
+returns-in-Multicast-clause-lays c = lays_apart c.args.line.now.verb _ (ap is_in_region c.in-Multicast.is)

@@ -5,7 +5,7 @@ use Rattle.lan_script.proofs.Lans.{lan_back, place_after, window_there}
 use Rattle.lan_script.proofs.ReplayedValues.{put_back, put_beside}
 use Rattle.lan_script.proofs.OwnPages.{region_back}
 use Rattle.lan_script.proofs.RegionsGrow.{regions_back, told_back}
-use Rattle.lan_script.proofs.RegionMarks.{line_back}
+use Rattle.lan_script.proofs.RegionMarks.{lays_back, line_back}
 use Rattle.lan_script.proofs.lan.Lan.step_in_region.Goals as goal
 
 pub take-own-requires : goal.take-own-requires
@@ -72,9 +72,15 @@ returns-clause-shows c =
 pub returns-clause-marks : goal.returns-clause-marks
 returns-clause-marks c =
     line_back _ c.args.self.now c.args.unit c.args.line.now.number c.take-own.new.self c.put.new.self c.take-own.result c.step_in-step.new.own c.self.view_is
-    c.take-own.ensures.window c.take-own.ensures.rest c.put.ensures c.step_in-step.ensures.marks
+    c.take-own.ensures.window c.take-own.ensures.unit c.take-own.ensures.rest c.put.ensures c.step_in-step.ensures.marks
 
 pub returns-in_err-step-clause-marks : goal.returns-in_err-step-clause-marks
 returns-in_err-step-clause-marks c =
     line_back _ c.args.self.now c.args.unit c.args.line.now.number c.take-own.new.self c.put.new.self c.take-own.result c.step_in-step.new.own c.self.view_is
-    c.take-own.ensures.window c.take-own.ensures.rest c.put.ensures c.step_in-step.ensures.marks
+    c.take-own.ensures.window c.take-own.ensures.unit c.take-own.ensures.rest c.put.ensures c.step_in-step.ensures.marks
+
+pub returns-clause-lays : goal.returns-clause-lays
+returns-clause-lays c =
+    lays_back _ c.args.self.now _ c.args.unit c.args.line.now.number c.args.line.now.verb c.in_ok-step.field-0 c.of.result c.take-own.new.self c.take-own.result
+    c.step_in-step.new.own c.self.view_is c.take-own.ensures.window c.take-own.ensures.unit c.take-own.ensures.rest c.put.ensures
+    c.in_ok-step.ensures.lays c.of.ensures.same

@@ -59,6 +59,6 @@ returns-clause-regions c =
 pub returns-clause-marks : goal.returns-clause-marks
 returns-clause-marks c =
     line_back _ c.args.self.now c.args.unit c.args.mark c.take-own.new.self c.put.new.self c.take-own.result c.write-answer.new.self c.self.view_is
-    c.take-own.ensures.window c.take-own.ensures.rest c.put.ensures
+    c.take-own.ensures.window c.take-own.ensures.unit c.take-own.ensures.rest c.put.ensures
     (write_under false (known_of c.take-own.result) (known_of c.write-answer.new.self) c.args.at c.args.bytes.now c.args.mark c.write-answer.result
     c.write-answer.ensures.ok c.write-answer.ensures.err)
