@@ -12,6 +12,7 @@ use Rattle.rdma_copy.specs.Copy.{IsLawful, SideGrows}
 use Rattle.block_server.specs.Advances.{Advances, CopiesMore, IsOwnCopy, PutsMore}
 use Rattle.block_server.specs.Entries.{MayPut}
 use Rattle.block_server.specs.SiteState.{Lenders, SiteState}
+use Rattle.block_server.proofs.OwnerNames.{owner_on, owner_same}
 
 pub begins_same : {X : Type 0} (xs : List X) → Begins xs xs
 begins_same xs = ([], sym (append-nil xs))
@@ -97,6 +98,7 @@ advances_same site = record {
   copies = copies_none site.own site.client site.copies site.copies refl;
   own_in_use = omega arith;
   client_in_use = omega arith;
+  owner = λ alone. owner_same (side_of site.client);
   named = λ alone is. is;
   own_named = λ is. is;
 }
@@ -120,6 +122,7 @@ advances_on old mid new first next = record {
   copies = copies_on mid.own new.own mid.client new.client next.own next.client old.copies mid.copies new.copies first.copies next.copies;
   own_in_use = omega (arith, first.own_in_use, next.own_in_use);
   client_in_use = omega (arith, first.client_in_use, next.client_in_use);
+  owner = λ alone. owner_on (side_of old.client) (side_of mid.client) (side_of new.client) first.client.unit (first.owner alone) (next.owner (first.shared ∙ alone));
   named = λ alone is. next.named (first.shared ∙ alone) (first.named alone is);
   own_named = λ is. next.own_named (first.own_named is);
 }

@@ -13,12 +13,12 @@ use Rattle.vio_num.specs.declared.history.Served.{Served}
 use Rattle.vio_num.specs.declared.names.UnitId.{UnitId}
 use Rattle.block_server.specs.Answering.{OnlyRowsOf, StaysRow}
 use Rattle.block_server.specs.Books.{books_seen, is_up, next_of, number_of}
-use Rattle.block_server.specs.Judged.{AreCounted, AreKept, Books, Credits, IsAllServed, IsServedUnder, IsWorkDone, Judged, RowKey, due, due_under, has_row, is_under, keys_of, row_key, row_number, row_numbers, IsOpenRow, answered_under}
+use Rattle.block_server.specs.Judged.{AreCounted, AreKept, Books, Credits, IsAllServed, IsPast, IsServedUnder, IsWorkDone, Judged, RowKey, due, due_under, has_row, is_under, keys_of, row_key, row_number, row_numbers, IsOpenRow, answered_under}
 use Rattle.block_server.specs.Closings.{HasCauses}
 use Rattle.block_server.specs.Numbers.{NameLogins, Rise, granted_numbers}
 use Rattle.block_server.specs.Judges.{AreUnused, HasKept}
 use Rattle.block_server.specs.Makers.{same_unit}
-use Rattle.block_server.specs.Receipts.{LinesMore, is_ended, unit_of}
+use Rattle.block_server.specs.Receipts.{EndedFor, LinesMore, is_ended, unit_of}
 use Rattle.block_server.specs.declared.request.Arrival.{Arrival}
 use Rattle.block_server.specs.declared.request.Request.{Request}
 use Rattle.block_server.specs.declared.service.Stage.{Stage}
@@ -222,9 +222,17 @@ causes_seen units unit u id queue history grants judged there has =
     subst (λ (o : Option Unit). IfSome o (λ u. AreKept (books_seen u id queue history grants) judged)) there has in
     is.lines.causes
 
+-- Each session of a unit that is over ended for a cause, and a line says so.
+pub closed_seen : (units : List Unit) (unit : ℕ) (u : Unit) (id : UnitId) (queue : EndState) (history : List Served) (grants : List Grant) (judged : List Judged)
+    → slice_get units unit ≡ Some u → HasKept units unit id queue history grants judged → (session : ℕ) → 1 ≤ session → IsPast queue.last_session (is_ended u.line) session → EndedFor id session grants
+closed_seen units unit u id queue history grants judged there has =
+    let is : AreKept (books_seen u id queue history grants) judged =
+    subst (λ (o : Option Unit). IfSome o (λ u. AreKept (books_seen u id queue history grants) judged)) there has in
+    is.lines.closed
+
 -- Units that judged nothing.
 pub none_unused : (units : List Unit) → units ≡ [] → AreUnused units
-none_unused units none = subst AreUnused (sym none) (λ number id queue none. tt)
+none_unused units none = subst AreUnused (sym none) (λ number id queue first none. tt)
 
 pub more_unused : (units : List Unit) (new : Unit) → AreUnused units → new.logins.current ≡ 0 → new.logins.last ≡ 0 → new.logins.taking ≡ false → new.service.stage ≡ Start
     → new.line.kept ≡ None → new.pending.items ≡ [] → new.waiting ≡ None → AreUnused (units ++ new ∷ [])
@@ -236,16 +244,16 @@ more_unused units new all current last taking stage kept pending waiting = at un
     first : (queue : EndState) → queue.taken ≡ [] → number_of new.waiting queue ≡ 0
     first queue none = ap (λ w. number_of w queue) waiting ∙ ap length (ap (of_session queue.last_session) none ∙ of_session-nil queue.last_session)
 
-    unused : (id : UnitId) (queue : EndState) → queue.taken ≡ [] → AreKept (books_seen new id queue [] []) []
-    unused id queue none =
+    unused : (id : UnitId) (queue : EndState) → queue.last_session ≡ 0 → queue.taken ≡ [] → AreKept (books_seen new id queue [] []) []
+    unused id queue begun none =
         moved_to (fresh_books id queue.last_session (next_of new.waiting queue) (is_ended new.line) (is_up new.line.handshake) credits) (books_seen new id queue [] []) [] refl refl refl current last taking stage kept pending refl refl refl refl refl
-        (kept_new id queue.last_session (next_of new.waiting queue) (is_ended new.line) (is_up new.line.handshake) credits none (first queue none))
+        (kept_new id queue.last_session (next_of new.waiting queue) (is_ended new.line) (is_up new.line.handshake) credits begun none (first queue none))
 
     at : (units : List Unit) → AreUnused units → AreUnused (units ++ new ∷ [])
-    at [] all zero id queue none = unused id queue none
-    at [] all (suc n) id queue none = tt
-    at (first ∷ units) all zero id queue none = all zero id queue none
-    at (first ∷ units) all (suc n) id queue none = at units (λ m id queue none. all (suc m) id queue none) n id queue none
+    at [] all zero id queue begun none = unused id queue begun none
+    at [] all (suc n) id queue begun none = tt
+    at (first ∷ units) all zero id queue begun none = all zero id queue begun none
+    at (first ∷ units) all (suc n) id queue begun none = at units (λ m id queue begun none. all (suc m) id queue begun none) n id queue begun none
 
 -- What is outstanding is counted, and was where a login ended for more than it grants.
 pub counted_seen : (units : List Unit) (unit : ℕ) (u : Unit) (id : UnitId) (queue : EndState) (history : List Served) (grants : List Grant) (judged : List Judged)

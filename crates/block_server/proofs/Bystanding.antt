@@ -128,9 +128,9 @@ fresh_books id session next ended up credits = record {
   credits = credits;
 }
 
--- A unit was made, among no rows and no lines.
-pub kept_new : (id : UnitId) (session : ℕ) (next : Ahead) (ended up : Bool) (credits : Credits) → next.taken ≡ [] → next.number ≡ 0 → AreKept (fresh_books id session next ended up credits) []
-kept_new id session next ended up credits none zero = record {
+-- A unit was made, among no rows and no lines, and no session of its queue began.
+pub kept_new : (id : UnitId) (session : ℕ) (next : Ahead) (ended up : Bool) (credits : Credits) → session ≡ 0 → next.taken ≡ [] → next.number ≡ 0 → AreKept (fresh_books id session next ended up credits) []
+kept_new id session next ended up credits first none zero = record {
   fates = All-nil (λ (j : Judged). HasFate id [] j.receipt j.fate);
   served = λ login some. record { rest = []; in_order = refl; waiting = λ on. refl; out = inl refl };
   logins = record {
@@ -144,7 +144,7 @@ kept_new id session next ended up credits none zero = record {
   stage = tt;
   kept = tt;
   under = All-nil (λ (row : RowKey). same_unit row.unit id ≡ true → 1 ≤ row.login);
-  lines = lines_new id session next up credits ended none zero;
+  lines = lines_new id session next up credits ended first none zero;
   idle = λ over. (refl, refl);
   numbers = numbers_new id session;
   rising = rising_new id session next.number;

@@ -98,6 +98,11 @@ open_goes_on false Down none on = absurd (on refl)
 open_goes_on false Waiting none on = refl
 open_goes_on false Up none on = refl
 
+-- a session that begins goes on
+pub begun_ended : (closing : Bool) (h : Handshake) → closing ≡ false → h ≡ Waiting → closing || is_down h ≡ false
+begun_ended true h on begun = absurd (cc (on))
+begun_ended false h on begun = ap is_down begun
+
 -- freed or not, a session that is to be closed takes nothing more
 pub freed_ended : (closing closing' : Bool) (h h' : Handshake) → closing ≡ true → h' ≡ Down → closing' || is_down h' ≡ closing || is_down h
 freed_ended true closing' h h' over down = down_ended closing' h' down

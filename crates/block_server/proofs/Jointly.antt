@@ -34,7 +34,7 @@ use Rattle.block_server.specs.declared.unit.Unit.{Unit}
 use Rattle.block_server.proofs.Advancing.{advances_same}
 use Rattle.block_server.proofs.Deciding.{judges_ended, judges_entry, judges_fetched, judges_none, judges_on, judges_other, judges_still}
 use Rattle.block_server.proofs.GoingOn.{srp_no_event}
-use Rattle.block_server.proofs.Lines.{lines_closed, lines_open, lines_taken, row_at}
+use Rattle.block_server.proofs.Lines.{lines_closed, lines_taken, row_at}
 use Rattle.block_server.proofs.Receiving.{intake_passes, intake_stays, receipt_of}
 use Rattle.block_server.proofs.Keeping.{going_on, keeps_later, keeps_session, moved_to}
 use Rattle.block_server.proofs.Units.{get_set_same}
@@ -241,12 +241,6 @@ pub keeps_pass : (unit : Unit) (records : Records) (old new : SiteState) → Pas
 keeps_pass unit records old new passes = λ judged is. moved_to (books_at unit old records) (books_at unit new records) judged refl (passed_session old new passes) (next_passed unit.waiting old new passes)
     refl refl refl refl refl refl refl refl refl refl refl is
 
--- The books of a unit that is idle do not ask whether its session is over.
-pub keeps_opened : (books : Books) (ended : Bool) → books.ended ≡ false → books.pending ≡ [] → books.current ≡ 0 → Keeps books (record books { ended = ended })
-keeps_opened books ended on none off = λ judged is. keeps_later books books.next ended books.up judged (le_refl books.next.number) (λ over. (none, off))
-    (lines_open books.id books.session books.next books.current books.taking books.up books.credits books.grants ended judged
-    (subst (λ (t : Bool). KeepsLines books.id books.session books.next books.current books.taking books.up books.credits books.grants t judged) on is.lines)) is
-
 -- A session begins: nothing is pending, and no login is on.
 pub keeps_registered : (unit : Unit) (records : Records) (old mid : SiteState) (books' : Books) → is_ended unit.line ≡ true → unit.waiting ≡ None
     → mid.queue.last_session ≡ old.queue.last_session + 1 → mid.queue.taken ≡ old.queue.taken
@@ -254,7 +248,7 @@ pub keeps_registered : (unit : Unit) (records : Records) (old mid : SiteState) (
 keeps_registered unit records old mid books' over waiting session taken next = λ judged is.
     let idle = is.idle over in
     next idle.0 idle.1 judged
-    (keeps_session (books_at unit old records) mid.queue.last_session (next_of unit.waiting mid.queue) false false judged (later _ _ session) taken (first judged is) idle.0 idle.1 is)
+    (keeps_session (books_at unit old records) mid.queue.last_session (next_of unit.waiting mid.queue) false judged session over taken (first judged is) idle.0 idle.1 is)
   where
     later : (a b : ℕ) → b ≡ a + 1 → a < b
     later a b next = omega (arith, next)
@@ -271,7 +265,8 @@ keeps_freed unit line records old new passes kept over ended = λ judged is.
     moved_to (record books { ended = true; up = is_up line.handshake }) (books_at (record unit { line = line }) new records) judged
     refl (passed_session old new passes) (next_passed unit.waiting old new passes) refl refl refl refl kept refl refl refl ended refl refl
     (keeps_later books books.next true (is_up line.handshake) judged (le_refl books.next.number) (λ still. is.idle over)
-    (lines_closed books.id books.session books.next books.current books.taking books.up (is_up line.handshake) books.credits books.grants books.ended judged is.lines) is)
+    (lines_closed books.id books.session books.next books.current books.taking books.up (is_up line.handshake) books.credits books.grants judged
+    (subst (λ (t : Bool). KeepsLines books.id books.session books.next books.current books.taking books.up books.credits books.grants t judged) over is.lines)) is)
 
 -- While an answer is to be copied the session goes on.
 pub answer_going : (books : Books) (judged : List Judged) (outcome : Outcome) → AreKept books judged → books.stage ≡ stages.Answer outcome → books.ended ≡ false

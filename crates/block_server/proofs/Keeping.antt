@@ -3,7 +3,6 @@ use Rattle.std.proofs.Common.{◌≡◌, ◌⊎◌, inl, inr, ◌+◌, ◌==◌,
 use Rattle.std.proofs.lemmas.Bool.{eq-eqb, eqb-true, ne_eqb}
 use Rattle.std.proofs.lemmas.List.{length-map}
 use Rattle.std.proofs.lemmas.List.Elements.{All-push, All-weaker, Contains-append_left, Contains-push}
-use Rattle.vio_num.specs.declared.entry.Entry.{Entry}
 use Rattle.vio_num.specs.declared.history.Grant.{Grant}
 use Rattle.vio_num.specs.declared.history.Grant.TheVariants.{Granted, Lapsed}
 use Rattle.vio_num.specs.declared.history.Lapse.{Lapse}
@@ -403,9 +402,9 @@ keeps_granted books number front rest judged parts grants is =
     after_one n m high = omega (arith, high)
 
 -- A session began, while nothing was pending.
-pub keeps_session : (books : Books) (session' : ℕ) (next' : Ahead) (ended' up' : Bool) (judged : List Judged) → books.session < session' → next'.taken ≡ books.next.taken → next'.number ≡ 0 → books.pending ≡ [] → books.current ≡ 0
-    → AreKept books judged → AreKept (record books { session = session'; next = next'; ended = ended'; up = up' }) judged
-keeps_session books session' next' ended' up' judged later taken first none off is = record {
+pub keeps_session : (books : Books) (session' : ℕ) (next' : Ahead) (up' : Bool) (judged : List Judged) → session' ≡ books.session + 1 → books.ended ≡ true → next'.taken ≡ books.next.taken → next'.number ≡ 0 → books.pending ≡ [] → books.current ≡ 0
+    → AreKept books judged → AreKept (record books { session = session'; next = next'; ended = false; up = up' }) judged
+keeps_session books session' next' up' judged one over taken first none off is = record {
   fates = is.fates;
   served = λ login some. moved login (is.served login some);
   logins = record {
@@ -419,8 +418,8 @@ keeps_session books session' next' ended' up' judged later taken first none off 
   stage = is.stage;
   kept = is.kept;
   under = is.under;
-  lines = lines_session books.id books.session session' books.next next' books.current books.taking books.up up' books.credits books.grants books.ended ended' judged later taken first off is.lines;
-  idle = λ over. (none, off);
+  lines = lines_session books.id books.session session' books.next next' books.current books.taking books.up up' books.credits books.grants books.ended judged one over taken first off is.lines;
+  idle = λ still. (none, off);
   numbers = numbers_begun books.id books.session session' books.current books.last books.grants off (is.lines.later session' later) is.numbers;
   rising = rising_begun books.id books.session session' books.next.number next'.number books.pending books.grants none (is.lines.later session' later) is.rising;
   rows = rows_begun books.id books.session session' books.next.number next'.number (due (has_row books.stage) books.pending) books.rows
@@ -428,6 +427,9 @@ keeps_session books session' next' ended' up' judged later taken first none off 
   counted = record { row = is.counted.row; exact = is.counted.exact; most = is.counted.most; limits = is.counted.limits; asked_out = is.counted.asked_out; none_later = is.counted.none_later };
 }
   where
+    later : books.session < session'
+    later = omega (arith, one)
+
     none_due : (has : Bool) → due has [] ≡ []
     none_due true = refl
     none_due false = refl
@@ -621,6 +623,7 @@ keeps_answered books place row judged at there is =
         later = is.lines.later;
         over = is.lines.over;
         going = is.lines.going;
+        closed = is.lines.closed;
         upto = is.lines.upto;
         near = is.lines.near;
         unheard = is.lines.unheard;

@@ -3,7 +3,7 @@ use Rattle.std.proofs.Common.{◌≡◌, ◌⊎◌, inl, inr, ◌+◌, ◌==◌,
 use Rattle.std.specs.List.{AllPairs}
 use Rattle.std.proofs.lemmas.Bool.{eq-eqb, eqb-true}
 use Rattle.std.proofs.lemmas.List.{take_all}
-use Rattle.std.proofs.lemmas.List.Elements.{All-head, All-push, All-tail, All-nil}
+use Rattle.std.proofs.lemmas.List.Elements.{All-head, All-push, All-tail, All-nil, Contains-push}
 use Rattle.crq_ring.specs.Sessions.{of_session}
 use Rattle.crq_ring.specs.declared.rows.PipeRow.{PipeRow}
 use Rattle.crq_ring.proofs.SessionLaws.{of_session-nil, of_session-pass, of_session-push}
@@ -17,13 +17,13 @@ use Rattle.block_server.specs.Closings.{AreLosses, ClosesBefore, EndsBefore, Giv
 use Rattle.block_server.specs.Decided.{IsEnd, IsGone, IsJudgedLast, IsTurnedDown}
 use Rattle.block_server.specs.Fates.{Judged, ends}
 use Rattle.block_server.specs.Fates.Fate.{ends_it}
-use Rattle.block_server.specs.Judged.{Ahead, Books, Credits, IsOn, KeepsLines}
+use Rattle.block_server.specs.Judged.{Ahead, Books, Credits, IsOn, IsPast, KeepsLines}
 use Rattle.block_server.specs.Makers.{same_unit}
-use Rattle.block_server.specs.Receipts.{Receipt, is_fatal, unit_of}
+use Rattle.block_server.specs.Receipts.{EndedFor, Receipt, is_fatal, unit_of}
 use Rattle.block_server.proofs.Closing.{all_grow, causes_push}
 use Rattle.block_server.proofs.Heard.{and_first, and_next, heard_event, last_other, last_own, take_none}
 use Rattle.block_server.proofs.Judging.{filter_left, unit_self}
-use Rattle.block_server.proofs.Lines.{apart_later, line_later, losses_gone, losses_other, once_push, row_at}
+use Rattle.block_server.proofs.Lines.{apart_later, closed_more, line_later, losses_gone, losses_other, once_push, row_at}
 
 upto : (a b : ℕ) → a ≡ b → a ≤ b
 upto a b same = omega (arith, same)
@@ -55,6 +55,20 @@ others_grow : (unit : UnitId) (taken rows : List PipeRow) (judged more : List Ju
     → Others unit (taken ++ rows) (judged ++ more) lines
 others_grow unit taken rows judged more lines once is = record { once = once; last = is.last; single = is.single; causes = all_grow unit taken rows judged more [] lines is.causes }
 
+-- a session that is over as the login ended was over before, or this line says so
+closed_lapsed : (unit : UnitId) (session login : ℕ) (cause : Lapse) (outstanding granted : ℕ) (grants : List Grant) (ended' : Bool) → ((q : ℕ) → 1 ≤ q → q < session → EndedFor unit q grants)
+    → (ended' ≡ true → is_fatal cause ≡ true) → (q : ℕ) → 1 ≤ q → IsPast session ended' q → EndedFor unit q (grants ++ Lapsed unit session login cause outstanding granted ∷ [])
+closed_lapsed unit session login cause outstanding granted grants ended' closed ends q some (inl earlier) = closed_more unit q grants _ (closed q some earlier)
+closed_lapsed unit session login cause outstanding granted grants ended' closed ends q some (inr last) =
+    subst (λ (n : ℕ). EndedFor unit n (grants ++ Lapsed unit session login cause outstanding granted ∷ [])) (sym last.0) (record {
+      login = login;
+      cause = cause;
+      outstanding = outstanding;
+      granted = granted;
+      listed = Contains-push grants (Lapsed unit session login cause outstanding granted);
+      fatal = ends last.1;
+    })
+
 -- A line on the end of the login that is on came, and none is on any more.
 lines_lapsed : (unit : UnitId) (session : ℕ) (next' : Ahead) (current : ℕ) (up : Bool) (credits' : Credits) (grants : List Grant) (ended' : Bool) (judged : List Judged) (cause : Lapse) (outstanding granted : ℕ)
     → (1 ≤ current → IsOn unit current grants) → filter (is_closing unit session) grants ≡ []
@@ -62,10 +76,10 @@ lines_lapsed : (unit : UnitId) (session : ℕ) (next' : Ahead) (current : ℕ) (
     → HasCause unit next'.taken judged grants (Lapsed unit session current cause outstanding granted)
     → Others unit next'.taken judged grants → All (λ j. j.receipt.session ≤ session) judged → ((q : ℕ) → session < q → of_session q next'.taken ≡ [])
     → ((q : ℕ) → session < q → filter (is_line unit q) grants ≡ []) → All (λ j. j.fate ≡ ends_it → j.receipt.session ≡ session → ended' ≡ true) judged
-    → (ended' ≡ false → is_fatal cause ≡ false) → next'.number ≤ length (of_session session next'.taken) → length (of_session session next'.taken) ≤ next'.number + 1
+    → ((q : ℕ) → 1 ≤ q → q < session → EndedFor unit q grants) → (ended' ≡ true → is_fatal cause ≡ true) → (ended' ≡ false → is_fatal cause ≡ false) → next'.number ≤ length (of_session session next'.taken) → length (of_session session next'.taken) ≤ next'.number + 1
     → (ended' ≡ false → up ≡ false → heard (take next'.number (of_session session next'.taken)) ≡ false)
     → KeepsLines unit session next' 0 false up credits' (grants ++ Lapsed unit session current cause outstanding granted ∷ []) ended' judged
-lines_lapsed unit session next' current up credits' grants ended' judged cause outstanding granted on unclosed losses why causes begun risen later over fatal low high unheard =
+lines_lapsed unit session next' current up credits' grants ended' judged cause outstanding granted on unclosed losses why causes begun risen later over closed ends fatal low high unheard =
     let line = Lapsed unit session current cause outstanding granted in
     record {
       causes = causes_push unit next'.taken judged grants line losses
@@ -78,6 +92,7 @@ lines_lapsed unit session next' current up credits' grants ended' judged cause o
       later = λ q above. filter_left (is_line unit q) grants line (line_later unit session q (same_unit unit unit) above) ∙ later q above;
       over = over;
       going = λ still. filter_left (is_closing unit session) grants line (and_first (is_fatal cause) (same_unit unit unit && (session == session)) (fatal still)) ∙ unclosed;
+      closed = λ q some past. closed_lapsed unit session current cause outstanding granted grants ended' closed ends q some past;
       upto = low;
       near = high;
       unheard = unheard;
@@ -98,7 +113,7 @@ lines_out unit session next current taking up credits credits' grants ended judg
     lines_lapsed unit session next current up credits' grants ended judged lapses.Logout outstanding granted on (is.going going)
     (losses_other unit next.taken grants (Lapsed unit session current lapses.Logout outstanding granted) (λ q. refl) is.causes.losses)
     (λ own. is.off off current last.number credits.granted last.last)
-    (others_of unit next.taken judged grants is.causes) is.begun is.risen is.later is.over (λ still. refl) is.upto is.near is.unheard
+    (others_of unit next.taken judged grants is.causes) is.begun is.risen is.later is.over (λ q some earlier. is.closed q some (inl earlier)) (λ over. absurd (cc (over, going))) (λ still. refl) is.upto is.near is.unheard
 
 cause_lost : (cause : Lapse) → is_fatal cause ≡ true → is_lost cause ≡ false
 cause_lost lapses.Logout fatal = absurd (cc (fatal))
@@ -133,7 +148,7 @@ lines_gone unit session next next' current taking up up' credits credits' grants
     tt
     (subst (λ (z : List PipeRow × List Judged). Others unit z.0 z.1 grants) (λ i. ((sym taken) i, append-nil judged i))
     (others_grow unit next.taken (row ∷ []) judged [] grants (subst (AllPairs EndsBefore) (sym (append-nil judged)) is.causes.once) is.causes))
-    is.begun (λ q later. ap (of_session q) taken ∙ of_session-pass q row next.taken (apart_later session q later) ∙ is.risen q later) is.later is.over (λ still. refl)
+    is.begun (λ q later. ap (of_session q) taken ∙ of_session-pass q row next.taken (apart_later session q later) ∙ is.risen q later) is.later is.over (λ q some earlier. is.closed q some (inl earlier)) (λ over. absurd (cc (over, going))) (λ still. refl)
     (upto _ _ done) (near _ _ done)
     (λ still down. ap heard (take_all next'.number (of_session session next'.taken) (upto _ _ (sym done))) ∙ ap heard (ap (of_session session) taken ∙ of_session-push row next.taken)
     ∙ heard_event (of_session session next.taken) entry says)
@@ -148,7 +163,7 @@ lines_refused unit session next next' current taking up up' credits credits' gra
     (subst (λ rows. AreLosses unit rows (grants ++ Lapsed unit session current lapses.Refused outstanding granted ∷ [])) (sym taken)
     (losses_other unit next.taken grants (Lapsed unit session current lapses.Refused outstanding granted) (λ q. refl) is.causes.losses))
     tt (subst (λ rows. Others unit rows judged grants) (sym taken) (others_of unit next.taken judged grants is.causes))
-    is.begun (λ q later. ap (of_session q) taken ∙ is.risen q later) is.later (λ k d less fate same. refl) (λ still. absurd (cc (still)))
+    is.begun (λ q later. ap (of_session q) taken ∙ is.risen q later) is.later (λ k d less fate same. refl) (λ q some earlier. is.closed q some (inl earlier)) (λ over. refl) (λ still. absurd (cc (still)))
     (upto _ _ done) (near _ _ done) (λ still. absurd (cc (still)))
 
 -- It ended as the session did, for the entry that was judged.
@@ -169,7 +184,7 @@ lines_last unit session next next' current taking up up' credits credits' grants
     (subst (λ rows. Others unit rows (judged ++ j ∷ []) grants) (append-nil next.taken ∙ sym taken)
     (others_grow unit next.taken [] judged (j ∷ []) grants (once_push session ended judged j now going is.begun is.over is.causes.once) is.causes))
     (All-push (λ j. j.receipt.session ≤ session) judged j is.begun (upto _ _ now)) (λ q later. ap (of_session q) taken ∙ is.risen q later) is.later
-    (λ k d less fate same. refl) (λ still. absurd (cc (still)))
+    (λ k d less fate same. refl) (λ q some earlier. is.closed q some (inl earlier)) (λ over. fatal) (λ still. absurd (cc (still)))
     (upto _ _ done) (near _ _ done) (λ still. absurd (cc (still)))
 
 -- It ended for another cause than its logout.
@@ -230,6 +245,7 @@ lines_other unit session next current taking up credits grants ended judged line
       later = λ q above. filter_left (is_line unit q) grants line (none.0 q) ∙ is.later q above;
       over = is.over;
       going = λ still. filter_left (is_closing unit session) grants line (none.1.1.0 session) ∙ is.going still;
+      closed = λ q some past. closed_more unit q grants (line ∷ []) (is.closed q some past);
       upto = is.upto;
       near = is.near;
       unheard = is.unheard;
@@ -248,10 +264,15 @@ lines_others unit session next current taking up credits grants ended judged (li
     (lines_others unit session next current taking up credits (grants ++ line ∷ []) ended judged lines (All-tail (λ line. same_unit (unit_of line) unit ≡ false) line lines all)
     (lines_other unit session next current taking up credits grants ended judged line (All-head (λ line. same_unit (unit_of line) unit ≡ false) line lines all) is))
 
--- A unit that took nothing.
-pub lines_new : (unit : UnitId) (session : ℕ) (next : Ahead) (up : Bool) (credits : Credits) (ended : Bool) → next.taken ≡ [] → next.number ≡ 0
+-- no session is over before one began
+none_past : (session : ℕ) (ended : Bool) (q : ℕ) → session ≡ 0 → 1 ≤ q → IsPast session ended q → ⊥
+none_past session ended q first some (inl earlier) = absurd (omega (arith, first, some, earlier))
+none_past session ended q first some (inr last) = absurd (omega (arith, first, some, last.0))
+
+-- A unit that took nothing, of whose queue no session began.
+pub lines_new : (unit : UnitId) (session : ℕ) (next : Ahead) (up : Bool) (credits : Credits) (ended : Bool) → session ≡ 0 → next.taken ≡ [] → next.number ≡ 0
     → KeepsLines unit session next 0 false up credits [] ended []
-lines_new unit session next up credits ended none zero = record {
+lines_new unit session next up credits ended first none zero = record {
   causes = record {
     losses = λ q. sym (ap (λ rows. length (filter is_event (of_session q rows))) none ∙ ap (λ xs. length (filter is_event xs)) (of_session-nil q));
     once = λ i j d less inside. absurd (omega (arith, inside));
@@ -264,6 +285,7 @@ lines_new unit session next up credits ended none zero = record {
   later = λ q later. refl;
   over = All-nil (λ (j : Judged). j.fate ≡ ends_it → j.receipt.session ≡ session → ended ≡ true);
   going = λ on. refl;
+  closed = λ q some past. absurd (none_past session ended q first some past);
   upto = low _ _ zero;
   near = subst (λ (xs : List Entry). length xs ≤ next.number + 1) (sym fresh) (low 0 (next.number + 1) refl);
   unheard = λ on down. ap (λ xs. heard (take next.number xs)) fresh ∙ ap heard (take_none next.number);

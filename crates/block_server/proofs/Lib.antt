@@ -25,6 +25,7 @@ pub mod Owning
 pub mod Putting
 pub mod Quieting
 pub mod Sending
+pub mod OwnerNames
 pub mod Windows
 pub mod Rows
 pub mod AnswerLaws

@@ -1,9 +1,9 @@
 -- What the parts of a turn leave of the lines and their causes.
 use Rattle.std.proofs.Common.{◌≡◌, ◌≢◌, ◌⊎◌, inl, inr, ◌+◌, ◌==◌, ◌&&◌, ◌++◌, ◌<◌, ◌≤◌, ℕ, Bool, true, false, All, List, [], ◌∷◌, Some, get_or, length, filter, take, refl, sym, ◌∙◌, ap, subst, arith, append-nil, length-append}
 use Rattle.std.specs.List.{AllPairs}
-use Rattle.std.proofs.lemmas.Bool.{eq-eqb, eqb-true, ne_eqb}
+use Rattle.std.proofs.lemmas.Bool.{cases_lt, eq-eqb, eqb-true, ne_eqb}
 use Rattle.std.proofs.lemmas.List.{take-append-le, take_all}
-use Rattle.std.proofs.lemmas.List.Elements.{All-push, All-weaker}
+use Rattle.std.proofs.lemmas.List.Elements.{All-push, All-weaker, Contains-append_left}
 use Rattle.std.proofs.lemmas.List.Quantifiers.{all_pairs_push}
 use Rattle.crq_ring.specs.Sessions.{of_session}
 use Rattle.crq_ring.specs.declared.rows.PipeRow.{PipeRow}
@@ -16,25 +16,46 @@ use Rattle.vio_num.specs.declared.names.UnitId.{UnitId}
 use Rattle.block_server.specs.Closings.{AreLosses, EndsBefore, HasCauses, TakesNone, heard, is_closing, is_event, is_handshake, is_line, is_loss, last_of}
 use Rattle.block_server.specs.Fates.{Fate, Judged, accepted}
 use Rattle.block_server.specs.Fates.Fate.{ends_it}
-use Rattle.block_server.specs.Judged.{Ahead, Credits, KeepsLines}
+use Rattle.block_server.specs.Judged.{Ahead, Credits, IsPast, KeepsLines}
 use Rattle.block_server.specs.Makers.{same_unit}
-use Rattle.block_server.specs.Receipts.{Receipt}
+use Rattle.block_server.specs.Receipts.{EndedFor, Receipt}
 use Rattle.block_server.proofs.Closing.{causes_grow, causes_push}
 use Rattle.block_server.proofs.Heard.{and_next, heard_pass, last_own, none_closing, take_none}
 use Rattle.block_server.proofs.Judging.{filter_kept, filter_left, unit_self}
 
+-- A session that ended for a cause did so by more lines, too.
+pub closed_more : (unit : UnitId) (q : ℕ) (grants more : List Grant) → EndedFor unit q grants → EndedFor unit q (grants ++ more)
+closed_more unit q grants more is = record {
+  login = is.login;
+  cause = is.cause;
+  outstanding = is.outstanding;
+  granted = is.granted;
+  listed = Contains-append_left grants more _ is.listed;
+  fatal = is.fatal;
+}
+
+-- What is over as a session begins was over before.
+past_before : (session session' q : ℕ) (ended : Bool) → session' ≡ session + 1 → ended ≡ true → IsPast session' false q → IsPast session ended q
+past_before session session' q ended one over (inl earlier) = by (cases_lt q session)
+  where
+    by : (q < session) ⊎ (session ≤ q) → IsPast session ended q
+    by (inl before) = inl before
+    by (inr least) = inr (omega (arith, least, earlier, one), over)
+past_before session session' q ended one over (inr last) = absurd (cc (last.1))
+
 -- THE SESSION ------------------------------------------------------------------------------------
 
--- Nothing more is taken in the session.
-pub lines_closed : (unit : UnitId) (session : ℕ) (next : Ahead) (current : ℕ) (taking up up' : Bool) (credits : Credits) (grants : List Grant) (ended : Bool) (judged : List Judged)
-    → KeepsLines unit session next current taking up credits grants ended judged → KeepsLines unit session next current taking up' credits grants true judged
-lines_closed unit session next current taking up up' credits grants ended judged is = record {
+-- Nothing more was taken in the session, and the line stands otherwise.
+pub lines_closed : (unit : UnitId) (session : ℕ) (next : Ahead) (current : ℕ) (taking up up' : Bool) (credits : Credits) (grants : List Grant) (judged : List Judged)
+    → KeepsLines unit session next current taking up credits grants true judged → KeepsLines unit session next current taking up' credits grants true judged
+lines_closed unit session next current taking up up' credits grants judged is = record {
   causes = is.causes;
   begun = is.begun;
   risen = is.risen;
   later = is.later;
   over = λ k d less fate same. refl;
   going = λ on. absurd (cc (on));
+  closed = is.closed;
   upto = is.upto;
   near = is.near;
   unheard = λ on down. absurd (cc (on));
@@ -43,23 +64,18 @@ lines_closed unit session next current taking up up' credits grants ended judged
   counted = is.counted;
 }
 
--- Whether anything is, where it is known while more is taken.
-pub lines_open : (unit : UnitId) (session : ℕ) (next : Ahead) (current : ℕ) (taking up : Bool) (credits : Credits) (grants : List Grant) (ended' : Bool) (judged : List Judged)
-    → KeepsLines unit session next current taking up credits grants false judged → KeepsLines unit session next current taking up credits grants ended' judged
-lines_open unit session next current taking up credits grants true judged is = lines_closed unit session next current taking up up credits grants false judged is
-lines_open unit session next current taking up credits grants false judged is = is
-
 -- A session begins, while no login is on.
-pub lines_session : (unit : UnitId) (session session' : ℕ) (next next' : Ahead) (current : ℕ) (taking up up' : Bool) (credits : Credits) (grants : List Grant) (ended ended' : Bool) (judged : List Judged)
-    → session < session' → next'.taken ≡ next.taken → next'.number ≡ 0 → current ≡ 0
-    → KeepsLines unit session next current taking up credits grants ended judged → KeepsLines unit session' next' current taking up' credits grants ended' judged
-lines_session unit session session' next next' current taking up up' credits grants ended ended' judged later taken number none is = record {
+pub lines_session : (unit : UnitId) (session session' : ℕ) (next next' : Ahead) (current : ℕ) (taking up up' : Bool) (credits : Credits) (grants : List Grant) (ended : Bool) (judged : List Judged)
+    → session' ≡ session + 1 → ended ≡ true → next'.taken ≡ next.taken → next'.number ≡ 0 → current ≡ 0
+    → KeepsLines unit session next current taking up credits grants ended judged → KeepsLines unit session' next' current taking up' credits grants false judged
+lines_session unit session session' next next' current taking up up' credits grants ended judged one over taken number none is = record {
   causes = subst (λ rows. HasCauses unit rows judged grants) (sym taken) is.causes;
   begun = All-weaker (λ j. j.receipt.session ≤ session) (λ j. j.receipt.session ≤ session') (λ j. most j.receipt.session session session' later) judged is.begun;
   risen = λ q above. ap (of_session q) taken ∙ is.risen q (between session session' q later above);
   later = λ q above. is.later q (between session session' q later above);
   over = λ k d less fate same. absurd (apart (get_or judged k d).receipt.session session session' (is.begun k d less) later same);
   going = λ on. none_closing unit session' grants (is.later session' later);
+  closed = λ q some past. is.closed q some (past_before session session' q ended one over past);
   upto = zero_below _ _ number;
   near = subst (λ (xs : List Entry). length xs ≤ next'.number + 1) (sym fresh) (some next'.number);
   unheard = λ on down. ap (λ xs. heard (take next'.number xs)) fresh ∙ ap heard (take_none next'.number);
@@ -68,6 +84,9 @@ lines_session unit session session' next next' current taking up up' credits gra
   counted = λ some. absurd (none_one current none some);
 }
   where
+    later : session < session'
+    later = omega (arith, one)
+
     fresh : of_session session' next'.taken ≡ []
     fresh = ap (of_session session') taken ∙ is.risen session' later
 
@@ -128,6 +147,7 @@ lines_taken unit session next next' current taking up up' credits grants ended j
   later = is.later;
   over = is.over;
   going = is.going;
+  closed = is.closed;
   upto = upto how;
   near = near how;
   unheard = unheard how;
@@ -217,6 +237,7 @@ lines_judged unit session next next' current taking taking' up credits credits' 
       later = is.later;
       over = All-push (λ j. j.fate ≡ ends_it → j.receipt.session ≡ session → ended ≡ true) judged j is.over (λ ends same. absurd (other ends));
       going = is.going;
+      closed = is.closed;
       upto = subst (λ rows. next'.number ≤ length (of_session session rows)) (sym taken) (upto _ _ all);
       near = subst (λ rows. length (of_session session rows) ≤ next'.number + 1) (sym taken) (near _ _ all);
       unheard = λ on down. absurd (cc (heard_is, down));
@@ -291,6 +312,7 @@ lines_granted unit session next current login number taking up credits grants en
       later = λ q above. filter_left (is_line unit q) grants line (line_later unit session q (same_unit unit unit) above) ∙ is.later q above;
       over = is.over;
       going = λ on. filter_left (is_closing unit session) grants line refl ∙ is.going on;
+      closed = λ q some past. closed_more unit q grants (line ∷ []) (is.closed q some past);
       upto = is.upto;
       near = is.near;
       unheard = is.unheard;

@@ -25,6 +25,7 @@ use Rattle.block_server.specs.Advances.{Advances, KeepsFreed, PutsMore}
 use Rattle.block_server.specs.Entries.{MayPut}
 use Rattle.block_server.specs.SiteState.{Lenders, site}
 use Rattle.block_server.proofs.Advancing.{copies_none, later_same, puts_none, puts_one}
+use Rattle.block_server.proofs.OwnerNames.{owner_same}
 use Rattle.block_server.proofs.Quieting.{lost_none}
 
 -- a call of the queue's end alone
@@ -48,6 +49,7 @@ queue_call reached own client shared copies old new place session taken put part
   copies = copies_none own client copies copies refl;
   own_in_use = omega arith;
   client_in_use = omega arith;
+  owner = λ alone. owner_same (side_of client);
   named = λ alone is. is;
   own_named = λ is. is;
 }

@@ -23,6 +23,7 @@ use Rattle.block_server.specs.Advances.{Advances, CopiesMore, StayNamed}
 use Rattle.block_server.specs.Copied.{IsBusy, copies_in}
 use Rattle.block_server.specs.Ready.{FindsUse}
 use Rattle.block_server.specs.Makers.{AreNamed}
+use Rattle.block_server.specs.OwnerStrokes.{LaysNoneOfOwner}
 use Rattle.block_server.specs.SiteState.{Lenders, site}
 use Rattle.block_server.proofs.Advancing.{begins_on, begins_same, copies_none, copies_one, puts_none}
 
@@ -72,10 +73,11 @@ pub windows_move : (reached : Lenders) (queue : EndState) (own own' client clien
     → ((e : ℕ) → Later shared (client.values e) (client'.values e))
     → SideGrows (side_of own) (side_of own') → SideGrows (side_of client) (side_of client')
     → CopiesMore own' client' copies copies' → own.in_use ≤ own'.in_use → client.in_use ≤ client'.in_use
+    → (shared ≡ false → LaysNoneOfOwner (side_of client) (side_of client'))
     → StayNamed shared client client' copies copies'
     → (AreNamed (side_of own) copies → AreNamed (side_of own') copies')
     → Advances (site reached queue own client shared copies) (site reached queue own' client' shared copies')
-windows_move reached queue own own' client client' shared copies copies' own_place client_place values own_grows client_grows made own_uses client_uses named own_named = record {
+windows_move reached queue own own' client client' shared copies copies' own_place client_place values own_grows client_grows made own_uses client_uses owner named own_named = record {
   reached = refl;
   queue_place = refl;
   own_place = own_place;
@@ -92,6 +94,7 @@ windows_move reached queue own own' client client' shared copies copies' own_pla
   copies = made;
   own_in_use = own_uses;
   client_in_use = client_uses;
+  owner = owner;
   named = named;
   own_named = own_named;
 }

@@ -13,6 +13,7 @@ use Rattle.rdma_copy.specs.declared.copy.CopyRecord.{CopyRecord}
 use Rattle.rdma_copy.specs.Copies.{side_of}
 use Rattle.block_server.specs.Entries.{MayPut}
 use Rattle.block_server.specs.Makers.{AreNamed}
+use Rattle.block_server.specs.OwnerStrokes.{LaysNoneOfOwner}
 use Rattle.block_server.specs.SiteState.{SiteState}
 
 -- Entries were put behind those that were, each of which a unit may put.
@@ -61,6 +62,8 @@ pub record Advances (old new : SiteState) : Type 0 where
   pub copies : CopiesMore new.own new.client old.copies new.copies
   pub own_in_use : old.own.in_use ≤ new.own.in_use
   pub client_in_use : old.client.in_use ≤ new.client.in_use
+  -- where nobody else has a hand in the client's window, nothing was laid there in the client's name
+  pub owner : old.shared ≡ false → LaysNoneOfOwner (side_of old.client) (side_of new.client)
   pub named : StayNamed old.shared old.client new.client old.copies new.copies
   pub own_named : AreNamed (side_of old.own) old.copies → AreNamed (side_of new.own) new.copies
 

@@ -293,6 +293,10 @@ pub record IsLastGrant (unit : UnitId) (session login granted : ℕ) (grants : L
   pub number : ℕ
   pub last : last_line unit session grants ≡ Some (Granted unit session login number granted)
 
+-- A session is over: it was before the present one, or nothing more is taken in that.
+abbrev pub IsPast : (session : ℕ) → (ended : Bool) → (q : ℕ) → Type 0
+IsPast session ended q = (q < session) ⊎ ((q ≡ session) × (ended ≡ true))
+
 -- Each line has its cause, and what the cause of the next goes by is known.
 pub record KeepsLines (unit : UnitId) (session : ℕ) (next : Ahead) (current : ℕ) (taking up : Bool) (credits : Credits) (grants : List Grant) (ended : Bool) (judged : List Judged) : Type 0 where
   pub causes : HasCauses unit next.taken judged grants
@@ -303,6 +307,8 @@ pub record KeepsLines (unit : UnitId) (session : ℕ) (next : Ahead) (current : 
   -- the present session ended for no cause, but where nothing more is taken in it
   pub over : All (λ j. j.fate ≡ ends_it → j.receipt.session ≡ session → ended ≡ true) judged
   pub going : ended ≡ false → filter (is_closing unit session) grants ≡ []
+  -- each session that is over ended for a cause, and a line says so
+  pub closed : (q : ℕ) → 1 ≤ q → IsPast session ended q → EndedFor unit q grants
   -- at most the entry that is judged next was taken behind those that are judged
   pub upto : next.number ≤ length (of_session session next.taken)
   pub near : length (of_session session next.taken) ≤ next.number + 1

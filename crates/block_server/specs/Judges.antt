@@ -38,6 +38,6 @@ pub record HasJudged (units : List Unit) (unit : ℕ) (own client : PortState) (
 abbrev pub AreInTime : UnitId → List Grant → List Judged → Type 0
 AreInTime unit grants judged = All (IsInTime unit grants) judged
 
--- Units that judged nothing, whatever their names are, and over any queue from which nothing was taken.
+-- Units that judged nothing, whatever their names are, and over any queue of which no session began.
 abbrev pub AreUnused : List Unit → Type 0
-AreUnused units = (number : ℕ) → (id : UnitId) → (queue : EndState) → queue.taken ≡ [] → HasKept units number id queue [] [] []
+AreUnused units = (number : ℕ) → (id : UnitId) → (queue : EndState) → queue.last_session ≡ 0 → queue.taken ≡ [] → HasKept units number id queue [] [] []

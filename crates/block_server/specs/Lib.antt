@@ -27,6 +27,7 @@ pub mod Numbers
 pub mod Numbered
 pub mod Orders
 pub mod Owed
+pub mod OwnerStrokes
 pub mod Parts
 pub mod Ready
 pub mod Receipts

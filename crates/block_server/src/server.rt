@@ -12,6 +12,7 @@ ghost use Rattle.block_server.specs.Judged.{Judged};
 ghost use Rattle.block_server.specs.Judges.{AreInTime, AreUnused, HasJudged};
 ghost use Rattle.block_server.specs.Makers.{AreNamed};
 ghost use Rattle.block_server.specs.Owed.{HaveAnswers, OweNone};
+ghost use Rattle.block_server.specs.OwnerStrokes.{LaysNoneOfOwner};
 ghost use Rattle.block_server.specs.Receipts.{AwaitNone, HasIntake, LinesMore, Receipt};
 ghost use Rattle.block_server.specs.Ready.{AgreesAt, AreDown, UnitWaits};
 ghost use Rattle.block_server.specs.Refusals.{AnswersInOrder, HasExplained, ExplainNone};
@@ -175,6 +176,8 @@ impl<B: Blocks> Server<B> {
         ensures event { KeepsFreed (C.state crq.new) }
         ensures units { vec_len self.new.units ≡ vec_len self.old.units }
         ensures partition { self.new.partition ≡ self.old.partition }
+        ensures owner { R.is_shared ≡ false →
+            LaysNoneOfOwner (side_of (R.state client.old)) (side_of (R.state client.new)) }
         ensures named { StayNamed R.is_shared (R.state client.old) (R.state client.new)
             self.old.copies.items self.new.copies.items }
         ensures own_named { AreNamed (side_of (O.state own.old)) self.old.copies.items →

@@ -324,6 +324,7 @@ fn free<S: Site>(unit: &mut Unit, site: &mut S) -> Next
 fn register<S: Site>(unit: &mut Unit, site: &mut S)
     requires spare { 1 < (S.state site.old).queue.spare }
     requires down { unit.old.line.handshake ≡ Handshake.Down }
+    requires stays { unit.old.line.closing ≡ false }
     ensures comes { ComesOn NoStage unit.old unit.new
         (S.state site.old).queue (S.state site.new).queue }
     ensures once { (records : Records) → AnswersOnce (desk_of unit.old) (desk_of unit.new)
@@ -363,6 +364,7 @@ fn register<S: Site>(unit: &mut Unit, site: &mut S)
 fn begin<S: Site>(unit: &mut Unit, site: &mut S)
     requires spare { 0 < (S.state site.old).queue.spare }
     requires on { (S.state site.old).queue.registered ≡ true }
+    requires stays { unit.old.line.closing ≡ false }
     ensures once { (records : Records) → AnswersOnce (desk_of unit.old) (desk_of unit.new)
         (S.state site.old).queue (S.state site.new).queue records records }
     ensures moved { unit.new.moved ≡ true }

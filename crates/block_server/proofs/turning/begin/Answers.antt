@@ -1,10 +1,10 @@
-use Rattle.std.proofs.Common.{ap, false, le_refl, refl}
+use Rattle.std.proofs.Common.{ap, le_refl, refl}
 use Rattle.block_server.proofs.Agreeing.{is_waiting}
+use Rattle.block_server.proofs.GoingOn.{begun_ended}
 use Rattle.block_server.proofs.Onces.{once_same}
 use Rattle.block_server.proofs.Quieting.{stays_moved}
 use Rattle.block_server.proofs.Taking.{id_stands, waiting_stands}
-use Rattle.block_server.proofs.Jointly.{keeps_opened}
-use Rattle.block_server.specs.Books.{books_at, is_up}
+use Rattle.block_server.specs.Books.{as_begun, books_at, is_up}
 use Rattle.block_server.proofs.Keeping.{moved_to}
 use Rattle.block_server.proofs.Owing.{owes_ended}
 use Rattle.block_server.proofs.Ledgers.{explains_begun}
@@ -36,13 +36,13 @@ returns-in-Some-clause-waiting g c = waiting_stands _ _ c.put_reply-next.ensures
 pub returns-in-Some-clause-books : goal.returns-in-Some-clause-books
 returns-in-Some-clause-books g c = λ records none off judged is.
     c.put_reply-next.ensures.books records judged
-    (moved_to _ _ judged refl refl refl refl refl refl refl refl refl refl refl refl (ap is_up c.registered.ensures.state) refl
-    (keeps_opened (record (books_at c.args.unit.now (g.S.Site.state c.args.site.now) records) { ended = false; up = false }) _ refl none off judged is))
+    (moved_to (as_begun (books_at c.args.unit.now (g.S.Site.state c.args.site.now) records)) _ judged refl refl refl refl refl refl refl refl refl refl refl
+    (begun_ended _ _ c.requires.stays c.registered.ensures.state) (ap is_up c.registered.ensures.state) refl is)
 
 pub returns-in_default-clause-books : goal.returns-in_default-clause-books
 returns-in_default-clause-books g c = λ records none off judged is.
-    moved_to _ _ judged refl refl refl refl refl refl refl refl refl refl refl refl (ap is_up c.registered.ensures.state) refl
-    (keeps_opened (record (books_at c.args.unit.now (g.S.Site.state c.args.site.now) records) { ended = false; up = false }) _ refl none off judged is)
+    moved_to (as_begun (books_at c.args.unit.now (g.S.Site.state c.args.site.now) records)) _ judged refl refl refl refl refl refl refl refl refl refl refl
+    (begun_ended _ _ c.requires.stays c.registered.ensures.state) (ap is_up c.registered.ensures.state) refl is
 
 pub returns-in-Some-clause-answers : goal.returns-in-Some-clause-answers
 returns-in-Some-clause-answers g c = λ records over alone has.

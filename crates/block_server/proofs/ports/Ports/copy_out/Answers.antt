@@ -3,6 +3,7 @@ use Rattle.rdma_copy.proofs.Laws.{side_same}
 use Rattle.rdma_copy.specs.Copies.{side_of}
 use Rattle.block_server.specs.Copied.{copies_in}
 use Rattle.block_server.proofs.Advancing.{copies_none, later_same}
+use Rattle.block_server.proofs.OwnerNames.{owner_same, owner_target}
 use Rattle.block_server.proofs.Windows.{deliver_busy, delivered_more, windows_move, source_grows, target_grows}
 use Rattle.block_server.proofs.NamedWindows.{same_named, source_named, target_named}
 use Rattle.block_server.proofs.FirstPages.{fetches_same, made_in, none_in, to_client}
@@ -18,6 +19,8 @@ returns-clause-advances g c =
     (delivered_more _ _ _ _ _ _ _ _ c.copy_rdma-answer.result _ _
     (c.args.self.now.named ∙ sym (ap (λ place. place.unit) c.copy_rdma-answer.ensures.source.place)) c.copy_rdma-answer.ensures.copied
     (c.note.ensures.copies ∙ ap (λ front. front ++ copies_in c.copy_rdma-answer.result) c.reserve.ensures.items)) c.copy_rdma-answer.ensures.source.in_use c.copy_rdma-answer.ensures.target.in_use
+    (owner_target _ _ _ _ _ _ _ _ c.copy_rdma-answer.result (λ is. c.args.self.now.ready.apart (sym is ∙ c.args.self.now.named))
+    c.copy_rdma-answer.ensures.copied c.copy_rdma-answer.ensures.refused)
     (λ alone. target_named _ _ _ _ _ _ _ _ c.copy_rdma-answer.result _ _ alone c.copy_rdma-answer.ensures.copied c.copy_rdma-answer.ensures.refused
     c.copy_rdma-answer.ensures.target (λ is. c.args.self.now.ready.apart (sym is ∙ ap (λ place. place.unit) c.copy_rdma-answer.ensures.source.place))
     (c.note.ensures.copies ∙ ap (λ front. front ++ copies_in c.copy_rdma-answer.result) c.reserve.ensures.items))
@@ -29,7 +32,7 @@ pub returns-then-is_err-clause-advances : goal.returns-then-is_err-clause-advanc
 returns-then-is_err-clause-advances g c =
     windows_move _ _ _ _ _ _ _ _ _ refl refl (λ e. later_same g.R.WindowPort.is_shared _) (side_same (side_of (g.O.WindowPort.state c.args.self.now.own.now)))
     (side_same (side_of (g.R.WindowPort.state c.args.self.now.client.now))) (copies_none _ _ _ _ c.reserve.ensures.items) (omega arith) (omega arith)
-    (λ alone. same_named _ _ _ c.reserve.ensures.items) (same_named _ _ _ c.reserve.ensures.items)
+    (λ alone. owner_same (side_of (g.R.WindowPort.state c.args.self.now.client.now))) (λ alone. same_named _ _ _ c.reserve.ensures.items) (same_named _ _ _ c.reserve.ensures.items)
 
 pub returns-clause-refused : goal.returns-clause-refused
 returns-clause-refused g c = λ refused.
