@@ -17,8 +17,10 @@ use Rattle.crq_session.specs.declared.answers.SendAnswer.TheVariants as send
 use Rattle.crq_session.specs.PlainState.{end_of}
 use Rattle.crq_session.specs.declared.link.PlainLink.{PlainLink}
 use Rattle.crq_session.specs.EndState.{EndPlace, EndState, OnlyPushes, OnlyReserves, OnlySends}
-use Rattle.vscsi_client.specs.Frames.{HasMore, IsOpened, KeepsEnd, OnlyTurns, Renews}
+use Rattle.vscsi_client.specs.Frames.{HasMore, IsOpened, OnlyTurns, Renews}
 use Rattle.vcpu_run.specs.Freed.{FreesNone}
+use Rattle.vcpu_run.specs.DropsStay.{DropsStay}
+use Rattle.vcpu_run.proofs.DropsStay.{stay_full, stay_none, stay_on, stay_puts, stay_ready, stay_same}
 use Rattle.vcpu_run.specs.Announces.{Announces, HaveEvents, IsAmong, IsOnItsWay, IsTold, KeepsEvent}
 
 pub both_bools : (b : Bool) → b ≡ true → b ≡ false → ⊥
@@ -53,35 +55,35 @@ none_behind : (xs ys : List PipeRow) → xs ++ ys ≡ xs → ys ≡ []
 none_behind xs ys same = append_cancel_left xs ys [] (same ∙ sym (append-nil xs))
 
 -- nothing was put, and the registration and the kept event are as before
-pub puts_none : (a b : EndState) → b.sent ≡ a.sent → b.kept ≡ a.kept → b.registered ≡ a.registered → Announces a b
-puts_none a b sent kept registered = record {
+pub puts_none : (a b : EndState) → b.sent ≡ a.sent → b.kept ≡ a.kept → b.registered ≡ a.registered → DropsStay a.drops b.drops → Announces a b
+puts_none a b sent kept registered drops = record {
   rows = [];
   sent = sent ∙ sym (append-nil a.sent);
   kept = λ event is on. inl (record { freed = registered ∙ is.freed; there = kept ∙ is.there });
   freed = λ was off on. absurd (both_bools a.registered was (sym registered ∙ off));
   says = λ is event there. is event (sym kept ∙ there);
   off = λ is gone on. inl no_events;
+  drops = drops;
 }
 
 pub puts_same : (a : EndState) → Announces a a
-puts_same a = puts_none a a refl refl refl
+puts_same a = puts_none a a refl refl refl (stay_same a.drops a.drops refl)
 
 pub puts_reserves : (a b : EndState) → OnlyReserves a b → Announces a b
-puts_reserves a b r = puts_none a b r.sent r.kept r.registered
+puts_reserves a b r = puts_none a b r.sent r.kept r.registered (stay_ready a b r)
 
 -- more was put, and they are as before; while the queue was not registered, none was
-pub puts_more : (a b : EndState) → HasMore a.sent b.sent → b.kept ≡ a.kept → b.registered ≡ a.registered → (a.registered ≡ false → b.sent ≡ a.sent) → Announces a b
-puts_more a b more kept registered unsent = record {
+pub puts_more : (a b : EndState) → HasMore a.sent b.sent → b.kept ≡ a.kept → b.registered ≡ a.registered → (a.registered ≡ false → b.sent ≡ a.sent) → DropsStay a.drops b.drops
+    → Announces a b
+puts_more a b more kept registered unsent drops = record {
   rows = more.rows;
   sent = more.is;
   kept = λ event is on. inl (record { freed = registered ∙ is.freed; there = kept ∙ is.there });
   freed = λ was off on. absurd (both_bools a.registered was (sym registered ∙ off));
   says = λ is event there. is event (sym kept ∙ there);
   off = λ is gone on. inl (subst HaveEvents (sym (none_behind a.sent more.rows (sym more.is ∙ unsent (sym registered ∙ gone)))) no_events);
+  drops = drops;
 }
-
-pub puts_keeps : (shared : Bool) (a b : EndState) → KeepsEnd shared a b → Announces a b
-puts_keeps shared a b k = puts_more a b k.sent k.kept k.registered k.unsent
 
 -- one call behind another, with the partner in the same session
 among_front : (event : Entry) (q q' : ℕ) (rows more : List PipeRow) → q' ≡ q → IsAmong event q rows → IsAmong event q' (rows ++ more)
@@ -111,6 +113,7 @@ puts_on a b c place session first next = record {
   freed = λ was off on. freed was off on b.registered refl;
   says = λ is. next.says (first.says is);
   off = λ is off on. gone is off on b.registered refl;
+  drops = stay_on a.drops b.drops c.drops first.drops next.drops;
 }
   where
     way_behind : (event : Entry) → IsOnItsWay event next.rows c → IsOnItsWay event (first.rows ++ next.rows) c
@@ -165,6 +168,7 @@ opens_settled shared a b None alone was none on gone = record {
   freed = λ before off partner. absurd (both_bools b.registered on off);
   says = λ is. kept_none b.kept gone;
   off = λ is off partner. absurd (both_bools b.registered on off);
+  drops = stay_none a b none;
 }
 opens_settled shared a b (Some entry) alone was settles on gone = elim settles as (λ _. Announces a b) [
   | inl puts ↦ record {
@@ -176,6 +180,7 @@ opens_settled shared a b (Some entry) alone was settles on gone = elim settles a
     freed = λ before off partner. absurd (both_bools b.registered on off);
     says = λ is. kept_none b.kept gone;
     off = λ is off partner. absurd (both_bools b.registered on off);
+    drops = stay_puts shared a b entry puts;
   }
   | inr loses ↦ record {
     rows = [];
@@ -184,6 +189,7 @@ opens_settled shared a b (Some entry) alone was settles on gone = elim settles a
     freed = λ before off partner. absurd (both_bools b.registered on off);
     says = λ is. kept_none b.kept gone;
     off = λ is off partner. absurd (both_bools b.registered on off);
+    drops = stay_none a b loses.none;
   }
 ]
 
@@ -191,7 +197,7 @@ pub puts_opens : (shared : Bool) (a b : EndState) → shared ≡ false → Opens
 puts_opens shared a b alone opens = opens_settled shared a b a.kept alone refl opens.settles opens.registered opens.kept
 
 pub puts_held : (shared : Bool) (a b : EndState) (number held : ℕ) → HoldsUp shared a b number held → Announces a b
-puts_held shared a b number held up = puts_none a b up.kept.full.sent up.kept.kept (up.still ∙ sym up.unregistered)
+puts_held shared a b number held up = puts_none a b up.kept.full.sent up.kept.kept (up.still ∙ sym up.unregistered) (stay_full shared a b number held up.kept.full)
 
 -- behind room that was made
 pub puts_ready : (a room b : EndState) → OnlyReserves a room → b.counts.partner_session ≡ room.counts.partner_session → Announces room b → Announces a b
@@ -208,6 +214,7 @@ puts_freed shared a b event alone says frees = elim frees.tells as (λ _. Announ
     freed = λ was off on. (event, says, inr (first_among event b.counts.partner_session b.counts.partner_session refl));
     says = λ is. kept_none b.kept put.1;
     off = λ is off on. inr (event, says, inr (first_among event b.counts.partner_session b.counts.partner_session refl));
+    drops = stay_puts shared a b event put.0;
   }
   | inr later ↦ elim later as (λ _. Announces a b) [
     | inl keeps ↦ record {
@@ -217,6 +224,7 @@ puts_freed shared a b event alone says frees = elim frees.tells as (λ _. Announ
       freed = λ was off on. (event, says, inl (record { freed = frees.freed; there = keeps.kept }));
       says = λ is. kept_some b.kept event keeps.kept says;
       off = λ is off on. inr (event, says, inl (record { freed = frees.freed; there = keeps.kept }));
+      drops = stay_full shared a b keeps.number keeps.held keeps.full;
     }
     | inr lost ↦ record {
       rows = [];
@@ -225,32 +233,12 @@ puts_freed shared a b event alone says frees = elim frees.tells as (λ _. Announ
       freed = λ was off on. absurd (both_bools a.place.partner_registered on (lost.0.meets.partner alone));
       says = λ is. kept_none b.kept lost.1;
       off = λ is off on. absurd (both_bools a.place.partner_registered on (lost.0.meets.partner alone));
+      drops = stay_none a b lost.0.none;
     }
   ]
 ]
 
--- a turn of a login: its queue was registered, or found registered, and then more was put
-opened_puts : (shared : Bool) (a b : EndState) → shared ≡ false → IsOpened shared a b → Announces a b
-opened_puts shared a b alone opened = elim opened.opens as (λ _. Announces a b) [
-  | inl none ↦ puts_reserves a b none
-  | inr renews ↦
-      let session : b.counts.partner_session ≡ renews.room.counts.partner_session =
-      opened.rest.counts.same_session alone ∙ sym (ap (λ counts. counts.partner_session) renews.ready.counts) in
-      puts_ready a renews.room b renews.ready session (at renews)
-]
-  where
-    at : (renews : Renews shared a b) → Announces renews.room b
-    at renews = elim renews.opens as (λ _. Announces renews.room b) [
-      | inl opens ↦ puts_opens shared renews.room b alone opens
-      | inr meets ↦ puts_held shared renews.room b meets.number meets.held meets.still
-    ]
-
-pub turn_puts : (shared : Bool) (a c : EndState) → shared ≡ false → OnlyTurns shared a c → Announces a c
-turn_puts shared a c alone turns =
-    puts_on a turns.opened c (ap (λ (p : EndPlace). p.partner_registered) turns.opens.rest.place) (turns.later.counts.same_session alone)
-    (opened_puts shared a turns.opened alone turns.opens) (puts_keeps shared turns.opened c turns.later)
-
--- and it frees no queue
+-- a turn of a login frees no queue
 pub frees_none : (a b : EndState) → b.last_session ≡ a.last_session → b.registered ≡ a.registered → FreesNone a b
 frees_none a b session registered kept some = registered ∙ kept (subst (λ n. 1 ≤ n) session some)
 
@@ -276,7 +264,7 @@ pub puts_at : (f g : Bool) (a b : List GName) (old new : PlainLink) → f ≡ fa
 puts_at f g a b old new is place puts = at f g is (ap (λ (p : EndPlace). p.first) place ∙ is) puts
   where
     here : Announces (end_of a old false) (end_of b new false) → Announces (end_of [] old false) (end_of [] new false)
-    here p = record { rows = p.rows; sent = p.sent; kept = p.kept; freed = p.freed; says = p.says; off = p.off }
+    here p = record { rows = p.rows; sent = p.sent; kept = p.kept; freed = p.freed; says = p.says; off = p.off; drops = p.drops }
 
     at : (d d' : Bool) → d ≡ false → d' ≡ false → Announces (end_of a old d) (end_of b new d') → Announces (end_of [] old false) (end_of [] new false)
     at false false e e' p = here p
@@ -302,6 +290,7 @@ puts_pushes a b rest pushes = at a.kept refl pushes.puts
       freed = λ was off partner. absurd (both_bools a.registered was (sym rest.registered ∙ off));
       says = λ is. kept_none b.kept pushes.kept;
       off = λ is off partner. inl (one_event (record { session = b.counts.partner_session; entry = entry }) (is entry e));
+      drops = stay_puts false a b entry puts;
     }
 
 pub puts_nothing : (a b : EndState) → OnlyPushes false a b → PutsNone false a b → Announces a b
@@ -318,6 +307,7 @@ puts_nothing a b rest none = at a.kept refl none.loses
       freed = λ was off partner. absurd (freed was off);
       says = λ is. kept_none b.kept none.kept;
       off = λ is off partner. inl no_events;
+      drops = stay_none a b sends;
     }
     at (Some entry) e loses = record {
       rows = [];
@@ -326,10 +316,11 @@ puts_nothing a b rest none = at a.kept refl none.loses
       freed = λ was off partner. absurd (freed was off);
       says = λ is. kept_none b.kept none.kept;
       off = λ is off partner. inl no_events;
+      drops = stay_none a b loses.none;
     }
 
 pub puts_kept : (a b : EndState) (number held : ℕ) → OnlyPushes false a b → StillKept false a b number held → Announces a b
-puts_kept a b number held rest kept = puts_none a b kept.full.sent kept.kept rest.registered
+puts_kept a b number held rest kept = puts_none a b kept.full.sent kept.kept rest.registered (stay_full false a b number held kept.full)
 
 -- the own queue is to be registered, freed, or sent from, by the answer
 pub puts_registers : (shared : Bool) (a b : EndState) (answer : RegAnswer) → shared ≡ false → OnOpened answer (Opens shared a b) → IfHeldUp answer (HoldsUp shared a b)
@@ -350,6 +341,7 @@ pub puts_entry : (shared : Bool) (a b : EndState) (entry : Entry) (answer : Send
     → IfClosed answer (TurnsBack shared a b) → IfDropped answer (FindsFull shared a b) → OnNotSent answer (OnlyReserves a b) → OnReached answer (MaySend a entry) → Announces a b
 puts_entry shared a b entry answer rest sent closed dropped none may =
     puts_more a b (at answer sent closed dropped none) rest.kept rest.registered (λ off. unsent answer off closed dropped none may)
+    (stay answer sent closed dropped none)
   where
     unsent : (answer : SendAnswer) → a.registered ≡ false → IfClosed answer (TurnsBack shared a b) → IfDropped answer (FindsFull shared a b) → OnNotSent answer (OnlyReserves a b)
         → OnReached answer (MaySend a entry) → b.sent ≡ a.sent
@@ -358,6 +350,14 @@ puts_entry shared a b entry answer rest sent closed dropped none may =
     unsent (send.Dropped number held) off closed dropped none may = dropped.sent
     unsent send.NotRegistered off closed dropped none may = none.sent
     unsent send.Parameter off closed dropped none may = none.sent
+
+    stay : (answer : SendAnswer) → IfSent answer (Sends shared a entry b) → IfClosed answer (TurnsBack shared a b) → IfDropped answer (FindsFull shared a b)
+        → OnNotSent answer (OnlyReserves a b) → DropsStay a.drops b.drops
+    stay (send.Success number) sent closed dropped none = stay_puts shared a b entry sent.puts
+    stay (send.Closed control) sent closed dropped none = stay_none a b closed.none
+    stay (send.Dropped number held) sent closed dropped none = stay_full shared a b number held dropped
+    stay send.NotRegistered sent closed dropped none = stay_ready a b none
+    stay send.Parameter sent closed dropped none = stay_ready a b none
 
     same : b.sent ≡ a.sent → HasMore a.sent b.sent
     same is = record { rows = []; is = is ∙ sym (append-nil a.sent) }

@@ -40,6 +40,11 @@ pub sessions_counted : (unit : UnitId) (pipe : PipeValue) (q n : ℕ) → AreCou
 sessions_counted unit pipe q zero = tt
 sessions_counted unit pipe q (suc n) = (refl, sessions_counted unit pipe (q + 1) n)
 
+-- a queue has as many sessions as its last one says
+pub sessions_count : (unit : UnitId) (pipe : PipeValue) (q n : ℕ) → length (sessions_from unit pipe q n) ≡ n
+sessions_count unit pipe q zero = refl
+sessions_count unit pipe q (suc n) = ap suc (sessions_count unit pipe (q + 1) n)
+
 -- strokes
 
 pub strokes_named : (unit : UnitId) (page n : ℕ) (strokes : List StrokeValue)

@@ -37,7 +37,7 @@ laid_all shared mark [] old new h = strokes_same shared old new h
 laid_all shared mark (write ∷ writes) old new h =
     strokes_on shared old h.0 new (ap (λ (place : PortPlace). place.unit) h.1.1.place) (laid shared mark write old h.0 h.1) (laid_all shared mark writes h.0 new h.2)
 
-laid_unit : (shared : Bool) (mark : ℕ) (writes : List Write) (old new : PortState) → LaysAll shared mark writes old new → new.place.unit ≡ old.place.unit
+pub laid_unit : (shared : Bool) (mark : ℕ) (writes : List Write) (old new : PortState) → LaysAll shared mark writes old new → new.place.unit ≡ old.place.unit
 laid_unit shared mark [] old new h = ap (λ (port : PortState). port.place.unit) h
 laid_unit shared mark (write ∷ writes) old new h = laid_unit shared mark writes h.0 new h.2 ∙ ap (λ (place : PortPlace). place.unit) h.1.1.place
 
@@ -192,22 +192,22 @@ or_left : (a b : Bool) → (a || b) ≡ false → a ≡ false
 or_left true b e = cc
 or_left false b e = refl
 
-runs_place : (line : ℕ) (steps : List LoginStep) (a b : Site) → NoneEnds steps → Runs line steps a b → b.at.own.place ≡ a.at.own.place
+pub runs_place : (line : ℕ) (steps : List LoginStep) (a b : Site) → NoneEnds steps → Runs line steps a b → b.at.own.place ≡ a.at.own.place
 runs_place line [] a b none runs = ap (λ (t : Site). t.at.own.place) runs
 runs_place line (step ∷ steps) a b none runs =
     step_place line step runs.0 b (or_left (ends_turn step) (list_any ends_turn steps) none) runs.2
     ∙ runs_place line steps a runs.0 (or_right (ends_turn step) (list_any ends_turn steps) none) runs.1
 
-runs_hands : (line : ℕ) (steps : List LoginStep) (a b : Site) → Runs line steps a b → b.at.own_shared ≡ a.at.own_shared
+pub runs_hands : (line : ℕ) (steps : List LoginStep) (a b : Site) → Runs line steps a b → b.at.own_shared ≡ a.at.own_shared
 runs_hands line [] a b runs = ap (λ (t : Site). t.at.own_shared) runs
 runs_hands line (step ∷ steps) a b runs = runs.3.own ∙ runs_hands line steps a runs.0 runs.1
 
 -- the steps before the last one
-abbrev before_last : List LoginStep → List LoginStep
+abbrev pub before_last : List LoginStep → List LoginStep
 before_last [] = []
 before_last (step ∷ steps) = steps
 
-none_before : (steps : List LoginStep) → NoneEnds steps → NoneEnds (before_last steps)
+pub none_before : (steps : List LoginStep) → NoneEnds steps → NoneEnds (before_last steps)
 none_before [] none = none
 none_before (step ∷ steps) none = or_right (ends_turn step) (list_any ends_turn steps) none
 
@@ -221,7 +221,7 @@ turn_ended slots b (turns.Rejected reason) steps ends = ended (Looked (Rejected 
 turn_ended slots b turns.Lost steps ends = ended (Looked Lost) steps ends
 turn_ended slots b (turns.Busy number held) steps ends = ended (Registered (reg.Busy number held)) steps ends
 
-all_ended : (line : ℕ) (a b : Site) (result : Result LoginTurn NoMemory) (turned : Turned line a b result) → NoneEnds (before_last turned.steps)
+pub all_ended : (line : ℕ) (a b : Site) (result : Result LoginTurn NoMemory) (turned : Turned line a b result) → NoneEnds (before_last turned.steps)
 all_ended line a b (Ok turn) turned = turn_ended a.at.crq.place.own_slots b turn turned.steps turned.ends.1
 all_ended line a b (Err memory) turned = ended RanOut turned.steps turned.ends
 

@@ -56,15 +56,16 @@ list_read_more a b more list count values is = record {
       record { fronts = read.fronts; there = λ page touched. more.fronts page (read.fronts page) (read.there page touched); read = read.read };
 }
 
-list_put_more : (a b : UnitSeen) → UnitGrows a b → (address list count : ℕ) → IfSome a.pages (λ pages. IsListPut a address list count)
-    → IfSome b.pages (λ pages. IsListPut b address list count)
-list_put_more a b more address list count is = subst (λ (o : Option ℕ). IfSome o (λ pages. IsListPut b address list count)) (sym more.pages) (at a.pages is)
+list_put_more : (a b : UnitSeen) → UnitGrows a b → (address list count : ℕ) → IfSome a.pages (λ pages. IsListPut a pages address list count)
+    → IfSome b.pages (λ pages. IsListPut b pages address list count)
+list_put_more a b more address list count is = subst (λ (o : Option ℕ). IfSome o (λ pages. IsListPut b pages address list count)) (sym more.pages) (at a.pages is)
   where
-    at : (o : Option ℕ) → IfSome o (λ pages. IsListPut a address list count) → IfSome o (λ pages. IsListPut b address list count)
+    at : (o : Option ℕ) → IfSome o (λ pages. IsListPut a pages address list count) → IfSome o (λ pages. IsListPut b pages address list count)
     at None h = tt
     at (Some pages) h = record {
       values = h.values;
       read = list_read_more a b more list count h.values h.read;
+      taken = h.taken;
       put = λ j value there. more.values (address / 4096 + j) value (h.put j value there);
     }
 

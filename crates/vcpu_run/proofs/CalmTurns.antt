@@ -1,5 +1,5 @@
 -- The events of clients, seen from their pairs, as turns go on.
-use Rattle.std.proofs.Common.{◌≡◌, ◌≢◌, ◌∙◌, ◌⊎◌, inl, inr, ℕ, ◌+◌, ◌≤◌, Bool, true, false, cond, List, [], Option, Some, None, slice_get, slice_set, refl, sym, ap, subst, arith}
+use Rattle.std.proofs.Common.{◌≡◌, ◌≢◌, ◌⊎◌, inl, inr, ℕ, ◌+◌, ◌≤◌, Bool, true, false, cond, List, [], Option, Some, slice_get, slice_set, sym, ap, subst, arith}
 use Rattle.std.proofs.lemmas.Option.{slice_get_within}
 use Rattle.std.specs.Borrow.{GName}
 use Rattle.crq_session.specs.Answered.{TellsFailed}
@@ -12,7 +12,7 @@ use Rattle.vcpu_run.specs.declared.script.Progress.{Progress}
 use Rattle.vcpu_run.specs.declared.script.Progress.TheVariants as progress
 use Rattle.vcpu_run.specs.EventsMade.{AllCalm, AllShut, PairCalm, PairShuts, events_at, events_if, shuts_if, times_open}
 use Rattle.vcpu_run.specs.EventsPut.{FreesOnce, MakesNoEvent, StepMakes, events_of, times_freed}
-use Rattle.vcpu_run.proofs.Calming.{calm_on, calm_ready, calm_same, freed_once}
+use Rattle.vcpu_run.proofs.Calming.{calm_same, freed_once}
 use Rattle.vcpu_run.proofs.Driving.{get_set_other, get_set_same, same_or}
 
 -- the end that was lent is the pair's again

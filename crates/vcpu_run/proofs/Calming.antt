@@ -1,10 +1,9 @@
 -- Which calls of a client's end make an event: none but those that free its queue.
-use Rattle.std.proofs.Common.{◌≡◌, ◌∙◌, ◌⊎◌, inl, inr, ℕ, ◌+◌, ◌≤◌, ◌==◌, Bool, true, false, cond, List, [], ◌∷◌, ◌++◌, Option, Some, None, Result, Ok, Err, IfSome, IsSome, refl, sym, ap, subst, arith}
+use Rattle.std.proofs.Common.{◌≡◌, ◌∙◌, ◌⊎◌, inl, inr, ℕ, ◌+◌, ◌≤◌, Bool, true, false, cond, List, [], ◌∷◌, Option, Some, None, Result, IfSome, IsSome, refl, sym, ap, arith}
 use Rattle.std.proofs.lemmas.Bool.{ne_eqb}
 use Rattle.vio_num.specs.Entry.{first_byte, initialize, initialization_complete, srp_entry}
 use Rattle.vio_num.specs.declared.entry.Entry.{Entry}
 use Rattle.vio_num.specs.declared.memory.NoMemory.{NoMemory}
-use Rattle.crq_ring.specs.declared.rows.PipeRow.{PipeRow}
 use Rattle.crq_session.specs.Answered.{Frees, Keeps, Loses, LosesKept, Opens, Pushes, Puts, PutsNone, Settles}
 use Rattle.crq_session.specs.EndState.{EndState, OnlyReserves}
 use Rattle.crq_session.specs.declared.answers.RegAnswer.{RegAnswer}

@@ -27,8 +27,8 @@ use Rattle.unit_region.specs.EntryAnswers.{AnswersEntry, ReadsList, is_list, put
 use Rattle.unit_region.specs.EntryRows.{answer_by, entry_row}
 use Rattle.unit_region.specs.declared.entry_calls.EntryCall.{EntryCall}
 use Rattle.unit_region.specs.declared.entry_calls.EntryCall.TheVariants as entries
-use Rattle.unit_region.specs.RegionLines.{AreRead, region_seen}
-use Rattle.unit_region.proofs.Laws.{read_there}
+use Rattle.unit_region.specs.RegionLines.{AreRead, region_once}
+use Rattle.unit_region.proofs.Laws.{once_read, read_there}
 use Rattle.vcpu_run.specs.declared.client_call.QueueCall.{QueueCall}
 use Rattle.vcpu_run.specs.declared.client_call.QueueCall.TheVariants as queues
 use Rattle.vcpu_run.specs.declared.driver.Driver.{Driver}
@@ -118,18 +118,18 @@ item_there old new address list j value is there =
 
 -- a list that was read in the unit's region, whose pages have these strokes then
 list_read : (port : PortState) (strokes : ℕ → Option (List StrokeValue)) (list count : ℕ) (read : ReadsList port list count) → port.strokes ≡ strokes
-    → IsListRead (region_seen strokes) list count read.values
+    → IsListRead (region_once strokes) list count read.values
 list_read port strokes list count read laid = record {
   count_is = read.count_is;
   bytes = read.bytes;
   spelled = read.spelled;
-  read = λ some. subst (λ (s : ℕ → Option (List StrokeValue)). AreRead (region_seen s) list read.bytes) laid (read_there port list read.bytes (read.read some));
+  read = λ some. subst (λ (s : ℕ → Option (List StrokeValue)). AreRead (region_once s) list read.bytes) laid (once_read port.strokes list read.bytes (read_there port list read.bytes (read.read some)));
 }
 
 -- a call on the entries of a unit's window, of so many pages, which has these values then
 pub entry_seen : {X : Type 0} (old new : PortState) (n : ℕ) (values : ℕ → List ℕ) (strokes : ℕ → Option (List StrokeValue)) (put : Entry → Type 0) (slot : Option X) (call : EntryCall) (returned : Returned)
     → old.place.size ≡ n → new.values ≡ values → new.strokes ≡ strokes → IsAnswer (entry_row call) returned → AnswersEntry old new call returned
-    → IsReturned (record { pages = option_map (λ (x : X). n) slot; value_at = λ entry value. Contains (values entry) value; region = region_seen strokes; entry_put = put })
+    → IsReturned (record { pages = option_map (λ (x : X). n) slot; value_at = λ entry value. Contains (values entry) value; region = region_once strokes; entry_put = put })
     (entry_row call) (entry_arguments call) returned
 entry_seen {X} old new n values strokes put slot (entries.Get address) returned size same laid answer is =
     let given : gives n values address (answer_by returned.code returned.r4) =
@@ -179,7 +179,7 @@ entry_seen {X} old new n values strokes put slot (entries.PutList address list c
     at (Some x) = by (is_list n list count) refl
 
     untaken : returned.code ≡ codes.Parameter → (o : Option X)
-        → IfSome (option_map (λ (x : X). n) o) (λ pages. is_list pages list count ≡ true → IsListUntaken (region_seen strokes) pages address list count)
+        → IfSome (option_map (λ (x : X). n) o) (λ pages. is_list pages list count ≡ true → IsListUntaken (region_once strokes) pages address list count)
     untaken e None = tt
     untaken e (Some x) = λ lies.
         let refused = is.refused e (subst (λ m. is_list m list count ≡ true) (sym size) lies) in
@@ -189,19 +189,20 @@ entry_seen {X} old new n values strokes put slot (entries.PutList address list c
           refused = subst (λ m. takes_all m address refused.0.values ≡ false) size refused.1;
         }
 
-    put_at : (read : ReadsList new list count) × Puts old address read.values new → (o : Option X)
+    put_at : (read : ReadsList new list count) × (takes_all old.place.size address read.values ≡ true) × Puts old address read.values new → (o : Option X)
         → IfSome (option_map (λ (x : X). n) o) (λ pages. IsListPut
-        (record { pages = option_map (λ (x : X). n) slot; value_at = λ entry value. Contains (values entry) value; region = region_seen strokes; entry_put = put }) address list count)
+        (record { pages = option_map (λ (x : X). n) slot; value_at = λ entry value. Contains (values entry) value; region = region_once strokes; entry_put = put }) pages address list count)
     put_at both None = tt
     put_at both (Some x) = record {
       values = both.0.values;
       read = list_read new strokes list count both.0 laid;
-      put = λ j value there. subst (λ (v : ℕ → List ℕ). Contains (v (address / 4096 + j)) value) same (item_there old new address both.0.values j value both.1 there);
+      taken = subst (λ m. takes_all m address both.0.values ≡ true) size both.1;
+      put = λ j value there. subst (λ (v : ℕ → List ℕ). Contains (v (address / 4096 + j)) value) same (item_there old new address both.0.values j value both.2 there);
     }
 
 pub entry_seen_ok : {X : Type 0} (old new : PortState) (n : ℕ) (values : ℕ → List ℕ) (strokes : ℕ → Option (List StrokeValue)) (put : Entry → Type 0) (slot : Option X) (call : EntryCall) (result : Result Returned NoMemory)
     → old.place.size ≡ n → new.values ≡ values → new.strokes ≡ strokes → IfOk result (IsAnswer (entry_row call)) → IfOk result (AnswersEntry old new call)
-    → IfOk result (IsReturned (record { pages = option_map (λ (x : X). n) slot; value_at = λ entry value. Contains (values entry) value; region = region_seen strokes; entry_put = put })
+    → IfOk result (IsReturned (record { pages = option_map (λ (x : X). n) slot; value_at = λ entry value. Contains (values entry) value; region = region_once strokes; entry_put = put })
     (entry_row call) (entry_arguments call))
 entry_seen_ok {X} old new n values strokes put slot call (Ok returned) size same laid answer is = entry_seen old new n values strokes put slot call returned size same laid answer is
 entry_seen_ok {X} old new n values strokes put slot call (Err memory) size same laid answer is = tt

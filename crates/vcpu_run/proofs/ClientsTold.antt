@@ -1,17 +1,17 @@
 -- Turns that leave clients as they were.
-use Rattle.std.proofs.Common.{◌≡◌, ◌≢◌, ◌∙◌, ◌⊎◌, inl, inr, ℕ, ◌≤◌, ◌++◌, true, List, [], Option, Some, None, IsSomeAnd, slice_get, slice_set, refl, sym, ap, subst, append-nil, append_assoc, arith}
+use Rattle.std.proofs.Common.{◌≡◌, ◌≢◌, ◌∙◌, ◌⊎◌, inl, inr, ℕ, ◌≤◌, List, Option, Some, None, IsSomeAnd, slice_get, slice_set, refl, sym, ap, subst, arith}
 use Rattle.std.proofs.lemmas.Option.{slice_get_within}
-use Rattle.crq_ring.specs.declared.rows.PipeRow.{PipeRow}
-use Rattle.crq_session.specs.PlainState.{side_of}
 use Rattle.vcpu_run.specs.declared.pair.Pair.{Pair}
 use Rattle.vcpu_run.specs.EventsMade.{events_at}
 use Rattle.vcpu_run.specs.LinesShow.{seen_at}
 use Rattle.vcpu_run.specs.ScriptTold.{SameClient, SameClients}
+use Rattle.vcpu_run.proofs.ClientsLay.{own_still, own_still_then}
 use Rattle.vcpu_run.proofs.LinesShown.{sees_on, sees_same}
+use Rattle.vcpu_run.proofs.DropsKept.{more_on, more_same}
 use Rattle.vcpu_run.proofs.Driving.{get_set_other, get_set_same, same_or, some_is}
 
 client_same : (pair : Pair) → SameClient pair pair
-client_same pair = record { driver = refl; pages = refl; queue = refl; taken = refl; unit = refl; sees = sees_same (seen_at pair); server = refl; values = refl; puts = ([], sym (append-nil (side_of pair.link true).queue.sent)); calm = omega arith }
+client_same pair = record { driver = refl; pages = refl; queue = refl; taken = refl; unit = refl; sees = sees_same (seen_at pair); own = own_still pair; server = refl; values = refl; puts = more_same pair; calm = omega arith }
 
 pub clients_same : (pairs : List Pair) → SameClients pairs pairs
 clients_same pairs k after there = subst (λ (o : Option Pair). IsSomeAnd o (λ before. SameClient before after)) (sym there) (client_same after)
@@ -28,9 +28,10 @@ clients_on a b c first next k after there = at (slice_get b k) refl (next k afte
       taken = y.taken ∙ x.taken;
       unit = y.unit ∙ x.unit;
       sees = sees_on (seen_at before) (seen_at mid) (seen_at after) x.sees y.sees;
+      own = own_still_then before mid after x.unit x.own y.own;
       server = y.server ∙ x.server;
       values = y.values ∙ x.values;
-      puts = (x.puts.0 ++ y.puts.0, y.puts.1 ∙ (ap (λ (rows : List PipeRow). rows ++ y.puts.0) x.puts.1 ∙ append_assoc (side_of before.link true).queue.sent x.puts.0 y.puts.0));
+      puts = more_on before mid after x.puts y.puts;
       calm = let first : events_at mid ≤ events_at before = x.calm in
           let next : events_at after ≤ events_at mid = y.calm in
           omega (arith, first, next);

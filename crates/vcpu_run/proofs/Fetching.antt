@@ -1,6 +1,6 @@
 -- A gathered trace shows the intake of each server unit, its receipts over the sessions, the copies and the windows of the trace,
 -- and what became of each.
-use Rattle.std.proofs.Common.{◌≡◌, ◌∙◌, ℕ, ◌+◌, ◌==◌, ◌&&◌, ◌<◌, ◌≤◌, Bool, true, false, cond, List, [], ◌∷◌, ◌++◌, All, Option, Some, None, Result, Ok, Err, IfSome, MatchOption, OnOk, filter, map, option_map, slice_get, refl, sym, ap, ap₂, subst, arith, append-nil, zero, suc}
+use Rattle.std.proofs.Common.{◌≡◌, ◌∙◌, ℕ, ◌+◌, ◌==◌, ◌&&◌, ◌<◌, ◌≤◌, Bool, true, false, cond, List, [], ◌∷◌, ◌++◌, All, Option, Some, None, Result, Ok, Err, IfSome, MatchOption, OnOk, filter, inl, length, map, option_map, slice_get, refl, sym, ap, ap₂, subst, arith, append-nil, zero, suc}
 use Rattle.std.specs.List.{flat_map}
 use Rattle.std.proofs.Math.Logic.{∥∥₁_map}
 use Rattle.std.proofs.lemmas.Bool.{eq-eqb, ne_eqb}
@@ -54,6 +54,7 @@ use Rattle.vcpu_run.specs.Requests.{IsServedIn, RequestsAreServed}
 use Rattle.vcpu_run.specs.Sessions.{entries_of, session_row, session_rows, sessions_from}
 use Rattle.vcpu_run.specs.Shown.{sessions_of, window_shown}
 use Rattle.vcpu_run.specs.Units.{seats_of, unit_seat}
+use Rattle.vcpu_run.proofs.Blocks.{sessions_count}
 use Rattle.vcpu_run.proofs.Copied.{copies_each, names_apart, windows_shown}
 use Rattle.vcpu_run.proofs.Following.{each_from_all, ordered_from}
 use Rattle.vcpu_run.proofs.InSessions.{all_flat, flat, none_before, rows_again}
@@ -249,8 +250,9 @@ served_in_at : (partitions : List Partition) (trace : Trace) (server client : Un
     → All (λ (row : RowKey). same_name row.unit id ≡ true → 1 ≤ row.login) (keys_of trace.serves)
     → HasCauses id (entries_taken trace server) judged trace.grants → All (HasLimit id (keys_of trace.serves) judged) trace.grants
     → NameLogins id [] trace.grants → ((session : ℕ) → Rise (granted_numbers id session trace.grants)) → ((session : ℕ) → Rise (row_numbers id session (keys_of trace.serves)))
+    → ((session : ℕ) → 1 ≤ session → session < length (sessions_of trace server) → EndedFor id session trace.grants)
     → IsServedIn partitions trace server client
-served_in_at partitions trace server client id judged taken receipts name done under causes limits numbers rising rows = record {
+served_in_at partitions trace server client id judged taken receipts name done under causes limits numbers rising rows closed = record {
   judged = judged;
   taken = taken;
   receipts = receipts;
@@ -261,6 +263,7 @@ served_in_at partitions trace server client id judged taken receipts name done u
   numbers = subst (λ (name : UnitId). NameLogins name [] trace.grants) name numbers;
   rising = subst (λ (name : UnitId). (session : ℕ) → Rise (granted_numbers name session trace.grants)) name rising;
   rows = subst (λ (name : UnitId). (session : ℕ) → Rise (row_numbers name session (keys_of trace.serves))) name rows;
+  closed = λ session some below. subst (λ (name : UnitId). EndedFor name session trace.grants) name (closed session some below);
 }
 
 pub requests_are_served : (pairs : List Pair) (scripts : List Script) (lan : LanValue) (rows : LanRows) (history : List Served) (grants : List Grant) (copies : List CopyRecord) (partitions : List Partition)
@@ -303,7 +306,8 @@ requests_are_served pairs scripts lan rows history grants copies partitions home
     served_in_at partitions trace server client pair.own.unit has.0 taken.0 (sym taken.1) own
     (served_at_rest rests.units server.unit u.0 pair.own.unit (end_of [] pair.link true) history grants has.0 u.1 u.2.pending has.1.kept) kept.under
     (subst (λ (rows : List PipeRow). HasCauses pair.own.unit rows has.0 trace.grants)
-    (sym (ap (flat_map rows_taken) sessions ∙ all_taken server pipe laws received.begun)) kept.lines.causes) kept.counted.limits kept.numbers.each kept.rising.each kept.rows.each)
+    (sym (ap (flat_map rows_taken) sessions ∙ all_taken server pipe laws received.begun)) kept.lines.causes) kept.counted.limits kept.numbers.each kept.rising.each kept.rows.each
+    (λ session some below. kept.lines.closed session some (inl (subst (λ (n : ℕ). session < n) (ap length sessions ∙ sessions_count server pipe 1 pipe.session) below))))
 
 pub entries_are_fetched : (partitions : List Partition) (trace : Trace) → RequestsAreServed partitions trace → EntriesAreFetched partitions trace
 entries_are_fetched partitions trace served server client serves drives = ∥∥₁_map (served server client serves drives) (λ is. is.taken)

@@ -1,5 +1,5 @@
 -- A client's events, as its lines go on: no more than its records tell of resets, and one more where its partition fails.
-use Rattle.std.proofs.Common.{◌≡◌, ◌∙◌, ◌⊎◌, inl, inr, ℕ, ◌+◌, ◌≤◌, ◌==◌, ◌&&◌, Bool, true, false, cond, filter, map, MatchBool, List, [], ◌∷◌, ◌++◌, Option, Some, None, slice_get, refl, sym, ap, ap₂, subst, arith, zero, suc}
+use Rattle.std.proofs.Common.{◌≡◌, ◌∙◌, ℕ, ◌+◌, ◌≤◌, ◌==◌, ◌&&◌, Bool, true, false, cond, filter, map, MatchBool, List, [], ◌∷◌, ◌++◌, Option, Some, None, slice_get, refl, sym, ap, ap₂, subst, arith, zero, suc}
 use Rattle.std.proofs.lemmas.Option.{slice_get_past}
 use Rattle.vio_num.specs.declared.entry.Entry.{Entry}
 use Rattle.crq_ring.specs.declared.rows.PipeRow.{PipeRow}
@@ -7,10 +7,8 @@ use Rattle.crq_session.specs.PlainState.{end_of, side_of}
 use Rattle.crq_session.specs.declared.link.PlainLink.{PlainLink}
 use Rattle.boot_text.specs.declared.plan.Line.{Line}
 use Rattle.boot_text.specs.declared.verb.Verb.{Verb}
-use Rattle.boot_text.specs.declared.verb.Verb.TheVariants as verbs
 use Rattle.vcpu_run.specs.declared.pair.Pair.{Pair}
 use Rattle.vcpu_run.specs.declared.script.Progress.{Progress}
-use Rattle.vcpu_run.specs.declared.script.Progress.TheVariants as progress
 use Rattle.vcpu_run.specs.Credited.{Ended, ended_by}
 use Rattle.vcpu_run.specs.EventsHeard.{event_if, events_among, events_taken, one_event}
 use Rattle.vcpu_run.specs.EventsMade.{PairCalm, PairMakes, PairShuts, events_at, times_open}

@@ -64,7 +64,7 @@ page_same unit window size page rows size_is there e = at (nat_lt page size) ref
     at false is = sym (ap strokes_in (slice_get_past window.pages page (omega (arith, is_past page size is, size_is))))
 
 -- the strokes that a trace shows of a unit's page are those of its window
-seat_strokes : (pairs : List Pair) (scripts : List Script) (lan : LanValue) (rows : LanRows) (history : List Served) (grants : List Grant) (copies : List CopyRecord) (partitions : List Partition)
+pub seat_strokes : (pairs : List Pair) (scripts : List Script) (lan : LanValue) (rows : LanRows) (history : List Served) (grants : List Grant) (copies : List CopyRecord) (partitions : List Partition)
     → AreOfOneHome copies pairs → AreScripts pairs lan.seats scripts → All (HasLawfulWindow pairs lan) (seats_of scripts) → IsOfPlan partitions pairs scripts lan.seats
     → (seat : UnitSeat) (window : WindowValue) → IsIn seat (seats_of scripts) → window_at pairs lan seat ≡ Some window → (page : ℕ)
     → (window_shown partitions (trace_of pairs scripts lan rows history grants copies) seat.unit).strokes page ≡ strokes_at window.pages page

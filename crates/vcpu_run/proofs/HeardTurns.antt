@@ -237,6 +237,6 @@ heard_fresh size partition units records copies pairs no_rows no_lines order idl
     explained = subst (λ (since : List Grant). HasExplained told units k pair.own.unit (end_of [] pair.link true) since records.grants.items) no_lines
         (unrefused told k pair.own.unit (end_of [] pair.link true) records.grants.items);
     logins = order_fresh told units k pair.own.unit (end_of [] pair.link true) (login_answers (side_of pair.link false).queue.sent) records.grants.items
-        (HearsEvent (end_of [] pair.link true)) (ap login_answers (fresh k pair found).sent) no_lines (fresh k pair found).taken unused;
+        (HearsEvent (end_of [] pair.link true)) (ap login_answers (fresh k pair found).sent) no_lines (fresh k pair found).session (fresh k pair found).taken unused;
   } ∣₁;
 }

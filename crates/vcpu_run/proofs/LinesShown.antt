@@ -1,9 +1,8 @@
 -- What there is once a line said that it sent a request, or wrote into its region, and that it is there as long as the run goes on.
-use Rattle.std.proofs.Common.{◌≡◌, ◌≢◌, ◌∙◌, ◌⊎◌, inl, inr, ℕ, zero, suc, ◌+◌, ◌==◌, ◌<◌, ◌≤◌, ◌&&◌, All, filter, get_or, map, nat_le, nat_lt, cond, Bool, true, false, List, [], ◌∷◌, ◌++◌, Option, Some, None, Result, Ok, Err, Contains, IfOk, IfSome, IsSome, MatchBool, length, refl, sym, ap, subst, arith, slice_get, append_assoc, append-nil}
+use Rattle.std.proofs.Common.{◌≡◌, ◌≢◌, ◌∙◌, ◌⊎◌, inl, inr, ℕ, zero, suc, ◌+◌, ◌==◌, ◌<◌, ◌≤◌, All, filter, get_or, map, nat_lt, cond, Bool, true, false, List, [], ◌∷◌, ◌++◌, Option, Some, None, Result, Ok, Err, Contains, IfOk, IfSome, MatchBool, length, refl, sym, ap, subst, arith, slice_get, append_assoc}
 use Rattle.std.specs.Borrow.{GName}
 use Rattle.std.specs.List.{flat_map}
 use Rattle.std.proofs.lemmas.Bool.{eq-eqb}
-use Rattle.std.proofs.lemmas.Bool.Decides.{nat_tests}
 use Rattle.std.proofs.lemmas.List.Elements.{Contains-append_left, Contains-append_right}
 use Rattle.vio_num.specs.Entry.{srp_entry}
 use Rattle.vio_num.specs.Words.{Begins}
@@ -11,7 +10,6 @@ use Rattle.vio_num.specs.declared.memory.NoMemory.{NoMemory}
 use Rattle.vio_num.specs.declared.names.UnitId.{UnitId}
 use Rattle.vio_num.specs.declared.entry.Entry.{Entry}
 use Rattle.page_slots.specs.Stroke.{StrokeValue}
-use Rattle.page_slots.specs.declared.stroke.StrokeName.{StrokeName}
 use Rattle.crq_ring.specs.declared.rows.PipeRow.{PipeRow}
 use Rattle.crq_ring.specs.Pipe.{PipeValue}
 use Rattle.crq_ring.specs.Sessions.{AreRising}
@@ -23,8 +21,7 @@ use Rattle.rdma_copy.specs.Copy.{SideGrows}
 use Rattle.tce_window.specs.PlainPort.{known_of}
 use Rattle.tce_window.specs.Port.{Grows}
 use Rattle.tce_window.specs.PortState.{PortPlace, PortState, Reads, Writes}
-use Rattle.tce_window.specs.Strokes.{with_strokes}
-use Rattle.tce_window.specs.Region.{end_page, first_page, stroke_on, touches}
+use Rattle.tce_window.specs.Region.{stroke_on}
 use Rattle.tce_window.specs.Window.{strokes_at}
 use Rattle.srp_iu.specs.declared.unit.Iu.{Iu}
 use Rattle.srp_iu.specs.declared.unit.Iu.TheVariants as units
@@ -43,14 +40,14 @@ use Rattle.vscsi_client.specs.declared.answers.Refused.{Refused}
 use Rattle.vscsi_client.specs.declared.op.Op.{Op}
 use Rattle.unit_region.specs.Answers.{AnswersRead, AnswersWrite}
 use Rattle.unit_region.specs.Kept.{LaysOwnOn}
-use Rattle.unit_region.proofs.Laws.{if_bytes, if_done, read_there as was_read, write_there as wrote_there}
+use Rattle.unit_region.proofs.Laws.{if_bytes, if_done, once_read, read_there as was_read, write_there as wrote_there}
 use Rattle.unit_region.specs.Steps.{IsPlain, is_plain}
 use Rattle.unit_region.specs.declared.step.Step.{Step}
 use Rattle.unit_region.specs.declared.step.Step.TheVariants as steps
 use Rattle.vcpu_run.specs.declared.pair.Pair.{Pair}
 use Rattle.vcpu_run.specs.Commands.{IsOpOf, cdb_of}
 use Rattle.vcpu_run.specs.AnswersSeen.{IsFront}
-use Rattle.vcpu_run.specs.LinesShow.{AreRead, AreWritten, IsCommandOf, IsOn, IsPut, IsPutBy, IsSent, IsFurtherShown, IsSentIf, IsReadIf, IsShown, IsUnitOf, IsWrittenIf, LinesShow, PairShows, Placed, RegionShows, region_of, Seen, Sees, StepShows, further_of, read_by, requests, seen_at, seen_by, written_by, PairPutsOne, PutsOne, seen_between, seen_since}
+use Rattle.vcpu_run.specs.LinesShow.{AreRead, AreWritten, IsCommandOf, IsOn, IsPut, IsSent, IsFurtherShown, IsSentIf, IsReadIf, IsShown, IsUnitOf, IsWrittenIf, LinesShow, PairShows, Placed, RegionShows, region_of, Seen, Sees, StepShows, further_of, read_by, requests, seen_at, seen_by, written_by, PutsOne, seen_between, seen_since}
 use Rattle.vcpu_run.specs.Pairs.{Drives}
 use Rattle.vcpu_run.specs.Sendings.{SaysSent}
 use Rattle.vcpu_run.specs.Sessions.{entries_of, session_rows, sessions_from}
@@ -189,7 +186,7 @@ step_none seen unit mark verb (Ok (steps.Waits did)) no_request no_bytes no_read
 step_none seen unit mark verb (Err memory) no_request no_bytes no_read none = tt
 
 -- a command, and the unit that it sends
-op_requests : (verb : Verb) (op : Op) → IsOpOf verb op → requests verb ≡ true
+pub op_requests : (verb : Verb) (op : Op) → IsOpOf verb op → requests verb ≡ true
 op_requests verbs.Login op is = absurd is
 op_requests verbs.Reset op is = absurd is
 op_requests verbs.Logout op is = absurd is
@@ -267,6 +264,9 @@ fail_is (verbs.Peek at len) is = absurd (cc)
 fail_is (verbs.Tce entry page readable writable) is = absurd (cc)
 fail_is (verbs.Hcall number arguments) is = absurd (cc)
 fail_is verbs.Fail is = refl
+
+pub fails_plain : (verb : Verb) → fails verb ≡ true → requests verb ≡ false
+fails_plain verb failing = ap requests (fail_is verb failing)
 
 pub fail_shows : (seen : Seen) (unit : UnitId) (mark : ℕ) (verb : Verb) (outcome : Outcome) → fails verb ≡ true → IsShown seen unit mark verb outcome
 fail_shows seen unit mark verb outcome failing =
@@ -408,7 +408,7 @@ write_shows shared old new at mark bytes entries verb (Err memory) no_request is
 
 -- a line that reads bytes of the region
 pub read_there : (new : PortState) (at : ℕ) (shown : List ℕ) (entries : Entry → Type 0) → Reads new at shown → AreRead (seen_there new entries) at shown
-read_there new at shown entries is = was_read new at shown is
+read_there new at shown entries is = once_read new.strokes at shown (was_read new at shown is)
 
 pub read_shows : (old new : PortState) (unit : UnitId) (at len mark : ℕ) (entries : Entry → Type 0) (verb : Verb) (result : Result Step NoMemory) → requests verb ≡ false
     → written_by verb ≡ None → read_by verb ≡ Some at → further_of verb ≡ None → IfOk result (AnswersRead old new at len) → StepShows (seen_there new entries) unit mark verb result
@@ -417,7 +417,7 @@ read_shows old new unit at len mark entries verb (Ok (steps.Ends outcome)) no_re
       subst (λ b. MatchBool b (IsSentIf seen unit mark verb outcome) (RegionShows seen unit mark (written_by verb) (read_by verb) outcome)) (sym no_request)
           (subst (λ (o : Option Placed). RegionShows seen unit mark o (read_by verb) outcome) (sym no_bytes)
           (subst (λ (o : Option ℕ). RegionShows seen unit mark None o outcome) (sym is)
-          (tt, if_bytes (region_of seen) at new len old (λ shown. was_read new at shown) outcome answer))),
+          (tt, if_bytes (region_of seen) at new len old (λ shown is. once_read new.strokes at shown (was_read new at shown is)) outcome answer))),
       no_further seen (further_of verb) outcome none,
     )
 read_shows old new unit at len mark entries verb (Ok (steps.Waits did)) no_request no_bytes is none answer = tt

@@ -264,17 +264,17 @@ order_elsewhere told units units' k unit other session taken answers lines lines
 
 -- Before the first turn.
 pub order_fresh : (told : Told → Bool) (units : List Unit) (k : ℕ) (unit : UnitId) (queue : EndState) (answers : List Entry) (lines : List Grant) (Heard : Type 0) → answers ≡ [] → lines ≡ []
-    → queue.taken ≡ [] → AreUnused units → GoInOrder told units k unit queue.last_session queue.taken answers lines Heard
-order_fresh told units k unit queue answers lines Heard none no_lines empty unused = record {
+    → queue.last_session ≡ 0 → queue.taken ≡ [] → AreUnused units → GoInOrder told units k unit queue.last_session queue.taken answers lines Heard
+order_fresh told units k unit queue answers lines Heard none no_lines begun empty unused = record {
   put = record {
     more = [];
     put = none;
     granted = ap (λ (list : List Grant). grants_in (lines_by unit list)) no_lines;
     each = All-nil (IsLoginAnswer (told_to told unit) queue.taken);
   };
-  asked = asked_kept units k unit queue [] [] [] (unused k unit queue empty);
+  asked = asked_kept units k unit queue [] [] [] (unused k unit queue begun empty);
   rejects = tt;
-  on = subst (λ (list : List Grant). LinesTellLogin units k unit queue list) (sym no_lines) (on_kept units k unit queue [] [] [] (unused k unit queue empty));
+  on = subst (λ (list : List Grant). LinesTellLogin units k unit queue list) (sym no_lines) (on_kept units k unit queue [] [] [] (unused k unit queue begun empty));
   closed = false;
   dealt = dealt_unused told [] (λ q. false) units k unit queue empty;
   heard = λ closed. absurd (cc (closed));

@@ -1,5 +1,5 @@
 -- A gathered trace shows the answers to requests to log in that each client's queue got, and that none of these was dropped.
-use Rattle.std.proofs.Common.{◌≡◌, ◌∙◌, ℕ, ◌+◌, Bool, true, false, All, List, [], Option, Some, None, IfSome, filter, length, option_map, slice_get, zero, suc, refl, sym, ap, subst}
+use Rattle.std.proofs.Common.{◌≡◌, ◌∙◌, ℕ, Bool, true, false, All, List, [], Option, Some, None, IfSome, filter, length, option_map, slice_get, sym, ap, subst}
 use Rattle.std.specs.List.{flat_map}
 use Rattle.std.proofs.Math.Logic.{∥∥₁_map}
 use Rattle.vio_num.specs.declared.entry.Entry.{Entry}
@@ -42,9 +42,10 @@ use Rattle.vcpu_run.specs.Machines.{AreScripts, IsOfPlan}
 use Rattle.vcpu_run.specs.Pairs.{AreOfOneHome}
 use Rattle.vcpu_run.specs.Received.{AreAtRest}
 use Rattle.vcpu_run.specs.RowsCopied.{shown_to}
-use Rattle.vcpu_run.specs.Sessions.{session_rows, sessions_from}
+use Rattle.vcpu_run.specs.Sessions.{session_rows}
 use Rattle.vcpu_run.specs.Shown.{sessions_of}
 use Rattle.vcpu_run.specs.Units.{seats_of, unit_seat}
+use Rattle.vcpu_run.proofs.Blocks.{sessions_count}
 use Rattle.vcpu_run.proofs.Copied.{names_apart}
 use Rattle.vcpu_run.proofs.Fetching.{all_taken}
 use Rattle.vcpu_run.proofs.GivenAnswers.{keeps_none}
@@ -59,11 +60,6 @@ use Rattle.vcpu_run.proofs.SentTo.{sent_shown}
 use Rattle.vcpu_run.proofs.Settling.{client_waits, emptied}
 use Rattle.vcpu_run.proofs.Sole.{same_refl}
 use Rattle.vcpu_run.proofs.ToldAll.{shown_all}
-
--- a queue has as many sessions as its last one says
-sessions_count : (unit : UnitId) (pipe : PipeValue) (q n : ℕ) → length (sessions_from unit pipe q n) ≡ n
-sessions_count unit pipe q zero = refl
-sessions_count unit pipe q (suc n) = ap suc (sessions_count unit pipe (q + 1) n)
 
 -- what is so of the answers to one unit's requests to log in
 abbrev pub AreLoginsShown : List Partition → Trace → (server client : UnitId) → Type 0

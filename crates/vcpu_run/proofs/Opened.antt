@@ -14,6 +14,7 @@ use Rattle.block_server.specs.SiteState.{AreReady}
 use Rattle.vscsi_client.specs.State.{ClientState, new_client}
 use Rattle.vscsi_client.specs.Transferred.{FitsRow}
 use Rattle.vcpu_run.specs.AnswersSeen.{AreResponsesRead, IsResponseRead, fronts_of}
+use Rattle.unit_region.specs.RegionLines.{IsOn}
 use Rattle.vcpu_run.specs.EventsHeard.{events_waiting}
 use Rattle.vcpu_run.specs.declared.driver.Driver.{Driver}
 use Rattle.vcpu_run.specs.declared.pair.Pair.{Pair}
@@ -122,3 +123,14 @@ pair_new server pages slots_a slots_b client link own window driver own_new wind
       names = names_new pair server pages client own_new window_new;
       absent = absent;
     }
+
+-- no page of such a window has a stroke
+bare_pages : (n page : ℕ) (stroke : StrokeValue) → IsOn stroke (strokes_at (replicate n blank_page) page) → ⊥
+bare_pages zero zero stroke on = on
+bare_pages zero (suc page) stroke on = on
+bare_pages (suc n) zero stroke (k, less, e) = absurd (omega (arith, less))
+bare_pages (suc n) (suc page) stroke on = bare_pages n page stroke on
+
+pub bare_new : (unit : UnitId) (pages : ℕ) (window : WindowValue) → window ≡ new_window unit pages
+    → (page : ℕ) (stroke : StrokeValue) → IsOn stroke (strokes_at window.pages page) → ⊥
+bare_new unit pages window new page stroke on = bare_pages pages page stroke (subst (λ (w : WindowValue). IsOn stroke (strokes_at w.pages page)) new on)

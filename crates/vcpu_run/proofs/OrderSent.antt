@@ -1,5 +1,5 @@
 -- The entries of a client's requests stand in the order of its records, as its records and its server unit's queue grow.
-use Rattle.std.proofs.Common.{◌≡◌, ◌∙◌, ◌⊎◌, inl, inr, ℕ, zero, suc, ◌≤◌, ◌==◌, ◌&&◌, Bool, true, false, nat_le, cond, filter, map, List, [], ◌∷◌, ◌++◌, Option, Some, None, Result, Ok, MatchBool, MatchOption, length, refl, sym, ap, subst, arith, slice_get, append-nil, append_assoc}
+use Rattle.std.proofs.Common.{◌≡◌, ◌∙◌, ℕ, ◌≤◌, ◌==◌, ◌&&◌, Bool, true, false, cond, filter, map, List, [], ◌∷◌, ◌++◌, Option, Some, None, Ok, MatchBool, MatchOption, length, refl, sym, ap, subst, arith, slice_get, append-nil, append_assoc}
 use Rattle.std.proofs.lemmas.Bool.{eqb-true}
 use Rattle.std.proofs.lemmas.Bool.Decides.{nat_tests}
 use Rattle.vio_num.specs.Entry.{srp_entry}
@@ -16,10 +16,12 @@ use Rattle.vscsi_client.specs.Units.{slot_address}
 use Rattle.unit_region.specs.declared.step.Step.TheVariants as steps
 use Rattle.vcpu_run.specs.declared.pair.Pair.{Pair}
 use Rattle.vcpu_run.specs.declared.script.Script.{Script}
+use Rattle.vcpu_run.specs.DropsShown.{IsFullAt, LinesFull, PairShowsLine}
 use Rattle.vcpu_run.specs.LinesShow.{IsSent, IsSentIf, LinesShow, PairPutsOne, PairShows, RegionShows, Seen, Sees, read_by, requests, seen_at, seen_between, written_by}
 use Rattle.vcpu_run.specs.ScriptTold.{PairShown, PutsMore}
 use Rattle.vcpu_run.specs.SentOrder.{AreSentIn, IsNextSent, entries_begun, entries_put, is_begun, said_tag, tag_sent, with_entry}
 use Rattle.vcpu_run.proofs.Driving.{some_is}
+use Rattle.vcpu_run.proofs.DropsKept.{full_on, lines_full_more, lines_full_next}
 use Rattle.vcpu_run.proofs.LinesShown.{between_sees, lines_more, lines_next, sent_more, shown_more}
 
 -- more is there, and more entries stand behind
@@ -248,22 +250,27 @@ shown_on script unit old new who sees more is =
       order = subst (λ (u : UnitId). AreSentIn (seen_at new) u unit script.lines.now script.logs.items (entries_put new)) (sym who)
           (subst (λ (list : List Entry). AreSentIn (seen_at new) old.window.unit unit script.lines.now script.logs.items list) (sym grown.1)
           (order_more (seen_at old) (seen_at new) old.window.unit unit script.lines.now script.logs.items (entries_put old) grown.0 sees is.order));
+      drops = lines_full_more (IsFullAt old) (IsFullAt new) unit script.lines.now script.logs.items (full_on old new more) is.drops;
     }
 
 -- and with what a line did that ended
 pub one_shown : (script done : Script) (unit : ℕ) (old new : Pair) (line : Line) (row : LogRow) → slice_get script.lines.now script.at ≡ Some line → length script.logs.items ≡ script.at
     → done.lines ≡ script.lines → done.logs.items ≡ script.logs.items ++ row ∷ [] → new.window.unit ≡ old.window.unit → Sees (seen_at old) (seen_at new) → PutsMore old new
-    → (line.unit ≡ unit → PairShows line old new (Ok (steps.Ends row.outcome))) → PairShown script unit old → PairShown done unit new
+    → (line.unit ≡ unit → PairShowsLine line old new (Ok (steps.Ends row.outcome))) → PairShown script unit old → PairShown done unit new
 one_shown script done unit old new line row found many lines logs who sees more last is =
     let here : slice_get script.lines.now (length script.logs.items) ≡ Some line = ap (slice_get script.lines.now) many ∙ found in
     let show : LinesShow (seen_at new) new.window.unit unit script.lines.now (script.logs.items ++ row ∷ []) =
     lines_next (seen_at new) new.window.unit unit script.lines.now script.logs.items line row here (shown_on script unit old new who sees more is).show
-    (λ same. shown_more (seen_between old new) (seen_at new) (between_sees old new) new.window.unit line.number line.verb row.outcome (last same)) in
+    (λ same. shown_more (seen_between old new) (seen_at new) (between_sees old new) new.window.unit line.number line.verb row.outcome (last same).0) in
     let order : AreSentIn (seen_at new) new.window.unit unit script.lines.now (script.logs.items ++ row ∷ []) (entries_put new) =
-    order_next old new unit script.lines.now script.logs.items line row here who sees more (λ test. last (eqb-true line.unit unit test)) is.order in
+    order_next old new unit script.lines.now script.logs.items line row here who sees more (λ test. (last (eqb-true line.unit unit test)).0) is.order in
+    let drops : LinesFull (IsFullAt new) unit script.lines.now (script.logs.items ++ row ∷ []) =
+    lines_full_next (IsFullAt new) unit script.lines.now script.logs.items line row here (shown_on script unit old new who sees more is).drops (λ same. (last same).1) in
     record {
       show = subst (λ ls. LinesShow (seen_at new) new.window.unit unit ls.now done.logs.items) (sym lines)
           (subst (λ (rows : List LogRow). LinesShow (seen_at new) new.window.unit unit script.lines.now rows) (sym logs) show);
       order = subst (λ ls. AreSentIn (seen_at new) new.window.unit unit ls.now done.logs.items (entries_put new)) (sym lines)
           (subst (λ (rows : List LogRow). AreSentIn (seen_at new) new.window.unit unit script.lines.now rows (entries_put new)) (sym logs) order);
+      drops = subst (λ ls. LinesFull (IsFullAt new) unit ls.now done.logs.items) (sym lines)
+          (subst (λ (rows : List LogRow). LinesFull (IsFullAt new) unit script.lines.now rows) (sym logs) drops);
     }

@@ -1,12 +1,9 @@
 -- What lines in a client's own region say.
-use Rattle.std.proofs.Common.{◌≡◌, ◌∙◌, ℕ, ◌*◌, cond, Bool, true, List, [], ◌∷◌, Option, Result, Ok, IfOk, length, refl, sym, ap, subst, arith, length-append, suc, zero}
-use Rattle.vio_num.specs.declared.hypervisor.Hrc.{Hrc}
-use Rattle.vio_num.specs.declared.hypervisor.Hrc.TheVariants as codes
+use Rattle.std.proofs.Common.{◌≡◌, ℕ, Bool, List, Option, Result, Ok, IfOk, sym, subst}
 use Rattle.vio_num.specs.declared.memory.NoMemory.{NoMemory}
 use Rattle.boot_text.specs.declared.verb.Verb.{Verb}
 use Rattle.boot_text.specs.declared.verb.Verb.TheVariants as verbs
 use Rattle.tce_window.specs.PortState.{PortState}
-use Rattle.tce_window.specs.Puts.{takes}
 use Rattle.tce_window.specs.Region.{in_region}
 use Rattle.unit_region.specs.Answers.{AnswersPut, AnswersRead, AnswersWrite, tce_of}
 use Rattle.unit_region.specs.Pattern.{pattern}
@@ -14,8 +11,7 @@ use Rattle.unit_region.proofs.Laws.{ends_so, filled_long, put_says, shown_says, 
 use Rattle.unit_region.specs.declared.step.Step.{Step}
 use Rattle.unit_region.specs.declared.step.Step.TheVariants as steps
 use Rattle.vio_trace.specs.declared.outcome.Outcome.{Outcome}
-use Rattle.vio_trace.specs.declared.outcome.Outcome.TheVariants as outcomes
-use Rattle.vcpu_run.specs.Refusals.{IsSaid, IsShown, IsWritten, LoginNow, code_if}
+use Rattle.vcpu_run.specs.Refusals.{IsSaid, IsWritten, LoginNow}
 
 pub fill_says : (is_shared : Bool) (old new : PortState) (at len seed line : ℕ) (verb : Verb) (result : Result Step NoMemory) → verb ≡ verbs.Fill at len seed
     → IfOk result (AnswersWrite is_shared old new at (pattern seed len) line) → (login : Option LoginNow) (outcome : Outcome) → result ≡ Ok (steps.Ends outcome)

@@ -22,7 +22,7 @@ use Rattle.lan_script.specs.Entries.{CallsOne, ValuesGrow, values_at, window_see
 use Rattle.lan_script.specs.Regions.{strokes_at}
 use Rattle.vcpu_run.specs.PortRegions.{RegionsKept}
 use Rattle.vcpu_run.proofs.PortKept.{kept_same}
-use Rattle.unit_region.specs.RegionLines.{region_seen}
+use Rattle.unit_region.specs.RegionLines.{region_once}
 use Rattle.lan_script.specs.Seats.{seat_at}
 use Rattle.lan_script.specs.Units.{LanValue}
 use Rattle.lan_script.specs.Values.{SameValuesBeside}
@@ -59,7 +59,7 @@ port_returned id call old new returned there seats answer is = by (seat_at old.s
         subst (λ (o : Option PortSeat). IsReturned (record {
           pages = option_map (λ (seat : PortSeat). seat.pages) o;
           value_at = λ entry value. Contains (values_at new id entry) value;
-          region = region_seen (strokes_at new id);
+          region = region_once (strokes_at new id);
           entry_put = λ entry. ⊤;
         }) (entry_row call) (entry_arguments call) returned) (sym (ap (λ ss. seat_at ss id) seats ∙ e))
         (entry_seen (window_seen old id) (window_seen new id) seat.pages (values_at new id) (strokes_at new id) (λ entry. ⊤) (Some seat) call returned size refl refl answer is.answers)

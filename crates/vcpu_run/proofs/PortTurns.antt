@@ -29,7 +29,7 @@ use Rattle.vcpu_run.specs.Ports.{unit_of}
 use Rattle.vcpu_run.specs.PortSteps.{AllSilent, AllTake, AreFresh, IsApart, IsBeside, IsIdle, RisesIf, StepRises, TakesOn, TellsStep}
 use Rattle.vcpu_run.specs.PortBytes.{StepBytes}
 use Rattle.vcpu_run.specs.PortPosts.{StepFits}
-use Rattle.vcpu_run.specs.PortRegions.{LaysLogged, RegionsKept, StepShown}
+use Rattle.vcpu_run.specs.PortRegions.{LaysLogged, RegionsKept, StepShown, StepWrites}
 use Rattle.vcpu_run.specs.PortReplays.{IsStill, OffersSince, StepReplays, sent_at}
 use Rattle.vcpu_run.specs.PortWords.{PortsTell, TellsPorts}
 use Rattle.lan_switch.specs.Switch.{port_of}
@@ -117,11 +117,13 @@ pub port_steps : (partition : ℕ) (seats : List Seat) (line : Line) (done done'
     → StepFits (unit_of partition line.unit) line.verb done done' old new step → StepBytes (unit_of partition line.unit) line.verb old new step
     → StepPuts line.verb step (values_at old (unit_of partition line.unit)) (values_at new (unit_of partition line.unit))
     → StepShown (unit_of partition line.unit) line new step → LaysLogged (unit_of partition line.unit) line.number old new
+    → StepWrites (unit_of partition line.unit) line old new step
     → IsBeside (unit_of partition line.unit) old new → TellsStep partition seats line done done' old new step
-port_steps partition seats line done done' old new step rises replays fits bytes puts shows marks beside = record {
+port_steps partition seats line done done' old new step rises replays fits bytes puts shows marks writes beside = record {
   rises = λ u sat. by u (line.unit == u) refl;
   shows = λ u sat e. subst (λ n. StepShown (unit_of partition n) line new step) e shows;
   marks = λ u sat e. subst (λ n. LaysLogged (unit_of partition n) line.number old new) e marks;
+  writes = λ u sat e. subst (λ n. StepWrites (unit_of partition n) line old new step) e writes;
 }
   where
     by : (u : ℕ) (b : Bool) → (line.unit == u) ≡ b → RisesIf b (unit_of partition u) line.verb done done' old new step
@@ -141,6 +143,7 @@ client_steps partition k seats line done done' lan step at = record {
   rises = λ u sat. by u sat (line.unit == u) refl;
   shows = λ u sat e. absurd (no (sym at ∙ (ap (λ n. slice_get seats n) e ∙ sat)));
   marks = λ u sat e. absurd (no (sym at ∙ (ap (λ n. slice_get seats n) e ∙ sat)));
+  writes = λ u sat e. absurd (no (sym at ∙ (ap (λ n. slice_get seats n) e ∙ sat)));
 }
   where
     no : Some (sits.Client k) ≡ Some sits.Port → ⊥
@@ -198,10 +201,10 @@ pub port_told : (partition : ℕ) (seats : List Seat) (line : Line) (done done' 
     → IfOk r (StepFits (unit_of partition line.unit) line.verb done done' old new) → IfOk r (StepBytes (unit_of partition line.unit) line.verb old new)
     → IfOk r (λ step. StepPuts line.verb step (values_at old (unit_of partition line.unit)) (values_at new (unit_of partition line.unit)))
     → IfOk r (StepShown (unit_of partition line.unit) line new) → OnOk r (LaysLogged (unit_of partition line.unit) line.number old new)
-    → OnOk r (IsBeside (unit_of partition line.unit) old new) → IfOk r (TellsStep partition seats line done done' old new)
-port_told partition seats line done done' old new (Ok step) rises replays fits bytes puts shows marks beside =
-    port_steps partition seats line done done' old new step rises replays fits bytes puts shows marks beside
-port_told partition seats line done done' old new (Err memory) rises replays fits bytes puts shows marks beside = tt
+    → IfOk r (StepWrites (unit_of partition line.unit) line old new) → OnOk r (IsBeside (unit_of partition line.unit) old new) → IfOk r (TellsStep partition seats line done done' old new)
+port_told partition seats line done done' old new (Ok step) rises replays fits bytes puts shows marks writes beside =
+    port_steps partition seats line done done' old new step rises replays fits bytes puts shows marks writes beside
+port_told partition seats line done done' old new (Err memory) rises replays fits bytes puts shows marks writes beside = tt
 
 pub port_apart : (partition u : ℕ) (old new : LanValue) (r : Result Step NoMemory) → OnOk r (IsBeside (unit_of partition u) old new)
     → OnOk r (IsApart partition old new)

@@ -47,7 +47,7 @@ port_waits lan lan' script script' line moved found same no_call step tells = re
   buffers = buffers_wait lan lan' script script' line moved found same step tells.buffers;
   takes = takes_wait lan lan' script script' line moved found same step tells.takes;
   values = values_wait lan lan' script script' line moved found same step tells.values;
-  regions = regions_wait lan lan' script script' line moved same no_call step tells.regions;
+  regions = regions_wait lan lan' script script' line moved found same no_call step tells.regions;
   logged = logged_wait lan lan' script script' line moved found same no_call step tells.logged;
   entries = entries_wait lan lan' script script' line moved same no_call step tells.entries;
   macs = macs_wait lan lan' script script' line moved same no_call step tells.macs;
@@ -70,7 +70,7 @@ step_tells lan lan' script ended line row done' found reached partition lines se
   buffers = buffers_step lan lan' script ended line row done' found reached partition lines seats logs fresh step tells.buffers;
   takes = takes_step lan lan' script ended line row done' found reached lines seats logs fresh step tells.takes;
   values = values_step lan lan' script ended line row done' found reached partition lines seats logs step tells.values;
-  regions = regions_step lan lan' script ended line row done' found reached partition lines seats logs ports entry step tells.regions;
+  regions = regions_step lan lan' script ended line row done' found reached partition lines seats logs ports entry step tells.logged tells.regions;
   logged = logged_step lan lan' script ended line row done' found reached partition lines seats logs entry step tells.logged;
   entries = entries_step lan lan' script ended line row done' found reached partition lines seats logs ports entry step tells.entries;
   macs = macs_step lan lan' script ended line row done' found reached partition lines seats logs call step tells.macs;
@@ -94,7 +94,7 @@ quiet_tells lan script ended line row found reached partition lines seats logs f
   buffers = buffers_quiet lan lan script ended line row found reached partition lines seats logs fresh none nothing (all_still lan) tells.buffers;
   takes = takes_quiet script ended line row found reached lines seats logs fresh nothing tells.takes;
   values = values_quiet lan lan script ended line row found reached partition lines seats logs isnt (all_still lan) tells.values;
-  regions = regions_quiet lan lan script ended line row found reached partition lines seats logs apart (all_still lan) tells.regions;
+  regions = regions_quiet lan lan script ended line row found reached partition lines seats logs apart (all_still lan) tells.logged tells.regions;
   logged = logged_quiet lan lan script ended line row found reached partition lines seats logs (all_still lan) tells.logged;
   entries = entries_quiet lan lan script ended line row found reached partition lines seats logs no_call (all_still lan) tells.entries;
   macs = macs_quiet lan lan script ended line row found reached partition lines seats logs (all_still lan) tells.macs;
@@ -118,7 +118,7 @@ took_tells lan script ended line row count taken found reached partition lines s
   buffers = buffers_took lan script ended line row count found reached partition lines seats logs fresh verb tells.buffers;
   takes = takes_took script ended line row count taken found reached lines seats logs fresh out verb few tells.takes;
   values = values_quiet lan lan script ended line row found reached partition lines seats logs (ap is_put verb) (all_still lan) tells.values;
-  regions = regions_quiet lan lan script ended line row found reached partition lines seats logs (ap is_in_region verb) (all_still lan) tells.regions;
+  regions = regions_quiet lan lan script ended line row found reached partition lines seats logs (ap is_in_region verb) (all_still lan) tells.logged tells.regions;
   logged = logged_quiet lan lan script ended line row found reached partition lines seats logs (all_still lan) tells.logged;
   entries = entries_quiet lan lan script ended line row found reached partition lines seats logs (ap is_call verb) (all_still lan) tells.entries;
   macs = macs_quiet lan lan script ended line row found reached partition lines seats logs (all_still lan) tells.macs;
@@ -142,7 +142,7 @@ failed_tells lan lan' script ended line row found reached partition lines seats 
   buffers = buffers_quiet lan lan' script ended line row found reached partition lines seats logs fresh none (fails_none line.verb failing) silent tells.buffers;
   takes = takes_quiet script ended line row found reached lines seats logs fresh (fails_none line.verb failing) tells.takes;
   values = values_quiet lan lan' script ended line row found reached partition lines seats logs (fails_puts_none line.verb failing) silent tells.values;
-  regions = regions_quiet lan lan' script ended line row found reached partition lines seats logs (fails_apart line.verb failing) silent tells.regions;
+  regions = regions_quiet lan lan' script ended line row found reached partition lines seats logs (fails_apart line.verb failing) silent tells.logged tells.regions;
   logged = logged_quiet lan lan' script ended line row found reached partition lines seats logs silent tells.logged;
   entries = entries_quiet lan lan' script ended line row found reached partition lines seats logs (fails_no_call line.verb failing) silent tells.entries;
   macs = macs_quiet lan lan' script ended line row found reached partition lines seats logs silent tells.macs;

@@ -10,7 +10,7 @@ use Rattle.vio_num.specs.declared.names.Mac.{Mac}
 use Rattle.vio_num.specs.declared.names.UnitId.{UnitId}
 use Rattle.rdma_copy.specs.declared.copy.CopyRecord.{CopyRecord}
 use Rattle.page_slots.specs.Stroke.{StrokeValue}
-use Rattle.unit_region.specs.RegionLines.{IsOn as LiesOn, region_seen}
+use Rattle.unit_region.specs.RegionLines.{IsOn as LiesOn, region_once}
 use Rattle.boot_text.specs.declared.plan.Line.{Line}
 use Rattle.boot_text.specs.declared.plan.Partition.{Partition}
 use Rattle.boot_text.specs.SoFar.{has_server, is_server}
@@ -57,7 +57,7 @@ use Rattle.vcpu_run.specs.PortOffers.{EndsFrame, GoesNow, GoesTo, KeepsOffers, W
 use Rattle.vcpu_run.specs.PortPosts.{AreWithin, buffers_of, buffers_under}
 use Rattle.vcpu_run.specs.LinesShow.{Sees}
 use Rattle.vcpu_run.specs.Pairs.{AreOfOneHome}
-use Rattle.vcpu_run.specs.PortRegions.{IsCurrent, IsLogged, KeepsLogged, KeepsTold, LinesTold, RegionsAreTold, StrokesAreLogged, region_shown}
+use Rattle.vcpu_run.specs.PortRegions.{AreInTurn, IsCurrent, IsLogged, KeepsLogged, KeepsTold, LinesTold, RegionsAreTold, StrokesAreLogged, region_shown, strokes_shown}
 use Rattle.vcpu_run.specs.PortReplays.{AreReplayed, IsPlainPort, sent_at}
 use Rattle.vcpu_run.specs.PortWords.{BuffersAreTold, FramesAreOffered, FramesHaveBytes, HasNoCall, LinesTell, OffersAreFit, OffersHaveAddress, PortsAreReplayed, PortsAreTold, PortsTell, PostsCarryAddresses, TakesAreWithin, TellsPort, ValuesAreTold, WordsAreTold, counts_now, counts_under, done_in, frame_told}
 use Rattle.vcpu_run.specs.PortsRest.{PortsEnd}
@@ -76,7 +76,7 @@ use Rattle.vcpu_run.proofs.LinesShown.{front_shown, stroke_shown}
 use Rattle.vcpu_run.proofs.Listed.{held}
 use Rattle.vcpu_run.proofs.Parts.{IsIn, each_in, found, in_slice}
 use Rattle.vcpu_run.proofs.Placing.{partitions_are}
-use Rattle.vcpu_run.proofs.PortLines.{lines_sees, seen_as}
+use Rattle.vcpu_run.proofs.PortLines.{seen_as, moments_same}
 use Rattle.vcpu_run.proofs.PortOrder.{IsOwnSeat, ports_own, ports_sized}
 use Rattle.vcpu_run.proofs.RecordLaws.{lines_in, none_past, partitions_apart, rows_told}
 
@@ -448,7 +448,7 @@ values_told_are pairs scripts lan rows history grants copies partitions are of_p
 pub region_told : (pairs : List Pair) (scripts : List Script) (lan : LanValue) (rows : LanRows) (history : List Served) (grants : List Grant) (copies : List CopyRecord)
     (partitions : List Partition) → AreOfOneHome copies pairs → AreScripts pairs lan.seats scripts → IsOfPlan partitions pairs scripts lan.seats
     → All (HasLawfulWindow pairs lan) (seats_of scripts) → (unit : UnitId) → IsSome (seat_at lan.seats unit)
-    → Sees (seen_as (region_seen (strokes_at lan unit))) (seen_as (region_shown (trace_of pairs scripts lan rows history grants copies) unit))
+    → Sees (seen_as (region_once (strokes_at lan unit))) (seen_as (region_shown (trace_of pairs scripts lan rows history grants copies) unit))
 region_told pairs scripts lan rows history grants copies partitions home are of_plan windows unit there =
     let trace : Trace = trace_of pairs scripts lan rows history grants copies in
     let shows = port_shows pairs scripts lan rows history grants copies partitions home are windows of_plan unit there in
@@ -465,26 +465,33 @@ regions_are : (pairs : List Pair) (scripts : List Script) (lan : LanValue) (rows
     (partitions : List Partition) → AreOfOneHome copies pairs → AreScripts pairs lan.seats scripts → IsOfPlan partitions pairs scripts lan.seats → All IsOver scripts
     → PortsTell lan scripts → All (HasLawfulWindow pairs lan) (seats_of scripts) → RegionsAreTold partitions (trace_of pairs scripts lan rows history grants copies)
 regions_are pairs scripts lan rows history grants copies partitions home are of_plan over tells windows unit seat there =
-    let shown = region_shown (trace_of pairs scripts lan rows history grants copies) unit in
     subst (λ ls. LinesTold shown seat.pages unit ls logs) (sym at.lines)
     (subst (λ l. LinesTold shown seat.pages unit at.script.lines.now l) (sym at.only)
-    (lines_sees (region_seen (strokes_at lan unit)) shown seat.pages unit at.script.lines.now at.script.logs.items
-    (region_told pairs scripts lan rows history grants copies partitions home are of_plan windows unit (subst (λ (o : Option PortSeat). IsSome o) (sym seated) refl))
-    (subst (λ (o : Option PortSeat). IfSome o (λ s. LinesTold (region_seen (strokes_at lan unit)) s.pages unit at.script.lines.now at.script.logs.items)) seated
+    (moments_same (strokes_at lan unit) shown seat.pages unit at.script.lines.now at.script.logs.items
+    (port_shows pairs scripts lan rows history grants copies partitions home are windows of_plan unit (subst (λ (o : Option PortSeat). IsSome o) (sym seated) refl)).same
+    (subst (λ (o : Option PortSeat). IfSome o (λ s. LinesTold (strokes_at lan unit) s.pages unit at.script.lines.now at.script.logs.items)) seated
     (subst (λ (id : UnitId). KeepsTold at.script.lines.now at.script.logs.items lan id) at.named
-    ((tells unit.partition at.script at.is).regions unit.unit at.sits)))))
+    ((tells unit.partition at.script at.is).regions turn unit.unit at.sits)))))
   where
     logs : List LogRow
     logs = filter (λ (row : LogRow). row.partition == unit.partition) (flat_map logs_of scripts)
 
+    shown : ℕ → Option (List StrokeValue)
+    shown = strokes_shown (trace_of pairs scripts lan rows history grants copies) (pages_at partitions unit) unit
+
     at : IsScriptAt scripts partitions unit logs
     at = script_at pairs scripts lan.seats partitions unit are of_plan over (subst (λ (o : Option PortSeat). IsSome o) (sym there) refl)
+
+    turn : AreInTurn at.script.lines.now at.script.logs.items at.script.at
+    turn =
+        let script_is = (are unit.partition at.script at.is).script_is in
+        record { in_order = script_is.in_order; reached = script_is.logs.reached }
 
     seated : seat_at lan.seats unit ≡ Some seat
     seated = ap (λ ss. seat_at ss unit) of_plan.ports_are ∙ there
 
 -- a stroke that a trace shows on a page of a region is one of the page
-on_page : (size page : ℕ) (stroke : StrokeValue) (shown : List StrokeValue) (strokes : Option (List StrokeValue)) → page < size
+pub on_page : (size page : ℕ) (stroke : StrokeValue) (shown : List StrokeValue) (strokes : Option (List StrokeValue)) → page < size
     → cond (nat_lt page size) (Some shown) None ≡ strokes → Contains shown stroke → LiesOn stroke strokes
 on_page size page stroke shown strokes less same has = by (nat_lt page size) refl same
   where
@@ -493,7 +500,7 @@ on_page size page stroke shown strokes less same has = by (nat_lt page size) ref
     by false e s = let past : size ≤ page = grind (arith, nat_tests) in absurd (omega (arith, past, less))
 
 -- one that was laid by a line is none of a current line, since there is none
-no_current : (unit : UnitId) (lines : List Line) (rows : List LogRow) (at mark : ℕ) → slice_get lines at ≡ None
+pub no_current : (unit : UnitId) (lines : List Line) (rows : List LogRow) (at mark : ℕ) → slice_get lines at ≡ None
     → IsLogged unit lines rows mark ⊎ IsCurrent unit lines at mark → IsLogged unit lines rows mark
 no_current unit lines rows at mark none (inl is) = is
 no_current unit lines rows at mark none (inr is) = absurd (some_none is.line (sym is.there ∙ none))

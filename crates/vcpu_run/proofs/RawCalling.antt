@@ -38,10 +38,12 @@ use Rattle.vcpu_run.proofs.PortTurns.{call_apart, idle_same}
 use Rattle.vcpu_run.proofs.Credits.{plain_fresh}
 use Rattle.vcpu_run.specs.Freeing.{NoneSits}
 use Rattle.vcpu_run.proofs.Driving.{driven_same}
+use Rattle.vcpu_run.proofs.ClientsLay.{none_lay_same}
 use Rattle.vcpu_run.proofs.Unfreed.{frees_same}
+use Rattle.vcpu_run.specs.ClientStrokes.{NoneLay}
 
 units_same : (old new : PartitionUnits) → new ≡ old → CallsUnits old new
-units_same old new same = subst (CallsUnits old) (sym same) (record { lender = refl; lan_lender = refl; driven = driven_same old.pairs.now; told = λ k. refl; ports = refl; stays = frees_same (NoneSits old.seats.now) old.pairs.now; others = λ k none. refl })
+units_same old new same = subst (CallsUnits old) (sym same) (record { lender = refl; lan_lender = refl; driven = driven_same old.pairs.now; told = λ k. refl; ports = refl; stays = frees_same (NoneSits old.seats.now) old.pairs.now; others = λ k none. refl; lays = none_lay_same old.pairs.now })
 
 pub calls_same : (old new : PartitionUnits) (result : Result Returned NoMemory) → new ≡ old → MakesCall old new result
 calls_same old new result same = record {
@@ -65,6 +67,7 @@ port_made old new u id call r is pairs lender seats counted sent beside values r
     ports = seats;
     stays = subst (λ list. FreesNoneIf (NoneSits old.seats.now) old.pairs.now list) (sym now) (frees_same (NoneSits old.seats.now) old.pairs.now);
     others = λ k none. ap (λ list. slice_get list k) now;
+    lays = subst (λ list. NoneLay old.pairs.now list) (sym now) (none_lay_same old.pairs.now);
   };
   apart = call_apart old.partition u call r old.lan.now new.lan.now seats
       (subst (λ (i : UnitId). IfOk r (λ returned. CountsOn i (counts 0 0) (counts_called call returned.code) old.lan.now new.lan.now)) is counted)

@@ -224,7 +224,7 @@ received_fresh units copies grants history pairs none no_lines no_rows waits unu
       received = IfSome_then (slice_get units k) (waits k)
           (λ u is. intake_none (intake_at u (known_of pair.own) (known_of pair.window) (end_of [] pair.link true) copies grants) (fresh k pair found).taken none is);
       kept = subst (λ (lines : List Grant). HasKept units k pair.own.unit (end_of [] pair.link true) history lines []) (sym no_lines)
-          (subst (λ (rows : List Served). HasKept units k pair.own.unit (end_of [] pair.link true) rows [] []) (sym no_rows) (unused k pair.own.unit (end_of [] pair.link true) (fresh k pair found).taken));
+          (subst (λ (rows : List Served). HasKept units k pair.own.unit (end_of [] pair.link true) rows [] []) (sym no_rows) (unused k pair.own.unit (end_of [] pair.link true) (fresh k pair found).session (fresh k pair found).taken));
     },
   ) ∣₁;
   begun = subst AreBegun (sym (fresh k pair found).taken) (All-nil (λ (row : PipeRow). 1 ≤ row.session));

@@ -123,5 +123,5 @@ credits_are pairs scripts lan lan_rows history grants copies partitions are of_p
     let here : p ≡ i = sym (same_partition script.partition p is) ∙ (are i script e).number in
     let lines : script_of partitions p ≡ script.lines.now =
     ap (script_of partitions) here ∙ lines_in (slice_get partitions i) script (of_plan.scripts_are.each i script e) in
-    subst (λ ls. KeepsCredit None (ended_by unit ls script.logs.items)) (sym lines) ((credited i script e).law unit)))
+    subst (λ ls. KeepsCredit None (ended_by unit ls script.logs.items)) (sym lines) ((credited i script e).0.law unit)))
     (partitions_apart p 0 scripts (partitions_are pairs lan.seats scripts are))

@@ -29,6 +29,7 @@ use Rattle.vcpu_run.specs.Scripts.{are_servers}
 use Rattle.vcpu_run.specs.ScriptTold.{AreTold, IsScriptTold}
 use Rattle.vcpu_run.specs.Settled.{script_of}
 use Rattle.vcpu_run.specs.Shown.{pages_at, pages_if, sessions_of, stroke_value, strokes_on, window_shown, values_shown}
+use Rattle.vcpu_run.proofs.DropsKept.{drop_shown, lines_full_more}
 use Rattle.vcpu_run.proofs.AnswersFound.{IsClientGiven, client_takes}
 use Rattle.vcpu_run.proofs.Driving.{some_is}
 use Rattle.vcpu_run.proofs.Listed.{held}
@@ -46,6 +47,7 @@ use Rattle.vio_trace.specs.declared.rows.QueueRow.{QueueRow}
 use Rattle.vcpu_run.specs.declared.unit_seat.Seat.TheVariants as sits
 use Rattle.vcpu_run.specs.declared.unit_seat.UnitSeat.{UnitSeat}
 use Rattle.vcpu_run.specs.CopyRows.{same_unit}
+use Rattle.vcpu_run.specs.DropsShown.{AreDropsTold, IsFullAt, drops_to}
 use Rattle.vcpu_run.specs.LinesShow.{LinesShow, Sees, seen_at}
 use Rattle.vcpu_run.specs.Pairs.{AreOfOneHome, IsDriver}
 use Rattle.vcpu_run.specs.AnswersSent.{sent_to}
@@ -78,7 +80,7 @@ client_pages partitions k id pair is has = at pair.driver is.client has
     at (Some driver) plan h = ap (λ (unit : UnitId). pages_if (unit_at partitions unit)) (sym h) ∙ (ap pages_if plan.planned ∙ sym plan.region)
 
 -- the records of a script's partition are its own
-own_records : (pairs : List Pair) (scripts : List Script) (lan : LanValue) (p : ℕ) (script : Script) → AreScripts pairs lan.seats scripts → slice_get scripts p ≡ Some script
+pub own_records : (pairs : List Pair) (scripts : List Script) (lan : LanValue) (p : ℕ) (script : Script) → AreScripts pairs lan.seats scripts → slice_get scripts p ≡ Some script
     → filter (λ (row : LogRow). row.partition == p) (flat_map logs_of scripts) ≡ script.logs.items
 own_records pairs scripts lan p script are e =
     let here : script.partition ≡ p = (are p script e).number in
@@ -87,7 +89,7 @@ own_records pairs scripts lan p script are e =
     (rows_told pairs lan.seats scripts p are) (partitions_apart p 0 scripts (partitions_are pairs lan.seats scripts are))
 
 -- a client's window is that of its driver's unit
-window_is : (window : WindowValue) (slot : Option Driver) (id : UnitId) → IfSome slot (IsDriver window) → IsSomeAnd slot (λ driver. driver.unit ≡ id) → window.unit ≡ id
+pub window_is : (window : WindowValue) (slot : Option Driver) (id : UnitId) → IfSome slot (IsDriver window) → IsSomeAnd slot (λ driver. driver.unit ≡ id) → window.unit ≡ id
 window_is window None id is has = absurd has
 window_is window (Some driver) id is has = is.unit ∙ has
 
@@ -180,6 +182,12 @@ refusals_are pairs scripts lan lan_rows history grants copies partitions home ar
     (sym (entries_shown partitions pairs scripts lan lan_rows history grants copies client server pair.0 are lawful of_plan is pair.1))
     (order_seen (seen_at pair.0) (seen_in trace client server) pair.0.window.unit client.unit script.lines.now script.logs.items (entries_put pair.0) sees
     (script_is.shown client.unit server.unit pair.0 at.2 pair.1).order)) in
+    let pipe = server_sessions partitions pairs scripts lan lan_rows history grants copies client server pair.0 are lawful of_plan is pair.1 in
+    let drops : AreDropsTold trace client server script.lines.now script.logs.items =
+    lines_full_more (IsFullAt pair.0) (λ number held. Contains (drops_to trace server) (record { number = number; held = held })) client.unit script.lines.now script.logs.items
+    (λ number held full. subst (λ (rows : List QueueRow). Contains (flat_map (λ (row : QueueRow). row.drops) rows) (record { number = number; held = held })) (sym pipe.sessions)
+    (drop_shown server pair.0 number held pipe.laws full))
+    (script_is.shown client.unit server.unit pair.0 at.2 pair.1).drops in
     let few : EventsAreFew trace server script.lines.now (ended_by client.unit script.lines.now script.logs.items) =
     subst (λ (entries : List Entry). events_among entries ≤ resets_told (ended_by client.unit script.lines.now script.logs.items) + times_failing script.lines.now)
     (sym (entries_shown partitions pairs scripts lan lan_rows history grants copies client server pair.0 are lawful of_plan is pair.1))
@@ -204,6 +212,8 @@ refusals_are pairs scripts lan lan_rows history grants copies partitions home ar
           (subst (λ (rows : List LogRow). AreSentIn (seen_in trace client server) client client.unit script.lines.now rows (sent_to trace server)) (sym (own_records pairs scripts lan p script are at.1)) order);
       few = subst (λ (ls : List Line). EventsAreFew trace server ls (ended_by client.unit ls (filter (λ (row : LogRow). row.partition == p) (flat_map logs_of scripts)))) (sym lines)
           (subst (λ (rows : List LogRow). EventsAreFew trace server script.lines.now (ended_by client.unit script.lines.now rows)) (sym (own_records pairs scripts lan p script are at.1)) few);
+      drops = subst (λ (ls : List Line). AreDropsTold trace client server ls (filter (λ (row : LogRow). row.partition == p) (flat_map logs_of scripts))) (sym lines)
+          (subst (λ (rows : List LogRow). AreDropsTold trace client server script.lines.now rows) (sym (own_records pairs scripts lan p script are at.1)) drops);
       put = subst (λ (ls : List Line). AreValuesTold trace client (ended_by client.unit ls (filter (λ (row : LogRow). row.partition == p) (flat_map logs_of scripts)))) (sym lines)
           (subst (λ (rows : List LogRow). AreValuesTold trace client (ended_by client.unit script.lines.now rows)) (sym (own_records pairs scripts lan p script are at.1)) put);
       takes = subst (λ (ls : List Line). AreAnswersTaken trace client (ended_by client.unit ls (filter (λ (row : LogRow). row.partition == p) (flat_map logs_of scripts)))) (sym lines)

@@ -25,7 +25,8 @@ use Rattle.vcpu_run.specs.declared.unit_seat.Seat.TheVariants as places
 use Rattle.vcpu_run.specs.Agreed.{AreLoggedOut, IsLoggedOut, OnDrivers, driver_in}
 use Rattle.vcpu_run.specs.Freeing.{is_reset}
 use Rattle.vcpu_run.specs.Credited.{Ended, ended_by, is_take, taken_in}
-use Rattle.vcpu_run.specs.LinesShow.{IsShown, LinesShow, PairShows, Seen, read_by, requests, seen_at, seen_between, written_by, further_of}
+use Rattle.vcpu_run.specs.DropsShown.{IsFullAt, LinesFull, PairShowsLine}
+use Rattle.vcpu_run.specs.LinesShow.{IsShown, LinesShow, Seen, read_by, requests, seen_at, seen_between, written_by, further_of}
 use Rattle.vcpu_run.specs.Pairs.{AreDriven}
 use Rattle.vcpu_run.specs.Refusals.{HasCausesTold, tag_of, tags_told}
 use Rattle.vcpu_run.specs.Replay.{asks}
@@ -55,7 +56,9 @@ use Rattle.vcpu_run.proofs.Askings.{plain_ends}
 use Rattle.vcpu_run.proofs.Driving.{client_is, driven_same, no_port, same_or, some_is}
 use Rattle.vcpu_run.proofs.GivesAll.{all_give_same}
 use Rattle.vcpu_run.proofs.FurtherKept.{no_further, unanswered}
-use Rattle.vcpu_run.proofs.LinesShown.{drives_sees, fail_shows, no_row, sees_same, shows_none}
+use Rattle.vcpu_run.proofs.DropsKept.{drives_more, more_same}
+use Rattle.vcpu_run.proofs.DropsShown.{full_none}
+use Rattle.vcpu_run.proofs.LinesShown.{drives_sees, fail_shows, fails_plain, no_row, sees_same, shows_none}
 use Rattle.vcpu_run.proofs.LoginsTold.{true_false}
 use Rattle.vcpu_run.proofs.Sayings.{is_logout, is_own, says_nothing}
 use Rattle.vcpu_run.proofs.ScriptsTaken.{clients_taken, ends_taken, fail_ends_taken, fail_waits_taken, new_taken, over_taken, port_ends_taken, port_waits_taken, waits_taken}
@@ -70,19 +73,19 @@ pub still_shown : (old new : List Pair) (script : Script) → AreSeats script.pa
     → AtSeats script.seats.items old (PairShown script) → AtSeats script.seats.items new (PairShown script)
 still_shown old new script are driven is unit k after at now =
     let b = before_of script.partition unit k script.seats.items old new after are driven at now in
-    shown_on script unit b.pair after b.drives.unit (drives_sees b.pair after b.drives) (b.drives.puts.rows, b.drives.puts.sent) (is unit k b.pair at b.there)
+    shown_on script unit b.pair after b.drives.unit (drives_sees b.pair after b.drives) (drives_more b.pair after b.drives) (is unit k b.pair at b.there)
 
 -- the current line ended, which shows at the pair of its client what it did
 ended_shown : (old new : List Pair) (script done : Script) (line : Line) (row : LogRow) → slice_get script.lines.now script.at ≡ Some line → length script.logs.items ≡ script.at
     → done.lines ≡ script.lines → done.seats ≡ script.seats → done.logs.items ≡ script.logs.items ++ row ∷ [] → AreSeats script.partition script.seats.items old → AreDriven old new
     → AtSeats script.seats.items old (PairShown script)
     → ((unit k : ℕ) (before after : Pair) → slice_get script.seats.items unit ≡ Some (places.Client k) → slice_get old k ≡ Some before → slice_get new k ≡ Some after
-    → line.unit ≡ unit → PairShows line before after (Ok (steps.Ends row.outcome)))
+    → line.unit ≡ unit → PairShowsLine line before after (Ok (steps.Ends row.outcome)))
     → AtSeats done.seats.items new (PairShown done)
 ended_shown old new script done line row found many lines seats logs are driven is last unit k after at now =
     let here : slice_get script.seats.items unit ≡ Some (places.Client k) = subst (λ ss. slice_get ss.items unit ≡ Some (places.Client k)) seats at in
     let b = before_of script.partition unit k script.seats.items old new after are driven here now in
-    one_shown script done unit b.pair after line row found many lines logs b.drives.unit (drives_sees b.pair after b.drives) (b.drives.puts.rows, b.drives.puts.sent)
+    one_shown script done unit b.pair after line row found many lines logs b.drives.unit (drives_sees b.pair after b.drives) (drives_more b.pair after b.drives)
     (λ same. last unit k b.pair after here b.there now same) (is unit k b.pair here b.there)
 
 -- a step of the pair's own line that waits
@@ -328,7 +331,7 @@ port_ends_told pairs script done line row found one sits many lines seats logs f
       (subst (λ (own : List Ended). PairIsTold own progress.Fresh pair) (sym (records unit k here))
       (subst (λ (q : Progress). PairIsTold (own_of unit script) q pair) (else_by unit script.progress line (slice_get script.lines.now script.at) found (not_port script line unit k sits here))
       (is.told line found one unit k pair here now)));
-  shown = λ unit k pair at now. one_shown script done unit pair pair line row found many lines logs refl (sees_same (seen_at pair)) ([], sym (append-nil (side_of pair.link true).queue.sent))
+  shown = λ unit k pair at now. one_shown script done unit pair pair line row found many lines logs refl (sees_same (seen_at pair)) (more_same pair)
       (λ same. absurd (no_port k (sym (back unit k at) ∙ (ap (slice_get script.seats.items) (sym same) ∙ sits)))) (is.shown unit k pair (back unit k at) now);
   taken = port_ends_taken pairs script done line row found one sits many lines seats logs fresh is.taken;
   put = λ unit k pair at now. let here = back unit k at in
@@ -396,6 +399,7 @@ new_told pairs script logs fresh out untaken = record {
     show = subst (λ (rows : List LogRow). LinesShow (seen_at pair) pair.window.unit unit script.lines.now rows) (sym logs) (λ i line row found there same. absurd (no_row row there));
     order = subst (λ (rows : List LogRow). AreSentIn (seen_at pair) pair.window.unit unit script.lines.now rows (entries_put pair)) (sym logs)
         (order_begun (seen_at pair) pair.window.unit unit script.lines.now (entries_put pair));
+    drops = subst (λ (rows : List LogRow). LinesFull (IsFullAt pair) unit script.lines.now rows) (sym logs) (λ i line row found there same. absurd (no_row row there));
   };
   taken = new_taken pairs script logs fresh untaken;
   put = λ unit k pair at now. subst (λ (own : List Ended). AreValuesPut own pair) (sym (none unit)) (first_values pair (untaken k pair now).1);
@@ -519,6 +523,12 @@ waiting_shows p verb outcome seen unit mark (of_reset v o) = shows_none seen uni
 waiting_shows p verb outcome seen unit mark (of_take count v o) =
     shows_none seen unit mark verb outcome (ap requests v) (ap written_by v) (ap read_by v) (no_further seen (further_of verb) outcome (ap further_of v))
 
+-- it sends no request
+waiting_plain : (p : Progress) (verb : Verb) (outcome : Outcome) → EndsWaiting p verb outcome → requests verb ≡ false
+waiting_plain p verb outcome (of_login v o) = ap requests v
+waiting_plain p verb outcome (of_reset v o) = ap requests v
+waiting_plain p verb outcome (of_take count v o) = ap requests v
+
 -- and gives no data
 waiting_reads : (p : Progress) (verb : Verb) (outcome : Outcome) (pair : Pair) → EndsWaiting p verb outcome → PairReads verb pair pair (Ok (steps.Ends outcome))
 waiting_reads p verb outcome pair (of_login v o) = pair_reads_none pair verb (Ok (steps.Ends outcome)) (ap given_by v) (ap range_in v)
@@ -554,7 +564,10 @@ waiting_told pairs script done line row found suited are many ends lines seats l
         makes = λ before after b a. subst (λ (x : Pair). PairMakes line.verb script.progress script.progress before x)
             (some_is before after (sym b ∙ a)) (makes_same line.verb script.progress before);
         gives = all_give_same pairs;
-        shows = λ before after b a. waiting_shows script.progress line.verb row.outcome (seen_between before after) after.window.unit line.number ends;
+        shows = λ before after b a. (
+          waiting_shows script.progress line.verb row.outcome (seen_between before after) after.window.unit line.number ends,
+          full_none (IsFullAt after) line.verb (Ok (steps.Ends row.outcome)) (waiting_plain script.progress line.verb row.outcome ends),
+        );
       };
       port = λ at. refl;
     }) lines seats logs fresh is
@@ -634,7 +647,10 @@ fail_ends_told old new script done line row found failing are driven gives same 
   fresh = subst (λ (o : Option Line). IfSome o (λ l. (k : ℕ) → slice_get done.seats.items l.unit ≡ Some (places.Client k) → IsOf l.verb done.progress)) (sym none) tt;
   told = λ l next ok unit k pair at now. absurd (some_none l (sym none ∙ next));
   shown = ended_shown old new script done line row found many lines seats logs are driven is.shown
-      (λ unit k before after at was now same. fail_shows (seen_between before after) after.window.unit line.number line.verb row.outcome failing);
+      (λ unit k before after at was now same. (
+        fail_shows (seen_between before after) after.window.unit line.number line.verb row.outcome failing,
+        full_none (IsFullAt after) line.verb (Ok (steps.Ends row.outcome)) (fails_plain line.verb failing),
+      ));
   taken = fail_ends_taken old new script done line row found failing driven gives many done_is lines seats logs over is.taken;
   put = λ unit k after at now. put unit after (put_on old new script are driven same is unit k after (subst (λ ss. slice_get ss.items unit ≡ Some (places.Client k)) seats at) now) (here_or line.unit unit);
   few = λ unit k after at now.

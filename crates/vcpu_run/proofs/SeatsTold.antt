@@ -8,7 +8,7 @@ use Rattle.unit_region.specs.declared.step.Step.{Step}
 use Rattle.vcpu_run.specs.declared.pair.Pair.{Pair}
 use Rattle.vcpu_run.specs.declared.script.Progress.{Progress}
 use Rattle.vcpu_run.specs.EventsMade.{PairMakes}
-use Rattle.vcpu_run.specs.LinesShow.{PairShows}
+use Rattle.vcpu_run.specs.DropsShown.{PairShowsLine}
 use Rattle.vcpu_run.specs.TakenScripts.{PairGives, PairHears, PairReads, PairTakes}
 use Rattle.vcpu_run.specs.Telling.{PairOut, PairTold, SeatOut, SeatTold}
 use Rattle.vcpu_run.specs.ValuesPut.{PairPuts}
@@ -16,7 +16,7 @@ use Rattle.vcpu_run.proofs.Driving.{get_set_other, get_set_same, some_is}
 use Rattle.vcpu_run.proofs.GivesAll.{all_give_ok}
 
 pub set_told : (line : Line) (p p' : Progress) (result : Result Step NoMemory) (pairs : List Pair) (i : ℕ) (old new : Pair) → slice_get pairs i ≡ Some old
-    → PairTold line.verb p p' old new result → PairTakes line.verb p p' old new result → PairHears old new result → PairReads line.verb old new result → PairPuts line.verb old new result → PairMakes line.verb p p' old new → OnOk result (PairGives old new) → PairShows line old new result
+    → PairTold line.verb p p' old new result → PairTakes line.verb p p' old new result → PairHears old new result → PairReads line.verb old new result → PairPuts line.verb old new result → PairMakes line.verb p p' old new → OnOk result (PairGives old new) → PairShowsLine line old new result
     → SeatTold i line p p' pairs (slice_set pairs i new) result
 set_told line p p' result pairs i old new there told takes hears reads puts makes gives shows = record {
   beside = λ k apart. get_set_other pairs i k new apart;
@@ -48,7 +48,7 @@ set_told line p p' result pairs i old new there told takes hears reads puts make
   shows = λ before after b a.
       let first : before ≡ old = some_is before old (sym b ∙ there) in
       let next : after ≡ new = some_is after new (sym a ∙ get_set_same pairs i new (slice_get_within pairs i old there)) in
-      subst (λ (x : Pair). PairShows line x after result) (sym first) (subst (λ (x : Pair). PairShows line old x result) (sym next) shows);
+      subst (λ (x : Pair). PairShowsLine line x after result) (sym first) (subst (λ (x : Pair). PairShowsLine line old x result) (sym next) shows);
 }
 
 pub set_out : (verb : Verb) (p p' : Progress) (result : Result Step NoMemory) (pairs : List Pair) (i : ℕ) (old new : Pair) → slice_get pairs i ≡ Some old

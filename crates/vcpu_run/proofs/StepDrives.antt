@@ -1,5 +1,5 @@
 -- What a step of a client's driver leaves of its pair.
-use Rattle.std.proofs.Common.{◌≡◌, ◌≤◌, ◌∙◌, true, false, [], List, Bool, Option, Some, IfNone, length, refl, sym, ap, subst}
+use Rattle.std.proofs.Common.{◌≡◌, ◌≤◌, ◌∙◌, ℕ, true, false, [], List, Bool, Option, Some, IfNone, length, refl, sym, ap, subst}
 use Rattle.std.specs.Borrow.{GName}
 use Rattle.crq_session.specs.EndState.{EndPlace}
 use Rattle.crq_session.specs.PlainState.{end_of, side_of}
@@ -22,8 +22,8 @@ use Rattle.vcpu_run.specs.Works.{Works}
 use Rattle.vcpu_run.proofs.Announcing.{both_bools, puts_at, puts_same}
 
 -- the driver is that of the window as it was
-driver_goes : (may_free : Bool) (a b : List GName) (old window : WindowValue) (lent link : PlainLink) (f g : Bool) (driver driver' : Driver)
-    → Works may_free false false (end_of a lent f) (end_of b link g) (known_of old) (known_of window) driver driver' → IsDriver old driver → IsDriver window driver'
+driver_goes : {mark : Option ℕ} (may_free : Bool) (a b : List GName) (old window : WindowValue) (lent link : PlainLink) (f g : Bool) (driver driver' : Driver)
+    → Works may_free false false mark (end_of a lent f) (end_of b link g) (known_of old) (known_of window) driver driver' → IsDriver old driver → IsDriver window driver'
 driver_goes may_free a b old window lent link f g driver driver' works is =
     let place = works.window.place in
     let size : length window.pages ≡ length old.pages = ap (λ (place : PortPlace). place.size) place in
@@ -34,15 +34,15 @@ driver_goes may_free a b old window lent link f g driver driver' works is =
       answers = works.answers is.answers;
     }
 
-pub step_drives : (may_free f g : Bool) (a b : List GName) (old : Pair) (driver driver' : Driver) (lent link : PlainLink) (window : WindowValue)
+pub step_drives : {mark : Option ℕ} (may_free f g : Bool) (a b : List GName) (old : Pair) (driver driver' : Driver) (lent link : PlainLink) (window : WindowValue)
     → old.driver ≡ Some driver → lent ≡ old.link → f ≡ false
-    → Works may_free false false (end_of a lent f) (end_of b link g) (known_of old.window) (known_of window) driver driver'
+    → Works may_free false false mark (end_of a lent f) (end_of b link g) (known_of old.window) (known_of window) driver driver'
     → Drives old (record { server = old.server; link = link; own = old.own; window = window; driver = Some driver' })
-step_drives may_free f g a b old driver driver' lent link window some same is works =
+step_drives {mark} may_free f g a b old driver driver' lent link window some same is works =
     at lent same f g is (ap (λ (p : EndPlace). p.first) works.place ∙ is) works (puts_at f g a b lent link is works.place (works.puts refl))
   where
     at : (l : PlainLink) → l ≡ old.link → (d d' : Bool) → d ≡ false → d' ≡ false
-        → Works may_free false false (end_of a l d) (end_of b link d') (known_of old.window) (known_of window) driver driver'
+        → Works may_free false false mark (end_of a l d) (end_of b link d') (known_of old.window) (known_of window) driver driver'
         → Announces (end_of [] l false) (end_of [] link false) → Drives old (record { server = old.server; link = link; own = old.own; window = window; driver = Some driver' })
     at l e false false at_client same_end w puts = by w.place (w.session refl) puts
       where

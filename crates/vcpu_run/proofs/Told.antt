@@ -13,6 +13,7 @@ use Rattle.vio_num.specs.declared.history.Served.{Served}
 use Rattle.vcpu_run.specs.Answered.{AreAnswered}
 use Rattle.vcpu_run.specs.AnswersSent.{AnswersAreGiven, AnswersAreSent}
 use Rattle.vcpu_run.specs.Agreed.{AreCredited}
+use Rattle.vcpu_run.specs.ClientStrokes.{ClientsAreLogged}
 use Rattle.vcpu_run.specs.CallsShown.{CallsAreSaid}
 use Rattle.vcpu_run.specs.Lines.{IsOver}
 use Rattle.vcpu_run.specs.Intake.{EntriesAreFetched}
@@ -43,6 +44,7 @@ pub law_told : {E : Type 0} (r : Result Trace E) (o : Option Trace) (pairs : Lis
     → IfOk r IsInOrder → IfOk r (Keeps QueuesAreLawful pairs scripts ports) → IfOk r (Keeps CopiesAreLawful pairs scripts ports)
     → IfOk r (KeepsOnce (All IsOver scripts) RecordsAreOfLines pairs scripts ports) → All IsOver scripts
     → IfOk r (KeepsOnce (AreCredited pairs scripts) CreditsAreKept pairs scripts ports) → AreCredited pairs scripts
+    → IfOk r (KeepsOnce (All IsOver scripts) (λ partitions trace. AreCredited pairs scripts → ClientsAreLogged partitions trace) pairs scripts ports)
     → IfOk r (KeepsOnce (All IsOver scripts) (λ partitions trace. AreTold pairs scripts → RefusalsAreTold partitions trace) pairs scripts ports) → AreTold pairs scripts
     → IfOk r (KeepsOnce (AreAnswered history pairs) AnswersAreSent pairs scripts ports) → AreAnswered history pairs
     → IfOk r (Keeps PortsKeepLaw pairs scripts ports) → (lan : LanValue)
@@ -59,7 +61,7 @@ pub law_told : {E : Type 0} (r : Result Trace E) (o : Option Trace) (pairs : Lis
     → IfOk r (KeepsOnce (PortsEnd lan scripts) CallsAreSaid pairs scripts ports)
     → AreAtRest copies_made lines history pairs scripts
     → IfSome o (Keeps KeepsLawOf pairs scripts ports)
-law_told (Ok trace) o pairs scripts ports history copies_made lines e order queues copies records over credits are refusals said answers answered keeps lan words tells settled handed intake requests given copied explained logins dealt called rests =
+law_told (Ok trace) o pairs scripts ports history copies_made lines e order queues copies records over credits are logged refusals said answers answered keeps lan words tells settled handed intake requests given copied explained logins dealt called rests =
     subst (λ (o : Option Trace). IfSome o (Keeps KeepsLawOf pairs scripts ports)) (sym e)
     (λ partitions of_plan. record {
       order = order;
@@ -68,6 +70,7 @@ law_told (Ok trace) o pairs scripts ports history copies_made lines e order queu
       records = records partitions of_plan over;
       called = called partitions of_plan tells;
       credits = credits partitions of_plan are;
+      logged = logged partitions of_plan over are;
       refusals = refusals partitions of_plan over said;
       answers = answers partitions of_plan answered;
       ports = keeps partitions of_plan;
@@ -82,7 +85,7 @@ law_told (Ok trace) o pairs scripts ports history copies_made lines e order queu
       logins = logins partitions of_plan answered rests;
       dealt = dealt partitions of_plan answered rests;
     })
-law_told (Err error) o pairs scripts ports history copies_made lines e order queues copies records over credits are refusals said answers answered keeps lan words tells settled handed intake requests given copied explained logins dealt called rests =
+law_told (Err error) o pairs scripts ports history copies_made lines e order queues copies records over credits are logged refusals said answers answered keeps lan words tells settled handed intake requests given copied explained logins dealt called rests =
     subst (λ (o : Option Trace). IfSome o (Keeps KeepsLawOf pairs scripts ports)) (sym e) tt
 
 -- the rows that were served

@@ -17,6 +17,8 @@ use Rattle.vcpu_run.specs.declared.pair.Pair.{Pair}
 use Rattle.vcpu_run.specs.Freed.{FreesNoneAt}
 use Rattle.vcpu_run.specs.Links.{AreClosed, AreLinked, IsEmptied, IsFull, IsShutAlone, ServerWaits, link_state}
 use Rattle.vcpu_run.specs.Pairs.{AreDriven, Drives, GoesOn}
+use Rattle.vcpu_run.specs.DropsShown.{KeepsFull}
+use Rattle.vcpu_run.proofs.DropsStay.{stay_same}
 use Rattle.vcpu_run.proofs.Listed.{came_from, is_held}
 
 no_true : false ≡ true → ⊥
@@ -120,6 +122,18 @@ serve_sent f g a b old new is place = at f g is (ap (λ (p : EndPlace). p.first)
     at : (d d' : Bool) → d ≡ true → d' ≡ true → (end_of b new.link d').place ≡ (end_of a old.link d).place
         → (side_of new.link true).queue.sent ≡ (side_of old.link true).queue.sent
     at true true e e' place = ap (λ (p : EndPlace). p.received) place
+    at true false e e' place = absurd (no_true e')
+    at false d' e e' place = absurd (no_true e)
+
+-- of which each record of a drop stays
+pub serve_full : (f g : Bool) (a b : List GName) (old new : Pair) → f ≡ true → (end_of b new.link g).place ≡ (end_of a old.link f).place → KeepsFull old new
+serve_full f g a b old new is place = at f g is (ap (λ (p : EndPlace). p.first) place ∙ is) place
+  where
+    at : (d d' : Bool) → d ≡ true → d' ≡ true → (end_of b new.link d').place ≡ (end_of a old.link d).place → KeepsFull old new
+    at true true e e' place = record {
+      slots = ap (λ (p : EndPlace). p.own_slots) place;
+      drops = stay_same (side_of old.link true).queue.drops (side_of new.link true).queue.drops (ap (λ (p : EndPlace). p.received_drops) place);
+    }
     at true false e e' place = absurd (no_true e')
     at false d' e e' place = absurd (no_true e)
 

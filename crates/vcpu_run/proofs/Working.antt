@@ -1,5 +1,5 @@
 -- What a client's calls leave of its end, its window and its driver, and steps one behind the other.
-use Rattle.std.proofs.Common.{◌≡◌, ◌∙◌, ℕ, Bool, true, false, None, Result, Err, IfSome, IfOk, IfErr, OnErr, refl, sym, ap, subst}
+use Rattle.std.proofs.Common.{◌≡◌, ◌∙◌, ℕ, Bool, true, false, None, Option, Some, Result, Err, IfSome, IfOk, IfErr, OnErr, refl, sym, ap, subst}
 use Rattle.vio_num.specs.declared.memory.NoMemory.{NoMemory}
 use Rattle.vio_num.specs.Entry.{partner_freed}
 use Rattle.crq_session.specs.Answered.{TellsFreed}
@@ -21,28 +21,42 @@ use Rattle.vcpu_run.specs.declared.driver.Driver.{Driver}
 use Rattle.vcpu_run.specs.AnswersSeen.{AreResponsesRead, fronts_of}
 use Rattle.vcpu_run.specs.Freed.{FreesNone}
 use Rattle.vcpu_run.specs.Announces.{Announces}
-use Rattle.vcpu_run.specs.Works.{Works}
+use Rattle.vcpu_run.specs.Works.{LaysBy, Works}
 use Rattle.vcpu_run.proofs.AnswersSeen.{responses_keep}
-use Rattle.vcpu_run.proofs.Announcing.{frees_none, puts_freed, puts_none, puts_on, puts_reserves, puts_same, turn_frees, turn_puts}
+use Rattle.vcpu_run.proofs.Announcing.{frees_none, puts_freed, puts_none, puts_on, puts_reserves, puts_same, turn_frees}
+use Rattle.vcpu_run.proofs.DropsStay.{stay_same}
+use Rattle.vcpu_run.proofs.TurnsPut.{turn_puts}
 use Rattle.vcpu_run.proofs.Calls.{submit_grows, submit_fits, task_grows, task_fits, logout_grows, logout_fits, turn_grows, turn_fits, take_fits}
 use Rattle.vcpu_run.proofs.Announcing.{both_bools}
 use Rattle.vcpu_run.specs.EventsPut.{MakesNoEvent}
 use Rattle.vcpu_run.proofs.Calming.{calm_on, calm_ready, calm_same, turn_calm}
 use Rattle.vcpu_run.proofs.Requesting.{logout_more, puts_sends, sends_calm, submit_more, task_more}
 use Rattle.unit_region.specs.Kept.{KeepsWindow}
-use Rattle.unit_region.proofs.Laws.{keeps_on, keeps_reads, keeps_same, keeps_writes}
+use Rattle.unit_region.proofs.Laws.{keeps_on, keeps_reads, keeps_same, keeps_writes, none_under}
+use Rattle.vcpu_run.proofs.CallsLay.{logout_lays, none_laid_then, reads_none_laid, same_none_laid, submit_lays, task_lays, turn_lays, under_then}
 
-pub works_same : (mf cs shared : Bool) (end : EndState) (own : PortState) (driver : Driver) → Works mf cs shared end end own own driver driver
-works_same mf cs shared end own driver = record { place = refl; session = λ alone. refl; stays = λ none kept. kept; puts = λ alone. puts_same end; calm = λ none. calm_same end end refl refl; window = keeps_same shared own; unit = refl; rows = λ fit. fit; answers = λ read. read }
+-- no stroke more, whichever mark these would bear
+lays_same : (shared : Bool) (mark : Option ℕ) (own : PortState) → LaysBy shared mark own own
+lays_same shared None own = same_none_laid shared own own refl
+lays_same shared (Some mark) own = none_under shared mark own own (same_none_laid shared own own refl)
 
-pub works_on : (mf cs shared : Bool) (e f g : EndState) (o p q : PortState) (a b c : Driver) → Works mf cs shared e f o p a b → Works mf cs shared f g p q b c → Works mf cs shared e g o q a c
-works_on mf cs shared e f g o p q a b c first next = record {
+lays_on : (shared : Bool) (mark : Option ℕ) (o p q : PortState) → p.place.unit ≡ o.place.unit → LaysBy shared mark o p → LaysBy shared mark p q → LaysBy shared mark o q
+lays_on shared None o p q unit first next = none_laid_then shared o p q first next
+lays_on shared (Some mark) o p q unit first next = under_then shared shared mark o p q refl unit first next
+
+pub works_same : {mark : Option ℕ} (mf cs shared : Bool) (end : EndState) (own : PortState) (driver : Driver) → Works mf cs shared mark end end own own driver driver
+works_same {mark} mf cs shared end own driver = record { place = refl; session = λ alone. refl; stays = λ none kept. kept; puts = λ alone. puts_same end; calm = λ none. calm_same end end refl refl; window = keeps_same shared own; lays = lays_same shared mark own; unit = refl; rows = λ fit. fit; answers = λ read. read }
+
+pub works_on : {mark : Option ℕ} (mf cs shared : Bool) (e f g : EndState) (o p q : PortState) (a b c : Driver) → Works mf cs shared mark e f o p a b → Works mf cs shared mark f g p q b c
+    → Works mf cs shared mark e g o q a c
+works_on {mark} mf cs shared e f g o p q a b c first next = record {
   place = next.place ∙ first.place;
   session = λ alone. next.session alone ∙ first.session alone;
   stays = λ none kept. next.stays none (first.stays none kept);
   puts = λ alone. puts_on e f g (ap (λ (p : EndPlace). p.partner_registered) first.place) (next.session alone) (first.puts alone) (next.puts alone);
   calm = λ none. calm_on e f g (first.calm none) (next.calm none);
   window = keeps_on shared o p q first.window next.window;
+  lays = lays_on shared mark o p q (ap (λ place. place.unit) first.window.place) first.lays next.lays;
   unit = next.unit ∙ first.unit;
   rows = λ fit. subst (λ n. FitRows n c.client) size (next.rows (subst (λ n. FitRows n b.client) (sym size) (first.rows fit)));
   answers = λ read. next.answers (first.answers read);
@@ -58,7 +72,7 @@ pub submit_works : (cs os : Bool) (end end' : EndState) (own own' : PortState) (
     → IfOk result (Submitted line op driver.client driver'.client (ports cs end os own) (ports cs end' os own'))
     → (command_refusal own.place.size driver.client op ≡ None
     → IfErr result (WhyNotSubmitted line op driver.client driver'.client (ports cs end os own) (ports cs end' os own')))
-    → OnlySends cs end end' → OnlyWrites own own' → Works false cs os end end' own own' driver driver'
+    → OnlySends cs end end' → OnlyWrites own own' → Works false cs os (Some line) end end' own own' driver driver'
 submit_works cs os end end' own own' driver driver' line op result unit noted fits refused sent why crq rest = record {
   place = crq.place;
   session = crq.counts.same_session;
@@ -66,6 +80,7 @@ submit_works cs os end end' own own' driver driver' line op result unit noted fi
   puts = λ alone. puts_sends cs end end' crq (submit_more line op driver.client driver'.client (ports cs end os own) (ports cs end' os own') result refused sent why);
   calm = λ none. sends_calm cs end end' crq (submit_more line op driver.client driver'.client (ports cs end os own) (ports cs end' os own') result refused sent why);
   window = keeps_writes os own own' rest (submit_grows line op driver.client driver'.client (ports cs end os own) (ports cs end' os own') result refused sent why);
+  lays = submit_lays line op driver.client driver'.client (ports cs end os own) (ports cs end' os own') result refused sent why;
   unit = unit;
   rows = submit_fits line op driver.client driver'.client (ports cs end os own) (ports cs end' os own') result fits refused sent why;
   answers = responses_keep os own own' driver.answers.items driver'.answers.items (keeps_writes os own own' rest (submit_grows line op driver.client driver'.client (ports cs end os own) (ports cs end' os own') result refused sent why)) noted;
@@ -78,7 +93,7 @@ pub task_works : (cs os : Bool) (end end' : EndState) (own own' : PortState) (dr
     → (task_refusal driver.client ≡ None
     → IfErr result (WhyNotSent line driver.client (task_unit function task driver.client) (ports cs end os own) (ports cs end' os own')))
     → OnErr result (driver'.client ≡ driver.client)
-    → OnlySends cs end end' → OnlyWrites own own' → Works false cs os end end' own own' driver driver'
+    → OnlySends cs end end' → OnlyWrites own own' → Works false cs os (Some line) end end' own own' driver driver'
 task_works cs os end end' own own' driver driver' line function task result unit noted refused sent why same crq rest = record {
   place = crq.place;
   session = crq.counts.same_session;
@@ -86,6 +101,7 @@ task_works cs os end end' own own' driver driver' line function task result unit
   puts = λ alone. puts_sends cs end end' crq (task_more line function task driver.client driver'.client (ports cs end os own) (ports cs end' os own') result refused sent why);
   calm = λ none. sends_calm cs end end' crq (task_more line function task driver.client driver'.client (ports cs end os own) (ports cs end' os own') result refused sent why);
   window = keeps_writes os own own' rest (task_grows line function task driver.client driver'.client (ports cs end os own) (ports cs end' os own') result refused sent why);
+  lays = task_lays line function task driver.client driver'.client (ports cs end os own) (ports cs end' os own') result refused sent why;
   unit = unit;
   rows = task_fits own.place.size line function task driver.client driver'.client (ports cs end os own) (ports cs end' os own') result sent same;
   answers = responses_keep os own own' driver.answers.items driver'.answers.items (keeps_writes os own own' rest (task_grows line function task driver.client driver'.client (ports cs end os own) (ports cs end' os own') result refused sent why)) noted;
@@ -98,7 +114,7 @@ pub logout_works : (cs os : Bool) (end end' : EndState) (own own' : PortState) (
     → (logout_refusal driver.client ≡ None
     → IfErr result (WhyNotSent line driver.client (logout_unit driver.client) (ports cs end os own) (ports cs end' os own')))
     → OnErr result (driver'.client ≡ driver.client)
-    → OnlySends cs end end' → OnlyWrites own own' → Works false cs os end end' own own' driver driver'
+    → OnlySends cs end end' → OnlyWrites own own' → Works false cs os (Some line) end end' own own' driver driver'
 logout_works cs os end end' own own' driver driver' line result unit noted refused sent why same crq rest = record {
   place = crq.place;
   session = crq.counts.same_session;
@@ -106,6 +122,7 @@ logout_works cs os end end' own own' driver driver' line result unit noted refus
   puts = λ alone. puts_sends cs end end' crq (logout_more line driver.client driver'.client (ports cs end os own) (ports cs end' os own') result refused sent why);
   calm = λ none. sends_calm cs end end' crq (logout_more line driver.client driver'.client (ports cs end os own) (ports cs end' os own') result refused sent why);
   window = keeps_writes os own own' rest (logout_grows line driver.client driver'.client (ports cs end os own) (ports cs end' os own') result refused sent why);
+  lays = logout_lays line driver.client driver'.client (ports cs end os own) (ports cs end' os own') result refused sent why;
   unit = unit;
   rows = logout_fits own.place.size line driver.client driver'.client (ports cs end os own) (ports cs end' os own') result sent same;
   answers = responses_keep os own own' driver.answers.items driver'.answers.items (keeps_writes os own own' rest (logout_grows line driver.client driver'.client (ports cs end os own) (ports cs end' os own') result refused sent why)) noted;
@@ -114,14 +131,15 @@ logout_works cs os end end' own own' driver driver' line result unit noted refus
 pub turn_works : (cs os : Bool) (end end' : EndState) (own own' : PortState) (driver driver' : Driver) (line : ℕ) (result : Result LoginTurn NoMemory)
     → driver'.unit ≡ driver.unit → driver'.answers.items ≡ driver.answers.items
     → Turned line (site driver.client (ports cs end os own)) (site driver'.client (ports cs end' os own')) result
-    → OnlyTurns cs end end' → OnlyWrites own own' → Works false cs os end end' own own' driver driver'
+    → OnlyTurns cs end end' → OnlyWrites own own' → Works false cs os (Some line) end end' own own' driver driver'
 turn_works cs os end end' own own' driver driver' line result unit noted turned crq rest = record {
   place = crq.place;
   session = crq.counts.same_session;
   stays = λ none. turn_frees cs end end' crq;
-  puts = λ alone. turn_puts cs end end' alone crq;
+  puts = λ alone. turn_puts line (site driver.client (ports cs end os own)) (site driver'.client (ports cs end' os own')) result alone turned;
   calm = λ none. turn_calm line (site driver.client (ports cs end os own)) (site driver'.client (ports cs end' os own')) result turned;
   window = keeps_writes os own own' rest (turn_grows line (site driver.client (ports cs end os own)) (site driver'.client (ports cs end' os own')) result turned);
+  lays = turn_lays line (site driver.client (ports cs end os own)) (site driver'.client (ports cs end' os own')) result turned;
   unit = unit;
   rows = turn_fits own.place.size line (site driver.client (ports cs end os own)) (site driver'.client (ports cs end' os own')) result turned;
   answers = responses_keep os own own' driver.answers.items driver'.answers.items (keeps_writes os own own' rest (turn_grows line (site driver.client (ports cs end os own)) (site driver'.client (ports cs end' os own')) result turned)) noted;
@@ -132,21 +150,22 @@ pub take_works : (cs os : Bool) (end end' : EndState) (own own' : PortState) (dr
     → IfOk result (TakesEntry driver.client client (ports cs end os own) (ports cs end' os own'))
     → OnErr result (TakesLater cs driver.client client end end')
     → OnlyTakes cs end end' → OnlyReads os own own'
-    → (AreResponsesRead (fronts_of own'.strokes) driver.answers.items → AreResponsesRead (fronts_of own'.strokes) driver'.answers.items) → Works false cs os end end' own own' driver driver'
+    → (AreResponsesRead (fronts_of own'.strokes) driver.answers.items → AreResponsesRead (fronts_of own'.strokes) driver'.answers.items) → Works false cs os None end end' own own' driver driver'
 take_works cs os end end' own own' driver driver' client result unit is taken later crq rest noted = record {
   place = crq.place;
   session = crq.counts.same_session;
   stays = λ none. frees_none end end' crq.last_session crq.registered;
-  puts = λ alone. puts_none end end' crq.sent crq.kept crq.registered;
+  puts = λ alone. puts_none end end' crq.sent crq.kept crq.registered (stay_same end.drops end'.drops crq.drops);
   calm = λ none. calm_same end end' crq.sent crq.kept;
   window = keeps_reads os own own' rest;
+  lays = reads_none_laid os own own' rest;
   unit = unit;
   rows = λ fit. subst (FitRows own.place.size) (sym is) (take_fits own.place.size driver.client client (ports cs end os own) (ports cs end' os own') result taken later fit);
   answers = λ read. noted (responses_keep os own own' driver.answers.items driver.answers.items (keeps_reads os own own' rest) refl read);
 }
 
 -- the same where the queue may be freed, too
-pub works_any : (mf cs shared : Bool) (e f : EndState) (o p : PortState) (a b : Driver) → Works false cs shared e f o p a b → Works mf cs shared e f o p a b
+pub works_any : {mark : Option ℕ} (mf cs shared : Bool) (e f : EndState) (o p : PortState) (a b : Driver) → Works false cs shared mark e f o p a b → Works mf cs shared mark e f o p a b
 works_any mf cs shared e f o p a b works = record {
   place = works.place;
   session = works.session;
@@ -154,50 +173,74 @@ works_any mf cs shared e f o p a b works = record {
   puts = works.puts;
   calm = λ none. works.calm refl;
   window = works.window;
+  lays = works.lays;
+  unit = works.unit;
+  rows = works.rows;
+  answers = works.answers;
+}
+
+-- the same by other words
+pub works_as : (mf mf' cs shared : Bool) (mark mark' : ℕ) (e f : EndState) (o p : PortState) (a b : Driver) → mf ≡ mf' → mark ≡ mark'
+    → Works mf cs shared (Some mark) e f o p a b → Works mf' cs shared (Some mark') e f o p a b
+works_as mf mf' cs shared mark mark' e f o p a b free is works =
+    subst (λ x. Works x cs shared (Some mark') e f o p a b) free (subst (λ n. Works mf cs shared (Some n) e f o p a b) is works)
+
+-- where no stroke was laid, none was laid under another mark
+pub works_marked : (mark : ℕ) (mf cs shared : Bool) (e f : EndState) (o p : PortState) (a b : Driver) → Works mf cs shared None e f o p a b → Works mf cs shared (Some mark) e f o p a b
+works_marked mark mf cs shared e f o p a b works = record {
+  place = works.place;
+  session = works.session;
+  stays = works.stays;
+  puts = works.puts;
+  calm = works.calm;
+  window = works.window;
+  lays = none_under shared mark o p works.lays;
   unit = works.unit;
   rows = works.rows;
   answers = works.answers;
 }
 
 -- at the end alone
-pub works_end : (mf cs shared : Bool) (e f : EndState) (own : PortState) (a b : Driver) → f.place ≡ e.place
+pub works_end : {mark : Option ℕ} (mf cs shared : Bool) (e f : EndState) (own : PortState) (a b : Driver) → f.place ≡ e.place
     → (cs ≡ false → f.counts.partner_session ≡ e.counts.partner_session) → (mf ≡ false → FreesNone e f) → (cs ≡ false → Announces e f) → (mf ≡ false → MakesNoEvent e f)
-    → b.unit ≡ a.unit → b.answers.items ≡ a.answers.items → (FitRows own.place.size a.client → FitRows own.place.size b.client) → Works mf cs shared e f own own a b
-works_end mf cs shared e f own a b place session stays puts calm unit noted rows = record {
+    → b.unit ≡ a.unit → b.answers.items ≡ a.answers.items → (FitRows own.place.size a.client → FitRows own.place.size b.client) → Works mf cs shared mark e f own own a b
+works_end {mark} mf cs shared e f own a b place session stays puts calm unit noted rows = record {
   place = place;
   session = session;
   stays = stays;
   puts = puts;
   calm = calm;
   window = keeps_same shared own;
+  lays = lays_same shared mark own;
   unit = unit;
   rows = rows;
   answers = λ read. subst (AreResponsesRead (fronts_of own.strokes)) (sym noted) read;
 }
 
 -- room was made
-pub works_ready : (mf cs shared : Bool) (e f : EndState) (own : PortState) (a : Driver) → OnlyReserves e f → Works mf cs shared e f own own a a
+pub works_ready : {mark : Option ℕ} (mf cs shared : Bool) (e f : EndState) (own : PortState) (a : Driver) → OnlyReserves e f → Works mf cs shared mark e f own own a a
 works_ready mf cs shared e f own a ready =
     works_end mf cs shared e f own a a ready.place (λ alone. ap (λ counts. counts.partner_session) ready.counts)
     (λ none. frees_none e f ready.last_session ready.registered) (λ alone. puts_reserves e f ready) (λ none. calm_ready e f ready) refl refl (λ fit. fit)
 
 -- the queue was freed, and the client was told
-pub works_freed : (cs shared : Bool) (e f : EndState) (own : PortState) (a b : Driver) → TellsFreed cs e f → OnlyFrees cs e f → b.unit ≡ a.unit → b.answers.items ≡ a.answers.items
-    → b.client ≡ unlinked a.client → Works true cs shared e f own own a b
+pub works_freed : {mark : Option ℕ} (cs shared : Bool) (e f : EndState) (own : PortState) (a b : Driver) → TellsFreed cs e f → OnlyFrees cs e f → b.unit ≡ a.unit → b.answers.items ≡ a.answers.items
+    → b.client ≡ unlinked a.client → Works true cs shared mark e f own own a b
 works_freed cs shared e f own a b tells rest unit noted client =
     works_end true cs shared e f own a b rest.place rest.counts.same_session (λ none. absurd (both_bools true refl none))
     (λ alone. puts_freed cs e f partner_freed alone refl tells) (λ none. absurd (both_bools true refl none)) unit noted (λ fit. subst (λ s. FitRows own.place.size s) (sym client) fit)
 
 -- bytes were written into the window, or read there, or a value was put into it
-pub works_window : (mf cs shared : Bool) (end : EndState) (own own' : PortState) (a b : Driver) → KeepsWindow shared own own' → b.unit ≡ a.unit → b.answers.items ≡ a.answers.items
-    → b.client ≡ a.client → Works mf cs shared end end own own' a b
-works_window mf cs shared end own own' a b keeps unit noted client = record {
+pub works_window : {mark : Option ℕ} (mf cs shared : Bool) (end : EndState) (own own' : PortState) (a b : Driver) → KeepsWindow shared own own' → LaysBy shared mark own own' → b.unit ≡ a.unit → b.answers.items ≡ a.answers.items
+    → b.client ≡ a.client → Works mf cs shared mark end end own own' a b
+works_window mf cs shared end own own' a b keeps lays unit noted client = record {
   place = refl;
   session = λ alone. refl;
   stays = λ none kept. kept;
   puts = λ alone. puts_same end;
   calm = λ none. calm_same end end refl refl;
   window = keeps;
+  lays = lays;
   unit = unit;
   rows = λ fit. subst (λ s. FitRows own.place.size s) (sym client) fit;
   answers = responses_keep shared own own' a.answers.items b.answers.items keeps noted;

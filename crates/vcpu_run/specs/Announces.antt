@@ -4,6 +4,7 @@ use Rattle.vio_num.specs.Entry.{first_byte}
 use Rattle.vio_num.specs.declared.entry.Entry.{Entry}
 use Rattle.crq_ring.specs.declared.rows.PipeRow.{PipeRow}
 use Rattle.crq_session.specs.EndState.{EndState}
+use Rattle.vcpu_run.specs.DropsStay.{DropsStay}
 
 -- An end whose own queue is not registered keeps this event.
 pub record IsKept (event : Entry) (registered : Bool) (kept : Option Entry) : Type 0 where
@@ -34,7 +35,8 @@ abbrev pub KeepsEvent : Option Entry → Type 0
 KeepsEvent kept = (event : Entry) → kept ≡ Some event → first_byte event ≡ 0xFF
 
 -- More was put behind what was put before. While the partner's queue is registered an event that was kept is kept or was put,
--- and where the own queue was freed an event tells of it; where it is not registered, and none tells of it, events alone were put.
+-- and where the own queue was freed an event tells of it; where it is not registered, and none tells of it, events alone were put. Each
+-- record of a drop is there still.
 pub record Announces (old new : EndState) : Type 0 where
   pub rows : List PipeRow
   pub sent : new.sent ≡ old.sent ++ rows
@@ -42,3 +44,4 @@ pub record Announces (old new : EndState) : Type 0 where
   pub freed : old.registered ≡ true → new.registered ≡ false → old.place.partner_registered ≡ true → IsTold rows new
   pub says : KeepsEvent old.kept → KeepsEvent new.kept
   pub off : KeepsEvent old.kept → new.registered ≡ false → old.place.partner_registered ≡ true → HaveEvents rows ⊎ IsTold rows new
+  pub drops : DropsStay old.drops new.drops

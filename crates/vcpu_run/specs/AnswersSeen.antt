@@ -1,6 +1,5 @@
 -- Where a client's answers were read: each is a response that stood in a slot of its region (SRP, "SRP_RSP response").
-use Rattle.std.specs.Prelude.{◌≡◌, ℕ, ◌+◌, ◌<◌, true, All, List, Option, Some, length, slice_index}
-use Rattle.vio_num.specs.Words.{Begins}
+use Rattle.std.specs.Prelude.{◌≡◌, ℕ, ◌+◌, ◌<◌, true, All, List, Option, length, slice_index}
 use Rattle.page_slots.specs.Stroke.{StrokeValue}
 use Rattle.tce_window.specs.Region.{region_byte, touches}
 use Rattle.srp_iu.specs.Grammar.{Canon, Spells}

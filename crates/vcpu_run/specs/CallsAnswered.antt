@@ -15,7 +15,7 @@ use Rattle.hcall_table.specs.declared.hcall.Hcall.{Hcall}
 use Rattle.hcall_table.specs.declared.hcall.Hcall.TheVariants as rows
 use Rattle.hcall_table.specs.declared.returned.Returned.{Returned}
 use Rattle.unit_region.specs.EntryAnswers.{AreValuesOf, is_list}
-use Rattle.unit_region.specs.RegionLines.{AreRead, RegionSeen, region_seen}
+use Rattle.unit_region.specs.RegionLines.{AreRead, RegionSeen, region_once}
 use Rattle.lan_script.specs.Entries.{values_at}
 use Rattle.lan_script.specs.Regions.{strokes_at as region_strokes}
 use Rattle.lan_script.specs.Seats.{seat_at}
@@ -36,7 +36,7 @@ pub record UnitSeen : Type 1 where
   pub entry_put : Entry → Type 0
 
 abbrev pub no_client : UnitSeen
-no_client = record { pages = None; value_at = λ entry value. ⊤; region = region_seen (λ page. None); entry_put = λ entry. ⊤ }
+no_client = record { pages = None; value_at = λ entry value. ⊤; region = region_once (λ page. None); entry_put = λ entry. ⊤ }
 
 -- what there is of the client of a pair, if there is one
 abbrev pub unit_seen : Option Pair → UnitSeen
@@ -44,7 +44,7 @@ unit_seen None = no_client
 unit_seen (Some pair) = record {
   pages = option_map (λ driver. length pair.window.pages) pair.driver;
   value_at = (seen_at pair).value_at;
-  region = region_seen (strokes_at pair.window.pages);
+  region = region_once (strokes_at pair.window.pages);
   entry_put = (seen_at pair).entry_put;
 }
 
@@ -53,7 +53,7 @@ abbrev pub port_seen : LanValue → UnitId → UnitSeen
 port_seen lan unit = record {
   pages = option_map (λ seat. seat.pages) (seat_at lan.seats unit);
   value_at = λ entry value. Contains (values_at lan unit entry) value;
-  region = region_seen (region_strokes lan unit);
+  region = region_once (region_strokes lan unit);
   entry_put = λ entry. ⊤;
 }
 
@@ -77,10 +77,11 @@ pub record IsListRead (region : RegionSeen) (list count : ℕ) (values : List �
   pub spelled : AreValuesOf bytes values
   pub read : count ≢ 0 → AreRead region list bytes
 
--- The values of a list that was read are among those of the entries from an address on, one each.
-pub record IsListPut (seen : UnitSeen) (address list count : ℕ) : Type 0 where
+-- The values of a list that was read are among those of the entries from an address on, one each, and a window of so many pages takes each of them.
+pub record IsListPut (seen : UnitSeen) (pages address list count : ℕ) : Type 0 where
   pub values : List ℕ
   pub read : IsListRead seen.region list count values
+  pub taken : takes_all pages address values ≡ true
   pub put : (j value : ℕ) → slice_get values j ≡ Some value → seen.value_at (address / 4096 + j) value
 
 -- A list was read, and a window of so many pages does not take one of its values.
@@ -95,7 +96,7 @@ abbrev pub IsDone : UnitSeen → Hcall → List ℕ → (value : ℕ) → Type 0
 IsDone seen rows.GetTce (address ∷ []) value = seen.value_at (address / 4096) value
 IsDone seen rows.PutTce (address ∷ put ∷ []) value = seen.value_at (address / 4096) put
 IsDone seen rows.StuffTce (address ∷ put ∷ count ∷ []) value = (j : ℕ) → j < count → seen.value_at (address / 4096 + j) put
-IsDone seen rows.PutTceIndirect (address ∷ list ∷ count ∷ []) value = IfSome seen.pages (λ pages. IsListPut seen address list count)
+IsDone seen rows.PutTceIndirect (address ∷ list ∷ count ∷ []) value = IfSome seen.pages (λ pages. IsListPut seen pages address list count)
 IsDone seen rows.SendCrq (high ∷ low ∷ []) value = seen.entry_put (record { high = high; low = low })
 IsDone seen _ args value = ⊤
 

@@ -1,5 +1,5 @@
 -- That a client tells its server unit no more often that it is gone than its records tell of resets, and once more where its partition fails.
-use Rattle.std.specs.Prelude.{◌≡◌, ℕ, ◌+◌, ◌≤◌, ◌==◌, ◌&&◌, List, [], ◌∷◌, MatchBool, MatchOption, Option, Some, None, slice_get, if◌then◌else◌}
+use Rattle.std.specs.Prelude.{ℕ, ◌+◌, ◌≤◌, ◌==◌, ◌&&◌, List, [], ◌∷◌, MatchBool, MatchOption, Option, slice_get, if◌then◌else◌}
 use Rattle.vio_num.specs.declared.names.UnitId.{UnitId}
 use Rattle.boot_text.specs.declared.plan.Line.{Line}
 use Rattle.vio_trace.specs.declared.rows.Trace.{Trace}

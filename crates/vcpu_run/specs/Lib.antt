@@ -9,12 +9,16 @@ pub mod CallsAnswered
 pub mod CallsSaid
 pub mod CallsShown
 pub mod Caused
+pub mod ClientMoments
+pub mod ClientStrokes
 pub mod Commands
 pub mod CopyRows
 pub mod Credited
 pub mod DataKept
 pub mod DataRead
 pub mod DataTold
+pub mod DropsShown
+pub mod DropsStay
 pub mod EventsHeard
 pub mod EventsMade
 pub mod EventsPut
@@ -33,6 +37,7 @@ pub mod Links
 pub mod LoginsSent
 pub mod Machines
 pub mod Making
+pub mod Moments
 pub mod Named
 pub mod News
 pub mod Numbered

@@ -1,5 +1,5 @@
 -- What is there once a client's line said that it sent a request, or wrote into its region: its strokes, and the entry that was put.
-use Rattle.std.specs.Prelude.{◌≡◌, ℕ, ◌+◌, ◌<◌, ◌≤◌, slice_index, Bool, true, false, List, [], ◌∷◌, ◌++◌, IfSome, MatchBool, Option, Some, None, Result, Ok, length, ⊤}
+use Rattle.std.specs.Prelude.{◌≡◌, ℕ, ◌<◌, ◌≤◌, Bool, true, false, List, [], ◌∷◌, ◌++◌, IfSome, MatchBool, Option, Some, None, Result, Ok, length, ⊤}
 use Rattle.std.specs.List.{Contains, slice_get}
 use Rattle.vio_num.specs.Entry.{srp_entry}
 use Rattle.vio_num.specs.declared.entry.Entry.{Entry}
@@ -12,7 +12,6 @@ use Rattle.crq_session.specs.PlainState.{side_of}
 use Rattle.page_slots.specs.Stroke.{StrokeValue}
 use Rattle.tce_window.specs.PlainPort.{known_of}
 use Rattle.tce_window.specs.PortState.{PortState}
-use Rattle.tce_window.specs.Region.{region_byte, stroke_on, touches}
 use Rattle.tce_window.specs.Window.{strokes_at}
 use Rattle.srp_iu.specs.Grammar.{Canon, Spells}
 use Rattle.srp_iu.specs.declared.command.Cmd.{Cmd as Command}

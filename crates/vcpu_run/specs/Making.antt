@@ -1,5 +1,5 @@
 -- What is made of a plan, one step after the other.
-use Rattle.std.specs.Prelude.{◌≡◌, ℕ, ◌<◌, List, Some, IsSomeAnd, length}
+use Rattle.std.specs.Prelude.{◌≡◌, ℕ, ◌<◌, List, [], Some, IsSomeAnd, length}
 use Rattle.std.specs.List.{slice_get}
 use Rattle.vio_num.specs.declared.names.UnitId.{UnitId}
 use Rattle.boot_text.specs.Sound.{unit_at}
@@ -52,6 +52,7 @@ pub record IsMade (partition : Partition) (number : ℕ) (script : Script) : Typ
   pub credited : (pairs : List Pair) → AreLoggedOut script.seats.items pairs → IsCredited pairs script
   pub said : (pairs : List Pair) → AreLoggedOut script.seats.items pairs → AreUntaken pairs → IsScriptTold pairs script
   pub told : (lan : LanValue) → AreFresh lan → TellsPorts lan script
+  pub fresh : script.logs.items ≡ []
 
 -- The scripts were made for the partitions.
 pub record AreMade (partitions : List Partition) (scripts : List Script) : Type 0 where

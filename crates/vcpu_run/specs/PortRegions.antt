@@ -1,18 +1,21 @@
 -- What the lines of a LAN unit say of its own region, and what the trace shows of the strokes there.
-use Rattle.std.specs.Prelude.{◌≡◌, ◌⊎◌, ◌<◌, ℕ, IfSome, List, Option, Some, map}
+use Rattle.std.specs.Prelude.{◌≡◌, ◌⊎◌, ◌<◌, nat_lt, ℕ, true, false, IfSome, List, Option, Some, None, if◌then◌else◌, map}
 use Rattle.std.specs.List.{Contains, slice_get}
 use Rattle.vio_num.specs.declared.names.UnitId.{UnitId}
 use Rattle.boot_text.specs.declared.plan.Line.{Line}
 use Rattle.boot_text.specs.declared.plan.Partition.{Partition}
 use Rattle.page_slots.specs.Stroke.{StrokeValue}
-use Rattle.unit_region.specs.RegionLines.{IsFront, IsOn, IsTold, RegionSeen, StepTold, region_seen}
+use Rattle.tce_window.specs.Strokes.{with_strokes}
+use Rattle.unit_region.specs.Marks.{step_wrote}
+use Rattle.unit_region.specs.RegionLines.{IsFront, IsFrontOn, IsOn, RegionSeen, StepTold, region_seen, written_by}
 use Rattle.unit_region.specs.declared.step.Step.{Step}
 use Rattle.vio_trace.specs.declared.rows.LogRow.{LogRow}
 use Rattle.vio_trace.specs.declared.rows.Trace.{Trace}
 use Rattle.lan_script.specs.Regions.{RegionGrows, strokes_at}
-use Rattle.lan_script.specs.Seats.{seat_at}
+use Rattle.lan_script.specs.Seats.{is_in_region, seat_at}
 use Rattle.lan_script.specs.Units.{LanValue}
 use Rattle.lan_script.specs.declared.seat.PortSeat.{PortSeat}
+pub use Rattle.vcpu_run.specs.Moments.{AreInTurn, LinesTold}
 use Rattle.vcpu_run.specs.Ports.{ports_of}
 use Rattle.vcpu_run.specs.Settled.{script_of}
 use Rattle.vcpu_run.specs.Shown.{pages_at, records_of, stroke_value, strokes_on}
@@ -24,16 +27,14 @@ region_shown trace unit = record {
   front_at = λ page front. IsFront front (Some (map stroke_value (strokes_on trace unit page)));
 }
 
--- each line of a unit that has a record says what is so of the unit's region, and there is what it says; the records are those of the first
--- lines, in their order
-abbrev pub LinesTold : RegionSeen → (pages : ℕ) → UnitId → List Line → List LogRow → Type 0
-LinesTold region pages who lines rows = (i : ℕ) (line : Line) (row : LogRow) → slice_get lines i ≡ Some line → slice_get rows i ≡ Some row
-    → line.unit ≡ who.unit → IsTold region pages who line.number line.verb row.outcome
+-- the strokes that a trace shows of a region of so many pages
+abbrev pub strokes_shown : Trace → (pages : ℕ) → UnitId → ℕ → Option (List StrokeValue)
+strokes_shown trace pages unit page = if nat_lt page pages then Some (map stroke_value (strokes_on trace unit page)) else None
 
--- so is it of each LAN unit of a plan, whatever lines its partition has
+-- the lines of each LAN unit of a plan say what was so of its region as they ended, whatever lines its partition has
 abbrev pub RegionsAreTold : List Partition → Trace → Type 0
 RegionsAreTold partitions trace = (unit : UnitId) (seat : PortSeat) → seat_at (ports_of partitions) unit ≡ Some seat
-    → LinesTold (region_shown trace unit) seat.pages unit (script_of partitions unit.partition) (records_of trace unit.partition)
+    → LinesTold (strokes_shown trace (pages_at partitions unit) unit) seat.pages unit (script_of partitions unit.partition) (records_of trace unit.partition)
 
 -- while a run goes on: a step of a line at a unit, and the lines that ended
 abbrev pub StepShown : UnitId → Line → LanValue → Step → Type 0
@@ -42,7 +43,7 @@ StepShown unit line lan step =
 
 abbrev pub KeepsTold : List Line → List LogRow → LanValue → UnitId → Type 0
 KeepsTold lines rows lan unit =
-    IfSome (seat_at lan.seats unit) (λ seat. LinesTold (region_seen (strokes_at lan unit)) seat.pages unit lines rows)
+    IfSome (seat_at lan.seats unit) (λ seat. LinesTold (strokes_at lan unit) seat.pages unit lines rows)
 
 -- A line of the unit that has a record has this number.
 pub record IsLogged (unit : UnitId) (lines : List Line) (rows : List LogRow) (mark : ℕ) : Type 0 where
@@ -60,12 +61,13 @@ StrokesAreLogged partitions trace = (unit : UnitId) (seat : PortSeat) → seat_a
     → (stroke : StrokeValue) → Contains (map stroke_value (strokes_on trace unit page)) stroke → stroke.name.who ≡ unit
     → IsLogged unit (script_of partitions unit.partition) (records_of trace unit.partition) stroke.name.mark
 
--- The current line is one of the unit, with this number.
+-- The current line is one of the unit, with this number, and not one in its own region: such a line writes as it ends.
 pub record IsCurrent (unit : UnitId) (lines : List Line) (at mark : ℕ) : Type 0 where
   pub line : Line
   pub there : slice_get lines at ≡ Some line
   pub own : line.unit ≡ unit.unit
   pub number : line.number ≡ mark
+  pub apart : is_in_region line.verb ≡ false
 
 -- while a run goes on, it may be the current line's
 abbrev pub KeepsLogged : List Line → List LogRow → (at : ℕ) → LanValue → UnitId → Type 0
@@ -75,13 +77,17 @@ KeepsLogged lines rows at lan unit = (page : ℕ) (stroke : StrokeValue) → IsO
 -- No stroke of a unit's region is gone, and it laid none there itself.
 pub record RegionKept (unit : UnitId) (old new : LanValue) : Type 0 where
   pub grows : RegionGrows unit old new
-  pub own : (page : ℕ) (stroke : StrokeValue) → IsOn stroke (strokes_at new unit page) → stroke.name.who ≡ unit → IsOn stroke (strokes_at old unit page)
+  pub own : (page : ℕ) → IsFrontOn unit (λ mark. ⊥) (strokes_at old unit page) (strokes_at new unit page)
 
 -- the same of every unit
 abbrev pub RegionsKept : (old new : LanValue) → Type 0
 RegionsKept old new = (unit : UnitId) → RegionKept unit old new
 
--- each stroke that the unit laid in its own region bears the number of a line
+-- no stroke of a unit's region is gone, and each that it laid there itself bears the number of a line
 abbrev pub LaysLogged : UnitId → (mark : ℕ) → (old new : LanValue) → Type 0
-LaysLogged unit mark old new = (page : ℕ) (stroke : StrokeValue) → IsOn stroke (strokes_at new unit page) → stroke.name.who ≡ unit
-    → IsOn stroke (strokes_at old unit page) ⊎ (stroke.name.mark ≡ mark)
+LaysLogged unit mark old new = (page : ℕ) → IsFrontOn unit (λ m. m ≡ mark) (strokes_at old unit page) (strokes_at new unit page)
+
+-- a step of a line in the unit's own region lays there what the line writes as it ends, and nothing before
+abbrev pub StepWrites : UnitId → Line → (old new : LanValue) → Step → Type 0
+StepWrites unit line old new step = is_in_region line.verb ≡ true → (page : ℕ)
+    → strokes_at new unit page ≡ with_strokes (strokes_at old unit page) (step_wrote unit line.number (written_by line.verb) step page)

@@ -23,7 +23,7 @@ use Rattle.vcpu_run.specs.declared.unit_seat.Seat.TheVariants as sits
 use Rattle.vcpu_run.specs.Ports.{unit_of}
 use Rattle.vcpu_run.specs.PortBytes.{StepBytes}
 use Rattle.vcpu_run.specs.PortPosts.{StepFits}
-use Rattle.vcpu_run.specs.PortRegions.{LaysLogged, RegionKept, StepShown}
+use Rattle.vcpu_run.specs.PortRegions.{LaysLogged, RegionKept, StepShown, StepWrites}
 use Rattle.vcpu_run.specs.PortReplays.{IsStill, StepReplays, sent_at}
 use Rattle.vcpu_run.specs.PortWords.{FrameTold, frame_of, frames_at}
 use Rattle.vcpu_run.specs.ValuesPut.{StepPuts}
@@ -84,6 +84,7 @@ pub record TellsStep (partition : ℕ) (seats : List Seat) (line : Line) (done d
   pub rises : (u : ℕ) → slice_get seats u ≡ Some sits.Port → RisesIf (line.unit == u) (unit_of partition u) line.verb done done' old new step
   pub shows : (u : ℕ) → slice_get seats u ≡ Some sits.Port → line.unit ≡ u → StepShown (unit_of partition u) line new step
   pub marks : (u : ℕ) → slice_get seats u ≡ Some sits.Port → line.unit ≡ u → LaysLogged (unit_of partition u) line.number old new
+  pub writes : (u : ℕ) → slice_get seats u ≡ Some sits.Port → line.unit ≡ u → StepWrites (unit_of partition u) line old new step
 
 -- each port of a partition took some frames or none, and did nothing else
 abbrev pub AllTake : (partition : ℕ) → (old new : LanValue) → Type 0

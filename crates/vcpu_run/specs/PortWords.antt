@@ -30,7 +30,7 @@ use Rattle.vcpu_run.specs.PortBytes.{KeepsBytes, NamesOwnPages, bytes_told}
 use Rattle.vcpu_run.specs.PortMacs.{KeepsMac, OffersAreFor}
 use Rattle.vcpu_run.specs.PortOffers.{EndsFrame, FrameGoes, OffersFit, TellsFit, TellsOffers}
 use Rattle.vcpu_run.specs.PortPosts.{AreWithin, IsUnder, buffers_of, buffers_under}
-use Rattle.vcpu_run.specs.PortRegions.{KeepsLogged, KeepsTold, RegionsAreTold, StrokesAreLogged}
+use Rattle.vcpu_run.specs.PortRegions.{AreInTurn, KeepsLogged, KeepsTold, RegionsAreTold, StrokesAreLogged}
 use Rattle.vcpu_run.specs.PortReplays.{AreReplayed, IsFirstOf, IsPlainPort, KeepsReplay}
 use Rattle.vcpu_run.specs.Settled.{script_of}
 use Rattle.vcpu_run.specs.Shown.{records_of}
@@ -206,9 +206,9 @@ abbrev pub TellsValues : LanValue → Script → Type 0
 TellsValues lan script = HasNoCall script.lines.now → (unit : ℕ) → slice_get script.seats.items unit ≡ Some sits.Port
     → KeepsPuts (ended_by unit script.lines.now script.logs.items) lan (unit_of script.partition unit)
 
--- the lines of each port of a script say what is so of its region, and there is what they say
+-- the lines of each port of a script say what was so of its region as they ended, and there is what they say
 abbrev pub TellsRegions : LanValue → Script → Type 0
-TellsRegions lan script = (unit : ℕ) → slice_get script.seats.items unit ≡ Some sits.Port
+TellsRegions lan script = AreInTurn script.lines.now script.logs.items script.at → (unit : ℕ) → slice_get script.seats.items unit ≡ Some sits.Port
     → KeepsTold script.lines.now script.logs.items lan (unit_of script.partition unit)
 
 -- the strokes of each port of a script in its own region bear the numbers of its lines, of those that ended or of the current one

@@ -16,6 +16,7 @@ use Rattle.lan_script.specs.OwnMac.{changed_to}
 use Rattle.lan_script.specs.Seats.{seat_at}
 use Rattle.lan_script.specs.Units.{LanValue}
 use Rattle.lan_script.specs.declared.seat.PortSeat.{PortSeat}
+use Rattle.vcpu_run.specs.ClientStrokes.{NoneLay}
 use Rattle.vcpu_run.specs.declared.pair.Pair.{Pair}
 use Rattle.vcpu_run.specs.declared.partition_units.PartitionUnits.{PartitionUnits}
 use Rattle.vcpu_run.specs.declared.unit_seat.Seat.{Seat}
@@ -62,7 +63,7 @@ IsThere units unit (sits.Client k) = nat_lt k (length units.pairs.now) ≡ true
 IsThere units unit sits.Port = IsPortOf units.lan.now.seats (unit_of units.partition unit)
 
 -- Each pair is left as its client's part of a turn leaves it, no driver is told, the ports are the same, no other partition's
--- client has its queue freed, and the pairs of others are as before.
+-- client has its queue freed, the pairs of others are as before, and no stroke is laid in a client's region.
 pub record CallsUnits (old new : PartitionUnits) : Type 0 where
   pub lender : new.pairs.ghost_name ≡ old.pairs.ghost_name
   pub lan_lender : new.lan.ghost_name ≡ old.lan.ghost_name
@@ -71,6 +72,7 @@ pub record CallsUnits (old new : PartitionUnits) : Type 0 where
   pub ports : new.lan.now.seats ≡ old.lan.now.seats
   pub stays : FreesNoneIf (NoneSits old.seats.now) old.pairs.now new.pairs.now
   pub others : SameElse old.seats.now old.pairs.now new.pairs.now
+  pub lays : NoneLay old.pairs.now new.pairs.now
 
 -- And a call that was made leaves the LAN units of other partitions as they were.
 pub record MakesCall (old new : PartitionUnits) (answer : Result Returned NoMemory) : Type 0 where

@@ -14,6 +14,7 @@ use Rattle.block_server.specs.declared.unit.Unit.{Unit}
 use Rattle.vcpu_run.specs.declared.pair.Pair.{Pair}
 use Rattle.vcpu_run.specs.declared.script.Script.{Script}
 use Rattle.vcpu_run.specs.Answered.{AreBegun, IsBehind}
+use Rattle.vcpu_run.specs.ClientStrokes.{IsBare}
 use Rattle.vcpu_run.specs.EventsMade.{events_at}
 use Rattle.vcpu_run.specs.Gone.{IsToldOfGone}
 use Rattle.vcpu_run.specs.Heard.{AreHeard}
@@ -42,15 +43,17 @@ pub record IsReceived (units : List Unit) (copies : List CopyRecord) (grants : L
 abbrev pub AreReceived : List Unit → List CopyRecord → List Grant → List Served → List Pair → Type 0
 AreReceived units copies grants history pairs = (k : ℕ) (pair : Pair) → slice_get pairs k ≡ Some pair → IsReceived units copies grants history k pair
 
--- Nothing was taken from the server unit's queue, nothing was put into its client's, the client has sent and taken nothing and made no
--- event, and no value was put into its window.
+-- No session of the server unit's queue began and nothing was taken from it, nothing was put into its client's, the client has sent and taken nothing and made no
+-- event, no value was put into its window, and its region has no stroke.
 pub record IsFresh (pair : Pair) : Type 0 where
+  pub session : (side_of pair.link true).queue.session ≡ 0
   pub taken : (side_of pair.link true).queue.taken ≡ []
   pub sent : (side_of pair.link false).queue.sent ≡ []
   pub kept : (side_of pair.link false).kept ≡ None
   pub untaken : PairUntaken pair
   pub events : events_at pair ≡ 0
   pub rows : pair.window.rows ≡ []
+  pub bare : IsBare pair
 
 abbrev pub AreFresh : List Pair → Type 0
 AreFresh pairs = (k : ℕ) (pair : Pair) → slice_get pairs k ≡ Some pair → IsFresh pair

@@ -1,14 +1,12 @@
 -- What the records of a client's lines say of requests that were not sent: each refusal by the records before it; and of its own
 -- region. (Of a client whose partition makes no raw hypervisor call, plain or not.)
-use Rattle.std.specs.Prelude.{◌≡◌, ℕ, ◌+◌, ◌-◌, ◌*◌, ◌<◌, ◌==◌, Bool, true, false, length, map, List, [], ◌∷◌, ◌++◌, MatchBool, MatchOption, Option, Some, None, min, not, ⊤, if◌then◌else◌}
+use Rattle.std.specs.Prelude.{◌≡◌, ℕ, ◌+◌, ◌-◌, ◌*◌, ◌<◌, ◌==◌, length, map, List, [], ◌∷◌, ◌++◌, MatchBool, MatchOption, Option, Some, None, min, not, ⊤, if◌then◌else◌}
 use Rattle.std.specs.List.{AllPairs, Contains}
 use Rattle.std.specs.Option.{option_map}
 use Rattle.boot_text.specs.Sound.{IsClientOf}
 use Rattle.boot_text.specs.declared.plan.Partition.{Partition}
 use Rattle.boot_text.specs.declared.verb.Verb.{Verb}
 use Rattle.boot_text.specs.declared.verb.Verb.TheVariants as verbs
-use Rattle.vio_num.specs.declared.hypervisor.Hrc.{Hrc}
-use Rattle.vio_num.specs.declared.hypervisor.Hrc.TheVariants as codes
 use Rattle.vio_num.specs.declared.names.UnitId.{UnitId}
 use Rattle.tce_window.specs.Puts.{takes}
 use Rattle.tce_window.specs.Region.{in_region}
@@ -20,6 +18,7 @@ use Rattle.vio_trace.specs.declared.rows.Trace.{Trace}
 use Rattle.vcpu_run.specs.AnswersSent.{sent_to}
 use Rattle.vcpu_run.specs.AnswersTaken.{AreAnswersTaken, answers_to}
 use Rattle.vcpu_run.specs.DataTold.{AreDataTold}
+use Rattle.vcpu_run.specs.DropsShown.{AreDropsTold}
 use Rattle.vcpu_run.specs.Credited.{Ended, ended_by}
 use Rattle.vcpu_run.specs.AnswersSeen.{AreResponsesRead, IsFront}
 use Rattle.vcpu_run.specs.FewEvents.{EventsAreFew}
@@ -138,6 +137,7 @@ pub record IsClientTold (partitions : List Partition) (trace : Trace) (client se
   pub causes : HasCausesTold (pages_at partitions client) (ended_by client.unit (script_of partitions client.partition) (records_of trace client.partition))
   pub shown : LinesShow (seen_in trace client server) client client.unit (script_of partitions client.partition) (records_of trace client.partition)
   pub order : AreSentIn (seen_in trace client server) client client.unit (script_of partitions client.partition) (records_of trace client.partition) (sent_to trace server)
+  pub drops : AreDropsTold trace client server (script_of partitions client.partition) (records_of trace client.partition)
   pub put : AreValuesTold trace client (ended_by client.unit (script_of partitions client.partition) (records_of trace client.partition))
   pub few : EventsAreFew trace server (script_of partitions client.partition) (ended_by client.unit (script_of partitions client.partition) (records_of trace client.partition))
   pub takes : AreAnswersTaken trace client (ended_by client.unit (script_of partitions client.partition) (records_of trace client.partition))

@@ -1,5 +1,5 @@
 -- The law of a run, so far as it is proved: what its trace says of its queues, its copies and windows, its
--- records, the credits and the refusals that they tell of, the answers that were sent, its LAN ports and what is told of them, how it ends, what its server units took in,
+-- records, the credits and the refusals that they tell of, the strokes of clients in their own regions, the answers that were sent, its LAN ports and what is told of them, how it ends, what its server units took in,
 -- which of it they served, that each of that has its answer, and which copies moved its answer and its data, and how its requests to log in were answered.
 use Rattle.std.specs.Prelude.{◌≡◌, ◌⊎◌, ℕ, ◌+◌, ◌*◌, ◌<◌, ◌≤◌, List, [], ◌∷◌, All, Some, None, length, map}
 use Rattle.std.specs.List.{AllPairs}
@@ -24,6 +24,7 @@ use Rattle.lan_script.specs.Carried.{FramesAreCarried}
 use Rattle.lan_script.specs.PortLaw.{PortsAreLawful}
 use Rattle.vcpu_run.specs.AnswersSent.{AnswersAreGiven, AnswersAreSent}
 use Rattle.vcpu_run.specs.CallsShown.{CallsAreSaid}
+use Rattle.vcpu_run.specs.ClientStrokes.{ClientsAreLogged}
 use Rattle.vcpu_run.specs.CopyRows.{copy_row}
 use Rattle.vcpu_run.specs.Credited.{KeepsCredit, ended_by}
 use Rattle.vcpu_run.specs.Intake.{EntriesAreFetched}
@@ -123,6 +124,7 @@ pub record KeepsLawOf (partitions : List Partition) (trace : Trace) : Type 0 whe
   pub records : RecordsAreOfLines partitions trace
   pub called : CallsAreSaid partitions trace
   pub credits : CreditsAreKept partitions trace
+  pub logged : ClientsAreLogged partitions trace
   pub refusals : RefusalsAreTold partitions trace
   pub answers : AnswersAreSent partitions trace
   pub ports : PortsKeepLaw partitions trace

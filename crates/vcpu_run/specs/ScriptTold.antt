@@ -12,9 +12,11 @@ use Rattle.vcpu_run.specs.declared.script.Script.{Script}
 use Rattle.vcpu_run.specs.declared.unit_seat.Seat.{Seat}
 use Rattle.vcpu_run.specs.declared.unit_seat.Seat.TheVariants as sits
 use Rattle.vcpu_run.specs.Agreed.{IsLoggedOut}
+use Rattle.vcpu_run.specs.ClientStrokes.{KeepsOwn}
 use Rattle.vcpu_run.specs.Freeing.{is_reset}
 use Rattle.vcpu_run.specs.Credited.{Ended, ended_by, taken_in}
 use Rattle.vcpu_run.specs.LinesShow.{LinesShow, Sees, seen_at}
+use Rattle.vcpu_run.specs.DropsShown.{IsFullAt, KeepsFull, LinesFull}
 use Rattle.vcpu_run.specs.EventsMade.{PairCalm}
 use Rattle.vcpu_run.specs.FewEvents.{PairFew}
 use Rattle.vcpu_run.specs.PortWords.{HasNoCall}
@@ -47,10 +49,12 @@ PairIsTold own p pair = IfSome pair.driver (λ driver. IsTold (length pair.windo
 abbrev pub AtSeats : List Seat → List Pair → (P : ℕ → Pair → Type 0) → Type 0
 AtSeats seats pairs P = (unit k : ℕ) (pair : Pair) → slice_get seats unit ≡ Some (sits.Client k) → slice_get pairs k ≡ Some pair → P unit pair
 
--- What the lines of a unit that ended show, at its pair, and in which order its requests were put.
+-- What the lines of a unit that ended show, at its pair, in which order its requests were put, and that those which were dropped have their
+-- records.
 pub record ShowsLines (unit : ℕ) (lines : List Line) (rows : List LogRow) (pair : Pair) : Type 0 where
   pub show : LinesShow (seen_at pair) pair.window.unit unit lines rows
   pub order : AreSentIn (seen_at pair) pair.window.unit unit lines rows (entries_put pair)
+  pub drops : LinesFull (IsFullAt pair) unit lines rows
 
 abbrev pub PairShown : Script → (unit : ℕ) → Pair → Type 0
 PairShown script unit pair = ShowsLines unit script.lines.now script.logs.items pair
@@ -81,12 +85,12 @@ abbrev pub IsResetOut : List Pair → Script → Type 0
 IsResetOut pairs script = (line : Line) (k : ℕ) (pair : Pair) → slice_get script.lines.now script.at ≡ Some line → is_reset line.verb ≡ true
     → slice_get script.seats.items line.unit ≡ Some (sits.Client k) → slice_get pairs k ≡ Some pair → IsLoggedOut pair
 
--- more may stand behind what the client put into its server unit's queue
+-- more may stand behind what the client put into its server unit's queue, and each record of a drop is there still
 abbrev pub PutsMore : (old new : Pair) → Type 0
-PutsMore old new = (rows : List PipeRow) × ((side_of new.link true).queue.sent ≡ (side_of old.link true).queue.sent ++ rows)
+PutsMore old new = (rows : List PipeRow) × ((side_of new.link true).queue.sent ≡ (side_of old.link true).queue.sent ++ rows) × KeepsFull old new
 
 -- The client of a pair, its window's unit and length, whether its queue is registered and what it took are as before, no entry of its window
--- has other values, and what there was is there.
+-- has other values, what there was is there, and it laid no stroke in its region.
 pub record SameClient (old new : Pair) : Type 0 where
   pub driver : new.driver ≡ old.driver
   pub pages : length new.window.pages ≡ length old.window.pages
@@ -94,6 +98,7 @@ pub record SameClient (old new : Pair) : Type 0 where
   pub taken : (side_of new.link false).queue.taken ≡ (side_of old.link false).queue.taken
   pub unit : new.window.unit ≡ old.window.unit
   pub sees : Sees (seen_at old) (seen_at new)
+  pub own : KeepsOwn old new
   pub server : new.server ≡ old.server
   pub values : SameValues old new
   pub puts : PutsMore old new

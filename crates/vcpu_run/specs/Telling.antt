@@ -21,7 +21,7 @@ use Rattle.vcpu_run.specs.declared.taking.Took.TheVariants as tooks
 use Rattle.vcpu_run.specs.Credited.{Ended, is_take, taken_in}
 use Rattle.vcpu_run.specs.EventsMade.{PairMakes}
 use Rattle.vcpu_run.specs.Freeing.{is_reset}
-use Rattle.vcpu_run.specs.LinesShow.{PairShows}
+use Rattle.vcpu_run.specs.DropsShown.{PairShowsLine}
 use Rattle.vcpu_run.specs.Refusals.{HasCausesTold, LoginNow, login_by, tags_told}
 use Rattle.vcpu_run.specs.TakenScripts.{AllGive, PairHears, PairReads, PairTakes}
 use Rattle.vcpu_run.specs.ValuesPut.{PairPuts}
@@ -129,7 +129,7 @@ pub record SeatTold (seat : ℕ) (line : Line) (p p' : Progress) (old new : List
   pub puts : (before after : Pair) → slice_get old seat ≡ Some before → slice_get new seat ≡ Some after → PairPuts line.verb before after result
   pub makes : (before after : Pair) → slice_get old seat ≡ Some before → slice_get new seat ≡ Some after → PairMakes line.verb p p' before after
   pub gives : OnOk result (AllGive old new)
-  pub shows : (before after : Pair) → slice_get old seat ≡ Some before → slice_get new seat ≡ Some after → PairShows line before after result
+  pub shows : (before after : Pair) → slice_get old seat ≡ Some before → slice_get new seat ≡ Some after → PairShowsLine line before after result
 
 -- A step of a line at its unit: at the pair where a client sits, and at none where a port does.
 pub record LineTold (seats : List Seat) (line : Line) (p p' : Progress) (old new : List Pair) (result : Result Step NoMemory) : Type 0 where

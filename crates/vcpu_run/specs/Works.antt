@@ -1,5 +1,5 @@
 -- What the steps of a script line leave of a client's window, of its end of the link, and of its driver.
-use Rattle.std.specs.Prelude.{◌≡◌, ℕ, Bool, true, false, List, Some, IsSomeAnd}
+use Rattle.std.specs.Prelude.{◌≡◌, ℕ, Bool, true, false, List, None, Option, Some, IsSomeAnd}
 use Rattle.std.specs.List.{slice_get}
 use Rattle.boot_text.specs.SoFar.{is_for_client, is_for_port}
 use Rattle.boot_text.specs.Sound.{IsInRange}
@@ -11,6 +11,7 @@ use Rattle.vscsi_client.specs.Transferred.{FitRows}
 use Rattle.vcpu_run.specs.declared.driver.Driver.{Driver}
 use Rattle.vcpu_run.specs.declared.pair.Pair.{Pair}
 use Rattle.unit_region.specs.Kept.{KeepsWindow}
+use Rattle.unit_region.specs.Marks.{LaysNoStroke, LaysUnder}
 use Rattle.vcpu_run.specs.AnswersSeen.{AreResponsesRead, fronts_of}
 use Rattle.vcpu_run.specs.EventsPut.{MakesNoEvent}
 use Rattle.vcpu_run.specs.Freed.{FreesNone}
@@ -20,16 +21,22 @@ use Rattle.vcpu_run.specs.Suited.{is_call}
 use Rattle.vcpu_run.specs.declared.unit_seat.Seat.{Seat}
 use Rattle.vcpu_run.specs.declared.unit_seat.Seat.TheVariants as sits
 
+-- where nobody else has a hand in a window, the strokes of its own unit that it has more bear a mark, or it has none more
+abbrev pub LaysBy : (is_shared : Bool) → Option ℕ → (old new : PortState) → Type 0
+LaysBy is_shared None old new = LaysNoStroke is_shared old new
+LaysBy is_shared (Some mark) old new = LaysUnder is_shared mark old new
+
 -- The end is where it was, and on a link of its own at the same session of the partner; its queue was not freed, and no event made, unless
 -- that may be, and the partner was told of what was; the window was kept, and the driver is that of the same unit, whose data still lie in the region, and
--- whose answers were read there.
-pub record Works (may_free end_shared is_shared : Bool) (end end' : EndState) (own own' : PortState) (driver driver' : Driver) : Type 0 where
+-- whose answers were read there. Each stroke of its own that the window has more bears this mark; where none is given it has no stroke more.
+pub record Works (may_free end_shared is_shared : Bool) (mark : Option ℕ) (end end' : EndState) (own own' : PortState) (driver driver' : Driver) : Type 0 where
   pub place : end'.place ≡ end.place
   pub session : end_shared ≡ false → end'.counts.partner_session ≡ end.counts.partner_session
   pub stays : may_free ≡ false → FreesNone end end'
   pub puts : end_shared ≡ false → Announces end end'
   pub calm : may_free ≡ false → MakesNoEvent end end'
   pub window : KeepsWindow is_shared own own'
+  pub lays : LaysBy is_shared mark own own'
   pub unit : driver'.unit ≡ driver.unit
   pub rows : FitRows own.place.size driver.client → FitRows own.place.size driver'.client
   pub answers : AreResponsesRead (fronts_of own.strokes) driver.answers.items → AreResponsesRead (fronts_of own'.strokes) driver'.answers.items

@@ -6,6 +6,7 @@ ghost use Rattle.vcpu_run.specs.Gathered.{logs_of, sessions_at, answer_by, answe
 ghost use Rattle.boot_text.specs.declared.plan.Partition.{Partition};
 ghost use Rattle.vio_trace.specs.Form.{IsInOrder};
 ghost use Rattle.vcpu_run.specs.Agreed.{AreCredited};
+ghost use Rattle.vcpu_run.specs.ClientStrokes.{ClientsAreLogged};
 ghost use Rattle.vcpu_run.specs.Caused.{IsShownAll};
 ghost use Rattle.vcpu_run.specs.Answered.{AreAnswered};
 ghost use Rattle.vcpu_run.specs.AnswersSent.{AnswersAreGiven, AnswersAreSent};
@@ -74,6 +75,10 @@ pub(crate) fn gather(
     ensures credits { IfOk result (λ trace. (partitions : List Partition) →
         IsOfPlan partitions pairs.items scripts.entry.items lan.seats →
         AreCredited pairs.items scripts.entry.items → CreditsAreKept partitions trace) }
+    ensures logged { IfOk result (λ trace. (partitions : List Partition) →
+        IsOfPlan partitions pairs.items scripts.entry.items lan.seats →
+        All IsOver scripts.entry.items → AreCredited pairs.items scripts.entry.items →
+        ClientsAreLogged partitions trace) }
     ensures refusals { IfOk result (λ trace. (partitions : List Partition) →
         IsOfPlan partitions pairs.items scripts.entry.items lan.seats →
         All IsOver scripts.entry.items → AreTold pairs.items scripts.entry.items →

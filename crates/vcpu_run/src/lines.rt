@@ -8,10 +8,12 @@ ghost use Rattle.vscsi_client.specs.Transferred.{FitRows};
 ghost use Rattle.vscsi_client.specs.Units.{FitsOp};
 ghost use Rattle.boot_text.specs.declared.verb.Verb.{Verb as VerbValue};
 ghost use Rattle.boot_text.specs.declared.verb.Verb.TheVariants as verbs;
+ghost use Rattle.vcpu_run.specs.ClientMoments.{RegionStepped};
 ghost use Rattle.vcpu_run.specs.Credited.{StepsAgreed, taken_in, uses_credit};
 ghost use Rattle.unit_region.specs.Steps.{IsPlain};
 ghost use Rattle.vcpu_run.specs.DataKept.{StepSends};
 ghost use Rattle.vcpu_run.specs.DataRead.{StepReads};
+ghost use Rattle.vcpu_run.specs.DropsShown.{IsFullBy, StepFull};
 ghost use Rattle.vcpu_run.specs.EventsHeard.{StepHears};
 ghost use Rattle.vcpu_run.specs.EventsPut.{FreesOnce, StepMakes};
 ghost use Rattle.vcpu_run.specs.Freeing.{is_reset};
@@ -28,6 +30,7 @@ ghost use Rattle.vcpu_run.specs.declared.script.Progress.TheVariants as stages;
 ghost use Rattle.vcpu_run.specs.ValuesPut.{StepPuts};
 ghost use Rattle.vcpu_run.specs.Works.{IsUnitVerb, Works, sends};
 ghost use Rattle.unit_region.specs.Kept.{KeepsWindow};
+ghost use Rattle.unit_region.specs.Marks.{LaysNoStroke};
 
 use crate::driver::Driver;
 use crate::op::op_of;
@@ -118,7 +121,7 @@ impl Driver {
             (C.state crq.old.end) (C.state crq.new.end)) }
         ensures hears { StepHears result self.old.client self.new.client
             (C.state crq.old.end) (C.state crq.new.end) }
-        ensures works { Works false C.is_shared O.is_shared
+        ensures works { Works false C.is_shared O.is_shared (Some line)
             (C.state crq.old.end) (C.state crq.new.end)
             (O.state own.old) (O.state own.new) self.old self.new }
         ensures values { (O.state own.new).values ≡ (O.state own.old).values }
@@ -154,7 +157,7 @@ impl Driver {
         ensures registered { C.is_shared ≡ false → StepsOpen verbs.Reset progress.new
             (IsHeldOff (link_seen (C.state crq.old.end)))
             (C.state crq.new.end).registered result }
-        ensures works { Works true C.is_shared O.is_shared
+        ensures works { Works true C.is_shared O.is_shared (Some line)
             (C.state crq.old.end) (C.state crq.new.end)
             (O.state own.old) (O.state own.new) self.old self.new }
         ensures values { (O.state own.new).values ≡ (O.state own.old).values }
@@ -191,6 +194,7 @@ impl Driver {
     fn data<O: OwnerPort>(&mut self, own: &mut O, tag: u64) -> Result<Step, NoMemory>
         requires { FitRows (O.state own.old).place.size self.old.client }
         ensures window { KeepsWindow O.is_shared (O.state own.old) (O.state own.new) }
+        ensures marks { LaysNoStroke O.is_shared (O.state own.old) (O.state own.new) }
         ensures values { (O.state own.new).values ≡ (O.state own.old).values }
         ensures unit { self.new.unit ≡ self.old.unit }
         ensures client { self.new.client ≡ self.old.client }
@@ -232,7 +236,7 @@ impl Driver {
             (seen_since C.is_shared (O.state own.new)
             (C.state crq.old.end) (C.state crq.new.end))
             (O.state own.old).place.unit line verb result }
-        ensures works { Works false C.is_shared O.is_shared
+        ensures works { Works false C.is_shared O.is_shared (Some line)
             (C.state crq.old.end) (C.state crq.new.end)
             (O.state own.old) (O.state own.new) self.old self.new }
         ensures values { (O.state own.new).values ≡ (O.state own.old).values }
@@ -242,6 +246,8 @@ impl Driver {
             StepsTaken verb 0 0 self.old self.new result }
         ensures inward { (verb : VerbValue) → IsOpOf verb op.now →
             IfOk result (StepSends self.new.client.rows verb) }
+        ensures full { (verb : VerbValue) → IsOpOf verb op.now →
+            StepFull (IsFullBy C.is_shared (C.state crq.new.end)) verb result }
         ensures gives { OnOk result (Gives self.old self.new
             (C.state crq.old.end) (C.state crq.new.end)) }
         ensures hears { StepHears result self.old.client self.new.client
@@ -269,13 +275,15 @@ impl Driver {
             (seen_since C.is_shared (O.state own.new)
             (C.state crq.old.end) (C.state crq.new.end))
             (O.state own.old).place.unit line (verbs.Task function tag) result }
-        ensures works { Works false C.is_shared O.is_shared
+        ensures works { Works false C.is_shared O.is_shared (Some line)
             (C.state crq.old.end) (C.state crq.new.end)
             (O.state own.old) (O.state own.new) self.old self.new }
         ensures values { (O.state own.new).values ≡ (O.state own.old).values }
         ensures credit { (verb : VerbValue) → uses_credit verb ≡ true →
             StepsAgreed verb 0 0 self.old.client self.new.client result }
         ensures takes { StepsTaken (verbs.Task function tag) 0 0 self.old self.new result }
+        ensures full { StepFull (IsFullBy C.is_shared (C.state crq.new.end))
+            (verbs.Task function tag) result }
         ensures gives { OnOk result (Gives self.old self.new
             (C.state crq.old.end) (C.state crq.new.end)) }
         ensures hears { StepHears result self.old.client self.new.client
@@ -300,13 +308,15 @@ impl Driver {
             (seen_since C.is_shared (O.state own.new)
             (C.state crq.old.end) (C.state crq.new.end))
             (O.state own.old).place.unit line verbs.Logout result }
-        ensures works { Works false C.is_shared O.is_shared
+        ensures works { Works false C.is_shared O.is_shared (Some line)
             (C.state crq.old.end) (C.state crq.new.end)
             (O.state own.old) (O.state own.new) self.old self.new }
         ensures values { (O.state own.new).values ≡ (O.state own.old).values }
         ensures credit { (verb : VerbValue) → uses_credit verb ≡ false →
             StepsAgreed verb 0 0 self.old.client self.new.client result }
         ensures takes { StepsTaken verbs.Logout 0 0 self.old self.new result }
+        ensures full { StepFull (IsFullBy C.is_shared (C.state crq.new.end))
+            verbs.Logout result }
         ensures gives { OnOk result (Gives self.old self.new
             (C.state crq.old.end) (C.state crq.new.end)) }
         ensures hears { StepHears result self.old.client self.new.client
@@ -324,7 +334,7 @@ impl Driver {
         progress: &mut Progress,
     ) -> Result<Step, NoMemory>
         requires { MIN_PAGES ≤ (O.state own.old).place.size }
-        ensures works { Works false C.is_shared O.is_shared
+        ensures works { Works false C.is_shared O.is_shared None
             (C.state crq.old.end) (C.state crq.new.end)
             (O.state own.old) (O.state own.new) self.old self.new }
         ensures values { (O.state own.new).values ≡ (O.state own.old).values }
@@ -374,14 +384,18 @@ impl Driver {
             (IsHeldOff (link_seen (C.state crq.old.end)))
             (C.state crq.new.end).registered result }
         ensures works { Works (is_reset line.now.verb) C.is_shared O.is_shared
-            (C.state crq.old.end) (C.state crq.new.end)
+            (Some line.now.number) (C.state crq.old.end) (C.state crq.new.end)
             (O.state own.old) (O.state own.new) self.old self.new }
+        ensures region { RegionStepped O.is_shared line.now
+            (O.state own.old) (O.state own.new) result }
         ensures puts { IfOk result (λ step. StepPuts line.now.verb step
             (O.state own.old).values (O.state own.new).values) }
         ensures reads { IfOk result (StepReads
             (seen_by C.is_shared (O.state own.new) (C.state crq.new.end))
             self.old.client line.now.verb) }
         ensures inward { IfOk result (StepSends self.new.client.rows line.now.verb) }
+        ensures full { StepFull (IsFullBy C.is_shared (C.state crq.new.end))
+            line.now.verb result }
         ensures credit { StepsAgreed line.now.verb (taken_in progress.old)
             (taken_in progress.new) self.old.client self.new.client result }
         ensures takes { StepsTaken line.now.verb (taken_in progress.old)
@@ -427,14 +441,18 @@ impl Driver {
             (IsHeldOff (link_seen (C.state crq.old.end)))
             (C.state crq.new.end).registered result }
         ensures works { Works (is_reset line.now.verb) C.is_shared O.is_shared
-            (C.state crq.old.end) (C.state crq.new.end)
+            (Some line.now.number) (C.state crq.old.end) (C.state crq.new.end)
             (O.state own.old) (O.state own.new) self.old self.new }
+        ensures region { RegionStepped O.is_shared line.now
+            (O.state own.old) (O.state own.new) result }
         ensures puts { IfOk result (λ step. StepPuts line.now.verb step
             (O.state own.old).values (O.state own.new).values) }
         ensures reads { IfOk result (StepReads
             (seen_by C.is_shared (O.state own.new) (C.state crq.new.end))
             self.old.client line.now.verb) }
         ensures inward { IfOk result (StepSends self.new.client.rows line.now.verb) }
+        ensures full { StepFull (IsFullBy C.is_shared (C.state crq.new.end))
+            line.now.verb result }
         ensures credit { StepsAgreed line.now.verb (taken_in progress.old)
             (taken_in progress.new) self.old.client self.new.client result }
         ensures takes { StepsTaken line.now.verb (taken_in progress.old)

@@ -3,8 +3,10 @@ ghost use Rattle.std.specs.Prelude.{◌≡◌, ◌≢◌, ◌*◌, ◌<◌, ℕ,
 ghost use Rattle.boot_text.specs.Sound.{IsFrom};
 ghost use Rattle.boot_text.specs.declared.statement.TheConstants.{MOST_QUEUE};
 ghost use Rattle.crq_session.specs.PlainState.{side_of, IsNewLink};
+ghost use Rattle.vcpu_run.specs.ClientStrokes.{KeepsOwn};
 ghost use Rattle.vcpu_run.specs.Agreed.{IsLoggedOut};
 ghost use Rattle.vcpu_run.specs.Answered.{IsAnswered};
+ghost use Rattle.vcpu_run.specs.DropsShown.{KeepsFull};
 ghost use Rattle.vcpu_run.specs.Freed.{FreesNoneAt};
 ghost use Rattle.block_server.specs.Causes.{Told};
 ghost use Rattle.block_server.specs.DiskLaw.{KeepsDiskBy};
@@ -174,6 +176,7 @@ impl Pair {
             self.old self.new }
         ensures own { self.new.own.unit ≡ self.old.own.unit }
         ensures values { SameValues self.old self.new }
+        ensures owner { KeepsOwn self.old self.new }
         ensures told { (told : Told → Bool) →
             TellsPair told server.new.copies.items self.new →
             AllGoBy told server.old.disk.count server.old.partition
@@ -214,6 +217,7 @@ impl Pair {
             ≡ (side_of self.old.link false).registered }
         ensures sent { (side_of self.new.link true).queue.sent
             ≡ (side_of self.old.link true).queue.sent }
+        ensures full { KeepsFull self.old self.new }
         ensures taken { (side_of self.new.link false).queue.taken
             ≡ (side_of self.old.link false).queue.taken }
         ensures kept { (side_of self.new.link false).kept ≡ (side_of self.old.link false).kept }

@@ -7,6 +7,7 @@ ghost use Rattle.lan_script.specs.PortRows.{port_row};
 ghost use Rattle.unit_region.specs.EntryRows.{entry_row};
 ghost use Rattle.vio_num.specs.declared.hypervisor.Hrc.TheVariants as codes;
 ghost use Rattle.vcpu_run.specs.Agreed.{SameBeside, SameDrivers};
+ghost use Rattle.vcpu_run.specs.ClientStrokes.{NoneLay};
 ghost use Rattle.vcpu_run.specs.CallRows.{arguments_for, entry_arguments, queue_arguments, queue_row, row_for};
 ghost use Rattle.vcpu_run.specs.CallsAnswered.{IsReturned, is_unsaid, unit_seen};
 ghost use Rattle.vcpu_run.specs.Freed.{FreesNoneIf};
@@ -132,6 +133,7 @@ fn call_at(
     ensures told { SameDrivers pairs.old pairs.new }
     ensures stays { FreesNoneIf (λ k. k ≢ pair) pairs.old pairs.new }
     ensures others { SameBeside pair pairs.old pairs.new }
+    ensures lays { NoneLay pairs.old pairs.new }
     ensures answer { IfOk result (IsAnswer (row_for call)) }
     ensures returned { IfOk result (IsReturned (unit_seen (slice_get pairs.new pair))
         (row_for call) (arguments_for call)) }

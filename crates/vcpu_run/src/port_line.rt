@@ -6,7 +6,7 @@ ghost use Rattle.vcpu_run.specs.Credited.{IsFresh, StepsPort, taken_in};
 ghost use Rattle.vcpu_run.specs.Ports.{IsPortOf, unit_of};
 ghost use Rattle.vcpu_run.specs.PortBytes.{StepBytes};
 ghost use Rattle.vcpu_run.specs.PortPosts.{StepFits};
-ghost use Rattle.vcpu_run.specs.PortRegions.{LaysLogged, StepShown};
+ghost use Rattle.vcpu_run.specs.PortRegions.{LaysLogged, StepShown, StepWrites};
 ghost use Rattle.vcpu_run.specs.PortReplays.{StepReplays};
 ghost use Rattle.vcpu_run.specs.PortSteps.{IsBeside, StepRises};
 ghost use Rattle.vcpu_run.specs.PortWords.{done_in};
@@ -41,6 +41,8 @@ pub(crate) fn step(
         (values_at lan.new (unit_of partition line.now.unit))) }
     ensures shows { IfOk result (StepShown (unit_of partition line.now.unit) line.now lan.new) }
     ensures marks { OnOk result (LaysLogged (unit_of partition line.now.unit) line.now.number
+        lan.old lan.new) }
+    ensures writes { IfOk result (StepWrites (unit_of partition line.now.unit) line.now
         lan.old lan.new) }
     ensures beside { OnOk result (IsBeside (unit_of partition line.now.unit)
         lan.old lan.new) }

@@ -6,6 +6,7 @@ ghost use Rattle.hcall_table.specs.Asked.{bare};
 ghost use Rattle.hcall_table.specs.Named.{unit_of};
 ghost use Rattle.hcall_table.specs.Rows.{IsAnswer, further, row_of};
 ghost use Rattle.vcpu_run.specs.Agreed.{SameDrivers, SameElse};
+ghost use Rattle.vcpu_run.specs.ClientStrokes.{NoneLay};
 ghost use Rattle.vcpu_run.specs.CallRows.{gives, says};
 ghost use Rattle.vcpu_run.specs.CallsAnswered.{IsReturned};
 ghost use Rattle.vcpu_run.specs.CallsSaid.{EndsCall, units_seen};
@@ -70,6 +71,7 @@ pub(crate) fn make_call(
     ensures told { SameDrivers pairs.old pairs.new }
     ensures stays { FreesNoneIf (NoneSits seats.now) pairs.old pairs.new }
     ensures others { SameElse seats.now pairs.old pairs.new }
+    ensures lays { NoneLay pairs.old pairs.new }
     ensures lan { lan.new.seats ≡ lan.old.seats }
     ensures apart { OnOk result (IsApart partition lan.old lan.new) }
     ensures ports { IfOk result (EndsPorts partition

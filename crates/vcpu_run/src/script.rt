@@ -1,9 +1,10 @@
 // A partition: its script, and a turn of it.
-ghost use Rattle.std.specs.Prelude.{◌≡◌, ◌<◌, ℕ, All, IfOk, IfSome, List, Some, OnOk, false, length, slice_get, true};
+ghost use Rattle.std.specs.Prelude.{[], ◌≡◌, ◌<◌, ℕ, All, IfOk, IfSome, List, Some, OnOk, false, length, slice_get, true};
 ghost use Rattle.std.specs.List.{AllPairs};
 ghost use Rattle.vcpu_run.specs.declared.pair.Pair.{Pair as PairValue};
 ghost use Rattle.vcpu_run.specs.Agreed.{AreLoggedOut, IsCredited, IsEnded, SameElse};
 ghost use Rattle.vcpu_run.specs.CallsSaid.{IsSaidOf, seen_from};
+ghost use Rattle.vcpu_run.specs.ClientStrokes.{LogsStrokes};
 ghost use Rattle.vcpu_run.specs.Credited.{taken_in};
 ghost use Rattle.vcpu_run.specs.Lines.{IsOver, is_over, place_behind};
 ghost use Rattle.vcpu_run.specs.Holding.{LeavesResetOpen, IsResetOpen, KeepsQueues};
@@ -97,6 +98,7 @@ impl<'p> Script<'p> {
         ensures said { (pairs : List PairValue) → AreLoggedOut seats.items pairs →
             AreUntaken pairs → IsScriptTold pairs result }
         ensures told { (lan : LanValue) → AreFresh lan → TellsPorts lan result }
+        ensures fresh { result.logs.items ≡ [] }
         ensures partition { result.partition ≡ partition }
         ensures lines { result.lines.now ≡ lines.now }
         ensures seats { result.seats ≡ seats }
@@ -130,6 +132,8 @@ impl<'p> Script<'p> {
         ensures apart { OnOk result (IsApart self.old.partition lan.old lan.new) }
         ensures credited { OnOk result (IsCredited pairs.old self.old →
             IsCredited pairs.new self.new) }
+        ensures logged { OnOk result (LogsStrokes pairs.old self.old →
+            LogsStrokes pairs.new self.new) }
         ensures said { OnOk result (HasNoCall self.old.lines.now →
             IsScriptTold pairs.old self.old → IsScriptTold pairs.new self.new) }
         ensures out { IfOk result (λ moved. moved ≡ Moved.Quiet → HasNoCall self.old.lines.now →
@@ -163,6 +167,8 @@ impl<'p> Script<'p> {
         ensures apart { OnOk result (IsApart self.old.partition lan.old lan.new) }
         ensures credited { OnOk result (IsCredited pairs.old self.old →
             IsCredited pairs.new self.new) }
+        ensures logged { OnOk result (LogsStrokes pairs.old self.old →
+            LogsStrokes pairs.new self.new) }
         ensures said { OnOk result (HasNoCall self.old.lines.now →
             IsScriptTold pairs.old self.old → IsScriptTold pairs.new self.new) }
         ensures out { IfOk result (λ moved. moved ≡ Moved.Quiet → HasNoCall self.old.lines.now →
@@ -199,6 +205,8 @@ impl<'p> Script<'p> {
         ensures apart { OnOk result (IsApart self.old.partition lan.old lan.new) }
         ensures credited { OnOk result (IsCredited pairs.old self.old →
             IsCredited pairs.new self.new) }
+        ensures logged { OnOk result (LogsStrokes pairs.old self.old →
+            LogsStrokes pairs.new self.new) }
         ensures said { OnOk result (HasNoCall self.old.lines.now →
             IsScriptTold pairs.old self.old → IsScriptTold pairs.new self.new) }
         ensures out { IfOk result (λ moved. moved ≡ Moved.Quiet → HasNoCall self.old.lines.now →
@@ -252,6 +260,8 @@ impl<'p> Script<'p> {
         ensures apart { OnOk result (IsApart self.old.partition lan.old lan.new) }
         ensures credited { OnOk result (IsCredited pairs.old self.old →
             IsCredited pairs.new self.new) }
+        ensures logged { OnOk result (LogsStrokes pairs.old self.old →
+            LogsStrokes pairs.new self.new) }
         ensures said { OnOk result (IsScriptTold pairs.old self.old →
             IsScriptTold pairs.new self.new) }
         ensures out { IfOk result (λ moved. moved ≡ Moved.Quiet →
@@ -310,6 +320,8 @@ impl<'p> Script<'p> {
         ensures rest { OnlyRuns self.old self.new }
         ensures credited { OnOk result ((pairs : List PairValue) → IsScript pairs self.old →
             IsCredited pairs self.old → IsCredited pairs self.new) }
+        ensures logged { OnOk result ((pairs : List PairValue) → IsScript pairs self.old →
+            LogsStrokes pairs self.old → LogsStrokes pairs self.new) }
         ensures told { OnOk result ((pairs : List PairValue) (lan : LanValue) →
             IsScript pairs self.old → TellsPorts lan self.old → TellsPorts lan self.new) }
         ensures said { OnOk result ((pairs : List PairValue) → IsScript pairs self.old →

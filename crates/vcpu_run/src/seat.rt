@@ -1,12 +1,14 @@
 // What a client partition does at one of its pairs.
-ghost use Rattle.std.specs.Prelude.{◌≡◌, true, false, IfOk, IsSomeAnd, OnOk, Some};
+ghost use Rattle.std.specs.Prelude.{◌≡◌, ⊤, true, false, IfOk, IsSomeAnd, OnOk, Some};
 ghost use Rattle.crq_session.specs.PlainState.{side_of};
 ghost use Rattle.vcpu_run.specs.Pairs.{Drives, IsDriver};
 ghost use Rattle.vcpu_run.specs.Credited.{StepsAgreed, taken_in};
 ghost use Rattle.vcpu_run.specs.EventsMade.{PairCalm, PairMakes, PairShuts};
 ghost use Rattle.vcpu_run.specs.Freed.{FreesNoneAt};
 ghost use Rattle.vcpu_run.specs.Freeing.{is_reset};
-ghost use Rattle.vcpu_run.specs.LinesShow.{PairShows};
+ghost use Rattle.vcpu_run.specs.DropsShown.{PairShowsLine};
+ghost use Rattle.vcpu_run.specs.ClientMoments.{PairStepped};
+ghost use Rattle.vcpu_run.specs.ClientStrokes.{PairLays, PairLaysNone};
 ghost use Rattle.vcpu_run.specs.Holding.{PairOpen};
 ghost use Rattle.vcpu_run.specs.Links.{ClientWaits, EventWaits, PairRests, link_state};
 ghost use Rattle.vcpu_run.specs.Agreed.{OnDrivers};
@@ -68,10 +70,12 @@ pub(crate) fn step(pair: &mut Pair, line: &Line, progress: &mut Progress) -> Res
     ensures gives { OnOk result (PairGives pair.old pair.new) }
     ensures hears { PairHears pair.old pair.new result }
     ensures said { PairTold line.now.verb progress.old progress.new pair.old pair.new result }
-    ensures shows { PairShows line.now pair.old pair.new result }
+    ensures shows { PairShowsLine line.now pair.old pair.new result }
     ensures out { PairOut line.now.verb progress.old progress.new pair.old pair.new result }
     ensures reads { PairReads line.now.verb pair.old pair.new result }
     ensures puts { PairPuts line.now.verb pair.old pair.new result }
+    ensures lays { PairLays ⊤ line.now.number pair.old pair.new }
+    ensures region { PairStepped line.now pair.old pair.new result }
     ensures makes { PairMakes line.now.verb progress.old progress.new pair.old pair.new }
     ensures registered { PairOpen line.now.verb progress.new pair.old pair.new result }
     ensures stays { is_reset line.now.verb ≡ false → FreesNoneAt pair.old pair.new }
@@ -91,6 +95,7 @@ pub(crate) fn take_rest(pair: &mut Pair) -> Result<Moved, NoMemory>
     requires { IsSomeAnd pair.old.driver (IsDriver pair.old.window) }
     ensures drives { Drives pair.old pair.new }
     ensures values { SameValues pair.old pair.new }
+    ensures lays { PairLaysNone pair.old pair.new }
     ensures calm { PairCalm pair.old pair.new }
     ensures gives { OnOk result (PairGives pair.old pair.new) }
     ensures stays { FreesNoneAt pair.old pair.new }
@@ -113,6 +118,7 @@ pub(crate) fn fail(pair: &mut Pair) -> Result<bool, NoMemory>
     requires { IsSomeAnd pair.old.driver (IsDriver pair.old.window) }
     ensures drives { Drives pair.old pair.new }
     ensures values { SameValues pair.old pair.new }
+    ensures window { pair.new.window ≡ pair.old.window }
     ensures shuts { PairShuts pair.old pair.new }
     ensures gives { OnOk result (PairGives pair.old pair.new) }
     ensures credit { OnDrivers pair.old.driver pair.new.driver (λ a b.
@@ -136,6 +142,7 @@ fn freed(pair: &mut Pair)
     ensures drives { Drives pair.old pair.new }
     ensures link { pair.new.link ≡ pair.old.link }
     ensures values { SameValues pair.old pair.new }
+    ensures window { pair.new.window ≡ pair.old.window }
     ensures gives { PairGives pair.old pair.new }
     ensures credit { OnDrivers pair.old.driver pair.new.driver (λ a b.
         SameCredits a.client b.client) }
@@ -150,6 +157,7 @@ fn freed(pair: &mut Pair)
 pub(crate) fn call(alloc: Global, pair: &mut Pair, call: ClientCall) -> Result<Returned, NoMemory>
     ensures drives { Drives pair.old pair.new }
     ensures driver { pair.new.driver ≡ pair.old.driver }
+    ensures lays { PairLaysNone pair.old pair.new }
     ensures answer { IfOk result (IsAnswer (row_for call)) }
     ensures returned { IfOk result (IsReturned (unit_seen (Some pair.new)) (row_for call)
         (arguments_for call)) }
@@ -164,6 +172,7 @@ pub(crate) fn call(alloc: Global, pair: &mut Pair, call: ClientCall) -> Result<R
 fn queue_code(pair: &mut Pair, call: QueueCall) -> Result<Hrc, NoMemory>
     ensures drives { Drives pair.old pair.new }
     ensures driver { pair.new.driver ≡ pair.old.driver }
+    ensures window { pair.new.window ≡ pair.old.window }
     ensures code { IfOk result (λ code. may_answer (queue_row call) code ≡ true) }
     ensures returned { IfOk result (λ code. IsReturned (unit_seen (Some pair.new))
         (queue_row call) (queue_arguments call) (bare code)) }

@@ -2,6 +2,8 @@
 ghost use Rattle.std.specs.Prelude.{◌≡◌, ◌<◌, ◌≤◌, ◌∷◌, [], ⊤, ℕ, false, true, IfOk, IfSome, OnOk, Some, IsSomeAnd, length, slice_get};
 ghost use Rattle.vcpu_run.specs.Agreed.{AllSame, SameBeside, SameDrivers, SameElse, StepsLine, StepsSeat};
 ghost use Rattle.vcpu_run.specs.CallsSaid.{StepSaid, seen_from};
+ghost use Rattle.vcpu_run.specs.ClientMoments.{LineStepped, SeatStepped};
+ghost use Rattle.vcpu_run.specs.ClientStrokes.{AllLay, LineLays, NoneLay};
 ghost use Rattle.vcpu_run.specs.Credited.{taken_in};
 ghost use Rattle.vcpu_run.specs.EventsMade.{AllCalm, AllShut};
 ghost use Rattle.vcpu_run.specs.Freed.{FreesNoneIf};
@@ -111,6 +113,8 @@ pub(crate) fn step_at(
     ensures driven { AreDriven pairs.old pairs.new }
     ensures credit { StepsSeat pair line.now.verb (taken_in progress.old)
         (taken_in progress.new) pairs.old pairs.new result }
+    ensures lays { AllLay (λ k. k ≡ pair) line.now.number pairs.old pairs.new }
+    ensures region { SeatStepped pair line.now pairs.old pairs.new result }
     ensures said { SeatTold pair line.now progress.old progress.new
         pairs.old pairs.new result }
     ensures out { SeatOut pair line.now.verb progress.old progress.new
@@ -148,6 +152,8 @@ fn step_own(
     ensures driven { AreDriven pairs.old pairs.new }
     ensures credit { StepsLine seats.now line.now (taken_in progress.old)
         (taken_in progress.new) pairs.old pairs.new result }
+    ensures lays { LineLays seats.now line.now pairs.old pairs.new }
+    ensures region { LineStepped seats.now line.now pairs.old pairs.new result }
     ensures said { LineTold seats.now line.now progress.old progress.new
         pairs.old pairs.new result }
     ensures out { LineOut seats.now line.now progress.old progress.new
@@ -185,6 +191,8 @@ pub(crate) fn step_unit(
     ensures driven { AreDriven pairs.old pairs.new }
     ensures credit { StepsLine seats.now line.now (taken_in progress.old)
         (taken_in progress.new) pairs.old pairs.new result }
+    ensures lays { LineLays seats.now line.now pairs.old pairs.new }
+    ensures region { LineStepped seats.now line.now pairs.old pairs.new result }
     ensures said { is_call line.now.verb ≡ false →
         LineTold seats.now line.now progress.old progress.new pairs.old pairs.new result }
     ensures out { is_call line.now.verb ≡ false →
@@ -219,6 +227,7 @@ fn take_rest_of(pairs: &mut [Pair], pair: usize) -> Result<Moved, NoMemory>
     ensures driven { AreDriven pairs.old pairs.new }
     ensures gives { OnOk result (AllGive pairs.old pairs.new) }
     ensures values { AllSameValues pairs.old pairs.new }
+    ensures lays { NoneLay pairs.old pairs.new }
     ensures calm { AllCalm pairs.old pairs.new }
     ensures others { SameBeside pair pairs.old pairs.new }
     ensures stays { FreesNoneIf (λ _. ⊤) pairs.old pairs.new }
@@ -242,6 +251,7 @@ fn take_rest_at(
     ensures driven { AreDriven pairs.old pairs.new }
     ensures gives { OnOk result (AllGive pairs.old pairs.new) }
     ensures values { AllSameValues pairs.old pairs.new }
+    ensures lays { NoneLay pairs.old pairs.new }
     ensures calm { AllCalm pairs.old pairs.new }
     ensures others { SameElse (seat ∷ []) pairs.old pairs.new }
     ensures lan { lan.new.seats ≡ lan.old.seats }
@@ -274,6 +284,7 @@ pub(crate) fn take_rest(
     ensures driven { AreDriven pairs.old pairs.new }
     ensures gives { OnOk result (AllGive pairs.old pairs.new) }
     ensures values { AllSameValues pairs.old pairs.new }
+    ensures lays { NoneLay pairs.old pairs.new }
     ensures calm { AllCalm pairs.old pairs.new }
     ensures others { SameElse seats.now pairs.old pairs.new }
     ensures lan { lan.new.seats ≡ lan.old.seats }
@@ -306,6 +317,7 @@ fn fail_of(pairs: &mut [Pair], pair: usize) -> Result<bool, NoMemory>
     ensures credit { AllSame pairs.old pairs.new }
     ensures gives { OnOk result (AllGive pairs.old pairs.new) }
     ensures values { AllSameValues pairs.old pairs.new }
+    ensures lays { NoneLay pairs.old pairs.new }
     ensures shut { AllShut pairs.old pairs.new }
     ensures others { SameBeside pair pairs.old pairs.new }
 {
@@ -321,6 +333,7 @@ fn fail_at(unit: UnitId, seat: Seat, pairs: &mut [Pair], lan: &mut Lan) -> Resul
     ensures credit { AllSame pairs.old pairs.new }
     ensures gives { OnOk result (AllGive pairs.old pairs.new) }
     ensures values { AllSameValues pairs.old pairs.new }
+    ensures lays { NoneLay pairs.old pairs.new }
     ensures shut { AllShut pairs.old pairs.new }
     ensures others { SameElse (seat ∷ []) pairs.old pairs.new }
     ensures lan { lan.new.seats ≡ lan.old.seats }
@@ -348,6 +361,7 @@ pub(crate) fn fail(
     ensures credit { AllSame pairs.old pairs.new }
     ensures gives { OnOk result (AllGive pairs.old pairs.new) }
     ensures values { AllSameValues pairs.old pairs.new }
+    ensures lays { NoneLay pairs.old pairs.new }
     ensures shut { AllShut pairs.old pairs.new }
     ensures others { SameElse seats.now pairs.old pairs.new }
     ensures lan { lan.new.seats ≡ lan.old.seats }

@@ -1,5 +1,5 @@
 // Taking answers.
-ghost use Rattle.std.specs.Prelude.{◌≡◌, ◌≤◌, IfOk, OnOk, false};
+ghost use Rattle.std.specs.Prelude.{◌≡◌, ◌≤◌, IfOk, None, OnOk, false};
 ghost use Rattle.boot_text.specs.declared.verb.Verb.TheVariants as verbs;
 ghost use Rattle.vscsi_client.specs.declared.TheConstants.{MIN_PAGES};
 ghost use Rattle.vcpu_run.specs.Credited.{StepsAgreed, taken_in};
@@ -39,7 +39,7 @@ impl Driver {
         own: &mut O,
     ) -> Result<Took, NoMemory>
         requires { MIN_PAGES ≤ (O.state own.old).place.size }
-        ensures works { Works false C.is_shared O.is_shared
+        ensures works { Works false C.is_shared O.is_shared None
             (C.state crq.old.end) (C.state crq.new.end)
             (O.state own.old) (O.state own.new) self.old self.new }
         ensures values { (O.state own.new).values ≡ (O.state own.old).values }
@@ -74,7 +74,7 @@ impl Driver {
         own: &mut O,
     ) -> Result<Moved, NoMemory>
         requires { MIN_PAGES ≤ (O.state own.old).place.size }
-        ensures works { Works false C.is_shared O.is_shared
+        ensures works { Works false C.is_shared O.is_shared None
             (C.state crq.old.end) (C.state crq.new.end)
             (O.state own.old) (O.state own.new) self.old self.new }
         ensures values { (O.state own.new).values ≡ (O.state own.old).values }
@@ -104,7 +104,7 @@ impl Driver {
         taken: &mut u64,
     ) -> Result<Step, NoMemory>
         requires { MIN_PAGES ≤ (O.state own.old).place.size }
-        ensures works { Works false C.is_shared O.is_shared
+        ensures works { Works false C.is_shared O.is_shared None
             (C.state crq.old.end) (C.state crq.new.end)
             (O.state own.old) (O.state own.new) self.old self.new }
         ensures values { (O.state own.new).values ≡ (O.state own.old).values }

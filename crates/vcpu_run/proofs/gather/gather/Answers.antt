@@ -11,6 +11,7 @@ use Rattle.vcpu_run.proofs.LoginsShown.{logins_are_answered, logins_are_sent, lo
 use Rattle.vcpu_run.proofs.Ordering.{order_is}
 use Rattle.vcpu_run.proofs.PortsTold.{from_counts, told_are}
 use Rattle.vcpu_run.proofs.QueueLaws.{queues_are}
+use Rattle.vcpu_run.proofs.ClientsLogged.{clients_logged}
 use Rattle.vcpu_run.proofs.RecordLaws.{credits_are, records_are}
 use Rattle.vcpu_run.proofs.RefusalsTold.{refusals_are}
 use Rattle.vcpu_run.proofs.SentTo.{answers_are}
@@ -157,3 +158,8 @@ returns-clause-dealt c =
     (trace_of c.args.pairs.items c.args.scripts.items c.args.lan rows c.args.history.items c.args.grants.items c.args.copies.items)
     (logins_are_shown c.args.pairs.items c.args.scripts.items c.args.lan rows c.args.history.items c.args.grants.items c.args.copies.items partitions
     c.requires.pairs c.requires.scripts lawful.0 lawful.1 of_plan answered rests))
+
+pub returns-clause-logged : goal.returns-clause-logged
+returns-clause-logged c =
+    from_rows c.args.pairs.items c.args.scripts.items c.args.lan c.args.history.items c.args.grants.items c.args.copies.items c.rows_of.result _ _ c.rows_of.ensures.trace c.rows_of.ensures.windows
+    (λ rows keeps ordered lawful partitions of_plan over credited. clients_logged c.args.pairs.items c.args.scripts.items c.args.lan rows c.args.history.items c.args.grants.items c.args.copies.items partitions c.requires.pairs c.requires.scripts lawful of_plan over credited)

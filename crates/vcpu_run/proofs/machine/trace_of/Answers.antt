@@ -16,7 +16,7 @@ returns-in-Ok-clause-law c =
     let over = subst (λ r. OnOk r (All IsOver c.args.scripts.items)) c.in-Ok.is c.requires.over in
     let rests = subst (λ r. OnOk r (AreAtRest c.args.copies.items c.args.grants.items c.args.history.items c.args.pairs.items c.args.scripts.items)) c.in-Ok.is c.requires.rests in
     law_told c.gather.result c.ok.result c.args.pairs.items c.args.scripts.items c.args.lan.seats c.args.history.items c.args.copies.items c.args.grants.items c.ok.ensures.value
-    told.order told.queues told.copies told.records over told.credits credited told.refusals said told.answers c.requires.answered told.ports c.args.lan told.told tells told.settled told.handed told.intake told.requests told.given told.copied told.explained told.logins told.dealt told.called rests
+    told.order told.queues told.copies told.records over told.credits credited told.logged told.refusals said told.answers c.requires.answered told.ports c.args.lan told.told tells told.settled told.handed told.intake told.requests told.given told.copied told.explained told.logins told.dealt told.called rests
 
 pub returns-in-Ok-clause-serves : goal.returns-in-Ok-clause-serves
 returns-in-Ok-clause-serves c = served_told c.gather.result c.ok.result c.args.history.items c.ok.ensures.value c.gather.ensures.serves

@@ -12,6 +12,7 @@ returns c =
       number_is = new.partition;
       for_it = record { lines = new.lines ∙ c.as_slice-2.ensures; seats = rw new.seats (c.in_ok-seats.ensures ∙ ap (map seat_of) c.as_slice.ensures) };
       whole = λ pairs seats. new.script pairs (rw new.seats at seats);
+      fresh = new.fresh;
       credited = λ pairs out. new.credited pairs (rw new.seats at out);
       said = λ pairs out. new.said pairs (rw new.seats at out);
       told = new.told;

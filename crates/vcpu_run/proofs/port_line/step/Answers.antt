@@ -1,12 +1,14 @@
-use Rattle.std.proofs.Common.{ℕ, subst}
+use Rattle.std.proofs.Common.{ℕ, subst, sym, ◌∙◌}
 use Rattle.lan_script.specs.Entries.{PortPuts, values_at}
 use Rattle.lan_script.specs.LineBytes.{StepsBytes}
 use Rattle.lan_script.specs.LineSays.{SendsAs}
 use Rattle.lan_script.specs.PortCounts.{CountsStep, counts_after, counts_by}
-use Rattle.lan_script.specs.Regions.{PortTold}
+use Rattle.lan_script.specs.Regions.{PortLays, PortTold, strokes_at}
 use Rattle.lan_script.specs.Replayed.{Replays}
 use Rattle.lan_script.specs.declared.lines.PortStep.{PortStep}
+use Rattle.lan_script.specs.declared.lines.PortStep.TheVariants as ports
 use Rattle.unit_region.specs.declared.step.Step.TheVariants as steps
+use Rattle.unit_region.proofs.Laws.{with_none}
 use Rattle.vcpu_run.specs.Ports.{unit_of}
 use Rattle.vcpu_run.specs.PortReplays.{StepReplays}
 use Rattle.vcpu_run.proofs.PortKept.{line_own}
@@ -70,3 +72,15 @@ returns-in-Waits-clause-beside c =
     step_beside (unit_of c.args.partition c.args.line.now.unit) c.in_ok-outcome.field-0 (counts_by c.args.line.now.verb c.done.result)
     (counts_after c.args.line.now.verb c.in_ok-outcome.field-0) c.args.lan.now c.step.new.self c.step.ensures.seats c.in_ok-outcome.ensures.sends
     c.in_ok-outcome.ensures.counts c.in_ok-outcome.ensures.beside c.in_ok-outcome.ensures.others c.in_ok-outcome.ensures.regions c.args.line.now.number c.in_ok-outcome.ensures.marks
+
+pub returns-in-Ends-clause-writes : goal.returns-in-Ends-clause-writes
+returns-in-Ends-clause-writes c = λ here.
+    let u = unit_of c.args.partition c.args.line.now.unit in
+    subst (λ (s : PortStep). PortLays u c.args.line.now.number c.args.line.now.verb s c.args.lan.now c.step.new.self) c.in-Ends.is (c.in_ok-outcome.ensures.lays here)
+
+pub returns-in-Waits-clause-writes : goal.returns-in-Waits-clause-writes
+returns-in-Waits-clause-writes c = λ here page.
+    let u = unit_of c.args.partition c.args.line.now.unit in
+    let same : PortLays u c.args.line.now.number c.args.line.now.verb (ports.Waits c.in-Waits.moved c.in-Waits.done) c.args.lan.now c.step.new.self =
+    subst (λ (s : PortStep). PortLays u c.args.line.now.number c.args.line.now.verb s c.args.lan.now c.step.new.self) c.in-Waits.is (c.in_ok-outcome.ensures.lays here) in
+    same page ∙ sym (with_none (strokes_at c.args.lan.now u page))

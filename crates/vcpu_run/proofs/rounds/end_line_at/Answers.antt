@@ -1,7 +1,7 @@
 use Rattle.vcpu_run.proofs.Resting.{quiet_set}
 use Rattle.std.proofs.Common.{refl, slice_index_or}
 use Rattle.std.proofs.lemmas.Option.{slice_get-get_or}
-use Rattle.vcpu_run.proofs.Elsewhere.{credits_turned, else_none, ok_then}
+use Rattle.vcpu_run.proofs.Elsewhere.{credits_turned, else_none, ok_two, ok_then}
 use Rattle.vcpu_run.proofs.Keeping.{all_same}
 use Rattle.vcpu_run.proofs.Driving.{get_set_other}
 use Rattle.vcpu_run.proofs.Held.{queues_turned}
@@ -34,9 +34,11 @@ returns-clause-credited c =
     let found = slice_get-get_or scripts c.args.number d c.requires in
     ok_then c.end_waiting.result _ _
     (λ kept pairs ports scripts_are are.
-    credits_turned pairs pairs ports scripts c.args.number old c.end_waiting.new.self found scripts_are (else_none old.seats.items pairs) are
-    (kept pairs (scripts_are c.args.number old found).script_is (are c.args.number old found)))
-    c.end_waiting.ensures.credited
+    credits_turned pairs pairs ports scripts c.args.number old c.end_waiting.new.self found scripts_are (else_none old.seats.items pairs) are (
+      kept.0 pairs (scripts_are c.args.number old found).script_is (are c.args.number old found).0,
+      kept.1 pairs (scripts_are c.args.number old found).script_is (are c.args.number old found).1,
+    ))
+    (ok_two c.end_waiting.result _ _ c.end_waiting.ensures.credited c.end_waiting.ensures.logged)
 
 pub returns-clause-quiet : goal.returns-clause-quiet
 returns-clause-quiet c =

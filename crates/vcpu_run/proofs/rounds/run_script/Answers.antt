@@ -5,7 +5,7 @@ use Rattle.vcpu_run.proofs.Driving.{get_set_other}
 use Rattle.std.proofs.Common.{◌≡◌, IsSomeAnd, false, slice_index_or, refl, subst}
 use Rattle.std.proofs.lemmas.Option.{slice_get-get_or}
 use Rattle.vcpu_run.proofs.Answering.{answered_driven}
-use Rattle.vcpu_run.proofs.Elsewhere.{credits_turned, ok_then}
+use Rattle.vcpu_run.proofs.Elsewhere.{credits_turned, ok_two, ok_then}
 use Rattle.vcpu_run.proofs.Keeping.{driven_stay, drivers_driven, pairs_driven}
 use Rattle.vcpu_run.proofs.Receiving.{received_driven}
 use Rattle.vcpu_run.proofs.RoundsTold.{out_turned, told_turned}
@@ -63,8 +63,8 @@ returns-clause-credited c =
     ok_then c.turn.result _ _
     (λ kept are.
     credits_turned c.args.pairs.now c.turn.new.pairs c.args.lan.now.seats scripts c.args.number old c.turn.new.self found c.requires.scripts c.turn.ensures.others are
-    (kept (are c.args.number old found)))
-    c.turn.ensures.credited
+    (kept.0 (are c.args.number old found).0, kept.1 (are c.args.number old found).1))
+    (ok_two c.turn.result _ _ c.turn.ensures.credited c.turn.ensures.logged)
 
 pub returns-clause-answered : goal.returns-clause-answered
 returns-clause-answered c history = answered_driven history c.args.pairs.now c.turn.new.pairs c.turn.ensures.driven

@@ -2,8 +2,7 @@ use Rattle.vcpu_run.specs.Links.{IsLinked, ServerWaits}
 use Rattle.vcpu_run.proofs.Resting.{ok_more, waits_set}
 use Rattle.vcpu_run.proofs.Elsewhere.{ok_then}
 use Rattle.vcpu_run.proofs.Driving.{get_set_other, get_set_same}
-use Rattle.std.proofs.Common.{◌≡◌, ◌≤◌, ℕ, true, [], Some, append-nil, length, slice_get, slice_index_or, slice_set, sym, ◌∙◌, subst, length-set}
-use Rattle.crq_session.specs.PlainState.{side_of}
+use Rattle.std.proofs.Common.{◌≡◌, ◌≤◌, ℕ, Some, length, slice_get, slice_index_or, slice_set, sym, ◌∙◌, subst, length-set}
 use Rattle.std.proofs.lemmas.Option.{slice_get-get_or}
 use Rattle.vcpu_run.specs.declared.pair.Pair.{Pair}
 use Rattle.vcpu_run.specs.Answered.{IsAnswered}
@@ -17,6 +16,7 @@ use Rattle.vcpu_run.proofs.Agreeing.{set_same}
 use Rattle.vcpu_run.proofs.HeardTurns.{heard_set, tells_before}
 use Rattle.vcpu_run.proofs.Keeping.{stays_same}
 use Rattle.vcpu_run.proofs.LinesShown.{sees_same, serve_sees}
+use Rattle.vcpu_run.proofs.DropsKept.{more_served}
 use Rattle.vcpu_run.proofs.Listed.{each_on, each_set}
 use Rattle.vcpu_run.proofs.PairNames.{apart_stays}
 use Rattle.vcpu_run.proofs.Unfreed.{frees_set}
@@ -136,9 +136,10 @@ returns-clause-clients g c =
       taken = c.serve.ensures.taken;
       unit = c.serve.ensures.stays.client_unit;
       sees = serve_sees (slice_index_or pairs c.args.unit c.index-pairs-unit.result) c.serve.new.self c.serve.ensures.shows.window c.serve.ensures.sent;
+      own = c.serve.ensures.owner;
       server = c.serve.ensures.stays.server;
       values = c.serve.ensures.values;
-      puts = ([], c.serve.ensures.sent ∙ sym (append-nil (side_of (slice_index_or pairs c.args.unit c.index-pairs-unit.result).link true).queue.sent));
+      puts = more_served (slice_index_or pairs c.args.unit c.index-pairs-unit.result) c.serve.new.self c.serve.ensures.sent c.serve.ensures.full;
       calm = served_calm (slice_index_or pairs c.args.unit c.index-pairs-unit.result) c.serve.new.self c.serve.ensures.sent c.serve.ensures.kept;
     })
 

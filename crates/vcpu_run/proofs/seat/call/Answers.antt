@@ -8,6 +8,7 @@ use Rattle.vcpu_run.specs.CallsAnswered.{IsReturned, unit_seen}
 use Rattle.vcpu_run.specs.LinesShow.{seen_at}
 use Rattle.vcpu_run.proofs.ClientCalls.{entry_seen_ok}
 use Rattle.vcpu_run.proofs.WindowDrives.{window_drives}
+use Rattle.vcpu_run.proofs.ClientsLay.{lays_kept, lays_none}
 use Rattle.vcpu_run.proofs.seat.call.Goals as goal
 
 pub returns-in-Entry-clause-returned : goal.returns-in-Entry-clause-returned
@@ -21,3 +22,13 @@ returns-in-Entry-clause-returned c =
 
 pub returns-in-Entry-clause-drives : goal.returns-in-Entry-clause-drives
 returns-in-Entry-clause-drives c = window_drives c.args.pair.now c.make.new.own c.make.ensures.window
+
+pub returns-in-Entry-clause-lays : goal.returns-in-Entry-clause-lays
+returns-in-Entry-clause-lays c =
+    lays_none c.args.pair.now (record c.args.pair.now { window = c.make.new.own }) c.make.ensures.window.place c.make.ensures.marks
+
+pub returns-in_err-queue_code-in-Queue-clause-lays : goal.returns-in_err-queue_code-in-Queue-clause-lays
+returns-in_err-queue_code-in-Queue-clause-lays c = lays_kept c.args.pair.now c.queue_code.new.pair c.queue_code.ensures.window
+
+pub returns-in_ok-queue_code-in-Queue-clause-lays : goal.returns-in_ok-queue_code-in-Queue-clause-lays
+returns-in_ok-queue_code-in-Queue-clause-lays c = lays_kept c.args.pair.now c.queue_code.new.pair c.queue_code.ensures.window

@@ -1,9 +1,10 @@
-use Rattle.std.proofs.Common.{rules, ◌≡◌, ◌∙◌, ◌∷◌, [], OnOk, Some, ap, refl, subst}
+use Rattle.std.proofs.Common.{rules, ◌≡◌, ◌∙◌, ◌∷◌, [], false, OnOk, Some, ap, refl, subst}
 use Rattle.crq_session.specs.EndState.{EndPlace}
 use Rattle.crq_session.specs.declared.link.PlainLink.{PlainLink}
 use Rattle.tce_window.specs.PortState.{PortPlace}
 use Rattle.vcpu_run.specs.declared.pair.Pair.{Pair}
-use Rattle.vcpu_run.specs.LinesShow.{PairShows}
+use Rattle.vcpu_run.specs.DropsShown.{PairShowsLine}
+use Rattle.vcpu_run.proofs.DropsKept.{pair_full}
 use Rattle.vcpu_run.proofs.LinesShown.{pair_shows}
 use Rattle.vcpu_run.specs.TakenScripts.{PairGives, PairHears, PairReads}
 use Rattle.vcpu_run.proofs.DataSteps.{pair_reads}
@@ -13,6 +14,7 @@ use Rattle.vcpu_run.specs.Freeing.{is_reset}
 use Rattle.vcpu_run.proofs.CalmTurns.{makes_link}
 use Rattle.vcpu_run.specs.Pairs.{Drives}
 use Rattle.vcpu_run.proofs.StepDrives.{step_drives}
+use Rattle.vcpu_run.proofs.ClientsLay.{lays_marked}
 use Rattle.vcpu_run.proofs.seat.step.Goals as goal
 
 pub returns-clause-shows : goal.returns-clause-shows
@@ -22,10 +24,12 @@ returns-clause-shows c =
     let lent = c.side.result.link in
     let pair : PlainLink → Pair = λ link. record { server = old.server; link = link; own = old.own; window = c.step.new.own; driver = Some c.step.new.self } in
     let link_is : end.link.now ≡ c.pair-2-1.given.0 = search rules in
-    subst (λ (link : PlainLink). PairShows c.args.line.now old (pair link) c.step.result) link_is
-    (pair_shows old (pair end.link.now) (lent.ghost_name ∷ []) (end.link.ghost_name ∷ []) c.side.result.first end.first lent.now old.window.unit c.args.line.now c.step.result
-    c.side.ensures.link c.side.ensures.first (ap (λ (p : EndPlace). p.first) c.step.ensures.works.place ∙ c.side.ensures.first)
-    (ap (λ (p : PortPlace). p.unit) c.step.ensures.works.window.place) c.step.ensures.shows)
+    let side : end.first ≡ false = ap (λ (p : EndPlace). p.first) c.step.ensures.works.place ∙ c.side.ensures.first in
+    subst (λ (link : PlainLink). PairShowsLine c.args.line.now old (pair link) c.step.result) link_is (
+      pair_shows old (pair end.link.now) (lent.ghost_name ∷ []) (end.link.ghost_name ∷ []) c.side.result.first end.first lent.now old.window.unit c.args.line.now c.step.result
+          c.side.ensures.link c.side.ensures.first side (ap (λ (p : PortPlace). p.unit) c.step.ensures.works.window.place) c.step.ensures.shows,
+      pair_full (pair end.link.now) (end.link.ghost_name ∷ []) end.first c.args.line.now.verb c.step.result side c.step.ensures.full,
+    )
 
 pub returns-clause-gives : goal.returns-clause-gives
 returns-clause-gives c =
@@ -80,3 +84,10 @@ returns-clause-drives c =
     subst (λ (link : PlainLink). Drives old (pair link)) link_is
     (step_drives _ c.side.result.first end.first (lent.ghost_name ∷ []) (end.link.ghost_name ∷ []) old c.in-Some.driver c.step.new.self lent.now end.link.now c.step.new.own
     c.in-Some.is c.side.ensures.link c.side.ensures.first c.step.ensures.works)
+
+pub returns-clause-lays : goal.returns-clause-lays
+returns-clause-lays c =
+    lays_marked c.args.line.now.number c.args.pair.now _ c.step.ensures.works.window.place c.step.ensures.works.lays
+
+pub returns-clause-region : goal.returns-clause-region
+returns-clause-region c = c.step.ensures.region

@@ -8,6 +8,7 @@ use Rattle.vcpu_run.specs.EventsMade.{PairCalm}
 use Rattle.vcpu_run.proofs.CalmTurns.{calm_link}
 use Rattle.vcpu_run.specs.Pairs.{Drives}
 use Rattle.vcpu_run.proofs.StepDrives.{step_drives}
+use Rattle.vcpu_run.proofs.ClientsLay.{lays_none}
 use Rattle.vcpu_run.proofs.seat.take_rest.Goals as goal
 
 pub returns-clause-gives : goal.returns-clause-gives
@@ -42,3 +43,7 @@ returns-clause-drives c =
     subst (λ (link : PlainLink). Drives old (pair link)) link_is
     (step_drives _ c.side.result.first end.first (lent.ghost_name ∷ []) (end.link.ghost_name ∷ []) old c.in-Some.driver c.take_rest.new.self lent.now end.link.now c.take_rest.new.own
     c.in-Some.is c.side.ensures.link c.side.ensures.first c.take_rest.ensures.works)
+
+pub returns-clause-lays : goal.returns-clause-lays
+returns-clause-lays c =
+    lays_none c.args.pair.now _ c.take_rest.ensures.works.window.place c.take_rest.ensures.works.lays

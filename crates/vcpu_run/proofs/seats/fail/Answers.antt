@@ -1,6 +1,7 @@
 use Rattle.std.proofs.Common.{◌∙◌, Some, ap, slice_index_or}
 use Rattle.vcpu_run.specs.declared.unit_seat.Seat.TheVariants as places
 use Rattle.vcpu_run.proofs.CalmTurns.{shut_then}
+use Rattle.vcpu_run.proofs.ClientsLay.{none_lay_on}
 use Rattle.vcpu_run.proofs.ValuesKept.{values_then}
 use Rattle.vcpu_run.proofs.Agreeing.{all_on}
 use Rattle.vcpu_run.proofs.Elsewhere.{else_on, else_within}
@@ -28,6 +29,7 @@ loop-k-preserved c = record {
   driven = driven_on c.args.pairs.now c.loop-k.pairs c.fail_at.new.pairs c.loop-k.invariant.driven c.fail_at.ensures.driven;
   gives = all_give_on c.args.pairs.now c.loop-k.pairs c.fail_at.new.pairs c.loop-k.invariant.gives c.in_ok-fail_at.ensures.gives;
   values = values_then c.args.pairs.now c.loop-k.pairs c.fail_at.new.pairs c.loop-k.invariant.values c.fail_at.ensures.values;
+  lays = none_lay_on c.args.pairs.now c.loop-k.pairs c.fail_at.new.pairs c.loop-k.invariant.lays c.fail_at.ensures.lays;
   shut = shut_then c.args.pairs.now c.loop-k.pairs c.fail_at.new.pairs c.loop-k.invariant.shut c.fail_at.ensures.shut;
   others = else_on c.args.seats.now c.args.pairs.now c.loop-k.pairs c.fail_at.new.pairs c.loop-k.invariant.others
       (else_within c.args.seats.now c.loop-k.k (slice_index_or c.args.seats.now c.loop-k.k places.Server) c.loop-k.pairs c.fail_at.new.pairs
@@ -90,3 +92,9 @@ returns-in_err-fail_at-clause-shut c = shut_then c.args.pairs.now c.loop-k.pairs
 
 pub returns-then-not-branch-clause-shut : goal.returns-then-not-branch-clause-shut
 returns-then-not-branch-clause-shut c = shut_then c.args.pairs.now c.loop-k.pairs c.fail_at.new.pairs c.loop-k.invariant.shut c.fail_at.ensures.shut
+
+pub returns-in_err-fail_at-clause-lays : goal.returns-in_err-fail_at-clause-lays
+returns-in_err-fail_at-clause-lays c = none_lay_on c.args.pairs.now c.loop-k.pairs c.fail_at.new.pairs c.loop-k.invariant.lays c.fail_at.ensures.lays
+
+pub returns-then-not-branch-clause-lays : goal.returns-then-not-branch-clause-lays
+returns-then-not-branch-clause-lays c = none_lay_on c.args.pairs.now c.loop-k.pairs c.fail_at.new.pairs c.loop-k.invariant.lays c.fail_at.ensures.lays

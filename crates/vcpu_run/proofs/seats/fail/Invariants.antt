@@ -5,6 +5,7 @@ use Rattle.vcpu_run.specs.Ports.{HavePorts}
 use Rattle.vcpu_run.specs.PortSteps.{AllSilent, IsApart}
 use Rattle.vcpu_run.specs.TakenScripts.{AllGive}
 use Rattle.vcpu_run.specs.EventsMade.{AllShut}
+use Rattle.vcpu_run.specs.ClientStrokes.{NoneLay}
 use Rattle.vcpu_run.specs.ValuesPut.{AllSameValues}
 use Rattle.vcpu_run.specs.Works.{HaveClients}
 use Rattle.vcpu_run.proofs.seats.fail.Given as goal
@@ -14,6 +15,7 @@ invariant-loop-k l = record {
   driven : AreDriven l.initial.pairs l.pairs;
   gives : AllGive l.initial.pairs l.pairs;
   values : AllSameValues l.initial.pairs l.pairs;
+  lays : NoneLay l.initial.pairs l.pairs;
   shut : AllShut l.initial.pairs l.pairs;
   others : SameElse l.seats l.initial.pairs l.pairs;
   credit : AllSame l.initial.pairs l.pairs;

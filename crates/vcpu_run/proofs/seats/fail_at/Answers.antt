@@ -6,6 +6,7 @@ use Rattle.vcpu_run.proofs.PortTurns.{idle_same}
 use Rattle.vcpu_run.proofs.Crediting.{on_ok}
 use Rattle.vcpu_run.proofs.GivesAll.{all_give_same}
 use Rattle.vcpu_run.proofs.CalmTurns.{shut_none}
+use Rattle.vcpu_run.proofs.ClientsLay.{none_lay_same}
 use Rattle.vcpu_run.proofs.seats.fail_at.Goals as goal
 
 pub fail_of-requires-clause-there : goal.fail_of-requires-clause-there
@@ -42,3 +43,9 @@ returns-in-Port-clause-shut c = shut_none c.args.pairs.now
 
 pub returns-in-Server-clause-shut : goal.returns-in-Server-clause-shut
 returns-in-Server-clause-shut c = shut_none c.args.pairs.now
+
+pub returns-in-Port-clause-lays : goal.returns-in-Port-clause-lays
+returns-in-Port-clause-lays c = none_lay_same c.args.pairs.now
+
+pub returns-in-Server-clause-lays : goal.returns-in-Server-clause-lays
+returns-in-Server-clause-lays c = none_lay_same c.args.pairs.now

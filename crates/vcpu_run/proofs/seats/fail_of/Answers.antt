@@ -1,4 +1,5 @@
 use Rattle.std.proofs.lemmas.Option.{slice_get-get_or}
+use Rattle.vcpu_run.proofs.ClientsLay.{lays_kept, none_lay_set}
 use Rattle.vcpu_run.proofs.ValuesKept.{values_set}
 use Rattle.vcpu_run.proofs.Agreeing.{set_all, set_beside}
 use Rattle.vcpu_run.proofs.Driving.{driven_set, some_there}
@@ -28,3 +29,7 @@ returns-clause-values c =
 
 pub returns-clause-shut : goal.returns-clause-shut
 returns-clause-shut c = shut_set c.args.pairs.now c.args.pair _ c.fail.new.pair (slice_get-get_or c.args.pairs.now c.args.pair _ c.requires.there) c.fail.ensures.shuts
+
+pub returns-clause-lays : goal.returns-clause-lays
+returns-clause-lays c =
+    none_lay_set c.args.pairs.now c.args.pair _ c.fail.new.pair (slice_get-get_or c.args.pairs.now c.args.pair _ c.requires.there) (lays_kept _ c.fail.new.pair c.fail.ensures.window)

@@ -1,4 +1,5 @@
 use Rattle.vcpu_run.specs.Links.{EventWaits}
+use Rattle.vcpu_run.proofs.ClientsLay.{own_kept}
 use Rattle.vcpu_run.proofs.Resting.{events_set, ok_more, rests_set}
 use Rattle.vcpu_run.proofs.Unfreed.{frees_set}
 use Rattle.std.proofs.lemmas.Option.{slice_get-get_or}
@@ -8,6 +9,7 @@ use Rattle.vcpu_run.proofs.ClientsTold.{clients_set}
 use Rattle.vcpu_run.proofs.Agreeing.{set_beside, set_same}
 use Rattle.vcpu_run.proofs.Driving.{driven_set}
 use Rattle.vcpu_run.proofs.LinesShown.{drives_sees}
+use Rattle.vcpu_run.proofs.DropsKept.{drives_more}
 use Rattle.vcpu_run.proofs.seats.push_event_of.Goals as goal
 
 pub returns-clause-driven : goal.returns-clause-driven
@@ -40,9 +42,10 @@ returns-clause-clients c =
       taken = c.push_event.ensures.taken;
       unit = ap (λ w. w.unit) c.push_event.ensures.window;
       sees = drives_sees _ c.push_event.new.pair c.push_event.ensures.drives;
+      own = own_kept _ _ c.push_event.ensures.window;
       server = c.push_event.ensures.drives.server;
       values = ap (λ w. (known_of w).values) c.push_event.ensures.window;
-      puts = (c.push_event.ensures.drives.puts.rows, c.push_event.ensures.drives.puts.sent);
+      puts = drives_more _ c.push_event.new.pair c.push_event.ensures.drives;
       calm = c.push_event.ensures.calm;
     })
 

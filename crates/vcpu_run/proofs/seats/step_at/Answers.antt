@@ -4,6 +4,8 @@ use Rattle.std.proofs.lemmas.Option.{slice_get-get_or}
 use Rattle.vcpu_run.proofs.Agreeing.{set_credit, set_others}
 use Rattle.vcpu_run.proofs.Driving.{driven_set, some_there}
 use Rattle.vcpu_run.proofs.Opening.{set_open}
+use Rattle.vcpu_run.proofs.ClientRecords.{seat_stepped}
+use Rattle.vcpu_run.proofs.ClientsLay.{own_lay_set}
 use Rattle.vcpu_run.proofs.SeatsTold.{set_out, set_told}
 use Rattle.vcpu_run.proofs.seats.step_at.Goals as goal
 
@@ -37,3 +39,11 @@ pub returns-clause-registered : goal.returns-clause-registered
 returns-clause-registered c =
     set_open c.args.line.now.verb c.step.new.progress c.step.result c.args.pairs.now c.args.pair _ c.step.new.pair
     (slice_get-get_or c.args.pairs.now c.args.pair _ c.requires.there) c.step.ensures.registered
+
+pub returns-clause-lays : goal.returns-clause-lays
+returns-clause-lays c =
+    own_lay_set c.args.line.now.number c.args.pairs.now c.args.pair _ c.step.new.pair (slice_get-get_or c.args.pairs.now c.args.pair _ c.requires.there) c.step.ensures.lays
+
+pub returns-clause-region : goal.returns-clause-region
+returns-clause-region c =
+    seat_stepped c.args.line.now c.step.result c.args.pairs.now c.args.pair _ c.step.new.pair (slice_get-get_or c.args.pairs.now c.args.pair _ c.requires.there) c.step.ensures.region

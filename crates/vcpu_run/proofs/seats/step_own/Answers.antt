@@ -4,10 +4,12 @@ use Rattle.vcpu_run.specs.Agreed.{StepsSeat}
 use Rattle.vcpu_run.specs.Credited.{taken_in}
 use Rattle.vcpu_run.specs.Suited.{suits}
 use Rattle.vcpu_run.specs.Telling.{SeatOut, SeatTold}
+use Rattle.vcpu_run.specs.ClientMoments.{SeatStepped}
 use Rattle.vcpu_run.specs.Holding.{SeatOpen}
 use Rattle.vcpu_run.proofs.Driving.{client_is, driven_same, no_port, seat_within, some_there}
 use Rattle.vcpu_run.proofs.Unfreed.{frees_line, frees_same}
 use Rattle.vcpu_run.proofs.PortTurns.{client_told, idle_same, port_apart, port_told}
+use Rattle.vcpu_run.proofs.ClientsLay.{line_lays, line_lays_none, none_lay_same}
 use Rattle.vcpu_run.proofs.Crediting.{on_ok}
 use Rattle.vcpu_run.proofs.Elsewhere.{else_none, else_one}
 use Rattle.vcpu_run.specs.PortWords.{done_in}
@@ -92,7 +94,7 @@ returns-in-Client-clause-apart c = on_ok c.step_at.result _ (λ unit _. idle_sam
 pub returns-in-Port-clause-told : goal.returns-in-Port-clause-told
 returns-in-Port-clause-told c =
     port_told c.args.partition c.args.seats.now c.args.line.now (done_in c.args.progress.now) (done_in c.step.new.progress) c.args.lan.now c.step.new.lan c.step.result
-    c.step.ensures.told c.step.ensures.replays c.step.ensures.fits c.step.ensures.bytes c.step.ensures.puts c.step.ensures.shows c.step.ensures.marks c.step.ensures.beside
+    c.step.ensures.told c.step.ensures.replays c.step.ensures.fits c.step.ensures.bytes c.step.ensures.puts c.step.ensures.shows c.step.ensures.marks c.step.ensures.writes c.step.ensures.beside
 
 pub returns-in-Port-clause-apart : goal.returns-in-Port-clause-apart
 returns-in-Port-clause-apart c = port_apart c.args.partition c.args.line.now.unit c.args.lan.now c.step.new.lan c.step.result c.step.ensures.beside
@@ -143,3 +145,20 @@ returns-in-Client-clause-others c =
 
 pub returns-in-Port-clause-others : goal.returns-in-Port-clause-others
 returns-in-Port-clause-others c = else_none c.args.seats.now c.args.pairs.now
+
+pub returns-in-Client-clause-lays : goal.returns-in-Client-clause-lays
+returns-in-Client-clause-lays c =
+    line_lays c.args.seats.now c.args.line.now c.in-Client.pair c.args.pairs.now c.step_at.new.pairs (c.seat_at.ensures ∙ ap Some c.in-Client.is) c.step_at.ensures.lays
+
+pub returns-in-Port-clause-lays : goal.returns-in-Port-clause-lays
+returns-in-Port-clause-lays c = line_lays_none c.args.seats.now c.args.line.now c.args.pairs.now c.args.pairs.now (none_lay_same c.args.pairs.now)
+
+pub returns-in-Client-clause-region : goal.returns-in-Client-clause-region
+returns-in-Client-clause-region c = λ k at.
+    let here : slice_get c.args.seats.now c.args.line.now.unit ≡ Some (places.Client c.in-Client.pair) = c.seat_at.ensures ∙ ap Some c.in-Client.is in
+    subst (λ n. SeatStepped n c.args.line.now c.args.pairs.now c.step_at.new.pairs c.step_at.result) (client_is c.in-Client.pair k (sym here ∙ at)) c.step_at.ensures.region
+
+pub returns-in-Port-clause-region : goal.returns-in-Port-clause-region
+returns-in-Port-clause-region c = λ k at.
+    let here : slice_get c.args.seats.now c.args.line.now.unit ≡ Some places.Port = c.seat_at.ensures ∙ ap Some c.in-Port.is in
+    absurd (no_port k (sym at ∙ here))

@@ -8,6 +8,9 @@ use Rattle.vcpu_run.proofs.CallsKept.{among_same, called_step, seen_same, step_s
 use Rattle.vcpu_run.specs.Credited.{is_take, taken_in}
 use Rattle.vcpu_run.specs.Suited.{is_call}
 use Rattle.vcpu_run.proofs.RawCalling.{plain_port, told_steps}
+use Rattle.vcpu_run.proofs.ClientRecords.{line_apart}
+use Rattle.vcpu_run.proofs.ClientsLay.{line_lays_none}
+use Rattle.vcpu_run.proofs.PortLines.{call_apart}
 use Rattle.vcpu_run.proofs.Unfreed.{frees_call}
 use Rattle.vcpu_run.proofs.seats.step_unit.Goals as goal
 
@@ -90,3 +93,11 @@ pub returns-in-None-clause-entries : goal.returns-in-None-clause-entries
 returns-in-None-clause-entries c =
     let none : is_call c.args.line.now.verb ≡ false = search rules in
     uncalled_entries c.args.partition c.args.seats.now c.args.line.now.verb c.step_own.result c.args.lan.now c.step_own.new.lan none
+
+pub returns-in-Some-clause-lays : goal.returns-in-Some-clause-lays
+returns-in-Some-clause-lays c = line_lays_none c.args.seats.now c.args.line.now c.args.pairs.now c.make_call.new.pairs c.make_call.ensures.lays
+
+pub returns-in-Some-clause-region : goal.returns-in-Some-clause-region
+returns-in-Some-clause-region c =
+    let calls : is_call c.args.line.now.verb ≡ true = search rules in
+    line_apart c.args.seats.now c.args.line.now c.args.pairs.now c.make_call.new.pairs c.make_call.result (call_apart c.args.line.now.verb calls)

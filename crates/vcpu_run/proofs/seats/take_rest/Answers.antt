@@ -1,6 +1,7 @@
 use Rattle.std.proofs.lemmas.Option.{slice_get_within}
 use Rattle.vcpu_run.specs.Links.{links_of}
 use Rattle.vcpu_run.proofs.CalmTurns.{calm_none, calm_then}
+use Rattle.vcpu_run.proofs.ClientsLay.{none_lay_on, none_lay_same}
 use Rattle.vcpu_run.proofs.ValuesKept.{values_then}
 use Rattle.vcpu_run.proofs.Resting.{rests_next, rests_on, rests_same}
 use Rattle.vcpu_run.proofs.Unfreed.{frees_on, frees_same}
@@ -37,6 +38,7 @@ loop-k-preserved c = record {
   driven = driven_on c.args.pairs.now c.loop-k.pairs c.take_rest_at.new.pairs c.loop-k.invariant.driven c.take_rest_at.ensures.driven;
   gives = all_give_on c.args.pairs.now c.loop-k.pairs c.take_rest_at.new.pairs c.loop-k.invariant.gives c.in_ok-here.ensures.gives;
   values = values_then c.args.pairs.now c.loop-k.pairs c.take_rest_at.new.pairs c.loop-k.invariant.values c.take_rest_at.ensures.values;
+  lays = none_lay_on c.args.pairs.now c.loop-k.pairs c.take_rest_at.new.pairs c.loop-k.invariant.lays c.take_rest_at.ensures.lays;
   calm = calm_then c.args.pairs.now c.loop-k.pairs c.take_rest_at.new.pairs c.loop-k.invariant.calm c.take_rest_at.ensures.calm;
   others = else_on c.args.seats.now c.args.pairs.now c.loop-k.pairs c.take_rest_at.new.pairs c.loop-k.invariant.others
       (else_within c.args.seats.now c.loop-k.k (slice_index_or c.args.seats.now c.loop-k.k places.Server) c.loop-k.pairs c.take_rest_at.new.pairs
@@ -75,6 +77,7 @@ loop-k-init c = record {
   driven = driven_same c.args.pairs.now;
   gives = all_give_same c.args.pairs.now;
   values = λ k. refl;
+  lays = none_lay_same c.args.pairs.now;
   calm = calm_none c.args.pairs.now;
   others = else_none c.args.seats.now c.args.pairs.now;
   clients = c.requires.clients;
@@ -102,3 +105,6 @@ returns-in_err-here-clause-values c = values_then c.args.pairs.now c.loop-k.pair
 
 pub returns-in_err-here-clause-calm : goal.returns-in_err-here-clause-calm
 returns-in_err-here-clause-calm c = calm_then c.args.pairs.now c.loop-k.pairs c.take_rest_at.new.pairs c.loop-k.invariant.calm c.take_rest_at.ensures.calm
+
+pub returns-in_err-here-clause-lays : goal.returns-in_err-here-clause-lays
+returns-in_err-here-clause-lays c = none_lay_on c.args.pairs.now c.loop-k.pairs c.take_rest_at.new.pairs c.loop-k.invariant.lays c.take_rest_at.ensures.lays

@@ -12,6 +12,7 @@ use Rattle.vcpu_run.specs.Ports.{HavePorts}
 use Rattle.vcpu_run.specs.PortSteps.{AllTake, IsApart}
 use Rattle.vcpu_run.specs.TakenScripts.{AllGive}
 use Rattle.vcpu_run.specs.EventsMade.{AllCalm}
+use Rattle.vcpu_run.specs.ClientStrokes.{NoneLay}
 use Rattle.vcpu_run.specs.ValuesPut.{AllSameValues}
 use Rattle.vcpu_run.specs.Works.{HaveClients}
 use Rattle.vcpu_run.proofs.seats.take_rest.Given as goal
@@ -21,6 +22,7 @@ invariant-loop-k l = record {
   driven : AreDriven l.initial.pairs l.pairs;
   gives : AllGive l.initial.pairs l.pairs;
   values : AllSameValues l.initial.pairs l.pairs;
+  lays : NoneLay l.initial.pairs l.pairs;
   calm : AllCalm l.initial.pairs l.pairs;
   others : SameElse l.seats l.initial.pairs l.pairs;
   clients : HaveClients l.seats l.pairs;

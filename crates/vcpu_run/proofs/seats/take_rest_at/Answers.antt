@@ -9,6 +9,7 @@ use Rattle.vcpu_run.proofs.Crediting.{on_ok}
 use Rattle.vcpu_run.proofs.GivesAll.{all_give_same}
 use Rattle.vcpu_run.proofs.PortsResting.{ok_any, seat_none, seat_port}
 use Rattle.vcpu_run.proofs.CalmTurns.{calm_none}
+use Rattle.vcpu_run.proofs.ClientsLay.{none_lay_same}
 use Rattle.vcpu_run.proofs.seats.take_rest_at.Goals as goal
 
 pub take_rest_of-requires-clause-there : goal.take_rest_of-requires-clause-there
@@ -60,3 +61,9 @@ returns-in-Port-clause-calm c = calm_none c.args.pairs.now
 
 pub returns-in-Server-clause-calm : goal.returns-in-Server-clause-calm
 returns-in-Server-clause-calm c = calm_none c.args.pairs.now
+
+pub returns-in-Port-clause-lays : goal.returns-in-Port-clause-lays
+returns-in-Port-clause-lays c = none_lay_same c.args.pairs.now
+
+pub returns-in-Server-clause-lays : goal.returns-in-Server-clause-lays
+returns-in-Server-clause-lays c = none_lay_same c.args.pairs.now

@@ -1,4 +1,5 @@
 use Rattle.vcpu_run.specs.Links.{ClientWaits}
+use Rattle.vcpu_run.proofs.ClientsLay.{none_lay_set}
 use Rattle.vcpu_run.proofs.ValuesKept.{values_set}
 use Rattle.vcpu_run.proofs.Resting.{ok_more, rests_set, waits_set}
 use Rattle.vcpu_run.proofs.Unfreed.{frees_set}
@@ -44,3 +45,7 @@ returns-clause-values c =
 
 pub returns-clause-calm : goal.returns-clause-calm
 returns-clause-calm c = calm_set c.args.pairs.now c.args.pair _ c.take_rest.new.pair (slice_get-get_or c.args.pairs.now c.args.pair _ c.requires.there) c.take_rest.ensures.calm
+
+pub returns-clause-lays : goal.returns-clause-lays
+returns-clause-lays c =
+    none_lay_set c.args.pairs.now c.args.pair _ c.take_rest.new.pair (slice_get-get_or c.args.pairs.now c.args.pair _ c.requires.there) c.take_rest.ensures.lays

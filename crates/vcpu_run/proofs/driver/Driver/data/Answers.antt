@@ -4,6 +4,7 @@ use Rattle.vcpu_run.specs.LinesShow.{seen_by}
 use Rattle.vio_trace.specs.declared.outcome.Outcome.TheVariants as outcomes
 use Rattle.vio_num.specs.declared.hypervisor.Moved.TheVariants.{Quiet}
 use Rattle.vscsi_client.specs.declared.answers.DataFault.TheVariants as faults
+use Rattle.vcpu_run.proofs.CallsLay.{reads_none_laid}
 use Rattle.vcpu_run.proofs.DataGiven.{given_few, told_read, told_stale, told_unknown}
 use Rattle.vcpu_run.proofs.TakingCalls.{tags_still}
 use Rattle.vcpu_run.proofs.TakingData.{data_waits, known_taken, not_unknown, unknown_taken}
@@ -47,3 +48,18 @@ sum_of-requires g c =
     given_few (g.O.WindowPort.state c.args.own.now).place.size c.args.tag c.args.self.now.client g.O.WindowPort.is_shared (g.O.WindowPort.state c.args.own.now)
     (g.O.WindowPort.state c.data_of.new.own) c.in-Ok.bytes c.requires (λ none. cc (c.in-Ok.is, c.data_of.ensures.unknown.1 none)) (search (rules, c.in-Ok.is, c.data_of.ensures.given)) in
     search (rules, few)
+
+pub returns-in-Ok-clause-marks : goal.returns-in-Ok-clause-marks
+returns-in-Ok-clause-marks g c = reads_none_laid g.O.WindowPort.is_shared (g.O.WindowPort.state c.args.own.now) (g.O.WindowPort.state c.data_of.new.own) c.data_of.ensures.rest
+
+pub returns-in-Err-Unknown-clause-marks : goal.returns-in-Err-Unknown-clause-marks
+returns-in-Err-Unknown-clause-marks g c = reads_none_laid g.O.WindowPort.is_shared (g.O.WindowPort.state c.args.own.now) (g.O.WindowPort.state c.data_of.new.own) c.data_of.ensures.rest
+
+pub returns-in-Err-Stale-clause-marks : goal.returns-in-Err-Stale-clause-marks
+returns-in-Err-Stale-clause-marks g c = reads_none_laid g.O.WindowPort.is_shared (g.O.WindowPort.state c.args.own.now) (g.O.WindowPort.state c.data_of.new.own) c.data_of.ensures.rest
+
+pub returns-in-Err-InUse-clause-marks : goal.returns-in-Err-InUse-clause-marks
+returns-in-Err-InUse-clause-marks g c = reads_none_laid g.O.WindowPort.is_shared (g.O.WindowPort.state c.args.own.now) (g.O.WindowPort.state c.data_of.new.own) c.data_of.ensures.rest
+
+pub returns-in-Err-NoMemory-clause-marks : goal.returns-in-Err-NoMemory-clause-marks
+returns-in-Err-NoMemory-clause-marks g c = reads_none_laid g.O.WindowPort.is_shared (g.O.WindowPort.state c.args.own.now) (g.O.WindowPort.state c.data_of.new.own) c.data_of.ensures.rest

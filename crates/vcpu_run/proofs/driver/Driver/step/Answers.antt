@@ -1,4 +1,4 @@
-use Rattle.std.proofs.Common.{rules, ◌≡◌, refl, subst}
+use Rattle.std.proofs.Common.{rules, ◌≡◌, refl, subst, sym}
 use Rattle.vcpu_run.specs.LinesShow.{StepShows, seen_by, seen_since}
 use Rattle.vcpu_run.specs.Credited.{taken_in}
 use Rattle.vcpu_run.specs.Freeing.{is_reset}
@@ -12,6 +12,8 @@ use Rattle.vcpu_run.proofs.AnswersCounted.{none_taken}
 use Rattle.vcpu_run.proofs.DataSteps.{none_read, sends_no_data}
 use Rattle.vcpu_run.proofs.ValuesKept.{same_puts, sends_none}
 use Rattle.vcpu_run.proofs.CalmTurns.{plain_makes}
+use Rattle.vcpu_run.proofs.ClientRecords.{not_in_region, sends_apart}
+use Rattle.vcpu_run.proofs.Working.{works_as}
 use Rattle.vcpu_run.proofs.driver.Driver.step.Goals as goal
 
 pub returns-in-Some-clause-credit : goal.returns-in-Some-clause-credit
@@ -56,7 +58,20 @@ returns-in-Some-clause-reads g c =
 pub returns-in-Some-clause-inward : goal.returns-in-Some-clause-inward
 returns-in-Some-clause-inward g c = c.command.ensures.inward c.args.line.now.verb c.in-Some.ensures.command
 
+pub returns-in-Some-clause-full : goal.returns-in-Some-clause-full
+returns-in-Some-clause-full g c = c.command.ensures.full c.args.line.now.verb c.in-Some.ensures.command
+
 pub returns-in-Some-clause-frees : goal.returns-in-Some-clause-frees
 returns-in-Some-clause-frees g c =
     plain_makes (is_reset c.args.line.now.verb) c.args.progress.now _ (g.C.CrqEnd.state c.args.crq.now.end) (g.C.CrqEnd.state c.command.new.crq.end)
     (asks_plain c.args.line.now.verb (asks_by c.args.line.now.verb c.in-Some.op c.in-Some.ensures.command)).1 (c.command.ensures.works.calm refl)
+
+pub returns-in-Some-clause-works : goal.returns-in-Some-clause-works
+returns-in-Some-clause-works g c =
+    let mark : c.from.result ≡ c.args.line.now.number = search rules in
+    works_as _ _ _ _ _ _ _ _ _ _ _ _ (sym (asks_plain c.args.line.now.verb (asks_by c.args.line.now.verb c.in-Some.op c.in-Some.ensures.command)).1) mark c.command.ensures.works
+
+pub returns-in-Some-clause-region : goal.returns-in-Some-clause-region
+returns-in-Some-clause-region g c =
+    not_in_region g.O.WindowPort.is_shared c.args.line.now (g.O.WindowPort.state c.args.own.now) (g.O.WindowPort.state c.command.new.own) c.command.result
+    (sends_apart c.args.line.now.verb c.in-Some.ensures.sends)

@@ -1,4 +1,4 @@
-use Rattle.std.proofs.Common.{rules, ◌≡◌, ℕ, List, IfOk, ap, refl, subst, sym}
+use Rattle.std.proofs.Common.{rules, ◌≡◌, ◌∙◌, ℕ, List, IfOk, None, Some, ap, refl, subst, sym}
 use Rattle.boot_text.specs.declared.verb.Verb.{Verb}
 use Rattle.boot_text.specs.declared.verb.Verb.TheVariants as verbs
 use Rattle.unit_region.specs.Pattern.{pattern}
@@ -7,6 +7,8 @@ use Rattle.vcpu_run.specs.Credited.{is_take, taken_in, uses_credit}
 use Rattle.vcpu_run.specs.Telling.{seated}
 use Rattle.vcpu_run.proofs.Askings.{aside_as, aside_told, told_as}
 use Rattle.vcpu_run.specs.Freeing.{is_reset}
+use Rattle.vcpu_run.specs.DropsShown.{IsFullBy, StepFull}
+use Rattle.vcpu_run.proofs.DropsShown.{full_none}
 use Rattle.vcpu_run.specs.LinesShow.{PutsOne, StepShows, further_of, read_by, requests, seen_by, seen_since, written_by}
 use Rattle.vcpu_run.specs.Replay.{asks}
 use Rattle.vcpu_run.proofs.FurtherShown.{puts_shows}
@@ -21,7 +23,11 @@ use Rattle.vcpu_run.proofs.Giving.{gives_ok, gives_same}
 use Rattle.vcpu_run.proofs.AnswersCounted.{is_data, none_taken}
 use Rattle.vcpu_run.proofs.TakingEach.{data_step, own_step, taken_verb}
 use Rattle.vcpu_run.proofs.EventsHeard.{plain_none}
-use Rattle.vcpu_run.proofs.Working.{works_window}
+use Rattle.vcpu_run.proofs.Working.{works_as, works_marked, works_window}
+use Rattle.unit_region.specs.Marks.{LaysUnder}
+use Rattle.lan_script.specs.Seats.{is_in_region}
+use Rattle.unit_region.proofs.Laws.{fill_told, just_by, just_read, just_under, none_under, peek_told, poke_told, tce_told}
+use Rattle.vcpu_run.proofs.ClientRecords.{in_region_stepped, not_in_region}
 use Rattle.vcpu_run.proofs.Giving.{asks_hear}
 use Rattle.vcpu_run.specs.ValuesPut.{is_put}
 use Rattle.vcpu_run.specs.DataRead.{given_by}
@@ -479,25 +485,60 @@ returns-in-Peek-clause-inward g c = none_sends c.args.self.now.client.rows c.arg
 pub returns-in-Tce-clause-inward : goal.returns-in-Tce-clause-inward
 returns-in-Tce-clause-inward g c = none_sends c.args.self.now.client.rows c.args.line.now.verb c.put_tce.result (ap range_in c.in-Tce.is)
 
+pub returns-in-Login-clause-works : goal.returns-in-Login-clause-works
+returns-in-Login-clause-works g c =
+    let mark : c.from-mark.result ≡ c.args.line.now.number = search rules in
+    works_as _ _ _ _ _ _ _ _ _ _ _ _ (sym (ap is_reset c.in-Login.is)) mark c.login.ensures.works
+
+pub returns-in-Reset-clause-works : goal.returns-in-Reset-clause-works
+returns-in-Reset-clause-works g c =
+    let mark : c.from-mark.result ≡ c.args.line.now.number = search rules in
+    works_as _ _ _ _ _ _ _ _ _ _ _ _ (sym (ap is_reset c.in-Reset.is)) mark c.reset.ensures.works
+
+pub returns-in-Logout-clause-works : goal.returns-in-Logout-clause-works
+returns-in-Logout-clause-works g c =
+    let mark : c.from-mark.result ≡ c.args.line.now.number = search rules in
+    works_as _ _ _ _ _ _ _ _ _ _ _ _ (sym (ap is_reset c.in-Logout.is)) mark c.logout.ensures.works
+
+pub returns-in-Task-clause-works : goal.returns-in-Task-clause-works
+returns-in-Task-clause-works g c =
+    let mark : c.from-mark.result ≡ c.args.line.now.number = search rules in
+    works_as _ _ _ _ _ _ _ _ _ _ _ _ (sym (ap is_reset c.in-Task.is)) mark c.task.ensures.works
+
 pub returns-in-Fill-clause-works : goal.returns-in-Fill-clause-works
 returns-in-Fill-clause-works g c =
-    works_window _ _ _ (g.C.CrqEnd.state c.args.crq.now.end) (g.O.WindowPort.state c.args.own.now) (g.O.WindowPort.state c.fill.new.own) c.args.self.now c.args.self.now c.fill.ensures.window refl refl refl
+    let mark : c.from-mark.result ≡ c.args.line.now.number = search rules in
+    works_window _ _ _ (g.C.CrqEnd.state c.args.crq.now.end) (g.O.WindowPort.state c.args.own.now) (g.O.WindowPort.state c.fill.new.own) c.args.self.now c.args.self.now c.fill.ensures.window
+    (subst (λ n. LaysUnder g.O.WindowPort.is_shared n (g.O.WindowPort.state c.args.own.now) (g.O.WindowPort.state c.fill.new.own)) mark
+    (just_under g.O.WindowPort.is_shared (g.O.WindowPort.state c.args.own.now) (g.O.WindowPort.state c.fill.new.own) c.from-mark.result
+    (Some (record { at = c.in-Fill.at; bytes = pattern c.in-Fill.seed c.in-Fill.len })) c.fill.result c.fill.ensures.lays)) refl refl refl
 
 pub returns-in-Poke-clause-works : goal.returns-in-Poke-clause-works
 returns-in-Poke-clause-works g c =
-    works_window _ _ _ (g.C.CrqEnd.state c.args.crq.now.end) (g.O.WindowPort.state c.args.own.now) (g.O.WindowPort.state c.poke.new.own) c.args.self.now c.args.self.now c.poke.ensures.window refl refl refl
+    let mark : c.from-mark.result ≡ c.args.line.now.number = search rules in
+    works_window _ _ _ (g.C.CrqEnd.state c.args.crq.now.end) (g.O.WindowPort.state c.args.own.now) (g.O.WindowPort.state c.poke.new.own) c.args.self.now c.args.self.now c.poke.ensures.window
+    (subst (λ n. LaysUnder g.O.WindowPort.is_shared n (g.O.WindowPort.state c.args.own.now) (g.O.WindowPort.state c.poke.new.own)) mark
+    (just_under g.O.WindowPort.is_shared (g.O.WindowPort.state c.args.own.now) (g.O.WindowPort.state c.poke.new.own) c.from-mark.result
+    (Some (record { at = c.in-Poke.at; bytes = c.as_slice.result.now })) c.poke.result c.poke.ensures.lays)) refl refl refl
 
 pub returns-in-Peek-clause-works : goal.returns-in-Peek-clause-works
 returns-in-Peek-clause-works g c =
-    works_window _ _ _ (g.C.CrqEnd.state c.args.crq.now.end) (g.O.WindowPort.state c.args.own.now) (g.O.WindowPort.state c.peek.new.own) c.args.self.now c.args.self.now c.peek.ensures.window refl refl refl
+    works_window _ _ _ (g.C.CrqEnd.state c.args.crq.now.end) (g.O.WindowPort.state c.args.own.now) (g.O.WindowPort.state c.peek.new.own) c.args.self.now c.args.self.now c.peek.ensures.window
+    (none_under g.O.WindowPort.is_shared c.args.line.now.number (g.O.WindowPort.state c.args.own.now) (g.O.WindowPort.state c.peek.new.own) c.peek.ensures.marks) refl refl refl
 
 pub returns-in-Tce-clause-works : goal.returns-in-Tce-clause-works
 returns-in-Tce-clause-works g c =
-    works_window _ _ _ (g.C.CrqEnd.state c.args.crq.now.end) (g.O.WindowPort.state c.args.own.now) (g.O.WindowPort.state c.put_tce.new.own) c.args.self.now c.args.self.now c.put_tce.ensures.window refl refl refl
+    works_window _ _ _ (g.C.CrqEnd.state c.args.crq.now.end) (g.O.WindowPort.state c.args.own.now) (g.O.WindowPort.state c.put_tce.new.own) c.args.self.now c.args.self.now c.put_tce.ensures.window
+    (none_under g.O.WindowPort.is_shared c.args.line.now.number (g.O.WindowPort.state c.args.own.now) (g.O.WindowPort.state c.put_tce.new.own) c.put_tce.ensures.marks) refl refl refl
+
+pub returns-in-Take-clause-works : goal.returns-in-Take-clause-works
+returns-in-Take-clause-works g c =
+    works_as _ _ _ _ _ _ _ _ _ _ _ _ (sym (ap is_reset c.in-Take.is)) refl (works_marked c.args.line.now.number _ _ _ _ _ _ _ _ _ c.take_on.ensures.works)
 
 pub returns-in-Data-clause-works : goal.returns-in-Data-clause-works
 returns-in-Data-clause-works g c =
-    works_window _ _ _ (g.C.CrqEnd.state c.args.crq.now.end) (g.O.WindowPort.state c.args.own.now) (g.O.WindowPort.state c.data.new.own) c.args.self.now c.data.new.self c.data.ensures.window c.data.ensures.unit
+    works_window _ _ _ (g.C.CrqEnd.state c.args.crq.now.end) (g.O.WindowPort.state c.args.own.now) (g.O.WindowPort.state c.data.new.own) c.args.self.now c.data.new.self c.data.ensures.window
+    (none_under g.O.WindowPort.is_shared c.args.line.now.number (g.O.WindowPort.state c.args.own.now) (g.O.WindowPort.state c.data.new.own) c.data.ensures.marks) c.data.ensures.unit
     (ap (λ rows. rows.items) c.data.ensures.answers) c.data.ensures.client
 
 pub returns-in-Login-clause-frees : goal.returns-in-Login-clause-frees
@@ -539,3 +580,97 @@ returns-in-Tce-clause-frees g c =
 pub returns-in-Reset-clause-frees : goal.returns-in-Reset-clause-frees
 returns-in-Reset-clause-frees g c =
     subst (λ b. StepMakes b c.args.progress.now c.reset.new.progress (g.C.CrqEnd.state c.args.crq.now.end) (g.C.CrqEnd.state c.reset.new.crq.end)) (sym (ap is_reset c.in-Reset.is)) c.reset.ensures.frees
+
+pub returns-in-Login-clause-full : goal.returns-in-Login-clause-full
+returns-in-Login-clause-full g c = full_none (IsFullBy g.C.CrqEnd.is_shared (g.C.CrqEnd.state c.login.new.crq.end)) c.args.line.now.verb c.login.result (ap requests c.in-Login.is)
+
+pub returns-in-Reset-clause-full : goal.returns-in-Reset-clause-full
+returns-in-Reset-clause-full g c = full_none (IsFullBy g.C.CrqEnd.is_shared (g.C.CrqEnd.state c.reset.new.crq.end)) c.args.line.now.verb c.reset.result (ap requests c.in-Reset.is)
+
+pub returns-in-Take-clause-full : goal.returns-in-Take-clause-full
+returns-in-Take-clause-full g c = full_none (IsFullBy g.C.CrqEnd.is_shared (g.C.CrqEnd.state c.take_on.new.crq.end)) c.args.line.now.verb c.take_on.result (ap requests c.in-Take.is)
+
+pub returns-in-Data-clause-full : goal.returns-in-Data-clause-full
+returns-in-Data-clause-full g c = full_none (IsFullBy g.C.CrqEnd.is_shared (g.C.CrqEnd.state c.args.crq.now.end)) c.args.line.now.verb c.data.result (ap requests c.in-Data.is)
+
+pub returns-in-Fill-clause-full : goal.returns-in-Fill-clause-full
+returns-in-Fill-clause-full g c = full_none (IsFullBy g.C.CrqEnd.is_shared (g.C.CrqEnd.state c.args.crq.now.end)) c.args.line.now.verb c.fill.result (ap requests c.in-Fill.is)
+
+pub returns-in-Poke-clause-full : goal.returns-in-Poke-clause-full
+returns-in-Poke-clause-full g c = full_none (IsFullBy g.C.CrqEnd.is_shared (g.C.CrqEnd.state c.args.crq.now.end)) c.args.line.now.verb c.poke.result (ap requests c.in-Poke.is)
+
+pub returns-in-Peek-clause-full : goal.returns-in-Peek-clause-full
+returns-in-Peek-clause-full g c = full_none (IsFullBy g.C.CrqEnd.is_shared (g.C.CrqEnd.state c.args.crq.now.end)) c.args.line.now.verb c.peek.result (ap requests c.in-Peek.is)
+
+pub returns-in-Tce-clause-full : goal.returns-in-Tce-clause-full
+returns-in-Tce-clause-full g c = full_none (IsFullBy g.C.CrqEnd.is_shared (g.C.CrqEnd.state c.args.crq.now.end)) c.args.line.now.verb c.put_tce.result (ap requests c.in-Tce.is)
+
+pub returns-in-Logout-clause-full : goal.returns-in-Logout-clause-full
+returns-in-Logout-clause-full g c =
+    subst (λ (v : Verb). StepFull (IsFullBy g.C.CrqEnd.is_shared (g.C.CrqEnd.state c.logout.new.crq.end)) v c.logout.result) (sym c.in-Logout.is) c.logout.ensures.full
+
+pub returns-in-Task-clause-full : goal.returns-in-Task-clause-full
+returns-in-Task-clause-full g c =
+    subst (λ (v : Verb). StepFull (IsFullBy g.C.CrqEnd.is_shared (g.C.CrqEnd.state c.task.new.crq.end)) v c.task.result) (sym c.in-Task.is) c.task.ensures.full
+
+pub returns-in-Login-clause-region : goal.returns-in-Login-clause-region
+returns-in-Login-clause-region g c = not_in_region g.O.WindowPort.is_shared c.args.line.now (g.O.WindowPort.state c.args.own.now) (g.O.WindowPort.state c.login.new.own) c.login.result (ap is_in_region c.in-Login.is)
+
+pub returns-in-Reset-clause-region : goal.returns-in-Reset-clause-region
+returns-in-Reset-clause-region g c = not_in_region g.O.WindowPort.is_shared c.args.line.now (g.O.WindowPort.state c.args.own.now) (g.O.WindowPort.state c.reset.new.own) c.reset.result (ap is_in_region c.in-Reset.is)
+
+pub returns-in-Logout-clause-region : goal.returns-in-Logout-clause-region
+returns-in-Logout-clause-region g c = not_in_region g.O.WindowPort.is_shared c.args.line.now (g.O.WindowPort.state c.args.own.now) (g.O.WindowPort.state c.logout.new.own) c.logout.result (ap is_in_region c.in-Logout.is)
+
+pub returns-in-Task-clause-region : goal.returns-in-Task-clause-region
+returns-in-Task-clause-region g c = not_in_region g.O.WindowPort.is_shared c.args.line.now (g.O.WindowPort.state c.args.own.now) (g.O.WindowPort.state c.task.new.own) c.task.result (ap is_in_region c.in-Task.is)
+
+pub returns-in-Take-clause-region : goal.returns-in-Take-clause-region
+returns-in-Take-clause-region g c = not_in_region g.O.WindowPort.is_shared c.args.line.now (g.O.WindowPort.state c.args.own.now) (g.O.WindowPort.state c.take_on.new.own) c.take_on.result (ap is_in_region c.in-Take.is)
+
+pub returns-in-Data-clause-region : goal.returns-in-Data-clause-region
+returns-in-Data-clause-region g c = not_in_region g.O.WindowPort.is_shared c.args.line.now (g.O.WindowPort.state c.args.own.now) (g.O.WindowPort.state c.data.new.own) c.data.result (ap is_in_region c.in-Data.is)
+
+pub returns-in-Fill-clause-region : goal.returns-in-Fill-clause-region
+returns-in-Fill-clause-region g c =
+    let mark : c.from-mark.result ≡ c.args.line.now.number = search rules in
+    in_region_stepped g.O.WindowPort.is_shared c.args.line.now (g.O.WindowPort.state c.args.own.now) (g.O.WindowPort.state c.fill.new.own) c.fill.result
+    (just_by g.O.WindowPort.is_shared (g.O.WindowPort.state c.args.own.now) (g.O.WindowPort.state c.fill.new.own) c.from-mark.result c.args.line.now.number
+    (Some (record { at = c.in-Fill.at; bytes = pattern c.in-Fill.seed c.in-Fill.len })) (written_by c.args.line.now.verb) c.fill.result mark
+    (sym (ap written_by c.in-Fill.is)) c.fill.ensures.lays)
+    (fill_told g.O.WindowPort.is_shared (g.O.WindowPort.state c.args.own.now) (g.O.WindowPort.state c.fill.new.own) c.in-Fill.at c.in-Fill.len c.in-Fill.seed
+    c.args.line.now.number c.args.line.now.verb c.fill.result c.in-Fill.is
+    (subst (λ n. IfOk c.fill.result (AnswersWrite g.O.WindowPort.is_shared (g.O.WindowPort.state c.args.own.now) (g.O.WindowPort.state c.fill.new.own) c.in-Fill.at
+    (pattern c.in-Fill.seed c.in-Fill.len) n)) mark c.fill.ensures.answer))
+
+pub returns-in-Poke-clause-region : goal.returns-in-Poke-clause-region
+returns-in-Poke-clause-region g c =
+    let mark : c.from-mark.result ≡ c.args.line.now.number = search rules in
+    in_region_stepped g.O.WindowPort.is_shared c.args.line.now (g.O.WindowPort.state c.args.own.now) (g.O.WindowPort.state c.poke.new.own) c.poke.result
+    (just_by g.O.WindowPort.is_shared (g.O.WindowPort.state c.args.own.now) (g.O.WindowPort.state c.poke.new.own) c.from-mark.result c.args.line.now.number
+    (Some (record { at = c.in-Poke.at; bytes = c.as_slice.result.now })) (written_by c.args.line.now.verb) c.poke.result mark
+    (ap (λ (bytes : List ℕ). Some (record { at = c.in-Poke.at; bytes = bytes })) c.as_slice.ensures ∙ sym (ap written_by c.in-Poke.is)) c.poke.ensures.lays)
+    (poke_told g.O.WindowPort.is_shared (g.O.WindowPort.state c.args.own.now) (g.O.WindowPort.state c.poke.new.own) c.in-Poke.at c.in-Poke.bytes
+    c.args.line.now.number c.args.line.now.verb c.poke.result c.in-Poke.is
+    (subst (λ n. IfOk c.poke.result (AnswersWrite g.O.WindowPort.is_shared (g.O.WindowPort.state c.args.own.now) (g.O.WindowPort.state c.poke.new.own) c.in-Poke.at
+    c.in-Poke.bytes n)) mark
+    (subst (λ (bytes : List ℕ). IfOk c.poke.result (AnswersWrite g.O.WindowPort.is_shared (g.O.WindowPort.state c.args.own.now) (g.O.WindowPort.state c.poke.new.own) c.in-Poke.at bytes c.from-mark.result))
+    c.as_slice.ensures c.poke.ensures.answer)))
+
+pub returns-in-Peek-clause-region : goal.returns-in-Peek-clause-region
+returns-in-Peek-clause-region g c =
+    in_region_stepped g.O.WindowPort.is_shared c.args.line.now (g.O.WindowPort.state c.args.own.now) (g.O.WindowPort.state c.peek.new.own) c.peek.result
+    (just_by g.O.WindowPort.is_shared (g.O.WindowPort.state c.args.own.now) (g.O.WindowPort.state c.peek.new.own) c.args.line.now.number c.args.line.now.number
+    None (written_by c.args.line.now.verb) c.peek.result refl (sym (ap written_by c.in-Peek.is))
+    (just_read g.O.WindowPort.is_shared (g.O.WindowPort.state c.args.own.now) (g.O.WindowPort.state c.peek.new.own) c.args.line.now.number c.peek.result c.peek.ensures.marks))
+    (peek_told (g.O.WindowPort.state c.args.own.now) (g.O.WindowPort.state c.peek.new.own) c.in-Peek.at c.in-Peek.len c.args.line.now.number
+    c.args.line.now.verb c.peek.result c.in-Peek.is c.peek.ensures.rest.place c.peek.ensures.answer)
+
+pub returns-in-Tce-clause-region : goal.returns-in-Tce-clause-region
+returns-in-Tce-clause-region g c =
+    in_region_stepped g.O.WindowPort.is_shared c.args.line.now (g.O.WindowPort.state c.args.own.now) (g.O.WindowPort.state c.put_tce.new.own) c.put_tce.result
+    (just_by g.O.WindowPort.is_shared (g.O.WindowPort.state c.args.own.now) (g.O.WindowPort.state c.put_tce.new.own) c.args.line.now.number c.args.line.now.number
+    None (written_by c.args.line.now.verb) c.put_tce.result refl (sym (ap written_by c.in-Tce.is))
+    (just_read g.O.WindowPort.is_shared (g.O.WindowPort.state c.args.own.now) (g.O.WindowPort.state c.put_tce.new.own) c.args.line.now.number c.put_tce.result c.put_tce.ensures.marks))
+    (tce_told (g.O.WindowPort.state c.args.own.now) (g.O.WindowPort.state c.put_tce.new.own) c.in-Tce.entry c.in-Tce.page c.in-Tce.readable c.in-Tce.writable
+    c.args.line.now.number c.args.line.now.verb c.put_tce.result c.in-Tce.is c.put_tce.ensures.answer)

@@ -1,4 +1,4 @@
-use Rattle.std.proofs.Common.{◌≡◌, ◌≤◌, ◌<◌, false}
+use Rattle.std.proofs.Common.{◌≡◌, ◌≤◌, ◌<◌, None, false}
 use Rattle.vscsi_client.specs.declared.TheConstants.{MIN_PAGES}
 use Rattle.vcpu_run.specs.Works.{Works}
 use Rattle.vcpu_run.proofs.Credits.{TakesOn}
@@ -9,7 +9,7 @@ use Rattle.vcpu_run.proofs.driver.Driver.take.Given as goal
 
 abbrev pub invariant-loop-entry : goal.invariant-loop-entry
 invariant-loop-entry g l = record {
-  works : Works false g.C.CrqEnd.is_shared g.O.WindowPort.is_shared (g.C.CrqEnd.state l.initial.crq.end) (g.C.CrqEnd.state l.crq.end) (g.O.WindowPort.state l.initial.own) (g.O.WindowPort.state l.own) l.initial.self l.self;
+  works : Works false g.C.CrqEnd.is_shared g.O.WindowPort.is_shared None (g.C.CrqEnd.state l.initial.crq.end) (g.C.CrqEnd.state l.crq.end) (g.O.WindowPort.state l.initial.own) (g.O.WindowPort.state l.own) l.initial.self l.self;
   values : (g.O.WindowPort.state l.own).values ≡ (g.O.WindowPort.state l.initial.own).values;
   pages : MIN_PAGES ≤ (g.O.WindowPort.state l.own).place.size;
   takes : TakesOn l.initial.taken l.taken l.initial.self.client l.self.client;

@@ -1,4 +1,4 @@
-use Rattle.std.proofs.Common.{◌≡◌, ◌≤◌, false}
+use Rattle.std.proofs.Common.{◌≡◌, ◌≤◌, None, false}
 use Rattle.vio_num.specs.declared.hypervisor.Moved.TheVariants.{Quiet}
 use Rattle.vscsi_client.specs.declared.TheConstants.{MIN_PAGES}
 use Rattle.vcpu_run.specs.Takings.{Gives}
@@ -7,7 +7,7 @@ use Rattle.vcpu_run.proofs.driver.Driver.take_rest.Given as goal
 
 abbrev pub invariant-loop-taken : goal.invariant-loop-taken
 invariant-loop-taken g l = record {
-  works : Works false g.C.CrqEnd.is_shared g.O.WindowPort.is_shared (g.C.CrqEnd.state l.initial.crq.end) (g.C.CrqEnd.state l.crq.end) (g.O.WindowPort.state l.initial.own) (g.O.WindowPort.state l.own) l.initial.self l.self;
+  works : Works false g.C.CrqEnd.is_shared g.O.WindowPort.is_shared None (g.C.CrqEnd.state l.initial.crq.end) (g.C.CrqEnd.state l.crq.end) (g.O.WindowPort.state l.initial.own) (g.O.WindowPort.state l.own) l.initial.self l.self;
   values : (g.O.WindowPort.state l.own).values ≡ (g.O.WindowPort.state l.initial.own).values;
   pages : MIN_PAGES ≤ (g.O.WindowPort.state l.own).place.size;
   gives : Gives l.initial.self l.self (g.C.CrqEnd.state l.initial.crq.end) (g.C.CrqEnd.state l.crq.end);

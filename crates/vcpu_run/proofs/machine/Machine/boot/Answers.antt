@@ -83,7 +83,7 @@ returns-clause-credited g c =
     let scripts = c.in-Ok-make_scripts.scripts in
     let partitions = c.args.plan.now.partitions in
     let made : AreMade partitions scripts.items = rw (← c.as_slice-partitions.ensures) c.in-Ok-make_scripts.ensures in
-    credits_made partitions pairs.items scripts.items made c.in-Ok.ensures.out
+    credits_made partitions pairs.items scripts.items made c.in-Ok.ensures.out (λ k pair found. (c.in-Ok.ensures.fresh k pair found).bare)
 
 pub returns-clause-none : goal.returns-clause-none
 returns-clause-none g c = c.in_ok-server.ensures.history

@@ -2,7 +2,7 @@ use Rattle.std.proofs.Common.{◌≡◌, ◌+◌, ◌*◌, None, ap, arith}
 use Rattle.vio_num.specs.declared.names.UnitId.{UnitId}
 use Rattle.tce_window.specs.Window.{WindowValue}
 use Rattle.vcpu_run.proofs.Answering.{answered_new}
-use Rattle.vcpu_run.proofs.Opened.{pair_new}
+use Rattle.vcpu_run.proofs.Opened.{bare_new, pair_new}
 use Rattle.vcpu_run.proofs.FewEvents.{no_events}
 use Rattle.vcpu_run.proofs.pair.Pair.alone.Goals as goal
 
@@ -19,5 +19,6 @@ returns-clause-answered c = answered_new _ (256 * c.args.queue) (256 * 1) c.in_o
 
 pub returns-clause-fresh : goal.returns-clause-fresh
 returns-clause-fresh c =
+    let absent : UnitId = record { partition = c.args.server.partition; unit = 128 + c.args.server.unit } in
     let new = c.in_ok-open_link.ensures in
-    record { taken = new.first.queue.taken; sent = new.second.queue.sent; kept = new.second.kept; untaken = tt; rows = ap (λ (window : WindowValue). window.rows) c.in_ok-open-2.ensures; events = no_events c.in_ok-open_link.field-0 new.first.queue.sent new.second.kept }
+    record { session = new.first.queue.session; taken = new.first.queue.taken; sent = new.second.queue.sent; kept = new.second.kept; untaken = tt; rows = ap (λ (window : WindowValue). window.rows) c.in_ok-open-2.ensures; bare = bare_new absent 1 c.in_ok-open-2.field-0 c.in_ok-open-2.ensures; events = no_events c.in_ok-open_link.field-0 new.first.queue.sent new.second.kept }

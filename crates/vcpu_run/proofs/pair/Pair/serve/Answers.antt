@@ -1,7 +1,7 @@
 use Rattle.vio_num.specs.declared.hypervisor.Moved.TheVariants.{Quiet}
 use Rattle.vcpu_run.specs.Links.{IsLinked, ServerWaits, link_state}
 use Rattle.vcpu_run.specs.Freed.{FreesNoneAt, IsNotFreed, NotFreed}
-use Rattle.vcpu_run.proofs.Waiting.{agrees_like, agrees_other, serve_frees, serve_queue, serve_sent, serve_taken, serve_kept, serve_waits}
+use Rattle.vcpu_run.proofs.Waiting.{agrees_like, agrees_other, serve_frees, serve_full, serve_queue, serve_sent, serve_taken, serve_kept, serve_waits}
 use Rattle.vcpu_run.proofs.Resting.{ok_both}
 use Rattle.vcpu_run.proofs.Crediting.{on_ok}
 use Rattle.std.proofs.Common.{rules, ◌≡◌, ◌≢◌, Bool, List, [], ◌∷◌, false, true, refl, sym, ◌∙◌, ap, subst, IfNone, ◌<◌, IfOk, OnOk, arith, length, slice_get}
@@ -33,6 +33,9 @@ use Rattle.vcpu_run.proofs.LoginsDealt.{closed_so}
 use Rattle.vcpu_run.proofs.Losing.{behind_back, sees_back, sees_lent}
 use Rattle.vcpu_run.proofs.Receiving.{received_elsewhere, received_served}
 use Rattle.vcpu_run.proofs.Keeping.{served}
+use Rattle.vcpu_run.specs.DropsShown.{KeepsFull}
+use Rattle.tce_window.specs.Window.{strokes_at}
+use Rattle.vcpu_run.proofs.ClientsServed.{none_owned}
 use Rattle.vcpu_run.proofs.pair.Pair.serve.Goals as goal
 
 pub returns-clause-pair : goal.returns-clause-pair
@@ -217,6 +220,19 @@ returns-clause-sent g c =
     (record { server = old.server; link = link; own = c.turn.new.own; window = c.turn.new.client; driver = old.driver }) c.side.ensures.first c.turn.ensures.goes.queue_place
     ∙ ap (λ (side : PlainSide). side.queue.sent) before)
 
+pub returns-clause-full : goal.returns-clause-full
+returns-clause-full g c =
+    let old = c.args.self.now in
+    let link = c.turn.new.crq.end.link.now in
+    let lent = c.side.result.link.now in
+    let link_is : link ≡ c.self-1.given.0 = search rules in
+    let now : PlainLink → Pair = λ l. record { server = old.server; link = l; own = c.turn.new.own; window = c.turn.new.client; driver = old.driver } in
+    let was : PlainLink → Pair = λ l. record { server = old.server; link = l; own = old.own; window = old.window; driver = old.driver } in
+    subst (λ (l : PlainLink). KeepsFull old (now l)) link_is
+    (subst (λ (l : PlainLink). KeepsFull (was l) (now link)) c.side.ensures.link
+    (serve_full c.side.result.first c.turn.new.crq.end.first (c.side.result.link.ghost_name ∷ []) (c.turn.new.crq.end.link.ghost_name ∷ []) (was lent) (now link)
+    c.side.ensures.first c.turn.ensures.goes.queue_place))
+
 pub returns-clause-taken : goal.returns-clause-taken
 returns-clause-taken g c =
     let old = c.args.self.now in
@@ -327,3 +343,7 @@ returns-clause-causes g c = λ told tells order.
 
 pub returns-clause-values : goal.returns-clause-values
 returns-clause-values g c = λ i e. c.turn.ensures.values e i
+
+pub returns-clause-owner : goal.returns-clause-owner
+returns-clause-owner g c page =
+    none_owned c.args.self.now.window.unit (strokes_at c.args.self.now.window.pages page) (strokes_at c.turn.new.client.pages page) (c.turn.ensures.owner refl page)

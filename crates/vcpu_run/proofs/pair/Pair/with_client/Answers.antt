@@ -2,7 +2,7 @@ use Rattle.std.proofs.Common.{◌*◌, Some, ap, arith}
 use Rattle.vscsi_client.specs.State.{ClientState}
 use Rattle.vcpu_run.proofs.Answering.{answered_new}
 use Rattle.tce_window.specs.Window.{WindowValue}
-use Rattle.vcpu_run.proofs.Opened.{driver_new, pair_new, untaken_new}
+use Rattle.vcpu_run.proofs.Opened.{bare_new, driver_new, pair_new, untaken_new}
 use Rattle.vcpu_run.proofs.FewEvents.{no_events}
 use Rattle.vcpu_run.proofs.pair.Pair.with_client.Goals as goal
 
@@ -26,10 +26,12 @@ returns-clause-fresh c =
     let driver = c.in_ok-open-3 in
     let new = c.in_ok-open_link.ensures in
     record {
+      session = new.first.queue.session;
       taken = new.first.queue.taken;
       sent = new.second.queue.sent;
       kept = new.second.kept;
       untaken = untaken_new c.args.seat.unit c.args.server (256 * c.args.queue) (256 * c.args.seat.queue) c.in_ok-open_link.field-0 driver.field-0 driver.ensures.answers driver.ensures.client new;
       rows = ap (λ (window : WindowValue). window.rows) c.in_ok-open-2.ensures;
+      bare = bare_new c.args.seat.unit c.args.seat.pages c.in_ok-open-2.field-0 c.in_ok-open-2.ensures;
       events = no_events c.in_ok-open_link.field-0 new.first.queue.sent new.second.kept;
     }

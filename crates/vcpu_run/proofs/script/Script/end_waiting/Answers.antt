@@ -8,6 +8,8 @@ use Rattle.vcpu_run.specs.Credited.{StepsAgreed, grants, is_take, taken_in}
 use Rattle.vcpu_run.specs.CallsSaid.{seen_from}
 use Rattle.vcpu_run.specs.Suited.{IsLineAt, is_call}
 use Rattle.vcpu_run.proofs.CallsKept.{says_none}
+use Rattle.vcpu_run.proofs.ClientRecords.{logs_ends_none}
+use Rattle.vcpu_run.proofs.ClientsLay.{none_lay_same}
 use Rattle.vcpu_run.proofs.Crediting.{less_by, line_ends, lines_none}
 use Rattle.vcpu_run.proofs.Credits.{plain_fresh, takes_same, took_agreed}
 use Rattle.vcpu_run.proofs.ScriptsTold.{EndsWaiting, of_login, of_reset, of_take, waiting_told}
@@ -119,3 +121,19 @@ returns-clause-unfreed c = λ pairs script opens keep.
     slice_get_read c.args.self.now.lines.now (length c.args.self.now.lines.now) c.args.self.now.at c.in-Some.line.now refl
     (less_by c.args.self.now.at (length c.args.self.now.lines.now) (sym c.in-Some.ensures.lookup.0)) c.in-Some.ensures.lookup.1 in
     waited_held pairs c.args.self.now c.end.new.self c.in-Some.line.now c.match-line.outcome found script.seats opens c.end.ensures.rest.lines c.end.ensures.rest.seats keep
+
+pub returns-clause-logged : goal.returns-clause-logged
+returns-clause-logged c = λ pairs script is.
+    let found : slice_get c.args.self.now.lines.now c.args.self.now.at ≡ Some c.in-Some.line.now =
+    slice_get_read c.args.self.now.lines.now (length c.args.self.now.lines.now) c.args.self.now.at c.in-Some.line.now refl
+    (less_by c.args.self.now.at (length c.args.self.now.lines.now) (sym c.in-Some.ensures.lookup.0)) c.in-Some.ensures.lookup.1 in
+    let apart : is_in_region c.in-Some.line.now.verb ≡ false =
+    elim c.match-line.branch [
+      | in-Login w ↦ ap is_in_region w.in-Login.is
+      | in-Reset w ↦ ap is_in_region w.in-Reset.is
+      | in-Take w ↦ ap is_in_region w.in-Take.is
+    ] in
+    logs_ends_none pairs pairs c.args.self.now c.end.new.self c.in-Some.line.now _ found
+    (record { in_order = script.in_order; reached = script.logs.reached })
+    (script.logs.reached (slice_get_within c.args.self.now.lines.now c.args.self.now.at c.in-Some.line.now found))
+    script.seats (none_lay_same pairs) apart c.end.ensures.rest.partition c.end.ensures.rest.lines c.end.ensures.rest.seats c.in_ok-end.ensures.ended.logs is

@@ -3,6 +3,7 @@ use Rattle.vcpu_run.proofs.Resting.{ok_more}
 use Rattle.std.proofs.Common.{◌∙◌, ◌≤◌, List, ap, length, is_some, subst, sym}
 use Rattle.vcpu_run.specs.declared.unit_seat.Seat.{Seat}
 use Rattle.vcpu_run.specs.Agreed.{SameElse}
+use Rattle.vcpu_run.proofs.ClientRecords.{logs_still}
 use Rattle.vcpu_run.proofs.Crediting.{credited_rest, on_ok, over_by}
 use Rattle.vcpu_run.proofs.Driving.{clients_of}
 use Rattle.std.proofs.lemmas.Option.{slice_get_past}
@@ -81,3 +82,7 @@ returns-in-None-clause-ports c =
 
 pub returns-in-Some-clause-ports : goal.returns-in-Some-clause-ports
 returns-in-Some-clause-ports c = ok_more c.step.result _ _ (λ moved left is over. absurd (left is over)) c.step.ensures.quiet
+
+pub returns-in-None-clause-logged : goal.returns-in-None-clause-logged
+returns-in-None-clause-logged c =
+    on_ok c.take_rest.result _ (logs_still c.args.pairs.now c.take_rest.new.pairs c.args.self.now c.take_rest.ensures.lays)

@@ -38,3 +38,6 @@ returns-clause-told c = λ lan fresh. fresh_tells lan
 
 pub returns-clause-said : goal.returns-clause-said
 returns-clause-said c = λ pairs out untaken. new_told pairs _ c.new.ensures.items refl out untaken
+
+pub returns-clause-fresh : goal.returns-clause-fresh
+returns-clause-fresh c = c.new.ensures.items

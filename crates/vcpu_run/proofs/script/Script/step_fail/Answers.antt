@@ -1,6 +1,8 @@
 use Rattle.vcpu_run.proofs.Resting.{not_quiet}
 use Rattle.std.proofs.Common.{◌≡◌, ◌+◌, ◌∙◌, List, ap, cond, length, refl, subst, sym, arith}
 use Rattle.std.proofs.lemmas.Option.{slice_get_within}
+use Rattle.vcpu_run.proofs.ClientRecords.{logs_ends_none, logs_still}
+use Rattle.vcpu_run.proofs.PortLines.{fails_apart}
 use Rattle.vcpu_run.proofs.Crediting.{credited_all, credited_fails}
 use Rattle.vcpu_run.proofs.Driving.{clients_of}
 use Rattle.vcpu_run.specs.Agreed.{SameElse}
@@ -122,3 +124,14 @@ returns-clause-opened c = λ is.
 
 pub returns-clause-out : goal.returns-clause-out
 returns-clause-out c = λ is. fail_out c.fail.new.pairs c.args.self.now c.args.line.now c.requires.line (fails_reset c.args.line.now.verb c.requires.fails)
+
+pub returns-then-branch-clause-logged : goal.returns-then-branch-clause-logged
+returns-then-branch-clause-logged c = λ is.
+    logs_ends_none c.args.pairs.now c.fail.new.pairs c.args.self.now c.end.new.self c.args.line.now _ c.requires.line
+    (record { in_order = c.requires.script.in_order; reached = c.requires.script.logs.reached })
+    (c.requires.script.logs.reached (slice_get_within c.args.self.now.lines.now c.args.self.now.at c.args.line.now c.requires.line))
+    c.requires.script.seats c.fail.ensures.lays (fails_apart c.args.line.now.verb c.requires.fails)
+    c.end.ensures.rest.partition c.end.ensures.rest.lines c.end.ensures.rest.seats c.in_ok-end.ensures.ended.logs is
+
+pub returns-clause-logged : goal.returns-clause-logged
+returns-clause-logged c = λ is. logs_still c.args.pairs.now c.fail.new.pairs c.args.self.now c.fail.ensures.lays is

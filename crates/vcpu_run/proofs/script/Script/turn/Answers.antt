@@ -1,4 +1,5 @@
 use Rattle.std.proofs.Common.{List, subst}
+use Rattle.vcpu_run.proofs.ClientRecords.{logs_served}
 use Rattle.vcpu_run.proofs.Crediting.{credited_same}
 use Rattle.vcpu_run.proofs.Driving.{clients_of, driven_on, still_drivers}
 use Rattle.vcpu_run.specs.Agreed.{SameElse}
@@ -77,3 +78,7 @@ returns-clause-opened c = λ is.
 
 pub returns-clause-ports : goal.returns-clause-ports
 returns-clause-ports c = λ is over. c.in_ok-moved.ensures.ports (c.either.ensures.other is) over
+
+pub returns-clause-logged : goal.returns-clause-logged
+returns-clause-logged c = λ is.
+    c.in_ok-moved.ensures.logged (logs_served c.args.pairs.now c.push_events.new.pairs c.args.self.now c.push_events.ensures.clients is)
