@@ -1,6 +1,6 @@
 -- Which buffers the steps of a line post.
 use Rattle.std.proofs.Common.{◌≡◌, ◌+◌, ◌*◌, ◌<◌, ℕ, suc, arith, Bool, true, false, IfOk, IfSome, IsSome, OnOk, List, [], ◌∷◌, ◌++◌, append-nil, Option, Some, None, Result, Ok, Err, length, length-append, map, min, refl, sym, ◌∙◌, ap, subst}
-use Rattle.std.proofs.lemmas.List.{append_assoc}
+use Rattle.std.proofs.lemmas.List.{append_assoc, map-append}
 use Rattle.vio_num.specs.Words.{Begins}
 use Rattle.vio_num.specs.declared.names.UnitId.{UnitId}
 use Rattle.vio_num.specs.declared.hypervisor.Hrc.{Hrc}
@@ -21,7 +21,7 @@ use Rattle.lan_script.specs.Invariant.{IsLan}
 use Rattle.lan_script.specs.PortCounts.{CountsOn, CountsStep, PortCounts, SameCounts, counts, counts_in, posted_on}
 use Rattle.lan_script.specs.Rows.{post_rows}
 use Rattle.lan_script.specs.Seats.{is_in_region, seat_at}
-use Rattle.lan_script.specs.Spent.{Grows}
+use Rattle.lan_script.specs.Spent.{AllGrow, Grows}
 use Rattle.lan_script.specs.Taking.{TakesUpTo}
 use Rattle.lan_script.specs.Units.{LanValue}
 use Rattle.lan_script.specs.declared.lines.PortStep.{PortStep}
@@ -48,6 +48,20 @@ posted_still unit None (Some after) grows same = absurd grows
 posted_still unit (Some before) None grows same = absurd grows
 posted_still unit (Some before) (Some after) grows same =
     ap (λ (l : List PostRow). map (λ (r : PostRow). r.descriptor) l) (begins_whole (post_rows unit before) (post_rows unit after) (grows.rows unit) same)
+
+-- a port that lost no row has the buffers that it had, and others behind them, if any
+posted_grows : (unit : UnitId) (before after : Option PortValue) → Grows before after → Begins (posted_of unit before) (posted_of unit after)
+posted_grows unit None None grows = ([], refl)
+posted_grows unit None (Some after) grows = absurd grows
+posted_grows unit (Some before) None grows = absurd grows
+posted_grows unit (Some before) (Some after) grows =
+    let rows = grows.rows unit in (
+      map (λ (r : PostRow). r.descriptor) rows.0,
+      ap (λ (l : List PostRow). map (λ (r : PostRow). r.descriptor) l) rows.1 ∙ map-append (λ (r : PostRow). r.descriptor) (post_rows unit before) rows.0,
+    )
+
+pub grown_posted : (lan lan' : LanValue) (unit : UnitId) → AllGrow lan lan' → Begins (posted_at lan unit) (posted_at lan' unit)
+grown_posted lan lan' unit grows = posted_grows unit (port_of lan.stations unit) (port_of lan'.stations unit) (grows unit)
 
 pub same_posted : (unit : UnitId) (old new : LanValue) → SameCounts old new → posted_at new unit ≡ posted_at old unit
 same_posted unit old new same =

@@ -9,6 +9,7 @@ use Rattle.hcall_table.specs.declared.returned.Returned.{Returned}
 use Rattle.tce_window.specs.PlainPort.{known_of}
 use Rattle.tce_window.specs.PortState.{PortState, port_at}
 use Rattle.tce_window.specs.Window.{WindowValue}
+use Rattle.unit_region.specs.InUse.{BusyFor}
 use Rattle.unit_region.specs.EntryAnswers.{AnswersEntry, ReadsList}
 use Rattle.unit_region.specs.Kept.{KeepsWindow}
 use Rattle.unit_region.specs.LinePuts.{StepPuts, is_put}
@@ -30,7 +31,7 @@ use Rattle.lan_script.specs.declared.lines.PortStep.{PortStep}
 use Rattle.lan_script.specs.declared.lines.PortStep.TheVariants as steps
 use Rattle.lan_script.specs.declared.seat.PortSeat.{PortSeat}
 use Rattle.lan_script.specs.declared.windows.Place.{Place}
-use Rattle.lan_script.proofs.Lans.{window_pages}
+use Rattle.lan_script.proofs.Lans.{window_free, window_pages}
 use Rattle.lan_script.proofs.Placing.{has_place, window_with, with_twice}
 
 -- A unit's window was taken and put back.
@@ -89,13 +90,15 @@ size_seen unit lan own seat was h =
 
 pub entry_back : (lan now new : LanValue) (unit : UnitId) (ps : List Place) (own own' : WindowValue) (call : EntryCall) (r : Result Returned NoMemory) → lan ≡ now
     → IsLan lan → IsSome (seat_at now.seats unit) → window_in unit lan.places ≡ Some own → ps ≡ with_window unit None lan.places
-    → new.places ≡ with_window unit (Some own') ps → IfOk r (AnswersEntry (known_of own) (known_of own') call) → IfOk r (CallsOne unit call now new)
-entry_back lan now new unit ps own own' call (Err memory) same is there at away put h = tt
-entry_back lan now new unit ps own own' call (Ok returned) same is there at away put h = record {
+    → new.places ≡ with_window unit (Some own') ps → IfOk r (AnswersEntry (known_of own) (known_of own') call)
+    → IfOk r (λ returned. BusyFor false (known_of own) (known_of own') returned.code) → IfOk r (CallsOne unit call now new)
+entry_back lan now new unit ps own own' call (Err memory) same is there at away put h busy = tt
+entry_back lan now new unit ps own own' call (Ok returned) same is there at away put h busy = record {
   size = size_seen unit now own (seat_at now.seats unit) b.was (window_pages lan now unit own same is there at);
   answers = subst (λ (o : Option WindowValue). AnswersEntry (port_at (facts_of unit now.places o)) (window_seen new unit) call returned) (sym b.was)
       (subst (λ (o : Option WindowValue). AnswersEntry (port_at (facts_of unit now.places (Some own))) (port_at (facts_of unit new.places o)) call returned) (sym b.is)
       (entry_seen unit now.places new.places own own' call returned h));
+  free = λ e. (busy e).held refl (window_free lan now unit own same is there at);
 }
   where
     b : IsBack unit now new.places own own'

@@ -20,7 +20,7 @@ use Rattle.lan_script.proofs.Carrying.{carried_on, read_on}
 use Rattle.lan_script.proofs.Keys.{WindowOf, window_of}
 use Rattle.lan_script.proofs.Order.{Each, each_weaker}
 pub use Rattle.lan_script.proofs.Blocks.{self}
-pub use Rattle.lan_script.proofs.Buffering.{posted_still, same_posted}
+pub use Rattle.lan_script.proofs.Buffering.{grown_posted, posted_still, same_posted}
 pub use Rattle.lan_script.proofs.Correlating.{none_carry, posts_same, rows_still, still_carry}
 pub use Rattle.lan_script.proofs.Keys.{port_head, port_tail}
 pub use Rattle.lan_script.proofs.OwnMacs.{mac_same, sets_moves, target_for, weaker_mac}

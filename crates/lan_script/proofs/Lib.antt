@@ -20,6 +20,7 @@ pub mod CountsKept
 pub mod Cuts
 pub mod EntriesPut
 pub mod Filling
+pub mod Forms
 pub mod Found
 pub mod Gains
 pub mod Keeping
@@ -57,6 +58,7 @@ pub mod ReplayedValues
 pub mod Replaying
 pub mod Resting
 pub mod RowLaws
+pub mod SendRanges
 pub mod Sent
 pub mod SessionCounts
 pub mod Spent

@@ -26,11 +26,11 @@ three true false z e = absurd (cc (e))
 three false y z e = absurd (cc (e))
 
 -- the end of a range inside the region
-range_end : (n at len : ℕ) → IsTrue (in_region n at len) → at + len ≤ 4096 * n
+pub range_end : (n at len : ℕ) → IsTrue (in_region n at len) → at + len ≤ 4096 * n
 range_end n at len h = leb-true (at + len) (4096 * n) (three (nat_le 1 len) (nat_le len 65536) (nat_le (at + len) (4096 * n)) h)
 
 -- a range that lies inside is told so
-range_inside : (n at len : ℕ) → 1 ≤ len → len ≤ 65536 → at + len ≤ 4096 * n → in_region n at len ≡ true
+pub range_inside : (n at len : ℕ) → 1 ≤ len → len ≤ 65536 → at + len ≤ 4096 * n → in_region n at len ≡ true
 range_inside n at len some few inside = all (nat_le 1 len) (nat_le len 65536) (nat_le (at + len) (4096 * n)) (le-leb 1 len some) (le-leb len 65536 few) (le-leb (at + len) (4096 * n) inside)
   where
     all : (x y z : Bool) → x ≡ true → y ≡ true → z ≡ true → ((x && y) && z) ≡ true

@@ -1,6 +1,7 @@
 -- What lines and calls put into the entries of a unit's window, and what calls on one entry answer.
-use Rattle.std.specs.Prelude.{◌≡◌, ◌++◌, ℕ, List, IfSome, ⊤}
+use Rattle.std.specs.Prelude.{◌≡◌, ◌≢◌, ◌++◌, ℕ, List, IfSome, ⊤}
 use Rattle.vio_num.specs.Words.{Begins}
+use Rattle.vio_num.specs.declared.hypervisor.Hrc.TheVariants as codes
 use Rattle.vio_num.specs.declared.names.UnitId.{UnitId}
 use Rattle.boot_text.specs.declared.verb.Verb.{Verb}
 use Rattle.hcall_table.specs.declared.returned.Returned.{Returned}
@@ -30,10 +31,12 @@ values_at lan unit = (facts_in lan.places unit).values
 abbrev pub ValuesGrow : UnitId → (old new : LanValue) → Type 0
 ValuesGrow unit old new = (e : ℕ) → Begins (values_at old unit e) (values_at new unit e)
 
--- A call on an entry of a unit's window, which has as many as its seat has pages: what it answers, and what it puts.
+-- A call on an entry of a unit's window, which has as many as its seat has pages: what it answers, and what it puts. Nothing of the window is held
+-- between calls, so it is never Busy.
 pub record CallsOne (unit : UnitId) (call : EntryCall) (old new : LanValue) (returned : Returned) : Type 0 where
   pub size : IfSome (seat_at old.seats unit) (λ seat. (window_seen old unit).place.size ≡ seat.pages)
   pub answers : AnswersEntry (window_seen old unit) (window_seen new unit) call returned
+  pub free : returned.code ≢ codes.Busy
 
 abbrev pub CallsEntry : UnitId → PortCall → (old new : LanValue) → Returned → Type 0
 CallsEntry unit (calls.Entry call) old new returned = CallsOne unit call old new returned

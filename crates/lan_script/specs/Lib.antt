@@ -7,6 +7,7 @@ pub mod Entries
 pub mod Frames
 pub mod Invariant
 pub mod LineBytes
+pub mod LineForms
 pub mod LineFrame
 pub mod LineSays
 pub mod Opening
@@ -21,6 +22,7 @@ pub mod Resting
 pub mod Rows
 pub mod RowsOf
 pub mod Seats
+pub mod SendRanges
 pub mod Spent
 pub mod Taking
 pub mod Targets

@@ -5,12 +5,14 @@ ghost use Rattle.lan_script.specs.Buffers.{PostsStep};
 ghost use Rattle.lan_script.specs.Correlators.{KeepsAddresses};
 ghost use Rattle.lan_script.specs.Entries.{PortPuts, port_step, values_at};
 ghost use Rattle.lan_script.specs.LineBytes.{PutsOn, StepsBytes};
+ghost use Rattle.lan_script.specs.LineForms.{CodesAs, StepForm};
 ghost use Rattle.lan_script.specs.LineSays.{SendsAs, TellsNoFrame};
 ghost use Rattle.lan_script.specs.OwnMac.{StepsMac};
 ghost use Rattle.lan_script.specs.PortCounts.{CountsStep, SameCounts, TellsNoCount};
 ghost use Rattle.lan_script.specs.Regions.{LaysLine, PortLays, PortTold, RegionsGrow};
 ghost use Rattle.lan_script.specs.Replayed.{IsFirst, Replays, SameBeside, SameReplays};
 ghost use Rattle.lan_script.specs.Seats.{TellsOfPort, TellsOfRegion, is_for_port, is_in_region, seat_at};
+ghost use Rattle.lan_script.specs.SendRanges.{StepRanges, TellsNoRange};
 ghost use Rattle.lan_script.specs.Taking.{StaysWithin};
 ghost use Rattle.lan_script.specs.Values.{NamesOwn, SameValues, SameValuesBeside, is_put, puts_other};
 ghost use Rattle.unit_region.specs.Kept.{KeepsWindow};
@@ -45,6 +47,8 @@ impl PortStep {
         ensures told { TellsOfPort result }
         ensures still { TellsNoCount result }
         ensures none { TellsNoFrame result }
+        ensures inside { TellsNoRange result }
+        ensures same { result ≡ PortStep.Waits Moved.Quiet done }
     {
         PortStep::Waits {
             moved: Moved::Quiet,
@@ -57,6 +61,8 @@ impl PortStep {
         ensures told { TellsOfPort result }
         ensures still { TellsNoCount result }
         ensures none { TellsNoFrame result }
+        ensures inside { TellsNoRange result }
+        ensures form { CodesAs code result }
         ensures coded { ¬ (code ≡ Hrc.Busy) → result ≡ PortStep.Ends (Outcome.Code code) }
     {
         match code {
@@ -115,6 +121,8 @@ impl Lan {
             PortLays unit line.now.number line.now.verb step self.old self.new) }
         ensures shows { IfOk result (λ step.
             PortTold unit line.now.number line.now.verb step self.new) }
+        ensures ranges { IfOk result (λ step. StepRanges unit line.now.verb step self.old.seats) }
+        ensures forms { IfOk result (StepForm line.now.verb) }
     {
         let mark = u64::from(line.number);
         match &line.verb {
@@ -143,6 +151,7 @@ impl Lan {
         ensures replays { IfOk result (λ step.
             Replays unit Verb.Open step self.old self.new) }
         ensures macs { IfOk result (λ step. StepsMac unit Verb.Open step self.old self.new) }
+        ensures form { IfOk result (StepForm Verb.Open) }
         ensures beside { OnOk result (SameBeside unit self.old self.new) }
         ensures places { self.new.places ≡ self.old.places }
     {
@@ -175,6 +184,7 @@ impl Lan {
             PortLays unit line.now.number line.now.verb step self.old self.new) }
         ensures shows { IfOk result (λ step.
             PortTold unit line.now.number line.now.verb step self.new) }
+        ensures form { IfOk result (StepForm line.now.verb) }
     {
         let mut own = self.windows.take(unit);
         let step = step_in(self.alloc, &mut own, line);

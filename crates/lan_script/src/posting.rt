@@ -9,6 +9,7 @@ ghost use Rattle.lan_script.specs.declared.lines.PortStep.TheVariants as steps;
 ghost use Rattle.lan_script.specs.declared.seat.PortSeat.{PortSeat};
 ghost use Rattle.lan_script.specs.Buffers.{AddsAt, AddsBuffer, PostsStep};
 ghost use Rattle.lan_script.specs.Correlators.{KeepsAddresses, ShowsAddress};
+ghost use Rattle.lan_script.specs.LineForms.{StepForm};
 ghost use Rattle.lan_script.specs.LineSays.{TellsNoFrame};
 ghost use Rattle.lan_script.specs.OwnMac.{SameSettings};
 ghost use Rattle.lan_script.specs.PortCounts.{CountsOn, CountsStep, counts, posted_on};
@@ -54,6 +55,7 @@ impl Lan {
         ensures posts { IfOk result (λ step.
             PostsStep unit (verbs.Post at len count) done step self.old self.new) }
         ensures told { IfOk result TellsOfPort }
+        ensures form { IfOk result (StepForm (verbs.Post at len count)) }
         ensures macs { OnOk result (SameSettings unit self.old self.new) }
         ensures replays { done ≡ 0 → IfOk result (λ step.
             Replays unit (verbs.Post at len count) step self.old self.new) }
@@ -92,6 +94,7 @@ impl Lan {
         ensures frames { self.new.frames ≡ self.old.frames }
         ensures counts { IfOk result (λ code.
             CountsOn unit (counts 0 0) (posted_on code) self.old self.new) }
+        ensures code { IfOk result (λ code. may_answer rows.AddLogicalLanBuffer code ≡ true) }
         ensures replays { IfOk result (λ code.
             ReplaysOn unit (AddSays len (IsBufferLen len) code) self.old self.new) }
         ensures posts { IfOk result (λ code. code ≡ Hrc.Success

@@ -11,9 +11,11 @@ ghost use Rattle.lan_script.specs.Invariant.{Owes};
 ghost use Rattle.lan_script.specs.Regions.{LaysLine, LaysNoOwn, RegionsGrow};
 ghost use Rattle.lan_script.specs.Replayed.{AddsBytes, GoesOut, GrantsAll, HasPages, HasShown, Replays, ReplaysOn, SameBeside, SameReplays, SendsShown, SentSays, Shows, replay_at};
 ghost use Rattle.lan_script.specs.Seats.{TellsOfPort, seat_at};
+ghost use Rattle.lan_script.specs.SendRanges.{StepRanges, TellsNoRange};
 ghost use Rattle.lan_script.specs.Values.{NamesOwn, SameValues};
 ghost use Rattle.lan_script.specs.LineBytes.{StepsBytes};
 ghost use Rattle.lan_script.specs.LineFrame.{line_frame};
+ghost use Rattle.lan_script.specs.LineForms.{SendForm, StepForm};
 ghost use Rattle.lan_script.specs.LineSays.{KeepsFrame, SaysSent, SendsAs, SentAs};
 ghost use Rattle.lan_script.specs.OwnMac.{SameSettings};
 ghost use Rattle.lan_script.specs.PortCounts.{SameCounts, TellsNoCount};
@@ -60,6 +62,7 @@ impl Lan {
         ensures counts { OnOk result (SameCounts self.old self.new) }
         ensures still { IfOk result TellsNoCount }
         ensures told { IfOk result TellsOfPort }
+        ensures form { IfOk result (StepForm (verbs.Send to len seed at)) }
         ensures macs { OnOk result (SameSettings unit self.old self.new) }
         ensures replays { IfOk result (λ step.
             Replays unit (verbs.Send to len seed at) step self.old self.new) }
@@ -69,6 +72,8 @@ impl Lan {
         ensures values { OnOk result (SameValues self.old self.new) }
         ensures regions { OnOk result (RegionsGrow self.old self.new) }
         ensures marks { OnOk result (LaysLine unit mark self.old self.new) }
+        ensures ranges { IfOk result (λ step.
+            StepRanges unit (verbs.Send to len seed at) step self.old.seats) }
     {
         if !self.has_range(unit, at, len) {
             return Ok(PortStep::Ends(Outcome::Range));
@@ -217,6 +222,8 @@ fn said(sent: Sent) -> PortStep
     ensures coded { sent.number ≡ None → ¬ (sent.code ≡ Hrc.Busy)
         → result ≡ PortStep.Ends (Outcome.Code sent.code) }
     ensures still { TellsNoCount result }
+    ensures inside { TellsNoRange result }
+    ensures form { may_answer rows.SendLogicalLan sent.code ≡ true → SendForm result }
 {
     match sent.number {
         Some(number) => PortStep::Ends(Outcome::Frame {

@@ -1,5 +1,6 @@
 pub mod Fronts
 pub mod Growing
+pub mod InUses
 pub mod Marking
 pub mod Putting
 pub mod RegionTold

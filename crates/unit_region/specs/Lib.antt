@@ -1,6 +1,7 @@
 pub mod Answers
 pub mod EntryAnswers
 pub mod EntryRows
+pub mod InUse
 pub mod Kept
 pub mod LinePuts
 pub mod Marks

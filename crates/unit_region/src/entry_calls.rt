@@ -2,13 +2,14 @@
 ghost use Rattle.std.specs.Prelude.{◌≡◌, ◌≢◌, ◌↔◌, ◌≤◌, ◌*◌, ◌%◌, true, false, ◌+◌, IfErr, IfOk, OnOk, length, replicate};
 ghost use Rattle.vio_num.specs.declared.TheConstants.{PAGE_BYTES};
 ghost use Rattle.tce_window.specs.Answers.{gives};
-ghost use Rattle.tce_window.specs.PortState.{OnlyReads, Puts, Reads};
+ghost use Rattle.tce_window.specs.PortState.{HasAllPages, OnlyReads, Puts, Reads};
 ghost use Rattle.tce_window.specs.Puts.{takes};
 ghost use Rattle.vio_num.specs.declared.hypervisor.Hrc.TheVariants as codes;
 ghost use Rattle.hcall_table.specs.Rows.{IsAnswer, may_answer};
 ghost use Rattle.hcall_table.specs.declared.hcall.Hcall.TheVariants as rows;
 ghost use Rattle.unit_region.specs.EntryAnswers.{AnswersEntry, AreValuesOf, PutsEach, PutsList, PutsValues, is_list, put_if};
 ghost use Rattle.unit_region.specs.EntryRows.{answer_of, entry_row, tce_code};
+ghost use Rattle.unit_region.specs.InUse.{BusyFor, FindsUse};
 ghost use Rattle.unit_region.specs.Kept.{KeepsWindow};
 ghost use Rattle.unit_region.specs.Marks.{LaysNoStroke};
 
@@ -69,6 +70,7 @@ fn get<O: OwnerPort>(own: &mut O, address: u64) -> Returned
     ensures value { gives (O.state own.old).place.size
         (O.state own.new).values address (answer_of result) }
     ensures answer { IsAnswer rows.GetTce result }
+    ensures busy { BusyFor O.is_shared (O.state own.old) (O.state own.new) result.code }
 {
     match own.get_tce(address) {
         GetTce::Value(value) => Returned {
@@ -88,6 +90,7 @@ fn put<O: OwnerPort>(own: &mut O, address: u64, value: u64) -> Result<Hrc, NoMem
     ensures put { IfOk result (λ code.
         Puts (O.state own.old) address (put_if code value) (O.state own.new)) }
     ensures code { IfOk result (λ code. may_answer rows.PutTce code ≡ true) }
+    ensures busy { IfOk result (BusyFor O.is_shared (O.state own.old) (O.state own.new)) }
 {
     own.reserve(1)?;
     Ok(code_of(own.put_tce(address, value)))
@@ -100,6 +103,7 @@ fn stuff<O: OwnerPort>(own: &mut O, address: u64, value: u64, count: u64) -> Res
     ensures each { IfOk result (PutsEach (O.state own.old) (O.state own.new) address
         (replicate count value)) }
     ensures code { IfOk result (λ code. may_answer rows.StuffTce code ≡ true) }
+    ensures busy { IfOk result (BusyFor O.is_shared (O.state own.old) (O.state own.new)) }
 {
     if count > MOST_VALUES {
         return Ok(Hrc::Parameter);
@@ -121,6 +125,7 @@ fn put_list<O: OwnerPort>(
     ensures marks { LaysNoStroke O.is_shared (O.state own.old) (O.state own.new) }
     ensures list { IfOk result (PutsList (O.state own.old) (O.state own.new) address list count) }
     ensures code { IfOk result (λ code. may_answer rows.PutTceIndirect code ≡ true) }
+    ensures busy { IfOk result (BusyFor O.is_shared (O.state own.old) (O.state own.new)) }
 {
     if !lies_at(own, list, count) {
         return Ok(Hrc::Parameter);
@@ -134,6 +139,7 @@ fn put_list<O: OwnerPort>(
 }
 
 // Reads the bytes of a list, which may have none.
+#[tactic(auto, using(crate::proofs::InUses::found_use))]
 fn read_list<O: OwnerPort>(own: &mut O, list: u64, bytes: &mut [u8]) -> Result<(), Hrc>
     requires few { length bytes.old ≤ PAGE_BYTES }
     requires inside { list + length bytes.old ≤ PAGE_BYTES * (O.state own.old).place.size }
@@ -142,6 +148,8 @@ fn read_list<O: OwnerPort>(own: &mut O, list: u64, bytes: &mut [u8]) -> Result<(
     ensures only { OnlyReads O.is_shared (O.state own.old) (O.state own.new) }
     ensures read { OnOk result (length bytes.old ≢ 0 → Reads (O.state own.new) list bytes.new) }
     ensures busy { IfErr result (λ code. code ≡ codes.Busy) }
+    ensures cause { HasAllPages (O.state own.old) → IfErr result (λ code.
+        FindsUse O.is_shared (O.state own.old) (O.state own.new)) }
     ensures count { length bytes.new ≡ length bytes.old }
 {
     if bytes.is_empty() {
@@ -168,6 +176,7 @@ fn put_values<O: OwnerPort>(
     ensures values { IfOk result
         (PutsValues (O.state own.old) (O.state own.new) address bytes.now) }
     ensures code { IfOk result (λ code. may_answer rows.PutTceIndirect code ≡ true) }
+    ensures busy { IfOk result (BusyFor O.is_shared (O.state own.old) (O.state own.new)) }
 {
     let values = values_of(alloc, bytes)?;
     own.reserve(MOST_VALUES as u32)?;
@@ -176,7 +185,8 @@ fn put_values<O: OwnerPort>(
 
 // Whether a list of this many values lies at the address.
 fn lies_at<O: OwnerPort>(own: &O, list: u64, count: u64) -> bool
-    ensures { result ≡ is_list (O.state own.now).place.size list count }
+    ensures lies { result ≡ is_list (O.state own.now).place.size list count }
+    ensures there { HasAllPages (O.state own.now) }
 {
     let size = PAGE_BYTES * u64::from(own.pages());
     count <= MOST_VALUES && list % PAGE_BYTES == 0 && list <= size && 8 * count <= size - list
@@ -198,6 +208,8 @@ pub fn make<O: OwnerPort>(alloc: Global, own: &mut O, call: EntryCall) -> Result
     ensures marks { LaysNoStroke O.is_shared (O.state own.old) (O.state own.new) }
     ensures answer { IfOk result (IsAnswer (entry_row call)) }
     ensures entry { IfOk result (AnswersEntry (O.state own.old) (O.state own.new) call) }
+    ensures busy { IfOk result (λ returned.
+        BusyFor O.is_shared (O.state own.old) (O.state own.new) returned.code) }
 {
     match call {
         EntryCall::Get { address } => Ok(get(own, address)),

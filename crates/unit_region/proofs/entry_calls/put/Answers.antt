@@ -4,6 +4,7 @@ use Rattle.tce_window.specs.Puts.{put_by}
 use Rattle.unit_region.specs.EntryAnswers.{put_if}
 use Rattle.unit_region.specs.Kept.{KeepsWindow}
 use Rattle.unit_region.proofs.Growing.{keeps_put}
+use Rattle.unit_region.proofs.InUses.{put_busy}
 use Rattle.unit_region.proofs.Taking.{put_of}
 use Rattle.unit_region.proofs.entry_calls.put.Goals as goal
 
@@ -22,3 +23,8 @@ returns-clause-put g c =
     put_of g.O.WindowPort.is_shared (g.O.WindowPort.state c.reserve.new.self) c.args.address c.args.value c.put_tce.result c.put_tce.ensures.busy
     ∙ ap (λ code. put_if code c.args.value) (sym c.code_of.ensures) in
     subst (λ list. Puts old c.args.address list new) same put
+
+pub returns-clause-busy : goal.returns-clause-busy
+returns-clause-busy g c =
+    put_busy g.O.WindowPort.is_shared (g.O.WindowPort.state c.args.own.now) (g.O.WindowPort.state c.reserve.new.self) (g.O.WindowPort.state c.put_tce.new.self) c.args.address
+    (c.args.value ∷ []) c.put_tce.result c.code_of.result c.reserve.ensures.rest c.code_of.ensures c.put_tce.ensures.busy c.put_tce.ensures.counts

@@ -24,7 +24,7 @@ returns-clause-others c =
 pub returns-clause-entry : goal.returns-clause-entry
 returns-clause-entry c =
     entry_back _ c.args.self.now _ c.args.unit c.take-own.new.self c.take-own.result c.make-returned.new.own c.args.call c.make-returned.result c.self.view_is
-    c.self.invariant c.requires.there c.take-own.ensures.window c.take-own.ensures.rest c.put.ensures c.make-returned.ensures.entry
+    c.self.invariant c.requires.there c.take-own.ensures.window c.take-own.ensures.rest c.put.ensures c.make-returned.ensures.entry c.make-returned.ensures.busy
 
 pub returns-clause-grows : goal.returns-clause-grows
 returns-clause-grows c =

@@ -1,4 +1,4 @@
-use Rattle.std.proofs.Common.{◌≡◌, ◌∙◌, ◌+◌, suc, arith, min, sym, subst}
+use Rattle.std.proofs.Common.{refl, ◌≡◌, ◌∙◌, ◌+◌, suc, arith, min, sym, subst}
 use Rattle.boot_text.specs.declared.verb.Verb.TheVariants as verbs
 use Rattle.lan_script.specs.PortCounts.{CountsStep, counts}
 use Rattle.lan_script.specs.declared.lines.PortStep.{PortStep}
@@ -17,6 +17,7 @@ use Rattle.lan_script.proofs.ReplayedPosts.{posts_more}
 use Rattle.lan_script.proofs.RegionsGrow.{regions_then}
 use Rattle.lan_script.proofs.RegionMarks.{marks_then}
 use Rattle.lan_script.specs.Regions.{IsLineMark}
+use Rattle.lan_script.proofs.Forms.{post_form}
 use Rattle.lan_script.proofs.lan.Lan.post_line.Goals as goal
 
 pub loop-posted-preserved : goal.loop-posted-preserved
@@ -77,6 +78,7 @@ returns-in_default c =
           (adds_refused c.args.unit _ _ c.in_ok-code.code c.args.self.now c.loop-posted.self c.post_one.new.self not c.in_ok-code.ensures.counts
           c.loop-posted.invariant.adds);
       told = c.ended.ensures.told;
+      form = post_form c.args.at c.args.len c.args.count c.loop-posted.posted c.in_ok-code.code c.ended.result tells c.in_ok-code.ensures.code;
       macs = adds_settings c.args.unit c.args.len (IsBufferLen c.args.len) c.in_ok-code.code c.loop-posted.self c.post_one.new.self c.in_ok-code.ensures.replays
           ∙ c.loop-posted.invariant.settings;
       replays = λ e.
@@ -109,3 +111,6 @@ returns-in-Busy-clause-regions c =
 pub returns-in-Busy-clause-marks : goal.returns-in-Busy-clause-marks
 returns-in-Busy-clause-marks c =
     marks_then (IsLineMark c.args.unit c.args.mark) c.args.self.now c.loop-posted.self c.post_one.new.self c.loop-posted.invariant.marks c.in_ok-code.ensures.marks
+
+pub returns-clause-form : goal.returns-clause-form
+returns-clause-form c = post_form c.args.at c.args.len c.args.count c.args.count Success c.ended-2.result c.ended-2.ensures.tells refl

@@ -9,6 +9,8 @@ use Rattle.lan_script.proofs.Telling.{sends_said, sent_behind}
 use Rattle.lan_script.proofs.RegionsGrow.{regions_then}
 use Rattle.lan_script.proofs.RegionMarks.{marks_none, marks_then}
 use Rattle.lan_script.specs.Regions.{IsLineMark}
+use Rattle.lan_script.proofs.Forms.{send_form}
+use Rattle.lan_script.proofs.SendRanges.{lies_inside}
 use Rattle.lan_script.proofs.lan.Lan.send_line.Goals as goal
 
 pub returns-clause-counts : goal.returns-clause-counts
@@ -70,3 +72,16 @@ pub returns-clause-marks : goal.returns-clause-marks
 returns-clause-marks c =
     marks_then (IsLineMark c.args.unit c.args.mark) c.args.self.now c.write.new.self c.send.new.self c.write.ensures.marks
     (marks_none (IsLineMark c.args.unit c.args.mark) c.write.new.self c.send.new.self c.in_ok-sent.ensures.marks)
+
+pub returns-clause-ranges : goal.returns-clause-ranges
+returns-clause-ranges c =
+    lies_inside c.args.unit c.args.to c.args.len c.args.seed c.args.at c.said.result c.args.self.now.seats (omega (arith, c.requires.least)) (omega (arith, c.requires.most))
+    (λ seat at. (c.has_range.ensures.range seat at).0 c.if-not-has_range.false) c.said.ensures.inside
+
+pub returns-in-Err-InUse-clause-ranges : goal.returns-in-Err-InUse-clause-ranges
+returns-in-Err-InUse-clause-ranges c =
+    lies_inside c.args.unit c.args.to c.args.len c.args.seed c.args.at c.waits.result c.args.self.now.seats (omega (arith, c.requires.least)) (omega (arith, c.requires.most))
+    (λ seat at. (c.has_range.ensures.range seat at).0 c.if-not-has_range.false) c.waits.ensures.inside
+
+pub returns-clause-form : goal.returns-clause-form
+returns-clause-form c = send_form c.args.to c.args.len c.args.seed c.args.at c.said.result (c.said.ensures.form c.in_ok-sent.ensures.code)

@@ -1,4 +1,4 @@
-use Rattle.std.proofs.Common.{ap, rules, ◌≡◌, OnOk, subst}
+use Rattle.std.proofs.Common.{ap, rules, ◌≡◌, OnOk, subst, sym}
 use Rattle.lan_script.proofs.Buffering.{counts_ok, is_posting, not_posting, other_ok, other_posts, same_posted, take_ok}
 use Rattle.lan_script.proofs.Correlating.{carry_here, carry_ok, carry_taken}
 use Rattle.lan_script.specs.OwnMac.{gives_mac}
@@ -10,6 +10,11 @@ use Rattle.std.proofs.Common.{Ok}
 use Rattle.lan_script.proofs.OwnPages.{bytes_ok, names_placed, names_same, names_still, no_bytes, no_bytes_here}
 use Rattle.lan_script.proofs.RegionsGrow.{told_apart, told_ok}
 use Rattle.lan_script.proofs.RegionMarks.{lays_apart}
+use Rattle.lan_script.proofs.Forms.{coded_form, form_ok, take_forms}
+use Rattle.lan_script.specs.LineForms.{HasForm}
+use Rattle.boot_text.specs.declared.verb.Verb.{Verb}
+use Rattle.hcall_table.specs.declared.hcall.Hcall.TheVariants as rows
+use Rattle.lan_script.proofs.SendRanges.{is_sending, not_sending, other_range, other_ranges, send_ranges}
 use Rattle.lan_script.specs.Seats.{is_in_region}
 use Rattle.lan_script.specs.Regions.{LaysLine}
 use Rattle.lan_script.proofs.lan.Lan.step.Goals as goal
@@ -240,3 +245,56 @@ returns-in-ChangeMac-clause-lays c = lays_apart c.args.line.now.verb _ (ap is_in
 
 pub returns-in-Multicast-clause-lays : goal.returns-in-Multicast-clause-lays
 returns-in-Multicast-clause-lays c = lays_apart c.args.line.now.verb _ (ap is_in_region c.in-Multicast.is)
+
+pub returns-in-Open-clause-ranges : goal.returns-in-Open-clause-ranges
+returns-in-Open-clause-ranges c = other_ranges c.args.unit c.args.line.now.verb c.open_line.result c.args.self.now.seats (ap is_sending c.in-Open.is)
+
+pub returns-in-Post-clause-ranges : goal.returns-in-Post-clause-ranges
+returns-in-Post-clause-ranges c = other_ranges c.args.unit c.args.line.now.verb c.post_line.result c.args.self.now.seats (ap is_sending c.in-Post.is)
+
+pub returns-in-Take-clause-ranges : goal.returns-in-Take-clause-ranges
+returns-in-Take-clause-ranges c = other_ranges c.args.unit c.args.line.now.verb c.take_line.result c.args.self.now.seats (ap is_sending c.in-Take.is)
+
+pub returns-in-Close-clause-ranges : goal.returns-in-Close-clause-ranges
+returns-in-Close-clause-ranges c = other_range c.args.unit c.args.line.now.verb c.coded.result c.args.self.now.seats (ap is_sending c.in-Close.is)
+
+pub returns-in-ChangeMac-clause-ranges : goal.returns-in-ChangeMac-clause-ranges
+returns-in-ChangeMac-clause-ranges c = other_range c.args.unit c.args.line.now.verb c.coded-in-ChangeMac.result c.args.self.now.seats (ap is_sending c.in-ChangeMac.is)
+
+pub returns-in-Multicast-clause-ranges : goal.returns-in-Multicast-clause-ranges
+returns-in-Multicast-clause-ranges c = other_range c.args.unit c.args.line.now.verb c.coded-in-Multicast.result c.args.self.now.seats (ap is_sending c.in-Multicast.is)
+
+pub returns-in-Send-clause-ranges : goal.returns-in-Send-clause-ranges
+returns-in-Send-clause-ranges c = send_ranges c.args.unit c.args.line.now.verb _ c.send_line.result c.args.self.now.seats c.in-Send.is c.send_line.ensures.ranges
+
+pub returns-in_default-clause-ranges : goal.returns-in_default-clause-ranges
+returns-in_default-clause-ranges c =
+    other_ranges c.args.unit c.args.line.now.verb c.step_in_region.result c.args.self.now.seats
+    (not_sending c.args.line.now.verb (λ to len seed at is. c.in_default.not-Send to len seed at is))
+
+pub returns-in-Open-clause-forms : goal.returns-in-Open-clause-forms
+returns-in-Open-clause-forms c = form_ok c.args.line.now.verb _ c.open_line.result c.in-Open.is c.open_line.ensures.form
+
+pub returns-in-Post-clause-forms : goal.returns-in-Post-clause-forms
+returns-in-Post-clause-forms c = form_ok c.args.line.now.verb _ c.post_line.result c.in-Post.is c.post_line.ensures.form
+
+pub returns-in-Send-clause-forms : goal.returns-in-Send-clause-forms
+returns-in-Send-clause-forms c = form_ok c.args.line.now.verb _ c.send_line.result c.in-Send.is c.send_line.ensures.form
+
+pub returns-in-Close-clause-forms : goal.returns-in-Close-clause-forms
+returns-in-Close-clause-forms c =
+    coded_form c.args.line.now.verb rows.FreeLogicalLan c.free.result c.coded.result (λ o is. subst (λ (v : Verb). HasForm v o) (sym c.in-Close.is) is) c.free.ensures.code
+    c.coded.ensures.form
+
+pub returns-in-ChangeMac-clause-forms : goal.returns-in-ChangeMac-clause-forms
+returns-in-ChangeMac-clause-forms c =
+    coded_form c.args.line.now.verb rows.ChangeLogicalLanMac c.change_mac.result c.coded-in-ChangeMac.result (λ o is. subst (λ (v : Verb). HasForm v o) (sym c.in-ChangeMac.is) is) c.change_mac.ensures.code
+    c.coded-in-ChangeMac.ensures.form
+
+pub returns-in-Multicast-clause-forms : goal.returns-in-Multicast-clause-forms
+returns-in-Multicast-clause-forms c =
+    coded_form c.args.line.now.verb rows.MulticastCtrl c.multicast.result c.coded-in-Multicast.result (λ o is. subst (λ (v : Verb). HasForm v o) (sym c.in-Multicast.is) is) c.multicast.ensures.code
+    c.coded-in-Multicast.ensures.form
+
+pub returns-in-Take-clause-forms : goal.returns-in-Take-clause-forms
+returns-in-Take-clause-forms c = take_forms c.args.line.now.verb c.in-Take.count c.args.done c.take_line.result c.in-Take.is c.take_line.ensures.within

@@ -6,6 +6,7 @@ use Rattle.lan_script.proofs.ReplayedValues.{put_back, put_beside}
 use Rattle.lan_script.proofs.OwnPages.{region_back}
 use Rattle.lan_script.proofs.RegionsGrow.{regions_back, told_back}
 use Rattle.lan_script.proofs.RegionMarks.{lays_back, line_back}
+use Rattle.lan_script.proofs.Forms.{region_form}
 use Rattle.lan_script.proofs.lan.Lan.step_in_region.Goals as goal
 
 pub take-own-requires : goal.take-own-requires
@@ -84,3 +85,6 @@ returns-clause-lays c =
     lays_back _ c.args.self.now _ c.args.unit c.args.line.now.number c.args.line.now.verb c.in_ok-step.field-0 c.of.result c.take-own.new.self c.take-own.result
     c.step_in-step.new.own c.self.view_is c.take-own.ensures.window c.take-own.ensures.unit c.take-own.ensures.rest c.put.ensures
     c.in_ok-step.ensures.lays c.of.ensures.same
+
+pub returns-clause-form : goal.returns-clause-form
+returns-clause-form c = region_form c.args.line.now.verb c.of.result c.requires.region
