@@ -1,7 +1,8 @@
 -- What calls leave of a unit's site, one after the other.
-use Rattle.std.proofs.Common.{◌≡◌, ◌⊎◌, inl, inr, ℕ, ◌++◌, Bool, true, false, List, [], ◌∷◌, refl, sym, ◌∙◌, ap, subst, arith, append-nil, append_assoc}
+use Rattle.std.proofs.Common.{◌≡◌, ◌⊎◌, inl, inr, ℕ, ◌<◌, ◌≤◌, ◌++◌, Bool, true, false, List, [], ◌∷◌, refl, sym, ◌∙◌, ap, subst, arith, append-nil, append_assoc}
 use Rattle.std.proofs.lemmas.List.Elements.{All-nil, All-cons, All-append, All-weaker}
 use Rattle.crq_ring.specs.declared.rows.PipeRow.{PipeRow}
+use Rattle.crq_session.specs.EndState.{EndState}
 use Rattle.vio_num.specs.Words.{Begins}
 use Rattle.tce_window.specs.Port.{Later}
 use Rattle.tce_window.specs.PortState.{PortState}
@@ -9,7 +10,7 @@ use Rattle.rdma_copy.proofs.Laws.{lawful_stays, side_same, side_on}
 use Rattle.rdma_copy.specs.declared.copy.CopyRecord.{CopyRecord}
 use Rattle.rdma_copy.specs.Copies.{side_of}
 use Rattle.rdma_copy.specs.Copy.{IsLawful, SideGrows}
-use Rattle.block_server.specs.Advances.{Advances, CopiesMore, IsOwnCopy, PutsMore}
+use Rattle.block_server.specs.Advances.{Advances, CopiesMore, IsOwnCopy, OpensLater, PutsMore}
 use Rattle.block_server.specs.Entries.{MayPut}
 use Rattle.block_server.specs.SiteState.{Lenders, SiteState}
 use Rattle.block_server.proofs.OwnerNames.{owner_on, owner_same}
@@ -80,6 +81,18 @@ copies_on own own' client client' own_grows client_grows old mid new first next 
       next.lawful;
 }
 
+-- one part behind another
+opens_on : (a b c : EndState) → a.last_session ≤ b.last_session → b.last_session ≤ c.last_session → OpensLater a b → OpensLater b c → OpensLater a c
+opens_on a b c most least first next on = last (next on)
+  where
+    earlier : (a.registered ≡ true) ⊎ (a.last_session < b.last_session) → (a.registered ≡ true) ⊎ (a.last_session < c.last_session)
+    earlier (inl was) = inl was
+    earlier (inr less) = inr (omega (arith, less, least))
+
+    last : (b.registered ≡ true) ⊎ (b.last_session < c.last_session) → (a.registered ≡ true) ⊎ (a.last_session < c.last_session)
+    last (inl was) = earlier (first was)
+    last (inr less) = inr (omega (arith, most, less))
+
 pub advances_same : (site : SiteState) → Advances site site
 advances_same site = record {
   reached = refl;
@@ -91,6 +104,7 @@ advances_same site = record {
   closed = omega arith;
   values = λ e. later_same site.shared (site.client.values e);
   session = omega arith;
+  opens = λ on. inl on;
   taken = begins_same site.queue.taken;
   put = puts_none site.queue.sent site.queue.sent refl;
   own = side_same (side_of site.own);
@@ -115,6 +129,7 @@ advances_on old mid new first next = record {
   values = λ e. later_on old.shared (old.client.values e) (mid.client.values e) (new.client.values e) (first.values e)
       (subst (λ (shared : Bool). Later shared (mid.client.values e) (new.client.values e)) first.shared (next.values e));
   session = omega (arith, first.session, next.session);
+  opens = opens_on old.queue mid.queue new.queue first.session next.session first.opens next.opens;
   taken = begins_on old.queue.taken mid.queue.taken new.queue.taken first.taken next.taken;
   put = puts_on old.queue.sent mid.queue.sent new.queue.sent first.put next.put;
   own = side_on (side_of old.own) (side_of mid.own) (side_of new.own) first.own next.own;

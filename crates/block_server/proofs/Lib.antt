@@ -93,3 +93,8 @@ pub mod DealtLaws
 pub mod AskedLaws
 pub mod RefusalLaws
 pub mod Laws
+pub mod Talking
+pub mod Reading
+pub mod Listening
+pub mod Servicing
+pub mod Talks

@@ -21,7 +21,7 @@ use Rattle.tce_window.specs.PortState.{PortState}
 use Rattle.rdma_copy.proofs.Laws.{side_same}
 use Rattle.rdma_copy.specs.Copies.{side_of}
 use Rattle.rdma_copy.specs.declared.copy.CopyRecord.{CopyRecord}
-use Rattle.block_server.specs.Advances.{Advances, KeepsFreed, PutsMore}
+use Rattle.block_server.specs.Advances.{Advances, KeepsFreed, OpensLater, PutsMore}
 use Rattle.block_server.specs.Entries.{MayPut}
 use Rattle.block_server.specs.SiteState.{Lenders, site}
 use Rattle.block_server.proofs.Advancing.{copies_none, later_same, puts_none, puts_one}
@@ -29,10 +29,10 @@ use Rattle.block_server.proofs.OwnerNames.{owner_same}
 use Rattle.block_server.proofs.Quieting.{lost_none}
 
 -- a call of the queue's end alone
-pub queue_call : (reached : Lenders) (own client : PortState) (shared : Bool) (copies : List CopyRecord) (old new : EndState) → new.place ≡ old.place → old.last_session ≤ new.last_session
+pub queue_call : (reached : Lenders) (own client : PortState) (shared : Bool) (copies : List CopyRecord) (old new : EndState) → new.place ≡ old.place → old.last_session ≤ new.last_session → OpensLater old new
     → Begins old.taken new.taken → PutsMore old.sent new.sent → (reached.link_shared ≡ false → new.counts.partner_session ≡ old.counts.partner_session) → old.counts.closed ≤ new.counts.closed
     → Advances (site reached old own client shared copies) (site reached new own client shared copies)
-queue_call reached own client shared copies old new place session taken put partner closed = record {
+queue_call reached own client shared copies old new place session opens taken put partner closed = record {
   reached = refl;
   queue_place = place;
   own_place = refl;
@@ -42,6 +42,7 @@ queue_call reached own client shared copies old new place session taken put part
   closed = closed;
   values = λ e. later_same shared (client.values e);
   session = session;
+  opens = opens;
   taken = taken;
   put = put;
   own = side_same (side_of own);
@@ -53,6 +54,25 @@ queue_call reached own client shared copies old new place session taken put part
   named = λ alone is. is;
   own_named = λ is. is;
 }
+
+-- the queue is registered as it was
+pub opens_same : (old new : EndState) → new.registered ≡ old.registered → OpensLater old new
+opens_same old new same on = inl (sym same ∙ on)
+
+-- by the answer to a registration, and to a free
+pub register_opens : (shared : Bool) (old new : EndState) (answer : RegAnswer) → OnOpened answer (Opens shared old new) → IfHeldUp answer (HoldsUp shared old new)
+    → OnNotRegistered answer (OnlyReserves old new) → OpensLater old new
+register_opens shared old new registering.Success opened held refused on = inr (omega (arith, opened.session))
+register_opens shared old new (registering.Closed control) opened held refused on = inr (omega (arith, opened.session))
+register_opens shared old new (registering.Busy number lay) opened held refused on = absurd (cc (on, held.still))
+register_opens shared old new registering.Parameter opened held refused on = inl (sym refused.registered ∙ on)
+register_opens shared old new registering.Resource opened held refused on = inl (sym refused.registered ∙ on)
+
+pub free_opens : (shared : Bool) (old new : EndState) (answer : FreeAnswer) → OnFreed answer (TellsFreed shared old new)
+    → IfInUse answer (FindsInUse shared old new) → OnNotFreed answer (OnlyReserves old new) → OpensLater old new
+free_opens shared old new freeing.Success freed busy refused on = absurd (cc (on, freed.freed))
+free_opens shared old new (freeing.Busy control) freed busy refused on = inl busy.registered
+free_opens shared old new freeing.Parameter freed busy refused on = inl (sym refused.registered ∙ on)
 
 pub same_session : (old new : EndState) → new.last_session ≡ old.last_session → old.last_session ≤ new.last_session
 same_session old new same = omega (arith, same)

@@ -24,6 +24,7 @@ use Rattle.block_server.specs.Copied.{MakesOne, own_name}
 use Rattle.block_server.specs.Delivers.{FetchesTo}
 use Rattle.block_server.specs.Moves.{Fetches, FetchesOne, begin_on, is_data, is_intake}
 use Rattle.block_server.specs.SiteState.{SiteState}
+use Rattle.block_server.specs.Talk.{IsReadWhole}
 use Rattle.block_server.proofs.FirstPages.{entry_page, own_begins}
 use Rattle.block_server.proofs.CopyKinds.{in_behind}
 use Rattle.block_server.proofs.NamedWindows.{grows_same, unit_same}
@@ -156,6 +157,20 @@ fetches_one false old new own' client' address len copies' out alone first some 
   where
     first' : (e : ℕ) → e < 34 → own'.values e ≡ (4096 * e + 3) ∷ []
     first' = same_first false old.own own' refl made.rest first
+
+-- it was read from pages with all their strokes
+pub fetched_whole : (shared : Bool) (own own' new_own client' client : PortState) (address len : ℕ) (copies copies' : List CopyRecord) (out : List ℕ)
+    → shared ≡ false → ((e : ℕ) → e < 34 → own.values e ≡ (4096 * e + 3) ∷ []) → 1 ≤ len → len ≤ 256 → length out ≡ len
+    → MakesOne shared client' own own' address 0 len (own_name own 0) copies copies' → OnlyReads shared own' new_own → Reads new_own 0 out → client ≡ client' → IsReadWhole client address out
+fetched_whole true own own' new_own client' client address len copies copies' out alone first some few long made rest reads same = absurd (cc (alone))
+fetched_whole false own own' new_own client' client address len copies copies' out alone first some few long made rest reads same =
+    subst (λ (port : PortState). IsReadWhole port address out) (sym same) (record {
+      pieces = made.copy.from.items;
+      read = (fetches_bytes own own' new_own client' 0 0 address len (own_name own 0) made.copy out refl (omega arith) (same_first false own own' refl made.rest first)
+          some (omega (arith, few)) long refl made.rest.place made.copied rest reads).read;
+      last = made.copied.last_read;
+      all = made.copied.all_read;
+    })
 
 -- a call that copies to a later page and then reads
 pub fetches_to : (shared : Bool) (old new : SiteState) (own' client' : PortState) (page at address len : ℕ) (copies' : List CopyRecord) (out : List ℕ)

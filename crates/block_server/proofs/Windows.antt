@@ -87,6 +87,7 @@ windows_move reached queue own own' client client' shared copies copies' own_pla
   closed = omega arith;
   values = values;
   session = omega arith;
+  opens = λ on. inl on;
   taken = begins_same queue.taken;
   put = puts_none queue.sent queue.sent refl;
   own = own_grows;

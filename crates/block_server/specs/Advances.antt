@@ -1,6 +1,6 @@
 -- What a unit's calls leave of its queue and of the two windows: nothing that was known is gone, nothing was put but what a
 -- unit may put, and nothing was copied but by lawful copies.
-use Rattle.std.specs.Prelude.{◌≡◌, ◌≤◌, ◌⊎◌, ◌++◌, ℕ, Bool, false, All, List, Some}
+use Rattle.std.specs.Prelude.{◌≡◌, ◌<◌, ◌≤◌, ◌⊎◌, ◌++◌, ℕ, Bool, false, true, All, List, Some}
 use Rattle.vio_num.specs.declared.entry.Entry.{Entry}
 use Rattle.vio_num.specs.Entry.{partner_freed}
 use Rattle.crq_ring.specs.declared.rows.PipeRow.{PipeRow}
@@ -21,6 +21,10 @@ pub record PutsMore (old new : List PipeRow) : Type 0 where
   pub more : List PipeRow
   pub put : new ≡ old ++ more
   pub may : All (λ row. MayPut row.entry) more
+
+-- A queue that is registered was so before, or it is in a later session.
+abbrev pub OpensLater : (old new : EndState) → Type 0
+OpensLater old new = new.registered ≡ true → (old.registered ≡ true) ⊎ (old.last_session < new.last_session)
 
 -- The event that is kept, if one is, says that the unit's queue is free.
 abbrev pub KeepsFreed : EndState → Type 0
@@ -55,6 +59,7 @@ pub record Advances (old new : SiteState) : Type 0 where
   pub closed : old.queue.counts.closed ≤ new.queue.counts.closed
   pub values : (e : ℕ) → Later old.shared (old.client.values e) (new.client.values e)
   pub session : old.queue.last_session ≤ new.queue.last_session
+  pub opens : OpensLater old.queue new.queue
   pub taken : Begins old.queue.taken new.queue.taken
   pub put : PutsMore old.queue.sent new.queue.sent
   pub own : SideGrows (side_of old.own) (side_of new.own)
@@ -73,6 +78,7 @@ pub record Goes (queue queue' : EndState) (own own' client client' : PortState) 
   pub own_place : own'.place ≡ own.place
   pub client_place : client'.place ≡ client.place
   pub session : queue.last_session ≤ queue'.last_session
+  pub opens : OpensLater queue queue'
   pub taken : Begins queue.taken queue'.taken
   pub put : PutsMore queue.sent queue'.sent
   pub own_grows : SideGrows (side_of own) (side_of own')

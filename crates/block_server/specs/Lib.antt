@@ -42,6 +42,7 @@ pub mod Serving
 pub mod SiteState
 pub mod Stage
 pub mod Steps
+pub mod Talk
 pub mod Turns
 pub mod Units
 pub mod Verdicts

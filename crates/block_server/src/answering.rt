@@ -1,5 +1,6 @@
 // Answering: what is put into the client's queue, and what ends a login.
-ghost use Rattle.std.specs.Prelude.{◌≡◌, ◌≢◌, ◌⊎◌, ◌+◌, ◌<◌, ◌∷◌, ◌++◌, ℕ, Bool, List, None, Some, IfOk, OnOk, drop, false, true};
+ghost use Rattle.block_server.specs.Talk.{CopiesAnswer, HasRoomFor, IsAnswerAt, IsReplied, LogsOut, MayWriteAnswer, PutsAnswer, SettlesLogins, reach_of, settled_lines};
+ghost use Rattle.std.specs.Prelude.{◌≡◌, ◌≢◌, ◌⊎◌, ◌+◌, ◌<◌, ◌∷◌, ◌++◌, ℕ, Bool, List, None, Some, IfOk, OnOk, drop, false, length, true};
 ghost use Rattle.block_server.specs.Advances.{Advances};
 ghost use Rattle.block_server.specs.Books.{books_at, books_of};
 ghost use Rattle.block_server.specs.Cargo.{KeepsCargo, Sight, cargo_at, cargo_of, is_loaded, rows_of};
@@ -67,6 +68,10 @@ pub(crate) fn put_reply<S: Site>(unit: &mut Unit, site: &mut S, reply: Entry) ->
     ensures refuses { (records : Records) → Explains
         (ledger_of unit.old (S.state site.old) records)
         (ledger_of unit.new (S.state site.new) records) }
+    ensures hears { S.link_shared ≡ false → (S.state site.old).queue.registered ≡ true →
+        HasRoomFor (S.state site.old).queue 1 → (result ≡ Next.Entry) ×
+        IsReplied unit.old unit.new
+        (reach_of (S.state site.old)) (reach_of (S.state site.new)) reply }
 {
     match site.send(reply) {
         SendAnswer::Dropped { .. } => {
@@ -170,6 +175,7 @@ pub(crate) fn lose_partner(unit: &mut Unit, session: u64, records: &mut Records)
         shown'.pages.count ≡ shown.pages.count → KeepsCargo
         (cargo_at unit.old.id unit.old.service shown records.old.history.items)
         (cargo_at unit.new.id unit.new.service shown' records.new.history.items) }
+    ensures closing { unit.new.line.closing ≡ unit.old.line.closing }
 {
     end_login(unit, session, records, Lapse::Lost, 0, 0);
 }
@@ -293,6 +299,10 @@ pub(crate) fn log_out(unit: &mut Unit, session: u64, records: &mut Records)
         unit.old.pending.items ≡ front ∷ rest → is_login front.order ≡ false → Explains
         (ledger_at unit.old queue taken answers records.old)
         (ledger_at unit.new queue taken answers records.new) }
+    ensures line { unit.new.line ≡ unit.old.line }
+    ensures stage { unit.new.service.stage ≡ Stage.Start }
+    ensures out { (q : EndState) → session ≡ q.last_session → LogsOut unit.old unit.new q q
+        records.old.grants.items records.new.grants.items }
 {
     let login = unit.logins.end();
     records.grants.push_reserved(Grant::Lapsed {
@@ -346,6 +356,15 @@ pub(crate) fn answer<S: Site>(
         (desk_of unit.old) records.old.history.items
         (ledger_of unit.old (S.state site.old) records.old)
         (ledger_of unit.new (S.state site.new) records.new) }
+    ensures serves { (request : Request) → (rest : List Request) → (outcome : Outcome) →
+        IsAnswerAt unit.old.service.stage outcome →
+        unit.old.pending.items ≡ request ∷ rest → S.link_shared ≡ false →
+        (S.state site.old).shared ≡ false → (S.state site.old).queue.registered ≡ true →
+        MayWriteAnswer (S.state site.old).client request.address →
+        HasRoomFor (S.state site.old).queue 1 → OnOk result (PutsAnswer unit.old unit.new
+        (S.state site.old).queue (S.state site.new).queue
+        records.old.grants.items records.new.grants.items outcome
+        (srp_entry (length unit.old.service.answer.items) request.tag)) }
 {
     records.make_room()?;
     unit.logins.make_room()?;
@@ -397,6 +416,12 @@ fn copy_answer<S: Site>(
     ensures refuses { ExplainsBy (S.state site.old) (S.state site.new)
         (ledger_of unit.old (S.state site.old) records.old)
         (ledger_of unit.new (S.state site.new) records.new) }
+    ensures serves { (request : Request) → (rest : List Request) → (outcome : Outcome) →
+        IsAnswerAt unit.old.service.stage outcome →
+        unit.old.pending.items ≡ request ∷ rest → (S.state site.old).shared ≡ false →
+        MayWriteAnswer (S.state site.old).client request.address → OnOk result
+        (CopiesAnswer unit.old unit.new records.old.grants.items records.new.grants.items
+        outcome) }
 {
     let Stage::Answer(outcome) = unit.service.stage else {
         return Ok(());
@@ -441,6 +466,10 @@ fn deliver<S: Site>(unit: &mut Unit, site: &mut S, outcome: Outcome) -> Result<P
     ensures refused { IfOk result (λ progress. progress ≡ Progress.Refused →
         DeniesAnswer (S.state site.old) (S.state site.new) unit.old.pending.items) }
     ensures pending { unit.new.pending.items ≡ unit.old.pending.items }
+    ensures entry { IfOk result (λ progress. progress ≡ Progress.Done →
+        unit.new.service.stage ≡ Stage.Entry outcome) }
+    ensures answer { unit.new.service.answer ≡ unit.old.service.answer }
+    ensures id { unit.new.id ≡ unit.old.id }
 {
     let Some(request) = unit.pending.front() else {
         return Ok(Progress::Busy);
@@ -490,6 +519,12 @@ fn put_answer<S: Site>(unit: &mut Unit, site: &mut S, records: &mut Records, out
         (desk_of unit.old) records.old.history.items
         (ledger_of unit.old (S.state site.old) records.old)
         (ledger_of unit.new (S.state site.new) records.new) }
+    ensures serves { (request : Request) → (rest : List Request) → S.link_shared ≡ false →
+        (S.state site.old).queue.registered ≡ true → HasRoomFor (S.state site.old).queue 1 →
+        unit.old.pending.items ≡ request ∷ rest → PutsAnswer unit.old unit.new
+        (S.state site.old).queue (S.state site.new).queue
+        records.old.grants.items records.new.grants.items outcome
+        (srp_entry (length unit.old.service.answer.items) request.tag) }
 {
     let Some(request) = unit.pending.front() else {
         return;
@@ -552,6 +587,8 @@ pub(crate) fn put_kept<S: Site>(
         (desk_of unit.old) records.old.history.items
         (ledger_of unit.old (S.state site.old) records.old)
         (ledger_of unit.new (S.state site.new) records.new) }
+    ensures unkept { unit.old.line.kept ≡ None →
+        OnOk result (records.new.grants.items ≡ records.old.grants.items) }
 {
     let Some(kept) = unit.line.kept else {
         return Ok(Next::Entry);
@@ -606,6 +643,10 @@ fn settle(unit: &mut Unit, session: u64, records: &mut Records, outcome: Outcome
         ExplainsOf terms (desk_of unit.old) records.old.history.items
         (ledger_at unit.old session taken answers records.old)
         (ledger_at unit.new session taken (answers ++ login_put entry) records.new) }
+    ensures line { unit.new.line ≡ unit.old.line }
+    ensures logins { SettlesLogins outcome unit.old.logins unit.new.logins }
+    ensures added { records.new.grants.items ≡ records.old.grants.items ++
+        settled_lines outcome unit.old.id session unit.old.logins }
 {
     match outcome {
         Outcome::Granted { number } => {

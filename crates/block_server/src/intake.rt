@@ -1,4 +1,7 @@
 // Intake: entries are taken from the unit's queue, and the requests among them are fetched and judged.
+ghost use Rattle.block_server.specs.Talk.{FitOneTurn, HasHeard, HasHeardAll, HearsFirst, IsAccepted, SaysRequest, IsListening, IsReceivedAs, MayAsk, Word, reach_of, talk_of};
+ghost use Rattle.crq_session.specs.declared.handshake.Handshake.TheVariants.{Up};
+ghost use Rattle.srp_iu.specs.declared.unit.Iu.{Iu};
 ghost use Rattle.block_server.specs.Cargo.{KeepsCargo, Pages, cargo_of, cargo_with};
 ghost use Rattle.std.specs.Prelude.{◌≡◌, ◌⊎◌, ◌↔◌, ◌+◌, ◌<◌, ◌≤◌, ℕ, List, None, Some, IfOk, IsTrue, OnOk, false, true, length, slice_index};
 ghost use Rattle.std.specs.VecDeque.{deque_len, deque_capacity};
@@ -41,7 +44,7 @@ use crate::unit::Unit;
 use arrayvec::ArrayVec;
 use crq_session::PollAnswer;
 use srp_credits::CreditFault;
-use srp_iu::{Iu, read_iu, spelled_bytes_are_read, tag_of};
+use srp_iu::{Iu, bytes_spell_one, read_iu, spelled_bytes_are_read, tag_of};
 use vio_num::{Entry, Kind, Lapse, NoMemory};
 
 /// As many requests as a unit has pending.
@@ -128,6 +131,13 @@ pub(crate) fn take_in<S: Site>(
         ExplainsBy (S.state site.old) (S.state site.new)
         (ledger_of unit.old (S.state site.old) records.old)
         (ledger_of unit.new (S.state site.new) records.new) }
+    ensures hears { (words : List Word) →
+        IsListening unit.old (reach_of (S.state site.old)) S.link_shared words →
+        FitOneTurn unit.old (reach_of (S.state site.old)) words → IfOk result (λ next.
+        (next ≡ Next.Service) × HasHeard unit.old unit.new
+        (reach_of (S.state site.old)) (reach_of (S.state site.new))
+        records.old.grants.items records.new.grants.items words ×
+        HasHeardAll unit.new (S.state site.new).queue) }
 {
     let next = receive_waiting(unit, site, records)?;
     if next != Next::Entry {
@@ -184,6 +194,8 @@ fn receive_waiting<S: Site>(
     ensures refuses { ExplainsBy (S.state site.old) (S.state site.new)
         (ledger_of unit.old (S.state site.old) records.old)
         (ledger_of unit.new (S.state site.new) records.new) }
+    ensures lines { unit.old.waiting ≡ None →
+        OnOk result (records.new.grants.items ≡ records.old.grants.items) }
 {
     let Some(arrival) = unit.waiting else {
         return Ok(Next::Entry);
@@ -213,6 +225,7 @@ fn make_room(unit: &mut Unit, records: &mut Records) -> Result<(), NoMemory>
     ensures refuses { (queue : ℕ) → (taken : List PipeRow) → (answers : List Entry) → Explains
         (ledger_at unit.old queue taken answers records.old)
         (ledger_at unit.new queue taken answers records.new) }
+    ensures talk { talk_of unit.new ≡ talk_of unit.old }
 {
     unit.pending.reserve(1)?;
     records.make_room()
@@ -258,6 +271,11 @@ fn take_one<S: Site>(unit: &mut Unit, site: &mut S, records: &mut Records) -> Re
         ExplainsBy (S.state site.old) (S.state site.new)
         (ledger_of unit.old (S.state site.old) records.old)
         (ledger_of unit.new (S.state site.new) records.new) }
+    ensures hears { (words : List Word) →
+        IsListening unit.old (reach_of (S.state site.old)) S.link_shared words →
+        IfOk result (HearsFirst S.link_shared unit.old unit.new
+        (reach_of (S.state site.old)) (reach_of (S.state site.new))
+        records.old.grants.items records.new.grants.items words) }
 {
     site.reserve(2)?;
     let PollAnswer::Got { number, entry } = site.poll() else {
@@ -325,6 +343,14 @@ fn take_command<S: Site>(
         ExplainsBy (S.state site.old) (S.state site.new)
         (ledger_of unit.old before records.old)
         (ledger_of unit.new (S.state site.new) records.new) }
+    ensures hears { (address : ℕ) → (bytes : List ℕ) → (iu : Iu) →
+        (S.state site.old).shared ≡ false → unit.old.line.handshake ≡ Up →
+        MayAsk (talk_of unit.old) iu →
+        SaysRequest (S.state site.old).client arrival.entry address bytes iu →
+        IfOk result (λ next. (next ≡ Next.Entry) ×
+        IsReceivedAs unit.old unit.new
+        (reach_of (S.state site.old)) (reach_of (S.state site.new))
+        records.old.grants.items records.new.grants.items arrival.number address bytes iu) }
 {
     match arrival.entry.format() {
         SRP => {
@@ -376,6 +402,14 @@ fn receive<S: Site>(
         ExplainsBy (S.state site.old) (S.state site.new)
         (ledger_of unit.old (S.state site.old) records.old)
         (ledger_of unit.new (S.state site.new) records.new) }
+    ensures hears { (address : ℕ) → (bytes : List ℕ) → (iu : Iu) →
+        (S.state site.old).shared ≡ false → unit.old.line.handshake ≡ Up →
+        MayAsk (talk_of unit.old) iu →
+        SaysRequest (S.state site.old).client arrival.entry address bytes iu →
+        IfOk result (λ next. (next ≡ Next.Entry) ×
+        IsReceivedAs unit.old unit.new
+        (reach_of (S.state site.old)) (reach_of (S.state site.new))
+        records.old.grants.items records.new.grants.items arrival.number address bytes iu) }
 {
     let session = site.session();
     if !unit.line.is_up() {
@@ -439,7 +473,12 @@ fn judge(
         (λ Hears. Hears (fetched (iu_address arrival.entry) units_at bytes.now))
         (waiting_in arrival (ledger_at unit.old queue taken answers records.old))
         (ledger_at unit.new queue taken answers records.new) }
+    ensures hears { (iu : Iu) → Spells bytes.now iu → MayAsk (talk_of unit.old) iu →
+        (result ≡ Next.Entry) × IsAccepted unit.old unit.new
+        records.old.grants.items records.new.grants.items
+        arrival.number (iu_address arrival.entry) bytes.now iu }
 {
+    bytes_spell_one();
     match judge_unit(&mut unit.logins, bytes) {
         Verdict::Ignored => Next::Entry,
         Verdict::Accepted { login, tag, order } => {

@@ -1,5 +1,6 @@
 // A unit's side of its link: how far the queues' initialisation has come, and the entry that found the client's
 // queue full.
+ghost use Rattle.crq_session.specs.Handshake.{step_entry};
 ghost use Rattle.std.specs.Prelude.{◌≡◌, ◌↔◌, IfSome, IsTrue, None, Some, false};
 ghost use Rattle.crq_session.specs.declared.handshake.Handshake.TheVariants.{Down, Up};
 ghost use Rattle.block_server.specs.Entries.{IsPlain, MayPut};
@@ -85,6 +86,7 @@ impl Line {
 pub(crate) fn reply_of(step: Step) -> Option<Entry>
     ensures may { IfSome result (λ entry. MayPut entry) }
     ensures plain { IfSome result (λ entry. IsPlain entry) }
+    ensures reply { result ≡ step_entry step }
 {
     step.entry()
 }

@@ -1,4 +1,5 @@
 // The three ports of a unit's turn as one site.
+ghost use Rattle.block_server.specs.Talk.{StaysKnown};
 ghost use Rattle.std.specs.Prelude.{◌≡◌, ◌+◌, ◌<◌, ◌≤◌, ◌++◌, [], false, IsErrOf, OnErr, OnOk, length, vec_len, vec_capacity};
 ghost use Rattle.tce_window.specs.declared.piece.TheConstants.{MOST_BYTES};
 ghost use Rattle.vio_num.specs.declared.TheConstants.{PAGE_BYTES};
@@ -90,6 +91,8 @@ impl<C: CrqEnd, O: OwnerPort + GuestPort, R: GuestPort> Ports<'_, '_, '_, '_, C,
             self.new.copies.ghost_name C.is_shared) (C.state self.new.queue.now)
             (O.state self.new.own.now) (R.state self.new.client.now) R.is_shared
             self.new.copies.now.items) }
+        ensures client { R.is_shared ≡ false →
+            StaysKnown (R.state self.old.client.now) (R.state self.new.client.now) }
         ensures behind { PAGE_BYTES ≤ at → FetchesNone (O.state self.old.own.now).place.unit
             self.old.copies.now.items self.new.copies.now.items }
         ensures made { OnOk result (MakesOne O.is_shared (R.state self.new.client.now)

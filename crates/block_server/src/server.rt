@@ -1,5 +1,6 @@
 // A server: its units, the disk that they serve, and what they keep for good.
-ghost use Rattle.std.specs.Prelude.{◌≡◌, ◌≢◌, ◌<◌, ◌≤◌, ◌++◌, ℕ, Bool, List, [], false, IfErr, IfOk, IfSome, IsSome, slice_get, vec_len};
+ghost use Rattle.block_server.specs.Talk.{IsTurnReady, UnitTalksOn, Word, reach};
+ghost use Rattle.std.specs.Prelude.{◌≡◌, ◌≢◌, ◌<◌, ◌≤◌, ◌++◌, ℕ, Bool, List, [], false, IfErr, IfOk, IfSome, IsSome, OnOk, Some, slice_get, vec_len};
 ghost use Rattle.rdma_copy.specs.Copies.{side_of};
 ghost use Rattle.tce_window.specs.Port.{Later};
 ghost use Rattle.block_server.specs.Advances.{CopiesMore, Goes, KeepsFreed, StayNamed};
@@ -24,6 +25,7 @@ ghost use Rattle.block_server.specs.SiteState.{AreReady};
 ghost use Rattle.block_server.specs.Serving.{Terms};
 ghost use Rattle.block_server.specs.Units.{AnswersItsRows, AreGranting, AreInOrder, AreServing, GrantEach, ServesItsRows, grant_of};
 ghost use Rattle.block_server.specs.Written.{AreWritten};
+ghost use Rattle.block_server.specs.declared.unit.Unit.{Unit as UnitValue};
 
 use crate::disk::Disk;
 use crate::ports::Ports;
@@ -241,6 +243,12 @@ impl<B: Blocks> Server<B> {
             (O.state own.old).place.unit (C.state crq.old) → AnswersInOrder
             told earlier closed self.new.units.items unit (O.state own.old).place.unit
             (C.state crq.old) (C.state crq.new) self.old.records self.new.records }
+        ensures talks { (words : List Word) → (u : UnitValue) →
+            slice_get self.old.units.items unit ≡ Some u →
+            IsTurnReady u (reach (C.state crq.old) (R.state client.old) R.is_shared)
+            C.is_shared words → OnOk result (UnitTalksOn self.new.units.items unit u
+            (reach (C.state crq.old) (R.state client.old) R.is_shared) (C.state crq.new)
+            self.old.records.grants.items self.new.records.grants.items words) }
     {
         let id = UnitId {
             partition: self.partition,

@@ -1,4 +1,6 @@
 // The service of the oldest request: what it asks is done, and then it is answered.
+ghost use Rattle.block_server.specs.declared.request.Order.{Order as Asked};
+ghost use Rattle.block_server.specs.Talk.{IsServable, ServesFirst, SuitsStage, reach_of};
 ghost use Rattle.block_server.specs.Cargo.{AreShown, HasTag, IsAccounted, IsFetchedAll, IsSentAll, KeepsCargo, Sight, cargo_at, cargo_of, command_of, data_bytes, is_loaded, pages_of, seen};
 ghost use Rattle.srp_desc.specs.declared.pieces.TheConstants.{MAX_DATA_LEN};
 ghost use Rattle.block_server.specs.Parts.{IsPlacedAt};
@@ -96,6 +98,13 @@ pub(crate) fn serve<S: Site, B: Blocks>(
         (S.state site.old) (S.state site.new) (desk_of unit.old) records.old.history.items
         (ledger_of unit.old (S.state site.old) records.old)
         (ledger_of unit.new (S.state site.new) records.new) }
+    ensures serves { (request : Request) → (rest : List Request) →
+        IsServable unit.old (reach_of (S.state site.old)) S.link_shared request rest →
+        OnOk result (ServesFirst unit.old unit.new
+        (S.state site.old).queue (S.state site.new).queue
+        records.old.grants.items records.new.grants.items request) }
+    ensures unserved { unit.old.pending.items ≡ [] →
+        records.new.grants.items ≡ records.old.grants.items }
 {
     let Some(request) = unit.pending.front() else {
         return Ok(());
@@ -135,6 +144,8 @@ fn note_stage(unit: &mut Unit, before: (u8, u32))
         owing_of unit.new q records ≡ owing_of unit.old q records }
     ensures service { unit.new.service ≡ unit.old.service }
     ensures id { unit.new.id ≡ unit.old.id }
+    ensures logins { unit.new.logins ≡ unit.old.logins }
+    ensures pending { unit.new.pending.items ≡ unit.old.pending.items }
 {
     let (stage, done) = unit.service.stage.how_far();
     if stage != before.0 || done != before.1 {
@@ -186,6 +197,8 @@ fn prepare<S: Site, B: Blocks>(
         (seen (command_of request.now.order) (S.state site.old)) records.old.history.items) →
         IsAccounted told asked (cargo_at id service.new
         (seen (command_of request.now.order) (S.state site.new)) records.new.history.items) }
+    ensures suits { SuitsStage logins.now.current request.now.order service.old.stage →
+        OnOk result (SuitsStage logins.now.current request.now.order service.new.stage) }
 {
     match &request.order {
         Order::Command(command) => {
@@ -243,6 +256,8 @@ fn judge_login(
     ensures cargo { (id : UnitId) → (shown : Sight) → (rows : List Served) →
         is_loaded service.old.stage ≡ false → KeepsCargo
         (cargo_at id service.old shown rows) (cargo_at id service.new shown rows) }
+    ensures suits { OnOk result
+        (SuitsStage logins.now.current (Order.Login login.now) service.new.stage) }
 {
     match login_refusal(logins.current(), login) {
         Some(reason) => service.set_answer(&login_rejected(login, reason), Outcome::Rejected),
@@ -294,6 +309,8 @@ fn add_code(
     ensures cargo { (shown : Sight) → is_loaded service.old.stage ≡ false → KeepsCargo
         (cargo_at id service.old shown records.old.history.items)
         (cargo_at id service.new shown records.new.history.items) }
+    ensures suits { (current : ℕ) → SuitsStage current request.now.order service.old.stage →
+        OnOk result (SuitsStage current request.now.order service.new.stage) }
 {
     let blank = records.new_row(id, session, request)?;
     let row = records.history.len();
@@ -343,6 +360,8 @@ fn serve_command<S: Site, B: Blocks>(
         (seen (command_of request.now.order) (S.state site.old)) records.old.history.items) →
         IsAccounted told asked (cargo_at id service.new
         (seen (command_of request.now.order) (S.state site.new)) records.new.history.items) }
+    ensures suits { (current : ℕ) → SuitsStage current request.now.order service.old.stage →
+        OnOk result (SuitsStage current request.now.order service.new.stage) }
 {
     run_step(service, id, request, command, site, records, disk)?;
     store(service, request, site)?;
@@ -390,6 +409,8 @@ fn run_step<S: Site, B: Blocks>(
         records.old.history.items) →
         IsAccounted told asked (cargo_at id service.new (seen (Some command.now) (S.state site.new))
         records.new.history.items) }
+    ensures suits { (current : ℕ) → SuitsStage current request.now.order service.old.stage →
+        OnOk result (SuitsStage current request.now.order service.new.stage) }
 {
     if !service.stage.is_before_step() {
         return Ok(());
@@ -428,6 +449,9 @@ fn store<S: Site>(service: &mut Service, request: &Request, site: &mut S) -> Res
     ensures cargo { (id : UnitId) → (rows : List Served) → (first : Option Cmd) → KeepsCargo
         (cargo_at id service.old (seen first (S.state site.old)) rows)
         (cargo_at id service.new (seen first (S.state site.new)) rows) }
+    ensures suits { (current : ℕ) → (order : Asked) →
+        SuitsStage current order service.old.stage →
+        OnOk result (SuitsStage current order service.new.stage) }
 {
     if let Stage::Given { row, reply } = service.stage {
         site.write_data(&service.given, request.tag)?;
@@ -480,6 +504,8 @@ fn hand_over<S: Site>(
         records.old.history.items) →
         IsAccounted told asked (cargo_at id service.new (seen (Some command.now) (S.state site.new))
         records.new.history.items) }
+    ensures suits { (current : ℕ) → SuitsStage current request.now.order service.old.stage →
+        OnOk result (SuitsStage current request.now.order service.new.stage) }
 {
     let Stage::DataIn { row, reply, cursor } = service.stage else {
         return Ok(());
@@ -523,6 +549,8 @@ fn make_step<S: Site, B: Blocks>(
         records.old.history.items) →
         IsAccounted told asked (cargo_at id service.new (seen (Some command.now) (S.state site.new))
         records.new.history.items) }
+    ensures suits { (current : ℕ) → SuitsStage current request.now.order service.old.stage →
+        OnOk result (SuitsStage current request.now.order service.new.stage) }
 {
     let Stage::DataOut(_) = service.stage else {
         return Ok(());
@@ -636,6 +664,8 @@ fn end_command(
         (progress ≡ Progress.Done → IsSentAll service.old) → KeepsCargo
         (cargo_at id service.old shown records.old.history.items)
         (cargo_at id service.new shown records.new.history.items) }
+    ensures suits { (current : ℕ) → SuitsStage current request.now.order service.old.stage →
+        OnOk result (SuitsStage current request.now.order service.new.stage) }
 {
     let Stage::DataIn { row, reply, .. } = service.stage else {
         return Ok(());
@@ -679,6 +709,8 @@ fn refuse_data(
     ensures cargo { (id : UnitId) → (shown : Sight) → KeepsCargo
         (cargo_at id service.old shown records.old.history.items)
         (cargo_at id service.new shown records.new.history.items) }
+    ensures suits { (current : ℕ) → SuitsStage current request.now.order service.old.stage →
+        OnOk result (SuitsStage current request.now.order service.new.stage) }
 {
     let Stage::DataIn { row, cursor, .. } = service.stage else {
         return Ok(());

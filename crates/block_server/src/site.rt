@@ -1,4 +1,5 @@
 // What a server unit does with its queue and with the two windows.
+ghost use Rattle.block_server.specs.Talk.{IsReadWhole, StaysKnown};
 ghost use Rattle.std.specs.Prelude.{◌≡◌, ◌↔◌, ◌+◌, ◌<◌, ◌≤◌, Bool, IsErrOf, OnErr, OnOk, false, length, true};
 ghost use Rattle.crq_ring.specs.declared.TheConstants.{MAX_SLOTS};
 ghost use Rattle.tce_window.specs.declared.piece.TheConstants.{MOST_BYTES};
@@ -167,6 +168,10 @@ pub(crate) trait Site {
         ensures fetched { OnOk result
             (FetchesOne (state self.old) (state self.new) address out.new) }
         ensures missed { OnErr result (Passes (state self.old) (state self.new)) }
+        ensures whole { OnOk result
+            (IsReadWhole (state self.new).client address out.new) }
+        ensures client { (state self.old).shared ≡ false →
+            StaysKnown (state self.old).client (state self.new).client }
         ensures data { pages_of (state self.new) ≡ pages_of (state self.old) };
 
     /// Copies a table of 1 to 4,096 bytes from this address of the client's window to page 1, and reads it.

@@ -1,4 +1,5 @@
 // The steps of a unit's turn.
+ghost use Rattle.block_server.specs.Talk.{IsTurnReady, Replies, TalksOn, Word, reach_of};
 ghost use Rattle.crq_session.specs.Answered.{taken_now};
 ghost use Rattle.block_server.specs.Cargo.{IsAccounted, cargo_of};
 ghost use Rattle.std.specs.Prelude.{◌≡◌, ◌≢◌, ◌+◌, ◌<◌, ◌≤◌, None, Bool, IfOk, List, OnOk, [], false, true};
@@ -80,6 +81,11 @@ pub(crate) fn turn<S: Site, B: Blocks>(
         (S.state site.old) (S.state site.new) (desk_of unit.old) records.old.history.items
         (ledger_of unit.old (S.state site.old) records.old)
         (ledger_of unit.new (S.state site.new) records.new) }
+    ensures talks { (words : List Word) →
+        IsTurnReady unit.old (reach_of (S.state site.old)) S.link_shared words →
+        OnOk result (TalksOn unit.old unit.new
+        (reach_of (S.state site.old)) (S.state site.new).queue
+        records.old.grants.items records.new.grants.items words) }
 {
     unit.moved = false;
     steps(unit, site, records, disk)?;
@@ -135,6 +141,11 @@ fn steps<S: Site, B: Blocks>(
         (S.state site.old) (S.state site.new) (desk_of unit.old) records.old.history.items
         (ledger_of unit.old (S.state site.old) records.old)
         (ledger_of unit.new (S.state site.new) records.new) }
+    ensures talks { (words : List Word) →
+        IsTurnReady unit.old (reach_of (S.state site.old)) S.link_shared words →
+        OnOk result (TalksOn unit.old unit.new
+        (reach_of (S.state site.old)) (S.state site.new).queue
+        records.old.grants.items records.new.grants.items words) }
 {
     if open_line(unit, site)? == Next::End {
         return Ok(());
@@ -184,6 +195,10 @@ fn open_line<S: Site>(unit: &mut Unit, site: &mut S) -> Result<Next, NoMemory>
     ensures refuses { (records : Records) → Explains
         (ledger_of unit.old (S.state site.old) records)
         (ledger_of unit.new (S.state site.new) records) }
+    ensures idle { S.link_shared ≡ false → is_ended unit.old.line ≡ false →
+        (S.state site.old).queue.kept ≡ None → OnOk result
+        (Replies (S.state site.old).queue (S.state site.new).queue [] ×
+        ((S.state site.new).client ≡ (S.state site.old).client)) }
 {
     site.reserve(FIRST_CALLS)?;
     if push_event(unit, site) == Next::End {
@@ -228,6 +243,9 @@ fn push_event<S: Site>(unit: &mut Unit, site: &mut S) -> Next
     ensures refuses { (records : Records) → Explains
         (ledger_of unit.old (S.state site.old) records)
         (ledger_of unit.new (S.state site.new) records) }
+    ensures idle { S.link_shared ≡ false → (S.state site.old).queue.kept ≡ None →
+        Replies (S.state site.old).queue (S.state site.new).queue [] ×
+        ((S.state site.new).client ≡ (S.state site.old).client) }
 {
     match site.push_event() {
         EventAnswer::Nothing => Next::Entry,

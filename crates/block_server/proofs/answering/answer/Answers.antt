@@ -29,6 +29,7 @@ use Rattle.block_server.proofs.Coming.{comes_first, comes_put}
 use Rattle.block_server.proofs.ComingParts.{comes_none}
 use Rattle.block_server.specs.Steps.{NoStage}
 use Rattle.block_server.proofs.Dropping.{known_within}
+use Rattle.block_server.proofs.Servicing.{answers_first, may_later}
 use Rattle.block_server.proofs.answering.answer.Goals as goal
 
 pub returns-in_err-make_room-clause-once : goal.returns-in_err-make_room-clause-once
@@ -263,3 +264,16 @@ returns-in-Entry-clause-comes g c =
     comes_put c.args.unit.now _ _ _ _ _
     (comes_first c.args.unit.now _ _ _ _ _ (comes_none NoStage c.args.unit.now _ _ _ (still_reserves _ _ c.reserve.ensures.rest) refl refl) c.in_ok-copy_answer.ensures.comes)
     c.put_answer.ensures.comes
+
+pub returns-in-Entry-clause-serves : goal.returns-in-Entry-clause-serves
+returns-in-Entry-clause-serves g c = λ request rest outcome at parts link apart on may room.
+    let later = may_later (g.S.Site.state c.args.site.now) (g.S.Site.state c.reserve.new.self) request.address apart c.reserve.ensures.advances may in
+    answers_first _ c.args.unit.now c.copy_answer.new.unit c.put_answer.new.unit (g.S.Site.state c.args.site.now).queue (g.S.Site.state c.reserve.new.self).queue (g.S.Site.state c.copy_answer.new.site).queue (g.S.Site.state c.put_answer.new.site).queue
+    c.args.records.now.grants.items c.make_room.new.self.grants.items c.copy_answer.new.records.grants.items c.put_answer.new.records.grants.items outcome _ request rest c.reserve.ensures.rest c.copy_answer.ensures.queue c.make_room.ensures.lists.grants
+    (c.in_ok-copy_answer.ensures.serves request rest outcome at parts (c.reserve.ensures.advances.shared ∙ apart) later) c.in-Entry.is link on room parts (λ a b x y. c.put_answer.ensures.serves request rest a b x y)
+
+pub returns-in_default-clause-serves : goal.returns-in_default-clause-serves
+returns-in_default-clause-serves g c = λ request rest outcome at parts link apart on may room.
+    let later = may_later (g.S.Site.state c.args.site.now) (g.S.Site.state c.reserve.new.self) request.address apart c.reserve.ensures.advances may in
+    let copied = c.in_ok-copy_answer.ensures.serves request rest outcome at parts (c.reserve.ensures.advances.shared ∙ apart) later in
+    absurd (c.in_default.not-Entry outcome copied.stage)

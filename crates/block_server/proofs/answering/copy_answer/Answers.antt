@@ -25,6 +25,10 @@ use Rattle.block_server.specs.declared.logins.Logins.{Logins}
 use Rattle.block_server.proofs.Quieting.{still_equal}
 use Rattle.block_server.proofs.ComingParts.{comes_ended}
 use Rattle.block_server.specs.Steps.{ToEntry}
+use Rattle.block_server.specs.declared.service.Stage.TheVariants.{Entry}
+use Rattle.block_server.proofs.Servicing.{answer_is, copied_before, is_pending, not_refused}
+use Rattle.block_server.proofs.Taking.{waiting_stands}
+use Rattle.block_server.proofs.Talking.{not_in_use}
 use Rattle.block_server.proofs.answering.copy_answer.Goals as goal
 
 pub returns-in_default-clause-once : goal.returns-in_default-clause-once
@@ -161,3 +165,26 @@ returns-in-Refused-clause-comes g c =
     let denied = c.in_ok-deliver.ensures.refused c.in-Refused.is in
     comes_ended ToEntry _ _ _ _ (still_equal _ _ c.deliver.ensures.queue) denied.front denied.rest denied.parts
     c.end_session.ensures.ends.waiting c.end_session.ensures.ends.pending
+
+pub returns-in_default-clause-serves : goal.returns-in_default-clause-serves
+returns-in_default-clause-serves g c = λ request rest outcome at parts alone may. copied_before c.args.unit.now _ _ outcome refl (λ a is. c.in_default.not-Answer a is) at
+
+pub returns-in-Done-clause-serves : goal.returns-in-Done-clause-serves
+returns-in-Done-clause-serves g c = λ request rest outcome at parts alone may. record {
+  id = c.deliver.ensures.id;
+  stage = c.in_ok-deliver.ensures.entry c.in-Done.is ∙ ap Entry (answer_is c.args.unit.now.service.stage _ outcome c.in-Answer.is at);
+  answer = c.deliver.ensures.answer;
+  pending = c.deliver.ensures.pending;
+  line = c.deliver.ensures.line;
+  waiting = waiting_stands _ _ c.deliver.ensures.stands;
+  logins = c.deliver.ensures.logins;
+  lines_are = refl;
+}
+
+pub returns-in-Busy-clause-serves : goal.returns-in-Busy-clause-serves
+returns-in-Busy-clause-serves g c = λ request rest outcome at parts alone may.
+    absurd (not_in_use (g.S.Site.state c.args.site.now) (g.S.Site.state c.deliver.new.site) alone (c.in_ok-deliver.ensures.busy c.in-Busy.is (is_pending _ rest request parts)))
+
+pub returns-in-Refused-clause-serves : goal.returns-in-Refused-clause-serves
+returns-in-Refused-clause-serves g c = λ request rest outcome at parts alone may.
+    absurd (not_refused (g.S.Site.state c.args.site.now) (g.S.Site.state c.deliver.new.site) _ rest request alone parts may (c.in_ok-deliver.ensures.refused c.in-Refused.is))

@@ -19,6 +19,8 @@ use Rattle.block_server.proofs.Ledgers.{explains_settled, on_ends}
 use Rattle.block_server.proofs.Taking.{ended_stands, waiting_stands}
 use Rattle.block_server.specs.Refusals.{ledger_at}
 use Rattle.std.proofs.Common.{ℕ}
+use Rattle.std.proofs.Common.{◌++◌}
+use Rattle.block_server.proofs.Listening.{replies_none}
 use Rattle.block_server.proofs.answering.log_out.Goals as goal
 
 pub returns-clause-once : goal.returns-clause-once
@@ -53,3 +55,15 @@ returns-clause-refuses c = λ queue taken answers first rest present parts other
     (on_ends (ledger_at c.args.unit.now queue taken answers c.args.records.now) _ (Lapsed c.args.unit.now.id c.args.session c.end-login.result Logout 0 0) c.end-login.result Logout 0 0
     (ap (λ (n : ℕ). Lapsed c.args.unit.now.id n c.end-login.result Logout 0 0) present) c.finish.ensures.id
     (ap (λ (l : Logins). l.current) c.finish.ensures.logins ∙ c.end-login.ensures.current) refl c.push_reserved.ensures.items)
+
+pub returns-clause-out : goal.returns-clause-out
+returns-clause-out c = λ q at. record {
+  over = record { pending = c.finish.ensures.pending; line = c.finish.ensures.line; waiting = waiting_stands _ _ c.finish.ensures.stands; stage = c.finish.ensures.stage };
+  put = replies_none q q refl;
+  last = ap (λ (l : Logins). l.last) c.finish.ensures.logins ∙ c.end-login.ensures.last;
+  current = ap (λ (l : Logins). l.current) c.finish.ensures.logins ∙ c.end-login.ensures.current;
+  taking = ap (λ (l : Logins). l.taking) c.finish.ensures.logins ∙ c.end-login.ensures.taking;
+  granted = ap (λ (l : Logins). l.granted) c.finish.ensures.logins ∙ c.end-login.ensures.granted;
+  lines_are = c.push_reserved.ensures.items
+      ∙ (λ i. c.args.records.now.grants.items ++ Lapsed c.args.unit.now.id (at i) (c.end-login.ensures.ended i) Logout 0 0 ∷ []);
+}

@@ -38,6 +38,10 @@ use Rattle.block_server.proofs.ComingParts.{comes_finished, comes_none, work_put
 use Rattle.block_server.specs.Steps.{NoStage}
 use Rattle.std.proofs.Common.{inl}
 use Rattle.block_server.proofs.Dropping.{discarded_closed}
+use Rattle.std.proofs.Common.{◌≡◌, ◌++◌, ℕ, rules, subst}
+use Rattle.block_server.specs.Talk.{settled_lines}
+use Rattle.block_server.proofs.Listening.{full_no}
+use Rattle.block_server.proofs.Servicing.{no_front, puts_settled, puts_turned}
 use Rattle.block_server.proofs.answering.put_answer.Goals as goal
 
 pub returns-in_default-clause-once : goal.returns-in_default-clause-once
@@ -191,3 +195,24 @@ returns-in_default-send-clause-comes g c =
     comes_finished NoStage _ _ _ _
     (send_idles _ _ _ c.send.result c.in_default-send.not-Success c.in_default-send.not-Dropped c.send.ensures.closed c.send.ensures.refused c.send.ensures.rest).still
     (waiting_stands _ _ c.finish.ensures.stands) c.in-Some.request.now front.0 front.1 c.finish.ensures.pending
+
+pub returns-in_default-clause-serves : goal.returns-in_default-clause-serves
+returns-in_default-clause-serves g c = λ request rest alone on room parts. absurd (no_front _ request rest parts (search rules))
+
+pub returns-in-Dropped-clause-serves : goal.returns-in-Dropped-clause-serves
+returns-in-Dropped-clause-serves g c = λ request rest alone on room parts. absurd (full_no _ _ _ _ _ alone c.send.ensures.rest room c.in-Dropped.ensures.dropped)
+
+pub returns-in-Success-clause-serves : goal.returns-in-Success-clause-serves
+returns-in-Success-clause-serves g c = λ request rest alone on room parts.
+    let front = front_is _ _ c.in-Some.ensures.item.3 in
+    puts_settled _ c.args.unit.now c.settle.new.unit _ _ _ _ c.args.outcome _ _ _ c.in-Some.request.now request front.0 rest alone c.send.ensures.rest c.in-Success.ensures.success front.1 parts (search rules)
+    (record { pending = c.settle.ensures.pending; line = c.settle.ensures.line; waiting = waiting_stands _ _ c.settle.ensures.stands; stage = c.settle.ensures.stage })
+    c.settle.ensures.logins (subst (λ (n : ℕ). c.settle.new.records.grants.items ≡ c.args.records.now.grants.items ++ settled_lines c.args.outcome c.args.unit.now.id n c.args.unit.now.logins)
+    (c.session.ensures ∙ c.send.ensures.rest.last_session) c.settle.ensures.added)
+
+pub returns-in_default-send-clause-serves : goal.returns-in_default-send-clause-serves
+returns-in_default-send-clause-serves g c = λ request rest alone on room parts.
+    let front = front_is _ _ c.in-Some.ensures.item.3 in
+    puts_turned _ c.args.unit.now c.finish.new.unit _ _ _ c.args.outcome c.answer_entry-entry.result c.send.result _ c.in-Some.request.now request front.0 rest alone on c.send.ensures.rest
+    c.in_default-send.not-Success c.in_default-send.not-Dropped c.send.ensures.closed c.send.ensures.unregistered front.1 parts (search rules)
+    (record { pending = c.finish.ensures.pending; line = c.finish.ensures.line; waiting = waiting_stands _ _ c.finish.ensures.stands; stage = c.finish.ensures.stage }) c.finish.ensures.logins

@@ -13,6 +13,7 @@ use Rattle.std.proofs.Common.{Some, refl}
 use Rattle.block_server.specs.declared.line.Kept.TheVariants as keeps
 use Rattle.block_server.proofs.Owing.{owes_seen}
 use Rattle.block_server.proofs.OwingCalls.{seen_sends}
+use Rattle.block_server.proofs.Listening.{full_no, not_put_reply, sends_reply}
 use Rattle.block_server.proofs.answering.put_reply.Goals as goal
 
 pub returns-in-Dropped-clause-once : goal.returns-in-Dropped-clause-once
@@ -63,3 +64,26 @@ pub returns-in_default-clause-refuses : goal.returns-in_default-clause-refuses
 returns-in_default-clause-refuses g c = λ records.
     explains_same (ledger_of c.args.unit.now (g.S.Site.state c.args.site.now) records) _ (passed_session _ _ c.send.ensures.passes) (passed_taken _ _ c.send.ensures.passes) refl refl refl refl
     (logins_same _ _ _ _ c.in_default.not-Success c.in_default.not-Dropped c.send.ensures.closed c.send.ensures.refused) refl refl
+
+pub returns-in-Dropped-clause-hears : goal.returns-in-Dropped-clause-hears
+returns-in-Dropped-clause-hears g c = λ alone on room. absurd (full_no _ _ _ _ _ alone c.send.ensures.rest room c.in-Dropped.ensures.dropped)
+
+pub returns-in-Success-clause-hears : goal.returns-in-Success-clause-hears
+returns-in-Success-clause-hears g c = λ alone on room. (
+  refl,
+  record {
+    same = refl;
+    put = sends_reply _ _ _ _ _ alone c.send.ensures.rest c.in-Success.ensures.success;
+    window = c.send.ensures.windows.client;
+  },
+)
+
+pub returns-in_default-clause-hears : goal.returns-in_default-clause-hears
+returns-in_default-clause-hears g c = λ alone on room. (
+  refl,
+  record {
+    same = refl;
+    put = not_put_reply _ _ _ _ c.send.result alone on c.send.ensures.rest c.in_default.not-Success c.in_default.not-Dropped c.send.ensures.closed c.send.ensures.unregistered;
+    window = c.send.ensures.windows.client;
+  },
+)

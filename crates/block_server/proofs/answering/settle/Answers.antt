@@ -25,6 +25,8 @@ use Rattle.std.proofs.Common.{length, subst, true, ◌≡◌}
 use Rattle.block_server.specs.Stage.{fits, has_answer}
 use Rattle.block_server.specs.declared.service.Outcome.{Outcome}
 use Rattle.block_server.specs.declared.service.Stage.{Stage}
+use Rattle.std.proofs.Common.{append-nil}
+use Rattle.block_server.specs.Talk.{SettlesLogins, settled_lines}
 use Rattle.block_server.proofs.answering.settle.Goals as goal
 use Rattle.block_server.proofs.answering.settle.Goals.{in-Granted, in-Rejected, in-Served}
 
@@ -86,4 +88,43 @@ returns-clause-refuses c = λ terms taken answers entry kept.
           (c.finish.ensures.pending ∙ ap (λ (u : ServerUnit). drop 1 u.pending.items) w.unit-is)
           (ap (λ (r : Records). r.grants.items) w.records-is ∙ ap (λ (v : Vec Grant Global). v.items) w.answer-in-Served.ensures.grants) refl
           (c.finish.ensures.id ∙ ap (λ (u : ServerUnit). u.id) w.unit-is) (ap (λ (l : Logins). l.current) c.finish.ensures.logins ∙ ap (λ (u : ServerUnit). u.logins.current) w.unit-is ∙ w.answer.ensures.current)
+    ]
+
+pub returns-clause-line : goal.returns-clause-line
+returns-clause-line c = elim c.match-outcome.branch [
+  | in-Granted w ↦ c.finish.ensures.line ∙ ap (λ (u : ServerUnit). u.line) w.unit-is
+  | in-Rejected w ↦ c.finish.ensures.line ∙ ap (λ (u : ServerUnit). u.line) w.unit-is
+  | in-Served w ↦ c.finish.ensures.line ∙ ap (λ (u : ServerUnit). u.line) w.unit-is
+]
+
+pub returns-clause-logins : goal.returns-clause-logins
+returns-clause-logins c = elim c.match-outcome.branch [
+  | in-Granted w ↦ subst (λ (o : Outcome). SettlesLogins o c.args.unit.now.logins c.finish.new.unit.logins) (sym w.in-Granted.is) (record {
+    last = ap (λ (l : Logins). l.last) c.finish.ensures.logins ∙ ap (λ (u : ServerUnit). u.logins.last) w.unit-is ∙ w.begin-login.ensures.last ∙ w.begin-login.ensures.number;
+    current = ap (λ (l : Logins). l.current) c.finish.ensures.logins ∙ ap (λ (u : ServerUnit). u.logins.current) w.unit-is ∙ w.begin-login.ensures.current ∙ w.begin-login.ensures.number;
+    taking = ap (λ (l : Logins). l.taking) c.finish.ensures.logins ∙ ap (λ (u : ServerUnit). u.logins.taking) w.unit-is ∙ w.begin-login.ensures.taking;
+    outstanding = ap (λ (l : Logins). l.target.outstanding) c.finish.ensures.logins ∙ ap (λ (u : ServerUnit). u.logins.target.outstanding) w.unit-is ∙ w.begin-login.ensures.outstanding;
+    granted = ap (λ (l : Logins). l.granted) c.finish.ensures.logins ∙ ap (λ (u : ServerUnit). u.logins.granted) w.unit-is ∙ w.begin-login.ensures.granted;
+  })
+  | in-Rejected w ↦ subst (λ (o : Outcome). SettlesLogins o c.args.unit.now.logins c.finish.new.unit.logins) (sym w.in-Rejected.is)
+      (c.finish.ensures.logins ∙ ap (λ (u : ServerUnit). u.logins) w.unit-is)
+  | in-Served w ↦ subst (λ (o : Outcome). SettlesLogins o c.args.unit.now.logins c.finish.new.unit.logins) (sym w.in-Served.is) (record {
+    last = ap (λ (l : Logins). l.last) c.finish.ensures.logins ∙ ap (λ (u : ServerUnit). u.logins.last) w.unit-is ∙ w.answer.ensures.last;
+    current = ap (λ (l : Logins). l.current) c.finish.ensures.logins ∙ ap (λ (u : ServerUnit). u.logins.current) w.unit-is ∙ w.answer.ensures.current;
+    taking = ap (λ (l : Logins). l.taking) c.finish.ensures.logins ∙ ap (λ (u : ServerUnit). u.logins.taking) w.unit-is ∙ w.answer.ensures.taking;
+    outstanding = ap (λ (l : Logins). l.target.outstanding) c.finish.ensures.logins ∙ ap (λ (u : ServerUnit). u.logins.target.outstanding) w.unit-is ∙ w.answer.ensures.less;
+    granted = ap (λ (l : Logins). l.granted) c.finish.ensures.logins ∙ ap (λ (u : ServerUnit). u.logins.granted) w.unit-is ∙ w.answer.ensures.granted;
+  })
+]
+
+pub returns-clause-added : goal.returns-clause-added
+returns-clause-added c =
+    let lines = λ (o : Outcome). c.args.records.now.grants.items ++ settled_lines o c.args.unit.now.id c.args.session c.args.unit.now.logins in
+    elim c.match-outcome.branch [
+      | in-Granted w ↦ ap (λ (r : Records). r.grants.items) w.records-is ∙ w.push_reserved.ensures.items
+          ∙ (λ i. c.args.records.now.grants.items ++ Granted c.args.unit.now.id c.args.session (w.begin-login.ensures.number i) w.in-Granted.number (w.credits-credits.ensures i) ∷ [])
+          ∙ ap lines (sym w.in-Granted.is)
+      | in-Rejected w ↦ ap (λ (r : Records). r.grants.items) w.records-is ∙ sym (append-nil c.args.records.now.grants.items) ∙ ap lines (sym w.in-Rejected.is)
+      | in-Served w ↦ ap (λ (r : Records). r.grants.items) w.records-is ∙ ap (λ (v : Vec Grant Global). v.items) w.answer-in-Served.ensures.grants
+          ∙ sym (append-nil c.args.records.now.grants.items) ∙ ap lines (sym w.in-Served.is)
     ]

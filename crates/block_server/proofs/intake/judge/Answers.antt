@@ -19,6 +19,8 @@ use Rattle.vio_num.specs.declared.history.Grant.TheVariants.{Lapsed}
 use Rattle.block_server.specs.Refusals.{ledger_at, waiting_in}
 use Rattle.std.proofs.Common.{inl}
 use Rattle.block_server.proofs.Dealing.{accepted_how, ignored_none}
+use Rattle.block_server.proofs.Talking.{accepts_pushed, not_fatal, not_ignored}
+use Rattle.block_server.specs.Talk.{talk_of}
 use Rattle.block_server.proofs.intake.judge.Goals as goal
 
 pub returns-in-Ignored-clause-once : goal.returns-in-Ignored-clause-once
@@ -107,3 +109,19 @@ returns-in-Fatal-clause-refuses c = λ queue taken answers present going none at
     (Lapsed c.args.unit.now.id c.args.session c.judge_unit.new.logins.current c.in-Fatal.cause c.in-Fatal.outstanding c.in-Fatal.granted) c.judge_unit.new.logins.current c.in-Fatal.cause c.in-Fatal.outstanding c.in-Fatal.granted
     (ap (λ (n : ℕ). Lapsed c.args.unit.now.id n c.judge_unit.new.logins.current c.in-Fatal.cause c.in-Fatal.outstanding c.in-Fatal.granted) present)
     c.end_counted.ensures.id c.end_counted.ensures.ends.off refl c.end_counted.ensures.ends.line)
+
+pub returns-in-Ignored-clause-hears : goal.returns-in-Ignored-clause-hears
+returns-in-Ignored-clause-hears c = λ iu spelled may.
+    absurd (not_ignored c.bytes_spell_one.ensures (talk_of c.args.unit.now) c.args.unit.now.logins c.judge_unit.new.logins _ iu c.judge_unit.result c.in-Ignored.is c.judge_unit.ensures.decides spelled may)
+
+pub returns-in-Ok-clause-hears : goal.returns-in-Ok-clause-hears
+returns-in-Ok-clause-hears c = λ iu spelled may. (
+  refl,
+  accepts_pushed c.bytes_spell_one.ensures c.args.unit.now _ _ c.args.records.now.grants.items _ _ _ iu c.judge_unit.result c.in-Accepted.is c.judge_unit.ensures.tagged c.judge_unit.ensures.decides spelled may
+      refl c.iu_address.ensures c.kept.ensures c.in-Ok.ensures.items refl refl,
+)
+
+pub returns-in-Fatal-clause-hears : goal.returns-in-Fatal-clause-hears
+returns-in-Fatal-clause-hears c = λ iu spelled may.
+    absurd (not_fatal c.bytes_spell_one.ensures (talk_of c.args.unit.now) c.args.unit.now.logins c.judge_unit.new.logins _ iu c.judge_unit.result _ _ _
+    (record { current = refl; taking = refl; outstanding = refl; granted = refl }) c.in-Fatal.is c.judge_unit.ensures.decides spelled may)

@@ -10,6 +10,10 @@ use Rattle.block_server.proofs.Taking.{lines_same, takes_ended, takes_fetched, t
 use Rattle.block_server.proofs.Advancing.{advances_same}
 use Rattle.vio_num.specs.declared.history.Lapse.TheVariants.{BadIu, Early, Refused}
 use Rattle.block_server.specs.Receipts.{is_ended}
+use Rattle.std.proofs.Common.{arith, length, subst}
+use Rattle.vio_num.specs.Entry.{iu_address, iu_length}
+use Rattle.tce_window.specs.declared.answers.Right.TheVariants.{Read}
+use Rattle.block_server.specs.Talk.{IsReadWhole, reach_of}
 use Rattle.block_server.specs.declared.site.Halt.TheVariants as halts
 use Rattle.block_server.proofs.GoingOn.{missed_is}
 use Rattle.block_server.proofs.Deciding.{waits_going}
@@ -30,6 +34,7 @@ use Rattle.std.proofs.Common.{inl, sym}
 use Rattle.block_server.proofs.OwingCalls.{closing_ended}
 use Rattle.std.proofs.Common.{ℕ}
 use Rattle.std.proofs.Common.{inl, inr}
+use Rattle.block_server.proofs.Talking.{long_enough, not_denied, not_in_use, received_as}
 use Rattle.block_server.proofs.intake.receive.Goals as goal
 
 pub returns-in-Ok-clause-once : goal.returns-in-Ok-clause-once
@@ -224,3 +229,26 @@ returns-in-Err-Refused-clause-received g c = inl c.end_session-in-Err-Refused.en
 
 pub returns-in-Err-Busy-clause-received : goal.returns-in-Err-Busy-clause-received
 returns-in-Err-Busy-clause-received g c = inr refl
+
+pub returns-then-not-is_up-clause-hears : goal.returns-then-not-is_up-clause-hears
+returns-then-not-is_up-clause-hears g c = λ address bytes iu alone up may asked. absurd (search rules)
+
+pub returns-then-len-eq0-clause-hears : goal.returns-then-len-eq0-clause-hears
+returns-then-len-eq0-clause-hears g c = λ address bytes iu alone up may asked.
+    absurd (long_enough (iu_length c.args.arrival.entry) (length bytes) asked.long asked.some asked.few (search rules))
+
+pub returns-in-Ok-clause-hears : goal.returns-in-Ok-clause-hears
+returns-in-Ok-clause-hears g c = λ address bytes iu alone up may asked.
+    received_as c.args.unit.now _ c.judge.new.unit (reach_of (g.S.Site.state c.args.site.now)) (reach_of (g.S.Site.state c.fetch_unit.new.self)) _ _ _ address (iu_address c.args.arrival.entry) (iu_length c.args.arrival.entry) bytes c.fetch_unit.new.out iu _ refl refl refl (c.fetch_unit.ensures.client alone) asked.stand
+    (subst (λ (n : ℕ). IsReadWhole (g.S.Site.state c.fetch_unit.new.self).client n c.fetch_unit.new.out) c.iu_address.ensures c.in-Ok.ensures.whole) asked.address_is (search rules) asked.long
+    c.fetch_unit.ensures.queue (c.judge.ensures.waiting refl) (λ spelled. c.judge.ensures.hears iu spelled may) asked.spelled
+
+pub returns-in-Err-Refused-clause-hears : goal.returns-in-Err-Refused-clause-hears
+returns-in-Err-Refused-clause-hears g c = λ address bytes iu alone up may asked.
+    let failed : IsErrOf c.fetch_unit.result halts.Refused = cc (c.in-Err-Refused.is, c.in-Err-Refused.field-0-is) in
+    absurd (not_denied (g.S.Site.state c.args.site.now) (g.S.Site.state c.fetch_unit.new.self) Read c.iu_address.result address _ (iu_length c.args.arrival.entry) (length bytes) alone asked.may (c.iu_address.ensures ∙ asked.address_is) (search rules) asked.long (c.fetch_unit.ensures.refused failed))
+
+pub returns-in-Err-Busy-clause-hears : goal.returns-in-Err-Busy-clause-hears
+returns-in-Err-Busy-clause-hears g c = λ address bytes iu alone up may asked.
+    let failed : IsErrOf c.fetch_unit.result halts.Busy = cc (c.in-Err-Busy.is, c.in-Err-Busy.field-0-is) in
+    absurd (not_in_use (g.S.Site.state c.args.site.now) (g.S.Site.state c.fetch_unit.new.self) alone (c.fetch_unit.ensures.busy failed))

@@ -11,6 +11,8 @@ use Rattle.block_server.proofs.Ledgers.{explains_entry, explains_taken}
 use Rattle.block_server.specs.Refusals.{ledger_of}
 use Rattle.std.proofs.Common.{Some}
 use Rattle.std.proofs.Common.{inr}
+use Rattle.block_server.proofs.Listening.{not_asked}
+use Rattle.block_server.proofs.Talking.{received_from}
 use Rattle.block_server.proofs.intake.take_command.Goals as goal
 
 pub returns-in-2-clause-once : goal.returns-in-2-clause-once
@@ -103,3 +105,13 @@ returns-in-2-clause-refuses g c = λ before may first taken answers told unit fr
 pub returns-in_default-clause-refuses : goal.returns-in_default-clause-refuses
 returns-in_default-clause-refuses g c = λ before may first taken answers told unit front all.
     explains_taken (ledger_of c.args.unit.now before c.args.records.now) (ledger_of c.args.unit.now (g.S.Site.state c.args.site.now) c.args.records.now) _ taken.session taken.taken refl (inr (not_format c.args.arrival.entry (λ one. search rules))) refl refl refl refl answers refl refl told unit front
+
+pub returns-in-1-clause-hears : goal.returns-in-1-clause-hears
+returns-in-1-clause-hears g c = λ address bytes iu alone up may asked.
+    received_from c.args.unit.now _ c.receive.new.unit _ _ _ _ _ _ _ _ c.receive.result refl refl refl (c.receive.ensures.hears address bytes iu alone up may asked)
+
+pub returns-in-2-clause-hears : goal.returns-in-2-clause-hears
+returns-in-2-clause-hears g c = λ address bytes iu alone up may asked. absurd (not_asked _ _ _ _ _ asked (not_format c.args.arrival.entry (λ one. search rules)))
+
+pub returns-in_default-clause-hears : goal.returns-in_default-clause-hears
+returns-in_default-clause-hears g c = λ address bytes iu alone up may asked. absurd (not_asked _ _ _ _ _ asked (not_format c.args.arrival.entry (λ one. search rules)))

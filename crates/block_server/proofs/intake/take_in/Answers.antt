@@ -23,6 +23,10 @@ use Rattle.block_server.proofs.Coming.{comes_on}
 use Rattle.block_server.proofs.ComingParts.{comes_none}
 use Rattle.block_server.proofs.Quieting.{still_same}
 use Rattle.block_server.specs.Steps.{NoStage}
+use Rattle.block_server.proofs.Listening.{ends_next, goes_next, hears_all, hears_begin, hears_next}
+use Rattle.block_server.proofs.Taking.{waiting_stands}
+use Rattle.block_server.specs.Serving.{Desk}
+use Rattle.block_server.specs.Talk.{reach_of}
 use Rattle.block_server.proofs.intake.take_in.Goals as goal
 
 pub returns-in_err-next-clause-once : goal.returns-in_err-next-clause-once
@@ -51,6 +55,7 @@ loop-taken-init g c = record {
   refuses = λ on. c.receive_waiting.ensures.refuses;
   comes = c.in_ok-next.ensures.comes;
   rests = λ alone waiting emptied. as_before _ _ _ _ (c.in_ok-next.ensures.rests waiting).1 (c.in_ok-next.ensures.rests waiting).2;
+  hears = λ words calm. hears_begin _ _ _ _ _ _ _ words (c.in_ok-next.ensures.rests calm.waiting).1 (ap reach_of (c.in_ok-next.ensures.rests calm.waiting).2) (c.in_ok-next.ensures.lines calm.waiting) calm;
   may = λ on. c.in_ok-next.ensures.goes_on on (search rules);
 }
 
@@ -109,6 +114,9 @@ loop-taken-preserved g c = record {
   rests = λ alone waiting emptied.
       absurd (not_on c.in_ok-next-2.next (search rules)
       (c.in_ok-next-2.ensures.rests alone (subst (λ (site : SiteState). IsEmptied site.queue) (sym (c.loop-taken.invariant.rests alone waiting emptied).site) emptied)).0);
+  hears = λ words calm. goes_next c.in_ok-next-2.next (search rules)
+      (hears_next _ c.args.unit.now c.loop-taken.unit c.make_room.new.unit c.take_one.new.unit (reach_of (g.S.Site.state c.args.site.now)) (reach_of (g.S.Site.state c.loop-taken.site)) (reach_of (g.S.Site.state c.take_one.new.site)) _ _ _ _ words _ c.in_ok-next-2.next (c.loop-taken.invariant.hears words calm)
+      c.make_room.ensures.talk (ap (λ (d : Desk). d.stage) c.make_room.ensures.desk) c.make_room.ensures.line (waiting_stands _ _ c.make_room.ensures.stands) c.make_room.ensures.grants c.in_ok-next-2.ensures.hears);
   may = λ on. c.in_ok-next-2.ensures.goes_on (may_stands _ _ c.make_room.ensures.stands (c.loop-taken.invariant.may on)) (search rules);
 }
 
@@ -259,3 +267,21 @@ pub returns-then-ne-2-clause-comes : goal.returns-then-ne-2-clause-comes
 returns-then-ne-2-clause-comes g c =
     comes_on _ _ _ _ _ _ c.loop-taken.invariant.comes
     (comes_on c.loop-taken.unit c.make_room.new.unit _ _ _ _ (comes_none NoStage _ _ _ _ (still_same _) c.make_room.ensures.way c.make_room.ensures.moved) c.in_ok-next-2.ensures.comes)
+
+pub returns-then-ne-clause-hears : goal.returns-then-ne-clause-hears
+returns-then-ne-clause-hears g c = λ words calm few. absurd (search rules)
+
+pub returns-then-ne-2-clause-hears : goal.returns-then-ne-2-clause-hears
+returns-then-ne-2-clause-hears g c = λ words calm few. ends_next c.in_ok-next-2.next (λ is. search rules)
+    (hears_next _ c.args.unit.now c.loop-taken.unit c.make_room.new.unit c.take_one.new.unit (reach_of (g.S.Site.state c.args.site.now)) (reach_of (g.S.Site.state c.loop-taken.site)) (reach_of (g.S.Site.state c.take_one.new.site)) _ _ _ _ words _ c.in_ok-next-2.next (c.loop-taken.invariant.hears words calm)
+    c.make_room.ensures.talk (ap (λ (d : Desk). d.stage) c.make_room.ensures.desk) c.make_room.ensures.line (waiting_stands _ _ c.make_room.ensures.stands) c.make_room.ensures.grants c.in_ok-next-2.ensures.hears)
+
+pub returns-after-loop-taken-clause-hears : goal.returns-after-loop-taken-clause-hears
+returns-after-loop-taken-clause-hears g c = λ words calm few.
+    let all = hears_all _ _ _ _ _ _ _ words c.loop-taken.taken c.slots-slots.result (c.loop-taken.invariant.hears words calm) few (c.slots-slots.ensures.slots ∙ ap (λ (s : SiteState). s.queue.place.own_slots) (c.in_ok-next.ensures.rests calm.waiting).2) (λ less short. search rules) in
+    (refl, all.0, all.1)
+
+pub returns-else-len-lt-MOST_PENDING-clause-hears : goal.returns-else-len-lt-MOST_PENDING-clause-hears
+returns-else-len-lt-MOST_PENDING-clause-hears g c = λ words calm few.
+    let all = hears_all _ _ _ _ _ _ _ words c.loop-taken.taken c.slots-slots.result (c.loop-taken.invariant.hears words calm) few (c.slots-slots.ensures.slots ∙ ap (λ (s : SiteState). s.queue.place.own_slots) (c.in_ok-next.ensures.rests calm.waiting).2) (λ less short. search rules) in
+    (refl, all.0, all.1)

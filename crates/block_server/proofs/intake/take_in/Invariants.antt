@@ -1,4 +1,6 @@
-use Rattle.std.proofs.Common.{◌≡◌, ◌-◌, None, false}
+use Rattle.std.proofs.Common.{◌≡◌, ◌-◌, List, None, false}
+use Rattle.block_server.specs.Talk.{IsListening, Word, reach_of}
+use Rattle.block_server.proofs.Listening.{HearsSome}
 use Rattle.block_server.specs.Advances.{Advances}
 use Rattle.block_server.specs.Books.{books_at}
 use Rattle.block_server.specs.Cargo.{KeepsCargo, cargo_of}
@@ -31,6 +33,8 @@ invariant-loop-taken g l = record {
   comes : ComesOn NoStage l.fn.unit l.unit (g.S.Site.state l.fn.site).queue (g.S.Site.state l.site).queue;
   rests : g.S.Site.link_shared ≡ false → l.fn.unit.waiting ≡ None → IsEmptied (g.S.Site.state l.fn.site).queue
       → IsAsBefore l.fn.unit l.unit (g.S.Site.state l.fn.site) (g.S.Site.state l.site);
+  hears : (words : List Word) → IsListening l.fn.unit (reach_of (g.S.Site.state l.fn.site)) g.S.Site.link_shared words
+      → HearsSome g.S.Site.link_shared l.fn.unit l.unit (reach_of (g.S.Site.state l.fn.site)) (reach_of (g.S.Site.state l.site)) l.fn.records.grants.items l.records.grants.items words l.taken;
   may : is_ended l.fn.unit.line ≡ false → MayTake (standing_of l.unit);
 }
 

@@ -33,6 +33,10 @@ use Rattle.crq_ring.specs.declared.rows.PipeRow.{PipeRow}
 use Rattle.std.proofs.Common.{◌++◌, List, [], ◌∷◌}
 use Rattle.block_server.proofs.ComingParts.{comes_none, less_later, work_later, work_taken}
 use Rattle.block_server.specs.Steps.{NoStage}
+use Rattle.std.proofs.Common.{true}
+use Rattle.vio_num.specs.declared.entry.Kind.TheVariants.{Reserved, Unused}
+use Rattle.block_server.proofs.Listening.{came, hears_asked, hears_begun, hears_gone, hears_none, no_reply, no_word, said_none}
+use Rattle.block_server.specs.Talk.{reach_of}
 use Rattle.block_server.proofs.intake.take_one.Goals as goal
 
 pub returns-in_err-reserve-clause-once : goal.returns-in_err-reserve-clause-once
@@ -530,3 +534,37 @@ returns-in-Reserved-clause-comes g c =
     inl (work_taken (g.S.Site.state c.args.site.now).queue (g.S.Site.state c.poll.new.self).queue row
     (c.in-Got.ensures.got.taken ∙ ap (λ (rows : List PipeRow). rows ++ row ∷ []) c.reserve.ensures.rest.taken)
     (c.poll.ensures.rest.sent ∙ c.reserve.ensures.rest.sent) (c.poll.ensures.rest.last_session ∙ c.reserve.ensures.rest.last_session))
+
+pub returns-in_default-clause-hears : goal.returns-in_default-clause-hears
+returns-in_default-clause-hears g c = λ words calm.
+    hears_none _ _ _ (reach_of (g.S.Site.state c.args.site.now)) (reach_of (g.S.Site.state c.reserve.new.self)) (reach_of (g.S.Site.state c.poll.new.self)) _ c.poll.result words refl c.reserve.ensures.rest c.poll.ensures.rest c.reserve.ensures.windows.client c.poll.ensures.windows.client
+    (poll_taken _ _ _ c.poll.result (λ number entry is. c.in_default.not-Got number entry is) c.poll.ensures.empty c.poll.ensures.refused) (λ number entry is. c.in_default.not-Got number entry is) c.poll.ensures.unregistered.0 c.poll.ensures.empty calm
+
+pub returns-in-Command-clause-hears : goal.returns-in-Command-clause-hears
+returns-in-Command-clause-hears g c = λ words calm.
+    hears_asked _ c.args.unit.now (record c.args.unit.now { moved = true }) c.take_command.new.unit (reach_of (g.S.Site.state c.args.site.now)) (reach_of (g.S.Site.state c.poll.new.self)) (reach_of (g.S.Site.state c.take_command.new.site)) _ _ c.in-Got.number c.in-Got.entry words c.take_command.result calm refl refl refl
+    (came _ _ (g.S.Site.state c.reserve.new.self).queue _ c.in-Got.number c.in-Got.entry calm.alone c.reserve.ensures.rest c.poll.ensures.rest c.in-Got.ensures.got) (c.poll.ensures.windows.client ∙ c.reserve.ensures.windows.client) (c.poll.ensures.advances.shared ∙ c.reserve.ensures.advances.shared) c.take_command.ensures.advances.shared (search rules) c.take_command.ensures.hears
+
+pub returns-in-Some-clause-hears : goal.returns-in-Some-clause-hears
+returns-in-Some-clause-hears g c = λ words calm.
+    hears_begun _ c.args.unit.now _ c.put_reply.new.unit (reach_of (g.S.Site.state c.args.site.now)) (reach_of (g.S.Site.state c.poll.new.self)) (reach_of (g.S.Site.state c.put_reply.new.site)) _ c.in-Got.number c.in-Got.entry _ c.got-step.result words c.put_reply.result calm refl refl refl refl refl refl
+    c.got-step.ensures.state c.got-step.ensures.step (sym c.in-Some.is ∙ c.reply_of.ensures.reply)
+    (came _ _ (g.S.Site.state c.reserve.new.self).queue _ c.in-Got.number c.in-Got.entry calm.alone c.reserve.ensures.rest c.poll.ensures.rest c.in-Got.ensures.got) (c.poll.ensures.windows.client ∙ c.reserve.ensures.windows.client) (c.poll.ensures.advances.shared ∙ c.reserve.ensures.advances.shared) c.put_reply.ensures.advances.shared (search rules) c.put_reply.ensures.hears
+
+pub returns-in-None-clause-hears : goal.returns-in-None-clause-hears
+returns-in-None-clause-hears g c = λ words calm.
+    absurd (no_reply _ c.args.unit.now (reach_of (g.S.Site.state c.args.site.now)) (reach_of (g.S.Site.state c.poll.new.self)) c.in-Got.number c.in-Got.entry c.got-step.result words calm
+    (came _ _ (g.S.Site.state c.reserve.new.self).queue _ c.in-Got.number c.in-Got.entry calm.alone c.reserve.ensures.rest c.poll.ensures.rest c.in-Got.ensures.got) (search rules) c.got-step.ensures.step (sym c.in-None.is ∙ c.reply_of.ensures.reply))
+
+pub returns-in-Event-clause-hears : goal.returns-in-Event-clause-hears
+returns-in-Event-clause-hears g c = λ words calm.
+    hears_gone _ c.args.unit.now _ c.lose_partner.new.unit (reach_of (g.S.Site.state c.args.site.now)) (reach_of (g.S.Site.state c.poll.new.self)) c.args.records.now c.lose_partner.new.records _ c.in-Got.number c.in-Got.entry words calm refl refl refl
+    c.got-step-in-Event.ensures.state (came _ _ (g.S.Site.state c.reserve.new.self).queue _ c.in-Got.number c.in-Got.entry calm.alone c.reserve.ensures.rest c.poll.ensures.rest c.in-Got.ensures.got) (c.poll.ensures.windows.client ∙ c.reserve.ensures.windows.client) (c.poll.ensures.advances.shared ∙ c.reserve.ensures.advances.shared) (search rules) c.lose_partner.ensures.ends c.lose_partner.ensures.handshake c.lose_partner.ensures.closing c.lose_partner.ensures.stage
+
+pub returns-in-Unused-clause-hears : goal.returns-in-Unused-clause-hears
+returns-in-Unused-clause-hears g c = λ words calm.
+    absurd (no_word _ c.args.unit.now (reach_of (g.S.Site.state c.args.site.now)) (reach_of (g.S.Site.state c.poll.new.self)) c.in-Got.number c.in-Got.entry words Unused calm (came _ _ (g.S.Site.state c.reserve.new.self).queue _ c.in-Got.number c.in-Got.entry calm.alone c.reserve.ensures.rest c.poll.ensures.rest c.in-Got.ensures.got) (search rules) (λ word. said_none word Unused (inl refl)))
+
+pub returns-in-Reserved-clause-hears : goal.returns-in-Reserved-clause-hears
+returns-in-Reserved-clause-hears g c = λ words calm.
+    absurd (no_word _ c.args.unit.now (reach_of (g.S.Site.state c.args.site.now)) (reach_of (g.S.Site.state c.poll.new.self)) c.in-Got.number c.in-Got.entry words Reserved calm (came _ _ (g.S.Site.state c.reserve.new.self).queue _ c.in-Got.number c.in-Got.entry calm.alone c.reserve.ensures.rest c.poll.ensures.rest c.in-Got.ensures.got) (search rules) (λ word. said_none word Reserved (inr refl)))

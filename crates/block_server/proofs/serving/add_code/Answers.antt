@@ -18,6 +18,7 @@ use Rattle.block_server.specs.Cargo.{is_moving}
 use Rattle.block_server.proofs.Cargoes.{blank_keeps, shown_same}
 use Rattle.block_server.proofs.Hands.{keeps_same}
 use Rattle.block_server.proofs.Sendings.{same_service}
+use Rattle.block_server.proofs.Servicing.{coded_gets, served_suits}
 use Rattle.block_server.proofs.serving.add_code.Goals as goal
 
 pub returns-in_err-blank-clause-once : goal.returns-in_err-blank-clause-once
@@ -82,3 +83,6 @@ pub returns-clause-cargo : goal.returns-clause-cargo
 returns-clause-cargo c = λ shown before.
     blank_keeps _ _ _ _ _ _ _ c.in_ok-blank.blank refl before (ap is_moving c.in_ok-set_answer.ensures.stage) c.in_ok-blank.ensures.row.inn c.in_ok-blank.ensures.row.out
     (c.add_row.ensures.history ∙ ap (λ (list : List ServedRow). list ++ c.in_ok-blank.blank ∷ []) c.new_row.ensures.lists.history)
+
+pub returns-clause-suits : goal.returns-clause-suits
+returns-clause-suits c = λ current old. served_suits current _ _ _ (coded_gets _ _ c.requires.code) c.in_ok-set_answer.ensures.stage

@@ -15,6 +15,8 @@ use Rattle.block_server.proofs.Gathering.{where_done}
 use Rattle.block_server.specs.Cargo.{IsSentAll}
 use Rattle.block_server.specs.Serving.{terms_of}
 use Rattle.block_server.proofs.ComingStages.{other_entry}
+use Rattle.std.proofs.Common.{subst, sym}
+use Rattle.block_server.specs.Talk.{SuitsStage}
 use Rattle.block_server.proofs.serving.hand_over.Goals as goal
 
 pub returns-in_default-clause-once : goal.returns-in_default-clause-once
@@ -83,3 +85,9 @@ returns-in_err-progress-clause-entry g c = λ is. absurd (other_entry _ _ c.in-D
 
 pub returns-clause-entry : goal.returns-clause-entry
 returns-clause-entry g c = λ is. absurd (other_entry _ _ c.in-DataIn.is refl is)
+
+pub returns-in_default-clause-suits : goal.returns-in_default-clause-suits
+returns-in_default-clause-suits g c = λ current old. old
+
+pub returns-clause-suits : goal.returns-clause-suits
+returns-clause-suits g c = λ current old. c.end_command.ensures.suits current (subst (SuitsStage current c.args.request.now.order) (sym c.deliver_data.ensures.stage.1) tt)

@@ -8,6 +8,12 @@ use Rattle.block_server.specs.Ends.{IsRejectedFor}
 use Rattle.block_server.proofs.Booking.{login_set}
 use Rattle.std.proofs.Common.{sym, ◌∙◌}
 use Rattle.block_server.proofs.Sendings.{set_unloaded}
+use Rattle.std.proofs.Common.{subst, sym}
+use Rattle.block_server.specs.Ends.{IsGrantable}
+use Rattle.block_server.specs.Talk.{SuitsStage}
+use Rattle.block_server.proofs.Servicing.{some_apart}
+use Rattle.block_server.specs.declared.request.Order.TheVariants as orders
+use Rattle.block_server.proofs.Quieting.{on_ok}
 use Rattle.block_server.proofs.serving.judge_login.Goals as goal
 
 pub returns-in-Some-clause-once : goal.returns-in-Some-clause-once
@@ -62,3 +68,9 @@ pub returns-in-None-clause-cargo : goal.returns-in-None-clause-cargo
 returns-in-None-clause-cargo c = λ id shown rows before.
     set_unloaded id c.args.service.now c.set_answer-in-None.new.self shown rows (Granted c.args.number) c.set_answer-in-None.result c.set_answer-in-None.ensures.stage
     c.set_answer-in-None.ensures.err c.set_answer-in-None.ensures.out c.set_answer-in-None.ensures.inn c.set_answer-in-None.ensures.given before
+
+pub returns-in-Some-clause-suits : goal.returns-in-Some-clause-suits
+returns-in-Some-clause-suits c = on_ok c.set_answer.result _ _ (λ is. subst (SuitsStage c.args.logins.now.current (orders.Login c.args.login.now)) (sym is) (λ may. some_apart c.login_refusal.result _ c.in-Some.is (c.login_refusal.ensures.some (subst (λ (n : ℕ). IsGrantable n c.args.login.now) (sym c.current.ensures) may)))) c.set_answer.ensures.stage
+
+pub returns-in-None-clause-suits : goal.returns-in-None-clause-suits
+returns-in-None-clause-suits c = on_ok c.set_answer-in-None.result _ _ (λ is. subst (SuitsStage c.args.logins.now.current (orders.Login c.args.login.now)) (sym is) (subst (λ (n : ℕ). IsGrantable n c.args.login.now) c.current.ensures (c.login_refusal.ensures.none c.in-None.is))) c.set_answer-in-None.ensures.stage

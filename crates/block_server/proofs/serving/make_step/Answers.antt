@@ -157,3 +157,9 @@ returns-clause-cargo g c = λ told asked known done hand.
     (ap length c.from.ensures ∙ c.read_out-out.ensures.len ∙ c.in_ok-out.ensures ∙ c.total.ensures.total ∙ sym service.out.summed)
     (λ k less. ap (λ (p : Pages). p.bytes k) (sym c.read_out-out.ensures.data) ∙ pages_show _ _ k ∙ c.read_out-out.ensures.read k (omega (arith, less, ap length c.from.ensures))
     ∙ ap (λ (list : List ℕ). slice_index list k) (sym c.from.ensures)) hand
+
+pub returns-in_default-clause-suits : goal.returns-in_default-clause-suits
+returns-in_default-clause-suits g c = λ current old. old
+
+pub returns-clause-suits : goal.returns-clause-suits
+returns-clause-suits g c = λ current old. tt

@@ -15,6 +15,7 @@ use Rattle.block_server.specs.Serving.{terms_of}
 use Rattle.block_server.specs.Granting.{login_state}
 use Rattle.block_server.proofs.ComingStages.{unanswered_entry}
 use Rattle.std.proofs.Common.{refl}
+use Rattle.block_server.proofs.Servicing.{login_suits}
 use Rattle.block_server.proofs.serving.prepare.Goals as goal
 
 pub returns-in-Command-clause-once : goal.returns-in-Command-clause-once
@@ -146,3 +147,21 @@ pub returns-in-Unreadable-clause-entry : goal.returns-in-Unreadable-clause-entry
 returns-in-Unreadable-clause-entry g c = λ is.
     let before : is_answered c.args.service.now.stage ≡ false = cc in
     absurd (unanswered_entry c.args.service.now.stage before is)
+
+pub returns-in-Command-clause-suits : goal.returns-in-Command-clause-suits
+returns-in-Command-clause-suits g c = c.serve_command.ensures.suits _
+
+pub returns-in-Login-clause-suits : goal.returns-in-Login-clause-suits
+returns-in-Login-clause-suits g c = λ old. login_suits _ _ _ _ c.judge_login.result c.judge_login.ensures.suits (search rules)
+
+pub returns-in-Task-clause-suits : goal.returns-in-Task-clause-suits
+returns-in-Task-clause-suits g c = c.add_code.ensures.suits _
+
+pub returns-in-Unreadable-clause-suits : goal.returns-in-Unreadable-clause-suits
+returns-in-Unreadable-clause-suits g c = c.add_code-in-Unreadable.ensures.suits _
+
+pub returns-in-Logout-clause-suits : goal.returns-in-Logout-clause-suits
+returns-in-Logout-clause-suits g c = λ old. old
+
+pub returns-in_default-clause-suits : goal.returns-in_default-clause-suits
+returns-in_default-clause-suits g c = λ old. old

@@ -19,6 +19,7 @@ use Rattle.block_server.proofs.Gathering.{where_done}
 use Rattle.block_server.proofs.Sendings.{before_unloaded}
 use Rattle.std.proofs.Common.{refl}
 use Rattle.block_server.proofs.ComingStages.{before_entry}
+use Rattle.block_server.proofs.Servicing.{before_suits}
 use Rattle.block_server.proofs.serving.run_step.Goals as goal
 
 pub returns-then-not-is_before_step-clause-once : goal.returns-then-not-is_before_step-clause-once
@@ -181,3 +182,21 @@ pub returns-in-Done-clause-entry : goal.returns-in-Done-clause-entry
 returns-in-Done-clause-entry g c = λ is.
     let before : is_before_step c.args.service.now.stage ≡ true = cc in
     absurd (before_entry c.args.service.now.stage before is)
+
+pub returns-then-not-is_before_step-clause-suits : goal.returns-then-not-is_before_step-clause-suits
+returns-then-not-is_before_step-clause-suits g c = λ current old. old
+
+pub returns-in-Busy-clause-suits : goal.returns-in-Busy-clause-suits
+returns-in-Busy-clause-suits g c = λ current old.
+    let before : is_before_step c.args.service.now.stage ≡ true = cc in
+    before_suits current _ _ (c.fetch.ensures.before before)
+
+pub returns-in-Refused-clause-suits : goal.returns-in-Refused-clause-suits
+returns-in-Refused-clause-suits g c = λ current old.
+    let before : is_before_step c.args.service.now.stage ≡ true = cc in
+    c.add_code.ensures.suits current (before_suits current _ _ (c.fetch.ensures.before before))
+
+pub returns-in-Done-clause-suits : goal.returns-in-Done-clause-suits
+returns-in-Done-clause-suits g c = λ current old.
+    let before : is_before_step c.args.service.now.stage ≡ true = cc in
+    c.make_step.ensures.suits current (before_suits current _ _ (c.fetch.ensures.before before))

@@ -47,6 +47,13 @@ use Rattle.block_server.proofs.ComingStages.{comes_noted}
 use Rattle.block_server.proofs.Quieting.{still_equal, still_same}
 use Rattle.block_server.specs.Steps.{OtherStage}
 use Rattle.block_server.proofs.Dropping.{known_within}
+use Rattle.std.proofs.Common.{inl, List, subst, sym}
+use Rattle.vio_num.specs.declared.history.Grant.{Grant}
+use Rattle.block_server.specs.declared.request.Order.TheVariants as orders
+use Rattle.block_server.specs.declared.request.Request.{Request}
+use Rattle.block_server.specs.declared.service.Service.{Service}
+use Rattle.block_server.specs.Talk.{LogsOut, SuitsStage}
+use Rattle.block_server.proofs.Servicing.{first_same, no_front, serve_first}
 use Rattle.block_server.proofs.serving.serve.Goals as goal
 
 pub returns-clause-advances : goal.returns-clause-advances
@@ -366,3 +373,26 @@ returns-clause-comes g c =
     on_ok c.answer.result _ _ (comes_served c.args.unit.now c.note_stage.new.unit c.answer.new.unit _ _ _
     (comes_noted c.args.unit.now (record c.args.unit.now { service = c.prepare.new.service }) c.note_stage.new.unit _ _ (still_equal _ _ c.prepare.ensures.queue)
     c.note_stage.ensures.way refl refl refl c.prepare.ensures.entry c.how_far-before.result c.how_far-before.ensures c.note_stage.ensures.noted)) c.answer.ensures.comes
+
+pub returns-in_default-clause-serves : goal.returns-in_default-clause-serves
+returns-in_default-clause-serves g c = λ request rest servable. absurd (no_front _ request rest servable.pending (search rules))
+
+pub returns-in-Logout-clause-serves : goal.returns-in-Logout-clause-serves
+returns-in-Logout-clause-serves g c = λ request rest servable.
+    let front = front_is _ _ c.in-Some.ensures.item.3 in
+    let asked : c.in-Some.request.now.order ≡ orders.Logout = search rules in
+    let same = first_same _ c.in-Some.request.now request front.0 rest front.1 servable.pending in
+    inl (
+      ap (λ (r : Request). r.order) (sym same) ∙ asked,
+      subst (λ (l : List Grant). LogsOut c.args.unit.now c.log_out.new.unit (g.S.Site.state c.args.site.now).queue (g.S.Site.state c.args.site.now).queue l c.log_out.new.records.grants.items) c.make_room.ensures.lists.grants
+          (c.log_out.ensures.out (g.S.Site.state c.args.site.now).queue c.session.ensures),
+    )
+
+pub returns-clause-serves : goal.returns-clause-serves
+returns-clause-serves g c = λ request rest servable.
+    let front = front_is _ _ c.in-Some.ensures.item.3 in
+    serve_first _ c.args.unit.now c.note_stage.new.unit c.answer.new.unit (g.S.Site.state c.args.site.now) (g.S.Site.state c.prepare.new.site) (g.S.Site.state c.answer.new.site) _ _ _ c.in-Some.request.now request front.0 rest c.prepare.new.service.stage
+    c.answer.result servable front.1 c.prepare.ensures.advances c.prepare.ensures.queue c.note_stage.ensures.id c.note_stage.ensures.pending c.note_stage.ensures.line (waiting_stands _ _ c.note_stage.ensures.stands) c.note_stage.ensures.logins
+    (ap (λ (s : Service). s.stage) c.note_stage.ensures.service) c.prepare.ensures.grants (c.in_ok-prepare.ensures.went (λ is. search rules))
+    (c.in_ok-prepare.ensures.suits (subst (SuitsStage c.args.unit.now.logins.current c.in-Some.request.now.order) (sym servable.stage) tt))
+    (λ outcome at parts link apart on may room. c.answer.ensures.serves request rest outcome at parts link apart on may room)

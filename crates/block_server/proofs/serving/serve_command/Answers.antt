@@ -107,3 +107,6 @@ returns-in_err-store-clause-entry g c = entry_on _ _ _ c.run_step.ensures.entry 
 
 pub returns-clause-entry : goal.returns-clause-entry
 returns-clause-entry g c = entry_on _ _ _ (entry_on _ _ _ c.run_step.ensures.entry c.store.ensures.entry) c.hand_over.ensures.entry
+
+pub returns-clause-suits : goal.returns-clause-suits
+returns-clause-suits g c = λ current old. c.hand_over.ensures.suits current (c.in_ok-store.ensures.suits current _ (c.in_ok-run_step.ensures.suits current old))

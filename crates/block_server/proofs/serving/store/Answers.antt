@@ -60,3 +60,9 @@ returns-in_ok-write_data-clause-entry g c = λ is. absurd (other_entry _ _ c.in-
 
 pub returns-in_default-clause-entry : goal.returns-in_default-clause-entry
 returns-in_default-clause-entry g c = λ is. refl
+
+pub returns-in_default-clause-suits : goal.returns-in_default-clause-suits
+returns-in_default-clause-suits g c = λ current order old. old
+
+pub returns-in_ok-write_data-clause-suits : goal.returns-in_ok-write_data-clause-suits
+returns-in_ok-write_data-clause-suits g c = λ current order old. tt

@@ -1,4 +1,4 @@
-use Rattle.std.proofs.Common.{ap, inl, inr, refl, rules, sym, ◌∙◌}
+use Rattle.std.proofs.Common.{ap, inl, inr, refl, rules, sym, ◌∙◌, subst, []}
 use Rattle.block_server.specs.Answering.{responses}
 use Rattle.block_server.proofs.Agreeing.{agrees_on, agrees_same}
 use Rattle.block_server.proofs.Readying.{full_later, idles_on, idles_reserves, next_on, next_over, opening_later, sender_later}
@@ -17,6 +17,10 @@ use Rattle.block_server.specs.LoginAnswers.{login_answers}
 use Rattle.block_server.proofs.Coming.{comes_on}
 use Rattle.block_server.proofs.ComingParts.{comes_none}
 use Rattle.block_server.specs.Steps.{NoStage}
+use Rattle.block_server.specs.SiteState.{SiteState}
+use Rattle.block_server.specs.Talk.{Replies}
+use Rattle.block_server.specs.declared.unit.Unit.{Unit}
+use Rattle.block_server.proofs.Talks.{both_off, replies_reserved}
 use Rattle.block_server.proofs.turning.open_line.Goals as goal
 
 pub returns-in_err-reserve-clause-once : goal.returns-in_err-reserve-clause-once
@@ -253,3 +257,30 @@ pub returns-clause-comes : goal.returns-clause-comes
 returns-clause-comes g c =
     comes_on _ _ _ _ _ _ (comes_on c.args.unit.now c.args.unit.now _ _ _ _ (comes_none NoStage _ _ _ _ (still_reserves _ _ c.reserve.ensures.rest) refl refl) c.push_event.ensures.comes)
     c.free_closed.ensures.comes
+
+pub returns-then-eq-clause-idle : goal.returns-then-eq-clause-idle
+returns-then-eq-clause-idle g c = λ alone on none.
+    let pushed = c.push_event.ensures.rests (c.reserve.ensures.rest.kept ∙ none) in
+    absurd (search rules)
+
+pub returns-then-eq-2-clause-idle : goal.returns-then-eq-2-clause-idle
+returns-then-eq-2-clause-idle g c = λ alone on none.
+    let pushed = c.push_event.ensures.rests (c.reserve.ensures.rest.kept ∙ none) in
+    let freed = c.free_closed.ensures.rests (ap (λ (u : Unit). u.line.closing) pushed.1 ∙ both_off _ _ on) in
+    absurd (search rules)
+
+pub returns-then-is_down-clause-idle : goal.returns-then-is_down-clause-idle
+returns-then-is_down-clause-idle g c = λ alone on none.
+    let pushed = c.push_event.ensures.rests (c.reserve.ensures.rest.kept ∙ none) in
+    let freed = c.free_closed.ensures.rests (ap (λ (u : Unit). u.line.closing) pushed.1 ∙ both_off _ _ on) in
+    absurd (search rules)
+
+pub returns-clause-idle : goal.returns-clause-idle
+returns-clause-idle g c = λ alone on none.
+    let kept = c.reserve.ensures.rest.kept ∙ none in
+    let pushed = c.push_event.ensures.rests kept in
+    let freed = c.free_closed.ensures.rests (ap (λ (u : Unit). u.line.closing) pushed.1 ∙ both_off _ _ on) in
+    let is = c.push_event.ensures.idle alone kept in (
+      subst (λ (s : SiteState). Replies (g.S.Site.state c.args.site.now).queue s.queue []) (sym freed.2) (replies_reserved _ _ _ c.reserve.ensures.rest is.0),
+      ap (λ (s : SiteState). s.client) freed.2 ∙ is.1 ∙ c.reserve.ensures.windows.client,
+    )

@@ -5,6 +5,7 @@ use Rattle.block_server.proofs.Onces.{once_same}
 use Rattle.block_server.proofs.Jointly.{keeps_pass}
 use Rattle.block_server.proofs.Owing.{owes_seen}
 use Rattle.block_server.proofs.OwingCalls.{seen_pushes}
+use Rattle.block_server.proofs.Talks.{none_kept, pushes_none}
 use Rattle.block_server.proofs.turning.push_event.Goals as goal
 
 pub returns-in-Nothing-clause-once : goal.returns-in-Nothing-clause-once
@@ -51,3 +52,12 @@ returns-in-Put-clause-answers g c = λ records alone has. owes_seen _ _ (seen_pu
 
 pub returns-in-Kept-clause-answers : goal.returns-in-Kept-clause-answers
 returns-in-Kept-clause-answers g c = λ records alone has. owes_seen _ _ (seen_pushes _ _ _ c.push_event.ensures.rest) refl refl refl refl refl refl refl has
+
+pub returns-in-Nothing-clause-idle : goal.returns-in-Nothing-clause-idle
+returns-in-Nothing-clause-idle g c = λ alone none. (pushes_none _ _ _ alone none c.push_event.ensures.rest c.in-Nothing.ensures.nothing, c.push_event.ensures.windows.client)
+
+pub returns-in-Put-clause-idle : goal.returns-in-Put-clause-idle
+returns-in-Put-clause-idle g c = λ alone none. absurd (none_kept _ none c.in-Put.ensures.put.some)
+
+pub returns-in-Kept-clause-idle : goal.returns-in-Kept-clause-idle
+returns-in-Kept-clause-idle g c = λ alone none. absurd (none_kept _ none c.in-Kept.ensures.still.some)

@@ -1,4 +1,4 @@
-use Rattle.std.proofs.Common.{refl, rules, subst, sym, ◌∙◌}
+use Rattle.std.proofs.Common.{refl, rules, subst, sym, ◌∙◌, ap, inl, inr}
 use Rattle.vio_num.specs.declared.names.UnitId.{UnitId}
 use Rattle.block_server.specs.Heard.{TellsAll}
 use Rattle.block_server.proofs.Agreeing.{agrees_on}
@@ -20,6 +20,10 @@ use Rattle.block_server.specs.Serving.{held}
 use Rattle.block_server.proofs.Coming.{comes_on, comes_then}
 use Rattle.block_server.proofs.ComingStages.{comes_any}
 use Rattle.block_server.proofs.Dropping.{known_within}
+use Rattle.block_server.specs.SiteState.{SiteState}
+use Rattle.block_server.specs.Talk.{reach_of}
+use Rattle.block_server.specs.declared.unit.Unit.{Unit}
+use Rattle.block_server.proofs.Talks.{not_end, ready_on, still_on, talks_on}
 use Rattle.block_server.proofs.turning.steps.Goals as goal
 
 pub returns-in_err-open_line-clause-once : goal.returns-in_err-open_line-clause-once
@@ -370,3 +374,37 @@ pub returns-clause-comes : goal.returns-clause-comes
 returns-clause-comes g c = λ told serving.
     let opened = (c.open_line.ensures.once c.args.records.now (held told c.args.disk.now.count None) serving).serving in
     on_ok c.serve.result _ _ (comes_then _ _ _ _ _ _ (comes_on _ _ _ _ _ _ (comes_on _ _ _ _ _ _ c.in_ok-open_line.ensures.comes (c.in_ok-put_kept.ensures.comes _ opened)) c.in_ok-take_in.ensures.comes)) c.serve.ensures.comes
+
+pub returns-then-eq-clause-talks : goal.returns-then-eq-clause-talks
+returns-then-eq-clause-talks g c = λ words calm.
+    let opened = c.in_ok-open_line.ensures.rests (still_on c.args.unit.now.line calm.calm.closing calm.calm.up) calm.event in
+    absurd (not_end c.in_ok-open_line.field-0 (search rules) (inl opened.0))
+
+pub returns-then-eq-2-clause-talks : goal.returns-then-eq-2-clause-talks
+returns-then-eq-2-clause-talks g c = λ words calm.
+    let opened = c.in_ok-open_line.ensures.rests (still_on c.args.unit.now.line calm.calm.closing calm.calm.up) calm.event in
+    let put = c.in_ok-put_kept.ensures.rests (ap (λ (u : Unit). u.line.kept) opened.1 ∙ calm.calm.kept) in
+    absurd (not_end c.in_ok-put_kept.field-0 (search rules) (inl put.0))
+
+pub returns-then-eq-3-clause-talks : goal.returns-then-eq-3-clause-talks
+returns-then-eq-3-clause-talks g c = λ words calm.
+    let on = still_on c.args.unit.now.line calm.calm.closing calm.calm.up in
+    let opened = c.in_ok-open_line.ensures.rests on calm.event in
+    let first = c.in_ok-open_line.ensures.idle calm.calm.alone on calm.event in
+    let put = c.in_ok-put_kept.ensures.rests (ap (λ (u : Unit). u.line.kept) opened.1 ∙ calm.calm.kept) in
+    let ready = ready_on _ c.args.unit.now c.open_line.new.unit c.put_kept.new.unit (reach_of (g.S.Site.state c.args.site.now)) (reach_of (g.S.Site.state c.open_line.new.site)) (reach_of (g.S.Site.state c.put_kept.new.site)) words calm
+    opened.1 first.0 first.1 c.open_line.ensures.advances.shared put.1 (ap reach_of put.2) in
+    absurd (not_end c.in_ok-take_in.field-0 (search rules) (inr (c.in_ok-take_in.ensures.hears words ready.0 ready.1).0))
+
+pub returns-clause-talks : goal.returns-clause-talks
+returns-clause-talks g c = λ words calm.
+    let on = still_on c.args.unit.now.line calm.calm.closing calm.calm.up in
+    let opened = c.in_ok-open_line.ensures.rests on calm.event in
+    let first = c.in_ok-open_line.ensures.idle calm.calm.alone on calm.event in
+    let none = ap (λ (u : Unit). u.line.kept) opened.1 ∙ calm.calm.kept in
+    let put = c.in_ok-put_kept.ensures.rests none in
+    talks_on _ c.args.unit.now c.open_line.new.unit c.put_kept.new.unit c.take_in.new.unit c.serve.new.unit
+    (reach_of (g.S.Site.state c.args.site.now)) (reach_of (g.S.Site.state c.open_line.new.site)) (reach_of (g.S.Site.state c.put_kept.new.site)) (reach_of (g.S.Site.state c.take_in.new.site)) (g.S.Site.state c.serve.new.site).queue
+    _ _ _ _ words c.serve.result calm opened.1 first.0 first.1 c.open_line.ensures.advances.shared put.1 (ap reach_of put.2) (c.in_ok-put_kept.ensures.unkept none) c.take_in.ensures.advances.shared
+    (λ now few. let heard = c.in_ok-take_in.ensures.hears words now few in (heard.1, heard.2))
+    c.serve.ensures.nothing (λ empty. ap (λ (s : SiteState). s.queue) (c.serve.ensures.still empty)) c.serve.ensures.unserved c.serve.ensures.serves

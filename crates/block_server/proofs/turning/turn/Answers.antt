@@ -1,4 +1,6 @@
-use Rattle.std.proofs.Common.{refl}
+use Rattle.std.proofs.Common.{false, refl}
+use Rattle.block_server.specs.Talk.{reach_of}
+use Rattle.block_server.proofs.Talks.{calm_from, talks_from}
 use Rattle.block_server.proofs.ComingParts.{comes_apart}
 use Rattle.block_server.proofs.turning.turn.Goals as goal
 
@@ -11,3 +13,13 @@ returns-then-unit-clause-moved g c = λ told serving is.
 
 pub returns-else-unit-clause-moved : goal.returns-else-unit-clause-moved
 returns-else-unit-clause-moved g c = λ told serving is. absurd (cc (is))
+
+pub returns-then-unit-clause-talks : goal.returns-then-unit-clause-talks
+returns-then-unit-clause-talks g c = λ words calm.
+    talks_from c.args.unit.now (record c.args.unit.now { moved = false }) c.steps.new.unit (reach_of (g.S.Site.state c.args.site.now)) _ _ _ words refl refl
+    (c.in_ok-steps.ensures.talks words (calm_from c.args.unit.now (record c.args.unit.now { moved = false }) (reach_of (g.S.Site.state c.args.site.now)) _ words refl refl refl refl calm))
+
+pub returns-else-unit-clause-talks : goal.returns-else-unit-clause-talks
+returns-else-unit-clause-talks g c = λ words calm.
+    talks_from c.args.unit.now (record c.args.unit.now { moved = false }) c.steps.new.unit (reach_of (g.S.Site.state c.args.site.now)) _ _ _ words refl refl
+    (c.in_ok-steps.ensures.talks words (calm_from c.args.unit.now (record c.args.unit.now { moved = false }) (reach_of (g.S.Site.state c.args.site.now)) _ words refl refl refl refl calm))

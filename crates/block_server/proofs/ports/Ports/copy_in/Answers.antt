@@ -10,6 +10,7 @@ use Rattle.block_server.proofs.Windows.{fetch_busy, fetched_more, windows_move, 
 use Rattle.block_server.proofs.NamedWindows.{same_named, source_named, target_named}
 use Rattle.block_server.proofs.FirstPages.{behind_first, fetches_same, made_in, none_in}
 use Rattle.block_server.proofs.Owning.{fetch_denied}
+use Rattle.block_server.proofs.Reading.{known_read, known_same}
 use Rattle.block_server.proofs.ports.Ports.copy_in.Goals as goal
 
 pub returns-clause-advances : goal.returns-clause-advances
@@ -67,3 +68,9 @@ returns-clause-laid g c = refused_none c.note.result c.copy_rdma-answer.result _
 
 pub returns-then-is_err-clause-laid : goal.returns-then-is_err-clause-laid
 returns-then-is_err-clause-laid g c = lays_none _ _
+
+pub returns-clause-client : goal.returns-clause-client
+returns-clause-client g c = λ alone. known_read g.R.WindowPort.is_shared _ _ alone c.copy_rdma-answer.ensures.read c.copy_rdma-answer.ensures.source
+
+pub returns-then-is_err-clause-client : goal.returns-then-is_err-clause-client
+returns-then-is_err-clause-client g c = λ alone. known_same _

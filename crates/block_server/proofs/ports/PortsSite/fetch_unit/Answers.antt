@@ -4,8 +4,9 @@ use Rattle.std.proofs.Common.{arith, ◌∙◌}
 use Rattle.block_server.proofs.DataCopies.{unit_leaves}
 use Rattle.block_server.proofs.DataPages.{none_data, read_data}
 use Rattle.block_server.proofs.FirstPages.{fetches_same, on_error, queue_stays}
-use Rattle.block_server.proofs.UnitBytes.{fetches_one}
+use Rattle.block_server.proofs.UnitBytes.{fetched_whole, fetches_one}
 use Rattle.block_server.proofs.Advancing.{advances_on}
+use Rattle.block_server.proofs.Reading.{stays_known}
 use Rattle.block_server.proofs.ports.PortsSite.fetch_unit.Goals as goal
 
 pub returns-clause-advances : goal.returns-clause-advances
@@ -33,3 +34,14 @@ returns-clause-data g c =
 pub returns-in_err-copy_in-clause-data : goal.returns-in_err-copy_in-clause-data
 returns-in_err-copy_in-clause-data g c =
     same_pages _ _ _ _ (none_data _ _ _ c.args.self.now.alone c.in_err-copy_in.ensures.laid) c.copy_in.ensures.advances.own_place (same_count _ _ _ c.in_err-copy_in.ensures.none)
+
+pub returns-clause-whole : goal.returns-clause-whole
+returns-clause-whole g c =
+    fetched_whole g.O.WindowPort.is_shared _ _ _ _ _ _ _ _ _ _ c.args.self.now.alone c.args.self.now.ready.first (omega arith) (omega arith) (omega arith)
+    c.in_ok-copy_in.ensures.made c.read_own.ensures.own c.read_own.ensures.read c.read_own.ensures.client
+
+pub returns-clause-client : goal.returns-clause-client
+returns-clause-client g c = λ alone. stays_known _ _ _ (c.copy_in.ensures.client alone) c.read_own.ensures.client
+
+pub returns-in_err-copy_in-clause-client : goal.returns-in_err-copy_in-clause-client
+returns-in_err-copy_in-clause-client g c = λ alone. c.copy_in.ensures.client alone

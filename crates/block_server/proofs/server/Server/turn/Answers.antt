@@ -30,6 +30,9 @@ use Rattle.block_server.specs.Dealt.{HasDealt, KnowsSends}
 use Rattle.block_server.specs.Receipts.{is_ended}
 use Rattle.block_server.specs.Turns.{IsStill, way_of}
 use Rattle.block_server.proofs.ComingTurns.{Differs, differs_by, way_moved}
+use Rattle.std.specs.Prelude.{OnOk}
+use Rattle.block_server.specs.Talk.{UnitTalksOn, reach}
+use Rattle.block_server.proofs.Talks.{unit_talks}
 use Rattle.block_server.proofs.server.Server.turn.Goals as goal
 
 pub returns-clause-answers : goal.returns-clause-answers
@@ -297,3 +300,16 @@ returns-clause-moved g c =
     (differs_by (AreServing (terms_of anything server.disk.count) server.partition server.units.items server.records.history.items) _ c.turn.result server.serving
     (λ (all : AreServing (terms_of anything server.disk.count) server.partition server.units.items server.records.history.items).
     c.turn.ensures.moved anything (all c.args.unit c.index_mut.result.now there).serving)))
+
+pub returns-clause-talks : goal.returns-clause-talks
+returns-clause-talks g c = λ words u at calm.
+    let server = c.args.self.now in
+    let there : slice_get server.units.items c.args.unit ≡ Some c.index_mut.result.now =
+    slice_get_read server.units.items _ c.args.unit _ server.units.ok.0 c.requires.unit c.index_mut.ensures.value in
+    let reached = ap (λ (lent : Lenders). lent.queue) c.turn.ensures.advances.reached in
+    subst (λ (queue : EndState). OnOk c.turn.result (UnitTalksOn (slice_set server.units.items c.args.unit c.turn.new.unit) c.args.unit u
+    (reach (g.C.CrqEnd.state c.args.crq.now) (g.R.WindowPort.state c.args.client.now) g.R.WindowPort.is_shared) queue server.records.grants.items c.turn.new.records.grants.items words))
+    (sym (ap g.C.CrqEnd.state (c.crq-1.given.1 (sym reached))))
+    (unit_talks _ server.units.items c.args.unit u c.index_mut.result.now c.turn.new.unit
+    (reach (g.C.CrqEnd.state c.args.crq.now) (g.R.WindowPort.state c.args.client.now) g.R.WindowPort.is_shared) (g.C.CrqEnd.state c.turn.new.site.queue.now)
+    server.records.grants.items c.turn.new.records.grants.items words c.turn.result there at (c.turn.ensures.talks words) calm)
